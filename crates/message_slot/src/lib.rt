@@ -1,0 +1,10 @@
+//! Messages, and the claims that they carry.
+#![tactic(auto)]
+
+mod claim;
+mod message;
+#[cfg(test)]
+mod tests;
+
+pub use claim::{Claim, NoClaim};
+pub use message::Message;
