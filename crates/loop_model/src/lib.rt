@@ -6,24 +6,28 @@ mod call;
 mod entry;
 mod fate;
 mod item;
+mod journal;
 pub mod laws;
-mod sequence;
 mod memory;
 pub mod plain;
 mod post;
+mod record;
 mod reply;
 mod segment;
+mod sequence;
 
 pub use base::Base;
 pub use call::Call;
 pub use entry::Entry;
 pub use fate::Fate;
 pub use item::Item;
-pub use sequence::Sequence;
+pub use journal::{Act, Journal, Route};
 pub use memory::NoMemory;
 pub use post::{Filter, Kind, Post};
+pub use record::QueueRecord;
 pub use reply::Reply;
 pub use segment::Segment;
+pub use sequence::Sequence;
 
 #[cfg(test)]
 mod tests;

@@ -1,0 +1,34 @@
+//! What a looper did, apart from its calls on queues.
+
+use crate::sequence::Sequence;
+
+/// Who took a message: its own callback, else the handler's callback object, else the handler itself (the order of
+/// `Handler.dispatchMessage`).
+#[derive(Clone, Copy, Debug, PartialEq, Eq)]
+pub enum Route {
+    Callback { id: u64 },
+    Intercepted,
+    Handled,
+}
+
+/// One thing that a looper did.
+#[derive(Clone, Copy, Debug, PartialEq, Eq)]
+pub enum Act {
+    /// It dispatched the message of this number, at this moment in milliseconds.
+    Dispatch { number: u64, now: u64, route: Route },
+    /// It ran an idle handler, which is kept or not.
+    Idle { id: u32, kept: bool },
+    /// It told a listener of events, and the listener answered a mask.
+    Event { fd: u32, events: u32, mask: u32 },
+    /// It delivered a pulse with this stamp in nanoseconds.
+    Vsync { stamp: u64 },
+    /// It painted a gauge.
+    Paint { gauge: u32, value: u32 },
+}
+
+/// What a looper did, in order.
+#[derive(Debug, Drop)]
+pub struct Journal {
+    pub looper: u32,
+    pub acts: Sequence<Act>,
+}

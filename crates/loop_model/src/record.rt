@@ -1,0 +1,17 @@
+//! What is kept of a queue.
+
+use crate::entry::Entry;
+use crate::sequence::Sequence;
+
+/// The whole history of a looper's queue, with what stayed fixed for it.
+#[derive(Debug, Drop)]
+pub struct QueueRecord {
+    pub looper: u32,
+    /// It is the queue of the main looper, which may not quit.
+    pub main: bool,
+    /// Its time moves by the controller's Advances alone.
+    pub lockstep: bool,
+    /// How many senders there are, the last of them the controller.
+    pub senders: u32,
+    pub entries: Sequence<Entry>,
+}
