@@ -10,7 +10,7 @@ use std::alloc::Global;
 
 /// What the earlier part of a history has left: how long it was, the greatest moment in it, the numbers of accepted
 /// posts and of barriers, the place of its quit, how many entries each sender made, and its live items in order.
-#[derive(Drop)]
+#[derive(Debug, Drop)]
 pub struct Base {
     pub length: u64,
     pub time: u64,

@@ -5,7 +5,7 @@ use crate::entry::Entry;
 use crate::sequence::Sequence;
 
 /// Entries, with what they start from.
-#[derive(Drop)]
+#[derive(Debug, Drop)]
 pub struct Segment {
     pub base: Base,
     pub entries: Sequence<Entry>,
