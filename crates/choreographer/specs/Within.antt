@@ -1,0 +1,60 @@
+-- What the steps of a call leave: words of its private methods.
+use Rattle.std.specs.Prelude.{◌≡◌, ℕ, ◌+◌, ◌==◌, Bool, if◌then◌else◌, IfOk, OnOk, OnErr, IsTrue, Result, Option, Some, None, List, [], ◌∷◌, ◌++◌, length, reverse}
+use Rattle.loop_model.specs.declared.memory.NoMemory.{NoMemory}
+use Rattle.frame_phases.specs.declared.entry.Scheduling.{Scheduling}
+use Rattle.frame_phases.specs.declared.entry.Took.{Took}
+use Rattle.frame_phases.specs.Frames.{next_phase, owed, lawful}
+use Rattle.frame_phases.specs.State.{scheduling, delivered, TakesBy}
+use Rattle.choreographer.specs.declared.kept.Kept.{Kept}
+use Rattle.choreographer.specs.Client.{Run, with_runs}
+use Rattle.choreographer.specs.Frame.{Batch, begin_place, ran_since, batches_since, progress}
+use Rattle.choreographer.specs.Known.{Known, IsTurn}
+use Rattle.choreographer.specs.Steps.{pulsed}
+use Rattle.choreographer.specs.Calls.{with_post}
+use Rattle.choreographer.specs.Done.{runs, runs_of, numbers_of, IsBatch, AreBatches, IsSamePass}
+
+-- one turn that posts a callback
+abbrev pub PostTurn : Known → Known → ℕ → ℕ → ℕ → Option ℕ → ℕ → Result Scheduling NoMemory → Type 0
+PostTurn before after phase due id token now result = (x : Kept) × (y : Kept) × IsTurn before after x y
+    × IfOk result (λ r. r ≡ scheduling x.frames due now) × OnOk result (y ≡ with_post x phase due id token now) × OnErr result (y ≡ x)
+
+-- one turn that delivers a pulse
+abbrev pub PulseTurn : Known → Known → ℕ → Option ℕ → Type 0
+PulseTurn before after now result = (x : Kept) × (y : Kept) × IsTurn before after x y × (result ≡ delivered x.frames.asked now) × (y ≡ pulsed x result)
+
+-- one turn that takes a phase
+abbrev pub TakeTurn : Known → Known → ℕ → ℕ → Took → Type 0
+TakeTurn before after phase now result = (x : Kept) × (y : Kept) × IsTurn before after x y × TakesBy x.frames phase now result y.frames × (y.stamp ≡ x.stamp)
+    × IsTrue (lawful x.frames.interval x.frames.phases x.frames.entries)
+
+-- a pass in a frame: the frame in progress is its own, and this phase is next
+pub record InFrame (phases : ℕ) (p : Known) (next : Option ℕ) : Type 0 where
+  pub own : p.view.frame ≡ progress phases p.view.seen
+  pub is_next : next_phase phases (reverse p.view.seen) ≡ next
+  -- all callbacks that were taken stand as run
+  pub settled : owed (reverse p.view.seen) ≡ []
+  -- its last turn left what it has seen
+  pub left : (y : Kept) × (p.view.left ≡ Some y) × (y.frames.entries ≡ p.view.seen)
+
+-- the next phase, or none behind the last
+abbrev pub at_phase : ℕ → ℕ → Option ℕ
+at_phase phases k = if k == phases then None else Some k
+
+-- what some turns of a frame left: the phases below `done` are taken, and the callbacks of these batches stand as run
+pub record PassRan (phases done count : ℕ) (before after : Known) (batches : List Batch) : Type 0 where
+  pub same : IsSamePass before after
+  pub turns : after.view.turns ≡ before.view.turns + count
+  pub begin : begin_place (reverse after.view.seen) ≡ begin_place (reverse before.view.seen)
+  pub ran : ran_since (reverse after.view.seen) ≡ ran_since (reverse before.view.seen) ++ numbers_of batches
+  pub taken : batches_since (reverse after.view.seen) ≡ batches_since (reverse before.view.seen) ++ batches
+  pub frame : InFrame phases after (at_phase phases done)
+
+-- one phase, with its one batch
+abbrev pub PhaseRan : (ℕ → Bool) → ℕ → ℕ → Known → Known → Option (List Run) → Option (List Run) → Type 0
+PhaseRan is_moment phases phase before after told told' = (b : Batch) × (told' ≡ with_runs told (runs b.time b.callbacks)) × IsBatch is_moment phase b
+    × PassRan phases (phase + 1) 1 before after (b ∷ [])
+
+-- the phases below `count`
+abbrev pub PhasesRan : (ℕ → Bool) → ℕ → ℕ → Known → Known → Option (List Run) → Option (List Run) → Type 0
+PhasesRan is_moment phases count before after told told' = (batches : List Batch) × (told' ≡ with_runs told (runs_of batches)) × (length batches ≡ count) × AreBatches is_moment 0 batches
+    × PassRan phases count count before after batches
