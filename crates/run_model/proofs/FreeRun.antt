@@ -1,0 +1,113 @@
+-- The script with two posts in free mode, over a clock that shows 5, 10, 15 and so on.
+use Rattle.std.proofs.Common.{◌≡◌, ◌<◌, ℕ, ◌%◌, true, false, List, [], ◌∷◌, None, refl, arith, lit<, lit≤, inl}
+use Rattle.std.specs.Prelude.{codes, ◌==◌}
+use Rattle.std.specs.Fmt.{digits}
+use Rattle.loop_model.specs.declared.call.Call.TheVariants as call
+use Rattle.loop_model.specs.declared.reply.Reply.TheVariants as reply
+use Rattle.loop_model.specs.declared.entry.Entry.{Entry}
+use Rattle.loop_model.specs.Base.{empty_base}
+use Rattle.loop_model.specs.Answers.{answer, clock, accepted_count, barrier_count, quit_place, has_disposed, has_halted}
+use Rattle.loop_model.specs.Legal.{IsLegal, AreNumbered, made_count}
+use Rattle.loop_model.specs.Live.{live}
+use Rattle.loop_model.specs.Pick.{first_eligible, pick}
+use Rattle.loop_model.specs.Fates.{fates}
+use Rattle.frame_phases.specs.Frames.{lawful, all_allowed, is_allowed, owed}
+use Rattle.loop_model.specs.declared.journal.Act.TheVariants as act
+use Rattle.loop_model.specs.declared.journal.Journal.{Journal}
+use Rattle.loop_model.specs.declared.journal.Route.TheVariants as route
+use Rattle.loop_model.specs.declared.record.QueueRecord.{QueueRecord}
+use Rattle.run_model.specs.declared.report.Report.{Report}
+use Rattle.run_model.specs.Control.{is_controlled}
+use Rattle.run_model.specs.Moments.{Mode, in_free_mode, AreOfClock}
+use Rattle.run_model.specs.Planned.{AreAsPlanned}
+use Rattle.run_model.specs.Acts.{after_act}
+use Rattle.run_model.specs.Loopers.{first_looper}
+use Rattle.run_model.specs.Run.{IsRun, IsHistory, IsControlled, IsFrameRun, HasFramePosts, HasFrameRemovals, IsLooperRun, all_entries, setting_of}
+use Rattle.run_model.specs.Text.{text, lines}
+use Rattle.run_model.proofs.Below.{each_below}
+use Rattle.run_model.proofs.Examples.{entry, message, journal, frames, led, page}
+use Rattle.run_model.proofs.TwoPosts.{script}
+
+abbrev mode : Mode
+mode = in_free_mode (λ n. n % 5 == 0) 5
+
+abbrev entries : List Entry
+entries =
+    entry 0 0 (call.Post (message 0 7 15 None)) (reply.Accepted 0)
+    ∷ entry 0 1 (call.Post (message 0 8 20 None)) (reply.Accepted 1)
+    ∷ entry 1 0 (call.Next 25) (reply.Dispatched 0)
+    ∷ entry 1 1 (call.Next 30) (reply.Dispatched 1)
+    ∷ entry 2 0 (call.Halt 40) reply.Halted
+    ∷ []
+
+abbrev queue_0 : QueueRecord
+queue_0 = record { looper = 0; main = true; lockstep = false; senders = 3; entries = entries }
+
+abbrev journal_0 : Journal
+journal_0 = journal 0 (act.Dispatch 0 25 route.Handled ∷ act.Dispatch 1 30 route.Handled ∷ [])
+
+abbrev report : Report
+report = record { script = script; queues = queue_0 ∷ []; journals = journal_0 ∷ []; frames = frames 0 [] ∷ []; start = 5 }
+
+legal : IsLegal (setting_of queue_0) (empty_base 3) entries
+unfolding IsLegal answer clock accepted_count barrier_count quit_place has_disposed has_halted live first_eligible pick
+legal =
+    (record { reply = refl; timely = tt }, (record { reply = refl; timely = tt }, (record { reply = refl; timely = lit≤ tt }, (record { reply = refl; timely = lit≤ tt }, (record { reply = refl; timely = lit≤ tt }, tt)))))
+
+numbered : AreNumbered (setting_of queue_0) (empty_base 3) entries
+unfolding AreNumbered made_count
+numbered =
+    (record { known = lit< tt; counted = refl; controller = λ h. cc }, (record { known = lit< tt; counted = refl; controller = λ h. cc }, (record { known = lit< tt; counted = refl; controller = λ h. cc }, (record { known = lit< tt; counted = refl; controller = λ h. cc }, (record { known = lit< tt; counted = refl; controller = λ h. refl }, tt)))))
+
+clocked : AreOfClock mode all_entries entries
+clocked =
+    (tt, (tt, (inl (record { reading = 30; shown = refl; since = refl }), (inl (record { reading = 35; shown = refl; since = refl }), (inl (record { reading = 45; shown = refl; since = refl }), tt)))))
+
+planned : (thread : ℕ) → thread < 1 → AreAsPlanned mode script thread 0 entries
+planned =
+    each_below 1 (λ thread. AreAsPlanned mode script thread 0 entries) (tt, (record { uptime = 10; allowed = (lit≤ tt, record { reading = 15; shown = refl; since = refl }); call = refl; no_earlier = tt }, (record { uptime = 20; allowed = (lit≤ tt, record { reading = 25; shown = refl; since = refl }); call = refl; no_earlier = tt }, tt)))
+
+history : IsHistory mode all_entries script queue_0
+history = record { main = refl; lockstep = refl; senders = refl; legal = legal; numbered = numbered; clocked = clocked }
+
+controlled : IsControlled script queue_0
+unfolding is_controlled
+controlled = refl
+
+frame_run : IsFrameRun script (frames 0 [])
+unfolding lawful all_allowed is_allowed owed
+frame_run = record {
+  interval = refl;
+  phases = refl;
+  lawful = refl;
+  posted = each_below 1 (λ thread. HasFramePosts script (frames 0 []) thread) (tt, λ phase id. omega arith);
+  removed = each_below 1 (λ thread. HasFrameRemovals script (frames 0 []) thread) (tt, λ phase id. omega arith);
+}
+
+looper_run : IsLooperRun mode script report.queues queue_0 journal_0 (frames 0 [])
+unfolding after_act
+looper_run = record {
+  final = led script 0 entries [] (first_looper script) (None ∷ None ∷ []) journal_0.acts;
+  acts = (None, (record { accepted = refl; starts = refl; place = refl; painted = refl }, (None, (record { accepted = refl; starts = refl; place = refl; painted = refl }, refl))));
+  settled = refl;
+  dispatches = refl;
+  disposed_at = 0;
+  calls = ((record { call = refl; reply = refl }, (record { call = refl; reply = refl }, tt)), tt);
+  posted = λ phase id. omega arith;
+  on_time = tt;
+}
+
+pub is_run : IsRun mode script report
+is_run = record {
+  report = record { script = refl; queues = refl; journals = refl; frames = refl };
+  records = record { mode = refl; start = refl; histories = (history, tt) };
+  planned = (planned, tt);
+  controls = (controlled, tt);
+  frames = (frame_run, tt);
+  loopers = (looper_run, tt);
+  timely = record { halted = refl; histories = tt };
+}
+
+pub printed : text report ≡ page (codes "report 1" ∷ codes "looper 0" ∷ codes "25 dispatch 0 0 7" ∷ codes "30 dispatch 1 0 8" ∷ codes "fates accepted 2 dispatched 2 removed 0 dropped 0 stranded 0 queued 0" ∷ codes "end" ∷ [])
+unfolding text lines fates digits
+printed = refl

@@ -1,0 +1,128 @@
+-- How a run grows, entry by entry, block by block and act by act.
+use Rattle.std.proofs.Common.{◌≡◌, ℕ, Bool, true, false, List, [], ◌∷◌, ◌++◌, Option, refl, sym, ap, ◌∙◌, subst, arith, append_assoc}
+use Rattle.std.specs.Prelude.{◌==◌, if◌then◌else◌}
+use Rattle.std.specs.List.{AllByRecursion}
+use Rattle.std.proofs.lemmas.List.{append-nil}
+use Rattle.std.proofs.lemmas.List.Elements.{filter-append}
+use Rattle.loop_model.specs.declared.entry.Entry.{Entry}
+use Rattle.frame_phases.specs.declared.entry.FrameEntry.{FrameEntry}
+use Rattle.dash_script.specs.declared.script.Block.{Block}
+use Rattle.dash_script.specs.declared.script.Script.{Script}
+use Rattle.loop_model.specs.declared.journal.Act.{Act}
+use Rattle.run_model.specs.Asks.{token_in, tokens_in, entries_by, AreFor}
+use Rattle.run_model.specs.Moments.{Mode, IsOfClock, AreOfClockAfter}
+use Rattle.loop_model.specs.Base.{empty_base}
+use Rattle.loop_model.specs.Answers.{clock}
+use Rattle.std.specs.Prelude.{MatchBool}
+use Rattle.run_model.specs.Planned.{Timed, lines_in, lines_of, lines_on, IsPlanned, MakeCalls}
+use Rattle.run_model.specs.Loopers.{Looper, Sent}
+use Rattle.run_model.specs.Acts.{after_act, MayCome, Lead, sent_on}
+use Rattle.run_model.specs.Control.{Before, Timing, before, befores, befores_after, are_on_time}
+
+-- a sender's entries in a longer history
+pub entries_by-append : (k : ℕ) (xs ys : List Entry) → entries_by k (xs ++ ys) ≡ entries_by k xs ++ entries_by k ys
+entries_by-append k xs ys = filter-append (λ e. e.sender == k) xs ys
+
+-- no entry of the sender is among these
+abbrev pub AreOfOthers : ℕ → List Entry → Type 0
+AreOfOthers k es = AllByRecursion (λ e. (e.sender == k) ≡ false) es
+
+pub entries_by-others : (k : ℕ) (es : List Entry) → AreOfOthers k es → entries_by k es ≡ []
+entries_by-others k [] h = refl
+entries_by-others k (e ∷ es) h = let rest = entries_by-others k es h.1 in let first = h.0 in rw (first, rest) refl
+
+-- entries of others change nothing of a sender's entries
+pub entries_by-unchanged : (k : ℕ) (xs ys : List Entry) → AreOfOthers k ys → entries_by k (xs ++ ys) ≡ entries_by k xs
+entries_by-unchanged k xs ys h =
+    entries_by-append k xs ys ∙ (ap (λ l. entries_by k xs ++ l) (entries_by-others k ys h) ∙ append-nil (entries_by k xs))
+
+-- an entry of the sender is its last one
+pub entries_by-own : (k : ℕ) (xs : List Entry) (e : Entry) → (e.sender == k) ≡ true → entries_by k (xs ++ e ∷ []) ≡ entries_by k xs ++ e ∷ []
+entries_by-own k xs e h = entries_by-append k xs (e ∷ []) ∙ rw h refl
+
+-- entries for more of what is asked
+pub AreFor-append : {X : Type 0} (IsFor : List ℕ → X → Entry → Type 0) (tokens : List ℕ) (xs ys : List X) (es fs : List Entry)
+    → AreFor IsFor tokens xs es → AreFor IsFor (tokens ++ tokens_in es) ys fs → AreFor IsFor tokens (xs ++ ys) (es ++ fs)
+AreFor-append IsFor tokens [] ys [] fs h more = subst (λ ts. AreFor IsFor ts ys fs) (append-nil tokens) more
+AreFor-append IsFor tokens [] ys (e ∷ es) fs h more = absurd h
+AreFor-append IsFor tokens (x ∷ xs) ys [] fs h more = absurd h
+AreFor-append IsFor tokens (x ∷ xs) ys (e ∷ es) fs h more =
+    (h.0, AreFor-append IsFor (tokens ++ token_in e.reply) xs ys es fs h.1 (subst (λ ts. AreFor IsFor ts ys fs) (sym (append_assoc tokens (token_in e.reply) (tokens_in es))) more))
+
+pub AreFor-snoc : {X : Type 0} (IsFor : List ℕ → X → Entry → Type 0) (xs : List X) (x : X) (es : List Entry) (e : Entry)
+    → AreFor IsFor [] xs es → IsFor (tokens_in es) x e → AreFor IsFor [] (xs ++ x ∷ []) (es ++ e ∷ [])
+AreFor-snoc IsFor xs x es e h one = AreFor-append IsFor [] xs (x ∷ []) es (e ∷ []) h (one, tt)
+
+-- a thread's lines in more blocks
+pub lines_of-append : (thread : ℕ) (bs cs : List Block) → lines_of thread (bs ++ cs) ≡ lines_of thread bs ++ lines_of thread cs
+lines_of-append thread [] cs = refl
+lines_of-append thread (b ∷ bs) cs =
+    ap (λ l. lines_in thread b ++ l) (lines_of-append thread bs cs) ∙ sym (append_assoc (lines_in thread b) (lines_of thread bs) (lines_of thread cs))
+
+pub lines_on-append : (s : Script) (labels : List ℕ) (q : ℕ) (ls ms : List Timed) → lines_on s labels q (ls ++ ms) ≡ lines_on s labels q ls ++ lines_on s labels q ms
+lines_on-append s labels q ls ms = filter-append _ ls ms
+
+-- the calls of the blocks so far, and those of the next block
+pub MakeCalls-block : (m : Mode) (s : Script) (labels : List ℕ) (q thread : ℕ) (bs : List Block) (b : Block) (es fs : List Entry)
+    → MakeCalls m s labels q (lines_of thread bs) es → AreFor (IsPlanned m s labels q) (tokens_in es) (lines_on s labels q (lines_in thread b)) fs
+    → MakeCalls m s labels q (lines_of thread (bs ++ b ∷ [])) (es ++ fs)
+MakeCalls-block m s labels q thread bs b es fs h next =
+    let lines : lines_of thread (bs ++ b ∷ []) ≡ lines_of thread bs ++ lines_in thread b = lines_of-append thread bs (b ∷ []) ∙ ap (λ l. lines_of thread bs ++ l) (append-nil (lines_in thread b)) in
+    subst (λ ls. AreFor (IsPlanned m s labels q) [] ls (es ++ fs)) (sym (ap (lines_on s labels q) lines ∙ lines_on-append s labels q (lines_of thread bs) (lines_in thread b))) (AreFor-append (IsPlanned m s labels q) [] (lines_on s labels q (lines_of thread bs)) (lines_on s labels q (lines_in thread b)) es fs h next)
+
+-- the calls of the lines so far, and that of the next line
+pub MakeCalls-line : (m : Mode) (s : Script) (labels : List ℕ) (q : ℕ) (ls : List Timed) (l : Timed) (es : List Entry) (e : Entry)
+    → MakeCalls m s labels q ls es → lines_on s labels q (l ∷ []) ≡ l ∷ [] → IsPlanned m s labels q (tokens_in es) l e
+    → MakeCalls m s labels q (ls ++ l ∷ []) (es ++ e ∷ [])
+MakeCalls-line m s labels q ls l es e h on one =
+    subst (λ xs. AreFor (IsPlanned m s labels q) [] xs (es ++ e ∷ [])) (sym (lines_on-append s labels q ls (l ∷ []) ∙ ap (λ xs. lines_on s labels q ls ++ xs) on)) (AreFor-snoc (IsPlanned m s labels q) (lines_on s labels q ls) l es e h one)
+
+-- a line that makes no call there
+pub MakeCalls-skip : (m : Mode) (s : Script) (labels : List ℕ) (q : ℕ) (ls : List Timed) (l : Timed) (es : List Entry)
+    → MakeCalls m s labels q ls es → lines_on s labels q (l ∷ []) ≡ [] → MakeCalls m s labels q (ls ++ l ∷ []) es
+MakeCalls-skip m s labels q ls l es h off =
+    subst (λ xs. AreFor (IsPlanned m s labels q) [] xs es) (sym (lines_on-append s labels q ls (l ∷ []) ∙ (ap (λ xs. lines_on s labels q ls ++ xs) off ∙ append-nil (lines_on s labels q ls)))) h
+
+-- one more act
+pub Lead-snoc : (s : Script) (q : ℕ) (es : List Entry) (fs : List FrameEntry) (frame : Option ℕ) (a : Looper) (xs : List Act) (b : Looper) (x : Act)
+    → Lead s q es fs a xs b → MayCome s q es fs frame b x → Lead s q es fs a (xs ++ x ∷ []) (after_act s q es fs frame b x)
+Lead-snoc s q es fs frame a [] b x h may = (frame, (subst (λ c. MayCome s q es fs frame c x) (sym h) may, ap (λ c. after_act s q es fs frame c x) h))
+Lead-snoc s q es fs frame a (y ∷ xs) b x h may = (h.0, (h.1.0, Lead-snoc s q es fs frame (after_act s q es fs h.0 a y) xs b x h.1.1 may))
+
+-- the calls on one queue
+pub sent_on-append : (q : ℕ) (xs ys : List Sent) → sent_on q (xs ++ ys) ≡ sent_on q xs ++ sent_on q ys
+sent_on-append q xs ys = filter-append (λ x. x.queue == q) xs ys
+
+-- what stood before a sender's entries in a longer history
+pub befores_after-append : (k : ℕ) (past xs ys : List Entry) → befores_after k past (xs ++ ys) ≡ befores_after k past xs ++ befores_after k (past ++ xs) ys
+befores_after-append k past [] ys = ap (λ l. befores_after k l ys) (sym (append-nil past))
+befores_after-append k past (x ∷ xs) ys =
+    let rest = befores_after-append k (past ++ x ∷ []) xs ys in
+    let first : List Before = if x.sender == k then before past ∷ [] else [] in
+    ap (λ l. first ++ l) (rest ∙ ap (λ p. befores_after k (past ++ x ∷ []) xs ++ befores_after k p ys) (append_assoc past (x ∷ []) xs)) ∙ sym (append_assoc first (befores_after k (past ++ x ∷ []) xs) (befores_after k (past ++ x ∷ xs) ys))
+
+pub befores_after-others : (k : ℕ) (past es : List Entry) → AreOfOthers k es → befores_after k past es ≡ []
+befores_after-others k past [] h = refl
+befores_after-others k past (e ∷ es) h = let rest = befores_after-others k (past ++ e ∷ []) es h.1 in let first = h.0 in rw (first, rest) refl
+
+pub befores-own : (k : ℕ) (xs : List Entry) (e : Entry) → (e.sender == k) ≡ true → befores k (xs ++ e ∷ []) ≡ befores k xs ++ before xs ∷ []
+unfolding befores
+befores-own k xs e h = befores_after-append k [] xs (e ∷ []) ∙ rw h refl
+
+pub befores-others : (k : ℕ) (xs ys : List Entry) → AreOfOthers k ys → befores k (xs ++ ys) ≡ befores k xs
+unfolding befores
+befores-others k xs ys h = befores_after-append k [] xs ys ∙ (ap (λ l. befores_after k [] xs ++ l) (befores_after-others k xs ys h) ∙ append-nil (befores_after k [] xs))
+
+pub are_on_time-snoc : (ts : List Timing) (t : Timing) (bs : List Before) (b : Before) → are_on_time ts bs ≡ true → are_on_time (t ∷ []) (b ∷ []) ≡ true → are_on_time (ts ++ t ∷ []) (bs ++ b ∷ []) ≡ true
+are_on_time-snoc [] t [] b h one = one
+are_on_time-snoc [] t (c ∷ bs) b h one = cc
+are_on_time-snoc (u ∷ ts) t [] b h one = cc
+are_on_time-snoc (u ∷ ts) t (c ∷ bs) b h one = let rest = are_on_time-snoc ts t bs b in grind (arith, rest)
+
+-- one more entry with a moment of the clock
+pub AreOfClockAfter-snoc : (m : Mode) (test : Entry → Bool) (past es : List Entry) (e : Entry) → AreOfClockAfter m test past es
+    → MatchBool (test e) (IsOfClock m (clock (empty_base 0) (past ++ es)) e.call) (Unit {0}) → AreOfClockAfter m test past (es ++ e ∷ [])
+AreOfClockAfter-snoc m test past [] e h one =
+    (subst (λ l. MatchBool (test e) (IsOfClock m (clock (empty_base 0) l) e.call) (Unit {0})) (append-nil past) one, tt)
+AreOfClockAfter-snoc m test past (x ∷ es) e h one =
+    (h.0, AreOfClockAfter-snoc m test (past ++ x ∷ []) es e h.1 (subst (λ l. MatchBool (test e) (IsOfClock m (clock (empty_base 0) l) e.call) (Unit {0})) (sym (append_assoc past (x ∷ []) es)) one))

@@ -1,0 +1,112 @@
+-- The controller's own calls on a queue, and when a history in lockstep is timely.
+use Rattle.std.specs.Prelude.{ℕ, ◌==◌, Bool, true, false, ◌&&◌, ◌||◌, not, nat_le, List, [], ◌∷◌, ◌++◌, Option, Some, None, count_by, if◌then◌else◌}
+use Rattle.std.specs.List.{list_any}
+use Rattle.loop_model.specs.declared.call.Call.{Call}
+use Rattle.loop_model.specs.declared.call.Call.TheVariants.{Quit, Advance, Halt}
+use Rattle.loop_model.specs.declared.entry.Entry.{Entry}
+use Rattle.loop_model.specs.declared.item.Item.{Item}
+use Rattle.loop_model.specs.Items.{when_of}
+use Rattle.loop_model.specs.Entries.{moment_of, is_quit_done, is_disposed, is_halted}
+use Rattle.loop_model.specs.Base.{empty_base}
+use Rattle.loop_model.specs.Pick.{first_eligible}
+use Rattle.loop_model.specs.Answers.{clock, has_disposed}
+use Rattle.run_model.specs.Asks.{entries_by}
+
+abbrev pub is_advance : Call → Bool
+is_advance (Advance now) = true
+is_advance _ = false
+
+abbrev pub is_halt : Call → Bool
+is_halt (Halt now) = true
+is_halt _ = false
+
+abbrev pub is_safe_quit : Call → Bool
+is_safe_quit (Quit safe now) = safe
+is_safe_quit _ = false
+
+-- in lockstep at the end, and in free mode no earlier
+abbrev pub is_at_end : Bool → ℕ → ℕ → Bool
+is_at_end lockstep end now = if lockstep then now == end else nat_le end now
+
+-- the last call: on main a Halt, and elsewhere a safe quit
+abbrev pub is_closing : Bool → Bool → ℕ → Entry → Bool
+is_closing main lockstep end e =
+    (if main then is_halt e.call && is_halted e.reply else is_safe_quit e.call) && is_at_end lockstep end (moment_of e.call)
+
+abbrev pub is_empty : List Entry → Bool
+is_empty [] = true
+is_empty (e ∷ es) = false
+
+-- Advances up to the end in lockstep, and then the last call; elsewhere than on main it is left out only where another
+-- sender quit the queue. That each Advance is later than the clock before it is said by its reply
+abbrev pub are_controls : Bool → Bool → ℕ → Bool → List Entry → Bool
+are_controls main lockstep end quit [] = not main && quit
+are_controls main lockstep end quit (e ∷ es) =
+    if is_advance e.call then lockstep && nat_le (moment_of e.call) end && are_controls main lockstep end quit es
+    else is_empty es && is_closing main lockstep end e
+
+-- another sender than this one quit
+abbrev pub is_quit_by_others : ℕ → List Entry → Bool
+is_quit_by_others sender es = list_any (λ e. is_quit_done e.reply && not (e.sender == sender)) es
+
+abbrev pub disposed_count : List Entry → ℕ
+disposed_count es = count_by (λ e. is_disposed e.reply) es
+
+-- the controller's entries are such, and each queue but main is disposed of once
+unfoldable pub is_controlled : Bool → Bool → ℕ → ℕ → List Entry → Bool
+is_controlled main lockstep controller end es =
+    are_controls main lockstep end (is_quit_by_others controller es) (entries_by controller es) && (main || disposed_count es == 1)
+
+-- the last entry is the Halt
+abbrev pub ends_halted : List Entry → Bool
+ends_halted [] = false
+ends_halted (e ∷ []) = is_halted e.reply
+ends_halted (e ∷ f ∷ es) = ends_halted (f ∷ es)
+
+-- nothing eligible, or not before this time
+abbrev pub is_none_before : ℕ → Option Item → Bool
+is_none_before time None = true
+is_none_before time (Some x) = nat_le time (when_of x)
+
+abbrev pub are_advances_due : List Entry → List Entry → Bool
+are_advances_due past [] = true
+are_advances_due past (e ∷ es) =
+    (not (is_advance e.call) || is_none_before (moment_of e.call) (first_eligible (empty_base 0) past)) && are_advances_due (past ++ e ∷ []) es
+
+-- no Advance goes past an eligible message
+unfoldable pub is_advanced_in_time : List Entry → Bool
+is_advanced_in_time es = are_advances_due [] es
+
+-- what stood before an entry
+pub record Before : Type 0 where
+  pub clock : ℕ
+  pub disposed : Bool
+
+abbrev pub before : List Entry → Before
+before past = record { clock = clock (empty_base 0) past; disposed = has_disposed (empty_base 0) past }
+
+abbrev pub befores_after : ℕ → List Entry → List Entry → List Before
+befores_after sender past [] = []
+befores_after sender past (e ∷ es) =
+    (if e.sender == sender then before past ∷ [] else []) ++ befores_after sender (past ++ e ∷ []) es
+
+-- what stood before each entry of a sender
+unfoldable pub befores : ℕ → List Entry → List Before
+befores sender es = befores_after sender [] es
+
+-- when a call is to come in lockstep
+pub data Timing : Type 0 where
+  -- at this time, or after the queue was disposed of
+  At : (time : ℕ) → Timing
+  -- at this time or later
+  NotBefore : (time : ℕ) → Timing
+
+abbrev pub is_on_time : Timing → Before → Bool
+is_on_time (At time) b = b.clock == time || b.disposed
+is_on_time (NotBefore time) b = nat_le time b.clock
+
+-- each is on time, one for one
+abbrev pub are_on_time : List Timing → List Before → Bool
+are_on_time [] [] = true
+are_on_time (t ∷ ts) (b ∷ bs) = is_on_time t b && are_on_time ts bs
+are_on_time _ _ = false

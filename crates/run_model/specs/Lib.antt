@@ -1,0 +1,12 @@
+pub mod Histories
+pub mod Asks
+pub mod Senders
+pub mod Moments
+pub mod Planned
+pub mod Control
+pub mod Loopers
+pub mod FrameRuns
+pub mod Acts
+pub mod Run
+pub mod Text
+pub mod SoFar

@@ -1,0 +1,160 @@
+-- What a looper comes to: its gauges, its traversal, its rules, and the calls and frame callbacks that each step adds.
+use Rattle.std.specs.Prelude.{ℕ, ◌+◌, ◌-◌, ◌==◌, min, Bool, true, false, ◌&&◌, ◌||◌, not, nat_lt, nat_le, List, [], ◌∷◌, ◌++◌, Option, Some, None, is_some, map, fold, slice_get, slice_set, replicate, length, if◌then◌else◌}
+use Rattle.std.specs.List.{filter_map, zip, enumerate_from}
+use Rattle.std.specs.Option.{option_map_or}
+use Rattle.loop_model.specs.declared.post.Post.{Post as PostData}
+use Rattle.loop_model.specs.declared.call.Call.TheVariants.{Post, Barrier, Next}
+use Rattle.loop_model.specs.declared.reply.Reply.{Reply}
+use Rattle.loop_model.specs.declared.reply.Reply.TheVariants.{Dispatched}
+use Rattle.dash_script.specs.declared.script.Rule.{Rule}
+use Rattle.dash_script.specs.declared.script.Script.{Script}
+use Rattle.loop_model.specs.declared.journal.Act.{Act}
+use Rattle.loop_model.specs.declared.journal.Act.TheVariants.{Paint}
+use Rattle.run_model.specs.Asks.{Ask, Makes, Unbars}
+use Rattle.run_model.specs.Senders.{looper_of, gauge_line, gauge_looper, frame_handler, animation_id, animation_phase, traversal_id, traversal_phase}
+use Rattle.run_model.specs.Planned.{later, sent_by}
+use Rattle.run_model.specs.Control.{Timing, At}
+
+pub record Gauge : Type 0 where
+  pub value : ℕ
+  pub target : ℕ
+  pub animating : Bool
+
+-- a call that a looper makes
+pub record Sent : Type 0 where
+  pub queue : ℕ
+  pub ask : Ask
+  -- its reply, where that is told
+  pub reply : Option Reply
+  pub timing : Timing
+
+-- a frame callback that a looper posts
+pub record FramePost : Type 0 where
+  pub phase : ℕ
+  pub id : ℕ
+
+-- what a looper has come to
+pub record Looper : Type 0 where
+  -- all gauges of the script; only its own ever change
+  pub gauges : List Gauge
+  -- the number among its own barriers of the one that the traversal under way has posted
+  pub barrier : Option ℕ
+  -- how many barriers it has posted
+  pub barriers : ℕ
+  -- how often each rule has fired
+  pub fired : List ℕ
+  -- the calls and the frame callbacks that it was to make so far, in order
+  pub sent : List Sent
+  pub posted : List FramePost
+  -- what it has painted since its last act of another kind
+  pub painted : List Act
+  -- the place in its frame record from which on its next frame may begin
+  pub place : ℕ
+
+-- before the first act
+abbrev pub first_looper : Script → Looper
+first_looper s = record {
+  gauges = replicate (length s.gauges) (record { value = 0; target = 0; animating = false });
+  barrier = None;
+  barriers = 0;
+  fired = replicate (length s.rules) 0;
+  sent = [];
+  posted = [];
+  painted = [];
+  place = 0;
+}
+
+-- one call more, at a moment
+abbrev pub and_sends : ℕ → ℕ → Ask → Looper → Looper
+and_sends queue now ask a = record a { sent = a.sent ++ record { queue = queue; ask = ask; reply = None; timing = At now } ∷ [] }
+
+abbrev pub and_posts_frame : ℕ → ℕ → Looper → Looper
+and_posts_frame phase id a = record a { posted = a.posted ++ record { phase = phase; id = id } ∷ [] }
+
+abbrev pub with_gauge : ℕ → Gauge → Looper → Looper
+with_gauge g x a = record a { gauges = slice_set a.gauges g x }
+
+-- a traversal is requested: a barrier and the traversal's callback, unless one is under way
+abbrev pub traversal_requested : Script → ℕ → ℕ → Looper → Looper
+traversal_requested s q now a =
+    if is_some a.barrier then a
+    else and_posts_frame (traversal_phase s) traversal_id (and_sends q now (Makes (Barrier 0)) (record a { barrier = Some a.barriers; barriers = a.barriers + 1 }))
+
+-- a message sets the target of gauge g, which begins to animate where it stands still elsewhere
+abbrev pub target_set : Script → ℕ → ℕ → ℕ → ℕ → Gauge → Looper → Looper
+target_set s q now g target x a =
+    if x.animating || x.value == target then with_gauge g (record x { target = target }) a
+    else traversal_requested s q now (and_posts_frame animation_phase (animation_id g) (with_gauge g (record { value = x.value; target = target; animating = true }) a))
+
+-- a message with an object: nothing where that is no gauge of the looper
+abbrev pub object_set : Script → ℕ → ℕ → ℕ → ℕ → Looper → Looper
+object_set s q now g target a =
+    if gauge_looper s g == q then option_map_or (λ x. target_set s q now g target x a) (slice_get a.gauges g) a else a
+
+-- a value moved towards a target by a step, but not past it
+abbrev pub moved : ℕ → ℕ → ℕ → ℕ
+moved step target value = if nat_le value target then min (value + step) target else value - min step (value - target)
+
+-- the callback of a gauge that is animating moves it, requests a traversal, and posts itself again or stops there
+abbrev pub gauge_moved : Script → ℕ → ℕ → ℕ → Gauge → Looper → Looper
+gauge_moved s q now g x a =
+    let value = moved (gauge_line s g).step x.target x.value in
+    if value == x.target then traversal_requested s q now (with_gauge g (record { value = value; target = x.target; animating = false }) a)
+    else and_posts_frame animation_phase (animation_id g) (traversal_requested s q now (with_gauge g (record x { value = value }) a))
+
+abbrev pub animation_ran : Script → ℕ → ℕ → ℕ → Gauge → Looper → Looper
+animation_ran s q now g x a = if x.animating then gauge_moved s q now g x a else a
+
+-- the gauges of the looper with their values, by rising number
+abbrev pub paints : Script → ℕ → List Gauge → List Act
+paints s q gauges = filter_map (λ (g, x). if gauge_looper s g == q then Some (Paint g x.value) else None) (enumerate_from 0 gauges)
+
+-- the traversal's callback removes the barrier and paints, where one is under way
+abbrev pub traversal_ran : Script → ℕ → ℕ → Looper → Looper
+traversal_ran s q now a =
+    option_map_or (λ k. and_sends q now (Unbars k) (record a { barrier = None; painted = a.painted ++ paints s q a.gauges })) a.barrier a
+
+-- a frame callback runs, by its identity
+abbrev pub callback_ran : Script → ℕ → ℕ → Looper → ℕ → Looper
+callback_ran s q now a id =
+    if id == traversal_id then traversal_ran s q now a
+    else if nat_le 1000000 id then option_map_or (λ x. animation_ran s q now (id - 1000000) x a) (slice_get a.gauges (id - 1000000)) a else a
+
+-- the rule fires at the message, where it has fired this often
+abbrev pub fires : PostData → Rule → ℕ → Bool
+fires m r count = m.handler == r.handler && m.what == r.what && nat_lt count r.times
+
+-- a rule sends its message, with the delay counted from the dispatch
+abbrev pub reaction : Script → ℕ → Rule → Sent
+reaction s now r = record {
+  queue = looper_of s r.to_handler;
+  ask = Makes (Post (sent_by s r.to_handler r.to_what (later now r.delay)));
+  reply = None;
+  timing = At now;
+}
+
+-- every other message: each rule for it that is not used up fires, in script order
+abbrev pub reacted : Script → ℕ → PostData → Looper → Looper
+reacted s now m a = record a {
+  fired = map (λ (r, n). if fires m r n then n + 1 else n) (zip s.rules a.fired);
+  sent = a.sent ++ filter_map (λ (r, n). if fires m r n then Some (reaction s now r) else None) (zip s.rules a.fired);
+}
+
+-- the message starts a frame of looper q
+abbrev pub starts_frame : ℕ → PostData → Bool
+starts_frame q m = not (is_some m.callback) && m.handler == frame_handler q && m.what == 0
+
+-- what the dispatch of a message causes, where the frame that it runs, if any, runs callbacks of these identities
+abbrev pub delivered : Script → ℕ → ℕ → List ℕ → PostData → Looper → Looper
+delivered s q now ids m a =
+    if is_some m.callback then a
+    else if m.handler == frame_handler q then (if m.what == 0 then fold (callback_ran s q now) a ids else a)
+    else option_map_or (λ g. object_set s q now g m.arg a) m.obj (reacted s now m a)
+
+-- the looper takes a message
+abbrev pub and_takes : ℕ → ℕ → ℕ → Looper → Looper
+and_takes q n now a = record a { sent = a.sent ++ record { queue = q; ask = Makes (Next now); reply = Some (Dispatched n); timing = At now } ∷ [] }
+
+-- a frame callback of this phase and identity is posted
+abbrev pub is_frame_post : ℕ → ℕ → FramePost → Bool
+is_frame_post phase id x = x.phase == phase && x.id == id

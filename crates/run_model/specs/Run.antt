@@ -1,0 +1,184 @@
+-- When a report is a run of a script.
+use Rattle.std.specs.Prelude.{◌≡◌, ◌<◌, ◌≤◌, ℕ, ◌==◌, Bool, true, false, ◌&&◌, ◌||◌, nat_lt, List, [], ◌∷◌, ◌++◌, map, Option, Some, None, count_by}
+use Rattle.std.specs.List.{AllByRecursion, filter_map}
+use Rattle.loop_model.specs.declared.call.Call.{Call}
+use Rattle.loop_model.specs.declared.call.Call.TheVariants.{Next}
+use Rattle.loop_model.specs.declared.reply.Reply.{Reply}
+use Rattle.loop_model.specs.declared.reply.Reply.TheVariants.{Dispatched}
+use Rattle.loop_model.specs.declared.entry.Entry.{Entry}
+use Rattle.loop_model.specs.Base.{empty_base}
+use Rattle.loop_model.specs.Answers.{Setting}
+use Rattle.loop_model.specs.Legal.{IsLegal, AreNumbered}
+use Rattle.frame_phases.specs.declared.entry.FrameRecord.{FrameRecord}
+use Rattle.frame_phases.specs.Frames.{lawful}
+use Rattle.dash_script.specs.declared.script.Command.{Command}
+use Rattle.dash_script.specs.declared.script.Command.TheVariants.{Frame, Unframe}
+use Rattle.dash_script.specs.declared.script.Script.{Script}
+use Rattle.loop_model.specs.declared.journal.Act.{Act}
+use Rattle.loop_model.specs.declared.journal.Act.TheVariants.{Dispatch}
+use Rattle.loop_model.specs.declared.journal.Journal.{Journal}
+use Rattle.loop_model.specs.declared.record.QueueRecord.{QueueRecord}
+use Rattle.run_model.specs.declared.report.Report.{Report}
+use Rattle.run_model.specs.Histories.{history_of}
+use Rattle.run_model.specs.Asks.{AreFor, entries_by}
+use Rattle.run_model.specs.Senders.{looper_sender, controller, sender_count, numbers_from, phase_count}
+use Rattle.run_model.specs.Moments.{Mode, IfLockstep, IsStart, AreOfClock}
+use Rattle.run_model.specs.Planned.{Timed, lines_of, labels_on, lines_on, AreAsPlanned}
+use Rattle.run_model.specs.Control.{is_controlled, ends_halted, is_advanced_in_time, befores, At, are_on_time}
+use Rattle.run_model.specs.Loopers.{Looper, Sent, first_looper, is_frame_post}
+use Rattle.run_model.specs.Acts.{Lead, sent_on, closing, IsSent}
+use Rattle.run_model.specs.FrameRuns.{posts_frame, removes_frame}
+
+abbrev pub setting_of : QueueRecord → Setting
+setting_of r = record { main = r.main; lockstep = r.lockstep; senders = r.senders }
+
+-- the report is of the script, and each of its three lists has one member per looper in order, with that number
+pub record IsReportOf (s : Script) (r : Report) : Type 0 where
+  pub script : r.script ≡ s
+  pub queues : map (λ q. q.looper) r.queues ≡ numbers_from 0 s.loopers
+  pub journals : map (λ j. j.looper) r.journals ≡ numbers_from 0 s.loopers
+  pub frames : map (λ f. f.looper) r.frames ≡ numbers_from 0 s.loopers
+
+-- a queue's record: its constants are those of the run, and its entries have the replies that a queue of one thread gives
+-- and the numbers of their senders; in free mode the moments of the entries that pass the test are the clock's
+pub record IsHistory (m : Mode) (test : Entry → Bool) (s : Script) (r : QueueRecord) : Type 0 where
+  pub main : r.main ≡ (r.looper == 0)
+  pub lockstep : r.lockstep ≡ m.lockstep
+  pub senders : r.senders ≡ sender_count s
+  pub legal : IsLegal (setting_of r) (empty_base r.senders) (history_of r)
+  pub numbered : AreNumbered (setting_of r) (empty_base r.senders) (history_of r)
+  pub clocked : AreOfClock m test (history_of r)
+
+-- part 1 of a run: the queues' records, and the reading at the start
+pub record AreRecordsOf (m : Mode) (test : Entry → Bool) (s : Script) (r : Report) : Type 0 where
+  pub mode : r.start ≡ m.start
+  pub start : IsStart m
+  pub histories : AllByRecursion (IsHistory m test s) r.queues
+
+-- each thread's entries on the queue are as its lines plan them
+abbrev pub IsAsPlanned : Mode → Script → QueueRecord → Type 0
+IsAsPlanned m s r = (thread : ℕ) → thread < s.threads → AreAsPlanned m s thread r.looper (history_of r)
+
+-- part 2 of a run: the threads' calls
+abbrev pub ArePlannedOf : Mode → Script → Report → Type 0
+ArePlannedOf m s r = AllByRecursion (IsAsPlanned m s) r.queues
+
+-- the controller's entries on the queue are its own
+abbrev pub IsControlled : Script → QueueRecord → Type 0
+IsControlled s r = is_controlled r.main r.lockstep (controller s) s.end (history_of r) ≡ true
+
+-- part 3 of a run: the controller's calls
+abbrev pub AreControlsOf : Script → Report → Type 0
+AreControlsOf s r = AllByRecursion (IsControlled s) r.queues
+
+-- all entries pass; as long as the loopers' own calls are not told, those other than their looks for a message do not
+abbrev pub all_entries : Entry → Bool
+all_entries e = true
+
+abbrev pub is_next : Call → Bool
+is_next (Next now) = true
+is_next _ = false
+
+abbrev pub is_told : Script → Entry → Bool
+is_told s e = is_next e.call || nat_lt e.sender s.threads || e.sender == controller s
+
+-- the line posts, or removes, this frame callback at the looper
+abbrev pub is_frame_line : ℕ → ℕ → ℕ → Timed → Bool
+is_frame_line looper phase id l = is_frame l.command
+  where
+    is_frame : Command → Bool
+    is_frame (Frame lp p i d) = lp == looper && p == phase && i == id
+    is_frame _ = false
+
+abbrev pub is_unframe_line : ℕ → ℕ → ℕ → Timed → Bool
+is_unframe_line looper phase id l = is_unframe l.command
+  where
+    is_unframe : Command → Bool
+    is_unframe (Unframe lp p i) = lp == looper && p == phase && i == id
+    is_unframe _ = false
+
+-- the record has an entry for each of the thread's lines that post, and that remove, a callback of this looper
+abbrev pub HasFramePosts : Script → FrameRecord → ℕ → Type 0
+HasFramePosts s f thread =
+    (phase id : ℕ) → count_by (is_frame_line f.looper phase id) (lines_of thread s.blocks) ≤ count_by (posts_frame phase id) f.entries
+
+abbrev pub HasFrameRemovals : Script → FrameRecord → ℕ → Type 0
+HasFrameRemovals s f thread =
+    (phase id : ℕ) → count_by (is_unframe_line f.looper phase id) (lines_of thread s.blocks) ≤ count_by (removes_frame phase id) f.entries
+
+-- a choreographer's record is lawful, and has the entries of the threads' lines
+pub record IsFrameRun (s : Script) (f : FrameRecord) : Type 0 where
+  pub interval : f.interval ≡ s.period
+  pub phases : f.phases ≡ phase_count s
+  pub lawful : lawful f.interval f.phases f.entries ≡ true
+  pub posted : (thread : ℕ) → thread < s.threads → HasFramePosts s f thread
+  pub removed : (thread : ℕ) → thread < s.threads → HasFrameRemovals s f thread
+
+-- part 4 of a run: the choreographers' records
+abbrev pub AreFramesOf : Script → Report → Type 0
+AreFramesOf s r = AllByRecursion (IsFrameRun s) r.frames
+
+-- what a looper's acts cause on a queue, with the last look where it is not main
+abbrev pub caused_on : ℕ → Looper → ℕ → ℕ → List Sent
+caused_on queue final looper disposed_at = sent_on queue (final.sent ++ closing looper disposed_at)
+
+-- the number and the moment of the message that an act dispatches, and of the one that an entry takes
+abbrev pub act_dispatch : Act → Option (ℕ × ℕ)
+act_dispatch (Dispatch n now route) = Some (n, now)
+act_dispatch _ = None
+
+abbrev pub entry_dispatch : Call → Reply → Option (ℕ × ℕ)
+entry_dispatch (Next now) (Dispatched n) = Some (n, now)
+entry_dispatch _ _ = None
+
+-- a looper's calls on each queue, and its frame callbacks, are those that its acts cause, and its Dispatch acts are, one
+-- for one and in order, its entries answered Dispatched. In lockstep each call is on time
+pub record IsLooperRun (m : Mode) (s : Script) (queues : List QueueRecord) (q : QueueRecord) (j : Journal) (f : FrameRecord) : Type 0 where
+  pub final : Looper
+  pub acts : Lead s q.looper (history_of q) f.entries (first_looper s) j.acts final
+  pub settled : final.painted ≡ []
+  pub dispatches : filter_map act_dispatch j.acts ≡ filter_map (λ e. entry_dispatch e.call e.reply) (entries_by (looper_sender s q.looper) (history_of q))
+  pub disposed_at : ℕ
+  pub calls : AllByRecursion (λ (r : QueueRecord). AreFor IsSent [] (caused_on r.looper final q.looper disposed_at) (entries_by (looper_sender s q.looper) (history_of r))) queues
+  pub posted : (phase id : ℕ) → count_by (is_frame_post phase id) final.posted ≤ count_by (posts_frame phase id) f.entries
+  pub on_time : IfLockstep m (AllByRecursion (λ (r : QueueRecord). are_on_time (map (λ x. x.timing) (caused_on r.looper final q.looper disposed_at)) (befores (looper_sender s q.looper) (history_of r)) ≡ true) queues)
+
+-- each looper's queue, journal and frame record, and no others
+abbrev pub EachLooper : (QueueRecord → Journal → FrameRecord → Type 0) → List QueueRecord → List Journal → List FrameRecord → Type 0
+EachLooper P [] [] [] = Unit {0}
+EachLooper P (q ∷ qs) (j ∷ js) (f ∷ fs) = P q j f × EachLooper P qs js fs
+EachLooper P _ _ _ = ⊥
+
+-- part 5 of a run: the loopers' calls and journals, and that in lockstep what a dispatch caused came at its time
+abbrev pub AreLoopersOf : Mode → Script → Report → Type 0
+AreLoopersOf m s r = EachLooper (IsLooperRun m s r.queues) r.queues r.journals r.frames
+
+-- each call of the thread is on time
+abbrev pub IsThreadOnTime : Script → QueueRecord → ℕ → Type 0
+IsThreadOnTime s r thread =
+    are_on_time (map (λ l. At l.time) (lines_on s (labels_on r.looper (lines_of thread s.blocks)) r.looper (lines_of thread s.blocks))) (befores thread (history_of r)) ≡ true
+
+-- no Advance goes past a message, and the threads' calls are on time
+pub record IsTimely (s : Script) (r : QueueRecord) : Type 0 where
+  pub advances : is_advanced_in_time (history_of r) ≡ true
+  pub threads : (thread : ℕ) → thread < s.threads → IsThreadOnTime s r thread
+
+-- main's history ends with its Halt
+abbrev pub main_ends_halted : List QueueRecord → Bool
+main_ends_halted [] = false
+main_ends_halted (q ∷ qs) = ends_halted (history_of q)
+
+-- part 6 of a run: main ends with its Halt, and in lockstep each history is timely
+pub record AreTimelyOf (m : Mode) (s : Script) (r : Report) : Type 0 where
+  pub halted : main_ends_halted r.queues ≡ true
+  pub histories : IfLockstep m (AllByRecursion (IsTimely s) r.queues)
+
+-- the report is a run of the script; each part can be claimed by itself
+pub record IsRun (m : Mode) (s : Script) (r : Report) : Type 0 where
+  pub report : IsReportOf s r
+  pub records : AreRecordsOf m all_entries s r
+  pub planned : ArePlannedOf m s r
+  pub controls : AreControlsOf s r
+  pub frames : AreFramesOf s r
+  pub loopers : AreLoopersOf m s r
+  pub timely : AreTimelyOf m s r

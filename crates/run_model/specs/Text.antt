@@ -1,0 +1,134 @@
+-- How a report is printed.
+use Rattle.std.specs.Prelude.{ℕ, Bool, true, false, List, [], ◌∷◌, ◌++◌, Option, Some, None, count_by, sum_by, codes, slice_get}
+use Rattle.std.specs.List.{flat_map, filter_map, join_with_byte}
+use Rattle.std.specs.Option.{option_map_or}
+use Rattle.std.specs.Fmt.{decimal}
+use Rattle.loop_model.specs.declared.post.Post.{Post as PostData}
+use Rattle.loop_model.specs.declared.call.Call.{Call}
+use Rattle.loop_model.specs.declared.call.Call.TheVariants.{Post, Unbarrier, Quit, Next}
+use Rattle.loop_model.specs.declared.reply.Reply.{Reply}
+use Rattle.loop_model.specs.declared.reply.Reply.TheVariants.{Refused, NotPosted, AlreadyQuit, NotAllowed, Dispatched}
+use Rattle.loop_model.specs.declared.entry.Entry.{Entry}
+use Rattle.loop_model.specs.declared.fate.Fate.{Fate}
+use Rattle.loop_model.specs.Fates.{fates, is_queued, is_dispatched, is_removed, is_dropped, is_stranded}
+use Rattle.std.specs.Prelude.{length}
+use Rattle.frame_phases.specs.declared.entry.Callback.{Callback}
+use Rattle.frame_phases.specs.declared.entry.FrameEntry.{FrameEntry}
+use Rattle.frame_phases.specs.declared.entry.FrameEntry.TheVariants.{Posted, Begin, Ran}
+use Rattle.frame_phases.specs.declared.entry.FrameRecord.{FrameRecord}
+use Rattle.loop_model.specs.declared.journal.Act.{Act}
+use Rattle.loop_model.specs.declared.journal.Act.TheVariants.{Idle, Event, Paint}
+use Rattle.loop_model.specs.declared.journal.Journal.{Journal}
+use Rattle.loop_model.specs.declared.record.QueueRecord.{QueueRecord}
+use Rattle.run_model.specs.declared.report.Report.{Report}
+use Rattle.run_model.specs.Histories.{history_of, accepted_post}
+use Rattle.run_model.specs.FrameRuns.{is_begin}
+
+-- a line, as its words
+abbrev pub Words : Type 0
+Words = List (List ℕ)
+
+-- a line is its words with single spaces, and a line feed
+abbrev pub line_text : Words → List ℕ
+line_text ws = join_with_byte 32 ws ++ 10 ∷ []
+
+-- a message's handler, and its number or its callback
+abbrev pub subject : PostData → Words
+subject p = decimal p.handler ∷ option_map_or (λ c. codes "callback" ∷ decimal c ∷ []) p.callback (decimal p.what ∷ [])
+
+-- a dispatch of a message
+abbrev pub dispatch_words : ℕ → ℕ → PostData → Words
+dispatch_words now n p = decimal now ∷ codes "dispatch" ∷ decimal n ∷ subject p
+
+-- a message that was refused
+abbrev pub refused_words : PostData → ℕ → Words
+refused_words p place = (codes "refused" ∷ subject p) ++ codes "quit" ∷ decimal place ∷ []
+
+-- the lines of an entry, none or one, by the accepted posts of the history
+abbrev pub call_lines : List PostData → Call → Reply → List Words
+call_lines posts (Next now) (Dispatched n) =
+    option_map_or (λ p. dispatch_words now n p ∷ []) (slice_get posts n) []
+call_lines posts (Post p) (Refused place) = refused_words p place ∷ []
+call_lines posts (Unbarrier token) NotPosted = (codes "not-posted" ∷ decimal token ∷ []) ∷ []
+call_lines posts (Quit safe now) NotAllowed = (codes "not-allowed" ∷ []) ∷ []
+call_lines posts (Quit safe now) (AlreadyQuit place) = (codes "already-quit" ∷ decimal place ∷ []) ∷ []
+call_lines posts _ _ = []
+
+abbrev pub history_lines : List Entry → List Words
+history_lines es = flat_map (λ e. call_lines (filter_map accepted_post es) e.call e.reply) es
+
+-- how many accepted posts have the fate
+abbrev pub counted : (Fate → Bool) → List Fate → List ℕ
+counted test fs = decimal (count_by test fs)
+
+abbrev pub fates_line : List Fate → Words
+fates_line fs =
+    codes "fates" ∷ codes "accepted" ∷ decimal (length fs) ∷ codes "dispatched" ∷ counted is_dispatched fs ∷ codes "removed" ∷ counted is_removed fs
+    ∷ codes "dropped" ∷ counted is_dropped fs ∷ codes "stranded" ∷ counted is_stranded fs ∷ codes "queued" ∷ counted is_queued fs ∷ []
+
+abbrev pub act_lines : Act → List Words
+act_lines (Idle id kept) = (codes "idle" ∷ decimal id ∷ []) ∷ []
+act_lines (Event fd events mask) = (codes "event" ∷ decimal fd ∷ decimal events ∷ []) ∷ []
+act_lines (Paint gauge value) = (codes "paint" ∷ decimal gauge ∷ decimal value ∷ []) ∷ []
+act_lines _ = []
+
+abbrev pub posted_callback : FrameEntry → Option Callback
+posted_callback (Posted c) = Some c
+posted_callback _ = None
+
+-- a callback that runs
+abbrev pub run_words : Callback → Words
+run_words c = codes "run" ∷ decimal c.phase ∷ decimal c.id ∷ []
+
+-- the lines of a frame entry, by the callbacks in the order of posting
+abbrev pub frame_entry_lines : List Callback → FrameEntry → List Words
+frame_entry_lines cs (Begin vsync start time) = (codes "frame" ∷ decimal time ∷ []) ∷ []
+frame_entry_lines cs (Ran n) = option_map_or (λ c. run_words c ∷ []) (slice_get cs n) []
+frame_entry_lines cs _ = []
+
+abbrev pub frame_lines : List FrameEntry → List Words
+frame_lines fs = flat_map (frame_entry_lines (filter_map posted_callback fs)) fs
+
+-- a looper's lines
+abbrev pub looper_lines : QueueRecord → Journal → FrameRecord → List Words
+looper_lines q j f =
+    (codes "looper" ∷ decimal q.looper ∷ []) ∷ history_lines (history_of q) ++ fates_line (fates (history_of q)) ∷ flat_map act_lines j.acts ++ frame_lines f.entries
+
+-- all loopers' lines, in order
+abbrev pub loopers_lines : List QueueRecord → List Journal → List FrameRecord → List Words
+loopers_lines (q ∷ qs) (j ∷ js) (f ∷ fs) = looper_lines q j f ++ loopers_lines qs js fs
+loopers_lines _ _ _ = []
+
+-- the lines of a report
+unfoldable pub lines : Report → List Words
+lines r =
+    (codes "report" ∷ decimal r.script.edition ∷ []) ∷ loopers_lines r.queues r.journals r.frames ++ (codes "end" ∷ []) ∷ []
+
+-- the text of a report
+unfoldable pub text : Report → List ℕ
+text r = flat_map line_text (lines r)
+
+abbrev pub is_paint : Act → Bool
+is_paint (Paint gauge value) = true
+is_paint _ = false
+
+abbrev pub accepted_in : List QueueRecord → ℕ
+accepted_in qs = sum_by (λ (q : QueueRecord). length (fates (history_of q))) qs
+
+abbrev pub dispatched_in : List QueueRecord → ℕ
+dispatched_in qs = sum_by (λ (q : QueueRecord). count_by is_dispatched (fates (history_of q))) qs
+
+abbrev pub frames_in : List FrameRecord → ℕ
+frames_in fs = sum_by (λ (f : FrameRecord). count_by is_begin f.entries) fs
+
+abbrev pub paints_in : List Journal → ℕ
+paints_in js = sum_by (λ (j : Journal). count_by is_paint j.acts) js
+
+-- the five lines of a summary of the run of script number n
+unfoldable pub summary_lines : ℕ → Report → List Words
+summary_lines n r =
+    (codes "summary" ∷ decimal n ∷ []) ∷ (codes "accepted" ∷ decimal (accepted_in r.queues) ∷ []) ∷ (codes "dispatched" ∷ decimal (dispatched_in r.queues) ∷ [])
+    ∷ (codes "frames" ∷ decimal (frames_in r.frames) ∷ []) ∷ (codes "paints" ∷ decimal (paints_in r.journals) ∷ []) ∷ []
+
+unfoldable pub summary : ℕ → Report → List ℕ
+summary n r = flat_map line_text (summary_lines n r)
