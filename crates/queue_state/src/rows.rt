@@ -1,40 +1,45 @@
-// The calls of the worked examples, each with the reply that it gets and whether it wakes.
+// The worked examples: what is asked of a queue, the reply, or none where no entry is left, and whether it wakes.
 
 use loop_model::{Call, Filter, Kind, Post, Reply};
 
-/// A call with its reply, or without one where it leaves no entry.
+/// What is asked of a queue. Each message is for handler 0.
 #[derive(Clone, Copy)]
-pub(crate) struct Step {
-    pub(crate) call: Call,
-    pub(crate) reply: Option<Reply>,
-    pub(crate) wake: bool,
+pub(crate) enum Ask {
+    Post { what: u32, when: u64 },
+    Asynchronous { what: u32, when: u64 },
+    Callback { callback: u64, when: u64 },
+    Remove(Kind),
+    Make(Call),
 }
 
-const fn gets(call: Call, reply: Reply) -> Step {
-    Step {
-        call,
-        reply: Some(reply),
-        wake: false,
+/// What is asked, the reply, and whether it wakes.
+pub(crate) type Row = (Ask, Option<Reply>, bool);
+
+impl Ask {
+    pub(crate) fn call(self) -> Call {
+        match self {
+            Ask::Post { what, when } => Call::Post(message(what, when)),
+            Ask::Asynchronous { what, when } => {
+                let mut post = message(what, when);
+                post.asynchronous = true;
+                Call::Post(post)
+            }
+            Ask::Callback { callback, when } => {
+                let mut post = message(0, when);
+                post.callback = Some(callback);
+                Call::Post(post)
+            }
+            Ask::Remove(kind) => Call::Remove(Filter {
+                handler: 0,
+                kind,
+                obj: None,
+            }),
+            Ask::Make(call) => call,
+        }
     }
 }
 
-const fn wakes_with(call: Call, reply: Reply) -> Step {
-    Step {
-        call,
-        reply: Some(reply),
-        wake: true,
-    }
-}
-
-const fn gets_none(call: Call) -> Step {
-    Step {
-        call,
-        reply: None,
-        wake: false,
-    }
-}
-
-pub(crate) const fn message(what: u32, when: u64) -> Post {
+pub(crate) fn message(what: u32, when: u64) -> Post {
     Post {
         handler: 0,
         what,
@@ -47,227 +52,523 @@ pub(crate) const fn message(what: u32, when: u64) -> Post {
     }
 }
 
-const fn post(what: u32, when: u64) -> Call {
-    Call::Post(message(what, when))
-}
+pub(crate) const IN_ORDER: [Row; 10] = [
+    (
+        Ask::Make(Call::Advance { now: 10 }),
+        Some(Reply::Advanced),
+        false,
+    ),
+    (
+        Ask::Post { what: 7, when: 15 },
+        Some(Reply::Accepted { number: 0 }),
+        false,
+    ),
+    (
+        Ask::Post { what: 8, when: 10 },
+        Some(Reply::Accepted { number: 1 }),
+        false,
+    ),
+    (
+        Ask::Make(Call::Next { now: 10 }),
+        Some(Reply::Dispatched { number: 1 }),
+        false,
+    ),
+    (Ask::Make(Call::Next { now: 10 }), None, false),
+    (
+        Ask::Make(Call::Advance { now: 15 }),
+        Some(Reply::Advanced),
+        false,
+    ),
+    (
+        Ask::Make(Call::Next { now: 15 }),
+        Some(Reply::Dispatched { number: 0 }),
+        false,
+    ),
+    (
+        Ask::Make(Call::Advance { now: 20 }),
+        Some(Reply::Advanced),
+        false,
+    ),
+    (
+        Ask::Make(Call::Halt { now: 20 }),
+        Some(Reply::Halted),
+        false,
+    ),
+    (Ask::Make(Call::Next { now: 20 }), None, false),
+];
 
-const fn asynchronous(what: u32, when: u64) -> Call {
-    Call::Post(Post {
-        asynchronous: true,
-        ..message(what, when)
-    })
-}
+pub(crate) const AT_THE_FRONT: [Row; 13] = [
+    (
+        Ask::Post { what: 1, when: 0 },
+        Some(Reply::Accepted { number: 0 }),
+        false,
+    ),
+    (
+        Ask::Post { what: 2, when: 0 },
+        Some(Reply::Accepted { number: 1 }),
+        false,
+    ),
+    (
+        Ask::Make(Call::Next { now: 0 }),
+        Some(Reply::Dispatched { number: 1 }),
+        false,
+    ),
+    (
+        Ask::Make(Call::Next { now: 0 }),
+        Some(Reply::Dispatched { number: 0 }),
+        false,
+    ),
+    (Ask::Make(Call::Next { now: 0 }), None, false),
+    (
+        Ask::Make(Call::Advance { now: 10 }),
+        Some(Reply::Advanced),
+        false,
+    ),
+    (
+        Ask::Post { what: 1, when: 10 },
+        Some(Reply::Accepted { number: 2 }),
+        true,
+    ),
+    (
+        Ask::Post { what: 2, when: 0 },
+        Some(Reply::Accepted { number: 3 }),
+        true,
+    ),
+    (
+        Ask::Post { what: 3, when: 10 },
+        Some(Reply::Accepted { number: 4 }),
+        false,
+    ),
+    (
+        Ask::Make(Call::Next { now: 10 }),
+        Some(Reply::Dispatched { number: 3 }),
+        false,
+    ),
+    (
+        Ask::Make(Call::Next { now: 10 }),
+        Some(Reply::Dispatched { number: 2 }),
+        false,
+    ),
+    (
+        Ask::Make(Call::Next { now: 10 }),
+        Some(Reply::Dispatched { number: 4 }),
+        false,
+    ),
+    (
+        Ask::Make(Call::Halt { now: 10 }),
+        Some(Reply::Halted),
+        false,
+    ),
+];
 
-const fn callback(callback: u64, when: u64) -> Call {
-    Call::Post(Post {
-        callback: Some(callback),
-        ..message(0, when)
-    })
-}
+pub(crate) const EQUAL_TIMES: [Row; 10] = [
+    (
+        Ask::Make(Call::Advance { now: 10 }),
+        Some(Reply::Advanced),
+        false,
+    ),
+    (
+        Ask::Post { what: 1, when: 15 },
+        Some(Reply::Accepted { number: 0 }),
+        false,
+    ),
+    (
+        Ask::Post { what: 2, when: 15 },
+        Some(Reply::Accepted { number: 1 }),
+        false,
+    ),
+    (
+        Ask::Post { what: 3, when: 15 },
+        Some(Reply::Accepted { number: 2 }),
+        false,
+    ),
+    (Ask::Make(Call::Next { now: 10 }), None, false),
+    (
+        Ask::Make(Call::Advance { now: 15 }),
+        Some(Reply::Advanced),
+        false,
+    ),
+    (
+        Ask::Make(Call::Next { now: 15 }),
+        Some(Reply::Dispatched { number: 0 }),
+        false,
+    ),
+    (
+        Ask::Make(Call::Next { now: 15 }),
+        Some(Reply::Dispatched { number: 1 }),
+        false,
+    ),
+    (
+        Ask::Make(Call::Next { now: 15 }),
+        Some(Reply::Dispatched { number: 2 }),
+        false,
+    ),
+    (
+        Ask::Make(Call::Halt { now: 15 }),
+        Some(Reply::Halted),
+        false,
+    ),
+];
 
-const fn remove(kind: Kind) -> Call {
-    Call::Remove(Filter {
-        handler: 0,
-        kind,
-        obj: None,
-    })
-}
+pub(crate) const BEHIND_A_BARRIER: [Row; 12] = [
+    (
+        Ask::Make(Call::Advance { now: 10 }),
+        Some(Reply::Advanced),
+        false,
+    ),
+    (
+        Ask::Post { what: 3, when: 10 },
+        Some(Reply::Accepted { number: 0 }),
+        false,
+    ),
+    (
+        Ask::Make(Call::Barrier { now: 10 }),
+        Some(Reply::Token { token: 0 }),
+        false,
+    ),
+    (
+        Ask::Post { what: 1, when: 10 },
+        Some(Reply::Accepted { number: 1 }),
+        false,
+    ),
+    (
+        Ask::Asynchronous { what: 2, when: 10 },
+        Some(Reply::Accepted { number: 2 }),
+        false,
+    ),
+    (
+        Ask::Make(Call::Next { now: 10 }),
+        Some(Reply::Dispatched { number: 0 }),
+        false,
+    ),
+    (
+        Ask::Make(Call::Next { now: 10 }),
+        Some(Reply::Dispatched { number: 2 }),
+        false,
+    ),
+    (Ask::Make(Call::Next { now: 10 }), None, false),
+    (
+        Ask::Make(Call::Advance { now: 12 }),
+        Some(Reply::Advanced),
+        false,
+    ),
+    (
+        Ask::Make(Call::Unbarrier { token: 0 }),
+        Some(Reply::Unbarriered),
+        true,
+    ),
+    (
+        Ask::Make(Call::Next { now: 12 }),
+        Some(Reply::Dispatched { number: 1 }),
+        false,
+    ),
+    (
+        Ask::Make(Call::Halt { now: 12 }),
+        Some(Reply::Halted),
+        false,
+    ),
+];
 
-const fn accepted(number: u64) -> Reply {
-    Reply::Accepted { number }
-}
+pub(crate) const REMOVALS: [Row; 12] = [
+    (
+        Ask::Callback {
+            callback: 9,
+            when: 10,
+        },
+        Some(Reply::Accepted { number: 0 }),
+        false,
+    ),
+    (
+        Ask::Post { what: 0, when: 10 },
+        Some(Reply::Accepted { number: 1 }),
+        false,
+    ),
+    (
+        Ask::Post { what: 1, when: 10 },
+        Some(Reply::Accepted { number: 2 }),
+        false,
+    ),
+    (
+        Ask::Remove(Kind::What(0)),
+        Some(Reply::Removed { count: 2 }),
+        false,
+    ),
+    (
+        Ask::Callback {
+            callback: 9,
+            when: 10,
+        },
+        Some(Reply::Accepted { number: 3 }),
+        false,
+    ),
+    (
+        Ask::Post { what: 0, when: 10 },
+        Some(Reply::Accepted { number: 4 }),
+        false,
+    ),
+    (
+        Ask::Remove(Kind::Callback(9)),
+        Some(Reply::Removed { count: 1 }),
+        false,
+    ),
+    (
+        Ask::Make(Call::Advance { now: 10 }),
+        Some(Reply::Advanced),
+        false,
+    ),
+    (
+        Ask::Make(Call::Next { now: 10 }),
+        Some(Reply::Dispatched { number: 2 }),
+        false,
+    ),
+    (
+        Ask::Remove(Kind::All),
+        Some(Reply::Removed { count: 1 }),
+        false,
+    ),
+    (Ask::Make(Call::Next { now: 10 }), None, false),
+    (
+        Ask::Make(Call::Halt { now: 10 }),
+        Some(Reply::Halted),
+        false,
+    ),
+];
 
-const fn next(now: u64) -> Call {
-    Call::Next { now }
-}
+pub(crate) const SAFE_QUIT: [Row; 10] = [
+    (
+        Ask::Post { what: 1, when: 9 },
+        Some(Reply::Accepted { number: 0 }),
+        false,
+    ),
+    (
+        Ask::Post { what: 2, when: 10 },
+        Some(Reply::Accepted { number: 1 }),
+        false,
+    ),
+    (
+        Ask::Post { what: 3, when: 11 },
+        Some(Reply::Accepted { number: 2 }),
+        false,
+    ),
+    (
+        Ask::Make(Call::Advance { now: 9 }),
+        Some(Reply::Advanced),
+        false,
+    ),
+    (
+        Ask::Make(Call::Next { now: 9 }),
+        Some(Reply::Dispatched { number: 0 }),
+        false,
+    ),
+    (
+        Ask::Make(Call::Advance { now: 10 }),
+        Some(Reply::Advanced),
+        false,
+    ),
+    (
+        Ask::Make(Call::Quit {
+            safe: true,
+            now: 10,
+        }),
+        Some(Reply::QuitDone),
+        true,
+    ),
+    (
+        Ask::Make(Call::Next { now: 10 }),
+        Some(Reply::Dispatched { number: 1 }),
+        false,
+    ),
+    (
+        Ask::Make(Call::Next { now: 10 }),
+        Some(Reply::Disposed),
+        false,
+    ),
+    (Ask::Make(Call::Next { now: 10 }), None, false),
+];
 
-const fn dispatched(now: u64, number: u64) -> Step {
-    gets(next(now), Reply::Dispatched { number })
-}
+pub(crate) const STRANDED: [Row; 5] = [
+    (
+        Ask::Make(Call::Advance { now: 10 }),
+        Some(Reply::Advanced),
+        false,
+    ),
+    (
+        Ask::Make(Call::Barrier { now: 10 }),
+        Some(Reply::Token { token: 0 }),
+        false,
+    ),
+    (
+        Ask::Post { what: 1, when: 10 },
+        Some(Reply::Accepted { number: 0 }),
+        false,
+    ),
+    (
+        Ask::Make(Call::Quit {
+            safe: true,
+            now: 10,
+        }),
+        Some(Reply::QuitDone),
+        true,
+    ),
+    (
+        Ask::Make(Call::Next { now: 10 }),
+        Some(Reply::Disposed),
+        false,
+    ),
+];
 
-const fn advanced(now: u64) -> Step {
-    gets(Call::Advance { now }, Reply::Advanced)
-}
+pub(crate) const FREED_BEFORE_DISPOSAL: [Row; 7] = [
+    (
+        Ask::Make(Call::Advance { now: 10 }),
+        Some(Reply::Advanced),
+        false,
+    ),
+    (
+        Ask::Make(Call::Barrier { now: 10 }),
+        Some(Reply::Token { token: 0 }),
+        false,
+    ),
+    (
+        Ask::Post { what: 1, when: 10 },
+        Some(Reply::Accepted { number: 0 }),
+        false,
+    ),
+    (
+        Ask::Make(Call::Quit {
+            safe: true,
+            now: 10,
+        }),
+        Some(Reply::QuitDone),
+        true,
+    ),
+    (
+        Ask::Make(Call::Unbarrier { token: 0 }),
+        Some(Reply::Unbarriered),
+        false,
+    ),
+    (
+        Ask::Make(Call::Next { now: 10 }),
+        Some(Reply::Dispatched { number: 0 }),
+        false,
+    ),
+    (
+        Ask::Make(Call::Next { now: 10 }),
+        Some(Reply::Disposed),
+        false,
+    ),
+];
 
-const fn halted(now: u64) -> Step {
-    gets(Call::Halt { now }, Reply::Halted)
-}
+pub(crate) const QUITS_ONCE: [Row; 9] = [
+    (
+        Ask::Make(Call::Advance { now: 10 }),
+        Some(Reply::Advanced),
+        false,
+    ),
+    (
+        Ask::Post { what: 5, when: 10 },
+        Some(Reply::Accepted { number: 0 }),
+        false,
+    ),
+    (
+        Ask::Make(Call::Quit {
+            safe: false,
+            now: 10,
+        }),
+        Some(Reply::QuitDone),
+        true,
+    ),
+    (
+        Ask::Make(Call::Quit {
+            safe: false,
+            now: 10,
+        }),
+        Some(Reply::AlreadyQuit { place: 2 }),
+        false,
+    ),
+    (
+        Ask::Post { what: 5, when: 10 },
+        Some(Reply::Refused { place: 2 }),
+        false,
+    ),
+    (
+        Ask::Make(Call::Next { now: 10 }),
+        Some(Reply::Disposed),
+        false,
+    ),
+    (
+        Ask::Make(Call::Barrier { now: 10 }),
+        Some(Reply::Token { token: 0 }),
+        false,
+    ),
+    (
+        Ask::Remove(Kind::All),
+        Some(Reply::Removed { count: 0 }),
+        false,
+    ),
+    (Ask::Make(Call::Next { now: 10 }), None, false),
+];
 
-const fn token(now: u64, token: u64) -> Step {
-    gets(Call::Barrier { now }, Reply::Token { token })
-}
+pub(crate) const MAIN_MAY_NOT_QUIT: [Row; 5] = [
+    (
+        Ask::Make(Call::Advance { now: 10 }),
+        Some(Reply::Advanced),
+        false,
+    ),
+    (
+        Ask::Make(Call::Quit {
+            safe: false,
+            now: 10,
+        }),
+        Some(Reply::NotAllowed),
+        false,
+    ),
+    (
+        Ask::Post { what: 1, when: 15 },
+        Some(Reply::Accepted { number: 0 }),
+        false,
+    ),
+    (
+        Ask::Make(Call::Advance { now: 12 }),
+        Some(Reply::Advanced),
+        false,
+    ),
+    (
+        Ask::Make(Call::Halt { now: 12 }),
+        Some(Reply::Halted),
+        false,
+    ),
+];
 
-const fn disposed(now: u64) -> Step {
-    gets(next(now), Reply::Disposed)
-}
-
-const fn quit_done(safe: bool, now: u64) -> Step {
-    wakes_with(Call::Quit { safe, now }, Reply::QuitDone)
-}
-
-pub(crate) fn in_order() -> [Step; 10] {
-    [
-        advanced(10),
-        gets(post(7, 15), accepted(0)),
-        gets(post(8, 10), accepted(1)),
-        dispatched(10, 1),
-        gets_none(next(10)),
-        advanced(15),
-        dispatched(15, 0),
-        advanced(20),
-        halted(20),
-        gets_none(next(20)),
-    ]
-}
-
-pub(crate) fn at_the_front() -> [Step; 13] {
-    [
-        gets(post(1, 0), accepted(0)),
-        gets(post(2, 0), accepted(1)),
-        dispatched(0, 1),
-        dispatched(0, 0),
-        gets_none(next(0)),
-        advanced(10),
-        wakes_with(post(1, 10), accepted(2)),
-        wakes_with(post(2, 0), accepted(3)),
-        gets(post(3, 10), accepted(4)),
-        dispatched(10, 3),
-        dispatched(10, 2),
-        dispatched(10, 4),
-        halted(10),
-    ]
-}
-
-pub(crate) fn equal_times() -> [Step; 10] {
-    [
-        advanced(10),
-        gets(post(1, 15), accepted(0)),
-        gets(post(2, 15), accepted(1)),
-        gets(post(3, 15), accepted(2)),
-        gets_none(next(10)),
-        advanced(15),
-        dispatched(15, 0),
-        dispatched(15, 1),
-        dispatched(15, 2),
-        halted(15),
-    ]
-}
-
-pub(crate) fn behind_a_barrier() -> [Step; 12] {
-    [
-        advanced(10),
-        gets(post(3, 10), accepted(0)),
-        token(10, 0),
-        gets(post(1, 10), accepted(1)),
-        gets(asynchronous(2, 10), accepted(2)),
-        dispatched(10, 0),
-        dispatched(10, 2),
-        gets_none(next(10)),
-        advanced(12),
-        wakes_with(Call::Unbarrier { token: 0 }, Reply::Unbarriered),
-        dispatched(12, 1),
-        halted(12),
-    ]
-}
-
-pub(crate) fn removals() -> [Step; 12] {
-    [
-        gets(callback(9, 10), accepted(0)),
-        gets(post(0, 10), accepted(1)),
-        gets(post(1, 10), accepted(2)),
-        gets(remove(Kind::What(0)), Reply::Removed { count: 2 }),
-        gets(callback(9, 10), accepted(3)),
-        gets(post(0, 10), accepted(4)),
-        gets(remove(Kind::Callback(9)), Reply::Removed { count: 1 }),
-        advanced(10),
-        dispatched(10, 2),
-        gets(remove(Kind::All), Reply::Removed { count: 1 }),
-        gets_none(next(10)),
-        halted(10),
-    ]
-}
-
-pub(crate) fn safe_quit() -> [Step; 10] {
-    [
-        gets(post(1, 9), accepted(0)),
-        gets(post(2, 10), accepted(1)),
-        gets(post(3, 11), accepted(2)),
-        advanced(9),
-        dispatched(9, 0),
-        advanced(10),
-        quit_done(true, 10),
-        dispatched(10, 1),
-        disposed(10),
-        gets_none(next(10)),
-    ]
-}
-
-pub(crate) fn stranded() -> [Step; 5] {
-    [
-        advanced(10),
-        token(10, 0),
-        gets(post(1, 10), accepted(0)),
-        quit_done(true, 10),
-        disposed(10),
-    ]
-}
-
-pub(crate) fn freed_before_disposal() -> [Step; 7] {
-    [
-        advanced(10),
-        token(10, 0),
-        gets(post(1, 10), accepted(0)),
-        quit_done(true, 10),
-        gets(Call::Unbarrier { token: 0 }, Reply::Unbarriered),
-        dispatched(10, 0),
-        disposed(10),
-    ]
-}
-
-pub(crate) fn quits_once() -> [Step; 9] {
-    [
-        advanced(10),
-        gets(post(5, 10), accepted(0)),
-        quit_done(false, 10),
-        gets(
-            Call::Quit {
-                safe: false,
-                now: 10,
-            },
-            Reply::AlreadyQuit { place: 2 },
-        ),
-        gets(post(5, 10), Reply::Refused { place: 2 }),
-        disposed(10),
-        token(10, 0),
-        gets(remove(Kind::All), Reply::Removed { count: 0 }),
-        gets_none(next(10)),
-    ]
-}
-
-pub(crate) fn main_may_not_quit() -> [Step; 5] {
-    [
-        advanced(10),
-        gets(
-            Call::Quit {
-                safe: false,
-                now: 10,
-            },
-            Reply::NotAllowed,
-        ),
-        gets(post(1, 15), accepted(0)),
-        advanced(12),
-        halted(12),
-    ]
-}
-
-pub(crate) fn wakes() -> [Step; 7] {
-    [
-        gets_none(next(0)),
-        token(0, 0),
-        gets(post(1, 5), accepted(0)),
-        wakes_with(asynchronous(1, 5), accepted(1)),
-        gets(asynchronous(1, 6), accepted(2)),
-        wakes_with(Call::Unbarrier { token: 0 }, Reply::Unbarriered),
-        gets(Call::Unbarrier { token: 0 }, Reply::NotPosted),
-    ]
-}
+pub(crate) const WAKES: [Row; 7] = [
+    (Ask::Make(Call::Next { now: 0 }), None, false),
+    (
+        Ask::Make(Call::Barrier { now: 0 }),
+        Some(Reply::Token { token: 0 }),
+        false,
+    ),
+    (
+        Ask::Post { what: 1, when: 5 },
+        Some(Reply::Accepted { number: 0 }),
+        false,
+    ),
+    (
+        Ask::Asynchronous { what: 1, when: 5 },
+        Some(Reply::Accepted { number: 1 }),
+        true,
+    ),
+    (
+        Ask::Asynchronous { what: 1, when: 6 },
+        Some(Reply::Accepted { number: 2 }),
+        false,
+    ),
+    (
+        Ask::Make(Call::Unbarrier { token: 0 }),
+        Some(Reply::Unbarriered),
+        true,
+    ),
+    (
+        Ask::Make(Call::Unbarrier { token: 0 }),
+        Some(Reply::NotPosted),
+        false,
+    ),
+];
