@@ -68,11 +68,11 @@ impl Ledger {
     {
         let Some(post) = posted else { return Ok(()) };
         let number = self.fates.len() as u64;
-        let (Ok(()), Ok(())) = (
-            self.fates.push(Fate::Queued),
-            self.candidates.push(Item::Post { number, post }),
-        ) else {
-            return Err(NoMemory);
+        let Ok(()) = self.fates.push(Fate::Queued) else {
+            return Err(NoMemory)
+        };
+        let Ok(()) = self.candidates.push(Item::Post { number, post }) else {
+            return Err(NoMemory)
         };
         Ok(())
     }
