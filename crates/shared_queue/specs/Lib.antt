@@ -1,0 +1,4 @@
+pub mod Weights
+pub mod Constants
+pub mod Turn
+pub mod Plays

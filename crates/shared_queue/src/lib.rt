@@ -1,0 +1,8 @@
+//! A message queue that many threads call, one at a time: each has a seat at one table, and takes the turn.
+#![tactic(auto)]
+
+mod rule;
+mod view;
+
+pub use rule::OneTurn;
+pub use view::{QueueKey, View};
