@@ -2,3 +2,6 @@ pub mod Weights
 pub mod Constants
 pub mod Turn
 pub mod Plays
+pub mod Known
+pub mod Seats
+pub mod Desk
