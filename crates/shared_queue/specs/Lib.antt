@@ -5,3 +5,4 @@ pub mod Plays
 pub mod Known
 pub mod Seats
 pub mod Desk
+pub mod Calls
