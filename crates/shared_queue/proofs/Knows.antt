@@ -8,7 +8,8 @@ use Rattle.shared_queue.specs.Constants.{Constants, made_in, IsStateOf}
 use Rattle.shared_queue.specs.Turn.{taking, giving}
 use Rattle.shared_queue.specs.Plays.{Sat}
 use Rattle.shared_queue.specs.Known.{Known, IsTurn, StepsBy, made_by}
-use Rattle.shared_queue.specs.Desk.{IsIdle, Began, Ended}
+use Rattle.shared_queue.specs.Desk.{IsIdle, Began, MayEnd, Ended}
+use Rattle.shared_queue.proofs.Desks.{may_end}
 
 -- what a clause sees of the desk
 abbrev pub known : {H K : Type 0} → Desk (Queue H K) H → Known H K
@@ -52,3 +53,7 @@ pub by_turn : {H K : Type 0} (key : Constants H) (d e n : Desk (Queue H K) H) (x
 by_turn key d e n x y idle b P done steps f =
     let mine : P d.sender = subst P b.same.1 done in
     (is_turn key d e n x y idle b (steps mine) f, mine)
+
+-- and its end may come
+pub by_end : {H K : Type 0} (key : Constants H) (d e : Desk (Queue H K) H) (x y : Queue H K) → Began key d e x → (P : ℕ → Type 0) → P e.sender → (P d.sender → StepsBy d.sender x y) → MayEnd key e y
+by_end key d e x y b P done steps = may_end key d e x y b (steps (subst P b.same.1 done))

@@ -4,3 +4,6 @@ pub mod Turns
 pub mod Desks
 pub mod Knows
 pub mod Steps
+pub mod Hears
+pub mod Gathers
+pub mod Closing

@@ -6,3 +6,4 @@ pub mod Known
 pub mod Seats
 pub mod Desk
 pub mod Calls
+pub mod Ends

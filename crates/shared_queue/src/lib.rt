@@ -3,12 +3,17 @@
 
 mod calls;
 mod desk;
+mod ends;
 mod poster;
 mod queue;
 mod rule;
 mod view;
 
+pub use ends::Retired;
 pub use poster::Poster;
 pub use queue::SharedQueue;
 pub use rule::OneTurn;
 pub use view::{QueueKey, View};
+
+#[cfg(test)]
+mod tests;

@@ -2,8 +2,12 @@ use Rattle.std.proofs.Common.{refl, inl, subst}
 use Rattle.queue_state.specs.Queue.{Queue}
 use Rattle.shared_queue.specs.Known.{Known}
 use Rattle.shared_queue.specs.Calls.{TimedBy}
+use Rattle.shared_queue.proofs.Desks.{may_end}
 use Rattle.shared_queue.proofs.Knows.{known, is_turn}
 use Rattle.shared_queue.proofs.poster.Poster.time.Goals as goal
+
+pub end-requires-clause-turn : goal.end-requires-clause-turn
+end-requires-clause-turn g c κs within = may_end c.args.queue.now.constants c.self.inside.desk c.begin-state.new.self c.begin-state.result c.begin-state.result c.begin-state.ensures (refl, refl, refl, inl refl)
 
 pub returns : goal.returns
 returns g c =
