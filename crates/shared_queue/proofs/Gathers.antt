@@ -1,5 +1,5 @@
 -- The seats of all posters are made one.
-use Rattle.std.proofs.Common.{◌≡◌, ℕ, ◌<◌, List, [], ◌∷◌, ◌++◌, length, refl, sym, ap, ◌∙◌, subst, arith}
+use Rattle.std.proofs.Common.{◌≡◌, ℕ, ◌<◌, List, [], ◌∷◌, ◌++◌, length, refl, sym, ap, ◌∙◌, subst, arith, append_assoc}
 use Rattle.std.specs.Prelude.{All, ◌+◌, ◌-◌, drop}
 use Rattle.std.proofs.Common.{get_or, length-append, suc}
 use Rattle.std.proofs.Math.ListN.{get_or-append}
@@ -64,3 +64,7 @@ numbers_rest from senders below =
     let more : senders - from ≡ suc (senders - (from + 1)) = omega arith in
     let next : suc from ≡ from + 1 = omega arith in
     ap (λ (n : ℕ). drop 1 (numbers_from from n)) more ∙ ap (λ (n : ℕ). numbers_from n (senders - (from + 1))) next
+
+-- one element goes from the rest to what came before
+pub regrouped : {X : Type 0} (before whole all rest : List X) (x : X) → all ≡ x ∷ rest → before ++ all ≡ whole → (before ++ x ∷ []) ++ rest ≡ whole
+regrouped before whole all rest x is joins = append_assoc before (x ∷ []) rest ∙ (ap (λ l. before ++ l) (sym is) ∙ joins)

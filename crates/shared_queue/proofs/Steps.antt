@@ -52,7 +52,7 @@ module _ {H K : Type 0} (x y : Queue H K) (s : ℕ) where
   quits safe now (quitting.Done list) p = subst (StepsBy s x) (sym p.2) (refl, refl, refl, inr (entry_of x s (Quit safe (moment_at x now)) QuitDone, refl, refl))
   quits safe now (quitting.AlreadyQuit place) p = subst (StepsBy s x) (sym p.1) (refl, refl, refl, inr (entry_of x s (Quit safe (moment_at x now)) (AlreadyQuit place), refl, refl))
   quits safe now quitting.NotAllowed p = subst (StepsBy s x) (sym p.1) (refl, refl, refl, inr (entry_of x s (Quit safe (moment_at x now)) NotAllowed, refl, refl))
-  quits safe now quitting.NoMemory p = same p
+  quits safe now quitting.NoMemory p = same p.1
 
   pub looks : (now : ℕ) (idle : Bool) (r : Nexted K H) → Looks x s now idle r y → StepsBy s x y
   looks now idle (nexted.Taken n at node) p = subst (StepsBy s x) (sym p.3) (refl, refl, refl, inr (entry_of x s (Next at) (Dispatched n), refl, refl))

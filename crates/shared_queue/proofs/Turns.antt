@@ -41,6 +41,14 @@ holds_at n [] k d l e = absurd (omega arith)
 holds_at n (p ∷ ps) zero d l e = let one : cond {A = ℕ} (eqb p.0 n) 1 0 ≡ 1 = ap (λ b. cond {A = ℕ} b 1 0) (eq-eqb p.0 n e) in omega arith
 holds_at n (p ∷ ps) (suc k) d l e = let rest = holds_at n ps k d (omega arith) e in omega arith
 
+-- what a seat carries once the state was put into its slot
+pub carried : {H K : Type 0} (m n : Sat H K) (x : Queue H K) → n ≡ (m.0, (0, Some x) ∷ rest m.1) → m.1 ≡ (0, None) ∷ [] → n.1 ≡ (0, Some x) ∷ []
+carried {H} {K} m n x is empty = ap (λ (z : Sat H K). z.1) is ∙ ap (λ (l : List (ℕ × Option (Queue H K))). (0, Some x) ∷ rest l) empty
+
+-- such a move leaves the view
+pub same_view : {H K : Type 0} (m n : Sat H K) (l : List (ℕ × Option (Queue H K))) → n ≡ (m.0, l) → n.0 ≡ m.0
+same_view {H} {K} m n l is = ap (λ (z : Sat H K). z.0) is
+
 -- a sender that is held is one of the queue
 held_below : {H : Type 0} (key : Constants H) (n : ℕ) (senders : List (ℕ × ℕ)) → All (IsBelow key) senders → 0 < total (λ (p : ℕ × ℕ). cond (eqb p.0 n) 1 0) senders → n < key.setting.senders
 held_below key n [] all held = absurd (omega arith)

@@ -1,9 +1,7 @@
 -- What the calls of a poster answer: each is one turn, with the answer of the queue's state that it found.
 use Rattle.std.specs.Prelude.{◌≡◌, ℕ, Bool}
-use Rattle.std.specs.List.{list_any}
 use Rattle.loop_model.specs.declared.post.Filter.{Filter}
 use Rattle.message_slot.specs.Letter.{Letter}
-use Rattle.when_queue.specs.Queue.{is_named}
 use Rattle.queue_state.specs.declared.answers.Posted.{Posted}
 use Rattle.queue_state.specs.declared.answers.Nexted.{Nexted}
 use Rattle.queue_state.specs.declared.answers.BarrierPosted.{BarrierPosted}
@@ -12,7 +10,7 @@ use Rattle.queue_state.specs.declared.answers.Taking.{Taking}
 use Rattle.queue_state.specs.declared.answers.Quitting.{Quitting}
 use Rattle.queue_state.specs.declared.answers.Advancing.{Advancing}
 use Rattle.queue_state.specs.declared.answers.Halting.{Halting}
-use Rattle.queue_state.specs.Queue.{Queue, time_of}
+use Rattle.queue_state.specs.Queue.{Queue, time_of, has_match}
 use Rattle.queue_state.specs.Calls.{Posts, PostsBarrier, Unbars, Takes, Quits, Looks, Advances, Halts}
 use Rattle.shared_queue.specs.Known.{Known, IsTurn}
 
@@ -43,7 +41,7 @@ module _ {H K : Type 0} where
 
   -- these two leave the state as they found it
   abbrev pub HasBy : Known H K → Known H K → Filter → Bool → Type 0
-  HasBy before after filter result = (x : Queue H K) × IsTurn before after x x × (result ≡ list_any (is_named filter) x.messages)
+  HasBy before after filter result = (x : Queue H K) × IsTurn before after x x × (result ≡ has_match x filter)
 
   abbrev pub TimedBy : Known H K → Known H K → ℕ → Type 0
   TimedBy before after result = (x : Queue H K) × IsTurn before after x x × (result ≡ time_of x)

@@ -2,17 +2,15 @@
 ghost use Rattle.std.specs.Prelude.{◌≡◌, ◌+◌, true, false};
 ghost use Rattle.loop_model.specs.Items.{is_barrier};
 ghost use Rattle.message_slot.specs.Letter.{IsAtHome};
-ghost use Rattle.queue_state.specs.Calls.{UnbarsAtHome, TakesAtHome, QuitsAtHome, LooksAtHome};
+ghost use Rattle.queue_state.specs.Calls.{UnbarsAtHome, TakesAtHome, QuitsAtHome};
 ghost use Rattle.shared_queue.specs.Known.{IsOf};
-ghost use Rattle.shared_queue.specs.Calls.{PostedBy, BarrierPostedBy, BarrierGoneBy, RemovedBy, QuitBy, NextedBy, AdvancedBy, HaltedBy, HasBy, TimedBy};
+ghost use Rattle.shared_queue.specs.Calls.{PostedBy, BarrierPostedBy, BarrierGoneBy, RemovedBy, QuitBy, AdvancedBy, HaltedBy, HasBy, TimedBy};
 
 use crate::poster::Poster;
 use crate::queue::SharedQueue;
 use loop_model::Filter;
 use message_slot::Claim;
-use queue_state::{
-    Advancing, BarrierGone, BarrierPosted, Halting, Nexted, Posted, Quitting, Taking,
-};
+use queue_state::{Advancing, BarrierGone, BarrierPosted, Halting, Posted, Quitting, Taking};
 use std::sync::Wait;
 use when_queue::MsgNode;
 
@@ -102,24 +100,6 @@ impl<K: Claim> Poster<K> {
     {
         let mut state = self.desk.begin(rt, queue);
         let answer = state.quit(self.desk.sender, safe, now);
-        self.desk.end(queue, state);
-        answer
-    }
-
-    /// Takes the first message that is due at `now`, or answers why there is none. It takes no memory.
-    pub fn next<R: Wait>(
-        &mut self,
-        rt: &R,
-        queue: &SharedQueue<K>,
-        now: u64,
-        idle_owed: bool,
-    ) -> Nexted<K>
-        requires queue { IsOf self.old queue.now }
-        ensures done { NextedBy self.old self.new now idle_owed result }
-        ensures home { LooksAtHome K.home queue.now.constants.home result }
-    {
-        let mut state = self.desk.begin(rt, queue);
-        let answer = state.next(self.desk.sender, now, idle_owed);
         self.desk.end(queue, state);
         answer
     }

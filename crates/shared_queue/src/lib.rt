@@ -4,6 +4,7 @@
 mod calls;
 mod desk;
 mod ends;
+mod looks;
 mod poster;
 mod queue;
 mod rule;

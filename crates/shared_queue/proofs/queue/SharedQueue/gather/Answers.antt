@@ -3,7 +3,7 @@ use Rattle.std.specs.Vec.Iter.{into_iter_items}
 use Rattle.shared_queue.specs.Turn.{opening_view}
 use Rattle.shared_queue.specs.Ends.{Gathered}
 use Rattle.shared_queue.proofs.Turns.{sits}
-use Rattle.shared_queue.proofs.Gathers.{gathers, nothing_left}
+use Rattle.shared_queue.proofs.Gathers.{gathers, nothing_left, regrouped}
 use Rattle.shared_queue.proofs.queue.SharedQueue.gather.Goals as goal
 
 pub load_new_seat-requires : goal.load_new_seat-requires
@@ -14,7 +14,7 @@ loop-poster-preserved g c =
     let at = c.loop-poster in
     let p = c.in-Some.poster in
     let steps : into_iter_items at.poster-iterator ≡ p ∷ into_iter_items c.next.new.self = c.in-Some.ensures.steps.0 in (
-      append_assoc at.yielded (p ∷ []) _ ∙ rw (← steps) at.invariant.0,
+      regrouped at.yielded _ _ _ p steps at.invariant.0,
       let was = at.invariant.1 in let gone = c.in-Some.ensures.steps.1 in let short = ap length steps in omega arith,
       c.take_in.ensures.0 ∙ at.invariant.2,
       gathers c.args.self.now at.yielded p at.seat.me c.take_in.new.seat.me at.invariant.3 c.take_in.ensures.1 c.take_in.ensures.2,

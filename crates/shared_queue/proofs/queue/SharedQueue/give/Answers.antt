@@ -1,10 +1,9 @@
 use Rattle.std.proofs.Common.{rules, ◌≡◌, List, ◌∷◌, [], Some, Option, ap, sym, ◌∙◌, subst, ℕ}
-use Rattle.atomic_table.specs.Table.{rest}
 use Rattle.queue_state.specs.Queue.{Queue}
 use Rattle.shared_queue.specs.declared.view.View.{View}
 use Rattle.shared_queue.specs.Turn.{giving}
 use Rattle.shared_queue.specs.Plays.{Sat, MayGive}
-use Rattle.shared_queue.proofs.Turns.{gives_turn}
+use Rattle.shared_queue.proofs.Turns.{gives_turn, carried, same_view}
 use Rattle.shared_queue.proofs.queue.SharedQueue.give.Goals as goal
 
 pub store-requires : goal.store-requires
@@ -12,8 +11,8 @@ store-requires g c =
     let M : Type 0 = Sat g.row.K-Home.Denot g.row.K.Denot in
     let V : Type 0 = View (Queue g.row.K-Home.Denot g.row.K.Denot) g.row.K-Home.Denot in
     let m : M = c.exchange.new.seat.me in
-    let same : m.0 ≡ c.args.seat.now.me.0 = ap (λ (z : M). z.0) c.exchange.ensures.3 in
-    let carries : m.1 ≡ (0, Some c.args.state) ∷ [] = ap (λ (z : M). z.1) c.exchange.ensures.3 ∙ ap (λ (l : List (ℕ × Option (Queue g.row.K-Home.Denot g.row.K.Denot))). (0, Some c.args.state) ∷ rest l) c.requires.turn.1 in (
+    let same : m.0 ≡ c.args.seat.now.me.0 = same_view c.args.seat.now.me m _ c.exchange.ensures.3 in
+    let carries = carried c.args.seat.now.me m c.args.state c.exchange.ensures.3 c.requires.turn.1 in (
       search rules,
       search rules,
       gives_turn c.self.inside.table.shared.key _ _ m c.args.state carries (ap (λ (v : V). v.has_turn) same ∙ c.requires.turn.0) (search rules) (subst (λ (v : V). MayGive v c.args.state) (sym same) c.requires.state.1),
@@ -24,6 +23,6 @@ returns g c =
     let M : Type 0 = Sat g.row.K-Home.Denot g.row.K.Denot in
     let V : Type 0 = View (Queue g.row.K-Home.Denot g.row.K.Denot) g.row.K-Home.Denot in
     let m : M = c.exchange.new.seat.me in
-    let same : m.0 ≡ c.args.seat.now.me.0 = ap (λ (z : M). z.0) c.exchange.ensures.3 in
-    let carries : m.1 ≡ (0, Some c.args.state) ∷ [] = ap (λ (z : M). z.1) c.exchange.ensures.3 ∙ ap (λ (l : List (ℕ × Option (Queue g.row.K-Home.Denot g.row.K.Denot))). (0, Some c.args.state) ∷ rest l) c.requires.turn.1 in
+    let same : m.0 ≡ c.args.seat.now.me.0 = same_view c.args.seat.now.me m _ c.exchange.ensures.3 in
+    let carries = carried c.args.seat.now.me m c.args.state c.exchange.ensures.3 c.requires.turn.1 in
     (search rules, search rules, c.store.ensures.2 c.args.state carries ∙ ap (λ (v : V). (giving v c.args.state, [])) same)
