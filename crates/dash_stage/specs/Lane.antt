@@ -3,33 +3,29 @@ use Rattle.std.specs.Prelude.{◌≡◌, ℕ, ◌<◌, ◌==◌, true, List, [],
 use Rattle.loop_model.specs.declared.journal.Journal.{Journal}
 use Rattle.loop_model.specs.declared.record.QueueRecord.{QueueRecord}
 use Rattle.loop_model.specs.Base.{empty_base}
-use Rattle.loop_model.specs.Answers.{Setting}
 use Rattle.loop_model.specs.Legal.{IsLegal, AreNumbered}
 use Rattle.queue_state.specs.Queue.{Queue}
+use Rattle.run_model.specs.Run.{setting_of}
 
 -- whose queue it is, and how many senders it has
 pub record Place : Type 0 where
   pub looper : ℕ
   pub senders : ℕ
 
--- a queue in lockstep, of main for looper 0 alone
-abbrev pub setting_of : Place → Setting
-setting_of p = record { main = p.looper == 0; lockstep = true; senders = p.senders }
-
--- the queue was made for this place, and its history starts from nothing
+-- a queue in lockstep, of main for looper 0 alone, whose history starts from nothing
 pub record IsSet {H K : Type 0} (looper senders : ℕ) (q : Queue H K) : Type 0 where
-  pub setting : q.setting ≡ setting_of (record { looper = looper; senders = senders })
+  pub setting : q.setting ≡ record { main = looper == 0; lockstep = true; senders = senders }
   pub start : q.start ≡ empty_base senders
   pub some : 0 < senders
 
--- a record of that queue, whose calls are those of a queue of one thread
+-- a record of that queue, whose replies are those of a queue of one thread
 pub record IsRecordOf (p : Place) (r : QueueRecord) : Type 0 where
   pub looper : r.looper ≡ p.looper
-  pub main : r.main ≡ (p.looper == 0)
+  pub main : r.main ≡ (r.looper == 0)
   pub lockstep : r.lockstep ≡ true
   pub senders : r.senders ≡ p.senders
-  pub legal : IsLegal (setting_of p) (empty_base p.senders) r.entries
-  pub numbered : AreNumbered (setting_of p) (empty_base p.senders) r.entries
+  pub legal : IsLegal (setting_of r) (empty_base r.senders) r.entries
+  pub numbered : AreNumbered (setting_of r) (empty_base r.senders) r.entries
 
 -- records of these queues, one for one and in order
 abbrev pub AreRecordsOf : List Place → List QueueRecord → Type 0
