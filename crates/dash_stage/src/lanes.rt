@@ -1,12 +1,8 @@
 //! The queues of all loopers.
 
-<<<<<<< HEAD
 ghost use Rattle.std.specs.Prelude.{◌≡◌, ◌<◌, IfOk};
 ghost use Rattle.dash_stage.specs.Lane.{AreRecordsOf, AreJournalsOf};
 ghost use Rattle.dash_stage.specs.Lanes.{places};
-=======
-ghost use Rattle.std.specs.Prelude.{◌≡◌, ◌<◌, IfOk};
->>>>>>> e93ce40 (wip)
 
 use crate::lane::{Lane, Look};
 use loop_model::{Act, Filter, Journal, NoMemory, Post, QueueRecord};
