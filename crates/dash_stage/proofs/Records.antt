@@ -2,6 +2,7 @@
 use Rattle.std.specs.Prelude.{◌≡◌, ℕ, zero, suc, ◌+◌, List, [], ◌∷◌, ◌++◌, map}
 use Rattle.std.specs.List.{AllByRecursion, range_with_len}
 use Rattle.std.proofs.Common.{ap, ap₂, ◌∙◌, refl, sym}
+use Rattle.std.proofs.lemmas.List.{map-append}
 use Rattle.loop_model.specs.declared.journal.Journal.{Journal}
 use Rattle.loop_model.specs.declared.record.QueueRecord.{QueueRecord}
 use Rattle.dash_script.specs.declared.script.Script.{Script}
@@ -10,6 +11,10 @@ use Rattle.run_model.specs.Moments.{in_lockstep}
 use Rattle.run_model.specs.Run.{IsHistory, all_entries}
 use Rattle.dash_stage.specs.Lane.{Place, IsRecordOf, AreRecordsOf, AreJournalsOf}
 use Rattle.dash_stage.specs.Lanes.{place, places}
+use Rattle.dash_stage.specs.Staged.{no_frame, no_frames, IsStaged}
+use Rattle.frame_phases.specs.declared.entry.FrameRecord.{FrameRecord}
+use Rattle.run_model.specs.declared.report.Report.{Report}
+use Rattle.std.proofs.lemmas.List.FromFn.{map-range_with_len_more}
 
 -- one record more
 pub records_more : (ps : List Place) (rs : List QueueRecord) (p : Place) (r : QueueRecord) → AreRecordsOf ps rs → IsRecordOf p r
@@ -18,6 +23,13 @@ records_more [] [] p r are is = (is, tt)
 records_more [] (r ∷ rs) p q are is = absurd are
 records_more (p ∷ ps) [] q r are is = absurd are
 records_more (p ∷ ps) (r ∷ rs) q s are is = (are.0, records_more ps rs q s are.1 is)
+
+-- one journal more
+pub journals_more : (ps : List Place) (js ks : List Journal) (p : Place) (j : Journal) → AreJournalsOf ps js → j.looper ≡ p.looper
+    → ks ≡ js ++ j ∷ [] → AreJournalsOf (ps ++ p ∷ []) ks
+journals_more ps js ks p j are is grown =
+    ap (λ (xs : List Journal). map (λ (x : Journal). x.looper) xs) grown ∙ map-append (λ (x : Journal). x.looper) js (j ∷ [])
+      ∙ ap₂ (λ (xs ys : List ℕ). xs ++ ys) are (ap (λ (x : ℕ). x ∷ []) is) ∙ sym (map-append (λ (x : Place). x.looper) ps (p ∷ []))
 
 -- the numbers from k on, as a range
 ranged : (k n : ℕ) → range_with_len k n ≡ numbers_from k n
@@ -48,13 +60,39 @@ histories s (k ∷ ks) [] are = absurd are
 histories s (k ∷ ks) (r ∷ rs) are = (history s k r are.0, histories s ks rs are.1)
 
 -- the records of a run's queues are numbered in order, and histories of the run
-pub records_of_run : (s : Script) (rs : List QueueRecord) → AreRecordsOf (places (sender_count s) s.loopers) rs
+records_of_run : (s : Script) (rs : List QueueRecord) → AreRecordsOf (places (sender_count s) s.loopers) rs
     → (map (λ (q : QueueRecord). q.looper) rs ≡ numbers_from 0 s.loopers) × AllByRecursion (IsHistory in_lockstep all_entries s) rs
 records_of_run s rs are =
     (numbered (places (sender_count s) s.loopers) rs are ∙ placed (sender_count s) (range_with_len 0 s.loopers) ∙ ranged 0 s.loopers,
       histories s (range_with_len 0 s.loopers) rs are)
 
 -- the journals of a run's loopers are numbered in order
-pub journals_of_run : (senders loopers : ℕ) (js : List Journal) → AreJournalsOf (places senders loopers) js
+journals_of_run : (senders loopers : ℕ) (js : List Journal) → AreJournalsOf (places senders loopers) js
     → map (λ (j : Journal). j.looper) js ≡ numbers_from 0 loopers
 journals_of_run senders loopers js are = are ∙ placed senders (range_with_len 0 loopers) ∙ ranged 0 loopers
+
+-- one frame record more
+pub frames_more : (period looper : ℕ) (fs gs : List FrameRecord) (f : FrameRecord) → fs ≡ no_frames period looper → f ≡ no_frame period looper
+    → gs ≡ fs ++ f ∷ [] → gs ≡ no_frames period (looper + 1)
+frames_more period looper fs gs f are is grown =
+    grown ∙ ap (λ (zs : List FrameRecord). zs ++ f ∷ []) are ∙ ap (λ (y : FrameRecord). no_frames period looper ++ y ∷ []) is
+      ∙ sym (map-range_with_len_more (no_frame period) 0 looper looper refl)
+
+framed : (period : ℕ) (ks : List ℕ) → map (λ (f : FrameRecord). f.looper) (map (no_frame period) ks) ≡ ks
+framed period [] = refl
+framed period (k ∷ ks) = ap (λ (xs : List ℕ). k ∷ xs) (framed period ks)
+
+-- the frame records are numbered in order
+frames_of_run : (period loopers : ℕ) (fs : List FrameRecord) → fs ≡ no_frames period loopers → map (λ (f : FrameRecord). f.looper) fs ≡ numbers_from 0 loopers
+frames_of_run period loopers fs are =
+    ap (λ (gs : List FrameRecord). map (λ (f : FrameRecord). f.looper) gs) are ∙ framed period (range_with_len 0 loopers) ∙ ranged 0 loopers
+
+-- the report of these records is one of the script
+pub staged : (s : Script) (r : Report) → r.script ≡ s → r.start ≡ 0 → AreRecordsOf (places (sender_count s) s.loopers) r.queues
+    → AreJournalsOf (places (sender_count s) s.loopers) r.journals → r.frames ≡ no_frames s.period s.loopers → IsStaged s r
+staged s r is start records journals frames =
+    let queues = records_of_run s r.queues records in record {
+      report = record { script = is; queues = queues.0; journals = journals_of_run (sender_count s) s.loopers r.journals journals; frames = frames_of_run s.period s.loopers r.frames frames };
+      records = record { mode = start; start = refl; histories = queues.1 };
+      frames = frames;
+    }

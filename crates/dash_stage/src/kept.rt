@@ -2,7 +2,7 @@
 
 ghost use Rattle.std.specs.Prelude.{◌≡◌, IfOk};
 ghost use Rattle.run_model.specs.Senders.{sender_count};
-ghost use Rattle.dash_stage.specs.Staged.{Stages, AreNoFrames};
+ghost use Rattle.dash_stage.specs.Staged.{Stages, no_frames};
 
 use crate::lanes::Lanes;
 use crate::run::Ran;
@@ -16,6 +16,7 @@ use std::alloc::Global;
 const PHASES: u32 = 4;
 
 /// The report of a run that left these queues.
+#[tactic(auto, using(crate::proofs::Records::staged))]
 pub(crate) fn report(alloc: Global, script: Script, lanes: Lanes) -> Ran
     requires { lanes ≡ record { loopers = script.loopers; senders = sender_count script } }
     ensures { Stages script result }
@@ -35,7 +36,7 @@ pub(crate) fn report(alloc: Global, script: Script, lanes: Lanes) -> Ran
 
 /// A frame record without entries for each looper.
 fn frames(alloc: Global, loopers: u32, period: u64) -> Result<Vec<FrameRecord>, NoMemory>
-    ensures { IfOk result (λ fs. AreNoFrames loopers period fs.items) }
+    ensures { IfOk result (λ fs. fs.items ≡ no_frames period loopers) }
 {
     let mut frames = Vec::new(alloc);
     for looper in 0..loopers {

@@ -36,6 +36,7 @@ pub fn run_script(alloc: Global, script: Script) -> Ran
 }
 
 /// The queues after the run.
+#[tactic(auto, using(crate::proofs::Limits::few))]
 fn lanes_of_run(alloc: Global, script: &Script) -> Result<Lanes, NoMemory>
     requires { HasText script.now }
     ensures { IfOk result (λ l. l ≡ record { loopers = script.now.loopers; senders = sender_count script.now }) }
