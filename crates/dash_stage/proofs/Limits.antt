@@ -1,5 +1,5 @@
 -- A script's loopers and threads are few.
-use Rattle.std.specs.Prelude.{◌≡◌, ℕ, ◌≤◌, ◌&&◌, nat_le, Bool, true, List, [], ◌∷◌, IsTrue}
+use Rattle.std.specs.Prelude.{◌≡◌, ℕ, ◌≤◌, ◌&&◌, nat_le, Bool, true, List, [], ◌∷◌, IsTrue, drop, ◌==◌, if◌then◌else◌}
 use Rattle.std.specs.List.{list_all}
 use Rattle.std.proofs.Common.{arith}
 use Rattle.std.proofs.lemmas.Bool.{and_parts}
@@ -22,7 +22,7 @@ second_and_third p a b c rest h =
     ((and_parts _ _ behind).0, (and_parts _ _ last).0)
 
 pub few : (s : Script) → HasText s → (s.loopers ≤ 8) × (s.threads ≤ 16)
-unfolding lines_before_end, each_number
+unfolding lines_before_end each_number
 few s h =
-    let both = second_and_third (numbers_pass (is_within s)) _ (say kind.Loopers (s.loopers ∷ [])) (say kind.Threads (s.threads ∷ [])) _ h.limits in
+    let both = second_and_third (numbers_pass (is_within s)) (say (if s.edition == 2 then kind.Edition2 else kind.Edition1) []) (say kind.Loopers (s.loopers ∷ [])) (say kind.Threads (s.threads ∷ [])) (drop 3 (lines s)) h.limits in
     (between 1 8 s.loopers both.0, between 1 16 s.threads both.1)

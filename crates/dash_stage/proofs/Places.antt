@@ -9,7 +9,7 @@ use Rattle.dash_stage.specs.Lanes.{Size, size_of, place, places, ArePlaced}
 -- the queue at a looper's number is that looper's
 pub place_at : (ps : List Place) (senders looper : ℕ) (d : Place) → ArePlaced ps senders → looper < length ps → get_or ps looper d ≡ place senders looper
 place_at ps senders looper d are below =
-    ap (λ (qs : List Place). get_or qs looper d) are ∙ get_or-map-range_with_len (place senders) 0 (length ps) looper looper d below refl
+    ap (λ (qs : List Place). get_or qs looper d) are ∙ get_or-map-range_with_len (place senders) 0 (length ps) looper looper d below (omega arith)
 
 -- who may send to all queues may send to each
 pub sends_there : (ps : List Place) (senders looper sender : ℕ) (size : Size) (x : Place) → ArePlaced ps senders → looper < length ps
@@ -24,4 +24,4 @@ pub place_more : (ps qs : List Place) (senders looper : ℕ) (x : Place) → (ps
     → x ≡ place senders looper → qs ≡ ps ++ x ∷ [] → qs ≡ places senders (looper + 1)
 place_more ps qs senders looper x are long is grown =
     grown ∙ ap (λ (zs : List Place). zs ++ x ∷ []) are ∙ ap (λ (y : Place). places senders looper ++ y ∷ []) is
-      ∙ sym (map-range_with_len_more (place senders) 0 looper looper refl)
+    ∙ sym (map-range_with_len_more (place senders) 0 looper looper (omega arith))

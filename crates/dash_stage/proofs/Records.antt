@@ -1,7 +1,7 @@
 -- The records of all queues, one for one.
-use Rattle.std.specs.Prelude.{◌≡◌, ℕ, zero, suc, ◌+◌, List, [], ◌∷◌, ◌++◌, map}
+use Rattle.std.specs.Prelude.{◌≡◌, ℕ, zero, suc, ◌+◌, List, [], ◌∷◌, ◌++◌, map, length}
 use Rattle.std.specs.List.{AllByRecursion, range_with_len}
-use Rattle.std.proofs.Common.{ap, ap₂, ◌∙◌, refl, sym}
+use Rattle.std.proofs.Common.{ap, ap₂, ◌∙◌, refl, sym, arith}
 use Rattle.std.proofs.lemmas.List.{map-append}
 use Rattle.loop_model.specs.declared.journal.Journal.{Journal}
 use Rattle.loop_model.specs.declared.record.QueueRecord.{QueueRecord}
@@ -12,6 +12,7 @@ use Rattle.run_model.specs.Run.{IsHistory, all_entries}
 use Rattle.dash_stage.specs.Lane.{Place, IsRecordOf, AreRecordsOf, AreJournalsOf}
 use Rattle.dash_stage.specs.Lanes.{place, places}
 use Rattle.dash_stage.specs.Staged.{no_frame, no_frames, IsStaged}
+use Rattle.frame_phases.specs.declared.entry.FrameEntry.{FrameEntry}
 use Rattle.frame_phases.specs.declared.entry.FrameRecord.{FrameRecord}
 use Rattle.run_model.specs.declared.report.Report.{Report}
 use Rattle.std.proofs.lemmas.List.FromFn.{map-range_with_len_more}
@@ -29,7 +30,7 @@ pub journals_more : (ps : List Place) (js ks : List Journal) (p : Place) (j : Jo
     → ks ≡ js ++ j ∷ [] → AreJournalsOf (ps ++ p ∷ []) ks
 journals_more ps js ks p j are is grown =
     ap (λ (xs : List Journal). map (λ (x : Journal). x.looper) xs) grown ∙ map-append (λ (x : Journal). x.looper) js (j ∷ [])
-      ∙ ap₂ (λ (xs ys : List ℕ). xs ++ ys) are (ap (λ (x : ℕ). x ∷ []) is) ∙ sym (map-append (λ (x : Place). x.looper) ps (p ∷ []))
+    ∙ ap₂ (λ (xs ys : List ℕ). xs ++ ys) are (ap (λ (x : ℕ). x ∷ []) is) ∙ sym (map-append (λ (x : Place). x.looper) ps (p ∷ []))
 
 -- the numbers from k on, as a range
 ranged : (k n : ℕ) → range_with_len k n ≡ numbers_from k n
@@ -62,21 +63,30 @@ histories s (k ∷ ks) (r ∷ rs) are = (history s k r are.0, histories s ks rs 
 -- the records of a run's queues are numbered in order, and histories of the run
 records_of_run : (s : Script) (rs : List QueueRecord) → AreRecordsOf (places (sender_count s) s.loopers) rs
     → (map (λ (q : QueueRecord). q.looper) rs ≡ numbers_from 0 s.loopers) × AllByRecursion (IsHistory in_lockstep all_entries s) rs
-records_of_run s rs are =
-    (numbered (places (sender_count s) s.loopers) rs are ∙ placed (sender_count s) (range_with_len 0 s.loopers) ∙ ranged 0 s.loopers,
-      histories s (range_with_len 0 s.loopers) rs are)
+records_of_run s rs are = (
+  numbered (places (sender_count s) s.loopers) rs are ∙ placed (sender_count s) (range_with_len 0 s.loopers) ∙ ranged 0 s.loopers,
+  histories s (range_with_len 0 s.loopers) rs are,
+)
 
 -- the journals of a run's loopers are numbered in order
 journals_of_run : (senders loopers : ℕ) (js : List Journal) → AreJournalsOf (places senders loopers) js
     → map (λ (j : Journal). j.looper) js ≡ numbers_from 0 loopers
 journals_of_run senders loopers js are = are ∙ placed senders (range_with_len 0 loopers) ∙ ranged 0 loopers
 
+abbrev frame_with : ℕ → ℕ → List FrameEntry → FrameRecord
+frame_with period looper es = record { looper = looper; interval = period; phases = 4; entries = es }
+
+-- a frame record with no entry
+pub without_entries : (period looper : ℕ) (es : List FrameEntry) → length es ≡ 0 → frame_with period looper es ≡ no_frame period looper
+without_entries period looper [] none = refl
+without_entries period looper (e ∷ es) none = absurd (omega arith)
+
 -- one frame record more
 pub frames_more : (period looper : ℕ) (fs gs : List FrameRecord) (f : FrameRecord) → fs ≡ no_frames period looper → f ≡ no_frame period looper
     → gs ≡ fs ++ f ∷ [] → gs ≡ no_frames period (looper + 1)
 frames_more period looper fs gs f are is grown =
     grown ∙ ap (λ (zs : List FrameRecord). zs ++ f ∷ []) are ∙ ap (λ (y : FrameRecord). no_frames period looper ++ y ∷ []) is
-      ∙ sym (map-range_with_len_more (no_frame period) 0 looper looper refl)
+    ∙ sym (map-range_with_len_more (no_frame period) 0 looper looper (omega arith))
 
 framed : (period : ℕ) (ks : List ℕ) → map (λ (f : FrameRecord). f.looper) (map (no_frame period) ks) ≡ ks
 framed period [] = refl

@@ -16,12 +16,13 @@ use std::alloc::Global;
 const PHASES: u32 = 4;
 
 /// The report of a run that left these queues.
-#[tactic(auto, using(crate::proofs::Records::staged))]
 pub(crate) fn report(alloc: Global, script: Script, lanes: Lanes) -> Ran
     requires { lanes ≡ record { loopers = script.loopers; senders = sender_count script } }
     ensures { Stages script result }
 {
-    let Ok(frames) = frames(alloc, script.loopers, script.period) else { return Ran::NoMemory };
+    let Ok(frames) = frames(alloc, script.loopers, script.period) else {
+        return Ran::NoMemory
+    };
     match lanes.into_kept(alloc) {
         Ok((queues, journals)) => Ran::Ok(Report {
             script,

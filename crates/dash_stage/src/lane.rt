@@ -75,7 +75,9 @@ impl Lane {
     {
         let mut message = Message::blank();
         message.set_post(post);
-        let Ok(node) = new_node(alloc, message) else { return Err(NoMemory) };
+        let Ok(node) = new_node(alloc, message) else {
+            return Err(NoMemory)
+        };
         match self.queue.post(sender, node) {
             Posted::Accepted { .. } | Posted::Refused { .. } => Ok(()),
             Posted::NoMemory(_) => Err(NoMemory),
@@ -87,7 +89,9 @@ impl Lane {
         requires { sender < self.old.senders }
         ensures { self.new ≡ self.old }
     {
-        let Ok(node) = new_node(alloc, Message::blank()) else { return Err(NoMemory) };
+        let Ok(node) = new_node(alloc, Message::blank()) else {
+            return Err(NoMemory)
+        };
         match self.queue.post_barrier(sender, 0, node) {
             BarrierPosted::Token { token } => Ok(token),
             BarrierPosted::NoMemory(_) => Err(NoMemory),

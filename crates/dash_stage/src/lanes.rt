@@ -82,7 +82,12 @@ impl Lanes {
     }
 
     /// Posts a barrier to a looper's queue, and answers its token.
-    pub(crate) fn post_barrier(&mut self, alloc: Global, looper: u32, sender: u32) -> Result<u64, NoMemory>
+    pub(crate) fn post_barrier(
+        &mut self,
+        alloc: Global,
+        looper: u32,
+        sender: u32,
+    ) -> Result<u64, NoMemory>
         requires { sender < self.old.senders }
         ensures { self.new ≡ self.old }
     {
@@ -94,7 +99,12 @@ impl Lanes {
     }
 
     /// Removes a barrier from a looper's queue.
-    pub(crate) fn remove_barrier(&mut self, looper: u32, sender: u32, token: u64) -> Result<(), NoMemory>
+    pub(crate) fn remove_barrier(
+        &mut self,
+        looper: u32,
+        sender: u32,
+        token: u64,
+    ) -> Result<(), NoMemory>
         requires { sender < self.old.senders }
         ensures { self.new ≡ self.old }
     {
@@ -106,7 +116,12 @@ impl Lanes {
     }
 
     /// Removes messages from a looper's queue.
-    pub(crate) fn remove(&mut self, looper: u32, sender: u32, filter: &Filter) -> Result<(), NoMemory>
+    pub(crate) fn remove(
+        &mut self,
+        looper: u32,
+        sender: u32,
+        filter: &Filter,
+    ) -> Result<(), NoMemory>
         requires { sender < self.old.senders }
         ensures { self.new ≡ self.old }
     {
@@ -175,7 +190,10 @@ impl Lanes {
     }
 
     /// What is kept of the queues and of their loopers, in order.
-    pub(crate) fn into_kept(self, alloc: Global) -> Result<(Vec<QueueRecord>, Vec<Journal>), NoMemory>
+    pub(crate) fn into_kept(
+        self,
+        alloc: Global,
+    ) -> Result<(Vec<QueueRecord>, Vec<Journal>), NoMemory>
         ensures records { IfOk result (λ kept. AreRecordsOf (places self.senders self.loopers) kept.0.items) }
         ensures journals { IfOk result (λ kept. AreJournalsOf (places self.senders self.loopers) kept.1.items) }
     {

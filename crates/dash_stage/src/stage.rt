@@ -112,7 +112,12 @@ impl Stage {
     }
 
     /// A looper drains as its own sender.
-    fn run_looper(&mut self, alloc: Global, script: &Script, looper: u32) -> Result<Option<u64>, NoMemory>
+    fn run_looper(
+        &mut self,
+        alloc: Global,
+        script: &Script,
+        looper: u32,
+    ) -> Result<Option<u64>, NoMemory>
         ensures { self.new.lanes ≡ self.old.lanes }
     {
         let sender = script.threads.saturating_add(looper);
@@ -144,7 +149,12 @@ impl Stage {
     }
 
     /// The threads run their commands of a block, in script order.
-    pub(crate) fn block(&mut self, alloc: Global, script: &Script, block: &Block) -> Result<(), NoMemory>
+    pub(crate) fn block(
+        &mut self,
+        alloc: Global,
+        script: &Script,
+        block: &Block,
+    ) -> Result<(), NoMemory>
         ensures { self.new.lanes ≡ self.old.lanes }
     {
         for line in block.lines.as_slice() {
@@ -156,39 +166,65 @@ impl Stage {
     }
 
     /// A thread runs a command at this uptime.
-    fn command(&mut self, alloc: Global, script: &Script, now: u64, line: &Line) -> Result<(), NoMemory>
+    fn command(
+        &mut self,
+        alloc: Global,
+        script: &Script,
+        now: u64,
+        line: &Line,
+    ) -> Result<(), NoMemory>
         requires { line.now.thread < self.old.lanes.senders }
         ensures { self.new.lanes ≡ self.old.lanes }
     {
         let thread = line.thread;
         match line.command {
-            Command::Post { handler, what, delay } => {
+            Command::Post {
+                handler,
+                what,
+                delay,
+            } => {
                 let post = message(script, handler, what, now.saturating_add(delay));
-                self.lanes.post(alloc, looper_of(script, handler), thread, &post)
+                self.lanes
+                    .post(alloc, looper_of(script, handler), thread, &post)
             }
-            Command::PostAsync { handler, what, delay } => {
+            Command::PostAsync {
+                handler,
+                what,
+                delay,
+            } => {
                 let mut post = message(script, handler, what, now.saturating_add(delay));
                 post.asynchronous = true;
-                self.lanes.post(alloc, looper_of(script, handler), thread, &post)
+                self.lanes
+                    .post(alloc, looper_of(script, handler), thread, &post)
             }
             Command::Front { handler, what } => {
                 let post = message(script, handler, what, 0);
-                self.lanes.post(alloc, looper_of(script, handler), thread, &post)
+                self.lanes
+                    .post(alloc, looper_of(script, handler), thread, &post)
             }
             Command::Callback { handler, id, delay } => {
                 let post = callback(script, handler, id, now.saturating_add(delay));
-                self.lanes.post(alloc, looper_of(script, handler), thread, &post)
+                self.lanes
+                    .post(alloc, looper_of(script, handler), thread, &post)
             }
             Command::Remove { handler, what } => {
-                self.lanes
-                    .remove(looper_of(script, handler), thread, &filter(handler, Kind::What(what)))
+                self.lanes.remove(
+                    looper_of(script, handler),
+                    thread,
+                    &filter(handler, Kind::What(what)),
+                )
             }
             Command::RemoveCallback { handler, id } => {
                 let kind = Kind::Callback(u64::from(id));
-                self.lanes.remove(looper_of(script, handler), thread, &filter(handler, kind))
+                self.lanes
+                    .remove(looper_of(script, handler), thread, &filter(handler, kind))
             }
             Command::RemoveAll { handler } => {
-                self.lanes.remove(looper_of(script, handler), thread, &filter(handler, Kind::All))
+                self.lanes.remove(
+                    looper_of(script, handler),
+                    thread,
+                    &filter(handler, Kind::All),
+                )
             }
             Command::Barrier { looper, label } => self.post_barrier(alloc, thread, looper, label),
             Command::Unbarrier { label } => self.remove_barrier(thread, label),
@@ -204,7 +240,13 @@ impl Stage {
         }
     }
 
-    fn post_barrier(&mut self, alloc: Global, thread: u32, looper: u32, label: u32) -> Result<(), NoMemory>
+    fn post_barrier(
+        &mut self,
+        alloc: Global,
+        thread: u32,
+        looper: u32,
+        label: u32,
+    ) -> Result<(), NoMemory>
         requires { thread < self.old.lanes.senders }
         ensures { self.new.lanes ≡ self.old.lanes }
     {
@@ -223,19 +265,29 @@ impl Stage {
         ensures { self.new.lanes ≡ self.old.lanes }
     {
         match kept(&self.barriers, thread, label) {
-            Some(barrier) => self.lanes.remove_barrier(barrier.looper, thread, barrier.token),
+            Some(barrier) => self
+                .lanes
+                .remove_barrier(barrier.looper, thread, barrier.token),
             None => Ok(()),
         }
     }
 
     /// A looper takes and dispatches messages until none is due. Answers false where its queue was disposed of.
-    pub(crate) fn drain(&mut self, alloc: Global, script: &Script, looper: u32, sender: u32) -> Result<Option<u64>, NoMemory>
+    pub(crate) fn drain(
+        &mut self,
+        alloc: Global,
+        script: &Script,
+        looper: u32,
+        sender: u32,
+    ) -> Result<Option<u64>, NoMemory>
         requires { sender < self.old.lanes.senders }
         ensures { self.new.lanes ≡ self.old.lanes }
     {
         for _ in 0..u64::MAX {
             match self.lanes.next(looper, sender) {
-                Look::Taken { number, now, post } => self.dispatch(alloc, script, looper, sender, number, now, &post)?,
+                Look::Taken { number, now, post } => self.dispatch(
+                    alloc, script, looper, sender, number, now, &post,
+                )?,
                 Look::Wait { until } => return Ok(until),
                 Look::Ended => return Ok(None),
             }
@@ -244,7 +296,16 @@ impl Stage {
     }
 
     /// A message runs its callback, or its handler's rules, and is noted.
-    fn dispatch(&mut self, alloc: Global, script: &Script, looper: u32, sender: u32, number: u64, now: u64, post: &Post) -> Result<(), NoMemory>
+    fn dispatch(
+        &mut self,
+        alloc: Global,
+        script: &Script,
+        looper: u32,
+        sender: u32,
+        number: u64,
+        now: u64,
+        post: &Post,
+    ) -> Result<(), NoMemory>
         requires { sender < self.old.lanes.senders }
         ensures { self.new.lanes ≡ self.old.lanes }
     {
@@ -255,18 +316,32 @@ impl Stage {
         if post.callback.is_none() {
             self.react(alloc, script, sender, now, post)?;
         }
-        self.lanes.note(looper, Act::Dispatch { number, now, route })
+        self.lanes
+            .note(looper, Act::Dispatch { number, now, route })
     }
 
     /// Each rule of the message that has not fired so often posts its own.
-    fn react(&mut self, alloc: Global, script: &Script, sender: u32, now: u64, post: &Post) -> Result<(), NoMemory>
+    fn react(
+        &mut self,
+        alloc: Global,
+        script: &Script,
+        sender: u32,
+        now: u64,
+        post: &Post,
+    ) -> Result<(), NoMemory>
         requires { sender < self.old.lanes.senders }
         ensures { self.new.lanes ≡ self.old.lanes }
     {
         for (place, rule) in script.rules.as_slice().iter().enumerate() {
             if fires(&mut self.fired, place, rule, post) {
-                let answer = message(script, rule.to_handler, rule.to_what, now.saturating_add(rule.delay));
-                self.lanes.post(alloc, looper_of(script, rule.to_handler), sender, &answer)?;
+                let answer = message(
+                    script,
+                    rule.to_handler,
+                    rule.to_what,
+                    now.saturating_add(rule.delay),
+                );
+                self.lanes
+                    .post(alloc, looper_of(script, rule.to_handler), sender, &answer)?;
             }
         }
         Ok(())

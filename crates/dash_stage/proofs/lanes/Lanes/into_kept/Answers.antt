@@ -15,8 +15,8 @@ loop-lane-preserved c =
     let lane = c.in-Some.lane in
     let steps : into_iter_items at.lane-iterator ≡ lane ∷ into_iter_items c.next.new.self = c.in-Some.ensures.steps.0 in (
       append_assoc at.yielded (lane ∷ []) _ ∙ rw (← steps) at.invariant.0,
-      subst (AreRecordsOf (at.yielded ++ lane ∷ [])) (sym c.in_ok-push.ensures.items) (records_more at.yielded at.records.items lane _ at.invariant.1 c.into_kept.ensures.record),
-      journals_more at.yielded at.journals.items _ lane _ at.invariant.2 c.into_kept.ensures.journal c.in_ok-push-2.ensures.items,
+      subst (AreRecordsOf (at.yielded ++ lane ∷ [])) (sym c.in_ok-push.ensures.items) (records_more at.yielded at.records.items lane _ at.invariant.1 c.into_kept-record.ensures.record),
+      journals_more at.yielded at.journals.items _ lane _ at.invariant.2 c.into_kept-record.ensures.journal c.in_ok-push-2.ensures.items,
       let was = at.invariant.3 in
           let gone = c.in-Some.ensures.steps.1 in
           let short = ap length steps in
