@@ -1,0 +1,70 @@
+-- The seats of all posters are made one.
+use Rattle.std.proofs.Common.{◌≡◌, ℕ, ◌<◌, List, [], ◌∷◌, ◌++◌, length, refl, sym, ap, ◌∙◌, subst, arith, append_assoc}
+use Rattle.std.specs.Prelude.{All, ◌+◌, ◌-◌, drop}
+use Rattle.std.proofs.Common.{get_or, length-append, suc}
+use Rattle.std.proofs.Math.ListN.{get_or-append}
+use Rattle.std.proofs.Math.Seq.{get_or-append_seam}
+use mathlib.Core.Logic.{dite}
+use native.Mathlib.Decide.{dec_lt}
+use Rattle.std.proofs.lemmas.List.Elements.{All-push, All-weaker}
+use mathlib.Core.List.{IsPrefix, map-append}
+use Rattle.shared_queue.specs.Constants.{Constants}
+use Rattle.queue_state.specs.Queue.{Queue}
+use Rattle.shared_queue.specs.declared.view.View.{View}
+use Rattle.shared_queue.specs.Turn.{joined, numbers_from}
+use Rattle.shared_queue.specs.Plays.{Sat}
+use Rattle.shared_queue.specs.Known.{Shared, Known, IsOf, Rests, made_by}
+use Rattle.shared_queue.specs.Ends.{number_of, TakenIn, Gathered, IsNew, AreNew}
+use Rattle.shared_queue.proofs.Prefixes.{prefix_trans}
+
+-- a seat takes in that of a poster
+pub takes_in : {H K : Type 0} (c : Constants H) (s u m n : Sat H K) (p : Known H K) → Rests c s → Rests c u → u.0 ≡ p.view → u.0.senders ≡ (p.sender, made_by p) ∷ [] → m ≡ (joined s.0 u.0, s.1) → n ≡ m → All (λ t. IsPrefix t m.0.seen) m.0.told → Rests c n × TakenIn s.0 p n.0
+takes_in {H} {K} c s u m n p rests theirs is numbers took_in same told =
+    let now : n.0 ≡ joined s.0 u.0 = ap (λ (z : Sat H K). z.0) (same ∙ took_in) in
+    let told' : All (λ t. IsPrefix t n.0.seen) (s.0.seen ∷ u.0.seen ∷ s.0.told) = subst (λ (z : Sat H K × Sat H K). All (λ t. IsPrefix t z.0.0.seen) z.1.0.told) (λ i. (sym same i, took_in i)) told in (
+      (ap (λ (z : View (Queue H K) H). z.constants) now ∙ rests.0, ap (λ (z : View (Queue H K) H). z.has_turn) now ∙ rests.1, ap (λ (z : Sat H K). z.1) (same ∙ took_in) ∙ rests.2),
+      (
+        ap (λ (z : View (Queue H K) H). z.senders) now ∙ ap (λ l. s.0.senders ++ l) numbers,
+        told' 0 [] (omega arith),
+        subst (λ (z : View (Queue H K) H). IsPrefix z.seen n.0.seen) is (told' 1 [] (omega arith)),
+      ),
+    )
+
+-- one more poster
+pub gathers : {H K : Type 0} (q : Shared H) (posters : List (Known H K)) (p : Known H K) (s n : Sat H K) → Gathered q posters s → Rests q.constants n → TakenIn s.0 p n.0 → Gathered q (posters ++ p ∷ []) n
+gathers {H} {K} q posters p s n g rests t = (
+  rests,
+  t.0 ∙ (ap (λ l. l ++ number_of p ∷ []) g.1 ∙ sym (map-append number_of posters (p ∷ []))),
+  All-push (λ (x : Known H K). IsPrefix x.view.seen n.0.seen) posters p (All-weaker (λ (x : Known H K). IsPrefix x.view.seen s.0.seen) (λ (x : Known H K). IsPrefix x.view.seen n.0.seen) (λ x h. prefix_trans x.view.seen s.0.seen n.0.seen h t.1) posters g.2) t.2,
+)
+
+pub nothing_left : {X : Type 0} (l : List X) → length l ≡ 0 → l ≡ []
+nothing_left [] h = refl
+nothing_left (x ∷ xs) h = absurd (omega arith)
+
+-- a new poster of that number
+abbrev IsNewAt : {H K : Type 0} → Shared H → ℕ → Known H K → Type 0
+IsNewAt q k x = (IsOf x q × (x.sender ≡ k)) × IsNew x
+
+-- one poster more, whose sender number comes next
+pub deals_more : {H K : Type 0} (q : Shared H) (posters : List (Known H K)) (p : Known H K) (n : ℕ) → length posters ≡ n → AreNew q posters → IsOf p q → p.sender ≡ n → IsNew p → AreNew q (posters ++ p ∷ [])
+deals_more {H} {K} q posters p n long all of_queue number new = ((λ k d l. (at k d l).0), (λ k d l. (at k d l).1))
+  where
+    at : (k : ℕ) (d : Known H K) → k < length (posters ++ p ∷ []) → IsNewAt q k (get_or (posters ++ p ∷ []) k d)
+    at k d l = dite (dec_lt k (length posters))
+        (λ early. subst (IsNewAt q k) (sym (get_or-append posters (p ∷ []) d k early)) (all.0 k d early, all.1 k d early))
+        (λ late.
+        let whole : length (posters ++ p ∷ []) ≡ length posters + 1 = omega (arith, length-append posters (p ∷ [])) in
+        let last : k ≡ length posters = omega arith in
+        subst (IsNewAt q k) (sym (ap (λ (i : ℕ). get_or (posters ++ p ∷ []) i d) last ∙ get_or-append_seam posters p [] d)) ((of_queue, number ∙ (sym long ∙ sym last)), new))
+
+-- the numbers without the first
+pub numbers_rest : (from senders : ℕ) → from < senders → drop 1 (numbers_from from (senders - from)) ≡ numbers_from (from + 1) (senders - (from + 1))
+numbers_rest from senders below =
+    let more : senders - from ≡ suc (senders - (from + 1)) = omega arith in
+    let next : suc from ≡ from + 1 = omega arith in
+    ap (λ (n : ℕ). drop 1 (numbers_from from n)) more ∙ ap (λ (n : ℕ). numbers_from n (senders - (from + 1))) next
+
+-- one element goes from the rest to what came before
+pub regrouped : {X : Type 0} (before whole all rest : List X) (x : X) → all ≡ x ∷ rest → before ++ all ≡ whole → (before ++ x ∷ []) ++ rest ≡ whole
+regrouped before whole all rest x is joins = append_assoc before (x ∷ []) rest ∙ (ap (λ l. before ++ l) (sym is) ∙ joins)

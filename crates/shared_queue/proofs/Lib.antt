@@ -1,0 +1,9 @@
+pub mod Sums
+pub mod Prefixes
+pub mod Turns
+pub mod Desks
+pub mod Knows
+pub mod Steps
+pub mod Hears
+pub mod Gathers
+pub mod Closing

@@ -1,0 +1,496 @@
+-- Each step keeps the rule.
+use Rattle.std.proofs.Common.{◌≡◌, ℕ, zero, suc, ◌+◌, ◌%◌, ◌^◌, ◌<◌, ◌≤◌, ◌≢◌, ◌⊎◌, Bool, true, false, true≢false, cond, eqb, List, [], ◌∷◌, ◌++◌, map, length, get_or, set, take, drop, refl, sym, ap, ◌∙◌, subst, inl, inr, ⊎_elim, arith, Option, Some, None, length-set, get_or-set_other, get_or-set_same, eq-eqb, ne_eqb}
+use Rattle.std.specs.Prelude.{All}
+use Rattle.std.proofs.lemmas.List.Elements.{All-nil, All-cons, All-append, All-weaker, All-map, All-take, All-drop}
+use Rattle.std.proofs.lemmas.List.{take-append-drop}
+use mathlib.Core.Logic.{dite}
+use mathlib.Core.Option.{some, none, some-ne-none, some-injective}
+use mathlib.Core.List.{IsPrefix}
+use native.Mathlib.Decide.{ℕ_discrete}
+use lib.ListN.{get_elem?}
+use lib.Seq.{set-get_or}
+use prog.Atomic.{either}
+use Rattle.atomic_table.specs.Table.{State, Me, Act, Valid, carried_after, step, keeps, takes, gives, rest, homes_after, stepped, Allows, Enters, Splits, Joins, opening}
+use Rattle.atomic_table.proofs.Lists.{at_set, set_here, set_else, at_snoc, exchanged}
+use Rattle.loop_model.specs.declared.entry.Entry.{Entry}
+use Rattle.loop_model.specs.Answers.{Setting}
+use Rattle.shared_queue.specs.Constants.{Constants, made_in, IsStateOf}
+use Rattle.queue_state.specs.Queue.{Queue}
+use Rattle.shared_queue.specs.declared.view.View.{View}
+use Rattle.shared_queue.specs.Weights.{total}
+use Rattle.shared_queue.specs.Turn.{Board, turn_of, holds, Counts, Fits, AtHome, Turn, numbers_from, opening_view, counted, taking, giving, fresh, keeping, longer, joined, gone}
+use Rattle.shared_queue.specs.Plays.{Sat, bare, sat, Won, took, gave, MayGive, learned, rang, listened}
+use Rattle.shared_queue.proofs.Sums.{total-append, total-set, term_le, terms_le}
+use Rattle.shared_queue.proofs.Prefixes.{prefix_self, prefix_front, prefix_trans, prefix_shorter, longer_begins, made_in_push, one_of, one_of-yes, one_of-no, made_in_between}
+
+abbrev shown_or : {H K : Type 0} → Queue H K → Option (Queue H K) → Queue H K
+shown_or d None = d
+shown_or d (Some x) = x
+
+-- the state in the slot that was taken last
+abbrev carried_or : {H K : Type 0} → Queue H K → List (ℕ × Option (Queue H K)) → Queue H K
+carried_or d [] = d
+carried_or d (p ∷ ps) = shown_or d p.1
+
+abbrev IsBelow : {H : Type 0} → Constants H → ℕ × ℕ → Type 0
+IsBelow key p = p.0 < key.setting.senders
+
+-- a seat's senders are told apart from those of a sum
+pub holds_at : (n : ℕ) (senders : List (ℕ × ℕ)) (k : ℕ) (d : ℕ × ℕ) → k < length senders → (get_or senders k d).0 ≡ n → 0 < total (λ (p : ℕ × ℕ). cond (eqb p.0 n) 1 0) senders
+holds_at n [] k d l e = absurd (omega arith)
+holds_at n (p ∷ ps) zero d l e = let one : cond {A = ℕ} (eqb p.0 n) 1 0 ≡ 1 = ap (λ b. cond {A = ℕ} b 1 0) (eq-eqb p.0 n e) in omega arith
+holds_at n (p ∷ ps) (suc k) d l e = let rest = holds_at n ps k d (omega arith) e in omega arith
+
+-- what a seat carries once the state was put into its slot
+pub carried : {H K : Type 0} (m n : Sat H K) (x : Queue H K) → n ≡ (m.0, (0, Some x) ∷ rest m.1) → m.1 ≡ (0, None) ∷ [] → n.1 ≡ (0, Some x) ∷ []
+carried {H} {K} m n x is empty = ap (λ (z : Sat H K). z.1) is ∙ ap (λ (l : List (ℕ × Option (Queue H K))). (0, Some x) ∷ rest l) empty
+
+-- such a move leaves the view
+pub same_view : {H K : Type 0} (m n : Sat H K) (l : List (ℕ × Option (Queue H K))) → n ≡ (m.0, l) → n.0 ≡ m.0
+same_view {H} {K} m n l is = ap (λ (z : Sat H K). z.0) is
+
+-- a sender that is held is one of the queue
+held_below : {H : Type 0} (key : Constants H) (n : ℕ) (senders : List (ℕ × ℕ)) → All (IsBelow key) senders → 0 < total (λ (p : ℕ × ℕ). cond (eqb p.0 n) 1 0) senders → n < key.setting.senders
+held_below key n [] all held = absurd (omega arith)
+held_below key n (p ∷ ps) all held = dite (ℕ_discrete p.0 n)
+    (λ e. subst (λ (m : ℕ). m < key.setting.senders) e (all 0 p (omega arith)))
+    (λ apart. let none : cond {A = ℕ} (eqb p.0 n) 1 0 ≡ 0 = ap (λ b. cond {A = ℕ} b 1 0) (ne_eqb p.0 n apart) in held_below key n ps (λ k d l. all (suc k) d (omega arith)) (omega arith))
+
+-- the senders stay in the view
+holds-counted : (n : ℕ) (history : List Entry) (senders : List (ℕ × ℕ)) → total (λ (p : ℕ × ℕ). cond (eqb p.0 n) 1 0) (counted history senders) ≡ total (λ (p : ℕ × ℕ). cond (eqb p.0 n) 1 0) senders
+holds-counted n history [] = refl
+holds-counted n history (p ∷ ps) = ap (λ (k : ℕ). cond (eqb p.0 n) 1 0 + k) (holds-counted n history ps)
+
+module _ {H K : Type 0} (key : Constants H) where
+  abbrev Each : List Entry → List (View (Queue H K) H) → Type 0
+  Each whole views = (j : ℕ) (v : View (Queue H K) H) → get_elem? views j ≡ some v → Fits key whole v
+
+  each_set : (whole : List Entry) (views : List (View (Queue H K) H)) (id : ℕ) (w : View (Queue H K) H) → Fits key whole w
+      → ((j : ℕ) (u : View (Queue H K) H) → j ≢ id → get_elem? views j ≡ some u → Fits key whole u) → Each whole (set views id w)
+  each_set whole views id w mine others j u e = ⊎_elim
+      (λ (t : (j ≡ id) × (w ≡ u)). subst (Fits key whole) t.1 mine)
+      (λ (t : (j ≢ id) × (get_elem? views j ≡ some u)). others j u t.0 t.1)
+      (at_set views id j w u e)
+
+  -- a step of one seat that changes no word, where the view keeps its part of the sums
+  unmoved : (s : Board H K) (r : Turn key s) (i id : ℕ) (cs : List (ℕ × Option (Queue H K))) (v w : View (Queue H K) H) → get_elem? s.views id ≡ some v → turn_of w ≡ turn_of v → w.senders ≡ v.senders → w.rung ≡ v.rung
+      → Fits key r.whole w → Turn key (stepped s i (get_or s.words i 0) id cs w keeps)
+  unmoved s r i id cs v w at turns senders rung mine =
+      subst (λ (ws : List ℕ). Turn key (record { words = ws; homes = s.homes; views = set s.views id w })) (sym (set-get_or s.words i 0)) record {
+        whole = r.whole;
+        wide = r.wide;
+        deep = r.deep;
+        turns = omega (arith, total-set turn_of s.views id v w at, r.turns, turns);
+        once = r.once;
+        free = r.free;
+        each = each_set r.whole s.views id w mine (λ j u _ e. r.each j u e);
+        placed = λ n below. omega (arith, total-set (holds n) s.views id v w at, r.placed n below, ap (total (λ (p : ℕ × ℕ). cond (eqb p.0 n) 1 0)) senders);
+        bell = let same : total (λ (x : View (Queue H K) H). x.rung) (set s.views id w) ≡ total (λ (x : View (Queue H K) H). x.rung) s.views = omega (arith, total-set (λ (x : View (Queue H K) H). x.rung) s.views id v w at, rung) in
+            r.bell ∙ ap (λ (n : ℕ). n % 18446744073709551616) (sym same);
+      }
+
+  -- the view of a seat that wins the turn
+  taken_fits : (whole : List Entry) (v : View (Queue H K) H) (x : Queue H K) → Fits key whole v → x.entries ≡ whole → 0 < length v.senders → Fits key whole (taking v x)
+  taken_fits whole v x f same some_sender = record {
+    constants = f.constants;
+    seen = subst (λ l. IsPrefix l whole) (sym same) (prefix_self whole);
+    told = All-cons (λ t. IsPrefix t x.entries) v.seen v.told (subst (IsPrefix v.seen) (sym same) f.seen)
+        (All-weaker (λ t. IsPrefix t v.seen) (λ t. IsPrefix t x.entries) (λ t p. prefix_trans t v.seen x.entries p (subst (IsPrefix v.seen) (sym same) f.seen)) v.told f.told);
+    below = f.below;
+    mine = All-weaker (Counts whole v.seen) (Counts whole x.entries) (λ p c. (c.0, ap (made_in p.0) same ∙ c.0)) v.senders f.mine;
+    turn = λ _. (same, some_sender);
+  }
+
+  abbrev Goes : Board H K → ℕ → ℕ → Sat H K → (ℕ → Sat H K → Type 0) → ℕ → Type 0
+  Goes s i id m then k = (w : View (Queue H K) H) × (a : Act (Option (Queue H K))) × Valid s.homes m.1 a × Turn key (stepped s i k id m.1 w a) × then (get_or s.words i 0) (w, carried_after m.1 a)
+
+  -- a seat wins the turn, and takes the state
+  takes_it : (s : Board H K) (r : Turn key s) (id : ℕ) (m : Sat H K) → get_elem? s.views id ≡ some m.0 → 0 < length m.0.senders → get_or s.words 0 0 ≡ 0
+      → Goes s 0 id m (took (step 1 0 0 1 none) m) 1
+  takes_it s r id m at some_sender zero_word =
+      let home = r.free zero_word in
+      let x : Queue H K = home.0 in
+      let v : View (Queue H K) H = m.0 in
+      let w : View (Queue H K) H = taking v x in
+      let f : Fits key r.whole v = r.each id v at in
+      let nobody : turn_of v ≡ 0 = omega (arith, term_le turn_of s.views id v at, r.turns) in
+      let wide = r.wide in
+      let now : get_or (set s.words 0 1) 0 0 ≡ 1 = get_or-set_same s.words 0 1 0 (omega arith) in
+      let apart : get_or (set s.words 0 1) 1 0 ≡ get_or s.words 1 0 = get_or-set_other s.words 0 1 1 0 (λ e. omega arith) in
+      let rings : total (λ (u : View (Queue H K) H). u.rung) (set s.views id w) ≡ total (λ (u : View (Queue H K) H). u.rung) s.views = omega (arith, total-set (λ (u : View (Queue H K) H). u.rung) s.views id v w at) in (
+        w,
+        takes 0 (Some x),
+        home.1,
+        record {
+          whole = r.whole;
+          wide = length-set s.words 0 1 ∙ r.wide;
+          deep = length-set s.homes 0 none ∙ r.deep;
+          turns = omega (arith, total-set turn_of s.views id v w at, r.turns, now);
+          once = omega (arith, now);
+          free = λ e. absurd (omega (arith, now, e));
+          each = each_set r.whole s.views id w (taken_fits r.whole v x f home.3 some_sender) (λ j u _ e. r.each j u e);
+          placed = λ n below. omega (arith, total-set (holds n) s.views id v w at, r.placed n below);
+          bell = apart ∙ (r.bell ∙ ap (λ (n : ℕ). n % 18446744073709551616) (sym rings));
+        },
+        (
+          (λ _. (
+            x,
+            refl,
+            λ c e. subst (λ (k : Constants H). IsStateOf k x) (sym (f.constants c e)) home.2,
+            (
+              subst (IsPrefix v.seen) (sym home.3) f.seen,
+              λ k d l. (
+                subst (λ (t : Setting). (get_or v.senders k d).0 < t.senders) (sym home.2.setting) (f.below k d l),
+                ap (made_in (get_or v.senders k d).0) home.3 ∙ (f.mine k d l).0,
+              ),
+            ),
+          )),
+          λ held. absurd (held zero_word),
+        ),
+      )
+
+  pub takes_turn : (slots id : ℕ) (m : Sat H K) → 0 < length m.0.senders
+      → Allows (Turn key) slots id m 0 (λ n. either (eqb n 0) 1 n) (took (step slots 0 0 1 none) m)
+  takes_turn slots id m some_sender s r wide at small =
+      exchanged (get_or s.words 0 0) 0 1 (Goes s 0 id m (took (step slots 0 0 1 none) m))
+      (λ free. takes_it s r id m at some_sender free)
+      (λ held. (m.0, keeps, tt, unmoved s r 0 id m.1 m.0 m.0 at refl refl refl (r.each id m.0 at), ((λ free. absurd (held free)), λ _. refl)))
+
+  -- the view of a seat that gives the turn back, with the state x
+  given_fits : (v : View (Queue H K) H) (x : Queue H K) → ((c : Constants H) → v.constants ≡ Some c → c ≡ key) → IsPrefix v.seen x.entries → All (λ t. IsPrefix t v.seen) v.told → All (IsBelow key) v.senders → Fits key x.entries (giving v x)
+  given_fits v x constants more told below = record {
+    constants = constants;
+    seen = prefix_self x.entries;
+    told = All-cons (λ t. IsPrefix t x.entries) v.seen v.told more (All-weaker (λ t. IsPrefix t v.seen) (λ t. IsPrefix t x.entries) (λ t p. prefix_trans t v.seen x.entries p more) v.told told);
+    below = All-map (IsBelow key) (λ (p : ℕ × ℕ). (p.0, made_in p.0 x.entries)) v.senders below;
+    mine = All-map (Counts x.entries x.entries) (λ (p : ℕ × ℕ). (p.0, made_in p.0 x.entries)) v.senders (λ k d l. (refl, refl));
+    turn = λ e. absurd (true≢false (sym e));
+  }
+
+  -- another view stays so where the history grows by no entry of a sender of it
+  others_fit : (whole longer : List Entry) (u : View (Queue H K) H) → Fits key whole u → u.has_turn ≡ false → IsPrefix whole longer → All (λ (p : ℕ × ℕ). made_in p.0 longer ≡ made_in p.0 whole) u.senders → Fits key longer u
+  others_fit whole longer u f no_turn more same = record {
+    constants = f.constants;
+    seen = prefix_trans u.seen whole longer f.seen more;
+    told = f.told;
+    below = f.below;
+    mine = λ k d l. let c = f.mine k d l in (same k d l ∙ c.0, c.1);
+    turn = λ e. absurd (true≢false (sym e ∙ no_turn));
+  }
+
+  held_by : (v : View (Queue H K) H) → turn_of v ≡ 0 → v.has_turn ≡ false
+  held_by v none_here = by_cases v.has_turn none_here
+    where
+      by_cases : (b : Bool) → cond {A = ℕ} b 1 0 ≡ 0 → b ≡ false
+      by_cases true e = absurd (omega arith)
+      by_cases false e = refl
+
+  -- what a seat may give back begins with all that it has seen
+  gives_more : (v : View (Queue H K) H) (x : Queue H K) → MayGive v x → IsPrefix v.seen x.entries
+  gives_more v x may = ⊎_elim
+      (λ (e : x.entries ≡ v.seen). subst (IsPrefix v.seen) (sym e) (prefix_self v.seen))
+      (λ (t : (e : Entry) × (x.entries ≡ v.seen ++ e ∷ []) × (0 < holds e.sender v)). subst (IsPrefix v.seen) (sym t.1) (prefix_front v.seen (t.0 ∷ [])))
+      may
+
+  -- no other seat's sender gets an entry
+  others_stay : (s : Board H K) (r : Turn key s) (id j : ℕ) (v u : View (Queue H K) H) (x : Queue H K) → get_elem? s.views id ≡ some v → get_elem? s.views j ≡ some u → j ≢ id → v.seen ≡ r.whole → MayGive v x
+      → All (λ (p : ℕ × ℕ). made_in p.0 x.entries ≡ made_in p.0 r.whole) u.senders
+  others_stay s r id j v u x at there apart same may = ⊎_elim
+      (λ (e : x.entries ≡ v.seen). λ k d l. ap (made_in (get_or u.senders k d).0) (e ∙ same))
+      (λ (t : (e : Entry) × (x.entries ≡ v.seen ++ e ∷ []) × (0 < holds e.sender v)). λ k d l.
+      let n : ℕ = (get_or u.senders k d).0 in
+      let e : Entry = t.0 in
+      let other : e.sender ≢ n = λ is.
+      let mine : 0 < holds e.sender v = t.2 in
+      let below : e.sender < key.setting.senders = held_below key e.sender v.senders (r.each id v at).below mine in
+      let here : 0 < holds e.sender u = holds_at e.sender u.senders k d l (sym is) in
+      omega (arith, terms_le (holds e.sender) s.views id j v u apart at there, r.placed e.sender below) in
+      ap (made_in n) t.1 ∙ (made_in_push n v.seen e ∙ (omega (arith, one_of-no n e other, ap (made_in n) same))))
+      may
+
+  pub gives_turn : (slots id : ℕ) (m : Sat H K) (x : Queue H K) → m.1 ≡ (0, Some x) ∷ [] → m.0.has_turn ≡ true → IsStateOf key x → MayGive m.0 x
+      → Allows (Turn key) slots id m 0 (λ _. 0) (λ _. gave (step slots 0 0 0 none) m 0)
+  gives_turn slots id m x carries has own may s r wide at small =
+      let v : View (Queue H K) H = m.0 in
+      let w : View (Queue H K) H = giving v x in
+      let f : Fits key r.whole v = r.each id v at in
+      let whole_seen = (f.turn has).0 in
+      let one : turn_of v ≡ 1 = ap (λ b. cond b 1 0) has in
+      let words_wide = r.wide in
+      let deep = r.deep in
+      let once = r.once in
+      let now : get_or (set s.words 0 0) 0 0 ≡ 0 = get_or-set_same s.words 0 0 0 (omega arith) in
+      let apart : get_or (set s.words 0 0) 1 0 ≡ get_or s.words 1 0 = get_or-set_other s.words 0 1 0 0 (λ e. omega arith) in
+      let rings : total (λ (u : View (Queue H K) H). u.rung) (set s.views id w) ≡ total (λ (u : View (Queue H K) H). u.rung) s.views = omega (arith, total-set (λ (u : View (Queue H K) H). u.rung) s.views id v w at) in
+      let more : IsPrefix r.whole x.entries = subst (λ l. IsPrefix l x.entries) whole_seen (gives_more v x may) in (
+        w,
+        gives,
+        tt,
+        subst (λ c. Turn key (record { words = set s.words 0 0; homes = homes_after s.homes c gives; views = set s.views id w })) (sym carries) record {
+          whole = x.entries;
+          wide = length-set s.words 0 0 ∙ r.wide;
+          deep = length-set s.homes 0 (some (Some x)) ∙ r.deep;
+          turns = omega (arith, total-set turn_of s.views id v w at, r.turns, now);
+          once = omega (arith, now);
+          free = λ _. (x, set_here s.homes 0 (some (Some x)) (omega arith), own, refl);
+          each = each_set x.entries s.views id w (given_fits v x f.constants (gives_more v x may) f.told f.below)
+              (λ j u other there. others_fit r.whole x.entries u (r.each j u there)
+              (held_by u (omega (arith, terms_le turn_of s.views id j v u other at there, r.turns))) more
+              (others_stay s r id j v u x at there other whole_seen may));
+          placed = λ n below. omega (arith, total-set (holds n) s.views id v w at, r.placed n below, holds-counted n x.entries v.senders);
+          bell = apart ∙ (r.bell ∙ ap (λ (n : ℕ). n % 18446744073709551616) (sym rings));
+        },
+        λ y carries'. let same : x ≡ y = ap (carried_or x) (sym carries ∙ carries') in (λ i. (giving v (same i), ap rest carries i)),
+      )
+
+  -- another view that has no turn and the same list
+  fits_with : (whole : List Entry) (v : View (Queue H K) H) (senders : List (ℕ × ℕ)) → Fits key whole v → (v.has_turn ≡ true → 0 < length senders) → All (IsBelow key) senders → All (Counts whole v.seen) senders → Fits key whole (keeping v senders)
+  fits_with whole v senders f some_sender below mine = record {
+    constants = f.constants;
+    seen = f.seen;
+    told = f.told;
+    below = below;
+    mine = mine;
+    turn = λ has. ((f.turn has).0, some_sender has);
+  }
+
+  fits_fresh : (whole : List Entry) (v : View (Queue H K) H) (senders : List (ℕ × ℕ)) → Fits key whole v → All (IsBelow key) senders → All (Counts whole v.seen) senders → Fits key whole (fresh v senders)
+  fits_fresh whole v senders f below mine = record {
+    constants = f.constants;
+    seen = f.seen;
+    told = All-nil (λ t. IsPrefix t v.seen);
+    below = below;
+    mine = mine;
+    turn = λ e. absurd (true≢false (sym e));
+  }
+
+  -- a new seat comes with some of the sender numbers
+  pub splits_off : (id : ℕ) (v : View (Queue H K) H) (first second : List (ℕ × ℕ)) → (v.has_turn ≡ true → 0 < length second)
+      → ((P : ℕ × ℕ → Type 0) → All P v.senders → All P first × All P second) → ((g : ℕ × ℕ → ℕ) → total g v.senders ≡ total g first + total g second)
+      → Splits (Turn key) id v (keeping v second) (fresh v first)
+  splits_off id v first second some_sender parts sums s r at =
+      let w : View (Queue H K) H = keeping v second in
+      let u : View (Queue H K) H = fresh v first in
+      let f : Fits key r.whole v = r.each id v at in
+      let mine = parts (Counts r.whole v.seen) f.mine in
+      let below = parts (IsBelow key) f.below in
+      let rings : total (λ (x : View (Queue H K) H). x.rung) (set s.views id w ++ u ∷ []) ≡ total (λ (x : View (Queue H K) H). x.rung) s.views =
+      omega (arith, total-append (λ (x : View (Queue H K) H). x.rung) (set s.views id w) (u ∷ []), total-set (λ (x : View (Queue H K) H). x.rung) s.views id v w at) in
+      record {
+        whole = r.whole;
+        wide = r.wide;
+        deep = r.deep;
+        turns = omega (arith, total-append turn_of (set s.views id w) (u ∷ []), total-set turn_of s.views id v w at, r.turns);
+        once = r.once;
+        free = r.free;
+        each = λ j x e. ⊎_elim
+            (λ (t : get_elem? (set s.views id w) j ≡ some x). each_set r.whole s.views id w (fits_with r.whole v second f some_sender below.1 mine.1) (λ i y _ e'. r.each i y e') j x t)
+            (λ (t : u ≡ x). subst (Fits key r.whole) t (fits_fresh r.whole v first f below.0 mine.0))
+            (at_snoc (set s.views id w) u x j e);
+        placed = λ n below. omega (arith, total-append (holds n) (set s.views id w) (u ∷ []), total-set (holds n) s.views id v w at, r.placed n below, sums (λ (p : ℕ × ℕ). cond (eqb p.0 n) 1 0));
+        bell = r.bell ∙ ap (λ (n : ℕ). n % 18446744073709551616) (sym rings);
+      }
+
+  pub deals : (id : ℕ) (v : View (Queue H K) H) → v.has_turn ≡ false → Splits (Turn key) id v (keeping v (drop 1 v.senders)) (fresh v (take 1 v.senders))
+  deals id v no_turn = splits_off id v (take 1 v.senders) (drop 1 v.senders) (λ has. absurd (true≢false (sym has ∙ no_turn)))
+      (λ P all. (All-take P 1 v.senders all, All-drop P 1 v.senders all)) (λ g. ap (total g) (sym (take-append-drop 1 v.senders)) ∙ total-append g (take 1 v.senders) (drop 1 v.senders))
+
+  pub notes : (id : ℕ) (v : View (Queue H K) H) → v.has_turn ≡ false → Splits (Turn key) id v v (fresh v [])
+  notes id v no_turn = splits_off id v [] v.senders (λ has. absurd (true≢false (sym has ∙ no_turn))) (λ P all. (All-nil P, all)) (λ g. omega arith)
+
+  -- a seat that takes in another has what both had
+  joined_fits : (whole : List Entry) (v w : View (Queue H K) H) → v.has_turn ≡ false → Fits key whole v → Fits key whole w → Fits key whole (joined v w)
+  joined_fits whole v w no_turn f h =
+      let both = longer_begins v.seen w.seen whole f.seen h.seen in
+      let all : List Entry = longer v.seen w.seen in
+      record {
+        constants = f.constants;
+        seen = both.2;
+        told = All-cons (λ t. IsPrefix t all) v.seen (w.seen ∷ v.told) both.0 (All-cons (λ t. IsPrefix t all) w.seen v.told both.1
+            (All-weaker (λ t. IsPrefix t v.seen) (λ t. IsPrefix t all) (λ t p. prefix_trans t v.seen all p both.0) v.told f.told));
+        below = All-append (IsBelow key) v.senders w.senders f.below h.below;
+        mine = All-append (Counts whole all) v.senders w.senders
+            (All-weaker (Counts whole v.seen) (Counts whole all) (λ p c. (c.0, made_in_between p.0 p.1 v.seen all whole both.0 both.2 c.1 c.0)) v.senders f.mine)
+            (All-weaker (Counts whole w.seen) (Counts whole all) (λ p c. (c.0, made_in_between p.0 p.1 w.seen all whole both.1 both.2 c.1 c.0)) w.senders h.mine);
+        turn = λ has. absurd (true≢false (sym has ∙ no_turn));
+      }
+
+  gone_fits : (whole : List Entry) → Fits {H = H} {K = K} key whole gone
+  gone_fits whole = record {
+    constants = λ c e. absurd (cc (e));
+    seen = (whole, refl);
+    told = All-nil (λ t. IsPrefix t []);
+    below = All-nil (IsBelow key);
+    mine = All-nil (Counts whole []);
+    turn = λ e. absurd (true≢false (sym e));
+  }
+
+  pub joins_in : (id : ℕ) (v : View (Queue H K) H) (other : ℕ) (w : View (Queue H K) H) → v.has_turn ≡ false → w.has_turn ≡ false → Joins (Turn key) id v other w (joined v w) gone
+  joins_in id v other w no_turn no_turn' s r at apart there =
+      let b : View (Queue H K) H = joined v w in
+      let views : List (View (Queue H K) H) = set s.views id b in
+      let f : Fits key r.whole v = r.each id v at in
+      let there' : get_elem? s.views other ≡ some w = sym (set_else s.views id other b apart) ∙ there in
+      let h : Fits key r.whole w = r.each other w there' in
+      let none_w : turn_of w ≡ 0 = ap (λ b. cond {A = ℕ} b 1 0) no_turn' in
+      let rings : total (λ (x : View (Queue H K) H). x.rung) (set views other gone) ≡ total (λ (x : View (Queue H K) H). x.rung) s.views =
+      omega (arith, total-set (λ (x : View (Queue H K) H). x.rung) views other w gone there, total-set (λ (x : View (Queue H K) H). x.rung) s.views id v b at) in
+      record {
+        whole = r.whole;
+        wide = r.wide;
+        deep = r.deep;
+        turns = omega (arith, total-set turn_of views other w gone there, total-set turn_of s.views id v b at, r.turns, none_w);
+        once = r.once;
+        free = r.free;
+        each = each_set r.whole views other gone (gone_fits r.whole)
+            (λ j u _ e. each_set r.whole s.views id b (joined_fits r.whole v w no_turn f h) (λ i y _ e'. r.each i y e') j u e);
+        placed = λ n below. omega (
+          arith,
+          total-set (holds n) views other w gone there,
+          total-set (holds n) s.views id v b at,
+          r.placed n below,
+          total-append (λ (p : ℕ × ℕ). cond (eqb p.0 n) 1 0) v.senders w.senders,
+        );
+        bell = r.bell ∙ ap (λ (n : ℕ). n % 18446744073709551616) (sym rings);
+      }
+
+  pub learns : (slots i id : ℕ) (m : Sat H K) → Allows (Turn key) slots id m i (λ n. n) (learned (step slots i 0 0 none) m)
+  learns slots i id m s r wide at small =
+      let f : Fits key r.whole m.0 = r.each id m.0 at in
+      (m.0, keeps, tt, unmoved s r i id m.1 m.0 m.0 at refl refl refl f, (refl, f.told, All-weaker (Counts r.whole m.0.seen) (λ p. made_in p.0 m.0.seen ≡ p.1) (λ p c. c.1) m.0.senders f.mine))
+
+  pub listens : (slots i id : ℕ) (m : Sat H K) → Allows (Turn key) slots id m i (λ n. n) (listened (step slots i 0 0 none) m)
+  listens slots i id m s r wide at small =
+      let f : Fits key r.whole m.0 = r.each id m.0 at in
+      let w : View (Queue H K) H = record m.0 { heard = get_or s.words i 0 } in
+      (w, keeps, tt, unmoved s r i id m.1 m.0 w at refl refl refl (record { constants = f.constants; seen = f.seen; told = f.told; below = f.below; mine = f.mine; turn = f.turn }), refl)
+
+  pub rings_it : (slots id : ℕ) (m : Sat H K) → Allows (Turn key) slots id m 1 (λ n. (n + 1) % 18446744073709551616) (rang (step slots 1 1 0 none) m)
+  rings_it slots id m s r wide at small =
+      let f : Fits key r.whole m.0 = r.each id m.0 at in
+      let w : View (Queue H K) H = record m.0 { rung = m.0.rung + 1 } in
+      let words_wide = r.wide in
+      let old : ℕ = get_or s.words 1 0 in
+      let new : ℕ = (old + 1) % 18446744073709551616 in
+      let before : ℕ = total (λ (x : View (Queue H K) H). x.rung) s.views in
+      let after : ℕ = total (λ (x : View (Queue H K) H). x.rung) (set s.views id w) in
+      let one_more : after ≡ before + 1 = omega (arith, total-set (λ (x : View (Queue H K) H). x.rung) s.views id m.0 w at) in
+      let here : get_or (set s.words 1 new) 1 0 ≡ new = get_or-set_same s.words 1 new 0 (omega arith) in
+      let apart : get_or (set s.words 1 new) 0 0 ≡ get_or s.words 0 0 = get_or-set_other s.words 1 0 new 0 (λ e. omega arith) in
+      let is : old ≡ before % 18446744073709551616 = r.bell in (
+        w,
+        keeps,
+        tt,
+        record {
+          whole = r.whole;
+          wide = length-set s.words 1 new ∙ r.wide;
+          deep = r.deep;
+          turns = omega (arith, total-set turn_of s.views id m.0 w at, r.turns, apart);
+          once = let o = r.once in omega (arith, apart);
+          free = λ e. r.free (sym apart ∙ e);
+          each = each_set r.whole s.views id w (record { constants = f.constants; seen = f.seen; told = f.told; below = f.below; mine = f.mine; turn = f.turn }) (λ j u _ e. r.each j u e);
+          placed = λ n below. omega (arith, total-set (holds n) s.views id m.0 w at, r.placed n below);
+          bell = here ∙ omega (arith, is, one_more);
+        },
+        refl,
+      )
+
+  -- the table as it is made
+  pub opens : (x : Queue H K) → IsStateOf key x → x.entries ≡ [] → Turn key (opening (0 ∷ 0 ∷ []) (Some x ∷ []) (opening_view key))
+  opens x constants empty = record {
+    whole = [];
+    wide = refl;
+    deep = refl;
+    turns = refl;
+    once = omega arith;
+    free = λ _. (x, refl, constants, empty);
+    each = first_only;
+    placed = λ n below. let once = (placed_from n 0 key.setting.senders).0 (omega arith) (omega arith) in omega (arith, once);
+    bell = refl;
+  }
+    where
+      fits : Fits {H = H} {K = K} key [] (opening_view key)
+      fits = record {
+        constants = λ c e. cc (e);
+        seen = prefix_self [];
+        told = All-nil (λ t. IsPrefix t []);
+        below = all_below 0 key.setting.senders (omega arith);
+        mine = no_calls 0 key.setting.senders;
+        turn = λ e. absurd (true≢false (sym e));
+      }
+        where
+          all_below : (from count : ℕ) → from + count ≤ key.setting.senders → All (IsBelow key) (numbers_from from count)
+          all_below from zero le = All-nil (IsBelow key)
+          all_below from (suc count) le = All-cons (IsBelow key) (from, 0) (numbers_from (suc from) count) (omega arith) (all_below (suc from) count (omega arith))
+
+          no_calls : (from count : ℕ) → All (Counts [] []) (numbers_from from count)
+          no_calls from zero = All-nil (Counts [] [])
+          no_calls from (suc count) = All-cons (Counts [] []) (from, 0) (numbers_from (suc from) count) (refl, refl) (no_calls (suc from) count)
+
+      first_only : (j : ℕ) (v : View (Queue H K) H) → get_elem? (opening_view key ∷ []) j ≡ some v → Fits key [] v
+      first_only zero v e = subst (Fits key []) (some-injective (opening_view key) v e) fits
+      first_only (suc j) v e = absurd (some-ne-none v (sym e))
+
+      placed_from : (n from count : ℕ) → (from ≤ n → n < from + count → total (λ (p : ℕ × ℕ). cond (eqb p.0 n) 1 0) (numbers_from from count) ≡ 1) × (n < from → total (λ (p : ℕ × ℕ). cond (eqb p.0 n) 1 0) (numbers_from from count) ≡ 0)
+      placed_from n from zero = ((λ a b. absurd (omega arith)), λ _. refl)
+      placed_from n from (suc count) =
+          let next = placed_from n (suc from) count in
+          dite (ℕ_discrete from n)
+          (λ is. let one : cond {A = ℕ} (eqb from n) 1 0 ≡ 1 = ap (λ b. cond {A = ℕ} b 1 0) (eq-eqb from n is) in ((λ a b. omega (arith, next.1 (omega arith))), λ a. absurd (omega arith)))
+          (λ apart. let no : cond {A = ℕ} (eqb from n) 1 0 ≡ 0 = ap (λ b. cond {A = ℕ} b 1 0) (ne_eqb from n apart) in ((λ a b. omega (arith, next.0 (omega arith) (omega arith))), λ a. omega (arith, next.1 (omega arith))))
+
+  all_zero : (f : View (Queue H K) H → ℕ) (views : List (View (Queue H K) H)) → ((j : ℕ) (u : View (Queue H K) H) → get_elem? views j ≡ some u → f u ≡ 0) → total f views ≡ 0
+  all_zero f [] none_of = refl
+  all_zero f (u ∷ us) none_of = omega (arith, none_of 0 u refl, all_zero f us (λ j x e. none_of (suc j) x e))
+
+  -- where one seat without the turn has all sender numbers, no seat has the turn
+  pub all_rest : (s : Board H K) (r : Turn key s) (id : ℕ) (v : View (Queue H K) H) → get_elem? s.views id ≡ some v → v.has_turn ≡ false → ((n : ℕ) → n < key.setting.senders → 0 < holds n v) → AtHome key r.whole s
+  all_rest s r id v at no_turn has_all = r.free (sym r.turns ∙ all_zero turn_of s.views none_of)
+    where
+      rests : (j : ℕ) (u : View (Queue H K) H) → get_elem? s.views j ≡ some u → j ≢ id → u.has_turn ≡ true → ⊥
+      rests j u there apart has =
+          let f : Fits key r.whole u = r.each j u there in
+          let some_sender = (f.turn has).1 in
+          let n : ℕ = (get_or u.senders 0 (0, 0)).0 in
+          let below : n < key.setting.senders = f.below 0 (0, 0) some_sender in
+          let here : 0 < holds n u = holds_at n u.senders 0 (0, 0) some_sender refl in
+          omega (arith, terms_le (holds n) s.views id j v u apart at there, r.placed n below, has_all n below)
+
+      by_cases : (j : ℕ) (u : View (Queue H K) H) → get_elem? s.views j ≡ some u → (b : Bool) → u.has_turn ≡ b → turn_of u ≡ 0
+      by_cases j u there false is = ap (λ b. cond {A = ℕ} b 1 0) is
+      by_cases j u there true is = dite (ℕ_discrete j id)
+          (λ e. let same : u ≡ v = some-injective u v (sym there ∙ (ap (get_elem? s.views) e ∙ at)) in ap (λ (x : View (Queue H K) H). turn_of x) same ∙ ap (λ b. cond {A = ℕ} b 1 0) no_turn)
+          (λ apart. absurd (rests j u there apart is))
+
+      none_of : (j : ℕ) (u : View (Queue H K) H) → get_elem? s.views j ≡ some u → turn_of u ≡ 0
+      none_of j u there = by_cases j u there u.has_turn refl
+
+  -- a new seat
+  pub sits : (slots i : ℕ) (m : Sat H K) → m.0 ≡ opening_view key → Enters (Turn key) slots i (λ n w. sat (step slots i 0 0 none) m n (w, []))
+  sits slots i m is s r wide small =
+      let u : View (Queue H K) H = bare m.0 in
+      let rings : total (λ (x : View (Queue H K) H). x.rung) (s.views ++ u ∷ []) ≡ total (λ (x : View (Queue H K) H). x.rung) s.views = omega (arith, total-append (λ (x : View (Queue H K) H). x.rung) s.views (u ∷ [])) in (
+        u,
+        record {
+          whole = r.whole;
+          wide = r.wide;
+          deep = r.deep;
+          turns = omega (arith, total-append turn_of s.views (u ∷ []), r.turns);
+          once = r.once;
+          free = r.free;
+          each = λ j x e. ⊎_elim (λ (t : get_elem? s.views j ≡ some x). r.each j x t) (λ (t : u ≡ x). subst (Fits key r.whole) t (bare_fits r.whole m.0 (ap (λ (v : View (Queue H K) H). v.constants) is))) (at_snoc s.views u x j e);
+          placed = λ n below. omega (arith, total-append (holds n) s.views (u ∷ []), r.placed n below);
+          bell = r.bell ∙ ap (λ (n : ℕ). n % 18446744073709551616) (sym rings);
+        },
+        refl,
+      )
+    where
+      bare_fits : (whole : List Entry) (v : View (Queue H K) H) → v.constants ≡ Some key → Fits key whole (bare v)
+      bare_fits whole v constants = record {
+        constants = λ c e. cc (e, constants);
+        seen = (whole, refl);
+        told = All-nil (λ t. IsPrefix t []);
+        below = All-nil (IsBelow key);
+        mine = All-nil (Counts whole []);
+        turn = λ e. absurd (true≢false (sym e));
+      }

@@ -1,0 +1,22 @@
+use Rattle.std.proofs.Common.{rules, ◌≡◌, ◌<◌, length, List, ◌∷◌, [], Some, Option, ap, sym, ◌∙◌, subst, ℕ}
+use Rattle.atomic_table.specs.Table.{rest}
+use Rattle.shared_queue.specs.Plays.{Sat}
+use Rattle.shared_queue.proofs.Turns.{takes_turn}
+use Rattle.shared_queue.proofs.queue.SharedQueue.try_take.Goals as goal
+
+pub compare_exchange-requires : goal.compare_exchange-requires
+compare_exchange-requires g c =
+    let M : Type 0 = Sat g.row.K-Home.Denot g.row.K.Denot in
+    let m : M = c.loop.seat.me in
+    let same = c.loop.invariant.2 in (
+      search rules,
+      search rules,
+      takes_turn c.self.inside.table.shared.key _ _ m (subst (λ (z : M). 0 < length z.0.senders) (sym same) c.requires.rests.1),
+    )
+
+pub exchange-requires : goal.exchange-requires
+exchange-requires g c =
+    let M : Type 0 = Sat g.row.K-Home.Denot g.row.K.Denot in
+    let won = c.compare_exchange.ensures.2.0 c.if-compare_exchange-eq0.true in
+    let carries = ap (λ (z : M). z.1) won.1 in
+    (search rules, (Some won.0, carries ∙ ap (λ l. (0, Some won.0) ∷ rest l) (sym carries)))

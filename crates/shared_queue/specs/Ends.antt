@@ -1,0 +1,61 @@
+-- All posters of a queue, as it is made and as it ends.
+use Rattle.std.specs.Prelude.{◌≡◌, ℕ, ◌-◌, ◌<◌, List, [], ◌∷◌, ◌++◌, map, length, slice_index_or, Option}
+use mathlib.Core.List.{IsPrefix}
+use Rattle.atomic_table.specs.Table.{Me}
+use Rattle.loop_model.specs.declared.entry.Entry.{Entry}
+use Rattle.loop_model.specs.Base.{empty_base}
+use Rattle.loop_model.specs.Legal.{IsLegal, AreNumbered}
+use Rattle.loop_model.specs.Live.{live_in_order}
+use Rattle.loop_model.specs.Answers.{Setting}
+use Rattle.message_slot.specs.Letter.{Letter}
+use Rattle.when_queue.specs.Queue.{items_of}
+use Rattle.queue_state.specs.Queue.{Queue}
+use Rattle.shared_queue.specs.declared.view.View.{View}
+use Rattle.shared_queue.specs.Constants.{Constants, made_in}
+use Rattle.shared_queue.specs.Turn.{opening_view, numbers_from, keeping}
+use Rattle.shared_queue.specs.Known.{Shared, Known, IsOf, Rests, made_by}
+
+module _ {K : Type 0} where
+  -- a whole history, and the messages that it leaves
+  pub record IsSoundEnd (s : Setting) (entries : List Entry) (left : List (Letter K)) : Type 0 where
+    pub legal : IsLegal s (empty_base s.senders) entries
+    pub numbered : AreNumbered s (empty_base s.senders) entries
+    pub live : items_of left ≡ live_in_order (empty_base s.senders) entries
+
+module _ {H K : Type 0} where
+  -- poster k is of the queue, and its sender number is k
+  abbrev pub AreInOrder : Shared H → List (Known H K) → Type 0
+  AreInOrder q posters = (k : ℕ) (d : Known H K) → k < length posters → IsOf (slice_index_or posters k d) q × ((slice_index_or posters k d).sender ≡ k)
+
+  -- a poster that has done nothing
+  pub record IsNew (p : Known H K) : Type 0 where
+    pub made : made_by p ≡ 0
+    pub seen : p.view.seen ≡ []
+    pub turns : p.view.turns ≡ 0
+    pub rung : p.view.rung ≡ 0
+    pub heard : p.view.heard ≡ 0
+
+  abbrev pub AreNew : Shared H → List (Known H K) → Type 0
+  AreNew q posters = AreInOrder q posters × ((k : ℕ) (d : Known H K) → k < length posters → IsNew (slice_index_or posters k d))
+
+  -- the history begins with what each poster has seen, and has the entries of its sender that it has made, and no others
+  abbrev pub HasCalls : List Entry → List (Known H K) → Type 0
+  HasCalls entries posters = (k : ℕ) (d : Known H K) → k < length posters
+      → IsPrefix (slice_index_or posters k d).view.seen entries × (made_in (slice_index_or posters k d).sender entries ≡ made_by (slice_index_or posters k d))
+
+  -- the first seat, once the sender numbers below `sender` have seats of their own
+  abbrev pub undealt : Constants H → ℕ → View (Queue H K) H
+  undealt key sender = keeping (opening_view key) (numbers_from sender (key.setting.senders - sender))
+
+  -- the sender number of the poster, with the number of its entries
+  abbrev pub number_of : Known H K → ℕ × ℕ
+  number_of p = (p.sender, made_by p)
+
+  -- the view has taken in what the poster had
+  abbrev pub TakenIn : View (Queue H K) H → Known H K → View (Queue H K) H → Type 0
+  TakenIn v p w = (w.senders ≡ v.senders ++ number_of p ∷ []) × IsPrefix v.seen w.seen × IsPrefix p.view.seen w.seen
+
+  -- the seat has what all these posters had
+  abbrev pub Gathered : Shared H → List (Known H K) → Me (Option (Queue H K)) (View (Queue H K) H) → Type 0
+  Gathered q posters m = Rests q.constants m × (m.0.senders ≡ map number_of posters)
+      × ((k : ℕ) (d : Known H K) → k < length posters → IsPrefix (slice_index_or posters k d).view.seen m.0.seen)

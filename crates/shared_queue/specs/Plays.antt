@@ -1,0 +1,59 @@
+-- What each step tells: of the step, the seat before, the number found and the seat after.
+use Rattle.std.specs.Prelude.{◌≡◌, ◌≢◌, ℕ, ◌+◌, ◌<◌, ◌⊎◌, true, false, List, [], ◌∷◌, ◌++◌, length, All, Option, Some}
+use mathlib.Core.List.{IsPrefix}
+use Rattle.atomic_table.specs.Table.{Me, Step}
+use Rattle.loop_model.specs.declared.entry.Entry.{Entry}
+use Rattle.queue_state.specs.Queue.{Queue}
+use Rattle.shared_queue.specs.declared.view.View.{View}
+use Rattle.shared_queue.specs.Constants.{Constants, made_in, IsStateOf}
+use Rattle.shared_queue.specs.Turn.{holds, taking, giving, fresh}
+
+abbrev pub Sat : Type 0 → Type 0 → Type 0
+Sat H K = Me (Option (Queue H K)) (View (Queue H K) H)
+
+abbrev pub Play : Type 0 → Type 0 → Type 1
+Play H K = Step (Option (Queue H K)) → Sat H K → ℕ → Sat H K → Type 0
+
+-- the sender is one of the queue, and the history has as many entries of it as counted
+abbrev pub IsCounted : ℕ → List Entry → ℕ × ℕ → Type 0
+IsCounted senders history p = (p.0 < senders) × (made_in p.0 history ≡ p.1)
+
+module _ {H K : Type 0} where
+  -- the constants stay, and all else is empty
+  abbrev pub bare : View (Queue H K) H → View (Queue H K) H
+  bare v = fresh (record v { seen = []; heard = 0 }) []
+
+  abbrev pub sat : Play H K
+  sat st m r n = n.0 ≡ bare m.0
+
+  -- the state is one of the seat's queue
+  abbrev pub IsOwn : View (Queue H K) H → Queue H K → Type 0
+  IsOwn v x = (c : Constants H) → v.constants ≡ Some c → IsStateOf c x
+
+  -- the history begins with what was seen, and each sender of the view has as many entries in it as counted
+  abbrev pub Extends : View (Queue H K) H → Queue H K → Type 0
+  Extends v x = IsPrefix v.seen x.entries × All (IsCounted x.setting.senders x.entries) v.senders
+
+  -- the seat won the turn and the state, which has its constants and a history that it has seen the beginning of
+  abbrev pub Won : Sat H K → Sat H K → Type 0
+  Won m n = (x : Queue H K) × (n ≡ (taking m.0 x, (0, Some x) ∷ m.1)) × IsOwn m.0 x × Extends m.0 x
+
+  abbrev pub took : Play H K
+  took st m r n = (r ≡ 0 → Won m n) × (r ≢ 0 → n ≡ m)
+
+  abbrev pub gave : Play H K
+  gave st m r n = (x : Queue H K) → m.1 ≡ (0, Some x) ∷ [] → n ≡ (giving m.0 x, [])
+
+  -- the state may be given back: its history is what the seat has seen, or one entry more, of a sender of the seat
+  abbrev pub MayGive : View (Queue H K) H → Queue H K → Type 0
+  MayGive v x = (x.entries ≡ v.seen) ⊎ ((e : Entry) × (x.entries ≡ v.seen ++ e ∷ []) × (0 < holds e.sender v))
+
+  -- each list that the seat was told begins its own, which has all entries of its senders
+  abbrev pub learned : Play H K
+  learned st m r n = (n ≡ m) × All (λ t. IsPrefix t m.0.seen) m.0.told × All (λ p. made_in p.0 m.0.seen ≡ p.1) m.0.senders
+
+  abbrev pub rang : Play H K
+  rang st m r n = n ≡ (record m.0 { rung = m.0.rung + 1 }, m.1)
+
+  abbrev pub listened : Play H K
+  listened st m r n = n ≡ (record m.0 { heard = r }, m.1)

@@ -1,0 +1,49 @@
+// What a poster has, and the two ends of a turn.
+ghost use Rattle.std.specs.Prelude.{◌≡◌, Some};
+ghost use Rattle.queue_state.specs.Queue.{Queue};
+ghost use Rattle.shared_queue.specs.Desk.{IsIdle, Began, MayEnd, Ended};
+
+use crate::queue::SharedQueue;
+use crate::view::View;
+use atomic_table::Seat;
+use message_slot::Claim;
+use queue_state::QueueState;
+use std::sync::Wait;
+
+/// A seat with one sender number, and three numbers that its view has.
+#[derive(Drop)]
+pub struct Desk<S, H> {
+    pub(crate) seat: Seat<Option<S>, View<S, H>>,
+    pub(crate) sender: u32,
+    /// How many entries it has made.
+    pub(crate) made: u64,
+    /// How long the beginning of the history is that it has seen.
+    pub(crate) seen: u64,
+    /// What it read last on the bell.
+    pub(crate) heard: u64,
+}
+
+impl<K: Claim> Desk<QueueState<K>, K::Home> {
+    // Waits for the turn, and takes the state.
+    pub(crate) fn begin<R: Wait>(&mut self, rt: &R, queue: &SharedQueue<K>) -> QueueState<K>
+        requires queue { (self.old.seat.table_id ≡ queue.now.table) × (self.old.seat.me.0.constants ≡ Some queue.now.constants) }
+        requires idle { IsIdle self.old }
+        ensures { Began queue.now.constants self.old self.new result }
+    {
+        let state = queue.take(rt, &mut self.seat);
+        self.seen = state.entries().len() as u64;
+        state
+    }
+
+    // Gives the state back, with at most one more entry.
+    pub(crate) fn end(&mut self, queue: &SharedQueue<K>, state: QueueState<K>)
+        requires table { self.old.seat.table_id ≡ queue.now.table }
+        requires turn { MayEnd queue.now.constants self.old state }
+        ensures { Ended self.old self.new state }
+    {
+        let seen = state.entries().len() as u64;
+        queue.give(&mut self.seat, state);
+        self.made += seen - self.seen;
+        self.seen = seen;
+    }
+}

@@ -1,0 +1,20 @@
+//! A message queue that many threads call, one at a time: each has a seat at one table, and takes the turn.
+#![tactic(auto)]
+
+mod calls;
+mod desk;
+mod ends;
+mod looks;
+mod poster;
+mod queue;
+mod rule;
+mod view;
+
+pub use ends::Retired;
+pub use poster::Poster;
+pub use queue::SharedQueue;
+pub use rule::OneTurn;
+pub use view::{QueueKey, View};
+
+#[cfg(test)]
+mod tests;

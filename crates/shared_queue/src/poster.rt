@@ -1,0 +1,121 @@
+// One sender's way to a queue.
+ghost use Rattle.std.specs.Prelude.{◌≡◌, ◌+◌, false, [], ◌∷◌, length};
+ghost use mathlib.Core.List.{IsPrefix};
+ghost use Rattle.shared_queue.specs.Turn.{longer};
+ghost use Rattle.shared_queue.specs.Desk.{IsIdle};
+ghost use Rattle.shared_queue.specs.Known.{Known, IsOf, IsSame, made_by};
+
+use crate::desk::Desk;
+use crate::queue::{Place, SharedQueue};
+use crate::rule::{Both, Learn, Listen, Note, Ring};
+use message_slot::Claim;
+use queue_state::QueueState;
+use std::marker::Model;
+
+/// A seat at the table of one queue, with one sender number.
+#[derive(Drop)]
+pub struct Poster<K: Claim> {
+    pub(crate) desk: Desk<QueueState<K>, K::Home>,
+}
+
+impl<K: Claim> Model for Poster<K> {
+    ghost Value = { Known K.Home K };
+
+    ghost view = { λ p. record { table = p.desk.seat.table_id; sender = p.desk.sender; view = p.desk.seat.me.0 } };
+
+    ghost invariant = { λ p. IsIdle p.desk };
+}
+
+impl<K: Claim> Poster<K> {
+    // A poster that has done nothing.
+    pub(crate) fn of(seat: Place<K>, sender: u32) -> Poster<K>
+        requires rests { (seat.me.0.has_turn ≡ false) × (seat.me.1 ≡ []) }
+        requires new { (seat.me.0.senders ≡ (sender, 0) ∷ []) × (seat.me.0.seen ≡ []) × (seat.me.0.heard ≡ 0) }
+        ensures { (result.table ≡ seat.table_id) × (result.sender ≡ sender) × (result.view ≡ seat.me.0) }
+    {
+        Poster {
+            desk: Desk {
+                seat,
+                sender,
+                made: 0,
+                seen: 0,
+                heard: 0,
+            },
+        }
+    }
+
+    pub(crate) fn into_seat(self) -> Place<K>
+        ensures { (result.table_id ≡ self.table) × (result.me.0 ≡ self.view) × (result.me.0.has_turn ≡ false) × (result.me.1 ≡ []) × (result.me.0.senders ≡ (self.sender, made_by self) ∷ []) }
+    {
+        let Poster { desk } = self;
+        let Desk {
+            seat,
+            sender: _,
+            made: _,
+            seen: _,
+            heard: _,
+        } = desk;
+        seat
+    }
+
+    /// Its number among the senders of the queue.
+    pub fn sender(&self) -> u32
+        ensures { result ≡ self.now.sender }
+    {
+        self.desk.sender
+    }
+
+    /// How many entries of the history it has made.
+    pub fn made(&self) -> u64
+        ensures { result ≡ made_by self.now }
+    {
+        self.desk.made
+    }
+
+    /// How long the beginning of the history is that it has seen. All entries that it made stand there.
+    pub fn seen(&self) -> u64
+        ensures { result ≡ length self.now.view.seen }
+    {
+        self.desk.seen
+    }
+
+    /// Takes in what the other poster has seen. It takes no turn.
+    pub fn hear(&mut self, queue: &SharedQueue<K>, other: &mut Poster<K>)
+        requires { IsOf self.old queue.now × IsOf other.old queue.now }
+        ensures seen { self.new.view.seen ≡ longer self.old.view.seen other.old.view.seen }
+        ensures begins { IsPrefix self.old.view.seen self.new.view.seen × IsPrefix other.old.view.seen self.new.view.seen }
+        ensures same { IsSame self.old self.new × (self.new.view.rung ≡ self.old.view.rung) × (self.new.view.heard ≡ self.old.view.heard) }
+        ensures other { other.new ≡ other.old }
+    {
+        let note = queue.table.shared.split_seat::<Note>(&mut other.desk.seat);
+        queue
+            .table
+            .shared
+            .join_seat::<Both>(&mut self.desk.seat, note);
+        queue.table.shared.load::<Learn>(&mut self.desk.seat, 0);
+        self.desk.seen = self.desk.seen.max(other.desk.seen);
+    }
+
+    /// Rings the bell, which ends the wait of the queue's looper. It takes no turn.
+    pub fn nudge(&mut self, queue: &SharedQueue<K>)
+        requires { IsOf self.old queue.now }
+        ensures rung { self.new.view.rung ≡ self.old.view.rung + 1 }
+        ensures same { IsSame self.old self.new × (self.new.view.seen ≡ self.old.view.seen) × (self.new.view.heard ≡ self.old.view.heard) }
+    {
+        queue
+            .table
+            .shared
+            .fetch_add::<Ring>(&mut self.desk.seat, 1, 1);
+    }
+
+    // Reads the bell.
+    pub(crate) fn listen(&mut self, queue: &SharedQueue<K>) -> u64
+        requires { IsOf self.old queue.now }
+        ensures heard { self.new.view.heard ≡ result }
+        ensures same { IsSame self.old self.new × (self.new.view.seen ≡ self.old.view.seen) × (self.new.view.rung ≡ self.old.view.rung) }
+    {
+        let bell = queue.table.shared.load::<Listen>(&mut self.desk.seat, 1);
+        self.desk.heard = bell;
+        bell
+    }
+}

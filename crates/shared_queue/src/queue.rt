@@ -1,0 +1,92 @@
+// The table of a queue, and the two steps of a turn.
+ghost use Rattle.std.specs.Prelude.{◌≡◌, ◌<◌, true, false, [], ◌∷◌, length, Option, Some, None, MatchOption};
+ghost use Rattle.queue_state.specs.Queue.{Queue};
+ghost use Rattle.shared_queue.specs.Constants.{Constants, IsStateOf};
+ghost use Rattle.shared_queue.specs.Turn.{taking, giving};
+ghost use Rattle.shared_queue.specs.Plays.{MayGive};
+ghost use Rattle.shared_queue.specs.Known.{Shared, Rests};
+ghost use Rattle.shared_queue.specs.Seats.{HasTaken};
+
+use crate::rule::{Give, OneTurn, Take};
+use crate::view::{QueueKey, View};
+use atomic_table::{Seat, Table};
+use message_slot::Claim;
+use queue_state::QueueState;
+use std::alloc::Global;
+use std::hint::spin_loop;
+use std::marker::Model;
+use std::sync::Wait;
+use std::thread::yield_now;
+
+/// How often the turn is tried for before another thread may run.
+const TRIES: u32 = 64;
+
+pub(crate) type Board<K> = Table<
+    Option<QueueState<K>>,
+    View<QueueState<K>, <K as Claim>::Home>,
+    QueueKey<<K as Claim>::Home>,
+    OneTurn,
+    Global,
+>;
+
+pub(crate) type Place<K> = Seat<Option<QueueState<K>>, View<QueueState<K>, <K as Claim>::Home>>;
+
+/// A message queue that posters call in turns.
+#[derive(Drop)]
+pub struct SharedQueue<K: Claim> {
+    pub(crate) table: Board<K>,
+    pub(crate) key: QueueKey<K::Home>,
+}
+
+impl<K: Claim> Model for SharedQueue<K> {
+    ghost Value = { Shared K.Home };
+
+    ghost view = { λ s. record { table = s.table.shared.table_id; constants = s.table.shared.key } };
+
+    ghost invariant = { λ s. (s.table.shared.table_id.words ≡ 2) × (s.table.shared.table_id.slots ≡ 1) × (s.key ≡ s.table.shared.key) };
+}
+
+impl<K: Claim> SharedQueue<K> {
+    // Tries for the turn some times in a row, and takes the state out.
+    fn try_take(&self, seat: &mut Place<K>) -> Option<QueueState<K>>
+        requires table { seat.old.table_id ≡ self.now.table }
+        requires rests { Rests self.now.constants seat.old.me × (0 < length seat.old.me.0.senders) }
+        ensures seat { (seat.new.table_id ≡ seat.old.table_id) × (seat.new.id ≡ seat.old.id) }
+        ensures taken { MatchOption result (seat.new.me ≡ seat.old.me) (λ x. HasTaken self.now.constants seat.old.me seat.new.me x) }
+    {
+        for _ in 0..TRIES {
+            if self.table.shared.compare_exchange::<Take>(seat, 0, 0, 1) == 0 {
+                return self.table.shared.exchange(seat, 0, None);
+            }
+            spin_loop();
+        }
+        None
+    }
+
+    // Waits for the turn, and takes the state out.
+    pub(crate) fn take<R: Wait>(&self, rt: &R, seat: &mut Place<K>) -> QueueState<K>
+        requires table { seat.old.table_id ≡ self.now.table }
+        requires rests { Rests self.now.constants seat.old.me × (0 < length seat.old.me.0.senders) }
+        ensures seat { (seat.new.table_id ≡ seat.old.table_id) × (seat.new.id ≡ seat.old.id) }
+        ensures taken { HasTaken self.now.constants seat.old.me seat.new.me result }
+    {
+        for _ in rt.forever() {
+            if let Some(state) = self.try_take(seat) {
+                return state;
+            }
+            yield_now();
+        }
+        unreachable!()
+    }
+
+    // Puts the state back, and gives the turn up.
+    pub(crate) fn give(&self, seat: &mut Place<K>, state: QueueState<K>)
+        requires table { seat.old.table_id ≡ self.now.table }
+        requires turn { (seat.old.me.0.has_turn ≡ true) × (seat.old.me.1 ≡ (0, None) ∷ []) }
+        requires state { IsStateOf self.now.constants state × MayGive seat.old.me.0 state }
+        ensures { (seat.new.table_id ≡ seat.old.table_id) × (seat.new.id ≡ seat.old.id) × (seat.new.me ≡ (giving seat.old.me.0 state, [])) }
+    {
+        drop(self.table.shared.exchange(seat, 0, Some(state)));
+        self.table.shared.store::<Give>(seat, 0, 0);
+    }
+}

@@ -1,0 +1,83 @@
+// The rule of the table, and the names of its steps.
+ghost use Rattle.std.specs.Prelude.{[], take, drop};
+ghost use Rattle.shared_queue.specs.Turn.{Turn, opening_view, fresh, keeping, joined, gone};
+ghost use Rattle.shared_queue.specs.Plays.{sat, took, gave, learned, rang, listened};
+
+use crate::view::{QueueKey, View};
+use atomic_table::{Join, Play, Split, TableRule};
+use message_slot::Claim;
+use queue_state::QueueState;
+
+/// One seat at a time has the turn, and with it the state.
+pub struct OneTurn;
+
+impl<K: Claim> TableRule<Option<QueueState<K>>, View<QueueState<K>, K::Home>, QueueKey<K::Home>>
+    for OneTurn {
+    ghost holds = { Turn };
+
+    ghost first = { opening_view };
+}
+
+/// A new seat, which has no sender number and has seen nothing.
+pub(crate) struct Sit;
+
+impl<K: Claim> Play<Option<QueueState<K>>, View<QueueState<K>, K::Home>> for Sit {
+    ghost then = { sat };
+}
+
+pub(crate) struct Take;
+
+impl<K: Claim> Play<Option<QueueState<K>>, View<QueueState<K>, K::Home>> for Take {
+    ghost then = { took };
+}
+
+pub(crate) struct Give;
+
+impl<K: Claim> Play<Option<QueueState<K>>, View<QueueState<K>, K::Home>> for Give {
+    ghost then = { gave };
+}
+
+/// Tells that what the seat was told begins what it has seen.
+pub(crate) struct Learn;
+
+impl<K: Claim> Play<Option<QueueState<K>>, View<QueueState<K>, K::Home>> for Learn {
+    ghost then = { learned };
+}
+
+pub(crate) struct Ring;
+
+impl<K: Claim> Play<Option<QueueState<K>>, View<QueueState<K>, K::Home>> for Ring {
+    ghost then = { rang };
+}
+
+pub(crate) struct Listen;
+
+impl<K: Claim> Play<Option<QueueState<K>>, View<QueueState<K>, K::Home>> for Listen {
+    ghost then = { listened };
+}
+
+/// The new seat has the first sender number.
+pub(crate) struct Deal;
+
+impl<K: Claim> Split<View<QueueState<K>, K::Home>> for Deal {
+    ghost left = { λ v. keeping v (drop 1 v.senders) };
+
+    ghost right = { λ v. fresh v (take 1 v.senders) };
+}
+
+/// The new seat knows what the old one has seen, and has no sender number.
+pub(crate) struct Note;
+
+impl<K: Claim> Split<View<QueueState<K>, K::Home>> for Note {
+    ghost left = { λ v. v };
+
+    ghost right = { λ v. fresh v [] };
+}
+
+pub(crate) struct Both;
+
+impl<K: Claim> Join<View<QueueState<K>, K::Home>> for Both {
+    ghost both = { joined };
+
+    ghost spent = { gone };
+}

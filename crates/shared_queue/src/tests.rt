@@ -1,0 +1,224 @@
+ghost use Rattle.std.specs.Prelude.{◌≡◌, ◌+◌, IfOk, None};
+ghost use Rattle.std.specs.Thread.{IsSync};
+ghost use Rattle.loop_model.specs.Items.{is_barrier};
+ghost use Rattle.shared_queue.specs.Known.{IsOf};
+
+use crate::{Poster, Retired, SharedQueue};
+use loop_model::{Entry, Filter, Kind, NoMemory, Post};
+use message_list::new_node;
+use message_slot::{Message, NoClaim};
+use queue_state::{Advancing, BarrierGone, BarrierPosted, Halting, Nexted, Posted, Quitting, Taking};
+use std::alloc::Global;
+use std::sync::Wait;
+use std::test::Fail;
+use std::thread;
+use std::thread::{Threads, yield_now};
+use when_queue::MsgNode;
+
+const POSTS: u32 = 1000;
+
+const ALL: Filter = Filter {
+    handler: 1,
+    kind: Kind::All,
+    obj: None,
+};
+
+// A message with a target, due at 5.
+fn message(alloc: Global, what: u32) -> Result<MsgNode<NoClaim>, NoMemory>
+    ensures { IfOk result (λ m. (is_barrier m.item ≡ false) × (m.claim ≡ None)) }
+{
+    let mut message = Message::blank();
+    message.set_post(&Post {
+        handler: 1,
+        what,
+        arg: 0,
+        obj: None,
+        callback: None,
+        when: 5,
+        asynchronous: false,
+        slot: None,
+    });
+    match new_node(alloc, message) {
+        Ok(node) => Ok(node),
+        Err(_) => Err(NoMemory),
+    }
+}
+
+// Posts a message; whether it was accepted.
+fn send<R: Wait>(
+    rt: &R,
+    alloc: Global,
+    queue: &SharedQueue<NoClaim>,
+    poster: &mut Poster<NoClaim>,
+    what: u32,
+) -> bool
+    requires { IsOf poster.old queue.now }
+    ensures { IsOf poster.new queue.now × (poster.new.sender ≡ poster.old.sender) }
+{
+    let Ok(node) = message(alloc, what) else {
+        return false
+    };
+    matches!(poster.post(rt, queue, node), Posted::Accepted { .. })
+}
+
+#[test]
+fn one_hears_the_other(rt: HostRuntime) -> Result<(), Fail> {
+    let alloc = rt.alloc();
+    let (queue, mut posters) = SharedQueue::<NoClaim>::make(alloc, (), 1, false, true, 2)?;
+    let (Some(mut second), Some(mut first)) = (posters.pop(), posters.pop()) else {
+        panic!(rt; "two posters were made")
+    };
+    assert!(rt; send(&rt, alloc, &queue, &mut first, 7));
+    assert!(rt; first.made() == 1 && first.seen() == 1);
+    assert!(rt; send(&rt, alloc, &queue, &mut second, 8));
+    assert!(rt; second.made() == 1 && second.seen() == 2);
+    first.hear(&queue, &mut second);
+    assert!(rt; first.made() == 1 && first.seen() == 2);
+    Ok(())
+}
+
+fn post_many<R: Wait>(
+    rt: &R,
+    alloc: Global,
+    queue: &SharedQueue<NoClaim>,
+    poster: &mut Poster<NoClaim>,
+)
+    requires { IsOf poster.old queue.now }
+    ensures { IsOf poster.new queue.now × (poster.new.sender ≡ poster.old.sender) }
+{
+    for what in 0..POSTS {
+        send(rt, alloc, queue, poster, what);
+    }
+}
+
+// Looks until a message is there.
+fn take_one<R: Wait>(rt: &R, queue: &SharedQueue<NoClaim>, poster: &mut Poster<NoClaim>)
+    requires { IsOf poster.old queue.now }
+    ensures { IsOf poster.new queue.now × (poster.new.sender ≡ poster.old.sender) }
+{
+    for _ in rt.forever() {
+        if matches!(poster.next(rt, queue, 10, false), Nexted::Taken { .. }) {
+            return;
+        }
+        yield_now();
+    }
+}
+
+fn take_many<R: Wait>(rt: &R, queue: &SharedQueue<NoClaim>, poster: &mut Poster<NoClaim>)
+    requires { IsOf poster.old queue.now }
+    ensures { IsOf poster.new queue.now × (poster.new.sender ≡ poster.old.sender) }
+{
+    for _ in 0..2 * POSTS {
+        take_one(rt, queue, poster);
+    }
+}
+
+// The first two post, and the third takes.
+fn work<R: Wait>(
+    rt: &R,
+    alloc: Global,
+    queue: &SharedQueue<NoClaim>,
+    poster: &mut Poster<NoClaim>,
+    place: usize,
+)
+    requires { IsOf poster.old queue.now }
+    ensures { IsOf poster.new queue.now × (poster.new.sender ≡ poster.old.sender) }
+{
+    if place < 2 {
+        post_many(rt, alloc, queue, poster);
+    } else {
+        take_many(rt, queue, poster);
+    }
+}
+
+fn worked<R: Threads + Wait + Sync>(rt: &R, alloc: Global) -> Result<Retired<NoClaim>, NoMemory> {
+    let (queue, mut posters) = SharedQueue::<NoClaim>::make(alloc, (), 1, false, false, 3)?;
+    thread::for_each_mut(
+        rt,
+        posters.as_mut_slice(),
+        3,
+        &|i, poster: &mut Poster<NoClaim>|
+            requires { IsSync R.row × IsOf poster.old queue }
+            ensures { IsOf poster.new queue × (poster.new.sender ≡ poster.old.sender) }
+        { work(rt, alloc, &queue, poster, i) },
+    );
+    Ok(queue.retire(posters))
+}
+
+// Whether the entries of the sender are numbered in order.
+fn in_order(entries: &[Entry], sender: u32) -> bool {
+    entries
+        .iter()
+        .filter(|entry| entry.sender == sender)
+        .enumerate()
+        .all(|(i, entry)| entry.seq == i as u64)
+}
+
+fn count(entries: &[Entry], sender: u32) -> usize {
+    entries.iter().filter(|entry| entry.sender == sender).count()
+}
+
+#[test]
+fn two_threads_post_and_a_third_takes(rt: HostRuntime) -> Result<(), Fail> {
+    let retired = worked(&rt, rt.alloc())?;
+    let entries = retired.kept.entries.as_slice();
+    assert!(rt; entries.len() == 4000 && retired.left.len() == 0);
+    assert!(rt; count(entries, 0) == 1000 && count(entries, 1) == 1000 && count(entries, 2) == 2000);
+    assert!(rt; in_order(entries, 0) && in_order(entries, 1) && in_order(entries, 2));
+    assert!(rt; retired.kept.looper == 1 && !retired.kept.main && retired.kept.senders == 3);
+    Ok(())
+}
+
+// A queue in lockstep with one poster, which is its controller too.
+fn alone(
+    alloc: Global,
+    main: bool,
+) -> Result<(SharedQueue<NoClaim>, Poster<NoClaim>), NoMemory>
+    ensures queue { IfOk result (λ r. r.0.constants.setting ≡ record { main = main; lockstep = true; senders = 1 }) }
+    ensures poster { IfOk result (λ r. IsOf r.1 r.0 × (r.1.sender ≡ 0)) }
+{
+    let (queue, mut posters) = SharedQueue::make(alloc, (), 0, main, true, 1)?;
+    let poster = posters.pop().unwrap();
+    Ok((queue, poster))
+}
+
+#[test]
+fn time_moves_and_stops(rt: HostRuntime) -> Result<(), Fail> {
+    let (queue, mut poster) = alone(rt.alloc(), true)?;
+    assert!(rt; matches!(poster.advance(&rt, &queue, 5), Advancing::Advanced));
+    assert!(rt; poster.time(&rt, &queue) == 5);
+    assert!(rt; matches!(poster.quit(&rt, &queue, false, 5), Quitting::NotAllowed));
+    assert!(rt; matches!(poster.halt(&rt, &queue, 5), Halting::Halted));
+    Ok(())
+}
+
+#[test]
+fn a_removal_empties(rt: HostRuntime) -> Result<(), Fail> {
+    let (queue, mut poster) = alone(rt.alloc(), false)?;
+    assert!(rt; send(&rt, rt.alloc(), &queue, &mut poster, 7));
+    assert!(rt; poster.has(&rt, &queue, &ALL));
+    assert!(rt; matches!(poster.remove(&rt, &queue, &ALL), Taking::Removed(_)));
+    assert!(rt; !poster.has(&rt, &queue, &ALL));
+    Ok(())
+}
+
+#[test]
+fn a_barrier_comes_and_goes(rt: HostRuntime) -> Result<(), Fail> {
+    let (queue, mut poster) = alone(rt.alloc(), false)?;
+    poster.nudge(&queue);
+    let node = message(rt.alloc(), 0)?;
+    assert!(rt;
+        matches!(
+            poster.post_barrier(&rt, &queue, 0, node),
+            BarrierPosted::Token { token: 0 }
+        )
+    );
+    assert!(rt;
+        matches!(
+            poster.remove_barrier(&rt, &queue, 0),
+            BarrierGone::Unbarriered { .. }
+        )
+    );
+    assert!(rt; poster.made() == 2);
+    Ok(())
+}

@@ -1,0 +1,46 @@
+// What a seat at the table of a queue knows.
+use loop_model::Entry;
+use std::collections::LinkedList;
+use std::marker::Model;
+use std::snapshot::Snapshot;
+
+/// What stays the same in a queue.
+#[derive(Drop)]
+pub struct QueueKey<H> {
+    pub(crate) home: Snapshot<H>,
+    pub(crate) looper: u32,
+    pub(crate) main: bool,
+    pub(crate) lockstep: bool,
+    pub(crate) senders: u32,
+}
+
+impl<H> Model for QueueKey<H> {
+    ghost use Rattle.shared_queue.specs.Constants.{Constants};
+
+    ghost Value = { Constants H };
+
+    ghost view = { λ k. record { home = k.home.value; looper = k.looper; setting = record { main = k.main; lockstep = k.lockstep; senders = k.senders } } };
+}
+
+/// No value of it is made.
+pub struct View<S, H> {
+    /// The constants of its queue, or none once its seat was joined into another.
+    pub constants: Option<QueueKey<H>>,
+    /// Its sender numbers, each with the number of that sender's entries.
+    pub senders: LinkedList<(u32, u64)>,
+    /// The beginning of the history that it has seen.
+    pub seen: LinkedList<Entry>,
+    /// Beginnings that it was told of.
+    pub told: LinkedList<LinkedList<Entry>>,
+    pub has_turn: bool,
+    /// How many turns it had.
+    pub turns: u64,
+    /// The state that its last turn found.
+    pub found: Option<S>,
+    /// The state that its last turn left.
+    pub left: Option<S>,
+    /// How often it rang the bell.
+    pub rung: u64,
+    /// What it read last on the bell.
+    pub heard: u64,
+}
