@@ -1,0 +1,4 @@
+pub mod Supply
+pub mod Ways
+pub mod Forms
+pub mod Sends

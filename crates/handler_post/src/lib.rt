@@ -1,0 +1,11 @@
+//! Handlers: the forms in which a thread sends messages to a queue, and removes them.
+//!
+//! Each form obtains its message from the pool before it takes the queue's turn, and makes one call on the queue.
+#![tactic(auto)]
+
+mod handler;
+mod supply;
+mod way;
+
+pub use handler::Handler;
+pub use way::{Erased, Sent, Way};
