@@ -1,0 +1,141 @@
+-- The parser takes each spelling of a command, and finds that command.
+use Rattle.std.proofs.Common.{◌≡◌, ◌⊎◌, ◌+◌, ◌-◌, ◌≤◌, ◌<◌, ◌^◌, ℕ, zero, suc, List, [], ◌∷◌, refl, codes, true, Some, length, slice_index, arith, sym, subst, inl, inr, ap, ◌∙◌, Option, Result, Ok}
+use Rattle.std.specs.Fmt.{decimal}
+use Rattle.std.proofs.lemmas.Fmt.{decimal_is_IsNumeral}
+use Rattle.std.proofs.lemmas.Str.Parse.{digit_at, numerals_by_value, parse_gives, tells_digits}
+use Rattle.clap.specs.Words.{App, Row, first_of, is_simple, one_of, subcommand_of, takes}
+use Rattle.clap.specs.declared.error.ErrorKind.{ErrorKind}
+use Rattle.clap.specs.declared.error.ErrorKind.TheVariants.{OutOfMemory}
+use Rattle.std.specs.Str.Parse.{AllDigits, ParsesUnsigned, digits_value}
+use Rattle.clap.proofs.OnLiterals.{clap_on_literals}
+use Rattle.dashboard_cli.specs.CommandLine.{dashboard_app, HasNumber, HasRows, IsFound, name_of}
+use Rattle.dashboard_cli.specs.Words.{IsInRange, IsListed, IsSpelled}
+use Rattle.std.specs.Prelude.{IfNone, IsSomeAnd, None, unwrap_or}
+use Rattle.dashboard_cli.specs.declared.words.Command.{Command}
+use Rattle.dashboard_cli.specs.declared.words.Command.TheVariants.{Run, Text, Make, MakeRun}
+
+-- the parser takes the words, and finds the command in them
+pub record IsParsed (words : List (List ℕ)) (Found : Type 0) : Type 0 where
+  pub taken : takes dashboard_app words ≡ true
+  pub found : Found
+
+abbrev Finds : Command → List (List ℕ) → Type 0
+Finds command words = IsParsed words (IsFound command (subcommand_of dashboard_app words))
+
+abbrev Makes : List ℕ → List ℕ → List (List ℕ) → Type 0
+Makes number runs words = IsParsed words (IsSomeAnd (subcommand_of dashboard_app words) (λ f. (f.0 ≡ codes "make") × HasNumber number runs f.1))
+
+-- the three ways to write `make` with a number
+abbrev MakesAll : List ℕ → Type 0
+MakesAll t = Makes t (codes "false") (codes "make" ∷ t ∷ []) × Makes t (codes "true") (codes "make" ∷ t ∷ codes "--run" ∷ [])
+    × Makes t (codes "true") (codes "make" ∷ codes "--run" ∷ t ∷ [])
+
+makes_from : (k : ℕ) (ds : List ℕ) → k < 10 → MakesAll ((48 + k) ∷ ds)
+unfolding clap_on_literals
+makes_from zero ds h =
+    (record { taken = refl; found = (refl, (refl, refl)) }, record { taken = refl; found = (refl, (refl, refl)) }, record { taken = refl; found = (refl, (refl, refl)) })
+makes_from (suc zero) ds h =
+    (record { taken = refl; found = (refl, (refl, refl)) }, record { taken = refl; found = (refl, (refl, refl)) }, record { taken = refl; found = (refl, (refl, refl)) })
+makes_from (suc (suc zero)) ds h =
+    (record { taken = refl; found = (refl, (refl, refl)) }, record { taken = refl; found = (refl, (refl, refl)) }, record { taken = refl; found = (refl, (refl, refl)) })
+makes_from (suc (suc (suc zero))) ds h =
+    (record { taken = refl; found = (refl, (refl, refl)) }, record { taken = refl; found = (refl, (refl, refl)) }, record { taken = refl; found = (refl, (refl, refl)) })
+makes_from (suc (suc (suc (suc zero)))) ds h =
+    (record { taken = refl; found = (refl, (refl, refl)) }, record { taken = refl; found = (refl, (refl, refl)) }, record { taken = refl; found = (refl, (refl, refl)) })
+makes_from (suc (suc (suc (suc (suc zero))))) ds h =
+    (record { taken = refl; found = (refl, (refl, refl)) }, record { taken = refl; found = (refl, (refl, refl)) }, record { taken = refl; found = (refl, (refl, refl)) })
+makes_from (suc (suc (suc (suc (suc (suc zero)))))) ds h =
+    (record { taken = refl; found = (refl, (refl, refl)) }, record { taken = refl; found = (refl, (refl, refl)) }, record { taken = refl; found = (refl, (refl, refl)) })
+makes_from (suc (suc (suc (suc (suc (suc (suc zero))))))) ds h =
+    (record { taken = refl; found = (refl, (refl, refl)) }, record { taken = refl; found = (refl, (refl, refl)) }, record { taken = refl; found = (refl, (refl, refl)) })
+makes_from (suc (suc (suc (suc (suc (suc (suc (suc zero)))))))) ds h =
+    (record { taken = refl; found = (refl, (refl, refl)) }, record { taken = refl; found = (refl, (refl, refl)) }, record { taken = refl; found = (refl, (refl, refl)) })
+makes_from (suc (suc (suc (suc (suc (suc (suc (suc (suc zero))))))))) ds h =
+    (record { taken = refl; found = (refl, (refl, refl)) }, record { taken = refl; found = (refl, (refl, refl)) }, record { taken = refl; found = (refl, (refl, refl)) })
+makes_from (suc (suc (suc (suc (suc (suc (suc (suc (suc (suc k)))))))))) ds h = absurd (omega arith)
+
+makes_text : (t : List ℕ) → 0 < length t → 48 ≤ slice_index t 0 → slice_index t 0 ≤ 57 → MakesAll t
+makes_text [] some low high = absurd (omega arith)
+makes_text (d ∷ ds) some low high =
+    let same : 48 + (d - 48) ≡ d = omega arith in
+    subst (λ (x : ℕ). MakesAll (x ∷ ds)) same (makes_from (d - 48) ds (omega arith))
+
+pub is_simple_app : is_simple dashboard_app ≡ true
+unfolding clap_on_literals
+is_simple_app = refl
+
+pub finds_run : Finds Run (codes "run" ∷ [])
+unfolding clap_on_literals
+finds_run = record { taken = refl; found = (refl, tt) }
+
+pub finds_text : Finds Text (codes "text" ∷ [])
+unfolding clap_on_literals
+finds_text = record { taken = refl; found = (refl, tt) }
+
+makes_number : (number : ℕ) → number < 2 ^ 32 → MakesAll (decimal number)
+makes_number number small =
+    let numeral = (decimal_is_IsNumeral number (omega (arith, small))).0 in
+    let first = digit_at (decimal number) 0 numeral.1 numeral.0 in
+    makes_text (decimal number) numeral.0 first.0 first.1
+
+-- each spelling of a command is taken, and that command is found
+pub finds : (command : Command) (words : List (List ℕ)) → IsInRange command → IsSpelled command words → Finds command words
+finds Run words fits is = subst (Finds Run) (sym is) finds_run
+finds Text words fits is = subst (Finds Text) (sym is) finds_text
+finds (Make number) words fits is = subst (Finds (Make number)) (sym is) (makes_number number fits).0
+finds (MakeRun number) words fits (inl is) = subst (Finds (MakeRun number)) (sym is) (makes_number number fits).1
+finds (MakeRun number) words fits (inr is) = subst (Finds (MakeRun number)) (sym is) (makes_number number fits).2
+
+-- ---- what the program reads of the matches
+
+-- the matches of `make` have its number, and its flag tells which of the two it is
+pub record IsMake (command : Command) (rows : List Row) : Type 0 where
+  pub number : ℕ
+  pub small : number < 2 ^ 32
+  pub text : first_of (codes "number") rows ≡ Some (decimal number)
+  pub flag : ((command ≡ Make number) × (one_of (codes "run") rows ≡ Some (codes "false")))
+      ⊎ ((command ≡ MakeRun number) × (one_of (codes "run") rows ≡ Some (codes "true")))
+
+pub is_make : (command : Command) (rows : List Row) → IsInRange command → name_of command ≡ codes "make" → HasRows command rows → IsMake command rows
+is_make Run rows fits named has = let bad : ◌≡◌ {A = ℕ} 114 109 = ap (λ (t : List ℕ). slice_index t 0) named in absurd (omega arith)
+is_make Text rows fits named has = let bad : ◌≡◌ {A = ℕ} 116 109 = ap (λ (t : List ℕ). slice_index t 0) named in absurd (omega arith)
+is_make (Make number) rows fits named has = record { number = number; small = fits; text = has.0; flag = inl (refl, has.1) }
+is_make (MakeRun number) rows fits named has = record { number = number; small = fits; text = has.0; flag = inr (refl, has.1) }
+
+-- the printed number is read as that number
+pub parses : {E : Type 0} (n : ℕ) (bs : List ℕ) (r : Result ℕ E) → n < 2 ^ 32 → bs ≡ decimal n → ParsesUnsigned 32 10 bs r → r ≡ Ok n
+parses n bs r small is given =
+    let numeral = decimal_is_IsNumeral n (omega (arith, small)) in
+    let own = numerals_by_value (AllDigits 10) tells_digits in
+    let value : digits_value 10 bs ≡ n = ap (digits_value 10) is ∙ numeral.1 in
+    parse_gives own 32 bs r given (subst (AllDigits 10) (sym is) numeral.0.1) (subst (λ (t : List ℕ). 0 < length t) (sym is) numeral.0.0)
+    (omega (arith, value, small)) ∙ ap Ok value
+
+-- ---- the words that are refused
+
+-- the parser refuses no spelling of a command but for want of memory
+pub not_listed : (app : App) (words : List (List ℕ)) (kind : ErrorKind) → app ≡ dashboard_app
+    → (takes app words ≡ true → kind ≡ OutOfMemory) → (kind ≡ OutOfMemory → ⊥) → IsListed words → ⊥
+not_listed app words kind same passes refused listed =
+    refused (passes (ap (λ (a : App). takes a words) same ∙ (finds listed.0 words listed.1.fits listed.1.spelled).taken))
+
+-- where the words spell a command, that command is the one which is read
+pub reads_listed : (app : App) (words : List (List ℕ)) (rows : Option (List ℕ × List Row)) (read : Option Command) → app ≡ dashboard_app
+    → (is_simple app ≡ true → rows ≡ subcommand_of app words)
+    → ((command : Command) → IsInRange command → IsFound command rows → read ≡ Some command)
+    → ((command : Command) → read ≡ Some command → IsSpelled command words → ⊥) → IsListed words → ⊥
+reads_listed app words rows read same matches found not_spelled listed =
+    let command = listed.0 in
+    let rows_are = matches (ap is_simple same ∙ is_simple_app) ∙ ap (λ (a : App). subcommand_of a words) same in
+    let is_found = subst (IsFound command) (sym rows_are) (finds command words listed.1.fits listed.1.spelled).found in
+    not_spelled command (found command listed.1.fits is_found) listed.1.spelled
+
+-- a command that was read, and is not spelled by the words, is the only one that was read
+pub other_spelled : (read : Option Command) (one other : Command) (words : List (List ℕ)) → read ≡ Some one → read ≡ Some other
+    → (IsSpelled one words → ⊥) → IsSpelled other words → ⊥
+other_spelled read one other words is also not_spelled spelled =
+    let same : other ≡ one = ap (λ (r : Option Command). unwrap_or r one) (sym also ∙ is) in
+    not_spelled (subst (λ (c : Command). IsSpelled c words) same spelled)
+
+pub if_none : {P : Type 0} (found : Option Command) → found ≡ None → P → IfNone found P
+if_none {P} found is holds = subst (λ (f : Option Command). IfNone f P) (sym is) holds

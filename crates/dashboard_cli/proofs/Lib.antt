@@ -1,0 +1,5 @@
+pub mod StreamLemmas
+pub mod CommandLineLemmas
+pub mod OneCommand
+pub mod Completing
+pub mod Stopping

@@ -1,0 +1,12 @@
+use Rattle.std.proofs.Common.{◌+◌, ◌-◌, ◌≤◌, vec_len}
+use Rattle.std.specs.Io.KnownBytes.{Consumes}
+use Rattle.dashboard_cli.proofs.reading.read_whole.Given as goal
+
+abbrev pub invariant-pieces : goal.invariant-pieces
+invariant-pieces g l =
+    Consumes (g.S.Source.left l.initial.source) (g.S.Source.left l.source) l.bytes.items
+    × (g.S.Source.faults l.initial.source ≤ g.S.Source.faults l.source)
+    × (vec_len l.bytes ≤ l.most + 1)
+
+abbrev pub decreases-pieces : goal.decreases-pieces
+decreases-pieces g l = l.most + 1 - vec_len l.bytes

@@ -1,0 +1,19 @@
+-- The command line that the parser gets is the one of the definitions, builder by builder.
+use Rattle.std.proofs.Common.{◌≡◌, ◌∙◌, ap, ap₂, codes, true}
+use Rattle.std.proofs.lemmas.Result.{IfOk-weaker}
+use Rattle.clap.specs.Words.{App, app_of, new_app, with_subcommand}
+use Rattle.clap.specs.Simple.{app_of_fields}
+use Rattle.dashboard_cli.specs.CommandLine.{without_help}
+use Rattle.dashboard_cli.proofs.words.command_line.Goals as goal
+
+pub returns : goal.returns
+returns c =
+    let words_first = ap app_of_fields c.no_binary_name.ensures ∙ ap (λ (a : App). record a { top = record a.top { no_binary_name = true } }) c.new.ensures.app in
+    let no_flag = ap app_of_fields c.disable_help_flag.ensures ∙ ap (λ (a : App). record a { top = record a.top { disable_help_flag = true } }) words_first in
+    let base : app_of c.disable_help_subcommand.result ≡ without_help (new_app (codes "dashboard")) =
+    ap app_of_fields c.disable_help_subcommand.ensures ∙ ap (λ (a : App). record a { top = record a.top { disable_help_subcommand = true } }) no_flag in
+    let with_run = c.in_ok-subcommand.ensures.shape c.new-run.ensures.local ∙ ap₂ with_subcommand base (ap (λ (a : App). a.top) c.new-run.ensures.app) in
+    let with_text = c.in_ok-subcommand-2.ensures.shape c.new-text.ensures.local ∙ ap₂ with_subcommand with_run (ap (λ (a : App). a.top) c.new-text.ensures.app) in
+    IfOk-weaker c.subcommand-3.result _ _
+    (λ line added. added.shape c.in_ok-make.ensures.local ∙ ap₂ with_subcommand with_text (ap (λ (a : App). a.top) c.in_ok-make.ensures.app))
+    c.subcommand-3.ensures

@@ -1,0 +1,51 @@
+-- The command line as the parser of command lines sees it, and what it finds of each command.
+use Rattle.std.specs.Prelude.{◌≡◌, ℕ, List, Option, Some, codes, true, IsSomeAnd}
+use Rattle.std.specs.Fmt.{decimal}
+use Rattle.clap.specs.Words.{App, Row, Rule, first_of, new_app, new_rule, one_of, with_rule, with_subcommand}
+use Rattle.clap.specs.declared.builder.ArgAction.TheVariants.{SetTrue}
+use Rattle.dashboard_cli.specs.declared.words.Command.{Command}
+use Rattle.dashboard_cli.specs.declared.words.Command.TheVariants.{Run, Text, Make, MakeRun}
+
+-- a flag without a value
+abbrev pub flag_rule : List ℕ → Rule
+flag_rule name = record (new_rule name) { long = Some name; action = Some SetTrue }
+
+abbrev pub run_app : App
+run_app = new_app (codes "run")
+
+abbrev pub text_app : App
+text_app = new_app (codes "text")
+
+abbrev pub make_app : App
+make_app = with_rule (with_rule (new_app (codes "make")) (new_rule (codes "number"))) (flag_rule (codes "run"))
+
+-- the words begin with the command, and there is no help
+abbrev pub without_help : App → App
+without_help app = record app {
+  top = record app.top { no_binary_name = true; disable_help_flag = true; disable_help_subcommand = true };
+}
+
+abbrev pub dashboard_app : App
+dashboard_app = with_subcommand (with_subcommand (with_subcommand (without_help (new_app (codes "dashboard"))) run_app.top) text_app.top) make_app.top
+
+-- the first word of a command
+abbrev pub name_of : Command → List ℕ
+name_of Run = codes "run"
+name_of Text = codes "text"
+name_of (Make number) = codes "make"
+name_of (MakeRun number) = codes "make"
+
+-- the matches give this number, and this value of the flag
+abbrev pub HasNumber : List ℕ → List ℕ → List Row → Type 0
+HasNumber number runs rows = (first_of (codes "number") rows ≡ Some number) × (one_of (codes "run") rows ≡ Some runs)
+
+-- the matches that stand for a command
+abbrev pub HasRows : Command → List Row → Type 0
+HasRows Run rows = Unit {0}
+HasRows Text rows = Unit {0}
+HasRows (Make number) rows = HasNumber (decimal number) (codes "false") rows
+HasRows (MakeRun number) rows = HasNumber (decimal number) (codes "true") rows
+
+-- the parser found the command: its subcommand, with its matches
+abbrev pub IsFound : Command → Option (List ℕ × List Row) → Type 0
+IsFound command found = IsSomeAnd found (λ f. (f.0 ≡ name_of command) × HasRows command f.1)

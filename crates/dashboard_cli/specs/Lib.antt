@@ -1,0 +1,6 @@
+pub mod Status
+pub mod Streams
+pub mod Words
+pub mod CommandLine
+pub mod Works
+pub mod Answers

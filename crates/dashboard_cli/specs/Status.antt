@@ -1,0 +1,37 @@
+-- The table of the statuses: the code that the process ends with, and the text on standard error.
+use Rattle.std.specs.Prelude.{ℕ, List, [], ◌++◌, codes}
+use Rattle.std.specs.Fmt.{decimal}
+use Rattle.dash_script.specs.declared.refusal.Cause.{Cause}
+use Rattle.dash_script.specs.declared.refusal.Cause.TheVariants.{Form, Range, Unknown, Order, TooMany, Missing, Unbuilt}
+use Rattle.dashboard_cli.specs.declared.status.Status.{Status}
+use Rattle.dashboard_cli.specs.declared.status.Status.TheVariants.{Ok, Usage, Script, ReadFault, WriteFault, NoMemory, TooLong}
+
+-- what the process ends with
+abbrev pub code_of : Status → ℕ
+code_of Ok = 0
+code_of Usage = 2
+code_of (Script line cause) = 3
+code_of ReadFault = 4
+code_of WriteFault = 5
+code_of NoMemory = 6
+code_of TooLong = 7
+
+-- the word for what is wrong with a line
+abbrev pub cause_word : Cause → List ℕ
+cause_word Form = codes "form"
+cause_word Range = codes "range"
+cause_word Unknown = codes "unknown"
+cause_word Order = codes "order"
+cause_word TooMany = codes "toomany"
+cause_word Missing = codes "missing"
+cause_word Unbuilt = codes "unbuilt"
+
+-- what standard error gets, without its line feed
+abbrev pub status_line : Status → List ℕ
+status_line Ok = []
+status_line Usage = codes "dashboard: usage"
+status_line (Script line cause) = codes "dashboard: script line " ++ decimal line ++ codes ": " ++ cause_word cause
+status_line ReadFault = codes "dashboard: read fault"
+status_line WriteFault = codes "dashboard: write fault"
+status_line NoMemory = codes "dashboard: no memory"
+status_line TooLong = codes "dashboard: too long"

@@ -1,0 +1,26 @@
+-- What was read of a source.
+use Rattle.std.specs.Prelude.{◌≡◌, ℕ, ◌+◌, ◌<◌, ◌≤◌, List, length, Option, ◌↔◌}
+use Rattle.std.specs.Io.KnownBytes.{Consumes, IsAtEnd}
+use Rattle.dashboard_cli.specs.declared.reading.ReadError.{ReadError}
+use Rattle.dashboard_cli.specs.declared.reading.ReadError.TheVariants.{TooLong}
+
+-- the most bytes that an input may have
+abbrev pub limit : ℕ
+limit = 1048576
+
+-- the bytes that a source has left, or that a sink holds, where it tells them
+abbrev pub Known : Type 0
+Known = Option (List ℕ)
+
+-- this input was read to its end, and it is no longer than the limit
+pub record ReadsWhole (most : ℕ) (before after : Known) (input : List ℕ) : Type 0 where
+  pub consumed : Consumes before after input
+  pub ended : IsAtEnd after
+  pub fits : length input ≤ most
+
+-- some bytes were read, at most one more than the limit, and one more exactly where the input is too long
+pub record ReadsPart (most : ℕ) (before after : Known) (error : ReadError) : Type 0 where
+  pub input : List ℕ
+  pub consumed : Consumes before after input
+  pub bounded : length input ≤ most + 1
+  pub too_long : (error ≡ TooLong) ↔ (most < length input)

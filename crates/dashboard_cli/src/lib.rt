@@ -1,0 +1,21 @@
+//! The outer edge of the program: the top call `dashboard` reads the words and the source, does the work, and writes the
+//! sink. Its status says how that went.
+#![tactic(auto)]
+
+mod making;
+mod reading;
+mod status;
+mod top_call;
+mod words;
+mod writing;
+
+pub use dash_report::{report_text, summary_text};
+pub use reading::{MOST_BYTES, ReadError, read_whole};
+pub use run_model::Report;
+pub use status::{Status, status_text};
+pub use top_call::{Outcome, dashboard};
+pub use words::{Command, read_words};
+pub use writing::write_whole;
+
+#[cfg(test)]
+mod tests;

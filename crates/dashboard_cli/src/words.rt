@@ -1,0 +1,141 @@
+// The words of the command line.
+ghost use Rattle.std.specs.Prelude.{◌≡◌, ◌≢◌, ◌↔◌, List, IfOk, IfNone, IfSome, IsTrue, map, codes, Some, None, false, true};
+ghost use Rattle.clap.specs.Words.{app_of, found_of, kind_of, rows_of, subcommand_rows_of};
+ghost use Rattle.clap.specs.declared.builder.command.Command.TheViews.{out-Command};
+ghost use Rattle.dashboard_cli.specs.CommandLine.{dashboard_app, make_app, name_of, HasRows, IsFound};
+ghost use Rattle.dashboard_cli.specs.Words.{IsInRange, IsAsked, IsListed, IsSpelled, texts};
+
+use clap::error::ErrorKind;
+use clap::{Arg, ArgAction, ArgMatches};
+use loop_model::NoMemory;
+use std::alloc::{AllocError, Global};
+
+/// What the program is asked to do.
+#[derive(Clone, Copy, Debug, PartialEq, Eq)]
+pub enum Command {
+    /// Reads a script, runs it in lockstep and writes the report.
+    Run,
+    /// Reads a script and writes it.
+    Text,
+    /// Writes the script that the generator makes from the number.
+    Make { number: u32 },
+    /// Makes that script, runs it in lockstep and writes the summary.
+    MakeRun { number: u32 },
+}
+
+/// Reads the words: a command exactly where they are a spelling of one.
+pub fn read_words(alloc: Global, words: &[String]) -> Result<Option<Command>, NoMemory>
+    ensures command { IfOk result (λ found. IfSome found (IsAsked (texts words.now))) }
+    ensures none { IfOk result (λ found. IfNone found (¬ (IsListed (texts words.now)))) }
+{
+    let line = command_line(alloc)?;
+    let matches = match line.try_get_matches_from(words) {
+        Ok(matches) => matches,
+        Err(error) => return refused(&error),
+    };
+    let Some(command) = command_found(&matches) else {
+        return Ok(None);
+    };
+    // The parser takes more spellings than these, as `--` before the number.
+    if is_spelled(alloc, command, words)? {
+        Ok(Some(command))
+    } else {
+        Ok(None)
+    }
+}
+
+/// The answer where the parser refuses the words.
+fn refused(error: &clap::Error) -> Result<Option<Command>, NoMemory>
+    ensures { IfOk result (λ found. (found ≡ None) × (kind_of error.now ≢ ErrorKind.OutOfMemory)) }
+{
+    match error.kind() {
+        ErrorKind::OutOfMemory => Err(NoMemory),
+        _ => Ok(None),
+    }
+}
+
+/// The command line of the program. It has no help, since the words for it are none of its spellings.
+fn command_line<'a>(alloc: Global) -> Result<clap::Command<'a>, AllocError>
+    ensures { IfOk result (λ line. app_of line ≡ dashboard_app) }
+{
+    let run = clap::Command::new(alloc, "run");
+    let text = clap::Command::new(alloc, "text");
+    let make = make_line(alloc)?;
+    clap::Command::new(alloc, "dashboard")
+        .no_binary_name(true)
+        .disable_help_flag(true)
+        .disable_help_subcommand(true)
+        .subcommand(run)?
+        .subcommand(text)?
+        .subcommand(make)
+}
+
+/// The line of `make`: a number, and perhaps the flag.
+fn make_line<'a>(alloc: Global) -> Result<clap::Command<'a>, AllocError>
+    ensures app { IfOk result (λ line. app_of line ≡ make_app) }
+    ensures local { IfOk result (λ line. (out-Command line).has_globals ≡ false) }
+{
+    let number = Arg::new(alloc, "number");
+    let run = Arg::new(alloc, "run")
+        .long("run")
+        .action(ArgAction::SetTrue);
+    clap::Command::new(alloc, "make").arg(number)?.arg(run)
+}
+
+/// The command that the parser found.
+fn command_found(matches: &ArgMatches<'_>) -> Option<Command>
+    ensures { (command : Command) → IsInRange command → IsFound command (subcommand_rows_of matches.now) → result ≡ Some command }
+{
+    let (name, inner) = matches.subcommand()?;
+    match name {
+        "run" => Some(Command::Run),
+        "text" => Some(Command::Text),
+        "make" => make_found(inner),
+        _ => None,
+    }
+}
+
+/// The command that the parser found behind `make`.
+fn make_found(matches: &ArgMatches<'_>) -> Option<Command>
+    ensures { (command : Command) → IsInRange command → name_of command ≡ codes "make"
+        → HasRows command (rows_of (found_of matches.now)) → result ≡ Some command }
+{
+    let number = matches.get_str("number")?.parse::<u32>().ok()?;
+    if matches.get_flag("run") {
+        Some(Command::MakeRun { number })
+    } else {
+        Some(Command::Make { number })
+    }
+}
+
+/// Whether the words are a spelling of the command.
+fn is_spelled(alloc: Global, command: Command, words: &[String]) -> Result<bool, AllocError>
+    ensures { IfOk result (λ same. IsTrue same ↔ IsSpelled command (texts words.now)) }
+{
+    Ok(match command {
+        Command::Run => are_same(words, &["run"]),
+        Command::Text => are_same(words, &["text"]),
+        Command::Make { number } => {
+            let digits = number.to_string(alloc)?;
+            are_same(words, &["make", digits.as_str()])
+        }
+        Command::MakeRun { number } => {
+            let digits = number.to_string(alloc)?;
+            are_same(words, &["make", digits.as_str(), "--run"])
+                || are_same(words, &["make", "--run", digits.as_str()])
+        }
+    })
+}
+
+/// Whether the words are these.
+fn are_same(words: &[String], spelling: &[&str]) -> bool
+    ensures { IsTrue result ↔ (texts words.now ≡ map (λ word. word.now) spelling.now) }
+{
+    let Some((word, words)) = words.split_first() else {
+        return spelling.is_empty();
+    };
+    let Some((spelled, spelling)) = spelling.split_first() else {
+        return false;
+    };
+    word.as_str() == *spelled && are_same(words, spelling)
+}

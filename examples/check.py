@@ -1,0 +1,97 @@
+#!/usr/bin/env python3
+"""check.py PROGRAM: runs the worked examples of this folder against the built program.
+
+INDEX.txt names each example, with its words, its exit status and what it shows. NAME.script is what the program reads,
+NAME.report what it must write, and NAME.error what standard error must get; a file that is not there stands for nothing.
+Two inputs that are too large to be kept are made here, and so is what `make N` must write.
+"""
+import difflib
+import pathlib
+import subprocess
+import sys
+
+HERE = pathlib.Path(__file__).resolve().parent
+HEAD = "dashboard 1\nloopers 1\nthreads 1\nhandler 0 0\nvsync 16666667\n"
+MADE = {
+    "input_too_long": lambda: b"x" * 1_048_577,
+    "line_20001": lambda: (HEAD + "at 0\n" + "0 post 0 1 0\n" * 19_994 + "end 0\n").encode(),
+}
+
+
+def generated(number):
+    """The script that the generator makes from a number, written down from its rules."""
+    lines = ["dashboard 1", "loopers 4", "threads 4"]
+    lines += [f"handler {h} {h % 4}" for h in range(8)]
+    lines += [f"gauge {p} {p} 50" for p in range(4)]
+    lines += ["vsync 16666667"]
+    lines += [f"on {h} 2 times 1000 post {(h + 1) % 8} 3 1" for h in range(8)]
+    x = number
+    for block in range(500):
+        lines.append(f"at {10 * block}")
+        for p in range(4):
+            x = (x * 69069 + 1) % 2**32
+            r = x // 65536
+            handler, what, delay = r // 8 % 8, 2 + r // 64 % 4, r // 256 % 50
+            if r % 8 < 4:
+                lines.append(f"{p} post {handler} {what} {delay}")
+            elif r % 8 == 4:
+                lines.append(f"{p} post-async {handler} {what} {delay}")
+            elif r % 8 == 5:
+                lines.append(f"{p} front {handler} {what}")
+            elif r % 8 == 6:
+                lines.append(f"{p} callback {handler} {r // 64 % 100} {delay}")
+            else:
+                lines.append(f"{p} set {p} {r // 8 % 1001}")
+    return "\n".join([*lines, "end 6000", ""]).encode()
+
+
+def read(name, kind):
+    file = HERE / f"{name}.{kind}"
+    return file.read_bytes() if file.exists() else b""
+
+
+def examples():
+    for line in (HERE / "INDEX.txt").read_text().splitlines():
+        name, words, code, shows = line.split("\t")
+        given = MADE[name]() if name in MADE else read(name, "script")
+        yield name, words.split(), given, int(code), read(name, "report"), read(name, "error"), shows
+    for number in (0, 1, 4_294_967_295):
+        yield f"make_{number}", ["make", str(number)], b"", 0, generated(number), b"", "the generated script"
+
+
+def faults(program, words, given, code, report, error):
+    try:
+        got = subprocess.run([program, *words], input=given, capture_output=True, timeout=60)
+    except subprocess.TimeoutExpired:
+        return ["no answer in 60 seconds"]
+    except OSError as failed:
+        return [f"the program does not start: {failed}"]
+    found = []
+    if got.returncode != code:
+        found.append(f"status {got.returncode}, wanted {code}")
+    if got.stderr != error:
+        found.append(f"standard error {got.stderr[:200]!r}, wanted {error!r}")
+    if got.stdout != report:
+        texts = [it.decode("latin-1").splitlines() for it in (report, got.stdout)]
+        found += list(difflib.unified_diff(*texts, "wanted", "got", "", "", 2, ""))[:30]
+    return found
+
+
+def main():
+    if len(sys.argv) != 2:
+        sys.exit("usage: check.py PROGRAM")
+    program = str(pathlib.Path(sys.argv[1]).resolve())
+    passed = failed = 0
+    for name, words, given, code, report, error, shows in examples():
+        found = faults(program, words, given, code, report, error)
+        if found:
+            failed += 1
+            print("\n".join([f"FAILED {name}: {shows}", *found]))
+        else:
+            passed += 1
+    print(f"examples: {passed} passed, {failed} failed")
+    sys.exit(1 if failed else 0)
+
+
+if __name__ == "__main__":
+    main()
