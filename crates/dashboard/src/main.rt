@@ -13,7 +13,15 @@ fn main(rt: HostRuntime) -> ExitCode {
             let mut sink = StdSink::new(io::writer(&rt));
             let clock = StdClock::new(&rt);
             let alloc = rt.alloc();
-            dashboard(alloc, words.as_slice(), &mut source, &mut sink, &clock, &OpenGate).status
+            dashboard(
+                alloc,
+                words.as_slice(),
+                &mut source,
+                &mut sink,
+                &clock,
+                &OpenGate,
+            )
+            .status
         }
         Err(status) => status,
     };

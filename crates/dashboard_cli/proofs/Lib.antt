@@ -2,4 +2,4 @@ pub mod StreamLemmas
 pub mod CommandLineLemmas
 pub mod OneCommand
 pub mod Completing
-pub mod Stopping
+pub mod Running

@@ -59,7 +59,7 @@ pub(crate) fn produce<S: Source>(
 }
 
 /// Reads a script, runs it, and makes the text of its report.
-#[tactic(auto, using(crate::proofs::Stopping::stops_run))]
+#[tactic(auto, using(crate::proofs::Running::stops_run))]
 fn run_input<S: Source>(alloc: Global, source: &mut S) -> Result<Product, Status>
     ensures made { IfOk result (λ product. MakesOf Command.Run (S.left source.old) (S.left source.new) product.text.items product.report) }
     ensures stopped { IfErr result (Stops Command.Run (S.left source.old) (S.left source.new)) }

@@ -1,5 +1,5 @@
 -- What was parsed is the text's script, and there is no other.
-use Rattle.dashboard_cli.proofs.Stopping.{one_script}
+use Rattle.dashboard_cli.proofs.Running.{one_script}
 use Rattle.dashboard_cli.proofs.making.read_script.Goals as goal
 
 pub returns-in-Ok-clause-read : goal.returns-in-Ok-clause-read

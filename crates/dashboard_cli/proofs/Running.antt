@@ -1,11 +1,14 @@
--- Why a script that was read is not run.
-use Rattle.std.proofs.Common.{◌≡◌, ◌∙◌, ◌⊎◌, ℕ, List, inl, inr, ap, sym, subst, Some, None}
+-- What comes of a script that was read: the report of its run, or why it is not run.
+use Rattle.std.proofs.Common.{◌≡◌, ◌∙◌, ◌⊎◌, ℕ, List, inl, inr, ap, refl, sym, subst, Some, None}
 use Rattle.dash_script.specs.declared.refusal.Parsed.{Parsed}
 use Rattle.dash_script.specs.declared.refusal.Parsed.TheVariants as parsed
 use Rattle.dash_script.specs.declared.script.Script.{Script as ScriptData}
 use Rattle.dash_script.specs.Reading.{IsText}
 use Rattle.dash_script.specs.Unbuilt.{first_unbuilt}
-use Rattle.dashboard_cli.specs.Answers.{IsNotRun, Stops}
+use Rattle.run_model.specs.declared.report.Report.{Report}
+use Rattle.run_model.specs.Text.{text}
+use Rattle.dashboard_cli.specs.Answers.{IsNotRun, MakesOf, Stops}
+use Rattle.dashboard_cli.specs.Works.{RunsScript}
 use Rattle.dashboard_cli.specs.Streams.{limit, Known, ReadsWhole}
 use Rattle.dashboard_cli.specs.declared.status.Status.{Status}
 use Rattle.dashboard_cli.specs.declared.status.Status.TheVariants.{Ok, Usage, Script, ReadFault, WriteFault, NoMemory, TooLong}
@@ -35,3 +38,18 @@ stops_run before after input script Usage read is one why = absurd why
 stops_run before after input script ReadFault read is one why = absurd why
 stops_run before after input script WriteFault read is one why = absurd why
 stops_run before after input script TooLong read is one why = absurd why
+
+-- the report of the input's script is written
+pub makes_run : (before after : Known) (input given out : List ℕ) (script : ScriptData) (report : Report) → ReadsWhole limit before after input → given ≡ input
+    → IsText given script → RunsScript script report → report.script ≡ script → out ≡ text report → MakesOf Run before after out (Some report)
+makes_run before after input given out script report read same is runs of written = record {
+  input = input;
+  read = read;
+  made = record {
+    report = report;
+    read = subst (λ (s : ScriptData). IsText input s) (sym of) (subst (λ (b : List ℕ). IsText b script) same is);
+    runs = subst (λ (s : ScriptData). RunsScript s report) (sym of) runs;
+    text_is = written;
+    report_is = refl;
+  };
+}
