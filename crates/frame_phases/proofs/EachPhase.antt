@@ -1,11 +1,10 @@
 -- Each frame takes each phase once.
-use Rattle.std.proofs.Common.{◌≡◌, ℕ, zero, suc, ◌+◌, ◌-◌, ◌<◌, Bool, true, false, true≢false, Option, Some, None, List, [], ◌∷◌, ◌++◌, reverse, refl, sym, ap, ◌∙◌, subst, append_assoc, append-nil, arith}
+use Rattle.std.proofs.Common.{◌≡◌, ℕ, suc, ◌+◌, ◌-◌, ◌<◌, Bool, true, false, true≢false, Option, Some, None, List, [], ◌∷◌, ◌++◌, reverse, refl, sym, ap, ◌∙◌, subst, append_assoc, arith}
 use Rattle.std.specs.Prelude.{◌==◌, ◌&&◌, nat_le, is_none, if◌then◌else◌}
 use Rattle.std.proofs.lemmas.Bool.{and_parts, cond_both, eqb-true, eqb-false}
-use mathlib.Core.List.{IsPrefix}
 use Rattle.frame_phases.specs.declared.entry.FrameEntry.{FrameEntry}
 use Rattle.frame_phases.specs.declared.entry.FrameEntry.TheVariants.{Posted, Removed, Begin, Take, Ran}
-use Rattle.frame_phases.specs.Frames.{lawful, all_allowed, is_allowed, is_settled, next_phase, is_number, take_time, frame_time, last_time}
+use Rattle.frame_phases.specs.Frames.{all_allowed, is_allowed, is_settled, next_phase, is_number, take_time, frame_time, last_time}
 use Rattle.frame_phases.specs.EachPhase.{taken_first, has_begin, numbers_from, AreTaken, FramesTakeEachPhase}
 use Rattle.frame_phases.proofs.History.{past-push, allowed_of}
 use Rattle.frame_phases.proofs.EndsOfFrames.{allowed_next}

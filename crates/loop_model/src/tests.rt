@@ -315,6 +315,12 @@ fn removals(rt: HostRuntime) -> Result<(), Fail> {
             [None, None],
             [Fate::Removed, Fate::Removed, Fate::Removed],
         ),
+        (
+            Kind::What(7),
+            0,
+            [dispatched(0), dispatched(1)],
+            [Fate::Dispatched, Fate::Dispatched, Fate::Queued],
+        ),
     ] {
         expect(
             &rt,
@@ -525,5 +531,18 @@ fn bases(rt: HostRuntime) -> Result<(), Fail> {
         entries: Sequence::from_vec(entries),
     };
     assert!(rt; segment.entries.as_slice().len() == 1);
+    Ok(())
+}
+
+#[test]
+fn sequences(rt: HostRuntime) -> Result<(), Fail> {
+    let mut list = Sequence::new(rt.alloc());
+    assert!(rt; list.is_empty());
+    list.push(Fate::Queued)?;
+    list.push(Fate::Dropped)?;
+    assert!(rt; !list.is_empty());
+    assert!(rt; list.len() == 2);
+    let items = list.into_vec();
+    assert!(rt; items.as_slice() == [Fate::Queued, Fate::Dropped].as_slice());
     Ok(())
 }

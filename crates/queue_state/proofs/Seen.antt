@@ -1,5 +1,5 @@
 -- What contracts see of the room and of the live messages.
-use Rattle.std.proofs.Common.{◌≡◌, ◌+◌, ℕ, Bool, true, List, [], ◌∷◌, length, Some, None, refl, sym, ap, ◌∙◌, arith, if◌then◌else◌}
+use Rattle.std.proofs.Common.{◌≡◌, ◌+◌, ℕ, Bool, true, List, [], ◌∷◌, length, refl, sym, ap, ◌∙◌, arith, if◌then◌else◌}
 use Rattle.std.specs.Prelude.{Option, not, ◌&&◌, ◌||◌, is_some}
 use Rattle.std.specs.List.{list_any}
 use Rattle.loop_model.specs.declared.post.Filter.{Filter}
@@ -48,8 +48,8 @@ module _ {H K : Type 0} where
       let disposed : has_disposed h.start es ≡ h.disposed = disposed_is _ _ _ _ k.history in
       let halted : has_halted h.start es ≡ h.halted = halted_is _ _ _ _ k.history in
       ap (λ n. room_of h.main n (quit_place h.start es) (has_disposed h.start es) (has_halted h.start es)) live
-          ∙ (ap (λ q. room_of h.main (length xs) q (has_disposed h.start es) (has_halted h.start es)) quit
-              ∙ (ap (λ e. room_of h.main (length xs) h.quit e (has_halted h.start es)) disposed ∙ ap (λ e. room_of h.main (length xs) h.quit h.disposed e) halted))
+      ∙ (ap (λ q. room_of h.main (length xs) q (has_disposed h.start es) (has_halted h.start es)) quit
+      ∙ (ap (λ e. room_of h.main (length xs) h.quit e (has_halted h.start es)) disposed ∙ ap (λ e. room_of h.main (length xs) h.quit h.disposed e) halted))
 
   pub match_is : (of : K → H) (home : H) (h : History) (xs : List (Letter K)) (b w : Bool) (d : Option ℕ) (f : Filter) → IsKept of home h xs b w d → list_any (is_named f) xs ≡ has_match (view_of home h xs b w d) f
   match_is of home h xs b w d f k =

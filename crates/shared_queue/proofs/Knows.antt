@@ -35,9 +35,9 @@ module _ {H K : Type 0} (key : Constants H) (d e n : Desk (Queue H K) H) (x y : 
     found = ap (λ (v : View (Queue H K) H). v.found) after;
     left = ap (λ (v : View (Queue H K) H). v.left) after;
     own = λ c is. let same : key ≡ c = cc (is, b.live) in (
-          subst (λ (k : Constants H). IsStateOf k x) same b.own,
-          subst (λ (k : Constants H). IsStateOf k y) same (record { home = step.0 ∙ b.own.home; setting = step.1 ∙ b.own.setting; start = step.2 ∙ b.own.start }),
-        );
+      subst (λ (k : Constants H). IsStateOf k x) same b.own,
+      subst (λ (k : Constants H). IsStateOf k y) same (record { home = step.0 ∙ b.own.home; setting = step.1 ∙ b.own.setting; start = step.2 ∙ b.own.start }),
+    );
     sound = (b.sound, f.sound);
     begins = b.begins;
     found_made = b.found_made ∙ sym idle.2.made;

@@ -15,14 +15,10 @@ use std::sync::Wait;
 use when_queue::MsgNode;
 
 impl<K: Claim> Poster<K> {
-    /// Posts a message that has a target, for the time that stands in it. It is refused where the queue is quitting, and
-    /// comes back then.
-    pub fn post<R: Wait>(
-        &mut self,
-        rt: &R,
-        queue: &SharedQueue<K>,
-        node: MsgNode<K>,
-    ) -> Posted<K>
+    /// Posts a message that has a target, for the time that stands in it, in milliseconds: its number among the posts, and
+    /// whether it wakes the looper. Refused, with the place of the quit, where the queue is quitting; the message comes back.
+    /// NoMemory where its entries find no room. As `enqueueMessage` of AOSP's `MessageQueue`.
+    pub fn post<R: Wait>(&mut self, rt: &R, queue: &SharedQueue<K>, node: MsgNode<K>) -> Posted<K>
         requires queue { IsOf self.old queue.now }
         requires target { is_barrier node.item ≡ false }
         requires home { IsAtHome K.home queue.now.constants.home node }
@@ -34,7 +30,8 @@ impl<K: Claim> Poster<K> {
         answer
     }
 
-    /// Posts a barrier at the moment `now`, in milliseconds, in place of what the message was, and answers its token.
+    /// Posts a barrier at the moment `now`, in milliseconds, in place of what the message was, and answers its token. In
+    /// lockstep the moment is the queue's time. As `postSyncBarrier` of AOSP's `MessageQueue`.
     pub fn post_barrier<R: Wait>(
         &mut self,
         rt: &R,
@@ -52,7 +49,8 @@ impl<K: Claim> Poster<K> {
         answer
     }
 
-    /// Removes the barrier of the token, if it still stands.
+    /// Removes the barrier of the token, and answers whether that wakes the looper. NotPosted where no barrier of it
+    /// stands. As `removeSyncBarrier` of AOSP's `MessageQueue`.
     pub fn remove_barrier<R: Wait>(
         &mut self,
         rt: &R,
@@ -69,13 +67,9 @@ impl<K: Claim> Poster<K> {
         answer
     }
 
-    /// Removes the messages that the filter names, and hands them out.
-    pub fn remove<R: Wait>(
-        &mut self,
-        rt: &R,
-        queue: &SharedQueue<K>,
-        filter: &Filter,
-    ) -> Taking<K>
+    /// Removes the messages that the filter matches, and hands them out in order. As `removeMessages`, `removeCallbacks` and
+    /// `removeCallbacksAndMessages` of the Android API reference.
+    pub fn remove<R: Wait>(&mut self, rt: &R, queue: &SharedQueue<K>, filter: &Filter) -> Taking<K>
         requires queue { IsOf self.old queue.now }
         ensures done { RemovedBy self.old self.new filter.now result }
         ensures home { TakesAtHome K.home queue.now.constants.home result }
@@ -86,7 +80,8 @@ impl<K: Claim> Poster<K> {
         answer
     }
 
-    /// Quits: drops every message, or safely those that are due later than `now`. The queue of the main looper may not.
+    /// Quits: drops every message, or safely those that are due later than `now`, and hands them out. NotAllowed for the
+    /// queue of the main looper, AlreadyQuit, with its place, where a quit was done. As `quit` of AOSP's `MessageQueue`.
     pub fn quit<R: Wait>(
         &mut self,
         rt: &R,
@@ -104,13 +99,10 @@ impl<K: Claim> Poster<K> {
         answer
     }
 
-    /// Moves the time of a queue in lockstep on. The last sender alone does.
-    pub fn advance<R: Wait>(
-        &mut self,
-        rt: &R,
-        queue: &SharedQueue<K>,
-        now: u64,
-    ) -> Advancing
+    /// Moves the time of a queue in lockstep on to `now`, in milliseconds. The last sender alone does. Over where the queue
+    /// was disposed or halted, else Reached where `now` is not later than its time, else NotDrained where a message is due.
+    /// A rule of this project's profile.
+    pub fn advance<R: Wait>(&mut self, rt: &R, queue: &SharedQueue<K>, now: u64) -> Advancing
         requires queue { IsOf self.old queue.now }
         requires sender { self.old.sender + 1 ≡ queue.now.constants.setting.senders }
         requires lockstep { queue.now.constants.setting.lockstep ≡ true }
@@ -122,13 +114,9 @@ impl<K: Claim> Poster<K> {
         answer
     }
 
-    /// Stops the main looper once nothing is due. The last sender alone does.
-    pub fn halt<R: Wait>(
-        &mut self,
-        rt: &R,
-        queue: &SharedQueue<K>,
-        now: u64,
-    ) -> Halting
+    /// Stops the main looper. The last sender alone does. Over where that was done, else NotDrained where a message is due.
+    /// A rule of this project's profile.
+    pub fn halt<R: Wait>(&mut self, rt: &R, queue: &SharedQueue<K>, now: u64) -> Halting
         requires queue { IsOf self.old queue.now }
         requires sender { self.old.sender + 1 ≡ queue.now.constants.setting.senders }
         requires main { queue.now.constants.setting.main ≡ true }
@@ -140,13 +128,9 @@ impl<K: Claim> Poster<K> {
         answer
     }
 
-    /// Whether a message stands in the queue that the filter names. It makes no entry.
-    pub fn has<R: Wait>(
-        &mut self,
-        rt: &R,
-        queue: &SharedQueue<K>,
-        filter: &Filter,
-    ) -> bool
+    /// Whether a message stands in the queue that the filter matches. It makes no entry. As `hasMessages` of the Android API
+    /// reference.
+    pub fn has<R: Wait>(&mut self, rt: &R, queue: &SharedQueue<K>, filter: &Filter) -> bool
         requires queue { IsOf self.old queue.now }
         ensures { HasBy self.old self.new filter.now result }
     {
@@ -157,11 +141,7 @@ impl<K: Claim> Poster<K> {
     }
 
     /// The time of the queue, in milliseconds: the latest moment of its history. It makes no entry.
-    pub fn time<R: Wait>(
-        &mut self,
-        rt: &R,
-        queue: &SharedQueue<K>,
-    ) -> u64
+    pub fn time<R: Wait>(&mut self, rt: &R, queue: &SharedQueue<K>) -> u64
         requires queue { IsOf self.old queue.now }
         ensures { TimedBy self.old self.new result }
     {

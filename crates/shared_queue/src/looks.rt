@@ -10,7 +10,10 @@ use queue_state::Nexted;
 use std::sync::Wait;
 
 impl<K: Claim> Poster<K> {
-    /// Takes the first message that is due at `now`, or answers why there is none. It takes no memory.
+    /// Takes the first message that is due at `now`, in milliseconds; in lockstep at the queue's time. Over where the queue
+    /// was disposed or halted. Else End, with what is left, where nothing is due and the queue is quitting. Else Idle where
+    /// nothing is due, an idle turn is owed, and the head is later or missing. Else Wait, until the first message that is not
+    /// held back by a barrier is due. It takes no memory. As `next` of AOSP's `MessageQueue`.
     pub fn next<R: Wait>(
         &mut self,
         rt: &R,

@@ -1,4 +1,4 @@
-ghost use Rattle.std.specs.Prelude.{◌≡◌, ◌+◌, IfOk, None};
+ghost use Rattle.std.specs.Prelude.{◌≡◌, ◌+◌, IfOk, None, true, false};
 ghost use Rattle.std.specs.Thread.{IsSync};
 ghost use Rattle.loop_model.specs.Items.{is_barrier};
 ghost use Rattle.shared_queue.specs.Known.{IsOf};
@@ -7,7 +7,9 @@ use crate::{Poster, Retired, SharedQueue};
 use loop_model::{Entry, Filter, Kind, NoMemory, Post};
 use message_list::new_node;
 use message_slot::{Message, NoClaim};
-use queue_state::{Advancing, BarrierGone, BarrierPosted, Halting, Nexted, Posted, Quitting, Taking};
+use queue_state::{
+    Advancing, BarrierGone, BarrierPosted, Halting, Nexted, Posted, Quitting, Taking,
+};
 use std::alloc::Global;
 use std::sync::Wait;
 use std::test::Fail;
@@ -155,7 +157,10 @@ fn in_order(entries: &[Entry], sender: u32) -> bool {
 }
 
 fn count(entries: &[Entry], sender: u32) -> usize {
-    entries.iter().filter(|entry| entry.sender == sender).count()
+    entries
+        .iter()
+        .filter(|entry| entry.sender == sender)
+        .count()
 }
 
 #[test]
@@ -163,17 +168,16 @@ fn two_threads_post_and_a_third_takes(rt: HostRuntime) -> Result<(), Fail> {
     let retired = worked(&rt, rt.alloc())?;
     let entries = retired.kept.entries.as_slice();
     assert!(rt; entries.len() == 4000 && retired.left.len() == 0);
-    assert!(rt; count(entries, 0) == 1000 && count(entries, 1) == 1000 && count(entries, 2) == 2000);
+    assert!(rt;
+        count(entries, 0) == 1000 && count(entries, 1) == 1000 && count(entries, 2) == 2000
+    );
     assert!(rt; in_order(entries, 0) && in_order(entries, 1) && in_order(entries, 2));
     assert!(rt; retired.kept.looper == 1 && !retired.kept.main && retired.kept.senders == 3);
     Ok(())
 }
 
 // A queue in lockstep with one poster, which is its controller too.
-fn alone(
-    alloc: Global,
-    main: bool,
-) -> Result<(SharedQueue<NoClaim>, Poster<NoClaim>), NoMemory>
+fn alone(alloc: Global, main: bool) -> Result<(SharedQueue<NoClaim>, Poster<NoClaim>), NoMemory>
     ensures queue { IfOk result (λ r. r.0.constants.setting ≡ record { main = main; lockstep = true; senders = 1 }) }
     ensures poster { IfOk result (λ r. IsOf r.1 r.0 × (r.1.sender ≡ 0)) }
 {

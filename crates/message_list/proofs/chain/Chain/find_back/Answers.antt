@@ -1,4 +1,4 @@
-use Rattle.std.proofs.Common.{ℕ, ◌≤◌, ◌<◌, ◌+◌, ◌-◌, ◌≡◌, arith, subst, sym, length}
+use Rattle.std.proofs.Common.{ℕ, ◌≤◌, ◌-◌, ◌≡◌, arith, subst}
 use Rattle.message_list.specs.Store.{Holds}
 use Rattle.message_list.proofs.chain.Chain.find_back.Goals as goal
 

@@ -1,5 +1,4 @@
-use Rattle.std.proofs.Common.{◌≡◌, ◌∙◌, subst}
-use Rattle.queue_state.specs.Queue.{has_match}
+use Rattle.std.proofs.Common.{◌∙◌}
 use Rattle.queue_state.proofs.Seen.{match_is}
 use Rattle.queue_state.proofs.state.QueueState.has.Goals as goal
 

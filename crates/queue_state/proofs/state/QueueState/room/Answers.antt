@@ -1,4 +1,4 @@
-use Rattle.std.proofs.Common.{◌≡◌, ◌≤◌, ◌<◌, ◌+◌, ◌^◌, ℕ, length, subst, arith}
+use Rattle.std.proofs.Common.{◌≡◌, ◌+◌, length, arith}
 use Rattle.queue_state.specs.Queue.{spare_room}
 use Rattle.queue_state.specs.History.{owed}
 use Rattle.queue_state.specs.Kept.{view_of}

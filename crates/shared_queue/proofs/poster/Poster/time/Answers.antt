@@ -15,4 +15,4 @@ returns g c =
     let n = c.end.new.self in
     let x : Queue g.row.K-Home.Denot g.row.K.Denot = c.begin-state.result in
     let turn = is_turn c.args.queue.now.constants d c.begin-state.new.self n x x c.self.invariant c.begin-state.ensures (refl, refl, refl, inl refl) c.end.ensures in
-    subst (λ (before : Known g.row.K-Home.Denot g.row.K.Denot). TimedBy before (known n)  c.time-answer.result) c.self.view_is (x, turn, c.time-answer.ensures)
+    subst (λ (before : Known g.row.K-Home.Denot g.row.K.Denot). TimedBy before (known n) c.time-answer.result) c.self.view_is (x, turn, c.time-answer.ensures)

@@ -1,0 +1,28 @@
+-- A script's loopers and threads are few.
+use Rattle.std.specs.Prelude.{◌≡◌, ℕ, ◌≤◌, ◌&&◌, nat_le, Bool, true, List, [], ◌∷◌, IsTrue, drop, ◌==◌, if◌then◌else◌}
+use Rattle.std.specs.List.{list_all}
+use Rattle.std.proofs.Common.{arith}
+use Rattle.std.proofs.lemmas.Bool.{and_parts}
+use Rattle.std.proofs.lemmas.Bool.Decides.{nat_tests}
+use Rattle.dash_script.specs.declared.script.Script.{Script}
+use Rattle.dash_script.specs.declared.statement.Statement.{Statement}
+use Rattle.dash_script.specs.declared.form.Kind.TheVariants as kind
+use Rattle.dash_script.specs.Text.{lines, lines_before_end, say}
+use Rattle.dash_script.specs.Causes.{numbers_pass, is_within, each_number}
+use Rattle.dash_script.specs.Reading.{HasText}
+
+between : (low high n : ℕ) → IsTrue ((nat_le low n && nat_le n high) && true) → n ≤ high
+between low high n h = grind (arith, nat_tests)
+
+-- of a list whose members all pass, the second and the third pass
+second_and_third : (p : Statement → Bool) (a b c : Statement) (rest : List Statement) → IsTrue (list_all p (a ∷ b ∷ c ∷ rest)) → IsTrue (p b) × IsTrue (p c)
+second_and_third p a b c rest h =
+    let behind = (and_parts _ _ h).1 in
+    let last = (and_parts _ _ behind).1 in
+    ((and_parts _ _ behind).0, (and_parts _ _ last).0)
+
+pub few : (s : Script) → HasText s → (s.loopers ≤ 8) × (s.threads ≤ 16)
+unfolding lines_before_end each_number
+few s h =
+    let both = second_and_third (numbers_pass (is_within s)) (say (if s.edition == 2 then kind.Edition2 else kind.Edition1) []) (say kind.Loopers (s.loopers ∷ [])) (say kind.Threads (s.threads ∷ [])) (drop 3 (lines s)) h.limits in
+    (between 1 8 s.loopers both.0, between 1 16 s.threads both.1)
