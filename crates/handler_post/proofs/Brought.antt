@@ -1,19 +1,16 @@
 -- Messages that are recycled one after the other.
-use Rattle.std.proofs.Common.{◌≡◌, ℕ, suc, ◌+◌, ◌≤◌, cond, List, [], ◌∷◌, All, Option, Some, None, sym, ap, ◌∙◌, subst, arith, refl}
+use Rattle.std.proofs.Common.{◌≡◌, ℕ, suc, ◌+◌, ◌≤◌, cond, List, ◌∷◌, All, Option, Some, None, sym, ap, ◌∙◌, subst, arith}
 use Rattle.std.specs.Prelude.{is_some}
 use Rattle.std.proofs.lemmas.List.Sums.{sum_by-cons}
 use Rattle.message_pool.specs.Passes.{Claimed, Node, Tally}
 use Rattle.message_pool.specs.Obtain.{Returned}
-use Rattle.handler_post.specs.Supply.{slots_in, BringsBack}
+use Rattle.handler_post.specs.Supply.{slots_in}
 
 -- the pass has brought back some of the messages, and these are left
 pub record IsOnTheWay (nodes rest : List Node) (before after : Tally) : Type 0 where
   pub back : after.back + slots_in rest ≡ before.back + slots_in nodes
   pub looks : before.looks ≤ after.looks
   pub lost : before.lost ≤ after.lost
-
-pub begun : (nodes : List Node) (before : Tally) → IsOnTheWay nodes nodes before before
-begun nodes before = record { back = refl; looks = omega arith; lost = omega arith }
 
 one_back : (claim : Option Claimed) (n : ℕ) (before after : Tally) → Returned claim before after → after.back + n ≡ before.back + (cond {A = ℕ} (is_some claim) 1 0 + n)
 one_back None n before after same = let e : after.back ≡ before.back = ap (λ (x : Tally). x.back) same in let all : after.back + n ≡ before.back + (0 + n) = omega (arith, e) in all
@@ -30,9 +27,6 @@ one_more nodes old rest node start before after e way back =
     let was : before.back + slots_in (node ∷ rest) ≡ start.back + slots_in nodes = subst (λ xs. before.back + slots_in xs ≡ start.back + slots_in nodes) e way.back in
     let cons : slots_in (node ∷ rest) ≡ cond {A = ℕ} (is_some node.claim) 1 0 + slots_in rest = sum_by-cons (λ (m : Node). cond {A = ℕ} (is_some m.claim) 1 0) node rest in
     record { back = one ∙ ap (λ (k : ℕ). before.back + k) (sym cons) ∙ was; looks = omega (arith, way.looks, less.0); lost = omega (arith, way.lost, less.1) }
-
-pub all_back : (nodes rest : List Node) (before after : Tally) → rest ≡ [] → IsOnTheWay nodes rest before after → BringsBack nodes before after
-all_back nodes rest before after e way = let none : slots_in rest ≡ 0 = ap slots_in e in (omega (arith, way.back, none), way.looks, way.lost)
 
 -- what holds of all elements holds of the first, and of those behind it
 pub tail_all : (P : Node → Type 0) (node : Node) (old rest : List Node) → old ≡ node ∷ rest → All P old → P node × All P rest

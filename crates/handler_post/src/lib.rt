@@ -5,6 +5,8 @@
 
 mod handler;
 mod supply;
+#[cfg(test)]
+mod tests;
 mod way;
 
 pub use handler::Handler;
