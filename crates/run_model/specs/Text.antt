@@ -1,6 +1,6 @@
 -- How a report is printed.
 use Rattle.std.specs.Prelude.{ℕ, Bool, true, false, List, [], ◌∷◌, ◌++◌, Option, Some, None, count_by, sum_by, codes, slice_get}
-use Rattle.std.specs.List.{flat_map, filter_map, join_with_byte}
+use Rattle.std.specs.List.{flat_map, filter_map, join_with_byte, zip}
 use Rattle.std.specs.Option.{option_map_or}
 use Rattle.std.specs.Fmt.{decimal}
 use Rattle.loop_model.specs.declared.post.Post.{Post as PostData}
@@ -96,8 +96,7 @@ looper_lines q j f =
 
 -- all loopers' lines, in order
 abbrev pub loopers_lines : List QueueRecord → List Journal → List FrameRecord → List Words
-loopers_lines (q ∷ qs) (j ∷ js) (f ∷ fs) = looper_lines q j f ++ loopers_lines qs js fs
-loopers_lines _ _ _ = []
+loopers_lines qs js fs = flat_map (λ (q, (j, f)). looper_lines q j f) (zip qs (zip js fs))
 
 -- the lines of a report
 unfoldable pub lines : Report → List Words

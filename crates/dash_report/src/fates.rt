@@ -1,0 +1,28 @@
+//! The line of the fates of a history.
+ghost use Rattle.std.specs.Prelude.{◌≡◌, ◌++◌, OnOk, string_bytes};
+ghost use Rattle.loop_model.specs.Fates.{fates};
+ghost use Rattle.run_model.specs.Text.{fates_line, line_text};
+
+use fate_ledger::fates;
+use loop_model::{Entry, NoMemory};
+use std::alloc::Global;
+use std::fmt::Write;
+
+/// Writes the line of the fates of a history.
+pub fn write_fates(alloc: Global, out: &mut String, entries: &[Entry]) -> Result<(), NoMemory>
+    ensures { OnOk result (string_bytes out.new
+        ≡ string_bytes out.old ++ line_text (fates_line (fates entries.now))) }
+{
+    let fates = fates(alloc, entries)?;
+    writeln!(
+        out,
+        "fates accepted {} dispatched {} removed {} dropped {} stranded {} queued {}",
+        fates.list.len(),
+        fates.dispatched,
+        fates.removed,
+        fates.dropped,
+        fates.stranded,
+        fates.queued
+    )?;
+    Ok(())
+}

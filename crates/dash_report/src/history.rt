@@ -1,0 +1,96 @@
+//! The lines of a queue's history.
+ghost use Rattle.std.specs.Prelude.{◌≡◌, ◌++◌, ◌∷◌, [], Some, IfOk, OnOk, slice_get, string_bytes};
+ghost use Rattle.std.specs.List.{join_with_byte, flat_map, filter_map};
+ghost use Rattle.run_model.specs.Histories.{accepted_post};
+ghost use Rattle.run_model.specs.Text.{subject, dispatch_words, call_lines, history_lines, line_text};
+
+use loop_model::{Call, Entry, NoMemory, Post, Reply};
+use std::alloc::Global;
+use std::fmt;
+use std::fmt::Write;
+
+/// A message as lines name it: its handler, and its callback or else its `what`.
+#[derive(Clone, Copy)]
+struct Subject(Post);
+
+impl fmt::Display for Subject {
+    ghost output = { λ s. Some (join_with_byte 32 (subject s.0)) };
+
+    fn fmt<W: fmt::Write>(&self, f: &mut fmt::Formatter<W>) -> fmt::Result {
+        let handler = self.0.handler;
+        match self.0.callback {
+            Some(id) => write!(f, "{handler} callback {id}"),
+            None => write!(f, "{handler} {}", self.0.what),
+        }
+    }
+}
+
+/// The post that an entry adds, where it adds one.
+fn accepted_post(entry: &Entry) -> Option<Post>
+    ensures { result ≡ accepted_post entry.now }
+{
+    match (entry.call, entry.reply) {
+        (Call::Post(post), Reply::Accepted { .. }) => Some(post),
+        _ => None,
+    }
+}
+
+/// The accepted posts of a history, by number.
+fn accepted_posts(alloc: Global, entries: &[Entry]) -> Result<Vec<Post>, NoMemory>
+    ensures { IfOk result (λ posts. posts.items ≡ filter_map accepted_post entries.now) }
+{
+    let posts = entries.iter().filter_map(accepted_post).collect(alloc)?;
+    Ok(posts)
+}
+
+/// The post of this number.
+fn post_at(posts: &[Post], number: u64) -> Option<Post>
+    ensures { result ≡ slice_get posts.now number }
+{
+    posts.get(number as usize).copied()
+}
+
+/// Writes the line of a dispatch.
+fn write_dispatch(out: &mut String, now: u64, number: u64, post: Post) -> Result<(), NoMemory>
+    ensures { OnOk result (string_bytes out.new
+        ≡ string_bytes out.old ++ line_text (dispatch_words now number post)) }
+{
+    writeln!(out, "{now} dispatch {number} {}", Subject(post))?;
+    Ok(())
+}
+
+/// Writes the lines of an entry, none or one, by the accepted posts of its history.
+#[tactic(auto, using(std::proofs::lemmas::List::append_assoc))]
+fn write_entry(out: &mut String, posts: &[Post], entry: &Entry) -> Result<(), NoMemory>
+    ensures { OnOk result (string_bytes out.new
+        ≡ string_bytes out.old ++ flat_map line_text (call_lines posts.now entry.now.call entry.now.reply)) }
+{
+    match (entry.call, entry.reply) {
+        (Call::Next { now }, Reply::Dispatched { number }) => {
+            if let Some(post) = post_at(posts, number) {
+                write_dispatch(out, now, number, post)?;
+            }
+        }
+        (Call::Post(post), Reply::Refused { place }) => {
+            writeln!(out, "refused {} quit {place}", Subject(post))?;
+        }
+        (Call::Unbarrier { token }, Reply::NotPosted) => writeln!(out, "not-posted {token}")?,
+        (Call::Quit { .. }, Reply::NotAllowed) => writeln!(out, "not-allowed")?,
+        (Call::Quit { .. }, Reply::AlreadyQuit { place }) => writeln!(out, "already-quit {place}")?,
+        _ => {}
+    }
+    Ok(())
+}
+
+/// Writes the lines of a history.
+#[tactic(auto, using(std::proofs::lemmas::List::append_assoc))]
+pub fn write_history(alloc: Global, out: &mut String, entries: &[Entry]) -> Result<(), NoMemory>
+    ensures { OnOk result (string_bytes out.new
+        ≡ string_bytes out.old ++ flat_map line_text (history_lines entries.now)) }
+{
+    let posts = accepted_posts(alloc, entries)?;
+    for entry in entries {
+        write_entry(out, &posts, entry)?;
+    }
+    Ok(())
+}
