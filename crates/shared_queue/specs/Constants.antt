@@ -4,12 +4,20 @@ use Rattle.loop_model.specs.declared.entry.Entry.{Entry}
 use Rattle.loop_model.specs.Answers.{Setting}
 use Rattle.loop_model.specs.Base.{empty_base}
 use Rattle.queue_state.specs.Queue.{Queue}
+use Rattle.shared_queue.specs.declared.traits.Traits.{Traits}
 
 -- the home of its messages, the number of its looper, and whether it is the main one's, is in lockstep, and how many senders it has
 pub record Constants (H : Type 0) : Type 0 where
   pub home : H
   pub looper : ℕ
   pub setting : Setting
+
+-- the setting of a queue with these marks
+abbrev pub setting_of : Traits → Setting
+setting_of t = record { main = t.main; lockstep = t.lockstep; senders = t.senders }
+
+abbrev pub constants_of : {H : Type 0} → H → Traits → Constants H
+constants_of home t = record { home = home; looper = t.looper; setting = setting_of t }
 
 -- how many entries of the sender stand in the list
 abbrev pub made_in : ℕ → List Entry → ℕ

@@ -1,7 +1,7 @@
 // How a queue is made, and how it ends.
 ghost use Rattle.std.specs.Prelude.{◌≡◌, ◌+◌, ◌<◌, [], All, length, IfOk};
 ghost use Rattle.message_slot.specs.Letter.{IsAtHome};
-ghost use Rattle.shared_queue.specs.Constants.{IsStateOf};
+ghost use Rattle.shared_queue.specs.Constants.{IsStateOf, constants_of};
 ghost use Rattle.shared_queue.specs.Turn.{opening_view};
 ghost use Rattle.shared_queue.specs.Known.{Rests, IsOf};
 ghost use Rattle.shared_queue.specs.Ends.{undealt, IsNew, AreNew, AreInOrder, TakenIn, Gathered, HasCalls, IsSoundEnd};
@@ -9,6 +9,7 @@ ghost use Rattle.shared_queue.specs.Ends.{undealt, IsNew, AreNew, AreInOrder, Ta
 use crate::poster::Poster;
 use crate::queue::{Place, SharedQueue};
 use crate::rule::{Both, Deal, Learn, Sit};
+use crate::traits::Traits;
 use crate::view::QueueKey;
 use atomic_table::{Refused, Table};
 use loop_model::{NoMemory, QueueRecord, Sequence};
@@ -41,15 +42,15 @@ impl<K: Claim> SharedQueue<K> {
         ensures constants { IfOk result (λ r. r.0.constants ≡ record { home = home; looper = looper; setting = record { main = main; lockstep = lockstep; senders = senders } }) }
         ensures posters { IfOk result (λ r. (length r.1.items ≡ senders) × AreNew r.0 r.1.items) }
     {
-        let key = QueueKey {
-            home: Snapshot::of(&home),
+        let traits = Traits {
             looper,
             main,
             lockstep,
             senders,
         };
+        let named = Snapshot::of(&home);
         let state = QueueState::new(alloc, home, main, lockstep, senders)?;
-        let (queue, seat) = SharedQueue::open(alloc, key, state)?;
+        let (queue, seat) = SharedQueue::open(alloc, named, traits, state)?;
         let posters = queue.deal_all(alloc, seat, senders)?;
         Ok((queue, posters))
     }
@@ -85,18 +86,20 @@ impl<K: Claim> SharedQueue<K> {
     // The first seat has all sender numbers.
     fn open(
         alloc: Global,
-        key: QueueKey<K::Home>,
+        home: Snapshot<K::Home>,
+        traits: Traits,
         state: QueueState<K>,
     ) -> Result<(SharedQueue<K>, Place<K>), NoMemory>
-        requires { IsStateOf key state × (state.entries ≡ []) }
-        ensures { IfOk result (λ r. (r.0.constants ≡ key) × (r.1.table_id ≡ r.0.table) × (r.1.me ≡ (opening_view key, []))) }
+        requires { IsStateOf (constants_of home.value traits) state × (state.entries ≡ []) }
+        ensures { IfOk result (λ r. (r.0.constants ≡ constants_of home.value traits) × (r.1.table_id ≡ r.0.table) × (r.1.me ≡ (opening_view (constants_of home.value traits), []))) }
     {
+        let key = QueueKey { home, traits };
         let Ok(mut slots) = Vec::with_capacity(alloc, 1) else {
             return Err(NoMemory);
         };
         slots.push_reserved(Some(state));
         match Table::new(alloc, &[0, 0], slots, &key) {
-            Ok((table, seat)) => Ok((SharedQueue { table, key }, seat)),
+            Ok((table, seat)) => Ok((SharedQueue { table, traits }, seat)),
             Err(Refused { slots: _ }) => Err(NoMemory),
         }
     }
@@ -111,7 +114,7 @@ impl<K: Claim> SharedQueue<K> {
         ensures home { All (IsAtHome K.home self.constants.home) result.left }
     {
         let seat = self.gather(posters);
-        let SharedQueue { table, key } = self;
+        let SharedQueue { table, traits } = self;
         let mut closed = table.close_with(seat);
         let Some(state) = closed.take(0) else {
             unreachable!()
@@ -119,7 +122,7 @@ impl<K: Claim> SharedQueue<K> {
         closed.free();
         let (entries, left) = state.into_parts();
         Retired {
-            kept: key.into_record(Sequence::from_vec(entries)),
+            kept: traits.with_history(Sequence::from_vec(entries)),
             left,
         }
     }
@@ -145,22 +148,5 @@ impl<K: Claim> SharedQueue<K> {
             .shared
             .join_seat::<Both>(seat, poster.into_seat());
         self.table.shared.load::<Learn>(seat, 0);
-    }
-}
-
-impl<H> QueueKey<H> {
-    // What stayed the same, with the history.
-    fn into_record(self, entries: Sequence<loop_model::Entry>) -> QueueRecord
-        ensures looper { result.looper ≡ self.looper }
-        ensures setting { record { main = result.main; lockstep = result.lockstep; senders = result.senders } ≡ self.setting }
-        ensures entries { result.entries ≡ entries }
-    {
-        QueueRecord {
-            looper: self.looper,
-            main: self.main,
-            lockstep: self.lockstep,
-            senders: self.senders,
-            entries,
-        }
     }
 }

@@ -8,12 +8,14 @@ mod looks;
 mod poster;
 mod queue;
 mod rule;
+mod traits;
 mod view;
 
 pub use ends::Retired;
 pub use poster::Poster;
 pub use queue::SharedQueue;
 pub use rule::OneTurn;
+pub use traits::Traits;
 pub use view::{QueueKey, View};
 
 #[cfg(test)]

@@ -1,13 +1,14 @@
 // The table of a queue, and the two steps of a turn.
 ghost use Rattle.std.specs.Prelude.{◌≡◌, ◌<◌, true, false, [], ◌∷◌, length, Option, Some, None, MatchOption};
 ghost use Rattle.queue_state.specs.Queue.{Queue};
-ghost use Rattle.shared_queue.specs.Constants.{Constants, IsStateOf};
+ghost use Rattle.shared_queue.specs.Constants.{Constants, IsStateOf, setting_of};
 ghost use Rattle.shared_queue.specs.Turn.{taking, giving};
 ghost use Rattle.shared_queue.specs.Plays.{MayGive};
 ghost use Rattle.shared_queue.specs.Known.{Shared, Rests};
 ghost use Rattle.shared_queue.specs.Seats.{HasTaken};
 
 use crate::rule::{Give, OneTurn, Take};
+use crate::traits::Traits;
 use crate::view::{QueueKey, View};
 use atomic_table::{Seat, Table};
 use message_slot::Claim;
@@ -35,7 +36,7 @@ pub(crate) type Place<K> = Seat<Option<QueueState<K>>, View<QueueState<K>, <K as
 #[derive(Drop)]
 pub struct SharedQueue<K: Claim> {
     pub(crate) table: Board<K>,
-    pub(crate) key: QueueKey<K::Home>,
+    pub(crate) traits: Traits,
 }
 
 impl<K: Claim> Model for SharedQueue<K> {
@@ -43,7 +44,7 @@ impl<K: Claim> Model for SharedQueue<K> {
 
     ghost view = { λ s. record { table = s.table.shared.table_id; constants = s.table.shared.key } };
 
-    ghost invariant = { λ s. (s.table.shared.table_id.words ≡ 2) × (s.table.shared.table_id.slots ≡ 1) × (s.key ≡ s.table.shared.key) };
+    ghost invariant = { λ s. (s.table.shared.table_id.words ≡ 2) × (s.table.shared.table_id.slots ≡ 1) × (s.traits.looper ≡ s.table.shared.key.looper) × (setting_of s.traits ≡ s.table.shared.key.setting) };
 }
 
 impl<K: Claim> SharedQueue<K> {

@@ -1,7 +1,8 @@
-ghost use Rattle.std.specs.Prelude.{◌≡◌, ◌+◌, IfOk, None, true, false};
+ghost use Rattle.std.specs.Prelude.{◌≡◌, ◌+◌, IfOk, None, true, false, length};
 ghost use Rattle.std.specs.Thread.{IsSync};
 ghost use Rattle.loop_model.specs.Items.{is_barrier};
 ghost use Rattle.shared_queue.specs.Known.{IsOf};
+ghost use Rattle.shared_queue.specs.Ends.{AreInOrder};
 
 use crate::{Poster, Retired, SharedQueue};
 use loop_model::{Entry, Filter, Kind, NoMemory, Post};
@@ -133,17 +134,30 @@ fn work<R: Wait>(
     }
 }
 
-fn worked<R: Threads + Wait + Sync>(rt: &R, alloc: Global) -> Result<Retired<NoClaim>, NoMemory> {
-    let (queue, mut posters) = SharedQueue::<NoClaim>::make(alloc, (), 1, false, false, 3)?;
+// Each poster works in a thread of its own.
+fn side_by_side<R: Threads + Wait + Sync>(
+    rt: &R,
+    alloc: Global,
+    queue: &SharedQueue<NoClaim>,
+    posters: &mut [Poster<NoClaim>],
+)
+    requires { AreInOrder queue.now posters.old }
+    ensures { (length posters.new ≡ length posters.old) × AreInOrder queue.now posters.new }
+{
     thread::for_each_mut(
         rt,
-        posters.as_mut_slice(),
+        posters,
         3,
         &|i, poster: &mut Poster<NoClaim>|
-            requires { IsSync R.row × IsOf poster.old queue }
-            ensures { IsOf poster.new queue × (poster.new.sender ≡ poster.old.sender) }
-        { work(rt, alloc, &queue, poster, i) },
+            requires { IsSync R.row × IsOf poster.old queue.now }
+            ensures { IsOf poster.new queue.entry.now × (poster.new.sender ≡ poster.old.sender) }
+        { work(rt, alloc, queue, poster, i) },
     );
+}
+
+fn worked<R: Threads + Wait + Sync>(rt: &R, alloc: Global) -> Result<Retired<NoClaim>, NoMemory> {
+    let (queue, mut posters) = SharedQueue::<NoClaim>::make(alloc, (), 1, false, false, 3)?;
+    side_by_side(rt, alloc, &queue, posters.as_mut_slice());
     Ok(queue.retire(posters))
 }
 

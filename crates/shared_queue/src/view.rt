@@ -1,25 +1,23 @@
 // What a seat at the table of a queue knows.
+use crate::traits::Traits;
 use loop_model::Entry;
 use std::collections::LinkedList;
 use std::marker::Model;
 use std::snapshot::Snapshot;
 
-/// What stays the same in a queue.
+/// What stays the same in a queue. The home has no bytes here.
 #[derive(Drop)]
 pub struct QueueKey<H> {
     pub(crate) home: Snapshot<H>,
-    pub(crate) looper: u32,
-    pub(crate) main: bool,
-    pub(crate) lockstep: bool,
-    pub(crate) senders: u32,
+    pub(crate) traits: Traits,
 }
 
 impl<H> Model for QueueKey<H> {
-    ghost use Rattle.shared_queue.specs.Constants.{Constants};
+    ghost use Rattle.shared_queue.specs.Constants.{Constants, constants_of};
 
     ghost Value = { Constants H };
 
-    ghost view = { λ k. record { home = k.home.value; looper = k.looper; setting = record { main = k.main; lockstep = k.lockstep; senders = k.senders } } };
+    ghost view = { λ k. constants_of k.home.value k.traits };
 }
 
 /// No value of it is made.

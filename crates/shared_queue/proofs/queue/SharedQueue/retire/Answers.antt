@@ -30,7 +30,7 @@ returns-clause-sound g c =
     let q : Shared g.row.K-Home.Denot = c.args.self in
     let is : q.constants ≡ key = ap (λ (z : Shared g.row.K-Home.Denot). z.constants) (sym c.self.view_is) in
     let t = closes_with key q c.args.posters.items c.gather-seat.result.me (c.requires.0 ∙ ap (λ (z : Constants g.row.K-Home.Denot). z.setting.senders) is) c.requires.1 c.gather-seat.ensures.1 c.gather-seat.result.id _ _ c.in-Some.state c.close_with-closed.ensures.values.2 c.in-Some.ensures.value in
-    subst (λ (k : Constants g.row.K-Home.Denot). IsSoundEnd k.setting c.into_record.result.entries c.into_parts-entries.result.1) (sym is) (sound_end key c.in-Some.state c.into_record.result.entries c.into_parts-entries.result.1 t.0 c.into_parts-entries.ensures.sound (search rules) c.into_parts-entries.ensures.left)
+    subst (λ (k : Constants g.row.K-Home.Denot). IsSoundEnd k.setting c.with_history.result.entries c.into_parts-entries.result.1) (sym is) (sound_end key c.in-Some.state c.with_history.result.entries c.into_parts-entries.result.1 t.0 c.into_parts-entries.ensures.sound (search rules) c.into_parts-entries.ensures.left)
 
 pub returns-clause-posters : goal.returns-clause-posters
 returns-clause-posters g c =
