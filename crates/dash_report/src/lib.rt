@@ -10,3 +10,6 @@ mod summary;
 
 pub use report::report_text;
 pub use summary::summary_text;
+
+#[cfg(test)]
+mod tests;

@@ -2,6 +2,7 @@
 use Rattle.std.proofs.Common.{◌≡◌, ◌<◌, ℕ, zero, suc, Bool, true, false, List, [], ◌∷◌, ◌++◌, length, Option, Some, None, refl, sym, ap, ◌∙◌, subst, arith}
 use Rattle.std.specs.Prelude.{◌&&◌, ◌||◌, not, slice_get, is_some, nat_le}
 use Rattle.std.specs.List.{filter_map}
+use Rattle.std.proofs.lemmas.List.Elements.{filter_map-append}
 use Rattle.std.specs.Option.{option_map_or}
 use Rattle.loop_model.specs.declared.post.Post.{Post as PostData}
 use Rattle.loop_model.specs.declared.entry.Entry.{Entry}
@@ -13,14 +14,6 @@ use Rattle.run_model.specs.Histories.{accepted_post, post_of}
 use Rattle.run_model.specs.Loopers.{Looper, delivered, and_takes, starts_frame}
 use Rattle.run_model.specs.Acts.{dispatched, after_act, MayCome, Lead}
 use Rattle.run_model.specs.FrameRuns.{frame_ids, is_frame_from, is_begin, place_after}
-
-pub filter_map-append : {X Y : Type 0} (f : X → Option Y) (xs ys : List X) → filter_map f (xs ++ ys) ≡ filter_map f xs ++ filter_map f ys
-filter_map-append f [] ys = refl
-filter_map-append f (x ∷ xs) ys = go (f x) refl (filter_map-append f xs ys)
-  where
-    go : (o : Option _) → f x ≡ o → filter_map f (xs ++ ys) ≡ filter_map f xs ++ filter_map f ys → filter_map f ((x ∷ xs) ++ ys) ≡ filter_map f (x ∷ xs) ++ filter_map f ys
-    go None e rest = rw (e, rest) refl
-    go (Some y) e rest = rw (e, rest) refl
 
 pub slice_get-append : {X : Type 0} (xs ys : List X) (i : ℕ) → is_some (slice_get xs i) ≡ true → slice_get (xs ++ ys) i ≡ slice_get xs i
 slice_get-append [] ys i h = cc
