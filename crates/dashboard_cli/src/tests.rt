@@ -56,273 +56,354 @@ fn run(
     Ok((outcome, sink.bytes().to_vec(alloc)?))
 }
 
+/// Words, and the command that they name.
+const NAMED: [(&str, Option<Command>); 21] = [
+    ("run", Some(Command::Run)),
+    ("text", Some(Command::Text)),
+    ("make 0", Some(Command::Make { number: 0 })),
+    ("make 4294967295", Some(Command::Make { number: u32::MAX })),
+    ("make 17 --run", Some(Command::MakeRun { number: 17 })),
+    ("make --run 17", Some(Command::MakeRun { number: 17 })),
+    ("", None),
+    ("run --free", None),
+    ("run --fast", None),
+    ("run run", None),
+    ("text --", None),
+    ("make", None),
+    ("make 017", None),
+    ("make +17", None),
+    ("make -- 17", None),
+    ("make 4294967296", None),
+    ("make 1 2", None),
+    ("make 17 --run --run", None),
+    ("help", None),
+    ("--help", None),
+    ("Run", None),
+];
+
+fn names(
+    rt: &impl Abort,
+    alloc: Global,
+    line: &str,
+    command: Option<Command>,
+) -> Result<(), AllocError> {
+    let words = words(alloc, line)?;
+    let read = read_words(alloc, words.as_slice()).expect(rt, "memory");
+    assert!(rt; read == command, "at {line:?}");
+    Ok(())
+}
+
 #[test]
 fn words_name_a_command(rt: HostRuntime) -> Result<(), Fail> {
     let alloc = rt.alloc();
-    let table = [
-        ("run", Some(Command::Run)),
-        ("text", Some(Command::Text)),
-        ("make 0", Some(Command::Make { number: 0 })),
-        ("make 4294967295", Some(Command::Make { number: u32::MAX })),
-        ("make 17 --run", Some(Command::MakeRun { number: 17 })),
-        ("make --run 17", Some(Command::MakeRun { number: 17 })),
-        ("", None),
-        ("run --free", None),
-        ("run --fast", None),
-        ("run run", None),
-        ("text --", None),
-        ("make", None),
-        ("make 017", None),
-        ("make +17", None),
-        ("make -- 17", None),
-        ("make 4294967296", None),
-        ("make 1 2", None),
-        ("make 17 --run --run", None),
-        ("help", None),
-        ("--help", None),
-        ("Run", None),
-    ];
-    for (line, command) in table {
-        let words = words(alloc, line)?;
-        let read = read_words(alloc, words.as_slice()).expect(&rt, "memory");
-        assert_eq!(rt; read, command, "at {line:?}");
+    for &(line, command) in &NAMED {
+        names(&rt, alloc, line, command)?;
     }
+    Ok(())
+}
+
+/// Heads and bodies of scripts, with the first and the last lines of their reports.
+const EXAMPLES: [(&str, &str, &str, &str); 18] = [
+    // A post without delay is dispatched before an earlier one that is delayed.
+    (
+        ONE,
+        "at 10\n0 post 0 7 5\n0 post 0 8 0\nend 20\n",
+        FIRST,
+        "10 dispatch 1 0 8\n15 dispatch 0 0 7\nfates accepted 2 dispatched 2 removed 0 dropped 0 stranded 0 queued 0\nend\n",
+    ),
+    // Posts with time 0 are front posts.
+    (
+        ONE,
+        "at 0\n0 post 0 1 0\n0 post 0 2 0\nend 0\n",
+        FIRST,
+        "0 dispatch 1 0 2\n0 dispatch 0 0 1\nfates accepted 2 dispatched 2 removed 0 dropped 0 stranded 0 queued 0\nend\n",
+    ),
+    // Nothing but the end.
+    (
+        ONE,
+        "end 0\n",
+        FIRST,
+        "fates accepted 0 dispatched 0 removed 0 dropped 0 stranded 0 queued 0\nend\n",
+    ),
+    // A front post goes before what is due now.
+    (
+        ONE,
+        "at 10\n0 post 0 1 0\n0 front 0 2\n0 post 0 3 0\nend 10\n",
+        FIRST,
+        "10 dispatch 1 0 2\n10 dispatch 0 0 1\n10 dispatch 2 0 3\nfates accepted 3 dispatched 3 removed 0 dropped 0 stranded 0 queued 0\nend\n",
+    ),
+    // Equal times keep the order of posting.
+    (
+        ONE,
+        "at 10\n0 post 0 1 5\n0 post 0 2 5\n0 post 0 3 5\nend 15\n",
+        FIRST,
+        "15 dispatch 0 0 1\n15 dispatch 1 0 2\n15 dispatch 2 0 3\nfates accepted 3 dispatched 3 removed 0 dropped 0 stranded 0 queued 0\nend\n",
+    ),
+    // Behind a barrier only the asynchronous message goes.
+    (
+        ONE,
+        "at 10\n0 barrier 0 0\n0 post 0 1 0\n0 post-async 0 2 0\nat 12\n0 unbarrier 0\nend 12\n",
+        FIRST,
+        "10 dispatch 1 0 2\n12 dispatch 0 0 1\nfates accepted 2 dispatched 2 removed 0 dropped 0 stranded 0 queued 0\nend\n",
+    ),
+    // A message before the barrier goes, one behind it stays.
+    (
+        ONE,
+        "at 10\n0 post 0 1 0\n0 barrier 0 0\n0 post 0 2 0\nend 10\n",
+        FIRST,
+        "10 dispatch 0 0 1\nfates accepted 2 dispatched 1 removed 0 dropped 0 stranded 0 queued 1\nend\n",
+    ),
+    // Removing a barrier twice is refused the second time.
+    (
+        ONE,
+        "at 10\n0 barrier 0 0\n0 unbarrier 0\n0 unbarrier 0\nend 10\n",
+        FIRST,
+        "not-posted 0\nfates accepted 0 dispatched 0 removed 0 dropped 0 stranded 0 queued 0\nend\n",
+    ),
+    // Removal of `what` 0 takes a posted callback too, that of the callback takes it alone, and that of all takes all.
+    (
+        ONE,
+        "at 10\n0 callback 0 9 0\n0 post 0 0 0\n0 post 0 1 0\n0 remove 0 0\nend 10\n",
+        FIRST,
+        "10 dispatch 2 0 1\nfates accepted 3 dispatched 1 removed 2 dropped 0 stranded 0 queued 0\nend\n",
+    ),
+    (
+        ONE,
+        "at 10\n0 callback 0 9 0\n0 post 0 0 0\n0 post 0 1 0\n0 remove-callback 0 9\nend 10\n",
+        FIRST,
+        "10 dispatch 1 0 0\n10 dispatch 2 0 1\nfates accepted 3 dispatched 2 removed 1 dropped 0 stranded 0 queued 0\nend\n",
+    ),
+    (
+        ONE,
+        "at 10\n0 callback 0 9 0\n0 post 0 0 0\n0 post 0 1 0\n0 remove-all 0\nend 10\n",
+        FIRST,
+        "fates accepted 3 dispatched 0 removed 3 dropped 0 stranded 0 queued 0\nend\n",
+    ),
+    (
+        ONE,
+        "at 10\n0 callback 0 9 0\n0 post 0 0 0\n0 post 0 1 0\nend 10\n",
+        FIRST,
+        "10 dispatch 0 0 callback 9\n10 dispatch 1 0 0\n10 dispatch 2 0 1\nfates accepted 3 dispatched 3 removed 0 dropped 0 stranded 0 queued 0\nend\n",
+    ),
+    // A safe quit drops what is due later and keeps what is due now.
+    (
+        TWO,
+        "at 0\n0 post 1 1 9\n0 post 1 2 10\n0 post 1 3 11\nat 10\n0 quit-safely 1\nend 20\n",
+        SECOND,
+        "9 dispatch 0 1 1\n10 dispatch 1 1 2\nfates accepted 3 dispatched 2 removed 0 dropped 1 stranded 0 queued 0\nend\n",
+    ),
+    // A message behind a barrier is stranded at the disposal, unless the barrier is removed before.
+    (
+        TWO,
+        "at 10\n0 barrier 1 0\n0 post 1 1 0\n0 quit-safely 1\nend 20\n",
+        SECOND,
+        "fates accepted 1 dispatched 0 removed 0 dropped 0 stranded 1 queued 0\nend\n",
+    ),
+    (
+        TWO,
+        "at 10\n0 barrier 1 0\n0 post 1 1 0\n0 quit-safely 1\n0 unbarrier 0\nend 20\n",
+        SECOND,
+        "10 dispatch 0 1 1\nfates accepted 1 dispatched 1 removed 0 dropped 0 stranded 0 queued 0\nend\n",
+    ),
+    // After a quit a post is refused and names the quit's place, and a second quit does nothing.
+    (
+        TWO,
+        "at 10\n0 quit 1\n0 post 1 5 0\nend 10\n",
+        SECOND,
+        "refused 1 5 quit 1\nfates accepted 0 dispatched 0 removed 0 dropped 0 stranded 0 queued 0\nend\n",
+    ),
+    (
+        TWO,
+        "at 10\n0 quit 1\n0 quit 1\nend 10\n",
+        SECOND,
+        "already-quit 1\nfates accepted 0 dispatched 0 removed 0 dropped 0 stranded 0 queued 0\nend\n",
+    ),
+    // The main looper may not quit.
+    (
+        ONE,
+        "at 10\n0 quit 0\n0 post 0 1 5\nend 12\n",
+        FIRST,
+        "not-allowed\nfates accepted 1 dispatched 0 removed 0 dropped 0 stranded 0 queued 1\nend\n",
+    ),
+];
+
+fn runs_to(
+    rt: &impl Abort,
+    alloc: Global,
+    input: Vec<u8>,
+    wanted: &[u8],
+) -> Result<(), AllocError> {
+    let mut source = source(input, 7, Vec::new(alloc));
+    let (outcome, written) = run(rt, alloc, "run", &mut source, Vec::new(alloc))?;
+    assert!(rt; outcome.status == Status::Ok);
+    assert!(rt; outcome.report.is_some());
+    assert!(rt; written.as_slice() == wanted);
     Ok(())
 }
 
 #[test]
 fn scripts_run_to_their_reports(rt: HostRuntime) -> Result<(), Fail> {
     let alloc = rt.alloc();
-    let table = [
-        // A post without delay is dispatched before an earlier one that is delayed.
-        (
-            ONE,
-            "at 10\n0 post 0 7 5\n0 post 0 8 0\nend 20\n",
-            FIRST,
-            "10 dispatch 1 0 8\n15 dispatch 0 0 7\nfates accepted 2 dispatched 2 removed 0 dropped 0 stranded 0 queued 0\nend\n",
-        ),
-        // Posts with time 0 are front posts.
-        (
-            ONE,
-            "at 0\n0 post 0 1 0\n0 post 0 2 0\nend 0\n",
-            FIRST,
-            "0 dispatch 1 0 2\n0 dispatch 0 0 1\nfates accepted 2 dispatched 2 removed 0 dropped 0 stranded 0 queued 0\nend\n",
-        ),
-        // Nothing but the end.
-        (
-            ONE,
-            "end 0\n",
-            FIRST,
-            "fates accepted 0 dispatched 0 removed 0 dropped 0 stranded 0 queued 0\nend\n",
-        ),
-        // A front post goes before what is due now.
-        (
-            ONE,
-            "at 10\n0 post 0 1 0\n0 front 0 2\n0 post 0 3 0\nend 10\n",
-            FIRST,
-            "10 dispatch 1 0 2\n10 dispatch 0 0 1\n10 dispatch 2 0 3\nfates accepted 3 dispatched 3 removed 0 dropped 0 stranded 0 queued 0\nend\n",
-        ),
-        // Equal times keep the order of posting.
-        (
-            ONE,
-            "at 10\n0 post 0 1 5\n0 post 0 2 5\n0 post 0 3 5\nend 15\n",
-            FIRST,
-            "15 dispatch 0 0 1\n15 dispatch 1 0 2\n15 dispatch 2 0 3\nfates accepted 3 dispatched 3 removed 0 dropped 0 stranded 0 queued 0\nend\n",
-        ),
-        // Behind a barrier only the asynchronous message goes.
-        (
-            ONE,
-            "at 10\n0 barrier 0 0\n0 post 0 1 0\n0 post-async 0 2 0\nat 12\n0 unbarrier 0\nend 12\n",
-            FIRST,
-            "10 dispatch 1 0 2\n12 dispatch 0 0 1\nfates accepted 2 dispatched 2 removed 0 dropped 0 stranded 0 queued 0\nend\n",
-        ),
-        // A message before the barrier goes, one behind it stays.
-        (
-            ONE,
-            "at 10\n0 post 0 1 0\n0 barrier 0 0\n0 post 0 2 0\nend 10\n",
-            FIRST,
-            "10 dispatch 0 0 1\nfates accepted 2 dispatched 1 removed 0 dropped 0 stranded 0 queued 1\nend\n",
-        ),
-        // Removing a barrier twice is refused the second time.
-        (
-            ONE,
-            "at 10\n0 barrier 0 0\n0 unbarrier 0\n0 unbarrier 0\nend 10\n",
-            FIRST,
-            "not-posted 0\nfates accepted 0 dispatched 0 removed 0 dropped 0 stranded 0 queued 0\nend\n",
-        ),
-        // Removal of `what` 0 takes a posted callback too, that of the callback takes it alone, and that of all takes all.
-        (
-            ONE,
-            "at 10\n0 callback 0 9 0\n0 post 0 0 0\n0 post 0 1 0\n0 remove 0 0\nend 10\n",
-            FIRST,
-            "10 dispatch 2 0 1\nfates accepted 3 dispatched 1 removed 2 dropped 0 stranded 0 queued 0\nend\n",
-        ),
-        (
-            ONE,
-            "at 10\n0 callback 0 9 0\n0 post 0 0 0\n0 post 0 1 0\n0 remove-callback 0 9\nend 10\n",
-            FIRST,
-            "10 dispatch 1 0 0\n10 dispatch 2 0 1\nfates accepted 3 dispatched 2 removed 1 dropped 0 stranded 0 queued 0\nend\n",
-        ),
-        (
-            ONE,
-            "at 10\n0 callback 0 9 0\n0 post 0 0 0\n0 post 0 1 0\n0 remove-all 0\nend 10\n",
-            FIRST,
-            "fates accepted 3 dispatched 0 removed 3 dropped 0 stranded 0 queued 0\nend\n",
-        ),
-        (
-            ONE,
-            "at 10\n0 callback 0 9 0\n0 post 0 0 0\n0 post 0 1 0\nend 10\n",
-            FIRST,
-            "10 dispatch 0 0 callback 9\n10 dispatch 1 0 0\n10 dispatch 2 0 1\nfates accepted 3 dispatched 3 removed 0 dropped 0 stranded 0 queued 0\nend\n",
-        ),
-        // A safe quit drops what is due later and keeps what is due now.
-        (
-            TWO,
-            "at 0\n0 post 1 1 9\n0 post 1 2 10\n0 post 1 3 11\nat 10\n0 quit-safely 1\nend 20\n",
-            SECOND,
-            "9 dispatch 0 1 1\n10 dispatch 1 1 2\nfates accepted 3 dispatched 2 removed 0 dropped 1 stranded 0 queued 0\nend\n",
-        ),
-        // A message behind a barrier is stranded at the disposal, unless the barrier is removed before.
-        (
-            TWO,
-            "at 10\n0 barrier 1 0\n0 post 1 1 0\n0 quit-safely 1\nend 20\n",
-            SECOND,
-            "fates accepted 1 dispatched 0 removed 0 dropped 0 stranded 1 queued 0\nend\n",
-        ),
-        (
-            TWO,
-            "at 10\n0 barrier 1 0\n0 post 1 1 0\n0 quit-safely 1\n0 unbarrier 0\nend 20\n",
-            SECOND,
-            "10 dispatch 0 1 1\nfates accepted 1 dispatched 1 removed 0 dropped 0 stranded 0 queued 0\nend\n",
-        ),
-        // After a quit a post is refused and names the quit's place, and a second quit does nothing.
-        (
-            TWO,
-            "at 10\n0 quit 1\n0 post 1 5 0\nend 10\n",
-            SECOND,
-            "refused 1 5 quit 1\nfates accepted 0 dispatched 0 removed 0 dropped 0 stranded 0 queued 0\nend\n",
-        ),
-        (
-            TWO,
-            "at 10\n0 quit 1\n0 quit 1\nend 10\n",
-            SECOND,
-            "already-quit 1\nfates accepted 0 dispatched 0 removed 0 dropped 0 stranded 0 queued 0\nend\n",
-        ),
-        // The main looper may not quit.
-        (
-            ONE,
-            "at 10\n0 quit 0\n0 post 0 1 5\nend 12\n",
-            FIRST,
-            "not-allowed\nfates accepted 1 dispatched 0 removed 0 dropped 0 stranded 0 queued 1\nend\n",
-        ),
-    ];
-    for (head, script, front, rest) in table {
+    for &(head, script, front, rest) in &EXAMPLES {
         let input = joined(alloc, head, script)?;
         let wanted = joined(alloc, front, rest)?;
-        let mut source = source(input, 7, Vec::new(alloc));
-        let (outcome, written) = run(&rt, alloc, "run", &mut source, Vec::new(alloc))?;
-        assert_eq!(rt; outcome.status, Status::Ok, "at {script:?}");
-        assert!(rt; outcome.report.is_some());
-        assert_eq!(rt; written.as_slice(), wanted.as_slice(), "at {script:?}");
+        runs_to(&rt, alloc, input, wanted.as_slice())?;
     }
+    Ok(())
+}
+
+/// Words, a text, its least bad line and that line's cause.
+const REFUSED: [(&str, &str, u64, Cause); 7] = [
+    ("run", "", 1, Cause::Missing),
+    ("text", "dashboard 1\nloopers 1\nthre", 3, Cause::Form),
+    ("run", "dashboard 1\nloopers 9\n", 2, Cause::Range),
+    (
+        "run",
+        "dashboard 1\nloopers 1\nthreads 1\nhandler 0 1\n",
+        4,
+        Cause::Unknown,
+    ),
+    (
+        "run",
+        "dashboard 1\nloopers 1\nthreads 1\nhandler 1 0\n",
+        4,
+        Cause::Order,
+    ),
+    (
+        "run",
+        "dashboard 1\nloopers 1\nthreads 1\nhandler 0 0\nvsync 16666667\nat 0\n0 idle 0 3 once\nend 0\n",
+        7,
+        Cause::Unbuilt,
+    ),
+    ("make 7 --run", "", 3, Cause::Unbuilt),
+];
+
+fn is_refused(
+    rt: &impl Abort,
+    alloc: Global,
+    line: &str,
+    script: &str,
+    status: &Status,
+) -> Result<(), AllocError> {
+    let mut source = source(script.as_bytes().to_vec(alloc)?, 7, Vec::new(alloc));
+    let (outcome, written) = run(rt, alloc, line, &mut source, Vec::new(alloc))?;
+    assert!(rt; outcome.status == *status, "at {script:?}");
+    assert!(rt; outcome.report.is_none());
+    assert!(rt; written.is_empty());
     Ok(())
 }
 
 #[test]
 fn refused_scripts_write_nothing(rt: HostRuntime) -> Result<(), Fail> {
     let alloc = rt.alloc();
-    let table = [
-        ("run", "", 1, Cause::Missing),
-        ("text", "dashboard 1\nloopers 1\nthre", 3, Cause::Form),
-        ("run", "dashboard 1\nloopers 9\n", 2, Cause::Range),
-        (
-            "run",
-            "dashboard 1\nloopers 1\nthreads 1\nhandler 0 1\n",
-            4,
-            Cause::Unknown,
-        ),
-        (
-            "run",
-            "dashboard 1\nloopers 1\nthreads 1\nhandler 1 0\n",
-            4,
-            Cause::Order,
-        ),
-        (
-            "run",
-            "dashboard 1\nloopers 1\nthreads 1\nhandler 0 0\nvsync 16666667\nat 0\n0 idle 0 3 once\nend 0\n",
-            7,
-            Cause::Unbuilt,
-        ),
-        ("make 7 --run", "", 3, Cause::Unbuilt),
-    ];
-    for (line, script, bad, cause) in table {
-        let mut source = source(script.as_bytes().to_vec(alloc)?, 7, Vec::new(alloc));
-        let (outcome, written) = run(&rt, alloc, line, &mut source, Vec::new(alloc))?;
-        let status = Status::Script { line: bad, cause };
-        assert_eq!(rt; outcome.status, status, "at {script:?}");
-        assert!(rt; outcome.report.is_none());
-        assert!(rt; written.is_empty());
+    for &(line, script, bad, cause) in &REFUSED {
+        is_refused(
+            &rt,
+            alloc,
+            line,
+            script,
+            &Status::Script { line: bad, cause },
+        )?;
     }
     Ok(())
 }
 
+fn is_given_back(
+    rt: &impl Abort,
+    alloc: Global,
+    script: &[u8],
+    most: u8,
+) -> Result<(), AllocError> {
+    let mut source = source(script.to_vec(alloc)?, most, Vec::new(alloc));
+    let (outcome, written) = run(rt, alloc, "text", &mut source, Vec::new(alloc))?;
+    assert!(rt; outcome.status == Status::Ok);
+    assert!(rt; outcome.report.is_none());
+    assert!(rt; written.as_slice() == script);
+    Ok(())
+}
+
 #[test]
-fn texts_are_written_whole(rt: HostRuntime) -> Result<(), Fail> {
+fn texts_are_given_back(rt: HostRuntime) -> Result<(), Fail> {
     let alloc = rt.alloc();
     let script = joined(alloc, ONE, "at 10\n0 idle 0 3 keep\n0 post 0 7 5\nend 20\n")?;
-    for most in [1, 7, 255] {
-        let mut source = source(script.clone()?, most, Vec::new(alloc));
-        let (outcome, written) = run(&rt, alloc, "text", &mut source, Vec::new(alloc))?;
-        assert_eq!(rt; outcome.status, Status::Ok);
-        assert!(rt; outcome.report.is_none());
-        assert_eq!(rt; written.as_slice(), script.as_slice());
-    }
-    // `make` reads nothing, so a source that fails is no fault.
+    is_given_back(&rt, alloc, script.as_slice(), 1)?;
+    is_given_back(&rt, alloc, script.as_slice(), 255)?;
+    Ok(())
+}
+
+/// `make` reads nothing, so a source that fails is no fault.
+#[test]
+fn a_script_is_made(rt: HostRuntime) -> Result<(), Fail> {
+    let alloc = rt.alloc();
     let mut source = source(Vec::new(alloc), 1, vec![in alloc; 0]?);
     let (outcome, written) = run(&rt, alloc, "make 0", &mut source, Vec::new(alloc))?;
-    assert_eq!(rt; outcome.status, Status::Ok);
+    assert!(rt; outcome.status == Status::Ok);
     let lines = written.iter().filter(|byte| **byte == b'\n').count();
-    assert_eq!(rt; lines, 2_525);
-    assert!(rt;
-        written
-            .as_slice()
-            .starts_with(b"dashboard 1\nloopers 4\nthreads 4\n")
-    );
+    assert!(rt; lines == 2_525);
     assert!(rt; written.as_slice().ends_with(b"\nend 6000\n"));
     Ok(())
 }
 
+/// A read that fails is answered, and nothing is written. Answers whether it failed.
+fn reads(rt: &impl Abort, alloc: Global, script: &[u8], call: u64) -> Result<bool, AllocError> {
+    let mut source = source(script.to_vec(alloc)?, 8, vec![in alloc; call]?);
+    let (outcome, written) = run(rt, alloc, "run", &mut source, Vec::new(alloc))?;
+    let failed = outcome.status == Status::ReadFault;
+    assert!(rt; written.is_empty() == failed);
+    assert!(rt; outcome.report.is_none() == failed);
+    Ok(failed)
+}
+
+/// A write that fails is answered, and what was written before is a front of the report. Answers whether it failed.
+fn writes(rt: &impl Abort, alloc: Global, script: &[u8], call: u64) -> Result<bool, AllocError> {
+    let report =
+        b"report 1\nlooper 0\nfates accepted 0 dispatched 0 removed 0 dropped 0 stranded 0 queued 0\nend\n".as_slice();
+    let mut source = source(script.to_vec(alloc)?, 8, Vec::new(alloc));
+    let (outcome, written) = run(rt, alloc, "run", &mut source, vec![in alloc; call]?)?;
+    let failed = outcome.status == Status::WriteFault;
+    assert!(rt; outcome.report.is_some());
+    assert!(rt; report.starts_with(written.as_slice()));
+    assert!(rt; (written.len() == report.len()) != failed);
+    Ok(failed)
+}
+
+/// The head and the end are 65 bytes, so they are read in nine pieces, and a tenth read finds the end. The report is 92
+/// bytes, so it is written in six pieces.
 #[test]
 fn each_fault_is_answered(rt: HostRuntime) -> Result<(), Fail> {
     let alloc = rt.alloc();
-    // The head and the end are 65 bytes, so they are read in nine pieces, and a tenth read finds the end.
     let script = joined(alloc, ONE, "end 0\n")?;
     for call in 0..11 {
-        let mut source = source(script.clone()?, 8, vec![in alloc; call]?);
-        let (outcome, written) = run(&rt, alloc, "run", &mut source, Vec::new(alloc))?;
-        assert_eq!(rt;
-            outcome.status == Status::ReadFault,
-            call < 10,
-            "at read {call}"
-        );
-        assert_eq!(rt; written.is_empty(), call < 10);
-        assert_eq!(rt; outcome.report.is_some(), call == 10);
+        let failed = reads(&rt, alloc, script.as_slice(), call)?;
+        assert!(rt; failed == (call < 10), "at read {call}");
     }
-    // The report is 92 bytes, so it is written in six pieces.
-    let report =
-        b"report 1\nlooper 0\nfates accepted 0 dispatched 0 removed 0 dropped 0 stranded 0 queued 0\nend\n".as_slice();
     for call in 0..7 {
-        let mut source = source(script.clone()?, 8, Vec::new(alloc));
-        let (outcome, written) = run(&rt, alloc, "run", &mut source, vec![in alloc; call]?)?;
-        assert_eq!(rt;
-            outcome.status == Status::WriteFault,
-            call < 6,
-            "at write {call}"
-        );
-        assert!(rt; outcome.report.is_some());
-        assert_eq!(rt; written.len(), report.len().min(16 * call as usize));
-        assert!(rt; report.starts_with(written.as_slice()));
+        let failed = writes(&rt, alloc, script.as_slice(), call)?;
+        assert!(rt; failed == (call < 6), "at write {call}");
     }
+    Ok(())
+}
+
+/// So many bytes of no script.
+fn is_long(
+    rt: &impl Abort,
+    alloc: Global,
+    length: usize,
+    wanted: &Status,
+) -> Result<(), AllocError> {
+    let words = words(alloc, "run")?;
+    let mut source = SureSource::new(vec![in alloc; b'x'; length]?, 100_000);
+    let mut sink = SureSink::new(100_000);
+    let clock = StepClock::new(5);
+    let outcome = dashboard(
+        alloc,
+        words.as_slice(),
+        &mut source,
+        &mut sink,
+        &clock,
+        &OpenGate,
+    );
+    assert!(rt; outcome.status == *wanted);
     Ok(())
 }
 
@@ -333,71 +414,88 @@ fn a_byte_too_many_is_too_long(rt: HostRuntime) -> Result<(), Fail> {
         line: 1,
         cause: Cause::Form,
     };
-    for (length, wanted) in [(MOST_BYTES, form), (MOST_BYTES + 1, Status::TooLong)] {
-        let words = words(alloc, "run")?;
-        let mut source = SureSource::new(vec![in alloc; b'x'; length]?, 100_000);
-        let mut sink = SureSink::new(100_000);
-        let clock = StepClock::new(5);
-        let outcome = dashboard(
-            alloc,
-            words.as_slice(),
-            &mut source,
-            &mut sink,
-            &clock,
-            &OpenGate,
-        );
-        assert_eq!(rt; outcome.status, wanted);
-    }
+    is_long(&rt, alloc, MOST_BYTES, &form)?;
+    is_long(&rt, alloc, MOST_BYTES + 1, &Status::TooLong)?;
     Ok(())
+}
+
+/// Statuses, with their codes and texts.
+const STATUSES: [(Status, u8, &str); 13] = [
+    (Status::Ok, 0, ""),
+    (Status::Usage, 2, "dashboard: usage"),
+    (
+        Status::Script {
+            line: 1,
+            cause: Cause::Missing,
+        },
+        3,
+        "dashboard: script line 1: missing",
+    ),
+    (
+        Status::Script {
+            line: 2,
+            cause: Cause::Form,
+        },
+        3,
+        "dashboard: script line 2: form",
+    ),
+    (
+        Status::Script {
+            line: 30,
+            cause: Cause::Range,
+        },
+        3,
+        "dashboard: script line 30: range",
+    ),
+    (
+        Status::Script {
+            line: 400,
+            cause: Cause::Unknown,
+        },
+        3,
+        "dashboard: script line 400: unknown",
+    ),
+    (
+        Status::Script {
+            line: 5,
+            cause: Cause::Order,
+        },
+        3,
+        "dashboard: script line 5: order",
+    ),
+    (
+        Status::Script {
+            line: 20_001,
+            cause: Cause::TooMany,
+        },
+        3,
+        "dashboard: script line 20001: toomany",
+    ),
+    (
+        Status::Script {
+            line: 7,
+            cause: Cause::Unbuilt,
+        },
+        3,
+        "dashboard: script line 7: unbuilt",
+    ),
+    (Status::ReadFault, 4, "dashboard: read fault"),
+    (Status::WriteFault, 5, "dashboard: write fault"),
+    (Status::NoMemory, 6, "dashboard: no memory"),
+    (Status::TooLong, 7, "dashboard: too long"),
+];
+
+fn is_told(rt: &impl Abort, alloc: Global, status: &Status, code: u8, text: &str) {
+    assert!(rt; status.code() == code);
+    let line = status_text(alloc, status).expect(rt, "memory");
+    assert!(rt; line.as_str() == text);
 }
 
 #[test]
 fn statuses_have_their_codes_and_texts(rt: HostRuntime) -> Result<(), Fail> {
     let alloc = rt.alloc();
-    let script = |line, cause| Status::Script { line, cause };
-    let table = [
-        (Status::Ok, 0, ""),
-        (Status::Usage, 2, "dashboard: usage"),
-        (
-            script(1, Cause::Missing),
-            3,
-            "dashboard: script line 1: missing",
-        ),
-        (script(2, Cause::Form), 3, "dashboard: script line 2: form"),
-        (
-            script(30, Cause::Range),
-            3,
-            "dashboard: script line 30: range",
-        ),
-        (
-            script(400, Cause::Unknown),
-            3,
-            "dashboard: script line 400: unknown",
-        ),
-        (
-            script(5, Cause::Order),
-            3,
-            "dashboard: script line 5: order",
-        ),
-        (
-            script(20_001, Cause::TooMany),
-            3,
-            "dashboard: script line 20001: toomany",
-        ),
-        (
-            script(7, Cause::Unbuilt),
-            3,
-            "dashboard: script line 7: unbuilt",
-        ),
-        (Status::ReadFault, 4, "dashboard: read fault"),
-        (Status::WriteFault, 5, "dashboard: write fault"),
-        (Status::NoMemory, 6, "dashboard: no memory"),
-        (Status::TooLong, 7, "dashboard: too long"),
-    ];
-    for (status, code, text) in table {
-        assert_eq!(rt; status.code(), code);
-        let line = status_text(alloc, &status).expect(&rt, "memory");
-        assert_eq!(rt; line.as_str(), text);
+    for (status, code, text) in &STATUSES {
+        is_told(&rt, alloc, status, *code, text);
     }
     Ok(())
 }
