@@ -1,6 +1,5 @@
 -- A queue whose posters all came back.
-use Rattle.std.proofs.Common.{◌≡◌, ℕ, ◌<◌, List, [], ◌∷◌, map, length, get_or, refl, sym, ap, ◌∙◌, subst, arith, Option, Some}
-use Rattle.std.specs.Prelude.{All}
+use Rattle.std.proofs.Common.{◌≡◌, ℕ, ◌<◌, List, length, get_or, sym, ap, ◌∙◌, subst, arith, Option, Some}
 use Rattle.std.proofs.lemmas.List.{get_or-map, length-map}
 use mathlib.Core.Option.{some}
 use mathlib.Core.List.{IsPrefix}
@@ -18,7 +17,7 @@ use Rattle.shared_queue.specs.Constants.{Constants, made_in, IsStateOf}
 use Rattle.queue_state.specs.Queue.{Queue, IsSound}
 use Rattle.shared_queue.specs.Turn.{Counts, holds, Fits, AtHome, Turn}
 use Rattle.shared_queue.specs.Plays.{Sat}
-use Rattle.shared_queue.specs.Known.{Shared, Known, made_by}
+use Rattle.shared_queue.specs.Known.{Shared, Known}
 use Rattle.shared_queue.specs.Ends.{AreInOrder, HasCalls, number_of, Gathered, IsSoundEnd}
 use Rattle.shared_queue.proofs.Prefixes.{prefix_trans}
 use Rattle.shared_queue.proofs.Turns.{holds_at, all_rest}

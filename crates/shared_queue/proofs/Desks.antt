@@ -1,5 +1,5 @@
 -- The two ends of a turn, at a desk.
-use Rattle.std.proofs.Common.{◌≡◌, ℕ, ◌+◌, ◌-◌, ◌<◌, ◌≤◌, ◌⊎◌, ⊎_elim, inl, inr, cond, eqb, List, [], ◌∷◌, ◌++◌, length, refl, sym, ap, ◌∙◌, subst, arith, Option, Some, None, length-append, eq-eqb, ne_eqb}
+use Rattle.std.proofs.Common.{◌≡◌, ℕ, ◌+◌, ◌-◌, ◌<◌, ⊎_elim, inl, inr, cond, eqb, List, [], ◌∷◌, ◌++◌, length, sym, ap, ◌∙◌, subst, arith, Some, length-append, eq-eqb, ne_eqb}
 use Rattle.std.specs.Prelude.{All}
 use mathlib.Core.Logic.{dite}
 use native.Mathlib.Decide.{ℕ_discrete}
@@ -7,12 +7,12 @@ use Rattle.loop_model.specs.declared.entry.Entry.{Entry}
 use Rattle.queue_state.specs.Queue.{Queue, IsSound}
 use Rattle.shared_queue.specs.declared.desk.Desk.{Desk}
 use Rattle.shared_queue.specs.Weights.{total}
-use Rattle.shared_queue.specs.Constants.{Constants, made_in, IsStateOf}
-use Rattle.shared_queue.specs.Turn.{holds, counted, taking, giving}
+use Rattle.shared_queue.specs.Constants.{Constants, made_in}
+use Rattle.shared_queue.specs.Turn.{holds, counted, giving}
 use Rattle.shared_queue.specs.Plays.{Sat, IsCounted}
 use Rattle.shared_queue.specs.Known.{StepsBy}
 use Rattle.shared_queue.specs.Seats.{HasTaken}
-use Rattle.shared_queue.specs.Desk.{Counted, IsIdle, IsSameDesk, Began, MayEnd, Ended}
+use Rattle.shared_queue.specs.Desk.{IsIdle, IsSameDesk, Began, MayEnd, Ended}
 use Rattle.shared_queue.proofs.Prefixes.{made_in_push, one_of-yes}
 
 -- what holds of the only sender

@@ -1,15 +1,14 @@
 -- A desk hears of what another has seen.
-use Rattle.std.proofs.Common.{◌≡◌, ℕ, ◌+◌, max, List, [], ◌∷◌, ◌++◌, length, refl, sym, ap, ◌∙◌, subst, arith}
+use Rattle.std.proofs.Common.{◌≡◌, ℕ, max, List, [], ◌∷◌, ◌++◌, length, sym, ap, ◌∙◌, subst, arith}
 use Rattle.std.specs.Prelude.{All}
 use mathlib.Core.List.{IsPrefix}
-use Rattle.loop_model.specs.declared.entry.Entry.{Entry}
 use Rattle.queue_state.specs.Queue.{Queue}
 use Rattle.shared_queue.specs.declared.view.View.{View}
 use Rattle.shared_queue.specs.declared.desk.Desk.{Desk}
 use Rattle.shared_queue.specs.Constants.{made_in}
 use Rattle.shared_queue.specs.Turn.{fresh, longer, joined}
 use Rattle.shared_queue.specs.Plays.{Sat}
-use Rattle.shared_queue.specs.Known.{Known, IsSame}
+use Rattle.shared_queue.specs.Known.{IsSame}
 use Rattle.shared_queue.specs.Desk.{IsIdle}
 use Rattle.shared_queue.proofs.Desks.{only_sender}
 use Rattle.shared_queue.proofs.Knows.{known}

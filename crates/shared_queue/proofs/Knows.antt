@@ -1,10 +1,9 @@
 -- What contracts see of a turn.
-use Rattle.std.proofs.Common.{◌≡◌, ℕ, ◌+◌, ◌-◌, ◌<◌, List, [], ◌∷◌, ◌++◌, length, refl, sym, ap, ◌∙◌, subst, arith, Option, Some, inl, inr}
-use Rattle.loop_model.specs.declared.entry.Entry.{Entry}
-use Rattle.queue_state.specs.Queue.{Queue, IsSound}
+use Rattle.std.proofs.Common.{◌≡◌, ℕ, ◌+◌, ◌-◌, length, sym, ap, ◌∙◌, subst}
+use Rattle.queue_state.specs.Queue.{Queue}
 use Rattle.shared_queue.specs.declared.view.View.{View}
 use Rattle.shared_queue.specs.declared.desk.Desk.{Desk}
-use Rattle.shared_queue.specs.Constants.{Constants, made_in, IsStateOf}
+use Rattle.shared_queue.specs.Constants.{Constants, IsStateOf}
 use Rattle.shared_queue.specs.Turn.{taking, giving}
 use Rattle.shared_queue.specs.Plays.{Sat}
 use Rattle.shared_queue.specs.Known.{Known, IsTurn, StepsBy, made_by}

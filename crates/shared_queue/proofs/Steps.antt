@@ -1,8 +1,6 @@
 -- Each call of the state leaves at most one entry more, of its sender.
 use Rattle.std.proofs.Common.{◌≡◌, ℕ, refl, sym, subst, Bool, inl, inr, length}
 use Rattle.loop_model.specs.declared.post.Filter.{Filter}
-use Rattle.loop_model.specs.declared.call.Call.{Call}
-use Rattle.loop_model.specs.declared.reply.Reply.{Reply}
 use Rattle.loop_model.specs.declared.call.Call.TheVariants.{Post, Barrier, Unbarrier, Remove, Quit, Next, Advance, Halt}
 use Rattle.loop_model.specs.declared.reply.Reply.TheVariants.{Accepted, Refused, Token, Unbarriered, NotPosted, Removed, QuitDone, AlreadyQuit, NotAllowed, Dispatched, Disposed, Advanced, Halted}
 use Rattle.message_slot.specs.Letter.{Letter, post_of}
@@ -22,7 +20,7 @@ use Rattle.queue_state.specs.declared.answers.Advancing.{Advancing}
 use Rattle.queue_state.specs.declared.answers.Advancing.TheVariants as advancing
 use Rattle.queue_state.specs.declared.answers.Halting.{Halting}
 use Rattle.queue_state.specs.declared.answers.Halting.TheVariants as halting
-use Rattle.queue_state.specs.Queue.{Queue, entry_of, entered, moment_at}
+use Rattle.queue_state.specs.Queue.{Queue, entry_of, moment_at}
 use Rattle.queue_state.specs.Calls.{Posts, PostsBarrier, Unbars, Takes, Quits, Looks, Advances, Halts}
 use Rattle.shared_queue.specs.Known.{StepsBy}
 

@@ -1,5 +1,5 @@
 -- Each step keeps the rule.
-use Rattle.std.proofs.Common.{◌≡◌, ℕ, zero, suc, ◌+◌, ◌%◌, ◌^◌, ◌<◌, ◌≤◌, ◌≢◌, ◌⊎◌, Bool, true, false, true≢false, cond, eqb, List, [], ◌∷◌, ◌++◌, map, length, get_or, set, take, drop, refl, sym, ap, ◌∙◌, subst, inl, inr, ⊎_elim, arith, Option, Some, None, length-set, get_or-set_other, get_or-set_same, eq-eqb, ne_eqb}
+use Rattle.std.proofs.Common.{◌≡◌, ℕ, zero, suc, ◌+◌, ◌%◌, ◌<◌, ◌≤◌, ◌≢◌, Bool, true, false, true≢false, cond, eqb, List, [], ◌∷◌, ◌++◌, length, get_or, set, take, drop, refl, sym, ap, ◌∙◌, subst, ⊎_elim, arith, Option, Some, None, length-set, get_or-set_other, get_or-set_same, eq-eqb, ne_eqb}
 use Rattle.std.specs.Prelude.{All}
 use Rattle.std.proofs.lemmas.List.Elements.{All-nil, All-cons, All-append, All-weaker, All-map, All-take, All-drop}
 use Rattle.std.proofs.lemmas.List.{take-append-drop}
@@ -10,7 +10,7 @@ use native.Mathlib.Decide.{ℕ_discrete}
 use lib.ListN.{get_elem?}
 use lib.Seq.{set-get_or}
 use prog.Atomic.{either}
-use Rattle.atomic_table.specs.Table.{State, Me, Act, Valid, carried_after, step, keeps, takes, gives, rest, homes_after, stepped, Allows, Enters, Splits, Joins, opening}
+use Rattle.atomic_table.specs.Table.{Act, Valid, carried_after, step, keeps, takes, gives, rest, homes_after, stepped, Allows, Enters, Splits, Joins, opening}
 use Rattle.atomic_table.proofs.Lists.{at_set, set_here, set_else, at_snoc, exchanged}
 use Rattle.loop_model.specs.declared.entry.Entry.{Entry}
 use Rattle.loop_model.specs.Answers.{Setting}
@@ -19,9 +19,9 @@ use Rattle.queue_state.specs.Queue.{Queue}
 use Rattle.shared_queue.specs.declared.view.View.{View}
 use Rattle.shared_queue.specs.Weights.{total}
 use Rattle.shared_queue.specs.Turn.{Board, turn_of, holds, Counts, Fits, AtHome, Turn, numbers_from, opening_view, counted, taking, giving, fresh, keeping, longer, joined, gone}
-use Rattle.shared_queue.specs.Plays.{Sat, bare, sat, Won, took, gave, MayGive, learned, rang, listened}
+use Rattle.shared_queue.specs.Plays.{Sat, bare, sat, took, gave, MayGive, learned, rang, listened}
 use Rattle.shared_queue.proofs.Sums.{total-append, total-set, term_le, terms_le}
-use Rattle.shared_queue.proofs.Prefixes.{prefix_self, prefix_front, prefix_trans, prefix_shorter, longer_begins, made_in_push, one_of, one_of-yes, one_of-no, made_in_between}
+use Rattle.shared_queue.proofs.Prefixes.{prefix_self, prefix_front, prefix_trans, longer_begins, made_in_push, one_of-no, made_in_between}
 
 abbrev shown_or : {H K : Type 0} → Queue H K → Option (Queue H K) → Queue H K
 shown_or d None = d

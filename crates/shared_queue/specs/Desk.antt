@@ -1,5 +1,5 @@
 -- A desk between two calls, and during a turn.
-use Rattle.std.specs.Prelude.{◌≡◌, ℕ, ◌+◌, ◌-◌, ◌<◌, true, false, [], ◌∷◌, length, Some, None}
+use Rattle.std.specs.Prelude.{◌≡◌, ◌+◌, ◌-◌, ◌<◌, true, false, [], ◌∷◌, length, Some, None}
 use mathlib.Core.List.{IsPrefix}
 use Rattle.queue_state.specs.Queue.{Queue, IsSound}
 use Rattle.shared_queue.specs.declared.desk.Desk.{Desk}

@@ -1,5 +1,5 @@
 -- The rule of the turn over the state of a queue. Word 0 is 1 while a seat has the turn, and word 1 is the bell. The one slot is the state's home.
-use Rattle.std.specs.Prelude.{◌≡◌, ℕ, zero, suc, ◌+◌, ◌%◌, ◌^◌, ◌<◌, ◌==◌, Bool, true, false, cond, nat_lt, List, [], ◌∷◌, ◌++◌, map, length, take, drop, slice_index, All, Option, Some, None}
+use Rattle.std.specs.Prelude.{◌≡◌, ℕ, zero, suc, ◌+◌, ◌%◌, ◌^◌, ◌<◌, ◌==◌, true, false, cond, nat_lt, List, [], ◌∷◌, ◌++◌, map, length, slice_index, All, Option, Some, None}
 use mathlib.Core.Option.{some}
 use mathlib.Core.List.{IsPrefix}
 use lib.ListN.{get_elem?}

@@ -1,5 +1,4 @@
 use Rattle.std.proofs.Common.{rules, refl, ◌+◌, ◌-◌, ◌≡◌, length, ap}
-use Rattle.loop_model.specs.declared.entry.Entry.{Entry}
 use Rattle.shared_queue.proofs.Desks.{ends}
 use Rattle.shared_queue.proofs.desk.Desk+QueueState+K+K+Home.end.Goals as goal
 

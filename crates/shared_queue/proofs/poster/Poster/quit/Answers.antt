@@ -1,4 +1,4 @@
-use Rattle.std.proofs.Common.{ℕ, subst}
+use Rattle.std.proofs.Common.{subst}
 use Rattle.queue_state.specs.Queue.{Queue}
 use Rattle.queue_state.specs.Calls.{Quits, QuitsAtHome}
 use Rattle.shared_queue.specs.Known.{Known}

@@ -1,4 +1,4 @@
-use Rattle.std.proofs.Common.{rules, ◌≡◌, false, ℕ, List, [], drop, ap, ◌∙◌}
+use Rattle.std.proofs.Common.{rules, ℕ, List, [], drop, ap, ◌∙◌}
 use Rattle.shared_queue.specs.Constants.{Constants}
 use Rattle.shared_queue.specs.Turn.{opening_view, keeping}
 use Rattle.shared_queue.specs.Plays.{Sat}

@@ -1,5 +1,4 @@
-use Rattle.std.proofs.Common.{rules, ◌≡◌, ◌+◌, List, [], ◌∷◌, ◌++◌, length, ap, sym, ◌∙◌, subst, arith}
-use Rattle.shared_queue.specs.Known.{Known}
+use Rattle.std.proofs.Common.{rules, ◌≡◌, ◌+◌, [], ◌∷◌, ◌++◌, length, sym, ◌∙◌, subst}
 use Rattle.shared_queue.specs.Ends.{AreNew}
 use Rattle.shared_queue.proofs.Gathers.{deals_more}
 use Rattle.shared_queue.proofs.queue.SharedQueue.deal_all.Goals as goal

@@ -1,4 +1,4 @@
-use Rattle.std.proofs.Common.{rules, ◌≡◌, List, ◌∷◌, [], Some, Option, ap, sym, ◌∙◌, subst, ℕ}
+use Rattle.std.proofs.Common.{rules, ◌≡◌, [], ap, sym, ◌∙◌, subst}
 use Rattle.queue_state.specs.Queue.{Queue}
 use Rattle.shared_queue.specs.declared.view.View.{View}
 use Rattle.shared_queue.specs.Turn.{giving}

@@ -1,5 +1,5 @@
 use Rattle.std.specs.Slots.{slots_len}
-use Rattle.std.proofs.Common.{rules, arith, ◌<◌, ◌≡◌, ap, sym, ◌∙◌, subst, Option, Some}
+use Rattle.std.proofs.Common.{rules, arith, ◌<◌, ◌≡◌, ap, sym, ◌∙◌, subst}
 use Rattle.std.specs.Prelude.{All}
 use mathlib.Core.Option.{some-injective}
 use Rattle.message_slot.specs.Letter.{IsAtHome}

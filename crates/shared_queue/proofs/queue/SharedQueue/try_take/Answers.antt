@@ -1,4 +1,4 @@
-use Rattle.std.proofs.Common.{rules, ◌≡◌, ◌<◌, length, List, ◌∷◌, [], Some, Option, ap, sym, ◌∙◌, subst, ℕ}
+use Rattle.std.proofs.Common.{rules, ◌<◌, length, ◌∷◌, Some, ap, sym, ◌∙◌, subst}
 use Rattle.atomic_table.specs.Table.{rest}
 use Rattle.shared_queue.specs.Plays.{Sat}
 use Rattle.shared_queue.proofs.Turns.{takes_turn}
