@@ -3,5 +3,7 @@ pub mod Working
 pub mod Turning
 pub mod Posts
 pub mod Taking
+pub mod Quiet
 pub mod Steps
+pub mod Looking
 pub mod Rounds

@@ -17,9 +17,10 @@ use Rattle.queue_state.specs.Ended.{ended}
 use Rattle.shared_queue.specs.Constants.{Constants, IsStateOf}
 use Rattle.shared_queue.specs.Known.{Known, IsTurn}
 use Rattle.looper_run.specs.Holding.{Sender, State, Holding, Workplace, workplace}
-use Rattle.looper_run.specs.Acts.{IsQuiet, GrowsQuietly, act_dispatch, dispatches, post_at}
+use Rattle.looper_run.specs.Acts.{IsQuiet, GrowsBy, act_dispatch, dispatches, post_at}
 use Rattle.looper_run.specs.Tests.{Test, Passes, IsSameLooper, IsLent, HasTaken}
-use Rattle.looper_run.specs.Round.{Works, IsTold, IsRecycled, Dispatches}
+use Rattle.looper_run.specs.Told.{IsTold, IsRecycled, Dispatches}
+use Rattle.looper_run.specs.Round.{Works}
 use Rattle.looper_run.proofs.Working.{all_none, entry_of_own, same_then}
 use Rattle.looper_run.proofs.Turning.{IsOther, Found, found, with_others, with_quiet, moment_is, works_turn, works_taken}
 use Rattle.looper_run.proofs.Taking.{taken_post}
@@ -100,12 +101,12 @@ found_passes M a x law f h =
 
 module _ (a b : Holding) (x y : State) (t : IsTurn a.poster b.poster x y) (u : Turned a b) where
   -- a turn that left the history as it was, and acts that tell no dispatch
-  pub works_quiet : (s : Setting) (now : ℕ) → y.entries ≡ x.entries → GrowsQuietly a.journal.acts b.journal.acts → Works s now a b 0
+  pub works_quiet : (s : Setting) (now : ℕ) → y.entries ≡ x.entries → GrowsBy IsQuiet a.journal.acts b.journal.acts → Works s now a b 0
   works_quiet s now still grows =
       let none : dispatches grows.0 ≡ [] = quiet_none grows.0 grows.2 in
       subst (Works s now a b) (ap length none) (works_turn s now a b x y [] grows.0 (same_turn a b x y t u) (found a.poster b.poster x y t) (still ∙ sym (append-nil x.entries)) t.seen grows.1 none tt)
 
-  pub passes_quiet : (M : Test) → KeepsOthers M → KeepsQuiet M → y.entries ≡ x.entries → GrowsQuietly a.journal.acts b.journal.acts → Passes M a → Passes M b
+  pub passes_quiet : (M : Test) → KeepsOthers M → KeepsQuiet M → y.entries ≡ x.entries → GrowsBy IsQuiet a.journal.acts b.journal.acts → Passes M a → Passes M b
   passes_quiet M others quiet still grows h =
       let before = found_passes M a x others (found a.poster b.poster x y t) h in
       passes_at M a.poster.sender x.entries (a.journal.acts ++ grows.0) b t.sender (t.seen ∙ still) grows.1
@@ -153,7 +154,7 @@ module _ (a b : Holding) (x y : State) (t : IsTurn a.poster b.poster x y) (u : T
           (ap (λ (p : Sender). p.view.seen) (done.2.poster ∙ told.poster)) (ap (λ (j : Journal). j.acts) done.2.journal ∙ told.acts)
 
 -- acts that tell no dispatch were appended, and that is all
-pub works_acts : (s : Setting) (now : ℕ) (a b : Holding) → b.poster ≡ a.poster → b.pass.home ≡ a.pass.home → b.journal.looper ≡ a.journal.looper → GrowsQuietly a.journal.acts b.journal.acts → Works s now a b 0
+pub works_acts : (s : Setting) (now : ℕ) (a b : Holding) → b.poster ≡ a.poster → b.pass.home ≡ a.pass.home → b.journal.looper ≡ a.journal.looper → GrowsBy IsQuiet a.journal.acts b.journal.acts → Works s now a b 0
 works_acts s now a b poster home looper grows =
     let none : dispatches grows.0 ≡ [] = quiet_none grows.0 grows.2 in
     record {

@@ -1,5 +1,5 @@
 -- The dispatches in a journal and in a history.
-use Rattle.std.specs.Prelude.{◌≡◌, ℕ, ◌==◌, false, max, List, [], ◌∷◌, ◌++◌, Option, Some, None, if◌then◌else◌, slice_get, All}
+use Rattle.std.specs.Prelude.{◌≡◌, ℕ, ◌≤◌, ◌==◌, false, max, List, [], ◌∷◌, ◌++◌, Option, Some, None, if◌then◌else◌, slice_get, All}
 use Rattle.std.specs.List.{filter_map}
 use Rattle.loop_model.specs.declared.journal.Act.{Act}
 use Rattle.loop_model.specs.declared.journal.Act.TheVariants.{Dispatch, Idle, Event, Vsync, Paint}
@@ -46,9 +46,25 @@ IsQuiet (Event f e m) = Unit {0}
 IsQuiet (Vsync s) = ⊥
 IsQuiet (Paint g v) = ⊥
 
--- such acts were appended
-abbrev pub GrowsQuietly : List Act → List Act → Type 0
-GrowsQuietly before after = (did : List Act) × (after ≡ before ++ did) × All IsQuiet did
+-- an idle handler that ran
+abbrev pub IsIdle : Act → Type 0
+IsIdle (Dispatch n now route) = ⊥
+IsIdle (Idle i k) = Unit {0}
+IsIdle (Event f e m) = ⊥
+IsIdle (Vsync s) = ⊥
+IsIdle (Paint g v) = ⊥
+
+-- an event that a listener was told of, with a mask that it may answer
+abbrev pub IsEvent : Act → Type 0
+IsEvent (Dispatch n now route) = ⊥
+IsEvent (Idle i k) = ⊥
+IsEvent (Event f e m) = m ≤ 7
+IsEvent (Vsync s) = ⊥
+IsEvent (Paint g v) = ⊥
+
+-- acts of this kind were appended
+abbrev pub GrowsBy : (Act → Type 0) → List Act → List Act → Type 0
+GrowsBy P before after = (did : List Act) × (after ≡ before ++ did) × All P did
 
 -- the act of an idle turn
 abbrev pub idle_act : IdleTurn → Act

@@ -1,11 +1,11 @@
 //! One message: its route, its act and its way home.
-ghost use Rattle.std.specs.Prelude.{◌≡◌, ◌<◌, ◌^◌, ◌++◌, [], ◌∷◌, length, OnOk, OnErr, IfSome, None};
+ghost use Rattle.std.specs.Prelude.{◌≡◌, ◌<◌, ◌^◌, ◌++◌, [], ◌∷◌, length, OnOk, OnErr, IfSome, Some, None};
 ghost use Rattle.message_slot.specs.Letter.{number_in};
 ghost use Rattle.message_slot.specs.Fields.{callback_of};
 ghost use Rattle.message_pool.specs.Obtain.{IsNodeOf};
 ghost use Rattle.looper_run.specs.Holding.{Workplace, workplace, held, IsSameOwn};
 ghost use Rattle.looper_run.specs.Tests.{Passes, PassesWith, IsSameLooper, IsLent, Rings, HasTaken};
-ghost use Rattle.looper_run.specs.Round.{IsRouteOf, IsTold, Dispatches};
+ghost use Rattle.looper_run.specs.Told.{IsRouteOf, IsTold, Dispatches};
 
 use crate::dispatcher::{Did, Dispatcher};
 use crate::own::Own;
@@ -34,12 +34,14 @@ fn offer<D: Dispatcher>(
     requires serves { D.Serves d.old (workplace (held own.old)) }
     requires taken { HasTaken (D.Meets d.old) (held own.old) m.now now }
     requires callback { callback_of m.now.item ≡ None }
+    requires awaits { D.Awaits d.old (Some (number_in m.now.item)) }
     ensures serves { (w : Workplace) → D.Serves d.old w → D.Serves d.new w }
     ensures own { IsSameOwn own.old own.new }
     ensures lent { IsLent (held own.old) (held own.new) }
     ensures nudges { Rings own.old.poster.now own.new.poster.now (D.nudges d.old) (D.nudges d.new) }
     ensures route { IfSome result (IsRouteOf None) }
     ensures meets { IfSome result (PassesWith (D.Meets d.new) (held own.new) m.now now) }
+    ensures awaits { IfSome result (λ r. D.Awaits d.new None) }
 {
     match d.intercept(own, m, now) {
         Did::NoMemory => None,
@@ -60,12 +62,14 @@ fn route<D: Dispatcher>(
 ) -> Option<Route>
     requires serves { D.Serves d.old (workplace (held own.old)) }
     requires taken { HasTaken (D.Meets d.old) (held own.old) m.now now }
+    requires awaits { D.Awaits d.old (Some (number_in m.now.item)) }
     ensures serves { (w : Workplace) → D.Serves d.old w → D.Serves d.new w }
     ensures own { IsSameOwn own.old own.new }
     ensures lent { IsLent (held own.old) (held own.new) }
     ensures nudges { Rings own.old.poster.now own.new.poster.now (D.nudges d.old) (D.nudges d.new) }
     ensures route { IfSome result (IsRouteOf (callback_of m.now.item)) }
     ensures meets { IfSome result (PassesWith (D.Meets d.new) (held own.new) m.now now) }
+    ensures awaits { IfSome result (λ r. D.Awaits d.new None) }
 {
     match m.callback() {
         Some(id) => match d.run_callback(own, id, m, now) {
@@ -87,12 +91,14 @@ fn dispatch_one<D: Dispatcher>(
     requires serves { D.Serves d.old (workplace (held own.old)) }
     requires taken { HasTaken (D.Meets d.old) (held own.old) m.now now }
     requires number { number ≡ number_in m.now.item }
+    requires awaits { D.Awaits d.old None }
     ensures serves { (w : Workplace) → D.Serves d.old w → D.Serves d.new w }
     ensures own { IsSameOwn own.old own.new }
     ensures same { IsSameLooper (held own.old) (held own.new) }
     ensures nudges { Rings own.old.poster.now own.new.poster.now (D.nudges d.old) (D.nudges d.new) }
     ensures told { OnOk result (IsTold (held own.old) (held own.new) m.now now) }
     ensures meets { OnOk result (Passes (D.Meets d.new) (held own.new)) }
+    ensures awaits { OnOk result (D.Awaits d.new None) }
 {
     d.before(number);
     match route(d, own, m, now) {
@@ -113,6 +119,7 @@ pub(crate) fn dispatch<D: Dispatcher>(
     requires serves { D.Serves d.old (workplace (held own.old)) }
     requires taken { HasTaken (D.Meets d.old) (held own.old) node now }
     requires number { number ≡ number_in node.item }
+    requires awaits { D.Awaits d.old None }
     requires pool { own.old.pass.now.home ≡ pool.now }
     requires node { IsNodeOf pool.now node }
     ensures serves { (w : Workplace) → D.Serves d.old w → D.Serves d.new w }
@@ -121,6 +128,7 @@ pub(crate) fn dispatch<D: Dispatcher>(
     ensures nudges { Rings own.old.poster.now own.new.poster.now (D.nudges d.old) (D.nudges d.new) }
     ensures done { OnOk result (Dispatches (held own.old) (held own.new) node now) }
     ensures meets { OnOk result (Passes (D.Meets d.new) (held own.new)) }
+    ensures awaits { OnOk result (D.Awaits d.new None) }
 {
     let told = dispatch_one(d, own, number, now, node.item());
     pool.recycle(own.pass, node);

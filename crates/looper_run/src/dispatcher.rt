@@ -1,10 +1,11 @@
 //! What dispatches the messages of a looper.
-ghost use Rattle.std.specs.Prelude.{◌≡◌, ℕ, ◌≤◌, List, [], ◌∷◌, ◌++◌};
+ghost use Rattle.std.specs.Prelude.{◌≡◌, ℕ, ◌≤◌, List, [], ◌∷◌, ◌++◌, Option, Some, None};
 ghost use Rattle.loop_model.specs.declared.journal.Act.{Act};
 ghost use Rattle.loop_model.specs.declared.journal.Route.TheVariants.{Callback, Intercepted, Handled};
 ghost use Rattle.loop_model.specs.declared.call.Call.TheVariants.{Next};
 ghost use Rattle.loop_model.specs.declared.reply.Reply.TheVariants.{Disposed};
 ghost use Rattle.loop_model.specs.declared.entry.Entry.{Entry};
+ghost use Rattle.message_slot.specs.Letter.{number_in};
 ghost use Rattle.message_slot.specs.Fields.{callback_of};
 ghost use Rattle.looper_run.specs.Holding.{Workplace, workplace, held, IsSameOwn};
 ghost use Rattle.looper_run.specs.Acts.{IsQuiet};
@@ -35,8 +36,13 @@ pub trait Dispatcher {
     /// of its journal's acts.
     ghost Meets: { Self → ℕ → List Entry → List Act → Type 0 };
 
+    /// What it awaits: the dispatch of the message of this number, which `before` was called with, or none.
+    ghost Awaits: { Self → Option ℕ → Type 0 };
+
     /// Called with the number of each message before it is dispatched.
     fn before(&mut self, number: u64)
+        requires awaits { Awaits self.old None }
+        ensures awaits { Awaits self.new (Some number) }
         ensures serves { (w : Workplace) → Serves self.old w → Serves self.new w }
         ensures meets { (s : ℕ) (es : List Entry) (acts : List Act) → Meets self.old s es acts → Meets self.new s es acts }
         ensures nudges { nudges self.new ≡ nudges self.old };
@@ -44,7 +50,9 @@ pub trait Dispatcher {
     /// Called at the start of each round, where a pulse that was asked for is delivered.
     fn pulse(&mut self, own: &mut Own, now: u64) -> Did
         requires serves { Serves self.old (workplace (held own.old)) }
+        requires awaits { Awaits self.old None }
         requires meets { Passes (Meets self.old) (held own.old) }
+        ensures awaits { Unless result (Awaits self.new None) }
         ensures serves { (w : Workplace) → Serves self.old w → Serves self.new w }
         ensures own { IsSameOwn own.old own.new }
         ensures lent { IsLent (held own.old) (held own.new) }
@@ -54,6 +62,7 @@ pub trait Dispatcher {
     /// Tells a listener of the events on a descriptor, and answers its new mask.
     fn listen(&mut self, fd: u32, events: u32, listener: u32) -> u32
         ensures mask { result ≤ 7 }
+        ensures awaits { (awaited : Option ℕ) → Awaits self.old awaited → Awaits self.new awaited }
         ensures serves { (w : Workplace) → Serves self.old w → Serves self.new w }
         ensures meets { (s : ℕ) (es : List Entry) (acts : List Act) → Meets self.old s es acts → Meets self.new s es acts }
         ensures nudges { nudges self.new ≡ nudges self.old };
@@ -63,6 +72,8 @@ pub trait Dispatcher {
         requires serves { Serves self.old (workplace (held own.old)) }
         requires taken { HasTaken (Meets self.old) (held own.old) m.now now }
         requires callback { callback_of m.now.item ≡ Some id }
+        requires awaits { Awaits self.old (Some (number_in m.now.item)) }
+        ensures awaits { Unless result (Awaits self.new None) }
         ensures serves { (w : Workplace) → Serves self.old w → Serves self.new w }
         ensures own { IsSameOwn own.old own.new }
         ensures lent { IsLent (held own.old) (held own.new) }
@@ -74,6 +85,8 @@ pub trait Dispatcher {
         requires serves { Serves self.old (workplace (held own.old)) }
         requires taken { HasTaken (Meets self.old) (held own.old) m.now now }
         requires callback { callback_of m.now.item ≡ None }
+        requires awaits { Awaits self.old (Some (number_in m.now.item)) }
+        ensures awaits { Intercepts result (Awaits self.new None) (Awaits self.new (Some (number_in m.now.item))) }
         ensures serves { (w : Workplace) → Serves self.old w → Serves self.new w }
         ensures own { IsSameOwn own.old own.new }
         ensures lent { IsLent (held own.old) (held own.new) }
@@ -85,6 +98,8 @@ pub trait Dispatcher {
         requires serves { Serves self.old (workplace (held own.old)) }
         requires taken { HasTaken (Meets self.old) (held own.old) m.now now }
         requires callback { callback_of m.now.item ≡ None }
+        requires awaits { Awaits self.old (Some (number_in m.now.item)) }
+        ensures awaits { Unless result (Awaits self.new None) }
         ensures serves { (w : Workplace) → Serves self.old w → Serves self.new w }
         ensures own { IsSameOwn own.old own.new }
         ensures lent { IsLent (held own.old) (held own.new) }

@@ -1,11 +1,12 @@
 //! A looper.
-ghost use Rattle.std.specs.Prelude.{◌≡◌, true, false, [], OnOk};
+ghost use Rattle.std.specs.Prelude.{◌≡◌, true, false, [], OnOk, None};
 ghost use mathlib.Core.List.{IsPrefix};
 ghost use Rattle.shared_queue.specs.Turn.{longer};
 ghost use Rattle.shared_queue.specs.Known.{IsOf, IsSame};
 ghost use Rattle.looper_run.specs.Holding.{Workplace, workplace, IsAt, IsBeside};
 ghost use Rattle.looper_run.specs.Tests.{Passes, IsSameLooper, Rings};
-ghost use Rattle.looper_run.specs.Round.{RoundBy, UnlessWanting, is_ended, IsBegun};
+ghost use Rattle.looper_run.specs.Looks.{IsBegun, DrainBy, IsRound};
+ghost use Rattle.looper_run.specs.Round.{RoundBy, UnlessWanting, is_ended};
 
 use crate::dispatcher::{Did, Dispatcher};
 use crate::own::Own;
@@ -120,12 +121,15 @@ impl Looper {
         requires going { self.old.ended ≡ false }
         requires at { IsAt queue.now pool.now self.old.held }
         requires serves { D.Serves d.old (workplace self.old.held) }
+        requires awaits { D.Awaits d.old None }
         requires meets { Passes (D.Meets d.old) self.old.held }
         ensures same { IsSameLooper self.old.held self.new.held }
         ensures serves { (w : Workplace) → D.Serves d.old w → D.Serves d.new w }
         ensures nudges { Rings self.old.held.poster self.new.held.poster (D.nudges d.old) (D.nudges d.new) }
         ensures round { RoundBy queue.now.constants.setting now self.old.held self.new.held result }
+        ensures looks { IsRound now self.old self.new result }
         ensures meets { UnlessWanting result (Passes (D.Meets d.new) self.new.held) }
+        ensures awaits { UnlessWanting result (D.Awaits d.new None) }
         ensures ended { self.new.ended ≡ is_ended result }
     {
         if self.begin(rt, sources, d, now).is_err() {
@@ -143,13 +147,15 @@ impl Looper {
         now: u64,
     ) -> Result<(), NoMemory>
         requires serves { D.Serves d.old (workplace self.old.held) }
+        requires awaits { D.Awaits d.old None }
         requires meets { Passes (D.Meets d.old) self.old.held }
         ensures same { IsSameLooper self.old.held self.new.held }
         ensures serves { (w : Workplace) → D.Serves d.old w → D.Serves d.new w }
         ensures nudges { Rings self.old.held.poster self.new.held.poster (D.nudges d.old) (D.nudges d.new) }
-        ensures lent { OnOk result (IsBegun self.old.held self.new.held) }
+        ensures begun { OnOk result (IsBegun self.old self.new) }
         ensures meets { OnOk result (Passes (D.Meets d.new) self.new.held) }
-        ensures flags { (self.new.ended ≡ self.old.ended) × (self.new.idle_owed ≡ self.old.idle_owed) }
+        ensures awaits { OnOk result (D.Awaits d.new None) }
+        ensures ended { self.new.ended ≡ self.old.ended }
     {
         let mut own = Own {
             poster: &mut self.poster,
@@ -175,12 +181,15 @@ impl Looper {
         requires going { self.old.ended ≡ false }
         requires at { IsAt queue.now pool.now self.old.held }
         requires serves { D.Serves d.old (workplace self.old.held) }
+        requires awaits { D.Awaits d.old None }
         requires meets { Passes (D.Meets d.old) self.old.held }
         ensures same { IsSameLooper self.old.held self.new.held }
         ensures serves { (w : Workplace) → D.Serves d.old w → D.Serves d.new w }
         ensures nudges { Rings self.old.held.poster self.new.held.poster (D.nudges d.old) (D.nudges d.new) }
         ensures round { RoundBy queue.now.constants.setting now self.old.held self.new.held result }
+        ensures looks { DrainBy now self.old self.new result }
         ensures meets { UnlessWanting result (Passes (D.Meets d.new) self.new.held) }
+        ensures awaits { UnlessWanting result (D.Awaits d.new None) }
         ensures ended { self.new.ended ≡ is_ended result }
     {
         let mut dispatched = 0;

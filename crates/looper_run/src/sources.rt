@@ -1,8 +1,8 @@
 //! What a looper shares with other threads beside its queue, and what it does with it.
-ghost use Rattle.std.specs.Prelude.{◌≡◌, ℕ, List, ◌++◌, map, All, OnOk};
+ghost use Rattle.std.specs.Prelude.{◌≡◌, ℕ, List, ◌++◌, map, OnOk, Option};
 ghost use Rattle.loop_model.specs.declared.entry.Entry.{Entry};
 ghost use Rattle.looper_run.specs.Holding.{Workplace};
-ghost use Rattle.looper_run.specs.Acts.{idle_act, IsQuiet, GrowsQuietly};
+ghost use Rattle.looper_run.specs.Acts.{idle_act, IsIdle, IsEvent, GrowsBy};
 
 use crate::dispatch::tell;
 use crate::dispatcher::Dispatcher;
@@ -45,7 +45,7 @@ pub(crate) fn run_idle<R: Wait>(
     journal: &mut Journal,
 ) -> Result<(), NoMemory>
     ensures looper { journal.new.looper ≡ journal.old.looper }
-    ensures told { OnOk result (GrowsQuietly journal.old.acts journal.new.acts) }
+    ensures told { OnOk result (GrowsBy IsIdle journal.old.acts journal.new.acts) }
 {
     let turns = sources.lock(rt).idle.turns();
     run_turns(rt, sources, journal, turns?.as_slice())
@@ -59,7 +59,8 @@ pub(crate) fn take_events<R: Wait, D: Dispatcher>(
     d: &mut D,
 ) -> Result<(), NoMemory>
     ensures looper { journal.new.looper ≡ journal.old.looper }
-    ensures told { OnOk result (GrowsQuietly journal.old.acts journal.new.acts) }
+    ensures told { OnOk result (GrowsBy IsEvent journal.old.acts journal.new.acts) }
+    ensures awaits { (awaited : Option ℕ) → D.Awaits d.old awaited → D.Awaits d.new awaited }
     ensures serves { (w : Workplace) → D.Serves d.old w → D.Serves d.new w }
     ensures nudges { D.nudges d.new ≡ D.nudges d.old }
     ensures meets { (s : ℕ) (es : List Entry) → D.Meets d.old s es journal.old.acts → D.Meets d.new s es journal.new.acts }

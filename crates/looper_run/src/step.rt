@@ -1,9 +1,11 @@
 //! One look for a message, and what comes of it.
-ghost use Rattle.std.specs.Prelude.{◌≡◌, true, All};
+ghost use Rattle.std.specs.Prelude.{◌≡◌, All, None};
 ghost use Rattle.message_pool.specs.Obtain.{IsNodeOf};
 ghost use Rattle.looper_run.specs.Holding.{Workplace, workplace, IsAt};
 ghost use Rattle.looper_run.specs.Tests.{Passes, IsSameLooper, Rings};
-ghost use Rattle.looper_run.specs.Round.{StepBy, UnlessStopped};
+ghost use Rattle.looper_run.specs.Told.{AreRecycled};
+ghost use Rattle.looper_run.specs.Looks.{StepBy};
+ghost use Rattle.looper_run.specs.Round.{UnlessStopped};
 
 use crate::dispatch::dispatch;
 use crate::dispatcher::Dispatcher;
@@ -36,6 +38,7 @@ fn recycle_all(pool: &Pool, pass: &mut PoolPass, mut nodes: NodeList<Message<Poo
     requires pass { pass.old.home ≡ pool.now }
     requires nodes { All (IsNodeOf pool.now) nodes }
     ensures home { pass.new.home ≡ pool.now }
+    ensures recycled { AreRecycled nodes pass.old pass.new }
 {
     while let Some(node) = nodes.pop_front() {
         pool.recycle(pass, node);
@@ -55,12 +58,14 @@ impl Looper {
     ) -> Step
         requires at { IsAt queue.now pool.now self.old.held }
         requires serves { D.Serves d.old (workplace self.old.held) }
+        requires awaits { D.Awaits d.old None }
         requires meets { Passes (D.Meets d.old) self.old.held }
         ensures same { IsSameLooper self.old.held self.new.held }
         ensures serves { (w : Workplace) → D.Serves d.old w → D.Serves d.new w }
         ensures nudges { Rings self.old.held.poster self.new.held.poster (D.nudges d.old) (D.nudges d.new) }
-        ensures step { StepBy queue.now.constants.setting now self.old self.new result }
+        ensures step { StepBy now self.old self.new result }
         ensures meets { UnlessStopped result (Passes (D.Meets d.new) self.new.held) }
+        ensures awaits { UnlessStopped result (D.Awaits d.new None) }
         ensures ended { self.new.ended ≡ self.old.ended }
     {
         match self.poster.next(rt, queue, now, self.idle_owed) {

@@ -49,6 +49,8 @@ impl Dispatcher for Recorder {
 
     ghost Meets = { λ d s es acts. IsTrue true };
 
+    ghost Awaits = { λ d awaited. IsTrue true };
+
     fn before(&mut self, number: u64) {
         self.note(Noted::Before { number });
     }
