@@ -1,10 +1,11 @@
 -- Acts of one kind that were appended.
-use Rattle.std.proofs.Common.{◌≡◌, ℕ, ◌≤◌, List, [], ◌∷◌, ◌++◌, All, get_or, refl, sym, ap, ◌∙◌, arith, length, append_assoc}
+use Rattle.std.proofs.Common.{◌≡◌, ℕ, ◌≤◌, List, [], ◌∷◌, ◌++◌, All, map, get_or, refl, sym, ap, ◌∙◌, arith, length, append_assoc}
 use Rattle.std.proofs.lemmas.List.{append-nil}
-use Rattle.std.proofs.lemmas.List.Elements.{All-append}
+use Rattle.std.proofs.lemmas.List.Elements.{All-append, All-map}
 use Rattle.loop_model.specs.declared.journal.Act.{Act}
 use Rattle.loop_model.specs.declared.journal.Act.TheVariants.{Dispatch, Idle, Event, Vsync, Paint}
-use Rattle.looper_run.specs.Acts.{IsQuiet, IsIdle, IsEvent, GrowsBy}
+use Rattle.loop_sources.specs.declared.idle.IdleTurn.{IdleTurn}
+use Rattle.looper_run.specs.Acts.{IsQuiet, IsIdle, IsEvent, GrowsBy, idle_act}
 use Rattle.looper_run.proofs.Working.{behind}
 use Rattle.looper_run.proofs.Turning.{all_first}
 
@@ -37,3 +38,7 @@ grows_none P xs ys same = ([], same ∙ sym (append-nil xs), λ k d near. absurd
 pub grows_one : (P : Act → Type 0) (xs ys zs : List Act) (a : Act) → P a → GrowsBy P xs ys → zs ≡ ys ++ a ∷ [] → GrowsBy P xs zs
 grows_one P xs ys zs a p grows more =
     (grows.0 ++ a ∷ [], behind xs ys zs grows.0 (a ∷ []) grows.1 more, All-append P grows.0 (a ∷ []) grows.2 (all_first P a [] p (λ k d near. absurd (omega (arith, near)))))
+
+-- idle handlers that ran
+pub ran_idle : (xs ys : List Act) (turns : List IdleTurn) → ys ≡ xs ++ map idle_act turns → GrowsBy IsIdle xs ys
+ran_idle xs ys turns e = (map idle_act turns, e, All-map IsIdle idle_act turns (λ k d near. tt))

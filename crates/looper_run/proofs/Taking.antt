@@ -24,13 +24,13 @@ use Rattle.looper_run.specs.Holding.{State}
 use Rattle.looper_run.specs.Acts.{post_at}
 use Rattle.looper_run.proofs.Posts.{accepted, IsPostFrom, live_posts}
 
+kept_passes : {X : Type 0} (p : X → Bool) (x : X) (xs : List X) (b : Bool) → p x ≡ b → AllByRecursion (λ y. p y ≡ true) xs → AllByRecursion (λ y. p y ≡ true) (cond b (x ∷ xs) xs)
+kept_passes p x xs true is rest = (is, rest)
+kept_passes p x xs false is rest = rest
+
 all_pass : {X : Type 0} (p : X → Bool) (xs : List X) → AllByRecursion (λ x. p x ≡ true) (filter p xs)
 all_pass p [] = tt
-all_pass p (x ∷ xs) = by (p x) refl
-  where
-    by : (b : Bool) → p x ≡ b → AllByRecursion (λ y. p y ≡ true) (cond b (x ∷ filter p xs) (filter p xs))
-    by true is = (is, all_pass p xs)
-    by false is = all_pass p xs
+all_pass p (x ∷ xs) = kept_passes p x (filter p xs) (p x) refl (all_pass p xs)
 
 letters_of : (P : Item → Type 0) (xs : List Node) → AllByRecursion P (items_of xs) → AllByRecursion (λ m. P m.item) xs
 letters_of P [] h = tt

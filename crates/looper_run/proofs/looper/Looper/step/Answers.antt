@@ -1,0 +1,45 @@
+use Rattle.std.proofs.Common.{subst, sym, refl}
+use Rattle.looper_run.specs.Holding.{Holding, Looping, held, IsAt}
+use Rattle.looper_run.specs.Tests.{Passes}
+use Rattle.looper_run.specs.Looks.{StepBy}
+use Rattle.looper_run.specs.Round.{UnlessStopped}
+use Rattle.looper_run.specs.declared.step.Step.{Step}
+use Rattle.looper_run.proofs.Looking.{passes_idle, passes_wait, passes_over, passes_disposed, taken_by_look, number_by_look, fits_dispatches}
+use Rattle.looper_run.proofs.looper.Looper.step.Goals as goal
+use Rattle.looper_run.proofs.looper.Looper.step.Goals.{in-Ok, in-Err, in-Ok-run_idle, in-Err-run_idle}
+
+pub dispatch-requires-clause-taken : goal.dispatch-requires-clause-taken
+dispatch-requires-clause-taken g c =
+    let a : Holding = record { poster = c.self.inside.poster; pass = c.self.inside.pass; journal = c.self.inside.journal } in
+    let at = subst (λ (l : Looping). IsAt c.args.queue.now c.args.pool.now l.held) (sym c.self.view_is) c.requires.at in
+    let passes = subst (λ (l : Looping). Passes (g.D.Dispatcher.Meets c.args.d.now) l.held) (sym c.self.view_is) c.requires.meets in
+    taken_by_look (g.D.Dispatcher.Meets c.args.d.now) (g.met.D.Dispatcher.others c.args.d.now) c.args.now a c.next.new.self c.self.inside.idle_owed c.args.queue.now at.poster c.in-Taken.number c.in-Taken.now c.in-Taken.node c.in-Taken.ensures.done passes
+
+pub dispatch-requires-clause-number : goal.dispatch-requires-clause-number
+dispatch-requires-clause-number g c =
+    let at = subst (λ (l : Looping). IsAt c.args.queue.now c.args.pool.now l.held) (sym c.self.view_is) c.requires.at in
+    number_by_look c.args.now c.self.inside.poster c.next.new.self c.self.inside.idle_owed c.args.queue.now at.poster c.in-Taken.number c.in-Taken.now c.in-Taken.node c.in-Taken.ensures.done
+
+pub returns-after-dispatch-clause-step : goal.returns-after-dispatch-clause-step
+returns-after-dispatch-clause-step g c = ?
+
+pub returns-after-run_idle-clause-meets : goal.returns-after-run_idle-clause-meets
+returns-after-run_idle-clause-meets g c = ?
+
+pub returns-in-Wait-clause-meets : goal.returns-in-Wait-clause-meets
+returns-in-Wait-clause-meets g c =
+    let a : Holding = record { poster = c.self.inside.poster; pass = c.self.inside.pass; journal = c.self.inside.journal } in
+    let passes = subst (λ (l : Looping). Passes (g.D.Dispatcher.Meets c.args.d.now) l.held) (sym c.self.view_is) c.requires.meets in
+    passes_wait (g.D.Dispatcher.Meets c.args.d.now) (g.met.D.Dispatcher.others c.args.d.now) c.args.now a c.next.new.self c.self.inside.idle_owed (g.met.D.Dispatcher.quiet c.args.d.now) c.in-Wait.until c.in-Wait.ensures.done passes
+
+pub returns-in-End-clause-meets : goal.returns-in-End-clause-meets
+returns-in-End-clause-meets g c =
+    let a : Holding = record { poster = c.self.inside.poster; pass = c.self.inside.pass; journal = c.self.inside.journal } in
+    let passes = subst (λ (l : Looping). Passes (g.D.Dispatcher.Meets c.args.d.now) l.held) (sym c.self.view_is) c.requires.meets in
+    passes_disposed (g.D.Dispatcher.Meets c.args.d.now) (g.met.D.Dispatcher.others c.args.d.now) c.args.now a c.next.new.self c.self.inside.idle_owed (g.met.D.Dispatcher.disposal c.args.d.now) c.in-End.left c.in-End.ensures.done passes
+
+pub returns-in-Over-clause-meets : goal.returns-in-Over-clause-meets
+returns-in-Over-clause-meets g c =
+    let a : Holding = record { poster = c.self.inside.poster; pass = c.self.inside.pass; journal = c.self.inside.journal } in
+    let passes = subst (λ (l : Looping). Passes (g.D.Dispatcher.Meets c.args.d.now) l.held) (sym c.self.view_is) c.requires.meets in
+    passes_over (g.D.Dispatcher.Meets c.args.d.now) (g.met.D.Dispatcher.others c.args.d.now) c.args.now a c.next.new.self c.self.inside.idle_owed (g.met.D.Dispatcher.quiet c.args.d.now) c.in-Over.ensures.done passes
