@@ -107,6 +107,10 @@ module _ (s : Setting) (now : ℕ) (a b c : Holding) where
   ])
   begun round.NoMemory p q = tt
 
+-- that the looper is marked as ended is no part of a look
+pub ends_marked : (now : ℕ) (a b : Looping) → HasEnded now a b → HasEnded now a (record { held = b.held; idle_owed = b.idle_owed; ended = true })
+ends_marked now a b h = record { look = h.look; home = h.home; journal = h.journal; idle_owed = h.idle_owed }
+
 -- a pulse, and then events
 pub works_beginning : (s : Setting) (now : ℕ) (a b : Looping) → IsBegun a b → Works s now a.held b.held 0
 works_beginning s now a b h =

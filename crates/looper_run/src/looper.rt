@@ -132,9 +132,9 @@ impl Looper {
         ensures awaits { UnlessWanting result (D.Awaits d.new None) }
         ensures ended { self.new.ended ≡ is_ended result }
     {
-        if self.begin(rt, sources, d, now).is_err() {
-            return Round::NoMemory;
-        }
+        let Ok(()) = self.begin(rt, sources, d, now) else {
+            return Round::NoMemory
+        };
         self.drain(rt, queue, pool, sources, d, now)
     }
 
