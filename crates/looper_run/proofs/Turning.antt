@@ -23,7 +23,7 @@ use Rattle.looper_run.specs.Holding.{Sender, State, Holding}
 use Rattle.looper_run.specs.Acts.{act_dispatch, dispatches, call_dispatch, entry_dispatch, taken_by, IsNoLookOf, IsQuiet, moment_on, IsLookAt, AreLooksAt}
 use Rattle.looper_run.specs.Tests.{Test, IsSameLooper, IsLent}
 use Rattle.looper_run.specs.Round.{Works}
-use Rattle.looper_run.proofs.Working.{first_all, all_none, takes_none, no_looks_at, looks_append, entry_of_own, same_then, behind}
+use Rattle.looper_run.proofs.Working.{first_all, told_none, takes_none, no_looks_at, looks_append, entry_of_own, same_then, behind}
 
 abbrev pub IsOther : ℕ → Entry → Type 0
 IsOther sender e = e.sender ≡ sender → ⊥
@@ -118,7 +118,7 @@ module _ (s : Setting) (now : ℕ) where
       let taken : taken_by sender ((f.others ++ e ∷ []) ++ lent.more) ≡ pair =
           filter_map-append (entry_dispatch sender) (f.others ++ e ∷ []) lent.more ∙ (λ i. first i ++ after i) in
       let told : dispatches (lent.did ++ Dispatch n at route ∷ []) ≡ pair =
-          filter_map-append act_dispatch lent.did (Dispatch n at route ∷ []) ∙ ap (λ (l : List (ℕ × ℕ)). l ++ pair) (all_none act_dispatch lent.did lent.no_dispatches) in
+          filter_map-append act_dispatch lent.did (Dispatch n at route ∷ []) ∙ ap (λ (l : List (ℕ × ℕ)). l ++ pair) (told_none lent.did lent.told) in
       let here : b.poster.view.seen ≡ a.poster.view.seen ++ (f.others ++ e ∷ []) =
           seen ∙ (left ∙ (ap (λ (l : List Entry). l ++ e ∷ []) f.entries ∙ append_assoc a.poster.view.seen f.others (e ∷ []))) in
       let look : AreLooksAt s sender now x.entries (e ∷ []) = (λ _. subst (λ c. IsLookAt (moment_on s x.entries now) c) (sym call) moment, tt) in

@@ -1,11 +1,12 @@
 -- Parts of a round, one after the other.
-use Rattle.std.proofs.Common.{◌≡◌, ◌≢◌, ℕ, zero, suc, ◌+◌, ◌≤◌, ◌<◌, cond, eqb, Bool, true, false, List, [], ◌∷◌, ◌++◌, length, All, Option, Some, None, refl, sym, ap, ◌∙◌, subst, arith, append_assoc, length-append, eq-eqb, ne_eqb}
+use Rattle.std.proofs.Common.{◌≡◌, ◌≢◌, ℕ, zero, suc, ◌+◌, ◌≤◌, ◌<◌, cond, eqb, Bool, true, false, List, [], ◌∷◌, ◌++◌, length, All, get_or, Option, Some, None, refl, sym, ap, ◌∙◌, subst, arith, append_assoc, length-append, eq-eqb, ne_eqb}
 use Rattle.std.specs.List.{filter_map}
 use Rattle.std.proofs.lemmas.List.{append-nil}
 use Rattle.std.proofs.lemmas.List.Elements.{filter_map-append, All-append}
 use mathlib.Core.Logic.{dite}
 use native.Mathlib.Decide.{ℕ_discrete}
 use Rattle.loop_model.specs.declared.journal.Act.{Act}
+use Rattle.loop_model.specs.declared.journal.Act.TheVariants.{Dispatch, Idle, Event, Vsync, Paint}
 use Rattle.loop_model.specs.declared.call.Call.{Call}
 use Rattle.loop_model.specs.declared.call.Call.TheVariants.{Post, Barrier, Unbarrier, Remove, Quit, Next, Advance, Halt}
 use Rattle.loop_model.specs.declared.reply.Reply.{Reply}
@@ -13,7 +14,7 @@ use Rattle.loop_model.specs.declared.entry.Entry.{Entry}
 use Rattle.loop_model.specs.Answers.{Setting}
 use Rattle.loop_model.specs.Entries.{is_next}
 use Rattle.looper_run.specs.Holding.{Holding}
-use Rattle.looper_run.specs.Acts.{act_dispatch, dispatches, call_dispatch, entry_dispatch, taken_by, IsNoLookOf, moment_on, IsLookAt, AreLooksAt}
+use Rattle.looper_run.specs.Acts.{act_dispatch, IsOfDispatcher, dispatches, call_dispatch, entry_dispatch, taken_by, IsNoLookOf, moment_on, IsLookAt, AreLooksAt}
 use Rattle.looper_run.specs.Tests.{IsSameLooper, IsLent}
 use Rattle.looper_run.specs.Round.{Works}
 
@@ -44,7 +45,8 @@ lent_then a b c p q = record {
   seen = behind a.poster.view.seen b.poster.view.seen c.poster.view.seen p.more q.more p.seen q.seen;
   acts = behind a.journal.acts b.journal.acts c.journal.acts p.did q.did p.acts q.acts;
   no_looks = All-append (IsNoLookOf a.poster.sender) p.more q.more p.no_looks (subst (λ (s : ℕ). All (IsNoLookOf s) q.more) p.same.sender q.no_looks);
-  no_dispatches = All-append (λ x. act_dispatch x ≡ None) p.did q.did p.no_dispatches q.no_dispatches;
+  told = All-append IsOfDispatcher p.did q.did p.told q.told;
+  back = (let one = p.back in let two = q.back in omega (arith, one, two));
 }
 
 -- what holds of all elements holds of the first, and of those behind it
@@ -98,6 +100,17 @@ pub all_none : {A B : Type 0} (f : A → Option B) (xs : List A) → All (λ x. 
 all_none f [] none = refl
 all_none f (x ∷ xs) none = let parts = first_all (λ y. f y ≡ None) x xs none in rw parts.0 (all_none f xs parts.1)
 
+told_no_dispatch : (a : Act) → IsOfDispatcher a → act_dispatch a ≡ None
+told_no_dispatch (Dispatch n now route) h = absurd h
+told_no_dispatch (Idle i k) h = absurd h
+told_no_dispatch (Event f e m) h = absurd h
+told_no_dispatch (Vsync s) h = refl
+told_no_dispatch (Paint g v) h = refl
+
+-- a dispatcher tells no dispatches
+pub told_none : (did : List Act) → All IsOfDispatcher did → dispatches did ≡ []
+told_none did told = all_none act_dispatch did (λ k d near. told_no_dispatch (get_or did k d) (told k d near))
+
 pub takes_none : (sender : ℕ) (more : List Entry) → All (IsNoLookOf sender) more → taken_by sender more ≡ []
 takes_none sender [] none = refl
 takes_none sender (e ∷ more) none = let parts = first_all (IsNoLookOf sender) e more none in rw (no_take sender e parts.0) (takes_none sender more parts.1)
@@ -133,7 +146,7 @@ module _ (s : Setting) (now : ℕ) where
     did = p.did;
     seen = p.seen;
     acts = p.acts;
-    told = all_none act_dispatch p.did p.no_dispatches ∙ sym (takes_none a.poster.sender p.more p.no_looks);
-    count_is = ap length (all_none act_dispatch p.did p.no_dispatches);
+    told = told_none p.did p.told ∙ sym (takes_none a.poster.sender p.more p.no_looks);
+    count_is = ap length (told_none p.did p.told);
     looks = no_looks_at s a.poster.sender now a.poster.view.seen p.more p.no_looks;
   }

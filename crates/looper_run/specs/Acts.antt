@@ -62,6 +62,14 @@ IsEvent (Event f e m) = m ≤ 7
 IsEvent (Vsync s) = ⊥
 IsEvent (Paint g v) = ⊥
 
+-- a pulse that was delivered, or a gauge that was painted: what a dispatcher tells itself
+abbrev pub IsOfDispatcher : Act → Type 0
+IsOfDispatcher (Dispatch n now route) = ⊥
+IsOfDispatcher (Idle i k) = ⊥
+IsOfDispatcher (Event f e m) = ⊥
+IsOfDispatcher (Vsync s) = Unit {0}
+IsOfDispatcher (Paint g v) = Unit {0}
+
 -- acts of this kind were appended
 abbrev pub GrowsBy : (Act → Type 0) → List Act → List Act → Type 0
 GrowsBy P before after = (did : List Act) × (after ≡ before ++ did) × All P did

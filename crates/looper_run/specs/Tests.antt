@@ -1,5 +1,5 @@
 -- What a dispatcher's calls ask for and leave.
-use Rattle.std.specs.Prelude.{◌≡◌, ℕ, ◌+◌, ◌%◌, ◌^◌, ◌≤◌, List, [], ◌∷◌, ◌++◌, All, Some, None}
+use Rattle.std.specs.Prelude.{◌≡◌, ℕ, ◌+◌, ◌%◌, ◌^◌, ◌≤◌, List, [], ◌∷◌, ◌++◌, All, Some}
 use Rattle.loop_model.specs.declared.journal.Act.{Act}
 use Rattle.loop_model.specs.declared.journal.Act.TheVariants.{Dispatch}
 use Rattle.loop_model.specs.declared.journal.Route.{Route}
@@ -11,7 +11,7 @@ use Rattle.message_pool.specs.Passes.{Node}
 use Rattle.looper_run.specs.declared.dispatcher.Did.{Did}
 use Rattle.looper_run.specs.declared.dispatcher.Did.TheVariants.{Yes, No, NoMemory}
 use Rattle.looper_run.specs.Holding.{Sender, Holding}
-use Rattle.looper_run.specs.Acts.{act_dispatch, IsNoLookOf, post_at}
+use Rattle.looper_run.specs.Acts.{IsOfDispatcher, IsNoLookOf, post_at}
 
 -- a test of a looper's sender number, of what it has seen of its queue's history, and of its journal's acts
 abbrev pub Test : Type 1
@@ -31,7 +31,7 @@ pub record IsSameLooper (before after : Holding) : Type 0 where
   pub home : after.pass.home ≡ before.pass.home
   pub looper : after.journal.looper ≡ before.journal.looper
 
--- what a call leaves of what it was lent: more entries were seen, and those of the looper are no looks for a message; acts were appended, and they are no dispatches
+-- what a call leaves of what it was lent: more entries were seen, and those of the looper are no looks for a message; acts of the dispatcher were appended; slots may have been given back
 pub record IsLent (before after : Holding) : Type 0 where
   pub same : IsSameLooper before after
   pub more : List Entry
@@ -39,7 +39,8 @@ pub record IsLent (before after : Holding) : Type 0 where
   pub seen : after.poster.view.seen ≡ before.poster.view.seen ++ more
   pub acts : after.journal.acts ≡ before.journal.acts ++ did
   pub no_looks : All (IsNoLookOf before.poster.sender) more
-  pub no_dispatches : All (λ a. act_dispatch a ≡ None) did
+  pub told : All IsOfDispatcher did
+  pub back : before.pass.back ≤ after.pass.back
 
 -- the poster rang the bell as often as the count rose, which wraps at 2 to the 64
 abbrev pub Rings : Sender → Sender → ℕ → ℕ → Type 0
