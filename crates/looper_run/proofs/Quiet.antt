@@ -34,11 +34,3 @@ quiet_events xs ys grows = grows_weaker IsEvent IsQuiet xs ys event_is_quiet gro
 
 pub grows_none : (P : Act → Type 0) (xs ys : List Act) → ys ≡ xs → GrowsBy P xs ys
 grows_none P xs ys same = ([], same ∙ sym (append-nil xs), λ k d near. absurd (omega (arith, near)))
-
-pub grows_one : (P : Act → Type 0) (xs ys zs : List Act) (a : Act) → P a → GrowsBy P xs ys → zs ≡ ys ++ a ∷ [] → GrowsBy P xs zs
-grows_one P xs ys zs a p grows more =
-    (grows.0 ++ a ∷ [], behind xs ys zs grows.0 (a ∷ []) grows.1 more, All-append P grows.0 (a ∷ []) grows.2 (all_first P a [] p (λ k d near. absurd (omega (arith, near)))))
-
--- idle handlers that ran
-pub ran_idle : (xs ys : List Act) (turns : List IdleTurn) → ys ≡ xs ++ map idle_act turns → GrowsBy IsIdle xs ys
-ran_idle xs ys turns e = (map idle_act turns, e, All-map IsIdle idle_act turns (λ k d near. tt))

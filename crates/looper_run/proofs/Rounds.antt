@@ -120,4 +120,4 @@ works_beginning s now a b h =
 pub round_looks : (now : ℕ) (a b c : Looping) (r : Round) → IsBegun a b → DrainBy now b c r → IsRound now a c r
 round_looks now a b c (round.Drained n until) h d = (b, h, d)
 round_looks now a b c (round.Ended n) h d = (b, h, d)
-round_looks now a b c round.NoMemory h d = tt
+round_looks now a b c round.NoMemory h d = (b, h, inr d)

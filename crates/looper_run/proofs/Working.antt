@@ -36,6 +36,19 @@ same_then a b c p q = record {
 pub behind : {A : Type 0} (a b c p q : List A) → b ≡ a ++ p → c ≡ b ++ q → c ≡ a ++ (p ++ q)
 behind a b c p q e f = f ∙ (ap (λ l. l ++ q) e ∙ append_assoc a p q)
 
+-- nothing was done with what was lent
+pub lent_self : (h : Holding) → IsLent h h
+lent_self h = record {
+  same = same_self h;
+  more = [];
+  did = [];
+  seen = sym (append-nil h.poster.view.seen);
+  acts = sym (append-nil h.journal.acts);
+  no_looks = λ k d near. absurd (omega (arith, near));
+  told = λ k d near. absurd (omega (arith, near));
+  back = omega arith;
+}
+
 -- two calls on what was lent
 pub lent_then : (a b c : Holding) → IsLent a b → IsLent b c → IsLent a c
 lent_then a b c p q = record {

@@ -10,7 +10,7 @@ use Rattle.looper_run.specs.declared.step.Step.TheVariants as step
 use Rattle.looper_run.specs.Holding.{Sender, Holding, Looping}
 use Rattle.looper_run.specs.Acts.{IsIdle, IsEvent, GrowsBy}
 use Rattle.looper_run.specs.Tests.{IsLent}
-use Rattle.looper_run.specs.Told.{Dispatches, AreRecycled}
+use Rattle.looper_run.specs.Told.{Dispatches, GivesBack, AreRecycled}
 
 -- the same, with a poster that has looked for a message
 abbrev pub looked_by : Holding → Sender → Holding
@@ -52,13 +52,19 @@ pub record HasEnded (now : ℕ) (before after : Looping) : Type 0 where
   pub journal : after.held.journal ≡ before.held.journal
   pub idle_owed : after.idle_owed ≡ before.idle_owed
 
+-- memory was wanting after a look: for the dispatch of the message that it took, which was recycled, or for an idle handler
+abbrev pub GivesUp : ℕ → Looping → Looping → Type 0
+GivesUp now before after =
+    ((looked : Sender) × (number : ℕ) × (moment : ℕ) × (node : Node) × NextedBy before.held.poster looked now before.idle_owed (nexted.Taken number moment node) × GivesBack (looked_by before.held looked) after.held node)
+    ⊎ (NextedBy before.held.poster after.held.poster now before.idle_owed nexted.Idle × (after.held.pass ≡ before.held.pass) × GrowsBy IsIdle before.held.journal.acts after.held.journal.acts)
+
 -- one look, and what came of it
 abbrev pub StepBy : ℕ → Looping → Looping → Step → Type 0
 StepBy now before after step.Dispatched = HasDispatched now before after × (length after.held.journal.acts < 2 ^ 64)
 StepBy now before after step.Idled = HasIdled now before after
 StepBy now before after (step.Waits until) = HasWaited now before after until
 StepBy now before after step.Ends = HasEnded now before after
-StepBy now before after step.NoMemory = Unit {0}
+StepBy now before after step.NoMemory = GivesUp now before after
 
 -- looks one after another, of which each dispatched a message or, where it is false, used the idle turn; the last stands first
 abbrev pub Looked : ℕ → List Bool → Looping → Looping → Type 0
@@ -80,9 +86,9 @@ LooksUntil now before count after = (looks : List Bool) × Looked now looks befo
 abbrev pub DrainBy : ℕ → Looping → Looping → Round → Type 0
 DrainBy now before after (round.Drained dispatched until) = (last : Looping) × LooksUntil now before dispatched last × HasWaited now last after until
 DrainBy now before after (round.Ended dispatched) = (last : Looping) × LooksUntil now before dispatched last × HasEnded now last after
-DrainBy now before after round.NoMemory = Unit {0}
+DrainBy now before after round.NoMemory = (last : Looping) × (dispatched : ℕ) × LooksUntil now before dispatched last × GivesUp now last after
 
--- a round began: the dispatcher had its pulse, and then listeners were told of events
+-- the beginning of a round: the dispatcher had its pulse, and then listeners were told of events
 pub record IsBegun (before after : Looping) : Type 0 where
   -- what the dispatcher left
   pub left : Holding
@@ -93,8 +99,8 @@ pub record IsBegun (before after : Looping) : Type 0 where
   pub told : GrowsBy IsEvent left.journal.acts after.held.journal.acts
   pub idle_owed : after.idle_owed ≡ before.idle_owed
 
--- a round: it began, and then it looked for messages
+-- a round: it began, and then it looked for messages, unless memory was wanting before
 abbrev pub IsRound : ℕ → Looping → Looping → Round → Type 0
 IsRound now before after (round.Drained dispatched until) = (start : Looping) × IsBegun before start × DrainBy now start after (round.Drained dispatched until)
 IsRound now before after (round.Ended dispatched) = (start : Looping) × IsBegun before start × DrainBy now start after (round.Ended dispatched)
-IsRound now before after round.NoMemory = Unit {0}
+IsRound now before after round.NoMemory = (start : Looping) × IsBegun before start × ((after ≡ start) ⊎ DrainBy now start after round.NoMemory)

@@ -39,6 +39,10 @@ pub record IsRecycled (before after : Holding) (m : Node) : Type 0 where
 abbrev pub Dispatches : Holding → Holding → Node → ℕ → Type 0
 Dispatches before after m now = (told : Holding) × IsTold before told m now × IsRecycled told after m
 
+-- memory was wanting in the dispatch of the message, which was recycled all the same
+abbrev pub GivesBack : Holding → Holding → Node → Type 0
+GivesBack before after m = (left : Holding) × IsLent before left × IsRecycled left after m
+
 -- the messages were recycled, one after another
 abbrev pub AreRecycled : List Node → Tally → Tally → Type 0
 AreRecycled [] before after = after ≡ before

@@ -5,7 +5,7 @@ ghost use Rattle.message_slot.specs.Fields.{callback_of};
 ghost use Rattle.message_pool.specs.Obtain.{IsNodeOf};
 ghost use Rattle.looper_run.specs.Holding.{Workplace, workplace, held, IsSameOwn};
 ghost use Rattle.looper_run.specs.Tests.{Passes, PassesWith, IsSameLooper, IsLent, Rings, HasTaken};
-ghost use Rattle.looper_run.specs.Told.{IsRouteOf, IsTold, Dispatches};
+ghost use Rattle.looper_run.specs.Told.{IsRouteOf, IsTold, Dispatches, GivesBack};
 
 use crate::dispatcher::{Did, Dispatcher};
 use crate::own::Own;
@@ -97,6 +97,7 @@ fn dispatch_one<D: Dispatcher>(
     ensures same { IsSameLooper (held own.old) (held own.new) }
     ensures nudges { Rings own.old.poster.now own.new.poster.now (D.nudges d.old) (D.nudges d.new) }
     ensures told { OnOk result (IsTold (held own.old) (held own.new) m.now now) }
+    ensures given_up { OnErr result (IsLent (held own.old) (held own.new)) }
     ensures meets { OnOk result (Passes (D.Meets d.new) (held own.new)) }
     ensures awaits { OnOk result (D.Awaits d.new None) }
 {
@@ -127,6 +128,7 @@ pub(crate) fn dispatch<D: Dispatcher>(
     ensures same { IsSameLooper (held own.old) (held own.new) }
     ensures nudges { Rings own.old.poster.now own.new.poster.now (D.nudges d.old) (D.nudges d.new) }
     ensures done { OnOk result (Dispatches (held own.old) (held own.new) node now) }
+    ensures given_up { OnErr result (GivesBack (held own.old) (held own.new) node) }
     ensures meets { OnOk result (Passes (D.Meets d.new) (held own.new)) }
     ensures awaits { OnOk result (D.Awaits d.new None) }
 {

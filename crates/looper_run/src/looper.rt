@@ -152,7 +152,7 @@ impl Looper {
         ensures same { IsSameLooper self.old.held self.new.held }
         ensures serves { (w : Workplace) → D.Serves d.old w → D.Serves d.new w }
         ensures nudges { Rings self.old.held.poster self.new.held.poster (D.nudges d.old) (D.nudges d.new) }
-        ensures begun { OnOk result (IsBegun self.old self.new) }
+        ensures begun { IsBegun self.old self.new }
         ensures meets { OnOk result (Passes (D.Meets d.new) self.new.held) }
         ensures awaits { OnOk result (D.Awaits d.new None) }
         ensures ended { self.new.ended ≡ self.old.ended }

@@ -26,6 +26,7 @@ fn run_turns<R: Wait>(
 ) -> Result<(), NoMemory>
     ensures looper { journal.new.looper ≡ journal.old.looper }
     ensures told { OnOk result (journal.new.acts ≡ journal.old.acts ++ map idle_act turns.now) }
+    ensures idle { GrowsBy IsIdle journal.old.acts journal.new.acts }
 {
     for turn in turns {
         let act = Act::Idle {
@@ -45,7 +46,7 @@ pub(crate) fn run_idle<R: Wait>(
     journal: &mut Journal,
 ) -> Result<(), NoMemory>
     ensures looper { journal.new.looper ≡ journal.old.looper }
-    ensures told { OnOk result (GrowsBy IsIdle journal.old.acts journal.new.acts) }
+    ensures told { GrowsBy IsIdle journal.old.acts journal.new.acts }
 {
     let turns = sources.lock(rt).idle.turns();
     run_turns(rt, sources, journal, turns?.as_slice())
@@ -59,7 +60,7 @@ pub(crate) fn take_events<R: Wait, D: Dispatcher>(
     d: &mut D,
 ) -> Result<(), NoMemory>
     ensures looper { journal.new.looper ≡ journal.old.looper }
-    ensures told { OnOk result (GrowsBy IsEvent journal.old.acts journal.new.acts) }
+    ensures told { GrowsBy IsEvent journal.old.acts journal.new.acts }
     ensures awaits { (awaited : Option ℕ) → D.Awaits d.old awaited → D.Awaits d.new awaited }
     ensures serves { (w : Workplace) → D.Serves d.old w → D.Serves d.new w }
     ensures nudges { D.nudges d.new ≡ D.nudges d.old }

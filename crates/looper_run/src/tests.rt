@@ -22,12 +22,12 @@ enum Noted {
     Pulse { now: u64 },
     Before { number: u64 },
     Listen { fd: u32, events: u32 },
-    Callback { id: u64, now: u64 },
-    Intercept { what: u32, now: u64 },
-    Handle { what: u32, now: u64 },
+    Callback { id: u64, now: u64, told: usize },
+    Intercept { what: u32, now: u64, told: usize },
+    Handle { what: u32, now: u64, told: usize },
 }
 
-/// It intercepts the messages whose `what` is 2, and its listeners answer their identity as the new mask.
+/// It notes how many acts were told when it was called. It intercepts the messages whose `what` is 2, and its listeners answer their identity as the new mask.
 #[derive(Drop)]
 struct Recorder {
     calls: Vec<Noted>,
@@ -65,23 +65,23 @@ impl Dispatcher for Recorder {
     }
 
     fn run_callback(&mut self, own: &mut Own, id: u64, m: &Message<PoolClaim>, now: u64) -> Did {
-        self.note(Noted::Callback { id, now })
+        let told = own.journal.acts.len();
+        self.note(Noted::Callback { id, now, told })
     }
 
     fn intercept(&mut self, own: &mut Own, m: &Message<PoolClaim>, now: u64) -> Did {
         let what = m.what();
-        match self.note(Noted::Intercept { what, now }) {
-            Did::Yes if what == 2 => Did::Yes,
-            Did::Yes => Did::No,
-            other => other,
+        let told = own.journal.acts.len();
+        if self.note(Noted::Intercept { what, now, told }) == Did::NoMemory {
+            return Did::NoMemory;
         }
+        if what == 2 { Did::Yes } else { Did::No }
     }
 
     fn handle(&mut self, own: &mut Own, m: &Message<PoolClaim>, now: u64) -> Did {
-        self.note(Noted::Handle {
-            what: m.what(),
-            now,
-        })
+        let what = m.what();
+        let told = own.journal.acts.len();
+        self.note(Noted::Handle { what, now, told })
     }
 
     ghost others = { λ d s es e acts apart meets. meets };
@@ -189,12 +189,28 @@ fn each_message_goes_its_way_once(rt: HostRuntime) -> Result<(), Fail> {
     let calls = [
         Noted::Pulse { now: 10 },
         Noted::Before { number: 0 },
-        Noted::Intercept { what: 1, now: 10 },
-        Noted::Handle { what: 1, now: 10 },
+        Noted::Intercept {
+            what: 1,
+            now: 10,
+            told: 0,
+        },
+        Noted::Handle {
+            what: 1,
+            now: 10,
+            told: 0,
+        },
         Noted::Before { number: 1 },
-        Noted::Callback { id: 9, now: 10 },
+        Noted::Callback {
+            id: 9,
+            now: 10,
+            told: 1,
+        },
         Noted::Before { number: 2 },
-        Noted::Intercept { what: 2, now: 10 },
+        Noted::Intercept {
+            what: 2,
+            now: 10,
+            told: 2,
+        },
     ];
     assert!(rt; d.calls.as_slice() == calls.as_slice());
     let (_, _, journal) = o.looper.into_parts();

@@ -9,4 +9,4 @@ returns-clause-nudges g c =
 pub returns-clause-round : goal.returns-clause-round
 returns-clause-round g c =
     begun c.args.queue.now.constants.setting c.args.now c.args.self.now.held c.begin.new.self.held c.drain.new.self.held c.drain.result
-    (works_beginning c.args.queue.now.constants.setting c.args.now c.args.self.now c.begin.new.self c.in-Ok.ensures.begun) c.drain.ensures.round
+    (works_beginning c.args.queue.now.constants.setting c.args.now c.args.self.now c.begin.new.self c.begin.ensures.begun) c.drain.ensures.round
