@@ -1,0 +1,9 @@
+pub mod Rings
+pub mod Working
+pub mod Turning
+pub mod Posts
+pub mod Taking
+pub mod Quiet
+pub mod Steps
+pub mod Looking
+pub mod Rounds

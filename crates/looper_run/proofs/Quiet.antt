@@ -1,0 +1,36 @@
+-- Acts of one kind that were appended.
+use Rattle.std.proofs.Common.{◌≡◌, ℕ, ◌≤◌, List, [], ◌∷◌, ◌++◌, All, map, get_or, refl, sym, ap, ◌∙◌, arith, length, append_assoc}
+use Rattle.std.proofs.lemmas.List.{append-nil}
+use Rattle.std.proofs.lemmas.List.Elements.{All-append, All-map}
+use Rattle.loop_model.specs.declared.journal.Act.{Act}
+use Rattle.loop_model.specs.declared.journal.Act.TheVariants.{Dispatch, Idle, Event, Vsync, Paint}
+use Rattle.loop_sources.specs.declared.idle.IdleTurn.{IdleTurn}
+use Rattle.looper_run.specs.Acts.{IsQuiet, IsIdle, IsEvent, GrowsBy, idle_act}
+use Rattle.looper_run.proofs.Working.{behind}
+use Rattle.looper_run.proofs.Turning.{all_first}
+
+idle_is_quiet : (a : Act) → IsIdle a → IsQuiet a
+idle_is_quiet (Dispatch n now route) h = absurd h
+idle_is_quiet (Idle i k) h = tt
+idle_is_quiet (Event f e m) h = absurd h
+idle_is_quiet (Vsync s) h = absurd h
+idle_is_quiet (Paint g v) h = absurd h
+
+event_is_quiet : (a : Act) → IsEvent a → IsQuiet a
+event_is_quiet (Dispatch n now route) h = absurd h
+event_is_quiet (Idle i k) h = absurd h
+event_is_quiet (Event f e m) h = tt
+event_is_quiet (Vsync s) h = absurd h
+event_is_quiet (Paint g v) h = absurd h
+
+grows_weaker : (P Q : Act → Type 0) (xs ys : List Act) → ((a : Act) → P a → Q a) → GrowsBy P xs ys → GrowsBy Q xs ys
+grows_weaker P Q xs ys weaker grows = (grows.0, grows.1, λ k d near. weaker (get_or grows.0 k d) (grows.2 k d near))
+
+pub quiet_idle : (xs ys : List Act) → GrowsBy IsIdle xs ys → GrowsBy IsQuiet xs ys
+quiet_idle xs ys grows = grows_weaker IsIdle IsQuiet xs ys idle_is_quiet grows
+
+pub quiet_events : (xs ys : List Act) → GrowsBy IsEvent xs ys → GrowsBy IsQuiet xs ys
+quiet_events xs ys grows = grows_weaker IsEvent IsQuiet xs ys event_is_quiet grows
+
+pub grows_none : (P : Act → Type 0) (xs ys : List Act) → ys ≡ xs → GrowsBy P xs ys
+grows_none P xs ys same = ([], same ∙ sym (append-nil xs), λ k d near. absurd (omega (arith, near)))

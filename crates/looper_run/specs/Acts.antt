@@ -1,0 +1,106 @@
+-- The dispatches in a journal and in a history.
+use Rattle.std.specs.Prelude.{◌≡◌, ℕ, ◌≤◌, ◌==◌, false, max, List, [], ◌∷◌, ◌++◌, Option, Some, None, if◌then◌else◌, slice_get, All}
+use Rattle.std.specs.List.{filter_map}
+use Rattle.loop_model.specs.declared.journal.Act.{Act}
+use Rattle.loop_model.specs.declared.journal.Act.TheVariants.{Dispatch, Idle, Event, Vsync, Paint}
+use Rattle.loop_model.specs.declared.post.Post.{Post as PostData}
+use Rattle.loop_model.specs.declared.call.Call.{Call}
+use Rattle.loop_model.specs.declared.call.Call.TheVariants.{Post, Next}
+use Rattle.loop_model.specs.declared.reply.Reply.{Reply}
+use Rattle.loop_model.specs.declared.reply.Reply.TheVariants.{Dispatched}
+use Rattle.loop_model.specs.declared.entry.Entry.{Entry}
+use Rattle.loop_sources.specs.declared.idle.IdleTurn.{IdleTurn}
+use Rattle.loop_model.specs.Base.{empty_base}
+use Rattle.loop_model.specs.Answers.{Setting, clock}
+use Rattle.loop_model.specs.Entries.{is_next, is_accepted}
+
+-- the number and the moment of the message that an act dispatches
+abbrev pub act_dispatch : Act → Option (ℕ × ℕ)
+act_dispatch (Dispatch n now route) = Some (n, now)
+act_dispatch (Idle i k) = None
+act_dispatch (Event f e m) = None
+act_dispatch (Vsync s) = None
+act_dispatch (Paint g v) = None
+
+-- the messages that acts dispatch, in order
+abbrev pub dispatches : List Act → List (ℕ × ℕ)
+dispatches acts = filter_map act_dispatch acts
+
+-- the number and the moment of the message that a call takes
+abbrev pub call_dispatch : Call → Reply → Option (ℕ × ℕ)
+call_dispatch (Next now) (Dispatched n) = Some (n, now)
+call_dispatch _ _ = None
+
+abbrev pub entry_dispatch : ℕ → Entry → Option (ℕ × ℕ)
+entry_dispatch sender e = if e.sender == sender then call_dispatch e.call e.reply else None
+
+-- the messages that the sender takes, in order
+abbrev pub taken_by : ℕ → List Entry → List (ℕ × ℕ)
+taken_by sender entries = filter_map (entry_dispatch sender) entries
+
+-- an idle handler that ran, or an event that a listener was told of
+abbrev pub IsQuiet : Act → Type 0
+IsQuiet (Dispatch n now route) = ⊥
+IsQuiet (Idle i k) = Unit {0}
+IsQuiet (Event f e m) = Unit {0}
+IsQuiet (Vsync s) = ⊥
+IsQuiet (Paint g v) = ⊥
+
+-- an idle handler that ran
+abbrev pub IsIdle : Act → Type 0
+IsIdle (Dispatch n now route) = ⊥
+IsIdle (Idle i k) = Unit {0}
+IsIdle (Event f e m) = ⊥
+IsIdle (Vsync s) = ⊥
+IsIdle (Paint g v) = ⊥
+
+-- an event that a listener was told of, with a mask that it may answer
+abbrev pub IsEvent : Act → Type 0
+IsEvent (Dispatch n now route) = ⊥
+IsEvent (Idle i k) = ⊥
+IsEvent (Event f e m) = m ≤ 7
+IsEvent (Vsync s) = ⊥
+IsEvent (Paint g v) = ⊥
+
+-- a pulse that was delivered, or a gauge that was painted: what a dispatcher tells itself
+abbrev pub IsOfDispatcher : Act → Type 0
+IsOfDispatcher (Dispatch n now route) = ⊥
+IsOfDispatcher (Idle i k) = ⊥
+IsOfDispatcher (Event f e m) = ⊥
+IsOfDispatcher (Vsync s) = Unit {0}
+IsOfDispatcher (Paint g v) = Unit {0}
+
+-- acts of this kind were appended
+abbrev pub GrowsBy : (Act → Type 0) → List Act → List Act → Type 0
+GrowsBy P before after = (did : List Act) × (after ≡ before ++ did) × All P did
+
+-- the act of an idle turn
+abbrev pub idle_act : IdleTurn → Act
+idle_act t = Idle t.id t.keep
+
+-- the entry is another sender's, or no look for a message
+abbrev pub IsNoLookOf : ℕ → Entry → Type 0
+IsNoLookOf sender e = e.sender ≡ sender → is_next e.call ≡ false
+
+-- the moment of a look that names this one, after these entries: in lockstep the queue's time, and else no earlier than that
+abbrev pub moment_on : Setting → List Entry → ℕ → ℕ
+moment_on s past now = if s.lockstep then clock (empty_base s.senders) past else max now (clock (empty_base s.senders) past)
+
+-- a look is made at this moment
+abbrev pub IsLookAt : ℕ → Call → Type 0
+IsLookAt moment (Next now) = now ≡ moment
+IsLookAt moment _ = Unit {0}
+
+-- after the past, each look of the sender is made at the moment that it has there by naming this one
+abbrev pub AreLooksAt : Setting → ℕ → ℕ → List Entry → List Entry → Type 0
+AreLooksAt s sender now past [] = Unit {0}
+AreLooksAt s sender now past (e ∷ more) = (e.sender ≡ sender → IsLookAt (moment_on s past now) e.call) × AreLooksAt s sender now (past ++ e ∷ []) more
+
+-- the fields of a post that a reply accepts
+abbrev pub accepted_by : Call → Reply → Option PostData
+accepted_by (Post p) r = if is_accepted r then Some p else None
+accepted_by _ r = None
+
+-- the fields of the accepted post of this number, counted from 0
+abbrev pub post_at : List Entry → ℕ → Option PostData
+post_at entries n = slice_get (filter_map (λ e. accepted_by e.call e.reply) entries) n

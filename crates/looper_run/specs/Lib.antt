@@ -1,0 +1,6 @@
+pub mod Holding
+pub mod Acts
+pub mod Tests
+pub mod Told
+pub mod Looks
+pub mod Round

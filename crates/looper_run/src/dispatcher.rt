@@ -1,0 +1,117 @@
+//! What dispatches the messages of a looper.
+ghost use Rattle.std.specs.Prelude.{◌≡◌, ℕ, ◌≤◌, List, [], ◌∷◌, ◌++◌, Option, Some, None};
+ghost use Rattle.loop_model.specs.declared.journal.Act.{Act};
+ghost use Rattle.loop_model.specs.declared.journal.Route.TheVariants.{Callback, Intercepted, Handled};
+ghost use Rattle.loop_model.specs.declared.call.Call.TheVariants.{Next};
+ghost use Rattle.loop_model.specs.declared.reply.Reply.TheVariants.{Disposed};
+ghost use Rattle.loop_model.specs.declared.entry.Entry.{Entry};
+ghost use Rattle.message_slot.specs.Letter.{number_in};
+ghost use Rattle.message_slot.specs.Fields.{callback_of};
+ghost use Rattle.looper_run.specs.Holding.{Workplace, workplace, held, IsSameOwn};
+ghost use Rattle.looper_run.specs.Acts.{IsQuiet};
+ghost use Rattle.looper_run.specs.Tests.{Passes, PassesWith, IsLent, Rings, HasTaken, Unless, Intercepts, IsUntouched};
+
+use crate::own::Own;
+use message_pool::PoolClaim;
+use message_slot::Message;
+
+/// How a call of a dispatcher went.
+#[derive(Clone, Copy, Debug, PartialEq, Eq)]
+pub enum Did {
+    Yes,
+    No,
+    /// The run is given up.
+    NoMemory,
+}
+
+/// The code of the handlers of a looper.
+pub trait Dispatcher {
+    /// The queues and pools that it works on.
+    ghost Serves: { Self → Workplace → Type 0 };
+
+    /// How often its calls rang the bell by the looper's poster, modulo 2 to the 64.
+    ghost nudges: { Self → ℕ };
+
+    /// What holds, between two dispatches, of the looper's sender number, of what it has seen of its queue's history, and
+    /// of its journal's acts.
+    ghost Meets: { Self → ℕ → List Entry → List Act → Type 0 };
+
+    /// What it awaits: the dispatch of the message of this number, which `before` was called with, or none.
+    ghost Awaits: { Self → Option ℕ → Type 0 };
+
+    /// Called with the number of each message before it is dispatched.
+    fn before(&mut self, number: u64)
+        requires awaits { Awaits self.old None }
+        ensures awaits { Awaits self.new (Some number) }
+        ensures serves { (w : Workplace) → Serves self.old w → Serves self.new w }
+        ensures meets { (s : ℕ) (es : List Entry) (acts : List Act) → Meets self.old s es acts → Meets self.new s es acts }
+        ensures nudges { nudges self.new ≡ nudges self.old };
+
+    /// Called at the start of each round, where a pulse that was asked for is delivered.
+    fn pulse(&mut self, own: &mut Own, now: u64) -> Did
+        requires serves { Serves self.old (workplace (held own.old)) }
+        requires awaits { Awaits self.old None }
+        requires meets { Passes (Meets self.old) (held own.old) }
+        ensures awaits { Unless result (Awaits self.new None) }
+        ensures serves { (w : Workplace) → Serves self.old w → Serves self.new w }
+        ensures own { IsSameOwn own.old own.new }
+        ensures lent { IsLent (held own.old) (held own.new) }
+        ensures nudges { Rings own.old.poster.now own.new.poster.now (nudges self.old) (nudges self.new) }
+        ensures meets { Unless result (Passes (Meets self.new) (held own.new)) };
+
+    /// Tells a listener of the events on a descriptor, and answers its new mask.
+    fn listen(&mut self, fd: u32, events: u32, listener: u32) -> u32
+        ensures mask { result ≤ 7 }
+        ensures awaits { (awaited : Option ℕ) → Awaits self.old awaited → Awaits self.new awaited }
+        ensures serves { (w : Workplace) → Serves self.old w → Serves self.new w }
+        ensures meets { (s : ℕ) (es : List Entry) (acts : List Act) → Meets self.old s es acts → Meets self.new s es acts }
+        ensures nudges { nudges self.new ≡ nudges self.old };
+
+    /// Runs the callback of a message that has one.
+    fn run_callback(&mut self, own: &mut Own, id: u64, m: &Message<PoolClaim>, now: u64) -> Did
+        requires serves { Serves self.old (workplace (held own.old)) }
+        requires taken { HasTaken (Meets self.old) (held own.old) m.now now }
+        requires callback { callback_of m.now.item ≡ Some id }
+        requires awaits { Awaits self.old (Some (number_in m.now.item)) }
+        ensures awaits { Unless result (Awaits self.new None) }
+        ensures serves { (w : Workplace) → Serves self.old w → Serves self.new w }
+        ensures own { IsSameOwn own.old own.new }
+        ensures lent { IsLent (held own.old) (held own.new) }
+        ensures nudges { Rings own.old.poster.now own.new.poster.now (nudges self.old) (nudges self.new) }
+        ensures meets { Unless result (PassesWith (Meets self.new) (held own.new) m.now now (Callback id)) };
+
+    /// Asks the handler's callback object, which answers No where the handler itself is to handle the message.
+    fn intercept(&mut self, own: &mut Own, m: &Message<PoolClaim>, now: u64) -> Did
+        requires serves { Serves self.old (workplace (held own.old)) }
+        requires taken { HasTaken (Meets self.old) (held own.old) m.now now }
+        requires callback { callback_of m.now.item ≡ None }
+        requires awaits { Awaits self.old (Some (number_in m.now.item)) }
+        ensures awaits { Intercepts result (Awaits self.new None) (Awaits self.new (Some (number_in m.now.item))) }
+        ensures serves { (w : Workplace) → Serves self.old w → Serves self.new w }
+        ensures own { IsSameOwn own.old own.new }
+        ensures lent { IsLent (held own.old) (held own.new) }
+        ensures nudges { Rings own.old.poster.now own.new.poster.now (nudges self.old) (nudges self.new) }
+        ensures meets { Intercepts result (PassesWith (Meets self.new) (held own.new) m.now now Intercepted) (IsUntouched (held own.old) (held own.new) × HasTaken (Meets self.new) (held own.new) m.now now) };
+
+    /// Handles a message that has no callback and was not intercepted.
+    fn handle(&mut self, own: &mut Own, m: &Message<PoolClaim>, now: u64) -> Did
+        requires serves { Serves self.old (workplace (held own.old)) }
+        requires taken { HasTaken (Meets self.old) (held own.old) m.now now }
+        requires callback { callback_of m.now.item ≡ None }
+        requires awaits { Awaits self.old (Some (number_in m.now.item)) }
+        ensures awaits { Unless result (Awaits self.new None) }
+        ensures serves { (w : Workplace) → Serves self.old w → Serves self.new w }
+        ensures own { IsSameOwn own.old own.new }
+        ensures lent { IsLent (held own.old) (held own.new) }
+        ensures nudges { Rings own.old.poster.now own.new.poster.now (nudges self.old) (nudges self.new) }
+        ensures meets { Unless result (PassesWith (Meets self.new) (held own.new) m.now now Handled) };
+
+    /// The test stays true where another sender makes an entry.
+    ghost others: { (d : Self) (s : ℕ) (es : List Entry) (e : Entry) (acts : List Act) → ¬ (e.sender ≡ s) → Meets d s es acts → Meets d s (es ++ e ∷ []) acts };
+
+    /// It stays true where the looper's look ends the queue.
+    ghost disposal: { (d : Self) (s : ℕ) (es : List Entry) (e : Entry) (now : ℕ) (acts : List Act) → e.sender ≡ s → e.call ≡ Next now → e.reply ≡ Disposed → Meets d s es acts → Meets d s (es ++ e ∷ []) acts };
+
+    /// It stays true where an idle handler ran, or a listener was told of an event.
+    ghost quiet: { (d : Self) (s : ℕ) (es : List Entry) (a : Act) (acts : List Act) → IsQuiet a → Meets d s es acts → Meets d s es (acts ++ a ∷ []) };
+}

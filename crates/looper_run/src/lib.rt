@@ -1,0 +1,17 @@
+//! The loop of a looper: it drains its queue, dispatches each message once, runs idle handlers, tells listeners of events,
+//! and keeps a journal of what it did.
+#![tactic(auto)]
+
+mod dispatch;
+mod dispatcher;
+mod looper;
+mod own;
+mod sources;
+mod step;
+#[cfg(test)]
+mod tests;
+
+pub use dispatcher::{Did, Dispatcher};
+pub use looper::{Looper, Round};
+pub use own::Own;
+pub use sources::Sources;

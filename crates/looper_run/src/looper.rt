@@ -1,0 +1,210 @@
+//! A looper.
+ghost use Rattle.std.specs.Prelude.{◌≡◌, true, false, [], OnOk, None};
+ghost use mathlib.Core.List.{IsPrefix};
+ghost use Rattle.shared_queue.specs.Turn.{longer};
+ghost use Rattle.shared_queue.specs.Known.{IsOf, IsSame};
+ghost use Rattle.looper_run.specs.Holding.{Workplace, workplace, IsAt, IsBeside};
+ghost use Rattle.looper_run.specs.Tests.{Passes, IsSameLooper, Rings};
+ghost use Rattle.looper_run.specs.Looks.{IsBegun, DrainBy, IsRound};
+ghost use Rattle.looper_run.specs.Round.{RoundBy, UnlessWanting, is_ended};
+
+use crate::dispatcher::{Did, Dispatcher};
+use crate::own::Own;
+use crate::sources::{Sources, take_events};
+use crate::step::Step;
+use loop_model::{Journal, NoMemory, Sequence};
+use message_pool::{Pool, PoolClaim, PoolPass};
+use shared_queue::{Poster, SharedQueue};
+use std::alloc::Global;
+use std::marker::Model;
+use std::sync::{Mutex, Wait};
+
+/// How a round ended.
+#[derive(Clone, Copy, Debug, PartialEq, Eq)]
+pub enum Round {
+    /// So many messages were dispatched. Now the looper waits, until this moment in milliseconds, or without limit.
+    Drained { dispatched: u64, until: Option<u64> },
+    /// So many messages were dispatched, and the queue is over.
+    Ended { dispatched: u64 },
+    NoMemory,
+}
+
+/// The loop of one queue. Contracts see what it works with, whether an idle turn is owed, and whether a round ended it.
+#[derive(Drop)]
+pub struct Looper {
+    pub(crate) poster: Poster<PoolClaim>,
+    pub(crate) pass: PoolPass,
+    pub(crate) journal: Journal,
+    pub(crate) idle_owed: bool,
+    pub(crate) ended: bool,
+}
+
+impl Model for Looper {
+    ghost use Rattle.looper_run.specs.Holding.{Looping};
+
+    ghost Value = { Looping };
+
+    ghost view = { λ l. record { held = record { poster = l.poster; pass = l.pass; journal = l.journal }; idle_owed = l.idle_owed; ended = l.ended } };
+}
+
+impl Looper {
+    /// A looper that has done nothing, by its poster of its own queue and a pass of the queue's pool. An idle turn is owed.
+    pub fn make(alloc: Global, looper: u32, poster: Poster<PoolClaim>, pass: PoolPass) -> Looper
+        ensures held { result.held ≡ record { poster = poster; pass = pass; journal = record { looper = looper; acts = [] } } }
+        ensures flags { (result.idle_owed ≡ true) × (result.ended ≡ false) }
+    {
+        Looper {
+            poster,
+            pass,
+            journal: Journal {
+                looper,
+                acts: Sequence::new(alloc),
+            },
+            idle_owed: true,
+            ended: false,
+        }
+    }
+
+    /// Its poster, its pass and its journal.
+    pub fn into_parts(self) -> (Poster<PoolClaim>, PoolPass, Journal)
+        ensures { (result.0 ≡ self.held.poster) × (result.1 ≡ self.held.pass) × (result.2 ≡ self.held.journal) }
+    {
+        let Looper {
+            poster,
+            pass,
+            journal,
+            idle_owed: _,
+            ended: _,
+        } = self;
+        (poster, pass, journal)
+    }
+
+    /// Lets its poster hear another poster of the queue. It takes no turn.
+    pub fn hear(&mut self, queue: &SharedQueue<PoolClaim>, other: &mut Poster<PoolClaim>)
+        requires { IsOf self.old.held.poster queue.now × IsOf other.old queue.now }
+        ensures seen { self.new.held.poster.view.seen ≡ longer self.old.held.poster.view.seen other.old.view.seen }
+        ensures begins { IsPrefix self.old.held.poster.view.seen self.new.held.poster.view.seen × IsPrefix other.old.view.seen self.new.held.poster.view.seen }
+        ensures same { IsSame self.old.held.poster self.new.held.poster × (self.new.held.poster.view.rung ≡ self.old.held.poster.view.rung) × (self.new.held.poster.view.heard ≡ self.old.held.poster.view.heard) }
+        ensures beside { IsBeside self.old self.new }
+        ensures other { other.new ≡ other.old }
+    {
+        self.poster.hear(queue, other);
+    }
+
+    /// Lets another poster of the queue hear its poster. It takes no turn.
+    pub fn tell(&mut self, queue: &SharedQueue<PoolClaim>, other: &mut Poster<PoolClaim>)
+        requires { IsOf self.old.held.poster queue.now × IsOf other.old queue.now }
+        ensures seen { other.new.view.seen ≡ longer other.old.view.seen self.old.held.poster.view.seen }
+        ensures begins { IsPrefix other.old.view.seen other.new.view.seen × IsPrefix self.old.held.poster.view.seen other.new.view.seen }
+        ensures same { IsSame other.old other.new × (other.new.view.rung ≡ other.old.view.rung) × (other.new.view.heard ≡ other.old.view.heard) }
+        ensures looper { self.new ≡ self.old }
+    {
+        other.hear(queue, &mut self.poster);
+    }
+
+    /// One round: the dispatcher's pulse, the events that were handed in, and then looks for messages until none is due or
+    /// the queue is over. Between two messages, and at the start, the idle handlers run once where the looper has nothing to
+    /// do. `now` is the moment of the round in milliseconds; in lockstep the queue's time counts. As `loop` of AOSP's
+    /// `Looper`.
+    ///
+    /// Drained where the last look answered that the looper is to wait, Ended where it ended the queue or found it over.
+    /// After NoMemory the run is given up.
+    pub fn run_round<R: Wait, D: Dispatcher>(
+        &mut self,
+        rt: &R,
+        queue: &SharedQueue<PoolClaim>,
+        pool: &Pool,
+        sources: &Mutex<Sources>,
+        d: &mut D,
+        now: u64,
+    ) -> Round
+        requires going { self.old.ended ≡ false }
+        requires at { IsAt queue.now pool.now self.old.held }
+        requires serves { D.Serves d.old (workplace self.old.held) }
+        requires awaits { D.Awaits d.old None }
+        requires meets { Passes (D.Meets d.old) self.old.held }
+        ensures same { IsSameLooper self.old.held self.new.held }
+        ensures serves { (w : Workplace) → D.Serves d.old w → D.Serves d.new w }
+        ensures nudges { Rings self.old.held.poster self.new.held.poster (D.nudges d.old) (D.nudges d.new) }
+        ensures round { RoundBy queue.now.constants.setting now self.old.held self.new.held result }
+        ensures looks { IsRound now self.old self.new result }
+        ensures meets { UnlessWanting result (Passes (D.Meets d.new) self.new.held) }
+        ensures awaits { UnlessWanting result (D.Awaits d.new None) }
+        ensures ended { self.new.ended ≡ is_ended result }
+    {
+        let Ok(()) = self.begin(rt, sources, d, now) else {
+            return Round::NoMemory
+        };
+        self.drain(rt, queue, pool, sources, d, now)
+    }
+
+    // The pulse, and the events that were handed in.
+    fn begin<R: Wait, D: Dispatcher>(
+        &mut self,
+        rt: &R,
+        sources: &Mutex<Sources>,
+        d: &mut D,
+        now: u64,
+    ) -> Result<(), NoMemory>
+        requires serves { D.Serves d.old (workplace self.old.held) }
+        requires awaits { D.Awaits d.old None }
+        requires meets { Passes (D.Meets d.old) self.old.held }
+        ensures same { IsSameLooper self.old.held self.new.held }
+        ensures serves { (w : Workplace) → D.Serves d.old w → D.Serves d.new w }
+        ensures nudges { Rings self.old.held.poster self.new.held.poster (D.nudges d.old) (D.nudges d.new) }
+        ensures begun { IsBegun self.old self.new }
+        ensures meets { OnOk result (Passes (D.Meets d.new) self.new.held) }
+        ensures awaits { OnOk result (D.Awaits d.new None) }
+        ensures ended { self.new.ended ≡ self.old.ended }
+    {
+        let mut own = Own {
+            poster: &mut self.poster,
+            pass: &mut self.pass,
+            journal: &mut self.journal,
+        };
+        match d.pulse(&mut own, now) {
+            Did::NoMemory => Err(NoMemory),
+            Did::Yes | Did::No => take_events(rt, sources, &mut self.journal, d),
+        }
+    }
+
+    // Looks for messages until none is due or the queue is over.
+    fn drain<R: Wait, D: Dispatcher>(
+        &mut self,
+        rt: &R,
+        queue: &SharedQueue<PoolClaim>,
+        pool: &Pool,
+        sources: &Mutex<Sources>,
+        d: &mut D,
+        now: u64,
+    ) -> Round
+        requires going { self.old.ended ≡ false }
+        requires at { IsAt queue.now pool.now self.old.held }
+        requires serves { D.Serves d.old (workplace self.old.held) }
+        requires awaits { D.Awaits d.old None }
+        requires meets { Passes (D.Meets d.old) self.old.held }
+        ensures same { IsSameLooper self.old.held self.new.held }
+        ensures serves { (w : Workplace) → D.Serves d.old w → D.Serves d.new w }
+        ensures nudges { Rings self.old.held.poster self.new.held.poster (D.nudges d.old) (D.nudges d.new) }
+        ensures round { RoundBy queue.now.constants.setting now self.old.held self.new.held result }
+        ensures looks { DrainBy now self.old self.new result }
+        ensures meets { UnlessWanting result (Passes (D.Meets d.new) self.new.held) }
+        ensures awaits { UnlessWanting result (D.Awaits d.new None) }
+        ensures ended { self.new.ended ≡ is_ended result }
+    {
+        let mut dispatched = 0;
+        for _ in rt.forever() {
+            match self.step(rt, queue, pool, sources, d, now) {
+                Step::Dispatched => dispatched += 1,
+                Step::Idled => {}
+                Step::Waits { until } => return Round::Drained { dispatched, until },
+                Step::Ends => {
+                    self.ended = true;
+                    return Round::Ended { dispatched };
+                }
+                Step::NoMemory => return Round::NoMemory,
+            }
+        }
+        unreachable!()
+    }
+}

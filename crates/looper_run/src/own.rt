@@ -1,0 +1,13 @@
+//! What a looper lends to its dispatcher.
+
+use loop_model::Journal;
+use message_pool::{PoolClaim, PoolPass};
+use shared_queue::Poster;
+
+/// The looper's poster of its own queue, its pass of the pool, and its journal.
+#[derive(Drop)]
+pub struct Own<'a> {
+    pub poster: &'a mut Poster<PoolClaim>,
+    pub pass: &'a mut PoolPass,
+    pub journal: &'a mut Journal,
+}

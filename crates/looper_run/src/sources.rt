@@ -1,0 +1,88 @@
+//! What a looper shares with other threads beside its queue, and what it does with it.
+ghost use Rattle.std.specs.Prelude.{◌≡◌, ℕ, List, ◌++◌, map, OnOk, Option};
+ghost use Rattle.loop_model.specs.declared.entry.Entry.{Entry};
+ghost use Rattle.looper_run.specs.Holding.{Workplace};
+ghost use Rattle.looper_run.specs.Acts.{idle_act, IsIdle, IsEvent, GrowsBy};
+
+use crate::dispatch::tell;
+use crate::dispatcher::Dispatcher;
+use loop_model::{Act, Journal, NoMemory};
+use loop_sources::{Event, FdTable, IdleSet, IdleTurn};
+use std::sync::{Mutex, Wait};
+
+/// The idle handlers and the watched descriptors of a looper.
+#[derive(Drop)]
+pub struct Sources {
+    pub idle: IdleSet,
+    pub fds: FdTable,
+}
+
+// Tells that these idle handlers ran, in order, and takes out those that are not kept.
+fn run_turns<R: Wait>(
+    rt: &R,
+    sources: &Mutex<Sources>,
+    journal: &mut Journal,
+    turns: &[IdleTurn],
+) -> Result<(), NoMemory>
+    ensures looper { journal.new.looper ≡ journal.old.looper }
+    ensures told { OnOk result (journal.new.acts ≡ journal.old.acts ++ map idle_act turns.now) }
+    ensures idle { GrowsBy IsIdle journal.old.acts journal.new.acts }
+{
+    for turn in turns {
+        let act = Act::Idle {
+            id: turn.id,
+            kept: turn.keep,
+        };
+        tell(journal, act)?;
+        sources.lock(rt).idle.finish(turn.serial, turn.keep);
+    }
+    Ok(())
+}
+
+// Runs the idle handlers that stand in the set at this moment. One that is removed meanwhile runs all the same.
+pub(crate) fn run_idle<R: Wait>(
+    rt: &R,
+    sources: &Mutex<Sources>,
+    journal: &mut Journal,
+) -> Result<(), NoMemory>
+    ensures looper { journal.new.looper ≡ journal.old.looper }
+    ensures told { GrowsBy IsIdle journal.old.acts journal.new.acts }
+{
+    let turns = sources.lock(rt).idle.turns();
+    run_turns(rt, sources, journal, turns?.as_slice())
+}
+
+// Tells the listeners of the events that were handed in, and watches for what they answer.
+pub(crate) fn take_events<R: Wait, D: Dispatcher>(
+    rt: &R,
+    sources: &Mutex<Sources>,
+    journal: &mut Journal,
+    d: &mut D,
+) -> Result<(), NoMemory>
+    ensures looper { journal.new.looper ≡ journal.old.looper }
+    ensures told { GrowsBy IsEvent journal.old.acts journal.new.acts }
+    ensures awaits { (awaited : Option ℕ) → D.Awaits d.old awaited → D.Awaits d.new awaited }
+    ensures serves { (w : Workplace) → D.Serves d.old w → D.Serves d.new w }
+    ensures nudges { D.nudges d.new ≡ D.nudges d.old }
+    ensures meets { (s : ℕ) (es : List Entry) → D.Meets d.old s es journal.old.acts → D.Meets d.new s es journal.new.acts }
+{
+    for _ in rt.forever() {
+        let event = sources.lock(rt).fds.take_event();
+        match event {
+            None => return Ok(()),
+            Some(Event::Ignored) => {}
+            Some(Event::Call {
+                fd,
+                events,
+                birth,
+                seq,
+                listener,
+            }) => {
+                let mask = d.listen(fd, events, listener);
+                sources.lock(rt).fds.answer(fd, birth, seq, mask);
+                tell(journal, Act::Event { fd, events, mask })?;
+            }
+        }
+    }
+    unreachable!()
+}

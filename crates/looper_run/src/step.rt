@@ -1,0 +1,99 @@
+//! One look for a message, and what comes of it.
+ghost use Rattle.std.specs.Prelude.{◌≡◌, All, None};
+ghost use Rattle.message_pool.specs.Obtain.{IsNodeOf};
+ghost use Rattle.looper_run.specs.Holding.{Workplace, workplace, IsAt};
+ghost use Rattle.looper_run.specs.Tests.{Passes, IsSameLooper, Rings};
+ghost use Rattle.looper_run.specs.Told.{AreRecycled};
+ghost use Rattle.looper_run.specs.Looks.{StepBy};
+ghost use Rattle.looper_run.specs.Round.{UnlessStopped};
+
+use crate::dispatch::dispatch;
+use crate::dispatcher::Dispatcher;
+use crate::looper::Looper;
+use crate::own::Own;
+use crate::sources::{Sources, run_idle};
+use message_list::NodeList;
+use message_pool::{Pool, PoolClaim, PoolPass};
+use message_slot::Message;
+use queue_state::Nexted;
+use shared_queue::SharedQueue;
+use std::sync::{Mutex, Wait};
+
+/// What came of a look.
+#[derive(Clone, Copy, Debug, PartialEq, Eq)]
+pub enum Step {
+    /// A message was dispatched.
+    Dispatched,
+    /// The idle handlers ran.
+    Idled,
+    /// Nothing is due, until this moment in milliseconds or without limit.
+    Waits { until: Option<u64> },
+    /// The queue is over.
+    Ends,
+    NoMemory,
+}
+
+// Recycles the messages that a queue leaves.
+fn recycle_all(pool: &Pool, pass: &mut PoolPass, mut nodes: NodeList<Message<PoolClaim>>)
+    requires pass { pass.old.home ≡ pool.now }
+    requires nodes { All (IsNodeOf pool.now) nodes }
+    ensures home { pass.new.home ≡ pool.now }
+    ensures recycled { AreRecycled nodes pass.old pass.new }
+{
+    while let Some(node) = nodes.pop_front() {
+        pool.recycle(pass, node);
+    }
+}
+
+impl Looper {
+    // Looks for a message once, and dispatches it, or runs the idle handlers.
+    pub(crate) fn step<R: Wait, D: Dispatcher>(
+        &mut self,
+        rt: &R,
+        queue: &SharedQueue<PoolClaim>,
+        pool: &Pool,
+        sources: &Mutex<Sources>,
+        d: &mut D,
+        now: u64,
+    ) -> Step
+        requires at { IsAt queue.now pool.now self.old.held }
+        requires serves { D.Serves d.old (workplace self.old.held) }
+        requires awaits { D.Awaits d.old None }
+        requires meets { Passes (D.Meets d.old) self.old.held }
+        ensures same { IsSameLooper self.old.held self.new.held }
+        ensures serves { (w : Workplace) → D.Serves d.old w → D.Serves d.new w }
+        ensures nudges { Rings self.old.held.poster self.new.held.poster (D.nudges d.old) (D.nudges d.new) }
+        ensures step { StepBy now self.old self.new result }
+        ensures meets { UnlessStopped result (Passes (D.Meets d.new) self.new.held) }
+        ensures awaits { UnlessStopped result (D.Awaits d.new None) }
+        ensures ended { self.new.ended ≡ self.old.ended }
+    {
+        match self.poster.next(rt, queue, now, self.idle_owed) {
+            Nexted::Taken { number, now, node } => {
+                self.idle_owed = true;
+                let mut own = Own {
+                    poster: &mut self.poster,
+                    pass: &mut self.pass,
+                    journal: &mut self.journal,
+                };
+                match dispatch(d, pool, &mut own, number, now, node) {
+                    Ok(()) => Step::Dispatched,
+                    Err(_) => Step::NoMemory,
+                }
+            }
+            Nexted::Idle => {
+                self.idle_owed = false;
+                match run_idle(rt, sources, &mut self.journal) {
+                    Ok(()) => Step::Idled,
+                    Err(_) => Step::NoMemory,
+                }
+            }
+            Nexted::Wait { until } => Step::Waits { until },
+            Nexted::End(left) => {
+                recycle_all(pool, &mut self.pass, left);
+                Step::Ends
+            }
+            Nexted::Over => Step::Ends,
+        }
+    }
+}
