@@ -1,15 +1,11 @@
 -- What the forms of a handler do, by their answer. Each is one call on the queue that the poster's turn found.
-use Rattle.std.specs.Prelude.{◌≡◌, ℕ, Bool, List, Option, length}
-use Rattle.std.specs.List.{list_any}
+use Rattle.std.specs.Prelude.{◌≡◌, Bool, List, Option, length}
 use Rattle.atomic_table.specs.Seated.{TableId}
 use Rattle.loop_model.specs.declared.post.Post.{Post}
 use Rattle.loop_model.specs.declared.post.Filter.{Filter}
 use Rattle.message_pool.specs.Passes.{Claimed, Node, Tally}
 use Rattle.queue_state.specs.declared.answers.Posted.TheVariants as posted
 use Rattle.queue_state.specs.declared.answers.Taking.TheVariants as taking
-use Rattle.queue_state.specs.Queue.{Queue}
-use Rattle.queue_state.specs.Calls.{Posts, Takes}
-use Rattle.shared_queue.specs.Known.{IsTurn}
 use Rattle.shared_queue.specs.Calls.{PostedBy, RemovedBy, HasBy}
 use Rattle.handler_post.specs.declared.way.Way.{Way}
 use Rattle.handler_post.specs.declared.way.Sent.{Sent}

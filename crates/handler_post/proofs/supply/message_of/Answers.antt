@@ -1,4 +1,4 @@
-use Rattle.std.proofs.Common.{◌≡◌, ap, sym, subst, ◌∙◌}
+use Rattle.std.proofs.Common.{ap, sym, subst, ◌∙◌}
 use Rattle.message_pool.specs.Passes.{Node}
 use Rattle.handler_post.specs.Supply.{letter_of, Obtains}
 use Rattle.handler_post.proofs.Supplies.{none_was_free, of_pooled, of_fresh}
