@@ -101,10 +101,13 @@ module _ (s : Setting) (now : ℕ) (a b c : Holding) where
   -- a round goes on after a part that dispatches nothing
   pub begun : (r : Round) → Works s now a b 0 → RoundBy s now b c r → RoundBy s now a c r
   begun (round.Drained n until) p q = (none_before s now a b c n p q.0, earlier_look (nexted.Wait until) p.same.turns q.1)
-  begun (round.Ended n) p q = (none_before s now a b c n p q.0, elim q.1 [
-    | inl end ↦ inl (end.0, earlier_look (nexted.End end.0) p.same.turns end.1)
-    | inr over ↦ inr (earlier_look nexted.Over p.same.turns over)
-  ])
+  begun (round.Ended n) p q = (
+    none_before s now a b c n p q.0,
+    elim q.1 [
+      | inl end ↦ inl (end.0, earlier_look (nexted.End end.0) p.same.turns end.1)
+      | inr over ↦ inr (earlier_look nexted.Over p.same.turns over)
+    ],
+  )
   begun round.NoMemory p q = tt
 
 -- that the looper is marked as ended is no part of a look

@@ -87,7 +87,7 @@ module _ (s : Setting) (now : ℕ) where
       → dispatches did ≡ taken_by a.poster.sender tail → AreLooksAt s a.poster.sender now x.entries tail → Works s now a b (length (dispatches did))
   works_turn a b x y tail did same f left seen acts told looks =
       let behind : b.poster.view.seen ≡ a.poster.view.seen ++ (f.others ++ tail) =
-          seen ∙ (left ∙ (ap (λ (l : List Entry). l ++ tail) f.entries ∙ append_assoc a.poster.view.seen f.others tail)) in
+      seen ∙ (left ∙ (ap (λ (l : List Entry). l ++ tail) f.entries ∙ append_assoc a.poster.view.seen f.others tail)) in
       let none : taken_by a.poster.sender f.others ≡ [] = takes_none a.poster.sender f.others (no_looks a.poster.sender f.others f.all) in
       record {
         same = same;
@@ -114,17 +114,17 @@ module _ (s : Setting) (now : ℕ) where
       let after : taken_by sender lent.more ≡ [] = takes_none sender lent.more mine in
       let one : entry_dispatch sender e ≡ Some (n, at) = entry_of_own sender e own ∙ (λ i. call_dispatch (call i) (reply i)) in
       let first : taken_by sender (f.others ++ e ∷ []) ≡ pair =
-          filter_map-append (entry_dispatch sender) f.others (e ∷ []) ∙ (λ i. none i ++ cons_option (one i) []) in
+      filter_map-append (entry_dispatch sender) f.others (e ∷ []) ∙ (λ i. none i ++ cons_option (one i) []) in
       let taken : taken_by sender ((f.others ++ e ∷ []) ++ lent.more) ≡ pair =
-          filter_map-append (entry_dispatch sender) (f.others ++ e ∷ []) lent.more ∙ (λ i. first i ++ after i) in
+      filter_map-append (entry_dispatch sender) (f.others ++ e ∷ []) lent.more ∙ (λ i. first i ++ after i) in
       let told : dispatches (lent.did ++ Dispatch n at route ∷ []) ≡ pair =
-          filter_map-append act_dispatch lent.did (Dispatch n at route ∷ []) ∙ ap (λ (l : List (ℕ × ℕ)). l ++ pair) (told_none lent.did lent.told) in
+      filter_map-append act_dispatch lent.did (Dispatch n at route ∷ []) ∙ ap (λ (l : List (ℕ × ℕ)). l ++ pair) (told_none lent.did lent.told) in
       let here : b.poster.view.seen ≡ a.poster.view.seen ++ (f.others ++ e ∷ []) =
-          seen ∙ (left ∙ (ap (λ (l : List Entry). l ++ e ∷ []) f.entries ∙ append_assoc a.poster.view.seen f.others (e ∷ []))) in
+      seen ∙ (left ∙ (ap (λ (l : List Entry). l ++ e ∷ []) f.entries ∙ append_assoc a.poster.view.seen f.others (e ∷ []))) in
       let look : AreLooksAt s sender now x.entries (e ∷ []) = (λ _. subst (λ c. IsLookAt (moment_on s x.entries now) c) (sym call) moment, tt) in
       let until : AreLooksAt s sender now a.poster.view.seen (f.others ++ e ∷ []) =
-          looks_append s sender now a.poster.view.seen f.others (e ∷ []) (no_looks_at s sender now a.poster.view.seen f.others (no_looks sender f.others f.all))
-          (subst (λ (l : List Entry). AreLooksAt s sender now l (e ∷ [])) f.entries look) in
+      looks_append s sender now a.poster.view.seen f.others (e ∷ []) (no_looks_at s sender now a.poster.view.seen f.others (no_looks sender f.others f.all))
+      (subst (λ (l : List Entry). AreLooksAt s sender now l (e ∷ [])) f.entries look) in
       record {
         same = same_then a c d (same_then a b c same lent.same) same';
         more = (f.others ++ e ∷ []) ++ lent.more;

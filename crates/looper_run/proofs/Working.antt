@@ -135,10 +135,10 @@ module _ (s : Setting) (now : ℕ) where
   pub works_then : (a b c : Holding) (m n : ℕ) → Works s now a b m → Works s now b c n → Works s now a c (m + n)
   works_then a b c m n p q =
       let told : dispatches (p.did ++ q.did) ≡ taken_by a.poster.sender (p.more ++ q.more) =
-          filter_map-append act_dispatch p.did q.did
-            ∙ (ap (λ (l : List (ℕ × ℕ)). l ++ dispatches q.did) p.told
-              ∙ (ap (λ (l : List (ℕ × ℕ)). taken_by a.poster.sender p.more ++ l) (q.told ∙ ap (λ (k : ℕ). taken_by k q.more) p.same.sender)
-                ∙ sym (filter_map-append (entry_dispatch a.poster.sender) p.more q.more))) in
+      filter_map-append act_dispatch p.did q.did
+      ∙ (ap (λ (l : List (ℕ × ℕ)). l ++ dispatches q.did) p.told
+      ∙ (ap (λ (l : List (ℕ × ℕ)). taken_by a.poster.sender p.more ++ l) (q.told ∙ ap (λ (k : ℕ). taken_by k q.more) p.same.sender)
+      ∙ sym (filter_map-append (entry_dispatch a.poster.sender) p.more q.more))) in
       record {
         same = same_then a b c p.same q.same;
         more = p.more ++ q.more;
