@@ -1,5 +1,5 @@
 -- Each look of a round as a part of it.
-use Rattle.std.proofs.Common.{◌≡◌, ℕ, ◌<◌, ◌^◌, Bool, List, length, Option, refl, sym, ap, ◌∙◌, subst, arith, inl, inr}
+use Rattle.std.proofs.Common.{◌≡◌, ℕ, ◌<◌, ◌^◌, Bool, List, length, Option, refl, sym, ap, subst, inl, inr}
 use Rattle.atomic_table.specs.Seated.{TableId}
 use Rattle.loop_model.specs.declared.journal.Journal.{Journal}
 use Rattle.loop_model.specs.declared.journal.Act.{Act}
@@ -12,7 +12,7 @@ use Rattle.looper_run.specs.Holding.{Sender, State, Holding, Looping}
 use Rattle.looper_run.specs.Acts.{IsIdle, IsQuiet, GrowsBy}
 use Rattle.looper_run.specs.Tests.{Test, Passes, HasTaken}
 use Rattle.looper_run.specs.Told.{Dispatches}
-use Rattle.looper_run.specs.Looks.{looked_by, HasDispatched, HasIdled, HasWaited, HasEnded, EndsBy}
+use Rattle.looper_run.specs.Looks.{looked_by, HasDispatched, HasIdled, HasWaited, HasEnded}
 use Rattle.looper_run.specs.Round.{Works}
 use Rattle.looper_run.proofs.Quiet.{quiet_idle, grows_none}
 use Rattle.looper_run.proofs.Taking.{taken_post}

@@ -1,5 +1,5 @@
 -- One step of a round.
-use Rattle.std.proofs.Common.{◌≡◌, ℕ, ◌+◌, ◌≤◌, Bool, true, false, List, [], ◌∷◌, ◌++◌, length, get_or, All, Option, Some, None, refl, sym, ap, ◌∙◌, subst, arith, inl, inr}
+use Rattle.std.proofs.Common.{◌≡◌, ℕ, List, [], ◌∷◌, ◌++◌, length, get_or, All, Option, Some, None, refl, sym, ap, ◌∙◌, subst, arith}
 use Rattle.std.proofs.lemmas.List.{append-nil}
 use Rattle.atomic_table.specs.Seated.{TableId}
 use Rattle.std.specs.List.{cons_option}
@@ -12,13 +12,13 @@ use Rattle.loop_model.specs.declared.entry.Entry.{Entry}
 use Rattle.loop_model.specs.Answers.{Setting}
 use Rattle.message_slot.specs.Letter.{number_in, post_of}
 use Rattle.message_pool.specs.Passes.{Node, Tally}
-use Rattle.queue_state.specs.Queue.{Queue, entry_of, moment_at}
+use Rattle.queue_state.specs.Queue.{entry_of, moment_at}
 use Rattle.queue_state.specs.Ended.{ended}
 use Rattle.shared_queue.specs.Constants.{Constants, IsStateOf}
-use Rattle.shared_queue.specs.Known.{Known, IsTurn}
+use Rattle.shared_queue.specs.Known.{IsTurn}
 use Rattle.looper_run.specs.Holding.{Sender, State, Holding, Workplace, workplace}
 use Rattle.looper_run.specs.Acts.{IsQuiet, GrowsBy, act_dispatch, dispatches, post_at}
-use Rattle.looper_run.specs.Tests.{Test, Passes, IsSameLooper, IsLent, HasTaken}
+use Rattle.looper_run.specs.Tests.{Test, Passes, IsSameLooper, HasTaken}
 use Rattle.looper_run.specs.Told.{IsTold, IsRecycled, Dispatches}
 use Rattle.looper_run.specs.Round.{Works}
 use Rattle.looper_run.proofs.Working.{all_none, entry_of_own, same_then}

@@ -1,5 +1,5 @@
 -- What a look for a message does to the looper.
-use Rattle.std.proofs.Common.{◌≡◌, ℕ, zero, suc, ◌+◌, ◌≤◌, ◌<◌, ◌==◌, get_or, cond, eqb, max, Bool, true, false, List, [], ◌∷◌, ◌++◌, length, All, Option, Some, None, refl, sym, ap, ◌∙◌, subst, arith, append_assoc, if◌then◌else◌}
+use Rattle.std.proofs.Common.{◌≡◌, ℕ, zero, suc, ◌+◌, ◌<◌, get_or, max, List, [], ◌∷◌, ◌++◌, length, All, Some, refl, sym, ap, ◌∙◌, subst, arith, append_assoc, if◌then◌else◌}
 use Rattle.std.specs.List.{cons_option}
 use Rattle.std.proofs.lemmas.List.{append-nil}
 use Rattle.std.proofs.lemmas.List.Elements.{filter_map-append}
@@ -9,15 +9,12 @@ use Rattle.loop_model.specs.declared.journal.Act.{Act}
 use Rattle.loop_model.specs.declared.journal.Act.TheVariants.{Dispatch}
 use Rattle.loop_model.specs.declared.journal.Route.{Route}
 use Rattle.loop_model.specs.declared.call.Call.TheVariants.{Next}
-use Rattle.loop_model.specs.declared.reply.Reply.{Reply}
-use Rattle.loop_model.specs.declared.reply.Reply.TheVariants.{Dispatched, Disposed}
+use Rattle.loop_model.specs.declared.reply.Reply.TheVariants.{Dispatched}
 use Rattle.loop_model.specs.declared.entry.Entry.{Entry}
-use Rattle.loop_model.specs.declared.base.Base.{Base}
-use Rattle.loop_model.specs.Base.{empty_base}
 use Rattle.loop_model.specs.Answers.{Setting, clock}
-use Rattle.queue_state.specs.Queue.{Queue, moment_at, entry_of}
+use Rattle.queue_state.specs.Queue.{moment_at}
 use Rattle.shared_queue.specs.Constants.{Constants, made_in, IsStateOf}
-use Rattle.shared_queue.specs.Known.{Known, IsTurn}
+use Rattle.shared_queue.specs.Known.{IsTurn}
 use Rattle.shared_queue.proofs.Prefixes.{one_of, made_in-append, one_of-yes}
 use Rattle.looper_run.specs.Holding.{Sender, State, Holding}
 use Rattle.looper_run.specs.Acts.{act_dispatch, dispatches, call_dispatch, entry_dispatch, taken_by, IsNoLookOf, IsQuiet, moment_on, IsLookAt, AreLooksAt}
