@@ -1,6 +1,6 @@
 -- The items of a queue are posts of its history.
-use Rattle.std.proofs.Common.{◌≡◌, ℕ, zero, suc, ◌+◌, ◌<◌, ◌==◌, Bool, true, false, List, [], ◌∷◌, ◌++◌, Option, Some, None, slice_get, refl, sym, ap, ◌∙◌, subst, arith, if◌then◌else◌}
-use Rattle.std.specs.Prelude.{filter, map}
+use Rattle.std.proofs.Common.{◌≡◌, ℕ, suc, ◌+◌, Bool, true, false, List, [], ◌∷◌, ◌++◌, Option, Some, None, slice_get, refl, subst, arith, if◌then◌else◌}
+use Rattle.std.specs.Prelude.{map}
 use Rattle.std.specs.List.{AllByRecursion, filter_map, cons_option}
 use Rattle.loop_model.specs.declared.post.Post.{Post as PostData}
 use Rattle.loop_model.specs.declared.call.Call.{Call}
@@ -13,8 +13,8 @@ use Rattle.loop_model.specs.Base.{empty_base}
 use Rattle.loop_model.specs.Entries.{is_accepted, posts_in, barriers_in, made_by}
 use Rattle.loop_model.specs.Order.{Placed, put_in_order, in_order}
 use Rattle.loop_model.specs.Live.{placed, made_items, is_live, live, live_in_order}
-use Rattle.loop_model.proofs.Sorting.{put_all, AllByRecursion-weaker, AllByRecursion-filter, AllByRecursion-append, AllByRecursion-put}
-use Rattle.looper_run.specs.Acts.{accepted_by, post_at}
+use Rattle.loop_model.proofs.Sorting.{put_all, AllByRecursion-weaker, AllByRecursion-filter, AllByRecursion-put}
+use Rattle.looper_run.specs.Acts.{accepted_by}
 
 -- the accepted posts
 abbrev pub accepted : List Entry → List PostData

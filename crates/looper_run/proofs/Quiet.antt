@@ -1,13 +1,9 @@
 -- Acts of one kind that were appended.
-use Rattle.std.proofs.Common.{◌≡◌, ℕ, ◌≤◌, List, [], ◌∷◌, ◌++◌, All, map, get_or, refl, sym, ap, ◌∙◌, arith, length, append_assoc}
+use Rattle.std.proofs.Common.{◌≡◌, List, [], get_or, sym, ◌∙◌, arith}
 use Rattle.std.proofs.lemmas.List.{append-nil}
-use Rattle.std.proofs.lemmas.List.Elements.{All-append, All-map}
 use Rattle.loop_model.specs.declared.journal.Act.{Act}
 use Rattle.loop_model.specs.declared.journal.Act.TheVariants.{Dispatch, Idle, Event, Vsync, Paint}
-use Rattle.loop_sources.specs.declared.idle.IdleTurn.{IdleTurn}
-use Rattle.looper_run.specs.Acts.{IsQuiet, IsIdle, IsEvent, GrowsBy, idle_act}
-use Rattle.looper_run.proofs.Working.{behind}
-use Rattle.looper_run.proofs.Turning.{all_first}
+use Rattle.looper_run.specs.Acts.{IsQuiet, IsIdle, IsEvent, GrowsBy}
 
 idle_is_quiet : (a : Act) → IsIdle a → IsQuiet a
 idle_is_quiet (Dispatch n now route) h = absurd h

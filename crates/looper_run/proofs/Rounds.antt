@@ -1,8 +1,7 @@
 -- The looks of a round, put together.
-use Rattle.std.proofs.Common.{◌≡◌, ℕ, suc, ◌+◌, ◌≤◌, ◌<◌, ◌^◌, Bool, true, false, List, [], ◌∷◌, length, length-append, Option, Some, None, refl, sym, ap, ◌∙◌, subst, arith, inl, inr, zero-add, add-zero}
+use Rattle.std.proofs.Common.{◌≡◌, ℕ, suc, ◌+◌, ◌≤◌, ◌<◌, ◌^◌, true, false, List, [], ◌∷◌, length, length-append, Option, Some, None, refl, ap, ◌∙◌, subst, arith, inl, inr, zero-add, add-zero}
 use Rattle.std.specs.List.{cons_option}
 use Rattle.atomic_table.specs.Seated.{TableId}
-use Rattle.loop_model.specs.declared.journal.Journal.{Journal}
 use Rattle.loop_model.specs.declared.journal.Act.{Act}
 use Rattle.loop_model.specs.Answers.{Setting}
 use Rattle.message_pool.specs.Passes.{Claimed, Tally}
@@ -11,11 +10,11 @@ use Rattle.queue_state.specs.declared.answers.Nexted.TheVariants as nexted
 use Rattle.shared_queue.specs.Known.{Shared, IsOf}
 use Rattle.looper_run.specs.declared.looper.Round.{Round}
 use Rattle.looper_run.specs.declared.looper.Round.TheVariants as round
-use Rattle.looper_run.specs.Holding.{Sender, Holding, Looping, IsAt}
-use Rattle.looper_run.specs.Acts.{act_dispatch, dispatches, IsQuiet}
+use Rattle.looper_run.specs.Holding.{Holding, Looping, IsAt}
+use Rattle.looper_run.specs.Acts.{act_dispatch, dispatches}
 use Rattle.looper_run.specs.Tests.{IsSameLooper}
 use Rattle.looper_run.specs.Looks.{HasDispatched, HasIdled, HasWaited, HasEnded, LooksUntil, DrainBy, IsBegun, IsRound}
-use Rattle.looper_run.specs.Round.{Works, LastLook, LastLookEnds, RoundBy}
+use Rattle.looper_run.specs.Round.{Works, LastLook, RoundBy}
 use Rattle.looper_run.proofs.Working.{works_none, works_then, works_lent}
 use Rattle.looper_run.proofs.Quiet.{quiet_events}
 use Rattle.looper_run.proofs.Steps.{works_acts}
@@ -101,10 +100,13 @@ module _ (s : Setting) (now : ℕ) (a b c : Holding) where
   -- a round goes on after a part that dispatches nothing
   pub begun : (r : Round) → Works s now a b 0 → RoundBy s now b c r → RoundBy s now a c r
   begun (round.Drained n until) p q = (none_before s now a b c n p q.0, earlier_look (nexted.Wait until) p.same.turns q.1)
-  begun (round.Ended n) p q = (none_before s now a b c n p q.0, elim q.1 [
-    | inl end ↦ inl (end.0, earlier_look (nexted.End end.0) p.same.turns end.1)
-    | inr over ↦ inr (earlier_look nexted.Over p.same.turns over)
-  ])
+  begun (round.Ended n) p q = (
+    none_before s now a b c n p q.0,
+    elim q.1 [
+      | inl end ↦ inl (end.0, earlier_look (nexted.End end.0) p.same.turns end.1)
+      | inr over ↦ inr (earlier_look nexted.Over p.same.turns over)
+    ],
+  )
   begun round.NoMemory p q = tt
 
 -- that the looper is marked as ended is no part of a look

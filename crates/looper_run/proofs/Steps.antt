@@ -1,5 +1,5 @@
 -- One step of a round.
-use Rattle.std.proofs.Common.{◌≡◌, ℕ, ◌+◌, ◌≤◌, Bool, true, false, List, [], ◌∷◌, ◌++◌, length, get_or, All, Option, Some, None, refl, sym, ap, ◌∙◌, subst, arith, inl, inr}
+use Rattle.std.proofs.Common.{◌≡◌, ℕ, List, [], ◌∷◌, ◌++◌, length, get_or, All, Option, Some, None, refl, sym, ap, ◌∙◌, subst, arith}
 use Rattle.std.proofs.lemmas.List.{append-nil}
 use Rattle.atomic_table.specs.Seated.{TableId}
 use Rattle.std.specs.List.{cons_option}
@@ -12,13 +12,13 @@ use Rattle.loop_model.specs.declared.entry.Entry.{Entry}
 use Rattle.loop_model.specs.Answers.{Setting}
 use Rattle.message_slot.specs.Letter.{number_in, post_of}
 use Rattle.message_pool.specs.Passes.{Node, Tally}
-use Rattle.queue_state.specs.Queue.{Queue, entry_of, moment_at}
+use Rattle.queue_state.specs.Queue.{entry_of, moment_at}
 use Rattle.queue_state.specs.Ended.{ended}
 use Rattle.shared_queue.specs.Constants.{Constants, IsStateOf}
-use Rattle.shared_queue.specs.Known.{Known, IsTurn}
+use Rattle.shared_queue.specs.Known.{IsTurn}
 use Rattle.looper_run.specs.Holding.{Sender, State, Holding, Workplace, workplace}
 use Rattle.looper_run.specs.Acts.{IsQuiet, GrowsBy, act_dispatch, dispatches, post_at}
-use Rattle.looper_run.specs.Tests.{Test, Passes, IsSameLooper, IsLent, HasTaken}
+use Rattle.looper_run.specs.Tests.{Test, Passes, IsSameLooper, HasTaken}
 use Rattle.looper_run.specs.Told.{IsTold, IsRecycled, Dispatches}
 use Rattle.looper_run.specs.Round.{Works}
 use Rattle.looper_run.proofs.Working.{all_none, entry_of_own, same_then}
@@ -110,15 +110,15 @@ module _ (a b : Holding) (x y : State) (t : IsTurn a.poster b.poster x y) (u : T
   passes_quiet M others quiet still grows h =
       let before = found_passes M a x others (found a.poster b.poster x y t) h in
       passes_at M a.poster.sender x.entries (a.journal.acts ++ grows.0) b t.sender (t.seen ∙ still) grows.1
-          (with_quiet M a.poster.sender x.entries a.journal.acts grows.0 (λ acts act q. quiet a.poster.sender x.entries act acts q) grows.2 before)
+      (with_quiet M a.poster.sender x.entries a.journal.acts grows.0 (λ acts act q. quiet a.poster.sender x.entries act acts q) grows.2 before)
 
   -- a turn that ended the queue
   pub works_end : (key : Constants TableId) (now : ℕ) → IsStateOf key x → y.entries ≡ x.entries ++ entry_of x a.poster.sender (Next (moment_at x now)) Disposed ∷ [] → b.journal.acts ≡ a.journal.acts → Works key.setting now a b 0
   works_end key now own left acts =
       let e : Entry = entry_of x a.poster.sender (Next (moment_at x now)) Disposed in
       works_turn key.setting now a b x y (e ∷ []) [] (same_turn a b x y t u) (found a.poster b.poster x y t) left t.seen (acts ∙ sym (append-nil a.journal.acts))
-          (sym (ap (λ (o : Option (ℕ × ℕ)). cons_option o []) (entry_of_own a.poster.sender e refl)))
-          ((λ mine. moment_is key x x.entries now own refl), tt)
+      (sym (ap (λ (o : Option (ℕ × ℕ)). cons_option o []) (entry_of_own a.poster.sender e refl)))
+      ((λ mine. moment_is key x x.entries now own refl), tt)
 
   pub passes_end : (M : Test) (now : ℕ) → KeepsOthers M → KeepsDisposal M → y.entries ≡ x.entries ++ entry_of x a.poster.sender (Next (moment_at x now)) Disposed ∷ [] → b.journal.acts ≡ a.journal.acts → Passes M a → Passes M b
   passes_end M now others disposal left acts h =
@@ -150,8 +150,8 @@ module _ (a b : Holding) (x y : State) (t : IsTurn a.poster b.poster x y) (u : T
       let told = done.1 in
       let c = told.left in
       works_taken key.setting now a b c d x y e (number_in node.item) at told.route (same_turn a b x y t u) (found a.poster b.poster x y t) left t.seen acts refl refl (ap Dispatched (sym post.0)) (moment ∙ moment_is key x x.entries now own refl)
-          told.lent (same_then c done.0 d (same_told b done.0 node at told) (same_recycled done.0 d node done.2))
-          (ap (λ (p : Sender). p.view.seen) (done.2.poster ∙ told.poster)) (ap (λ (j : Journal). j.acts) done.2.journal ∙ told.acts)
+      told.lent (same_then c done.0 d (same_told b done.0 node at told) (same_recycled done.0 d node done.2))
+      (ap (λ (p : Sender). p.view.seen) (done.2.poster ∙ told.poster)) (ap (λ (j : Journal). j.acts) done.2.journal ∙ told.acts)
 
 -- acts that tell no dispatch were appended, and that is all
 pub works_acts : (s : Setting) (now : ℕ) (a b : Holding) → b.poster ≡ a.poster → b.pass.home ≡ a.pass.home → b.journal.looper ≡ a.journal.looper → GrowsBy IsQuiet a.journal.acts b.journal.acts → Works s now a b 0

@@ -1,6 +1,6 @@
 -- A look that takes a message.
-use Rattle.std.proofs.Common.{◌≡◌, ℕ, ◌+◌, ◌==◌, Bool, true, false, List, [], ◌∷◌, ◌++◌, Option, Some, None, slice_get, refl, sym, ap, ◌∙◌, subst, arith}
-use Rattle.std.specs.Prelude.{filter, map, cond}
+use Rattle.std.proofs.Common.{◌≡◌, ℕ, ◌==◌, Bool, true, false, List, [], ◌∷◌, Some, slice_get, refl, sym, subst, arith}
+use Rattle.std.specs.Prelude.{filter, cond}
 use Rattle.std.specs.List.{AllByRecursion}
 use Rattle.std.proofs.lemmas.Bool.Decides.{nat_tests}
 use Rattle.atomic_table.specs.Seated.{TableId}
@@ -10,14 +10,13 @@ use Rattle.loop_model.specs.declared.item.Item.{Item}
 use Rattle.loop_model.specs.declared.item.Item.TheVariants.{Post as Message, Barrier as Fence}
 use Rattle.loop_model.specs.declared.entry.Entry.{Entry}
 use Rattle.loop_model.specs.Items.{number_of, is_just}
-use Rattle.loop_model.specs.Base.{empty_base}
 use Rattle.loop_model.specs.Live.{live_in_order}
 use Rattle.loop_model.specs.Entries.{ends_by}
 use Rattle.loop_model.proofs.Sorting.{AllByRecursion-filter}
-use Rattle.message_slot.specs.Letter.{Letter, number_in, post_of}
-use Rattle.message_pool.specs.Passes.{Claimed, Node}
+use Rattle.message_slot.specs.Letter.{number_in, post_of}
+use Rattle.message_pool.specs.Passes.{Node}
 use Rattle.when_queue.specs.Queue.{items_of}
-use Rattle.queue_state.specs.Queue.{Queue, IsSound, entry_of}
+use Rattle.queue_state.specs.Queue.{IsSound}
 use Rattle.queue_state.specs.Ended.{ended}
 use Rattle.shared_queue.specs.Constants.{Constants, IsStateOf}
 use Rattle.looper_run.specs.Holding.{State}

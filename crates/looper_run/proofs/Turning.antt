@@ -1,5 +1,5 @@
 -- What a look for a message does to the looper.
-use Rattle.std.proofs.Common.{◌≡◌, ℕ, zero, suc, ◌+◌, ◌≤◌, ◌<◌, ◌==◌, get_or, cond, eqb, max, Bool, true, false, List, [], ◌∷◌, ◌++◌, length, All, Option, Some, None, refl, sym, ap, ◌∙◌, subst, arith, append_assoc, if◌then◌else◌}
+use Rattle.std.proofs.Common.{◌≡◌, ℕ, zero, suc, ◌+◌, ◌<◌, get_or, max, List, [], ◌∷◌, ◌++◌, length, All, Some, refl, sym, ap, ◌∙◌, subst, arith, append_assoc, if◌then◌else◌}
 use Rattle.std.specs.List.{cons_option}
 use Rattle.std.proofs.lemmas.List.{append-nil}
 use Rattle.std.proofs.lemmas.List.Elements.{filter_map-append}
@@ -9,15 +9,12 @@ use Rattle.loop_model.specs.declared.journal.Act.{Act}
 use Rattle.loop_model.specs.declared.journal.Act.TheVariants.{Dispatch}
 use Rattle.loop_model.specs.declared.journal.Route.{Route}
 use Rattle.loop_model.specs.declared.call.Call.TheVariants.{Next}
-use Rattle.loop_model.specs.declared.reply.Reply.{Reply}
-use Rattle.loop_model.specs.declared.reply.Reply.TheVariants.{Dispatched, Disposed}
+use Rattle.loop_model.specs.declared.reply.Reply.TheVariants.{Dispatched}
 use Rattle.loop_model.specs.declared.entry.Entry.{Entry}
-use Rattle.loop_model.specs.declared.base.Base.{Base}
-use Rattle.loop_model.specs.Base.{empty_base}
 use Rattle.loop_model.specs.Answers.{Setting, clock}
-use Rattle.queue_state.specs.Queue.{Queue, moment_at, entry_of}
+use Rattle.queue_state.specs.Queue.{moment_at}
 use Rattle.shared_queue.specs.Constants.{Constants, made_in, IsStateOf}
-use Rattle.shared_queue.specs.Known.{Known, IsTurn}
+use Rattle.shared_queue.specs.Known.{IsTurn}
 use Rattle.shared_queue.proofs.Prefixes.{one_of, made_in-append, one_of-yes}
 use Rattle.looper_run.specs.Holding.{Sender, State, Holding}
 use Rattle.looper_run.specs.Acts.{act_dispatch, dispatches, call_dispatch, entry_dispatch, taken_by, IsNoLookOf, IsQuiet, moment_on, IsLookAt, AreLooksAt}
@@ -87,7 +84,7 @@ module _ (s : Setting) (now : ℕ) where
       → dispatches did ≡ taken_by a.poster.sender tail → AreLooksAt s a.poster.sender now x.entries tail → Works s now a b (length (dispatches did))
   works_turn a b x y tail did same f left seen acts told looks =
       let behind : b.poster.view.seen ≡ a.poster.view.seen ++ (f.others ++ tail) =
-          seen ∙ (left ∙ (ap (λ (l : List Entry). l ++ tail) f.entries ∙ append_assoc a.poster.view.seen f.others tail)) in
+      seen ∙ (left ∙ (ap (λ (l : List Entry). l ++ tail) f.entries ∙ append_assoc a.poster.view.seen f.others tail)) in
       let none : taken_by a.poster.sender f.others ≡ [] = takes_none a.poster.sender f.others (no_looks a.poster.sender f.others f.all) in
       record {
         same = same;
@@ -114,17 +111,17 @@ module _ (s : Setting) (now : ℕ) where
       let after : taken_by sender lent.more ≡ [] = takes_none sender lent.more mine in
       let one : entry_dispatch sender e ≡ Some (n, at) = entry_of_own sender e own ∙ (λ i. call_dispatch (call i) (reply i)) in
       let first : taken_by sender (f.others ++ e ∷ []) ≡ pair =
-          filter_map-append (entry_dispatch sender) f.others (e ∷ []) ∙ (λ i. none i ++ cons_option (one i) []) in
+      filter_map-append (entry_dispatch sender) f.others (e ∷ []) ∙ (λ i. none i ++ cons_option (one i) []) in
       let taken : taken_by sender ((f.others ++ e ∷ []) ++ lent.more) ≡ pair =
-          filter_map-append (entry_dispatch sender) (f.others ++ e ∷ []) lent.more ∙ (λ i. first i ++ after i) in
+      filter_map-append (entry_dispatch sender) (f.others ++ e ∷ []) lent.more ∙ (λ i. first i ++ after i) in
       let told : dispatches (lent.did ++ Dispatch n at route ∷ []) ≡ pair =
-          filter_map-append act_dispatch lent.did (Dispatch n at route ∷ []) ∙ ap (λ (l : List (ℕ × ℕ)). l ++ pair) (told_none lent.did lent.told) in
+      filter_map-append act_dispatch lent.did (Dispatch n at route ∷ []) ∙ ap (λ (l : List (ℕ × ℕ)). l ++ pair) (told_none lent.did lent.told) in
       let here : b.poster.view.seen ≡ a.poster.view.seen ++ (f.others ++ e ∷ []) =
-          seen ∙ (left ∙ (ap (λ (l : List Entry). l ++ e ∷ []) f.entries ∙ append_assoc a.poster.view.seen f.others (e ∷ []))) in
+      seen ∙ (left ∙ (ap (λ (l : List Entry). l ++ e ∷ []) f.entries ∙ append_assoc a.poster.view.seen f.others (e ∷ []))) in
       let look : AreLooksAt s sender now x.entries (e ∷ []) = (λ _. subst (λ c. IsLookAt (moment_on s x.entries now) c) (sym call) moment, tt) in
       let until : AreLooksAt s sender now a.poster.view.seen (f.others ++ e ∷ []) =
-          looks_append s sender now a.poster.view.seen f.others (e ∷ []) (no_looks_at s sender now a.poster.view.seen f.others (no_looks sender f.others f.all))
-          (subst (λ (l : List Entry). AreLooksAt s sender now l (e ∷ [])) f.entries look) in
+      looks_append s sender now a.poster.view.seen f.others (e ∷ []) (no_looks_at s sender now a.poster.view.seen f.others (no_looks sender f.others f.all))
+      (subst (λ (l : List Entry). AreLooksAt s sender now l (e ∷ [])) f.entries look) in
       record {
         same = same_then a c d (same_then a b c same lent.same) same';
         more = (f.others ++ e ∷ []) ++ lent.more;

@@ -1,5 +1,5 @@
 -- Parts of a round, one after the other.
-use Rattle.std.proofs.Common.{◌≡◌, ◌≢◌, ℕ, zero, suc, ◌+◌, ◌≤◌, ◌<◌, cond, eqb, Bool, true, false, List, [], ◌∷◌, ◌++◌, length, All, get_or, Option, Some, None, refl, sym, ap, ◌∙◌, subst, arith, append_assoc, length-append, eq-eqb, ne_eqb}
+use Rattle.std.proofs.Common.{◌≡◌, ℕ, suc, ◌+◌, cond, Bool, false, List, [], ◌∷◌, ◌++◌, length, All, get_or, Option, None, refl, sym, ap, ◌∙◌, subst, arith, append_assoc, length-append, eq-eqb, ne_eqb}
 use Rattle.std.specs.List.{filter_map}
 use Rattle.std.proofs.lemmas.List.{append-nil}
 use Rattle.std.proofs.lemmas.List.Elements.{filter_map-append, All-append}
@@ -135,10 +135,10 @@ module _ (s : Setting) (now : ℕ) where
   pub works_then : (a b c : Holding) (m n : ℕ) → Works s now a b m → Works s now b c n → Works s now a c (m + n)
   works_then a b c m n p q =
       let told : dispatches (p.did ++ q.did) ≡ taken_by a.poster.sender (p.more ++ q.more) =
-          filter_map-append act_dispatch p.did q.did
-            ∙ (ap (λ (l : List (ℕ × ℕ)). l ++ dispatches q.did) p.told
-              ∙ (ap (λ (l : List (ℕ × ℕ)). taken_by a.poster.sender p.more ++ l) (q.told ∙ ap (λ (k : ℕ). taken_by k q.more) p.same.sender)
-                ∙ sym (filter_map-append (entry_dispatch a.poster.sender) p.more q.more))) in
+      filter_map-append act_dispatch p.did q.did
+      ∙ (ap (λ (l : List (ℕ × ℕ)). l ++ dispatches q.did) p.told
+      ∙ (ap (λ (l : List (ℕ × ℕ)). taken_by a.poster.sender p.more ++ l) (q.told ∙ ap (λ (k : ℕ). taken_by k q.more) p.same.sender)
+      ∙ sym (filter_map-append (entry_dispatch a.poster.sender) p.more q.more))) in
       record {
         same = same_then a b c p.same q.same;
         more = p.more ++ q.more;

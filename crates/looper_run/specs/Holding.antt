@@ -1,5 +1,5 @@
 -- What a looper works with.
-use Rattle.std.specs.Prelude.{◌≡◌, ℕ, Bool, Option}
+use Rattle.std.specs.Prelude.{◌≡◌, Bool, Option}
 use Rattle.atomic_table.specs.Seated.{TableId}
 use Rattle.loop_model.specs.declared.journal.Journal.{Journal}
 use Rattle.message_pool.specs.Passes.{Claimed, Tally}

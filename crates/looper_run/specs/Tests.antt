@@ -4,7 +4,7 @@ use Rattle.loop_model.specs.declared.journal.Act.{Act}
 use Rattle.loop_model.specs.declared.journal.Act.TheVariants.{Dispatch}
 use Rattle.loop_model.specs.declared.journal.Route.{Route}
 use Rattle.loop_model.specs.declared.call.Call.TheVariants.{Next}
-use Rattle.loop_model.specs.declared.reply.Reply.TheVariants.{Dispatched, Disposed}
+use Rattle.loop_model.specs.declared.reply.Reply.TheVariants.{Dispatched}
 use Rattle.loop_model.specs.declared.entry.Entry.{Entry}
 use Rattle.message_slot.specs.Letter.{post_of, number_in}
 use Rattle.message_pool.specs.Passes.{Node}

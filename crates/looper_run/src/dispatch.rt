@@ -25,12 +25,7 @@ pub(crate) fn tell(journal: &mut Journal, act: Act) -> Result<(), NoMemory>
 }
 
 // The handler's callback object, or else the handler. None where memory was wanting.
-fn offer<D: Dispatcher>(
-    d: &mut D,
-    own: &mut Own,
-    m: &Message<PoolClaim>,
-    now: u64,
-) -> Option<Route>
+fn offer<D: Dispatcher>(d: &mut D, own: &mut Own, m: &Message<PoolClaim>, now: u64) -> Option<Route>
     requires serves { D.Serves d.old (workplace (held own.old)) }
     requires taken { HasTaken (D.Meets d.old) (held own.old) m.now now }
     requires callback { callback_of m.now.item ≡ None }
@@ -54,12 +49,7 @@ fn offer<D: Dispatcher>(
 }
 
 // The callback of the message where it has one, else the handler with its callback object. None where memory was wanting.
-fn route<D: Dispatcher>(
-    d: &mut D,
-    own: &mut Own,
-    m: &Message<PoolClaim>,
-    now: u64,
-) -> Option<Route>
+fn route<D: Dispatcher>(d: &mut D, own: &mut Own, m: &Message<PoolClaim>, now: u64) -> Option<Route>
     requires serves { D.Serves d.old (workplace (held own.old)) }
     requires taken { HasTaken (D.Meets d.old) (held own.old) m.now now }
     requires awaits { D.Awaits d.old (Some (number_in m.now.item)) }

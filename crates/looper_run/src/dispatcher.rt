@@ -24,7 +24,10 @@ pub enum Did {
     NoMemory,
 }
 
-/// The code of the handlers of a looper.
+/// The code of the handlers of a looper. A message with a callback runs that; of another the handler's callback object is
+/// asked, and the handler itself handles what that declines, as in `dispatchMessage` of the Android API reference's
+/// `Handler`. Moments are in milliseconds. What it is lent may make entries other than looks for a message, and it may
+/// append Vsync and Paint acts. `before`, `pulse` and `listen` are this project's profile.
 pub trait Dispatcher {
     /// The queues and pools that it works on.
     ghost Serves: { Self → Workplace → Type 0 };
@@ -39,7 +42,7 @@ pub trait Dispatcher {
     /// What it awaits: the dispatch of the message of this number, which `before` was called with, or none.
     ghost Awaits: { Self → Option ℕ → Type 0 };
 
-    /// Called with the number of each message before it is dispatched.
+    /// Called with the number of each message, counted from 0, before it is dispatched.
     fn before(&mut self, number: u64)
         requires awaits { Awaits self.old None }
         ensures awaits { Awaits self.new (Some number) }
@@ -47,7 +50,7 @@ pub trait Dispatcher {
         ensures meets { (s : ℕ) (es : List Entry) (acts : List Act) → Meets self.old s es acts → Meets self.new s es acts }
         ensures nudges { nudges self.new ≡ nudges self.old };
 
-    /// Called at the start of each round, where a pulse that was asked for is delivered.
+    /// Called at the start of each round, where a pulse that was asked for is delivered. Only NoMemory counts as an answer.
     fn pulse(&mut self, own: &mut Own, now: u64) -> Did
         requires serves { Serves self.old (workplace (held own.old)) }
         requires awaits { Awaits self.old None }
@@ -59,7 +62,8 @@ pub trait Dispatcher {
         ensures nudges { Rings own.old.poster.now own.new.poster.now (nudges self.old) (nudges self.new) }
         ensures meets { Unless result (Passes (Meets self.new) (held own.new)) };
 
-    /// Tells a listener of the events on a descriptor, and answers its new mask.
+    /// Tells a listener of the events on a descriptor, and answers its new mask: INPUT 1, OUTPUT 2, ERROR 4, and with 0 it
+    /// is told no more.
     fn listen(&mut self, fd: u32, events: u32, listener: u32) -> u32
         ensures mask { result ≤ 7 }
         ensures awaits { (awaited : Option ℕ) → Awaits self.old awaited → Awaits self.new awaited }
@@ -67,7 +71,7 @@ pub trait Dispatcher {
         ensures meets { (s : ℕ) (es : List Entry) (acts : List Act) → Meets self.old s es acts → Meets self.new s es acts }
         ensures nudges { nudges self.new ≡ nudges self.old };
 
-    /// Runs the callback of a message that has one.
+    /// Runs the callback of a message that has one. Only NoMemory counts as an answer.
     fn run_callback(&mut self, own: &mut Own, id: u64, m: &Message<PoolClaim>, now: u64) -> Did
         requires serves { Serves self.old (workplace (held own.old)) }
         requires taken { HasTaken (Meets self.old) (held own.old) m.now now }
@@ -93,7 +97,7 @@ pub trait Dispatcher {
         ensures nudges { Rings own.old.poster.now own.new.poster.now (nudges self.old) (nudges self.new) }
         ensures meets { Intercepts result (PassesWith (Meets self.new) (held own.new) m.now now Intercepted) (IsUntouched (held own.old) (held own.new) × HasTaken (Meets self.new) (held own.new) m.now now) };
 
-    /// Handles a message that has no callback and was not intercepted.
+    /// Handles a message that has no callback and was not intercepted. Only NoMemory counts as an answer.
     fn handle(&mut self, own: &mut Own, m: &Message<PoolClaim>, now: u64) -> Did
         requires serves { Serves self.old (workplace (held own.old)) }
         requires taken { HasTaken (Meets self.old) (held own.old) m.now now }

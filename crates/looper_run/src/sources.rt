@@ -71,13 +71,15 @@ pub(crate) fn take_events<R: Wait, D: Dispatcher>(
         match event {
             None => return Ok(()),
             Some(Event::Ignored) => {}
-            Some(Event::Call {
-                fd,
-                events,
-                birth,
-                seq,
-                listener,
-            }) => {
+            Some(
+                Event::Call {
+                    fd,
+                    events,
+                    birth,
+                    seq,
+                    listener,
+                },
+            ) => {
                 let mask = d.listen(fd, events, listener);
                 sources.lock(rt).fds.answer(fd, birth, seq, mask);
                 tell(journal, Act::Event { fd, events, mask })?;

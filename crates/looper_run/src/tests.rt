@@ -116,12 +116,7 @@ fn set_up(alloc: Global) -> Result<Opened, NoMemory>
     })
 }
 
-fn message(
-    alloc: Global,
-    what: u32,
-    callback: Option<u64>,
-    when: u64,
-) -> Result<PoolNode, NoMemory>
+fn message(alloc: Global, what: u32, callback: Option<u64>, when: u64) -> Result<PoolNode, NoMemory>
     ensures { IfOk result (λ m. (is_barrier m.item ≡ false) × (m.claim ≡ None)) }
 {
     let mut message = Message::blank();
@@ -179,12 +174,15 @@ fn each_message_goes_its_way_once(rt: HostRuntime) -> Result<(), Fail> {
     let mut d = Recorder {
         calls: Vec::new(alloc),
     };
-    let round = o.looper.run_round(&rt, &o.queue, &o.pool, &sources, &mut d, 10);
+    let round = o
+        .looper
+        .run_round(&rt, &o.queue, &o.pool, &sources, &mut d, 10);
     assert!(rt;
-        round == Round::Drained {
-            dispatched: 3,
-            until: Some(20)
-        }
+        round
+            == Round::Drained {
+                dispatched: 3,
+                until: Some(20)
+            }
     );
     let calls = [
         Noted::Pulse { now: 10 },
@@ -249,16 +247,27 @@ fn idle_handlers_run_once_between_messages(rt: HostRuntime) -> Result<(), Fail> 
         dispatched: 0,
         until: None,
     };
-    assert!(rt; o.looper.run_round(&rt, &o.queue, &o.pool, &sources, &mut d, 1) == drained);
-    assert!(rt; post(&rt, alloc, &o.queue, &mut o.poster, 1, None, 0));
-    let round = o.looper.run_round(&rt, &o.queue, &o.pool, &sources, &mut d, 2);
     assert!(rt;
-        round == Round::Drained {
-            dispatched: 1,
-            until: None
-        }
+        o.looper
+            .run_round(&rt, &o.queue, &o.pool, &sources, &mut d, 1)
+            == drained
     );
-    assert!(rt; o.looper.run_round(&rt, &o.queue, &o.pool, &sources, &mut d, 3) == drained);
+    assert!(rt; post(&rt, alloc, &o.queue, &mut o.poster, 1, None, 0));
+    let round = o
+        .looper
+        .run_round(&rt, &o.queue, &o.pool, &sources, &mut d, 2);
+    assert!(rt;
+        round
+            == Round::Drained {
+                dispatched: 1,
+                until: None
+            }
+    );
+    assert!(rt;
+        o.looper
+            .run_round(&rt, &o.queue, &o.pool, &sources, &mut d, 3)
+            == drained
+    );
     let (_, _, journal) = o.looper.into_parts();
     let acts = [
         Act::Idle { id: 3, kept: true },
@@ -287,7 +296,8 @@ fn listeners_answer_what_is_watched(rt: HostRuntime) -> Result<(), Fail> {
     let mut d = Recorder {
         calls: Vec::new(alloc),
     };
-    o.looper.run_round(&rt, &o.queue, &o.pool, &sources, &mut d, 1);
+    o.looper
+        .run_round(&rt, &o.queue, &o.pool, &sources, &mut d, 1);
     assert!(rt; sources.lock(&rt).fds.watched(5) == Some(6));
     assert!(rt; sources.lock(&rt).fds.watched(6).is_none());
     let (_, _, journal) = o.looper.into_parts();
@@ -324,7 +334,9 @@ fn a_quit_ends_the_looper(rt: HostRuntime) -> Result<(), Fail> {
     let mut d = Recorder {
         calls: Vec::new(alloc),
     };
-    let round = o.looper.run_round(&rt, &o.queue, &o.pool, &sources, &mut d, 9);
+    let round = o
+        .looper
+        .run_round(&rt, &o.queue, &o.pool, &sources, &mut d, 9);
     assert!(rt; round == Round::Ended { dispatched: 1 });
     Ok(())
 }

@@ -52,9 +52,12 @@ returns-in-Ends-clause-round g c =
     (ended c.args.queue.now c.args.pool.now c.args.now c.loop.dispatched c.args.self.now c.loop.self c.step.new.self c.requires.at c.loop.invariant.goes c.in-Ends.ensures.step)
 
 pub returns-in-Ends-clause-looks : goal.returns-in-Ends-clause-looks
-returns-in-Ends-clause-looks g c =
-    (c.loop.self, c.loop.invariant.goes.looks, subst (λ (l : Looping). HasEnded c.args.now c.loop.self (record { held = l.held; idle_owed = l.idle_owed; ended = true })) (sym c.self.view_is)
-    (ends_marked c.args.now c.loop.self c.step.new.self c.in-Ends.ensures.step))
+returns-in-Ends-clause-looks g c = (
+  c.loop.self,
+  c.loop.invariant.goes.looks,
+  subst (λ (l : Looping). HasEnded c.args.now c.loop.self (record { held = l.held; idle_owed = l.idle_owed; ended = true })) (sym c.self.view_is)
+      (ends_marked c.args.now c.loop.self c.step.new.self c.in-Ends.ensures.step),
+)
 
 pub returns-in-NoMemory-clause-nudges : goal.returns-in-NoMemory-clause-nudges
 returns-in-NoMemory-clause-nudges g c =

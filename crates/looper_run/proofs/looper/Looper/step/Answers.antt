@@ -27,12 +27,12 @@ returns-after-dispatch-clause-step g c =
     let after : Looping = record { held = held c.dispatch.new.own; idle_owed = true; ended = c.self.inside.ended } in
     elim c.match-dispatch.branch [
       | in-Ok w ↦
-        (let did : HasDispatched c.args.now before after = record { looked = c.next.new.self; number = c.in-Taken.number; moment = c.in-Taken.now; node = c.in-Taken.node; look = c.in-Taken.ensures.done; done = w.in-Ok.ensures.done; idle_owed = refl } in
-        let fits = fits_dispatches (looked_by before.held c.next.new.self) after.held c.in-Taken.node c.in-Taken.now did.done in
-        subst (λ (r : Step). StepBy c.args.now c.args.self.now after r) (sym w.result-is) (subst (λ (l : Looping). StepBy c.args.now l after Dispatched) c.self.view_is (did, fits)))
+          (let did : HasDispatched c.args.now before after = record { looked = c.next.new.self; number = c.in-Taken.number; moment = c.in-Taken.now; node = c.in-Taken.node; look = c.in-Taken.ensures.done; done = w.in-Ok.ensures.done; idle_owed = refl } in
+          let fits = fits_dispatches (looked_by before.held c.next.new.self) after.held c.in-Taken.node c.in-Taken.now did.done in
+          subst (λ (r : Step). StepBy c.args.now c.args.self.now after r) (sym w.result-is) (subst (λ (l : Looping). StepBy c.args.now l after Dispatched) c.self.view_is (did, fits)))
       | in-Err w ↦
-        (let up : GivesUp c.args.now before after = inl (c.next.new.self, c.in-Taken.number, c.in-Taken.now, c.in-Taken.node, c.in-Taken.ensures.done, w.in-Err.ensures.given_up) in
-        subst (λ (r : Step). StepBy c.args.now c.args.self.now after r) (sym w.result-is) (subst (λ (l : Looping). StepBy c.args.now l after NoMemory) c.self.view_is up))
+          (let up : GivesUp c.args.now before after = inl (c.next.new.self, c.in-Taken.number, c.in-Taken.now, c.in-Taken.node, c.in-Taken.ensures.done, w.in-Err.ensures.given_up) in
+          subst (λ (r : Step). StepBy c.args.now c.args.self.now after r) (sym w.result-is) (subst (λ (l : Looping). StepBy c.args.now l after NoMemory) c.self.view_is up))
     ]
 
 pub returns-after-run_idle-clause-meets : goal.returns-after-run_idle-clause-meets
@@ -42,8 +42,8 @@ returns-after-run_idle-clause-meets g c =
     let passes = subst (λ (l : Looping). Passes (g.D.Dispatcher.Meets c.args.d.now) l.held) (sym c.self.view_is) c.requires.meets in
     elim c.match-run_idle.branch [
       | in-Ok-run_idle w ↦
-        (let still = passes_idle M (g.met.D.Dispatcher.others c.args.d.now) c.args.now a c.next.new.self c.self.inside.idle_owed (g.met.D.Dispatcher.quiet c.args.d.now) c.run_idle.new.journal.acts c.in-Idle.ensures.done c.run_idle.ensures.told passes in
-        subst (λ (r : Step). UnlessStopped r (M c.next.new.self.sender c.next.new.self.view.seen c.run_idle.new.journal.acts)) (sym w.result-is) still)
+          (let still = passes_idle M (g.met.D.Dispatcher.others c.args.d.now) c.args.now a c.next.new.self c.self.inside.idle_owed (g.met.D.Dispatcher.quiet c.args.d.now) c.run_idle.new.journal.acts c.in-Idle.ensures.done c.run_idle.ensures.told passes in
+          subst (λ (r : Step). UnlessStopped r (M c.next.new.self.sender c.next.new.self.view.seen c.run_idle.new.journal.acts)) (sym w.result-is) still)
       | in-Err-run_idle w ↦ subst (λ (r : Step). UnlessStopped r (M c.next.new.self.sender c.next.new.self.view.seen c.run_idle.new.journal.acts)) (sym w.result-is) tt
     ]
 
