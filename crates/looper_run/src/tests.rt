@@ -330,6 +330,8 @@ fn a_quit_ends_the_looper(rt: HostRuntime) -> Result<(), Fail> {
     assert!(rt; post(&rt, alloc, &o.queue, &mut o.poster, 1, None, 20));
     let quit = o.poster.quit(&rt, &o.queue, true, 5);
     assert!(rt; matches!(quit, Quitting::Done(_)));
+    o.looper.hear(&o.queue, &mut o.poster);
+    o.looper.tell(&o.queue, &mut o.poster);
     let sources = nothing_watched(alloc);
     let mut d = Recorder {
         calls: Vec::new(alloc),
