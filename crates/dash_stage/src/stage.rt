@@ -230,7 +230,7 @@ impl Stage {
             Command::Unbarrier { label } => self.remove_barrier(thread, label),
             Command::Quit { looper } => self.lanes.quit(looper, thread, false),
             Command::QuitSafely { looper } => self.lanes.quit(looper, thread, true),
-            // These forms are refused before a run.
+            // These forms do nothing yet.
             Command::Set { .. }
             | Command::Idle { .. }
             | Command::Watch { .. }

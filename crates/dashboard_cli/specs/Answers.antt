@@ -2,10 +2,8 @@
 use Rattle.std.specs.Prelude.{◌≡◌, ℕ, ◌+◌, ◌≤◌, List, [], Bool, true, false, Option, Some, length}
 use Rattle.std.specs.Io.KnownBytes.{Appends, Consumes, Keeps}
 use Rattle.dash_script.specs.declared.refusal.Cause.{Cause}
-use Rattle.dash_script.specs.declared.refusal.Cause.TheVariants.{Unbuilt}
 use Rattle.dash_script.specs.declared.script.Script.{Script as ScriptData}
 use Rattle.dash_script.specs.Reading.{IsRefusal, IsText}
-use Rattle.dash_script.specs.Unbuilt.{first_unbuilt}
 use Rattle.loop_io.specs.Causes.{AppendsFront}
 use Rattle.run_model.specs.declared.report.Report.{Report}
 use Rattle.dashboard_cli.specs.Streams.{limit, Known, ReadsWhole}
@@ -101,9 +99,3 @@ abbrev pub IsNoScript : List ℕ → Status → Type 0
 IsNoScript input (Script line cause) = IsRefusal input line cause × ((s : ScriptData) → IsText input s → ⊥)
 IsNoScript input NoMemory = Unit {0}
 IsNoScript input status = ⊥
-
--- why a script was not run
-abbrev pub IsNotRun : ScriptData → Status → Type 0
-IsNotRun script (Script line cause) = (first_unbuilt script ≡ Some line) × (cause ≡ Unbuilt)
-IsNotRun script NoMemory = Unit {0}
-IsNotRun script status = ⊥

@@ -2,7 +2,7 @@
 use Rattle.std.specs.Prelude.{ℕ, List, [], ◌++◌, codes}
 use Rattle.std.specs.Fmt.{decimal}
 use Rattle.dash_script.specs.declared.refusal.Cause.{Cause}
-use Rattle.dash_script.specs.declared.refusal.Cause.TheVariants.{Form, Range, Unknown, Order, TooMany, Missing, Unbuilt}
+use Rattle.dash_script.specs.declared.refusal.Cause.TheVariants.{Form, Range, Unknown, Order, TooMany, Missing}
 use Rattle.dashboard_cli.specs.declared.status.Status.{Status}
 use Rattle.dashboard_cli.specs.declared.status.Status.TheVariants.{Ok, Usage, Script, ReadFault, WriteFault, NoMemory, TooLong}
 
@@ -24,7 +24,6 @@ cause_word Unknown = codes "unknown"
 cause_word Order = codes "order"
 cause_word TooMany = codes "toomany"
 cause_word Missing = codes "missing"
-cause_word Unbuilt = codes "unbuilt"
 
 -- what standard error gets, without its line feed
 abbrev pub status_line : Status → List ℕ

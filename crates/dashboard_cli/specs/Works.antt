@@ -1,12 +1,10 @@
 -- What each command makes of its input, and which inputs it refuses.
-use Rattle.std.specs.Prelude.{◌≡◌, ◌⊎◌, ℕ, Bool, true, false, List, Option, Some, None}
+use Rattle.std.specs.Prelude.{◌≡◌, ℕ, Bool, true, false, List, Option, Some, None}
 use Rattle.dash_script.specs.declared.refusal.Cause.{Cause}
-use Rattle.dash_script.specs.declared.refusal.Cause.TheVariants.{Unbuilt}
 use Rattle.dash_script.specs.declared.script.Script.{Script}
 use Rattle.dash_script.specs.Generated.{generated}
 use Rattle.dash_script.specs.Reading.{IsRefusal, IsText}
 use Rattle.dash_script.specs.Text.{text as script_text}
-use Rattle.dash_script.specs.Unbuilt.{first_unbuilt}
 use Rattle.run_model.specs.declared.report.Report.{Report}
 use Rattle.run_model.specs.Text.{summary, text}
 use Rattle.dash_stage.specs.Staged.{IsStaged}
@@ -20,16 +18,11 @@ reads Text = true
 reads (Make number) = false
 reads (MakeRun number) = false
 
--- the report is of a run of the script, whose lines are all of forms that are run
-pub record RunsScript (script : Script) (report : Report) : Type 0 where
-  pub built : first_unbuilt script ≡ None
-  pub run : IsStaged script report
-
 -- the input is the text of the report's script, and the report is written
 pub record WritesReport (input out : List ℕ) (returned : Option Report) : Type 0 where
   pub report : Report
   pub read : IsText input report.script
-  pub runs : RunsScript report.script report
+  pub runs : IsStaged report.script report
   pub text_is : out ≡ text report
   pub report_is : returned ≡ Some report
 
@@ -43,7 +36,7 @@ pub record WritesScript (input out : List ℕ) (returned : Option Report) : Type
 -- the script that is made from the number is run, and the summary is written
 pub record WritesSummary (number : ℕ) (out : List ℕ) (returned : Option Report) : Type 0 where
   pub report : Report
-  pub runs : RunsScript (generated number) report
+  pub runs : IsStaged (generated number) report
   pub text_is : out ≡ summary number report
   pub report_is : returned ≡ Some report
 
@@ -54,23 +47,16 @@ Makes Text input out returned = WritesScript input out returned
 Makes (Make number) input out returned = (out ≡ script_text (generated number)) × (returned ≡ None)
 Makes (MakeRun number) input out returned = WritesSummary number out returned
 
--- the input is the text of a script, and this is the script's first line of a form that isn't run yet
-pub record IsUnbuilt (input : List ℕ) (line : ℕ) (cause : Cause) : Type 0 where
-  pub script : Script
-  pub read : IsText input script
-  pub first : first_unbuilt script ≡ Some line
-  pub named : cause ≡ Unbuilt
-
--- why a command refuses its input: it is no script, or a script with a line of a form that isn't run yet
+-- why a command refuses its input: it is the text of no script, and this is its refusal
 abbrev pub IsBad : Command → List ℕ → ℕ → Cause → Type 0
-IsBad Run input line cause = IsRefusal input line cause ⊎ IsUnbuilt input line cause
+IsBad Run input line cause = IsRefusal input line cause
 IsBad Text input line cause = IsRefusal input line cause
 IsBad (Make number) input line cause = ⊥
-IsBad (MakeRun number) input line cause = (first_unbuilt (generated number) ≡ Some line) × (cause ≡ Unbuilt)
+IsBad (MakeRun number) input line cause = ⊥
 
--- the input is one that the command takes: `run` takes a script whose lines are all of forms that are run
+-- the input is one that the command takes
 abbrev pub IsGood : Command → List ℕ → Type 0
-IsGood Run input = (script : Script) × IsText input script × (first_unbuilt script ≡ None)
+IsGood Run input = (script : Script) × IsText input script
 IsGood Text input = (script : Script) × IsText input script
 IsGood (Make number) input = Unit {0}
-IsGood (MakeRun number) input = first_unbuilt (generated number) ≡ None
+IsGood (MakeRun number) input = Unit {0}

@@ -1,19 +1,19 @@
 // The text of each command, made whole before it is written.
 ghost use Rattle.std.specs.Prelude.{◌≡◌, ◌≤◌, [], false, IfErr, IfOk};
 ghost use Rattle.loop_io.specs.Causes.{Rose};
-ghost use Rattle.dash_script.specs.declared.script.Script.{Script};
 ghost use Rattle.dash_script.specs.Generated.{generated};
 ghost use Rattle.dash_script.specs.Reading.{HasText, IsText};
 ghost use Rattle.dash_script.specs.Text.{text as script_text};
-ghost use Rattle.dashboard_cli.specs.Answers.{IsNoScript, IsNotRun, MakesOf, Stops, StopsReading};
+ghost use Rattle.dashboard_cli.specs.Answers.{IsNoScript, MakesOf, Stops, StopsReading};
 ghost use Rattle.dashboard_cli.specs.Streams.{limit, ReadsWhole};
-ghost use Rattle.dashboard_cli.specs.Works.{reads, Makes, RunsScript};
+ghost use Rattle.dash_stage.specs.Staged.{IsStaged};
+ghost use Rattle.dashboard_cli.specs.Works.{reads, Makes};
 
 use crate::reading::{MOST_BYTES, ReadError, read_whole};
 use crate::status::Status;
 use crate::words::Command;
 use dash_report::{report_text, summary_text};
-use dash_script::{Cause, Parsed, Script, first_unbuilt, make_script, parse, print};
+use dash_script::{Parsed, Script, make_script, parse, print};
 use dash_stage::{Ran, run_script};
 use loop_io::Source;
 use loop_model::NoMemory;
@@ -59,7 +59,6 @@ pub(crate) fn produce<S: Source>(
 }
 
 /// Reads a script, runs it, and makes the text of its report.
-#[tactic(auto, using(crate::proofs::Running::stops_run))]
 fn run_input<S: Source>(alloc: Global, source: &mut S) -> Result<Product, Status>
     ensures made { IfOk result (λ product. MakesOf Command.Run (S.left source.old) (S.left source.new) product.text.items product.report) }
     ensures stopped { IfErr result (Stops Command.Run (S.left source.old) (S.left source.new)) }
@@ -102,7 +101,7 @@ fn print_made(alloc: Global, number: u32) -> Result<Product, Status>
 /// Runs the script that is made from the number, and makes the text of its summary.
 fn run_made(alloc: Global, number: u32) -> Result<Product, Status>
     ensures made { IfOk result (λ product. Makes (Command.MakeRun number) [] product.text.items product.report) }
-    ensures stopped { IfErr result (IsNotRun (generated number)) }
+    ensures stopped { IfErr result (λ status. status ≡ Status.NoMemory) }
 {
     let script = make_script(alloc, number)?;
     let report = run(alloc, script)?;
@@ -131,7 +130,6 @@ fn read_input<S: Source>(alloc: Global, source: &mut S) -> Result<Vec<u8>, Statu
 /// The script of a text.
 fn read_script(alloc: Global, input: &[u8]) -> Result<Script, Status>
     ensures read { IfOk result (λ script. IsText input.now script) }
-    ensures one { IfOk result (λ script. (s : Script) → IsText input.now s → s ≡ script) }
     ensures refused { IfErr result (IsNoScript input.now) }
 {
     match parse(alloc, input) {
@@ -141,21 +139,14 @@ fn read_script(alloc: Global, input: &[u8]) -> Result<Script, Status>
     }
 }
 
-/// Runs a script whose lines are all of forms that are run.
-fn run(alloc: Global, script: Script) -> Result<Report, Status>
+/// Runs a script.
+fn run(alloc: Global, script: Script) -> Result<Report, NoMemory>
     requires { HasText script }
-    ensures run { IfOk result (λ report. RunsScript script report) }
+    ensures run { IfOk result (λ report. IsStaged script report) }
     ensures of { IfOk result (λ report. report.script ≡ script) }
-    ensures refused { IfErr result (IsNotRun script) }
 {
-    if let Some(line) = first_unbuilt(&script) {
-        return Err(Status::Script {
-            line,
-            cause: Cause::Unbuilt,
-        });
-    }
     match run_script(alloc, script) {
         Ran::Ok(report) => Ok(report),
-        Ran::NoMemory => Err(Status::NoMemory),
+        Ran::NoMemory => Err(NoMemory),
     }
 }

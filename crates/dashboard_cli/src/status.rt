@@ -57,7 +57,6 @@ fn cause_word(cause: Cause) -> &'static str
         Cause::Order => "order",
         Cause::TooMany => "toomany",
         Cause::Missing => "missing",
-        Cause::Unbuilt => "unbuilt",
     }
 }
 

@@ -253,7 +253,7 @@ fn scripts_run_to_their_reports(rt: HostRuntime) -> Result<(), Fail> {
 }
 
 /// Words, a text, its least bad line and that line's cause.
-const REFUSED: [(&str, &str, u64, Cause); 7] = [
+const REFUSED: [(&str, &str, u64, Cause); 5] = [
     ("run", "", 1, Cause::Missing),
     ("text", "dashboard 1\nloopers 1\nthre", 3, Cause::Form),
     ("run", "dashboard 1\nloopers 9\n", 2, Cause::Range),
@@ -269,13 +269,6 @@ const REFUSED: [(&str, &str, u64, Cause); 7] = [
         4,
         Cause::Order,
     ),
-    (
-        "run",
-        "dashboard 1\nloopers 1\nthreads 1\nhandler 0 0\nvsync 16666667\nat 0\n0 idle 0 3 once\nend 0\n",
-        7,
-        Cause::Unbuilt,
-    ),
-    ("make 7 --run", "", 3, Cause::Unbuilt),
 ];
 
 fn is_refused(
@@ -420,7 +413,7 @@ fn a_byte_too_many_is_too_long(rt: HostRuntime) -> Result<(), Fail> {
 }
 
 /// Statuses, with their codes and texts.
-const STATUSES: [(Status, u8, &str); 13] = [
+const STATUSES: [(Status, u8, &str); 12] = [
     (Status::Ok, 0, ""),
     (Status::Usage, 2, "dashboard: usage"),
     (
@@ -470,14 +463,6 @@ const STATUSES: [(Status, u8, &str); 13] = [
         },
         3,
         "dashboard: script line 20001: toomany",
-    ),
-    (
-        Status::Script {
-            line: 7,
-            cause: Cause::Unbuilt,
-        },
-        3,
-        "dashboard: script line 7: unbuilt",
     ),
     (Status::ReadFault, 4, "dashboard: read fault"),
     (Status::WriteFault, 5, "dashboard: write fault"),
