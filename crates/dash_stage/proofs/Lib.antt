@@ -1,3 +1,3 @@
-pub mod Places
-pub mod Limits
-pub mod Records
+pub mod Badges
+pub mod Controlling
+pub mod Blocks

@@ -1,3 +1,10 @@
-pub mod Lane
-pub mod Lanes
+pub mod Growth
+pub mod Requests
+pub mod Kits
+pub mod Hosts
+pub mod Threads
+pub mod Loopers
+pub mod Controllers
+pub mod Records
+pub mod Stages
 pub mod Staged

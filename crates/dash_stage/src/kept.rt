@@ -1,30 +1,20 @@
 //! The report of a run.
+ghost use Rattle.dash_script.specs.Reading.{HasText};
+ghost use Rattle.dash_stage.specs.Staged.{Stages};
 
-ghost use Rattle.std.specs.Prelude.{◌≡◌, IfOk};
-ghost use Rattle.run_model.specs.Senders.{sender_count};
-ghost use Rattle.dash_stage.specs.Staged.{Stages, no_frames};
-
-use crate::lanes::Lanes;
+use crate::records::records;
 use crate::run::Ran;
+use crate::stage::Stage;
 use dash_script::Script;
 use frame_phases::FrameRecord;
-use loop_model::{NoMemory, Sequence};
+use loop_model::{Journal, NoMemory, QueueRecord, Sequence};
 use run_model::Report;
 use std::alloc::Global;
 
-/// The number of frame phases: input, animation, traversal and commit.
-const PHASES: u32 = 4;
-
-/// The report of a run that left these queues.
-pub(crate) fn report(alloc: Global, script: Script, lanes: Lanes) -> Ran
-    requires { lanes ≡ record { loopers = script.loopers; senders = sender_count script } }
-    ensures { Stages script result }
-{
-    let Ok(frames) = frames(alloc, script.loopers, script.period) else {
-        return Ran::NoMemory
-    };
-    match lanes.into_kept(alloc) {
-        Ok((queues, journals)) => Ran::Ok(Report {
+/// The report of a run that left this.
+pub(crate) fn report(alloc: Global, script: Script, stage: Stage) -> Ran {
+    match kept(alloc, &script, stage) {
+        Ok((queues, journals, frames)) => Ran::Ok(Report {
             script,
             queues: Sequence::from_vec(queues),
             journals: Sequence::from_vec(journals),
@@ -35,18 +25,31 @@ pub(crate) fn report(alloc: Global, script: Script, lanes: Lanes) -> Ran
     }
 }
 
-/// A frame record without entries for each looper.
-fn frames(alloc: Global, loopers: u32, period: u64) -> Result<Vec<FrameRecord>, NoMemory>
-    ensures { IfOk result (λ fs. fs.items ≡ no_frames period loopers) }
-{
-    let mut frames = Vec::new(alloc);
-    for looper in 0..loopers {
-        frames.push(FrameRecord {
-            looper,
-            interval: period,
-            phases: PHASES,
-            entries: Sequence::new(alloc),
-        })?;
+/// The records of the queues, of the loopers and of the choreographers.
+fn kept(
+    alloc: Global,
+    script: &Script,
+    stage: Stage,
+) -> Result<(Vec<QueueRecord>, Vec<Journal>, Vec<FrameRecord>), NoMemory> {
+    let Stage {
+        hall,
+        threads,
+        loopers,
+        controller,
+        pass,
+        time: _,
+    } = stage;
+    let mut kits = Vec::new(alloc);
+    let mut journals = Vec::new(alloc);
+    for thread in threads {
+        kits.push(thread.into_kit())?;
     }
-    Ok(frames)
+    for looper in loopers {
+        let (journal, kit) = looper.into_kit(alloc, &hall, script)?;
+        journals.push(journal)?;
+        kits.push(kit)?;
+    }
+    kits.push(controller.kit)?;
+    let (queues, frames) = records(alloc, script, hall, kits, pass)?;
+    Ok((queues, journals, frames))
 }

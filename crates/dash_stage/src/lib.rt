@@ -1,12 +1,25 @@
-//! A run of a script in lockstep: the commands of its blocks, the loopers' rounds and the controller's calls, on one
-//! thread.
+//! A run of a script in lockstep: its threads and its loopers, side by side on threads of their own.
 #![tactic(auto)]
 
+mod barriers;
+mod control;
+mod hall;
+mod handlers;
+mod host;
 mod kept;
-mod lane;
-mod lanes;
-mod message;
+mod kit;
+mod labels;
+mod looper;
+mod player;
+mod records;
 mod run;
+mod opening;
+mod side;
 mod stage;
+mod thread;
+mod view_root;
 
 pub use run::{Ran, run_script};
+
+#[cfg(test)]
+mod tests;

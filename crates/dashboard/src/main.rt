@@ -14,6 +14,7 @@ fn main(rt: HostRuntime) -> ExitCode {
             let clock = StdClock::new(&rt);
             let alloc = rt.alloc();
             dashboard(
+                &rt,
                 alloc,
                 words.as_slice(),
                 &mut source,

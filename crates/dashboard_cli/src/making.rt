@@ -15,10 +15,12 @@ use crate::words::Command;
 use dash_report::{report_text, summary_text};
 use dash_script::{Parsed, Script, make_script, parse, print};
 use dash_stage::{Ran, run_script};
-use loop_io::Source;
+use loop_io::{Gate, Source};
 use loop_model::NoMemory;
 use run_model::Report;
 use std::alloc::Global;
+use std::sync::Wait;
+use std::thread::Threads;
 
 /// A text that is ready to be written, and the report of the run that it came from.
 #[derive(Drop)]
@@ -39,10 +41,12 @@ impl From<NoMemory> for Status {
 }
 
 /// Makes the text of a command, whole.
-pub(crate) fn produce<S: Source>(
+pub(crate) fn produce<R: Threads + Wait + Sync, S: Source, G: Gate + Sync>(
+    rt: &R,
     alloc: Global,
     command: Command,
     source: &mut S,
+    gate: &G,
 ) -> Result<Product, Status>
     ensures made { IfOk result (λ product. MakesOf command (S.left source.old) (S.left source.new) product.text.items product.report) }
     ensures stopped { IfErr result (Stops command (S.left source.old) (S.left source.new)) }
@@ -51,15 +55,20 @@ pub(crate) fn produce<S: Source>(
     ensures later { S.faults source.old ≤ S.faults source.new }
 {
     match command {
-        Command::Run => run_input(alloc, source),
+        Command::Run => run_input(rt, alloc, source, gate),
         Command::Text => print_input(alloc, source),
         Command::Make { number } => print_made(alloc, number),
-        Command::MakeRun { number } => run_made(alloc, number),
+        Command::MakeRun { number } => run_made(rt, alloc, number, gate),
     }
 }
 
 /// Reads a script, runs it, and makes the text of its report.
-fn run_input<S: Source>(alloc: Global, source: &mut S) -> Result<Product, Status>
+fn run_input<R: Threads + Wait + Sync, S: Source, G: Gate + Sync>(
+    rt: &R,
+    alloc: Global,
+    source: &mut S,
+    gate: &G,
+) -> Result<Product, Status>
     ensures made { IfOk result (λ product. MakesOf Command.Run (S.left source.old) (S.left source.new) product.text.items product.report) }
     ensures stopped { IfErr result (Stops Command.Run (S.left source.old) (S.left source.new)) }
     ensures read_fault { result ≡ Err Status.ReadFault → Rose (S.faults source.old) (S.faults source.new) }
@@ -67,7 +76,7 @@ fn run_input<S: Source>(alloc: Global, source: &mut S) -> Result<Product, Status
 {
     let input = read_input(alloc, source)?;
     let script = read_script(alloc, input.as_slice())?;
-    let report = run(alloc, script)?;
+    let report = run(rt, alloc, script, gate)?;
     let text = report_text(alloc, &report)?;
     Ok(Product {
         text,
@@ -99,12 +108,17 @@ fn print_made(alloc: Global, number: u32) -> Result<Product, Status>
 }
 
 /// Runs the script that is made from the number, and makes the text of its summary.
-fn run_made(alloc: Global, number: u32) -> Result<Product, Status>
+fn run_made<R: Threads + Wait + Sync, G: Gate + Sync>(
+    rt: &R,
+    alloc: Global,
+    number: u32,
+    gate: &G,
+) -> Result<Product, Status>
     ensures made { IfOk result (λ product. Makes (Command.MakeRun number) [] product.text.items product.report) }
     ensures stopped { IfErr result (λ status. status ≡ Status.NoMemory) }
 {
     let script = make_script(alloc, number)?;
-    let report = run(alloc, script)?;
+    let report = run(rt, alloc, script, gate)?;
     let text = summary_text(alloc, number, &report)?;
     Ok(Product {
         text,
@@ -140,12 +154,17 @@ fn read_script(alloc: Global, input: &[u8]) -> Result<Script, Status>
 }
 
 /// Runs a script.
-fn run(alloc: Global, script: Script) -> Result<Report, NoMemory>
+fn run<R: Threads + Wait + Sync, G: Gate + Sync>(
+    rt: &R,
+    alloc: Global,
+    script: Script,
+    gate: &G,
+) -> Result<Report, NoMemory>
     requires { HasText script }
     ensures run { IfOk result (λ report. IsStaged script report) }
     ensures of { IfOk result (λ report. report.script ≡ script) }
 {
-    match run_script(alloc, script) {
+    match run_script(rt, alloc, script, gate) {
         Ran::Ok(report) => Ok(report),
         Ran::NoMemory => Err(NoMemory),
     }

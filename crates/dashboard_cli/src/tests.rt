@@ -3,7 +3,9 @@ use dash_script::Cause;
 use loop_io::{MemSink, MemSource, OpenGate, StepClock, SureSink, SureSource};
 use std::alloc::{AllocError, Global};
 use std::process::Abort;
+use std::sync::Wait;
 use std::test::Fail;
+use std::thread::Threads;
 
 /// The head of a script with one looper, one thread and one handler.
 const ONE: &str = "dashboard 1\nloopers 1\nthreads 1\nhandler 0 0\nvsync 16666667\n";
@@ -36,7 +38,7 @@ fn source(bytes: Vec<u8>, most: u8, fails: Vec<u64>) -> MemSource {
 
 /// Runs the words over the source, and answers the outcome and what was written.
 fn run(
-    rt: &impl Abort,
+    rt: &(impl Abort + Threads + Wait + Sync),
     alloc: Global,
     line: &str,
     source: &mut MemSource,
@@ -46,6 +48,7 @@ fn run(
     let mut sink = MemSink::new(alloc, 100_000, 16, sink_fails).expect(rt, "memory");
     let clock = StepClock::new(5);
     let outcome = dashboard(
+        rt,
         alloc,
         words.as_slice(),
         source,
@@ -82,7 +85,7 @@ const NAMED: [(&str, Option<Command>); 21] = [
 ];
 
 fn names(
-    rt: &impl Abort,
+    rt: &(impl Abort + Threads + Wait + Sync),
     alloc: Global,
     line: &str,
     command: Option<Command>,
@@ -228,7 +231,7 @@ const EXAMPLES: [(&str, &str, &str, &str); 18] = [
 ];
 
 fn runs_to(
-    rt: &impl Abort,
+    rt: &(impl Abort + Threads + Wait + Sync),
     alloc: Global,
     input: Vec<u8>,
     wanted: &[u8],
@@ -272,7 +275,7 @@ const REFUSED: [(&str, &str, u64, Cause); 5] = [
 ];
 
 fn is_refused(
-    rt: &impl Abort,
+    rt: &(impl Abort + Threads + Wait + Sync),
     alloc: Global,
     line: &str,
     script: &str,
@@ -302,7 +305,7 @@ fn refused_scripts_write_nothing(rt: HostRuntime) -> Result<(), Fail> {
 }
 
 fn is_given_back(
-    rt: &impl Abort,
+    rt: &(impl Abort + Threads + Wait + Sync),
     alloc: Global,
     script: &[u8],
     most: u8,
@@ -338,7 +341,7 @@ fn a_script_is_made(rt: HostRuntime) -> Result<(), Fail> {
 }
 
 /// A read that fails is answered, and nothing is written. Answers whether it failed.
-fn reads(rt: &impl Abort, alloc: Global, script: &[u8], call: u64) -> Result<bool, AllocError> {
+fn reads(rt: &(impl Abort + Threads + Wait + Sync), alloc: Global, script: &[u8], call: u64) -> Result<bool, AllocError> {
     let mut source = source(script.to_vec(alloc)?, 8, vec![in alloc; call]?);
     let (outcome, written) = run(rt, alloc, "run", &mut source, Vec::new(alloc))?;
     let failed = outcome.status == Status::ReadFault;
@@ -348,7 +351,7 @@ fn reads(rt: &impl Abort, alloc: Global, script: &[u8], call: u64) -> Result<boo
 }
 
 /// A write that fails is answered, and what was written before is a front of the report. Answers whether it failed.
-fn writes(rt: &impl Abort, alloc: Global, script: &[u8], call: u64) -> Result<bool, AllocError> {
+fn writes(rt: &(impl Abort + Threads + Wait + Sync), alloc: Global, script: &[u8], call: u64) -> Result<bool, AllocError> {
     let report =
         b"report 1\nlooper 0\nfates accepted 0 dispatched 0 removed 0 dropped 0 stranded 0 queued 0\nend\n".as_slice();
     let mut source = source(script.to_vec(alloc)?, 8, Vec::new(alloc));
@@ -379,7 +382,7 @@ fn each_fault_is_answered(rt: HostRuntime) -> Result<(), Fail> {
 
 /// So many bytes of no script.
 fn is_long(
-    rt: &impl Abort,
+    rt: &(impl Abort + Threads + Wait + Sync),
     alloc: Global,
     length: usize,
     wanted: &Status,
@@ -389,6 +392,7 @@ fn is_long(
     let mut sink = SureSink::new(100_000);
     let clock = StepClock::new(5);
     let outcome = dashboard(
+        rt,
         alloc,
         words.as_slice(),
         &mut source,
@@ -470,7 +474,7 @@ const STATUSES: [(Status, u8, &str); 12] = [
     (Status::TooLong, 7, "dashboard: too long"),
 ];
 
-fn is_told(rt: &impl Abort, alloc: Global, status: &Status, code: u8, text: &str) {
+fn is_told(rt: &(impl Abort + Threads + Wait + Sync), alloc: Global, status: &Status, code: u8, text: &str) {
     assert!(rt; status.code() == code);
     let line = status_text(alloc, status).expect(rt, "memory");
     assert!(rt; line.as_str() == text);

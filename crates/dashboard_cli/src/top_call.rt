@@ -14,6 +14,8 @@ use loop_io::{Clock, Failed, Gate, Sink, Source};
 use loop_model::NoMemory;
 use run_model::Report;
 use std::alloc::Global;
+use std::sync::Wait;
+use std::thread::Threads;
 
 /// How the program ended, and the report of a run whose text was made.
 #[derive(Debug, Drop)]
@@ -35,13 +37,14 @@ pub struct Outcome {
 /// N is a decimal below 2 to the 32 without leading zeros. It looks for faults in this order: the words (`Usage`), the
 /// reading (`ReadFault`, `TooLong`), the script (`Script`), the writing (`WriteFault`). `NoMemory` comes where it is met.
 /// The text is made whole before the first write.
-pub fn dashboard<S: Source, K: Sink, C: Clock, G: Gate>(
+pub fn dashboard<R: Threads + Wait + Sync, S: Source, K: Sink, C: Clock, G: Gate + Sync>(
+    rt: &R,
     alloc: Global,
     words: &[String],
     source: &mut S,
     sink: &mut K,
     _clock: &C,
-    _gate: &G,
+    gate: &G,
 ) -> Outcome
     // The words are a command, unless they are refused.
     ensures usage { result.status ≡ Status.Usage → ¬ (IsListed (texts words.now)) }
@@ -83,7 +86,7 @@ pub fn dashboard<S: Source, K: Sink, C: Clock, G: Gate>(
         Ok(None) => return stopped(Status::Usage),
         Err(NoMemory) => return stopped(Status::NoMemory),
     };
-    let product = match produce(alloc, command, source) {
+    let product = match produce(rt, alloc, command, source, gate) {
         Ok(product) => product,
         Err(status) => return stopped(status),
     };

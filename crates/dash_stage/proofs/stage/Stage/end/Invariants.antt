@@ -1,5 +1,9 @@
 use Rattle.std.proofs.Common.{◌≡◌}
+use Rattle.dash_stage.specs.Stages.{IsStage}
 use Rattle.dash_stage.proofs.stage.Stage.end.Given as goal
 
-abbrev pub invariant-loop-looper : goal.invariant-loop-looper
-invariant-loop-looper l = l.self.lanes ≡ l.initial.self.lanes
+abbrev pub invariant-loop : goal.invariant-loop
+invariant-loop g l = IsStage l.script l.self × (l.self.threads.items ≡ l.initial.self.threads.items)
+
+abbrev pub invariant-loop-2 : goal.invariant-loop-2
+invariant-loop-2 g l = IsStage l.script l.self × (l.self.threads.items ≡ l.initial.self.threads.items)

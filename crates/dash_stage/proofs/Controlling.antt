@@ -1,0 +1,88 @@
+-- The controller's posters and passes, and what its calls leave of them.
+use Rattle.std.proofs.Common.{◌≡◌, ◌<◌, ◌+◌, ℕ, List, map, length, refl, sym, ap, ◌∙◌, subst, arith, true}
+use Rattle.std.specs.Prelude.{slice_index_or, slice_set}
+use Rattle.std.specs.Vec.{vec_len, with_item}
+use Rattle.atomic_table.specs.Seated.{TableId}
+use Rattle.dash_script.specs.declared.script.Script.{Script}
+use Rattle.shared_queue.specs.Constants.{Constants}
+use Rattle.shared_queue.specs.Known.{Shared, IsOf, IsTurn}
+use Rattle.looper_run.specs.Holding.{Sender, State}
+use Rattle.message_pool.specs.Passes.{Tally}
+use Rattle.dash_stage.specs.Growth.{GoesOn}
+use Rattle.choreographer.specs.declared.kept.Kept.{Kept}
+use Rattle.choreographer.specs.Known.{Shared as Frames, Known as Pass, IsOf as IsFrameOf, IsTurn as IsFrameTurn}
+use Rattle.run_model.specs.Senders.{controller}
+use Rattle.dash_stage.specs.declared.hall.Hall.{Hall}
+use Rattle.dash_stage.specs.declared.control.Controller.{Controller}
+use Rattle.dash_stage.specs.Kits.{badge_of, badge_for, frame_badge_of, frame_badge_for, IsHall, queue_constants}
+use Rattle.dash_stage.specs.Controllers.{IsController}
+use Rattle.dash_stage.proofs.Badges.{alike_length, queue_count, choreographer_count, poster_is, pass_is, queue_is, posters_kept, passes_kept, turn_badge, gone_badge, frame_turn_badge}
+
+module _ (s : Script) (hall : Hall) (h : IsHall s hall) (i : ℕ) (lt : i < s.loopers) where
+  -- each looper has a queue and a choreographer
+  pub in_queues : i < vec_len hall.queues
+  in_queues = subst (λ n. i < n) (sym (hall.queues.ok.0 ∙ queue_count s hall.pool hall.queues.items h.queues)) lt
+
+  pub in_choreographers : i < vec_len hall.choreographers
+  in_choreographers = subst (λ n. i < n) (sym (hall.choreographers.ok.0 ∙ choreographer_count s hall.choreographers.items h.choreographers)) lt
+
+  module _ (c : Controller) (k : IsController s hall c) where
+    poster_count : length c.kit.posters.items ≡ s.loopers
+    poster_count = alike_length badge_of (badge_for (controller s)) c.kit.posters.items hall.queues.items k.posters ∙ queue_count s hall.pool hall.queues.items h.queues
+
+    pass_count : length c.kit.frames.items ≡ s.loopers
+    pass_count = alike_length frame_badge_of (frame_badge_for (s.threads + 2)) c.kit.frames.items hall.choreographers.items k.frames ∙ choreographer_count s hall.choreographers.items h.choreographers
+
+    -- the controller has a poster and a pass for each looper
+    pub in_posters : i < vec_len c.kit.posters
+    in_posters = subst (λ n. i < n) (sym (c.kit.posters.ok.0 ∙ poster_count)) lt
+
+    pub in_passes : i < vec_len c.kit.frames
+    in_passes = subst (λ n. i < n) (sym (c.kit.frames.ok.0 ∙ pass_count)) lt
+
+    -- its poster for a looper
+    pub own_poster : (p : Sender) (q : Shared TableId) → p ≡ slice_index_or c.kit.posters.items i p → q ≡ slice_index_or hall.queues.items i q → IsOf p q × (p.sender ≡ controller s)
+    own_poster p q is_p is_q =
+        poster_is (controller s) hall.queues.items c.kit.posters.items k.posters i p q (subst (λ n. i < n) (sym poster_count) lt) is_p is_q
+
+    pub own_pass : (p : Pass) (f : Frames) → p ≡ slice_index_or c.kit.frames.items i p → f ≡ slice_index_or hall.choreographers.items i f → IsFrameOf p f
+    own_pass p f is_p is_f = pass_is (s.threads + 2) hall.choreographers.items c.kit.frames.items k.frames i p f (subst (λ n. i < n) (sym pass_count) lt) is_p is_f
+
+    -- it is the last sender of a queue in lockstep
+    pub is_last : (p : Sender) (q : Shared TableId) → p ≡ slice_index_or c.kit.posters.items i p → q ≡ slice_index_or hall.queues.items i q → p.sender + 1 ≡ q.constants.setting.senders
+    is_last p q is_p is_q =
+        ap (λ n. n + 1) (own_poster p q is_p is_q).1 ∙ sym (ap (λ (z : Constants TableId). z.setting.senders) (queue_is s hall.pool hall.queues.items h.queues i q lt is_q))
+
+    pub in_step : (q : Shared TableId) → q ≡ slice_index_or hall.queues.items i q → q.constants.setting.lockstep ≡ true
+    in_step q is_q = ap (λ (z : Constants TableId). z.setting.lockstep) (queue_is s hall.pool hall.queues.items h.queues i q lt is_q)
+
+    -- the queue's messages are of the pool
+    pub in_pool : (q : Shared TableId) → q ≡ slice_index_or hall.queues.items i q → q.constants.home ≡ hall.pool
+    in_pool q is_q = ap (λ (z : Constants TableId). z.home) (queue_is s hall.pool hall.queues.items h.queues i q lt is_q)
+
+    -- a call of one of its posters, with its pass of the pool, leaves it the controller
+    pub after_call : (p p' : Sender) (pass' : Tally) → p ≡ slice_index_or c.kit.posters.items i p → GoesOn p p' c.kit.pass pass'
+        → IsController s hall (record { kit = record { posters = with_item c.kit.posters i p'; pass = pass'; frames = c.kit.frames } })
+    after_call p p' pass' is_p on = record {
+      posters = posters_kept (controller s) hall.queues.items c.kit.posters.items k.posters i p' p (gone_badge p p' c.kit.pass pass' on ∙ ap badge_of is_p);
+      frames = k.frames;
+      pass = on.home ∙ k.pass;
+    }
+
+    -- a turn of one of its posters leaves it the controller
+    pub after_turn : (p p' : Sender) (x y : State) → p ≡ slice_index_or c.kit.posters.items i p → IsTurn p p' x y
+        → IsController s hall (record { kit = record { posters = with_item c.kit.posters i p'; pass = c.kit.pass; frames = c.kit.frames } })
+    after_turn p p' x y is_p t = record {
+      posters = posters_kept (controller s) hall.queues.items c.kit.posters.items k.posters i p' p (turn_badge p p' x y t ∙ ap badge_of is_p);
+      frames = k.frames;
+      pass = k.pass;
+    }
+
+    -- and so does a turn of one of its passes
+    pub after_frame_turn : (p p' : Pass) (x y : Kept) → p ≡ slice_index_or c.kit.frames.items i p → IsFrameTurn p p' x y
+        → IsController s hall (record { kit = record { posters = c.kit.posters; pass = c.kit.pass; frames = with_item c.kit.frames i p' } })
+    after_frame_turn p p' x y is_p t = record {
+      posters = k.posters;
+      frames = passes_kept (s.threads + 2) hall.choreographers.items c.kit.frames.items k.frames i p' p (frame_turn_badge p p' x y t ∙ ap frame_badge_of is_p);
+      pass = k.pass;
+    }

@@ -1,0 +1,23 @@
+use Rattle.std.proofs.Common.{◌≡◌}
+use Rattle.dash_stage.proofs.Controlling.{in_choreographers, in_passes, own_pass, after_frame_turn}
+use Rattle.dash_stage.proofs.control.Controller.asked.Goals as goal
+
+pub index-requires : goal.index-requires
+index-requires g c = in_choreographers c.args.script.now c.args.hall.now c.requires.hall c.args.looper c.requires.looper
+
+pub index_mut-requires : goal.index_mut-requires
+index_mut-requires g c = in_passes c.args.script.now c.args.hall.now c.requires.hall c.args.looper c.requires.looper c.args.self.now c.requires.controller
+
+pub asked-requires : goal.asked-requires
+asked-requires g c =
+    own_pass c.args.script.now c.args.hall.now c.requires.hall c.args.looper c.requires.looper c.args.self.now c.requires.controller c.index_mut.result.now c.index.result.now c.index_mut.ensures.value c.index.ensures
+
+pub returns-in_err-stamp : goal.returns-in_err-stamp
+returns-in_err-stamp g c = record {
+  controller = after_frame_turn c.args.script.now c.args.hall.now c.requires.hall c.args.looper c.requires.looper c.args.self.now c.requires.controller c.index_mut.result.now c.asked.new.pass _ _ c.index_mut.ensures.value c.asked.ensures.1;
+}
+
+pub returns : goal.returns
+returns g c = record {
+  controller = after_frame_turn c.args.script.now c.args.hall.now c.requires.hall c.args.looper c.requires.looper c.args.self.now c.requires.controller c.index_mut.result.now c.asked.new.pass _ _ c.index_mut.ensures.value c.asked.ensures.1;
+}

@@ -1,0 +1,42 @@
+-- What a sender's calls do to its poster and its pass.
+use Rattle.std.specs.Prelude.{◌≡◌, ◌≤◌, ℕ, List, [], ◌∷◌, ◌++◌, All}
+use Rattle.loop_model.specs.declared.call.Call.{Call}
+use Rattle.loop_model.specs.declared.entry.Entry.{Entry}
+use Rattle.message_pool.specs.Passes.{Tally}
+use Rattle.looper_run.specs.Holding.{Sender}
+use Rattle.looper_run.specs.Acts.{IsNoLookOf}
+use Rattle.run_model.specs.Asks.{plain, token_in, entries_by}
+use Rattle.handler_post.specs.declared.way.Way.{Way}
+
+-- the entries that a poster has made
+abbrev pub own : Sender → List Entry
+own p = entries_by p.sender p.view.seen
+
+-- the same sender of the same queue, with the same pool, which has seen more; it made no look for a message, and no slot that it gave back is lost
+pub record GoesOn (before after : Sender) (pass pass' : Tally) : Type 0 where
+  pub table : after.table ≡ before.table
+  pub sender : after.sender ≡ before.sender
+  pub constants : after.view.constants ≡ before.view.constants
+  pub heard : after.view.heard ≡ before.view.heard
+  pub rung : after.view.rung ≡ before.view.rung
+  pub turns : before.view.turns ≤ after.view.turns
+  pub more : List Entry
+  pub seen : after.view.seen ≡ before.view.seen ++ more
+  pub no_looks : All (IsNoLookOf before.sender) more
+  pub home : pass'.home ≡ pass.home
+  pub back : pass.back ≤ pass'.back
+
+-- the same of the poster and the pass of a way
+abbrev pub WayGoesOn : Way → Way → Type 0
+WayGoesOn before after = GoesOn before.poster.now after.poster.now before.pass.now after.pass.now
+
+-- the sender made one entry more, which makes this call and is answered these tokens
+pub record Makes (before after : Sender) (call : Call) (tokens : List ℕ) : Type 0 where
+  pub entry : Entry
+  pub made : own after ≡ own before ++ entry ∷ []
+  pub makes : plain entry.call ≡ call
+  pub answered : token_in entry.reply ≡ tokens
+
+-- the same of the poster of a way
+abbrev pub WayMakes : Way → Way → Call → List ℕ → Type 0
+WayMakes before after call tokens = Makes before.poster.now after.poster.now call tokens

@@ -1,0 +1,63 @@
+-- The looper on which a choreographer runs, as the choreographer sees it.
+use Rattle.std.specs.Prelude.{◌≡◌, ◌-◌, ◌*◌, ◌^◌, ◌==◌, ◌&&◌, min, ℕ, Bool, List, Option, Some, None, if◌then◌else◌}
+use Rattle.std.specs.List.{filter_map}
+use Rattle.atomic_table.specs.Seated.{TableId}
+use Rattle.loop_model.specs.declared.post.Post.{Post as PostData}
+use Rattle.loop_model.specs.declared.call.Call.{Call}
+use Rattle.loop_model.specs.declared.call.Call.TheVariants.{Post}
+use Rattle.loop_model.specs.declared.reply.Reply.{Reply}
+use Rattle.loop_model.specs.declared.reply.Reply.TheVariants.{Accepted, Refused}
+use Rattle.loop_model.specs.declared.entry.Entry.{Entry}
+use Rattle.message_pool.specs.Passes.{Tally}
+use Rattle.shared_queue.specs.Known.{Shared, IsOf}
+use Rattle.looper_run.specs.Holding.{Sender}
+use Rattle.choreographer.specs.declared.host.Sending.{Sending}
+use Rattle.choreographer.specs.declared.host.HostSent.{HostSent}
+use Rattle.choreographer.specs.declared.host.HostSent.TheVariants as host
+use Rattle.dash_stage.specs.Growth.{own, GoesOn}
+
+-- what a host keeps through all its calls: its queue and pool, its poster and its pass by their references, what these were when it was made, and its handler's number and moment
+pub record Origin : Type 0 where
+  pub queue : Shared TableId
+  pub pool : TableId
+  pub poster_name : ℕ
+  pub pass_name : ℕ
+  pub poster : Sender
+  pub pass : Tally
+  pub handler : ℕ
+  pub now : ℕ
+
+-- the poster is one of the queue, the pass is one of the pool, the queue's messages are the pool's, and both have gone on since the host was made
+pub record IsHost (o : Origin) (poster : Sender) (pass : Tally) : Type 0 where
+  pub of_queue : IsOf poster o.queue
+  pub of_pool : pass.home ≡ o.pool
+  pub home : o.queue.constants.home ≡ o.pool
+  pub on : GoesOn o.poster poster o.pass pass
+
+-- a time in milliseconds in nanoseconds, at most the greatest number of 64 bits
+abbrev pub nanos_of : ℕ → ℕ
+nanos_of millis = min (millis * 1000000) (2 ^ 64 - 1)
+
+-- how a reply took a message
+abbrev pub taken_by : Reply → Option HostSent
+taken_by (Accepted number) = Some host.Accepted
+taken_by (Refused place) = Some host.Refused
+taken_by _ = None
+
+abbrev pub sending : PostData → Option HostSent → Option Sending
+sending p None = None
+sending p (Some answer) = Some (record { what = p.what; arg = p.arg; when = p.when; answer = answer })
+
+-- what a call sends by this handler
+abbrev pub sending_by : ℕ → Call → Reply → Option Sending
+sending_by handler (Post p) r = if p.handler == handler then sending p (taken_by r) else None
+sending_by handler _ r = None
+
+-- what a poster has sent by this handler
+abbrev pub sends_by : ℕ → Sender → List Sending
+sends_by handler p = filter_map (λ (e : Entry). sending_by handler e.call e.reply) (own p)
+
+-- the origin that a host has, by its parts
+abbrev pub origin_of : Shared TableId → TableId → ℕ → ℕ → Sender → Tally → ℕ → ℕ → Origin
+origin_of queue pool poster_name pass_name poster pass handler now =
+    record { queue = queue; pool = pool; poster_name = poster_name; pass_name = pass_name; poster = poster; pass = pass; handler = handler; now = now }

@@ -1,0 +1,48 @@
+-- What is kept of the queues and the choreographers of a run.
+use Rattle.std.specs.Prelude.{◌≡◌, ◌<◌, ℕ, true, List, [], map, length, slice_index_or}
+use Rattle.std.specs.List.{AllByRecursion}
+use mathlib.Core.List.{IsPrefix}
+use Rattle.dash_script.specs.declared.script.Script.{Script}
+use Rattle.loop_model.specs.declared.record.QueueRecord.{QueueRecord}
+use Rattle.frame_phases.specs.declared.entry.FrameRecord.{FrameRecord}
+use Rattle.frame_phases.specs.Frames.{lawful}
+use Rattle.looper_run.specs.Holding.{Sender}
+use Rattle.choreographer.specs.Known.{Known as Pass}
+use Rattle.run_model.specs.Moments.{in_lockstep}
+use Rattle.run_model.specs.Senders.{numbers_from}
+use Rattle.run_model.specs.Asks.{entries_by}
+use Rattle.run_model.specs.Run.{IsHistory, all_entries}
+use Rattle.dash_stage.specs.declared.kit.Kit.{Kit}
+use Rattle.dash_stage.specs.Growth.{own}
+
+-- each looper's queue has its record, in order, with the replies that a queue of one thread gives
+pub record AreQueueRecords (s : Script) (records : List QueueRecord) : Type 0 where
+  pub loopers : map (λ (q : QueueRecord). q.looper) records ≡ numbers_from 0 s.loopers
+  pub histories : AllByRecursion (IsHistory in_lockstep all_entries s) records
+
+-- a lawful frame history of the script's period and of four phases
+pub record IsFrameRecord (s : Script) (f : FrameRecord) : Type 0 where
+  pub interval : f.interval ≡ s.period
+  pub phases : f.phases ≡ 4
+  pub lawful : lawful f.interval f.phases f.entries ≡ true
+
+-- each looper's choreographer has its record, in order
+pub record AreFrameRecords (s : Script) (records : List FrameRecord) : Type 0 where
+  pub loopers : map (λ (f : FrameRecord). f.looper) records ≡ numbers_from 0 s.loopers
+  pub lawful : AllByRecursion (IsFrameRecord s) records
+
+-- each record has the entries that each sender's poster made, and no others of that sender
+abbrev pub HaveAll : List Kit → List QueueRecord → Type 0
+HaveAll kits records = (k q : ℕ) (d : Kit) (p : Sender) (r : QueueRecord) → k < length kits → q < length records
+    → entries_by k (slice_index_or records q r).entries ≡ own (slice_index_or (slice_index_or kits k d).posters.items q p)
+
+-- each frame record begins with what each thread's pass has seen
+abbrev pub HaveSeen : ℕ → List Kit → List FrameRecord → Type 0
+HaveSeen threads kits records = (k q : ℕ) (d : Kit) (p : Pass) (r : FrameRecord) → k < threads → q < length records
+    → IsPrefix (slice_index_or (slice_index_or kits k d).frames.items q p).view.seen (slice_index_or records q r).entries
+
+-- nobody has made a call, and no frame callback was posted
+abbrev pub AreUsedNowhere : List Kit → Type 0
+AreUsedNowhere kits = (k q : ℕ) (d : Kit) → k < length kits
+    → ((p : Sender) → q < length (slice_index_or kits k d).posters.items → own (slice_index_or (slice_index_or kits k d).posters.items q p) ≡ [])
+    × ((p : Pass) → q < length (slice_index_or kits k d).frames.items → (slice_index_or (slice_index_or kits k d).frames.items q p).view.seen ≡ [])

@@ -1,0 +1,47 @@
+-- A stage: the senders of a run, and what they share.
+use Rattle.std.specs.Prelude.{◌≡◌, ◌<◌, ◌+◌, ℕ, false, List, length, slice_index_or}
+use Rattle.dash_script.specs.declared.script.Block.{Block}
+use Rattle.dash_script.specs.declared.script.Script.{Script}
+use Rattle.run_model.specs.Planned.{lines_of}
+use Rattle.dash_stage.specs.declared.hall.Hall.{Hall}
+use Rattle.dash_stage.specs.declared.thread.PostingThread.{PostingThread}
+use Rattle.dash_stage.specs.declared.looper.StageLooper.{StageLooper}
+use Rattle.dash_stage.specs.declared.stage.Stage.{Stage}
+use Rattle.dash_stage.specs.Kits.{IsHall}
+use Rattle.dash_stage.specs.Threads.{IsThread, IsUpTo, Continues}
+use Rattle.dash_stage.specs.Loopers.{IsLooper}
+use Rattle.dash_stage.specs.Controllers.{IsController}
+
+-- the threads of the script, in order
+abbrev pub AreThreads : Script → Hall → List PostingThread → Type 0
+AreThreads s hall ts = (length ts ≡ s.threads) × ((k : ℕ) (d : PostingThread) → k < length ts → IsThread s hall (slice_index_or ts k d) × ((slice_index_or ts k d).number ≡ k))
+
+-- the loopers of the script, in order
+abbrev pub AreLoopers : Script → Hall → List StageLooper → Type 0
+AreLoopers s hall ls = (length ls ≡ s.loopers) × ((k : ℕ) (d : StageLooper) → k < length ls → IsLooper s hall (slice_index_or ls k d) × ((slice_index_or ls k d).number ≡ k))
+
+-- all senders of the script, with what they need
+pub record IsStage (s : Script) (st : Stage) : Type 0 where
+  pub hall : IsHall s st.hall
+  pub threads : AreThreads s st.hall st.threads.items
+  pub loopers : AreLoopers s st.hall st.loopers.items
+  pub controller : IsController s st.hall st.controller
+  pub pass : st.pass.home ≡ st.hall.pool
+
+-- a script has at least one looper and a period, and few senders
+pub record IsPlayable (s : Script) : Type 0 where
+  pub loopers : 0 < s.loopers
+  pub period : 0 < s.period
+  pub few : s.threads + s.loopers < 100
+
+-- each thread has run its lines of these blocks, the first of the script's
+abbrev pub HaveRun : Script → List Block → List PostingThread → Type 0
+HaveRun s bs ts = (k : ℕ) (d : PostingThread) → k < length ts → IsUpTo s (lines_of k bs) (slice_index_or ts k d)
+
+-- each thread has run its lines of this block, where it comes next
+abbrev pub RunOn : Script → Block → List PostingThread → List PostingThread → Type 0
+RunOn s b before after = (k : ℕ) (d : PostingThread) → k < length before → Continues s b (slice_index_or before k d) (slice_index_or after k d)
+
+-- none has given up
+abbrev pub GoOn : List PostingThread → Type 0
+GoOn ts = (k : ℕ) (d : PostingThread) → k < length ts → (slice_index_or ts k d).gave_up ≡ false

@@ -1,0 +1,188 @@
+//! A looper of a script.
+ghost use Rattle.std.specs.Prelude.{◌≡◌, ◌+◌, ◌<◌, IfOk};
+ghost use Rattle.looper_run.specs.Round.{is_ended};
+ghost use Rattle.dash_stage.specs.Kits.{IsHall, IsKitOf};
+ghost use Rattle.dash_stage.specs.Loopers.{IsLooper};
+
+use crate::hall::Hall;
+use crate::kit::Kit;
+use crate::player::{Parts, Player};
+use crate::view_root::ViewRoot;
+use dash_script::Script;
+use loop_io::Gate;
+use loop_model::{Journal, NoMemory};
+use looper_run::{Looper, Round};
+use std::alloc::Global;
+use std::sync::Wait;
+
+/// A looper with all that it works with, and how its last round ended.
+#[derive(Drop)]
+pub(crate) struct StageLooper {
+    pub(crate) number: u32,
+    pub(crate) sender: u32,
+    pub(crate) looper: Looper,
+    /// They are there between two rounds.
+    pub(crate) parts: Option<Parts>,
+    pub(crate) last: Round,
+}
+
+impl StageLooper {
+    /// A looper that has done nothing.
+    pub(crate) fn new(
+        alloc: Global,
+        hall: &Hall,
+        script: &Script,
+        number: u32,
+        kit: Kit,
+    ) -> Result<StageLooper, NoMemory>
+        requires number { number < script.now.loopers }
+        requires fits { script.now.threads + script.now.loopers < 100 }
+        requires hall { IsHall script.now hall.now }
+        requires kit { IsKitOf script.now hall.now (script.now.threads + number) kit }
+        ensures looper { IfOk result (λ l. IsLooper script.now hall.now l) }
+        ensures number_is { IfOk result (λ l. l.number ≡ number) }
+    {
+        let Kit {
+            mut posters,
+            pass,
+            mut frames,
+        } = kit;
+        let poster = posters.remove(number as usize);
+        let own_frames = frames.remove(0);
+        let client = frames.remove(0);
+        let parts = Parts {
+            others: posters,
+            frames: own_frames,
+            root: ViewRoot::new(alloc, script, number, client)?,
+            fired: vec![in alloc; 0; script.rules.len()]?,
+            passed: 0,
+        };
+        Ok(StageLooper {
+            number,
+            sender: script.threads + number,
+            looper: Looper::make(alloc, number, poster, pass),
+            parts: Some(parts),
+            last: Round::Drained {
+                dispatched: 0,
+                until: None,
+            },
+        })
+    }
+
+    /// Whether its queue is over.
+    pub(crate) fn has_ended(&self) -> bool
+        ensures { result ≡ is_ended self.now.last }
+    {
+        match self.last {
+            Round::Ended { .. } => true,
+            _ => false,
+        }
+    }
+
+    /// Whether it found no memory.
+    pub(crate) fn gave_up(&self) -> bool {
+        match self.last {
+            Round::NoMemory => true,
+            _ => false,
+        }
+    }
+
+    /// When its first message is due, in milliseconds, where there is one that no barrier holds back.
+    pub(crate) fn until(&self) -> Option<u64> {
+        match self.last {
+            Round::Drained { until, .. } => until,
+            _ => None,
+        }
+    }
+
+    /// One round at this time, in milliseconds, unless it has ended or given up.
+    pub(crate) fn run_round<R: Wait, G: Gate>(
+        &mut self,
+        rt: &R,
+        alloc: Global,
+        hall: &Hall,
+        script: &Script,
+        gate: &G,
+        now: u64,
+    )
+        requires hall { IsHall script.now hall.now }
+        requires looper { IsLooper script.now hall.now self.old }
+        ensures looper { IsLooper script.now hall.now self.new }
+        ensures number { self.new.number ≡ self.old.number }
+    {
+        if self.has_ended() || self.gave_up() {
+            return;
+        }
+        let Some(parts) = self.parts.take() else {
+            return;
+        };
+        let place = self.number as usize;
+        let mut player = Player {
+            rt,
+            alloc,
+            hall,
+            script,
+            gate,
+            looper: self.number,
+            sender: self.sender,
+            parts,
+        };
+        self.last = self.looper.run_round(
+            rt,
+            &hall.queues[place],
+            &hall.pool,
+            &hall.sources[place],
+            &mut player,
+            now,
+        );
+        self.parts = Some(player.parts);
+    }
+
+    /// Its journal, and what it worked with.
+    pub(crate) fn into_kit(
+        self,
+        alloc: Global,
+        hall: &Hall,
+        script: &Script,
+    ) -> Result<(Journal, Kit), NoMemory>
+        requires hall { IsHall script.now hall.now }
+        requires looper { IsLooper script.now hall.now self }
+        ensures journal { IfOk result (λ r. r.0.looper ≡ self.number) }
+        ensures kit { IfOk result (λ r. IsKitOf script.now hall.now (script.now.threads + self.number) r.1) }
+    {
+        let StageLooper {
+            number,
+            sender: _,
+            looper,
+            parts,
+            last: _,
+        } = self;
+        let Some(parts) = parts else { unreachable!() };
+        let Parts {
+            mut others,
+            frames,
+            root,
+            fired: _,
+            passed: _,
+        } = parts;
+        let ViewRoot {
+            gauges: _,
+            barrier: _,
+            pass: client,
+            painted: _,
+        } = root;
+        let (poster, pass, journal) = looper.into_parts();
+        others.insert(number as usize, poster)?;
+        let mut passes = Vec::new(alloc);
+        passes.push(frames)?;
+        passes.push(client)?;
+        Ok((
+            journal,
+            Kit {
+                posters: others,
+                pass,
+                frames: passes,
+            },
+        ))
+    }
+}

@@ -1,0 +1,117 @@
+//! Senders that work side by side, each on a thread of its own.
+ghost use Rattle.std.specs.Prelude.{◌≡◌, ◌<◌, false, OnOk, length, slice_index_or};
+ghost use Rattle.std.specs.Thread.{IsSync};
+ghost use Rattle.dash_script.specs.Reading.{HasText};
+ghost use Rattle.dash_stage.specs.Kits.{IsHall};
+ghost use Rattle.dash_stage.specs.Threads.{IsThread, Continues};
+ghost use Rattle.dash_stage.specs.Loopers.{IsLooper};
+ghost use Rattle.dash_stage.specs.Stages.{AreThreads, AreLoopers, RunOn, GoOn};
+
+use crate::hall::Hall;
+use crate::looper::StageLooper;
+use crate::thread::PostingThread;
+use dash_script::{Block, Script};
+use loop_io::Gate;
+use loop_model::NoMemory;
+use std::alloc::Global;
+use std::sync::Wait;
+use std::thread::{Threads, for_each_mut};
+
+/// Which loopers run a round.
+#[derive(Clone, Copy, Debug, PartialEq, Eq)]
+pub(crate) enum Turn {
+    All,
+    Main,
+    Others,
+}
+
+impl Turn {
+    fn has(self, looper: u32) -> bool {
+        match self {
+            Turn::All => true,
+            Turn::Main => looper == 0,
+            Turn::Others => looper != 0,
+        }
+    }
+}
+
+/// The threads run their commands of a block.
+pub(crate) fn run_threads<R: Threads + Wait + Sync, G: Gate + Sync>(
+    rt: &R,
+    alloc: Global,
+    hall: &Hall,
+    script: &Script,
+    gate: &G,
+    block: &Block,
+    threads: &mut [PostingThread],
+) -> Result<(), NoMemory>
+    requires text { HasText script.now }
+    requires hall { IsHall script.now hall.now }
+    requires threads { AreThreads script.now hall.now threads.old }
+    ensures threads { AreThreads script.now hall.now threads.new }
+    ensures run { OnOk result (RunOn script.now block.now threads.old threads.new) }
+{
+    let count = threads.len().max(1);
+    for_each_mut(
+        rt,
+        threads,
+        count,
+        &|_, thread: &mut PostingThread|
+            requires { IsSync R.row × IsSync G.row × HasText script.now × IsHall script.now hall.now × IsThread script.now hall.now thread.old }
+            ensures { IsThread script.entry.now hall.entry.now thread.new × (thread.new.number ≡ thread.old.number) × (thread.new.gave_up ≡ false → Continues script.entry.now block.entry.now thread.old thread.new) }
+        { thread.run_block(rt, alloc, hall, script, gate, block) },
+    );
+    if has_given_up(threads) {
+        return Err(NoMemory);
+    }
+    Ok(())
+}
+
+/// Whether one of the threads found no memory.
+fn has_given_up(threads: &[PostingThread]) -> bool
+    ensures { result ≡ false → GoOn threads.now }
+{
+    for thread in threads {
+        if thread.gave_up {
+            return true;
+        }
+    }
+    false
+}
+
+/// These loopers run a round.
+pub(crate) fn run_loopers<R: Threads + Wait + Sync, G: Gate + Sync>(
+    rt: &R,
+    alloc: Global,
+    hall: &Hall,
+    script: &Script,
+    gate: &G,
+    now: u64,
+    turn: Turn,
+    loopers: &mut [StageLooper],
+) -> Result<(), NoMemory>
+    requires hall { IsHall script.now hall.now }
+    requires loopers { AreLoopers script.now hall.now loopers.old }
+    ensures loopers { AreLoopers script.now hall.now loopers.new }
+{
+    let count = loopers.len().max(1);
+    for_each_mut(
+        rt,
+        loopers,
+        count,
+        &|_, looper: &mut StageLooper|
+            requires { IsSync R.row × IsSync G.row × IsHall script.now hall.now × IsLooper script.now hall.now looper.old }
+            ensures { IsLooper script.entry.now hall.entry.now looper.new × (looper.new.number ≡ looper.old.number) }
+        {
+            if turn.has(looper.number) {
+                looper.run_round(rt, alloc, hall, script, gate, now)
+            }
+        },
+    );
+    for looper in loopers.iter() {
+        if looper.gave_up() {
+            return Err(NoMemory);
+        }
+    }
+    Ok(())
+}
