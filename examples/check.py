@@ -3,6 +3,8 @@
 
 INDEX.txt names each example, with its words, its exit status and what it shows. NAME.script is what the program reads,
 NAME.report what it must write, and NAME.error what standard error must get; a file that is not there stands for nothing.
+Where threads race, NAME.reports holds the lawful reports, parted by lines %%: each run must write one of them, and all of
+them are seen over many runs.
 Two inputs that are too large to be kept are made here, and so is what `make N` must write.
 """
 import difflib
@@ -11,6 +13,7 @@ import subprocess
 import sys
 
 HERE = pathlib.Path(__file__).resolve().parent
+RUNS = 200
 HEAD = "dashboard 1\nloopers 1\nthreads 1\nhandler 0 0\nvsync 16666667\n"
 MADE = {
     "input_too_long": lambda: b"x" * 1_048_577,
@@ -53,10 +56,27 @@ def read(name, kind):
 def examples():
     for line in (HERE / "INDEX.txt").read_text().splitlines():
         name, words, code, shows = line.split("\t")
+        if (HERE / f"{name}.reports").exists():
+            continue
         given = MADE[name]() if name in MADE else read(name, "script")
         yield name, words.split(), given, int(code), read(name, "report"), read(name, "error"), shows
     for number in (0, 1, 4_294_967_295):
         yield f"make_{number}", ["make", str(number)], b"", 0, generated(number), b"", "the generated script"
+
+
+def races(program):
+    """Each run writes one of the lawful reports, and each of them is seen."""
+    for file in sorted(HERE.glob("*.reports")):
+        lawful = [text.lstrip("\n") for text in file.read_text().split("%%\n")]
+        given = file.with_suffix(".script").read_bytes()
+        seen = set()
+        for _ in range(RUNS):
+            got = subprocess.run([program, "run"], input=given, capture_output=True, timeout=60).stdout.decode()
+            if got not in lawful:
+                yield file.stem, f"a report that is not lawful: {got!r}"
+                break
+            seen.add(got)
+        print(f"{file.stem}: {len(seen)} of {len(lawful)} lawful reports seen in {RUNS} runs")
 
 
 def faults(program, words, given, code, report, error):
@@ -89,6 +109,9 @@ def main():
             print("\n".join([f"FAILED {name}: {shows}", *found]))
         else:
             passed += 1
+    for name, found in races(program):
+        failed += 1
+        print(f"FAILED {name}: {found}")
     print(f"examples: {passed} passed, {failed} failed")
     sys.exit(1 if failed else 0)
 
