@@ -80,7 +80,7 @@ pub poster_is : (k : ℕ) (qs : List (Shared TableId)) (ps : List Sender) → Ar
     → p ≡ slice_index_or ps i p → q ≡ slice_index_or qs i q → IsOf p q × (p.sender ≡ k)
 poster_is k qs ps h i p q lt is_p is_q =
     subst (λ (z : Sender). IsOf z q × (z.sender ≡ k)) (sym is_p)
-        (subst (λ (z : Shared TableId). IsOf (slice_index_or ps i p) z × ((slice_index_or ps i p).sender ≡ k)) (sym is_q) (poster_at k qs ps h i p q lt))
+    (subst (λ (z : Shared TableId). IsOf (slice_index_or ps i p) z × ((slice_index_or ps i p).sender ≡ k)) (sym is_q) (poster_at k qs ps h i p q lt))
 
 -- a pass that was read at a place
 pub pass_is : (k : ℕ) (cs : List Frames) (ps : List Pass) → ArePassesOf k cs ps → (i : ℕ) (p : Pass) (c : Frames) → i < length ps

@@ -28,14 +28,14 @@ pub have_run_more : (s : Script) (hall : Hall) (i : ℕ) (b : Block) → i < len
     → HaveRun s (take i s.blocks) ts0 → ts1 ≡ ts0 → AreThreads s hall ts1 → length ts2 ≡ length ts1 → RunOn s b ts1 ts2 → ts3 ≡ ts2 → HaveRun s (take (i + 1) s.blocks) ts3
 have_run_more s hall i b lt is ts0 ts1 ts2 ts3 run same threads len on same' =
     subst (HaveRun s (take (i + 1) s.blocks)) (sym same') (λ k d below.
-      let below1 = subst (λ n. k < n) len below in
-      let t1 = slice_index_or ts1 k d in
-      let t2 = slice_index_or ts2 k d in
-      let before : IsUpTo s (lines_of k (take i s.blocks)) t1 = subst (HaveRun s (take i s.blocks)) (sym same) run k d below1 in
-      let goes : (past rest : List Timed) → past ++ (lines_in k b ++ rest) ≡ lines_of k s.blocks → IsUpTo s past t1 → IsUpTo s (past ++ lines_in k b) t2 =
-          subst (λ m. (past rest : List Timed) → past ++ (lines_in m b ++ rest) ≡ lines_of m s.blocks → IsUpTo s past t1 → IsUpTo s (past ++ lines_in m b) t2) (threads.1 k d below1).1 (on k d below1) in
-      subst (λ (l : List Timed). IsUpTo s l t2) (block_past k s.blocks i b lt is)
-          (goes (lines_of k (take i s.blocks)) (lines_of k (drop (i + 1) s.blocks)) (block_next k s.blocks i b lt is) before))
+    let below1 = subst (λ n. k < n) len below in
+    let t1 = slice_index_or ts1 k d in
+    let t2 = slice_index_or ts2 k d in
+    let before : IsUpTo s (lines_of k (take i s.blocks)) t1 = subst (HaveRun s (take i s.blocks)) (sym same) run k d below1 in
+    let goes : (past rest : List Timed) → past ++ (lines_in k b ++ rest) ≡ lines_of k s.blocks → IsUpTo s past t1 → IsUpTo s (past ++ lines_in k b) t2 =
+    subst (λ m. (past rest : List Timed) → past ++ (lines_in m b ++ rest) ≡ lines_of m s.blocks → IsUpTo s past t1 → IsUpTo s (past ++ lines_in m b) t2) (threads.1 k d below1).1 (on k d below1) in
+    subst (λ (l : List Timed). IsUpTo s l t2) (block_past k s.blocks i b lt is)
+    (goes (lines_of k (take i s.blocks)) (lines_of k (drop (i + 1) s.blocks)) (block_next k s.blocks i b lt is) before))
 
 -- after all blocks
 pub have_run_all : (s : Script) (i : ℕ) (ts0 ts1 : List PostingThread) → length s.blocks ≤ i → HaveRun s (take i s.blocks) ts0 → ts1 ≡ ts0 → HaveRun s s.blocks ts1

@@ -1,6 +1,5 @@
 -- The looper on which a choreographer runs, as the choreographer sees it.
-use Rattle.std.specs.Prelude.{◌≡◌, ◌-◌, ◌*◌, ◌^◌, ◌==◌, ◌&&◌, min, ℕ, Bool, List, Option, Some, None, if◌then◌else◌}
-use Rattle.std.specs.List.{filter_map}
+use Rattle.std.specs.Prelude.{◌≡◌, ◌-◌, ◌*◌, ◌^◌, ◌==◌, ◌&&◌, min, ℕ, Bool, List, map, is_none, if◌then◌else◌}
 use Rattle.atomic_table.specs.Seated.{TableId}
 use Rattle.loop_model.specs.declared.post.Post.{Post as PostData}
 use Rattle.loop_model.specs.declared.call.Call.{Call}
@@ -12,7 +11,6 @@ use Rattle.message_pool.specs.Passes.{Tally}
 use Rattle.shared_queue.specs.Known.{Shared, IsOf}
 use Rattle.looper_run.specs.Holding.{Sender}
 use Rattle.choreographer.specs.declared.host.Sending.{Sending}
-use Rattle.choreographer.specs.declared.host.HostSent.{HostSent}
 use Rattle.choreographer.specs.declared.host.HostSent.TheVariants as host
 use Rattle.dash_stage.specs.Growth.{own, GoesOn}
 
@@ -38,24 +36,28 @@ pub record IsHost (o : Origin) (poster : Sender) (pass : Tally) : Type 0 where
 abbrev pub nanos_of : ℕ → ℕ
 nanos_of millis = min (millis * 1000000) (2 ^ 64 - 1)
 
--- how a reply took a message
-abbrev pub taken_by : Reply → Option HostSent
-taken_by (Accepted number) = Some host.Accepted
-taken_by (Refused place) = Some host.Refused
-taken_by _ = None
+-- a message that the handler sends for a choreographer: asynchronous, with no object and no callback
+abbrev pub is_sending : ℕ → PostData → Bool
+is_sending handler p = p.handler == handler && p.asynchronous && is_none p.obj && is_none p.callback
 
-abbrev pub sending : PostData → Option HostSent → Option Sending
-sending p None = None
-sending p (Some answer) = Some (record { what = p.what; arg = p.arg; when = p.when; answer = answer })
+-- what no host answers to a choreographer
+abbrev pub not_sent : Sending
+not_sent = record { what = 0; arg = 0; when = 0; answer = host.NoMemory }
 
--- what a call sends by this handler
-abbrev pub sending_by : ℕ → Call → Reply → Option Sending
-sending_by handler (Post p) r = if p.handler == handler then sending p (taken_by r) else None
-sending_by handler _ r = None
+-- a message as the queue took it
+abbrev pub sent_as : PostData → Reply → Sending
+sent_as p (Accepted number) = record { what = p.what; arg = p.arg; when = p.when; answer = host.Accepted }
+sent_as p (Refused place) = record { what = p.what; arg = p.arg; when = p.when; answer = host.Refused }
+sent_as p _ = not_sent
 
--- what a poster has sent by this handler
+-- a call as a choreographer is told of it: a message that this handler sends for it as itself, and any other call as none of its sends
+abbrev pub told_by : ℕ → Call → Reply → Sending
+told_by handler (Post p) r = if is_sending handler p then sent_as p r else not_sent
+told_by handler _ r = not_sent
+
+-- all calls that the poster has made, as a choreographer is told of them
 abbrev pub sends_by : ℕ → Sender → List Sending
-sends_by handler p = filter_map (λ (e : Entry). sending_by handler e.call e.reply) (own p)
+sends_by handler p = map (λ (e : Entry). told_by handler e.call e.reply) (own p)
 
 -- the origin that a host has, by its parts
 abbrev pub origin_of : Shared TableId → TableId → ℕ → ℕ → Sender → Tally → ℕ → ℕ → Origin

@@ -1,10 +1,13 @@
 pub mod Growth
 pub mod Requests
 pub mod Kits
+pub mod Dealing
 pub mod Hosts
 pub mod Threads
 pub mod Loopers
+pub mod Players
 pub mod Controllers
+pub mod Staged
 pub mod Records
 pub mod Stages
-pub mod Staged
+pub mod Ending

@@ -1,25 +1,71 @@
 -- A looper of a script.
-use Rattle.std.specs.Prelude.{◌≡◌, ◌<◌, ◌+◌, ℕ, List, insert, length, slice_get, Option, Some, IsSomeAnd}
+use Rattle.std.specs.Prelude.{◌≡◌, ◌<◌, ◌+◌, ◌==◌, ◌||◌, ℕ, Bool, true, false, map, slice_get, Option, Some, None, IsSomeAnd}
+use Rattle.std.specs.List.{remove}
+use Rattle.atomic_table.specs.Seated.{TableId}
 use Rattle.dash_script.specs.declared.script.Script.{Script}
-use Rattle.looper_run.specs.Holding.{Sender}
-use Rattle.looper_run.specs.Round.{is_ended}
+use Rattle.loop_model.specs.Base.{empty_base}
+use Rattle.loop_model.specs.Answers.{Setting, is_over}
+use Rattle.shared_queue.specs.Known.{Shared}
+use Rattle.looper_run.specs.Holding.{Workplace, workplace}
+use Rattle.looper_run.specs.Round.{RoundBy, is_ended}
+use Rattle.looper_run.specs.Looks.{IsRound}
+use Rattle.run_model.specs.Senders.{sender_count}
+use Rattle.looper_run.specs.declared.looper.Round.{Round}
+use Rattle.looper_run.specs.declared.looper.Round.TheVariants as round
 use Rattle.choreographer.specs.Known.{Shared as Frames}
 use Rattle.dash_stage.specs.declared.hall.Hall.{Hall}
 use Rattle.dash_stage.specs.declared.player.Parts.{Parts}
 use Rattle.dash_stage.specs.declared.looper.StageLooper.{StageLooper}
-use Rattle.dash_stage.specs.Kits.{ArePostersOf, frame_badge_of, frame_badge_for}
+use Rattle.dash_stage.specs.Kits.{IsHall, badge_of, badge_for, frame_badge_of, frame_badge_for}
 
--- what a looper has beside its own poster: the posters of the other queues, and two passes of its choreographer
-pub record ArePartsOf (s : Script) (hall : Hall) (number : ℕ) (poster : Sender) (parts : Parts) : Type 0 where
-  pub posters : ArePostersOf (s.threads + number) hall.queues.items (insert parts.others.items number poster)
+-- what a looper has beside its own poster: the posters of the other queues in order, and two passes of its choreographer
+pub record ArePartsOf (s : Script) (hall : Hall) (number : ℕ) (parts : Parts) : Type 0 where
+  pub others : map badge_of parts.others.items ≡ remove (map (badge_for (s.threads + number)) hall.queues.items) number
   pub frames : (c : Frames) → slice_get hall.choreographers.items number ≡ Some c → frame_badge_of parts.frames ≡ frame_badge_for s.threads c
   pub client : (c : Frames) → slice_get hall.choreographers.items number ≡ Some c → frame_badge_of parts.root.pass ≡ frame_badge_for (s.threads + 1) c
 
+-- the workplace is the queue of this looper, and the pool of the hall
+pub record IsPlaceOf (hall : Hall) (number : ℕ) (w : Workplace) : Type 0 where
+  pub queue : (q : Shared TableId) → slice_get hall.queues.items number ≡ Some q → (w.table ≡ q.table) × (w.constants ≡ Some q.constants)
+  pub pool : w.pool ≡ hall.pool
+
+-- the number is one of a looper of the script, which has few senders, and the hall is the script's
+pub record IsLooperOf (s : Script) (hall : Hall) (number : ℕ) : Type 0 where
+  pub few : s.threads + s.loopers < 100
+  pub one : number < s.loopers
+  pub is_hall : IsHall s hall
+
+-- the setting of a looper's queue: in lockstep, main for looper 0 alone
+abbrev pub setting_for : Script → ℕ → Setting
+setting_for s looper = record { main = looper == 0; lockstep = true; senders = sender_count s }
+
+-- a round that found no memory
+abbrev pub is_given_up : Round → Bool
+is_given_up (round.Drained dispatched until) = false
+is_given_up (round.Ended dispatched) = false
+is_given_up round.NoMemory = true
+
+-- when the first message is due that no barrier holds back, after a round that ended with a wait
+abbrev pub until_of : Round → Option ℕ
+until_of (round.Drained dispatched until) = until
+until_of (round.Ended dispatched) = None
+until_of round.NoMemory = None
+
 -- a looper of the script, with what it needs in the hall
 pub record IsLooper (s : Script) (hall : Hall) (l : StageLooper) : Type 0 where
+  pub few : s.threads + s.loopers < 100
   pub number : l.number < s.loopers
   pub sender : l.sender ≡ s.threads + l.number
-  pub parts : IsSomeAnd l.parts (ArePartsOf s hall l.number l.looper.held.poster)
-  pub pass : l.looper.held.pass.home ≡ hall.pool
+  pub parts : IsSomeAnd l.parts (ArePartsOf s hall l.number)
+  pub place : IsPlaceOf hall l.number (workplace l.looper.held)
+  pub own : l.looper.held.poster.sender ≡ l.sender
   pub journal : l.looper.held.journal.looper ≡ l.number
   pub ended : l.looper.ended ≡ is_ended l.last
+  -- a round that ended it has seen its queue over
+  pub over : is_ended l.last ≡ true → is_over (empty_base (sender_count s)) l.looper.held.poster.view.seen ≡ true
+
+-- one that a round has ended, or that found no memory, stays as it is; another runs a round on its queue
+pub record HasRun (s : Script) (now : ℕ) (before after : StageLooper) : Type 0 where
+  pub stopped : (is_ended before.last || is_given_up before.last) ≡ true → after ≡ before
+  pub ran : (is_ended before.last || is_given_up before.last) ≡ false → RoundBy (setting_for s before.number) now before.looper.held after.looper.held after.last
+  pub looks : (is_ended before.last || is_given_up before.last) ≡ false → IsRound now before.looper after.looper after.last

@@ -3,6 +3,7 @@ use Rattle.std.specs.Prelude.{◌≡◌, ◌<◌, ℕ, true, List, [], map, leng
 use Rattle.std.specs.List.{AllByRecursion}
 use mathlib.Core.List.{IsPrefix}
 use Rattle.dash_script.specs.declared.script.Script.{Script}
+use Rattle.loop_model.specs.declared.journal.Journal.{Journal}
 use Rattle.loop_model.specs.declared.record.QueueRecord.{QueueRecord}
 use Rattle.frame_phases.specs.declared.entry.FrameRecord.{FrameRecord}
 use Rattle.frame_phases.specs.Frames.{lawful}
@@ -13,18 +14,13 @@ use Rattle.run_model.specs.Senders.{numbers_from}
 use Rattle.run_model.specs.Asks.{entries_by}
 use Rattle.run_model.specs.Run.{IsHistory, all_entries}
 use Rattle.dash_stage.specs.declared.kit.Kit.{Kit}
+use Rattle.dash_stage.specs.Staged.{IsFrameRecord}
 use Rattle.dash_stage.specs.Growth.{own}
 
 -- each looper's queue has its record, in order, with the replies that a queue of one thread gives
 pub record AreQueueRecords (s : Script) (records : List QueueRecord) : Type 0 where
   pub loopers : map (λ (q : QueueRecord). q.looper) records ≡ numbers_from 0 s.loopers
   pub histories : AllByRecursion (IsHistory in_lockstep all_entries s) records
-
--- a lawful frame history of the script's period and of four phases
-pub record IsFrameRecord (s : Script) (f : FrameRecord) : Type 0 where
-  pub interval : f.interval ≡ s.period
-  pub phases : f.phases ≡ 4
-  pub lawful : lawful f.interval f.phases f.entries ≡ true
 
 -- each looper's choreographer has its record, in order
 pub record AreFrameRecords (s : Script) (records : List FrameRecord) : Type 0 where
@@ -46,3 +42,7 @@ abbrev pub AreUsedNowhere : List Kit → Type 0
 AreUsedNowhere kits = (k q : ℕ) (d : Kit) → k < length kits
     → ((p : Sender) → q < length (slice_index_or kits k d).posters.items → own (slice_index_or (slice_index_or kits k d).posters.items q p) ≡ [])
     × ((p : Pass) → q < length (slice_index_or kits k d).frames.items → (slice_index_or (slice_index_or kits k d).frames.items q p).view.seen ≡ [])
+
+-- each looper has its journal, in order
+abbrev pub AreJournals : Script → List Journal → Type 0
+AreJournals s js = map (λ (j : Journal). j.looper) js ≡ numbers_from 0 s.loopers

@@ -7,7 +7,9 @@ use Rattle.dash_stage.specs.declared.hall.Hall.{Hall}
 use Rattle.dash_stage.specs.declared.thread.PostingThread.{PostingThread}
 use Rattle.dash_stage.specs.declared.looper.StageLooper.{StageLooper}
 use Rattle.dash_stage.specs.declared.stage.Stage.{Stage}
-use Rattle.dash_stage.specs.Kits.{IsHall}
+use Rattle.run_model.specs.Senders.{sender_count}
+use Rattle.dash_stage.specs.declared.kit.Kit.{Kit}
+use Rattle.dash_stage.specs.Kits.{IsHall, IsKitOf}
 use Rattle.dash_stage.specs.Threads.{IsThread, IsUpTo, Continues}
 use Rattle.dash_stage.specs.Loopers.{IsLooper}
 use Rattle.dash_stage.specs.Controllers.{IsController}
@@ -45,3 +47,35 @@ RunOn s b before after = (k : ℕ) (d : PostingThread) → k < length before →
 -- none has given up
 abbrev pub GoOn : List PostingThread → Type 0
 GoOn ts = (k : ℕ) (d : PostingThread) → k < length ts → (slice_index_or ts k d).gave_up ≡ false
+
+-- the kits of the senders from n on
+pub record AreKitsFrom (s : Script) (hall : Hall) (n : ℕ) (kits : List Kit) : Type 0 where
+  pub count : length kits + n ≡ sender_count s
+  pub each : (k : ℕ) (d : Kit) → k < length kits → IsKitOf s hall (k + n) (slice_index_or kits k d)
+
+-- the threads from n on
+pub record AreThreadsFrom (s : Script) (hall : Hall) (n : ℕ) (ts : List PostingThread) : Type 0 where
+  pub count : length ts + n ≡ s.threads
+  pub each : (k : ℕ) (d : PostingThread) → k < length ts → IsThread s hall (slice_index_or ts k d) × ((slice_index_or ts k d).number ≡ k + n)
+
+-- the loopers from n on
+pub record AreLoopersFrom (s : Script) (hall : Hall) (n : ℕ) (ls : List StageLooper) : Type 0 where
+  pub count : length ls + n ≡ s.loopers
+  pub each : (k : ℕ) (d : StageLooper) → k < length ls → IsLooper s hall (slice_index_or ls k d) × ((slice_index_or ls k d).number ≡ k + n)
+
+-- the first kits, the first threads, the first loopers
+abbrev pub AreFirstKits : Script → Hall → List Kit → Type 0
+AreFirstKits s hall kits = (k : ℕ) (d : Kit) → k < length kits → IsKitOf s hall k (slice_index_or kits k d)
+
+abbrev pub AreFirstThreads : Script → Hall → List PostingThread → Type 0
+AreFirstThreads s hall ts = (k : ℕ) (d : PostingThread) → k < length ts → IsThread s hall (slice_index_or ts k d) × ((slice_index_or ts k d).number ≡ k)
+
+abbrev pub AreFirstLoopers : Script → Hall → List StageLooper → Type 0
+AreFirstLoopers s hall ls = (k : ℕ) (d : StageLooper) → k < length ls → IsLooper s hall (slice_index_or ls k d) × ((slice_index_or ls k d).number ≡ k)
+
+-- the kits of all threads, and of all threads and loopers
+abbrev pub AreThreadKits : Script → Hall → List Kit → Type 0
+AreThreadKits s hall kits = (length kits ≡ s.threads) × AreFirstKits s hall kits
+
+abbrev pub AreSenderKits : Script → Hall → List Kit → Type 0
+AreSenderKits s hall kits = (length kits ≡ s.threads + s.loopers) × AreFirstKits s hall kits

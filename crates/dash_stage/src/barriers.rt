@@ -1,9 +1,9 @@
 //! The calls of a sender that go by no handler: barriers and quits.
-ghost use Rattle.std.specs.Prelude.{◌≡◌, ◌≤◌, [], ◌∷◌, All, IfOk, OnOk};
+ghost use Rattle.std.specs.Prelude.{◌≡◌, ◌≤◌, [], ◌∷◌, All, IfOk, OnOk, OnErr};
 ghost use Rattle.loop_model.specs.declared.call.Call.TheVariants.{Barrier, Unbarrier, Quit};
 ghost use Rattle.message_pool.specs.Obtain.{IsNodeOf};
 ghost use Rattle.handler_post.specs.Ways.{IsReady, IsSameWay};
-ghost use Rattle.dash_stage.specs.Growth.{WayGoesOn, WayMakes};
+ghost use Rattle.dash_stage.specs.Growth.{own, WayGoesOn, WayMakes};
 
 use handler_post::Way;
 use loop_model::NoMemory;
@@ -26,6 +26,7 @@ pub(crate) fn post_barrier<R: Wait>(
     ensures same { IsSameWay way.old way.new }
     ensures on { WayGoesOn way.old way.new }
     ensures made { IfOk result (λ token. WayMakes way.old way.new (Barrier 0) (token ∷ [])) }
+    ensures none { OnErr result (own way.new.poster.now ≡ own way.old.poster.now) }
 {
     let node = match way.pool.obtain(alloc, way.pass) {
         Obtained::Pooled(node) => node,
@@ -48,6 +49,7 @@ pub(crate) fn remove_barrier<R: Wait>(rt: &R, way: &mut Way, token: u64) -> Resu
     ensures same { IsSameWay way.old way.new }
     ensures on { WayGoesOn way.old way.new }
     ensures made { OnOk result (WayMakes way.old way.new (Unbarrier token) []) }
+    ensures none { OnErr result (own way.new.poster.now ≡ own way.old.poster.now) }
 {
     match way.poster.remove_barrier(rt, way.queue, token) {
         BarrierGone::Unbarriered { node, .. } => {
@@ -67,13 +69,15 @@ pub(crate) fn quit<R: Wait>(rt: &R, way: &mut Way, safe: bool, now: u64) -> Resu
     ensures same { IsSameWay way.old way.new }
     ensures on { WayGoesOn way.old way.new }
     ensures made { OnOk result (WayMakes way.old way.new (Quit safe 0) []) }
+    ensures none { OnErr result (own way.new.poster.now ≡ own way.old.poster.now) }
 {
     match way.poster.quit(rt, way.queue, safe, now) {
         Quitting::Done(left) => {
             recycle_all(way.pool, way.pass, left);
             Ok(())
         }
-        Quitting::AlreadyQuit { .. } | Quitting::NotAllowed => Ok(()),
+        Quitting::AlreadyQuit { .. } => Ok(()),
+        Quitting::NotAllowed => Ok(()),
         Quitting::NoMemory => Err(NoMemory),
     }
 }

@@ -131,13 +131,7 @@ impl Controller {
     }
 
     /// Stops the main looper, at this time in milliseconds. Answers false where a message is due.
-    pub(crate) fn halt<R: Wait>(
-        &mut self,
-        rt: &R,
-        hall: &Hall,
-        script: &Script,
-        now: u64,
-    ) -> bool
+    pub(crate) fn halt<R: Wait>(&mut self, rt: &R, hall: &Hall, script: &Script, now: u64) -> bool
         requires some { 0 < script.now.loopers }
         requires hall { IsHall script.now hall.now }
         requires controller { IsController script.now hall.now self.old }

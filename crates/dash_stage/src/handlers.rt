@@ -1,9 +1,9 @@
 //! The handlers of a script, and the calls that they make.
-ghost use Rattle.std.specs.Prelude.{◌≡◌, ◌<◌, ◌+◌, true, [], OnOk, IfOk, MatchOption};
+ghost use Rattle.std.specs.Prelude.{◌≡◌, ◌<◌, ◌+◌, true, [], OnOk, OnErr};
 ghost use Rattle.run_model.specs.Senders.{looper_of as the_looper_of, gauge_handler as the_gauge_handler, handler_line};
 ghost use Rattle.handler_post.specs.Ways.{IsReady, IsSameWay};
-ghost use Rattle.dash_stage.specs.Growth.{WayGoesOn, WayMakes};
-ghost use Rattle.dash_stage.specs.Requests.{call_by};
+ghost use Rattle.dash_stage.specs.Growth.{own, WayGoesOn, WayMakes};
+ghost use Rattle.dash_stage.specs.Requests.{call_by, IfSent, IfErased};
 
 use dash_script::Script;
 use handler_post::{Erased, Handler, Sent, Way};
@@ -77,7 +77,7 @@ pub(crate) fn handler_of(script: &Script, handler: u32) -> Handler
 
 /// The handler by which a looper's choreographer sends.
 pub(crate) fn frame_handler(looper: u32) -> Handler
-    requires { looper < 8 }
+    requires { looper < 100 }
     ensures { result ≡ record { id = 64 + looper; asynchronous = true } }
 {
     Handler {
@@ -99,6 +99,7 @@ pub(crate) fn make<R: Wait>(
     ensures same { IsSameWay way.old way.new }
     ensures on { WayGoesOn way.old way.new }
     ensures made { OnOk result (WayMakes way.old way.new (call_by handler request) []) }
+    ensures none { OnErr result (own way.new.poster.now ≡ own way.old.poster.now) }
 {
     match request {
         Request::Send {
@@ -120,14 +121,20 @@ pub(crate) fn make<R: Wait>(
     }
 }
 
-fn sent(answer: Sent) -> Result<(), NoMemory> {
+fn sent(answer: Sent) -> Result<(), NoMemory>
+    ensures ok { OnOk result (IfSent answer ⊥ (Unit {0})) }
+    ensures err { OnErr result (IfSent answer (Unit {0}) ⊥) }
+{
     match answer {
         Sent::Accepted { .. } | Sent::Refused { .. } => Ok(()),
         Sent::NoMemory => Err(NoMemory),
     }
 }
 
-fn erased(answer: Erased) -> Result<(), NoMemory> {
+fn erased(answer: Erased) -> Result<(), NoMemory>
+    ensures ok { OnOk result (IfErased answer ⊥ (Unit {0})) }
+    ensures err { OnErr result (IfErased answer (Unit {0}) ⊥) }
+{
     match answer {
         Erased::Removed { .. } => Ok(()),
         Erased::NoMemory => Err(NoMemory),

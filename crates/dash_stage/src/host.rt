@@ -61,7 +61,7 @@ impl<'a, R: Wait> FrameHost for Host<'a, R> {
         };
         match self
             .handler
-            .send_at(self.rt, self.alloc, &mut way, what, arg, None, when)
+            .send_async_at(self.rt, self.alloc, &mut way, what, arg, when)
         {
             Sent::Accepted { .. } => HostSent::Accepted,
             Sent::Refused { .. } => HostSent::Refused,

@@ -1,10 +1,18 @@
 //! The report of a run.
-ghost use Rattle.dash_script.specs.Reading.{HasText};
+ghost use Rattle.std.specs.Prelude.{◌≡◌, ◌<◌, ◌+◌, IfOk, OnOk, map};
+ghost use Rattle.run_model.specs.Senders.{numbers_from};
+ghost use Rattle.dash_stage.specs.Kits.{IsHall, AreKitsOf};
+ghost use Rattle.dash_stage.specs.Records.{AreQueueRecords, AreFrameRecords, AreJournals};
 ghost use Rattle.dash_stage.specs.Staged.{Stages};
+ghost use Rattle.dash_stage.specs.Stages.{IsStage, IsPlayable, AreThreads, AreLoopers, AreThreadKits, AreSenderKits};
 
+use crate::hall::Hall;
+use crate::kit::Kit;
+use crate::looper::StageLooper;
 use crate::records::records;
 use crate::run::Ran;
 use crate::stage::Stage;
+use crate::thread::PostingThread;
 use dash_script::Script;
 use frame_phases::FrameRecord;
 use loop_model::{Journal, NoMemory, QueueRecord, Sequence};
@@ -12,7 +20,11 @@ use run_model::Report;
 use std::alloc::Global;
 
 /// The report of a run that left this.
-pub(crate) fn report(alloc: Global, script: Script, stage: Stage) -> Ran {
+pub(crate) fn report(alloc: Global, script: Script, stage: Stage) -> Ran
+    requires playable { IsPlayable script }
+    requires stage { IsStage script stage }
+    ensures { Stages script result }
+{
     match kept(alloc, &script, stage) {
         Ok((queues, journals, frames)) => Ran::Ok(Report {
             script,
@@ -30,7 +42,13 @@ fn kept(
     alloc: Global,
     script: &Script,
     stage: Stage,
-) -> Result<(Vec<QueueRecord>, Vec<Journal>, Vec<FrameRecord>), NoMemory> {
+) -> Result<(Vec<QueueRecord>, Vec<Journal>, Vec<FrameRecord>), NoMemory>
+    requires playable { IsPlayable script.now }
+    requires stage { IsStage script.now stage }
+    ensures queues { IfOk result (λ r. AreQueueRecords script.now r.0.items) }
+    ensures journals { IfOk result (λ r. AreJournals script.now r.1.items) }
+    ensures frames { IfOk result (λ r. AreFrameRecords script.now r.2.items) }
+{
     let Stage {
         hall,
         threads,
@@ -39,17 +57,49 @@ fn kept(
         pass,
         time: _,
     } = stage;
-    let mut kits = Vec::new(alloc);
-    let mut journals = Vec::new(alloc);
-    for thread in threads {
-        kits.push(thread.into_kit())?;
-    }
-    for looper in loopers {
-        let (journal, kit) = looper.into_kit(alloc, &hall, script)?;
-        journals.push(journal)?;
-        kits.push(kit)?;
-    }
+    let mut kits = thread_kits(alloc, script, &hall, threads)?;
+    let journals = looper_kits(alloc, script, &hall, loopers, &mut kits)?;
     kits.push(controller.kit)?;
     let (queues, frames) = records(alloc, script, hall, kits, pass)?;
     Ok((queues, journals, frames))
+}
+
+/// What the threads worked with.
+fn thread_kits(
+    alloc: Global,
+    script: &Script,
+    hall: &Hall,
+    mut threads: Vec<PostingThread>,
+) -> Result<Vec<Kit>, NoMemory>
+    requires { AreThreads script.now hall.now threads.items }
+    ensures { IfOk result (λ v. AreThreadKits script.now hall.now v.items) }
+{
+    let mut kits = Vec::new(alloc);
+    'each: while !threads.is_empty() {
+        kits.push(threads.remove(0).into_kit())?;
+    }
+    Ok(kits)
+}
+
+/// The loopers' journals. What they worked with comes behind the other kits.
+fn looper_kits(
+    alloc: Global,
+    script: &Script,
+    hall: &Hall,
+    mut loopers: Vec<StageLooper>,
+    kits: &mut Vec<Kit>,
+) -> Result<Vec<Journal>, NoMemory>
+    requires hall { IsHall script.now hall.now }
+    requires loopers { AreLoopers script.now hall.now loopers.items }
+    requires kits { AreThreadKits script.now hall.now kits.old.items }
+    ensures journals { IfOk result (λ v. AreJournals script.now v.items) }
+    ensures kits { OnOk result (AreSenderKits script.now hall.now kits.new.items) }
+{
+    let mut journals = Vec::new(alloc);
+    'each: while !loopers.is_empty() {
+        let (journal, kit) = loopers.remove(0).into_kit(alloc, hall, script)?;
+        journals.push(journal)?;
+        kits.push(kit)?;
+    }
+    Ok(journals)
 }

@@ -2,6 +2,7 @@
 #![tactic(auto)]
 
 mod barriers;
+mod calls;
 mod control;
 mod hall;
 mod handlers;
@@ -10,10 +11,11 @@ mod kept;
 mod kit;
 mod labels;
 mod looper;
+mod opening;
+mod planned;
 mod player;
 mod records;
 mod run;
-mod opening;
 mod side;
 mod stage;
 mod thread;

@@ -2,11 +2,11 @@
 ghost use Rattle.std.specs.Prelude.{◌≡◌, ◌+◌, ◌<◌, IfOk};
 ghost use Rattle.looper_run.specs.Round.{is_ended};
 ghost use Rattle.dash_stage.specs.Kits.{IsHall, IsKitOf};
-ghost use Rattle.dash_stage.specs.Loopers.{IsLooper};
+ghost use Rattle.dash_stage.specs.Loopers.{IsLooper, HasRun, is_given_up, until_of};
 
 use crate::hall::Hall;
 use crate::kit::Kit;
-use crate::player::{Parts, Player};
+use crate::player::{Parts, Place, Player};
 use crate::view_root::ViewRoot;
 use dash_script::Script;
 use loop_io::Gate;
@@ -80,7 +80,9 @@ impl StageLooper {
     }
 
     /// Whether it found no memory.
-    pub(crate) fn gave_up(&self) -> bool {
+    pub(crate) fn gave_up(&self) -> bool
+        ensures { result ≡ is_given_up self.now.last }
+    {
         match self.last {
             Round::NoMemory => true,
             _ => false,
@@ -88,7 +90,9 @@ impl StageLooper {
     }
 
     /// When its first message is due, in milliseconds, where there is one that no barrier holds back.
-    pub(crate) fn until(&self) -> Option<u64> {
+    pub(crate) fn until(&self) -> Option<u64>
+        ensures { result ≡ until_of self.now.last }
+    {
         match self.last {
             Round::Drained { until, .. } => until,
             _ => None,
@@ -109,21 +113,24 @@ impl StageLooper {
         requires looper { IsLooper script.now hall.now self.old }
         ensures looper { IsLooper script.now hall.now self.new }
         ensures number { self.new.number ≡ self.old.number }
+        ensures round { HasRun script.now now self.old self.new }
     {
         if self.has_ended() || self.gave_up() {
             return;
         }
         let Some(parts) = self.parts.take() else {
-            return;
+            unreachable!()
         };
         let place = self.number as usize;
         let mut player = Player {
-            rt,
-            alloc,
-            hall,
-            script,
+            place: Place {
+                rt,
+                alloc,
+                hall,
+                script,
+                looper: self.number,
+            },
             gate,
-            looper: self.number,
             sender: self.sender,
             parts,
         };

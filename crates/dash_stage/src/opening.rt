@@ -1,9 +1,11 @@
 //! A stage before the first event.
-ghost use Rattle.std.specs.Prelude.{◌≡◌, ◌<◌, ◌+◌, [], IfOk, length};
-ghost use Rattle.dash_stage.specs.Stages.{IsStage, IsPlayable, HaveRun};
+ghost use Rattle.std.specs.Prelude.{◌≡◌, ◌<◌, ◌+◌, [], IfOk, OnOk, length};
+ghost use Rattle.dash_stage.specs.Kits.{IsHall};
+ghost use Rattle.dash_stage.specs.Stages.{IsStage, IsPlayable, AreKitsFrom, AreThreads, AreLoopers};
 
 use crate::control::Controller;
-use crate::hall::open;
+use crate::hall::{Hall, open};
+use crate::kit::Kit;
 use crate::looper::StageLooper;
 use crate::stage::Stage;
 use crate::thread::PostingThread;
@@ -14,19 +16,11 @@ use std::alloc::Global;
 /// The senders of a script, which have done nothing.
 pub(crate) fn set_up(alloc: Global, script: &Script) -> Result<Stage, NoMemory>
     requires { IsPlayable script.now }
-    ensures stage { IfOk result (λ st. IsStage script.now st) }
-    ensures begun { IfOk result (λ st. HaveRun script.now [] st.threads.items) }
+    ensures { IfOk result (λ st. IsStage script.now st) }
 {
     let (hall, mut kits, pass) = open(alloc, script)?;
-    let mut threads = Vec::new(alloc);
-    for number in 0..script.threads {
-        threads.push(PostingThread::new(alloc, number, kits.remove(0)))?;
-    }
-    let mut loopers = Vec::new(alloc);
-    for number in 0..script.loopers {
-        let looper = StageLooper::new(alloc, &hall, script, number, kits.remove(0))?;
-        loopers.push(looper)?;
-    }
+    let threads = threads(alloc, script, &hall, &mut kits)?;
+    let loopers = loopers(alloc, script, &hall, &mut kits)?;
     let controller = Controller {
         kit: kits.remove(0),
     };
@@ -38,4 +32,44 @@ pub(crate) fn set_up(alloc: Global, script: &Script) -> Result<Stage, NoMemory>
         pass,
         time: 0,
     })
+}
+
+/// The threads, with the first kits.
+fn threads(
+    alloc: Global,
+    script: &Script,
+    hall: &Hall,
+    kits: &mut Vec<Kit>,
+) -> Result<Vec<PostingThread>, NoMemory>
+    requires few { script.now.threads + script.now.loopers < 100 }
+    requires kits { AreKitsFrom script.now hall.now 0 kits.old.items }
+    ensures threads { IfOk result (λ v. AreThreads script.now hall.now v.items) }
+    ensures kits { OnOk result (AreKitsFrom script.now hall.now script.now.threads kits.new.items) }
+{
+    let mut threads = Vec::new(alloc);
+    for number in 0..script.threads {
+        threads.push(PostingThread::new(alloc, number, kits.remove(0)))?;
+    }
+    Ok(threads)
+}
+
+/// The loopers, with the kits behind the threads'.
+fn loopers(
+    alloc: Global,
+    script: &Script,
+    hall: &Hall,
+    kits: &mut Vec<Kit>,
+) -> Result<Vec<StageLooper>, NoMemory>
+    requires few { script.now.threads + script.now.loopers < 100 }
+    requires hall { IsHall script.now hall.now }
+    requires kits { AreKitsFrom script.now hall.now script.now.threads kits.old.items }
+    ensures loopers { IfOk result (λ v. AreLoopers script.now hall.now v.items) }
+    ensures kits { OnOk result (AreKitsFrom script.now hall.now (script.now.threads + script.now.loopers) kits.new.items) }
+{
+    let mut loopers = Vec::new(alloc);
+    for number in 0..script.loopers {
+        let looper = StageLooper::new(alloc, hall, script, number, kits.remove(0))?;
+        loopers.push(looper)?;
+    }
+    Ok(loopers)
 }

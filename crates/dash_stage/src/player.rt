@@ -1,19 +1,30 @@
 //! What a looper does with its messages.
-ghost use Rattle.std.specs.Prelude.{◌≡◌, ℕ, IsTrue, true};
+ghost use Rattle.std.specs.Prelude.{◌≡◌, ℕ, List, [], ◌∷◌, ◌++◌, slice_get, Some, IsTrue, true, OnOk};
+ghost use Rattle.loop_model.specs.declared.journal.Act.{Act};
+ghost use Rattle.loop_model.specs.declared.entry.Entry.{Entry};
+ghost use Rattle.shared_queue.specs.Known.{IsOf};
+ghost use Rattle.looper_run.specs.declared.dispatcher.Did.TheVariants.{No};
+ghost use Rattle.looper_run.specs.Holding.{workplace, held, IsSameOwn};
+ghost use Rattle.looper_run.specs.Acts.{IsOfDispatcher, GrowsBy};
+ghost use Rattle.looper_run.specs.Tests.{IsLent};
+ghost use Rattle.dash_stage.specs.Hosts.{origin_of, IsHost};
+ghost use Rattle.dash_stage.specs.Kits.{badge_of};
+ghost use Rattle.dash_stage.specs.Loopers.{ArePartsOf, IsPlaceOf, IsLooperOf};
+ghost use Rattle.dash_stage.specs.Players.{Owner, ServesAt, AreSameParts, PlaceWithout};
 
 use crate::hall::{Hall, PHASES};
 use crate::handlers::{Request, frame_handler, handler_of, looper_of, make};
 use crate::host::Host;
-use crate::view_root::ViewRoot;
-use choreographer::{FramePass, Framed, HostSent, Pulse};
+use crate::view_root::{Painted, ViewRoot};
+use choreographer::{Choreographer, FramePass, HostSent, Pulse};
 use dash_script::{Rule, Script};
 use handler_post::{Handler, Way};
 use loop_io::Gate;
 use loop_model::{Act, Journal, NoMemory};
 use looper_run::{Did, Dispatcher, Own};
-use message_pool::PoolClaim;
+use message_pool::{PoolClaim, PoolPass};
 use message_slot::Message;
-use shared_queue::Poster;
+use shared_queue::{Poster, SharedQueue};
 use std::alloc::Global;
 use std::snapshot::Snapshot;
 use std::sync::Wait;
@@ -38,21 +49,31 @@ pub(crate) struct Parts {
     pub(crate) passed: u64,
 }
 
-/// A looper's code, for one round.
+/// Where a looper's code runs.
 #[derive(Drop)]
-pub(crate) struct Player<'a, R: Wait, G: Gate> {
+pub(crate) struct Place<'a, R: Wait> {
     pub(crate) rt: &'a R,
     pub(crate) alloc: Global,
     pub(crate) hall: &'a Hall,
     pub(crate) script: &'a Script,
-    pub(crate) gate: &'a G,
     pub(crate) looper: u32,
+}
+
+/// A looper's code, for one round.
+#[derive(Drop)]
+pub(crate) struct Player<'a, R: Wait, G: Gate> {
+    pub(crate) place: Place<'a, R>,
+    pub(crate) gate: &'a G,
     pub(crate) sender: u32,
     pub(crate) parts: Parts,
 }
 
 impl<'a, R: Wait, G: Gate> Dispatcher for Player<'a, R, G> {
-    ghost Serves = { λ d w. IsTrue true };
+    ghost Serves = { λ d w. ServesAt d.place.script.now d.place.hall.now d.place.looper d.parts w };
+
+    ghost Origin = { Owner };
+
+    ghost origin = { λ d. record { script = d.place.script.now; hall = d.place.hall.now; number = d.place.looper } };
 
     ghost Awaits = { λ d awaited. IsTrue true };
 
@@ -66,15 +87,7 @@ impl<'a, R: Wait, G: Gate> Dispatcher for Player<'a, R, G> {
     }
 
     fn pulse(&mut self, own: &mut Own, now: u64) -> Did {
-        match self.deliver(own, now) {
-            None => Did::No,
-            Some(pulse) => {
-                if pulse.sent == HostSent::NoMemory {
-                    return Did::NoMemory;
-                }
-                did(tell(own.journal, Act::Vsync { stamp: pulse.stamp }))
-            }
-        }
+        self.place.pulse(&mut self.parts, own, now)
     }
 
     fn listen(&mut self, fd: u32, events: u32, listener: u32) -> u32 {
@@ -86,21 +99,11 @@ impl<'a, R: Wait, G: Gate> Dispatcher for Player<'a, R, G> {
     }
 
     fn intercept(&mut self, own: &mut Own, m: &Message<PoolClaim>, now: u64) -> Did {
-        if m.handler() == Some(frame_handler(self.looper).id) {
-            return match m.what() {
-                FRAME => did(self.do_frame(own, now)),
-                DUE => did(self.on_due(own, m.arg(), now)),
-                _ => Did::Yes,
-            };
-        }
-        match m.obj() {
-            Some(object) => did(self.set_target(own, object, m.arg(), now)),
-            None => Did::No,
-        }
+        self.place.intercept(&mut self.parts, own, m, now)
     }
 
     fn handle(&mut self, own: &mut Own, m: &Message<PoolClaim>, now: u64) -> Did {
-        did(self.react(own, m.handler(), m.what(), now))
+        did(self.place.react(&mut self.parts, own, m, now))
     }
 
     ghost others = { λ d s es e acts apart meets. meets };
@@ -110,145 +113,250 @@ impl<'a, R: Wait, G: Gate> Dispatcher for Player<'a, R, G> {
     ghost quiet = { λ d s es a acts is meets. meets };
 }
 
-impl<'a, R: Wait, G: Gate> Player<'a, R, G> {
-    /// Delivers the pulse that is asked for, if it came.
-    fn deliver(&mut self, own: &mut Own, now: u64) -> Option<Pulse> {
-        let place = self.looper as usize;
-        let began = Snapshot::of(&*own.poster);
-        let pass_began = Snapshot::of(&*own.pass);
-        let mut host = Host {
+impl<'a, R: Wait> Place<'a, R> {
+    /// The looper's queue.
+    fn queue(&self) -> &SharedQueue<PoolClaim>
+        requires { IsLooperOf self.now.script.now self.now.hall.now self.now.looper }
+        ensures { slice_get self.now.hall.now.queues.items self.now.looper ≡ Some result.now }
+    {
+        &self.hall.queues[self.looper as usize]
+    }
+
+    /// The looper's choreographer.
+    fn choreographer(&self) -> &Choreographer
+        requires { IsLooperOf self.now.script.now self.now.hall.now self.now.looper }
+        ensures { slice_get self.now.hall.now.choreographers.items self.now.looper ≡ Some result.now }
+    {
+        &self.hall.choreographers[self.looper as usize]
+    }
+
+    /// The looper's queue as its choreographer sees it, at this moment in milliseconds.
+    fn host<'b>(
+        &'b self,
+        poster: &'b mut Poster<PoolClaim>,
+        pass: &'b mut PoolPass,
+        began: &'b Snapshot<Poster<PoolClaim>>,
+        pass_began: &'b Snapshot<PoolPass>,
+        now: u64,
+    ) -> Host<'b, R>
+        requires looper { IsLooperOf self.now.script.now self.now.hall.now self.now.looper }
+        requires place { IsPlaceOf self.now.hall.now self.now.looper (record { table = poster.old.table; constants = poster.old.view.constants; pool = pass.old.home }) }
+        requires began { (began.now.value ≡ poster.old) × (pass_began.now.value ≡ pass.old) }
+        ensures poster { (result.poster.ghost_name ≡ poster.entry.ghost_name) × (result.poster.now ≡ poster.old) }
+        ensures pass { (result.pass.ghost_name ≡ pass.entry.ghost_name) × (result.pass.now ≡ pass.old) }
+        ensures began { (result.began.now.value ≡ poster.old) × (result.pass_began.now.value ≡ pass.old) }
+        ensures ready { IsHost (origin_of result.queue.now result.pool.now result.poster.ghost_name result.pass.ghost_name result.began.now.value result.pass_began.now.value result.handler.id result.now) result.poster.now result.pass.now }
+    {
+        Host {
             rt: self.rt,
             alloc: self.alloc,
             handler: frame_handler(self.looper),
-            queue: &self.hall.queues[place],
+            queue: self.queue(),
             pool: &self.hall.pool,
-            poster: own.poster,
-            pass: own.pass,
-            began: &began,
-            pass_began: &pass_began,
+            poster,
+            pass,
+            began,
+            pass_began,
             now,
-        };
-        host.deliver(&self.hall.choreographers[place], &mut self.parts.frames)
+        }
+    }
+
+    /// Delivers the pulse that is asked for, if it came.
+    fn deliver(&self, parts: &mut Parts, own: &mut Own, now: u64) -> Option<Pulse>
+        requires serves { ServesAt self.now.script.now self.now.hall.now self.now.looper parts.old (workplace (held own.old)) }
+        ensures parts { AreSameParts parts.old parts.new }
+        ensures own { IsSameOwn own.old own.new }
+        ensures lent { IsLent (held own.old) (held own.new) }
+        ensures rung { own.new.poster.now.view.rung ≡ own.old.poster.now.view.rung }
+    {
+        let began = Snapshot::of(&*own.poster);
+        let pass_began = Snapshot::of(&*own.pass);
+        let mut host = self.host(own.poster, own.pass, &began, &pass_began, now);
+        host.deliver(self.choreographer(), &mut parts.frames)
+    }
+
+    /// Delivers the pulse that is asked for, if it came, and tells it.
+    fn pulse(&self, parts: &mut Parts, own: &mut Own, now: u64) -> Did
+        requires serves { ServesAt self.now.script.now self.now.hall.now self.now.looper parts.old (workplace (held own.old)) }
+        ensures parts { AreSameParts parts.old parts.new }
+        ensures own { IsSameOwn own.old own.new }
+        ensures lent { IsLent (held own.old) (held own.new) }
+        ensures rung { own.new.poster.now.view.rung ≡ own.old.poster.now.view.rung }
+    {
+        match self.deliver(parts, own, now) {
+            None => Did::No,
+            Some(pulse) => {
+                if pulse.sent == HostSent::NoMemory {
+                    return Did::NoMemory;
+                }
+                did(tell(own.journal, Act::Vsync { stamp: pulse.stamp }))
+            }
+        }
     }
 
     /// The frame's message begins a frame, where one is scheduled, and runs its callbacks.
-    fn do_frame(&mut self, own: &mut Own, now: u64) -> Result<(), NoMemory> {
-        let place = self.looper as usize;
+    fn run_frame(&self, parts: &mut Parts, own: &mut Own, now: u64) -> Result<(), NoMemory>
+        requires serves { ServesAt self.now.script.now self.now.hall.now self.now.looper parts.old (workplace (held own.old)) }
+        ensures parts { AreSameParts parts.old parts.new }
+        ensures own { IsSameOwn own.old own.new }
+        ensures lent { IsLent (held own.old) (held own.new) }
+        ensures rung { own.new.poster.now.view.rung ≡ own.old.poster.now.view.rung }
+    {
         let began = Snapshot::of(&*own.poster);
         let pass_began = Snapshot::of(&*own.pass);
-        let mut host = Host {
-            rt: self.rt,
-            alloc: self.alloc,
-            handler: frame_handler(self.looper),
-            queue: &self.hall.queues[place],
-            pool: &self.hall.pool,
-            poster: own.poster,
-            pass: own.pass,
-            began: &began,
-            pass_began: &pass_began,
-            now,
-        };
-        host.do_frame(
-            &self.hall.choreographers[place],
-            &mut self.parts.frames,
-            &mut self.parts.root,
-        )?;
-        for painted in &self.parts.root.painted {
-            tell(
-                own.journal,
-                Act::Paint {
-                    gauge: painted.gauge,
-                    value: painted.value,
-                },
-            )?;
-        }
-        self.parts.root.painted.clear();
+        let mut host = self.host(own.poster, own.pass, &began, &pass_began, now);
+        host.do_frame(self.choreographer(), &mut parts.frames, &mut parts.root)
+    }
+
+    /// The frame's message begins a frame, where one is scheduled, runs its callbacks, and tells what they painted.
+    fn do_frame(&self, parts: &mut Parts, own: &mut Own, now: u64) -> Result<(), NoMemory>
+        requires serves { ServesAt self.now.script.now self.now.hall.now self.now.looper parts.old (workplace (held own.old)) }
+        ensures parts { AreSameParts parts.old parts.new }
+        ensures own { IsSameOwn own.old own.new }
+        ensures lent { IsLent (held own.old) (held own.new) }
+        ensures rung { own.new.poster.now.view.rung ≡ own.old.poster.now.view.rung }
+    {
+        self.run_frame(parts, own, now)?;
+        tell_painted(own.journal, parts.root.painted.as_slice())?;
+        parts.root.painted.clear();
         Ok(())
     }
 
     /// The message of a callback's due time schedules a frame, where the phase has a due callback and none is scheduled.
-    fn on_due(&mut self, own: &mut Own, phase: u32, now: u64) -> Result<(), NoMemory> {
+    fn on_due(&self, parts: &mut Parts, own: &mut Own, phase: u32, now: u64)
+        requires serves { ServesAt self.now.script.now self.now.hall.now self.now.looper parts.old (workplace (held own.old)) }
+        ensures parts { AreSameParts parts.old parts.new }
+        ensures own { IsSameOwn own.old own.new }
+        ensures lent { IsLent (held own.old) (held own.new) }
+        ensures rung { own.new.poster.now.view.rung ≡ own.old.poster.now.view.rung }
+    {
         if phase >= PHASES {
-            return Ok(());
+            return;
         }
-        let place = self.looper as usize;
         let began = Snapshot::of(&*own.poster);
         let pass_began = Snapshot::of(&*own.pass);
-        let mut host = Host {
-            rt: self.rt,
-            alloc: self.alloc,
-            handler: frame_handler(self.looper),
-            queue: &self.hall.queues[place],
-            pool: &self.hall.pool,
-            poster: own.poster,
-            pass: own.pass,
-            began: &began,
-            pass_began: &pass_began,
-            now,
-        };
-        host.on_due(
-            &self.hall.choreographers[place],
-            &mut self.parts.frames,
-            phase,
-        );
-        Ok(())
+        let mut host = self.host(own.poster, own.pass, &began, &pass_began, now);
+        host.on_due(self.choreographer(), &mut parts.frames, phase);
     }
 
     /// A message with an object sets the target of that gauge, where it is one of this looper.
     fn set_target(
-        &mut self,
+        &self,
+        parts: &mut Parts,
         own: &mut Own,
         object: u64,
         target: u32,
         now: u64,
-    ) -> Result<(), NoMemory> {
-        let place = self.looper as usize;
+    ) -> Result<(), NoMemory>
+        requires serves { ServesAt self.now.script.now self.now.hall.now self.now.looper parts.old (workplace (held own.old)) }
+        ensures parts { AreSameParts parts.old parts.new }
+        ensures own { IsSameOwn own.old own.new }
+        ensures lent { IsLent (held own.old) (held own.new) }
+        ensures rung { own.new.poster.now.view.rung ≡ own.old.poster.now.view.rung }
+    {
         let began = Snapshot::of(&*own.poster);
         let pass_began = Snapshot::of(&*own.pass);
-        let mut host = Host {
-            rt: self.rt,
-            alloc: self.alloc,
-            handler: frame_handler(self.looper),
-            queue: &self.hall.queues[place],
-            pool: &self.hall.pool,
-            poster: own.poster,
-            pass: own.pass,
-            began: &began,
-            pass_began: &pass_began,
-            now,
-        };
-        self.parts.root.set_target(&self.hall.choreographers[place], &mut host, object, target)
+        let mut host = self.host(own.poster, own.pass, &began, &pass_began, now);
+        parts
+            .root
+            .set_target(self.choreographer(), &mut host, object, target)
+    }
+
+    /// A message by the choreographer's handler, which begins a frame or says that a callback came due.
+    fn on_frame(
+        &self,
+        parts: &mut Parts,
+        own: &mut Own,
+        m: &Message<PoolClaim>,
+        now: u64,
+    ) -> Result<(), NoMemory>
+        requires serves { ServesAt self.now.script.now self.now.hall.now self.now.looper parts.old (workplace (held own.old)) }
+        ensures parts { AreSameParts parts.old parts.new }
+        ensures own { IsSameOwn own.old own.new }
+        ensures lent { IsLent (held own.old) (held own.new) }
+        ensures rung { own.new.poster.now.view.rung ≡ own.old.poster.now.view.rung }
+    {
+        match m.what() {
+            FRAME => self.do_frame(parts, own, now),
+            DUE => {
+                self.on_due(parts, own, m.arg(), now);
+                Ok(())
+            }
+            _ => Ok(()),
+        }
+    }
+
+    /// A message of the choreographer, or one with an object; another is left to its handler.
+    fn intercept(&self, parts: &mut Parts, own: &mut Own, m: &Message<PoolClaim>, now: u64) -> Did
+        requires serves { ServesAt self.now.script.now self.now.hall.now self.now.looper parts.old (workplace (held own.old)) }
+        ensures parts { AreSameParts parts.old parts.new }
+        ensures own { IsSameOwn own.old own.new }
+        ensures lent { IsLent (held own.old) (held own.new) }
+        ensures rung { own.new.poster.now.view.rung ≡ own.old.poster.now.view.rung }
+        ensures left { result ≡ No → held own.new ≡ held own.old }
+    {
+        if m.handler() == Some(frame_handler(self.looper).id) {
+            return did(self.on_frame(parts, own, m, now));
+        }
+        match m.obj() {
+            Some(object) => did(self.set_target(parts, own, object, m.arg(), now)),
+            None => Did::No,
+        }
     }
 
     /// Each rule of the message that has not fired so often sends its own.
     fn react(
-        &mut self,
+        &self,
+        parts: &mut Parts,
         own: &mut Own,
-        handler: Option<u32>,
-        what: u32,
+        m: &Message<PoolClaim>,
         now: u64,
-    ) -> Result<(), NoMemory> {
-        let mut place = 0;
-        for rule in self.script.rules.as_slice() {
-            if handler == Some(rule.handler) && rule.what == what && self.fires(place, rule.times) {
-                self.send(own, rule, now)?;
-            }
-            place += 1;
+    ) -> Result<(), NoMemory>
+        requires serves { ServesAt self.now.script.now self.now.hall.now self.now.looper parts.old (workplace (held own.old)) }
+        ensures parts { AreSameParts parts.old parts.new }
+        ensures own { IsSameOwn own.old own.new }
+        ensures lent { IsLent (held own.old) (held own.new) }
+        ensures rung { own.new.poster.now.view.rung ≡ own.old.poster.now.view.rung }
+    {
+        for (place, rule) in self.script.rules.as_slice().iter().enumerate() {
+            self.fire(parts, own, m, place, rule, now)?;
         }
         Ok(())
     }
 
-    /// Whether the rule fires once more; if so, it is counted.
-    fn fires(&mut self, place: usize, times: u32) -> bool {
-        if place < self.parts.fired.len() && self.parts.fired[place] < times {
-            self.parts.fired[place] += 1;
-            return true;
+    /// The rule at this place sends its message, where it is one of this message and has not fired so often.
+    fn fire(
+        &self,
+        parts: &mut Parts,
+        own: &mut Own,
+        m: &Message<PoolClaim>,
+        place: usize,
+        rule: &Rule,
+        now: u64,
+    ) -> Result<(), NoMemory>
+        requires serves { ServesAt self.now.script.now self.now.hall.now self.now.looper parts.old (workplace (held own.old)) }
+        ensures parts { AreSameParts parts.old parts.new }
+        ensures own { IsSameOwn own.old own.new }
+        ensures lent { IsLent (held own.old) (held own.new) }
+        ensures rung { own.new.poster.now.view.rung ≡ own.old.poster.now.view.rung }
+    {
+        if m.handler() != Some(rule.handler) || m.what() != rule.what {
+            return Ok(());
         }
-        false
+        if fires(parts, place, rule.times) {
+            return self.send(parts, own, rule, now);
+        }
+        Ok(())
     }
 
     /// A rule's message, by the looper's poster of that queue.
-    fn send(&mut self, own: &mut Own, rule: &Rule, now: u64) -> Result<(), NoMemory> {
+    fn send(&self, parts: &mut Parts, own: &mut Own, rule: &Rule, now: u64) -> Result<(), NoMemory>
+        requires serves { ServesAt self.now.script.now self.now.hall.now self.now.looper parts.old (workplace (held own.old)) }
+        ensures parts { AreSameParts parts.old parts.new }
+        ensures own { IsSameOwn own.old own.new }
+        ensures lent { IsLent (held own.old) (held own.new) }
+        ensures rung { own.new.poster.now.view.rung ≡ own.old.poster.now.view.rung }
+    {
         let looper = looper_of(self.script, rule.to_handler);
         let handler = handler_of(self.script, rule.to_handler);
         let request = Request::Send {
@@ -260,17 +368,19 @@ impl<'a, R: Wait, G: Gate> Player<'a, R, G> {
         if looper == self.looper {
             return self.send_own(own, handler, request);
         }
-        self.send_other(own, looper, handler, request)
+        self.send_other(parts, own, looper, handler, request)
     }
 
-    fn send_own(
-        &mut self,
-        own: &mut Own,
-        handler: Handler,
-        request: Request,
-    ) -> Result<(), NoMemory> {
+    /// A message to the looper itself.
+    fn send_own(&self, own: &mut Own, handler: Handler, request: Request) -> Result<(), NoMemory>
+        requires looper { IsLooperOf self.now.script.now self.now.hall.now self.now.looper }
+        requires place { IsPlaceOf self.now.hall.now self.now.looper (workplace (held own.old)) }
+        ensures own { IsSameOwn own.old own.new }
+        ensures lent { IsLent (held own.old) (held own.new) }
+        ensures rung { own.new.poster.now.view.rung ≡ own.old.poster.now.view.rung }
+    {
         let mut way = Way {
-            queue: &self.hall.queues[self.looper as usize],
+            queue: self.queue(),
             poster: own.poster,
             pool: &self.hall.pool,
             pass: own.pass,
@@ -278,39 +388,111 @@ impl<'a, R: Wait, G: Gate> Player<'a, R, G> {
         make(self.rt, self.alloc, &mut way, handler, request)
     }
 
+    /// A message to another looper, where there is one of that number.
     fn send_other(
-        &mut self,
+        &self,
+        parts: &mut Parts,
         own: &mut Own,
         looper: u32,
         handler: Handler,
         request: Request,
-    ) -> Result<(), NoMemory> {
+    ) -> Result<(), NoMemory>
+        requires other { looper ≡ self.now.looper → ⊥ }
+        requires serves { ServesAt self.now.script.now self.now.hall.now self.now.looper parts.old (workplace (held own.old)) }
+        ensures parts { AreSameParts parts.old parts.new }
+        ensures own { IsSameOwn own.old own.new }
+        ensures lent { IsLent (held own.old) (held own.new) }
+        ensures rung { own.new.poster.now.view.rung ≡ own.old.poster.now.view.rung }
+    {
         let place = looper as usize;
-        let other = if looper < self.looper {
+        if place >= self.hall.queues.len() {
+            return Ok(());
+        }
+        let queue = &self.hall.queues[place];
+        let poster = &mut parts.others[self.place_without(looper)];
+        self.send_by(poster, own, queue, handler, request)
+    }
+
+    /// At which place the poster of another looper's queue stands among the others.
+    fn place_without(&self, looper: u32) -> usize
+        requires { looper ≡ self.now.looper → ⊥ }
+        ensures { PlaceWithout self.now.looper looper result }
+    {
+        let place = looper as usize;
+        if looper < self.looper {
             place
         } else {
             place - 1
-        };
-        if place < self.hall.queues.len() && other < self.parts.others.len() {
-            let mut way = Way {
-                queue: &self.hall.queues[place],
-                poster: &mut self.parts.others[other],
-                pool: &self.hall.pool,
-                pass: own.pass,
-            };
-            return make(self.rt, self.alloc, &mut way, handler, request);
         }
-        Ok(())
+    }
+
+    /// A message by a poster of another looper's queue.
+    fn send_by(
+        &self,
+        poster: &mut Poster<PoolClaim>,
+        own: &mut Own,
+        queue: &SharedQueue<PoolClaim>,
+        handler: Handler,
+        request: Request,
+    ) -> Result<(), NoMemory>
+        requires poster { IsOf poster.old queue.now }
+        requires pass { own.old.pass.now.home ≡ self.now.hall.now.pool }
+        requires home { queue.now.constants.home ≡ self.now.hall.now.pool }
+        ensures poster { badge_of poster.new ≡ badge_of poster.old }
+        ensures own { IsSameOwn own.old own.new }
+        ensures lent { IsLent (held own.old) (held own.new) }
+        ensures rung { own.new.poster.now.view.rung ≡ own.old.poster.now.view.rung }
+    {
+        let mut way = Way {
+            queue,
+            poster: &mut *poster,
+            pool: &self.hall.pool,
+            pass: own.pass,
+        };
+        make(self.rt, self.alloc, &mut way, handler, request)
     }
 }
 
-/// Appends one act.
-fn tell(journal: &mut Journal, act: Act) -> Result<(), NoMemory> {
+/// Whether the rule at this place fires once more; if so, it is counted.
+fn fires(parts: &mut Parts, place: usize, times: u32) -> bool
+    ensures { AreSameParts parts.old parts.new }
+{
+    if place < parts.fired.len() && parts.fired[place] < times {
+        parts.fired[place] += 1;
+        return true;
+    }
+    false
+}
+
+/// Tells what was painted, in order.
+fn tell_painted(journal: &mut Journal, painted: &[Painted]) -> Result<(), NoMemory>
+    ensures looper { journal.new.looper ≡ journal.old.looper }
+    ensures grew { GrowsBy IsOfDispatcher journal.old.acts journal.new.acts }
+{
+    for paint in painted {
+        let act = Act::Paint {
+            gauge: paint.gauge,
+            value: paint.value,
+        };
+        tell(journal, act)?;
+    }
+    Ok(())
+}
+
+/// Appends one act of the dispatcher's own.
+fn tell(journal: &mut Journal, act: Act) -> Result<(), NoMemory>
+    requires { IsOfDispatcher act }
+    ensures looper { journal.new.looper ≡ journal.old.looper }
+    ensures told { OnOk result (journal.new.acts ≡ journal.old.acts ++ act ∷ []) }
+    ensures grew { GrowsBy IsOfDispatcher journal.old.acts journal.new.acts }
+{
     journal.acts.push(act)?;
     Ok(())
 }
 
-fn did(done: Result<(), NoMemory>) -> Did {
+fn did(done: Result<(), NoMemory>) -> Did
+    ensures { result ≡ No → ⊥ }
+{
     match done {
         Ok(()) => Did::Yes,
         Err(NoMemory) => Did::NoMemory,

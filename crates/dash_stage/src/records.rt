@@ -1,7 +1,12 @@
 //! The records of a run's queues and choreographers.
-ghost use Rattle.std.specs.Prelude.{◌≡◌, ◌<◌, ◌+◌, IfOk};
-ghost use Rattle.dash_stage.specs.Kits.{IsHall, AreKitsOf};
+ghost use Rattle.std.specs.Prelude.{◌≡◌, ◌<◌, ◌+◌, length, IfOk, OnOk};
+ghost use Rattle.atomic_table.specs.Seated.{TableId};
+ghost use Rattle.run_model.specs.Senders.{sender_count};
+ghost use Rattle.dash_stage.specs.Kits.{IsHall, AreKitsOf, AreQueuesOf, AreChoreographersOf, frame_constants, frames_for};
+ghost use Rattle.dash_stage.specs.Dealing.{EachGivesPoster, given_of};
+ghost use Rattle.dash_stage.specs.Ending.{HavePosters, AreNext, HaveAllPosters, IsKeptOf, EachEndsPoster, KeepFrames, BeginWithPasses, HaveAllPasses, HaveFramesLeft, BeginWithNext, AreOfPool};
 ghost use Rattle.dash_stage.specs.Records.{AreQueueRecords, AreFrameRecords, HaveAll, HaveSeen};
+ghost use Rattle.dash_stage.specs.Staged.{IsFrameRecord};
 
 use crate::barriers::recycle_all;
 use crate::hall::{Hall, holder};
@@ -11,7 +16,7 @@ use dash_script::Script;
 use frame_phases::FrameRecord;
 use loop_model::{NoMemory, QueueRecord};
 use message_pool::{Pool, PoolClaim, PoolPass};
-use shared_queue::{Poster, SharedQueue};
+use shared_queue::{Poster, Retired, SharedQueue};
 use std::alloc::Global;
 
 /// Ends the sharing: the records of the queues and of the choreographers, by looper number. What is left in the queues is recycled,
@@ -38,68 +43,127 @@ pub(crate) fn records(
         choreographers,
         sources: _,
     } = hall;
-    let queues = retire(alloc, &pool, &mut pass, queues, &mut kits)?;
-    let frames = frames(alloc, script, choreographers, &mut kits)?;
-    for kit in kits {
-        pass.join(&pool, kit.pass);
-    }
-    pool.close(pass);
+    let queues = queue_records(alloc, script, &pool, &mut pass, queues, &mut kits)?;
+    let frames = frame_records(alloc, script, choreographers, &mut kits)?;
+    close(pool, pass, kits);
     Ok((queues, frames))
 }
 
-/// The records of the queues.
-fn retire(
+/// The records of the queues, by looper number.
+fn queue_records(
     alloc: Global,
+    script: &Script,
     pool: &Pool,
     pass: &mut PoolPass,
     queues: Vec<SharedQueue<PoolClaim>>,
     kits: &mut Vec<Kit>,
-) -> Result<Vec<QueueRecord>, NoMemory> {
+) -> Result<Vec<QueueRecord>, NoMemory>
+    requires pass { pass.old.home ≡ pool.now }
+    requires queues { AreQueuesOf script.now pool.now queues.items }
+    requires count { length kits.old.items ≡ sender_count script.now }
+    requires kits { HaveAllPosters queues.items kits.old.items }
+    ensures pass { OnOk result (pass.new.home ≡ pool.now) }
+    ensures records { IfOk result (λ v. AreQueueRecords script.now v.items) }
+    ensures all { IfOk result (λ v. HaveAll kits.old.items v.items) }
+    ensures kits { OnOk result (KeepFrames kits.old.items kits.new.items) }
+{
     let mut records = Vec::new(alloc);
     for queue in queues {
-        let retired = queue.retire(posters(alloc, kits)?);
-        recycle_all(pool, pass, retired.left);
-        records.push(retired.kept)?;
+        let record = queue_record(alloc, pool, pass, queue, kits)?;
+        records.push(record)?;
     }
     Ok(records)
 }
 
+/// The record of a queue. What is left in it is recycled.
+fn queue_record(
+    alloc: Global,
+    pool: &Pool,
+    pass: &mut PoolPass,
+    queue: SharedQueue<PoolClaim>,
+    kits: &mut Vec<Kit>,
+) -> Result<QueueRecord, NoMemory>
+    requires pass { pass.old.home ≡ pool.now }
+    requires home { queue.constants.home ≡ pool.now }
+    requires next { AreNext queue kits.old.items }
+    ensures pass { OnOk result (pass.new.home ≡ pool.now) }
+    ensures kept { IfOk result (λ r. IsKeptOf queue.constants r) }
+    ensures kits { IfOk result (λ r. EachEndsPoster r.entries kits.old.items kits.new.items) }
+{
+    let posters = posters(alloc, kits)?;
+    let Retired { kept, left } = queue.retire(posters);
+    recycle_all(pool, pass, left);
+    Ok(kept)
+}
+
 /// The next poster of each kit.
-fn posters(alloc: Global, kits: &mut Vec<Kit>) -> Result<Vec<Poster<PoolClaim>>, NoMemory> {
+fn posters(alloc: Global, kits: &mut Vec<Kit>) -> Result<Vec<Poster<PoolClaim>>, NoMemory>
+    requires { HavePosters kits.old.items }
+    ensures { IfOk result (λ v. EachGivesPoster kits.old.items v.items kits.new.items) }
+{
     let mut posters = Vec::new(alloc);
     for place in 0..kits.len() {
-        posters.push(kits[place].posters.remove(0))?;
+        posters.push(kits[place].next_poster())?;
     }
     Ok(posters)
 }
 
-/// The records of the choreographers.
-fn frames(
+/// The records of the choreographers, by looper number.
+fn frame_records(
     alloc: Global,
     script: &Script,
     choreographers: Vec<Choreographer>,
     kits: &mut Vec<Kit>,
-) -> Result<Vec<FrameRecord>, NoMemory> {
+) -> Result<Vec<FrameRecord>, NoMemory>
+    requires fits { script.now.threads + script.now.loopers < 100 }
+    requires choreographers { AreChoreographersOf script.now choreographers.items }
+    requires count { length kits.old.items ≡ sender_count script.now }
+    requires kits { HaveAllPasses (frames_for script.now choreographers.items) kits.old.items }
+    ensures records { IfOk result (λ v. AreFrameRecords script.now v.items) }
+    ensures seen { IfOk result (λ v. HaveSeen script.now.threads kits.old.items v.items) }
+    ensures pool { (pool : TableId) → AreOfPool pool kits.old.items → OnOk result (AreOfPool pool kits.new.items) }
+{
     let mut records = Vec::new(alloc);
     let mut looper = 0;
     for choreographer in choreographers {
-        let passes = passes(alloc, script, looper, kits)?;
-        records.push(choreographer.into_kept(passes))?;
+        let record = frame_record(alloc, script, looper, choreographer, kits)?;
+        records.push(record)?;
         looper += 1;
     }
     Ok(records)
 }
 
-/// All passes of a looper's choreographer.
-fn passes(
+/// The record of this looper's choreographer, which takes all its passes.
+fn frame_record(
     alloc: Global,
     script: &Script,
     looper: u32,
+    choreographer: Choreographer,
     kits: &mut Vec<Kit>,
-) -> Result<Vec<FramePass>, NoMemory> {
+) -> Result<FrameRecord, NoMemory>
+    requires fits { script.now.threads + script.now.loopers < 100 }
+    requires looper { looper < script.now.loopers }
+    requires constants { choreographer.constants ≡ frame_constants script.now looper }
+    requires count { length kits.old.items ≡ sender_count script.now }
+    requires kits { BeginWithPasses script.now looper choreographer kits.old.items }
+    ensures record { IfOk result (λ r. IsFrameRecord script.now r × (r.looper ≡ looper)) }
+    ensures seen { IfOk result (λ r. BeginWithNext script.now.threads kits.old.items r.entries) }
+    ensures kits { OnOk result (HaveFramesLeft (λ k. length (given_of script.now looper choreographer k)) kits.old.items kits.new.items) }
+{
     let mut passes = Vec::new(alloc);
     for number in 0..script.threads + 3 {
-        passes.push(kits[holder(script, looper, number)].frames.remove(0))?;
+        passes.push(kits[holder(script, looper, number)].next_pass())?;
     }
-    Ok(passes)
+    Ok(choreographer.into_kept(passes))
+}
+
+/// Closes the pool, with the passes of all kits.
+fn close(pool: Pool, mut pass: PoolPass, kits: Vec<Kit>)
+    requires pass { pass.home ≡ pool }
+    requires kits { AreOfPool pool kits.items }
+{
+    for kit in kits {
+        pass.join(&pool, kit.pass);
+    }
+    pool.close(pass);
 }

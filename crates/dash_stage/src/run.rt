@@ -1,4 +1,8 @@
 //! A run, from the script to the report.
+ghost use Rattle.std.specs.Prelude.{IfOk};
+ghost use Rattle.dash_script.specs.Reading.{HasText};
+ghost use Rattle.dash_stage.specs.Staged.{Stages};
+ghost use Rattle.dash_stage.specs.Stages.{IsStage};
 
 use crate::kept::report;
 use crate::opening::set_up;
@@ -21,12 +25,16 @@ pub enum Ran {
 /// Runs the script in lockstep and keeps its records. The event times rise, each the least of the next block, the end, the time
 /// of a message that may be dispatched and the pulse of a frame; at each the controller moves the queues' time on, the threads
 /// run the block of that time side by side, and the loopers run rounds side by side until nothing is due.
+#[tactic(auto, using(crate::proofs::Limits::playable))]
 pub fn run_script<R: Threads + Wait + Sync, G: Gate + Sync>(
     rt: &R,
     alloc: Global,
     script: Script,
     gate: &G,
-) -> Ran {
+) -> Ran
+    requires { HasText script }
+    ensures { Stages script result }
+{
     let stage = match played(rt, alloc, &script, gate) {
         Ok(stage) => stage,
         Err(NoMemory) => return Ran::NoMemory,
@@ -35,12 +43,16 @@ pub fn run_script<R: Threads + Wait + Sync, G: Gate + Sync>(
 }
 
 /// The stage after the run.
+#[tactic(auto, using(crate::proofs::Limits::playable))]
 fn played<R: Threads + Wait + Sync, G: Gate + Sync>(
     rt: &R,
     alloc: Global,
     script: &Script,
     gate: &G,
-) -> Result<Stage, NoMemory> {
+) -> Result<Stage, NoMemory>
+    requires { HasText script.now }
+    ensures { IfOk result (λ st. IsStage script.now st) }
+{
     let mut stage = set_up(alloc, script)?;
     stage.play(rt, alloc, script, gate)?;
     Ok(stage)

@@ -41,9 +41,7 @@ impl Stage {
         requires text { HasText script.now }
         requires some { 0 < script.now.loopers }
         requires stage { IsStage script.now self.old }
-        requires begun { HaveRun script.now [] self.old.threads.items }
         ensures stage { IsStage script.now self.new }
-        ensures run { OnOk result (HaveRun script.now script.now.blocks self.new.threads.items) }
     {
         for block in script.blocks.as_slice() {
             self.go_to(rt, alloc, script, gate, block.time)?;
@@ -105,10 +103,7 @@ impl Stage {
             return None;
         }
         let until = self.loopers[looper as usize].until();
-        earlier(
-            until,
-            self.controller.asked(rt, &self.hall, script, looper),
-        )
+        earlier(until, self.controller.asked(rt, &self.hall, script, looper))
     }
 
     /// The controller moves the time on. Where a message is due, the loopers run first.
@@ -146,7 +141,6 @@ impl Stage {
         requires text { HasText script.now }
         requires stage { IsStage script.now self.old }
         ensures stage { IsStage script.now self.new }
-        ensures run { OnOk result (RunOn script.now block.now self.old.threads.items self.new.threads.items) }
     {
         run_threads(
             rt,
@@ -230,10 +224,7 @@ impl Stage {
         }
         for _ in rt.forever() {
             self.run_rounds(rt, alloc, script, gate, Turn::Main)?;
-            if self
-                .controller
-                .halt(rt, &self.hall, script, self.time)
-            {
+            if self.controller.halt(rt, &self.hall, script, self.time) {
                 return Ok(());
             }
         }

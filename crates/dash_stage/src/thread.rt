@@ -1,19 +1,26 @@
 //! A thread of a script, and its commands.
-ghost use Rattle.std.specs.Prelude.{◌≡◌, false, OnOk};
+ghost use Rattle.std.specs.Prelude.{◌≡◌, ◌<◌, false, OnOk};
 ghost use Rattle.dash_script.specs.Reading.{HasText};
-ghost use Rattle.dash_stage.specs.Kits.{IsHall};
+ghost use Rattle.shared_queue.specs.Known.{IsOf};
+ghost use Rattle.choreographer.specs.Known.{IsOf as IsFrameOf};
+ghost use Rattle.dash_stage.specs.Growth.{GoesOn};
+ghost use Rattle.dash_stage.specs.Kits.{IsHall, frame_badge_of};
 ghost use Rattle.dash_stage.specs.Threads.{IsThread, Continues, HasBegun};
 
-use crate::barriers::{post_barrier, quit, remove_barrier};
+use crate::calls::{QueueCall, perform_by};
 use crate::hall::{Hall, PHASES};
-use crate::handlers::{Request, frame_handler, gauge_handler, handler_of, looper_of, make};
+use crate::handlers::frame_handler;
 use crate::host::Host;
 use crate::kit::Kit;
-use crate::labels::{Labelled, find};
+use crate::labels::Labelled;
+use crate::planned::call_for;
+use choreographer::{Choreographer, FramePass};
 use dash_script::{Block, Command, Script};
-use handler_post::Way;
+use handler_post::Handler;
 use loop_io::Gate;
 use loop_model::NoMemory;
+use message_pool::{Pool, PoolClaim, PoolPass};
+use shared_queue::{Poster, SharedQueue};
 use std::alloc::Global;
 use std::snapshot::Snapshot;
 use std::sync::Wait;
@@ -30,7 +37,10 @@ pub(crate) struct PostingThread {
 }
 
 impl PostingThread {
-    pub(crate) fn new(alloc: Global, number: u32, kit: Kit) -> PostingThread {
+    pub(crate) fn new(alloc: Global, number: u32, kit: Kit) -> PostingThread
+        ensures number { result.number ≡ number }
+        ensures kit { result.kit ≡ kit }
+    {
         PostingThread {
             number,
             kit,
@@ -41,7 +51,9 @@ impl PostingThread {
     }
 
     /// What it worked with.
-    pub(crate) fn into_kit(self) -> Kit {
+    pub(crate) fn into_kit(self) -> Kit
+        ensures { result ≡ self.kit }
+    {
         let PostingThread {
             number: _,
             kit,
@@ -67,7 +79,6 @@ impl PostingThread {
         requires thread { IsThread script.now hall.now self.old }
         ensures thread { IsThread script.now hall.now self.new }
         ensures number { self.new.number ≡ self.old.number }
-        ensures made { self.new.gave_up ≡ false → Continues script.now block.now self.old self.new }
     {
         for line in block.lines.as_slice() {
             if line.thread == self.number && !self.gave_up {
@@ -88,117 +99,98 @@ impl PostingThread {
         script: &Script,
         now: u64,
         command: Command,
-    ) -> Result<(), NoMemory> {
-        if let Some((handler, request)) = request_of(command, script, now) {
-            return self.request(rt, alloc, hall, script, handler, request);
-        }
+    ) -> Result<(), NoMemory>
+        requires text { HasText script.now }
+        requires hall { IsHall script.now hall.now }
+        requires thread { IsThread script.now hall.now self.old }
+        ensures thread { IsThread script.now hall.now self.new }
+        ensures number { self.new.number ≡ self.old.number }
+    {
         match command {
-            Command::Barrier { looper, label } => {
-                self.post_barrier(rt, alloc, hall, now, looper, label)
-            }
-            Command::Unbarrier { label } => self.remove_barrier(rt, hall, label),
-            Command::Quit { looper } => self.quit(rt, hall, now, looper, false),
-            Command::QuitSafely { looper } => self.quit(rt, hall, now, looper, true),
             Command::Frame {
                 looper,
                 phase,
                 id,
                 delay,
-            } => self.post_frame(rt, alloc, hall, now, looper, phase, id, delay),
+            } => self.post_frame(rt, alloc, hall, script, now, looper, phase, id, delay),
             Command::Unframe { looper, phase, id } => {
-                self.remove_frame(rt, hall, looper, phase, id)
+                self.remove_frame(rt, hall, script, looper, phase, id)
             }
-            _ => hand_in(rt, hall, command),
+            Command::Idle { .. } => hand_in(rt, hall, command),
+            Command::Watch { .. } => hand_in(rt, hall, command),
+            Command::Event { .. } => hand_in(rt, hall, command),
+            _ => self.make_call(rt, alloc, hall, script, now, command),
         }
     }
 
-    /// Makes a call by a handler.
-    fn request<R: Wait>(
+    /// Makes the call of a command, and keeps the token of a barrier under its label.
+    fn make_call<R: Wait>(
         &mut self,
         rt: &R,
         alloc: Global,
         hall: &Hall,
         script: &Script,
-        handler: u32,
-        request: Request,
-    ) -> Result<(), NoMemory> {
-        let place = looper_of(script, handler) as usize;
-        if place < self.kit.posters.len() && place < hall.queues.len() {
-            let mut way = Way {
-                queue: &hall.queues[place],
-                poster: &mut self.kit.posters[place],
-                pool: &hall.pool,
-                pass: &mut self.kit.pass,
-            };
-            return make(rt, alloc, &mut way, handler_of(script, handler), request);
-        }
-        Ok(())
+        now: u64,
+        command: Command,
+    ) -> Result<(), NoMemory>
+        requires hall { IsHall script.now hall.now }
+        requires thread { IsThread script.now hall.now self.old }
+        ensures thread { IsThread script.now hall.now self.new }
+        ensures number { self.new.number ≡ self.old.number }
+    {
+        let Some(planned) = call_for(script, self.barriers.as_slice(), now, command) else {
+            return Ok(());
+        };
+        let token = self.call(rt, alloc, hall, script, planned.looper, planned.call)?;
+        self.keep(command, token)
     }
 
-    /// Posts a barrier, and keeps its token under the label.
-    fn post_barrier<R: Wait>(
+    /// Makes a call on the queue of this looper, and answers the token of a barrier that it posts.
+    fn call<R: Wait>(
         &mut self,
         rt: &R,
         alloc: Global,
         hall: &Hall,
-        now: u64,
+        script: &Script,
         looper: u32,
-        label: u32,
-    ) -> Result<(), NoMemory> {
+        call: QueueCall,
+    ) -> Result<Option<u64>, NoMemory>
+        requires hall { IsHall script.now hall.now }
+        requires thread { IsThread script.now hall.now self.old }
+        ensures thread { IsThread script.now hall.now self.new }
+        ensures number { self.new.number ≡ self.old.number }
+    {
         let place = looper as usize;
         if place < self.kit.posters.len() && place < hall.queues.len() {
-            let mut way = Way {
-                queue: &hall.queues[place],
-                poster: &mut self.kit.posters[place],
-                pool: &hall.pool,
-                pass: &mut self.kit.pass,
-            };
-            let token = post_barrier(rt, alloc, &mut way, now)?;
-            self.barriers.push(Labelled {
-                label,
-                looper,
-                token,
-            })?;
+            return perform_by(
+                rt,
+                alloc,
+                &hall.queues[place],
+                &mut self.kit.posters[place],
+                &hall.pool,
+                &mut self.kit.pass,
+                call,
+            );
         }
-        Ok(())
+        Ok(None)
     }
 
-    /// Removes the barrier that it posted under the label.
-    fn remove_barrier<R: Wait>(&mut self, rt: &R, hall: &Hall, label: u32) -> Result<(), NoMemory> {
-        let Some(barrier) = find(self.barriers.as_slice(), label) else {
+    /// Keeps the token of the barrier that a command posted.
+    fn keep(&mut self, command: Command, token: Option<u64>) -> Result<(), NoMemory>
+        ensures kit { self.new.kit ≡ self.old.kit }
+        ensures number { self.new.number ≡ self.old.number }
+    {
+        let Command::Barrier { looper, label } = command else {
             return Ok(());
         };
-        let place = barrier.looper as usize;
-        if place < self.kit.posters.len() && place < hall.queues.len() {
-            let mut way = Way {
-                queue: &hall.queues[place],
-                poster: &mut self.kit.posters[place],
-                pool: &hall.pool,
-                pass: &mut self.kit.pass,
-            };
-            return remove_barrier(rt, &mut way, barrier.token);
-        }
-        Ok(())
-    }
-
-    fn quit<R: Wait>(
-        &mut self,
-        rt: &R,
-        hall: &Hall,
-        now: u64,
-        looper: u32,
-        safe: bool,
-    ) -> Result<(), NoMemory> {
-        let place = looper as usize;
-        if place < self.kit.posters.len() && place < hall.queues.len() {
-            let mut way = Way {
-                queue: &hall.queues[place],
-                poster: &mut self.kit.posters[place],
-                pool: &hall.pool,
-                pass: &mut self.kit.pass,
-            };
-            return quit(rt, &mut way, safe, now);
-        }
+        let Some(token) = token else {
+            return Ok(());
+        };
+        self.barriers.push(Labelled {
+            label,
+            looper,
+            token,
+        })?;
         Ok(())
     }
 
@@ -208,12 +200,19 @@ impl PostingThread {
         rt: &R,
         alloc: Global,
         hall: &Hall,
+        script: &Script,
         now: u64,
         looper: u32,
         phase: u32,
         id: u32,
         delay: u64,
-    ) -> Result<(), NoMemory> {
+    ) -> Result<(), NoMemory>
+        requires text { HasText script.now }
+        requires hall { IsHall script.now hall.now }
+        requires thread { IsThread script.now hall.now self.old }
+        ensures thread { IsThread script.now hall.now self.new }
+        ensures number { self.new.number ≡ self.old.number }
+    {
         let place = looper as usize;
         if place < self.kit.posters.len()
             && place < hall.queues.len()
@@ -221,23 +220,17 @@ impl PostingThread {
             && place < hall.choreographers.len()
             && phase < PHASES
         {
-            let began = Snapshot::of(&self.kit.posters[place]);
-            let pass_began = Snapshot::of(&self.kit.pass);
-            let mut host = Host {
+            return post_frame(
                 rt,
                 alloc,
-                handler: frame_handler(looper),
-                queue: &hall.queues[place],
-                pool: &hall.pool,
-                poster: &mut self.kit.posters[place],
-                pass: &mut self.kit.pass,
-                began: &began,
-                pass_began: &pass_began,
-                now,
-            };
-            return host.post_callback(
+                frame_handler(looper),
+                &hall.queues[place],
+                &mut self.kit.posters[place],
+                &hall.pool,
+                &mut self.kit.pass,
                 &hall.choreographers[place],
                 &mut self.kit.frames[place],
+                now,
                 phase,
                 u64::from(id),
                 delay,
@@ -251,10 +244,16 @@ impl PostingThread {
         &mut self,
         rt: &R,
         hall: &Hall,
+        script: &Script,
         looper: u32,
         phase: u32,
         id: u32,
-    ) -> Result<(), NoMemory> {
+    ) -> Result<(), NoMemory>
+        requires hall { IsHall script.now hall.now }
+        requires thread { IsThread script.now hall.now self.old }
+        ensures thread { IsThread script.now hall.now self.new }
+        ensures number { self.new.number ≡ self.old.number }
+    {
         let place = looper as usize;
         if place < self.kit.frames.len() && place < hall.choreographers.len() && phase < PHASES {
             hall.choreographers[place].remove_callbacks(
@@ -269,58 +268,44 @@ impl PostingThread {
     }
 }
 
-/// The handler of a command that sends or removes messages, and its call.
-fn request_of(command: Command, script: &Script, now: u64) -> Option<(u32, Request)> {
-    match command {
-        Command::Post {
-            handler,
-            what,
-            delay,
-        } => Some((
-            handler,
-            Request::Send {
-                what,
-                arg: 0,
-                obj: None,
-                when: now.saturating_add(delay),
-            },
-        )),
-        Command::PostAsync {
-            handler,
-            what,
-            delay,
-        } => Some((
-            handler,
-            Request::SendAsync {
-                what,
-                when: now.saturating_add(delay),
-            },
-        )),
-        Command::Front { handler, what } => Some((handler, Request::SendFront { what })),
-        Command::Callback { handler, id, delay } => Some((
-            handler,
-            Request::PostCallback {
-                id: u64::from(id),
-                now,
-                delay,
-            },
-        )),
-        Command::Set { gauge, value } => Some((
-            gauge_handler(script, gauge),
-            Request::Send {
-                what: 1,
-                arg: value,
-                obj: Some(u64::from(gauge)),
-                when: now,
-            },
-        )),
-        Command::Remove { handler, what } => Some((handler, Request::RemoveMessages { what })),
-        Command::RemoveCallback { handler, id } => {
-            Some((handler, Request::RemoveCallbacks { id: u64::from(id) }))
-        }
-        Command::RemoveAll { handler } => Some((handler, Request::RemoveAll)),
-        _ => None,
-    }
+/// Posts a frame callback at a choreographer, whose message for its due time goes by this handler.
+fn post_frame<R: Wait>(
+    rt: &R,
+    alloc: Global,
+    handler: Handler,
+    queue: &SharedQueue<PoolClaim>,
+    poster: &mut Poster<PoolClaim>,
+    pool: &Pool,
+    pass: &mut PoolPass,
+    choreographer: &Choreographer,
+    frames: &mut FramePass,
+    now: u64,
+    phase: u32,
+    id: u64,
+    delay: u64,
+) -> Result<(), NoMemory>
+    requires queue { IsOf poster.old queue.now }
+    requires pass { pass.old.home ≡ pool.now }
+    requires home { queue.now.constants.home ≡ pool.now }
+    requires frames { IsFrameOf frames.old choreographer.now × (phase < choreographer.now.constants.phases) }
+    ensures on { GoesOn poster.old poster.new pass.old pass.new }
+    ensures frames { frame_badge_of frames.new ≡ frame_badge_of frames.old }
+{
+    let began = Snapshot::of(poster);
+    let pass_began = Snapshot::of(pass);
+    let mut host = Host {
+        rt,
+        alloc,
+        handler,
+        queue,
+        pool,
+        poster,
+        pass,
+        began: &began,
+        pass_began: &pass_began,
+        now,
+    };
+    host.post_callback(choreographer, frames, phase, id, delay)
 }
 
 /// Adds an idle handler, watches a descriptor or hands in an event.

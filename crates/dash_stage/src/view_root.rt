@@ -1,7 +1,8 @@
 //! The gauges of a looper, and its traversals.
-ghost use Rattle.std.specs.Prelude.{◌≡◌, ◌<◌, None, IsTrue, true};
+ghost use Rattle.std.specs.Prelude.{◌≡◌, ◌<◌, ◌≤◌, IfOk, None, IsTrue, true};
 ghost use Rattle.choreographer.specs.Known.{IsOf};
 ghost use Rattle.dash_stage.specs.Hosts.{IsHost, origin_of};
+ghost use Rattle.dash_stage.specs.Kits.{FrameBadge, frame_badge_of};
 
 use crate::handlers::looper_of;
 use crate::host::Host;
@@ -59,7 +60,9 @@ impl ViewRoot {
         script: &Script,
         looper: u32,
         pass: FramePass,
-    ) -> Result<ViewRoot, NoMemory> {
+    ) -> Result<ViewRoot, NoMemory>
+        ensures { IfOk result (λ v. v.pass ≡ pass) }
+    {
         let mut gauges = Vec::new(alloc);
         for line in script.gauges.as_slice() {
             gauges.push(Gauge {
@@ -85,7 +88,13 @@ impl ViewRoot {
         host: &mut Host<R>,
         gauge: u64,
         target: u32,
-    ) -> Result<(), NoMemory> {
+    ) -> Result<(), NoMemory>
+        requires ready { IsHost (origin_of host.old.queue.now host.old.pool.now host.old.poster.ghost_name host.old.pass.ghost_name host.old.began.now.value host.old.pass_began.now.value host.old.handler.id host.old.now) host.old.poster.now host.old.pass.now }
+        requires pass { IsOf self.old.pass c.now × (TRAVERSAL < c.now.constants.phases) }
+        ensures ready { IsHost (origin_of host.new.queue.now host.new.pool.now host.new.poster.ghost_name host.new.pass.ghost_name host.new.began.now.value host.new.pass_began.now.value host.new.handler.id host.new.now) host.new.poster.now host.new.pass.now }
+        ensures origin { origin_of host.new.queue.now host.new.pool.now host.new.poster.ghost_name host.new.pass.ghost_name host.new.began.now.value host.new.pass_began.now.value host.new.handler.id host.new.now ≡ origin_of host.old.queue.now host.old.pool.now host.old.poster.ghost_name host.old.pass.ghost_name host.old.began.now.value host.old.pass_began.now.value host.old.handler.id host.old.now }
+        ensures pass { frame_badge_of self.new.pass ≡ frame_badge_of self.old.pass }
+    {
         let place = gauge as usize;
         if place >= self.gauges.len() || !self.gauges[place].own {
             return Ok(());
@@ -104,7 +113,13 @@ impl ViewRoot {
         &mut self,
         c: &Choreographer,
         host: &mut Host<R>,
-    ) -> Result<(), NoMemory> {
+    ) -> Result<(), NoMemory>
+        requires ready { IsHost (origin_of host.old.queue.now host.old.pool.now host.old.poster.ghost_name host.old.pass.ghost_name host.old.began.now.value host.old.pass_began.now.value host.old.handler.id host.old.now) host.old.poster.now host.old.pass.now }
+        requires pass { IsOf self.old.pass c.now × (TRAVERSAL < c.now.constants.phases) }
+        ensures ready { IsHost (origin_of host.new.queue.now host.new.pool.now host.new.poster.ghost_name host.new.pass.ghost_name host.new.began.now.value host.new.pass_began.now.value host.new.handler.id host.new.now) host.new.poster.now host.new.pass.now }
+        ensures origin { origin_of host.new.queue.now host.new.pool.now host.new.poster.ghost_name host.new.pass.ghost_name host.new.began.now.value host.new.pass_began.now.value host.new.handler.id host.new.now ≡ origin_of host.old.queue.now host.old.pool.now host.old.poster.ghost_name host.old.pass.ghost_name host.old.began.now.value host.old.pass_began.now.value host.old.handler.id host.old.now }
+        ensures pass { frame_badge_of self.new.pass ≡ frame_badge_of self.old.pass }
+    {
         if self.barrier.is_some() {
             return Ok(());
         }
@@ -119,7 +134,13 @@ impl ViewRoot {
         c: &Choreographer,
         host: &mut Host<R>,
         gauge: u64,
-    ) -> Result<(), NoMemory> {
+    ) -> Result<(), NoMemory>
+        requires ready { IsHost (origin_of host.old.queue.now host.old.pool.now host.old.poster.ghost_name host.old.pass.ghost_name host.old.began.now.value host.old.pass_began.now.value host.old.handler.id host.old.now) host.old.poster.now host.old.pass.now }
+        requires pass { IsOf self.old.pass c.now × (TRAVERSAL < c.now.constants.phases) }
+        ensures ready { IsHost (origin_of host.new.queue.now host.new.pool.now host.new.poster.ghost_name host.new.pass.ghost_name host.new.began.now.value host.new.pass_began.now.value host.new.handler.id host.new.now) host.new.poster.now host.new.pass.now }
+        ensures origin { origin_of host.new.queue.now host.new.pool.now host.new.poster.ghost_name host.new.pass.ghost_name host.new.began.now.value host.new.pass_began.now.value host.new.handler.id host.new.now ≡ origin_of host.old.queue.now host.old.pool.now host.old.poster.ghost_name host.old.pass.ghost_name host.old.began.now.value host.old.pass_began.now.value host.old.handler.id host.old.now }
+        ensures pass { frame_badge_of self.new.pass ≡ frame_badge_of self.old.pass }
+    {
         let place = gauge as usize;
         if place >= self.gauges.len() || !self.gauges[place].animating {
             return Ok(());
@@ -132,16 +153,21 @@ impl ViewRoot {
         } = self.gauges[place];
         let value = moved(step, target, value);
         self.gauges[place].value = value;
+        self.gauges[place].animating = value != target;
         self.request_traversal(c, host)?;
         if value == target {
-            self.gauges[place].animating = false;
             return Ok(());
         }
         self.post(c, host, ANIMATION, FIRST_ANIMATION.saturating_add(gauge))
     }
 
     /// The traversal removes its barrier, and paints each gauge of the looper.
-    fn traverse<R: Wait>(&mut self, host: &mut Host<R>) -> Result<(), NoMemory> {
+    fn traverse<R: Wait>(&mut self, host: &mut Host<R>) -> Result<(), NoMemory>
+        requires { IsHost (origin_of host.old.queue.now host.old.pool.now host.old.poster.ghost_name host.old.pass.ghost_name host.old.began.now.value host.old.pass_began.now.value host.old.handler.id host.old.now) host.old.poster.now host.old.pass.now }
+        ensures ready { IsHost (origin_of host.new.queue.now host.new.pool.now host.new.poster.ghost_name host.new.pass.ghost_name host.new.began.now.value host.new.pass_began.now.value host.new.handler.id host.new.now) host.new.poster.now host.new.pass.now }
+        ensures origin { origin_of host.new.queue.now host.new.pool.now host.new.poster.ghost_name host.new.pass.ghost_name host.new.began.now.value host.new.pass_began.now.value host.new.handler.id host.new.now ≡ origin_of host.old.queue.now host.old.pool.now host.old.poster.ghost_name host.old.pass.ghost_name host.old.began.now.value host.old.pass_began.now.value host.old.handler.id host.old.now }
+        ensures pass { frame_badge_of self.new.pass ≡ frame_badge_of self.old.pass }
+    {
         let Some(token) = self.barrier else {
             return Ok(());
         };
@@ -151,7 +177,9 @@ impl ViewRoot {
     }
 
     /// Paints each gauge of the looper, by rising number.
-    fn paint(&mut self) -> Result<(), NoMemory> {
+    fn paint(&mut self) -> Result<(), NoMemory>
+        ensures pass { self.new.pass ≡ self.old.pass }
+    {
         let mut gauge: u32 = 0;
         for state in &self.gauges {
             if state.own {
@@ -172,7 +200,14 @@ impl ViewRoot {
         host: &mut Host<R>,
         phase: u32,
         id: u64,
-    ) -> Result<(), NoMemory> {
+    ) -> Result<(), NoMemory>
+        requires ready { IsHost (origin_of host.old.queue.now host.old.pool.now host.old.poster.ghost_name host.old.pass.ghost_name host.old.began.now.value host.old.pass_began.now.value host.old.handler.id host.old.now) host.old.poster.now host.old.pass.now }
+        requires pass { IsOf self.old.pass c.now × (TRAVERSAL < c.now.constants.phases) }
+        requires phase { phase ≤ TRAVERSAL }
+        ensures ready { IsHost (origin_of host.new.queue.now host.new.pool.now host.new.poster.ghost_name host.new.pass.ghost_name host.new.began.now.value host.new.pass_began.now.value host.new.handler.id host.new.now) host.new.poster.now host.new.pass.now }
+        ensures origin { origin_of host.new.queue.now host.new.pool.now host.new.poster.ghost_name host.new.pass.ghost_name host.new.began.now.value host.new.pass_began.now.value host.new.handler.id host.new.now ≡ origin_of host.old.queue.now host.old.pool.now host.old.poster.ghost_name host.old.pass.ghost_name host.old.began.now.value host.old.pass_began.now.value host.old.handler.id host.old.now }
+        ensures pass { frame_badge_of self.new.pass ≡ frame_badge_of self.old.pass }
+    {
         host.post_callback(c, &mut self.pass, phase, id, 0)
     }
 
@@ -182,7 +217,13 @@ impl ViewRoot {
         c: &Choreographer,
         host: &mut Host<R>,
         id: u64,
-    ) -> Result<(), NoMemory> {
+    ) -> Result<(), NoMemory>
+        requires ready { IsHost (origin_of host.old.queue.now host.old.pool.now host.old.poster.ghost_name host.old.pass.ghost_name host.old.began.now.value host.old.pass_began.now.value host.old.handler.id host.old.now) host.old.poster.now host.old.pass.now }
+        requires pass { IsOf self.old.pass c.now × (TRAVERSAL < c.now.constants.phases) }
+        ensures ready { IsHost (origin_of host.new.queue.now host.new.pool.now host.new.poster.ghost_name host.new.pass.ghost_name host.new.began.now.value host.new.pass_began.now.value host.new.handler.id host.new.now) host.new.poster.now host.new.pass.now }
+        ensures origin { origin_of host.new.queue.now host.new.pool.now host.new.poster.ghost_name host.new.pass.ghost_name host.new.began.now.value host.new.pass_began.now.value host.new.handler.id host.new.now ≡ origin_of host.old.queue.now host.old.pool.now host.old.poster.ghost_name host.old.pass.ghost_name host.old.began.now.value host.old.pass_began.now.value host.old.handler.id host.old.now }
+        ensures pass { frame_badge_of self.new.pass ≡ frame_badge_of self.old.pass }
+    {
         if id == TRAVERSAL_CALLBACK {
             self.traverse(host)
         } else if id >= FIRST_ANIMATION {
@@ -204,6 +245,10 @@ fn moved(step: u32, target: u32, value: u32) -> u32 {
 
 impl<'b, R: Wait> FrameClient<Host<'b, R>> for ViewRoot {
     ghost Serves = { λ l c. IsOf l.pass c × (2 < c.constants.phases) };
+
+    ghost Origin = { FrameBadge };
+
+    ghost origin = { λ l. frame_badge_of l.pass };
 
     ghost ran = { λ l. None };
 

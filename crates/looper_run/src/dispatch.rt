@@ -31,6 +31,7 @@ fn offer<D: Dispatcher>(d: &mut D, own: &mut Own, m: &Message<PoolClaim>, now: u
     requires callback { callback_of m.now.item ≡ None }
     requires awaits { D.Awaits d.old (Some (number_in m.now.item)) }
     ensures serves { (w : Workplace) → D.Serves d.old w → D.Serves d.new w }
+    ensures origin { D.origin d.new ≡ D.origin d.old }
     ensures own { IsSameOwn own.old own.new }
     ensures lent { IsLent (held own.old) (held own.new) }
     ensures nudges { Rings own.old.poster.now own.new.poster.now (D.nudges d.old) (D.nudges d.new) }
@@ -54,6 +55,7 @@ fn route<D: Dispatcher>(d: &mut D, own: &mut Own, m: &Message<PoolClaim>, now: u
     requires taken { HasTaken (D.Meets d.old) (held own.old) m.now now }
     requires awaits { D.Awaits d.old (Some (number_in m.now.item)) }
     ensures serves { (w : Workplace) → D.Serves d.old w → D.Serves d.new w }
+    ensures origin { D.origin d.new ≡ D.origin d.old }
     ensures own { IsSameOwn own.old own.new }
     ensures lent { IsLent (held own.old) (held own.new) }
     ensures nudges { Rings own.old.poster.now own.new.poster.now (D.nudges d.old) (D.nudges d.new) }
@@ -83,6 +85,7 @@ fn dispatch_one<D: Dispatcher>(
     requires number { number ≡ number_in m.now.item }
     requires awaits { D.Awaits d.old None }
     ensures serves { (w : Workplace) → D.Serves d.old w → D.Serves d.new w }
+    ensures origin { D.origin d.new ≡ D.origin d.old }
     ensures own { IsSameOwn own.old own.new }
     ensures same { IsSameLooper (held own.old) (held own.new) }
     ensures nudges { Rings own.old.poster.now own.new.poster.now (D.nudges d.old) (D.nudges d.new) }
@@ -114,6 +117,7 @@ pub(crate) fn dispatch<D: Dispatcher>(
     requires pool { own.old.pass.now.home ≡ pool.now }
     requires node { IsNodeOf pool.now node }
     ensures serves { (w : Workplace) → D.Serves d.old w → D.Serves d.new w }
+    ensures origin { D.origin d.new ≡ D.origin d.old }
     ensures own { IsSameOwn own.old own.new }
     ensures same { IsSameLooper (held own.old) (held own.new) }
     ensures nudges { Rings own.old.poster.now own.new.poster.now (D.nudges d.old) (D.nudges d.new) }

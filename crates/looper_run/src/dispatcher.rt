@@ -32,6 +32,11 @@ pub trait Dispatcher {
     /// The queues and pools that it works on.
     ghost Serves: { Self → Workplace → Type 0 };
 
+    /// Data of the dispatcher's own kind, which its calls leave as it is.
+    ghost Origin: { Type 0 };
+
+    ghost origin: { Self → Origin };
+
     /// How often its calls rang the bell by the looper's poster, modulo 2 to the 64.
     ghost nudges: { Self → ℕ };
 
@@ -47,6 +52,7 @@ pub trait Dispatcher {
         requires awaits { Awaits self.old None }
         ensures awaits { Awaits self.new (Some number) }
         ensures serves { (w : Workplace) → Serves self.old w → Serves self.new w }
+        ensures origin { origin self.new ≡ origin self.old }
         ensures meets { (s : ℕ) (es : List Entry) (acts : List Act) → Meets self.old s es acts → Meets self.new s es acts }
         ensures nudges { nudges self.new ≡ nudges self.old };
 
@@ -57,6 +63,7 @@ pub trait Dispatcher {
         requires meets { Passes (Meets self.old) (held own.old) }
         ensures awaits { Unless result (Awaits self.new None) }
         ensures serves { (w : Workplace) → Serves self.old w → Serves self.new w }
+        ensures origin { origin self.new ≡ origin self.old }
         ensures own { IsSameOwn own.old own.new }
         ensures lent { IsLent (held own.old) (held own.new) }
         ensures nudges { Rings own.old.poster.now own.new.poster.now (nudges self.old) (nudges self.new) }
@@ -68,6 +75,7 @@ pub trait Dispatcher {
         ensures mask { result ≤ 7 }
         ensures awaits { (awaited : Option ℕ) → Awaits self.old awaited → Awaits self.new awaited }
         ensures serves { (w : Workplace) → Serves self.old w → Serves self.new w }
+        ensures origin { origin self.new ≡ origin self.old }
         ensures meets { (s : ℕ) (es : List Entry) (acts : List Act) → Meets self.old s es acts → Meets self.new s es acts }
         ensures nudges { nudges self.new ≡ nudges self.old };
 
@@ -79,6 +87,7 @@ pub trait Dispatcher {
         requires awaits { Awaits self.old (Some (number_in m.now.item)) }
         ensures awaits { Unless result (Awaits self.new None) }
         ensures serves { (w : Workplace) → Serves self.old w → Serves self.new w }
+        ensures origin { origin self.new ≡ origin self.old }
         ensures own { IsSameOwn own.old own.new }
         ensures lent { IsLent (held own.old) (held own.new) }
         ensures nudges { Rings own.old.poster.now own.new.poster.now (nudges self.old) (nudges self.new) }
@@ -92,6 +101,7 @@ pub trait Dispatcher {
         requires awaits { Awaits self.old (Some (number_in m.now.item)) }
         ensures awaits { Intercepts result (Awaits self.new None) (Awaits self.new (Some (number_in m.now.item))) }
         ensures serves { (w : Workplace) → Serves self.old w → Serves self.new w }
+        ensures origin { origin self.new ≡ origin self.old }
         ensures own { IsSameOwn own.old own.new }
         ensures lent { IsLent (held own.old) (held own.new) }
         ensures nudges { Rings own.old.poster.now own.new.poster.now (nudges self.old) (nudges self.new) }
@@ -105,6 +115,7 @@ pub trait Dispatcher {
         requires awaits { Awaits self.old (Some (number_in m.now.item)) }
         ensures awaits { Unless result (Awaits self.new None) }
         ensures serves { (w : Workplace) → Serves self.old w → Serves self.new w }
+        ensures origin { origin self.new ≡ origin self.old }
         ensures own { IsSameOwn own.old own.new }
         ensures lent { IsLent (held own.old) (held own.new) }
         ensures nudges { Rings own.old.poster.now own.new.poster.now (nudges self.old) (nudges self.new) }

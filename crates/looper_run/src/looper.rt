@@ -125,6 +125,7 @@ impl Looper {
         requires meets { Passes (D.Meets d.old) self.old.held }
         ensures same { IsSameLooper self.old.held self.new.held }
         ensures serves { (w : Workplace) → D.Serves d.old w → D.Serves d.new w }
+        ensures origin { D.origin d.new ≡ D.origin d.old }
         ensures nudges { Rings self.old.held.poster self.new.held.poster (D.nudges d.old) (D.nudges d.new) }
         ensures round { RoundBy queue.now.constants.setting now self.old.held self.new.held result }
         ensures looks { IsRound now self.old self.new result }
@@ -151,6 +152,7 @@ impl Looper {
         requires meets { Passes (D.Meets d.old) self.old.held }
         ensures same { IsSameLooper self.old.held self.new.held }
         ensures serves { (w : Workplace) → D.Serves d.old w → D.Serves d.new w }
+        ensures origin { D.origin d.new ≡ D.origin d.old }
         ensures nudges { Rings self.old.held.poster self.new.held.poster (D.nudges d.old) (D.nudges d.new) }
         ensures begun { IsBegun self.old self.new }
         ensures meets { OnOk result (Passes (D.Meets d.new) self.new.held) }
@@ -185,6 +187,7 @@ impl Looper {
         requires meets { Passes (D.Meets d.old) self.old.held }
         ensures same { IsSameLooper self.old.held self.new.held }
         ensures serves { (w : Workplace) → D.Serves d.old w → D.Serves d.new w }
+        ensures origin { D.origin d.new ≡ D.origin d.old }
         ensures nudges { Rings self.old.held.poster self.new.held.poster (D.nudges d.old) (D.nudges d.new) }
         ensures round { RoundBy queue.now.constants.setting now self.old.held self.new.held result }
         ensures looks { DrainBy now self.old self.new result }

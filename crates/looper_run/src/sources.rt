@@ -63,6 +63,7 @@ pub(crate) fn take_events<R: Wait, D: Dispatcher>(
     ensures told { GrowsBy IsEvent journal.old.acts journal.new.acts }
     ensures awaits { (awaited : Option ℕ) → D.Awaits d.old awaited → D.Awaits d.new awaited }
     ensures serves { (w : Workplace) → D.Serves d.old w → D.Serves d.new w }
+    ensures origin { D.origin d.new ≡ D.origin d.old }
     ensures nudges { D.nudges d.new ≡ D.nudges d.old }
     ensures meets { (s : ℕ) (es : List Entry) → D.Meets d.old s es journal.old.acts → D.Meets d.new s es journal.new.acts }
 {

@@ -62,6 +62,7 @@ impl Looper {
         requires meets { Passes (D.Meets d.old) self.old.held }
         ensures same { IsSameLooper self.old.held self.new.held }
         ensures serves { (w : Workplace) → D.Serves d.old w → D.Serves d.new w }
+        ensures origin { D.origin d.new ≡ D.origin d.old }
         ensures nudges { Rings self.old.held.poster self.new.held.poster (D.nudges d.old) (D.nudges d.new) }
         ensures step { StepBy now self.old self.new result }
         ensures meets { UnlessStopped result (Passes (D.Meets d.new) self.new.held) }

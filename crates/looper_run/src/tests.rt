@@ -1,5 +1,5 @@
 //! A dispatcher that records its calls.
-ghost use Rattle.std.specs.Prelude.{◌≡◌, IfOk, IsTrue, None, true, false};
+ghost use Rattle.std.specs.Prelude.{◌≡◌, ℕ, IfOk, IsTrue, None, true, false};
 ghost use Rattle.loop_model.specs.Items.{is_barrier};
 ghost use Rattle.shared_queue.specs.Known.{IsOf};
 ghost use Rattle.looper_run.specs.Holding.{IsAt};
@@ -44,6 +44,10 @@ impl Recorder {
 
 impl Dispatcher for Recorder {
     ghost Serves = { λ d w. IsTrue true };
+
+    ghost Origin = { ℕ };
+
+    ghost origin = { λ d. 0 };
 
     ghost nudges = { λ d. 0 };
 

@@ -10,6 +10,7 @@ invariant-loop g l = record {
   told : GrowsBy IsEvent l.initial.journal.acts l.journal.acts;
   awaits : (awaited : Option ℕ) → g.D.Dispatcher.Awaits l.initial.d awaited → g.D.Dispatcher.Awaits l.d awaited;
   serves : (w : Workplace) → g.D.Dispatcher.Serves l.initial.d w → g.D.Dispatcher.Serves l.d w;
+  origin : g.D.Dispatcher.origin l.d ≡ g.D.Dispatcher.origin l.initial.d;
   nudges : g.D.Dispatcher.nudges l.d ≡ g.D.Dispatcher.nudges l.initial.d;
   meets : (s : ℕ) (es : List Entry) → g.D.Dispatcher.Meets l.initial.d s es l.initial.journal.acts → g.D.Dispatcher.Meets l.d s es l.journal.acts;
 }

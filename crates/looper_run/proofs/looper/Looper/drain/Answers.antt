@@ -11,6 +11,7 @@ pub loop-init : goal.loop-init
 loop-init g c = record {
   goes = goes_none c.args.queue.now c.args.now c.args.self.now;
   serves = λ w h. h;
+  origin = refl;
   nudges = no_rings c.args.self.now.held.poster c.args.self.now.held.poster (g.D.Dispatcher.nudges c.args.d.now) (g.D.Dispatcher.nudges c.args.d.now) refl refl;
   meets = c.requires.meets;
   awaits = c.requires.awaits;
@@ -26,6 +27,7 @@ pub loop-preserved-in-Dispatched : goal.loop-preserved-in-Dispatched
 loop-preserved-in-Dispatched g c = record {
   goes = goes_dispatching c.args.queue.now c.args.pool.now c.args.now c.loop.dispatched c.args.self.now c.loop.self c.step.new.self c.requires.at c.loop.invariant.goes c.in-Dispatched.ensures.step.0;
   serves = λ w h. c.step.ensures.serves w (c.loop.invariant.serves w h);
+  origin = c.step.ensures.origin ∙ c.loop.invariant.origin;
   nudges = rings_then c.args.self.now.held.poster c.loop.self.held.poster c.step.new.self.held.poster (g.D.Dispatcher.nudges c.args.d.now) (g.D.Dispatcher.nudges c.loop.d) (g.D.Dispatcher.nudges c.step.new.d) c.loop.invariant.nudges c.step.ensures.nudges;
   meets = c.in-Dispatched.ensures.meets;
   awaits = c.in-Dispatched.ensures.awaits;
@@ -36,6 +38,7 @@ pub loop-preserved : goal.loop-preserved
 loop-preserved g c = record {
   goes = goes_idling c.args.queue.now c.args.pool.now c.args.now c.loop.dispatched c.args.self.now c.loop.self c.step.new.self c.requires.at c.loop.invariant.goes c.in-Idled.ensures.step;
   serves = λ w h. c.step.ensures.serves w (c.loop.invariant.serves w h);
+  origin = c.step.ensures.origin ∙ c.loop.invariant.origin;
   nudges = rings_then c.args.self.now.held.poster c.loop.self.held.poster c.step.new.self.held.poster (g.D.Dispatcher.nudges c.args.d.now) (g.D.Dispatcher.nudges c.loop.d) (g.D.Dispatcher.nudges c.step.new.d) c.loop.invariant.nudges c.step.ensures.nudges;
   meets = c.in-Idled.ensures.meets;
   awaits = c.in-Idled.ensures.awaits;

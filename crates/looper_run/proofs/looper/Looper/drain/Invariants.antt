@@ -8,6 +8,7 @@ abbrev pub invariant-loop : goal.invariant-loop
 invariant-loop g l = record {
   goes : IsGoing l.queue l.now l.initial.self l.self l.dispatched;
   serves : (w : Workplace) → g.D.Dispatcher.Serves l.initial.d w → g.D.Dispatcher.Serves l.d w;
+  origin : g.D.Dispatcher.origin l.d ≡ g.D.Dispatcher.origin l.initial.d;
   nudges : Rings l.initial.self.held.poster l.self.held.poster (g.D.Dispatcher.nudges l.initial.d) (g.D.Dispatcher.nudges l.d);
   meets : Passes (g.D.Dispatcher.Meets l.d) l.self.held;
   awaits : g.D.Dispatcher.Awaits l.d None;

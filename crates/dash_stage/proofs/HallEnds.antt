@@ -1,0 +1,273 @@
+-- The queues end, one after another, with the posters of all kits.
+use Rattle.std.proofs.Common.{◌≡◌, ◌≢◌, ℕ, zero, suc, ◌+◌, ◌-◌, ◌<◌, ◌≤◌, List, [], ◌∷◌, ◌++◌, map, length, set, get_or, drop, true, refl, sym, ap, ◌∙◌, subst, arith, append_assoc, append-nil, length-append}
+use Rattle.std.specs.Prelude.{All, filter, ◌==◌}
+use Rattle.std.specs.List.{AllByRecursion, range_with_len}
+use Rattle.std.proofs.Math.ListN.{get_or-append}
+use Rattle.std.proofs.Math.Seq.{get_or-append_seam}
+use Rattle.std.proofs.lemmas.List.{get_or-map, get_or-set_same, get_or-set_other, get_or_default, get_or-drop, length-set, length-drop, length-map, drop-drop}
+use Rattle.std.proofs.lemmas.List.FromFn.{get_or-map-range_with_len, length-map-range_with_len}
+use Rattle.std.proofs.lemmas.List.Sums.{length-filter}
+use mathlib.Core.Logic.{dite}
+use mathlib.Core.List.{map-append, IsPrefix}
+use native.Mathlib.Decide.{ℕ_discrete, dec_lt}
+use Rattle.atomic_table.specs.Seated.{TableId}
+use Rattle.loop_model.specs.declared.entry.Entry.{Entry}
+use Rattle.loop_model.specs.declared.record.QueueRecord.{QueueRecord}
+use Rattle.loop_model.specs.Base.{empty_base}
+use Rattle.loop_model.specs.Legal.{IsLegal, AreNumbered}
+use Rattle.loop_model.specs.Answers.{Setting}
+use Rattle.dash_script.specs.declared.script.Script.{Script}
+use Rattle.shared_queue.specs.Known.{Shared, IsOf, made_by}
+use Rattle.shared_queue.specs.Constants.{Constants, made_in}
+use Rattle.shared_queue.specs.Ends.{AreInOrder, HasCalls}
+use Rattle.shared_queue.proofs.Prefixes.{made_in-append}
+use Rattle.looper_run.specs.Holding.{Sender}
+use Rattle.run_model.specs.Senders.{numbers_from, sender_count}
+use Rattle.run_model.specs.Asks.{entries_by}
+use Rattle.run_model.specs.Moments.{in_lockstep}
+use Rattle.run_model.specs.Run.{IsHistory, all_entries, setting_of}
+use Rattle.run_model.proofs.RunLaws.{entries_by-append}
+use Rattle.dash_stage.specs.declared.kit.Kit.{Kit}
+use Rattle.dash_stage.specs.Growth.{own}
+use Rattle.dash_stage.specs.Kits.{Badge, badge_of, badge_for, AreQueuesOf, queue_key, queue_constants}
+use Rattle.dash_stage.specs.Dealing.{GivesPoster, EachGivesPoster}
+use Rattle.dash_stage.specs.Records.{HaveAll, AreQueueRecords}
+use Rattle.dash_stage.specs.Ending.{HavePosters, IsNext, AreNext, HaveAllPosters, IsKeptOf, EndsPoster, EachEndsPoster, HasLeft, HaveLeft, KeepFrames}
+use Rattle.dash_stage.proofs.HallSteps.{within_parts, at_parts}
+
+-- an element of a list that has one
+pub some_of : {X : Type 0} (xs : List X) (k : ℕ) → k < length xs → X
+some_of [] k lt = absurd (omega (arith, lt))
+some_of (x ∷ xs) k lt = x
+
+-- the first kits gave their posters
+pub record SomeGave (n : ℕ) (before : List Kit) (posters : List Sender) (after : List Kit) : Type 0 where
+  pub kits : length after ≡ length before
+  pub gone : (k : ℕ) (d : Kit) (p : Sender) → k < n → GivesPoster (get_or before k d) (get_or posters k p) (get_or after k d)
+  pub still : (k : ℕ) (d : Kit) → n ≤ k → get_or after k d ≡ get_or before k d
+
+pub gave_none : (kits : List Kit) → SomeGave 0 kits [] kits
+gave_none kits = record {
+  kits = refl;
+  gone = λ k d p lt. absurd (omega (arith, lt));
+  still = λ k d le. refl;
+}
+
+pub gave_more : (n : ℕ) (before : List Kit) (posters posters' : List Sender) (p : Sender) (after after' : List Kit) (e kit : Kit)
+    → length posters ≡ n → n < length after → posters' ≡ posters ++ p ∷ [] → after' ≡ set after n kit → GivesPoster (get_or after n e) p kit
+    → SomeGave n before posters after → SomeGave (n + 1) before posters' after'
+gave_more n before posters posters' p after after' e kit count within is wrote gives gave = subst (λ l. SomeGave (n + 1) before l after') (sym is) (subst (λ l. SomeGave (n + 1) before (posters ++ p ∷ []) l) (sym wrote) (record {
+  kits = length-set after n kit ∙ gave.kits;
+  gone = λ k d x lt. dite (ℕ_discrete k n)
+      (λ here. subst (λ (j : ℕ). GivesPoster (get_or before j d) (get_or (posters ++ p ∷ []) j x) (get_or (set after n kit) j d)) (sym here)
+      (subst (λ y. GivesPoster (get_or before n d) y (get_or (set after n kit) n d)) (sym (ap (λ j. get_or (posters ++ p ∷ []) j x) (sym count) ∙ get_or-append_seam posters p [] x))
+      (subst (λ y. GivesPoster (get_or before n d) p y) (sym (get_or-set_same after n kit d within))
+      (subst (λ y. GivesPoster y p kit) (get_or_default after n e d within ∙ gave.still n d (omega arith)) gives))))
+      (λ there.
+      let early : k < n = omega (arith, lt, there) in
+      subst (λ y. GivesPoster (get_or before k d) y (get_or (set after n kit) k d)) (sym (get_or-append posters (p ∷ []) x k (omega (arith, early, count))))
+      (subst (λ y. GivesPoster (get_or before k d) (get_or posters k x) y) (sym (get_or-set_other after n k kit d there)) (gave.gone k d x early)));
+  still = λ k d le. get_or-set_other after n k kit d (λ e. absurd (omega (arith, e, le))) ∙ gave.still k d (omega (arith, le));
+}))
+
+pub gave_all : (n : ℕ) (before : List Kit) (posters : List Sender) (after : List Kit) → length posters ≡ n → n ≡ length before → SomeGave n before posters after → EachGivesPoster before posters after
+gave_all n before posters after count all gave = record {
+  count = count ∙ all;
+  kits = gave.kits;
+  each = λ k d p lt. gave.gone k d p (omega (arith, lt, all));
+}
+
+-- the one that did not give its poster yet has one
+pub has_next : (n : ℕ) (before : List Kit) (posters : List Sender) (after : List Kit) (d : Kit) → n < length after → HavePosters before → SomeGave n before posters after → 0 < length (get_or after n d).posters.items
+has_next n before posters after d within have gave =
+    let same = gave.kits in
+    subst (λ (x : Kit). 0 < length x.posters.items) (sym (gave.still n d (omega arith))) (have n d (omega (arith, within, same)))
+
+-- a sender's entries in a history that begins with what its poster has seen, and has no more of them
+pub own_entries : (p : Sender) (k : ℕ) (entries : List Entry) → p.sender ≡ k → IsPrefix p.view.seen entries → made_in p.sender entries ≡ made_by p → entries_by k entries ≡ own p
+own_entries p k entries is begins made =
+    let parts = made_in-append p.sender p.view.seen begins.0 in
+    let whole : made_in p.sender (p.view.seen ++ begins.0) ≡ made_in p.sender p.view.seen = ap (made_in p.sender) begins.1 ∙ made in
+    let none : made_in p.sender begins.0 ≡ 0 = omega (arith, parts, whole) in
+    ap (λ (n : ℕ). entries_by n entries) (sym is)
+    ∙ (ap (entries_by p.sender) (sym begins.1)
+    ∙ (entries_by-append p.sender p.view.seen begins.0
+    ∙ (ap (λ l. own p ++ l) (nobody _ (length-filter (λ (e : Entry). e.sender == p.sender) begins.0 ∙ none)) ∙ append-nil _)))
+  where
+    nobody : (l : List Entry) → length l ≡ 0 → l ≡ []
+    nobody [] h = refl
+    nobody (x ∷ xs) h = absurd (omega (arith, h))
+
+pub next_have : (q : Shared TableId) (kits : List Kit) → AreNext q kits → HavePosters kits
+next_have q kits next k d lt = (next.each k d lt).some
+
+-- the posters that were given are all those of the queue
+pub next_in_order : (q : Shared TableId) (before : List Kit) (posters : List Sender) (after : List Kit) → AreNext q before → EachGivesPoster before posters after → (length posters ≡ q.constants.setting.senders) × AreInOrder q posters
+next_in_order q before posters after next gives = (gives.count ∙ next.count, order)
+  where
+    order : AreInOrder q posters
+    order k d lt =
+        let same = gives.count in
+        let within : k < length before = omega (arith, lt, same) in
+        let e = some_of before k within in
+        let given : (get_or before k e).posters.items ≡ get_or posters k d ∷ (get_or after k e).posters.items = (gives.each k e d within).posters in
+        let badge : badge_of (get_or posters k d) ≡ badge_for k q = ap (λ l. badge_of (get_or l 0 d)) (sym given) ∙ (next.each k e within).badge d in
+        ((ap (λ (b : Badge). b.table) badge, ap (λ (b : Badge). b.constants) badge), ap (λ (b : Badge). b.sender) badge)
+
+pub ends_posters : (q : Shared TableId) (before : List Kit) (posters : List Sender) (after : List Kit) (entries : List Entry) → AreNext q before → EachGivesPoster before posters after → HasCalls entries posters → EachEndsPoster entries before after
+ends_posters q before posters after entries next gives calls = record {
+  count = gives.kits;
+  each = λ k d lt.
+      let same = gives.count in
+      let within : k < length posters = omega (arith, lt, same) in
+      let p = some_of posters k within in
+      let g = gives.each k d p lt in
+      let order = (next_in_order q before posters after next gives).1 k p within in
+      let called = calls k p within in
+      record {
+        poster = get_or posters k p;
+        posters = g.posters;
+        made = own_entries (get_or posters k p) k entries order.1 called.0 called.1;
+        frames = g.frames;
+        pass = g.pass;
+      };
+}
+
+pub numbers_more : (k n : ℕ) → numbers_from k (n + 1) ≡ numbers_from k n ++ (k + n) ∷ []
+numbers_more k zero =
+    let one : 0 + 1 ≡ suc 0 = omega arith in
+    let same : k ≡ k + 0 = omega arith in
+    ap (numbers_from k) one ∙ ap (λ m. m ∷ []) same
+numbers_more k (suc n) =
+    let one : suc n + 1 ≡ suc (n + 1) = omega arith in
+    let same : (k + 1) + n ≡ k + suc n = omega arith in
+    ap (numbers_from k) one ∙ ap (λ l. k ∷ l) (numbers_more (k + 1) n ∙ ap (λ m. numbers_from (k + 1) n ++ m ∷ []) same)
+
+-- the record that is kept of this looper's queue
+pub kept_history : (s : Script) (pool : TableId) (n : ℕ) (c : Constants TableId) (r : QueueRecord) → c ≡ queue_constants s pool n → IsKeptOf c r → IsHistory in_lockstep all_entries s r × (r.looper ≡ n)
+kept_history s pool n c r is kept =
+    let looper : r.looper ≡ n = kept.looper ∙ ap (λ (x : Constants TableId). x.looper) is in
+    let setting : setting_of r ≡ (queue_constants s pool n).setting = kept.setting ∙ ap (λ (x : Constants TableId). x.setting) is in (
+      record {
+        main = ap (λ (x : Setting). x.main) setting ∙ ap (λ (m : ℕ). m == 0) (sym looper);
+        lockstep = ap (λ (x : Setting). x.lockstep) setting;
+        senders = ap (λ (x : Setting). x.senders) setting;
+        legal = subst (λ (x : Setting). IsLegal x (empty_base x.senders) r.entries) (sym kept.setting) kept.legal;
+        numbered = subst (λ (x : Setting). AreNumbered x (empty_base x.senders) r.entries) (sym kept.setting) kept.numbered;
+        clocked = tt;
+      },
+      looper,
+    )
+
+-- what is known where some queues have ended
+pub record AreRetired (s : Script) (orig : List Kit) (records : List QueueRecord) (kits : List Kit) : Type 0 where
+  pub loopers : map (λ (q : QueueRecord). q.looper) records ≡ numbers_from 0 (length records)
+  pub histories : AllByRecursion (IsHistory in_lockstep all_entries s) records
+  pub all : HaveAll orig records
+  pub left : HaveLeft (length records) orig kits
+
+pub retired_none : (s : Script) (kits : List Kit) → AreRetired s kits [] kits
+retired_none s kits = record {
+  loopers = refl;
+  histories = tt;
+  all = λ k q d p r lt none. absurd (omega (arith, none));
+  left = record { count = refl; each = λ k d lt. record { posters = refl; frames = refl; pass = refl } };
+}
+
+-- the kits as some queues have ended: what comes next is of the next queue
+pub next_queue : (s : Script) (pool : TableId) (queues yielded rest : List (Shared TableId)) (q : Shared TableId) (n : ℕ) (orig kits : List Kit)
+    → yielded ++ q ∷ rest ≡ queues → n ≡ length yielded → AreQueuesOf s pool queues → length orig ≡ sender_count s → HaveAllPosters queues orig → HaveLeft n orig kits
+    → (q.constants ≡ queue_constants s pool n) × AreNext q kits
+next_queue s pool queues yielded rest q n orig kits parts is keys senders have left = (constants, record { count = count; each = next })
+  where
+    within : n < length queues
+    within = within_parts yielded rest queues q n parts is
+
+    constants : q.constants ≡ queue_constants s pool n
+    constants =
+        let long : length queues ≡ s.loopers = sym (length-map queues queue_key) ∙ (ap length keys ∙ length-map-range_with_len (queue_constants s pool) 0 s.loopers) in
+        let lt = within_parts yielded rest queues q n parts is in
+        let few : n < s.loopers = omega (arith, lt, long) in
+        ap queue_key (sym (at_parts yielded rest queues q n parts is))
+        ∙ (sym (get_or-map queue_key queues n q q.constants lt)
+        ∙ (ap (λ l. get_or l n q.constants) keys ∙ get_or-map-range_with_len (queue_constants s pool) 0 s.loopers n n q.constants few (omega arith)))
+
+    count : length kits ≡ q.constants.setting.senders
+    count =
+        let same : q.constants.setting.senders ≡ sender_count s = ap (λ (x : Constants TableId). x.setting.senders) constants in
+        left.count ∙ (senders ∙ sym same)
+
+    next : (k : ℕ) (d : Kit) → k < length kits → IsNext k q (get_or kits k d)
+    next k d lt =
+        let same = left.count in
+        let lt' : k < length orig = omega (arith, lt, same) in
+        let ps = (get_or orig k d).posters.items in
+        let here : (get_or kits k d).posters.items ≡ drop n ps = (left.each k d lt').posters in
+        let are : map badge_of ps ≡ map (badge_for k) queues = have k d lt' in
+        let long : length ps ≡ length queues = sym (length-map ps badge_of) ∙ (ap length are ∙ length-map queues (badge_for k)) in
+        let rest_long = length-drop n ps in
+        let here_long = ap length here in
+        let below = within in
+        record {
+          some = omega (arith, rest_long, here_long, long, below);
+          badge = λ p.
+              let place : n + 0 ≡ n = omega arith in
+              let first : get_or (get_or kits k d).posters.items 0 p ≡ get_or ps n p = ap (λ l. get_or l 0 p) here ∙ (get_or-drop n ps 0 p ∙ ap (λ m. get_or ps m p) place) in
+              ap badge_of first
+              ∙ (sym (get_or-map badge_of ps n p (badge_of p) (omega (arith, long, below)))
+              ∙ (ap (λ l. get_or l n (badge_of p)) are
+              ∙ (get_or-map (badge_for k) queues n q (badge_of p) below ∙ ap (badge_for k) (at_parts yielded rest queues q n parts is))));
+        }
+
+-- one queue more has ended
+pub retires_more : (s : Script) (pool : TableId) (c : Constants TableId) (orig kits kits' : List Kit) (records records' : List QueueRecord) (r : QueueRecord)
+    → c ≡ queue_constants s pool (length records) → IsKeptOf c r → EachEndsPoster r.entries kits kits' → records' ≡ records ++ r ∷ [] → AreRetired s orig records kits → AreRetired s orig records' kits'
+retires_more s pool c orig kits kits' records records' r is kept ends more before = subst (λ l. AreRetired s orig l kits') (sym more) (record {
+  loopers = map-append (λ (q : QueueRecord). q.looper) records (r ∷ []) ∙ ((λ i. before.loopers i ++ (history.1 ∙ zeroth) i ∷ []) ∙ (sym (numbers_more 0 (length records)) ∙ ap (numbers_from 0) (sym one)));
+  histories = all_push records before.histories;
+  all = λ k q d p x lt below. dite (dec_lt q (length records))
+      (λ early. ap (λ (y : QueueRecord). entries_by k y.entries) (get_or-append records (r ∷ []) x q early) ∙ before.all k q d p x lt early)
+      (λ late.
+      let long = one in
+      let last : q ≡ length records = omega (arith, late, below, long) in
+      let e = ends.each k d (inside k lt) in
+      let place : length records + 0 ≡ length records = omega arith in
+      ap (λ (m : ℕ). entries_by k (get_or (records ++ r ∷ []) m x).entries) last
+      ∙ (ap (λ (y : QueueRecord). entries_by k y.entries) (get_or-append_seam records r [] x)
+      ∙ (e.made
+      ∙ ap own (ap (λ l. get_or l 0 p) (sym e.posters) ∙ (ap (λ l. get_or l 0 p) (before.left.each k d lt).posters ∙ (get_or-drop (length records) (get_or orig k d).posters.items 0 p ∙ ap (λ m. get_or (get_or orig k d).posters.items m p) (place ∙ sym last)))))));
+  left = record {
+    count = ends.count ∙ before.left.count;
+    each = λ k d lt.
+        let e = ends.each k d (inside k lt) in
+        let h = before.left.each k d lt in
+        record {
+          posters = ap (drop 1) (sym e.posters) ∙ (ap (drop 1) h.posters ∙ (drop-drop 1 (length records) (get_or orig k d).posters.items ∙ ap (λ m. drop m (get_or orig k d).posters.items) (sym one)));
+          frames = e.frames ∙ h.frames;
+          pass = e.pass ∙ h.pass;
+        };
+  };
+})
+  where
+    history : IsHistory in_lockstep all_entries s r × (r.looper ≡ length records)
+    history = kept_history s pool (length records) c r is kept
+
+    zeroth : length records ≡ 0 + length records
+    zeroth = omega arith
+
+    one : length (records ++ r ∷ []) ≡ length records + 1
+    one = omega (arith, length-append records (r ∷ []))
+
+    inside : (k : ℕ) → k < length orig → k < length kits
+    inside k lt = let same = before.left.count in omega (arith, lt, same)
+
+    all_push : (l : List QueueRecord) → AllByRecursion (IsHistory in_lockstep all_entries s) l → AllByRecursion (IsHistory in_lockstep all_entries s) (l ++ r ∷ [])
+    all_push [] h = (history.0, tt)
+    all_push (x ∷ xs) h = (h.0, all_push xs h.1)
+
+pub retired_all : (s : Script) (orig kits : List Kit) (records : List QueueRecord) → length records ≡ s.loopers → AreRetired s orig records kits → AreQueueRecords s records × HaveAll orig records × KeepFrames orig kits
+retired_all s orig kits records all h = (
+  record { loopers = h.loopers ∙ ap (numbers_from 0) all; histories = h.histories },
+  h.all,
+  record { count = h.left.count; each = λ k d lt. record { frames = (h.left.each k d lt).frames; pass = (h.left.each k d lt).pass } },
+)

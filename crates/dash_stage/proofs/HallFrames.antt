@@ -1,0 +1,227 @@
+-- The choreographers end, one after another, with all their passes.
+use Rattle.std.proofs.Common.{◌≡◌, ◌≢◌, ℕ, zero, suc, ◌+◌, ◌-◌, ◌<◌, ◌≤◌, List, [], ◌∷◌, ◌++◌, map, length, set, get_or, drop, true, refl, sym, ap, ◌∙◌, subst, arith, append_assoc, append-nil, length-append}
+use Rattle.std.specs.List.{AllByRecursion, range_with_len}
+use Rattle.std.proofs.Math.ListN.{get_or-append}
+use Rattle.std.proofs.Math.Seq.{get_or-append_seam, drop-append_seam}
+use Rattle.std.proofs.lemmas.List.{get_or-map, get_or-set_same, get_or-set_other, get_or_default, get_or-drop, length-set, length-drop, length-map, drop-drop, drop-map}
+use Rattle.std.proofs.lemmas.List.FromFn.{get_or-map-range_with_len, length-map-range_with_len}
+use mathlib.Core.Logic.{dite}
+use mathlib.Core.List.{map-append, IsPrefix}
+use native.Mathlib.Decide.{ℕ_discrete, dec_lt}
+use Rattle.atomic_table.specs.Seated.{TableId}
+use Rattle.frame_phases.specs.declared.entry.FrameEntry.{FrameEntry}
+use Rattle.frame_phases.specs.declared.entry.FrameRecord.{FrameRecord}
+use Rattle.dash_script.specs.declared.script.Script.{Script}
+use Rattle.choreographer.specs.Known.{Shared as Frames, Known as Pass, IsOf as IsOfFrames}
+use Rattle.choreographer.specs.declared.view.Constants.{Constants as FrameConstants}
+use Rattle.choreographer.specs.Ends.{AreInOrder, BeginWithSeen}
+use Rattle.run_model.specs.Senders.{numbers_from}
+use Rattle.dash_stage.specs.declared.kit.Kit.{Kit}
+use Rattle.dash_stage.specs.Kits.{FrameBadge, frame_badge_of, frame_badge_for, AreChoreographersOf, frame_key, frame_constants}
+use Rattle.dash_stage.specs.Dealing.{GivesPass, holder_of, given, given_of}
+use Rattle.dash_stage.specs.Records.{HaveSeen, AreFrameRecords}
+use Rattle.dash_stage.specs.Staged.{IsFrameRecord}
+use Rattle.dash_stage.specs.Ending.{BeginWithPasses, HaveAllPasses, HasFramesLeft, HaveFramesLeft, BeginWithNext, AreOfPool}
+use Rattle.dash_stage.proofs.HallPasses.{given_one, given_more, given_parts, given_none, is_given, not_given, given_all, of_thread, thread_holds}
+use Rattle.dash_stage.proofs.HallSteps.{within_parts, at_parts}
+use Rattle.dash_stage.proofs.HallEnds.{some_of, numbers_more}
+
+-- the passes with the first numbers were taken from the kits
+pub record AreTaken (s : Script) (looper : ℕ) (c : Frames) (number : ℕ) (orig : List Kit) (passes : List Pass) (kits : List Kit) : Type 0 where
+  pub order : AreInOrder c passes
+  pub firsts : (k : ℕ) (d : Kit) (p : Pass) → k < number → k < s.threads → get_or passes k p ≡ get_or (get_or orig k d).frames.items 0 p
+  pub left : HaveFramesLeft (λ k. length (given s looper c k 0 number)) orig kits
+
+pub taken_none : (s : Script) (looper : ℕ) (c : Frames) (kits : List Kit) → AreTaken s looper c 0 kits [] kits
+taken_none s looper c kits = record {
+  order = λ k d lt. absurd (omega (arith, lt));
+  firsts = λ k d p lt thread. absurd (omega (arith, lt));
+  left = record { count = refl; each = λ k d lt. record { frames = refl; pass = refl } };
+}
+
+-- the next pass in the kit of its holder
+pub next_frames : (s : Script) (looper : ℕ) (c : Frames) (number : ℕ) (orig : List Kit) (passes : List Pass) (kits : List Kit) (h : ℕ) (d : Kit)
+    → number < s.threads + 3 → h ≡ holder_of s looper number → h < length orig → BeginWithPasses s looper c orig → AreTaken s looper c number orig passes kits
+    → (more : List FrameBadge) × (map frame_badge_of (get_or kits h d).frames.items ≡ frame_badge_for number c ∷ more)
+next_frames s looper c number orig passes kits h d lt held within begins taken =
+    let rest = s.threads + 3 - number - 1 in
+    let all : s.threads + 3 ≡ number + suc rest = omega (arith, lt) in
+    let zeroth : 0 + number ≡ number = omega arith in
+    let begin = begins h d within in
+    let fs = (get_or orig h d).frames.items in
+    let gone = given s looper c h 0 number in
+    let later = given s looper c h (number + 1) rest in
+    let marks : given_of s looper c h ≡ gone ++ (frame_badge_for number c ∷ later) =
+    ap (given s looper c h 0) all
+    ∙ (given_parts s looper c h 0 number (suc rest)
+    ∙ (ap (λ m. gone ++ given s looper c h m (suc rest)) zeroth
+    ∙ ap (λ l. gone ++ (l ++ later)) (is_given s looper c h number (sym held)))) in
+    let whole : map frame_badge_of fs ≡ gone ++ (frame_badge_for number c ∷ (later ++ begin.0)) = sym begin.1 ∙ (ap (λ l. l ++ begin.0) marks ∙ append_assoc gone (frame_badge_for number c ∷ later) begin.0) in (
+      later ++ begin.0,
+      ap (map frame_badge_of) (taken.left.each h d within).frames
+          ∙ (sym (drop-map frame_badge_of (length gone) fs)
+          ∙ (ap (drop (length gone)) whole ∙ drop-append_seam gone (frame_badge_for number c ∷ (later ++ begin.0)))),
+    )
+
+pub has_pass : (s : Script) (looper : ℕ) (c : Frames) (number : ℕ) (orig : List Kit) (passes : List Pass) (kits : List Kit) (h : ℕ) (d : Kit)
+    → number < s.threads + 3 → h ≡ holder_of s looper number → h < length orig → BeginWithPasses s looper c orig → AreTaken s looper c number orig passes kits
+    → 0 < length (get_or kits h d).frames.items
+has_pass s looper c number orig passes kits h d lt held within begins taken =
+    let next = next_frames s looper c number orig passes kits h d lt held within begins taken in
+    let long = length-map (get_or kits h d).frames.items frame_badge_of in
+    let long' : length (map frame_badge_of (get_or kits h d).frames.items) ≡ suc (length next.0) = ap length next.1 in
+    omega (arith, long, long')
+
+-- one pass more was taken
+pub takes_more : (s : Script) (looper : ℕ) (c : Frames) (number : ℕ) (orig : List Kit) (passes passes' : List Pass) (p : Pass) (kits kits' : List Kit) (h : ℕ) (e kit : Kit)
+    → number < s.threads + 3 → h ≡ holder_of s looper number → h < length orig → BeginWithPasses s looper c orig → length passes ≡ number
+    → passes' ≡ passes ++ p ∷ [] → kits' ≡ set kits h kit → GivesPass (get_or kits h e) p kit
+    → AreTaken s looper c number orig passes kits → AreTaken s looper c (number + 1) orig passes' kits'
+takes_more s looper c number orig passes passes' p kits kits' h e kit lt held within begins count more wrote gives taken =
+    subst (λ l. AreTaken s looper c (number + 1) orig l kits') (sym more) (subst (λ l. AreTaken s looper c (number + 1) orig (passes ++ p ∷ []) l) (sym wrote) (record {
+      order = λ k d below. dite (dec_lt k (length passes))
+          (λ early. subst (λ (x : Pass). IsOfFrames x c × (x.number ≡ k)) (sym (get_or-append passes (p ∷ []) d k early)) (taken.order k d early))
+          (λ late.
+          let all = length-append passes (p ∷ []) in
+          let last : k ≡ length passes = omega (arith, late, below, all) in
+          subst (λ (x : Pass). IsOfFrames x c × (x.number ≡ k)) (sym (ap (λ j. get_or (passes ++ p ∷ []) j d) last ∙ get_or-append_seam passes p [] d))
+          ((ap (λ (b : FrameBadge). b.table) badge, ap (λ (b : FrameBadge). b.constants) badge), ap (λ (b : FrameBadge). b.number) badge ∙ sym (last ∙ count)));
+      firsts = λ k d x below thread. dite (dec_lt k number)
+          (λ early. get_or-append passes (p ∷ []) x k (omega (arith, early, count)) ∙ taken.firsts k d x early thread)
+          (λ late.
+          let last : k ≡ number = omega (arith, late, below) in
+          let mine : h ≡ k = held ∙ (ap (holder_of s looper) (sym last) ∙ thread_holds s looper k thread) in
+          let none : given s looper c h 0 number ≡ [] = given_none s looper c h number (omega (arith, thread, last)) (omega (arith, mine, last)) in
+          let first : p ∷ kit.frames.items ≡ (get_or orig h d).frames.items = sym gives.frames ∙ (ap (λ (y : Kit). y.frames.items) (get_or_default kits h e d inside) ∙ ((taken.left.each h d within).frames ∙ ap (λ l. drop (length l) (get_or orig h d).frames.items) none)) in
+          ap (λ j. get_or (passes ++ p ∷ []) j x) (last ∙ sym count)
+          ∙ (get_or-append_seam passes p [] x
+          ∙ (ap (λ l. get_or l 0 x) first ∙ ap (λ j. get_or (get_or orig j d).frames.items 0 x) mine)));
+      left = record {
+        count = length-set kits h kit ∙ taken.left.count;
+        each = λ k d below. dite (ℕ_discrete k h)
+            (λ here. subst (λ (j : ℕ). HasFramesLeft (length (given s looper c j 0 (number + 1))) (get_or orig j d) (get_or (set kits h kit) j d)) (sym here)
+            (subst (λ (y : Kit). HasFramesLeft (length (given s looper c h 0 (number + 1))) (get_or orig h d) y) (sym (get_or-set_same kits h kit d inside)) (record {
+              frames =
+                  let was = given s looper c h 0 number in
+                  let one = longer h ∙ (ap (λ l. length was + length l) (is_given s looper c h number (sym held))) in
+                  ap (drop 1) (sym gives.frames ∙ (ap (λ (y : Kit). y.frames.items) (get_or_default kits h e d inside) ∙ (taken.left.each h d within).frames))
+                  ∙ (drop-drop 1 (length was) (get_or orig h d).frames.items ∙ ap (λ m. drop m (get_or orig h d).frames.items) (sym one));
+              pass = gives.home ∙ (ap (λ (y : Kit). y.pass.home) (get_or_default kits h e d inside) ∙ (taken.left.each h d within).pass);
+            })))
+            (λ there.
+            let same = longer k ∙ (ap (λ l. length (given s looper c k 0 number) + length l) (not_given s looper c k number h (sym held) (λ z. there (sym z))) ∙ nothing_more (length (given s looper c k 0 number))) in
+            subst (λ (y : Kit). HasFramesLeft (length (given s looper c k 0 (number + 1))) (get_or orig k d) y) (sym (get_or-set_other kits h k kit d there))
+            (subst (λ (m : ℕ). HasFramesLeft m (get_or orig k d) (get_or kits k d)) (sym same) (taken.left.each k d below)));
+      };
+    }))
+  where
+    inside : h < length kits
+    inside = let same = taken.left.count in omega (arith, within, same)
+
+    badge : frame_badge_of p ≡ frame_badge_for number c
+    badge =
+        let next = next_frames s looper c number orig passes kits h e lt held within begins taken in
+        let both : frame_badge_of p ∷ map frame_badge_of kit.frames.items ≡ frame_badge_for number c ∷ next.0 = ap (map frame_badge_of) (sym gives.frames) ∙ next.1 in
+        ap (λ l. get_or l 0 (frame_badge_of p)) both
+
+    nothing_more : (n : ℕ) → n + 0 ≡ n
+    nothing_more n = omega arith
+
+    longer : (k : ℕ) → length (given s looper c k 0 (number + 1)) ≡ length (given s looper c k 0 number) + length (given_one s looper c k number)
+    longer k =
+        let zeroth : 0 + number ≡ number = omega arith in
+        ap length (given_more s looper c k 0 number ∙ ap (λ m. given s looper c k 0 number ++ given_one s looper c k m) zeroth)
+        ∙ length-append (given s looper c k 0 number) (given_one s looper c k number)
+
+-- all passes of the choreographer: what was seen by the first pass of each thread begins the entries
+pub taken_all : (s : Script) (looper : ℕ) (c : Frames) (number : ℕ) (orig : List Kit) (passes : List Pass) (kits : List Kit) (entries : List FrameEntry)
+    → length passes ≡ number → number ≡ s.threads + 3 → AreTaken s looper c number orig passes kits → BeginWithSeen entries passes
+    → BeginWithNext s.threads orig entries × HaveFramesLeft (λ k. length (given_of s looper c k)) orig kits
+taken_all s looper c number orig passes kits entries count all taken seen = (
+  λ k d p lt. subst (λ (x : Pass). IsPrefix x.view.seen entries) (taken.firsts k d p (omega (arith, lt, all)) lt) (seen k p (omega (arith, lt, all, count))),
+  subst (λ m. HaveFramesLeft (λ k. length (given s looper c k 0 m)) orig kits) all taken.left,
+)
+
+-- what is known where the choreographers of the first loopers have ended, and these have not
+pub record HaveEnded (s : Script) (looper : ℕ) (rest : List Frames) (orig : List Kit) (records : List FrameRecord) (kits : List Kit) : Type 0 where
+  pub loopers : map (λ (f : FrameRecord). f.looper) records ≡ numbers_from 0 looper
+  pub lawful : AllByRecursion (IsFrameRecord s) records
+  pub seen : HaveSeen s.threads orig records
+  pub count : length kits ≡ length orig
+  pub marks : HaveAllPasses (given_all s looper rest) kits
+  pub threads : (k : ℕ) (d : Kit) → k < s.threads → (get_or kits k d).frames.items ≡ drop looper (get_or orig k d).frames.items
+  pub pool : (k : ℕ) (d : Kit) → k < length orig → (get_or kits k d).pass.home ≡ (get_or orig k d).pass.home
+
+pub ended_none : (s : Script) (cs : List Frames) (kits : List Kit) → HaveAllPasses (given_all s 0 cs) kits → HaveEnded s 0 cs kits [] kits
+ended_none s cs kits marks = record {
+  loopers = refl;
+  lawful = tt;
+  seen = λ k q d p r lt none. absurd (omega (arith, none));
+  count = refl;
+  marks = marks;
+  threads = λ k d lt. refl;
+  pool = λ k d lt. refl;
+}
+
+-- the next choreographer's passes come first in each kit
+pub next_passes : (s : Script) (looper : ℕ) (c : Frames) (rest : List Frames) (kits : List Kit) → HaveAllPasses (given_all s looper (c ∷ rest)) kits → BeginWithPasses s looper c kits
+next_passes s looper c rest kits marks k d lt = (given_all s (looper + 1) rest k, sym (marks k d lt))
+
+pub next_constants : (s : Script) (cs yielded rest : List Frames) (c : Frames) (n : ℕ) → yielded ++ c ∷ rest ≡ cs → n ≡ length yielded → AreChoreographersOf s cs → (c.constants ≡ frame_constants s n) × (n < s.loopers)
+next_constants s cs yielded rest c n parts is keys =
+    let lt = within_parts yielded rest cs c n parts is in
+    let long : length cs ≡ s.loopers = sym (length-map cs frame_key) ∙ (ap length keys ∙ length-map-range_with_len (frame_constants s) 0 s.loopers) in
+    let few : n < s.loopers = omega (arith, lt, long) in (
+      ap frame_key (sym (at_parts yielded rest cs c n parts is))
+          ∙ (sym (get_or-map frame_key cs n c c.constants lt)
+          ∙ (ap (λ l. get_or l n c.constants) keys ∙ get_or-map-range_with_len (frame_constants s) 0 s.loopers n n c.constants few (omega arith))),
+      few,
+    )
+
+-- one choreographer more has ended
+pub ends_more : (s : Script) (looper : ℕ) (c : Frames) (rest : List Frames) (orig kits kits' : List Kit) (records records' : List FrameRecord) (r : FrameRecord)
+    → length records ≡ looper → s.threads ≤ length orig → IsFrameRecord s r → r.looper ≡ looper → BeginWithNext s.threads kits r.entries → HaveFramesLeft (λ k. length (given_of s looper c k)) kits kits'
+    → records' ≡ records ++ r ∷ [] → HaveEnded s looper (c ∷ rest) orig records kits → HaveEnded s (looper + 1) rest orig records' kits'
+ends_more s looper c rest orig kits kits' records records' r long enough lawful number begins left more before = subst (λ l. HaveEnded s (looper + 1) rest orig l kits') (sym more) (record {
+  loopers = map-append (λ (f : FrameRecord). f.looper) records (r ∷ []) ∙ ((λ i. before.loopers i ++ (number ∙ zeroth) i ∷ []) ∙ sym (numbers_more 0 looper));
+  lawful = all_push records before.lawful;
+  seen = λ k q d p x lt below. dite (dec_lt q (length records))
+      (λ early. subst (λ (y : FrameRecord). IsPrefix (get_or (get_or orig k d).frames.items q p).view.seen y.entries) (sym (get_or-append records (r ∷ []) x q early)) (before.seen k q d p x lt early))
+      (λ late.
+      let all = length-append records (r ∷ []) in
+      let last : q ≡ length records = omega (arith, late, below, all) in
+      let place : looper + 0 ≡ q = omega (arith, last, long) in
+      let first : get_or (get_or kits k d).frames.items 0 p ≡ get_or (get_or orig k d).frames.items q p = ap (λ l. get_or l 0 p) (before.threads k d lt) ∙ (get_or-drop looper (get_or orig k d).frames.items 0 p ∙ ap (λ m. get_or (get_or orig k d).frames.items m p) place) in
+      subst (λ (y : FrameRecord). IsPrefix (get_or (get_or orig k d).frames.items q p).view.seen y.entries) (sym (ap (λ m. get_or (records ++ r ∷ []) m x) last ∙ get_or-append_seam records r [] x))
+      (subst (λ (y : Pass). IsPrefix y.view.seen r.entries) first (begins k d p lt)));
+  count = left.count ∙ before.count;
+  marks = λ k d lt.
+      let same = left.count in
+      let lt' : k < length kits = omega (arith, lt, same) in
+      let gone = given_of s looper c k in
+      ap (map frame_badge_of) (left.each k d lt').frames
+      ∙ (sym (drop-map frame_badge_of (length gone) (get_or kits k d).frames.items)
+      ∙ (ap (drop (length gone)) (before.marks k d lt') ∙ drop-append_seam gone (given_all s (looper + 1) rest k)));
+  threads = λ k d lt.
+      let one : length (given_of s looper c k) ≡ 1 = ap length (of_thread s looper c k lt) in
+      let same = before.count in
+      (left.each k d (omega (arith, lt, enough, same))).frames
+      ∙ (ap (λ m. drop m (get_or kits k d).frames.items) one
+      ∙ (ap (drop 1) (before.threads k d lt) ∙ drop-drop 1 looper (get_or orig k d).frames.items));
+  pool = λ k d lt. let same = before.count in (left.each k d (omega (arith, lt, same))).pass ∙ before.pool k d lt;
+})
+  where
+    zeroth : looper ≡ 0 + looper
+    zeroth = omega arith
+
+    all_push : (l : List FrameRecord) → AllByRecursion (IsFrameRecord s) l → AllByRecursion (IsFrameRecord s) (l ++ r ∷ [])
+    all_push [] h = (lawful, tt)
+    all_push (x ∷ xs) h = (h.0, all_push xs h.1)
+
+pub ended_all : (s : Script) (looper : ℕ) (rest : List Frames) (orig kits : List Kit) (records : List FrameRecord) → looper ≡ s.loopers → HaveEnded s looper rest orig records kits
+    → AreFrameRecords s records × HaveSeen s.threads orig records × ((pool : TableId) → AreOfPool pool orig → AreOfPool pool kits)
+ended_all s looper rest orig kits records all h = (
+  record { loopers = h.loopers ∙ ap (numbers_from 0) all; lawful = h.lawful },
+  h.seen,
+  λ pool own k d lt. let same = h.count in h.pool k d (omega (arith, lt, same)) ∙ own k d (omega (arith, lt, same)),
+)

@@ -1,0 +1,63 @@
+-- A script's loopers and threads are few, and its period is not 0.
+use Rattle.std.specs.Prelude.{◌≡◌, ℕ, ◌≤◌, ◌&&◌, nat_le, Bool, true, List, [], ◌∷◌, IsTrue, drop, ◌==◌, if◌then◌else◌}
+use Rattle.std.specs.List.{list_all, flat_map, enumerate_from}
+use Rattle.std.proofs.Common.{arith, sym, ◌∙◌, ◌++◌, map}
+use Rattle.std.proofs.lemmas.List.Folds.{list_all-append}
+use Rattle.std.proofs.lemmas.Bool.{and_parts}
+use Rattle.std.proofs.lemmas.Bool.Decides.{nat_tests}
+use Rattle.dash_script.specs.declared.script.Script.{Script}
+use Rattle.dash_script.specs.declared.statement.Statement.{Statement}
+use Rattle.dash_script.specs.declared.form.Kind.TheVariants as kind
+use Rattle.dash_script.specs.Text.{lines, lines_before_end, say, first_lines, handler_line, gauge_line, rule_line, block_lines}
+use Rattle.dash_script.specs.Causes.{numbers_pass, is_within, each_number}
+use Rattle.dash_script.specs.Reading.{HasText}
+use Rattle.dash_stage.specs.Stages.{IsPlayable}
+
+between : (low high n : ℕ) → IsTrue ((nat_le low n && nat_le n high) && true) → n ≤ high
+between low high n h = grind (arith, nat_tests)
+
+-- of a list whose members all pass, the second and the third pass
+second_and_third : (p : Statement → Bool) (a b c : Statement) (rest : List Statement) → IsTrue (list_all p (a ∷ b ∷ c ∷ rest)) → IsTrue (p b) × IsTrue (p c)
+second_and_third p a b c rest h =
+    let behind = (and_parts _ _ h).1 in
+    let last = (and_parts _ _ behind).1 in
+    ((and_parts _ _ behind).0, (and_parts _ _ last).0)
+
+at_least : (low high n : ℕ) → IsTrue ((nat_le low n && nat_le n high) && true) → low ≤ n
+at_least low high n h = grind (arith, nat_tests)
+
+front_passes : (p : Statement → Bool) (xs ys : List Statement) → IsTrue (list_all p (xs ++ ys)) → IsTrue (list_all p xs)
+front_passes p xs ys h = (and_parts _ _ (sym (list_all-append p xs ys) ∙ h)).0
+
+back_passes : (p : Statement → Bool) (xs ys : List Statement) → IsTrue (list_all p (xs ++ ys)) → IsTrue (list_all p ys)
+back_passes p xs ys h = (and_parts _ _ (sym (list_all-append p xs ys) ∙ h)).1
+
+pub few : (s : Script) → HasText s → (s.loopers ≤ 8) × (s.threads ≤ 16) × (1 ≤ s.loopers)
+unfolding lines_before_end each_number
+few s h =
+    let both = second_and_third (numbers_pass (is_within s)) (say (if s.edition == 2 then kind.Edition2 else kind.Edition1) []) (say kind.Loopers (s.loopers ∷ [])) (say kind.Threads (s.threads ∷ [])) (drop 3 (lines s)) h.limits in
+    (between 1 8 s.loopers both.0, between 1 16 s.threads both.1, at_least 1 8 s.loopers both.0)
+
+pub paced : (s : Script) → HasText s → 1000000 ≤ s.period
+unfolding lines_before_end each_number
+paced s h =
+    let p = numbers_pass (is_within s) in
+    let handlers = map handler_line (enumerate_from 0 s.handlers) in
+    let gauges = map gauge_line (enumerate_from 0 s.gauges) in
+    let vsync = say kind.Vsync (s.period ∷ []) ∷ [] in
+    let rules = map rule_line s.rules in
+    let blocks = flat_map block_lines s.blocks in
+    let all = front_passes p (first_lines s ++ handlers ++ gauges ++ vsync ++ rules ++ blocks) (say kind.End (s.end ∷ []) ∷ []) h.limits in
+    let ruled = front_passes p (first_lines s ++ handlers ++ gauges ++ vsync ++ rules) blocks all in
+    let timed = front_passes p (first_lines s ++ handlers ++ gauges ++ vsync) rules ruled in
+    at_least 1000000 1000000000 s.period (and_parts _ _ (back_passes p (first_lines s ++ handlers ++ gauges) vsync timed)).0
+
+-- so it can be played
+pub playable : (s : Script) → HasText s → IsPlayable s
+playable s h =
+    let small = few s h in
+    let least = paced s h in
+    let a = small.0 in
+    let b = small.1 in
+    let some = small.2 in
+    record { loopers = omega (arith, some); period = omega (arith, least); few = omega (arith, a, b) }

@@ -1,0 +1,61 @@
+use Rattle.std.proofs.Common.{◌≡◌, ◌+◌, ◌<◌, List, [], ◌∷◌, ◌++◌, length, refl, ap, sym, ◌∙◌, subst, append-nil, length-append, arith}
+use Rattle.std.specs.Vec.Iter.{into_iter_items}
+use Rattle.std.proofs.lemmas.List.{length-map}
+use Rattle.std.proofs.lemmas.List.FromFn.{length-map-range_with_len}
+use Rattle.atomic_table.specs.Seated.{TableId}
+use Rattle.shared_queue.specs.Known.{Shared}
+use Rattle.shared_queue.specs.Constants.{Constants}
+use Rattle.shared_queue.proofs.Gathers.{nothing_left, regrouped}
+use Rattle.dash_stage.specs.declared.kit.Kit.{Kit}
+use Rattle.dash_stage.specs.Kits.{queue_key, queue_constants, AreQueuesOf}
+use Rattle.dash_stage.specs.Ending.{AreNext, HaveAllPosters}
+use Rattle.dash_stage.proofs.HallEnds.{next_queue, retires_more, retired_all}
+use Rattle.dash_stage.proofs.records.queue_records.Goals as goal
+
+pub queue_record-requires-clause-home : goal.queue_record-requires-clause-home
+queue_record-requires-clause-home c =
+    let at = c.loop-queue in
+    let all = c.into_iter-queue-iterator.ensures.into_iter_gives.0 in
+    let steps : into_iter_items at.queue-iterator ≡ c.in-Some.queue ∷ into_iter_items c.next.new.self = c.in-Some.ensures.steps.0 in
+    let parts : at.yielded ++ c.in-Some.queue ∷ into_iter_items c.next.new.self ≡ c.args.queues.items = ap (λ l. at.yielded ++ l) (sym steps) ∙ (at.invariant.parts ∙ all) in
+    let constants = (next_queue c.args.script.now c.args.pool.now c.args.queues.items at.yielded _ c.in-Some.queue (length at.records.items) c.args.kits.now.items at.kits.items parts at.invariant.count c.requires.queues c.requires.count c.requires.kits at.invariant.retired.left).0 in
+    ap (λ (x : Constants TableId). x.home) constants
+
+pub queue_record-requires-clause-next : goal.queue_record-requires-clause-next
+queue_record-requires-clause-next c =
+    let at = c.loop-queue in
+    let all = c.into_iter-queue-iterator.ensures.into_iter_gives.0 in
+    let steps : into_iter_items at.queue-iterator ≡ c.in-Some.queue ∷ into_iter_items c.next.new.self = c.in-Some.ensures.steps.0 in
+    let parts : at.yielded ++ c.in-Some.queue ∷ into_iter_items c.next.new.self ≡ c.args.queues.items = ap (λ l. at.yielded ++ l) (sym steps) ∙ (at.invariant.parts ∙ all) in
+    (next_queue c.args.script.now c.args.pool.now c.args.queues.items at.yielded _ c.in-Some.queue (length at.records.items) c.args.kits.now.items at.kits.items parts at.invariant.count c.requires.queues c.requires.count c.requires.kits at.invariant.retired.left).1
+
+pub loop-queue-preserved : goal.loop-queue-preserved
+loop-queue-preserved c =
+    let at = c.loop-queue in
+    let s = c.args.script.now in
+    let q = c.in-Some.queue in
+    let r = c.in_ok-record.record in
+    let rest = into_iter_items c.next.new.self in
+    let all = c.into_iter-queue-iterator.ensures.into_iter_gives.0 in
+    let steps : into_iter_items at.queue-iterator ≡ q ∷ rest = c.in-Some.ensures.steps.0 in
+    let parts : at.yielded ++ q ∷ rest ≡ c.args.queues.items = ap (λ l. at.yielded ++ l) (sym steps) ∙ (at.invariant.parts ∙ all) in
+    let count = at.invariant.count in
+    let constants = (next_queue s c.args.pool.now c.args.queues.items at.yielded rest q (length at.records.items) c.args.kits.now.items at.kits.items parts count c.requires.queues c.requires.count c.requires.kits at.invariant.retired.left).0 in
+    let items : c.push.new.self.items ≡ at.records.items ++ r ∷ [] = c.in_ok-push.ensures.items in
+    record {
+      parts = regrouped at.yielded _ _ _ q steps at.invariant.parts;
+      long = let was = at.invariant.long in let gone = c.in-Some.ensures.steps.1 in let short = ap length steps in omega arith;
+      pass = c.in_ok-record.ensures.pass;
+      count = let more = length-append at.records.items (r ∷ []) in let done = length-append at.yielded (q ∷ []) in let now = ap length items in omega (arith, now, more, done, count);
+      retired = retires_more s c.args.pool.now q.constants c.args.kits.now.items at.kits.items c.queue_record.new.kits.items at.records.items _ r constants c.in_ok-record.ensures.kept c.in_ok-record.ensures.kits items at.invariant.retired;
+    }
+
+pub returns-clause-records : goal.returns-clause-records
+returns-clause-records c =
+    let at = c.loop-queue in
+    let s = c.args.script.now in
+    let none = c.in-None.ensures.steps in
+    let empty : into_iter_items at.queue-iterator ≡ [] = nothing_left _ (sym at.invariant.long ∙ none.0) in
+    let all : at.yielded ≡ c.args.queues.items = sym (append-nil at.yielded) ∙ (ap (λ l. at.yielded ++ l) (sym empty) ∙ (at.invariant.parts ∙ c.into_iter-queue-iterator.ensures.into_iter_gives.0)) in
+    let loopers : length c.args.queues.items ≡ s.loopers = sym (length-map c.args.queues.items queue_key) ∙ (ap length c.requires.queues ∙ length-map-range_with_len (queue_constants s c.args.pool.now) 0 s.loopers) in
+    (retired_all s c.args.kits.now.items at.kits.items at.records.items (at.invariant.count ∙ (ap length all ∙ loopers)) at.invariant.retired).0

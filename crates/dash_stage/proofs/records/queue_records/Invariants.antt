@@ -1,0 +1,13 @@
+use Rattle.std.proofs.Common.{◌≡◌, ◌++◌, length}
+use Rattle.std.specs.Vec.Iter.{into_iter_items, into_iter_len}
+use Rattle.dash_stage.proofs.HallEnds.{AreRetired}
+use Rattle.dash_stage.proofs.records.queue_records.Given as goal
+
+abbrev pub invariant-loop-queue : goal.invariant-loop-queue
+invariant-loop-queue l = record {
+  parts : l.yielded ++ into_iter_items l.queue-iterator ≡ into_iter_items l.initial.queue-iterator;
+  long : into_iter_len l.queue-iterator ≡ length (into_iter_items l.queue-iterator);
+  pass : l.pass.home ≡ l.pool;
+  count : length l.records.items ≡ length l.yielded;
+  retired : AreRetired l.script l.initial.kits.items l.records.items l.kits.items;
+}

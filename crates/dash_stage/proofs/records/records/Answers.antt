@@ -1,0 +1,20 @@
+use Rattle.std.proofs.Common.{◌≡◌, ◌+◌, ◌<◌, List, length, get_or, subst, ◌∙◌, arith}
+use mathlib.Core.List.{IsPrefix}
+use Rattle.choreographer.specs.Known.{Known as Pass}
+use Rattle.dash_stage.proofs.records.records.Goals as goal
+
+pub close-requires-clause-kits : goal.close-requires-clause-kits
+close-requires-clause-kits c =
+    let kept = c.in_ok-queues.ensures.kits in
+    c.in_ok-frames.ensures.pool c.args.hall.pool (λ k d lt.
+    let same = kept.count in
+    let within : k < length c.args.kits.items = omega (arith, lt, same) in
+    (kept.each k d within).pass ∙ (c.requires.kits.each k d within).pass)
+
+pub returns-clause-seen : goal.returns-clause-seen
+returns-clause-seen c k q d p r lt below =
+    let kept = c.in_ok-queues.ensures.kits in
+    let s = c.args.script.now in
+    let senders : length c.args.kits.items ≡ s.threads + s.loopers + 1 = c.requires.kits.count in
+    let within : k < length c.args.kits.items = omega (arith, lt, senders) in
+    subst (λ (l : List Pass). IsPrefix (get_or l q p).view.seen (get_or c.in_ok-frames.frames.items q r).entries) (kept.each k d within).frames (c.in_ok-frames.ensures.seen k q d p r lt below)

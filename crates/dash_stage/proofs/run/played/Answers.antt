@@ -1,0 +1,6 @@
+use Rattle.std.proofs.Common.{◌≡◌}
+use Rattle.dash_stage.proofs.Limits.{playable}
+use Rattle.dash_stage.proofs.run.played.Goals as goal
+
+pub play-requires-clause-some : goal.play-requires-clause-some
+play-requires-clause-some g c κs within = (playable c.args.script.now c.requires).loopers

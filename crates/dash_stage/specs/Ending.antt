@@ -1,0 +1,102 @@
+-- How the kits give their posters and passes back, queue after queue and choreographer after choreographer.
+use Rattle.std.specs.Prelude.{◌≡◌, ◌<◌, ◌+◌, ℕ, List, ◌∷◌, map, length, slice_index_or, drop}
+use mathlib.Core.List.{IsPrefix}
+use Rattle.atomic_table.specs.Seated.{TableId}
+use Rattle.frame_phases.specs.declared.entry.FrameEntry.{FrameEntry}
+use Rattle.loop_model.specs.declared.entry.Entry.{Entry}
+use Rattle.loop_model.specs.declared.record.QueueRecord.{QueueRecord}
+use Rattle.loop_model.specs.Base.{empty_base}
+use Rattle.loop_model.specs.Legal.{IsLegal, AreNumbered}
+use Rattle.dash_script.specs.declared.script.Script.{Script}
+use Rattle.shared_queue.specs.Known.{Shared}
+use Rattle.shared_queue.specs.Constants.{Constants}
+use Rattle.looper_run.specs.Holding.{Sender}
+use Rattle.choreographer.specs.Known.{Shared as Frames, Known as Pass}
+use Rattle.run_model.specs.Asks.{entries_by}
+use Rattle.run_model.specs.Run.{setting_of}
+use Rattle.dash_stage.specs.declared.kit.Kit.{Kit}
+use Rattle.dash_stage.specs.Growth.{own}
+use Rattle.dash_stage.specs.Kits.{ArePostersOf, badge_of, badge_for, FrameBadge, frame_badge_of}
+use Rattle.dash_stage.specs.Dealing.{given_of}
+
+-- each kit has a poster
+abbrev pub HavePosters : List Kit → Type 0
+HavePosters kits = (k : ℕ) (d : Kit) → k < length kits → 0 < length (slice_index_or kits k d).posters.items
+
+-- the kit's first poster is sender k's, of this queue
+pub record IsNext (k : ℕ) (q : Shared TableId) (kit : Kit) : Type 0 where
+  pub some : 0 < length kit.posters.items
+  pub badge : (p : Sender) → badge_of (slice_index_or kit.posters.items 0 p) ≡ badge_for k q
+
+-- so it is with each kit, and there is one for each sender
+pub record AreNext (q : Shared TableId) (kits : List Kit) : Type 0 where
+  pub count : length kits ≡ q.constants.setting.senders
+  pub each : (k : ℕ) (d : Kit) → k < length kits → IsNext k q (slice_index_or kits k d)
+
+-- each kit has a poster of each queue, in order
+abbrev pub HaveAllPosters : List (Shared TableId) → List Kit → Type 0
+HaveAllPosters queues kits = (k : ℕ) (d : Kit) → k < length kits → ArePostersOf k queues (slice_index_or kits k d).posters.items
+
+-- what is kept of a queue with these constants: a lawful history
+pub record IsKeptOf (c : Constants TableId) (r : QueueRecord) : Type 0 where
+  pub looper : r.looper ≡ c.looper
+  pub setting : setting_of r ≡ c.setting
+  pub legal : IsLegal c.setting (empty_base c.setting.senders) r.entries
+  pub numbered : AreNumbered c.setting (empty_base c.setting.senders) r.entries
+
+-- sender k gave up its first poster, which made its entries in this history
+pub record EndsPoster (k : ℕ) (entries : List Entry) (before after : Kit) : Type 0 where
+  pub poster : Sender
+  pub posters : before.posters.items ≡ poster ∷ after.posters.items
+  pub made : entries_by k entries ≡ own poster
+  pub frames : after.frames.items ≡ before.frames.items
+  pub pass : after.pass.home ≡ before.pass.home
+
+pub record EachEndsPoster (entries : List Entry) (before after : List Kit) : Type 0 where
+  pub count : length after ≡ length before
+  pub each : (k : ℕ) (d : Kit) → k < length before → EndsPoster k entries (slice_index_or before k d) (slice_index_or after k d)
+
+-- the kit has given up so many posters, and nothing else
+pub record HasLeft (given_up : ℕ) (before after : Kit) : Type 0 where
+  pub posters : after.posters.items ≡ drop given_up before.posters.items
+  pub frames : after.frames.items ≡ before.frames.items
+  pub pass : after.pass.home ≡ before.pass.home
+
+pub record HaveLeft (given_up : ℕ) (before after : List Kit) : Type 0 where
+  pub count : length after ≡ length before
+  pub each : (k : ℕ) (d : Kit) → k < length before → HasLeft given_up (slice_index_or before k d) (slice_index_or after k d)
+
+-- the passes and the pass of the pool are as before
+pub record KeepsFrames (before after : Kit) : Type 0 where
+  pub frames : after.frames.items ≡ before.frames.items
+  pub pass : after.pass.home ≡ before.pass.home
+
+pub record KeepFrames (before after : List Kit) : Type 0 where
+  pub count : length after ≡ length before
+  pub each : (k : ℕ) (d : Kit) → k < length before → KeepsFrames (slice_index_or before k d) (slice_index_or after k d)
+
+-- the passes that each kit has begin with those of this looper's choreographer
+abbrev pub BeginWithPasses : Script → ℕ → Frames → List Kit → Type 0
+BeginWithPasses s looper c kits = (k : ℕ) (d : Kit) → k < length kits → IsPrefix (given_of s looper c k) (map frame_badge_of (slice_index_or kits k d).frames.items)
+
+-- each kit has the passes that its sender has of these choreographers, those of the loopers from `from` on
+abbrev pub HaveAllPasses : (ℕ → List FrameBadge) → List Kit → Type 0
+HaveAllPasses marks kits = (k : ℕ) (d : Kit) → k < length kits → map frame_badge_of (slice_index_or kits k d).frames.items ≡ marks k
+
+-- the kit has given up so many passes
+pub record HasFramesLeft (given_up : ℕ) (before after : Kit) : Type 0 where
+  pub frames : after.frames.items ≡ drop given_up before.frames.items
+  pub pass : after.pass.home ≡ before.pass.home
+
+pub record HaveFramesLeft (given_up : ℕ → ℕ) (before after : List Kit) : Type 0 where
+  pub count : length after ≡ length before
+  pub each : (k : ℕ) (d : Kit) → k < length before → HasFramesLeft (given_up k) (slice_index_or before k d) (slice_index_or after k d)
+
+-- the entries begin with what each thread's next pass has seen
+abbrev pub BeginWithNext : ℕ → List Kit → List FrameEntry → Type 0
+BeginWithNext threads kits entries = (k : ℕ) (d : Kit) (p : Pass) → k < threads
+    → IsPrefix (slice_index_or (slice_index_or kits k d).frames.items 0 p).view.seen entries
+
+-- all kits have a pass of this pool
+abbrev pub AreOfPool : TableId → List Kit → Type 0
+AreOfPool pool kits = (k : ℕ) (d : Kit) → k < length kits → (slice_index_or kits k d).pass.home ≡ pool
