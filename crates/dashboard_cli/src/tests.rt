@@ -341,7 +341,12 @@ fn a_script_is_made(rt: HostRuntime) -> Result<(), Fail> {
 }
 
 /// A read that fails is answered, and nothing is written. Answers whether it failed.
-fn reads(rt: &(impl Abort + Threads + Wait + Sync), alloc: Global, script: &[u8], call: u64) -> Result<bool, AllocError> {
+fn reads(
+    rt: &(impl Abort + Threads + Wait + Sync),
+    alloc: Global,
+    script: &[u8],
+    call: u64,
+) -> Result<bool, AllocError> {
     let mut source = source(script.to_vec(alloc)?, 8, vec![in alloc; call]?);
     let (outcome, written) = run(rt, alloc, "run", &mut source, Vec::new(alloc))?;
     let failed = outcome.status == Status::ReadFault;
@@ -351,7 +356,12 @@ fn reads(rt: &(impl Abort + Threads + Wait + Sync), alloc: Global, script: &[u8]
 }
 
 /// A write that fails is answered, and what was written before is a front of the report. Answers whether it failed.
-fn writes(rt: &(impl Abort + Threads + Wait + Sync), alloc: Global, script: &[u8], call: u64) -> Result<bool, AllocError> {
+fn writes(
+    rt: &(impl Abort + Threads + Wait + Sync),
+    alloc: Global,
+    script: &[u8],
+    call: u64,
+) -> Result<bool, AllocError> {
     let report =
         b"report 1\nlooper 0\nfates accepted 0 dispatched 0 removed 0 dropped 0 stranded 0 queued 0\nend\n".as_slice();
     let mut source = source(script.to_vec(alloc)?, 8, Vec::new(alloc));
@@ -474,7 +484,13 @@ const STATUSES: [(Status, u8, &str); 12] = [
     (Status::TooLong, 7, "dashboard: too long"),
 ];
 
-fn is_told(rt: &(impl Abort + Threads + Wait + Sync), alloc: Global, status: &Status, code: u8, text: &str) {
+fn is_told(
+    rt: &(impl Abort + Threads + Wait + Sync),
+    alloc: Global,
+    status: &Status,
+    code: u8,
+    text: &str,
+) {
     assert!(rt; status.code() == code);
     let line = status_text(alloc, status).expect(rt, "memory");
     assert!(rt; line.as_str() == text);
