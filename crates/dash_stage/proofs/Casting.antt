@@ -19,7 +19,7 @@ use Rattle.dash_stage.specs.Controllers.{IsController}
 use Rattle.dash_stage.specs.Stages.{AreKitsFrom, AreThreadsFrom, AreLoopersFrom, AreFirstKits, AreFirstThreads, AreFirstLoopers, AreThreads, AreLoopers, AreSenderKits}
 
 -- a thread's passes
-frames_of_thread : (s : Script) (cs : List Frames) (k : ℕ) → k < s.threads → frames_for s cs k ≡ map (frame_badge_for k) cs
+pub frames_of_thread : (s : Script) (cs : List Frames) (k : ℕ) → k < s.threads → frames_for s cs k ≡ map (frame_badge_for k) cs
 frames_of_thread s cs k lt =
     ap (λ (b : Bool). if b then map (frame_badge_for k) cs else (if nat_lt k (s.threads + s.loopers) then looper_frames s.threads (slice_get cs (k - s.threads)) else map (frame_badge_for (s.threads + 2)) cs)) (lt-ltb k s.threads lt)
 

@@ -18,3 +18,11 @@ pub mod ThreadPlaces
 pub mod ThreadText
 pub mod Casting
 pub mod Limits
+pub mod ThreadPlans
+pub mod ThreadSteps
+pub mod ThreadLabels
+pub mod Carried
+pub mod ThreadRuns
+pub mod ThreadBlocks
+pub mod ThreadFrames
+pub mod ThreadFrameRuns

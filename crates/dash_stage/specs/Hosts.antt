@@ -1,5 +1,5 @@
 -- The looper on which a choreographer runs, as the choreographer sees it.
-use Rattle.std.specs.Prelude.{◌≡◌, ◌-◌, ◌*◌, ◌^◌, ◌==◌, ◌&&◌, min, ℕ, Bool, List, map, is_none, if◌then◌else◌}
+use Rattle.std.specs.Prelude.{◌≡◌, ◌-◌, ◌*◌, ◌^◌, ◌==◌, ◌&&◌, min, ◌+◌, ◌≤◌, ℕ, Bool, List, [], map, is_none, None, count_by, MatchBool, true, if◌then◌else◌}
 use Rattle.atomic_table.specs.Seated.{TableId}
 use Rattle.loop_model.specs.declared.post.Post.{Post as PostData}
 use Rattle.loop_model.specs.declared.call.Call.{Call}
@@ -12,7 +12,13 @@ use Rattle.shared_queue.specs.Known.{Shared, IsOf}
 use Rattle.looper_run.specs.Holding.{Sender}
 use Rattle.choreographer.specs.declared.host.Sending.{Sending}
 use Rattle.choreographer.specs.declared.host.HostSent.TheVariants as host
-use Rattle.dash_stage.specs.Growth.{own, GoesOn}
+use Rattle.choreographer.specs.declared.hosted.Placed.{Placed}
+use Rattle.choreographer.specs.declared.hosted.Placed.TheVariants as placed
+use Rattle.choreographer.specs.Known.{Known as Pass}
+use Rattle.choreographer.specs.Calls.{PostedBy as CallbackPostedBy}
+use Rattle.run_model.specs.Planned.{later}
+use Rattle.run_model.specs.FrameRuns.{posts_frame, removes_frame}
+use Rattle.dash_stage.specs.Growth.{own, GoesOn, Makes}
 
 -- what a host keeps through all its calls: its queue and pool, its poster and its pass by their references, what these were when it was made, and its handler's number and moment
 pub record Origin : Type 0 where
@@ -63,3 +69,31 @@ sends_by handler p = map (λ (e : Entry). told_by handler e.call e.reply) (own p
 abbrev pub origin_of : Shared TableId → TableId → ℕ → ℕ → Sender → Tally → ℕ → ℕ → Origin
 origin_of queue pool poster_name pass_name poster pass handler now =
     record { queue = queue; pool = pool; poster_name = poster_name; pass_name = pass_name; poster = poster; pass = pass; handler = handler; now = now }
+
+-- a callback was placed, with memory for all that it takes
+abbrev pub IsPlaced : Placed → Type 0
+IsPlaced placed.Asked = Unit {0}
+IsPlaced placed.Sent = Unit {0}
+IsPlaced placed.Already = Unit {0}
+IsPlaced placed.Refused = Unit {0}
+IsPlaced placed.NoMemory = ⊥
+
+-- a frame callback was placed at this moment of a host, whose sends were the one list and are the other
+abbrev pub PlacesBy : Pass → Pass → ℕ → List Sending → List Sending → ℕ → ℕ → ℕ → Type 0
+PlacesBy before after u sends sends' phase id delay = (r : Placed) × IsPlaced r × CallbackPostedBy before after (λ n. n == nanos_of u) sends sends' phase id None delay r
+
+-- the pass has seen one posting more of this phase and identity, and no fewer of others
+pub record CountsOn (phase id : ℕ) (before after : Pass) : Type 0 where
+  pub posts : (p i : ℕ) → count_by (posts_frame p i) before.view.seen + (if phase == p && id == i then 1 else 0) ≤ count_by (posts_frame p i) after.view.seen
+  pub removes : (p i : ℕ) → count_by (removes_frame p i) before.view.seen ≤ count_by (removes_frame p i) after.view.seen
+
+-- the pass has seen one removal more of this phase and identity, and no fewer of others
+pub record RemovesFrame (phase id : ℕ) (before after : Pass) : Type 0 where
+  pub removes : (p i : ℕ) → count_by (removes_frame p i) before.view.seen + (if phase == p && id == i then 1 else 0) ≤ count_by (removes_frame p i) after.view.seen
+  pub posts : (p i : ℕ) → count_by (posts_frame p i) before.view.seen ≤ count_by (posts_frame p i) after.view.seen
+
+-- a frame callback was posted by this handler, at an uptime with a delay: with a delay the sender posted the message for its due time, and else it made no call
+pub record PostsFrame (handler u phase id delay : ℕ) (before after : Sender) (seen seen' : Pass) : Type 0 where
+  pub calls : MatchBool (delay == 0) (own after ≡ own before)
+      (Makes before after (Post (record { handler = handler; what = 2; arg = phase; obj = None; callback = None; when = later (min u 18446744073709) delay; asynchronous = true; slot = None })) [])
+  pub counts : CountsOn phase id seen seen'

@@ -1,5 +1,6 @@
 pub mod Growth
 pub mod Requests
+pub mod Planning
 pub mod Kits
 pub mod Dealing
 pub mod Hosts
@@ -9,5 +10,6 @@ pub mod Players
 pub mod Controllers
 pub mod Staged
 pub mod Records
+pub mod Runs
 pub mod Stages
 pub mod Ending

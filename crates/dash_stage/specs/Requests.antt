@@ -1,5 +1,5 @@
 -- The calls that are made by handlers.
-use Rattle.std.specs.Prelude.{ℕ, true, Option, Some, None, List, [], ◌∷◌}
+use Rattle.std.specs.Prelude.{ℕ, Bool, true, false, Option, Some, None, List, [], ◌∷◌}
 use Rattle.loop_model.specs.declared.call.Call.{Call}
 use Rattle.loop_model.specs.declared.call.Call.TheVariants.{Post, Remove, Barrier, Unbarrier, Quit}
 use Rattle.loop_model.specs.declared.post.Kind.TheVariants as kind
@@ -41,6 +41,11 @@ call_made (on_queue.ByHandler handler request) = call_by handler request
 call_made (on_queue.PostBarrier now) = Barrier 0
 call_made (on_queue.RemoveBarrier token) = Unbarrier token
 call_made (on_queue.Quit safe now) = Quit safe 0
+
+-- the call is a barrier's posting, which is answered a token
+abbrev pub posts_barrier : QueueCall → Bool
+posts_barrier (on_queue.PostBarrier now) = true
+posts_barrier _ = false
 
 -- the token that was answered, where one was
 abbrev pub tokens_of : Option ℕ → List ℕ

@@ -1,9 +1,9 @@
 //! One call of a sender on a queue.
-ghost use Rattle.std.specs.Prelude.{◌≡◌, IfOk, OnErr};
+ghost use Rattle.std.specs.Prelude.{◌≡◌, is_some, IfOk, OnErr};
 ghost use Rattle.handler_post.specs.Ways.{IsReady, IsSameWay};
 ghost use Rattle.shared_queue.specs.Known.{IsOf};
 ghost use Rattle.dash_stage.specs.Growth.{own, GoesOn, Makes, WayGoesOn, WayMakes};
-ghost use Rattle.dash_stage.specs.Requests.{call_made, tokens_of};
+ghost use Rattle.dash_stage.specs.Requests.{call_made, tokens_of, posts_barrier};
 
 use crate::barriers::{post_barrier, quit, remove_barrier};
 use crate::handlers::{Request, make};
@@ -36,6 +36,7 @@ pub(crate) fn perform<R: Wait>(
     ensures on { WayGoesOn way.old way.new }
     ensures made { IfOk result (λ token. WayMakes way.old way.new (call_made call) (tokens_of token)) }
     ensures none { OnErr result (own way.new.poster.now ≡ own way.old.poster.now) }
+    ensures token { IfOk result (λ token. is_some token ≡ posts_barrier call) }
 {
     match call {
         QueueCall::ByHandler { handler, request } => {
@@ -73,6 +74,7 @@ pub(crate) fn perform_by<R: Wait>(
     ensures on { GoesOn poster.old poster.new pass.old pass.new }
     ensures made { IfOk result (λ token. Makes poster.old poster.new (call_made call) (tokens_of token)) }
     ensures none { OnErr result (own poster.new ≡ own poster.old) }
+    ensures token { IfOk result (λ token. is_some token ≡ posts_barrier call) }
 {
     let mut way = Way {
         queue,

@@ -4,7 +4,7 @@ ghost use Rattle.loop_model.specs.declared.call.Call.TheVariants.{Barrier, Unbar
 ghost use Rattle.choreographer.specs.Known.{IsOf as IsFrameOf};
 ghost use Rattle.dash_stage.specs.Growth.{Makes};
 ghost use Rattle.dash_stage.specs.Kits.{frame_badge_of};
-ghost use Rattle.dash_stage.specs.Hosts.{Origin, origin_of, IsHost, nanos_of, sends_by};
+ghost use Rattle.dash_stage.specs.Hosts.{Origin, origin_of, IsHost, nanos_of, sends_by, PlacesBy};
 
 use crate::barriers::{post_barrier, remove_barrier};
 use crate::view_root::ViewRoot;
@@ -160,10 +160,14 @@ impl<'a, R: Wait> Host<'a, R> {
         ensures ready { IsHost (origin_of self.new.queue.now self.new.pool.now self.new.poster.ghost_name self.new.pass.ghost_name self.new.began.now.value self.new.pass_began.now.value self.new.handler.id self.new.now) self.new.poster.now self.new.pass.now }
         ensures origin { origin_of self.new.queue.now self.new.pool.now self.new.poster.ghost_name self.new.pass.ghost_name self.new.began.now.value self.new.pass_began.now.value self.new.handler.id self.new.now ≡ origin_of self.old.queue.now self.old.pool.now self.old.poster.ghost_name self.old.pass.ghost_name self.old.began.now.value self.old.pass_began.now.value self.old.handler.id self.old.now }
         ensures pass { frame_badge_of pass.new ≡ frame_badge_of pass.old }
+        ensures turn { OnOk result (PlacesBy pass.old pass.new self.old.now (sends_by self.old.handler.id self.old.poster.now) (sends_by self.new.handler.id self.new.poster.now) phase id delay) }
     {
         match c.post_callback(self.rt, pass, self, phase, id, None, delay) {
+            Placed::Asked => Ok(()),
+            Placed::Sent => Ok(()),
+            Placed::Already => Ok(()),
+            Placed::Refused => Ok(()),
             Placed::NoMemory => Err(NoMemory),
-            _ => Ok(()),
         }
     }
 }

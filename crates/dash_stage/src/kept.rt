@@ -1,10 +1,14 @@
 //! The report of a run.
 ghost use Rattle.std.specs.Prelude.{◌≡◌, ◌<◌, ◌+◌, IfOk, OnOk, map};
-ghost use Rattle.run_model.specs.Senders.{numbers_from};
+ghost use Rattle.std.specs.List.{AllByRecursion};
+ghost use Rattle.dash_script.specs.Reading.{HasText};
+ghost use Rattle.run_model.specs.Moments.{in_lockstep};
+ghost use Rattle.run_model.specs.Run.{IsAsPlanned, IsFrameRun};
 ghost use Rattle.dash_stage.specs.Kits.{IsHall, AreKitsOf};
 ghost use Rattle.dash_stage.specs.Records.{AreQueueRecords, AreFrameRecords, AreJournals};
 ghost use Rattle.dash_stage.specs.Staged.{Stages};
-ghost use Rattle.dash_stage.specs.Stages.{IsStage, IsPlayable, AreThreads, AreLoopers, AreThreadKits, AreSenderKits};
+ghost use Rattle.dash_stage.specs.Runs.{HaveRunAll};
+ghost use Rattle.dash_stage.specs.Stages.{IsStage, IsPlayable, HaveRun, AreThreads, AreLoopers, AreThreadKits, AreSenderKits};
 
 use crate::hall::Hall;
 use crate::kit::Kit;
@@ -22,7 +26,9 @@ use std::alloc::Global;
 /// The report of a run that left this.
 pub(crate) fn report(alloc: Global, script: Script, stage: Stage) -> Ran
     requires playable { IsPlayable script }
+    requires text { HasText script }
     requires stage { IsStage script stage }
+    requires run { HaveRun script script.blocks stage.threads.items }
     ensures { Stages script result }
 {
     match kept(alloc, &script, stage) {
@@ -45,9 +51,13 @@ fn kept(
 ) -> Result<(Vec<QueueRecord>, Vec<Journal>, Vec<FrameRecord>), NoMemory>
     requires playable { IsPlayable script.now }
     requires stage { IsStage script.now stage }
+    requires text { HasText script.now }
+    requires run { HaveRun script.now script.now.blocks stage.threads.items }
     ensures queues { IfOk result (λ r. AreQueueRecords script.now r.0.items) }
+    ensures planned { IfOk result (λ r. AllByRecursion (IsAsPlanned in_lockstep script.now) r.0.items) }
     ensures journals { IfOk result (λ r. AreJournals script.now r.1.items) }
     ensures frames { IfOk result (λ r. AreFrameRecords script.now r.2.items) }
+    ensures run { IfOk result (λ r. AllByRecursion (IsFrameRun script.now) r.2.items) }
 {
     let Stage {
         hall,
@@ -71,8 +81,10 @@ fn thread_kits(
     hall: &Hall,
     mut threads: Vec<PostingThread>,
 ) -> Result<Vec<Kit>, NoMemory>
-    requires { AreThreads script.now hall.now threads.items }
-    ensures { IfOk result (λ v. AreThreadKits script.now hall.now v.items) }
+    requires threads { AreThreads script.now hall.now threads.items }
+    requires run { HaveRun script.now script.now.blocks threads.items }
+    ensures kits { IfOk result (λ v. AreThreadKits script.now hall.now v.items) }
+    ensures run { IfOk result (λ v. HaveRunAll script.now v.items) }
 {
     let mut kits = Vec::new(alloc);
     'each: while !threads.is_empty() {
@@ -94,6 +106,7 @@ fn looper_kits(
     requires kits { AreThreadKits script.now hall.now kits.old.items }
     ensures journals { IfOk result (λ v. AreJournals script.now v.items) }
     ensures kits { OnOk result (AreSenderKits script.now hall.now kits.new.items) }
+    ensures run { OnOk result (HaveRunAll script.now kits.old.items → HaveRunAll script.now kits.new.items) }
 {
     let mut journals = Vec::new(alloc);
     'each: while !loopers.is_empty() {

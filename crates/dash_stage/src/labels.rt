@@ -1,7 +1,6 @@
 //! The barriers that a thread has posted.
-
-use loop_model::NoMemory;
-use std::alloc::Global;
+ghost use Rattle.std.specs.Prelude.{◌≡◌, ◌==◌};
+ghost use Rattle.std.specs.List.{find as first_with};
 
 /// A barrier that a thread posted under a label.
 #[derive(Clone, Copy, Debug, PartialEq, Eq)]
@@ -11,8 +10,10 @@ pub(crate) struct Labelled {
     pub(crate) token: u64,
 }
 
-/// The thread's barrier of this label.
-pub(crate) fn find(barriers: &[Labelled], label: u32) -> Option<Labelled> {
+/// The thread's barrier of this label, the first of them.
+pub(crate) fn find(barriers: &[Labelled], label: u32) -> Option<Labelled>
+    ensures { result ≡ first_with (λ b. b.label == label) barriers.now }
+{
     for barrier in barriers {
         if barrier.label == label {
             return Some(*barrier);

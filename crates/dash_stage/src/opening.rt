@@ -1,7 +1,8 @@
 //! A stage before the first event.
 ghost use Rattle.std.specs.Prelude.{◌≡◌, ◌<◌, ◌+◌, [], IfOk, OnOk, length};
 ghost use Rattle.dash_stage.specs.Kits.{IsHall};
-ghost use Rattle.dash_stage.specs.Stages.{IsStage, IsPlayable, AreKitsFrom, AreThreads, AreLoopers};
+ghost use Rattle.dash_stage.specs.Runs.{AreUnusedKits};
+ghost use Rattle.dash_stage.specs.Stages.{IsStage, IsPlayable, HaveRun, AreKitsFrom, AreThreads, AreLoopers};
 
 use crate::control::Controller;
 use crate::hall::{Hall, open};
@@ -16,7 +17,8 @@ use std::alloc::Global;
 /// The senders of a script, which have done nothing.
 pub(crate) fn set_up(alloc: Global, script: &Script) -> Result<Stage, NoMemory>
     requires { IsPlayable script.now }
-    ensures { IfOk result (λ st. IsStage script.now st) }
+    ensures stage { IfOk result (λ st. IsStage script.now st) }
+    ensures begun { IfOk result (λ st. HaveRun script.now [] st.threads.items) }
 {
     let (hall, mut kits, pass) = open(alloc, script)?;
     let threads = threads(alloc, script, &hall, &mut kits)?;
@@ -43,7 +45,9 @@ fn threads(
 ) -> Result<Vec<PostingThread>, NoMemory>
     requires few { script.now.threads + script.now.loopers < 100 }
     requires kits { AreKitsFrom script.now hall.now 0 kits.old.items }
+    requires unused { AreUnusedKits kits.old.items }
     ensures threads { IfOk result (λ v. AreThreads script.now hall.now v.items) }
+    ensures begun { IfOk result (λ v. HaveRun script.now [] v.items) }
     ensures kits { OnOk result (AreKitsFrom script.now hall.now script.now.threads kits.new.items) }
 {
     let mut threads = Vec::new(alloc);

@@ -1,4 +1,6 @@
 //! The call that a command plans on a queue.
+ghost use Rattle.std.specs.Prelude.{◌≡◌};
+ghost use Rattle.dash_stage.specs.Planning.{call_planned, request_planned, request_to};
 
 use crate::calls::QueueCall;
 use crate::handlers::{Request, gauge_handler, handler_of, looper_of};
@@ -19,7 +21,9 @@ pub(crate) fn call_for(
     barriers: &[Labelled],
     now: u64,
     command: Command,
-) -> Option<PlannedCall> {
+) -> Option<PlannedCall>
+    ensures { result ≡ call_planned script.now barriers.now now command }
+{
     match command {
         Command::Barrier { looper, .. } => Some(PlannedCall {
             looper,
@@ -47,7 +51,9 @@ pub(crate) fn call_for(
 }
 
 /// The call of a command that sends or removes messages by a handler.
-fn call_by_handler(script: &Script, now: u64, command: Command) -> Option<PlannedCall> {
+fn call_by_handler(script: &Script, now: u64, command: Command) -> Option<PlannedCall>
+    ensures { result ≡ request_planned script.now now command }
+{
     match command {
         Command::Post {
             handler,
@@ -111,7 +117,9 @@ fn call_by_handler(script: &Script, now: u64, command: Command) -> Option<Planne
 }
 
 /// A request to a declared handler, on its looper.
-fn requested(script: &Script, handler: u32, request: Request) -> PlannedCall {
+fn requested(script: &Script, handler: u32, request: Request) -> PlannedCall
+    ensures { result ≡ request_to script.now handler request }
+{
     PlannedCall {
         looper: looper_of(script, handler),
         call: QueueCall::ByHandler {

@@ -2,7 +2,7 @@
 ghost use Rattle.std.specs.Prelude.{IfOk};
 ghost use Rattle.dash_script.specs.Reading.{HasText};
 ghost use Rattle.dash_stage.specs.Staged.{Stages};
-ghost use Rattle.dash_stage.specs.Stages.{IsStage};
+ghost use Rattle.dash_stage.specs.Stages.{IsStage, HaveRun};
 
 use crate::kept::report;
 use crate::opening::set_up;
@@ -51,7 +51,8 @@ fn played<R: Threads + Wait + Sync, G: Gate + Sync>(
     gate: &G,
 ) -> Result<Stage, NoMemory>
     requires { HasText script.now }
-    ensures { IfOk result (λ st. IsStage script.now st) }
+    ensures stage { IfOk result (λ st. IsStage script.now st) }
+    ensures run { IfOk result (λ st. HaveRun script.now script.now.blocks st.threads.items) }
 {
     let mut stage = set_up(alloc, script)?;
     stage.play(rt, alloc, script, gate)?;

@@ -49,6 +49,7 @@ pub(crate) fn run_threads<R: Threads + Wait + Sync, G: Gate + Sync>(
     requires hall { IsHall script.now hall.now }
     requires threads { AreThreads script.now hall.now threads.old }
     ensures threads { AreThreads script.now hall.now threads.new }
+    ensures run { OnOk result (RunOn script.now block.now threads.old threads.new) }
 {
     let count = threads.len().max(1);
     for_each_mut(
@@ -57,7 +58,7 @@ pub(crate) fn run_threads<R: Threads + Wait + Sync, G: Gate + Sync>(
         count,
         &|_, thread: &mut PostingThread|
             requires { IsSync R.row × IsSync G.row × HasText script.now × IsHall script.now hall.now × IsThread script.now hall.now thread.old }
-            ensures { IsThread script.entry.now hall.entry.now thread.new × (thread.new.number ≡ thread.old.number) }
+            ensures { IsThread script.entry.now hall.entry.now thread.new × (thread.new.number ≡ thread.old.number) × (thread.new.gave_up ≡ false → Continues script.entry.now block.entry.now thread.old thread.new) }
         { thread.run_block(rt, alloc, hall, script, gate, block) },
     );
     if has_given_up(threads) {
@@ -67,7 +68,9 @@ pub(crate) fn run_threads<R: Threads + Wait + Sync, G: Gate + Sync>(
 }
 
 /// Whether one of the threads found no memory.
-fn has_given_up(threads: &[PostingThread]) -> bool {
+fn has_given_up(threads: &[PostingThread]) -> bool
+    ensures { result ≡ false → GoOn threads.now }
+{
     for thread in threads {
         if thread.gave_up {
             return true;

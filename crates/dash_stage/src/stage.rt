@@ -41,7 +41,9 @@ impl Stage {
         requires text { HasText script.now }
         requires some { 0 < script.now.loopers }
         requires stage { IsStage script.now self.old }
+        requires begun { HaveRun script.now [] self.old.threads.items }
         ensures stage { IsStage script.now self.new }
+        ensures run { OnOk result (HaveRun script.now script.now.blocks self.new.threads.items) }
     {
         for block in script.blocks.as_slice() {
             self.go_to(rt, alloc, script, gate, block.time)?;
@@ -141,6 +143,7 @@ impl Stage {
         requires text { HasText script.now }
         requires stage { IsStage script.now self.old }
         ensures stage { IsStage script.now self.new }
+        ensures run { OnOk result (RunOn script.now block.now self.old.threads.items self.new.threads.items) }
     {
         run_threads(
             rt,

@@ -1,11 +1,15 @@
 //! A thread of a script, and its commands.
-ghost use Rattle.std.specs.Prelude.{◌≡◌, ◌<◌, false, OnOk};
+ghost use Rattle.std.specs.Prelude.{◌≡◌, ◌<◌, [], length, false, is_some, IfOk, OnOk};
+ghost use Rattle.dash_script.specs.declared.script.Script.{Script as TheScript};
+ghost use Rattle.dash_script.specs.declared.script.Command.TheVariants.{Frame, Unframe};
 ghost use Rattle.dash_script.specs.Reading.{HasText};
 ghost use Rattle.shared_queue.specs.Known.{IsOf};
 ghost use Rattle.choreographer.specs.Known.{IsOf as IsFrameOf};
 ghost use Rattle.dash_stage.specs.Growth.{GoesOn};
 ghost use Rattle.dash_stage.specs.Kits.{IsHall, frame_badge_of};
-ghost use Rattle.dash_stage.specs.Threads.{IsThread, Continues, HasBegun};
+ghost use Rattle.dash_stage.specs.Hosts.{PostsFrame};
+ghost use Rattle.dash_stage.specs.Requests.{call_made, tokens_of, posts_barrier};
+ghost use Rattle.dash_stage.specs.Threads.{IsThread, CallsAt, with_barrier, MakesPlanned, Takes, Continues, HasMadeNone, HasBegun};
 
 use crate::calls::{QueueCall, perform_by};
 use crate::hall::{Hall, PHASES};
@@ -37,9 +41,12 @@ pub(crate) struct PostingThread {
 }
 
 impl PostingThread {
+    /// A thread that has run nothing yet.
     pub(crate) fn new(alloc: Global, number: u32, kit: Kit) -> PostingThread
         ensures number { result.number ≡ number }
         ensures kit { result.kit ≡ kit }
+        ensures goes { result.gave_up ≡ false }
+        ensures begun { (s : TheScript) → HasMadeNone kit.posters.items → HasBegun s result }
     {
         PostingThread {
             number,
@@ -79,15 +86,41 @@ impl PostingThread {
         requires thread { IsThread script.now hall.now self.old }
         ensures thread { IsThread script.now hall.now self.new }
         ensures number { self.new.number ≡ self.old.number }
+        ensures goes { self.new.gave_up ≡ false → self.old.gave_up ≡ false }
+        ensures made { self.new.gave_up ≡ false → Continues script.now block.now self.old self.new }
     {
         for line in block.lines.as_slice() {
-            if line.thread == self.number && !self.gave_up {
-                gate.pass(self.number, self.passed);
-                self.passed = self.passed.saturating_add(1);
-                let done = self.run(rt, alloc, hall, script, block.time, line.command);
-                self.gave_up = done.is_err();
+            if line.thread == self.number {
+                self.run_line(rt, alloc, hall, script, gate, block.time, line.command);
             }
         }
+    }
+
+    /// Passes the gate and runs a command at this uptime, in milliseconds, unless it has given up.
+    fn run_line<R: Wait, G: Gate>(
+        &mut self,
+        rt: &R,
+        alloc: Global,
+        hall: &Hall,
+        script: &Script,
+        gate: &G,
+        now: u64,
+        command: Command,
+    )
+        requires text { HasText script.now }
+        requires hall { IsHall script.now hall.now }
+        requires thread { IsThread script.now hall.now self.old }
+        ensures thread { IsThread script.now hall.now self.new }
+        ensures number { self.new.number ≡ self.old.number }
+        ensures made { self.new.gave_up ≡ false → (self.old.gave_up ≡ false) × Takes script.now (record { time = now; command = command }) self.old self.new }
+    {
+        if self.gave_up {
+            return;
+        }
+        gate.pass(self.number, self.passed);
+        self.passed = self.passed.saturating_add(1);
+        let done = self.run(rt, alloc, hall, script, now, command);
+        self.gave_up = done.is_err();
     }
 
     /// Runs a command at this uptime, in milliseconds.
@@ -105,6 +138,7 @@ impl PostingThread {
         requires thread { IsThread script.now hall.now self.old }
         ensures thread { IsThread script.now hall.now self.new }
         ensures number { self.new.number ≡ self.old.number }
+        ensures made { OnOk result (Takes script.now (record { time = now; command = command }) self.old self.new) }
     {
         match command {
             Command::Frame {
@@ -114,7 +148,7 @@ impl PostingThread {
                 delay,
             } => self.post_frame(rt, alloc, hall, script, now, looper, phase, id, delay),
             Command::Unframe { looper, phase, id } => {
-                self.remove_frame(rt, hall, script, looper, phase, id)
+                self.remove_frame(rt, hall, script, now, looper, phase, id)
             }
             Command::Idle { .. } => hand_in(rt, hall, command),
             Command::Watch { .. } => hand_in(rt, hall, command),
@@ -137,6 +171,7 @@ impl PostingThread {
         requires thread { IsThread script.now hall.now self.old }
         ensures thread { IsThread script.now hall.now self.new }
         ensures number { self.new.number ≡ self.old.number }
+        ensures made { OnOk result (MakesPlanned script.now now command self.old self.new) }
     {
         let Some(planned) = call_for(script, self.barriers.as_slice(), now, command) else {
             return Ok(());
@@ -159,6 +194,10 @@ impl PostingThread {
         requires thread { IsThread script.now hall.now self.old }
         ensures thread { IsThread script.now hall.now self.new }
         ensures number { self.new.number ≡ self.old.number }
+        ensures made { IfOk result (λ token. CallsAt looper (call_made call) (tokens_of token) self.old.kit.posters.items self.new.kit.posters.items) }
+        ensures token { IfOk result (λ token. looper < length self.old.kit.posters.items → is_some token ≡ posts_barrier call) }
+        ensures barriers { self.new.barriers ≡ self.old.barriers }
+        ensures frames { self.new.kit.frames ≡ self.old.kit.frames }
     {
         let place = looper as usize;
         if place < self.kit.posters.len() && place < hall.queues.len() {
@@ -179,6 +218,7 @@ impl PostingThread {
     fn keep(&mut self, command: Command, token: Option<u64>) -> Result<(), NoMemory>
         ensures kit { self.new.kit ≡ self.old.kit }
         ensures number { self.new.number ≡ self.old.number }
+        ensures kept { OnOk result (self.new.barriers.items ≡ with_barrier self.old.barriers.items command token) }
     {
         let Command::Barrier { looper, label } = command else {
             return Ok(());
@@ -212,6 +252,7 @@ impl PostingThread {
         requires thread { IsThread script.now hall.now self.old }
         ensures thread { IsThread script.now hall.now self.new }
         ensures number { self.new.number ≡ self.old.number }
+        ensures made { OnOk result (Takes script.now (record { time = now; command = Frame looper phase id delay }) self.old self.new) }
     {
         let place = looper as usize;
         if place < self.kit.posters.len()
@@ -239,20 +280,23 @@ impl PostingThread {
         Ok(())
     }
 
-    /// Takes a frame callback out of its phase.
+    /// Takes a frame callback out of its phase, at this uptime.
     fn remove_frame<R: Wait>(
         &mut self,
         rt: &R,
         hall: &Hall,
         script: &Script,
+        now: u64,
         looper: u32,
         phase: u32,
         id: u32,
     ) -> Result<(), NoMemory>
+        requires text { HasText script.now }
         requires hall { IsHall script.now hall.now }
         requires thread { IsThread script.now hall.now self.old }
         ensures thread { IsThread script.now hall.now self.new }
         ensures number { self.new.number ≡ self.old.number }
+        ensures made { OnOk result (Takes script.now (record { time = now; command = Unframe looper phase id }) self.old self.new) }
     {
         let place = looper as usize;
         if place < self.kit.frames.len() && place < hall.choreographers.len() && phase < PHASES {
@@ -290,6 +334,7 @@ fn post_frame<R: Wait>(
     requires frames { IsFrameOf frames.old choreographer.now × (phase < choreographer.now.constants.phases) }
     ensures on { GoesOn poster.old poster.new pass.old pass.new }
     ensures frames { frame_badge_of frames.new ≡ frame_badge_of frames.old }
+    ensures made { OnOk result (PostsFrame handler.id now phase id delay poster.old poster.new frames.old frames.new) }
 {
     let began = Snapshot::of(poster);
     let pass_began = Snapshot::of(pass);

@@ -3,6 +3,8 @@ use Rattle.std.specs.List.{AllByRecursion}
 use Rattle.loop_model.specs.declared.journal.Journal.{Journal}
 use Rattle.loop_model.specs.declared.record.QueueRecord.{QueueRecord}
 use Rattle.frame_phases.specs.declared.entry.FrameRecord.{FrameRecord}
+use Rattle.run_model.specs.Moments.{in_lockstep}
+use Rattle.run_model.specs.Run.{IsAsPlanned, IsFrameRun}
 use Rattle.dash_stage.specs.Records.{AreQueueRecords, AreJournals, AreFrameRecords}
 use Rattle.dash_stage.proofs.kept.report.Goals as goal
 
@@ -11,8 +13,11 @@ returns-in-Ok c =
     let s = c.args.script in
     let queues = subst (λ (l : List QueueRecord). AreQueueRecords s l) (sym c.from_vec.ensures) c.in-Ok.ensures.queues in
     let journals = subst (λ (l : List Journal). AreJournals s l) (sym c.from_vec-in-Ok.ensures) c.in-Ok.ensures.journals in
+    let planned = subst (λ (l : List QueueRecord). AllByRecursion (IsAsPlanned in_lockstep s) l) (sym c.from_vec.ensures) c.in-Ok.ensures.planned in
+    let runs = subst (λ (l : List FrameRecord). AllByRecursion (IsFrameRun s) l) (sym c.from_vec-in-Ok-2.ensures) c.in-Ok.ensures.run in
     let frames = subst (λ (l : List FrameRecord). AreFrameRecords s l) (sym c.from_vec-in-Ok-2.ensures) c.in-Ok.ensures.frames in record {
       report = record { script = refl; queues = queues.loopers; journals = journals; frames = frames.loopers };
       records = record { mode = refl; start = refl; histories = queues.histories };
-      frames = frames.lawful;
+      planned = planned;
+      frames = runs;
     }

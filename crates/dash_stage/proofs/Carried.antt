@@ -1,0 +1,191 @@
+-- What the threads have run is carried from their kits at the start to the records at the end.
+use Rattle.std.proofs.Common.{◌≡◌, ◌<◌, ◌≤◌, ◌+◌, ◌==◌, ℕ, zero, suc, List, [], ◌∷◌, ◌++◌, map, length, refl, sym, ap, ◌∙◌, subst, arith, slice_index_or, cond, Bool, if◌then◌else◌}
+use Rattle.std.specs.Prelude.{count_by}
+use Rattle.std.specs.List.{remove, AllByRecursion, filter_map, flat_map}
+use Rattle.std.proofs.lemmas.List.{get_or-map, length-append, length-map}
+use Rattle.std.proofs.lemmas.List.Sums.{sum_by-append}
+use mathlib.Core.List.{IsPrefix}
+use Rattle.loop_model.specs.declared.entry.Entry.{Entry}
+use Rattle.loop_model.specs.declared.record.QueueRecord.{QueueRecord}
+use Rattle.loop_model.proofs.WellFormedLaws.{All_recursive, All_indexed}
+use Rattle.frame_phases.specs.declared.entry.FrameRecord.{FrameRecord}
+use Rattle.dash_script.specs.declared.script.Script.{Script}
+use Rattle.dash_script.specs.Reading.{HasText}
+use Rattle.looper_run.specs.Holding.{Sender}
+use Rattle.choreographer.specs.Known.{Known as Pass}
+use Rattle.run_model.specs.Moments.{in_lockstep}
+use Rattle.run_model.specs.Senders.{numbers_from, phase_count}
+use Rattle.run_model.specs.Asks.{entries_by, tokens_in}
+use Rattle.run_model.specs.Planned.{Timed, lines_of, labels_on, MakeCalls, IsPlanned}
+use Rattle.run_model.specs.Asks.{AreFor}
+use Rattle.run_model.specs.FrameRuns.{posts_frame, removes_frame}
+use Rattle.run_model.specs.Run.{IsAsPlanned, IsFrameRun, is_frame_line, is_unframe_line}
+use Rattle.dash_stage.specs.declared.hall.Hall.{Hall}
+use Rattle.dash_stage.specs.declared.kit.Kit.{Kit}
+use Rattle.dash_stage.specs.declared.labels.Labelled.{Labelled}
+use Rattle.dash_stage.specs.declared.thread.PostingThread.{PostingThread}
+use Rattle.dash_stage.specs.Growth.{own}
+use Rattle.dash_stage.specs.Kits.{badge_of, badge_for, frame_badge_of, frame_badge_for, IsHall, IsKitOf, AreKitsOf}
+use Rattle.dash_stage.specs.Threads.{IsThread, IsUpTo, HasCalled, HasPosted, HasRemoved, labels_kept, tokens_kept}
+use Rattle.dash_stage.specs.Staged.{IsFrameRecord}
+use Rattle.dash_stage.specs.Records.{AreQueueRecords, AreFrameRecords, HaveAll, HaveSeen, AreUsedNowhere}
+use Rattle.dash_stage.specs.Runs.{IsUnusedKit, AreUnusedKits, HasRunAll, HaveRunAll, HaveRunFrom}
+use Rattle.dash_stage.specs.Stages.{AreThreadsFrom, AreFirstKits, AreFirstThreads, AreKitsFrom, HaveRun}
+use Rattle.dash_stage.proofs.Badges.{alike_length, queue_count, choreographer_count}
+use Rattle.dash_stage.proofs.Casting.{first_more, first_thread, other_threads, kit_of_thread, other_kits, frames_of_thread}
+
+-- kits that were used nowhere
+pub unused_kits : (kits : List Kit) → AreUsedNowhere kits → AreUnusedKits kits
+unused_kits kits h = λ k d lt. record { posters = λ q p below. (h k q d lt).0 p below; frames = λ q p below. (h k q d lt).1 p below }
+
+pub other_unused : (kits : List Kit) → AreUnusedKits kits → 0 < length kits → AreUnusedKits (remove kits 0)
+other_unused [] h some = absurd (omega (arith, some))
+other_unused (x ∷ kits) h some = λ k d lt. h (suc k) d (omega (arith, lt))
+
+module _ (s : Script) (hall : Hall) where
+  -- one thread more was made
+  pub thread_made : (n : ℕ) (kits kits' : List Kit) (ts ts' : List PostingThread) (t : PostingThread) → AreKitsFrom s hall n kits → AreUnusedKits kits → 0 < length kits → kits' ≡ remove kits 0
+      → length ts ≡ n → AreFirstThreads s hall ts → HaveRun s [] ts → IsThread s hall t → t.number ≡ n → IsUpTo s [] t → ts' ≡ ts ++ t ∷ []
+      → AreKitsFrom s hall (n + 1) kits' × AreUnusedKits kits' × (length ts' ≡ n + 1) × AreFirstThreads s hall ts' × HaveRun s [] ts'
+  thread_made n kits kits' ts ts' t are unused some rest count first run is number new grown =
+      let more : length ts' ≡ length ts + 1 = ap length grown ∙ length-append ts (t ∷ []) in (
+        subst (AreKitsFrom s hall (n + 1)) (sym rest) (other_kits s hall n kits are some),
+        subst AreUnusedKits (sym rest) (other_unused kits unused some),
+        omega (arith, more, count),
+        subst (AreFirstThreads s hall) (sym grown) (first_more (λ k (z : PostingThread). IsThread s hall z × (z.number ≡ k)) ts t first (is, number ∙ sym count)),
+        subst (HaveRun s []) (sym grown) (first_more (λ k (z : PostingThread). IsUpTo s [] z) ts t run new),
+      )
+
+  -- the threads' lines behind those of the first one
+  other_run : (n : ℕ) (ts : List PostingThread) → HaveRunFrom s n ts → 0 < length ts → HaveRunFrom s (n + 1) (remove ts 0)
+  other_run n [] h some = absurd (omega (arith, some))
+  other_run n (x ∷ ts) h some = λ k d lt. subst (λ m. IsUpTo s (lines_of m s.blocks) (slice_index_or ts k d)) (let same : suc k + n ≡ k + (n + 1) = omega arith in same) (h (suc k) d (omega (arith, lt)))
+
+  pub run_from : (ts : List PostingThread) → HaveRun s s.blocks ts → HaveRunFrom s 0 ts
+  run_from ts h = λ k d lt. subst (λ m. IsUpTo s (lines_of m s.blocks) (slice_index_or ts k d)) (let same : k ≡ k + 0 = omega arith in same) (h k d lt)
+
+  pub threads_from : (ts : List PostingThread) → (length ts ≡ s.threads) × AreFirstThreads s hall ts → AreThreadsFrom s hall 0 ts
+  threads_from ts are =
+      let all = are.0 in record {
+        count = omega (arith, all);
+        each = λ k d lt. let is = are.1 k d lt in (is.0, is.1 ∙ (let same : k ≡ k + 0 = omega arith in same));
+      }
+
+  -- a thread that has run all its lines, told by its kit
+  kit_has_run : (n : ℕ) (t : PostingThread) → t.number ≡ n → IsUpTo s (lines_of n s.blocks) t → HasRunAll s n t.kit
+  kit_has_run n t number up = record {
+    called = subst (λ m. HasCalled s (lines_of n s.blocks) m t.kit.posters.items) number up.called;
+    posted = up.posted;
+    removed = up.removed;
+  }
+
+  -- one thread more has given its kit back
+  pub thread_back : (kits kits' : List Kit) (ts ts' : List PostingThread) (t : PostingThread) (kit : Kit) → AreThreadsFrom s hall (length kits) ts → HaveRunFrom s (length kits) ts → 0 < length ts
+      → t ≡ slice_index_or ts 0 t → ts' ≡ remove ts 0 → AreFirstKits s hall kits → HaveRunAll s kits → kit ≡ t.kit → kits' ≡ kits ++ kit ∷ []
+      → AreThreadsFrom s hall (length kits') ts' × HaveRunFrom s (length kits') ts' × AreFirstKits s hall kits' × HaveRunAll s kits'
+  thread_back kits kits' ts ts' t kit are run some is_t rest first ran is_kit grown =
+      let n = length kits in
+      let more : length kits' ≡ n + 1 = ap length grown ∙ length-append kits (kit ∷ []) in
+      let here = subst (λ (z : PostingThread). IsThread s hall z × (z.number ≡ n)) (sym is_t) (first_thread s hall n ts t are some) in
+      let up = subst (λ (z : PostingThread). IsUpTo s (lines_of n s.blocks) z) (sym is_t) (subst (λ m. IsUpTo s (lines_of m s.blocks) (slice_index_or ts 0 t)) (let same : 0 + n ≡ n = omega arith in same) (run 0 t some)) in
+      let is_of = subst (IsKitOf s hall n) (sym is_kit) (kit_of_thread s hall n t here.0 here.1) in
+      let has = subst (HasRunAll s n) (sym is_kit) (kit_has_run n t here.1 up) in (
+        subst (λ (z : List PostingThread). AreThreadsFrom s hall (length kits') z) (sym rest) (subst (λ m. AreThreadsFrom s hall m (remove ts 0)) (sym more) (other_threads s hall n ts are some)),
+        subst (λ (z : List PostingThread). HaveRunFrom s (length kits') z) (sym rest) (subst (λ m. HaveRunFrom s m (remove ts 0)) (sym more) (other_run n ts run some)),
+        subst (AreFirstKits s hall) (sym grown) (first_more (IsKitOf s hall) kits kit first is_of),
+        subst (HaveRunAll s) (sym grown) (first_more (λ k (z : Kit). k < s.threads → HasRunAll s k z) kits kit ran (λ lt. has)),
+      )
+
+  -- before the first thread has given its kit back
+  pub threads_start : (kits : List Kit) (ts : List PostingThread) → kits ≡ [] → (length ts ≡ s.threads) × AreFirstThreads s hall ts → HaveRun s s.blocks ts
+      → AreThreadsFrom s hall (length kits) ts × HaveRunFrom s (length kits) ts × AreFirstKits s hall kits × HaveRunAll s kits
+  threads_start kits ts none are run =
+      subst (λ (l : List Kit). AreThreadsFrom s hall (length l) ts × HaveRunFrom s (length l) ts × AreFirstKits s hall l × HaveRunAll s l) (sym none)
+      (threads_from ts are, run_from ts run, (λ k d lt. absurd (omega (arith, lt))), (λ k d lt below. absurd (omega (arith, lt))))
+
+  -- a kit behind those of the threads tells nothing
+  pub run_kept : (kits kits' : List Kit) (kit : Kit) → s.threads ≤ length kits → kits' ≡ kits ++ kit ∷ [] → HaveRunAll s kits → HaveRunAll s kits'
+  run_kept kits kits' kit all grown ran =
+      subst (HaveRunAll s) (sym grown) (first_more (λ k (z : Kit). k < s.threads → HasRunAll s k z) kits kit ran (λ lt. absurd (omega (arith, lt, all))))
+
+any_of : {X : Type 0} (xs : List X) (k : ℕ) → k < length xs → X
+any_of [] k lt = absurd (omega (arith, lt))
+any_of (x ∷ xs) k lt = x
+
+length-numbers : (k n : ℕ) → length (numbers_from k n) ≡ n
+length-numbers k zero = refl
+length-numbers k (suc n) = ap suc (length-numbers (k + 1) n)
+
+numbers_at : (k n i d : ℕ) → i < n → slice_index_or (numbers_from k n) i d ≡ k + i
+numbers_at k zero i d lt = absurd (omega (arith, lt))
+numbers_at k (suc n) zero d lt = let same : k ≡ k + 0 = omega arith in same
+numbers_at k (suc n) (suc i) d lt = numbers_at (k + 1) n i d (omega (arith, lt)) ∙ (let same : k + 1 + i ≡ k + suc i = omega arith in same)
+
+module _ {X : Type 0} (f : X → ℕ) (n : ℕ) (xs : List X) (are : map f xs ≡ numbers_from 0 n) where
+  numbered_count : length xs ≡ n
+  numbered_count = sym (length-map xs f) ∙ ap length are ∙ length-numbers 0 n
+
+  numbered_at : (i : ℕ) (x : X) → i < length xs → f (slice_index_or xs i x) ≡ i
+  numbered_at i x lt =
+      sym (get_or-map f xs i x (f x) lt) ∙ ap (λ l. slice_index_or l i (f x)) are ∙ numbers_at 0 n i (f x) (subst (λ m. i < m) numbered_count lt)
+      ∙ (let same : 0 + i ≡ i = omega arith in same)
+
+-- a longer history has no fewer such entries
+count_prefix : {X : Type 0} (p : X → Bool) (xs ys : List X) → IsPrefix xs ys → count_by p xs ≤ count_by p ys
+count_prefix p xs ys h =
+    let sum : count_by p (xs ++ h.0) ≡ count_by p xs + count_by p h.0 = sum_by-append (λ x. cond (p x) 1 0) xs h.0 in
+    subst (λ l. count_by p xs ≤ count_by p l) h.1 (omega (arith, sum))
+
+module _ (s : Script) (hall : Hall) (h : IsHall s hall) (kits : List Kit) (are : AreKitsOf s hall kits) (run : HaveRunAll s kits) where
+  -- each thread's entries in the records are as its lines plan them
+  pub planned_records : (records : List QueueRecord) → AreQueueRecords s records → HaveAll kits records → AllByRecursion (IsAsPlanned in_lockstep s) records
+  planned_records records recs all = All_recursive (IsAsPlanned in_lockstep s) records (λ q r lt thread below.
+      let count = are.count in
+      let in_kits : thread < length kits = omega (arith, below, count) in
+      let d = any_of kits thread in_kits in
+      let kit = slice_index_or kits thread d in
+      let lines = lines_of thread s.blocks in
+      let few = numbered_count (λ (z : QueueRecord). z.looper) s.loopers records recs.loopers in
+      let long = alike_length badge_of (badge_for thread) kit.posters.items hall.queues.items (are.each thread d in_kits).posters ∙ queue_count s hall.pool hall.queues.items h.queues in
+      let in_posters : q < length kit.posters.items = omega (arith, lt, few, long) in
+      let p = any_of kit.posters.items q in_posters in
+      let is_q = numbered_at (λ (z : QueueRecord). z.looper) s.loopers records recs.loopers q r lt in
+      let made = (run thread d in_kits below).called q p in_posters in
+      let same = all thread q d p r in_kits lt in
+      subst (λ l. MakeCalls in_lockstep s (labels_on l lines) l lines (entries_by thread (slice_index_or records q r).entries)) (sym is_q)
+      (subst (λ (es : List Entry). MakeCalls in_lockstep s (labels_on q lines) q lines es) (sym same) made))
+
+  -- each frame record has the entries of the threads' lines
+  pub frame_runs : (frames : List FrameRecord) → HasText s → AreFrameRecords s frames → HaveSeen s.threads kits frames → AllByRecursion (IsFrameRun s) frames
+  frame_runs frames text recs seen = All_recursive (IsFrameRun s) frames (λ q f lt.
+      let is = All_indexed (IsFrameRecord s) frames recs.lawful q f lt in
+      let is_q = numbered_at (λ (z : FrameRecord). z.looper) s.loopers frames recs.loopers q f lt in
+      let few = numbered_count (λ (z : FrameRecord). z.looper) s.loopers frames recs.loopers in
+      let count = are.count in
+      let g = slice_index_or frames q f in record {
+        interval = is.interval;
+        phases = is.phases ∙ ap (λ e. if e == 2 then 5 else 4) (sym text.edition);
+        lawful = is.lawful;
+        posted = λ thread below phase id.
+            let in_kits : thread < length kits = omega (arith, below, count) in
+            let d = any_of kits thread in_kits in
+            let kit = slice_index_or kits thread d in
+            let marks = (are.each thread d in_kits).frames ∙ frames_of_thread s hall.choreographers.items thread below in
+            let long = alike_length frame_badge_of (frame_badge_for thread) kit.frames.items hall.choreographers.items marks ∙ choreographer_count s hall.choreographers.items h.choreographers in
+            let in_frames : q < length kit.frames.items = omega (arith, lt, few, long) in
+            let p = any_of kit.frames.items q in_frames in
+            let had = (run thread d in_kits below).posted q p in_frames phase id in
+            let grown = count_prefix (posts_frame phase id) (slice_index_or kit.frames.items q p).view.seen g.entries (seen thread q d p f below lt) in
+            subst (λ l. count_by (is_frame_line l phase id) (lines_of thread s.blocks) ≤ count_by (posts_frame phase id) g.entries) (sym is_q) (omega (arith, had, grown));
+        removed = λ thread below phase id.
+            let in_kits : thread < length kits = omega (arith, below, count) in
+            let d = any_of kits thread in_kits in
+            let kit = slice_index_or kits thread d in
+            let marks = (are.each thread d in_kits).frames ∙ frames_of_thread s hall.choreographers.items thread below in
+            let long = alike_length frame_badge_of (frame_badge_for thread) kit.frames.items hall.choreographers.items marks ∙ choreographer_count s hall.choreographers.items h.choreographers in
+            let in_frames : q < length kit.frames.items = omega (arith, lt, few, long) in
+            let p = any_of kit.frames.items q in_frames in
+            let had = (run thread d in_kits below).removed q p in_frames phase id in
+            let grown = count_prefix (removes_frame phase id) (slice_index_or kit.frames.items q p).view.seen g.entries (seen thread q d p f below lt) in
+            subst (λ l. count_by (is_unframe_line l phase id) (lines_of thread s.blocks) ≤ count_by (removes_frame phase id) g.entries) (sym is_q) (omega (arith, had, grown));
+      })

@@ -1,0 +1,28 @@
+use Rattle.std.proofs.Common.{◌≡◌, ◌≤◌, ◌+◌, length, arith}
+use Rattle.dash_stage.proofs.Casting.{all_kits}
+use Rattle.dash_stage.proofs.Carried.{run_kept, planned_records, frame_runs}
+use Rattle.dash_stage.proofs.kept.kept.Goals as goal
+
+pub returns-clause-planned : goal.returns-clause-planned
+returns-clause-planned c =
+    let s = c.args.script.now in
+    let hall = c.args.stage.hall in
+    let kits = c.looper_kits.new.kits.items in
+    let kits' = c.push.new.self.items in
+    let grown = c.in_ok-push.ensures.items in
+    let count = c.in_ok-journals.ensures.kits.0 in
+    let all : s.threads ≤ length kits = omega (arith, count) in
+    planned_records s hall c.requires.stage.hall kits' (all_kits s hall kits kits' c.args.stage.controller c.in_ok-journals.ensures.kits c.requires.stage.controller grown)
+    (run_kept s hall kits kits' c.args.stage.controller.kit all grown (c.in_ok-journals.ensures.run c.in_ok-kits.ensures.run)) c.in_ok-queues.queues.items c.in_ok-queues.ensures.queues c.in_ok-queues.ensures.all
+
+pub returns-clause-run : goal.returns-clause-run
+returns-clause-run c =
+    let s = c.args.script.now in
+    let hall = c.args.stage.hall in
+    let kits = c.looper_kits.new.kits.items in
+    let kits' = c.push.new.self.items in
+    let grown = c.in_ok-push.ensures.items in
+    let count = c.in_ok-journals.ensures.kits.0 in
+    let all : s.threads ≤ length kits = omega (arith, count) in
+    frame_runs s hall c.requires.stage.hall kits' (all_kits s hall kits kits' c.args.stage.controller c.in_ok-journals.ensures.kits c.requires.stage.controller grown)
+    (run_kept s hall kits kits' c.args.stage.controller.kit all grown (c.in_ok-journals.ensures.run c.in_ok-kits.ensures.run)) c.in_ok-queues.frames.items c.requires.text c.in_ok-queues.ensures.frames c.in_ok-queues.ensures.seen

@@ -1,0 +1,32 @@
+-- What the threads have run, told by their kits.
+use Rattle.std.specs.Prelude.{◌≡◌, ◌<◌, ◌+◌, ℕ, List, [], length, slice_index_or}
+use Rattle.dash_script.specs.declared.script.Script.{Script}
+use Rattle.run_model.specs.Planned.{lines_of}
+use Rattle.looper_run.specs.Holding.{Sender}
+use Rattle.choreographer.specs.Known.{Known as Pass}
+use Rattle.dash_stage.specs.declared.kit.Kit.{Kit}
+use Rattle.dash_stage.specs.declared.thread.PostingThread.{PostingThread}
+use Rattle.dash_stage.specs.Growth.{own}
+use Rattle.dash_stage.specs.Threads.{HasCalled, HasPosted, HasRemoved, IsUpTo}
+
+-- no call was made by the kit, and none of its passes has seen a frame callback
+pub record IsUnusedKit (kit : Kit) : Type 0 where
+  pub posters : (q : ℕ) (p : Sender) → q < length kit.posters.items → own (slice_index_or kit.posters.items q p) ≡ []
+  pub frames : (q : ℕ) (p : Pass) → q < length kit.frames.items → (slice_index_or kit.frames.items q p).view.seen ≡ []
+
+abbrev pub AreUnusedKits : List Kit → Type 0
+AreUnusedKits kits = (k : ℕ) (d : Kit) → k < length kits → IsUnusedKit (slice_index_or kits k d)
+
+-- on each queue the calls of all the thread's lines were made, and at each choreographer as many callbacks posted and removed
+pub record HasRunAll (s : Script) (thread : ℕ) (kit : Kit) : Type 0 where
+  pub called : HasCalled s (lines_of thread s.blocks) thread kit.posters.items
+  pub posted : HasPosted (lines_of thread s.blocks) kit.frames.items
+  pub removed : HasRemoved (lines_of thread s.blocks) kit.frames.items
+
+-- each thread's kit tells so
+abbrev pub HaveRunAll : Script → List Kit → Type 0
+HaveRunAll s kits = (k : ℕ) (d : Kit) → k < length kits → k < s.threads → HasRunAll s k (slice_index_or kits k d)
+
+-- the threads from n on have run all their lines
+abbrev pub HaveRunFrom : Script → ℕ → List PostingThread → Type 0
+HaveRunFrom s n ts = (k : ℕ) (d : PostingThread) → k < length ts → IsUpTo s (lines_of (k + n) s.blocks) (slice_index_or ts k d)
