@@ -9,6 +9,7 @@ Two inputs that are too large to be kept are made here, and so is what `make N` 
 """
 import difflib
 import pathlib
+import re
 import subprocess
 import sys
 
@@ -79,6 +80,50 @@ def races(program):
         print(f"{file.stem}: {len(seen)} of {len(lawful)} lawful reports seen in {RUNS} runs")
 
 
+def run(program, words, given=b""):
+    return subprocess.run([program, *words], input=given, capture_output=True, timeout=120).stdout.decode()
+
+
+def summaries(program):
+    """Of a generated script every accepted message is dispatched, and each gauge's last paint is its last set value."""
+    for number in range(4):
+        summary = run(program, ["make", str(number), "--run"])
+        counts = dict(re.findall(r"^(\w+) (\d+)$", summary, re.M))
+        if counts.get("summary") != str(number) or counts.get("accepted") != counts.get("dispatched"):
+            yield f"make_{number}_run", summary
+        if number == 0 and run(program, ["make", "0", "--run"]) != summary:
+            yield "make_0_run", "a second run has other counts"
+        script = generated(number)
+        last_set = dict(re.findall(r"^\d+ set (\d+) (\d+)$", script.decode(), re.M))
+        last_paint = dict(re.findall(r"paint (\d+) (\d+)$", run(program, ["run"], script), re.M))
+        if last_set != last_paint:
+            yield f"make_{number}", f"last paints {last_paint}, last sets {last_set}"
+
+
+def busy():
+    """A script with three loopers, four threads and six gauges, each gauge set by one thread alone."""
+    lines = ["dashboard 1", "loopers 3", "threads 4"]
+    lines += [f"handler {h} {h % 3}" for h in range(6)]
+    lines += [f"gauge {g} {g} {100 + 50 * g}" for g in range(6)]
+    lines += ["vsync 16666667", "on 1 7 times 20 post 2 8 3"]
+    for block in range(10):
+        lines.append(f"at {20 * block}")
+        lines += [f"{g % 4} set {g} {(37 * block + 101 * g) % 1001}" for g in range(6)]
+        lines += [f"{p} post {p} 7 {5 * p}" for p in range(4)]
+    return "\n".join([*lines, "end 2000", ""]).encode()
+
+
+def counts_stay(program):
+    """The counts of a busy script are the same in each of many runs."""
+    seen = set()
+    for _ in range(RUNS // 2):
+        report = run(program, ["run"], busy())
+        fates = re.findall(r"^fates accepted (\d+) dispatched (\d+)", report, re.M)
+        seen.add((tuple(fates), len(re.findall(r"paint", report))))
+    if len(seen) != 1:
+        yield "busy", f"counts differ from run to run: {seen}"
+
+
 def faults(program, words, given, code, report, error):
     try:
         got = subprocess.run([program, *words], input=given, capture_output=True, timeout=60)
@@ -109,7 +154,7 @@ def main():
             print("\n".join([f"FAILED {name}: {shows}", *found]))
         else:
             passed += 1
-    for name, found in races(program):
+    for name, found in [*races(program), *summaries(program), *counts_stay(program)]:
         failed += 1
         print(f"FAILED {name}: {found}")
     print(f"examples: {passed} passed, {failed} failed")
