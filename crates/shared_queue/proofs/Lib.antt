@@ -1,5 +1,6 @@
 pub mod Sums
 pub mod Prefixes
+pub mod Untold
 pub mod Turns
 pub mod Desks
 pub mod Knows

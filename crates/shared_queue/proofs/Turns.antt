@@ -18,7 +18,8 @@ use Rattle.shared_queue.specs.Constants.{Constants, made_in, IsStateOf}
 use Rattle.queue_state.specs.Queue.{Queue}
 use Rattle.shared_queue.specs.declared.view.View.{View}
 use Rattle.shared_queue.specs.Weights.{total}
-use Rattle.shared_queue.specs.Turn.{Board, turn_of, holds, Counts, Fits, AtHome, Turn, numbers_from, opening_view, counted, taking, giving, fresh, keeping, longer, joined, gone}
+use Rattle.shared_queue.specs.Turn.{IsFirst, Board, turn_of, holds, Counts, Fits, AtHome, Turn, numbers_from, opening_view, counted, taking, giving, fresh, keeping, longer, joined, gone}
+use Rattle.shared_queue.proofs.Untold.{set_at, has_first, untold_before, untold_front, told_one}
 use Rattle.shared_queue.specs.Plays.{Sat, bare, sat, took, gave, MayGive, learned, rang, listened}
 use Rattle.shared_queue.proofs.Sums.{total-append, total-set, term_le, terms_le}
 use Rattle.shared_queue.proofs.Prefixes.{prefix_self, prefix_front, prefix_trans, longer_begins, made_in_push, one_of-no, made_in_between}
@@ -73,9 +74,9 @@ module _ {H K : Type 0} (key : Constants H) where
       (at_set views id j w u e)
 
   -- a step of one seat that changes no word, where the view keeps its part of the sums
-  unmoved : (s : Board H K) (r : Turn key s) (i id : ℕ) (cs : List (ℕ × Option (Queue H K))) (v w : View (Queue H K) H) → get_elem? s.views id ≡ some v → turn_of w ≡ turn_of v → w.senders ≡ v.senders → w.rung ≡ v.rung
+  unmoved : (s : Board H K) (r : Turn key s) (i id : ℕ) (cs : List (ℕ × Option (Queue H K))) (v w : View (Queue H K) H) → get_elem? s.views id ≡ some v → turn_of w ≡ turn_of v → w.senders ≡ v.senders → w.rung ≡ v.rung → w.told ≡ v.told
       → Fits key r.whole w → Turn key (stepped s i (get_or s.words i 0) id cs w keeps)
-  unmoved s r i id cs v w at turns senders rung mine =
+  unmoved s r i id cs v w at turns senders rung told mine =
       subst (λ (ws : List ℕ). Turn key (record { words = ws; homes = s.homes; views = set s.views id w })) (sym (set-get_or s.words i 0)) record {
         whole = r.whole;
         wide = r.wide;
@@ -83,6 +84,7 @@ module _ {H K : Type 0} (key : Constants H) where
         turns = omega (arith, total-set turn_of s.views id v w at, r.turns, turns);
         once = r.once;
         free = r.free;
+        first = λ untold. r.first (untold_before s.views id v w at (λ e. sym told ∙ e) untold);
         each = each_set r.whole s.views id w mine (λ j u _ e. r.each j u e);
         placed = λ n below. omega (arith, total-set (holds n) s.views id v w at, r.placed n below, ap (total (λ (p : ℕ × ℕ). cond (eqb p.0 n) 1 0)) senders);
         bell = let same : total (λ (x : View (Queue H K) H). x.rung) (set s.views id w) ≡ total (λ (x : View (Queue H K) H). x.rung) s.views = omega (arith, total-set (λ (x : View (Queue H K) H). x.rung) s.views id v w at, rung) in
@@ -128,6 +130,7 @@ module _ {H K : Type 0} (key : Constants H) where
           turns = omega (arith, total-set turn_of s.views id v w at, r.turns, now);
           once = omega (arith, now);
           free = λ e. absurd (omega (arith, now, e));
+          first = λ untold. absurd (told_one s.views id v w v.seen v.told at refl untold);
           each = each_set r.whole s.views id w (taken_fits r.whole v x f home.3 some_sender) (λ j u _ e. r.each j u e);
           placed = λ n below. omega (arith, total-set (holds n) s.views id v w at, r.placed n below);
           bell = apart ∙ (r.bell ∙ ap (λ (n : ℕ). n % 18446744073709551616) (sym rings));
@@ -154,7 +157,7 @@ module _ {H K : Type 0} (key : Constants H) where
   takes_turn slots id m some_sender s r wide at small =
       exchanged (get_or s.words 0 0) 0 1 (Goes s 0 id m (took (step slots 0 0 1 none) m))
       (λ free. takes_it s r id m at some_sender free)
-      (λ held. (m.0, keeps, tt, unmoved s r 0 id m.1 m.0 m.0 at refl refl refl (r.each id m.0 at), ((λ free. absurd (held free)), λ _. refl)))
+      (λ held. (m.0, keeps, tt, unmoved s r 0 id m.1 m.0 m.0 at refl refl refl refl (r.each id m.0 at), ((λ free. absurd (held free)), λ _. refl)))
 
   -- the view of a seat that gives the turn back, with the state x
   given_fits : (v : View (Queue H K) H) (x : Queue H K) → ((c : Constants H) → v.constants ≡ Some c → c ≡ key) → IsPrefix v.seen x.entries → All (λ t. IsPrefix t v.seen) v.told → All (IsBelow key) v.senders → Fits key x.entries (giving v x)
@@ -233,6 +236,7 @@ module _ {H K : Type 0} (key : Constants H) where
           turns = omega (arith, total-set turn_of s.views id v w at, r.turns, now);
           once = omega (arith, now);
           free = λ _. (x, set_here s.homes 0 (some (Some x)) (omega arith), own, refl);
+          first = λ untold. absurd (told_one s.views id v w v.seen v.told at refl untold);
           each = each_set x.entries s.views id w (given_fits v x f.constants (gives_more v x may) f.told f.below)
               (λ j u other there. others_fit r.whole x.entries u (r.each j u there)
               (held_by u (omega (arith, terms_le turn_of s.views id j v u other at there, r.turns))) more
@@ -283,6 +287,7 @@ module _ {H K : Type 0} (key : Constants H) where
         turns = omega (arith, total-append turn_of (set s.views id w) (u ∷ []), total-set turn_of s.views id v w at, r.turns);
         once = r.once;
         free = r.free;
+        first = λ untold. r.first (untold_before s.views id v w at (λ e. e) (untold_front (set s.views id w) (u ∷ []) untold));
         each = λ j x e. ⊎_elim
             (λ (t : get_elem? (set s.views id w) j ≡ some x). each_set r.whole s.views id w (fits_with r.whole v second f some_sender below.1 mine.1) (λ i y _ e'. r.each i y e') j x t)
             (λ (t : u ≡ x). subst (Fits key r.whole) t (fits_fresh r.whole v first f below.0 mine.0))
@@ -342,6 +347,7 @@ module _ {H K : Type 0} (key : Constants H) where
         turns = omega (arith, total-set turn_of views other w gone there, total-set turn_of s.views id v b at, r.turns, none_w);
         once = r.once;
         free = r.free;
+        first = λ untold. absurd (has_first v.seen (w.seen ∷ v.told) (untold id b (set_else views other id gone (λ e. apart (sym e)) ∙ set_at s.views id v b at)));
         each = each_set r.whole views other gone (gone_fits r.whole)
             (λ j u _ e. each_set r.whole s.views id b (joined_fits r.whole v w no_turn f h) (λ i y _ e'. r.each i y e') j u e);
         placed = λ n below. omega (
@@ -357,13 +363,13 @@ module _ {H K : Type 0} (key : Constants H) where
   pub learns : (slots i id : ℕ) (m : Sat H K) → Allows (Turn key) slots id m i (λ n. n) (learned (step slots i 0 0 none) m)
   learns slots i id m s r wide at small =
       let f : Fits key r.whole m.0 = r.each id m.0 at in
-      (m.0, keeps, tt, unmoved s r i id m.1 m.0 m.0 at refl refl refl f, (refl, f.told, All-weaker (Counts r.whole m.0.seen) (λ p. made_in p.0 m.0.seen ≡ p.1) (λ p c. c.1) m.0.senders f.mine))
+      (m.0, keeps, tt, unmoved s r i id m.1 m.0 m.0 at refl refl refl refl f, (refl, f.told, All-weaker (Counts r.whole m.0.seen) (λ p. made_in p.0 m.0.seen ≡ p.1) (λ p c. c.1) m.0.senders f.mine))
 
   pub listens : (slots i id : ℕ) (m : Sat H K) → Allows (Turn key) slots id m i (λ n. n) (listened (step slots i 0 0 none) m)
   listens slots i id m s r wide at small =
       let f : Fits key r.whole m.0 = r.each id m.0 at in
       let w : View (Queue H K) H = record m.0 { heard = get_or s.words i 0 } in
-      (w, keeps, tt, unmoved s r i id m.1 m.0 w at refl refl refl (record { constants = f.constants; seen = f.seen; told = f.told; below = f.below; mine = f.mine; turn = f.turn }), refl)
+      (w, keeps, tt, unmoved s r i id m.1 m.0 w at refl refl refl refl (record { constants = f.constants; seen = f.seen; told = f.told; below = f.below; mine = f.mine; turn = f.turn }), refl)
 
   pub rings_it : (slots id : ℕ) (m : Sat H K) → Allows (Turn key) slots id m 1 (λ n. (n + 1) % 18446744073709551616) (rang (step slots 1 1 0 none) m)
   rings_it slots id m s r wide at small =
@@ -388,6 +394,7 @@ module _ {H K : Type 0} (key : Constants H) where
           turns = omega (arith, total-set turn_of s.views id m.0 w at, r.turns, apart);
           once = let o = r.once in omega (arith, apart);
           free = λ e. r.free (sym apart ∙ e);
+          first = λ untold. r.first (untold_before s.views id m.0 w at (λ e. e) untold);
           each = each_set r.whole s.views id w (record { constants = f.constants; seen = f.seen; told = f.told; below = f.below; mine = f.mine; turn = f.turn }) (λ j u _ e. r.each j u e);
           placed = λ n below. omega (arith, total-set (holds n) s.views id m.0 w at, r.placed n below);
           bell = here ∙ omega (arith, is, one_more);
@@ -396,14 +403,15 @@ module _ {H K : Type 0} (key : Constants H) where
       )
 
   -- the table as it is made
-  pub opens : (x : Queue H K) → IsStateOf key x → x.entries ≡ [] → Turn key (opening (0 ∷ 0 ∷ []) (Some x ∷ []) (opening_view key))
-  opens x constants empty = record {
+  pub opens : (x : Queue H K) → IsFirst key x → Turn key (opening (0 ∷ 0 ∷ []) (Some x ∷ []) (opening_view key))
+  opens x is = record {
     whole = [];
     wide = refl;
     deep = refl;
     turns = refl;
     once = omega arith;
-    free = λ _. (x, refl, constants, empty);
+    free = λ _. (x, refl, is.own, is.entries);
+    first = λ _. (x, refl, is);
     each = first_only;
     placed = λ n below. let once = (placed_from n 0 key.setting.senders).0 (omega arith) (omega arith) in omega (arith, once);
     bell = refl;
@@ -478,6 +486,7 @@ module _ {H K : Type 0} (key : Constants H) where
           turns = omega (arith, total-append turn_of s.views (u ∷ []), r.turns);
           once = r.once;
           free = r.free;
+          first = λ untold. r.first (untold_front s.views (u ∷ []) untold);
           each = λ j x e. ⊎_elim (λ (t : get_elem? s.views j ≡ some x). r.each j x t) (λ (t : u ≡ x). subst (Fits key r.whole) t (bare_fits r.whole m.0 (ap (λ (v : View (Queue H K) H). v.constants) is))) (at_snoc s.views u x j e);
           placed = λ n below. omega (arith, total-append (holds n) s.views (u ∷ []), r.placed n below);
           bell = r.bell ∙ ap (λ (n : ℕ). n % 18446744073709551616) (sym rings);

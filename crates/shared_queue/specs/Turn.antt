@@ -51,6 +51,19 @@ module _ {H K : Type 0} where
   abbrev pub AtHome : Constants H → List Entry → Board H K → Type 0
   AtHome key whole s = (x : Queue H K) × (get_elem? s.homes 0 ≡ some (some (Some x))) × IsStateOf key x × (x.entries ≡ whole)
 
+  -- no view was told a list, so that no seat has had a turn
+  abbrev pub AreUntold : List (View (Queue H K) H) → Type 0
+  AreUntold views = (j : ℕ) (v : View (Queue H K) H) → get_elem? views j ≡ some v → v.told ≡ []
+
+  -- a state to which nothing has happened: no entry, no message, and its looper doesn't wait
+  pub record IsFirst (key : Constants H) (x : Queue H K) : Type 0 where
+    pub own : IsStateOf key x
+    pub entries : x.entries ≡ []
+    pub messages : x.messages ≡ []
+    pub blocked : x.blocked ≡ false
+    pub woken : x.woken ≡ false
+    pub deadline : x.deadline ≡ None
+
   pub record Turn (key : Constants H) (s : Board H K) : Type 0 where
     -- the whole history
     pub whole : List Entry
@@ -60,6 +73,8 @@ module _ {H K : Type 0} where
     pub turns : total turn_of s.views ≡ slice_index s.words 0
     pub once : slice_index s.words 0 < 2
     pub free : slice_index s.words 0 ≡ 0 → AtHome key whole s
+    -- until the first turn nothing has happened to the state
+    pub first : AreUntold s.views → (x : Queue H K) × (get_elem? s.homes 0 ≡ some (some (Some x))) × IsFirst key x
     pub each : (j : ℕ) (v : View (Queue H K) H) → get_elem? s.views j ≡ some v → Fits key whole v
     -- each sender number stands in one view, once
     pub placed : (n : ℕ) → n < key.setting.senders → total (holds n) s.views ≡ 1

@@ -1,8 +1,8 @@
 // How a queue is made, and how it ends.
 ghost use Rattle.std.specs.Prelude.{◌≡◌, ◌+◌, ◌<◌, [], All, length, IfOk};
 ghost use Rattle.message_slot.specs.Letter.{IsAtHome};
-ghost use Rattle.shared_queue.specs.Constants.{IsStateOf, constants_of};
-ghost use Rattle.shared_queue.specs.Turn.{opening_view};
+ghost use Rattle.shared_queue.specs.Constants.{constants_of};
+ghost use Rattle.shared_queue.specs.Turn.{IsFirst, opening_view};
 ghost use Rattle.shared_queue.specs.Known.{Rests, IsOf};
 ghost use Rattle.shared_queue.specs.Ends.{undealt, IsNew, AreNew, AreInOrder, TakenIn, Gathered, HasCalls, IsSoundEnd};
 
@@ -90,7 +90,7 @@ impl<K: Claim> SharedQueue<K> {
         traits: Traits,
         state: QueueState<K>,
     ) -> Result<(SharedQueue<K>, Place<K>), NoMemory>
-        requires { IsStateOf (constants_of home.value traits) state × (state.entries ≡ []) }
+        requires { IsFirst (constants_of home.value traits) state }
         ensures { IfOk result (λ r. (r.0.constants ≡ constants_of home.value traits) × (r.1.table_id ≡ r.0.table) × (r.1.me ≡ (opening_view (constants_of home.value traits), []))) }
     {
         let key = QueueKey { home, traits };
