@@ -1,9 +1,16 @@
--- The controller of a run.
-use Rattle.std.specs.Prelude.{◌≡◌, ◌+◌, ℕ}
+-- The controller of a run, and what it has called so far.
+use Rattle.std.specs.Prelude.{◌≡◌, ◌<◌, ◌≤◌, ◌+◌, ◌&&◌, nat_le, ℕ, Bool, true, false, List, [], ◌∷◌, length, slice_index_or}
+use Rattle.loop_model.specs.declared.entry.Entry.{Entry}
+use Rattle.loop_model.specs.Base.{empty_base}
+use Rattle.loop_model.specs.Entries.{moment_of}
+use Rattle.loop_model.specs.Answers.{clock}
 use Rattle.dash_script.specs.declared.script.Script.{Script}
+use Rattle.looper_run.specs.Holding.{Sender}
 use Rattle.run_model.specs.Senders.{controller}
+use Rattle.run_model.specs.Control.{is_advance, are_controls}
 use Rattle.dash_stage.specs.declared.hall.Hall.{Hall}
 use Rattle.dash_stage.specs.declared.control.Controller.{Controller}
+use Rattle.dash_stage.specs.Growth.{own}
 use Rattle.dash_stage.specs.Kits.{ArePostersOf, ArePassesOf}
 
 -- the controller of the script, with what it needs in the hall
@@ -11,3 +18,59 @@ pub record IsController (s : Script) (hall : Hall) (c : Controller) : Type 0 whe
   pub posters : ArePostersOf (controller s) hall.queues.items c.kit.posters.items
   pub frames : ArePassesOf (s.threads + 2) hall.choreographers.items c.kit.frames.items
   pub pass : c.kit.pass.home ≡ hall.pool
+
+-- moves of the time alone, none past the end
+abbrev pub are_advances : ℕ → List Entry → Bool
+are_advances end [] = true
+are_advances end (e ∷ es) = is_advance e.call && nat_le (moment_of e.call) end && are_advances end es
+
+-- the time to which these entries moved
+abbrev pub time_in : List Entry → ℕ
+time_in es = clock (empty_base 0) es
+
+-- what the controller has called on the queue of this looper
+abbrev pub calls_on : Controller → ℕ → Sender → List Entry
+calls_on c q d = own (slice_index_or c.kit.posters.items q d)
+
+-- it has only moved the time of this queue on
+abbrev pub OnlyMoves : Script → Controller → ℕ → Type 0
+OnlyMoves s c q = (d : Sender) → q < length c.kit.posters.items → are_advances s.end (calls_on c q d) ≡ true
+
+-- it has moved the time of this queue on, and may have quit it safely at the end
+abbrev pub MovesAndQuits : Script → Controller → ℕ → Type 0
+MovesAndQuits s c q = (d : Sender) → q < length c.kit.posters.items → are_controls false true s.end true (calls_on c q d) ≡ true
+
+-- it has moved the time of main on to the end, and halted it there
+abbrev pub MovesAndHalts : Script → Controller → Type 0
+MovesAndHalts s c = (d : Sender) → 0 < length c.kit.posters.items → are_controls true true s.end false (calls_on c 0 d) ≡ true
+
+-- so far it has moved the time of the queues on
+abbrev pub IsMoving : Script → Controller → Type 0
+IsMoving s c = (q : ℕ) → OnlyMoves s c q
+
+-- the time of main has come to this one
+abbrev pub HasReached : ℕ → Controller → Type 0
+HasReached time c = (d : Sender) → 0 < length c.kit.posters.items → time ≤ time_in (calls_on c 0 d)
+
+-- the time of main has come to the end, and the queues below this one may have been quit
+pub record IsQuitting (s : Script) (n : ℕ) (c : Controller) : Type 0 where
+  pub main : OnlyMoves s c 0
+  pub reached : HasReached s.end c
+  pub done : (q : ℕ) → 0 < q → q < n → MovesAndQuits s c q
+  pub rest : (q : ℕ) → n ≤ q → OnlyMoves s c q
+
+-- the time of main has come to the end, and the other queues may have been quit
+pub record IsClosing (s : Script) (c : Controller) : Type 0 where
+  pub main : OnlyMoves s c 0
+  pub reached : HasReached s.end c
+  pub others : (q : ℕ) → 0 < q → MovesAndQuits s c q
+
+-- main was halted at the end, and the other queues may have been quit
+pub record HasClosed (s : Script) (c : Controller) : Type 0 where
+  pub main : MovesAndHalts s c
+  pub others : (q : ℕ) → 0 < q → MovesAndQuits s c q
+
+-- it has called nothing on any queue
+pub record CallsNone (before after : Controller) : Type 0 where
+  pub long : length after.kit.posters.items ≡ length before.kit.posters.items
+  pub calls : (q : ℕ) (d : Sender) → calls_on after q d ≡ calls_on before q d

@@ -12,12 +12,11 @@ use Rattle.shared_queue.specs.Known.{Shared}
 use Rattle.shared_queue.specs.Constants.{Constants}
 use Rattle.looper_run.specs.Holding.{Sender}
 use Rattle.choreographer.specs.Known.{Shared as Frames, Known as Pass}
-use Rattle.run_model.specs.Asks.{entries_by}
 use Rattle.run_model.specs.Run.{setting_of}
 use Rattle.dash_stage.specs.declared.kit.Kit.{Kit}
-use Rattle.dash_stage.specs.Growth.{own}
 use Rattle.dash_stage.specs.Kits.{ArePostersOf, badge_of, badge_for, FrameBadge, frame_badge_of}
 use Rattle.dash_stage.specs.Dealing.{given_of}
+use Rattle.dash_stage.specs.Records.{HasAllOf}
 
 -- each kit has a poster
 abbrev pub HavePosters : List Kit → Type 0
@@ -48,7 +47,7 @@ pub record IsKeptOf (c : Constants TableId) (r : QueueRecord) : Type 0 where
 pub record EndsPoster (k : ℕ) (entries : List Entry) (before after : Kit) : Type 0 where
   pub poster : Sender
   pub posters : before.posters.items ≡ poster ∷ after.posters.items
-  pub made : entries_by k entries ≡ own poster
+  pub made : HasAllOf k poster entries
   pub frames : after.frames.items ≡ before.frames.items
   pub pass : after.pass.home ≡ before.pass.home
 

@@ -1,8 +1,12 @@
 -- What a sender's calls do to its poster and its pass.
-use Rattle.std.specs.Prelude.{◌≡◌, ◌≤◌, ℕ, List, [], ◌∷◌, ◌++◌, All}
+use Rattle.std.specs.Prelude.{◌≡◌, ◌≢◌, ◌≤◌, ℕ, Bool, List, [], ◌∷◌, ◌++◌, All}
+use Rattle.atomic_table.specs.Seated.{TableId}
 use Rattle.loop_model.specs.declared.call.Call.{Call}
 use Rattle.loop_model.specs.declared.entry.Entry.{Entry}
-use Rattle.message_pool.specs.Passes.{Tally}
+use Rattle.message_pool.specs.Passes.{Claimed, Tally}
+use Rattle.queue_state.specs.declared.answers.Quitting.{Quitting}
+use Rattle.queue_state.specs.declared.answers.Quitting.TheVariants as quitting
+use Rattle.shared_queue.specs.Calls.{QuitBy}
 use Rattle.looper_run.specs.Holding.{Sender}
 use Rattle.looper_run.specs.Acts.{IsNoLookOf}
 use Rattle.run_model.specs.Asks.{plain, token_in, entries_by}
@@ -40,3 +44,7 @@ pub record Makes (before after : Sender) (call : Call) (tokens : List ℕ) : Typ
 -- the same of the poster of a way
 abbrev pub WayMakes : Way → Way → Call → List ℕ → Type 0
 WayMakes before after call tokens = Makes before.poster.now after.poster.now call tokens
+
+-- one turn that quit the queue, or was refused; either stands in the history
+abbrev pub QuitsOf : Sender → Sender → Bool → ℕ → Type 0
+QuitsOf before after safe now = (answer : Quitting Claimed TableId) × (answer ≢ quitting.NoMemory) × QuitBy before after safe now answer

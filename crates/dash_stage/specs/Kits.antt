@@ -2,6 +2,8 @@
 use Rattle.std.specs.Prelude.{◌≡◌, ◌==◌, ◌+◌, ◌-◌, ◌<◌, nat_lt, ℕ, true, List, [], ◌∷◌, map, length, Option, Some, None, slice_get, slice_index_or, if◌then◌else◌}
 use Rattle.std.specs.List.{range_with_len}
 use Rattle.atomic_table.specs.Seated.{TableId}
+use Rattle.loop_model.specs.Base.{empty_base}
+use Rattle.loop_model.specs.Answers.{is_over}
 use Rattle.dash_script.specs.declared.script.Script.{Script}
 use Rattle.shared_queue.specs.Constants.{Constants}
 use Rattle.shared_queue.specs.Known.{Shared}
@@ -95,3 +97,11 @@ pub record IsKitOf (s : Script) (hall : Hall) (k : ℕ) (kit : Kit) : Type 0 whe
 pub record AreKitsOf (s : Script) (hall : Hall) (kits : List Kit) : Type 0 where
   pub count : length kits ≡ sender_count s
   pub each : (k : ℕ) (d : Kit) → k < length kits → IsKitOf s hall k (slice_index_or kits k d)
+
+-- what this looper's own poster has seen of its queue ends it
+abbrev pub HasSeenOver : Script → ℕ → Kit → Type 0
+HasSeenOver s looper kit = (d : Sender) → is_over (empty_base (sender_count s)) (slice_index_or kit.posters.items looper d).view.seen ≡ true
+
+-- each looper but the main one has seen its queue over
+abbrev pub OthersAreOver : Script → List Kit → Type 0
+OthersAreOver s kits = (looper : ℕ) (d : Kit) → 0 < looper → looper < s.loopers → HasSeenOver s looper (slice_index_or kits (s.threads + looper) d)

@@ -3,6 +3,7 @@ use Rattle.std.specs.Prelude.{◌≡◌, ◌<◌, ℕ, true, List, [], map, leng
 use Rattle.std.specs.List.{AllByRecursion}
 use mathlib.Core.List.{IsPrefix}
 use Rattle.dash_script.specs.declared.script.Script.{Script}
+use Rattle.loop_model.specs.declared.entry.Entry.{Entry}
 use Rattle.loop_model.specs.declared.journal.Journal.{Journal}
 use Rattle.loop_model.specs.declared.record.QueueRecord.{QueueRecord}
 use Rattle.frame_phases.specs.declared.entry.FrameRecord.{FrameRecord}
@@ -27,10 +28,14 @@ pub record AreFrameRecords (s : Script) (records : List FrameRecord) : Type 0 wh
   pub loopers : map (λ (f : FrameRecord). f.looper) records ≡ numbers_from 0 s.loopers
   pub lawful : AllByRecursion (IsFrameRecord s) records
 
--- each record has the entries that each sender's poster made, and no others of that sender
+-- the history has the entries that the poster made and no others of its sender, and begins with what it has seen
+abbrev pub HasAllOf : ℕ → Sender → List Entry → Type 0
+HasAllOf k p entries = (entries_by k entries ≡ own p) × IsPrefix p.view.seen entries
+
+-- so it is with each record and each sender's poster
 abbrev pub HaveAll : List Kit → List QueueRecord → Type 0
 HaveAll kits records = (k q : ℕ) (d : Kit) (p : Sender) (r : QueueRecord) → k < length kits → q < length records
-    → entries_by k (slice_index_or records q r).entries ≡ own (slice_index_or (slice_index_or kits k d).posters.items q p)
+    → HasAllOf k (slice_index_or (slice_index_or kits k d).posters.items q p) (slice_index_or records q r).entries
 
 -- each frame record begins with what each thread's pass has seen
 abbrev pub HaveSeen : ℕ → List Kit → List FrameRecord → Type 0

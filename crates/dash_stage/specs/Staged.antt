@@ -6,7 +6,7 @@ use Rattle.frame_phases.specs.Frames.{lawful}
 use Rattle.dash_script.specs.declared.script.Script.{Script}
 use Rattle.run_model.specs.declared.report.Report.{Report}
 use Rattle.run_model.specs.Moments.{in_lockstep}
-use Rattle.run_model.specs.Run.{IsReportOf, AreRecordsOf, ArePlannedOf, AreFramesOf, all_entries}
+use Rattle.run_model.specs.Run.{IsReportOf, AreRecordsOf, ArePlannedOf, AreControlsOf, AreFramesOf, all_entries}
 use Rattle.dash_stage.specs.declared.run.Ran.{Ran}
 use Rattle.dash_stage.specs.declared.run.Ran.TheVariants as ran
 
@@ -16,11 +16,12 @@ pub record IsFrameRecord (s : Script) (f : FrameRecord) : Type 0 where
   pub phases : f.phases ≡ 4
   pub lawful : lawful f.interval f.phases f.entries ≡ true
 
--- the report is of the script, the history of each looper's queue is one that a queue of one thread has, in lockstep, each thread's calls there are those that its lines plan, one for one and in order, and each frame history is lawful and has the entries of the threads' lines
+-- the report is of the script, the history of each looper's queue is one that a queue of one thread has, in lockstep, each thread's calls there are those that its lines plan, one for one and in order, the controller's move the time on, no further than the end, and close the queue there, and each frame history is lawful and has the entries of the threads' lines
 pub record IsStaged (s : Script) (r : Report) : Type 0 where
   pub report : IsReportOf s r
   pub records : AreRecordsOf in_lockstep all_entries s r
   pub planned : ArePlannedOf in_lockstep s r
+  pub controls : AreControlsOf s r
   pub frames : AreFramesOf s r
 
 abbrev pub Stages : Script → Ran → Type 0

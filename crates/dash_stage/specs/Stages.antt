@@ -1,5 +1,5 @@
 -- A stage: the senders of a run, and what they share.
-use Rattle.std.specs.Prelude.{◌≡◌, ◌<◌, ◌+◌, ℕ, false, List, length, slice_index_or}
+use Rattle.std.specs.Prelude.{◌≡◌, ◌<◌, ◌+◌, ℕ, true, false, List, length, slice_index_or}
 use Rattle.dash_script.specs.declared.script.Block.{Block}
 use Rattle.dash_script.specs.declared.script.Script.{Script}
 use Rattle.run_model.specs.Planned.{lines_of}
@@ -9,6 +9,7 @@ use Rattle.dash_stage.specs.declared.looper.StageLooper.{StageLooper}
 use Rattle.dash_stage.specs.declared.stage.Stage.{Stage}
 use Rattle.run_model.specs.Senders.{sender_count}
 use Rattle.dash_stage.specs.declared.kit.Kit.{Kit}
+use Rattle.looper_run.specs.Round.{is_ended}
 use Rattle.dash_stage.specs.Kits.{IsHall, IsKitOf}
 use Rattle.dash_stage.specs.Threads.{IsThread, IsUpTo, Continues}
 use Rattle.dash_stage.specs.Loopers.{IsLooper}
@@ -79,3 +80,7 @@ AreThreadKits s hall kits = (length kits ≡ s.threads) × AreFirstKits s hall k
 
 abbrev pub AreSenderKits : Script → Hall → List Kit → Type 0
 AreSenderKits s hall kits = (length kits ≡ s.threads + s.loopers) × AreFirstKits s hall kits
+
+-- each looper but the main one has ended
+abbrev pub OthersHaveEnded : List StageLooper → Type 0
+OthersHaveEnded ls = (k : ℕ) (d : StageLooper) → 0 < k → k < length ls → is_ended (slice_index_or ls k d).last ≡ true

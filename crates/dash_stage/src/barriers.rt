@@ -3,7 +3,7 @@ ghost use Rattle.std.specs.Prelude.{◌≡◌, ◌≤◌, [], ◌∷◌, All, If
 ghost use Rattle.loop_model.specs.declared.call.Call.TheVariants.{Barrier, Unbarrier, Quit};
 ghost use Rattle.message_pool.specs.Obtain.{IsNodeOf};
 ghost use Rattle.handler_post.specs.Ways.{IsReady, IsSameWay};
-ghost use Rattle.dash_stage.specs.Growth.{own, WayGoesOn, WayMakes};
+ghost use Rattle.dash_stage.specs.Growth.{own, WayGoesOn, WayMakes, QuitsOf};
 
 use handler_post::Way;
 use loop_model::NoMemory;
@@ -69,6 +69,7 @@ pub(crate) fn quit<R: Wait>(rt: &R, way: &mut Way, safe: bool, now: u64) -> Resu
     ensures same { IsSameWay way.old way.new }
     ensures on { WayGoesOn way.old way.new }
     ensures made { OnOk result (WayMakes way.old way.new (Quit safe 0) []) }
+    ensures turn { OnOk result (QuitsOf way.old.poster.now way.new.poster.now safe now) }
     ensures none { OnErr result (own way.new.poster.now ≡ own way.old.poster.now) }
 {
     match way.poster.quit(rt, way.queue, safe, now) {

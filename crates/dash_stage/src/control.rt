@@ -1,9 +1,10 @@
 //! The controller of a run.
-ghost use Rattle.std.specs.Prelude.{◌≡◌, ◌<◌, true, IfOk, OnOk};
+ghost use Rattle.std.specs.Prelude.{◌≡◌, ◌<◌, ◌≤◌, ◌+◌, true, false, IfOk, OnOk};
 ghost use Rattle.shared_queue.specs.Known.{IsOf};
-ghost use Rattle.dash_stage.specs.Growth.{GoesOn};
+ghost use Rattle.dash_stage.specs.Growth.{GoesOn, QuitsOf};
 ghost use Rattle.dash_stage.specs.Kits.{IsHall};
-ghost use Rattle.dash_stage.specs.Controllers.{IsController};
+ghost use Rattle.dash_stage.specs.Controllers.{IsController, IsMoving, HasReached, IsQuitting, IsClosing, HasClosed, CallsNone, calls_on, time_in};
+ghost use Rattle.looper_run.specs.Holding.{Sender};
 
 use crate::barriers::quit;
 use crate::hall::Hall;
@@ -31,9 +32,14 @@ impl Controller {
         script: &Script,
         now: u64,
     ) -> Result<bool, NoMemory>
+        requires some { 0 < script.now.loopers }
         requires hall { IsHall script.now hall.now }
         requires controller { IsController script.now hall.now self.old }
+        requires end { now ≤ script.now.end }
+        requires moving { IsMoving script.now self.old }
         ensures controller { IsController script.now hall.now self.new }
+        ensures moving { IsMoving script.now self.new }
+        ensures reached { IfOk result (λ drained. drained ≡ true → HasReached now self.new) }
     {
         let mut drained = true;
         for place in 0..script.loopers {
@@ -54,7 +60,12 @@ impl Controller {
         requires hall { IsHall script.now hall.now }
         requires controller { IsController script.now hall.now self.old }
         requires place { place < script.now.loopers }
+        requires end { now ≤ script.now.end }
+        requires moving { IsMoving script.now self.old }
         ensures controller { IsController script.now hall.now self.new }
+        ensures moving { IsMoving script.now self.new }
+        ensures reached { IfOk result (λ drained. drained ≡ true → place ≡ 0 → HasReached now self.new) }
+        ensures kept { HasReached now self.old → HasReached now self.new }
     {
         match self.kit.posters[place].advance(rt, &hall.queues[place], now) {
             Advancing::Advanced | Advancing::Over | Advancing::Reached { .. } => Ok(true),
@@ -68,6 +79,7 @@ impl Controller {
         requires hall { IsHall script.now hall.now }
         requires controller { IsController script.now hall.now self.old }
         ensures controller { IsController script.now hall.now self.new }
+        ensures none { CallsNone self.old self.new }
     {
         let mut seen: u64 = 0;
         for place in 0..script.loopers {
@@ -82,6 +94,7 @@ impl Controller {
         requires controller { IsController script.now hall.now self.old }
         requires place { place < script.now.loopers }
         ensures controller { IsController script.now hall.now self.new }
+        ensures none { CallsNone self.old self.new }
     {
         self.kit.posters[place].time(rt, &hall.queues[place]);
         self.kit.posters[place].seen()
@@ -99,45 +112,85 @@ impl Controller {
         requires controller { IsController script.now hall.now self.old }
         requires looper { looper < script.now.loopers }
         ensures controller { IsController script.now hall.now self.new }
+        ensures none { CallsNone self.old self.new }
     {
         let place = looper as usize;
         let stamp = hall.choreographers[place].asked(rt, &mut self.kit.frames[place])?;
         Some(stamp.div_ceil(1_000_000))
     }
 
-    /// Quits a looper safely, at this time in milliseconds.
+    /// Quits a looper safely at the end, unless its queue's time stands still before, since it was disposed of.
     pub(crate) fn quit<R: Wait>(
         &mut self,
         rt: &R,
         hall: &Hall,
         script: &Script,
         looper: u32,
-        now: u64,
     ) -> Result<(), NoMemory>
         requires hall { IsHall script.now hall.now }
         requires controller { IsController script.now hall.now self.old }
         requires looper { looper < script.now.loopers }
+        requires other { 0 < looper }
+        requires quitting { IsQuitting script.now looper self.old }
         ensures controller { IsController script.now hall.now self.new }
+        ensures quitting { OnOk result (IsQuitting script.now (looper + 1) self.new) }
     {
-        let place = looper as usize;
+        if self.time_on(rt, hall, script, looper as usize) < script.end {
+            return Ok(());
+        }
+        self.quit_one(rt, hall, script, looper as usize)
+    }
+
+    /// The time of a queue, in milliseconds.
+    fn time_on<R: Wait>(&mut self, rt: &R, hall: &Hall, script: &Script, place: usize) -> u64
+        requires hall { IsHall script.now hall.now }
+        requires controller { IsController script.now hall.now self.old }
+        requires place { place < script.now.loopers }
+        ensures controller { IsController script.now hall.now self.new }
+        ensures none { CallsNone self.old self.new }
+        ensures time { (d : Sender) → result ≡ time_in (calls_on self.new place d) }
+    {
+        self.kit.posters[place].time(rt, &hall.queues[place])
+    }
+
+    /// Quits a looper safely, whose queue's time has come to the end.
+    fn quit_one<R: Wait>(
+        &mut self,
+        rt: &R,
+        hall: &Hall,
+        script: &Script,
+        place: usize,
+    ) -> Result<(), NoMemory>
+        requires hall { IsHall script.now hall.now }
+        requires controller { IsController script.now hall.now self.old }
+        requires place { place < script.now.loopers }
+        requires other { 0 < place }
+        requires quitting { IsQuitting script.now place self.old }
+        requires time { (d : Sender) → script.now.end ≤ time_in (calls_on self.old place d) }
+        ensures controller { IsController script.now hall.now self.new }
+        ensures quitting { OnOk result (IsQuitting script.now (place + 1) self.new) }
+    {
         quit_by(
             rt,
             &hall.queues[place],
             &mut self.kit.posters[place],
             &hall.pool,
             &mut self.kit.pass,
-            now,
+            script.end,
         )
     }
 
-    /// Stops the main looper, at this time in milliseconds. Answers false where a message is due.
-    pub(crate) fn halt<R: Wait>(&mut self, rt: &R, hall: &Hall, script: &Script, now: u64) -> bool
+    /// Halts the main looper at the end. Answers false where a message is due.
+    pub(crate) fn halt<R: Wait>(&mut self, rt: &R, hall: &Hall, script: &Script) -> bool
         requires some { 0 < script.now.loopers }
         requires hall { IsHall script.now hall.now }
         requires controller { IsController script.now hall.now self.old }
+        requires closing { IsClosing script.now self.old }
         ensures controller { IsController script.now hall.now self.new }
+        ensures closing { result ≡ false → IsClosing script.now self.new }
+        ensures closed { result ≡ true → HasClosed script.now self.new }
     {
-        match self.kit.posters[0].halt(rt, &hall.queues[0], now) {
+        match self.kit.posters[0].halt(rt, &hall.queues[0], script.end) {
             Halting::Halted | Halting::Over => true,
             Halting::NotDrained { .. } => false,
         }
@@ -157,6 +210,7 @@ fn quit_by<R: Wait>(
     requires pass { pass.old.home ≡ pool.now }
     requires home { queue.now.constants.home ≡ pool.now }
     ensures on { GoesOn poster.old poster.new pass.old pass.new }
+    ensures quit { OnOk result (QuitsOf poster.old poster.new true now) }
 {
     let mut way = Way {
         queue,

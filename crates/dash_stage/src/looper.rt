@@ -1,7 +1,7 @@
 //! A looper of a script.
-ghost use Rattle.std.specs.Prelude.{◌≡◌, ◌+◌, ◌<◌, IfOk};
+ghost use Rattle.std.specs.Prelude.{◌≡◌, ◌+◌, ◌<◌, true, IfOk};
 ghost use Rattle.looper_run.specs.Round.{is_ended};
-ghost use Rattle.dash_stage.specs.Kits.{IsHall, IsKitOf};
+ghost use Rattle.dash_stage.specs.Kits.{IsHall, IsKitOf, HasSeenOver};
 ghost use Rattle.dash_stage.specs.Loopers.{IsLooper, HasRun, is_given_up, until_of};
 
 use crate::hall::Hall;
@@ -156,6 +156,7 @@ impl StageLooper {
         requires looper { IsLooper script.now hall.now self }
         ensures journal { IfOk result (λ r. r.0.looper ≡ self.number) }
         ensures kit { IfOk result (λ r. IsKitOf script.now hall.now (script.now.threads + self.number) r.1) }
+        ensures over { IfOk result (λ r. is_ended self.last ≡ true → HasSeenOver script.now self.number r.1) }
     {
         let StageLooper {
             number,

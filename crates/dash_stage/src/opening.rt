@@ -1,5 +1,6 @@
 //! A stage before the first event.
 ghost use Rattle.std.specs.Prelude.{◌≡◌, ◌<◌, ◌+◌, [], IfOk, OnOk, length};
+ghost use Rattle.dash_stage.specs.Controllers.{IsMoving};
 ghost use Rattle.dash_stage.specs.Kits.{IsHall};
 ghost use Rattle.dash_stage.specs.Runs.{AreUnusedKits};
 ghost use Rattle.dash_stage.specs.Stages.{IsStage, IsPlayable, HaveRun, AreKitsFrom, AreThreads, AreLoopers};
@@ -19,6 +20,7 @@ pub(crate) fn set_up(alloc: Global, script: &Script) -> Result<Stage, NoMemory>
     requires { IsPlayable script.now }
     ensures stage { IfOk result (λ st. IsStage script.now st) }
     ensures begun { IfOk result (λ st. HaveRun script.now [] st.threads.items) }
+    ensures moving { IfOk result (λ st. IsMoving script.now st.controller) }
 {
     let (hall, mut kits, pass) = open(alloc, script)?;
     let threads = threads(alloc, script, &hall, &mut kits)?;
@@ -49,6 +51,7 @@ fn threads(
     ensures threads { IfOk result (λ v. AreThreads script.now hall.now v.items) }
     ensures begun { IfOk result (λ v. HaveRun script.now [] v.items) }
     ensures kits { OnOk result (AreKitsFrom script.now hall.now script.now.threads kits.new.items) }
+    ensures unused { OnOk result (AreUnusedKits kits.new.items) }
 {
     let mut threads = Vec::new(alloc);
     for number in 0..script.threads {
@@ -67,8 +70,10 @@ fn loopers(
     requires few { script.now.threads + script.now.loopers < 100 }
     requires hall { IsHall script.now hall.now }
     requires kits { AreKitsFrom script.now hall.now script.now.threads kits.old.items }
+    requires unused { AreUnusedKits kits.old.items }
     ensures loopers { IfOk result (λ v. AreLoopers script.now hall.now v.items) }
     ensures kits { OnOk result (AreKitsFrom script.now hall.now (script.now.threads + script.now.loopers) kits.new.items) }
+    ensures unused { OnOk result (AreUnusedKits kits.new.items) }
 {
     let mut loopers = Vec::new(alloc);
     for number in 0..script.loopers {

@@ -1,11 +1,12 @@
 //! Senders that work side by side, each on a thread of its own.
-ghost use Rattle.std.specs.Prelude.{◌≡◌, ◌<◌, false, OnOk, length, slice_index_or};
+ghost use Rattle.std.specs.Prelude.{◌≡◌, ◌<◌, true, false, OnOk, length, slice_index_or};
 ghost use Rattle.std.specs.Thread.{IsSync};
 ghost use Rattle.dash_script.specs.Reading.{HasText};
+ghost use Rattle.looper_run.specs.Round.{is_ended};
 ghost use Rattle.dash_stage.specs.Kits.{IsHall};
 ghost use Rattle.dash_stage.specs.Threads.{IsThread, Continues};
 ghost use Rattle.dash_stage.specs.Loopers.{IsLooper};
-ghost use Rattle.dash_stage.specs.Stages.{AreThreads, AreLoopers, RunOn, GoOn};
+ghost use Rattle.dash_stage.specs.Stages.{AreThreads, AreLoopers, RunOn, GoOn, OthersHaveEnded};
 
 use crate::hall::Hall;
 use crate::looper::StageLooper;
@@ -93,6 +94,7 @@ pub(crate) fn run_loopers<R: Threads + Wait + Sync, G: Gate + Sync>(
     requires hall { IsHall script.now hall.now }
     requires loopers { AreLoopers script.now hall.now loopers.old }
     ensures loopers { AreLoopers script.now hall.now loopers.new }
+    ensures ended { OthersHaveEnded loopers.old → OthersHaveEnded loopers.new }
 {
     let count = loopers.len().max(1);
     for_each_mut(
@@ -101,7 +103,7 @@ pub(crate) fn run_loopers<R: Threads + Wait + Sync, G: Gate + Sync>(
         count,
         &|_, looper: &mut StageLooper|
             requires { IsSync R.row × IsSync G.row × IsHall script.now hall.now × IsLooper script.now hall.now looper.old }
-            ensures { IsLooper script.entry.now hall.entry.now looper.new × (looper.new.number ≡ looper.old.number) }
+            ensures { IsLooper script.entry.now hall.entry.now looper.new × (looper.new.number ≡ looper.old.number) × (is_ended looper.old.last ≡ true → is_ended looper.new.last ≡ true) }
         {
             if turn.has(looper.number) {
                 looper.run_round(rt, alloc, hall, script, gate, now)

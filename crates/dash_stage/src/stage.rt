@@ -1,8 +1,9 @@
 //! The event times of a run, and what comes at each.
-ghost use Rattle.std.specs.Prelude.{◌≡◌, ◌<◌, [], OnOk};
+ghost use Rattle.std.specs.Prelude.{◌≡◌, ◌<◌, ◌≤◌, true, [], OnOk};
 ghost use Rattle.dash_script.specs.Reading.{HasText};
 ghost use Rattle.dash_stage.specs.Kits.{IsHall};
-ghost use Rattle.dash_stage.specs.Stages.{IsStage, HaveRun, RunOn};
+ghost use Rattle.dash_stage.specs.Controllers.{IsMoving, HasReached, IsClosing, HasClosed, CallsNone};
+ghost use Rattle.dash_stage.specs.Stages.{IsStage, HaveRun, RunOn, OthersHaveEnded};
 
 use crate::control::Controller;
 use crate::hall::{Hall, open};
@@ -42,8 +43,11 @@ impl Stage {
         requires some { 0 < script.now.loopers }
         requires stage { IsStage script.now self.old }
         requires begun { HaveRun script.now [] self.old.threads.items }
+        requires moving { IsMoving script.now self.old.controller }
         ensures stage { IsStage script.now self.new }
         ensures run { OnOk result (HaveRun script.now script.now.blocks self.new.threads.items) }
+        ensures closed { OnOk result (HasClosed script.now self.new.controller) }
+        ensures ended { OnOk result (OthersHaveEnded self.new.loopers.items) }
     {
         for block in script.blocks.as_slice() {
             self.go_to(rt, alloc, script, gate, block.time)?;
@@ -66,8 +70,13 @@ impl Stage {
         time: u64,
     ) -> Result<(), NoMemory>
         requires stage { IsStage script.now self.old }
+        requires some { 0 < script.now.loopers }
+        requires end { time ≤ script.now.end }
+        requires moving { IsMoving script.now self.old.controller }
         ensures stage { IsStage script.now self.new }
         ensures threads { self.new.threads.items ≡ self.old.threads.items }
+        ensures moving { IsMoving script.now self.new.controller }
+        ensures reached { OnOk result (HasReached time self.new.controller) }
     {
         for _ in rt.forever() {
             match self.next_due(rt, script) {
@@ -86,6 +95,7 @@ impl Stage {
         requires stage { IsStage script.now self.old }
         ensures stage { IsStage script.now self.new }
         ensures threads { self.new.threads.items ≡ self.old.threads.items }
+        ensures none { CallsNone self.old.controller self.new.controller }
     {
         let mut next = None;
         for looper in 0..script.loopers {
@@ -100,6 +110,7 @@ impl Stage {
         requires looper { looper < script.now.loopers }
         ensures stage { IsStage script.now self.new }
         ensures threads { self.new.threads.items ≡ self.old.threads.items }
+        ensures none { CallsNone self.old.controller self.new.controller }
     {
         if self.loopers[looper as usize].has_ended() {
             return None;
@@ -118,8 +129,13 @@ impl Stage {
         time: u64,
     ) -> Result<(), NoMemory>
         requires stage { IsStage script.now self.old }
+        requires some { 0 < script.now.loopers }
+        requires end { time ≤ script.now.end }
+        requires moving { IsMoving script.now self.old.controller }
         ensures stage { IsStage script.now self.new }
         ensures threads { self.new.threads.items ≡ self.old.threads.items }
+        ensures moving { IsMoving script.now self.new.controller }
+        ensures reached { OnOk result (HasReached time self.new.controller) }
     {
         for _ in rt.forever() {
             if self.controller.advance(rt, &self.hall, script, time)? {
@@ -144,6 +160,7 @@ impl Stage {
         requires stage { IsStage script.now self.old }
         ensures stage { IsStage script.now self.new }
         ensures run { OnOk result (RunOn script.now block.now self.old.threads.items self.new.threads.items) }
+        ensures controller { self.new.controller ≡ self.old.controller }
     {
         run_threads(
             rt,
@@ -168,6 +185,8 @@ impl Stage {
         requires stage { IsStage script.now self.old }
         ensures stage { IsStage script.now self.new }
         ensures threads { self.new.threads.items ≡ self.old.threads.items }
+        ensures none { CallsNone self.old.controller self.new.controller }
+        ensures ended { OthersHaveEnded self.old.loopers.items → OthersHaveEnded self.new.loopers.items }
     {
         for _ in rt.forever() {
             let before = self.controller.seen(rt, &self.hall, script);
@@ -191,6 +210,8 @@ impl Stage {
         requires stage { IsStage script.now self.old }
         ensures stage { IsStage script.now self.new }
         ensures threads { self.new.threads.items ≡ self.old.threads.items }
+        ensures controller { self.new.controller ≡ self.old.controller }
+        ensures ended { OthersHaveEnded self.old.loopers.items → OthersHaveEnded self.new.loopers.items }
     {
         run_loopers(
             rt,
@@ -215,8 +236,12 @@ impl Stage {
     ) -> Result<(), NoMemory>
         requires some { 0 < script.now.loopers }
         requires stage { IsStage script.now self.old }
+        requires moving { IsMoving script.now self.old.controller }
+        requires reached { HasReached script.now.end self.old.controller }
         ensures stage { IsStage script.now self.new }
         ensures threads { self.new.threads.items ≡ self.old.threads.items }
+        ensures closed { OnOk result (HasClosed script.now self.new.controller) }
+        ensures ended { OnOk result (OthersHaveEnded self.new.loopers.items) }
     {
         self.quit_others(rt, script)?;
         for _ in rt.forever() {
@@ -227,7 +252,7 @@ impl Stage {
         }
         for _ in rt.forever() {
             self.run_rounds(rt, alloc, script, gate, Turn::Main)?;
-            if self.controller.halt(rt, &self.hall, script, self.time) {
+            if self.controller.halt(rt, &self.hall, script) {
                 return Ok(());
             }
         }
@@ -237,13 +262,15 @@ impl Stage {
     /// The controller quits safely each looper but the main one that has not ended.
     fn quit_others<R: Wait>(&mut self, rt: &R, script: &Script) -> Result<(), NoMemory>
         requires stage { IsStage script.now self.old }
+        requires moving { IsMoving script.now self.old.controller }
+        requires reached { HasReached script.now.end self.old.controller }
         ensures stage { IsStage script.now self.new }
         ensures threads { self.new.threads.items ≡ self.old.threads.items }
+        ensures closing { OnOk result (IsClosing script.now self.new.controller) }
     {
         for looper in 1..script.loopers {
             if !self.loopers[looper as usize].has_ended() {
-                self.controller
-                    .quit(rt, &self.hall, script, looper, self.time)?;
+                self.controller.quit(rt, &self.hall, script, looper)?;
             }
         }
         Ok(())
@@ -252,6 +279,7 @@ impl Stage {
     /// Whether each looper but the main one has ended.
     fn others_have_ended(&self, script: &Script) -> bool
         requires stage { IsStage script.now self.now }
+        ensures { result ≡ true → OthersHaveEnded self.now.loopers.items }
     {
         for looper in 1..script.loopers {
             if !self.loopers[looper as usize].has_ended() {
