@@ -1,6 +1,7 @@
 use crate::*;
 use dash_script::Cause;
-use loop_io::{MemSink, MemSource, OpenGate, StepClock, SureSink, SureSource};
+use loop_io::{Gate, MeetGate, MemSink, MemSource, OpenGate, StepClock, SureSink, SureSource};
+use loop_model::{Call, Entry};
 use std::alloc::{AllocError, Global};
 use std::process::Abort;
 use std::sync::Wait;
@@ -12,6 +13,9 @@ const ONE: &str = "dashboard 1\nloopers 1\nthreads 1\nhandler 0 0\nvsync 1666666
 
 /// The same with a second looper, that handler 1 stands on.
 const TWO: &str = "dashboard 1\nloopers 2\nthreads 1\nhandler 0 0\nhandler 1 1\nvsync 16666667\n";
+
+/// The same with two threads, which are the senders 0 and 1; the loopers are the senders 2 and 3.
+const THREE: &str = "dashboard 1\nloopers 2\nthreads 2\nhandler 0 0\nhandler 1 1\nvsync 16666667\n";
 
 /// A report's first lines, of one looper or of a first looper to which nothing happened.
 const FIRST: &str = "report 1\nlooper 0\n";
@@ -44,6 +48,18 @@ fn run(
     source: &mut MemSource,
     sink_fails: Vec<u64>,
 ) -> Result<(Outcome, Vec<u8>), AllocError> {
+    run_at(rt, alloc, line, source, sink_fails, &OpenGate)
+}
+
+/// The same, where each sender passes this gate before each of its commands or dispatches.
+fn run_at<G: Gate + Sync>(
+    rt: &(impl Abort + Threads + Wait + Sync),
+    alloc: Global,
+    line: &str,
+    source: &mut MemSource,
+    sink_fails: Vec<u64>,
+    gate: &G,
+) -> Result<(Outcome, Vec<u8>), AllocError> {
     let words = words(alloc, line)?;
     let mut sink = MemSink::new(alloc, 100_000, 16, sink_fails).expect(rt, "memory");
     let clock = StepClock::new(5);
@@ -54,7 +70,7 @@ fn run(
         source,
         &mut sink,
         &clock,
-        &OpenGate,
+        gate,
     );
     Ok((outcome, sink.bytes().to_vec(alloc)?))
 }
@@ -324,6 +340,75 @@ fn texts_are_given_back(rt: HostRuntime) -> Result<(), Fail> {
     let script = joined(alloc, ONE, "at 10\n0 idle 0 3 keep\n0 post 0 7 5\nend 20\n")?;
     is_given_back(&rt, alloc, script.as_slice(), 1)?;
     is_given_back(&rt, alloc, script.as_slice(), 255)?;
+    Ok(())
+}
+
+/// Two senders are held at the gate until both are there, so they run side by side.
+fn meet(
+    rt: &(impl Abort + Threads + Wait + Sync),
+    alloc: Global,
+    first: u32,
+    second: u32,
+) -> Result<(), AllocError> {
+    let script = joined(alloc, THREE, "at 10\n0 post 0 1 0\n1 post 1 2 0\nend 10\n")?;
+    let mut source = source(script, 64, Vec::new(alloc));
+    let gate = MeetGate::new(first, second, 0, 10_000_000);
+    let (outcome, _) = run_at(rt, alloc, "run", &mut source, Vec::new(alloc), &gate)?;
+    assert!(rt; outcome.status == Status::Ok, "senders {first} and {second}");
+    assert!(rt; !gate.missed(), "senders {first} and {second}");
+    Ok(())
+}
+
+#[test]
+fn threads_and_loopers_run_side_by_side(rt: HostRuntime) -> Result<(), Fail> {
+    let alloc = rt.alloc();
+    meet(&rt, alloc, 0, 1)?;
+    meet(&rt, alloc, 2, 3)?;
+    Ok(())
+}
+
+/// Fifty-one posts at once.
+fn posts(script: &mut Vec<u8>) -> Result<(), AllocError> {
+    for _ in 0..51 {
+        script.extend_from_slice(b"0 post 0 1 0\n")?;
+    }
+    Ok(())
+}
+
+/// The slots of a history's posts, in order.
+fn slots(alloc: Global, history: &[Entry]) -> Result<Vec<Option<u32>>, AllocError> {
+    let mut slots = Vec::new(alloc);
+    for entry in history {
+        if let Call::Post(post) = entry.call {
+            slots.push(post.slot)?;
+        }
+    }
+    Ok(slots)
+}
+
+/// Whether fifty posts have the fifty slots of the pool, in some order, and the one behind them has none.
+fn are_all_slots(slots: &[Option<u32>]) -> bool {
+    (0..50).all(|slot| slots.contains(&Some(slot))) && slots.last() == Some(&None)
+}
+
+/// What is posted again has the slots again that the first messages gave back.
+#[test]
+fn slots_are_used_again(rt: HostRuntime) -> Result<(), Fail> {
+    let alloc = rt.alloc();
+    let mut script = joined(alloc, ONE, "at 1\n")?;
+    posts(&mut script)?;
+    script.extend_from_slice(b"at 2\n")?;
+    posts(&mut script)?;
+    script.extend_from_slice(b"end 2\n")?;
+    let mut source = source(script, 64, Vec::new(alloc));
+    let (outcome, _) = run(&rt, alloc, "run", &mut source, Vec::new(alloc))?;
+    let report = outcome.report.expect(&rt, "a report");
+    let queue = report.queues.as_slice().first().expect(&rt, "a queue");
+    let slots = slots(alloc, queue.entries.as_slice())?;
+    assert!(rt; slots.len() == 102);
+    let (first, second) = slots.as_slice().split_at(51);
+    assert!(rt; are_all_slots(first));
+    assert!(rt; are_all_slots(second));
     Ok(())
 }
 
