@@ -1,9 +1,13 @@
 -- The controller's own entries on a queue: what its calls and the queue's replies make of them.
-use Rattle.std.proofs.Common.{◌≡◌, ℕ, ◌≤◌, ◌+◌, max, Bool, true, false, List, [], ◌∷◌, ◌++◌, Option, Some, None, refl, sym, ap, ◌∙◌, subst, arith, inl, inr}
+use Rattle.std.proofs.Common.{◌≡◌, ℕ, ◌≤◌, ◌+◌, max, Bool, true, false, List, [], ◌∷◌, ◌++◌, Option, Some, None, refl, sym, ap, ◌∙◌, subst, arith, cond, inl, inr, ◌⊎◌}
 use Rattle.std.specs.Prelude.{◌==◌, ◌&&◌, ◌||◌, not, nat_le, is_some, IfSome, if◌then◌else◌}
-use Rattle.std.proofs.Math.Bool.{and_assoc}
+use Rattle.std.specs.List.{list_any}
+use Rattle.std.proofs.lemmas.List.Folds.{list_any-append}
+use Rattle.std.proofs.lemmas.List.Sums.{sum_by-append}
+use Rattle.std.proofs.Math.Bool.{and_assoc, or-false}
 use Rattle.std.proofs.Math.Nat.{max-eq_left}
-use Rattle.std.proofs.lemmas.Bool.{and_parts, and_from, cases_Bool, or_parts, or_from, false_from_ne_true, leb-true, le-leb, eq-eqb}
+use Rattle.std.proofs.lemmas.Bool.{and_parts, and_from, cases_Bool, or_parts, or_from, or_left, or_right, or_cases, false_from_ne_true, leb-true, le-leb, eq-eqb}
+use mathlib.Core.List.{IsPrefix}
 use Rattle.loop_model.specs.declared.post.Post.{Post as PostData}
 use Rattle.loop_model.specs.declared.call.Call.{Call}
 use Rattle.loop_model.specs.declared.call.Call.TheVariants.{Post, Barrier, Unbarrier, Remove, Quit, Next, Advance, Halt}
@@ -24,7 +28,7 @@ use Rattle.loop_model.proofs.Growing.{entry_by_entry}
 use Rattle.loop_model.proofs.LegalLaws.{IsLegal-front, IsLegal-last}
 use Rattle.loop_model.proofs.NumberLaws.{AreNumbered-front, AreNumbered-last}
 use Rattle.run_model.specs.Asks.{entries_by}
-use Rattle.run_model.specs.Control.{is_advance, is_halt, is_safe_quit, are_controls}
+use Rattle.run_model.specs.Control.{is_advance, is_halt, is_safe_quit, is_empty, is_closing, are_controls, is_quit_by_others, disposed_count, is_controlled}
 use Rattle.run_model.proofs.RunLaws.{entries_by-append, entries_by-own, entries_by-unchanged}
 use Rattle.run_model.proofs.ControlLaws.{are_advances as are_advances_in, are_controls-last, are_controls-quit}
 use Rattle.dash_stage.specs.Controllers.{are_advances, time_in}
@@ -263,3 +267,118 @@ module _ (set : Setting) (n : ℕ) (last : n + 1 ≡ set.senders) where
       let moves_on = (advance_alone e.call (moved.1 own)).0 in
       absurd cc) in
       or_from _ _ (has_disposed-snoc base es e ∙ or_from _ _ early.0 not_disposed) (has_halted-snoc base es e ∙ or_from _ _ early.1 not_halted))
+
+abbrev one_if : Bool → ℕ
+one_if b = if b then 1 else 0
+
+disposed_count-snoc : (es : List Entry) (e : Entry) → disposed_count (es ++ e ∷ []) ≡ disposed_count es + one_if (is_disposed e.reply)
+disposed_count-snoc es e = omega (arith, sum_by-append (λ (f : Entry). cond (is_disposed f.reply) 1 0) es (e ∷ []))
+
+-- what comes only where it was not before is counted once
+counted_once : (was now : Bool) → (now ≡ true → was ≡ false) → one_if was + one_if now ≡ one_if (was || now)
+counted_once true true h = let wrong = h refl in absurd cc
+counted_once true false h = refl
+counted_once false true h = refl
+counted_once false false h = refl
+
+module _ (set : Setting) (m : ℕ) where
+  -- elsewhere than on main nothing halts
+  side_is_not_halted : set.main ≡ false → (es : List Entry) → IsLegal set (empty_base m) es → has_halted (empty_base m) es ≡ false
+  side_is_not_halted side = entry_by_entry (λ es. IsLegal set (empty_base m) es → has_halted (empty_base m) es ≡ false)
+      (λ legal. (starts_open m).2)
+      (λ es e before legal.
+      let tells = reply_tells set (empty_base m) es e (IsLegal-last set (empty_base m) es e legal) in
+      let none = false_from_ne_true (is_halted e.reply) (λ h. let other = (tells.halts h).1 in absurd cc) in
+      has_halted-snoc (empty_base m) es e ∙ or_from _ _ (before (IsLegal-front set (empty_base m) es (e ∷ []) legal)) none)
+
+  -- what was disposed of was quit
+  disposed_was_quit : (es : List Entry) → IsLegal set (empty_base m) es → has_disposed (empty_base m) es ≡ true → is_some (quit_place (empty_base m) es) ≡ true
+  disposed_was_quit = entry_by_entry (λ es. IsLegal set (empty_base m) es → has_disposed (empty_base m) es ≡ true → is_some (quit_place (empty_base m) es) ≡ true)
+      (λ legal d. let none = (starts_open m).1 in absurd cc)
+      (λ es e before legal d.
+      let tells = reply_tells set (empty_base m) es e (IsLegal-last set (empty_base m) es e legal) in
+      is_quit-snoc (empty_base m) es e ∙ elim (or_cases (has_disposed (empty_base m) es) (is_disposed e.reply) (sym (has_disposed-snoc (empty_base m) es e) ∙ d)) [
+        | inl was ↦ or_left _ _ (before (IsLegal-front set (empty_base m) es (e ∷ []) legal) was)
+        | inr now ↦ or_left _ _ (tells.disposes now).0
+      ])
+
+  -- it is disposed of once
+  disposed_once : (es : List Entry) → IsLegal set (empty_base m) es → disposed_count es ≡ one_if (has_disposed (empty_base m) es)
+  disposed_once = entry_by_entry (λ es. IsLegal set (empty_base m) es → disposed_count es ≡ one_if (has_disposed (empty_base m) es))
+      (λ legal. ap one_if (sym (starts_open m).1))
+      (λ es e before legal.
+      let early = before (IsLegal-front set (empty_base m) es (e ∷ []) legal) in
+      let tells = reply_tells set (empty_base m) es e (IsLegal-last set (empty_base m) es e legal) in
+      disposed_count-snoc es e ∙ ap (λ k. k + one_if (is_disposed e.reply)) early
+      ∙ counted_once (has_disposed (empty_base m) es) (is_disposed e.reply) (λ d. (or_parts _ _ (tells.disposes d).1).0)
+      ∙ ap one_if (sym (has_disposed-snoc (empty_base m) es e)))
+
+-- what was disposed of stays so
+has_disposed-append : (b : Base) (es fs : List Entry) → has_disposed b es ≡ true → has_disposed b (es ++ fs) ≡ true
+unfolding has_disposed
+has_disposed-append b es fs h = elim (or_cases b.disposed (list_any (λ e. is_disposed e.reply) es) h) [
+  | inl before ↦ or_left _ _ before
+  | inr there ↦ or_right _ _ (list_any-append (λ (e : Entry). is_disposed e.reply) es fs ∙ or_left _ _ there)
+]
+
+-- where the controller has only moved the time on, another sender's quit is the one that was done
+quit_by_others : (set : Setting) (m end n : ℕ) (es : List Entry) → IsLegal set (empty_base m) es → are_advances end (entries_by n es) ≡ true
+    → is_some (quit_place (empty_base m) es) ≡ true → is_quit_by_others n es ≡ true
+quit_by_others set m end n = entry_by_entry (λ es. IsLegal set (empty_base m) es → are_advances end (entries_by n es) ≡ true → is_some (quit_place (empty_base m) es) ≡ true → is_quit_by_others n es ≡ true)
+    (λ legal moves q. let none = (starts_open m).0 in absurd cc)
+    (λ es e before legal moves q.
+    let moved = own_advances end n es e moves in
+    let tells = reply_tells set (empty_base m) es e (IsLegal-last set (empty_base m) es e legal) in
+    list_any-append (λ (f : Entry). is_quit_done f.reply && not (f.sender == n)) es (e ∷ [])
+    ∙ elim (or_cases (is_some (quit_place (empty_base m) es)) (is_quit_done e.reply) (sym (is_quit-snoc (empty_base m) es e) ∙ q)) [
+      | inl was ↦ or_left _ _ (before (IsLegal-front set (empty_base m) es (e ∷ []) legal) moved.0 was)
+      | inr now ↦
+          let other = false_from_ne_true (e.sender == n) (λ own. let moves_on = (advance_alone e.call (moved.1 own)).1 in let quits = (tells.quits now).0 in absurd cc) in
+          let here : list_any (λ f. is_quit_done f.reply && not (f.sender == n)) (e ∷ []) ≡ true = rw (now, other) refl in
+          or_right _ _ here
+    ])
+
+-- one entry more, which moves the time or closes
+one_or_closed : (moves within last all : Bool) (rest : Bool → Bool) → (if moves then within && rest true else last) ≡ true
+    → (rest true ≡ true → (all ≡ true) ⊎ ((q : Bool) → rest q ≡ true))
+    → ((moves && within && all) ≡ true) ⊎ ((q : Bool) → (if moves then within && rest q else last) ≡ true)
+one_or_closed true within last all rest h more =
+    let parts = and_parts within (rest true) h in
+    elim (more parts.1) [
+      | inl same ↦ inl (and_from _ _ parts.0 same)
+      | inr any ↦ inr (λ q. and_from _ _ parts.0 (any q))
+    ]
+one_or_closed false within last all rest h more = inr (λ q. h)
+
+-- moves of the time alone, or a last call behind them, so that no quit of another sender is needed
+moves_or_closed : (end : ℕ) (es : List Entry) → are_controls false true end true es ≡ true → (are_advances end es ≡ true) ⊎ ((q : Bool) → are_controls false true end q es ≡ true)
+moves_or_closed end [] h = inl refl
+moves_or_closed end (e ∷ es) h =
+    one_or_closed (is_advance e.call) (nat_le (moment_of e.call) end) (is_empty es && is_closing false true end e) (are_advances end es) (λ q. are_controls false true end q es) h (moves_or_closed end es)
+
+-- the controller's entries on a queue that is not main, and was seen over
+pub side_is_controlled : (set : Setting) (n end : ℕ) (seen es : List Entry) → set.main ≡ false → IsLegal set (empty_base set.senders) es
+    → IsPrefix seen es → is_over (empty_base set.senders) seen ≡ true → are_controls false true end true (entries_by n es) ≡ true → is_controlled false true n end es ≡ true
+unfolding is_controlled
+side_is_controlled set n end seen es side legal begins over calls =
+    let base = empty_base set.senders in
+    let early = IsLegal-front set base seen begins.0 (subst (IsLegal set base) (sym begins.1) legal) in
+    let not_halted = side_is_not_halted set set.senders side seen early in
+    let was : has_disposed base seen ≡ true = sym (or-false (has_disposed base seen)) ∙ ap (λ t. has_disposed base seen || t) (sym not_halted) ∙ over in
+    let disposed = subst (λ l. has_disposed base l ≡ true) begins.1 (has_disposed-append base seen begins.0 was) in
+    let once : disposed_count es ≡ 1 = disposed_once set set.senders es legal ∙ ap one_if disposed in
+    let own : are_controls false true end (is_quit_by_others n es) (entries_by n es) ≡ true = elim (moves_or_closed end (entries_by n es) calls) [
+      | inl moves ↦ subst (λ q. are_controls false true end q (entries_by n es) ≡ true) (sym (quit_by_others set set.senders end n es legal moves (disposed_was_quit set set.senders es legal disposed))) calls
+      | inr any ↦ any (is_quit_by_others n es)
+    ] in
+    and_from _ _ own (eq-eqb (disposed_count es) 1 once)
+
+-- whether a queue was quit is nothing to main's halt
+halted_with_quit : (end : ℕ) (quit : Bool) (es : List Entry) → are_controls true true end quit es ≡ are_controls true true end false es
+halted_with_quit end quit [] = refl
+halted_with_quit end quit (e ∷ es) = ap (λ t. if is_advance e.call then nat_le (moment_of e.call) end && t else (is_empty es && is_closing true true end e)) (halted_with_quit end quit es)
+
+-- the controller's entries on main
+pub main_is_controlled : (n end : ℕ) (es : List Entry) → are_controls true true end false (entries_by n es) ≡ true → is_controlled true true n end es ≡ true
+unfolding is_controlled
+main_is_controlled n end es calls = and_from _ _ (halted_with_quit end (is_quit_by_others n es) (entries_by n es) ∙ calls) refl
