@@ -1,5 +1,5 @@
 -- What the controller has called stays true while it calls nothing, and its stages follow one another.
-use Rattle.std.proofs.Common.{◌≡◌, ◌<◌, ◌≤◌, ◌+◌, ℕ, true, false, length, refl, sym, ◌∙◌, subst, ap, arith, List}
+use Rattle.std.proofs.Common.{◌≡◌, ◌<◌, ◌≤◌, ◌+◌, ℕ, true, false, List, length, sym, ◌∙◌, subst, ap, arith}
 use mathlib.Core.Logic.{dite}
 use native.Mathlib.Decide.{dec_lt}
 use Rattle.loop_model.specs.declared.entry.Entry.{Entry}
@@ -7,7 +7,7 @@ use Rattle.dash_script.specs.declared.script.Script.{Script}
 use Rattle.looper_run.specs.Holding.{Sender}
 use Rattle.run_model.specs.Control.{are_controls}
 use Rattle.dash_stage.specs.declared.control.Controller.{Controller}
-use Rattle.dash_stage.specs.Controllers.{are_advances, time_in, calls_on, OnlyMoves, MovesAndQuits, MovesAndHalts, IsMoving, HasReached, IsQuitting, IsClosing, CallsNone}
+use Rattle.dash_stage.specs.Controllers.{are_advances, time_in, calls_on, OnlyMoves, MovesAndQuits, IsMoving, HasReached, IsQuitting, IsClosing, CallsNone}
 use Rattle.dash_stage.proofs.Controls.{advances_may_quit}
 
 -- the same controller has called nothing more
@@ -24,42 +24,47 @@ none_after a b c f g = record {
   calls = λ q d. g.calls q d ∙ f.calls q d;
 }
 
--- what holds of the calls on each queue holds of them still
+-- what holds of the calls on one queue holds of them still, where none was made there
+pub calls_kept : (c c' : Controller) → length c'.kit.posters.items ≡ length c.kit.posters.items → (q : ℕ) → ((d : Sender) → calls_on c' q d ≡ calls_on c q d) → (P : List Entry → Type 0)
+    → ((d : Sender) → q < length c.kit.posters.items → P (calls_on c q d))
+    → (d : Sender) → q < length c'.kit.posters.items → P (calls_on c' q d)
+calls_kept c c' long q same P h d lt = subst P (sym (same d)) (h d (subst (λ (n : ℕ). q < n) long lt))
+
 module _ (s : Script) (c c' : Controller) (none : CallsNone c c') where
-  earlier : (q : ℕ) → q < length c'.kit.posters.items → q < length c.kit.posters.items
-  earlier q lt = subst (λ n. q < n) none.long lt
+  moves_kept : (q : ℕ) → OnlyMoves s c q → OnlyMoves s c' q
+  moves_kept q = calls_kept c c' none.long q (none.calls q) (λ l. are_advances s.end l ≡ true)
 
-  pub only_moves_kept : (q : ℕ) → OnlyMoves s c q → OnlyMoves s c' q
-  only_moves_kept q moves d lt = subst (λ (l : List Entry). are_advances s.end l ≡ true) (sym (none.calls q d)) (moves d (earlier q lt))
+  quits_kept : (q : ℕ) → MovesAndQuits s c q → MovesAndQuits s c' q
+  quits_kept q = calls_kept c c' none.long q (none.calls q) (λ l. are_controls false true s.end true l ≡ true)
 
-  pub moves_and_quits_kept : (q : ℕ) → MovesAndQuits s c q → MovesAndQuits s c' q
-  moves_and_quits_kept q moves d lt =
-      subst (λ (l : List Entry). are_controls false true s.end true l ≡ true) (sym (none.calls q d)) (moves d (earlier q lt))
-
+  -- it moves the queues' time on, as before
   pub moving_kept : IsMoving s c → IsMoving s c'
-  moving_kept moving q = only_moves_kept q (moving q)
+  moving_kept moving q = moves_kept q (moving q)
 
+  -- main has come to the same time
   pub reached_kept : (time : ℕ) → HasReached time c → HasReached time c'
-  reached_kept time reached d lt = subst (λ (l : List Entry). time ≤ time_in l) (sym (none.calls 0 d)) (reached d (earlier 0 lt))
+  reached_kept time = calls_kept c c' none.long 0 (none.calls 0) (λ l. time ≤ time_in l)
 
+  -- the same queues may have been quit
   pub quitting_kept : (n : ℕ) → IsQuitting s n c → IsQuitting s n c'
   quitting_kept n k = record {
-    main = only_moves_kept 0 k.main;
+    main = moves_kept 0 k.main;
     reached = reached_kept s.end k.reached;
-    done = λ q some lt. moves_and_quits_kept q (k.done q some lt);
-    rest = λ q le. only_moves_kept q (k.rest q le);
+    done = λ q some lt. quits_kept q (k.done q some lt);
+    rest = λ q le. moves_kept q (k.rest q le);
   }
 
+  -- and main is still to be halted
   pub closing_kept : IsClosing s c → IsClosing s c'
   closing_kept k = record {
-    main = only_moves_kept 0 k.main;
+    main = moves_kept 0 k.main;
     reached = reached_kept s.end k.reached;
-    others = λ q some. moves_and_quits_kept q (k.others q some);
+    others = λ q some. quits_kept q (k.others q some);
   }
 
 module _ (s : Script) (c : Controller) where
   -- where only the time was moved on, the queue may also have been quit
-  pub moves_may_quit : (q : ℕ) → OnlyMoves s c q → MovesAndQuits s c q
+  moves_may_quit : (q : ℕ) → OnlyMoves s c q → MovesAndQuits s c q
   moves_may_quit q moves d lt = advances_may_quit s.end (calls_on c q d) (moves d lt)
 
   -- none has been quit as the time of main comes to the end
@@ -85,5 +90,5 @@ module _ (s : Script) (c : Controller) where
   quitting_all k count = record {
     main = k.main;
     reached = k.reached;
-    others = λ q some d lt. k.done q some (subst (λ n. q < n) count lt) d lt;
+    others = λ q some d lt. k.done q some (subst (λ (n : ℕ). q < n) count lt) d lt;
   }

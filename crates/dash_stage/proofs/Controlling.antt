@@ -1,6 +1,6 @@
 -- The controller's posters and passes, and what its calls leave of them.
-use Rattle.std.proofs.Common.{◌≡◌, ◌<◌, ◌+◌, ℕ, List, map, length, refl, sym, ap, ◌∙◌, subst, arith, true}
-use Rattle.std.specs.Prelude.{slice_index_or, slice_set}
+use Rattle.std.proofs.Common.{◌≡◌, ◌<◌, ◌+◌, ℕ, length, sym, ap, ◌∙◌, subst, true}
+use Rattle.std.specs.Prelude.{slice_index_or}
 use Rattle.std.specs.Vec.{vec_len, with_item}
 use Rattle.atomic_table.specs.Seated.{TableId}
 use Rattle.dash_script.specs.declared.script.Script.{Script}
@@ -14,7 +14,7 @@ use Rattle.choreographer.specs.Known.{Shared as Frames, Known as Pass, IsOf as I
 use Rattle.run_model.specs.Senders.{controller}
 use Rattle.dash_stage.specs.declared.hall.Hall.{Hall}
 use Rattle.dash_stage.specs.declared.control.Controller.{Controller}
-use Rattle.dash_stage.specs.Kits.{badge_of, badge_for, frame_badge_of, frame_badge_for, IsHall, queue_constants}
+use Rattle.dash_stage.specs.Kits.{badge_of, badge_for, frame_badge_of, frame_badge_for, IsHall}
 use Rattle.dash_stage.specs.Controllers.{IsController}
 use Rattle.dash_stage.proofs.Badges.{alike_length, queue_count, choreographer_count, poster_is, pass_is, queue_is, posters_kept, passes_kept, turn_badge, gone_badge, frame_turn_badge}
 

@@ -1,4 +1,3 @@
-use Rattle.std.proofs.Common.{◌≡◌, refl}
 use Rattle.dash_stage.proofs.Controlling.{in_queues, in_posters, own_poster, is_last, in_step, after_turn}
 use Rattle.dash_stage.proofs.ControlKept.{moving_kept, reached_kept}
 use Rattle.dash_stage.proofs.ControlTurns.{turned_none, turned_moving, turned_reached, turned_kept, turned_over, turned_late}
@@ -34,7 +33,7 @@ pub returns-in-Over : goal.returns-in-Over
 returns-in-Over g c = let none = turned_none c.args.script.now c.args.hall.now c.requires.hall c.args.place c.requires.place c.args.self.now c.requires.controller c.index_mut.result.now c.advance.new.self c.index.result.now c.index_mut.ensures.value c.index.ensures _ _ c.in-Over.ensures.2 c.args.self.now.kit.pass c.in-Over.ensures.3.1 in record {
   controller = after_turn c.args.script.now c.args.hall.now c.requires.hall c.args.place c.requires.place c.args.self.now c.requires.controller c.index_mut.result.now c.advance.new.self _ _ c.index_mut.ensures.value c.in-Over.ensures.2;
   moving = moving_kept c.args.script.now c.args.self.now _ none c.requires.moving;
-  reached = λ _ first. turned_over c.args.script.now c.args.hall.now c.requires.hall c.args.place c.requires.place c.args.self.now c.requires.controller c.index_mut.result.now c.advance.new.self c.index.result.now c.index_mut.ensures.value c.index.ensures _ _ c.in-Over.ensures.2 c.args.self.now.kit.pass first (c.requires.moving 0) c.in-Over.ensures.3.0;
+  reached = λ _ first. turned_over c.args.script.now c.args.hall.now c.requires.hall c.args.place c.requires.place c.args.self.now c.requires.controller c.index_mut.result.now c.advance.new.self c.index.result.now c.index_mut.ensures.value c.index.ensures _ _ c.in-Over.ensures.2 first (c.requires.moving 0) c.in-Over.ensures.3.0;
   kept = reached_kept c.args.script.now c.args.self.now _ none c.args.now;
 }
 

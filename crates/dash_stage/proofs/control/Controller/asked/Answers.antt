@@ -1,4 +1,4 @@
-use Rattle.std.proofs.Common.{◌≡◌, refl}
+use Rattle.std.proofs.Common.{refl}
 use Rattle.dash_stage.proofs.Controlling.{in_choreographers, in_passes, own_pass, after_frame_turn}
 use Rattle.dash_stage.proofs.control.Controller.asked.Goals as goal
 

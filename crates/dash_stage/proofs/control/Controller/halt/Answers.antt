@@ -1,4 +1,4 @@
-use Rattle.std.proofs.Common.{◌≡◌, refl}
+use Rattle.std.proofs.Common.{refl}
 use Rattle.dash_stage.proofs.Controlling.{after_turn}
 use Rattle.dash_stage.proofs.ControlKept.{closing_kept}
 use Rattle.dash_stage.proofs.ControlTurns.{turned_none, turned_over, turned_closed}
@@ -15,7 +15,7 @@ pub returns-in-Over : goal.returns-in-Over
 returns-in-Over g c = record {
   controller = after_turn c.args.script.now c.args.hall.now c.requires.hall 0 c.requires.some c.args.self.now c.requires.controller c.index_mut.result.now c.halt.new.self _ _ c.index_mut.ensures.value c.in-Over.ensures.2;
   closing = λ wrong. absurd cc;
-  closed = λ _. turned_over c.args.script.now c.args.hall.now c.requires.hall 0 c.requires.some c.args.self.now c.requires.controller c.index_mut.result.now c.halt.new.self c.index.result.now c.index_mut.ensures.value c.index.ensures _ _ c.in-Over.ensures.2 c.args.self.now.kit.pass refl c.requires.closing.main c.in-Over.ensures.3.0;
+  closed = λ _. turned_over c.args.script.now c.args.hall.now c.requires.hall 0 c.requires.some c.args.self.now c.requires.controller c.index_mut.result.now c.halt.new.self c.index.result.now c.index_mut.ensures.value c.index.ensures _ _ c.in-Over.ensures.2 refl c.requires.closing.main c.in-Over.ensures.3.0;
 }
 
 pub returns-in-NotDrained-clause-closing : goal.returns-in-NotDrained-clause-closing

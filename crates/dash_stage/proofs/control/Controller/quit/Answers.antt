@@ -1,4 +1,4 @@
-use Rattle.std.proofs.Common.{◌≡◌, ◌≤◌, ℕ, subst}
+use Rattle.std.proofs.Common.{◌≤◌, ℕ, subst}
 use Rattle.dash_stage.proofs.ControlKept.{quitting_kept, quitting_skips}
 use Rattle.dash_stage.proofs.control.Controller.quit.Goals as goal
 

@@ -1,4 +1,4 @@
-use Rattle.std.proofs.Common.{◌≡◌, ◌+◌, refl}
+use Rattle.std.proofs.Common.{◌+◌}
 use Rattle.dash_stage.proofs.Controlling.{in_queues, in_posters, own_poster, in_pool, after_call}
 use Rattle.dash_stage.specs.Controllers.{IsQuitting}
 use Rattle.dash_stage.proofs.ThreadSteps.{on_ok}

@@ -1,4 +1,4 @@
-use Rattle.std.proofs.Common.{◌≡◌, refl, ◌∙◌}
+use Rattle.std.proofs.Common.{refl, ◌∙◌}
 use Rattle.dash_stage.proofs.Controlling.{in_queues, in_posters, own_poster, after_turn}
 use Rattle.dash_stage.proofs.ControlTurns.{turned_none, turned_time}
 use Rattle.dash_stage.proofs.control.Controller.time_on.Goals as goal
