@@ -1,6 +1,8 @@
 pub mod Badges
 pub mod Controlling
 pub mod Controls
+pub mod ControlKept
+pub mod ControlTurns
 pub mod Blocks
 pub mod LooperLists
 pub mod LooperPlaces
