@@ -1,37 +1,89 @@
 -- What the controller has called stays true while it calls nothing, and its stages follow one another.
-use Rattle.std.proofs.Common.{◌≡◌, ◌<◌, ◌≤◌, ◌+◌, ℕ, length}
+use Rattle.std.proofs.Common.{◌≡◌, ◌<◌, ◌≤◌, ◌+◌, ℕ, true, false, length, refl, sym, ◌∙◌, subst, ap, arith, List}
+use mathlib.Core.Logic.{dite}
+use native.Mathlib.Decide.{dec_lt}
+use Rattle.loop_model.specs.declared.entry.Entry.{Entry}
 use Rattle.dash_script.specs.declared.script.Script.{Script}
+use Rattle.looper_run.specs.Holding.{Sender}
+use Rattle.run_model.specs.Control.{are_controls}
 use Rattle.dash_stage.specs.declared.control.Controller.{Controller}
-use Rattle.dash_stage.specs.Controllers.{IsMoving, HasReached, IsQuitting, IsClosing, CallsNone, OnlyMoves, MovesAndQuits}
+use Rattle.dash_stage.specs.Controllers.{are_advances, time_in, calls_on, OnlyMoves, MovesAndQuits, MovesAndHalts, IsMoving, HasReached, IsQuitting, IsClosing, CallsNone}
+use Rattle.dash_stage.proofs.Controls.{advances_may_quit}
 
 -- the same controller has called nothing more
 pub none_same : (c c' : Controller) → c' ≡ c → CallsNone c c'
-none_same c c' is = ?
+none_same c c' is = record {
+  long = ap (λ (z : Controller). length z.kit.posters.items) is;
+  calls = λ q d. ap (λ (z : Controller). calls_on z q d) is;
+}
 
 -- nothing, and then nothing
 pub none_after : (a b c : Controller) → CallsNone a b → CallsNone b c → CallsNone a c
-none_after a b c f g = ?
+none_after a b c f g = record {
+  long = g.long ∙ f.long;
+  calls = λ q d. g.calls q d ∙ f.calls q d;
+}
 
 -- what holds of the calls on each queue holds of them still
 module _ (s : Script) (c c' : Controller) (none : CallsNone c c') where
+  earlier : (q : ℕ) → q < length c'.kit.posters.items → q < length c.kit.posters.items
+  earlier q lt = subst (λ n. q < n) none.long lt
+
+  pub only_moves_kept : (q : ℕ) → OnlyMoves s c q → OnlyMoves s c' q
+  only_moves_kept q moves d lt = subst (λ (l : List Entry). are_advances s.end l ≡ true) (sym (none.calls q d)) (moves d (earlier q lt))
+
+  pub moves_and_quits_kept : (q : ℕ) → MovesAndQuits s c q → MovesAndQuits s c' q
+  moves_and_quits_kept q moves d lt =
+      subst (λ (l : List Entry). are_controls false true s.end true l ≡ true) (sym (none.calls q d)) (moves d (earlier q lt))
+
   pub moving_kept : IsMoving s c → IsMoving s c'
-  moving_kept moving q = ?
+  moving_kept moving q = only_moves_kept q (moving q)
 
   pub reached_kept : (time : ℕ) → HasReached time c → HasReached time c'
-  reached_kept time reached d lt = ?
+  reached_kept time reached d lt = subst (λ (l : List Entry). time ≤ time_in l) (sym (none.calls 0 d)) (reached d (earlier 0 lt))
+
+  pub quitting_kept : (n : ℕ) → IsQuitting s n c → IsQuitting s n c'
+  quitting_kept n k = record {
+    main = only_moves_kept 0 k.main;
+    reached = reached_kept s.end k.reached;
+    done = λ q some lt. moves_and_quits_kept q (k.done q some lt);
+    rest = λ q le. only_moves_kept q (k.rest q le);
+  }
 
   pub closing_kept : IsClosing s c → IsClosing s c'
-  closing_kept k = ?
+  closing_kept k = record {
+    main = only_moves_kept 0 k.main;
+    reached = reached_kept s.end k.reached;
+    others = λ q some. moves_and_quits_kept q (k.others q some);
+  }
 
 module _ (s : Script) (c : Controller) where
   -- where only the time was moved on, the queue may also have been quit
   pub moves_may_quit : (q : ℕ) → OnlyMoves s c q → MovesAndQuits s c q
-  moves_may_quit q moves d lt = ?
+  moves_may_quit q moves d lt = advances_may_quit s.end (calls_on c q d) (moves d lt)
 
   -- none has been quit as the time of main comes to the end
   pub quitting_starts : IsMoving s c → HasReached s.end c → IsQuitting s 1 c
-  quitting_starts moving reached = ?
+  quitting_starts moving reached = record {
+    main = moving 0;
+    reached = reached;
+    done = λ q some lt. absurd (omega (arith, some, lt));
+    rest = λ q le. moving q;
+  }
 
   -- a queue that is not quit is passed over
   pub quitting_skips : (n : ℕ) → 0 < n → IsQuitting s n c → IsQuitting s (n + 1) c
-  quitting_skips n above k = ?
+  quitting_skips n above k = record {
+    main = k.main;
+    reached = k.reached;
+    done = λ q some lt. dite (dec_lt q n) (λ below. k.done q some below) (λ here. moves_may_quit q (k.rest q (omega (arith, here))));
+    rest = λ q le. k.rest q (omega (arith, le));
+  }
+
+  -- after the last queue all have been passed
+  pub quitting_all : IsQuitting s s.loopers c → length c.kit.posters.items ≡ s.loopers → IsClosing s c
+  quitting_all k count = record {
+    main = k.main;
+    reached = k.reached;
+    others = λ q some d lt. k.done q some (subst (λ n. q < n) count lt) d lt;
+  }

@@ -18,6 +18,10 @@ use Rattle.dash_stage.specs.Kits.{badge_of, badge_for, frame_badge_of, frame_bad
 use Rattle.dash_stage.specs.Controllers.{IsController}
 use Rattle.dash_stage.proofs.Badges.{alike_length, queue_count, choreographer_count, poster_is, pass_is, queue_is, posters_kept, passes_kept, turn_badge, gone_badge, frame_turn_badge}
 
+-- the controller has a poster for each looper
+pub poster_count : (s : Script) (hall : Hall) (c : Controller) → IsHall s hall → IsController s hall c → length c.kit.posters.items ≡ s.loopers
+poster_count s hall c h k = alike_length badge_of (badge_for (controller s)) c.kit.posters.items hall.queues.items k.posters ∙ queue_count s hall.pool hall.queues.items h.queues
+
 module _ (s : Script) (hall : Hall) (h : IsHall s hall) (i : ℕ) (lt : i < s.loopers) where
   -- each looper has a queue and a choreographer
   pub in_queues : i < vec_len hall.queues
@@ -27,15 +31,15 @@ module _ (s : Script) (hall : Hall) (h : IsHall s hall) (i : ℕ) (lt : i < s.lo
   in_choreographers = subst (λ n. i < n) (sym (hall.choreographers.ok.0 ∙ choreographer_count s hall.choreographers.items h.choreographers)) lt
 
   module _ (c : Controller) (k : IsController s hall c) where
-    poster_count : length c.kit.posters.items ≡ s.loopers
-    poster_count = alike_length badge_of (badge_for (controller s)) c.kit.posters.items hall.queues.items k.posters ∙ queue_count s hall.pool hall.queues.items h.queues
+    pub has_poster : i < length c.kit.posters.items
+    has_poster = subst (λ n. i < n) (sym (poster_count s hall c h k)) lt
 
     pass_count : length c.kit.frames.items ≡ s.loopers
     pass_count = alike_length frame_badge_of (frame_badge_for (s.threads + 2)) c.kit.frames.items hall.choreographers.items k.frames ∙ choreographer_count s hall.choreographers.items h.choreographers
 
-    -- the controller has a poster and a pass for each looper
+    -- it has a poster and a pass for each looper
     pub in_posters : i < vec_len c.kit.posters
-    in_posters = subst (λ n. i < n) (sym (c.kit.posters.ok.0 ∙ poster_count)) lt
+    in_posters = subst (λ n. i < n) (sym c.kit.posters.ok.0) has_poster
 
     pub in_passes : i < vec_len c.kit.frames
     in_passes = subst (λ n. i < n) (sym (c.kit.frames.ok.0 ∙ pass_count)) lt
@@ -43,7 +47,7 @@ module _ (s : Script) (hall : Hall) (h : IsHall s hall) (i : ℕ) (lt : i < s.lo
     -- its poster for a looper
     pub own_poster : (p : Sender) (q : Shared TableId) → p ≡ slice_index_or c.kit.posters.items i p → q ≡ slice_index_or hall.queues.items i q → IsOf p q × (p.sender ≡ controller s)
     own_poster p q is_p is_q =
-        poster_is (controller s) hall.queues.items c.kit.posters.items k.posters i p q (subst (λ n. i < n) (sym poster_count) lt) is_p is_q
+        poster_is (controller s) hall.queues.items c.kit.posters.items k.posters i p q has_poster is_p is_q
 
     pub own_pass : (p : Pass) (f : Frames) → p ≡ slice_index_or c.kit.frames.items i p → f ≡ slice_index_or hall.choreographers.items i f → IsFrameOf p f
     own_pass p f is_p is_f = pass_is (s.threads + 2) hall.choreographers.items c.kit.frames.items k.frames i p f (subst (λ n. i < n) (sym pass_count) lt) is_p is_f

@@ -1,5 +1,8 @@
 pub mod Badges
 pub mod Controlling
+pub mod Controls
+pub mod ControlKept
+pub mod ControlTurns
 pub mod Blocks
 pub mod LooperLists
 pub mod LooperPlaces
@@ -22,9 +25,8 @@ pub mod ThreadPlans
 pub mod ThreadSteps
 pub mod ThreadLabels
 pub mod Carried
+pub mod StageControls
 pub mod ThreadRuns
 pub mod ThreadBlocks
 pub mod ThreadFrames
 pub mod ThreadFrameRuns
-pub mod ControlKept
-pub mod StageControls

@@ -68,7 +68,9 @@ impl Controller {
         ensures kept { HasReached now self.old → HasReached now self.new }
     {
         match self.kit.posters[place].advance(rt, &hall.queues[place], now) {
-            Advancing::Advanced | Advancing::Over | Advancing::Reached { .. } => Ok(true),
+            Advancing::Advanced => Ok(true),
+            Advancing::Over => Ok(true),
+            Advancing::Reached { .. } => Ok(true),
             Advancing::NotDrained { .. } => Ok(false),
             Advancing::NoMemory => Err(NoMemory),
         }
@@ -191,7 +193,8 @@ impl Controller {
         ensures closed { result ≡ true → HasClosed script.now self.new }
     {
         match self.kit.posters[0].halt(rt, &hall.queues[0], script.end) {
-            Halting::Halted | Halting::Over => true,
+            Halting::Halted => true,
+            Halting::Over => true,
             Halting::NotDrained { .. } => false,
         }
     }

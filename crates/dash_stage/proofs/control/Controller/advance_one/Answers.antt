@@ -1,5 +1,7 @@
-use Rattle.std.proofs.Common.{◌≡◌}
+use Rattle.std.proofs.Common.{◌≡◌, refl}
 use Rattle.dash_stage.proofs.Controlling.{in_queues, in_posters, own_poster, is_last, in_step, after_turn}
+use Rattle.dash_stage.proofs.ControlKept.{moving_kept, reached_kept}
+use Rattle.dash_stage.proofs.ControlTurns.{turned_none, turned_moving, turned_reached, turned_kept, turned_over, turned_late}
 use Rattle.dash_stage.proofs.control.Controller.advance_one.Goals as goal
 
 pub index_mut-requires : goal.index_mut-requires
@@ -22,15 +24,40 @@ advance-requires-clause-lockstep g c κs within =
 
 pub returns-in-Advanced : goal.returns-in-Advanced
 returns-in-Advanced g c = record {
-  controller = after_turn c.args.script.now c.args.hall.now c.requires.hall c.args.place c.requires.place c.args.self.now c.requires.controller c.index_mut.result.now c.advance.new.self _ _ c.index_mut.ensures.value c.advance.ensures.2;
+  controller = after_turn c.args.script.now c.args.hall.now c.requires.hall c.args.place c.requires.place c.args.self.now c.requires.controller c.index_mut.result.now c.advance.new.self _ _ c.index_mut.ensures.value c.in-Advanced.ensures.2;
+  moving = turned_moving c.args.script.now c.args.hall.now c.requires.hall c.args.place c.requires.place c.args.self.now c.requires.controller c.index_mut.result.now c.advance.new.self c.index.result.now c.index_mut.ensures.value c.index.ensures _ _ c.in-Advanced.ensures.2 c.args.self.now.kit.pass c.args.now c.requires.end c.in-Advanced.ensures.3.1 c.requires.moving;
+  reached = λ _ first. turned_reached c.args.script.now c.args.hall.now c.requires.hall c.args.place c.requires.place c.args.self.now c.requires.controller c.index_mut.result.now c.advance.new.self c.index.result.now c.index_mut.ensures.value c.index.ensures _ _ c.in-Advanced.ensures.2 c.args.self.now.kit.pass c.args.now c.in-Advanced.ensures.3.1 first;
+  kept = turned_kept c.args.script.now c.args.hall.now c.requires.hall c.args.place c.requires.place c.args.self.now c.requires.controller c.index_mut.result.now c.advance.new.self c.index.result.now c.index_mut.ensures.value c.index.ensures _ _ c.in-Advanced.ensures.2 c.args.self.now.kit.pass c.args.now c.args.now c.in-Advanced.ensures.3.1;
+}
+
+pub returns-in-Over : goal.returns-in-Over
+returns-in-Over g c = let none = turned_none c.args.script.now c.args.hall.now c.requires.hall c.args.place c.requires.place c.args.self.now c.requires.controller c.index_mut.result.now c.advance.new.self c.index.result.now c.index_mut.ensures.value c.index.ensures _ _ c.in-Over.ensures.2 c.args.self.now.kit.pass c.in-Over.ensures.3.1 in record {
+  controller = after_turn c.args.script.now c.args.hall.now c.requires.hall c.args.place c.requires.place c.args.self.now c.requires.controller c.index_mut.result.now c.advance.new.self _ _ c.index_mut.ensures.value c.in-Over.ensures.2;
+  moving = moving_kept c.args.script.now c.args.self.now _ none c.requires.moving;
+  reached = λ _ first. turned_over c.args.script.now c.args.hall.now c.requires.hall c.args.place c.requires.place c.args.self.now c.requires.controller c.index_mut.result.now c.advance.new.self c.index.result.now c.index_mut.ensures.value c.index.ensures _ _ c.in-Over.ensures.2 c.args.self.now.kit.pass first (c.requires.moving 0) c.in-Over.ensures.3.0;
+  kept = reached_kept c.args.script.now c.args.self.now _ none c.args.now;
+}
+
+pub returns-in-Reached : goal.returns-in-Reached
+returns-in-Reached g c = let none = turned_none c.args.script.now c.args.hall.now c.requires.hall c.args.place c.requires.place c.args.self.now c.requires.controller c.index_mut.result.now c.advance.new.self c.index.result.now c.index_mut.ensures.value c.index.ensures _ _ c.in-Reached.ensures.2 c.args.self.now.kit.pass c.in-Reached.ensures.3.3 in record {
+  controller = after_turn c.args.script.now c.args.hall.now c.requires.hall c.args.place c.requires.place c.args.self.now c.requires.controller c.index_mut.result.now c.advance.new.self _ _ c.index_mut.ensures.value c.in-Reached.ensures.2;
+  moving = moving_kept c.args.script.now c.args.self.now _ none c.requires.moving;
+  reached = λ _ first. turned_late c.args.script.now c.args.hall.now c.requires.hall c.args.place c.requires.place c.args.self.now c.requires.controller c.index_mut.result.now c.advance.new.self c.index.result.now c.index_mut.ensures.value c.index.ensures _ _ c.in-Reached.ensures.2 c.args.self.now.kit.pass c.args.now first c.in-Reached.ensures.3.3 c.in-Reached.ensures.3.1;
+  kept = reached_kept c.args.script.now c.args.self.now _ none c.args.now;
 }
 
 pub returns-in-NotDrained : goal.returns-in-NotDrained
-returns-in-NotDrained g c = record {
-  controller = after_turn c.args.script.now c.args.hall.now c.requires.hall c.args.place c.requires.place c.args.self.now c.requires.controller c.index_mut.result.now c.advance.new.self _ _ c.index_mut.ensures.value c.advance.ensures.2;
+returns-in-NotDrained g c = let none = turned_none c.args.script.now c.args.hall.now c.requires.hall c.args.place c.requires.place c.args.self.now c.requires.controller c.index_mut.result.now c.advance.new.self c.index.result.now c.index_mut.ensures.value c.index.ensures _ _ c.in-NotDrained.ensures.2 c.args.self.now.kit.pass c.in-NotDrained.ensures.3.3 in record {
+  controller = after_turn c.args.script.now c.args.hall.now c.requires.hall c.args.place c.requires.place c.args.self.now c.requires.controller c.index_mut.result.now c.advance.new.self _ _ c.index_mut.ensures.value c.in-NotDrained.ensures.2;
+  moving = moving_kept c.args.script.now c.args.self.now _ none c.requires.moving;
+  reached = λ wrong. absurd cc;
+  kept = reached_kept c.args.script.now c.args.self.now _ none c.args.now;
 }
 
 pub returns-in-NoMemory : goal.returns-in-NoMemory
-returns-in-NoMemory g c = record {
-  controller = after_turn c.args.script.now c.args.hall.now c.requires.hall c.args.place c.requires.place c.args.self.now c.requires.controller c.index_mut.result.now c.advance.new.self _ _ c.index_mut.ensures.value c.advance.ensures.2;
+returns-in-NoMemory g c = let none = turned_none c.args.script.now c.args.hall.now c.requires.hall c.args.place c.requires.place c.args.self.now c.requires.controller c.index_mut.result.now c.advance.new.self c.index.result.now c.index_mut.ensures.value c.index.ensures _ _ c.in-NoMemory.ensures.2 c.args.self.now.kit.pass c.in-NoMemory.ensures.3 in record {
+  controller = after_turn c.args.script.now c.args.hall.now c.requires.hall c.args.place c.requires.place c.args.self.now c.requires.controller c.index_mut.result.now c.advance.new.self _ _ c.index_mut.ensures.value c.in-NoMemory.ensures.2;
+  moving = moving_kept c.args.script.now c.args.self.now _ none c.requires.moving;
+  reached = tt;
+  kept = reached_kept c.args.script.now c.args.self.now _ none c.args.now;
 }

@@ -1,4 +1,4 @@
-use Rattle.std.proofs.Common.{◌≡◌}
+use Rattle.std.proofs.Common.{◌≡◌, refl}
 use Rattle.dash_stage.proofs.Controlling.{in_choreographers, in_passes, own_pass, after_frame_turn}
 use Rattle.dash_stage.proofs.control.Controller.asked.Goals as goal
 
@@ -15,9 +15,11 @@ asked-requires g c =
 pub returns-in_err-stamp : goal.returns-in_err-stamp
 returns-in_err-stamp g c = record {
   controller = after_frame_turn c.args.script.now c.args.hall.now c.requires.hall c.args.looper c.requires.looper c.args.self.now c.requires.controller c.index_mut.result.now c.asked.new.pass _ _ c.index_mut.ensures.value c.asked.ensures.1;
+  none = record { long = refl; calls = λ q d. refl };
 }
 
 pub returns : goal.returns
 returns g c = record {
   controller = after_frame_turn c.args.script.now c.args.hall.now c.requires.hall c.args.looper c.requires.looper c.args.self.now c.requires.controller c.index_mut.result.now c.asked.new.pass _ _ c.index_mut.ensures.value c.asked.ensures.1;
+  none = record { long = refl; calls = λ q d. refl };
 }

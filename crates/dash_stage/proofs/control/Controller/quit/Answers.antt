@@ -1,21 +1,13 @@
-use Rattle.std.proofs.Common.{◌≡◌}
-use Rattle.dash_stage.proofs.Controlling.{in_queues, in_posters, own_poster, in_pool, after_call}
+use Rattle.std.proofs.Common.{◌≡◌, ◌≤◌, ℕ, subst}
+use Rattle.dash_stage.proofs.ControlKept.{quitting_kept, quitting_skips}
 use Rattle.dash_stage.proofs.control.Controller.quit.Goals as goal
 
-pub index-requires : goal.index-requires
-index-requires g c = in_queues c.args.script.now c.args.hall.now c.requires.hall c.args.looper c.requires.looper
+pub returns-then-time_on-script-clause-quitting : goal.returns-then-time_on-script-clause-quitting
+returns-then-time_on-script-clause-quitting g c =
+    quitting_skips c.args.script.now c.time_on.new.self c.args.looper c.requires.other (quitting_kept c.args.script.now c.args.self.now c.time_on.new.self c.time_on.ensures.none c.args.looper c.requires.quitting)
 
-pub index_mut-requires : goal.index_mut-requires
-index_mut-requires g c = in_posters c.args.script.now c.args.hall.now c.requires.hall c.args.looper c.requires.looper c.args.self.now c.requires.controller
+pub quit_one-requires-clause-quitting : goal.quit_one-requires-clause-quitting
+quit_one-requires-clause-quitting g c = quitting_kept c.args.script.now c.args.self.now c.time_on.new.self c.time_on.ensures.none c.args.looper c.requires.quitting
 
-pub quit_by-requires-clause-poster : goal.quit_by-requires-clause-poster
-quit_by-requires-clause-poster g c =
-    (own_poster c.args.script.now c.args.hall.now c.requires.hall c.args.looper c.requires.looper c.args.self.now c.requires.controller c.index_mut.result.now c.index.result.now c.index_mut.ensures.value c.index.ensures).0
-
-pub quit_by-requires-clause-home : goal.quit_by-requires-clause-home
-quit_by-requires-clause-home g c = in_pool c.args.script.now c.args.hall.now c.requires.hall c.args.looper c.requires.looper c.args.self.now c.requires.controller c.index.result.now c.index.ensures
-
-pub returns : goal.returns
-returns g c = record {
-  controller = after_call c.args.script.now c.args.hall.now c.requires.hall c.args.looper c.requires.looper c.args.self.now c.requires.controller c.index_mut.result.now c.quit_by.new.poster c.quit_by.new.pass c.index_mut.ensures.value c.quit_by.ensures.on;
-}
+pub quit_one-requires-clause-time : goal.quit_one-requires-clause-time
+quit_one-requires-clause-time g c d = subst (λ (n : ℕ). c.args.script.now.end ≤ n) (c.time_on.ensures.time d) c.if-time_on-script.false

@@ -1,5 +1,6 @@
-use Rattle.std.proofs.Common.{◌≡◌}
+use Rattle.std.proofs.Common.{◌≡◌, refl}
 use Rattle.dash_stage.proofs.Controlling.{in_queues, in_posters, own_poster, after_turn}
+use Rattle.dash_stage.proofs.ControlTurns.{turned_none}
 use Rattle.dash_stage.proofs.control.Controller.seen_on.Goals as goal
 
 pub index_mut-requires : goal.index_mut-requires
@@ -18,4 +19,5 @@ time-requires-clause-queue g c κs within =
 pub returns : goal.returns
 returns g c = record {
   controller = after_turn c.args.script.now c.args.hall.now c.requires.hall c.args.place c.requires.place c.args.self.now c.requires.controller c.index_mut.result.now c.time.new.self _ _ c.index_mut.ensures.value c.time.ensures.1;
+  none = turned_none c.args.script.now c.args.hall.now c.requires.hall c.args.place c.requires.place c.args.self.now c.requires.controller c.index_mut.result.now c.time.new.self c.index.result.now c.index_mut.ensures.value c.index.ensures _ _ c.time.ensures.1 _ refl;
 }
