@@ -25,6 +25,7 @@ pub mod ThreadPlans
 pub mod ThreadSteps
 pub mod ThreadLabels
 pub mod Carried
+pub mod StageControls
 pub mod ThreadRuns
 pub mod ThreadBlocks
 pub mod ThreadFrames

@@ -1,10 +1,12 @@
--- A script's loopers and threads are few, and its period is not 0.
-use Rattle.std.specs.Prelude.{◌≡◌, ℕ, ◌≤◌, ◌&&◌, nat_le, Bool, true, List, [], ◌∷◌, IsTrue, drop, ◌==◌, if◌then◌else◌}
+-- A script's loopers and threads are few, its period is not 0, and no block comes after its end.
+use Rattle.std.specs.Prelude.{◌≡◌, ℕ, ◌<◌, ◌≤◌, ◌&&◌, nat_le, Bool, true, List, [], ◌∷◌, IsTrue, drop, ◌==◌, if◌then◌else◌, length, slice_index_or}
 use Rattle.std.specs.List.{list_all, flat_map, enumerate_from}
-use Rattle.std.proofs.Common.{arith, sym, ◌∙◌, ◌++◌, map}
+use Rattle.std.proofs.Common.{arith, sym, subst, ◌∙◌, ◌++◌, map}
 use Rattle.std.proofs.lemmas.List.Folds.{list_all-append}
-use Rattle.std.proofs.lemmas.Bool.{and_parts}
+use Rattle.std.proofs.lemmas.List.Sums.{AllPass-from_list_all}
+use Rattle.std.proofs.lemmas.Bool.{and_parts, leb-true}
 use Rattle.std.proofs.lemmas.Bool.Decides.{nat_tests}
+use Rattle.dash_script.specs.declared.script.Block.{Block}
 use Rattle.dash_script.specs.declared.script.Script.{Script}
 use Rattle.dash_script.specs.declared.statement.Statement.{Statement}
 use Rattle.dash_script.specs.declared.form.Kind.TheVariants as kind
@@ -61,3 +63,8 @@ playable s h =
     let b = small.1 in
     let some = small.2 in
     record { loopers = omega (arith, some); period = omega (arith, least); few = omega (arith, a, b) }
+
+-- no block comes after the end
+pub before_end : (s : Script) (i : ℕ) (b : Block) → HasText s → i < length s.blocks → b ≡ slice_index_or s.blocks i b → b.time ≤ s.end
+before_end s i b h lt is =
+    leb-true b.time s.end (subst (λ (z : Block). nat_le z.time s.end ≡ true) (sym is) (AllPass-from_list_all (λ (z : Block). nat_le z.time s.end) s.blocks h.end i b lt))

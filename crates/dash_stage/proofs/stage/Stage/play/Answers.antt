@@ -1,7 +1,19 @@
 use Rattle.std.proofs.Common.{◌≡◌, ◌<◌, ◌≤◌, ◌∙◌, List, sym, subst, length, slice_index_or}
 use Rattle.dash_script.specs.declared.script.Block.{Block}
+use Rattle.dash_stage.specs.Controllers.{IsMoving}
 use Rattle.dash_stage.proofs.Blocks.{have_run_more, have_run_all}
+use Rattle.dash_stage.proofs.Limits.{before_end}
+use Rattle.dash_stage.proofs.ControlKept.{moving_kept}
 use Rattle.dash_stage.proofs.stage.Stage.play.Goals as goal
+
+pub go_to-requires-clause-end : goal.go_to-requires-clause-end
+go_to-requires-clause-end g c κs within =
+    let s = c.args.script.now in
+    let b = c.block-item.result in
+    let whole = c.as_slice-block-items.ensures in
+    let lt = subst (λ (l : List Block). c.loop-block.block-index < length l) whole c.loop-block-test.true in
+    let is = subst (λ (l : List Block). b ≡ slice_index_or l c.loop-block.block-index b) whole c.block-item.is in
+    before_end s c.loop-block.block-index b c.requires.text lt is
 
 pub loop-block-preserved : goal.loop-block-preserved
 loop-block-preserved g c =
@@ -13,6 +25,7 @@ loop-block-preserved g c =
       c.run_rounds.ensures.stage,
       have_run_more s c.go_to.new.self.hall c.loop-block.block-index b lt is _ _ _ _ c.loop-block.invariant.1 c.go_to.ensures.threads
           c.go_to.ensures.stage.threads (c.run_block.ensures.stage.threads.0 ∙ sym c.go_to.ensures.stage.threads.0) c.in_ok-run_block.ensures.run c.run_rounds.ensures.threads,
+      moving_kept s _ _ c.run_rounds.ensures.none (subst (IsMoving s) (sym c.run_block.ensures.controller) c.go_to.ensures.moving),
     )
 
 pub returns-clause-run : goal.returns-clause-run

@@ -1,0 +1,8 @@
+use Rattle.std.proofs.Common.{◌≡◌, ◌<◌, ℕ, true, slice_index_or}
+use Rattle.looper_run.specs.Round.{is_ended}
+use Rattle.dash_stage.specs.declared.looper.StageLooper.{StageLooper}
+use Rattle.dash_stage.proofs.stage.Stage.others_have_ended.Given as goal
+
+-- those below have ended
+abbrev pub invariant-loop-looper : goal.invariant-loop-looper
+invariant-loop-looper l = (k : ℕ) (d : StageLooper) → 0 < k → k < l.looper → is_ended (slice_index_or l.self.loopers.items k d).last ≡ true
