@@ -31,7 +31,7 @@ use Rattle.dash_stage.specs.declared.kit.Kit.{Kit}
 use Rattle.dash_stage.specs.Growth.{own}
 use Rattle.dash_stage.specs.Kits.{Badge, badge_of, badge_for, AreQueuesOf, queue_key, queue_constants}
 use Rattle.dash_stage.specs.Dealing.{GivesPoster, EachGivesPoster}
-use Rattle.dash_stage.specs.Records.{HaveAll, AreQueueRecords}
+use Rattle.dash_stage.specs.Records.{HasAllOf, HaveAll, AreQueueRecords}
 use Rattle.dash_stage.specs.Ending.{HavePosters, IsNext, AreNext, HaveAllPosters, IsKeptOf, EndsPoster, EachEndsPoster, HasLeft, HaveLeft, KeepFrames}
 use Rattle.dash_stage.proofs.HallSteps.{within_parts, at_parts}
 
@@ -127,7 +127,7 @@ ends_posters q before posters after entries next gives calls = record {
       record {
         poster = get_or posters k p;
         posters = g.posters;
-        made = own_entries (get_or posters k p) k entries order.1 called.0 called.1;
+        made = (own_entries (get_or posters k p) k entries order.1 called.0 called.1, called.0);
         frames = g.frames;
         pass = g.pass;
       };
@@ -226,16 +226,16 @@ retires_more s pool c orig kits kits' records records' r is kept ends more befor
   loopers = map-append (λ (q : QueueRecord). q.looper) records (r ∷ []) ∙ ((λ i. before.loopers i ++ (history.1 ∙ zeroth) i ∷ []) ∙ (sym (numbers_more 0 (length records)) ∙ ap (numbers_from 0) (sym one)));
   histories = all_push records before.histories;
   all = λ k q d p x lt below. dite (dec_lt q (length records))
-      (λ early. ap (λ (y : QueueRecord). entries_by k y.entries) (get_or-append records (r ∷ []) x q early) ∙ before.all k q d p x lt early)
+      (λ early. subst (λ (y : QueueRecord). HasAllOf k (get_or (get_or orig k d).posters.items q p) y.entries) (sym (get_or-append records (r ∷ []) x q early)) (before.all k q d p x lt early))
       (λ late.
       let long = one in
       let last : q ≡ length records = omega (arith, late, below, long) in
       let e = ends.each k d (inside k lt) in
       let place : length records + 0 ≡ length records = omega arith in
-      ap (λ (m : ℕ). entries_by k (get_or (records ++ r ∷ []) m x).entries) last
-      ∙ (ap (λ (y : QueueRecord). entries_by k y.entries) (get_or-append_seam records r [] x)
-      ∙ (e.made
-      ∙ ap own (ap (λ l. get_or l 0 p) (sym e.posters) ∙ (ap (λ l. get_or l 0 p) (before.left.each k d lt).posters ∙ (get_or-drop (length records) (get_or orig k d).posters.items 0 p ∙ ap (λ m. get_or (get_or orig k d).posters.items m p) (place ∙ sym last)))))));
+      let here : r ≡ get_or (records ++ r ∷ []) q x = sym (ap (λ (m : ℕ). get_or (records ++ r ∷ []) m x) last ∙ get_or-append_seam records r [] x) in
+      let gave : e.poster ≡ get_or (get_or orig k d).posters.items q p =
+          ap (λ l. get_or l 0 p) (sym e.posters) ∙ (ap (λ l. get_or l 0 p) (before.left.each k d lt).posters ∙ (get_or-drop (length records) (get_or orig k d).posters.items 0 p ∙ ap (λ m. get_or (get_or orig k d).posters.items m p) (place ∙ sym last))) in
+      subst (λ (y : QueueRecord). HasAllOf k (get_or (get_or orig k d).posters.items q p) y.entries) here (subst (λ (y : Sender). HasAllOf k y r.entries) gave e.made));
   left = record {
     count = ends.count ∙ before.left.count;
     each = λ k d lt.

@@ -3,12 +3,13 @@ use Rattle.std.proofs.Common.{◌≡◌, ℕ, ◌+◌, ◌-◌, ◌<◌, ◌≤�
 use Rattle.std.specs.List.{insert, remove, slice_get}
 use Rattle.std.specs.Option.{IsSomeAnd, option_map}
 use Rattle.std.proofs.lemmas.List.{length-map}
-use Rattle.std.proofs.lemmas.List.Edits.{length-remove}
+use Rattle.std.proofs.lemmas.List.Edits.{length-remove, get_or-insert_at}
 use Rattle.std.proofs.lemmas.Option.{slice_get-map, slice_get-get_or, slice_get_cases, slice_get_read}
 use Rattle.atomic_table.specs.Seated.{TableId}
 use Rattle.dash_script.specs.declared.script.Script.{Script}
 use Rattle.loop_model.specs.Base.{empty_base}
 use Rattle.loop_model.specs.Answers.{is_over}
+use Rattle.run_model.specs.Senders.{sender_count}
 use Rattle.shared_queue.specs.Constants.{Constants}
 use Rattle.shared_queue.specs.Known.{Shared}
 use Rattle.choreographer.specs.Known.{Shared as Frames, Known as Pass}
@@ -176,3 +177,13 @@ kit_again s hall l parts kit is_hall is e posters frames pass =
       frames = ap (map frame_badge_of) frames ∙ (ap₂ (λ a b. a ∷ b ∷ []) (are.frames c.0 c.1) (are.client c.0 c.1) ∙ sym (two_frames s hall l.number of c.0 c.1));
       pass = ap (λ t. t.home) pass ∙ is.place.pool;
     }
+
+-- where a round has ended the looper, its own poster, among all of them again, has seen its queue over
+pub seen_over : (s : Script) (hall : Hall) (l : StageLooper) (parts : Parts) (posters : List Sender) → IsHall s hall → IsLooper s hall l → l.parts ≡ Some parts
+    → posters ≡ insert parts.others.items l.number l.looper.held.poster → is_ended l.last ≡ true
+    → (d : Sender) → is_over (empty_base (sender_count s)) (get_or posters l.number d).view.seen ≡ true
+seen_over s hall l parts posters is_hall is e back ended d =
+    let of = looper_of s hall l is_hall is in
+    let own : get_or posters l.number d ≡ l.looper.held.poster =
+        ap (λ ps. get_or ps l.number d) back ∙ get_or-insert_at parts.others.items l.number l.looper.held.poster d (others_many s hall l.number of parts (parts_of s hall l parts is e)) in
+    subst (λ (p : Sender). is_over (empty_base (sender_count s)) p.view.seen ≡ true) (sym own) (is.over ended)
