@@ -8,6 +8,7 @@ pub mod LooperLists
 pub mod LooperPlaces
 pub mod LooperLent
 pub mod LooperOver
+pub mod LooperTold
 pub mod LooperKits
 pub mod ThreadGrowth
 pub mod ThreadCalls

@@ -1,6 +1,6 @@
 -- A looper of the stage: how it begins from its kit, what a round keeps, and its kit again.
 use Rattle.std.proofs.Common.{◌≡◌, ℕ, ◌+◌, ◌-◌, ◌<◌, ◌≤◌, ◌⊎◌, true, false, ltb, List, [], ◌∷◌, map, length, get_or, Option, Some, None, refl, sym, ap, ap₂, ◌∙◌, subst, arith, inl, inr, lt-ltb, le-ltb}
-use Rattle.std.specs.List.{insert, remove, slice_get}
+use Rattle.std.specs.List.{insert, remove, slice_get, filter_map}
 use Rattle.std.specs.Option.{IsSomeAnd, option_map}
 use Rattle.std.proofs.lemmas.List.{length-map}
 use Rattle.std.proofs.lemmas.List.Edits.{length-remove, get_or-insert_at}
@@ -17,17 +17,23 @@ use Rattle.looper_run.specs.declared.looper.Round.{Round}
 use Rattle.looper_run.specs.Holding.{Sender, Looping, Workplace, workplace}
 use Rattle.looper_run.specs.Tests.{IsSameLooper}
 use Rattle.looper_run.specs.Round.{RoundBy, is_ended}
+use Rattle.looper_run.specs.Acts.{dispatches, taken_by, call_dispatch}
+use Rattle.loop_model.specs.declared.entry.Entry.{Entry}
+use Rattle.run_model.specs.Asks.{entries_by}
 use Rattle.looper_run.proofs.Steps.{workplace_same}
 use Rattle.dash_stage.specs.declared.hall.Hall.{Hall}
 use Rattle.dash_stage.specs.declared.kit.Kit.{Kit}
 use Rattle.dash_stage.specs.declared.player.Parts.{Parts}
 use Rattle.dash_stage.specs.declared.looper.StageLooper.{StageLooper}
 use Rattle.dash_stage.specs.Kits.{Badge, FrameBadge, badge_of, badge_for, frame_badge_of, frame_badge_for, frames_for, looper_frames, IsHall, IsKitOf}
-use Rattle.dash_stage.specs.Loopers.{ArePartsOf, IsPlaceOf, IsLooperOf, IsLooper, setting_for}
+use Rattle.dash_stage.specs.Loopers.{ArePartsOf, IsPlaceOf, IsLooperOf, IsLooper, setting_for, is_given_up}
 use Rattle.dash_stage.specs.Players.{Owner, ServesAt}
+use Rattle.dash_stage.specs.Growth.{own}
+use Rattle.dash_stage.specs.Runs.{IsUnusedKit}
 use Rattle.dash_stage.proofs.LooperLists.{map-remove, map-insert, insert_removed, at_same}
 use Rattle.dash_stage.proofs.LooperPlaces.{queue_count, frames_count, queue_is}
 use Rattle.dash_stage.proofs.LooperOver.{over_by_round}
+use Rattle.dash_stage.proofs.LooperTold.{taken_own, told_by_round}
 
 pub looper_of : (s : Script) (hall : Hall) (l : StageLooper) → IsHall s hall → IsLooper s hall l → IsLooperOf s hall l.number
 looper_of s hall l is_hall is = record { few = is.few; one = is.number; is_hall = is_hall }
@@ -98,9 +104,9 @@ pub looper_then : (s : Script) (hall : Hall) (now : ℕ) (l : StageLooper) (q : 
     → l.parts ≡ Some parts → slice_get hall.queues.items l.number ≡ Some q
     → o ≡ record { script = s; hall = hall; number = l.number }
     → ((w : Workplace) → ServesAt s hall l.number parts w → ServesAt o.script o.hall o.number parts' w)
-    → IsSameLooper l.looper.held after.held → after.ended ≡ is_ended last → RoundBy q.constants.setting now l.looper.held after.held last
+    → IsSameLooper l.looper.held after.held → after.ended ≡ is_ended last → RoundBy q.constants.setting now l.looper.held after.held last → is_given_up l.last ≡ false
     → IsLooper s hall (record { number = l.number; sender = l.sender; looper = after; parts = Some parts'; last = last })
-looper_then s hall now l q o parts parts' after last is_hall is e at origin serves same ended round =
+looper_then s hall now l q o parts parts' after last is_hall is e at origin serves same ended round going =
     let w : Workplace = workplace l.looper.held in
     let of = looper_of s hall l is_hall is in
     let began : ServesAt s hall l.number parts w = record { looper = of; place = is.place; are_parts = parts_of s hall l parts is e } in
@@ -114,6 +120,10 @@ looper_then s hall now l q o parts parts' after last is_hall is e at origin serv
       own = same.sender ∙ is.own;
       journal = same.looper ∙ is.journal;
       ended = ended;
+      told = λ on.
+          let mine = is.own in
+          let before = subst (λ (n : ℕ). dispatches l.looper.held.journal.acts ≡ taken_by n l.looper.held.poster.view.seen) (sym mine) (is.told going) in
+          subst (λ (n : ℕ). dispatches after.held.journal.acts ≡ taken_by n after.held.poster.view.seen) mine (told_by_round q.constants.setting now l.looper.held after.held last round on before);
       over = λ over. subst (λ (c : Constants TableId). is_over (empty_base c.setting.senders) after.held.poster.view.seen ≡ true) (queue_is s hall l.number of l.number q at)
           (over_by_round q.constants.setting now l.looper.held after.held last q.constants (same.constants ∙ (is.place.queue q at).1) round over);
     }
@@ -125,15 +135,19 @@ ran_on s hall now l q after last is_hall is at round =
     subst (λ (c : Constants TableId). RoundBy c.setting now l.looper.held after.held last) (queue_is s hall l.number (looper_of s hall l is_hall is) l.number q at) round
 
 -- a looper begins with what its kit has
-pub looper_begins : (s : Script) (hall : Hall) (n : ℕ) (kit : Kit) (parts : Parts) (looping : Looping) (poster : Sender) (last : Round) → IsLooperOf s hall n → IsKitOf s hall (s.threads + n) kit
+pub looper_begins : (s : Script) (hall : Hall) (n : ℕ) (kit : Kit) (parts : Parts) (looping : Looping) (poster : Sender) (last : Round) → IsLooperOf s hall n → IsKitOf s hall (s.threads + n) kit → IsUnusedKit kit
     → poster ≡ get_or kit.posters.items n poster → parts.others.items ≡ remove kit.posters.items n
     → parts.frames ≡ get_or kit.frames.items 0 parts.frames → parts.root.pass ≡ get_or (remove kit.frames.items 0) 0 parts.root.pass
     → looping.held ≡ record { poster = poster; pass = kit.pass; journal = record { looper = n; acts = [] } } → looping.ended ≡ is_ended last → is_ended last ≡ false
     → IsLooper s hall (record { number = n; sender = s.threads + n; looper = looping; parts = Some parts; last = last })
-looper_begins s hall n kit parts looping poster last l k is others frames client held ended going =
+looper_begins s hall n kit parts looping poster last l k unused is others frames client held ended going =
     let at : slice_get kit.posters.items n ≡ Some poster = slice_get_read kit.posters.items (length kit.posters.items) n poster refl (kit_many s hall n l kit k) is in
     let mine : (q : Shared TableId) → slice_get hall.queues.items n ≡ Some q → badge_of poster ≡ badge_for (s.threads + n) q = λ q at'. at_same badge_of (badge_for (s.threads + n)) kit.posters.items hall.queues.items n poster q k.posters at at' in
     let q = its_queue s hall n l in
+    let sender : poster.sender ≡ s.threads + n = ap (λ (b : Badge). b.sender) (mine q.0 q.1) in
+    let none : entries_by (s.threads + n) poster.view.seen ≡ [] =
+        subst (λ (k : ℕ). entries_by k poster.view.seen ≡ []) sender (subst (λ (p : Sender). own p ≡ []) (sym is) (unused.posters n poster (kit_many s hall n l kit k))) in
+    let taken_none : taken_by (s.threads + n) poster.view.seen ≡ [] = taken_own (s.threads + n) poster.view.seen ∙ ap (filter_map (λ (e : Entry). call_dispatch e.call e.reply)) none in
     record {
       few = l.few;
       number = l.one;
@@ -153,6 +167,7 @@ looper_begins s hall n kit parts looping poster last l k is others frames client
       own = ap (λ h. h.poster.sender) held ∙ ap (λ (b : Badge). b.sender) (mine q.0 q.1);
       journal = ap (λ h. h.journal.looper) held;
       ended = ended;
+      told = λ on. ap (λ h. dispatches h.journal.acts) held ∙ sym (ap (λ h. taken_by (s.threads + n) h.poster.view.seen) held ∙ taken_none);
       over = λ over. absurd (let wrong : false ≡ true = sym going ∙ over in cc);
     }
 

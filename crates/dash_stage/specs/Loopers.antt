@@ -1,5 +1,5 @@
 -- A looper of a script.
-use Rattle.std.specs.Prelude.{◌≡◌, ◌<◌, ◌+◌, ◌==◌, ◌||◌, ℕ, Bool, true, false, map, slice_get, Option, Some, None, IsSomeAnd}
+use Rattle.std.specs.Prelude.{◌≡◌, ◌<◌, ◌+◌, ◌==◌, ◌||◌, ℕ, Bool, true, false, map, slice_get, Option, Some, None, IsSomeAnd, slice_index_or}
 use Rattle.std.specs.List.{remove}
 use Rattle.atomic_table.specs.Seated.{TableId}
 use Rattle.dash_script.specs.declared.script.Script.{Script}
@@ -9,6 +9,10 @@ use Rattle.shared_queue.specs.Known.{Shared}
 use Rattle.looper_run.specs.Holding.{Workplace, workplace}
 use Rattle.looper_run.specs.Round.{RoundBy, is_ended}
 use Rattle.looper_run.specs.Looks.{IsRound}
+use Rattle.looper_run.specs.Acts.{dispatches, taken_by}
+use Rattle.looper_run.specs.Holding.{Sender}
+use Rattle.loop_model.specs.declared.journal.Journal.{Journal}
+use Rattle.dash_stage.specs.declared.kit.Kit.{Kit}
 use Rattle.run_model.specs.Senders.{sender_count}
 use Rattle.looper_run.specs.declared.looper.Round.{Round}
 use Rattle.looper_run.specs.declared.looper.Round.TheVariants as round
@@ -61,6 +65,8 @@ pub record IsLooper (s : Script) (hall : Hall) (l : StageLooper) : Type 0 where
   pub own : l.looper.held.poster.sender ≡ l.sender
   pub journal : l.looper.held.journal.looper ≡ l.number
   pub ended : l.looper.ended ≡ is_ended l.last
+  -- unless memory was wanting, its Dispatch acts are, one for one and in order, the messages that it took
+  pub told : is_given_up l.last ≡ false → dispatches l.looper.held.journal.acts ≡ taken_by l.sender l.looper.held.poster.view.seen
   -- a round that ended it has seen its queue over
   pub over : is_ended l.last ≡ true → is_over (empty_base (sender_count s)) l.looper.held.poster.view.seen ≡ true
 
@@ -69,3 +75,7 @@ pub record HasRun (s : Script) (now : ℕ) (before after : StageLooper) : Type 0
   pub stopped : (is_ended before.last || is_given_up before.last) ≡ true → after ≡ before
   pub ran : (is_ended before.last || is_given_up before.last) ≡ false → RoundBy (setting_for s before.number) now before.looper.held after.looper.held after.last
   pub looks : (is_ended before.last || is_given_up before.last) ≡ false → IsRound now before.looper after.looper after.last
+
+-- the Dispatch acts in the journal are, one for one and in order, the messages that this looper's own poster took
+abbrev pub HasTold : Script → ℕ → Journal → Kit → Type 0
+HasTold s number j kit = (d : Sender) → dispatches j.acts ≡ taken_by (s.threads + number) (slice_index_or kit.posters.items number d).view.seen

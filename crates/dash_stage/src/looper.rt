@@ -1,8 +1,9 @@
 //! A looper of a script.
-ghost use Rattle.std.specs.Prelude.{◌≡◌, ◌+◌, ◌<◌, true, IfOk};
+ghost use Rattle.std.specs.Prelude.{◌≡◌, ◌+◌, ◌<◌, true, false, IfOk};
 ghost use Rattle.looper_run.specs.Round.{is_ended};
 ghost use Rattle.dash_stage.specs.Kits.{IsHall, IsKitOf, HasSeenOver};
-ghost use Rattle.dash_stage.specs.Loopers.{IsLooper, HasRun, is_given_up, until_of};
+ghost use Rattle.dash_stage.specs.Runs.{IsUnusedKit};
+ghost use Rattle.dash_stage.specs.Loopers.{IsLooper, HasRun, HasTold, is_given_up, until_of};
 
 use crate::hall::Hall;
 use crate::kit::Kit;
@@ -39,6 +40,7 @@ impl StageLooper {
         requires fits { script.now.threads + script.now.loopers < 100 }
         requires hall { IsHall script.now hall.now }
         requires kit { IsKitOf script.now hall.now (script.now.threads + number) kit }
+        requires unused { IsUnusedKit kit }
         ensures looper { IfOk result (λ l. IsLooper script.now hall.now l) }
         ensures number_is { IfOk result (λ l. l.number ≡ number) }
     {
@@ -156,6 +158,7 @@ impl StageLooper {
         requires looper { IsLooper script.now hall.now self }
         ensures journal { IfOk result (λ r. r.0.looper ≡ self.number) }
         ensures kit { IfOk result (λ r. IsKitOf script.now hall.now (script.now.threads + self.number) r.1) }
+        ensures told { IfOk result (λ r. is_given_up self.last ≡ false → HasTold script.now self.number r.0 r.1) }
         ensures over { IfOk result (λ r. is_ended self.last ≡ true → HasSeenOver script.now self.number r.1) }
     {
         let StageLooper {

@@ -25,7 +25,7 @@ pub returns-clause-looper : goal.returns-clause-looper
 returns-clause-looper c =
     let of : IsLooperOf c.args.script.now c.args.hall.now c.args.number = record { few = c.requires.fits; one = c.requires.number; is_hall = c.requires.hall } in
     let second : c.remove-client.result ≡ get_or (remove c.args.kit.frames.items 0) 0 c.remove-client.result = subst (λ (l : List Pass). c.remove-client.result ≡ get_or l 0 c.remove-client.result) c.remove-own_frames.ensures.items c.remove-client.ensures.value in
-    looper_begins c.args.script.now c.args.hall.now c.args.number c.args.kit _ c.make.result c.remove-poster.result _ of c.requires.kit
+    looper_begins c.args.script.now c.args.hall.now c.args.number c.args.kit _ c.make.result c.remove-poster.result _ of c.requires.kit c.requires.unused
     c.remove-poster.ensures.value c.remove-poster.ensures.items c.remove-own_frames.ensures.value
     (subst (λ (p : Pass). p ≡ get_or (remove c.args.kit.frames.items 0) 0 p) (sym c.in_ok-new.ensures) second)
     c.make.ensures.held c.make.ensures.flags.1 refl
