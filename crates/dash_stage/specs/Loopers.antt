@@ -1,5 +1,5 @@
 -- A looper of a script.
-use Rattle.std.specs.Prelude.{◌≡◌, ◌<◌, ◌+◌, ◌==◌, ◌||◌, ℕ, Bool, true, false, map, slice_get, Option, Some, None, IsSomeAnd, slice_index_or}
+use Rattle.std.specs.Prelude.{◌≡◌, List, length, ◌<◌, ◌+◌, ◌==◌, ◌||◌, ℕ, Bool, true, false, map, slice_get, Option, Some, None, IsSomeAnd, slice_index_or}
 use Rattle.std.specs.List.{remove}
 use Rattle.atomic_table.specs.Seated.{TableId}
 use Rattle.dash_script.specs.declared.script.Script.{Script}
@@ -79,3 +79,7 @@ pub record HasRun (s : Script) (now : ℕ) (before after : StageLooper) : Type 0
 -- the Dispatch acts in the journal are, one for one and in order, the messages that this looper's own poster took
 abbrev pub HasTold : Script → ℕ → Journal → Kit → Type 0
 HasTold s number j kit = (d : Sender) → dispatches j.acts ≡ taken_by (s.threads + number) (slice_index_or kit.posters.items number d).view.seen
+
+-- so it is with each looper, whose kit comes behind the threads'
+abbrev pub HaveTold : Script → List Journal → List Kit → Type 0
+HaveTold s js kits = (k : ℕ) (j : Journal) (d : Kit) → k < length js → HasTold s k (slice_index_or js k j) (slice_index_or kits (s.threads + k) d)

@@ -12,7 +12,7 @@ use Rattle.dash_stage.specs.declared.kit.Kit.{Kit}
 use Rattle.looper_run.specs.Round.{is_ended}
 use Rattle.dash_stage.specs.Kits.{IsHall, IsKitOf}
 use Rattle.dash_stage.specs.Threads.{IsThread, IsUpTo, Continues}
-use Rattle.dash_stage.specs.Loopers.{IsLooper}
+use Rattle.dash_stage.specs.Loopers.{IsLooper, is_given_up}
 use Rattle.dash_stage.specs.Controllers.{IsController}
 
 -- the threads of the script, in order
@@ -84,3 +84,7 @@ AreSenderKits s hall kits = (length kits ≡ s.threads + s.loopers) × AreFirstK
 -- each looper but the main one has ended
 abbrev pub OthersHaveEnded : List StageLooper → Type 0
 OthersHaveEnded ls = (k : ℕ) (d : StageLooper) → 0 < k → k < length ls → is_ended (slice_index_or ls k d).last ≡ true
+
+-- no looper has given up
+abbrev pub LoopersGoOn : List StageLooper → Type 0
+LoopersGoOn ls = (k : ℕ) (d : StageLooper) → k < length ls → is_given_up (slice_index_or ls k d).last ≡ false

@@ -3,13 +3,14 @@ ghost use Rattle.std.specs.Prelude.{◌≡◌, ◌<◌, ◌+◌, IfOk, OnOk, map
 ghost use Rattle.std.specs.List.{AllByRecursion};
 ghost use Rattle.dash_script.specs.Reading.{HasText};
 ghost use Rattle.run_model.specs.Moments.{in_lockstep};
-ghost use Rattle.run_model.specs.Run.{IsAsPlanned, IsControlled, IsFrameRun};
+ghost use Rattle.run_model.specs.Run.{IsAsPlanned, IsControlled, IsFrameRun, EachLooper};
 ghost use Rattle.dash_stage.specs.Controllers.{HasClosed};
 ghost use Rattle.dash_stage.specs.Kits.{IsHall, AreKitsOf, OthersAreOver};
 ghost use Rattle.dash_stage.specs.Records.{AreQueueRecords, AreFrameRecords, AreJournals};
-ghost use Rattle.dash_stage.specs.Staged.{Stages};
+ghost use Rattle.dash_stage.specs.Loopers.{HaveTold};
+ghost use Rattle.dash_stage.specs.Staged.{Stages, IsDispatched};
 ghost use Rattle.dash_stage.specs.Runs.{HaveRunAll};
-ghost use Rattle.dash_stage.specs.Stages.{IsStage, IsPlayable, HaveRun, AreThreads, AreLoopers, AreThreadKits, AreSenderKits, OthersHaveEnded};
+ghost use Rattle.dash_stage.specs.Stages.{IsStage, IsPlayable, HaveRun, AreThreads, AreLoopers, AreThreadKits, AreSenderKits, OthersHaveEnded, LoopersGoOn};
 
 use crate::hall::Hall;
 use crate::kit::Kit;
@@ -32,6 +33,7 @@ pub(crate) fn report(alloc: Global, script: Script, stage: Stage) -> Ran
     requires run { HaveRun script script.blocks stage.threads.items }
     requires closed { HasClosed script stage.controller }
     requires ended { OthersHaveEnded stage.loopers.items }
+    requires on { LoopersGoOn stage.loopers.items }
     ensures { Stages script result }
 {
     match kept(alloc, &script, stage) {
@@ -58,8 +60,10 @@ fn kept(
     requires run { HaveRun script.now script.now.blocks stage.threads.items }
     requires closed { HasClosed script.now stage.controller }
     requires ended { OthersHaveEnded stage.loopers.items }
+    requires on { LoopersGoOn stage.loopers.items }
     ensures queues { IfOk result (λ r. AreQueueRecords script.now r.0.items) }
     ensures planned { IfOk result (λ r. AllByRecursion (IsAsPlanned in_lockstep script.now) r.0.items) }
+    ensures dispatches { IfOk result (λ r. EachLooper (IsDispatched script.now) r.0.items r.1.items r.2.items) }
     ensures controls { IfOk result (λ r. AllByRecursion (IsControlled script.now) r.0.items) }
     ensures journals { IfOk result (λ r. AreJournals script.now r.1.items) }
     ensures frames { IfOk result (λ r. AreFrameRecords script.now r.2.items) }
@@ -113,6 +117,7 @@ fn looper_kits(
     ensures journals { IfOk result (λ v. AreJournals script.now v.items) }
     ensures kits { OnOk result (AreSenderKits script.now hall.now kits.new.items) }
     ensures run { OnOk result (HaveRunAll script.now kits.old.items → HaveRunAll script.now kits.new.items) }
+    ensures told { IfOk result (λ v. LoopersGoOn loopers.items → HaveTold script.now v.items kits.new.items) }
     ensures over { OnOk result (OthersHaveEnded loopers.items → OthersAreOver script.now kits.new.items) }
 {
     let mut journals = Vec::new(alloc);

@@ -3,7 +3,7 @@ ghost use Rattle.std.specs.Prelude.{IfOk};
 ghost use Rattle.dash_script.specs.Reading.{HasText};
 ghost use Rattle.dash_stage.specs.Staged.{Stages};
 ghost use Rattle.dash_stage.specs.Controllers.{HasClosed};
-ghost use Rattle.dash_stage.specs.Stages.{IsStage, HaveRun, OthersHaveEnded};
+ghost use Rattle.dash_stage.specs.Stages.{IsStage, HaveRun, OthersHaveEnded, LoopersGoOn};
 
 use crate::kept::report;
 use crate::opening::set_up;
@@ -56,6 +56,7 @@ fn played<R: Threads + Wait + Sync, G: Gate + Sync>(
     ensures run { IfOk result (λ st. HaveRun script.now script.now.blocks st.threads.items) }
     ensures closed { IfOk result (λ st. HasClosed script.now st.controller) }
     ensures ended { IfOk result (λ st. OthersHaveEnded st.loopers.items) }
+    ensures on { IfOk result (λ st. LoopersGoOn st.loopers.items) }
 {
     let mut stage = set_up(alloc, script)?;
     stage.play(rt, alloc, script, gate)?;

@@ -6,7 +6,7 @@ ghost use Rattle.looper_run.specs.Round.{is_ended};
 ghost use Rattle.dash_stage.specs.Kits.{IsHall};
 ghost use Rattle.dash_stage.specs.Threads.{IsThread, Continues};
 ghost use Rattle.dash_stage.specs.Loopers.{IsLooper};
-ghost use Rattle.dash_stage.specs.Stages.{AreThreads, AreLoopers, RunOn, GoOn, OthersHaveEnded};
+ghost use Rattle.dash_stage.specs.Stages.{AreThreads, AreLoopers, RunOn, GoOn, OthersHaveEnded, LoopersGoOn};
 
 use crate::hall::Hall;
 use crate::looper::StageLooper;
@@ -95,6 +95,7 @@ pub(crate) fn run_loopers<R: Threads + Wait + Sync, G: Gate + Sync>(
     requires loopers { AreLoopers script.now hall.now loopers.old }
     ensures loopers { AreLoopers script.now hall.now loopers.new }
     ensures ended { OthersHaveEnded loopers.old → OthersHaveEnded loopers.new }
+    ensures on { OnOk result (LoopersGoOn loopers.new) }
 {
     let count = loopers.len().max(1);
     for_each_mut(
@@ -110,10 +111,20 @@ pub(crate) fn run_loopers<R: Threads + Wait + Sync, G: Gate + Sync>(
             }
         },
     );
-    for looper in loopers.iter() {
-        if looper.gave_up() {
-            return Err(NoMemory);
-        }
+    if some_gave_up(loopers) {
+        return Err(NoMemory);
     }
     Ok(())
+}
+
+/// Whether one of the loopers found no memory.
+fn some_gave_up(loopers: &[StageLooper]) -> bool
+    ensures { result ≡ false → LoopersGoOn loopers.now }
+{
+    for looper in loopers {
+        if looper.gave_up() {
+            return true;
+        }
+    }
+    false
 }

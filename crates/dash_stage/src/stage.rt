@@ -3,7 +3,7 @@ ghost use Rattle.std.specs.Prelude.{◌≡◌, ◌<◌, ◌≤◌, true, [], OnO
 ghost use Rattle.dash_script.specs.Reading.{HasText};
 ghost use Rattle.dash_stage.specs.Kits.{IsHall};
 ghost use Rattle.dash_stage.specs.Controllers.{IsMoving, HasReached, IsClosing, HasClosed, CallsNone};
-ghost use Rattle.dash_stage.specs.Stages.{IsStage, HaveRun, RunOn, OthersHaveEnded};
+ghost use Rattle.dash_stage.specs.Stages.{IsStage, HaveRun, RunOn, OthersHaveEnded, LoopersGoOn};
 
 use crate::control::Controller;
 use crate::hall::{Hall, open};
@@ -48,6 +48,7 @@ impl Stage {
         ensures run { OnOk result (HaveRun script.now script.now.blocks self.new.threads.items) }
         ensures closed { OnOk result (HasClosed script.now self.new.controller) }
         ensures ended { OnOk result (OthersHaveEnded self.new.loopers.items) }
+        ensures on { OnOk result (LoopersGoOn self.new.loopers.items) }
     {
         for block in script.blocks.as_slice() {
             self.go_to(rt, alloc, script, gate, block.time)?;
@@ -187,6 +188,7 @@ impl Stage {
         ensures threads { self.new.threads.items ≡ self.old.threads.items }
         ensures none { CallsNone self.old.controller self.new.controller }
         ensures ended { OthersHaveEnded self.old.loopers.items → OthersHaveEnded self.new.loopers.items }
+        ensures on { OnOk result (LoopersGoOn self.new.loopers.items) }
     {
         for _ in rt.forever() {
             let before = self.controller.seen(rt, &self.hall, script);
@@ -212,6 +214,7 @@ impl Stage {
         ensures threads { self.new.threads.items ≡ self.old.threads.items }
         ensures controller { self.new.controller ≡ self.old.controller }
         ensures ended { OthersHaveEnded self.old.loopers.items → OthersHaveEnded self.new.loopers.items }
+        ensures on { OnOk result (LoopersGoOn self.new.loopers.items) }
     {
         run_loopers(
             rt,
@@ -242,6 +245,7 @@ impl Stage {
         ensures threads { self.new.threads.items ≡ self.old.threads.items }
         ensures closed { OnOk result (HasClosed script.now self.new.controller) }
         ensures ended { OnOk result (OthersHaveEnded self.new.loopers.items) }
+        ensures on { OnOk result (LoopersGoOn self.new.loopers.items) }
     {
         self.quit_others(rt, script)?;
         for _ in rt.forever() {
