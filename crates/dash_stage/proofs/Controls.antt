@@ -1,12 +1,12 @@
 -- The controller's own entries on a queue: what its calls and the queue's replies make of them.
-use Rattle.std.proofs.Common.{◌≡◌, ℕ, ◌≤◌, ◌+◌, max, Bool, true, false, List, [], ◌∷◌, ◌++◌, Option, Some, None, refl, sym, ap, ◌∙◌, subst, arith, cond, inl, inr, ◌⊎◌}
+use Rattle.std.proofs.Common.{◌≡◌, ℕ, ◌≤◌, ◌+◌, max, Bool, true, false, List, [], ◌∷◌, ◌++◌, Option, Some, None, refl, sym, ap, ◌∙◌, subst, arith, cond, zero, suc, ◌<◌, length, slice_index_or, inl, inr, ◌⊎◌}
 use Rattle.std.specs.Prelude.{◌==◌, ◌&&◌, ◌||◌, not, nat_le, is_some, IfSome, if◌then◌else◌}
-use Rattle.std.specs.List.{list_any}
+use Rattle.std.specs.List.{list_any, AllByRecursion}
 use Rattle.std.proofs.lemmas.List.Folds.{list_any-append}
 use Rattle.std.proofs.lemmas.List.Sums.{sum_by-append}
 use Rattle.std.proofs.Math.Bool.{and_assoc, or-false}
 use Rattle.std.proofs.Math.Nat.{max-eq_left}
-use Rattle.std.proofs.lemmas.Bool.{and_parts, and_from, cases_Bool, or_parts, or_from, or_left, or_right, or_cases, false_from_ne_true, leb-true, le-leb, eq-eqb}
+use Rattle.std.proofs.lemmas.Bool.{and_parts, and_from, cases_Bool, or_parts, or_from, or_left, or_right, or_cases, false_from_ne_true, leb-true, le-leb, eq-eqb, ne_eqb}
 use mathlib.Core.List.{IsPrefix}
 use Rattle.loop_model.specs.declared.post.Post.{Post as PostData}
 use Rattle.loop_model.specs.declared.call.Call.{Call}
@@ -15,6 +15,7 @@ use Rattle.loop_model.specs.declared.reply.Reply.{Reply}
 use Rattle.loop_model.specs.declared.reply.Reply.TheVariants.{Unbarriered, NotPosted, NotAllowed, Advanced, Halted}
 use Rattle.loop_model.specs.declared.item.Item.{Item}
 use Rattle.loop_model.specs.declared.item.Item.TheVariants.{Post as Message, Barrier as SyncBarrier}
+use Rattle.loop_model.specs.declared.record.QueueRecord.{QueueRecord}
 use Rattle.loop_model.specs.declared.base.Base.{Base}
 use Rattle.loop_model.specs.declared.entry.Entry.{Entry}
 use Rattle.loop_model.specs.Entries.{moment_of, is_quit_done, is_disposed, is_halted}
@@ -27,17 +28,32 @@ use Rattle.loop_model.proofs.AfterLaws.{clock-snoc, quit_place-snoc, has_dispose
 use Rattle.loop_model.proofs.Growing.{entry_by_entry}
 use Rattle.loop_model.proofs.LegalLaws.{IsLegal-front, IsLegal-last}
 use Rattle.loop_model.proofs.NumberLaws.{AreNumbered-front, AreNumbered-last}
+use Rattle.loop_model.proofs.WellFormedLaws.{All_recursive, All_indexed}
+use Rattle.dash_script.specs.declared.script.Script.{Script}
+use Rattle.looper_run.specs.Holding.{Sender}
 use Rattle.run_model.specs.Asks.{entries_by}
+use Rattle.run_model.specs.Moments.{in_lockstep}
+use Rattle.run_model.specs.Senders.{controller, sender_count}
+use Rattle.run_model.specs.Run.{IsHistory, IsControlled, all_entries, setting_of}
 use Rattle.run_model.specs.Control.{is_advance, is_halt, is_safe_quit, is_empty, is_closing, are_controls, is_quit_by_others, disposed_count, is_controlled}
 use Rattle.run_model.proofs.RunLaws.{entries_by-append, entries_by-own, entries_by-unchanged}
 use Rattle.run_model.proofs.ControlLaws.{are_advances as are_advances_in, are_controls-last, are_controls-quit}
-use Rattle.dash_stage.specs.Controllers.{are_advances, time_in}
+use Rattle.dash_stage.specs.declared.hall.Hall.{Hall}
+use Rattle.dash_stage.specs.declared.kit.Kit.{Kit}
+use Rattle.dash_stage.specs.declared.control.Controller.{Controller}
+use Rattle.dash_stage.specs.Growth.{own}
+use Rattle.dash_stage.specs.Kits.{badge_of, badge_for, ArePostersOf, IsHall, AreKitsOf, OthersAreOver}
+use Rattle.dash_stage.specs.Controllers.{are_advances, time_in, calls_on, HasClosed}
+use Rattle.dash_stage.specs.Records.{AreQueueRecords, HaveAll}
+use Rattle.dash_stage.proofs.Badges.{alike_length, queue_count}
+use Rattle.dash_stage.proofs.HallEnds.{some_of}
+use Rattle.dash_stage.proofs.Carried.{numbered_count, numbered_at}
 
 -- the time after one entry more
 pub time_in-snoc : (es : List Entry) (e : Entry) → time_in (es ++ e ∷ []) ≡ max (time_in es) (moment_of e.call)
 time_in-snoc es e = clock-snoc (empty_base 0) es e
 
--- before any entry
+-- the time before any entry
 clock-none : (m : ℕ) → clock (empty_base m) [] ≡ 0
 unfolding clock
 clock-none m = refl
@@ -144,6 +160,7 @@ module _ (main over quit : Bool) where
   tells_none : (call : Call) (r : Reply) → is_quit_done r ≡ false → is_disposed r ≡ false → is_halted r ≡ false → Tells main over quit call r
   tells_none call r q d h = record { quits = λ e. absurd cc; disposes = λ e. absurd cc; halts = λ e. absurd cc }
 
+  -- the replies to a post, to the removal of a barrier and to an Advance are of another kind
   post_tells : (p : PostData) (o : Option ℕ) (n : ℕ) → Tells main over quit (Post p) (post_reply o n)
   post_tells p None n = tells_none (Post p) (post_reply None n) refl refl refl
   post_tells p (Some place) n = tells_none (Post p) (post_reply (Some place) n) refl refl refl
@@ -156,11 +173,13 @@ module _ (main over quit : Bool) where
   advance_tells now true = tt
   advance_tells now false = tells_none (Advance now) Advanced refl refl refl
 
+-- what the reply to a quit tells
 quit_tells : (main over quit safe : Bool) (now : ℕ) (o : Option ℕ) → Tells main over quit (Quit safe now) (if main then NotAllowed else quit_reply o)
 quit_tells true over quit safe now o = tells_none true over quit (Quit safe now) NotAllowed refl refl refl
 quit_tells false over quit safe now None = record { quits = λ e. (refl, refl); disposes = λ e. absurd cc; halts = λ e. absurd cc }
 quit_tells false over quit safe now (Some place) = tells_none false over quit (Quit safe now) (quit_reply (Some place)) refl refl refl
 
+-- what the reply to a look for a message tells
 next_tells : (main over quit : Bool) (now : ℕ) (x : Option Item) → IfSome (if over then None else next_reply x quit) (Tells main over quit (Next now))
 next_tells main true quit now x = tt
 next_tells main false true now None = record { quits = λ e. absurd cc; disposes = λ e. (refl, refl); halts = λ e. absurd cc }
@@ -168,6 +187,7 @@ next_tells main false false now None = tt
 next_tells main false quit now (Some (Message n p)) = tells_none main false quit (Next now) _ refl refl refl
 next_tells main false quit now (Some (SyncBarrier t w)) = tt
 
+-- what the reply to a halt tells
 halt_tells : (main over quit : Bool) (now : ℕ) (due : Bool) → IfSome (if over || not main || due then None else Some Halted) (Tells main over quit (Halt now))
 halt_tells main true quit now due = tt
 halt_tells false false quit now due = tt
@@ -175,6 +195,7 @@ halt_tells true false quit now true = tt
 halt_tells true false quit now false = record { quits = λ e. absurd cc; disposes = λ e. absurd cc; halts = λ e. (refl, refl) }
 
 module _ (set : Setting) (b : Base) (es : List Entry) where
+  -- what the reply to any call tells
   answer_tells : (call : Call) → IfSome (answer set b es call) (Tells set.main (is_over b es) (is_some (quit_place b es)) call)
   unfolding answer
   answer_tells (Post p) = post_tells set.main (is_over b es) (is_some (quit_place b es)) p (quit_place b es) (accepted_count b es)
@@ -190,6 +211,7 @@ module _ (set : Setting) (b : Base) (es : List Entry) where
   reply_tells : (e : Entry) → MayFollow set b es e → Tells set.main (is_over b es) (is_some (quit_place b es)) e.call e.reply
   reply_tells e h = subst (λ o. IfSome o (Tells set.main (is_over b es) (is_some (quit_place b es)) e.call)) h.reply (answer_tells e.call)
 
+-- whether there was a quit, by the entry that comes next
 is_some-quit_at : (o : Option ℕ) (place : ℕ) (e : Entry) → is_some (quit_at o place e) ≡ (is_some o || is_quit_done e.reply)
 is_some-quit_at (Some first) place e = refl
 is_some-quit_at None place e = go (is_quit_done e.reply)
@@ -198,7 +220,7 @@ is_some-quit_at None place e = go (is_quit_done e.reply)
     go true = refl
     go false = refl
 
--- whether there was a quit, after one entry more
+-- the same of a history with one entry more
 is_quit-snoc : (b : Base) (es : List Entry) (e : Entry) → is_some (quit_place b (es ++ e ∷ [])) ≡ (is_some (quit_place b es) || is_quit_done e.reply)
 is_quit-snoc b es e = ap is_some (quit_place-snoc b es e) ∙ is_some-quit_at (quit_place b es) _ e
 
@@ -249,6 +271,14 @@ module _ (set : Setting) (n : ℕ) (last : n + 1 ≡ set.senders) where
             max-eq_left (moment_within (clock base es) e.call free timely) ∙ early ∙ ap time_in (sym (entries_by-unchanged n es (e ∷ []) (other, tt)))
       ])
 
+  -- where the controller only moves the time, nothing halts
+  moves_do_not_halt : {over quit : Bool} (es : List Entry) (e : Entry) → IsNextOfSender set (empty_base set.senders) es e → Tells set.main over quit e.call e.reply
+      → ((e.sender == n) ≡ true → is_advance e.call ≡ true) → is_halted e.reply ≡ false
+  moves_do_not_halt es e next tells moves = false_from_ne_true (is_halted e.reply) (λ h.
+      let halt = (tells.halts h).0 in
+      let no_halt = (advance_alone e.call (moves (control_is_own es e next (halt_is_control e.call halt)))).0 in
+      absurd cc)
+
   -- main is not over where the controller has only moved its time on
   pub main_is_not_over : set.main ≡ true → (end : ℕ) (es : List Entry) → IsLegal set (empty_base set.senders) es → AreNumbered set (empty_base set.senders) es
       → are_advances end (entries_by n es) ≡ true → is_over (empty_base set.senders) es ≡ false
@@ -261,16 +291,14 @@ module _ (set : Setting) (n : ℕ) (last : n + 1 ≡ set.senders) where
       let early = or_parts _ _ (before front (AreNumbered-front set base es (e ∷ []) numbered) moved.0) in
       let tells = reply_tells set base es e (IsLegal-last set base es e legal) in
       let not_disposed = false_from_ne_true (is_disposed e.reply) (λ d. let was = (tells.disposes d).0 in let none = main_is_not_quit set set.senders main es front in absurd cc) in
-      let not_halted = false_from_ne_true (is_halted e.reply) (λ h.
-      let halt = (tells.halts h).0 in
-      let own = control_is_own es e (AreNumbered-last set base es e numbered) (halt_is_control e.call halt) in
-      let moves_on = (advance_alone e.call (moved.1 own)).0 in
-      absurd cc) in
+      let not_halted = moves_do_not_halt es e (AreNumbered-last set base es e numbered) tells moved.1 in
       or_from _ _ (has_disposed-snoc base es e ∙ or_from _ _ early.0 not_disposed) (has_halted-snoc base es e ∙ or_from _ _ early.1 not_halted))
 
+-- how often a thing counts that happened or not
 abbrev one_if : Bool → ℕ
 one_if b = if b then 1 else 0
 
+-- the disposals with one entry more
 disposed_count-snoc : (es : List Entry) (e : Entry) → disposed_count (es ++ e ∷ []) ≡ disposed_count es + one_if (is_disposed e.reply)
 disposed_count-snoc es e = omega (arith, sum_by-append (λ (f : Entry). cond (is_disposed f.reply) 1 0) es (e ∷ []))
 
@@ -382,3 +410,57 @@ halted_with_quit end quit (e ∷ es) = ap (λ t. if is_advance e.call then nat_l
 pub main_is_controlled : (n end : ℕ) (es : List Entry) → are_controls true true end false (entries_by n es) ≡ true → is_controlled true true n end es ≡ true
 unfolding is_controlled
 main_is_controlled n end es calls = and_from _ _ (halted_with_quit end (is_quit_by_others n es) (entries_by n es) ∙ calls) refl
+
+module _ (s : Script) (r : QueueRecord) (is : IsHistory in_lockstep all_entries s r) where
+  -- the record of main
+  main_record : r.looper ≡ 0 → are_controls true true s.end false (entries_by (controller s) r.entries) ≡ true → IsControlled s r
+  main_record first calls =
+      subst (λ b. is_controlled b r.lockstep (controller s) s.end r.entries ≡ true) (sym (is.main ∙ ap (λ (l : ℕ). l == 0) first))
+      (subst (λ b. is_controlled true b (controller s) s.end r.entries ≡ true) (sym is.lockstep) (main_is_controlled (controller s) s.end r.entries calls))
+
+  -- the record of another queue, which its looper has seen over
+  side_record : 0 < r.looper → (seen : List Entry) → IsPrefix seen r.entries → is_over (empty_base (sender_count s)) seen ≡ true
+      → are_controls false true s.end true (entries_by (controller s) r.entries) ≡ true → IsControlled s r
+  side_record other seen begins over calls =
+      let side : r.main ≡ false = is.main ∙ ne_eqb r.looper 0 (λ e. absurd (omega (arith, other, e))) in
+      subst (λ b. is_controlled b r.lockstep (controller s) s.end r.entries ≡ true) (sym side)
+      (subst (λ b. is_controlled false b (controller s) s.end r.entries ≡ true) (sym is.lockstep)
+      (side_is_controlled (setting_of r) (controller s) s.end seen r.entries side is.legal begins (subst (λ m. is_over (empty_base m) seen ≡ true) (sym is.senders) over) calls))
+
+module _ (s : Script) (hall : Hall) (kits : List Kit) (records : List QueueRecord) (h : IsHall s hall) (are : AreKitsOf s hall kits) (c : Controller) (held : (d : Kit) → slice_index_or kits (controller s) d ≡ c.kit) where
+  -- each record has what the controller called on its queue, which is lawful
+  pub controls_of_records : HasClosed s c → OthersAreOver s kits → AreQueueRecords s records → HaveAll kits records → AllByRecursion (IsControlled s) records
+  controls_of_records closed over recs all = All_recursive (IsControlled s) records (λ q r lt. each q r (some_of c.kit.posters.items q (within q lt)) lt)
+    where
+      few : length records ≡ s.loopers
+      few = numbered_count (λ (z : QueueRecord). z.looper) s.loopers records recs.loopers
+
+      last : controller s < length kits
+      last = let count = are.count in omega (arith, count)
+
+      history : (q : ℕ) (r : QueueRecord) → q < length records → IsHistory in_lockstep all_entries s (slice_index_or records q r) × ((slice_index_or records q r).looper ≡ q)
+      history q r lt = (All_indexed (IsHistory in_lockstep all_entries s) records recs.histories q r lt, numbered_at (λ (z : QueueRecord). z.looper) s.loopers records recs.loopers q r lt)
+
+      within : (q : ℕ) → q < length records → q < length c.kit.posters.items
+      within q lt =
+          let posters = subst (λ (z : Kit). ArePostersOf (controller s) hall.queues.items z.posters.items) (held c.kit) (are.each (controller s) c.kit last).posters in
+          let long = alike_length badge_of (badge_for (controller s)) c.kit.posters.items hall.queues.items posters ∙ queue_count s hall.pool hall.queues.items h.queues in
+          let short = few in
+          omega (arith, lt, long, short)
+
+      calls : (q : ℕ) (r : QueueRecord) (p : Sender) → q < length records → entries_by (controller s) (slice_index_or records q r).entries ≡ calls_on c q p
+      calls q r p lt = (all (controller s) q c.kit p r last lt).0 ∙ ap (λ (z : Kit). own (slice_index_or z.posters.items q p)) (held c.kit)
+
+      each : (q : ℕ) (r : QueueRecord) (p : Sender) → q < length records → IsControlled s (slice_index_or records q r)
+      each zero r p lt =
+          let is = history zero r lt in
+          main_record s (slice_index_or records zero r) is.0 is.1 (subst (λ l. are_controls true true s.end false l ≡ true) (sym (calls zero r p lt)) (closed.main p (within zero lt)))
+      each (suc q) r p lt =
+          let is = history (suc q) r lt in
+          let number = is.1 in
+          let count = are.count in
+          let short = few in
+          let looper : s.threads + suc q < length kits = omega (arith, lt, count, short) in
+          side_record s (slice_index_or records (suc q) r) is.0 (omega (arith, number)) _ (all (s.threads + suc q) (suc q) c.kit p r looper lt).1
+          (over (suc q) c.kit (omega arith) (omega (arith, lt, short)) p)
+          (subst (λ l. are_controls false true s.end true l ≡ true) (sym (calls (suc q) r p lt)) (closed.others (suc q) (omega arith) p (within (suc q) lt)))
