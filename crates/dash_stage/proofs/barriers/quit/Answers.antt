@@ -1,4 +1,4 @@
-use Rattle.std.proofs.Common.{◌≡◌, refl, sym, ◌∙◌, arith}
+use Rattle.std.proofs.Common.{refl, sym, ◌∙◌, arith}
 use Rattle.dash_stage.proofs.ThreadGrowth.{Keeps}
 use Rattle.dash_stage.proofs.ThreadCalls.{quits, quits_twice, quits_main, quits_not}
 use Rattle.dash_stage.proofs.barriers.quit.Goals as goal
