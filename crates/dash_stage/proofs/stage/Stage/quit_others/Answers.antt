@@ -1,4 +1,4 @@
-use Rattle.std.proofs.Common.{◌≡◌, ◌<◌, ◌+◌, sym, subst, arith, rules}
+use Rattle.std.proofs.Common.{◌≡◌, ◌<◌, ◌+◌, sym, subst, arith}
 use Rattle.dash_stage.specs.Controllers.{IsQuitting}
 use Rattle.dash_stage.specs.declared.stage.Stage.{Stage}
 use Rattle.dash_stage.specs.Stages.{IsStage}
@@ -15,8 +15,12 @@ loop-looper-preserved g c =
     elim c.if-not-has_ended.branch [
       | then-not-has_ended+in_ok-quit w ↦
           let stage = at.invariant.0 in
-          let with_call = record { hall = stage.hall; threads = stage.threads; loopers = stage.loopers; controller = w.in_ok-quit.ensures.controller; pass = stage.pass } in
-          subst kept (sym w.self-is) (with_call, at.invariant.1, omega arith, w.in_ok-quit.ensures.quitting)
+          subst kept (sym w.self-is) (
+            record { hall = stage.hall; threads = stage.threads; loopers = stage.loopers; controller = w.in_ok-quit.ensures.controller; pass = stage.pass },
+            at.invariant.1,
+            omega arith,
+            w.in_ok-quit.ensures.quitting,
+          )
       | else-not-has_ended w ↦ subst kept (sym w.self-is) (at.invariant.0, at.invariant.1, omega arith, quitting_skips s at.self.controller at.looper at.invariant.2 at.invariant.3)
     ]
 
