@@ -1,5 +1,6 @@
 pub mod Badges
 pub mod Controlling
+pub mod Controls
 pub mod Blocks
 pub mod LooperLists
 pub mod LooperPlaces
