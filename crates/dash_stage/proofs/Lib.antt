@@ -27,3 +27,4 @@ pub mod ThreadRuns
 pub mod ThreadBlocks
 pub mod ThreadFrames
 pub mod ThreadFrameRuns
+pub mod Timely
