@@ -31,3 +31,4 @@ pub mod ThreadRuns
 pub mod ThreadBlocks
 pub mod ThreadFrames
 pub mod ThreadFrameRuns
+pub mod Timely
