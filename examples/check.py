@@ -3,8 +3,8 @@
 
 INDEX.txt names each example, with its words, its exit status and what it shows. NAME.script is what the program reads,
 NAME.report what it must write, and NAME.error what standard error must get; a file that is not there stands for nothing.
-Where threads race, NAME.reports holds the lawful reports, parted by lines %%: each run must write one of them, and all of
-them are seen over many runs.
+Where threads race, NAME.reports holds the lawful reports, parted by lines %%: each run must write one of them, and it is
+told how many of them were seen.
 Two inputs that are too large to be kept are made here, and so is what `make N` must write.
 """
 import difflib
@@ -113,6 +113,51 @@ def busy():
     return "\n".join([*lines, "end 2000", ""]).encode()
 
 
+WHOLE = """dashboard 1
+loopers 3
+threads 4
+handler 0 0
+handler 1 1
+handler 2 2
+gauge 0 0 100
+gauge 1 0 100
+gauge 2 1 100
+gauge 3 1 100
+gauge 4 2 100
+gauge 5 2 100
+vsync 16666667
+on 1 2 times 10 post 0 3 5
+on 0 3 times 10 post 2 4 5
+at 0
+0 set 0 500
+1 set 2 1000
+2 post 1 2 10
+3 post 2 9 1500
+at 500
+0 post-async 0 6 0
+3 remove 2 9
+at 1000
+1 set 4 300
+2 frame 0 0 77 0
+at 1900
+0 quit-safely 2
+1 post 1 2 50
+end 2000
+"""
+
+
+def whole(program):
+    """A script of two seconds with three loopers, four threads and six gauges has the counts that its rules give, in each
+    of many runs."""
+    for _ in range(RUNS // 2):
+        report = run(program, ["run"], WHOLE.encode())
+        fates = re.findall(r"^fates accepted (\d+) dispatched (\d+) removed (\d+)", report, re.M)
+        refused = re.findall(r"^refused .*", report, re.M)
+        if fates != [("11", "11", "0"), ("14", "14", "0"), ("7", "6", "1")] or [it.startswith("refused 2 4 quit") for it in refused] != [True]:
+            yield "whole", f"other counts: {report}"
+            break
+
+
 def counts_stay(program):
     """The counts of a busy script are the same in each of many runs."""
     seen = set()
@@ -154,7 +199,7 @@ def main():
             print("\n".join([f"FAILED {name}: {shows}", *found]))
         else:
             passed += 1
-    for name, found in [*races(program), *summaries(program), *counts_stay(program)]:
+    for name, found in [*races(program), *summaries(program), *whole(program), *counts_stay(program)]:
         failed += 1
         print(f"FAILED {name}: {found}")
     print(f"examples: {passed} passed, {failed} failed")

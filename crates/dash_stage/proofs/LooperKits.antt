@@ -17,7 +17,8 @@ use Rattle.looper_run.specs.declared.looper.Round.{Round}
 use Rattle.looper_run.specs.Holding.{Sender, Looping, Workplace, workplace}
 use Rattle.looper_run.specs.Tests.{IsSameLooper}
 use Rattle.looper_run.specs.Round.{RoundBy, is_ended}
-use Rattle.looper_run.specs.Acts.{dispatches, taken_by, call_dispatch}
+use Rattle.looper_run.specs.Acts.{taken_by}
+use Rattle.loop_model.specs.Dispatches.{dispatches, call_dispatch}
 use Rattle.loop_model.specs.declared.entry.Entry.{Entry}
 use Rattle.run_model.specs.Asks.{entries_by}
 use Rattle.looper_run.proofs.Steps.{workplace_same}
@@ -146,7 +147,7 @@ looper_begins s hall n kit parts looping poster last l k unused is others frames
     let q = its_queue s hall n l in
     let sender : poster.sender ≡ s.threads + n = ap (λ (b : Badge). b.sender) (mine q.0 q.1) in
     let none : entries_by (s.threads + n) poster.view.seen ≡ [] =
-        subst (λ (k : ℕ). entries_by k poster.view.seen ≡ []) sender (subst (λ (p : Sender). own p ≡ []) (sym is) (unused.posters n poster (kit_many s hall n l kit k))) in
+    subst (λ (k : ℕ). entries_by k poster.view.seen ≡ []) sender (subst (λ (p : Sender). own p ≡ []) (sym is) (unused.posters n poster (kit_many s hall n l kit k))) in
     let taken_none : taken_by (s.threads + n) poster.view.seen ≡ [] = taken_own (s.threads + n) poster.view.seen ∙ ap (filter_map (λ (e : Entry). call_dispatch e.call e.reply)) none in
     record {
       few = l.few;
@@ -200,5 +201,5 @@ pub seen_over : (s : Script) (hall : Hall) (l : StageLooper) (parts : Parts) (po
 seen_over s hall l parts posters is_hall is e back ended d =
     let of = looper_of s hall l is_hall is in
     let own : get_or posters l.number d ≡ l.looper.held.poster =
-        ap (λ ps. get_or ps l.number d) back ∙ get_or-insert_at parts.others.items l.number l.looper.held.poster d (others_many s hall l.number of parts (parts_of s hall l parts is e)) in
+    ap (λ ps. get_or ps l.number d) back ∙ get_or-insert_at parts.others.items l.number l.looper.held.poster d (others_many s hall l.number of parts (parts_of s hall l parts is e)) in
     subst (λ (p : Sender). is_over (empty_base (sender_count s)) p.view.seen ≡ true) (sym own) (is.over ended)

@@ -6,7 +6,8 @@ use Rattle.frame_phases.specs.Frames.{lawful}
 use Rattle.dash_script.specs.declared.script.Script.{Script}
 use Rattle.run_model.specs.declared.report.Report.{Report}
 use Rattle.run_model.specs.Moments.{in_lockstep}
-use Rattle.run_model.specs.Run.{IsReportOf, AreRecordsOf, ArePlannedOf, AreControlsOf, AreFramesOf, all_entries, act_dispatch, entry_dispatch, EachLooper}
+use Rattle.run_model.specs.Run.{IsReportOf, AreRecordsOf, ArePlannedOf, AreControlsOf, AreFramesOf, all_entries, EachLooper}
+use Rattle.loop_model.specs.Dispatches.{act_dispatch, call_dispatch}
 use Rattle.run_model.specs.Asks.{entries_by}
 use Rattle.run_model.specs.Senders.{looper_sender}
 use Rattle.run_model.specs.Histories.{history_of}
@@ -23,7 +24,7 @@ pub record IsFrameRecord (s : Script) (f : FrameRecord) : Type 0 where
 
 -- a journal's Dispatch acts are, one for one and in order, the messages that its looper took, with the same moments
 abbrev pub IsDispatched : Script → QueueRecord → Journal → FrameRecord → Type 0
-IsDispatched s q j f = filter_map act_dispatch j.acts ≡ filter_map (λ e. entry_dispatch e.call e.reply) (entries_by (looper_sender s q.looper) (history_of q))
+IsDispatched s q j f = filter_map act_dispatch j.acts ≡ filter_map (λ e. call_dispatch e.call e.reply) (entries_by (looper_sender s q.looper) (history_of q))
 
 -- so it is with each looper's queue and journal
 abbrev pub AreDispatchesOf : Script → Report → Type 0

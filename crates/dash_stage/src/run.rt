@@ -19,13 +19,16 @@ use std::thread::Threads;
 /// What came of a run.
 #[derive(Drop)]
 pub enum Ran {
+    /// The whole script was run.
     Ok(Report),
+    /// A sender found no memory, and the run was given up.
     NoMemory,
 }
 
 /// Runs the script in lockstep and keeps its records. The event times rise, each the least of the next block, the end, the time
 /// of a message that may be dispatched and the pulse of a frame; at each the controller moves the queues' time on, the threads
-/// run the block of that time side by side, and the loopers run rounds side by side until nothing is due.
+/// run the block of that time side by side, and the loopers run rounds side by side until nothing is due. The script has a text. It
+/// is refused only for want of memory. Lockstep is this project's profile.
 #[tactic(auto, using(crate::proofs::Limits::playable))]
 pub fn run_script<R: Threads + Wait + Sync, G: Gate + Sync>(
     rt: &R,

@@ -15,7 +15,9 @@ const PIECE: usize = 4096;
 /// Why an input was not read.
 #[derive(Clone, Copy, Debug, PartialEq, Eq)]
 pub enum ReadError {
+    /// A read failed.
     Failed,
+    /// There are more bytes than the most.
     TooLong,
     NoMemory,
 }

@@ -63,15 +63,7 @@ fn run_at<G: Gate + Sync>(
     let words = words(alloc, line)?;
     let mut sink = MemSink::new(alloc, 100_000, 16, sink_fails).expect(rt, "memory");
     let clock = StepClock::new(5);
-    let outcome = dashboard(
-        rt,
-        alloc,
-        words.as_slice(),
-        source,
-        &mut sink,
-        &clock,
-        gate,
-    );
+    let outcome = dashboard(rt, alloc, words.as_slice(), source, &mut sink, &clock, gate);
     Ok((outcome, sink.bytes().to_vec(alloc)?))
 }
 
@@ -354,7 +346,10 @@ fn meet(
     let mut source = source(script, 64, Vec::new(alloc));
     let gate = MeetGate::new(first, second, 0, 10_000_000);
     let (outcome, _) = run_at(rt, alloc, "run", &mut source, Vec::new(alloc), &gate)?;
-    assert!(rt; outcome.status == Status::Ok, "senders {first} and {second}");
+    assert!(rt;
+        outcome.status == Status::Ok,
+        "senders {first} and {second}"
+    );
     assert!(rt; !gate.missed(), "senders {first} and {second}");
     Ok(())
 }
