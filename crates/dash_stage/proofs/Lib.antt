@@ -26,6 +26,7 @@ pub mod ThreadPlans
 pub mod ThreadSteps
 pub mod ThreadLabels
 pub mod Carried
+pub mod Dispatched
 pub mod StageControls
 pub mod ThreadRuns
 pub mod ThreadBlocks

@@ -20,6 +20,7 @@ use Rattle.looper_run.specs.Round.{RoundBy, is_ended}
 use Rattle.looper_run.specs.Acts.{taken_by}
 use Rattle.loop_model.specs.Dispatches.{dispatches, call_dispatch}
 use Rattle.loop_model.specs.declared.entry.Entry.{Entry}
+use Rattle.loop_model.specs.declared.journal.Journal.{Journal}
 use Rattle.run_model.specs.Asks.{entries_by}
 use Rattle.looper_run.proofs.Steps.{workplace_same}
 use Rattle.dash_stage.specs.declared.hall.Hall.{Hall}
@@ -194,12 +195,26 @@ kit_again s hall l parts kit is_hall is e posters frames pass =
       pass = ap (λ t. t.home) pass ∙ is.place.pool;
     }
 
--- where a round has ended the looper, its own poster, among all of them again, has seen its queue over
+-- its own poster is again among all of them, at the looper's place
+pub own_again : (s : Script) (hall : Hall) (l : StageLooper) (parts : Parts) (posters : List Sender) → IsHall s hall → IsLooper s hall l → l.parts ≡ Some parts
+    → posters ≡ insert parts.others.items l.number l.looper.held.poster → (d : Sender) → get_or posters l.number d ≡ l.looper.held.poster
+own_again s hall l parts posters is_hall is e back d =
+    let of = looper_of s hall l is_hall is in
+    ap (λ ps. get_or ps l.number d) back ∙ get_or-insert_at parts.others.items l.number l.looper.held.poster d (others_many s hall l.number of parts (parts_of s hall l parts is e))
+
+-- where a round has ended the looper, its own poster has seen its queue over
 pub seen_over : (s : Script) (hall : Hall) (l : StageLooper) (parts : Parts) (posters : List Sender) → IsHall s hall → IsLooper s hall l → l.parts ≡ Some parts
     → posters ≡ insert parts.others.items l.number l.looper.held.poster → is_ended l.last ≡ true
     → (d : Sender) → is_over (empty_base (sender_count s)) (get_or posters l.number d).view.seen ≡ true
 seen_over s hall l parts posters is_hall is e back ended d =
-    let of = looper_of s hall l is_hall is in
-    let own : get_or posters l.number d ≡ l.looper.held.poster =
-    ap (λ ps. get_or ps l.number d) back ∙ get_or-insert_at parts.others.items l.number l.looper.held.poster d (others_many s hall l.number of parts (parts_of s hall l parts is e)) in
-    subst (λ (p : Sender). is_over (empty_base (sender_count s)) p.view.seen ≡ true) (sym own) (is.over ended)
+    subst (λ (p : Sender). is_over (empty_base (sender_count s)) p.view.seen ≡ true) (sym (own_again s hall l parts posters is_hall is e back d)) (is.over ended)
+
+-- and what it has taken is told by the looper's journal
+pub told_again : (s : Script) (hall : Hall) (l : StageLooper) (parts : Parts) (posters : List Sender) (j : Journal) → IsHall s hall → IsLooper s hall l → l.parts ≡ Some parts
+    → posters ≡ insert parts.others.items l.number l.looper.held.poster → j ≡ l.looper.held.journal → is_given_up l.last ≡ false
+    → (d : Sender) → dispatches j.acts ≡ taken_by (s.threads + l.number) (get_or posters l.number d).view.seen
+told_again s hall l parts posters j is_hall is e back same on d =
+    ap (λ (k : Journal). dispatches k.acts) same
+    ∙ (is.told on
+    ∙ (ap (λ (n : ℕ). taken_by n l.looper.held.poster.view.seen) is.sender
+    ∙ ap (λ (p : Sender). taken_by (s.threads + l.number) p.view.seen) (sym (own_again s hall l parts posters is_hall is e back d))))

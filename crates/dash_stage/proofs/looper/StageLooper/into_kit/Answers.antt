@@ -2,7 +2,7 @@ use Rattle.std.proofs.Common.{List, [], ◌∷◌, ◌++◌, ap, ◌∙◌, arit
 use Rattle.std.specs.List.{insert}
 use Rattle.looper_run.specs.Holding.{Sender}
 use Rattle.choreographer.specs.Known.{Known as Pass}
-use Rattle.dash_stage.proofs.LooperKits.{looper_of, parts_of, others_many, kit_again, seen_over}
+use Rattle.dash_stage.proofs.LooperKits.{looper_of, parts_of, others_many, kit_again, seen_over, told_again}
 use Rattle.dash_stage.proofs.looper.StageLooper.into_kit.Goals as goal
 
 pub insert-requires : goal.insert-requires
@@ -26,3 +26,9 @@ returns-clause-over c =
     let parts = c.in-Some.parts in
     seen_over c.args.script.now c.args.hall.now c.args.self parts _ c.requires.hall c.requires.looper c.in-Some.is
     (c.in_ok-insert.ensures.items ∙ ap (λ (p : Sender). insert parts.others.items c.args.self.number p) c.into_parts-poster.ensures.0)
+
+pub returns-clause-told : goal.returns-clause-told
+returns-clause-told c =
+    let parts = c.in-Some.parts in
+    told_again c.args.script.now c.args.hall.now c.args.self parts _ _ c.requires.hall c.requires.looper c.in-Some.is
+    (c.in_ok-insert.ensures.items ∙ ap (λ (p : Sender). insert parts.others.items c.args.self.number p) c.into_parts-poster.ensures.0) c.into_parts-poster.ensures.2
