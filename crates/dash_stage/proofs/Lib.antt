@@ -22,6 +22,8 @@ pub mod ThreadPlans
 pub mod ThreadSteps
 pub mod ThreadLabels
 pub mod Carried
+pub mod KitsOver
+pub mod Controls
 pub mod ThreadRuns
 pub mod ThreadBlocks
 pub mod ThreadFrames
