@@ -153,7 +153,7 @@ module _ (s : Script) (hall : Hall) (h : IsHall s hall) (kits : List Kit) (are :
       let p = any_of kit.posters.items q in_posters in
       let is_q = numbered_at (λ (z : QueueRecord). z.looper) s.loopers records recs.loopers q r lt in
       let made = (run thread d in_kits below).called q p in_posters in
-      let same = all thread q d p r in_kits lt in
+      let same = (all thread q d p r in_kits lt).0 in
       subst (λ l. MakeCalls in_lockstep s (labels_on l lines) l lines (entries_by thread (slice_index_or records q r).entries)) (sym is_q)
       (subst (λ (es : List Entry). MakeCalls in_lockstep s (labels_on q lines) q lines es) (sym same) made))
 

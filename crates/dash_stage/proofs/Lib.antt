@@ -28,6 +28,7 @@ pub mod ThreadLabels
 pub mod Carried
 pub mod Dispatched
 pub mod StageControls
+pub mod KitsOver
 pub mod ThreadRuns
 pub mod ThreadBlocks
 pub mod ThreadFrames

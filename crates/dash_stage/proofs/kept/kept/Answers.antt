@@ -1,6 +1,9 @@
 use Rattle.std.proofs.Common.{◌≡◌, ◌≤◌, ◌+◌, length, arith}
 use Rattle.dash_stage.proofs.Casting.{all_kits}
+use Rattle.run_model.specs.Senders.{controller}
 use Rattle.dash_stage.proofs.Carried.{run_kept, planned_records, frame_runs}
+use Rattle.dash_stage.proofs.KitsOver.{over_kept, last_kit}
+use Rattle.dash_stage.proofs.Controls.{controls_of_records}
 use Rattle.dash_stage.proofs.kept.kept.Goals as goal
 
 pub returns-clause-planned : goal.returns-clause-planned
@@ -26,3 +29,16 @@ returns-clause-run c =
     let all : s.threads ≤ length kits = omega (arith, count) in
     frame_runs s hall c.requires.stage.hall kits' (all_kits s hall kits kits' c.args.stage.controller c.in_ok-journals.ensures.kits c.requires.stage.controller grown)
     (run_kept s hall kits kits' c.args.stage.controller.kit all grown (c.in_ok-journals.ensures.run c.in_ok-kits.ensures.run)) c.in_ok-queues.frames.items c.requires.text c.in_ok-queues.ensures.frames c.in_ok-queues.ensures.seen
+
+pub returns-clause-controls : goal.returns-clause-controls
+returns-clause-controls c =
+    let s = c.args.script.now in
+    let hall = c.args.stage.hall in
+    let kits = c.looper_kits.new.kits.items in
+    let kits' = c.push.new.self.items in
+    let grown = c.in_ok-push.ensures.items in
+    let mine = c.args.stage.controller.kit in
+    let count = c.in_ok-journals.ensures.kits.0 in
+    controls_of_records s hall kits' c.in_ok-queues.queues.items c.requires.stage.hall (all_kits s hall kits kits' c.args.stage.controller c.in_ok-journals.ensures.kits c.requires.stage.controller grown)
+    c.args.stage.controller (last_kit kits kits' mine (controller s) count grown) c.requires.closed (over_kept s kits kits' mine count grown (c.in_ok-journals.ensures.over c.requires.ended))
+    c.in_ok-queues.ensures.queues c.in_ok-queues.ensures.all

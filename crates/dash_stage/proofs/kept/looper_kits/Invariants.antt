@@ -2,13 +2,15 @@ use Rattle.std.proofs.Common.{◌≡◌, ◌+◌, length, map}
 use Rattle.loop_model.specs.declared.journal.Journal.{Journal}
 use Rattle.run_model.specs.Senders.{numbers_from}
 use Rattle.dash_stage.specs.Runs.{HaveRunAll}
-use Rattle.dash_stage.specs.Stages.{AreLoopersFrom, AreFirstKits}
+use Rattle.dash_stage.specs.Stages.{AreLoopersFrom, AreFirstKits, OthersHaveEnded}
+use Rattle.dash_stage.proofs.KitsOver.{HaveEndedFrom, AreOverAmong}
 use Rattle.dash_stage.proofs.kept.looper_kits.Given as goal
 
 abbrev pub invariant-each : goal.invariant-each
 invariant-each l = AreLoopersFrom l.script l.hall (length l.journals.items) l.loopers.items × (length l.kits.items ≡ l.script.threads + length l.journals.items)
     × AreFirstKits l.script l.hall l.kits.items × (map (λ (j : Journal). j.looper) l.journals.items ≡ numbers_from 0 (length l.journals.items))
     × (HaveRunAll l.script l.initial.kits.items → HaveRunAll l.script l.kits.items)
+    × (OthersHaveEnded l.initial.loopers.items → HaveEndedFrom (length l.journals.items) l.loopers.items × AreOverAmong l.script l.kits.items)
 
 abbrev pub decreases-each : goal.decreases-each
 decreases-each l = length l.loopers.items
