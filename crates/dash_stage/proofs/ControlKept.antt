@@ -64,7 +64,7 @@ module _ (s : Script) (c c' : Controller) (none : CallsNone c c') where
 
 module _ (s : Script) (c : Controller) where
   -- where only the time was moved on, the queue may also have been quit
-  moves_may_quit : (q : ℕ) → OnlyMoves s c q → MovesAndQuits s c q
+  pub moves_may_quit : (q : ℕ) → OnlyMoves s c q → MovesAndQuits s c q
   moves_may_quit q moves d lt = advances_may_quit s.end (calls_on c q d) (moves d lt)
 
   -- none has been quit as the time of main comes to the end
