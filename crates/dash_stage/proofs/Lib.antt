@@ -29,6 +29,7 @@ pub mod Carried
 pub mod Dispatched
 pub mod StageControls
 pub mod KitsOver
+pub mod KitsTold
 pub mod ThreadRuns
 pub mod ThreadBlocks
 pub mod ThreadFrames

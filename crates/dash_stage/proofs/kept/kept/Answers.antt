@@ -1,7 +1,10 @@
-use Rattle.std.proofs.Common.{◌≡◌, ◌≤◌, ◌+◌, length, arith}
+use Rattle.std.proofs.Common.{◌≡◌, ◌≤◌, ◌+◌, ◌∙◌, sym, ap, length, arith}
 use Rattle.dash_stage.proofs.Casting.{all_kits}
 use Rattle.run_model.specs.Senders.{controller}
-use Rattle.dash_stage.proofs.Carried.{run_kept, planned_records, frame_runs}
+use Rattle.dash_stage.proofs.Carried.{run_kept, planned_records, frame_runs, numbered_count}
+use Rattle.loop_model.specs.declared.journal.Journal.{Journal}
+use Rattle.dash_stage.proofs.Dispatched.{dispatches_of_records}
+use Rattle.dash_stage.proofs.KitsTold.{told_kept}
 use Rattle.dash_stage.proofs.KitsOver.{over_kept, last_kit}
 use Rattle.dash_stage.proofs.Controls.{controls_of_records}
 use Rattle.dash_stage.proofs.kept.kept.Goals as goal
@@ -42,3 +45,17 @@ returns-clause-controls c =
     controls_of_records s hall kits' c.in_ok-queues.queues.items c.requires.stage.hall (all_kits s hall kits kits' c.args.stage.controller c.in_ok-journals.ensures.kits c.requires.stage.controller grown)
     c.args.stage.controller (last_kit kits kits' mine (controller s) count grown) c.requires.closed (over_kept s kits kits' mine count grown (c.in_ok-journals.ensures.over c.requires.ended))
     c.in_ok-queues.ensures.queues c.in_ok-queues.ensures.all
+
+pub returns-clause-dispatches : goal.returns-clause-dispatches
+returns-clause-dispatches c =
+    let s = c.args.script.now in
+    let hall = c.args.stage.hall in
+    let kits = c.looper_kits.new.kits.items in
+    let kits' = c.push.new.self.items in
+    let grown = c.in_ok-push.ensures.items in
+    let count = c.in_ok-journals.ensures.kits.0 in
+    let journals = c.in_ok-journals.journals.items in
+    let many : length journals ≡ s.loopers = numbered_count (λ (z : Journal). z.looper) s.loopers journals c.in_ok-journals.ensures.journals in
+    dispatches_of_records s hall c.requires.stage.hall kits' (all_kits s hall kits kits' c.args.stage.controller c.in_ok-journals.ensures.kits c.requires.stage.controller grown)
+    c.in_ok-queues.queues.items journals c.in_ok-queues.frames.items c.in_ok-queues.ensures.queues c.in_ok-queues.ensures.all c.in_ok-journals.ensures.journals c.in_ok-queues.ensures.frames
+    (told_kept s journals kits kits' c.args.stage.controller.kit (count ∙ ap (λ n. s.threads + n) (sym many)) grown (c.in_ok-journals.ensures.told c.requires.on))

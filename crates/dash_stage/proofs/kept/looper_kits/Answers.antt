@@ -3,6 +3,7 @@ use Rattle.dash_stage.specs.declared.looper.StageLooper.{StageLooper}
 use Rattle.dash_stage.proofs.Casting.{looper_back, first_looper}
 use Rattle.dash_stage.proofs.Carried.{run_kept}
 use Rattle.dash_stage.proofs.KitsOver.{over_back}
+use Rattle.dash_stage.proofs.KitsTold.{told_back}
 use Rattle.dash_stage.proofs.kept.looper_kits.Goals as goal
 
 pub each-preserved : goal.each-preserved
@@ -18,4 +19,6 @@ each-preserved c =
     let number = ap (λ (z : StageLooper). z.number) c.remove.ensures.value ∙ (first_looper s hall (length at.journals.items) at.loopers.items c.remove.result at.invariant.0 some).1 in
     (back.0, back.1, back.2, back.3, λ ran. run_kept s hall at.kits.items c.push-in-each.new.self.items c.in_ok-journal.kit all c.in_ok-push-2.ensures.items (at.invariant.4 ran),
     λ ended. over_back s at.journals.items c.push.new.self.items at.loopers.items c.remove.new.self.items at.kits.items c.push-in-each.new.self.items c.remove.result c.in_ok-journal.journal c.in_ok-journal.kit
-    some c.remove.ensures.value c.remove.ensures.items at.invariant.1 number c.in_ok-journal.ensures.over c.in_ok-push.ensures.items c.in_ok-push-2.ensures.items (at.invariant.5 ended).0 (at.invariant.5 ended).1)
+    some c.remove.ensures.value c.remove.ensures.items at.invariant.1 number c.in_ok-journal.ensures.over c.in_ok-push.ensures.items c.in_ok-push-2.ensures.items (at.invariant.5 ended).0 (at.invariant.5 ended).1,
+    λ on. told_back s at.journals.items c.push.new.self.items at.loopers.items c.remove.new.self.items at.kits.items c.push-in-each.new.self.items c.remove.result c.in_ok-journal.journal c.in_ok-journal.kit
+    some c.remove.ensures.value c.remove.ensures.items at.invariant.1 number c.in_ok-journal.ensures.told c.in_ok-push.ensures.items c.in_ok-push-2.ensures.items (at.invariant.6 on))

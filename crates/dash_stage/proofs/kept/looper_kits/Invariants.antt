@@ -2,7 +2,8 @@ use Rattle.std.proofs.Common.{◌≡◌, ◌+◌, length, map}
 use Rattle.loop_model.specs.declared.journal.Journal.{Journal}
 use Rattle.run_model.specs.Senders.{numbers_from}
 use Rattle.dash_stage.specs.Runs.{HaveRunAll}
-use Rattle.dash_stage.specs.Stages.{AreLoopersFrom, AreFirstKits, OthersHaveEnded}
+use Rattle.dash_stage.specs.Loopers.{HaveTold}
+use Rattle.dash_stage.specs.Stages.{AreLoopersFrom, AreFirstKits, OthersHaveEnded, LoopersGoOn}
 use Rattle.dash_stage.proofs.KitsOver.{HaveEndedFrom, AreOverAmong}
 use Rattle.dash_stage.proofs.kept.looper_kits.Given as goal
 
@@ -11,6 +12,7 @@ invariant-each l = AreLoopersFrom l.script l.hall (length l.journals.items) l.lo
     × AreFirstKits l.script l.hall l.kits.items × (map (λ (j : Journal). j.looper) l.journals.items ≡ numbers_from 0 (length l.journals.items))
     × (HaveRunAll l.script l.initial.kits.items → HaveRunAll l.script l.kits.items)
     × (OthersHaveEnded l.initial.loopers.items → HaveEndedFrom (length l.journals.items) l.loopers.items × AreOverAmong l.script l.kits.items)
+    × (LoopersGoOn l.initial.loopers.items → LoopersGoOn l.loopers.items × HaveTold l.script l.journals.items l.kits.items)
 
 abbrev pub decreases-each : goal.decreases-each
 decreases-each l = length l.loopers.items
