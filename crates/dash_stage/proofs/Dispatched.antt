@@ -42,22 +42,22 @@ module _ (s : Script) (hall : Hall) (h : IsHall s hall) (kits : List Kit) (are :
       let few_js = numbered_count (λ (z : Journal). z.looper) s.loopers js are_js in
       let few_fs = numbered_count (λ (z : FrameRecord). z.looper) s.loopers fs are_fs.loopers in
       each_looper (IsDispatched s) queues js fs (few_js ∙ sym few) (few_fs ∙ sym few) (λ k q j f lt.
-          let count = are.count in
-          let n : ℕ = s.threads + k in
-          let in_kits : n < length kits = omega (arith, lt, few, count) in
-          let d = some_of kits n in_kits in
-          let kit = slice_index_or kits n d in
-          let badges = (are.each n d in_kits).posters in
-          let long = alike_length badge_of (badge_for n) kit.posters.items hall.queues.items badges ∙ queue_count s hall.pool hall.queues.items h.queues in
-          let in_posters : k < length kit.posters.items = omega (arith, lt, few, long) in
-          let p = some_of kit.posters.items k in_posters in
-          let poster = slice_index_or kit.posters.items k p in
-          let in_queues : k < length hall.queues.items = omega (arith, lt, few, queue_count s hall.pool hall.queues.items h.queues) in
-          let sender = (poster_at n hall.queues.items kit.posters.items badges k p (some_of hall.queues.items k in_queues) in_posters).1 in
-          let number = numbered_at (λ (z : QueueRecord). z.looper) s.loopers queues recs.loopers k q lt in
-          let made : entries_by n (slice_index_or queues k q).entries ≡ own poster = (all n k d p q in_kits lt).0 in
-          let in_js : k < length js = omega (arith, lt, few, few_js) in
-          told k j d in_js p
-          ∙ (taken_own n poster.view.seen
-          ∙ ap (filter_map (λ (e : Entry). call_dispatch e.call e.reply))
-              (ap (λ (m : ℕ). entries_by m poster.view.seen) (sym sender) ∙ (sym made ∙ ap (λ (m : ℕ). entries_by (looper_sender s m) (slice_index_or queues k q).entries) (sym number)))))
+      let count = are.count in
+      let n : ℕ = s.threads + k in
+      let in_kits : n < length kits = omega (arith, lt, few, count) in
+      let d = some_of kits n in_kits in
+      let kit = slice_index_or kits n d in
+      let badges = (are.each n d in_kits).posters in
+      let long = alike_length badge_of (badge_for n) kit.posters.items hall.queues.items badges ∙ queue_count s hall.pool hall.queues.items h.queues in
+      let in_posters : k < length kit.posters.items = omega (arith, lt, few, long) in
+      let p = some_of kit.posters.items k in_posters in
+      let poster = slice_index_or kit.posters.items k p in
+      let in_queues : k < length hall.queues.items = omega (arith, lt, few, queue_count s hall.pool hall.queues.items h.queues) in
+      let sender = (poster_at n hall.queues.items kit.posters.items badges k p (some_of hall.queues.items k in_queues) in_posters).1 in
+      let number = numbered_at (λ (z : QueueRecord). z.looper) s.loopers queues recs.loopers k q lt in
+      let made : entries_by n (slice_index_or queues k q).entries ≡ own poster = (all n k d p q in_kits lt).0 in
+      let in_js : k < length js = omega (arith, lt, few, few_js) in
+      told k j d in_js p
+      ∙ (taken_own n poster.view.seen
+      ∙ ap (filter_map (λ (e : Entry). call_dispatch e.call e.reply))
+      (ap (λ (m : ℕ). entries_by m poster.view.seen) (sym sender) ∙ (sym made ∙ ap (λ (m : ℕ). entries_by (looper_sender s m) (slice_index_or queues k q).entries) (sym number)))))

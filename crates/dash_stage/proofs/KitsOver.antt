@@ -34,17 +34,17 @@ module _ (s : Script) where
       let more : length js' ≡ length js + 1 = ap length grown ∙ length-append js (j ∷ []) in (
         subst (λ (z : List StageLooper). HaveEndedFrom (length js') z) (sym rest) (subst (λ m. HaveEndedFrom m (remove ls 0)) (sym more) (other_ended (length js) ls ended some)),
         subst (AreOverAmong s) (sym grown') (first_more (λ k (z : Kit). (looper : ℕ) → 0 < looper → k ≡ s.threads + looper → HasSeenOver s looper z) kits kit over
-        (λ looper later at.
-        let same : l.number ≡ looper = omega (arith, number, count, at) in
-        let past : 0 < 0 + length js = omega (arith, number, same, later) in
-        subst (λ m. HasSeenOver s m kit) same (seen (subst (λ (z : StageLooper). is_ended z.last ≡ true) (sym is_l) (ended 0 l past some))))),
+            (λ looper later at.
+            let same : l.number ≡ looper = omega (arith, number, count, at) in
+            let past : 0 < 0 + length js = omega (arith, number, same, later) in
+            subst (λ m. HasSeenOver s m kit) same (seen (subst (λ (z : StageLooper). is_ended z.last ≡ true) (sym is_l) (ended 0 l past some))))),
       )
 
   -- a kit behind those of the loopers tells nothing of it
   pub over_kept : (kits kits' : List Kit) (kit : Kit) → length kits ≡ s.threads + s.loopers → kits' ≡ kits ++ kit ∷ [] → OthersAreOver s kits → OthersAreOver s kits'
   over_kept kits kits' kit count grown over looper d some lt =
       let same : slice_index_or kits' (s.threads + looper) d ≡ slice_index_or kits (s.threads + looper) d =
-          ap (λ l. slice_index_or l (s.threads + looper) d) grown ∙ get_or-append kits (kit ∷ []) d (s.threads + looper) (omega (arith, count, lt)) in
+      ap (λ l. slice_index_or l (s.threads + looper) d) grown ∙ get_or-append kits (kit ∷ []) d (s.threads + looper) (omega (arith, count, lt)) in
       subst (HasSeenOver s looper) (sym same) (over looper d some lt)
 
 -- the kit that came last

@@ -48,5 +48,5 @@ module _ (s : Script) where
   pub told_kept : (js : List Journal) (kits kits' : List Kit) (kit : Kit) → length kits ≡ s.threads + length js → kits' ≡ kits ++ kit ∷ [] → HaveTold s js kits → HaveTold s js kits'
   told_kept js kits kits' kit count grown told = λ k x d lt.
       let same : slice_index_or kits' (s.threads + k) d ≡ slice_index_or kits (s.threads + k) d =
-          ap (λ l. slice_index_or l (s.threads + k) d) grown ∙ get_or-append kits (kit ∷ []) d (s.threads + k) (omega (arith, count, lt)) in
+      ap (λ l. slice_index_or l (s.threads + k) d) grown ∙ get_or-append kits (kit ∷ []) d (s.threads + k) (omega (arith, count, lt)) in
       subst (HasTold s k (slice_index_or js k x)) (sym same) (told k x d lt)
