@@ -131,8 +131,7 @@ module _ (p p' : Sender) (x y : State) (t : IsTurn p p' x y) where
 
 -- a turn of the controller's poster on the queue of a looper
 module _ (s : Script) (hall : Hall) (h : IsHall s hall) (i : ℕ) (lt : i < s.loopers) (c : Controller) (k : IsController s hall c) (p p' : Sender) (q : Shared TableId)
-  (is_p : p ≡ slice_index_or c.kit.posters.items i p) (is_q : q ≡ slice_index_or hall.queues.items i q) (x y : State) (t : IsTurn p p' x y) where
-
+    (is_p : p ≡ slice_index_or c.kit.posters.items i p) (is_q : q ≡ slice_index_or hall.queues.items i q) (x y : State) (t : IsTurn p p' x y) where
   mine : IsOf p q × (p.sender ≡ controller s)
   mine = own_poster s hall h i lt c k p q is_p is_q
 
