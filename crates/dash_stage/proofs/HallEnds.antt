@@ -234,7 +234,7 @@ retires_more s pool c orig kits kits' records records' r is kept ends more befor
       let place : length records + 0 ≡ length records = omega arith in
       let here : r ≡ get_or (records ++ r ∷ []) q x = sym (ap (λ (m : ℕ). get_or (records ++ r ∷ []) m x) last ∙ get_or-append_seam records r [] x) in
       let gave : e.poster ≡ get_or (get_or orig k d).posters.items q p =
-          ap (λ l. get_or l 0 p) (sym e.posters) ∙ (ap (λ l. get_or l 0 p) (before.left.each k d lt).posters ∙ (get_or-drop (length records) (get_or orig k d).posters.items 0 p ∙ ap (λ m. get_or (get_or orig k d).posters.items m p) (place ∙ sym last))) in
+      ap (λ l. get_or l 0 p) (sym e.posters) ∙ (ap (λ l. get_or l 0 p) (before.left.each k d lt).posters ∙ (get_or-drop (length records) (get_or orig k d).posters.items 0 p ∙ ap (λ m. get_or (get_or orig k d).posters.items m p) (place ∙ sym last))) in
       subst (λ (y : QueueRecord). HasAllOf k (get_or (get_or orig k d).posters.items q p) y.entries) here (subst (λ (y : Sender). HasAllOf k y r.entries) gave e.made));
   left = record {
     count = ends.count ∙ before.left.count;

@@ -1,5 +1,5 @@
 -- That the loopers but the main one have ended is told by their kits.
-use Rattle.std.proofs.Common.{◌≡◌, ◌<◌, ◌+◌, ℕ, suc, true, List, [], ◌∷◌, ◌++◌, length, refl, sym, ap, ◌∙◌, subst, arith, slice_index_or}
+use Rattle.std.proofs.Common.{◌≡◌, ◌<◌, ◌+◌, ℕ, suc, true, List, [], ◌∷◌, ◌++◌, length, sym, ap, ◌∙◌, subst, arith, slice_index_or}
 use Rattle.std.specs.List.{remove}
 use Rattle.std.proofs.Math.ListN.{get_or-append}
 use Rattle.std.proofs.Math.Seq.{get_or-append_seam}
@@ -10,7 +10,6 @@ use Rattle.looper_run.specs.Round.{is_ended}
 use Rattle.dash_stage.specs.declared.kit.Kit.{Kit}
 use Rattle.dash_stage.specs.declared.looper.StageLooper.{StageLooper}
 use Rattle.dash_stage.specs.Kits.{HasSeenOver, OthersAreOver}
-use Rattle.dash_stage.specs.Stages.{OthersHaveEnded}
 use Rattle.dash_stage.proofs.Casting.{first_more}
 
 -- of the loopers from n on, each but the main one has ended
@@ -34,17 +33,17 @@ module _ (s : Script) where
       let more : length js' ≡ length js + 1 = ap length grown ∙ length-append js (j ∷ []) in (
         subst (λ (z : List StageLooper). HaveEndedFrom (length js') z) (sym rest) (subst (λ m. HaveEndedFrom m (remove ls 0)) (sym more) (other_ended (length js) ls ended some)),
         subst (AreOverAmong s) (sym grown') (first_more (λ k (z : Kit). (looper : ℕ) → 0 < looper → k ≡ s.threads + looper → HasSeenOver s looper z) kits kit over
-        (λ looper later at.
-        let same : l.number ≡ looper = omega (arith, number, count, at) in
-        let past : 0 < 0 + length js = omega (arith, number, same, later) in
-        subst (λ m. HasSeenOver s m kit) same (seen (subst (λ (z : StageLooper). is_ended z.last ≡ true) (sym is_l) (ended 0 l past some))))),
+            (λ looper later at.
+            let same : l.number ≡ looper = omega (arith, number, count, at) in
+            let past : 0 < 0 + length js = omega (arith, number, same, later) in
+            subst (λ m. HasSeenOver s m kit) same (seen (subst (λ (z : StageLooper). is_ended z.last ≡ true) (sym is_l) (ended 0 l past some))))),
       )
 
   -- a kit behind those of the loopers tells nothing of it
   pub over_kept : (kits kits' : List Kit) (kit : Kit) → length kits ≡ s.threads + s.loopers → kits' ≡ kits ++ kit ∷ [] → OthersAreOver s kits → OthersAreOver s kits'
   over_kept kits kits' kit count grown over looper d some lt =
       let same : slice_index_or kits' (s.threads + looper) d ≡ slice_index_or kits (s.threads + looper) d =
-          ap (λ l. slice_index_or l (s.threads + looper) d) grown ∙ get_or-append kits (kit ∷ []) d (s.threads + looper) (omega (arith, count, lt)) in
+      ap (λ l. slice_index_or l (s.threads + looper) d) grown ∙ get_or-append kits (kit ∷ []) d (s.threads + looper) (omega (arith, count, lt)) in
       subst (HasSeenOver s looper) (sym same) (over looper d some lt)
 
 -- the kit that came last

@@ -185,5 +185,5 @@ pub seen_over : (s : Script) (hall : Hall) (l : StageLooper) (parts : Parts) (po
 seen_over s hall l parts posters is_hall is e back ended d =
     let of = looper_of s hall l is_hall is in
     let own : get_or posters l.number d ≡ l.looper.held.poster =
-        ap (λ ps. get_or ps l.number d) back ∙ get_or-insert_at parts.others.items l.number l.looper.held.poster d (others_many s hall l.number of parts (parts_of s hall l parts is e)) in
+    ap (λ ps. get_or ps l.number d) back ∙ get_or-insert_at parts.others.items l.number l.looper.held.poster d (others_many s hall l.number of parts (parts_of s hall l parts is e)) in
     subst (λ (p : Sender). is_over (empty_base (sender_count s)) p.view.seen ≡ true) (sym own) (is.over ended)

@@ -1,4 +1,4 @@
-use Rattle.std.proofs.Common.{rules, ◌≡◌, ◌≤◌, ◌<◌, ◌∙◌, ap, length, arith}
+use Rattle.std.proofs.Common.{rules, ◌≤◌, ◌<◌, ◌∙◌, ap, length, arith}
 use Rattle.dash_stage.specs.declared.looper.StageLooper.{StageLooper}
 use Rattle.dash_stage.proofs.Casting.{looper_back, first_looper}
 use Rattle.dash_stage.proofs.Carried.{run_kept}
@@ -15,7 +15,12 @@ each-preserved c =
     at.invariant.0 some c.remove.ensures.value c.remove.ensures.items at.invariant.1 at.invariant.2 at.invariant.3 c.in_ok-journal.ensures.journal c.in_ok-journal.ensures.kit c.in_ok-push.ensures.items c.in_ok-push-2.ensures.items in
     let count = at.invariant.1 in
     let all : s.threads ≤ length at.kits.items = omega (arith, count) in
-    let number = ap (λ (z : StageLooper). z.number) c.remove.ensures.value ∙ (first_looper s hall (length at.journals.items) at.loopers.items c.remove.result at.invariant.0 some).1 in
-    (back.0, back.1, back.2, back.3, λ ran. run_kept s hall at.kits.items c.push-in-each.new.self.items c.in_ok-journal.kit all c.in_ok-push-2.ensures.items (at.invariant.4 ran),
-    λ ended. over_back s at.journals.items c.push.new.self.items at.loopers.items c.remove.new.self.items at.kits.items c.push-in-each.new.self.items c.remove.result c.in_ok-journal.journal c.in_ok-journal.kit
-    some c.remove.ensures.value c.remove.ensures.items at.invariant.1 number c.in_ok-journal.ensures.over c.in_ok-push.ensures.items c.in_ok-push-2.ensures.items (at.invariant.5 ended).0 (at.invariant.5 ended).1)
+    let number = ap (λ (z : StageLooper). z.number) c.remove.ensures.value ∙ (first_looper s hall (length at.journals.items) at.loopers.items c.remove.result at.invariant.0 some).1 in (
+      back.0,
+      back.1,
+      back.2,
+      back.3,
+      λ ran. run_kept s hall at.kits.items c.push-in-each.new.self.items c.in_ok-journal.kit all c.in_ok-push-2.ensures.items (at.invariant.4 ran),
+      λ ended. over_back s at.journals.items c.push.new.self.items at.loopers.items c.remove.new.self.items at.kits.items c.push-in-each.new.self.items c.remove.result c.in_ok-journal.journal c.in_ok-journal.kit
+          some c.remove.ensures.value c.remove.ensures.items at.invariant.1 number c.in_ok-journal.ensures.over c.in_ok-push.ensures.items c.in_ok-push-2.ensures.items (at.invariant.5 ended).0 (at.invariant.5 ended).1,
+    )
