@@ -122,10 +122,12 @@ numbers_at k (suc n) zero d lt = let same : k ≡ k + 0 = omega arith in same
 numbers_at k (suc n) (suc i) d lt = numbers_at (k + 1) n i d (omega (arith, lt)) ∙ (let same : k + 1 + i ≡ k + suc i = omega arith in same)
 
 module _ {X : Type 0} (f : X → ℕ) (n : ℕ) (xs : List X) (are : map f xs ≡ numbers_from 0 n) where
-  numbered_count : length xs ≡ n
+  -- there is one for each number
+  pub numbered_count : length xs ≡ n
   numbered_count = sym (length-map xs f) ∙ ap length are ∙ length-numbers 0 n
 
-  numbered_at : (i : ℕ) (x : X) → i < length xs → f (slice_index_or xs i x) ≡ i
+  -- its number is its place
+  pub numbered_at : (i : ℕ) (x : X) → i < length xs → f (slice_index_or xs i x) ≡ i
   numbered_at i x lt =
       sym (get_or-map f xs i x (f x) lt) ∙ ap (λ l. slice_index_or l i (f x)) are ∙ numbers_at 0 n i (f x) (subst (λ m. i < m) numbered_count lt)
       ∙ (let same : 0 + i ≡ i = omega arith in same)

@@ -1,5 +1,6 @@
 pub mod Badges
 pub mod Controlling
+pub mod Controls
 pub mod Blocks
 pub mod LooperLists
 pub mod LooperPlaces
@@ -23,7 +24,6 @@ pub mod ThreadSteps
 pub mod ThreadLabels
 pub mod Carried
 pub mod KitsOver
-pub mod Controls
 pub mod ThreadRuns
 pub mod ThreadBlocks
 pub mod ThreadFrames
