@@ -4,7 +4,7 @@ use Rattle.std.specs.List.{insert, remove, slice_get}
 use Rattle.std.specs.Option.{IsSomeAnd, option_map}
 use Rattle.std.proofs.lemmas.List.{length-map}
 use Rattle.std.proofs.lemmas.List.Edits.{length-remove, get_or-insert_at}
-use Rattle.std.proofs.lemmas.Option.{slice_get-map, slice_get-get_or, slice_get_cases, slice_get_read}
+use Rattle.std.proofs.lemmas.Option.{slice_get-map, slice_get_cases, slice_get_read}
 use Rattle.atomic_table.specs.Seated.{TableId}
 use Rattle.dash_script.specs.declared.script.Script.{Script}
 use Rattle.loop_model.specs.Base.{empty_base}
@@ -12,7 +12,7 @@ use Rattle.loop_model.specs.Answers.{is_over}
 use Rattle.run_model.specs.Senders.{sender_count}
 use Rattle.shared_queue.specs.Constants.{Constants}
 use Rattle.shared_queue.specs.Known.{Shared}
-use Rattle.choreographer.specs.Known.{Shared as Frames, Known as Pass}
+use Rattle.choreographer.specs.Known.{Shared as Frames}
 use Rattle.looper_run.specs.declared.looper.Round.{Round}
 use Rattle.looper_run.specs.Holding.{Sender, Looping, Workplace, workplace}
 use Rattle.looper_run.specs.Tests.{IsSameLooper}
@@ -22,7 +22,7 @@ use Rattle.dash_stage.specs.declared.hall.Hall.{Hall}
 use Rattle.dash_stage.specs.declared.kit.Kit.{Kit}
 use Rattle.dash_stage.specs.declared.player.Parts.{Parts}
 use Rattle.dash_stage.specs.declared.looper.StageLooper.{StageLooper}
-use Rattle.dash_stage.specs.Kits.{Badge, FrameBadge, badge_of, badge_for, frame_badge_of, frame_badge_for, frames_for, looper_frames, IsHall, IsKitOf}
+use Rattle.dash_stage.specs.Kits.{Badge, badge_of, badge_for, frame_badge_of, frame_badge_for, frames_for, IsHall, IsKitOf}
 use Rattle.dash_stage.specs.Loopers.{ArePartsOf, IsPlaceOf, IsLooperOf, IsLooper, setting_for}
 use Rattle.dash_stage.specs.Players.{Owner, ServesAt}
 use Rattle.dash_stage.proofs.LooperLists.{map-remove, map-insert, insert_removed, at_same}

@@ -1,4 +1,4 @@
-use Rattle.std.proofs.Common.{◌≡◌, ◌≤◌, ◌+◌, length, arith}
+use Rattle.std.proofs.Common.{◌≤◌, length, arith}
 use Rattle.dash_stage.proofs.Casting.{all_kits}
 use Rattle.run_model.specs.Senders.{controller}
 use Rattle.dash_stage.proofs.Carried.{run_kept, planned_records, frame_runs}
