@@ -7,6 +7,7 @@ pub mod LooperPlaces
 pub mod LooperLent
 pub mod LooperOver
 pub mod LooperKits
+pub mod KitsOver
 pub mod ThreadGrowth
 pub mod ThreadCalls
 pub mod HallGets
@@ -23,7 +24,6 @@ pub mod ThreadPlans
 pub mod ThreadSteps
 pub mod ThreadLabels
 pub mod Carried
-pub mod KitsOver
 pub mod ThreadRuns
 pub mod ThreadBlocks
 pub mod ThreadFrames
