@@ -10,6 +10,7 @@ pub mod LooperLent
 pub mod LooperOver
 pub mod LooperTold
 pub mod LooperKits
+pub mod KitsOver
 pub mod ThreadGrowth
 pub mod ThreadCalls
 pub mod HallGets
@@ -28,7 +29,6 @@ pub mod ThreadLabels
 pub mod Carried
 pub mod Dispatched
 pub mod StageControls
-pub mod KitsOver
 pub mod KitsTold
 pub mod ThreadRuns
 pub mod ThreadBlocks

@@ -1,4 +1,4 @@
-use Rattle.std.proofs.Common.{rules, ◌≡◌}
+use Rattle.std.proofs.Common.{rules}
 use Rattle.dash_stage.proofs.Carried.{thread_back, threads_start}
 use Rattle.dash_stage.proofs.kept.thread_kits.Goals as goal
 

@@ -1,4 +1,4 @@
-use Rattle.std.proofs.Common.{◌≡◌, length}
+use Rattle.std.proofs.Common.{length}
 use Rattle.dash_stage.specs.Runs.{HaveRunFrom, HaveRunAll}
 use Rattle.dash_stage.specs.Stages.{AreThreadsFrom, AreFirstKits}
 use Rattle.dash_stage.proofs.kept.thread_kits.Given as goal
