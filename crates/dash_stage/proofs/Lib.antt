@@ -6,7 +6,9 @@ pub mod LooperPlaces
 pub mod LooperLent
 pub mod LooperOver
 pub mod LooperKits
+pub mod LooperSeats
 pub mod ThreadGrowth
+pub mod Hearing
 pub mod ThreadCalls
 pub mod HallGets
 pub mod HallPasses
