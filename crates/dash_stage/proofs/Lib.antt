@@ -10,7 +10,9 @@ pub mod LooperLent
 pub mod LooperOver
 pub mod LooperTold
 pub mod LooperKits
+pub mod LooperSeats
 pub mod ThreadGrowth
+pub mod Hearing
 pub mod ThreadCalls
 pub mod HallGets
 pub mod HallPasses

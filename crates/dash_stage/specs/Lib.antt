@@ -12,4 +12,5 @@ pub mod Staged
 pub mod Records
 pub mod Runs
 pub mod Stages
+pub mod Sharing
 pub mod Ending
