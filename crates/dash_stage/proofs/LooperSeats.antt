@@ -38,9 +38,9 @@ module _ {X : Type 0} (xs : List X) (n : ℕ) (le : n ≤ length xs) where
   pub set_own : (y z : X) → set (insert xs n y) n z ≡ insert xs n z
   set_own y z = same_lists (set (insert xs n y) n z) (insert xs n z) (length-set (insert xs n y) n z ∙ (length-insert xs n y le ∙ sym (length-insert xs n z le)))
       (λ k d near. dite (ℕ_discrete k n)
-          (λ e. subst (λ (m : ℕ). get_or (set (insert xs n y) n z) m d ≡ get_or (insert xs n z) m d) (sym e)
-              (get_or-set_same (insert xs n y) n z d (omega (arith, length-insert xs n y le, le)) ∙ sym (get_or-insert_at xs n z d le)))
-          (λ not. (let w = its_place n k not in get_or-set_other (insert xs n y) n k z d not ∙ (at_other y d k w.0 w.1 ∙ sym (at_other z d k w.0 w.1)))))
+      (λ e. subst (λ (m : ℕ). get_or (set (insert xs n y) n z) m d ≡ get_or (insert xs n z) m d) (sym e)
+      (get_or-set_same (insert xs n y) n z d (omega (arith, length-insert xs n y le, le)) ∙ sym (get_or-insert_at xs n z d le)))
+      (λ not. (let w = its_place n k not in get_or-set_other (insert xs n y) n k z d not ∙ (at_other y d k w.0 w.1 ∙ sym (at_other z d k w.0 w.1)))))
 
 -- another one in the place of one beside that at n
 pub set_other : {X : Type 0} (xs : List X) (n : ℕ) → n ≤ length xs → (y z : X) (place j : ℕ) → PlaceWithout n place j → j < length xs → set (insert xs n z) place y ≡ insert (set xs j y) n z
@@ -49,13 +49,13 @@ set_other xs n le y z place j w lt =
     same_lists (set (insert xs n z) place y) (insert (set xs j y) n z)
     (length-set (insert xs n z) place y ∙ (length-insert xs n z le ∙ (ap (λ (k : ℕ). k + 1) (sym (length-set xs j y)) ∙ sym (length-insert (set xs j y) n z le'))))
     (λ k d near.
-        let near' : k < length (insert xs n z) = omega (arith, near, length-set (insert xs n z) place y) in
-        dite (ℕ_discrete k place)
-        (λ e. subst (λ (m : ℕ). get_or (set (insert xs n z) place y) m d ≡ get_or (insert (set xs j y) n z) m d) (sym e)
-            (get_or-set_same (insert xs n z) place y d (subst (λ (m : ℕ). m < length (insert xs n z)) e near')
-            ∙ sym (at_other (set xs j y) n le' z d place j w ∙ get_or-set_same xs j y d lt)))
-        (λ not. get_or-set_other (insert xs n z) place k y d not ∙ dite (ℕ_discrete k n)
-            (λ e. subst (λ (m : ℕ). get_or (insert xs n z) m d ≡ get_or (insert (set xs j y) n z) m d) (sym e)
-                (get_or-insert_at xs n z d le ∙ sym (get_or-insert_at (set xs j y) n z d le')))
-            (λ apart. (let v = its_place n k apart in
-                at_other xs n le z d k v.0 v.1 ∙ (sym (get_or-set_other xs j v.0 y d (places_apart n k place v.0 j v.1 w not)) ∙ sym (at_other (set xs j y) n le' z d k v.0 v.1))))))
+    let near' : k < length (insert xs n z) = omega (arith, near, length-set (insert xs n z) place y) in
+    dite (ℕ_discrete k place)
+    (λ e. subst (λ (m : ℕ). get_or (set (insert xs n z) place y) m d ≡ get_or (insert (set xs j y) n z) m d) (sym e)
+    (get_or-set_same (insert xs n z) place y d (subst (λ (m : ℕ). m < length (insert xs n z)) e near')
+    ∙ sym (at_other (set xs j y) n le' z d place j w ∙ get_or-set_same xs j y d lt)))
+    (λ not. get_or-set_other (insert xs n z) place k y d not ∙ dite (ℕ_discrete k n)
+    (λ e. subst (λ (m : ℕ). get_or (insert xs n z) m d ≡ get_or (insert (set xs j y) n z) m d) (sym e)
+    (get_or-insert_at xs n z d le ∙ sym (get_or-insert_at (set xs j y) n z d le')))
+    (λ apart. (let v = its_place n k apart in
+    at_other xs n le z d k v.0 v.1 ∙ (sym (get_or-set_other xs j v.0 y d (places_apart n k place v.0 j v.1 w not)) ∙ sym (at_other (set xs j y) n le' z d k v.0 v.1))))))

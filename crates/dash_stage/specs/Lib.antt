@@ -14,3 +14,4 @@ pub mod Runs
 pub mod Stages
 pub mod Sharing
 pub mod Ending
+pub mod Timeliness

@@ -146,12 +146,7 @@ fn loopers_hear(
 
 impl PostingThread {
     /// Lets another poster of the queue at this place hear the thread's.
-    fn tell(
-        &mut self,
-        queue: &SharedQueue<PoolClaim>,
-        place: usize,
-        other: &mut Poster<PoolClaim>,
-    )
+    fn tell(&mut self, queue: &SharedQueue<PoolClaim>, place: usize, other: &mut Poster<PoolClaim>)
         requires ready { AreReady place queue.now self.old.kit.posters.items }
         requires other { IsOf other.old queue.now }
         ensures kept { ThreadKeeps AreKept self.old self.new }
@@ -162,12 +157,7 @@ impl PostingThread {
     }
 
     /// Lets its poster of the queue at this place hear another one, which has seen all that it has.
-    fn hear(
-        &mut self,
-        queue: &SharedQueue<PoolClaim>,
-        place: usize,
-        other: &mut Poster<PoolClaim>,
-    )
+    fn hear(&mut self, queue: &SharedQueue<PoolClaim>, place: usize, other: &mut Poster<PoolClaim>)
         requires ready { AreReady place queue.now self.old.kit.posters.items }
         requires other { IsOf other.old queue.now }
         requires known { AreKnown place other.old.view.seen self.old.kit.posters.items }
@@ -180,12 +170,7 @@ impl PostingThread {
 
 impl StageLooper {
     /// Lets another poster of the queue at this place hear the looper's.
-    fn tell(
-        &mut self,
-        queue: &SharedQueue<PoolClaim>,
-        place: usize,
-        other: &mut Poster<PoolClaim>,
-    )
+    fn tell(&mut self, queue: &SharedQueue<PoolClaim>, place: usize, other: &mut Poster<PoolClaim>)
         requires ready { AreReady place queue.now (posters_of self.old) }
         requires within { IsWithin self.old }
         requires other { IsOf other.old queue.now }
@@ -206,12 +191,7 @@ impl StageLooper {
     }
 
     /// Lets its poster of the queue at this place hear another one, which has seen all that it has.
-    fn hear(
-        &mut self,
-        queue: &SharedQueue<PoolClaim>,
-        place: usize,
-        other: &mut Poster<PoolClaim>,
-    )
+    fn hear(&mut self, queue: &SharedQueue<PoolClaim>, place: usize, other: &mut Poster<PoolClaim>)
         requires ready { AreReady place queue.now (posters_of self.old) }
         requires within { IsWithin self.old }
         requires other { IsOf other.old queue.now }
