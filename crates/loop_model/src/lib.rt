@@ -1,5 +1,4 @@
-//! The plain data of a message queue: calls, replies and histories. What they mean stands in `specs/`. Moments are
-//! milliseconds of uptime.
+// The plain data of a message queue: calls, replies and histories. What they mean stands in `specs/`.
 #![tactic(auto)]
 
 mod base;
