@@ -11,7 +11,9 @@ pub mod LooperOver
 pub mod LooperTold
 pub mod LooperKits
 pub mod KitsOver
+pub mod LooperSeats
 pub mod ThreadGrowth
+pub mod Hearing
 pub mod ThreadCalls
 pub mod HallGets
 pub mod HallPasses

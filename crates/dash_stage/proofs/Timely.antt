@@ -26,6 +26,7 @@ use Rattle.run_model.specs.Planned.{Timed, lines_on}
 use Rattle.run_model.specs.Control.{is_advance, is_none_before, are_advances_due, is_advanced_in_time, ends_halted, Before, before, befores, befores_after, Timing, At, is_on_time, are_on_time}
 use Rattle.run_model.proofs.ControlLaws.{goes_past_none, is_advanced_in_time-snoc}
 use Rattle.run_model.proofs.RunLaws.{AreOfOthers, entries_by-append, entries_by-others, entries_by-unchanged, befores_after-append, befores-others, lines_on-append}
+use Rattle.dash_stage.specs.Timeliness.{IsAtTime}
 use Rattle.dash_stage.specs.Controllers.{time_in}
 use Rattle.dash_stage.proofs.Controls.{time_by_controller}
 
@@ -177,10 +178,6 @@ disposed_stays b es more gone =
     ap (λ t. b.disposed || t) (list_any-append (λ (e : Entry). is_disposed e.reply) es more)
     ∙ sym (or_assoc b.disposed (list_any (λ e. is_disposed e.reply) es) (list_any (λ e. is_disposed e.reply) more))
     ∙ or_left _ _ gone
-
--- the queue's time is this one, or the queue was disposed of
-abbrev pub IsAtTime : ℕ → ℕ → List Entry → Type 0
-IsAtTime senders time es = (clock (empty_base senders) es ≡ time) ⊎ (has_disposed (empty_base senders) es ≡ true)
 
 -- a call that comes at the time, or after the disposal, is on time
 on_time_now : (senders time : ℕ) (es : List Entry) → IsAtTime senders time es → is_on_time (At time) (before es) ≡ true

@@ -12,4 +12,6 @@ pub mod Staged
 pub mod Records
 pub mod Runs
 pub mod Stages
+pub mod Sharing
 pub mod Ending
+pub mod Timeliness

@@ -1,10 +1,16 @@
 //! The controller of a run.
-ghost use Rattle.std.specs.Prelude.{◌≡◌, ◌<◌, ◌≤◌, ◌+◌, true, false, IfOk, OnOk};
+ghost use Rattle.std.specs.Prelude.{◌≡◌, ◌≢◌, ◌<◌, ◌≤◌, ◌+◌, ◌⊎◌, ℕ, true, false, length, slice_index_or, sum_by, IfOk, OnOk};
 ghost use Rattle.shared_queue.specs.Known.{IsOf};
 ghost use Rattle.dash_stage.specs.Growth.{GoesOn, QuitsOf};
 ghost use Rattle.dash_stage.specs.Kits.{IsHall};
 ghost use Rattle.dash_stage.specs.Controllers.{IsController, IsMoving, HasReached, IsQuitting, IsClosing, HasClosed, CallsNone, calls_on, time_in};
+ghost use Rattle.loop_model.specs.Base.{empty_base};
+ghost use Rattle.loop_model.specs.Answers.{is_over};
 ghost use Rattle.looper_run.specs.Holding.{Sender};
+ghost use Rattle.run_model.specs.Control.{ends_halted};
+ghost use Rattle.run_model.specs.Senders.{sender_count};
+ghost use Rattle.dash_stage.specs.Sharing.{seen_by};
+ghost use Rattle.dash_stage.specs.Timeliness.{AreBy, TurnsOn, EachTurnsOn, MovesTo, MovesNot, IsNone, HaveCome, whole_on};
 
 use crate::barriers::quit;
 use crate::hall::Hall;
@@ -40,6 +46,9 @@ impl Controller {
         ensures controller { IsController script.now hall.now self.new }
         ensures moving { IsMoving script.now self.new }
         ensures reached { IfOk result (λ drained. drained ≡ true → HasReached now self.new) }
+        ensures by { (t : ℕ) → now ≤ t → AreBy t self.old → AreBy t self.new }
+        ensures turns { OnOk result (EachTurnsOn (MovesTo now) self.old self.new) }
+        ensures come { IfOk result (λ drained. drained ≡ true → HaveCome script.now now self.new) }
     {
         let mut drained = true;
         for place in 0..script.loopers {
@@ -66,6 +75,10 @@ impl Controller {
         ensures moving { IsMoving script.now self.new }
         ensures reached { IfOk result (λ drained. drained ≡ true → place ≡ 0 → HasReached now self.new) }
         ensures kept { HasReached now self.old → HasReached now self.new }
+        ensures by { (t : ℕ) → now ≤ t → AreBy t self.old → AreBy t self.new }
+        ensures here { OnOk result ((d : Sender) → TurnsOn (MovesTo now) (slice_index_or self.old.kit.posters.items place d) (slice_index_or self.new.kit.posters.items place d)) }
+        ensures elsewhere { (q : ℕ) (d : Sender) → q ≢ place → slice_index_or self.new.kit.posters.items q d ≡ slice_index_or self.old.kit.posters.items q d }
+        ensures come { IfOk result (λ drained. drained ≡ true → (d : Sender) → (now ≤ time_in (calls_on self.new place d)) ⊎ (is_over (empty_base (sender_count script.now)) (whole_on self.new place d) ≡ true)) }
     {
         match self.kit.posters[place].advance(rt, &hall.queues[place], now) {
             Advancing::Advanced => Ok(true),
@@ -76,30 +89,15 @@ impl Controller {
         }
     }
 
-    /// How many entries all histories have together, at most the greatest number of 64 bits.
-    pub(crate) fn seen<R: Wait>(&mut self, rt: &R, hall: &Hall, script: &Script) -> u64
-        requires hall { IsHall script.now hall.now }
-        requires controller { IsController script.now hall.now self.old }
-        ensures controller { IsController script.now hall.now self.new }
-        ensures none { CallsNone self.old self.new }
+    /// How many entries of all histories together it has seen.
+    pub(crate) fn entries_seen(&self) -> u128
+        ensures { result ≡ sum_by length (seen_by self.now.kit.posters.items) }
     {
-        let mut seen: u64 = 0;
-        for place in 0..script.loopers {
-            seen = seen.saturating_add(self.seen_on(rt, hall, script, place as usize));
+        let mut seen: u128 = 0;
+        for poster in self.kit.posters.as_slice() {
+            seen += u128::from(poster.seen());
         }
         seen
-    }
-
-    /// How many entries a queue's history has.
-    fn seen_on<R: Wait>(&mut self, rt: &R, hall: &Hall, script: &Script, place: usize) -> u64
-        requires hall { IsHall script.now hall.now }
-        requires controller { IsController script.now hall.now self.old }
-        requires place { place < script.now.loopers }
-        ensures controller { IsController script.now hall.now self.new }
-        ensures none { CallsNone self.old self.new }
-    {
-        self.kit.posters[place].time(rt, &hall.queues[place]);
-        self.kit.posters[place].seen()
     }
 
     /// The pulse that is asked for at a looper's choreographer, in milliseconds, rounded up.
@@ -115,6 +113,7 @@ impl Controller {
         requires looper { looper < script.now.loopers }
         ensures controller { IsController script.now hall.now self.new }
         ensures none { CallsNone self.old self.new }
+        ensures posters { self.new.kit.posters ≡ self.old.kit.posters }
     {
         let place = looper as usize;
         let stamp = hall.choreographers[place].asked(rt, &mut self.kit.frames[place])?;
@@ -136,6 +135,8 @@ impl Controller {
         requires quitting { IsQuitting script.now looper self.old }
         ensures controller { IsController script.now hall.now self.new }
         ensures quitting { OnOk result (IsQuitting script.now (looper + 1) self.new) }
+        ensures here { OnOk result ((d : Sender) → TurnsOn MovesNot (slice_index_or self.old.kit.posters.items looper d) (slice_index_or self.new.kit.posters.items looper d)) }
+        ensures elsewhere { (q : ℕ) (d : Sender) → q ≢ looper → slice_index_or self.new.kit.posters.items q d ≡ slice_index_or self.old.kit.posters.items q d }
     {
         if self.time_on(rt, hall, script, looper as usize) < script.end {
             return Ok(());
@@ -151,6 +152,8 @@ impl Controller {
         ensures controller { IsController script.now hall.now self.new }
         ensures none { CallsNone self.old self.new }
         ensures time { (d : Sender) → result ≡ time_in (calls_on self.new place d) }
+        ensures here { (d : Sender) → TurnsOn IsNone (slice_index_or self.old.kit.posters.items place d) (slice_index_or self.new.kit.posters.items place d) }
+        ensures elsewhere { (q : ℕ) (d : Sender) → q ≢ place → slice_index_or self.new.kit.posters.items q d ≡ slice_index_or self.old.kit.posters.items q d }
     {
         self.kit.posters[place].time(rt, &hall.queues[place])
     }
@@ -171,6 +174,8 @@ impl Controller {
         requires time { (d : Sender) → script.now.end ≤ time_in (calls_on self.old place d) }
         ensures controller { IsController script.now hall.now self.new }
         ensures quitting { OnOk result (IsQuitting script.now (place + 1) self.new) }
+        ensures here { OnOk result ((d : Sender) → TurnsOn MovesNot (slice_index_or self.old.kit.posters.items place d) (slice_index_or self.new.kit.posters.items place d)) }
+        ensures elsewhere { (q : ℕ) (d : Sender) → q ≢ place → slice_index_or self.new.kit.posters.items q d ≡ slice_index_or self.old.kit.posters.items q d }
     {
         quit_by(
             rt,
@@ -191,6 +196,8 @@ impl Controller {
         ensures controller { IsController script.now hall.now self.new }
         ensures closing { result ≡ false → IsClosing script.now self.new }
         ensures closed { result ≡ true → HasClosed script.now self.new }
+        ensures turns { EachTurnsOn MovesNot self.old self.new }
+        ensures halted { result ≡ true → (d : Sender) → ends_halted (whole_on self.new 0 d) ≡ true }
     {
         match self.kit.posters[0].halt(rt, &hall.queues[0], script.end) {
             Halting::Halted => true,

@@ -3,8 +3,9 @@ ghost use Rattle.std.specs.Prelude.{◌≡◌, ◌<◌, ◌+◌, IfOk, OnOk, map
 ghost use Rattle.std.specs.List.{AllByRecursion};
 ghost use Rattle.dash_script.specs.Reading.{HasText};
 ghost use Rattle.run_model.specs.Moments.{in_lockstep};
-ghost use Rattle.run_model.specs.Run.{IsAsPlanned, IsControlled, IsFrameRun, EachLooper};
+ghost use Rattle.run_model.specs.Run.{IsAsPlanned, IsControlled, IsFrameRun, EachLooper, IsTimely, main_ends_halted};
 ghost use Rattle.dash_stage.specs.Controllers.{HasClosed};
+ghost use Rattle.dash_stage.specs.Timeliness.{AreTimelyUpTo, HasHaltedLast};
 ghost use Rattle.dash_stage.specs.Kits.{IsHall, AreKitsOf, OthersAreOver};
 ghost use Rattle.dash_stage.specs.Records.{AreQueueRecords, AreFrameRecords, AreJournals};
 ghost use Rattle.dash_stage.specs.Loopers.{HaveTold};
@@ -34,6 +35,8 @@ pub(crate) fn report(alloc: Global, script: Script, stage: Stage) -> Ran
     requires closed { HasClosed script stage.controller }
     requires ended { OthersHaveEnded stage.loopers.items }
     requires on { LoopersGoOn stage.loopers.items }
+    requires timely { AreTimelyUpTo script script.blocks stage }
+    requires halted { HasHaltedLast script stage }
     ensures { Stages script result }
 {
     match kept(alloc, &script, stage) {
@@ -61,8 +64,12 @@ fn kept(
     requires closed { HasClosed script.now stage.controller }
     requires ended { OthersHaveEnded stage.loopers.items }
     requires on { LoopersGoOn stage.loopers.items }
+    requires timely { AreTimelyUpTo script.now script.now.blocks stage }
+    requires halted { HasHaltedLast script.now stage }
     ensures queues { IfOk result (λ r. AreQueueRecords script.now r.0.items) }
     ensures planned { IfOk result (λ r. AllByRecursion (IsAsPlanned in_lockstep script.now) r.0.items) }
+    ensures halted { IfOk result (λ r. main_ends_halted r.0.items ≡ true) }
+    ensures timely { IfOk result (λ r. AllByRecursion (IsTimely script.now) r.0.items) }
     ensures dispatches { IfOk result (λ r. EachLooper (IsDispatched script.now) r.0.items r.1.items r.2.items) }
     ensures controls { IfOk result (λ r. AllByRecursion (IsControlled script.now) r.0.items) }
     ensures journals { IfOk result (λ r. AreJournals script.now r.1.items) }

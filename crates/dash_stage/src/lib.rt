@@ -16,6 +16,7 @@ mod planned;
 mod player;
 mod records;
 mod run;
+mod share;
 mod side;
 mod stage;
 mod thread;

@@ -3,6 +3,7 @@ ghost use Rattle.std.specs.Prelude.{◌≡◌, ◌+◌, ◌<◌, true, false, If
 ghost use Rattle.looper_run.specs.Round.{is_ended};
 ghost use Rattle.dash_stage.specs.Kits.{IsHall, IsKitOf, HasSeenOver};
 ghost use Rattle.dash_stage.specs.Runs.{IsUnusedKit};
+ghost use Rattle.dash_stage.specs.Timeliness.{ComesToWait};
 ghost use Rattle.dash_stage.specs.Loopers.{IsLooper, HasRun, HasTold, is_given_up, until_of};
 
 use crate::hall::Hall;
@@ -116,6 +117,7 @@ impl StageLooper {
         ensures looper { IsLooper script.now hall.now self.new }
         ensures number { self.new.number ≡ self.old.number }
         ensures round { HasRun script.now now self.old self.new }
+        ensures waits { ComesToWait script.now self.old self.new }
     {
         if self.has_ended() || self.gave_up() {
             return;

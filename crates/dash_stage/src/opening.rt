@@ -1,6 +1,7 @@
 //! A stage before the first event.
 ghost use Rattle.std.specs.Prelude.{◌≡◌, ◌<◌, ◌+◌, [], IfOk, OnOk, length};
 ghost use Rattle.dash_stage.specs.Controllers.{IsMoving};
+ghost use Rattle.dash_stage.specs.Timeliness.{AreBy, AreTimelyUpTo, AreRested};
 ghost use Rattle.dash_stage.specs.Kits.{IsHall};
 ghost use Rattle.dash_stage.specs.Runs.{AreUnusedKits};
 ghost use Rattle.dash_stage.specs.Stages.{IsStage, IsPlayable, HaveRun, AreKitsFrom, AreThreads, AreLoopers};
@@ -21,6 +22,9 @@ pub(crate) fn set_up(alloc: Global, script: &Script) -> Result<Stage, NoMemory>
     ensures stage { IfOk result (λ st. IsStage script.now st) }
     ensures begun { IfOk result (λ st. HaveRun script.now [] st.threads.items) }
     ensures moving { IfOk result (λ st. IsMoving script.now st.controller) }
+    ensures by { IfOk result (λ st. AreBy st.time st.controller × (st.time ≡ 0)) }
+    ensures timely { IfOk result (λ st. AreTimelyUpTo script.now [] st) }
+    ensures rested { IfOk result (λ st. AreRested script.now st) }
 {
     let (hall, mut kits, pass) = open(alloc, script)?;
     let threads = threads(alloc, script, &hall, &mut kits)?;

@@ -1,11 +1,14 @@
 //! Senders that work side by side, each on a thread of its own.
-ghost use Rattle.std.specs.Prelude.{◌≡◌, ◌<◌, true, false, OnOk, length, slice_index_or};
+ghost use Rattle.std.specs.Prelude.{◌≡◌, ◌<◌, ℕ, true, false, OnOk, length, slice_index_or};
 ghost use Rattle.std.specs.Thread.{IsSync};
 ghost use Rattle.dash_script.specs.Reading.{HasText};
 ghost use Rattle.looper_run.specs.Round.{is_ended};
 ghost use Rattle.dash_stage.specs.Kits.{IsHall};
 ghost use Rattle.dash_stage.specs.Threads.{IsThread, Continues};
 ghost use Rattle.dash_stage.specs.Loopers.{IsLooper};
+ghost use Rattle.dash_stage.specs.declared.side.Turn.TheVariants.{All};
+ghost use Rattle.dash_stage.specs.declared.looper.StageLooper.{StageLooper};
+ghost use Rattle.dash_stage.specs.Timeliness.{ComesToWait};
 ghost use Rattle.dash_stage.specs.Stages.{AreThreads, AreLoopers, RunOn, GoOn, OthersHaveEnded, LoopersGoOn};
 
 use crate::hall::Hall;
@@ -27,7 +30,9 @@ pub(crate) enum Turn {
 }
 
 impl Turn {
-    fn has(self, looper: u32) -> bool {
+    fn has(self, looper: u32) -> bool
+        ensures { self ≡ All → result ≡ true }
+    {
         match self {
             Turn::All => true,
             Turn::Main => looper == 0,
@@ -96,6 +101,7 @@ pub(crate) fn run_loopers<R: Threads + Wait + Sync, G: Gate + Sync>(
     ensures loopers { AreLoopers script.now hall.now loopers.new }
     ensures ended { OthersHaveEnded loopers.old → OthersHaveEnded loopers.new }
     ensures on { OnOk result (LoopersGoOn loopers.new) }
+    ensures waits { turn ≡ All → (k : ℕ) (d : StageLooper) → k < length loopers.old → ComesToWait script.now (slice_index_or loopers.old k d) (slice_index_or loopers.new k d) }
 {
     let count = loopers.len().max(1);
     for_each_mut(
@@ -104,7 +110,7 @@ pub(crate) fn run_loopers<R: Threads + Wait + Sync, G: Gate + Sync>(
         count,
         &|_, looper: &mut StageLooper|
             requires { IsSync R.row × IsSync G.row × IsHall script.now hall.now × IsLooper script.now hall.now looper.old }
-            ensures { IsLooper script.entry.now hall.entry.now looper.new × (looper.new.number ≡ looper.old.number) × (is_ended looper.old.last ≡ true → is_ended looper.new.last ≡ true) }
+            ensures { IsLooper script.entry.now hall.entry.now looper.new × (looper.new.number ≡ looper.old.number) × (is_ended looper.old.last ≡ true → is_ended looper.new.last ≡ true) × (turn ≡ All → ComesToWait script.entry.now looper.old looper.new) }
         {
             if turn.has(looper.number) {
                 looper.run_round(rt, alloc, hall, script, gate, now)

@@ -1,5 +1,13 @@
 //! The event times of a run, and what comes at each.
-ghost use Rattle.std.specs.Prelude.{◌≡◌, ◌<◌, ◌≤◌, true, [], OnOk};
+ghost use Rattle.std.specs.Prelude.{◌≡◌, ◌<◌, ◌≤◌, ◌++◌, ◌∷◌, ℕ, max, true, false, List, [], slice_index_or, IfOk, OnOk};
+ghost use mathlib.Core.List.{IsPrefix};
+ghost use Rattle.dash_script.specs.declared.script.Block.{Block as BlockData};
+ghost use Rattle.looper_run.specs.Round.{is_ended};
+ghost use Rattle.dash_stage.specs.declared.looper.StageLooper.{StageLooper};
+ghost use Rattle.dash_stage.specs.declared.side.Turn.TheVariants.{All};
+ghost use Rattle.dash_stage.specs.Loopers.{until_of};
+ghost use Rattle.dash_stage.specs.Sharing.{HaveSeenTheSame, AtEach, seen_by};
+ghost use Rattle.dash_stage.specs.Timeliness.{AreTimelyUpTo, AreAtTime, AreBy, AreRested, AreDue, NotLater, HasHaltedLast};
 ghost use Rattle.dash_script.specs.Reading.{HasText};
 ghost use Rattle.dash_stage.specs.Kits.{IsHall};
 ghost use Rattle.dash_stage.specs.Controllers.{IsMoving, HasReached, IsClosing, HasClosed, CallsNone};
@@ -45,11 +53,17 @@ impl Stage {
         requires stage { IsStage script.now self.old }
         requires begun { HaveRun script.now [] self.old.threads.items }
         requires moving { IsMoving script.now self.old.controller }
+        requires by { AreBy self.old.time self.old.controller }
+        requires begun_timely { AreTimelyUpTo script.now [] self.old }
+        requires rested { AreRested script.now self.old }
+        requires zero { self.old.time ≡ 0 }
         ensures stage { IsStage script.now self.new }
         ensures run { OnOk result (HaveRun script.now script.now.blocks self.new.threads.items) }
         ensures closed { OnOk result (HasClosed script.now self.new.controller) }
         ensures ended { OnOk result (OthersHaveEnded self.new.loopers.items) }
         ensures on { OnOk result (LoopersGoOn self.new.loopers.items) }
+        ensures timely { OnOk result (AreTimelyUpTo script.now script.now.blocks self.new) }
+        ensures halted { OnOk result (HasHaltedLast script.now self.new) }
     {
         for block in script.blocks.as_slice() {
             self.go_to(rt, alloc, script, gate, block.time)?;
@@ -75,19 +89,29 @@ impl Stage {
         requires some { 0 < script.now.loopers }
         requires end { time ≤ script.now.end }
         requires moving { IsMoving script.now self.old.controller }
+        requires by { AreBy self.old.time self.old.controller }
+        requires later { self.old.time ≤ time }
         ensures stage { IsStage script.now self.new }
-        ensures threads { self.new.threads.items ≡ self.old.threads.items }
+        ensures run { (past : List BlockData) → HaveRun script.now past self.old.threads.items → HaveRun script.now past self.new.threads.items }
         ensures moving { IsMoving script.now self.new.controller }
         ensures reached { OnOk result (HasReached time self.new.controller) }
+        ensures by { AreBy self.new.time self.new.controller }
+        ensures time { OnOk result (self.new.time ≡ time) }
+        ensures timely { (past : List BlockData) → AreTimelyUpTo script.now past self.old → AreRested script.now self.old → OnOk result (AreTimelyUpTo script.now past self.new) }
+        ensures at { OnOk result (AreAtTime script.now time self.new) }
     {
         for _ in rt.forever() {
             match self.next_due(rt, script) {
                 Some(due) if due < time => {
-                    self.advance(rt, alloc, script, gate, due)?;
-                    self.run_rounds(rt, alloc, script, gate, Turn::All)?;
+                    self.advance(rt, script, due)?;
                 }
-                _ => return self.advance(rt, alloc, script, gate, time),
+                _ => {
+                    if self.advance(rt, script, time)? {
+                        return Ok(());
+                    }
+                }
             }
+            self.run_rounds(rt, alloc, script, gate, Turn::All)?;
         }
         unreachable!()
     }
@@ -98,6 +122,10 @@ impl Stage {
         ensures stage { IsStage script.now self.new }
         ensures threads { self.new.threads.items ≡ self.old.threads.items }
         ensures none { CallsNone self.old.controller self.new.controller }
+        ensures posters { self.new.controller.kit.posters ≡ self.old.controller.kit.posters }
+        ensures loopers { self.new.loopers ≡ self.old.loopers }
+        ensures time { self.new.time ≡ self.old.time }
+        ensures due { (t : ℕ) → AreRested script.now self.old → NotLater t result → AreDue script.now t self.new }
     {
         let mut next = None;
         for looper in 0..script.loopers {
@@ -113,6 +141,10 @@ impl Stage {
         ensures stage { IsStage script.now self.new }
         ensures threads { self.new.threads.items ≡ self.old.threads.items }
         ensures none { CallsNone self.old.controller self.new.controller }
+        ensures posters { self.new.controller.kit.posters ≡ self.old.controller.kit.posters }
+        ensures loopers { self.new.loopers ≡ self.old.loopers }
+        ensures time { self.new.time ≡ self.old.time }
+        ensures due { (t : ℕ) (l : StageLooper) → NotLater t result → is_ended (slice_index_or self.old.loopers.items looper l).last ≡ false → NotLater t (until_of (slice_index_or self.old.loopers.items looper l).last) }
     {
         if self.loopers[looper as usize].has_ended() {
             return None;
@@ -121,32 +153,26 @@ impl Stage {
         earlier(until, self.controller.asked(rt, &self.hall, script, looper))
     }
 
-    /// The controller moves the time on. Where a message is due, the loopers run first.
-    fn advance<R: Threads + Wait + Sync, G: Gate + Sync>(
-        &mut self,
-        rt: &R,
-        alloc: Global,
-        script: &Script,
-        gate: &G,
-        time: u64,
-    ) -> Result<(), NoMemory>
+    /// The controller moves the time on, and all hear of it. Answers false where a message is due on a queue.
+    fn advance<R: Wait>(&mut self, rt: &R, script: &Script, time: u64) -> Result<bool, NoMemory>
         requires stage { IsStage script.now self.old }
         requires some { 0 < script.now.loopers }
         requires end { time ≤ script.now.end }
         requires moving { IsMoving script.now self.old.controller }
+        requires by { AreBy self.old.time self.old.controller }
         ensures stage { IsStage script.now self.new }
-        ensures threads { self.new.threads.items ≡ self.old.threads.items }
         ensures moving { IsMoving script.now self.new.controller }
-        ensures reached { OnOk result (HasReached time self.new.controller) }
+        ensures reached { IfOk result (λ moved. moved ≡ true → HasReached time self.new.controller) }
+        ensures run { (past : List BlockData) → HaveRun script.now past self.old.threads.items → HaveRun script.now past self.new.threads.items }
+        ensures by { AreBy self.new.time self.new.controller }
+        ensures time { self.new.time ≡ max self.old.time time }
+        ensures timely { (past : List BlockData) → AreTimelyUpTo script.now past self.old → AreDue script.now time self.old → OnOk result (AreTimelyUpTo script.now past self.new) }
+        ensures at { IfOk result (λ moved. moved ≡ true → self.old.time ≤ time → AreAtTime script.now time self.new) }
     {
-        for _ in rt.forever() {
-            if self.controller.advance(rt, &self.hall, script, time)? {
-                self.time = time;
-                return Ok(());
-            }
-            self.run_round(rt, alloc, script, gate, Turn::All)?;
-        }
-        unreachable!()
+        let moved = self.controller.advance(rt, &self.hall, script, time)?;
+        self.time = self.time.max(time);
+        self.share(script);
+        Ok(moved)
     }
 
     /// The threads run their commands of a block, side by side.
@@ -162,7 +188,9 @@ impl Stage {
         requires stage { IsStage script.now self.old }
         ensures stage { IsStage script.now self.new }
         ensures run { OnOk result (RunOn script.now block.now self.old.threads.items self.new.threads.items) }
-        ensures controller { self.new.controller ≡ self.old.controller }
+        ensures none { CallsNone self.old.controller self.new.controller }
+        ensures time { self.new.time ≡ self.old.time }
+        ensures timely { (past rest : List BlockData) → past ++ block.now ∷ rest ≡ script.now.blocks → HaveRun script.now past self.old.threads.items → AreAtTime script.now block.now.time self.old → AreTimelyUpTo script.now past self.old → OnOk result (AreTimelyUpTo script.now (past ++ block.now ∷ []) self.new) }
     {
         run_threads(
             rt,
@@ -172,7 +200,9 @@ impl Stage {
             gate,
             block,
             self.threads.as_mut_slice(),
-        )
+        )?;
+        self.share(script);
+        Ok(())
     }
 
     /// Rounds of these loopers, up to the first in which no history grows.
@@ -186,15 +216,19 @@ impl Stage {
     ) -> Result<(), NoMemory>
         requires stage { IsStage script.now self.old }
         ensures stage { IsStage script.now self.new }
-        ensures threads { self.new.threads.items ≡ self.old.threads.items }
+        ensures run { (past : List BlockData) → HaveRun script.now past self.old.threads.items → HaveRun script.now past self.new.threads.items }
         ensures none { CallsNone self.old.controller self.new.controller }
         ensures ended { OthersHaveEnded self.old.loopers.items → OthersHaveEnded self.new.loopers.items }
         ensures on { OnOk result (LoopersGoOn self.new.loopers.items) }
+        ensures time { self.new.time ≡ self.old.time }
+        ensures timely { (past : List BlockData) → AreTimelyUpTo script.now past self.old → OnOk result (AreTimelyUpTo script.now past self.new) }
+        ensures same { OnOk result (HaveSeenTheSame self.new) }
+        ensures rested { turn ≡ All → HaveSeenTheSame self.old → OnOk result (AreRested script.now self.new) }
     {
         for _ in rt.forever() {
-            let before = self.controller.seen(rt, &self.hall, script);
+            let before = self.controller.entries_seen();
             self.run_round(rt, alloc, script, gate, turn)?;
-            if self.controller.seen(rt, &self.hall, script) == before {
+            if self.controller.entries_seen() == before {
                 return Ok(());
             }
         }
@@ -212,10 +246,15 @@ impl Stage {
     ) -> Result<(), NoMemory>
         requires stage { IsStage script.now self.old }
         ensures stage { IsStage script.now self.new }
-        ensures threads { self.new.threads.items ≡ self.old.threads.items }
-        ensures controller { self.new.controller ≡ self.old.controller }
+        ensures run { (past : List BlockData) → HaveRun script.now past self.old.threads.items → HaveRun script.now past self.new.threads.items }
+        ensures none { CallsNone self.old.controller self.new.controller }
         ensures ended { OthersHaveEnded self.old.loopers.items → OthersHaveEnded self.new.loopers.items }
         ensures on { OnOk result (LoopersGoOn self.new.loopers.items) }
+        ensures time { self.new.time ≡ self.old.time }
+        ensures timely { (past : List BlockData) → AreTimelyUpTo script.now past self.old → OnOk result (AreTimelyUpTo script.now past self.new) }
+        ensures same { OnOk result (HaveSeenTheSame self.new) }
+        ensures grown { OnOk result (AtEach IsPrefix (seen_by self.old.controller.kit.posters.items) (seen_by self.new.controller.kit.posters.items)) }
+        ensures rested { turn ≡ All → HaveSeenTheSame self.old → OnOk result (seen_by self.new.controller.kit.posters.items ≡ seen_by self.old.controller.kit.posters.items → AreRested script.now self.new) }
     {
         run_loopers(
             rt,
@@ -226,7 +265,9 @@ impl Stage {
             self.time,
             turn,
             self.loopers.as_mut_slice(),
-        )
+        )?;
+        self.share(script);
+        Ok(())
     }
 
     /// The controller quits safely each looper but the main one that has not ended, and these run until their queues are
@@ -243,10 +284,12 @@ impl Stage {
         requires moving { IsMoving script.now self.old.controller }
         requires reached { HasReached script.now.end self.old.controller }
         ensures stage { IsStage script.now self.new }
-        ensures threads { self.new.threads.items ≡ self.old.threads.items }
+        ensures run { (past : List BlockData) → HaveRun script.now past self.old.threads.items → HaveRun script.now past self.new.threads.items }
         ensures closed { OnOk result (HasClosed script.now self.new.controller) }
         ensures ended { OnOk result (OthersHaveEnded self.new.loopers.items) }
         ensures on { OnOk result (LoopersGoOn self.new.loopers.items) }
+        ensures timely { (past : List BlockData) → AreTimelyUpTo script.now past self.old → OnOk result (AreTimelyUpTo script.now past self.new) }
+        ensures halted { OnOk result (HasHaltedLast script.now self.new) }
     {
         self.quit_others(rt, script)?;
         for _ in rt.forever() {
@@ -257,7 +300,9 @@ impl Stage {
         }
         for _ in rt.forever() {
             self.run_rounds(rt, alloc, script, gate, Turn::Main)?;
-            if self.controller.halt(rt, &self.hall, script) {
+            let halted = self.controller.halt(rt, &self.hall, script);
+            self.share(script);
+            if halted {
                 return Ok(());
             }
         }
@@ -270,14 +315,17 @@ impl Stage {
         requires moving { IsMoving script.now self.old.controller }
         requires reached { HasReached script.now.end self.old.controller }
         ensures stage { IsStage script.now self.new }
-        ensures threads { self.new.threads.items ≡ self.old.threads.items }
+        ensures run { (past : List BlockData) → HaveRun script.now past self.old.threads.items → HaveRun script.now past self.new.threads.items }
         ensures closing { OnOk result (IsClosing script.now self.new.controller) }
+        ensures timely { (past : List BlockData) → AreTimelyUpTo script.now past self.old → OnOk result (AreTimelyUpTo script.now past self.new) }
+        ensures same { OnOk result (HaveSeenTheSame self.new) }
     {
         for looper in 1..script.loopers {
             if !self.loopers[looper as usize].has_ended() {
                 self.controller.quit(rt, &self.hall, script, looper)?;
             }
         }
+        self.share(script);
         Ok(())
     }
 

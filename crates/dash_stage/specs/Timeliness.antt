@@ -1,0 +1,113 @@
+-- How timely a run is so far, told by what all senders have seen of each queue.
+use Rattle.std.specs.Prelude.{◌≡◌, ◌<◌, ◌≤◌, ◌⊎◌, ◌++◌, ℕ, Bool, true, false, List, [], ◌∷◌, map, length, slice_index_or, Option, Some, None}
+use Rattle.std.specs.Option.{option_map}
+use mathlib.Core.List.{IsPrefix}
+use Rattle.loop_model.specs.declared.entry.Entry.{Entry}
+use Rattle.loop_model.specs.declared.call.Call.TheVariants.{Advance}
+use Rattle.loop_model.specs.Base.{empty_base}
+use Rattle.loop_model.specs.Items.{when_of}
+use Rattle.loop_model.specs.Pick.{first_eligible}
+use Rattle.loop_model.specs.Answers.{clock, has_disposed, is_over}
+use Rattle.loop_model.specs.Legal.{IsLegal, AreNumbered}
+use Rattle.dash_script.specs.declared.script.Block.{Block}
+use Rattle.dash_script.specs.declared.script.Script.{Script}
+use Rattle.looper_run.specs.Holding.{Sender}
+use Rattle.looper_run.specs.Round.{is_ended}
+use Rattle.run_model.specs.Asks.{entries_by}
+use Rattle.run_model.specs.Planned.{lines_of, labels_on, lines_on}
+use Rattle.run_model.specs.Senders.{sender_count}
+use Rattle.run_model.specs.Control.{is_advance, is_advanced_in_time, is_none_before, befores, At, are_on_time, ends_halted}
+use Rattle.dash_stage.specs.declared.looper.StageLooper.{StageLooper}
+use Rattle.dash_stage.specs.declared.control.Controller.{Controller}
+use Rattle.dash_stage.specs.declared.stage.Stage.{Stage}
+use Rattle.dash_stage.specs.Growth.{own}
+use Rattle.dash_stage.specs.Controllers.{are_advances, time_in, calls_on}
+use Rattle.dash_stage.specs.Loopers.{setting_for, is_given_up, until_of}
+use Rattle.dash_stage.specs.Sharing.{HaveSeenTheSame}
+
+-- what the controller has seen of this queue, and all others where they have seen the same
+abbrev pub whole_on : Controller → ℕ → Sender → List Entry
+whole_on c q d = (slice_index_or c.kit.posters.items q d).view.seen
+
+-- the history is one that this looper's queue may have
+pub record IsSoundOn (s : Script) (q : ℕ) (es : List Entry) : Type 0 where
+  pub legal : IsLegal (setting_for s q) (empty_base (sender_count s)) es
+  pub numbered : AreNumbered (setting_for s q) (empty_base (sender_count s)) es
+
+-- no Advance went past an eligible message, and each thread's calls for its lines of these blocks came at their times
+pub record IsTimelyUpTo (s : Script) (past : List Block) (q : ℕ) (es : List Entry) : Type 0 where
+  pub advances : is_advanced_in_time es ≡ true
+  pub threads : (thread : ℕ) → thread < s.threads → are_on_time (map (λ l. At l.time) (lines_on s (labels_on q (lines_of thread s.blocks)) q (lines_of thread past))) (befores thread es) ≡ true
+
+-- all senders have seen the same, and so it is on each queue
+pub record AreTimelyUpTo (s : Script) (past : List Block) (st : Stage) : Type 0 where
+  pub same : HaveSeenTheSame st
+  pub timely : (q : ℕ) (d : Sender) → q < length st.controller.kit.posters.items → IsSoundOn s q (whole_on st.controller q d) → IsTimelyUpTo s past q (whole_on st.controller q d)
+
+-- the queue's time is this one, or the queue was disposed of
+abbrev pub IsAtTime : ℕ → ℕ → List Entry → Type 0
+IsAtTime senders time es = (clock (empty_base senders) es ≡ time) ⊎ (has_disposed (empty_base senders) es ≡ true)
+
+abbrev pub AreAtTime : Script → ℕ → Stage → Type 0
+AreAtTime s time st = (q : ℕ) (d : Sender) → q < length st.controller.kit.posters.items → IsSoundOn s q (whole_on st.controller q d) → IsAtTime (sender_count s) time (whole_on st.controller q d)
+
+-- the controller has moved no queue past this time
+abbrev pub AreBy : ℕ → Controller → Type 0
+AreBy time c = (q : ℕ) (d : Sender) → q < length c.kit.posters.items → are_advances time (calls_on c q d) ≡ true
+
+-- a looper that has not ended waits for the first message that no barrier holds back, and one that has ended has seen its queue over
+pub record IsRested (s : Script) (l : StageLooper) (es : List Entry) : Type 0 where
+  pub waits : is_ended l.last ≡ false → until_of l.last ≡ option_map when_of (first_eligible (empty_base (sender_count s)) es)
+  pub ended : is_ended l.last ≡ true → is_over (empty_base (sender_count s)) es ≡ true
+
+abbrev pub AreRested : Script → Stage → Type 0
+AreRested s st = (q : ℕ) (l : StageLooper) (d : Sender) → q < length st.loopers.items → IsRested s (slice_index_or st.loopers.items q l) (whole_on st.controller q d)
+
+-- on each queue there is no eligible message before this time, or the queue is over
+abbrev pub AreDue : Script → ℕ → Stage → Type 0
+AreDue s time st = (q : ℕ) (d : Sender) → q < length st.loopers.items
+    → (is_over (empty_base (sender_count s)) (whole_on st.controller q d) ≡ true) ⊎ (is_none_before time (first_eligible (empty_base (sender_count s)) (whole_on st.controller q d)) ≡ true)
+
+-- the time is not later than this one, where there is one
+abbrev pub NotLater : ℕ → Option ℕ → Type 0
+NotLater time None = Unit {0}
+NotLater time (Some due) = time ≤ due
+
+-- by some turns a poster found a history, and left it as it was or made one entry more, which is such
+pub record TurnsOn (P : Entry → Type 0) (before after : Sender) : Type 0 where
+  pub found : List Entry
+  pub begins : IsPrefix before.view.seen found
+  pub made : entries_by before.sender found ≡ own before
+  pub sender : after.sender ≡ before.sender
+  pub step : (after.view.seen ≡ found) ⊎ ((e : Entry) × (after.view.seen ≡ found ++ e ∷ []) × P e × (e.sender ≡ before.sender))
+
+-- so it is with each of the controller's posters
+pub record EachTurnsOn (P : Entry → Type 0) (before after : Controller) : Type 0 where
+  pub long : length after.kit.posters.items ≡ length before.kit.posters.items
+  pub each : (q : ℕ) (d : Sender) → q < length before.kit.posters.items → TurnsOn P (slice_index_or before.kit.posters.items q d) (slice_index_or after.kit.posters.items q d)
+
+-- the entry moves the time to this moment
+abbrev pub MovesTo : ℕ → Entry → Type 0
+MovesTo now e = e.call ≡ Advance now
+
+-- the entry doesn't move the time
+abbrev pub MovesNot : Entry → Type 0
+MovesNot e = is_advance e.call ≡ false
+
+-- there is no such entry
+abbrev pub IsNone : Entry → Type 0
+IsNone e = ⊥
+
+-- each queue's time has come to this one, or the queue is over
+abbrev pub HaveCome : Script → ℕ → Controller → Type 0
+HaveCome s now c = (q : ℕ) (d : Sender) → q < length c.kit.posters.items → (now ≤ time_in (calls_on c q d)) ⊎ (is_over (empty_base (sender_count s)) (whole_on c q d) ≡ true)
+
+-- unless it ended or gave up, the looper has come to wait for the first message that no barrier holds back of all that it has seen
+abbrev pub ComesToWait : Script → StageLooper → StageLooper → Type 0
+ComesToWait s before after = is_ended after.last ≡ false → is_given_up after.last ≡ false
+    → IsPrefix before.looper.held.poster.view.seen after.looper.held.poster.view.seen
+    × (until_of after.last ≡ option_map when_of (first_eligible (empty_base (sender_count s)) after.looper.held.poster.view.seen))
+
+-- main's history ends with its halt
+abbrev pub HasHaltedLast : Script → Stage → Type 0
+HasHaltedLast s st = (d : Sender) → 0 < length st.controller.kit.posters.items → IsSoundOn s 0 (whole_on st.controller 0 d) → ends_halted (whole_on st.controller 0 d) ≡ true
