@@ -7,6 +7,10 @@ pub mod LooperLent
 pub mod LooperOver
 pub mod LooperKits
 pub mod LooperSeats
+pub mod Sharing
+pub mod ThreadShares
+pub mod LooperShares
+pub mod StageShares
 pub mod ThreadGrowth
 pub mod Hearing
 pub mod ThreadCalls

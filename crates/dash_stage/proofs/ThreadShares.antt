@@ -1,0 +1,56 @@
+-- A thread whose posters hear others.
+use Rattle.std.proofs.Common.{◌≡◌, ℕ, ◌+◌, ◌<◌, ◌≤◌, List, map, length, get_or, refl, sym, ap, ◌∙◌, subst, arith}
+use mathlib.Core.List.{IsPrefix}
+use Rattle.loop_model.specs.declared.entry.Entry.{Entry}
+use Rattle.shared_queue.specs.Known.{Shared, IsOf}
+use Rattle.looper_run.specs.Holding.{Sender}
+use Rattle.dash_stage.specs.declared.thread.PostingThread.{PostingThread}
+use Rattle.dash_stage.specs.Sharing.{HasHeard, HaveHeard, HaveHeardAt, AtEach, AreKept, AreReady, AreKnown, ThreadKeeps, OfThreads}
+use Rattle.dash_stage.proofs.Hearing.{known_more}
+use Rattle.dash_stage.proofs.Sharing.{FirstAre, next_is, next_within, each_then}
+
+-- a thread that is kept, and whose poster at this place is known
+pub record ThreadTells (place : ℕ) (whole : List Entry) (before after : PostingThread) : Type 0 where
+  pub kept : ThreadKeeps AreKept before after
+  pub told : AreKnown place whole before.kit.posters.items
+
+-- more is known
+pub thread_tells_more : (place : ℕ) (xs ys : List Entry) → IsPrefix xs ys → (a b : PostingThread) → ThreadTells place xs a b → ThreadTells place ys a b
+thread_tells_more place xs ys p a b t = record { kept = t.kept; told = known_more a.kit.posters.items place xs ys p t.told }
+
+-- what holds of the next thread's posters, where the loop reads it
+pub of_next : (P : List Sender → Type 0) (R : PostingThread → PostingThread → Type 0) (xs ys : List PostingThread) (k : ℕ) (x : PostingThread) → OfThreads P xs → FirstAre R k xs ys → k < length ys → x ≡ get_or ys k x → P x.kit.posters.items
+of_next P R xs ys k x of f lt is =
+    subst (λ (t : PostingThread). P t.kit.posters.items) (sym (next_is R xs ys k x f is)) (of k x (next_within R xs ys k f lt))
+
+pub thread_then : (R S T : List Sender → List Sender → Type 0) → ((a b c : List Sender) → R a b → S b c → T a c) → (x y z : PostingThread) → ThreadKeeps R x y → ThreadKeeps S y z → ThreadKeeps T x z
+thread_then R S T h x y z f g = record {
+  number = g.number ∙ f.number;
+  posters = h x.kit.posters.items y.kit.posters.items z.kit.posters.items f.posters g.posters;
+  pass = g.pass ∙ f.pass;
+  frames = g.frames ∙ f.frames;
+  barriers = g.barriers ∙ f.barriers;
+  passed = g.passed ∙ f.passed;
+  gave_up = g.gave_up ∙ f.gave_up;
+}
+
+pub thread_self : (R : List Sender → List Sender → Type 0) → ((a : List Sender) → R a a) → (x : PostingThread) → ThreadKeeps R x x
+thread_self R h x = record { number = refl; posters = h x.kit.posters.items; pass = refl; frames = refl; barriers = refl; passed = refl; gave_up = refl }
+
+pub thread_weaker : (R S : List Sender → List Sender → Type 0) → ((a b : List Sender) → R a b → S a b) → (x y : PostingThread) → ThreadKeeps R x y → ThreadKeeps S x y
+thread_weaker R S h x y f = record {
+  number = f.number;
+  posters = h x.kit.posters.items y.kit.posters.items f.posters;
+  pass = f.pass;
+  frames = f.frames;
+  barriers = f.barriers;
+  passed = f.passed;
+  gave_up = f.gave_up;
+}
+
+-- what holds of the threads' posters before holds of them after
+pub of_threads_then : (P Q : List Sender → Type 0) (R : List Sender → List Sender → Type 0) → ((a b : List Sender) → R a b → P a → Q b) → (xs ys : List PostingThread) → AtEach (ThreadKeeps R) xs ys → OfThreads P xs → OfThreads Q ys
+of_threads_then P Q R h xs ys e of = λ k d lt.
+    let long = e.long in
+    let within : k < length xs = omega (arith, lt) in
+    h (get_or xs k d).kit.posters.items (get_or ys k d).kit.posters.items (e.each k d within).posters (of k d within)
