@@ -7,7 +7,7 @@ use Rattle.looper_run.specs.Holding.{Sender}
 use Rattle.dash_stage.specs.declared.looper.StageLooper.{StageLooper}
 use Rattle.dash_stage.specs.Sharing.{HasHeard, HaveHeard, HaveHeardAt, AtEach, AreKept, AreReady, AreKnown, LooperKeeps, OfLoopers, posters_of, others_in, rest_in, IsWithin, AreWithin}
 use Rattle.dash_stage.proofs.Hearing.{known_more}
-use Rattle.dash_stage.proofs.Sharing.{FirstAre, next_is, next_within, each_then}
+use Rattle.dash_stage.proofs.Sharing.{FirstAre, next_within}
 
 -- a looper that is kept, and whose poster at this place is known
 pub record LooperTells (place : ℕ) (whole : List Entry) (before after : StageLooper) : Type 0 where
@@ -19,9 +19,8 @@ pub looper_tells_more : (place : ℕ) (xs ys : List Entry) → IsPrefix xs ys �
 looper_tells_more place xs ys p a b t = record { kept = t.kept; told = known_more (posters_of a) place xs ys p t.told }
 
 -- what holds of the next looper's posters, where the loop reads it
-pub of_next_looper : (P : List Sender → Type 0) (R : StageLooper → StageLooper → Type 0) (xs ys : List StageLooper) (k : ℕ) (x : StageLooper) → OfLoopers P xs → FirstAre R k xs ys → k < length ys → x ≡ get_or ys k x → P (posters_of x)
-of_next_looper P R xs ys k x of f lt is =
-    subst (λ (l : StageLooper). P (posters_of l)) (sym (next_is R xs ys k x f is)) (of k x (next_within R xs ys k f lt))
+pub of_next_looper : (P : List Sender → Type 0) (R : StageLooper → StageLooper → Type 0) (xs ys : List StageLooper) (k : ℕ) (e : StageLooper) → OfLoopers P xs → FirstAre R k xs ys → k < length ys → P (posters_of (get_or ys k e))
+of_next_looper P R xs ys k e of f lt = subst (λ (l : StageLooper). P (posters_of l)) (sym (f.rest k e (omega arith))) (of k e (next_within R xs ys k f lt))
 
 pub looper_then : (R S T : List Sender → List Sender → Type 0) → ((a b c : List Sender) → R a b → S b c → T a c) → (x y z : StageLooper) → LooperKeeps R x y → LooperKeeps S y z → LooperKeeps T x z
 looper_then R S T h x y z f g = record {

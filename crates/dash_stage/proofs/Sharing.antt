@@ -15,25 +15,22 @@ module _ {X : Type 0} (R : X → X → Type 0) (xs ys : List X) where
   pub first_none : FirstAre R 0 xs xs
   first_none = record { long = refl; done = λ j d near within. absurd (omega (arith, near)); rest = λ j d le. refl }
 
-  -- the next one that is read is still as before
-  pub next_is : (k : ℕ) (x : X) → FirstAre R k xs ys → x ≡ get_or ys k x → x ≡ get_or xs k x
-  next_is k x f is = is ∙ f.rest k x (omega arith)
-
+  -- the next one is one of them
   pub next_within : (k : ℕ) → FirstAre R k xs ys → k < length ys → k < length xs
   next_within k f lt = (let long = f.long in omega (arith, lt))
 
   -- the next one is written
-  pub first_more : (k : ℕ) (x y : X) → FirstAre R k xs ys → k < length ys → x ≡ get_or ys k x → R x y → FirstAre R (k + 1) xs (set ys k y)
-  first_more k x y f lt is r = record {
+  pub first_more : (k : ℕ) (e y : X) → FirstAre R k xs ys → k < length ys → R (get_or ys k e) y → FirstAre R (k + 1) xs (set ys k y)
+  first_more k e y f lt r = record {
     long = length-set ys k y ∙ f.long;
     done = λ j d near within. dite (dec_lt j k)
-        (λ below. subst (λ (b : X). R (get_or xs j d) b) (sym (get_or-set_other ys k j y d (λ e. omega (arith, below, e)))) (f.done j d below within))
+        (λ below. subst (λ (b : X). R (get_or xs j d) b) (sym (get_or-set_other ys k j y d (λ is. omega (arith, below, is)))) (f.done j d below within))
         (λ not.
-            let e : j ≡ k = omega (arith, near) in
-            let here : x ≡ get_or xs k d = is ∙ (get_or_default ys k x d lt ∙ f.rest k d (omega arith)) in
+            let is : j ≡ k = omega (arith, near) in
+            let here : get_or ys k e ≡ get_or xs k d = get_or_default ys k e d lt ∙ f.rest k d (omega arith) in
             let there : y ≡ get_or (set ys k y) k d = sym (get_or-set_same ys k y d lt) in
-            subst (λ (n : ℕ). R (get_or xs n d) (get_or (set ys k y) n d)) (sym e) (subst (λ (a : X). R a (get_or (set ys k y) k d)) here (subst (λ (b : X). R x b) there r)));
-    rest = λ j d le. get_or-set_other ys k j y d (λ e. omega (arith, le, e)) ∙ f.rest j d (omega (arith, le));
+            subst (λ (n : ℕ). R (get_or xs n d) (get_or (set ys k y) n d)) (sym is) (subst (λ (a : X). R a (get_or (set ys k y) k d)) here (subst (λ (b : X). R (get_or ys k e) b) there r)));
+    rest = λ j d le. get_or-set_other ys k j y d (λ is. omega (arith, le, is)) ∙ f.rest j d (omega (arith, le));
   }
 
   pub first_all : (k : ℕ) → length xs ≤ k → FirstAre R k xs ys → AtEach R xs ys

@@ -7,7 +7,7 @@ use Rattle.looper_run.specs.Holding.{Sender}
 use Rattle.dash_stage.specs.declared.thread.PostingThread.{PostingThread}
 use Rattle.dash_stage.specs.Sharing.{HasHeard, HaveHeard, HaveHeardAt, AtEach, AreKept, AreReady, AreKnown, ThreadKeeps, OfThreads}
 use Rattle.dash_stage.proofs.Hearing.{known_more}
-use Rattle.dash_stage.proofs.Sharing.{FirstAre, next_is, next_within, each_then}
+use Rattle.dash_stage.proofs.Sharing.{FirstAre, next_within}
 
 -- a thread that is kept, and whose poster at this place is known
 pub record ThreadTells (place : ℕ) (whole : List Entry) (before after : PostingThread) : Type 0 where
@@ -19,9 +19,8 @@ pub thread_tells_more : (place : ℕ) (xs ys : List Entry) → IsPrefix xs ys �
 thread_tells_more place xs ys p a b t = record { kept = t.kept; told = known_more a.kit.posters.items place xs ys p t.told }
 
 -- what holds of the next thread's posters, where the loop reads it
-pub of_next : (P : List Sender → Type 0) (R : PostingThread → PostingThread → Type 0) (xs ys : List PostingThread) (k : ℕ) (x : PostingThread) → OfThreads P xs → FirstAre R k xs ys → k < length ys → x ≡ get_or ys k x → P x.kit.posters.items
-of_next P R xs ys k x of f lt is =
-    subst (λ (t : PostingThread). P t.kit.posters.items) (sym (next_is R xs ys k x f is)) (of k x (next_within R xs ys k f lt))
+pub of_next : (P : List Sender → Type 0) (R : PostingThread → PostingThread → Type 0) (xs ys : List PostingThread) (k : ℕ) (e : PostingThread) → OfThreads P xs → FirstAre R k xs ys → k < length ys → P ((get_or ys k e).kit.posters.items)
+of_next P R xs ys k e of f lt = subst (λ (t : PostingThread). P (t.kit.posters.items)) (sym (f.rest k e (omega arith))) (of k e (next_within R xs ys k f lt))
 
 pub thread_then : (R S T : List Sender → List Sender → Type 0) → ((a b c : List Sender) → R a b → S b c → T a c) → (x y z : PostingThread) → ThreadKeeps R x y → ThreadKeeps S y z → ThreadKeeps T x z
 thread_then R S T h x y z f g = record {
