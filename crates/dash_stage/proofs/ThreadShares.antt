@@ -2,12 +2,20 @@
 use Rattle.std.proofs.Common.{◌≡◌, ℕ, ◌+◌, ◌<◌, ◌≤◌, List, map, length, get_or, refl, sym, ap, ◌∙◌, subst, arith}
 use mathlib.Core.List.{IsPrefix}
 use Rattle.loop_model.specs.declared.entry.Entry.{Entry}
-use Rattle.shared_queue.specs.Known.{Shared, IsOf}
 use Rattle.looper_run.specs.Holding.{Sender}
 use Rattle.dash_stage.specs.declared.thread.PostingThread.{PostingThread}
-use Rattle.dash_stage.specs.Sharing.{HasHeard, HaveHeard, HaveHeardAt, AtEach, AreKept, AreReady, AreKnown, ThreadKeeps, OfThreads}
-use Rattle.dash_stage.proofs.Hearing.{known_more}
-use Rattle.dash_stage.proofs.Sharing.{FirstAre, next_within}
+use Rattle.dash_stage.specs.Sharing.{HaveHeard, HaveHeardAt, AtEach, AreKept, AreKnown, ThreadKeeps, OfThreads}
+use Rattle.dash_script.specs.declared.script.Script.{Script}
+use Rattle.choreographer.specs.Known.{Known as Pass}
+use Rattle.run_model.specs.Asks.{tokens_in}
+use Rattle.run_model.specs.Moments.{in_lockstep}
+use Rattle.run_model.specs.Planned.{Timed, lines_of, labels_on, MakeCalls}
+use Rattle.dash_stage.specs.declared.hall.Hall.{Hall}
+use Rattle.dash_stage.specs.Growth.{own}
+use Rattle.dash_stage.specs.Kits.{frame_badge_of, ArePostersOf, ArePassesOf}
+use Rattle.dash_stage.specs.Threads.{IsThread, IsUpTo, labels_kept, tokens_kept, HasPosted, HasRemoved}
+use Rattle.dash_stage.proofs.Hearing.{known_more, heard_kept, heard_badges}
+use Rattle.dash_stage.proofs.Sharing.{FirstAre, next_within, each_then}
 
 -- a thread that is kept, and whose poster at this place is known
 pub record ThreadTells (place : ℕ) (whole : List Entry) (before after : PostingThread) : Type 0 where
@@ -53,3 +61,38 @@ of_threads_then P Q R h xs ys e of = λ k d lt.
     let long = e.long in
     let within : k < length xs = omega (arith, lt) in
     h (get_or xs k d).kit.posters.items (get_or ys k d).kit.posters.items (e.each k d within).posters (of k d within)
+
+-- the threads hear another poster after they told it what they had seen
+pub threads_heard : (place : ℕ) (whole : List Entry) (xs ys zs : List PostingThread) → AtEach (ThreadKeeps AreKept) xs ys → AtEach (ThreadKeeps (HaveHeardAt place whole)) ys zs → AtEach (ThreadKeeps (HaveHeardAt place whole)) xs zs
+threads_heard place whole xs ys zs f g =
+    each_then (ThreadKeeps AreKept) (ThreadKeeps (HaveHeardAt place whole)) (ThreadKeeps (HaveHeardAt place whole)) xs ys zs (thread_then AreKept (HaveHeardAt place whole) (HaveHeardAt place whole) (heard_kept place whole)) f g
+
+-- a thread stays one
+pub thread_kept : (s : Script) (hall : Hall) (a b : PostingThread) → ThreadKeeps HaveHeard a b → IsThread s hall a → IsThread s hall b
+thread_kept s hall a b k is = record {
+  number = subst (λ (n : ℕ). n < s.threads) (sym k.number) is.number;
+  posters = subst (λ (n : ℕ). ArePostersOf n hall.queues.items b.kit.posters.items) (sym k.number) (heard_badges a.kit.posters.items b.kit.posters.items k.posters ∙ is.posters);
+  frames = subst (λ (n : ℕ). ArePassesOf n hall.choreographers.items b.kit.frames.items) (sym k.number) (ap (λ v. map frame_badge_of v.items) k.frames ∙ is.frames);
+  pass = ap (λ t. t.home) k.pass ∙ is.pass;
+}
+
+-- and has come as far
+pub up_to_kept : (s : Script) (past : List Timed) (a b : PostingThread) → ThreadKeeps HaveHeard a b → IsUpTo s past a → IsUpTo s past b
+up_to_kept s past a b k up =
+    let long = k.posters.long in
+    let barriers : b.barriers.items ≡ a.barriers.items = ap (λ v. v.items) k.barriers in
+    let frames : b.kit.frames.items ≡ a.kit.frames.items = ap (λ v. v.items) k.frames in
+    record {
+      called = λ q d lt.
+          let near : q < length a.kit.posters.items = omega (arith, lt) in
+          subst (λ (es : List Entry). MakeCalls in_lockstep s (labels_on q (lines_of b.number s.blocks)) q past es) (sym (k.posters.each q d near).called)
+          (subst (λ (n : ℕ). MakeCalls in_lockstep s (labels_on q (lines_of n s.blocks)) q past (own (get_or a.kit.posters.items q d))) (sym k.number) (up.called q d near));
+      barriers = record {
+        labels = λ q. ap (labels_kept q) barriers ∙ up.barriers.labels q;
+        tokens = λ q d lt.
+            let near : q < length a.kit.posters.items = omega (arith, lt) in
+            ap (tokens_kept q) barriers ∙ (up.barriers.tokens q d near ∙ ap tokens_in (sym (k.posters.each q d near).called));
+      };
+      posted = subst (λ (fs : List Pass). HasPosted past fs) (sym frames) up.posted;
+      removed = subst (λ (fs : List Pass). HasRemoved past fs) (sym frames) up.removed;
+    }
