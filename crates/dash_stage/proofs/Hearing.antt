@@ -122,9 +122,6 @@ ready_kept place queue ps qs same r = subst (AreReady place queue) (sym same) r
 pub known_kept : (place : ℕ) (xs ys : List Entry) → IsPrefix xs ys → (ps qs : List Sender) → AreKept ps qs → AreKnown place xs ps → AreKnown place ys qs
 known_kept place xs ys p ps qs same k = known_more qs place xs ys p (subst (AreKnown place xs) (sym same) k)
 
-pub heard_kept : (place : ℕ) (whole : List Entry) (ps qs rs : List Sender) → AreKept ps qs → HaveHeardAt place whole qs rs → HaveHeardAt place whole ps rs
-heard_kept place whole ps qs rs same h = subst (λ (l : List Sender). HaveHeardAt place whole l rs) same h
-
 -- one of the posters heard others, and so each of them may have
 pub have_heard : (place : ℕ) (whole : List Entry) (ps qs : List Sender) → HaveHeardAt place whole ps qs → HaveHeard ps qs
 have_heard place whole ps qs h = record {

@@ -24,11 +24,11 @@ use Rattle.dash_stage.specs.declared.player.Parts.{Parts}
 use Rattle.dash_stage.specs.declared.looper.StageLooper.{StageLooper}
 use Rattle.dash_stage.specs.Kits.{badge_of, badge_for, frame_badge_of, IsHall, ArePostersOf}
 use Rattle.dash_stage.specs.Loopers.{ArePartsOf, IsLooper}
-use Rattle.dash_stage.specs.Sharing.{HasHeard, HaveHeard, HaveHeardAt, AtEach, AreKept, AreKnown, Rest, LooperKeeps, OfLoopers, posters_of, others_in, rest_in, IsWithin, AreWithin}
+use Rattle.dash_stage.specs.Sharing.{HasHeard, HaveHeard, AtEach, AreKept, AreKnown, Rest, LooperKeeps, OfLoopers, posters_of, others_in, rest_in, IsWithin, AreWithin}
 use Rattle.dash_stage.proofs.LooperLists.{map-insert, insert_removed}
 use Rattle.dash_stage.proofs.LooperKits.{looper_of, others_many, its_queue}
-use Rattle.dash_stage.proofs.Hearing.{known_more, heard_kept, heard_badges}
-use Rattle.dash_stage.proofs.Sharing.{FirstAre, next_within, each_then}
+use Rattle.dash_stage.proofs.Hearing.{known_more, heard_badges}
+use Rattle.dash_stage.proofs.Sharing.{FirstAre, next_within}
 
 -- a looper that is kept, and whose poster at this place is known
 pub record LooperTells (place : ℕ) (whole : List Entry) (before after : StageLooper) : Type 0 where
@@ -77,11 +77,6 @@ of_loopers_then P Q R h xs ys e of = λ k d lt.
     let long = e.long in
     let within : k < length xs = omega (arith, lt) in
     h (posters_of (get_or xs k d)) (posters_of (get_or ys k d)) (e.each k d within).posters (of k d within)
-
--- the loopers hear another poster after they told it what they had seen
-pub loopers_heard : (place : ℕ) (whole : List Entry) (xs ys zs : List StageLooper) → AtEach (LooperKeeps AreKept) xs ys → AtEach (LooperKeeps (HaveHeardAt place whole)) ys zs → AtEach (LooperKeeps (HaveHeardAt place whole)) xs zs
-loopers_heard place whole xs ys zs f g =
-    each_then (LooperKeeps AreKept) (LooperKeeps (HaveHeardAt place whole)) (LooperKeeps (HaveHeardAt place whole)) xs ys zs (looper_then AreKept (HaveHeardAt place whole) (HaveHeardAt place whole) (heard_kept place whole)) f g
 
 -- a queue that is over stays so
 or_more : (a x y : Bool) → (a || x) ≡ true → (a || (x || y)) ≡ true

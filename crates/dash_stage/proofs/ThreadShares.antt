@@ -4,7 +4,7 @@ use mathlib.Core.List.{IsPrefix}
 use Rattle.loop_model.specs.declared.entry.Entry.{Entry}
 use Rattle.looper_run.specs.Holding.{Sender}
 use Rattle.dash_stage.specs.declared.thread.PostingThread.{PostingThread}
-use Rattle.dash_stage.specs.Sharing.{HaveHeard, HaveHeardAt, AtEach, AreKept, AreKnown, ThreadKeeps, OfThreads}
+use Rattle.dash_stage.specs.Sharing.{HaveHeard, AtEach, AreKept, AreKnown, ThreadKeeps, OfThreads}
 use Rattle.dash_script.specs.declared.script.Script.{Script}
 use Rattle.choreographer.specs.Known.{Known as Pass}
 use Rattle.run_model.specs.Asks.{tokens_in}
@@ -14,8 +14,8 @@ use Rattle.dash_stage.specs.declared.hall.Hall.{Hall}
 use Rattle.dash_stage.specs.Growth.{own}
 use Rattle.dash_stage.specs.Kits.{frame_badge_of, ArePostersOf, ArePassesOf}
 use Rattle.dash_stage.specs.Threads.{IsThread, IsUpTo, labels_kept, tokens_kept, HasPosted, HasRemoved}
-use Rattle.dash_stage.proofs.Hearing.{known_more, heard_kept, heard_badges}
-use Rattle.dash_stage.proofs.Sharing.{FirstAre, next_within, each_then}
+use Rattle.dash_stage.proofs.Hearing.{known_more, heard_badges}
+use Rattle.dash_stage.proofs.Sharing.{FirstAre, next_within}
 
 -- a thread that is kept, and whose poster at this place is known
 pub record ThreadTells (place : ℕ) (whole : List Entry) (before after : PostingThread) : Type 0 where
@@ -61,11 +61,6 @@ of_threads_then P Q R h xs ys e of = λ k d lt.
     let long = e.long in
     let within : k < length xs = omega (arith, lt) in
     h (get_or xs k d).kit.posters.items (get_or ys k d).kit.posters.items (e.each k d within).posters (of k d within)
-
--- the threads hear another poster after they told it what they had seen
-pub threads_heard : (place : ℕ) (whole : List Entry) (xs ys zs : List PostingThread) → AtEach (ThreadKeeps AreKept) xs ys → AtEach (ThreadKeeps (HaveHeardAt place whole)) ys zs → AtEach (ThreadKeeps (HaveHeardAt place whole)) xs zs
-threads_heard place whole xs ys zs f g =
-    each_then (ThreadKeeps AreKept) (ThreadKeeps (HaveHeardAt place whole)) (ThreadKeeps (HaveHeardAt place whole)) xs ys zs (thread_then AreKept (HaveHeardAt place whole) (HaveHeardAt place whole) (heard_kept place whole)) f g
 
 -- a thread stays one
 pub thread_kept : (s : Script) (hall : Hall) (a b : PostingThread) → ThreadKeeps HaveHeard a b → IsThread s hall a → IsThread s hall b
