@@ -1,7 +1,8 @@
 -- Posters that hear each other.
-use Rattle.std.proofs.Common.{◌≡◌, ℕ, ◌+◌, ◌<◌, ◌≤◌, ◌==◌, List, [], ◌∷◌, ◌++◌, map, length, set, get_or, refl, sym, ap, ◌∙◌, subst, arith}
-use Rattle.std.proofs.lemmas.List.{append-nil, length-append, get_or-set_same, get_or-set_other, get_or_default, length-set, set-get_or, get_or_past, same_lists, length-map}
-use Rattle.std.proofs.lemmas.List.Elements.{filter-append, length-filter}
+use Rattle.std.proofs.Common.{◌≡◌, ℕ, ◌+◌, ◌<◌, ◌≤◌, ◌≢◌, ◌==◌, List, [], ◌∷◌, ◌++◌, map, length, set, get_or, suc, refl, sym, ap, ap₂, ◌∙◌, subst, arith}
+use Rattle.std.proofs.lemmas.List.{append-nil, length-append, get_or-set_same, get_or-set_other, get_or_default, length-set, set-get_or}
+use Rattle.std.proofs.lemmas.List.Elements.{filter-append}
+use Rattle.std.proofs.lemmas.List.Sums.{length-filter}
 use mathlib.Core.List.{IsPrefix}
 use mathlib.Core.Logic.{dite}
 use native.Mathlib.Decide.{ℕ_discrete, dec_lt}
@@ -15,7 +16,8 @@ use Rattle.run_model.specs.Asks.{entries_by}
 use Rattle.looper_run.specs.Holding.{Sender}
 use Rattle.dash_stage.specs.Growth.{own}
 use Rattle.dash_stage.specs.Kits.{badge_of}
-use Rattle.dash_stage.specs.Sharing.{HasHeard, HaveHeard, HaveHeardAt, AtEach, AreKept, AreReady, AreKnown, HaveSeenAt}
+use Rattle.dash_stage.specs.Sharing.{HasHeard, HaveHeard, HaveHeardAt, AtEach, AreKept, AreReady, AreKnown, HaveSeenAt, HaveSeenAll, seen_by}
+use Rattle.dash_stage.proofs.Sharing.{each_then, each_self}
 
 -- where the sender has made as many entries in a history as in its beginning, it has made the same
 own_goes_on : (s : ℕ) (xs ys : List Entry) → IsPrefix xs ys → made_in s ys ≡ made_in s xs → entries_by s ys ≡ entries_by s xs
@@ -112,3 +114,52 @@ ready_is ps i p queue r is = subst (λ (x : Sender). IsOf x queue) (sym is) (r.1
 
 pub known_is : (ps : List Sender) (i : ℕ) (p : Sender) (whole : List Entry) → AreKnown i whole ps → p ≡ get_or ps i p → IsPrefix p.view.seen whole
 known_is ps i p whole k is = subst (λ (x : Sender). IsPrefix x.view.seen whole) (sym is) (k p)
+
+-- what is so of posters that are kept
+pub ready_kept : (place : ℕ) (queue : Shared _) (ps qs : List Sender) → AreKept ps qs → AreReady place queue ps → AreReady place queue qs
+ready_kept place queue ps qs same r = subst (AreReady place queue) (sym same) r
+
+pub known_kept : (place : ℕ) (xs ys : List Entry) → IsPrefix xs ys → (ps qs : List Sender) → AreKept ps qs → AreKnown place xs ps → AreKnown place ys qs
+known_kept place xs ys p ps qs same k = known_more qs place xs ys p (subst (AreKnown place xs) (sym same) k)
+
+-- one of the posters heard others, and so each of them may have
+pub have_heard : (place : ℕ) (whole : List Entry) (ps qs : List Sender) → HaveHeardAt place whole ps qs → HaveHeard ps qs
+have_heard place whole ps qs h = record {
+  long = h.long;
+  each = λ k d lt. dite (ℕ_discrete k place)
+      (λ e. subst (λ (n : ℕ). HasHeard (get_or ps n d) (get_or qs n d)) (sym e) (h.here d (subst (λ (n : ℕ). n < length ps) e lt)).0)
+      (λ not. subst (λ (x : Sender). HasHeard (get_or ps k d) x) (sym (h.elsewhere k d not)) (heard_self (get_or ps k d)));
+}
+
+pub have_heard_then : (ps qs rs : List Sender) → HaveHeard ps qs → HaveHeard qs rs → HaveHeard ps rs
+have_heard_then ps qs rs f g = each_then HasHeard HasHeard HasHeard ps qs rs heard_then f g
+
+pub have_heard_self : (ps : List Sender) → HaveHeard ps ps
+have_heard_self ps = each_self HasHeard ps heard_self
+
+-- what is mapped to the same at each place
+map_alike : {Y : Type 0} (f : Sender → Y) (ps qs : List Sender) → length ps ≡ length qs → ((k : ℕ) (d : Sender) → k < length ps → f (get_or ps k d) ≡ f (get_or qs k d)) → map f ps ≡ map f qs
+map_alike f [] [] long h = refl
+map_alike f [] (q ∷ qs) long h = absurd (omega (arith, long))
+map_alike f (p ∷ ps) [] long h = absurd (omega (arith, long))
+map_alike f (p ∷ ps) (q ∷ qs) long h = ap₂ (λ x xs. x ∷ xs) (h 0 p (omega arith)) (map_alike f ps qs (omega (arith, long)) (λ k d lt. h (suc k) d (omega (arith, lt))))
+
+-- the posters keep their badges
+pub heard_badges : (ps qs : List Sender) → HaveHeard ps qs → map badge_of qs ≡ map badge_of ps
+heard_badges ps qs h = sym (map_alike badge_of ps qs (sym h.long) (λ k d lt. sym (heard_badge (get_or ps k d) (get_or qs k d) (h.each k d lt))))
+
+-- the poster at the place has seen the history
+pub seen_here : (place : ℕ) (whole : List Entry) (ps qs : List Sender) → HaveHeardAt place whole ps qs → HaveSeenAt place whole qs
+seen_here place whole ps qs h = λ d lt. (let long = h.long in (h.here d (omega (arith, lt))).1)
+
+-- the poster at another place has seen what it had seen
+pub seen_elsewhere : (place q : ℕ) (whole seen : List Entry) → q ≢ place → (ps qs : List Sender) → HaveHeardAt place whole ps qs → HaveSeenAt q seen ps → HaveSeenAt q seen qs
+seen_elsewhere place q whole seen not ps qs h s = λ d lt. (let long = h.long in ap (λ (x : Sender). x.view.seen) (h.elsewhere q d not) ∙ s d (omega (arith, lt)))
+
+-- posters of each queue that have seen the same
+pub seen_same : (n : ℕ) (ps cs : List Sender) → length ps ≡ n → length cs ≡ n → ((q : ℕ) → q < n → (whole : List Entry) × HaveSeenAt q whole ps × HaveSeenAt q whole cs) → HaveSeenAll (seen_by cs) ps
+seen_same n ps cs many many' h = map_alike (λ (p : Sender). p.view.seen) ps cs (many ∙ sym many')
+    (λ k d lt.
+        let within : k < n = omega (arith, lt, many) in
+        let w = h k within in
+        w.1 d lt ∙ sym (w.2 d (omega (arith, within, many'))))

@@ -12,6 +12,10 @@ pub mod LooperTold
 pub mod LooperKits
 pub mod KitsOver
 pub mod LooperSeats
+pub mod Sharing
+pub mod ThreadShares
+pub mod LooperShares
+pub mod StageShares
 pub mod ThreadGrowth
 pub mod Hearing
 pub mod ThreadCalls
