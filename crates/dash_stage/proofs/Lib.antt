@@ -3,6 +3,7 @@ pub mod Controlling
 pub mod Controls
 pub mod ControlKept
 pub mod ControlTurns
+pub mod ControlWhole
 pub mod Blocks
 pub mod LooperLists
 pub mod LooperPlaces
