@@ -42,3 +42,4 @@ pub mod ThreadBlocks
 pub mod ThreadFrames
 pub mod ThreadFrameRuns
 pub mod Timely
+pub mod TimelyRecords
