@@ -37,3 +37,5 @@ pub mod ThreadBlocks
 pub mod ThreadFrames
 pub mod ThreadFrameRuns
 pub mod Timely
+pub mod StageWhole
+pub mod StageMoves
