@@ -311,7 +311,7 @@ counted_once false false h = refl
 
 module _ (set : Setting) (m : ℕ) where
   -- elsewhere than on main nothing halts
-  side_is_not_halted : set.main ≡ false → (es : List Entry) → IsLegal set (empty_base m) es → has_halted (empty_base m) es ≡ false
+  pub side_is_not_halted : set.main ≡ false → (es : List Entry) → IsLegal set (empty_base m) es → has_halted (empty_base m) es ≡ false
   side_is_not_halted side = entry_by_entry (λ es. IsLegal set (empty_base m) es → has_halted (empty_base m) es ≡ false)
       (λ legal. (starts_open m).2)
       (λ es e before legal.

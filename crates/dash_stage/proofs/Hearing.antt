@@ -73,7 +73,7 @@ heard_of p q queue h is = (h.same.table ∙ is.0, h.same.constants ∙ is.1)
 pub heard_badge : (p q : Sender) → HasHeard p q → badge_of q ≡ badge_of p
 heard_badge p q h = λ i. record { table = h.same.table i; constants = h.same.constants i; sender = h.same.sender i }
 
-prefix_whole : (xs ys : List Entry) → IsPrefix xs ys → length ys ≤ length xs → xs ≡ ys
+pub prefix_whole : (xs ys : List Entry) → IsPrefix xs ys → length ys ≤ length xs → xs ≡ ys
 prefix_whole xs ys p le =
     let long = ap length p.1 in
     let none : p.0 ≡ [] = nothing_left p.0 (omega (arith, long, length-append xs p.0, le)) in

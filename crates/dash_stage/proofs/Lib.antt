@@ -43,3 +43,5 @@ pub mod ThreadFrames
 pub mod ThreadFrameRuns
 pub mod Timely
 pub mod TimelyRecords
+pub mod StageWhole
+pub mod StageMoves

@@ -39,7 +39,7 @@ pub none_of : (k : ℕ) (es more : List Entry) → entries_by k (es ++ more) ≡
 none_of k es more same = more_of k es more [] (same ∙ sym (append-nil (entries_by k es)))
 
 -- the front of an empty list is empty
-none_front : {A : Type 0} (xs ys : List A) → xs ++ ys ≡ [] → xs ≡ []
+pub none_front : {A : Type 0} (xs ys : List A) → xs ++ ys ≡ [] → xs ≡ []
 none_front [] ys none = refl
 none_front (x ∷ xs) ys none = absurd (cc none)
 
@@ -172,7 +172,7 @@ unfolding has_disposed
 has_disposed_same m es = refl
 
 -- a queue that was disposed of stays so
-disposed_stays : (b : Base) (es more : List Entry) → has_disposed b es ≡ true → has_disposed b (es ++ more) ≡ true
+pub disposed_stays : (b : Base) (es more : List Entry) → has_disposed b es ≡ true → has_disposed b (es ++ more) ≡ true
 unfolding has_disposed
 disposed_stays b es more gone =
     ap (λ t. b.disposed || t) (list_any-append (λ (e : Entry). is_disposed e.reply) es more)

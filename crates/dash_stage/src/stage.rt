@@ -169,8 +169,8 @@ impl Stage {
         ensures timely { (past : List BlockData) → AreTimelyUpTo script.now past self.old → AreDue script.now time self.old → OnOk result (AreTimelyUpTo script.now past self.new) }
         ensures at { IfOk result (λ moved. moved ≡ true → self.old.time ≤ time → AreAtTime script.now time self.new) }
     {
-        let moved = self.controller.advance(rt, &self.hall, script, time)?;
         self.time = self.time.max(time);
+        let moved = self.controller.advance(rt, &self.hall, script, time)?;
         self.share(script);
         Ok(moved)
     }
@@ -344,7 +344,9 @@ impl Stage {
 }
 
 /// The earlier of two times.
-fn earlier(a: Option<u64>, b: Option<u64>) -> Option<u64> {
+fn earlier(a: Option<u64>, b: Option<u64>) -> Option<u64>
+    ensures { (t : ℕ) → NotLater t result → NotLater t a × NotLater t b }
+{
     match (a, b) {
         (Some(x), Some(y)) => Some(x.min(y)),
         (Some(x), None) => Some(x),

@@ -1,0 +1,27 @@
+use Rattle.std.proofs.Common.{ℕ, sym, subst, arith}
+use Rattle.dash_stage.specs.Timeliness.{AreBy}
+use Rattle.dash_stage.proofs.StageMoves.{by_later, by_kept, advanced_timely, come_at_time}
+use Rattle.dash_stage.proofs.stage.Stage.advance.Goals as goal
+
+pub returns-in_err-moved-clause-by : goal.returns-in_err-moved-clause-by
+returns-in_err-moved-clause-by g c =
+    let m = c.max-self.ensures in
+    c.advance.ensures.by c.max-self.result (omega (arith, m)) (by_later c.args.self.now.time c.max-self.result c.args.self.now.controller (omega (arith, m)) c.requires.by)
+
+pub returns-clause-by : goal.returns-clause-by
+returns-clause-by g c =
+    let m = c.max-self.ensures in
+    let moved = c.advance.ensures.by c.max-self.result (omega (arith, m)) (by_later c.args.self.now.time c.max-self.result c.args.self.now.controller (omega (arith, m)) c.requires.by) in
+    subst (λ (t : ℕ). AreBy t c.share.new.self.controller) (sym c.share.ensures.kept.time) (by_kept c.max-self.result c.advance.new.self c.share.new.self.controller c.share.ensures.none moved)
+
+pub returns-clause-timely : goal.returns-clause-timely
+returns-clause-timely g c past timely due =
+    let kept = c.share.ensures.kept in
+    advanced_timely c.args.script.now c.args.self.now c.advance.new.self c.share.new.self c.requires.stage c.share.ensures.stage timely.same c.share.ensures.shared kept.threads kept.loopers kept.controller.posters
+    c.args.time past c.in_ok-moved.ensures.turns due timely
+
+pub returns-clause-at : goal.returns-clause-at
+returns-clause-at g c moved later =
+    come_at_time c.args.script.now c.args.time c.advance.new.self c.share.new.self c.share.ensures.stage c.share.ensures.kept.controller.posters
+    (c.advance.ensures.by c.args.time (omega arith) (by_later c.args.self.now.time c.args.time c.args.self.now.controller later c.requires.by))
+    (c.in_ok-moved.ensures.come moved)
