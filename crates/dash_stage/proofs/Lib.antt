@@ -6,13 +6,7 @@ pub mod LooperPlaces
 pub mod LooperLent
 pub mod LooperOver
 pub mod LooperKits
-pub mod LooperSeats
-pub mod Sharing
-pub mod ThreadShares
-pub mod LooperShares
-pub mod StageShares
 pub mod ThreadGrowth
-pub mod Hearing
 pub mod ThreadCalls
 pub mod HallGets
 pub mod HallPasses
@@ -32,3 +26,9 @@ pub mod ThreadRuns
 pub mod ThreadBlocks
 pub mod ThreadFrames
 pub mod ThreadFrameRuns
+pub mod Sharing
+pub mod Hearing
+pub mod LooperSeats
+pub mod ThreadShares
+pub mod LooperShares
+pub mod StageShares

@@ -1,9 +1,7 @@
 //! All senders come to have seen the same of each queue's history.
 ghost use Rattle.std.specs.Prelude.{◌≡◌, ◌<◌, List};
-ghost use mathlib.Core.List.{IsPrefix};
 ghost use Rattle.dash_script.specs.declared.script.Block.{Block};
 ghost use Rattle.shared_queue.specs.Known.{IsOf};
-ghost use Rattle.looper_run.specs.Holding.{Sender};
 ghost use Rattle.dash_stage.specs.Controllers.{CallsNone};
 ghost use Rattle.dash_stage.specs.Players.{PlaceWithout};
 ghost use Rattle.dash_stage.specs.Stages.{IsStage, HaveRun, OthersHaveEnded};
@@ -146,12 +144,7 @@ fn loopers_hear(
 
 impl PostingThread {
     /// Lets another poster of the queue at this place hear the thread's.
-    fn tell(
-        &mut self,
-        queue: &SharedQueue<PoolClaim>,
-        place: usize,
-        other: &mut Poster<PoolClaim>,
-    )
+    fn tell(&mut self, queue: &SharedQueue<PoolClaim>, place: usize, other: &mut Poster<PoolClaim>)
         requires ready { AreReady place queue.now self.old.kit.posters.items }
         requires other { IsOf other.old queue.now }
         ensures kept { ThreadKeeps AreKept self.old self.new }
@@ -162,12 +155,7 @@ impl PostingThread {
     }
 
     /// Lets its poster of the queue at this place hear another one, which has seen all that it has.
-    fn hear(
-        &mut self,
-        queue: &SharedQueue<PoolClaim>,
-        place: usize,
-        other: &mut Poster<PoolClaim>,
-    )
+    fn hear(&mut self, queue: &SharedQueue<PoolClaim>, place: usize, other: &mut Poster<PoolClaim>)
         requires ready { AreReady place queue.now self.old.kit.posters.items }
         requires other { IsOf other.old queue.now }
         requires known { AreKnown place other.old.view.seen self.old.kit.posters.items }
@@ -180,12 +168,7 @@ impl PostingThread {
 
 impl StageLooper {
     /// Lets another poster of the queue at this place hear the looper's.
-    fn tell(
-        &mut self,
-        queue: &SharedQueue<PoolClaim>,
-        place: usize,
-        other: &mut Poster<PoolClaim>,
-    )
+    fn tell(&mut self, queue: &SharedQueue<PoolClaim>, place: usize, other: &mut Poster<PoolClaim>)
         requires ready { AreReady place queue.now (posters_of self.old) }
         requires within { IsWithin self.old }
         requires other { IsOf other.old queue.now }
@@ -206,12 +189,7 @@ impl StageLooper {
     }
 
     /// Lets its poster of the queue at this place hear another one, which has seen all that it has.
-    fn hear(
-        &mut self,
-        queue: &SharedQueue<PoolClaim>,
-        place: usize,
-        other: &mut Poster<PoolClaim>,
-    )
+    fn hear(&mut self, queue: &SharedQueue<PoolClaim>, place: usize, other: &mut Poster<PoolClaim>)
         requires ready { AreReady place queue.now (posters_of self.old) }
         requires within { IsWithin self.old }
         requires other { IsOf other.old queue.now }
