@@ -18,7 +18,6 @@ pub mod ThreadShares
 pub mod LooperShares
 pub mod StageShares
 pub mod ThreadGrowth
-pub mod Hearing
 pub mod ThreadCalls
 pub mod HallGets
 pub mod HallPasses
@@ -45,3 +44,4 @@ pub mod Timely
 pub mod TimelyRecords
 pub mod StageWhole
 pub mod StageMoves
+pub mod Hearing

@@ -1,5 +1,5 @@
 -- A looper's own poster among those of the other queues.
-use Rattle.std.proofs.Common.{◌≡◌, ◌≢◌, ℕ, ◌+◌, ◌-◌, ◌<◌, ◌≤◌, ◌⊎◌, inl, inr, List, ◌∷◌, length, set, get_or, Option, Some, refl, sym, ap, ◌∙◌, subst, arith}
+use Rattle.std.proofs.Common.{◌≡◌, ◌≢◌, ℕ, ◌+◌, ◌-◌, ◌<◌, ◌≤◌, ◌⊎◌, inl, inr, List, length, set, get_or, Option, Some, refl, sym, ap, ◌∙◌, subst, arith}
 use Rattle.std.specs.List.{insert}
 use Rattle.std.proofs.lemmas.List.{get_or-set_same, get_or-set_other, length-set, same_lists}
 use Rattle.std.proofs.lemmas.List.Edits.{length-insert, get_or-insert_at, get_or-insert_below, get_or-insert_above}
@@ -29,6 +29,7 @@ places_apart n a b i j (inr p) (inl q) not = λ e. (let gt : n < a = p.0 in let 
 places_apart n a b i j (inr p) (inr q) not = λ e. not (p.1 ∙ (ap (λ (k : ℕ). k + 1) e ∙ sym q.1))
 
 module _ {X : Type 0} (xs : List X) (n : ℕ) (le : n ≤ length xs) where
+  -- one of the others, by its place among all
   at_other : (y d : X) (place j : ℕ) → PlaceWithout n place j → get_or (insert xs n y) place d ≡ get_or xs j d
   at_other y d place j (inl p) = get_or-insert_below xs n y d place p.0 le ∙ ap (λ (k : ℕ). get_or xs k d) (sym p.1)
   at_other y d place j (inr p) =
@@ -36,6 +37,7 @@ module _ {X : Type 0} (xs : List X) (n : ℕ) (le : n ≤ length xs) where
       let is : place ≡ j + 1 = p.1 in
       ap (λ (k : ℕ). get_or (insert xs n y) k d) is ∙ get_or-insert_above xs n y d j (omega arith) le
 
+  -- its place among the others is one of them
   within_others : (y : X) (place j : ℕ) → PlaceWithout n place j → place < length (insert xs n y) → j < length xs
   within_others y place j (inl p) near = (let lt : place < n = p.0 in let is : j ≡ place = p.1 in omega (arith, le))
   within_others y place j (inr p) near = (let long = length-insert xs n y le in let is : place ≡ j + 1 = p.1 in omega (arith, long, near))
@@ -44,9 +46,9 @@ module _ {X : Type 0} (xs : List X) (n : ℕ) (le : n ≤ length xs) where
   set_own : (y z : X) → set (insert xs n y) n z ≡ insert xs n z
   set_own y z = same_lists (set (insert xs n y) n z) (insert xs n z) (length-set (insert xs n y) n z ∙ (length-insert xs n y le ∙ sym (length-insert xs n z le)))
       (λ k d near. dite (ℕ_discrete k n)
-          (λ e. subst (λ (m : ℕ). get_or (set (insert xs n y) n z) m d ≡ get_or (insert xs n z) m d) (sym e)
-              (get_or-set_same (insert xs n y) n z d (omega (arith, length-insert xs n y le, le)) ∙ sym (get_or-insert_at xs n z d le)))
-          (λ not. (let w = its_place n k not in get_or-set_other (insert xs n y) n k z d not ∙ (at_other y d k w.0 w.1 ∙ sym (at_other z d k w.0 w.1)))))
+      (λ e. subst (λ (m : ℕ). get_or (set (insert xs n y) n z) m d ≡ get_or (insert xs n z) m d) (sym e)
+      (get_or-set_same (insert xs n y) n z d (omega (arith, length-insert xs n y le, le)) ∙ sym (get_or-insert_at xs n z d le)))
+      (λ not. (let w = its_place n k not in get_or-set_other (insert xs n y) n k z d not ∙ (at_other y d k w.0 w.1 ∙ sym (at_other z d k w.0 w.1)))))
 
 -- another one in the place of one beside that at n
 set_other : {X : Type 0} (xs : List X) (n : ℕ) → n ≤ length xs → (y z : X) (place j : ℕ) → PlaceWithout n place j → j < length xs → set (insert xs n z) place y ≡ insert (set xs j y) n z
@@ -55,16 +57,16 @@ set_other xs n le y z place j w lt =
     same_lists (set (insert xs n z) place y) (insert (set xs j y) n z)
     (length-set (insert xs n z) place y ∙ (length-insert xs n z le ∙ (ap (λ (k : ℕ). k + 1) (sym (length-set xs j y)) ∙ sym (length-insert (set xs j y) n z le'))))
     (λ k d near.
-        let near' : k < length (insert xs n z) = omega (arith, near, length-set (insert xs n z) place y) in
-        dite (ℕ_discrete k place)
-        (λ e. subst (λ (m : ℕ). get_or (set (insert xs n z) place y) m d ≡ get_or (insert (set xs j y) n z) m d) (sym e)
-            (get_or-set_same (insert xs n z) place y d (subst (λ (m : ℕ). m < length (insert xs n z)) e near')
-            ∙ sym (at_other (set xs j y) n le' z d place j w ∙ get_or-set_same xs j y d lt)))
-        (λ not. get_or-set_other (insert xs n z) place k y d not ∙ dite (ℕ_discrete k n)
-            (λ e. subst (λ (m : ℕ). get_or (insert xs n z) m d ≡ get_or (insert (set xs j y) n z) m d) (sym e)
-                (get_or-insert_at xs n z d le ∙ sym (get_or-insert_at (set xs j y) n z d le')))
-            (λ apart. (let v = its_place n k apart in
-                at_other xs n le z d k v.0 v.1 ∙ (sym (get_or-set_other xs j v.0 y d (places_apart n k place v.0 j v.1 w not)) ∙ sym (at_other (set xs j y) n le' z d k v.0 v.1))))))
+    let near' : k < length (insert xs n z) = omega (arith, near, length-set (insert xs n z) place y) in
+    dite (ℕ_discrete k place)
+    (λ e. subst (λ (m : ℕ). get_or (set (insert xs n z) place y) m d ≡ get_or (insert (set xs j y) n z) m d) (sym e)
+    (get_or-set_same (insert xs n z) place y d (subst (λ (m : ℕ). m < length (insert xs n z)) e near')
+    ∙ sym (at_other (set xs j y) n le' z d place j w ∙ get_or-set_same xs j y d lt)))
+    (λ not. get_or-set_other (insert xs n z) place k y d not ∙ dite (ℕ_discrete k n)
+    (λ e. subst (λ (m : ℕ). get_or (insert xs n z) m d ≡ get_or (insert (set xs j y) n z) m d) (sym e)
+    (get_or-insert_at xs n z d le ∙ sym (get_or-insert_at (set xs j y) n z d le')))
+    (λ apart. (let v = its_place n k apart in
+    at_other xs n le z d k v.0 v.1 ∙ (sym (get_or-set_other xs j v.0 y d (places_apart n k place v.0 j v.1 w not)) ∙ sym (at_other (set xs j y) n le' z d k v.0 v.1))))))
 
 -- the own poster heard others
 own_heard : (others : List Sender) (n : ℕ) (p q : Sender) (whole : List Entry) → n ≤ length others → HasHeard p q → q.view.seen ≡ whole → HaveHeardAt n whole (insert others n p) (insert others n q)
@@ -82,6 +84,7 @@ other_heard others n mine place j p q whole le w near is h e =
 own_is : (l : StageLooper) → IsWithin l → l.looper.held.poster ≡ get_or (posters_of l) l.number l.looper.held.poster
 own_is l le = sym (get_or-insert_at (others_in l.parts) l.number l.looper.held.poster l.looper.held.poster le)
 
+-- the same by the queue's place
 pub own_at : (l : StageLooper) (place : ℕ) → IsWithin l → place ≡ l.number → l.looper.held.poster ≡ get_or (posters_of l) place l.looper.held.poster
 own_at l place le at = subst (λ (n : ℕ). l.looper.held.poster ≡ get_or (posters_of l) n l.looper.held.poster) (sym at) (own_is l le)
 

@@ -43,6 +43,7 @@ looper_tells_more place xs ys p a b t = record { kept = t.kept; told = known_mor
 pub of_next_looper : (P : List Sender → Type 0) (R : StageLooper → StageLooper → Type 0) (xs ys : List StageLooper) (k : ℕ) (e : StageLooper) → OfLoopers P xs → FirstAre R k xs ys → k < length ys → P (posters_of (get_or ys k e))
 of_next_looper P R xs ys k e of f lt = subst (λ (l : StageLooper). P (posters_of l)) (sym (f.rest k e (omega arith))) (of k e (next_within R xs ys k f lt))
 
+-- one after the other
 pub looper_then : (R S T : List Sender → List Sender → Type 0) → ((a b c : List Sender) → R a b → S b c → T a c) → (x y z : StageLooper) → LooperKeeps R x y → LooperKeeps S y z → LooperKeeps T x z
 looper_then R S T h x y z f g = record {
   number = g.number ∙ f.number;
@@ -58,9 +59,11 @@ looper_then R S T h x y z f g = record {
   last = g.last ∙ f.last;
 }
 
+-- a looper as it is
 pub looper_self : (R : List Sender → List Sender → Type 0) → ((a : List Sender) → R a a) → (x : StageLooper) → LooperKeeps R x x
 looper_self R h x = record { number = refl; posters = h (posters_of x); sender = refl; beside = record { pass = refl; journal = refl; idle_owed = refl; ended = refl }; rest = refl; last = refl }
 
+-- what follows from it for the posters
 pub looper_weaker : (R S : List Sender → List Sender → Type 0) → ((a b : List Sender) → R a b → S a b) → (x y : StageLooper) → LooperKeeps R x y → LooperKeeps S x y
 looper_weaker R S h x y f = record {
   number = f.number;
@@ -78,34 +81,39 @@ of_loopers_then P Q R h xs ys e of = λ k d lt.
     let within : k < length xs = omega (arith, lt) in
     h (posters_of (get_or xs k d)) (posters_of (get_or ys k d)) (e.each k d within).posters (of k d within)
 
--- a queue that is over stays so
+-- what holds of one of two facts holds of one of three
 or_more : (a x y : Bool) → (a || x) ≡ true → (a || (x || y)) ≡ true
 or_more true x y h = refl
 or_more false true y h = refl
 or_more false false y h = absurd cc
 
+-- what holds of two facts holds of one of them
 or_either : (a b x y : Bool) → (a ≡ true → b ≡ true) → (x ≡ true → y ≡ true) → (a || x) ≡ true → (b || y) ≡ true
 or_either true b x y f g h = ap (λ (t : Bool). t || y) (f refl)
 or_either false b true y f g h = ap (λ (t : Bool). b || t) (g refl) ∙ or-true b
 or_either false b false y f g h = absurd cc
 
+-- a queue that was disposed of stays so
 disposed_more : (b : Base) (xs more : List Entry) → has_disposed b xs ≡ true → has_disposed b (xs ++ more) ≡ true
 unfolding has_disposed
 disposed_more b xs more h =
     let p : Entry → Bool = λ e. is_disposed e.reply in
     ap (λ (t : Bool). b.disposed || t) (list_any-append p xs more) ∙ or_more b.disposed (list_any p xs) (list_any p more) h
 
+-- a queue that was halted stays so
 halted_more : (b : Base) (xs more : List Entry) → has_halted b xs ≡ true → has_halted b (xs ++ more) ≡ true
 unfolding has_halted
 halted_more b xs more h =
     let p : Entry → Bool = λ e. is_halted e.reply in
     ap (λ (t : Bool). b.halted || t) (list_any-append p xs more) ∙ or_more b.halted (list_any p xs) (list_any p more) h
 
+-- a queue that is over stays so
 over_more : (b : Base) (xs ys : List Entry) → IsPrefix xs ys → is_over b xs ≡ true → is_over b ys ≡ true
 over_more b xs ys p h =
     subst (λ (l : List Entry). is_over b l ≡ true) p.1
     (or_either (has_disposed b xs) (has_disposed b (xs ++ p.0)) (has_halted b xs) (has_halted b (xs ++ p.0)) (disposed_more b xs p.0) (halted_more b xs p.0) h)
 
+-- one is inserted, wherever
 insert_long : {X : Type 0} (xs : List X) (i : ℕ) (x : X) → length (insert xs i x) ≡ length xs + 1
 insert_long xs i x =
     let parts = length-append (take i xs) (x ∷ drop i xs) in
@@ -120,6 +128,7 @@ within_then a b number long w =
     let after = insert_long (others_in b.parts) b.number b.looper.held.poster in
     omega (arith, number, long, before, after, w)
 
+-- the same of each looper
 pub loopers_within : (xs ys : List StageLooper) → AtEach (LooperKeeps AreKept) xs ys → AreWithin xs → AreWithin ys
 loopers_within xs ys e w = λ k d lt.
     let long = e.long in
@@ -132,10 +141,12 @@ with_parts : (P : Parts → Type 0) (o : Option Parts) → IsSomeAnd o P → (pa
 with_parts P None h = absurd h
 with_parts P (Some parts) h = (parts, refl, h)
 
+-- parts of which this is the rest
 with_rest : (o : Option Parts) (r : Rest) → rest_in o ≡ Some r → (parts : Parts) × (o ≡ Some parts) × (rest_in (Some parts) ≡ Some r)
 with_rest None r e = absurd cc
 with_rest (Some parts) r e = (parts, refl, e)
 
+-- what was inserted is taken out
 remove_inserted : {X : Type 0} (xs : List X) (n : ℕ) (x : X) → n ≤ length xs → remove (insert xs n x) n ≡ xs
 remove_inserted xs n x le =
     let long = length-insert xs n x le in
@@ -143,10 +154,11 @@ remove_inserted xs n x le =
     let short = length-remove (insert xs n x) n within in
     same_lists (remove (insert xs n x) n) xs (omega (arith, long, short))
     (λ k d lt. dite (dec_lt k n)
-        (λ below. get_or-remove_below (insert xs n x) n d k below within ∙ get_or-insert_below xs n x d k below le)
-        (λ not. (let above : n ≤ k = omega arith in get_or-remove_above (insert xs n x) n d k above within ∙ get_or-insert_above xs n x d k above le)))
+    (λ below. get_or-remove_below (insert xs n x) n d k below within ∙ get_or-insert_below xs n x d k below le)
+    (λ not. (let above : n ≤ k = omega arith in get_or-remove_above (insert xs n x) n d k above within ∙ get_or-insert_above xs n x d k above le)))
 
 module _ (s : Script) (hall : Hall) (is_hall : IsHall s hall) (l : StageLooper) (is : IsLooper s hall l) where
+  -- a looper has its parts
   looper_parts : (parts : Parts) × (l.parts ≡ Some parts) × ArePartsOf s hall l.number parts
   looper_parts = with_parts (ArePartsOf s hall l.number) l.parts is.parts
 
@@ -172,6 +184,7 @@ module _ (s : Script) (hall : Hall) (is_hall : IsHall s hall) (l : StageLooper) 
       ∙ (ap₂ (λ xs b. insert xs l.number b) others badge ∙ insert_removed (map (badge_for k) hall.queues.items) l.number (badge_for k q.0) at)
 
   module _ (b : StageLooper) (k : LooperKeeps HaveHeard l b) where
+    -- its number is still that of one of its posters
     after_within : IsWithin b
     after_within = within_then l b k.number k.posters.long looper_within
 
@@ -181,7 +194,7 @@ module _ (s : Script) (hall : Hall) (is_hall : IsHall s hall) (l : StageLooper) 
         let d = l.looper.held.poster in
         let near : l.number < length (posters_of l) = omega (arith, insert_long (others_in l.parts) l.number d, looper_within) in
         let after : get_or (posters_of b) l.number d ≡ b.looper.held.poster =
-            ap (λ (n : ℕ). get_or (posters_of b) n d) (sym k.number) ∙ get_or-insert_at (others_in b.parts) b.number b.looper.held.poster d after_within in
+        ap (λ (n : ℕ). get_or (posters_of b) n d) (sym k.number) ∙ get_or-insert_at (others_in b.parts) b.number b.looper.held.poster d after_within in
         let before : get_or (posters_of l) l.number d ≡ d = get_or-insert_at (others_in l.parts) l.number d d looper_within in
         subst (λ (x : Sender). HasHeard x b.looper.held.poster) before (subst (λ (y : Sender). HasHeard (get_or (posters_of l) l.number d) y) after (k.posters.each l.number d near))
 
@@ -192,13 +205,14 @@ module _ (s : Script) (hall : Hall) (is_hall : IsHall s hall) (l : StageLooper) 
         let x = badge_of l.looper.held.poster in
         let y = badge_of b.looper.held.poster in
         let all : insert (map badge_of (others_in b.parts)) b.number y ≡ insert (map badge_of (others_in l.parts)) n x =
-            sym (map-insert badge_of (others_in b.parts) b.number b.looper.held.poster)
-            ∙ (heard_badges (posters_of l) (posters_of b) k.posters ∙ map-insert badge_of (others_in l.parts) n l.looper.held.poster) in
+        sym (map-insert badge_of (others_in b.parts) b.number b.looper.held.poster)
+        ∙ (heard_badges (posters_of l) (posters_of b) k.posters ∙ map-insert badge_of (others_in l.parts) n l.looper.held.poster) in
         let le : n ≤ length (map badge_of (others_in l.parts)) = omega (arith, looper_within, length-map (others_in l.parts) badge_of) in
         let le' : b.number ≤ length (map badge_of (others_in b.parts)) = omega (arith, after_within, length-map (others_in b.parts) badge_of) in
         sym (remove_inserted (map badge_of (others_in b.parts)) b.number y le')
         ∙ (ap₂ (λ bs m. remove bs m) all k.number ∙ remove_inserted (map badge_of (others_in l.parts)) n x le)
 
+    -- its parts are still its parts
     parts_kept : IsSomeAnd b.parts (ArePartsOf s hall b.number)
     parts_kept =
         let p = looper_parts in

@@ -1,8 +1,9 @@
 -- A stage whose senders hear each other, queue after queue.
-use Rattle.std.proofs.Common.{◌≡◌, ◌≢◌, ℕ, ◌+◌, ◌<◌, ◌≤◌, List, map, length, get_or, refl, sym, ap, ◌∙◌, subst, arith}
+use Rattle.std.proofs.Common.{◌≡◌, ℕ, ◌+◌, ◌<◌, ◌≤◌, List, map, length, get_or, refl, sym, ap, ◌∙◌, subst, arith}
 use Rattle.std.proofs.lemmas.List.{get_or_past}
 use mathlib.Core.Logic.{dite}
 use native.Mathlib.Decide.{ℕ_discrete, dec_lt}
+use Rattle.atomic_table.specs.Seated.{TableId}
 use Rattle.loop_model.specs.declared.entry.Entry.{Entry}
 use Rattle.dash_script.specs.declared.script.Script.{Script}
 use Rattle.dash_script.specs.declared.script.Block.{Block}
@@ -17,7 +18,7 @@ use Rattle.dash_stage.specs.declared.looper.StageLooper.{StageLooper}
 use Rattle.dash_stage.specs.declared.control.Controller.{Controller}
 use Rattle.dash_stage.specs.declared.stage.Stage.{Stage}
 use Rattle.dash_stage.specs.Growth.{own}
-use Rattle.dash_stage.specs.Kits.{badge_of, badge_for, frame_badge_of, IsHall, ArePostersOf, ArePassesOf}
+use Rattle.dash_stage.specs.Kits.{badge_of, badge_for, frame_badge_of, IsHall, ArePostersOf}
 use Rattle.dash_stage.specs.Controllers.{IsController, CallsNone}
 use Rattle.dash_stage.specs.Stages.{AreThreads, AreLoopers, IsStage, HaveRun, OthersHaveEnded}
 use Rattle.dash_stage.specs.Sharing.{HaveHeard, HaveHeardAt, AtEach, AreReady, HaveSeenAt, HaveSeenTheSame, ThreadKeeps, LooperKeeps, ControllerKeeps, StageKeeps, OfThreads, OfLoopers, OfSenders, posters_of, AreWithin, SharesAt}
@@ -42,9 +43,9 @@ calls_none a b k = record {
   calls = λ q d. dite (dec_lt q (length a.kit.posters.items))
       (λ lt. (k.posters.each q d lt).called)
       (λ not.
-          let past : length a.kit.posters.items ≤ q = omega arith in
-          let past' : length b.kit.posters.items ≤ q = omega (arith, past, k.posters.long) in
-          ap own (get_or_past b.kit.posters.items q d past' ∙ sym (get_or_past a.kit.posters.items q d past)));
+      let past : length a.kit.posters.items ≤ q = omega arith in
+      let past' : length b.kit.posters.items ≤ q = omega (arith, past, k.posters.long) in
+      ap own (get_or_past b.kit.posters.items q d past' ∙ sym (get_or_past a.kit.posters.items q d past)));
 }
 
 -- each looper that has ended stays so
@@ -89,6 +90,7 @@ stage_kept s a b k is =
       pass = ap (λ t. t.home) k.pass ∙ (is.pass ∙ ap (λ h. h.pool) (sym hall));
     }
 
+-- a stage as it is
 pub stage_self : (a : Stage) → StageKeeps HaveHeard a a
 stage_self a = record {
   hall = refl;
@@ -99,6 +101,7 @@ stage_self a = record {
   time = refl;
 }
 
+-- the posters of one queue heard others, and so those of each may have
 pub stage_weaker : (place : ℕ) (whole : List Entry) (a b : Stage) → StageKeeps (HaveHeardAt place whole) a b → StageKeeps HaveHeard a b
 stage_weaker place whole a b k =
     let h = have_heard place whole in
@@ -111,6 +114,7 @@ stage_weaker place whole a b k =
       time = k.time;
     }
 
+-- one after the other
 pub stage_then : (a b c : Stage) → StageKeeps HaveHeard a b → StageKeeps HaveHeard b c → StageKeeps HaveHeard a c
 stage_then a b c f g =
     let h = have_heard_then in
@@ -139,6 +143,7 @@ of_senders_then P Q R h a b k of = record {
 abbrev pub ShareFirst : ℕ → Stage → Type 0
 ShareFirst n st = (q : ℕ) → q < n → (whole : List Entry) × OfSenders (HaveSeenAt q whole) st
 
+-- none of the queues
 pub share_none : (st : Stage) → ShareFirst 0 st
 share_none st = λ q lt. absurd (omega (arith, lt))
 
@@ -146,19 +151,20 @@ share_none st = λ q lt. absurd (omega (arith, lt))
 pub share_more : (n : ℕ) (a b : Stage) → SharesAt n a b → ShareFirst n a → ShareFirst (n + 1) b
 share_more n a b sh all = λ q lt. dite (ℕ_discrete q n)
     (λ e.
-        let any : List Sender → Type 0 = λ ps. ps ≡ ps in
-        let before : OfSenders any a = record { threads = λ k d near. refl; loopers = λ k d near. refl; controller = refl } in
-        subst (λ (m : ℕ). (whole : List Entry) × OfSenders (HaveSeenAt m whole) b) (sym e)
-        (sh.0, of_senders_then any (HaveSeenAt n sh.0) (HaveHeardAt n sh.0) (λ ps qs h u. seen_here n sh.0 ps qs h) a b sh.1 before))
+    let any : List Sender → Type 0 = λ ps. ps ≡ ps in
+    let before : OfSenders any a = record { threads = λ k d near. refl; loopers = λ k d near. refl; controller = refl } in
+    subst (λ (m : ℕ). (whole : List Entry) × OfSenders (HaveSeenAt m whole) b) (sym e)
+    (sh.0, of_senders_then any (HaveSeenAt n sh.0) (HaveHeardAt n sh.0) (λ ps qs h u. seen_here n sh.0 ps qs h) a b sh.1 before))
     (λ not.
-        let w = all q (omega (arith, lt)) in
-        (w.0, of_senders_then (HaveSeenAt q w.0) (HaveSeenAt q w.0) (HaveHeardAt n sh.0) (seen_elsewhere n q sh.0 w.0 not) a b sh.1 w.1))
+    let w = all q (omega (arith, lt)) in
+    (w.0, of_senders_then (HaveSeenAt q w.0) (HaveSeenAt q w.0) (HaveHeardAt n sh.0) (seen_elsewhere n q sh.0 w.0 not) a b sh.1 w.1))
 
 module _ (s : Script) (st : Stage) (is : IsStage s st) where
-  -- each sender has a poster of each queue
+  -- one poster of each queue is as many as there are loopers
   count : (k : ℕ) (ps : List Sender) → ArePostersOf k st.hall.queues.items ps → length ps ≡ s.loopers
   count k ps are = alike_length badge_of (badge_for k) ps st.hall.queues.items are ∙ queue_count s st.hall.pool st.hall.queues.items is.hall.queues
 
+  -- each of the stage's senders has so many
   counts : OfSenders (λ ps. length ps ≡ s.loopers) st
   counts = record {
     threads = λ k d lt. count (get_or st.threads.items k d).number (get_or st.threads.items k d).kit.posters.items (is.threads.1 k d lt).0.posters;
@@ -166,6 +172,7 @@ module _ (s : Script) (st : Stage) (is : IsStage s st) where
     controller = count (controller s) st.controller.kit.posters.items is.controller.posters;
   }
 
+  -- all queues
   pub share_all : (n : ℕ) → s.loopers ≤ n → ShareFirst n st → HaveSeenTheSame st
   share_all n all shared =
       let c = counts in
@@ -178,21 +185,25 @@ module _ (s : Script) (st : Stage) (is : IsStage s st) where
         controller = refl;
       }
 
-  module _ (place : ℕ) (near : place < s.loopers) (queue : Shared _) (at : queue ≡ get_or st.hall.queues.items place queue) where
+  module _ (place : ℕ) (near : place < s.loopers) (queue : Shared TableId) (at : queue ≡ get_or st.hall.queues.items place queue) where
+    -- a sender's posters, one of each queue
     ready : (k : ℕ) (ps : List Sender) → ArePostersOf k st.hall.queues.items ps → AreReady place queue ps
     ready k ps are =
         let within : place < length ps = omega (arith, near, count k ps are) in
-        (within, λ d. subst (λ (q : Shared _). IsOf (get_or ps place d) q) (sym at) (poster_at k st.hall.queues.items ps are place d queue within).0)
+        (within, λ d. subst (λ (q : Shared TableId). IsOf (get_or ps place d) q) (sym at) (poster_at k st.hall.queues.items ps are place d queue within).0)
 
-    -- each sender has a poster of the queue at this place
+    -- each thread has a poster of the queue at this place
     pub threads_ready : OfThreads (AreReady place queue) st.threads.items
     threads_ready k d lt = (let t = get_or st.threads.items k d in ready t.number t.kit.posters.items (is.threads.1 k d lt).0.posters)
 
+    -- so has each looper
     pub loopers_ready : OfLoopers (AreReady place queue) st.loopers.items
     loopers_ready k d lt = (let l = get_or st.loopers.items k d in ready (s.threads + l.number) (posters_of l) (looper_posters s st.hall is.hall l (is.loopers.1 k d lt).0))
 
+    -- and the controller
     pub controller_ready : AreReady place queue st.controller.kit.posters.items
     controller_ready = ready (controller s) st.controller.kit.posters.items is.controller.posters
 
+  -- each looper's number is that of one of its posters
   pub are_within : AreWithin st.loopers.items
   are_within k d lt = looper_within s st.hall is.hall (get_or st.loopers.items k d) (is.loopers.1 k d lt).0

@@ -1,5 +1,5 @@
 -- A thread whose posters hear others.
-use Rattle.std.proofs.Common.{◌≡◌, ℕ, ◌+◌, ◌<◌, ◌≤◌, List, map, length, get_or, refl, sym, ap, ◌∙◌, subst, arith}
+use Rattle.std.proofs.Common.{◌≡◌, ℕ, ◌<◌, List, map, length, get_or, refl, sym, ap, ◌∙◌, subst, arith}
 use mathlib.Core.List.{IsPrefix}
 use Rattle.loop_model.specs.declared.entry.Entry.{Entry}
 use Rattle.looper_run.specs.Holding.{Sender}
@@ -30,6 +30,7 @@ thread_tells_more place xs ys p a b t = record { kept = t.kept; told = known_mor
 pub of_next : (P : List Sender → Type 0) (R : PostingThread → PostingThread → Type 0) (xs ys : List PostingThread) (k : ℕ) (e : PostingThread) → OfThreads P xs → FirstAre R k xs ys → k < length ys → P ((get_or ys k e).kit.posters.items)
 of_next P R xs ys k e of f lt = subst (λ (t : PostingThread). P (t.kit.posters.items)) (sym (f.rest k e (omega arith))) (of k e (next_within R xs ys k f lt))
 
+-- one after the other
 pub thread_then : (R S T : List Sender → List Sender → Type 0) → ((a b c : List Sender) → R a b → S b c → T a c) → (x y z : PostingThread) → ThreadKeeps R x y → ThreadKeeps S y z → ThreadKeeps T x z
 thread_then R S T h x y z f g = record {
   number = g.number ∙ f.number;
@@ -41,9 +42,11 @@ thread_then R S T h x y z f g = record {
   gave_up = g.gave_up ∙ f.gave_up;
 }
 
+-- a thread as it is
 pub thread_self : (R : List Sender → List Sender → Type 0) → ((a : List Sender) → R a a) → (x : PostingThread) → ThreadKeeps R x x
 thread_self R h x = record { number = refl; posters = h x.kit.posters.items; pass = refl; frames = refl; barriers = refl; passed = refl; gave_up = refl }
 
+-- what follows from it for the posters
 pub thread_weaker : (R S : List Sender → List Sender → Type 0) → ((a b : List Sender) → R a b → S a b) → (x y : PostingThread) → ThreadKeeps R x y → ThreadKeeps S x y
 thread_weaker R S h x y f = record {
   number = f.number;

@@ -1,4 +1,4 @@
-use Rattle.std.proofs.Common.{◌≡◌, sym, subst}
+use Rattle.std.proofs.Common.{sym, subst}
 use Rattle.shared_queue.proofs.Prefixes.{prefix_self}
 use Rattle.looper_run.specs.Holding.{Sender}
 use Rattle.dash_stage.specs.Sharing.{AreKept, AreReady, AreKnown, OfLoopers}

@@ -1,4 +1,4 @@
-use Rattle.std.proofs.Common.{◌≡◌, ◌<◌, length, slice_index_or, sym, ◌∙◌, subst, arith}
+use Rattle.std.proofs.Common.{◌<◌, length, slice_index_or, sym, ◌∙◌, subst, arith}
 use Rattle.looper_run.specs.Holding.{Sender}
 use Rattle.dash_stage.specs.Sharing.{AreKnown, HaveHeardAt, ThreadKeeps, OfThreads}
 use Rattle.dash_stage.proofs.Sharing.{first_more}

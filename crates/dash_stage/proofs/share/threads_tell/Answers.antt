@@ -1,4 +1,4 @@
-use Rattle.std.proofs.Common.{◌≡◌, ◌<◌, ◌≤◌, length, arith}
+use Rattle.std.proofs.Common.{◌<◌, ◌≤◌, length, arith}
 use Rattle.dash_stage.proofs.Hearing.{heard_then}
 use Rattle.dash_stage.proofs.Sharing.{first_more, first_all, first_weaker}
 use Rattle.dash_stage.proofs.ThreadShares.{ThreadTells, thread_tells_more}

@@ -1,4 +1,4 @@
-use Rattle.std.proofs.Common.{◌≡◌, ◌∙◌, refl}
+use Rattle.std.proofs.Common.{◌∙◌, refl}
 use Rattle.dash_stage.proofs.Hearing.{has_heard, heard_at, known_is, longer_whole}
 use Rattle.dash_stage.proofs.thread.PostingThread.hear.Goals as goal
 
