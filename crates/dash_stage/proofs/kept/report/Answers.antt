@@ -1,4 +1,4 @@
-use Rattle.std.proofs.Common.{◌≡◌, true, List, refl, sym, subst, ap, ◌∙◌, map}
+use Rattle.std.proofs.Common.{◌≡◌, true, List, refl, sym, subst}
 use Rattle.std.specs.List.{AllByRecursion}
 use Rattle.loop_model.specs.declared.journal.Journal.{Journal}
 use Rattle.loop_model.specs.declared.record.QueueRecord.{QueueRecord}
@@ -19,8 +19,8 @@ returns-in-Ok c =
     let halted = subst (λ (l : List QueueRecord). main_ends_halted l ≡ true) (sym c.from_vec.ensures) c.in-Ok.ensures.halted in
     let timely = subst (λ (l : List QueueRecord). AllByRecursion (IsTimely s) l) (sym c.from_vec.ensures) c.in-Ok.ensures.timely in
     let dispatched =
-    subst (λ (l : List QueueRecord). EachLooper (IsDispatched s) l c.from_vec-in-Ok.result.items c.from_vec-in-Ok-2.result.items) (sym c.from_vec.ensures)
-    (subst (λ (l : List Journal). EachLooper (IsDispatched s) c.in-Ok.queues.items l c.from_vec-in-Ok-2.result.items) (sym c.from_vec-in-Ok.ensures)
+    subst (λ (l : List QueueRecord). EachLooper (IsDispatched s) l c.from_vec-in-Ok.result c.from_vec-in-Ok-2.result) (sym c.from_vec.ensures)
+    (subst (λ (l : List Journal). EachLooper (IsDispatched s) c.in-Ok.queues.items l c.from_vec-in-Ok-2.result) (sym c.from_vec-in-Ok.ensures)
     (subst (λ (l : List FrameRecord). EachLooper (IsDispatched s) c.in-Ok.queues.items c.in-Ok.journals.items l) (sym c.from_vec-in-Ok-2.ensures) c.in-Ok.ensures.dispatches)) in
     let runs = subst (λ (l : List FrameRecord). AllByRecursion (IsFrameRun s) l) (sym c.from_vec-in-Ok-2.ensures) c.in-Ok.ensures.run in
     let frames = subst (λ (l : List FrameRecord). AreFrameRecords s l) (sym c.from_vec-in-Ok-2.ensures) c.in-Ok.ensures.frames in record {
