@@ -1,5 +1,5 @@
 -- What all senders have seen of the queues at the end is what the records keep, so that the records are timely.
-use Rattle.std.proofs.Common.{◌≡◌, ◌<◌, ◌+◌, ◌==◌, ℕ, zero, suc, true, List, [], ◌∷◌, ◌++◌, map, length, refl, sym, ap, ◌∙◌, subst, arith, slice_index_or}
+use Rattle.std.proofs.Common.{◌≡◌, ◌<◌, ◌==◌, ℕ, suc, true, List, [], ◌∷◌, ◌++◌, map, length, sym, ap, ◌∙◌, subst, arith, slice_index_or}
 use Rattle.std.specs.List.{remove, AllByRecursion}
 use Rattle.std.proofs.lemmas.List.{get_or-map}
 use mathlib.Core.List.{IsPrefix}
@@ -16,19 +16,17 @@ use Rattle.run_model.specs.Moments.{in_lockstep}
 use Rattle.run_model.specs.Planned.{lines_of, labels_on, lines_on}
 use Rattle.run_model.specs.Senders.{controller, sender_count}
 use Rattle.run_model.specs.Control.{is_advanced_in_time, ends_halted, befores, At, are_on_time}
-use Rattle.run_model.specs.Run.{IsHistory, IsTimely, IsThreadOnTime, all_entries, setting_of, main_ends_halted}
+use Rattle.run_model.specs.Run.{IsHistory, IsTimely, all_entries, setting_of, main_ends_halted}
 use Rattle.dash_stage.specs.declared.hall.Hall.{Hall}
 use Rattle.dash_stage.specs.declared.kit.Kit.{Kit}
 use Rattle.dash_stage.specs.declared.thread.PostingThread.{PostingThread}
 use Rattle.dash_stage.specs.declared.looper.StageLooper.{StageLooper}
 use Rattle.dash_stage.specs.declared.control.Controller.{Controller}
-use Rattle.dash_stage.specs.declared.stage.Stage.{Stage}
-use Rattle.dash_stage.specs.Growth.{own}
-use Rattle.dash_stage.specs.Kits.{badge_of, badge_for, ArePostersOf, IsHall, AreKitsOf}
+use Rattle.dash_stage.specs.Kits.{badge_of, badge_for, IsHall, AreKitsOf}
 use Rattle.dash_stage.specs.Loopers.{setting_for}
 use Rattle.dash_stage.specs.Records.{AreQueueRecords, HaveAll}
 use Rattle.dash_stage.specs.Sharing.{seen_by, posters_of, HaveSeenAll, OfThreads, OfLoopers, OfKits}
-use Rattle.dash_stage.specs.Timeliness.{whole_on, IsSoundOn, IsTimelyUpTo, AreTimelyUpTo, HasHaltedLast}
+use Rattle.dash_stage.specs.Timeliness.{whole_on, IsSoundOn, IsTimelyUpTo}
 use Rattle.dash_stage.proofs.Badges.{alike_length, queue_count, poster_at}
 use Rattle.dash_stage.proofs.Casting.{first_more}
 use Rattle.dash_stage.proofs.HallEnds.{some_of}

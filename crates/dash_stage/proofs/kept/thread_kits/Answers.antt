@@ -1,6 +1,5 @@
-use Rattle.std.proofs.Common.{rules, ◌≡◌, ◌<◌, List, [], length, sym, subst, arith}
-use Rattle.dash_stage.specs.declared.kit.Kit.{Kit}
-use Rattle.dash_stage.specs.Sharing.{HaveSeenAll, OfKits}
+use Rattle.std.proofs.Common.{rules, ◌<◌, length}
+use Rattle.dash_stage.specs.Sharing.{HaveSeenAll}
 use Rattle.dash_stage.proofs.Carried.{thread_back, threads_start}
 use Rattle.dash_stage.proofs.TimelyRecords.{thread_gives, none_yet}
 use Rattle.dash_stage.proofs.kept.thread_kits.Goals as goal
