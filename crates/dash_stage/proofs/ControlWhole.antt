@@ -1,5 +1,5 @@
 -- By its turns a poster of the controller finds a history, and leaves it as it was or makes one entry more.
-use Rattle.std.proofs.Common.{◌≡◌, ◌≢◌, ◌<◌, ◌≤◌, ◌+◌, ◌⊎◌, ◌++◌, ℕ, Bool, true, List, [], ◌∷◌, length, length-set, refl, sym, ap, ◌∙◌, subst, inl, inr, arith}
+use Rattle.std.proofs.Common.{◌≡◌, ◌≢◌, ◌<◌, ◌≤◌, ◌+◌, ◌⊎◌, ◌++◌, ℕ, Bool, true, [], ◌∷◌, length, length-set, refl, sym, ap, ◌∙◌, subst, inl, inr}
 use Rattle.std.specs.Prelude.{slice_index_or}
 use Rattle.std.proofs.lemmas.List.{get_or-set_other, get_or_default}
 use mathlib.Core.List.{IsPrefix}
@@ -10,9 +10,9 @@ use Rattle.loop_model.specs.Answers.{is_over}
 use Rattle.loop_model.specs.Base.{empty_base}
 use Rattle.loop_model.specs.declared.entry.Entry.{Entry}
 use Rattle.loop_model.specs.declared.call.Call.{Call}
-use Rattle.loop_model.specs.declared.call.Call.TheVariants.{Quit, Advance, Halt}
+use Rattle.loop_model.specs.declared.call.Call.TheVariants.{Quit, Halt}
 use Rattle.loop_model.specs.declared.reply.Reply.{Reply}
-use Rattle.loop_model.specs.declared.reply.Reply.TheVariants.{QuitDone, AlreadyQuit, NotAllowed, Advanced, Halted}
+use Rattle.loop_model.specs.declared.reply.Reply.TheVariants.{QuitDone, AlreadyQuit, NotAllowed, Halted}
 use Rattle.atomic_table.specs.Seated.{TableId}
 use Rattle.message_pool.specs.Passes.{Claimed, Tally}
 use Rattle.queue_state.specs.declared.answers.Quitting.{Quitting}
@@ -28,7 +28,7 @@ use Rattle.run_model.specs.Senders.{sender_count}
 use Rattle.dash_stage.specs.Controllers.{calls_on, time_in}
 use Rattle.dash_stage.specs.declared.control.Controller.{Controller}
 use Rattle.dash_stage.specs.Growth.{own, QuitsOf}
-use Rattle.dash_stage.specs.Timeliness.{TurnsOn, EachTurnsOn, MovesTo, MovesNot, IsNone, whole_on}
+use Rattle.dash_stage.specs.Timeliness.{TurnsOn, EachTurnsOn, MovesNot, IsNone, whole_on}
 use Rattle.dash_stage.proofs.ControlTurns.{with_poster, found_own, poster_here}
 use Rattle.dash_stage.proofs.Timely.{ends_halted-snoc}
 
@@ -39,7 +39,7 @@ turns_stay p = record { found = p.view.seen; begins = prefix_self p.view.seen; m
 -- the first made no entry, so what the second found goes on from what was seen before both
 pub turns_behind : {P : Entry → Type 0} (a b c : Sender) → TurnsOn IsNone a b → TurnsOn P b c → TurnsOn P a c
 turns_behind a b c f g =
-    let seen : b.view.seen ≡ f.found = elim f.step [ | inl same ↦ same | inr one ↦ absurd one.2 ] in
+    let seen : b.view.seen ≡ f.found = elim f.step [ inl same ↦ same | inr one ↦ absurd one.2 ] in
     let begins : IsPrefix a.view.seen g.found = prefix_trans a.view.seen b.view.seen g.found (subst (IsPrefix a.view.seen) (sym seen) f.begins) g.begins in
     let made : entries_by a.sender g.found ≡ own a =
     subst (λ (n : ℕ). entries_by n g.found ≡ entries_by n b.view.seen) f.sender g.made ∙ (ap (entries_by a.sender) seen ∙ f.made) in
