@@ -44,7 +44,7 @@ module _ (s : Script) (c c' : Controller) (none : CallsNone c c') where
 
   -- it moves the queues' time on, as before
   pub moving_kept : IsMoving s c → IsMoving s c'
-  moving_kept moving q = moves_kept q (moving q)
+  moving_kept = by_kept c c' none s.end
 
   -- main has come to the same time
   pub reached_kept : (time : ℕ) → HasReached time c → HasReached time c'
