@@ -39,3 +39,4 @@ pub mod ThreadFrameRuns
 pub mod Timely
 pub mod StageWhole
 pub mod StageMoves
+pub mod StageDue
