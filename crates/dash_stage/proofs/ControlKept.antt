@@ -8,6 +8,7 @@ use Rattle.looper_run.specs.Holding.{Sender}
 use Rattle.run_model.specs.Control.{are_controls}
 use Rattle.dash_stage.specs.declared.control.Controller.{Controller}
 use Rattle.dash_stage.specs.Controllers.{are_advances, time_in, calls_on, OnlyMoves, MovesAndQuits, IsMoving, HasReached, IsQuitting, IsClosing, CallsNone}
+use Rattle.dash_stage.specs.Timeliness.{AreBy}
 use Rattle.dash_stage.proofs.Controls.{advances_may_quit}
 
 -- the same controller has called nothing more
@@ -29,6 +30,10 @@ pub calls_kept : (c c' : Controller) → length c'.kit.posters.items ≡ length 
     → ((d : Sender) → q < length c.kit.posters.items → P (calls_on c q d))
     → (d : Sender) → q < length c'.kit.posters.items → P (calls_on c' q d)
 calls_kept c c' long q same P h d lt = subst P (sym (same d)) (h d (subst (λ (n : ℕ). q < n) long lt))
+
+-- it has moved no queue past this time, as before
+pub by_kept : (c c' : Controller) → CallsNone c c' → (time : ℕ) → AreBy time c → AreBy time c'
+by_kept c c' none time by q = calls_kept c c' none.long q (none.calls q) (λ l. are_advances time l ≡ true) (by q)
 
 module _ (s : Script) (c c' : Controller) (none : CallsNone c c') where
   moves_kept : (q : ℕ) → OnlyMoves s c q → OnlyMoves s c' q

@@ -1,13 +1,12 @@
 -- What the stage knows of its controller's calls, and of a kit that was not used.
-use Rattle.std.proofs.Common.{◌≡◌, ◌<◌, ◌+◌, ℕ, List, [], length, true, refl, sym, ap, subst, arith, slice_index_or}
+use Rattle.std.proofs.Common.{◌≡◌, ℕ, List, true, refl, sym, subst, arith}
 use mathlib.Core.Logic.{dite}
 use native.Mathlib.Decide.{dec_lt}
 use Rattle.loop_model.specs.declared.entry.Entry.{Entry}
 use Rattle.dash_script.specs.declared.script.Script.{Script}
-use Rattle.dash_stage.specs.declared.kit.Kit.{Kit}
 use Rattle.dash_stage.specs.declared.control.Controller.{Controller}
 use Rattle.dash_stage.specs.Controllers.{are_advances, IsMoving, IsQuitting, IsClosing}
-use Rattle.dash_stage.specs.Runs.{IsUnusedKit, AreUnusedKits}
+use Rattle.dash_stage.specs.Runs.{IsUnusedKit}
 use Rattle.dash_stage.proofs.ControlKept.{moves_may_quit}
 
 -- behind the last queue each but main may have been quit

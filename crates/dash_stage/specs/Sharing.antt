@@ -7,6 +7,7 @@ use Rattle.loop_model.specs.declared.entry.Entry.{Entry}
 use Rattle.shared_queue.specs.Known.{Shared, IsOf, IsSame}
 use Rattle.looper_run.specs.Holding.{Sender, IsBeside}
 use Rattle.choreographer.specs.Known.{Known as Pass}
+use Rattle.dash_stage.specs.declared.kit.Kit.{Kit}
 use Rattle.dash_stage.specs.declared.view_root.ViewRoot.{ViewRoot}
 use Rattle.dash_stage.specs.declared.player.Parts.{Parts}
 use Rattle.dash_stage.specs.declared.thread.PostingThread.{PostingThread}
@@ -135,6 +136,10 @@ SharesAt place before after = (whole : List Entry) × StageKeeps (HaveHeardAt pl
 abbrev pub HaveSeenAll : List (List Entry) → List Sender → Type 0
 HaveSeenAll whole posters = seen_by posters ≡ whole
 
+-- so it is with the posters of each kit
+abbrev pub OfKits : (List Sender → Type 0) → List Kit → Type 0
+OfKits P kits = (k : ℕ) (d : Kit) → k < length kits → P (slice_index_or kits k d).posters.items
+
 -- all senders have seen the same of each queue's history
 abbrev pub HaveSeenTheSame : Stage → Type 0
 HaveSeenTheSame st = OfSenders (HaveSeenAll (seen_by st.controller.kit.posters.items)) st
@@ -143,5 +148,6 @@ HaveSeenTheSame st = OfSenders (HaveSeenAll (seen_by st.controller.kit.posters.i
 abbrev pub IsWithin : StageLooper → Type 0
 IsWithin l = l.number ≤ length (others_in l.parts)
 
+-- so it is with each looper
 abbrev pub AreWithin : List StageLooper → Type 0
 AreWithin ls = (k : ℕ) (d : StageLooper) → k < length ls → IsWithin (slice_index_or ls k d)

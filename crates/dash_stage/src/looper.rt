@@ -3,6 +3,7 @@ ghost use Rattle.std.specs.Prelude.{◌≡◌, ◌+◌, ◌<◌, true, false, If
 ghost use Rattle.looper_run.specs.Round.{is_ended};
 ghost use Rattle.dash_stage.specs.Kits.{IsHall, IsKitOf, HasSeenOver};
 ghost use Rattle.dash_stage.specs.Runs.{IsUnusedKit};
+ghost use Rattle.dash_stage.specs.Sharing.{posters_of};
 ghost use Rattle.dash_stage.specs.Timeliness.{ComesToWait};
 ghost use Rattle.dash_stage.specs.Loopers.{IsLooper, HasRun, HasTold, is_given_up, until_of};
 
@@ -162,6 +163,7 @@ impl StageLooper {
         ensures kit { IfOk result (λ r. IsKitOf script.now hall.now (script.now.threads + self.number) r.1) }
         ensures told { IfOk result (λ r. is_given_up self.last ≡ false → HasTold script.now self.number r.0 r.1) }
         ensures over { IfOk result (λ r. is_ended self.last ≡ true → HasSeenOver script.now self.number r.1) }
+        ensures posters { IfOk result (λ r. r.1.posters.items ≡ posters_of self) }
     {
         let StageLooper {
             number,

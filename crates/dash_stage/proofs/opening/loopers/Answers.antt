@@ -1,4 +1,4 @@
-use Rattle.std.proofs.Common.{◌≡◌, ◌<◌, ◌+◌, length, sym, subst, arith}
+use Rattle.std.proofs.Common.{◌<◌, length, sym, subst, arith}
 use Rattle.dash_stage.specs.Runs.{AreUnusedKits}
 use Rattle.dash_stage.proofs.Casting.{looper_made}
 use Rattle.dash_stage.proofs.Carried.{other_unused}

@@ -1,4 +1,4 @@
-use Rattle.std.proofs.Common.{◌≡◌, ◌<◌, length, sym, subst, arith}
+use Rattle.std.proofs.Common.{◌<◌, length, sym, subst, arith}
 use Rattle.dash_stage.specs.Runs.{IsUnusedKit}
 use Rattle.dash_stage.proofs.Carried.{unused_kits}
 use Rattle.dash_stage.proofs.StageControls.{unused_moves}

@@ -2,18 +2,8 @@ use Rattle.std.proofs.Common.{◌≡◌, ◌<◌, ◌≤◌, ◌∙◌, List, sy
 use Rattle.dash_script.specs.declared.script.Block.{Block}
 use Rattle.dash_stage.specs.Controllers.{IsMoving}
 use Rattle.dash_stage.proofs.Blocks.{have_run_more, have_run_all}
-use Rattle.dash_stage.proofs.Limits.{before_end}
 use Rattle.dash_stage.proofs.ControlKept.{moving_kept}
 use Rattle.dash_stage.proofs.stage.Stage.play.Goals as goal
-
-pub go_to-requires-clause-end : goal.go_to-requires-clause-end
-go_to-requires-clause-end g c κs within =
-    let s = c.args.script.now in
-    let b = c.block-item.result in
-    let whole = c.as_slice-block-items.ensures in
-    let lt = subst (λ (l : List Block). c.loop-block.block-index < length l) whole c.loop-block-test.true in
-    let is = subst (λ (l : List Block). b ≡ slice_index_or l c.loop-block.block-index b) whole c.block-item.is in
-    before_end s c.loop-block.block-index b c.requires.text lt is
 
 pub loop-block-preserved : goal.loop-block-preserved
 loop-block-preserved g c =
