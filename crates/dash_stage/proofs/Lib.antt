@@ -44,4 +44,5 @@ pub mod Timely
 pub mod TimelyRecords
 pub mod StageWhole
 pub mod StageMoves
+pub mod StageDue
 pub mod Hearing

@@ -101,15 +101,10 @@ impl Stage {
         ensures at { OnOk result (AreAtTime script.now time self.new) }
     {
         for _ in rt.forever() {
-            match self.next_due(rt, script) {
-                Some(due) if due < time => {
-                    self.advance(rt, script, due)?;
-                }
-                _ => {
-                    if self.advance(rt, script, time)? {
-                        return Ok(());
-                    }
-                }
+            let next = at_most(self.next_due(rt, script), time);
+            let moved = self.advance(rt, script, next)?;
+            if moved && next == time {
+                return Ok(());
             }
             self.run_rounds(rt, alloc, script, gate, Turn::All)?;
         }
@@ -340,6 +335,17 @@ impl Stage {
             }
         }
         true
+    }
+}
+
+/// The time, or this one where there is none or a later one.
+fn at_most(time: Option<u64>, last: u64) -> u64
+    ensures within { result ≤ last }
+    ensures early { NotLater result time }
+{
+    match time {
+        Some(due) => due.min(last),
+        None => last,
     }
 }
 
