@@ -10,9 +10,7 @@ pub mod LooperLent
 pub mod LooperOver
 pub mod LooperTold
 pub mod LooperKits
-pub mod LooperSeats
 pub mod ThreadGrowth
-pub mod Hearing
 pub mod ThreadCalls
 pub mod HallGets
 pub mod HallPasses
@@ -36,6 +34,13 @@ pub mod ThreadRuns
 pub mod ThreadBlocks
 pub mod ThreadFrames
 pub mod ThreadFrameRuns
+pub mod Sharing
+pub mod Hearing
+pub mod LooperSeats
+pub mod ThreadShares
+pub mod LooperShares
+pub mod StageShares
 pub mod Timely
 pub mod StageWhole
 pub mod StageMoves
+pub mod StageTurns

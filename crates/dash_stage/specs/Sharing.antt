@@ -143,5 +143,6 @@ HaveSeenTheSame st = OfSenders (HaveSeenAll (seen_by st.controller.kit.posters.i
 abbrev pub IsWithin : StageLooper → Type 0
 IsWithin l = l.number ≤ length (others_in l.parts)
 
+-- so it is with each looper
 abbrev pub AreWithin : List StageLooper → Type 0
 AreWithin ls = (k : ℕ) (d : StageLooper) → k < length ls → IsWithin (slice_index_or ls k d)

@@ -1,9 +1,7 @@
 //! All senders come to have seen the same of each queue's history.
 ghost use Rattle.std.specs.Prelude.{◌≡◌, ◌<◌, List};
-ghost use mathlib.Core.List.{IsPrefix};
 ghost use Rattle.dash_script.specs.declared.script.Block.{Block};
 ghost use Rattle.shared_queue.specs.Known.{IsOf};
-ghost use Rattle.looper_run.specs.Holding.{Sender};
 ghost use Rattle.dash_stage.specs.Controllers.{CallsNone};
 ghost use Rattle.dash_stage.specs.Players.{PlaceWithout};
 ghost use Rattle.dash_stage.specs.Stages.{IsStage, HaveRun, OthersHaveEnded};

@@ -1,0 +1,96 @@
+-- A thread whose posters hear others.
+use Rattle.std.proofs.Common.{◌≡◌, ℕ, ◌<◌, List, map, length, get_or, refl, sym, ap, ◌∙◌, subst, arith}
+use mathlib.Core.List.{IsPrefix}
+use Rattle.loop_model.specs.declared.entry.Entry.{Entry}
+use Rattle.looper_run.specs.Holding.{Sender}
+use Rattle.dash_stage.specs.declared.thread.PostingThread.{PostingThread}
+use Rattle.dash_stage.specs.Sharing.{HaveHeard, AtEach, AreKept, AreKnown, ThreadKeeps, OfThreads}
+use Rattle.dash_script.specs.declared.script.Script.{Script}
+use Rattle.choreographer.specs.Known.{Known as Pass}
+use Rattle.run_model.specs.Asks.{tokens_in}
+use Rattle.run_model.specs.Moments.{in_lockstep}
+use Rattle.run_model.specs.Planned.{Timed, lines_of, labels_on, MakeCalls}
+use Rattle.dash_stage.specs.declared.hall.Hall.{Hall}
+use Rattle.dash_stage.specs.Growth.{own}
+use Rattle.dash_stage.specs.Kits.{frame_badge_of, ArePostersOf, ArePassesOf}
+use Rattle.dash_stage.specs.Threads.{IsThread, IsUpTo, labels_kept, tokens_kept, HasPosted, HasRemoved}
+use Rattle.dash_stage.proofs.Hearing.{known_more, heard_badges}
+use Rattle.dash_stage.proofs.Sharing.{FirstAre, next_within}
+
+-- a thread that is kept, and whose poster at this place is known
+pub record ThreadTells (place : ℕ) (whole : List Entry) (before after : PostingThread) : Type 0 where
+  pub kept : ThreadKeeps AreKept before after
+  pub told : AreKnown place whole before.kit.posters.items
+
+-- more is known
+pub thread_tells_more : (place : ℕ) (xs ys : List Entry) → IsPrefix xs ys → (a b : PostingThread) → ThreadTells place xs a b → ThreadTells place ys a b
+thread_tells_more place xs ys p a b t = record { kept = t.kept; told = known_more a.kit.posters.items place xs ys p t.told }
+
+-- what holds of the next thread's posters, where the loop reads it
+pub of_next : (P : List Sender → Type 0) (R : PostingThread → PostingThread → Type 0) (xs ys : List PostingThread) (k : ℕ) (e : PostingThread) → OfThreads P xs → FirstAre R k xs ys → k < length ys → P ((get_or ys k e).kit.posters.items)
+of_next P R xs ys k e of f lt = subst (λ (t : PostingThread). P (t.kit.posters.items)) (sym (f.rest k e (omega arith))) (of k e (next_within R xs ys k f lt))
+
+-- one after the other
+pub thread_then : (R S T : List Sender → List Sender → Type 0) → ((a b c : List Sender) → R a b → S b c → T a c) → (x y z : PostingThread) → ThreadKeeps R x y → ThreadKeeps S y z → ThreadKeeps T x z
+thread_then R S T h x y z f g = record {
+  number = g.number ∙ f.number;
+  posters = h x.kit.posters.items y.kit.posters.items z.kit.posters.items f.posters g.posters;
+  pass = g.pass ∙ f.pass;
+  frames = g.frames ∙ f.frames;
+  barriers = g.barriers ∙ f.barriers;
+  passed = g.passed ∙ f.passed;
+  gave_up = g.gave_up ∙ f.gave_up;
+}
+
+-- a thread as it is
+pub thread_self : (R : List Sender → List Sender → Type 0) → ((a : List Sender) → R a a) → (x : PostingThread) → ThreadKeeps R x x
+thread_self R h x = record { number = refl; posters = h x.kit.posters.items; pass = refl; frames = refl; barriers = refl; passed = refl; gave_up = refl }
+
+-- what follows from it for the posters
+pub thread_weaker : (R S : List Sender → List Sender → Type 0) → ((a b : List Sender) → R a b → S a b) → (x y : PostingThread) → ThreadKeeps R x y → ThreadKeeps S x y
+thread_weaker R S h x y f = record {
+  number = f.number;
+  posters = h x.kit.posters.items y.kit.posters.items f.posters;
+  pass = f.pass;
+  frames = f.frames;
+  barriers = f.barriers;
+  passed = f.passed;
+  gave_up = f.gave_up;
+}
+
+-- what holds of the threads' posters before holds of them after
+pub of_threads_then : (P Q : List Sender → Type 0) (R : List Sender → List Sender → Type 0) → ((a b : List Sender) → R a b → P a → Q b) → (xs ys : List PostingThread) → AtEach (ThreadKeeps R) xs ys → OfThreads P xs → OfThreads Q ys
+of_threads_then P Q R h xs ys e of = λ k d lt.
+    let long = e.long in
+    let within : k < length xs = omega (arith, lt) in
+    h (get_or xs k d).kit.posters.items (get_or ys k d).kit.posters.items (e.each k d within).posters (of k d within)
+
+-- a thread stays one
+pub thread_kept : (s : Script) (hall : Hall) (a b : PostingThread) → ThreadKeeps HaveHeard a b → IsThread s hall a → IsThread s hall b
+thread_kept s hall a b k is = record {
+  number = subst (λ (n : ℕ). n < s.threads) (sym k.number) is.number;
+  posters = subst (λ (n : ℕ). ArePostersOf n hall.queues.items b.kit.posters.items) (sym k.number) (heard_badges a.kit.posters.items b.kit.posters.items k.posters ∙ is.posters);
+  frames = subst (λ (n : ℕ). ArePassesOf n hall.choreographers.items b.kit.frames.items) (sym k.number) (ap (λ v. map frame_badge_of v.items) k.frames ∙ is.frames);
+  pass = ap (λ t. t.home) k.pass ∙ is.pass;
+}
+
+-- and has come as far
+pub up_to_kept : (s : Script) (past : List Timed) (a b : PostingThread) → ThreadKeeps HaveHeard a b → IsUpTo s past a → IsUpTo s past b
+up_to_kept s past a b k up =
+    let long = k.posters.long in
+    let barriers : b.barriers.items ≡ a.barriers.items = ap (λ v. v.items) k.barriers in
+    let frames : b.kit.frames.items ≡ a.kit.frames.items = ap (λ v. v.items) k.frames in
+    record {
+      called = λ q d lt.
+          let near : q < length a.kit.posters.items = omega (arith, lt) in
+          subst (λ (es : List Entry). MakeCalls in_lockstep s (labels_on q (lines_of b.number s.blocks)) q past es) (sym (k.posters.each q d near).called)
+          (subst (λ (n : ℕ). MakeCalls in_lockstep s (labels_on q (lines_of n s.blocks)) q past (own (get_or a.kit.posters.items q d))) (sym k.number) (up.called q d near));
+      barriers = record {
+        labels = λ q. ap (labels_kept q) barriers ∙ up.barriers.labels q;
+        tokens = λ q d lt.
+            let near : q < length a.kit.posters.items = omega (arith, lt) in
+            ap (tokens_kept q) barriers ∙ (up.barriers.tokens q d near ∙ ap tokens_in (sym (k.posters.each q d near).called));
+      };
+      posted = subst (λ (fs : List Pass). HasPosted past fs) (sym frames) up.posted;
+      removed = subst (λ (fs : List Pass). HasRemoved past fs) (sym frames) up.removed;
+    }

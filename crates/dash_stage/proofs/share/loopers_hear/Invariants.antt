@@ -1,0 +1,7 @@
+use Rattle.std.proofs.Common.{◌≡◌}
+use Rattle.dash_stage.specs.Sharing.{LooperKeeps, HaveHeardAt}
+use Rattle.dash_stage.proofs.Sharing.{FirstAre}
+use Rattle.dash_stage.proofs.share.loopers_hear.Given as goal
+
+abbrev pub invariant-loop-k : goal.invariant-loop-k
+invariant-loop-k l = FirstAre (LooperKeeps (HaveHeardAt l.place l.initial.other.view.seen)) l.k l.initial.loopers l.loopers × (l.other ≡ l.initial.other)

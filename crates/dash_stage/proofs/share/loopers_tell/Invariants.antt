@@ -1,0 +1,7 @@
+use Rattle.dash_stage.specs.Sharing.{HasHeard}
+use Rattle.dash_stage.proofs.Sharing.{FirstAre}
+use Rattle.dash_stage.proofs.LooperShares.{LooperTells}
+use Rattle.dash_stage.proofs.share.loopers_tell.Given as goal
+
+abbrev pub invariant-loop-k : goal.invariant-loop-k
+invariant-loop-k l = FirstAre (LooperTells l.place l.other.view.seen) l.k l.initial.loopers l.loopers × HasHeard l.initial.other l.other

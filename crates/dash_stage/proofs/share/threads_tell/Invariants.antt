@@ -1,0 +1,7 @@
+use Rattle.dash_stage.specs.Sharing.{HasHeard}
+use Rattle.dash_stage.proofs.Sharing.{FirstAre}
+use Rattle.dash_stage.proofs.ThreadShares.{ThreadTells}
+use Rattle.dash_stage.proofs.share.threads_tell.Given as goal
+
+abbrev pub invariant-loop-k : goal.invariant-loop-k
+invariant-loop-k l = FirstAre (ThreadTells l.place l.other.view.seen) l.k l.initial.threads l.threads × HasHeard l.initial.other l.other

@@ -1,0 +1,62 @@
+use Rattle.std.proofs.Common.{List, refl, sym, subst, arith}
+use Rattle.std.proofs.lemmas.List.{with_items_is}
+use Rattle.dash_stage.specs.declared.thread.PostingThread.{PostingThread}
+use Rattle.dash_stage.specs.declared.looper.StageLooper.{StageLooper}
+use Rattle.dash_stage.specs.Sharing.{HaveHeardAt, AtEach, AreReady, AreWithin, ThreadKeeps, LooperKeeps, OfThreads, OfLoopers}
+use Rattle.dash_stage.proofs.Controlling.{in_queues, in_posters}
+use Rattle.dash_stage.proofs.Hearing.{ready_is, heard_at}
+use Rattle.dash_stage.proofs.StageShares.{threads_ready, loopers_ready, controller_ready, are_within}
+use Rattle.dash_stage.proofs.stage.Stage.share_queue.Goals as goal
+
+pub index-requires : goal.index-requires
+index-requires c = in_queues c.args.script.now c.args.self.now.hall c.requires.stage.hall c.args.place c.requires.place
+
+pub index_mut-requires : goal.index_mut-requires
+index_mut-requires c = in_posters c.args.script.now c.args.self.now.hall c.requires.stage.hall c.args.place c.requires.place c.args.self.now.controller c.requires.stage.controller
+
+pub share_by-requires-clause-threads : goal.share_by-requires-clause-threads
+share_by-requires-clause-threads c =
+    subst (OfThreads (AreReady c.args.place c.index.result.now)) (sym c.as_mut_slice.ensures.value)
+    (threads_ready c.args.script.now c.args.self.now c.requires.stage c.args.place c.requires.place c.index.result.now c.index.ensures)
+
+pub share_by-requires-clause-loopers : goal.share_by-requires-clause-loopers
+share_by-requires-clause-loopers c =
+    subst (OfLoopers (AreReady c.args.place c.index.result.now)) (sym c.as_mut_slice-2.ensures.value)
+    (loopers_ready c.args.script.now c.args.self.now c.requires.stage c.args.place c.requires.place c.index.result.now c.index.ensures)
+
+pub share_by-requires-clause-within : goal.share_by-requires-clause-within
+share_by-requires-clause-within c = subst AreWithin (sym c.as_mut_slice-2.ensures.value) (are_within c.args.script.now c.args.self.now c.requires.stage)
+
+pub share_by-requires-clause-poster : goal.share_by-requires-clause-poster
+share_by-requires-clause-poster c =
+    ready_is c.args.self.now.controller.kit.posters.items c.args.place c.index_mut.result.now c.index.result.now
+    (controller_ready c.args.script.now c.args.self.now c.requires.stage c.args.place c.requires.place c.index.result.now c.index.ensures) c.index_mut.ensures.value
+
+pub returns : goal.returns
+returns c =
+    let st = c.args.self.now in
+    let whole = c.share_by.new.poster.view.seen in
+    let near = (controller_ready c.args.script.now st c.requires.stage c.args.place c.requires.place c.index.result.now c.index.ensures).0 in
+    let threads = subst (λ (xs : List PostingThread). AtEach (ThreadKeeps (HaveHeardAt c.args.place whole)) xs c.share_by.new.threads) c.as_mut_slice.ensures.value c.share_by.ensures.threads in
+    let loopers = subst (λ (xs : List StageLooper). AtEach (LooperKeeps (HaveHeardAt c.args.place whole)) xs c.share_by.new.loopers) c.as_mut_slice-2.ensures.value c.share_by.ensures.loopers in
+    let many = threads.long in
+    let many' = loopers.long in
+    record {
+      shares = (
+        whole,
+        record {
+          hall = refl;
+          threads = subst (λ (ys : List PostingThread). AtEach (ThreadKeeps (HaveHeardAt c.args.place whole)) st.threads.items ys)
+              (sym (with_items_is st.threads c.share_by.new.threads (omega (arith, many, st.threads.ok.0)))) threads;
+          loopers = subst (λ (ys : List StageLooper). AtEach (LooperKeeps (HaveHeardAt c.args.place whole)) st.loopers.items ys)
+              (sym (with_items_is st.loopers c.share_by.new.loopers (omega (arith, many', st.loopers.ok.0)))) loopers;
+          controller = record {
+            posters = heard_at st.controller.kit.posters.items c.args.place c.index_mut.result.now c.share_by.new.poster whole near c.index_mut.ensures.value c.share_by.ensures.poster refl;
+            pass = refl;
+            frames = refl;
+          };
+          pass = refl;
+          time = refl;
+        },
+      );
+    }
