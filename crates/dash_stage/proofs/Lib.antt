@@ -44,3 +44,4 @@ pub mod Timely
 pub mod StageWhole
 pub mod StageMoves
 pub mod StageTurns
+pub mod StageBegins
