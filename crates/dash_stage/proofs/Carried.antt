@@ -26,7 +26,7 @@ use Rattle.dash_stage.specs.declared.labels.Labelled.{Labelled}
 use Rattle.dash_stage.specs.declared.thread.PostingThread.{PostingThread}
 use Rattle.dash_stage.specs.Growth.{own}
 use Rattle.dash_stage.specs.Kits.{badge_of, badge_for, frame_badge_of, frame_badge_for, IsHall, IsKitOf, AreKitsOf}
-use Rattle.dash_stage.specs.Threads.{IsThread, IsUpTo, HasCalled, HasPosted, HasRemoved, labels_kept, tokens_kept}
+use Rattle.dash_stage.specs.Threads.{IsThread, IsUpTo, HasMadeNone, HasCalled, HasPosted, HasRemoved, labels_kept, tokens_kept}
 use Rattle.dash_stage.specs.Staged.{IsFrameRecord}
 use Rattle.dash_stage.specs.Records.{AreQueueRecords, AreFrameRecords, HaveAll, HaveSeen, AreUsedNowhere}
 use Rattle.dash_stage.specs.Runs.{IsUnusedKit, AreUnusedKits, HasRunAll, HaveRunAll, HaveRunFrom}
@@ -37,6 +37,10 @@ use Rattle.dash_stage.proofs.Casting.{first_more, first_thread, other_threads, k
 -- kits that were used nowhere
 pub unused_kits : (kits : List Kit) → AreUsedNowhere kits → AreUnusedKits kits
 unused_kits kits h = λ k d lt. record { posters = λ q p below. (h k q d lt).0 p below; frames = λ q p below. (h k q d lt).1 p below }
+
+-- a kit that was not used has made no call
+pub unused_calls : (kit : Kit) → IsUnusedKit kit → HasMadeNone kit.posters.items
+unused_calls kit unused = λ q p lt. ap (entries_by (slice_index_or kit.posters.items q p).sender) (unused.posters q p lt)
 
 pub other_unused : (kits : List Kit) → AreUnusedKits kits → 0 < length kits → AreUnusedKits (remove kits 0)
 other_unused [] h some = absurd (omega (arith, some))

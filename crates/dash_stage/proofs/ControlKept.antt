@@ -7,7 +7,7 @@ use Rattle.dash_script.specs.declared.script.Script.{Script}
 use Rattle.looper_run.specs.Holding.{Sender}
 use Rattle.run_model.specs.Control.{are_controls}
 use Rattle.dash_stage.specs.declared.control.Controller.{Controller}
-use Rattle.dash_stage.specs.Controllers.{are_advances, time_in, calls_on, OnlyMoves, MovesAndQuits, IsMoving, HasReached, IsQuitting, IsClosing, CallsNone}
+use Rattle.dash_stage.specs.Controllers.{are_advances, time_in, calls_on, OnlyMoves, MovesAndQuits, IsMoving, HasReached, IsQuitting, IsClosing, CallsNone, HasClosed}
 use Rattle.dash_stage.specs.Timeliness.{AreBy}
 use Rattle.dash_stage.proofs.Controls.{advances_may_quit}
 
@@ -64,6 +64,13 @@ module _ (s : Script) (c c' : Controller) (none : CallsNone c c') where
   closing_kept k = record {
     main = moves_kept 0 k.main;
     reached = reached_kept s.end k.reached;
+    others = λ q some. quits_kept q (k.others q some);
+  }
+
+  -- and main was halted, and the others may have been quit
+  pub closed_kept : HasClosed s c → HasClosed s c'
+  closed_kept k = record {
+    main = calls_kept c c' none.long 0 (none.calls 0) (λ l. are_controls true true s.end false l ≡ true) k.main;
     others = λ q some. quits_kept q (k.others q some);
   }
 

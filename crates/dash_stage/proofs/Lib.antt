@@ -46,3 +46,5 @@ pub mod StageWhole
 pub mod StageMoves
 pub mod StageDue
 pub mod Hearing
+pub mod StageTurns
+pub mod StageBegins

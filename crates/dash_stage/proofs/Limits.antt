@@ -1,10 +1,10 @@
 -- A script's loopers and threads are few, its period is not 0, and no block comes after its end.
-use Rattle.std.specs.Prelude.{◌≡◌, ℕ, ◌<◌, ◌≤◌, ◌&&◌, nat_le, Bool, true, List, [], ◌∷◌, IsTrue, drop, ◌==◌, if◌then◌else◌, length, slice_index_or}
+use Rattle.std.specs.Prelude.{◌≡◌, ℕ, zero, suc, ◌<◌, ◌≤◌, ◌&&◌, nat_le, nat_lt, Bool, true, List, [], ◌∷◌, IsTrue, drop, ◌==◌, if◌then◌else◌, length, slice_index_or}
 use Rattle.std.specs.List.{list_all, flat_map, enumerate_from}
-use Rattle.std.proofs.Common.{arith, sym, subst, ◌∙◌, ◌++◌, map}
+use Rattle.std.proofs.Common.{arith, sym, subst, ◌∙◌, ◌++◌, ◌+◌, map}
 use Rattle.std.proofs.lemmas.List.Folds.{list_all-append}
 use Rattle.std.proofs.lemmas.List.Sums.{AllPass-from_list_all}
-use Rattle.std.proofs.lemmas.Bool.{and_parts, leb-true}
+use Rattle.std.proofs.lemmas.Bool.{and_parts, leb-true, ltb-true}
 use Rattle.std.proofs.lemmas.Bool.Decides.{nat_tests}
 use Rattle.dash_script.specs.declared.script.Block.{Block}
 use Rattle.dash_script.specs.declared.script.Script.{Script}
@@ -12,7 +12,7 @@ use Rattle.dash_script.specs.declared.statement.Statement.{Statement}
 use Rattle.dash_script.specs.declared.form.Kind.TheVariants as kind
 use Rattle.dash_script.specs.Text.{lines, lines_before_end, say, first_lines, handler_line, gauge_line, rule_line, block_lines}
 use Rattle.dash_script.specs.Causes.{numbers_pass, is_within, each_number}
-use Rattle.dash_script.specs.Reading.{HasText}
+use Rattle.dash_script.specs.Reading.{HasText, rise}
 use Rattle.dash_stage.specs.Stages.{IsPlayable}
 
 between : (low high n : ℕ) → IsTrue ((nat_le low n && nat_le n high) && true) → n ≤ high
@@ -68,3 +68,17 @@ playable s h =
 pub before_end : (s : Script) (i : ℕ) (b : Block) → HasText s → i < length s.blocks → b ≡ slice_index_or s.blocks i b → b.time ≤ s.end
 before_end s i b h lt is =
     leb-true b.time s.end (subst (λ (z : Block). nat_le z.time s.end ≡ true) (sym is) (AllPass-from_list_all (λ (z : Block). nat_le z.time s.end) s.blocks h.end i b lt))
+
+-- where times rise, none is later than one behind it
+rises : (bs : List Block) → IsTrue (rise bs) → (i j : ℕ) (d e : Block) → i < j → j < length bs → (slice_index_or bs i d).time ≤ (slice_index_or bs j e).time
+rises [] h i j d e less lt = absurd (omega (arith, lt))
+rises (b ∷ bs) h i zero d e less lt = absurd (omega (arith, less))
+rises (b ∷ bs) h zero (suc j) d e less lt =
+    let later = AllPass-from_list_all (λ (z : Block). nat_lt b.time z.time) bs (and_parts _ _ h).0 j e (omega (arith, lt)) in
+    let less_than = ltb-true b.time (slice_index_or bs j e).time later in
+    omega (arith, less_than)
+rises (b ∷ bs) h (suc i) (suc j) d e less lt = rises bs (and_parts _ _ h).1 i j d e (omega (arith, less)) (omega (arith, lt))
+
+-- the next block is no earlier than this one
+pub before_next : (s : Script) (i : ℕ) (b d : Block) → HasText s → b ≡ slice_index_or s.blocks i b → i + 1 < length s.blocks → b.time ≤ (slice_index_or s.blocks (i + 1) d).time
+before_next s i b d h is lt = subst (λ (z : Block). z.time ≤ (slice_index_or s.blocks (i + 1) d).time) (sym is) (rises s.blocks h.times i (i + 1) b d (omega arith) lt)

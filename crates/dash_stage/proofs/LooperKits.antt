@@ -32,7 +32,6 @@ use Rattle.dash_stage.specs.declared.looper.StageLooper.{StageLooper}
 use Rattle.dash_stage.specs.Kits.{Badge, FrameBadge, badge_of, badge_for, frame_badge_of, frame_badge_for, frames_for, looper_frames, IsHall, IsKitOf}
 use Rattle.dash_stage.specs.Loopers.{ArePartsOf, IsPlaceOf, IsLooperOf, IsLooper, setting_for, is_given_up, until_of}
 use Rattle.dash_stage.specs.Players.{Owner, ServesAt}
-use Rattle.dash_stage.specs.Growth.{own}
 use Rattle.dash_stage.specs.Runs.{IsUnusedKit}
 use Rattle.dash_stage.proofs.LooperLists.{map-remove, map-insert, insert_removed, at_same}
 use Rattle.dash_stage.proofs.LooperPlaces.{queue_count, frames_count, queue_is}
@@ -147,6 +146,12 @@ comes_to_wait s hall now l q after last is_hall is at same round e g =
     (queue_is s hall l.number (looper_of s hall l is_hall is) l.number q at)
     (waits_by_round q.constants.setting now l.looper.held after.held last q.constants (same.constants ∙ (is.place.queue q at).1) round e g)
 
+-- its posters are those of its kit
+pub posters_begin : (kit : Kit) (n : ℕ) (poster mine : Sender) (others : List Sender) → n < length kit.posters.items → poster ≡ get_or kit.posters.items n poster → others ≡ remove kit.posters.items n → mine ≡ poster
+    → insert others n mine ≡ kit.posters.items
+posters_begin kit n poster mine others lt is rest same =
+    ap₂ (λ xs (p : Sender). insert xs n p) rest same ∙ insert_removed kit.posters.items n poster (slice_get_read kit.posters.items (length kit.posters.items) n poster refl lt is)
+
 -- a looper begins with what its kit has
 pub looper_begins : (s : Script) (hall : Hall) (n : ℕ) (kit : Kit) (parts : Parts) (looping : Looping) (poster : Sender) (last : Round) → IsLooperOf s hall n → IsKitOf s hall (s.threads + n) kit → IsUnusedKit kit
     → poster ≡ get_or kit.posters.items n poster → parts.others.items ≡ remove kit.posters.items n
@@ -157,9 +162,8 @@ looper_begins s hall n kit parts looping poster last l k unused is others frames
     let at : slice_get kit.posters.items n ≡ Some poster = slice_get_read kit.posters.items (length kit.posters.items) n poster refl (kit_many s hall n l kit k) is in
     let mine : (q : Shared TableId) → slice_get hall.queues.items n ≡ Some q → badge_of poster ≡ badge_for (s.threads + n) q = λ q at'. at_same badge_of (badge_for (s.threads + n)) kit.posters.items hall.queues.items n poster q k.posters at at' in
     let q = its_queue s hall n l in
-    let sender : poster.sender ≡ s.threads + n = ap (λ (b : Badge). b.sender) (mine q.0 q.1) in
     let none : entries_by (s.threads + n) poster.view.seen ≡ [] =
-    subst (λ (k : ℕ). entries_by k poster.view.seen ≡ []) sender (subst (λ (p : Sender). own p ≡ []) (sym is) (unused.posters n poster (kit_many s hall n l kit k))) in
+    ap (entries_by (s.threads + n)) (subst (λ (p : Sender). p.view.seen ≡ []) (sym is) (unused.posters n poster (kit_many s hall n l kit k))) in
     let taken_none : taken_by (s.threads + n) poster.view.seen ≡ [] = taken_own (s.threads + n) poster.view.seen ∙ ap (filter_map (λ (e : Entry). call_dispatch e.call e.reply)) none in
     record {
       few = l.few;

@@ -19,13 +19,15 @@ use Rattle.dash_script.specs.declared.script.Script.{Script}
 use Rattle.run_model.specs.Senders.{sender_count}
 use Rattle.looper_run.specs.Holding.{Sender}
 use Rattle.looper_run.specs.Round.{is_ended}
+use Rattle.run_model.specs.Asks.{entries_by}
 use Rattle.dash_stage.specs.declared.hall.Hall.{Hall}
 use Rattle.dash_stage.specs.declared.player.Parts.{Parts}
 use Rattle.dash_stage.specs.declared.looper.StageLooper.{StageLooper}
 use Rattle.dash_stage.specs.Kits.{badge_of, badge_for, frame_badge_of, IsHall, ArePostersOf}
-use Rattle.dash_stage.specs.Loopers.{ArePartsOf, IsLooper}
+use Rattle.dash_stage.specs.Loopers.{ArePartsOf, IsLooper, is_given_up}
 use Rattle.dash_stage.specs.Sharing.{HasHeard, HaveHeard, AtEach, AreKept, AreKnown, Rest, LooperKeeps, OfLoopers, posters_of, others_in, rest_in, IsWithin, AreWithin}
 use Rattle.dash_stage.proofs.LooperLists.{map-insert, insert_removed}
+use Rattle.dash_stage.proofs.LooperTold.{told_same}
 use Rattle.dash_stage.proofs.LooperKits.{looper_of, others_many, its_queue}
 use Rattle.dash_stage.proofs.Hearing.{known_more, heard_badges}
 use Rattle.dash_stage.proofs.Sharing.{FirstAre, next_within}
@@ -242,5 +244,8 @@ module _ (s : Script) (hall : Hall) (is_hall : IsHall s hall) (l : StageLooper) 
           own = h.same.sender ∙ (is.own ∙ sym k.sender);
           journal = ap (λ j. j.looper) k.beside.journal ∙ (is.journal ∙ sym k.number);
           ended = k.beside.ended ∙ (is.ended ∙ ap is_ended (sym k.last));
+          told = λ on. told_same l.looper.held.journal b.looper.held.journal l.sender b.sender l.looper.held.poster.view.seen b.looper.held.poster.view.seen k.beside.journal
+              (ap (λ (n : ℕ). entries_by n b.looper.held.poster.view.seen) (sym (h.same.sender ∙ (is.own ∙ sym k.sender))) ∙ h.called ∙ ap (λ (n : ℕ). entries_by n l.looper.held.poster.view.seen) is.own)
+              (is.told (ap is_given_up (sym k.last) ∙ on));
           over = λ e. over_more (empty_base (sender_count s)) l.looper.held.poster.view.seen b.looper.held.poster.view.seen h.more (is.over (ap is_ended (sym k.last) ∙ e));
         }

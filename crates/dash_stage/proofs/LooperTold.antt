@@ -4,6 +4,7 @@ use Rattle.std.specs.List.{filter_map}
 use Rattle.std.proofs.lemmas.Bool.{cond_both}
 use Rattle.std.proofs.lemmas.List.Elements.{filter_map-append}
 use Rattle.loop_model.specs.declared.entry.Entry.{Entry}
+use Rattle.loop_model.specs.declared.journal.Journal.{Journal}
 use Rattle.loop_model.specs.Answers.{Setting}
 use Rattle.looper_run.specs.Acts.{entry_dispatch, taken_by, act_dispatch, dispatches, call_dispatch}
 use Rattle.looper_run.specs.Holding.{Holding}
@@ -22,6 +23,11 @@ taken_own sender (e ∷ es) = go (taken_own sender es) (e.sender == sender) refl
         → taken_by sender (e ∷ es) ≡ filter_map (λ e. call_dispatch e.call e.reply) (entries_by sender (e ∷ es))
     go rest true t = rw (t, rest) refl
     go rest false t = rw t rest
+
+-- the same journal tells of what a poster took that has the sender's entries as before
+pub told_same : (before after : Journal) (k n : ℕ) (es fs : List Entry) → after ≡ before → entries_by n fs ≡ entries_by k es → dispatches before.acts ≡ taken_by k es → dispatches after.acts ≡ taken_by n fs
+told_same before after k n es fs same entries told =
+    ap (λ (j : Journal). dispatches j.acts) same ∙ told ∙ (taken_own k es ∙ ap (filter_map (λ (e : Entry). call_dispatch e.call e.reply)) (sym entries) ∙ sym (taken_own n fs))
 
 told_on : (s : Setting) (now : ℕ) (before after : Holding) (count : ℕ) → Works s now before after count → dispatches before.journal.acts ≡ taken_by before.poster.sender before.poster.view.seen
     → dispatches after.journal.acts ≡ taken_by before.poster.sender after.poster.view.seen

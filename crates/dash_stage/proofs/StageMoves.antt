@@ -121,7 +121,7 @@ module _ (s : Script) (st : Stage) (c : Controller) (st' : Stage) (is : IsStage 
     (threads : AtEach (ThreadKeeps HaveHeard) st.threads.items st'.threads.items) (loopers : AtEach (LooperKeeps HaveHeard) st.loopers.items st'.loopers.items)
     (heard : HaveHeard c.kit.posters.items st'.controller.kit.posters.items) where
   -- no other sender has made anything
-  others_none : length st'.controller.kit.posters.items ≡ length st.controller.kit.posters.items → (q : ℕ) (d : Sender) → q < length st.controller.kit.posters.items
+  pub others_none : length st'.controller.kit.posters.items ≡ length st.controller.kit.posters.items → (q : ℕ) (d : Sender) → q < length st.controller.kit.posters.items
       → (k : ℕ) → k < sender_count s → k ≢ controller s → entries_by k (whole_on st'.controller q d) ≡ entries_by k (whole_on st.controller q d)
   others_none long q d lt k known apart = dite (dec_lt k s.threads)
       (λ thread. thread_made_none s st st' is is' same same' (threads_heard st.threads.items st'.threads.items threads) long q k d lt thread)

@@ -10,12 +10,11 @@ use Rattle.looper_run.specs.Holding.{Sender}
 use Rattle.choreographer.specs.Known.{Shared as Frames, Known as Pass}
 use Rattle.choreographer.specs.Ends.{AreNew as AreNewPasses}
 use Rattle.dash_stage.specs.declared.kit.Kit.{Kit}
-use Rattle.dash_stage.specs.Growth.{own}
 use Rattle.dash_stage.specs.Kits.{Badge, badge_of, badge_for, FrameBadge, frame_badge_of, frame_badge_for}
 
--- a poster by which nothing was called, and a pass that has seen nothing
+-- a poster, and a pass, that has seen nothing
 abbrev pub IsUnusedPoster : Sender → Type 0
-IsUnusedPoster p = own p ≡ []
+IsUnusedPoster p = p.view.seen ≡ []
 
 abbrev pub IsUnusedPass : Pass → Type 0
 IsUnusedPass p = p.view.seen ≡ []

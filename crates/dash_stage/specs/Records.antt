@@ -41,10 +41,10 @@ abbrev pub HaveSeen : ℕ → List Kit → List FrameRecord → Type 0
 HaveSeen threads kits records = (k q : ℕ) (d : Kit) (p : Pass) (r : FrameRecord) → k < threads → q < length records
     → IsPrefix (slice_index_or (slice_index_or kits k d).frames.items q p).view.seen (slice_index_or records q r).entries
 
--- nobody has made a call, and no frame callback was posted
+-- nobody has seen a call, or a frame callback
 abbrev pub AreUsedNowhere : List Kit → Type 0
 AreUsedNowhere kits = (k q : ℕ) (d : Kit) → k < length kits
-    → ((p : Sender) → q < length (slice_index_or kits k d).posters.items → own (slice_index_or (slice_index_or kits k d).posters.items q p) ≡ [])
+    → ((p : Sender) → q < length (slice_index_or kits k d).posters.items → (slice_index_or (slice_index_or kits k d).posters.items q p).view.seen ≡ [])
     × ((p : Pass) → q < length (slice_index_or kits k d).frames.items → (slice_index_or (slice_index_or kits k d).frames.items q p).view.seen ≡ [])
 
 -- each looper has its journal, in order

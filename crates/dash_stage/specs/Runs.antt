@@ -6,12 +6,15 @@ use Rattle.looper_run.specs.Holding.{Sender}
 use Rattle.choreographer.specs.Known.{Known as Pass}
 use Rattle.dash_stage.specs.declared.kit.Kit.{Kit}
 use Rattle.dash_stage.specs.declared.thread.PostingThread.{PostingThread}
-use Rattle.dash_stage.specs.Growth.{own}
 use Rattle.dash_stage.specs.Threads.{HasCalled, HasPosted, HasRemoved, IsUpTo}
 
--- no call was made by the kit, and none of its passes has seen a frame callback
+-- the posters have seen nothing
+abbrev pub AreUnseen : List Sender → Type 0
+AreUnseen ps = (q : ℕ) (p : Sender) → q < length ps → (slice_index_or ps q p).view.seen ≡ []
+
+-- the kit's posters have seen no call, and none of its passes a frame callback
 pub record IsUnusedKit (kit : Kit) : Type 0 where
-  pub posters : (q : ℕ) (p : Sender) → q < length kit.posters.items → own (slice_index_or kit.posters.items q p) ≡ []
+  pub posters : AreUnseen kit.posters.items
   pub frames : (q : ℕ) (p : Pass) → q < length kit.frames.items → (slice_index_or kit.frames.items q p).view.seen ≡ []
 
 abbrev pub AreUnusedKits : List Kit → Type 0

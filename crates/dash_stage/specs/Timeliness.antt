@@ -12,6 +12,7 @@ use Rattle.loop_model.specs.Legal.{IsLegal, AreNumbered}
 use Rattle.dash_script.specs.declared.script.Block.{Block}
 use Rattle.dash_script.specs.declared.script.Script.{Script}
 use Rattle.looper_run.specs.Holding.{Sender}
+use Rattle.looper_run.specs.declared.looper.Round.{Round}
 use Rattle.looper_run.specs.Round.{is_ended}
 use Rattle.run_model.specs.Asks.{entries_by}
 use Rattle.run_model.specs.Planned.{lines_of, labels_on, lines_on}
@@ -54,6 +55,14 @@ AreAtTime s time st = (q : ℕ) (d : Sender) → q < length st.controller.kit.po
 -- the controller has moved no queue past this time
 abbrev pub AreBy : ℕ → Controller → Type 0
 AreBy time c = (q : ℕ) (d : Sender) → q < length c.kit.posters.items → are_advances time (calls_on c q d) ≡ true
+
+-- the round ended with a wait, and no message to wait for
+abbrev pub WaitsForNothing : Round → Type 0
+WaitsForNothing r = (is_ended r ≡ false) × (until_of r ≡ None)
+
+-- so it is with each looper
+abbrev pub WaitForNothing : List StageLooper → Type 0
+WaitForNothing ls = (k : ℕ) (d : StageLooper) → k < length ls → WaitsForNothing (slice_index_or ls k d).last
 
 -- a looper that has not ended waits for the first message that no barrier holds back, and one that has ended has seen its queue over
 pub record IsRested (s : Script) (l : StageLooper) (es : List Entry) : Type 0 where

@@ -4,7 +4,7 @@ ghost use Rattle.looper_run.specs.Round.{is_ended};
 ghost use Rattle.dash_stage.specs.Kits.{IsHall, IsKitOf, HasSeenOver};
 ghost use Rattle.dash_stage.specs.Runs.{IsUnusedKit};
 ghost use Rattle.dash_stage.specs.Sharing.{posters_of};
-ghost use Rattle.dash_stage.specs.Timeliness.{ComesToWait};
+ghost use Rattle.dash_stage.specs.Timeliness.{ComesToWait, WaitsForNothing};
 ghost use Rattle.dash_stage.specs.Loopers.{IsLooper, HasRun, HasTold, is_given_up, until_of};
 
 use crate::hall::Hall;
@@ -45,6 +45,8 @@ impl StageLooper {
         requires unused { IsUnusedKit kit }
         ensures looper { IfOk result (λ l. IsLooper script.now hall.now l) }
         ensures number_is { IfOk result (λ l. l.number ≡ number) }
+        ensures posters { IfOk result (λ l. posters_of l ≡ kit.posters.items) }
+        ensures waits { IfOk result (λ l. WaitsForNothing l.last) }
     {
         let Kit {
             mut posters,

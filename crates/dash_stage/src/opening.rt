@@ -1,9 +1,10 @@
 //! A stage before the first event.
 ghost use Rattle.std.specs.Prelude.{◌≡◌, ◌<◌, ◌+◌, [], IfOk, OnOk, length};
 ghost use Rattle.dash_stage.specs.Controllers.{IsMoving};
-ghost use Rattle.dash_stage.specs.Timeliness.{AreBy, AreTimelyUpTo, AreRested};
+ghost use Rattle.dash_stage.specs.Timeliness.{AreBy, AreTimelyUpTo, AreRested, WaitForNothing};
 ghost use Rattle.dash_stage.specs.Kits.{IsHall};
-ghost use Rattle.dash_stage.specs.Runs.{AreUnusedKits};
+ghost use Rattle.dash_stage.specs.Runs.{AreUnseen, AreUnusedKits};
+ghost use Rattle.dash_stage.specs.Sharing.{OfThreads, OfLoopers};
 ghost use Rattle.dash_stage.specs.Stages.{IsStage, IsPlayable, HaveRun, AreKitsFrom, AreThreads, AreLoopers};
 
 use crate::control::Controller;
@@ -54,6 +55,7 @@ fn threads(
     requires unused { AreUnusedKits kits.old.items }
     ensures threads { IfOk result (λ v. AreThreads script.now hall.now v.items) }
     ensures begun { IfOk result (λ v. HaveRun script.now [] v.items) }
+    ensures unseen { IfOk result (λ v. OfThreads AreUnseen v.items) }
     ensures kits { OnOk result (AreKitsFrom script.now hall.now script.now.threads kits.new.items) }
     ensures unused { OnOk result (AreUnusedKits kits.new.items) }
 {
@@ -76,6 +78,8 @@ fn loopers(
     requires kits { AreKitsFrom script.now hall.now script.now.threads kits.old.items }
     requires unused { AreUnusedKits kits.old.items }
     ensures loopers { IfOk result (λ v. AreLoopers script.now hall.now v.items) }
+    ensures unseen { IfOk result (λ v. OfLoopers AreUnseen v.items) }
+    ensures waits { IfOk result (λ v. WaitForNothing v.items) }
     ensures kits { OnOk result (AreKitsFrom script.now hall.now (script.now.threads + script.now.loopers) kits.new.items) }
     ensures unused { OnOk result (AreUnusedKits kits.new.items) }
 {

@@ -1,8 +1,20 @@
-use Rattle.std.proofs.Common.{◌<◌, length, sym, subst, arith}
-use Rattle.dash_stage.specs.Runs.{AreUnusedKits}
-use Rattle.dash_stage.proofs.Casting.{looper_made}
+use Rattle.std.proofs.Common.{◌≡◌, ◌<◌, ◌+◌, List, length, sym, subst, arith}
+use Rattle.looper_run.specs.Holding.{Sender}
+use Rattle.dash_stage.specs.declared.kit.Kit.{Kit}
+use Rattle.dash_stage.specs.declared.looper.StageLooper.{StageLooper}
+use Rattle.dash_stage.specs.Runs.{AreUnseen, IsUnusedKit, AreUnusedKits}
+use Rattle.dash_stage.specs.Sharing.{OfLoopers, posters_of}
+use Rattle.dash_stage.specs.Timeliness.{WaitsForNothing, WaitForNothing}
+use Rattle.dash_stage.proofs.Casting.{looper_made, first_more}
 use Rattle.dash_stage.proofs.Carried.{other_unused}
 use Rattle.dash_stage.proofs.opening.loopers.Goals as goal
+
+pub new-requires-clause-unused : goal.new-requires-clause-unused
+new-requires-clause-unused c =
+    let count = c.loop-number.invariant.0.count in
+    let lt = c.loop-number-test.true in
+    let some : 0 < length c.loop-number.kits.items = omega (arith, count, lt) in
+    subst IsUnusedKit (sym c.remove.ensures.value) (c.loop-number.invariant.1 0 c.remove.result some)
 
 pub loop-number-preserved : goal.loop-number-preserved
 loop-number-preserved c =
@@ -10,6 +22,15 @@ loop-number-preserved c =
     let count = at.invariant.0.count in
     let lt = c.loop-number-test.true in
     let some : 0 < length at.kits.items = omega (arith, count, lt) in
-    let made = looper_made c.args.script.now c.args.hall.now at.number at.kits.items c.remove.new.self.items at.loopers.items c.push.new.self.items c.in_ok-looper.looper at.invariant.0 some c.remove.ensures.items at.invariant.2 at.invariant.3
-    c.in_ok-looper.ensures.looper c.in_ok-looper.ensures.number_is c.in_ok-push.ensures.items in
-    (made.0, subst AreUnusedKits (sym c.remove.ensures.items) (other_unused at.kits.items at.invariant.1 some), made.1, made.2)
+    let grown = c.in_ok-push.ensures.items in
+    let one = c.in_ok-looper.looper in
+    let made = looper_made c.args.script.now c.args.hall.now at.number at.kits.items c.remove.new.self.items at.loopers.items c.push.new.self.items one at.invariant.0 some c.remove.ensures.items at.invariant.2 at.invariant.3
+    c.in_ok-looper.ensures.looper c.in_ok-looper.ensures.number_is grown in
+    let unseen = subst AreUnseen (sym c.in_ok-looper.ensures.posters) (subst (λ (z : Kit). AreUnseen z.posters.items) (sym c.remove.ensures.value) (at.invariant.1 0 c.remove.result some).posters) in (
+      made.0,
+      subst AreUnusedKits (sym c.remove.ensures.items) (other_unused at.kits.items at.invariant.1 some),
+      made.1,
+      made.2,
+      subst (OfLoopers AreUnseen) (sym grown) (first_more (λ k (z : StageLooper). AreUnseen (posters_of z)) at.loopers.items one at.invariant.4 unseen),
+      subst WaitForNothing (sym grown) (first_more (λ k (z : StageLooper). WaitsForNothing z.last) at.loopers.items one at.invariant.5 c.in_ok-looper.ensures.waits),
+    )

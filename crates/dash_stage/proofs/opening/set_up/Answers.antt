@@ -1,7 +1,10 @@
-use Rattle.std.proofs.Common.{◌<◌, length, sym, subst, arith}
+use Rattle.std.proofs.Common.{◌≡◌, ◌<◌, length, refl, sym, subst, arith}
+use Rattle.dash_stage.specs.declared.stage.Stage.{Stage}
+use Rattle.dash_stage.specs.Kits.{IsKitOf}
 use Rattle.dash_stage.specs.Runs.{IsUnusedKit}
 use Rattle.dash_stage.proofs.Carried.{unused_kits}
-use Rattle.dash_stage.proofs.StageControls.{unused_moves}
+use Rattle.dash_stage.proofs.StageControls.{unused_by, unused_moves}
+use Rattle.dash_stage.proofs.StageBegins.{begins_timely, begins_rested}
 use Rattle.dash_stage.proofs.opening.set_up.Goals as goal
 
 pub threads-requires-clause-unused : goal.threads-requires-clause-unused
@@ -12,3 +15,28 @@ returns-clause-moving c =
     let count = c.in_ok-loopers.ensures.kits.count in
     let some : 0 < length c.loopers.new.kits.items = omega (arith, count) in
     unused_moves c.args.script.now (record { kit = c.remove.result }) (subst IsUnusedKit (sym c.remove.ensures.value) (c.in_ok-loopers.ensures.unused 0 c.remove.result some))
+
+pub returns-clause-by : goal.returns-clause-by
+returns-clause-by c =
+    let count = c.in_ok-loopers.ensures.kits.count in
+    let some : 0 < length c.loopers.new.kits.items = omega (arith, count) in
+    (unused_by 0 (record { kit = c.remove.result }) (subst IsUnusedKit (sym c.remove.ensures.value) (c.in_ok-loopers.ensures.unused 0 c.remove.result some)), refl)
+
+pub returns-clause-timely : goal.returns-clause-timely
+returns-clause-timely c =
+    let s = c.args.script.now in
+    let count = c.in_ok-loopers.ensures.kits.count in
+    let some : 0 < length c.loopers.new.kits.items = omega (arith, count) in
+    let unused = subst IsUnusedKit (sym c.remove.ensures.value) (c.in_ok-loopers.ensures.unused 0 c.remove.result some) in
+    let is = subst (IsKitOf s c.in_ok-hall.hall _) (sym c.remove.ensures.value) (c.in_ok-loopers.ensures.kits.each 0 c.remove.result some) in
+    begins_timely s _ _ c.in_ok-hall.ensures.hall c.in_ok-threads.ensures.threads c.in_ok-loopers.ensures.loopers is.posters c.in_ok-threads.ensures.unseen c.in_ok-loopers.ensures.unseen unused.posters
+
+pub returns-clause-rested : goal.returns-clause-rested
+returns-clause-rested c =
+    let s = c.args.script.now in
+    let count = c.in_ok-loopers.ensures.kits.count in
+    let some : 0 < length c.loopers.new.kits.items = omega (arith, count) in
+    let unused = subst IsUnusedKit (sym c.remove.ensures.value) (c.in_ok-loopers.ensures.unused 0 c.remove.result some) in
+    let is = subst (IsKitOf s c.in_ok-hall.hall _) (sym c.remove.ensures.value) (c.in_ok-loopers.ensures.kits.each 0 c.remove.result some) in
+    let st : Stage = record { hall = c.in_ok-hall.hall; threads = c.in_ok-threads.threads; loopers = c.in_ok-loopers.loopers; controller = record { kit = c.remove.result }; pass = c.in_ok-hall.pass; time = 0 } in
+    begins_rested s st _ c.in_ok-hall.ensures.hall c.in_ok-loopers.ensures.loopers is.posters unused.posters c.in_ok-loopers.ensures.waits

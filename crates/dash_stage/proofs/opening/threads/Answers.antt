@@ -1,9 +1,11 @@
 use Rattle.std.proofs.Common.{◌≡◌, ◌<◌, length, sym, subst, arith}
 use Rattle.dash_stage.specs.declared.kit.Kit.{Kit}
+use Rattle.dash_stage.specs.declared.thread.PostingThread.{PostingThread}
 use Rattle.dash_stage.specs.Kits.{IsKitOf}
-use Rattle.dash_stage.specs.Runs.{IsUnusedKit}
-use Rattle.dash_stage.proofs.Casting.{thread_of, first_kit}
-use Rattle.dash_stage.proofs.Carried.{thread_made}
+use Rattle.dash_stage.specs.Runs.{AreUnseen, IsUnusedKit}
+use Rattle.dash_stage.specs.Sharing.{OfThreads}
+use Rattle.dash_stage.proofs.Casting.{thread_of, first_kit, first_more}
+use Rattle.dash_stage.proofs.Carried.{thread_made, unused_calls}
 use Rattle.dash_stage.proofs.opening.threads.Goals as goal
 
 pub loop-number-preserved : goal.loop-number-preserved
@@ -17,6 +19,14 @@ loop-number-preserved c =
     let kit = c.remove.result in
     let is = subst (IsKitOf s hall at.number) (sym c.remove.ensures.value) (first_kit s hall at.number at.kits.items kit at.invariant.0 some) in
     let unused = subst IsUnusedKit (sym c.remove.ensures.value) (at.invariant.1 0 kit some) in
-    thread_made s hall at.number at.kits.items c.remove.new.self.items at.threads.items c.push.new.self.items c.new.result at.invariant.0 at.invariant.1 some c.remove.ensures.items at.invariant.2 at.invariant.3 at.invariant.4
+    let made = thread_made s hall at.number at.kits.items c.remove.new.self.items at.threads.items c.push.new.self.items c.new.result at.invariant.0 at.invariant.1 some c.remove.ensures.items at.invariant.2 at.invariant.3 at.invariant.4
     (thread_of s hall at.number kit c.new.result is c.loop-number-test.true c.new.ensures.number c.new.ensures.kit) c.new.ensures.number
-    (c.new.ensures.begun s unused.posters) c.in_ok-push.ensures.items
+    (c.new.ensures.begun s (unused_calls kit unused)) c.in_ok-push.ensures.items in (
+      made.0,
+      made.1,
+      made.2,
+      made.3,
+      made.4,
+      subst (OfThreads AreUnseen) (sym c.in_ok-push.ensures.items)
+          (first_more (λ k (z : PostingThread). AreUnseen z.kit.posters.items) at.threads.items c.new.result at.invariant.5 (subst (λ (z : Kit). AreUnseen z.posters.items) (sym c.new.ensures.kit) unused.posters)),
+    )

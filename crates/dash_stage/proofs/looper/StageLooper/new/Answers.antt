@@ -1,8 +1,9 @@
-use Rattle.std.proofs.Common.{◌≡◌, get_or, List, refl, sym, subst, arith}
+use Rattle.std.proofs.Common.{◌≡◌, get_or, List, refl, sym, ap, subst, arith}
 use Rattle.std.specs.List.{remove}
 use Rattle.choreographer.specs.Known.{Known as Pass}
+use Rattle.looper_run.specs.Holding.{Holding}
 use Rattle.dash_stage.specs.Loopers.{IsLooperOf}
-use Rattle.dash_stage.proofs.LooperKits.{kit_many, kit_two, looper_begins}
+use Rattle.dash_stage.proofs.LooperKits.{kit_many, kit_two, posters_begin, looper_begins}
 use Rattle.dash_stage.proofs.looper.StageLooper.new.Goals as goal
 
 pub remove-poster-requires : goal.remove-poster-requires
@@ -29,3 +30,9 @@ returns-clause-looper c =
     c.remove-poster.ensures.value c.remove-poster.ensures.items c.remove-own_frames.ensures.value
     (subst (λ (p : Pass). p ≡ get_or (remove c.args.kit.frames.items 0) 0 p) (sym c.in_ok-new.ensures) second)
     c.make.ensures.held c.make.ensures.flags.1 refl
+
+pub returns-clause-posters : goal.returns-clause-posters
+returns-clause-posters c =
+    let of : IsLooperOf c.args.script.now c.args.hall.now c.args.number = record { few = c.requires.fits; one = c.requires.number; is_hall = c.requires.hall } in
+    posters_begin c.args.kit c.args.number c.remove-poster.result c.make.result.held.poster c.remove-poster.new.self.items (kit_many c.args.script.now c.args.hall.now c.args.number of c.args.kit c.requires.kit)
+    c.remove-poster.ensures.value c.remove-poster.ensures.items (ap (λ (h : Holding). h.poster) c.make.ensures.held)

@@ -1,24 +1,89 @@
-use Rattle.std.proofs.Common.{◌≡◌, ◌<◌, ◌≤◌, ◌∙◌, List, sym, subst, length, slice_index_or}
+use Rattle.std.proofs.Common.{◌≡◌, ◌<◌, ◌≤◌, ◌+◌, ◌∙◌, ℕ, List, refl, sym, subst, length, take, drop, arith}
+use Rattle.std.specs.Prelude.{slice_index_or}
+use Rattle.std.proofs.lemmas.List.{take_all}
 use Rattle.dash_script.specs.declared.script.Block.{Block}
-use Rattle.dash_stage.specs.Controllers.{IsMoving}
-use Rattle.dash_stage.proofs.Blocks.{have_run_more, have_run_all}
-use Rattle.dash_stage.proofs.ControlKept.{moving_kept}
+use Rattle.dash_stage.specs.declared.stage.Stage.{Stage}
+use Rattle.dash_stage.specs.Stages.{HaveRun}
+use Rattle.dash_stage.specs.Timeliness.{AreBy, AreTimelyUpTo}
+use Rattle.dash_stage.proofs.Blocks.{blocks_next, blocks_past, run_one_more}
+use Rattle.dash_stage.proofs.Limits.{before_end, before_next}
+use Rattle.dash_stage.proofs.ControlKept.{none_after, moving_kept, reached_kept}
+use Rattle.dash_stage.proofs.StageMoves.{by_kept}
 use Rattle.dash_stage.proofs.stage.Stage.play.Goals as goal
 
-pub loop-block-preserved : goal.loop-block-preserved
-loop-block-preserved g c =
+pub loop-block-init : goal.loop-block-init
+loop-block-init g c =
+    let zero_time = c.requires.zero in
+    (c.requires.stage, c.requires.begun, c.requires.moving, c.requires.by, c.requires.begun_timely, c.requires.rested, omega (arith, zero_time), λ d some. omega (arith, zero_time))
+
+pub go_to-requires-clause-end : goal.go_to-requires-clause-end
+go_to-requires-clause-end g c κs within =
     let s = c.args.script.now in
     let b = c.block-item.result in
     let whole = c.as_slice-block-items.ensures in
     let lt = subst (λ (l : List Block). c.loop-block.block-index < length l) whole c.loop-block-test.true in
-    let is = subst (λ (l : List Block). b ≡ slice_index_or l c.loop-block.block-index b) whole c.block-item.is in (
+    let is = subst (λ (l : List Block). b ≡ slice_index_or l c.loop-block.block-index b) whole c.block-item.is in
+    before_end s c.loop-block.block-index b c.requires.text lt is
+
+pub go_to-requires-clause-later : goal.go_to-requires-clause-later
+go_to-requires-clause-later g c κs within =
+    let b = c.block-item.result in
+    let whole = c.as_slice-block-items.ensures in
+    let lt = subst (λ (l : List Block). c.loop-block.block-index < length l) whole c.loop-block-test.true in
+    let is = subst (λ (l : List Block). b ≡ slice_index_or l c.loop-block.block-index b) whole c.block-item.is in
+    subst (λ (z : Block). c.loop-block.self.time ≤ z.time) (sym is) (c.loop-block.invariant.7 b lt)
+
+pub loop-block-preserved : goal.loop-block-preserved
+loop-block-preserved g c =
+    let s = c.args.script.now in
+    let bs = s.blocks in
+    let b = c.block-item.result in
+    let i = c.loop-block.block-index in
+    let at = c.loop-block.invariant in
+    let whole = c.as_slice-block-items.ensures in
+    let lt = subst (λ (l : List Block). i < length l) whole c.loop-block-test.true in
+    let is = subst (λ (l : List Block). b ≡ slice_index_or l i b) whole c.block-item.is in
+    let gone : Stage = c.go_to.new.self in
+    let blocked : Stage = c.run_block.new.self in
+    let after : Stage = c.run_rounds.new.self in
+    let next = blocks_next bs i b lt is in
+    let grown = blocks_past bs i b lt is in
+    let run = c.go_to.ensures.run (take i bs) at.1 in
+    let timely = c.in_ok-run_block.ensures.timely (take i bs) (drop (i + 1) bs) next run c.in_ok-go_to.ensures.at (c.in_ok-go_to.ensures.timely (take i bs) at.4 at.5) in
+    let more = subst (λ (l : List Block). HaveRun s l blocked.threads.items) grown
+    (run_one_more s (take i bs) (drop (i + 1) bs) b next gone.threads.items blocked.threads.items (λ k d within. (c.go_to.ensures.stage.threads.1 k d within).1)
+    (c.run_block.ensures.stage.threads.0 ∙ sym c.go_to.ensures.stage.threads.0) c.in_ok-run_block.ensures.run run) in
+    let none = none_after gone.controller blocked.controller after.controller c.run_block.ensures.none c.run_rounds.ensures.none in
+    let same_time : after.time ≡ gone.time = c.run_rounds.ensures.time ∙ c.run_block.ensures.time in
+    let time : after.time ≡ b.time = same_time ∙ c.in_ok-go_to.ensures.time in (
       c.run_rounds.ensures.stage,
-      have_run_more s c.go_to.new.self.hall c.loop-block.block-index b lt is _ _ _ _ c.loop-block.invariant.1 c.go_to.ensures.threads
-          c.go_to.ensures.stage.threads (c.run_block.ensures.stage.threads.0 ∙ sym c.go_to.ensures.stage.threads.0) c.in_ok-run_block.ensures.run c.run_rounds.ensures.threads,
-      moving_kept s _ _ c.run_rounds.ensures.none (subst (IsMoving s) (sym c.run_block.ensures.controller) c.go_to.ensures.moving),
+      c.run_rounds.ensures.run (take (i + 1) bs) more,
+      moving_kept s gone.controller after.controller none c.go_to.ensures.moving,
+      subst (λ (t : ℕ). AreBy t after.controller) (sym same_time) (by_kept gone.time gone.controller after.controller none c.go_to.ensures.by),
+      c.in_ok-run_rounds.ensures.timely (take (i + 1) bs) (subst (λ (l : List Block). AreTimelyUpTo s l blocked) grown timely),
+      c.in_ok-run_rounds.ensures.rested refl timely.same,
+      subst (λ (t : ℕ). t ≤ s.end) (sym time) (before_end s i b c.requires.text lt is),
+      λ d some. subst (λ (t : ℕ). t ≤ (slice_index_or bs (i + 1) d).time) (sym time) (before_next s i b d c.requires.text is some),
     )
+
+pub end-requires-clause-moving : goal.end-requires-clause-moving
+end-requires-clause-moving g c κs within = moving_kept c.args.script.now c.go_to-2.new.self.controller c.run_rounds-2.new.self.controller c.run_rounds-2.ensures.none c.go_to-2.ensures.moving
+
+pub end-requires-clause-reached : goal.end-requires-clause-reached
+end-requires-clause-reached g c κs within =
+    reached_kept c.args.script.now c.go_to-2.new.self.controller c.run_rounds-2.new.self.controller c.run_rounds-2.ensures.none c.args.script.now.end c.in_ok-go_to-2.ensures.reached
 
 pub returns-clause-run : goal.returns-clause-run
 returns-clause-run g c =
-    let all = subst (λ (l : List Block). length l ≤ c.loop-block.block-index) c.as_slice-block-items.ensures c.loop-block-test.false in
-    have_run_all c.args.script.now c.loop-block.block-index _ _ all c.loop-block.invariant.1 (c.end.ensures.threads ∙ (c.run_rounds-2.ensures.threads ∙ c.go_to-2.ensures.threads))
+    let s = c.args.script.now in
+    let i = c.loop-block.block-index in
+    let all = subst (λ (l : List Block). length l ≤ i) c.as_slice-block-items.ensures c.loop-block-test.false in
+    c.end.ensures.run s.blocks (c.run_rounds-2.ensures.run s.blocks (c.go_to-2.ensures.run s.blocks (subst (λ (l : List Block). HaveRun s l c.loop-block.self.threads.items) (take_all i s.blocks all) c.loop-block.invariant.1)))
+
+pub returns-clause-timely : goal.returns-clause-timely
+returns-clause-timely g c =
+    let s = c.args.script.now in
+    let i = c.loop-block.block-index in
+    let all = subst (λ (l : List Block). length l ≤ i) c.as_slice-block-items.ensures c.loop-block-test.false in
+    let before = subst (λ (l : List Block). AreTimelyUpTo s l c.loop-block.self) (take_all i s.blocks all) c.loop-block.invariant.4 in
+    c.in_ok-end.ensures.timely s.blocks (c.in_ok-run_rounds-2.ensures.timely s.blocks (c.in_ok-go_to-2.ensures.timely s.blocks before c.loop-block.invariant.5))

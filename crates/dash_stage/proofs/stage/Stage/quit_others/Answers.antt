@@ -1,28 +1,67 @@
-use Rattle.std.proofs.Common.{◌≡◌, ◌<◌, ◌+◌, sym, subst, arith}
-use Rattle.dash_stage.specs.Controllers.{IsQuitting}
+use Rattle.std.proofs.Common.{◌≡◌, ◌<◌, ◌+◌, ◌∙◌, List, refl, sym, subst, arith, length}
+use Rattle.dash_script.specs.declared.script.Script.{Script}
+use Rattle.dash_stage.specs.declared.thread.PostingThread.{PostingThread}
+use Rattle.dash_stage.specs.declared.looper.StageLooper.{StageLooper}
+use Rattle.dash_stage.specs.declared.control.Controller.{Controller}
 use Rattle.dash_stage.specs.declared.stage.Stage.{Stage}
-use Rattle.dash_stage.specs.Stages.{IsStage}
-use Rattle.dash_stage.proofs.ControlKept.{quitting_skips}
+use Rattle.dash_stage.specs.Controllers.{IsQuitting}
+use Rattle.dash_stage.specs.Sharing.{AtEach, HaveHeard, ThreadKeeps, LooperKeeps}
+use Rattle.dash_stage.specs.Stages.{IsStage, HaveRun}
+use Rattle.dash_stage.specs.Timeliness.{EachTurnsOn, MovesNot}
+use Rattle.dash_stage.proofs.Controlling.{poster_count}
+use Rattle.dash_stage.proofs.ControlKept.{quitting_starts, quitting_skips, closing_kept}
 use Rattle.dash_stage.proofs.StageControls.{quitting_ends}
+use Rattle.dash_stage.proofs.StageTurns.{AreKeptFrom, turns_none, turns_more, turned_timely}
 use Rattle.dash_stage.proofs.stage.Stage.quit_others.Goals as goal
 use Rattle.dash_stage.proofs.stage.Stage.quit_others.Goals.{then-not-has_ended+in_ok-quit, else-not-has_ended}
+
+pub loop-looper-init : goal.loop-looper-init
+loop-looper-init g c =
+    (c.requires.stage, refl, refl, omega arith, quitting_starts c.args.script.now c.args.self.now.controller c.requires.moving c.requires.reached, turns_none MovesNot c.args.self.now.controller, λ q d le. refl)
 
 pub loop-looper-preserved : goal.loop-looper-preserved
 loop-looper-preserved g c =
     let s = c.args.script.now in
     let at = c.loop-looper in
-    let kept = λ (st : Stage). IsStage s st × (st.threads.items ≡ c.args.self.now.threads.items) × (0 < at.looper + 1) × IsQuitting s (at.looper + 1) st.controller in
+    let first = c.args.self.now in
+    let kept = λ (st : Stage). IsStage s st × (st.threads.items ≡ first.threads.items) × (st.loopers.items ≡ first.loopers.items) × (0 < at.looper + 1) × IsQuitting s (at.looper + 1) st.controller
+        × EachTurnsOn MovesNot first.controller st.controller × AreKeptFrom (at.looper + 1) first.controller st.controller in
     elim c.if-not-has_ended.branch [
       | then-not-has_ended+in_ok-quit w ↦
           let stage = at.invariant.0 in
+          let quit : Controller = w.quit.new.self in
+          let long : length quit.kit.posters.items ≡ length at.self.controller.kit.posters.items =
+          poster_count s at.self.hall quit stage.hall w.quit.ensures.controller ∙ sym (poster_count s at.self.hall at.self.controller stage.hall stage.controller) in
+          let more = turns_more MovesNot first.controller at.self.controller quit at.looper at.invariant.5 at.invariant.6 long w.in_ok-quit.ensures.here w.quit.ensures.elsewhere in
           subst kept (sym w.self-is) (
-            record { hall = stage.hall; threads = stage.threads; loopers = stage.loopers; controller = w.in_ok-quit.ensures.controller; pass = stage.pass },
+            record { hall = stage.hall; threads = stage.threads; loopers = stage.loopers; controller = w.quit.ensures.controller; pass = stage.pass },
             at.invariant.1,
+            at.invariant.2,
             omega arith,
             w.in_ok-quit.ensures.quitting,
+            more.0,
+            more.1,
           )
-      | else-not-has_ended w ↦ subst kept (sym w.self-is) (at.invariant.0, at.invariant.1, omega arith, quitting_skips s at.self.controller at.looper at.invariant.2 at.invariant.3)
+      | else-not-has_ended w ↦
+          subst kept (sym w.self-is) (at.invariant.0, at.invariant.1, at.invariant.2, omega arith, quitting_skips s at.self.controller at.looper at.invariant.3 at.invariant.4, at.invariant.5, λ q d le. at.invariant.6 q d (omega (arith, le)))
     ]
 
+pub returns-in_err-quit-clause-run : goal.returns-in_err-quit-clause-run
+returns-in_err-quit-clause-run g c past run = subst (HaveRun c.args.script.now past) (sym c.loop-looper.invariant.1) run
+
+pub returns-clause-run : goal.returns-clause-run
+returns-clause-run g c past run = c.share.ensures.run past (subst (HaveRun c.args.script.now past) (sym c.loop-looper.invariant.1) run)
+
 pub returns-clause-closing : goal.returns-clause-closing
-returns-clause-closing g c = quitting_ends c.args.script.now c.loop-looper.looper c.loop-looper.self.controller c.loop-looper.invariant.3
+returns-clause-closing g c =
+    closing_kept c.args.script.now c.loop-looper.self.controller c.share.new.self.controller c.share.ensures.none (quitting_ends c.args.script.now c.loop-looper.looper c.loop-looper.self.controller c.loop-looper.invariant.4)
+
+pub returns-clause-timely : goal.returns-clause-timely
+returns-clause-timely g c past timely =
+    let at = c.loop-looper in
+    let st = c.args.self.now in
+    let st' = c.share.new.self in
+    let kept = c.share.ensures.kept in
+    let threads = subst (λ (l : List PostingThread). AtEach (ThreadKeeps HaveHeard) l st'.threads.items) at.invariant.1 kept.threads in
+    let loopers = subst (λ (l : List StageLooper). AtEach (LooperKeeps HaveHeard) l st'.loopers.items) at.invariant.2 kept.loopers in
+    turned_timely c.args.script.now st at.self.controller st' c.requires.stage c.share.ensures.stage timely.same c.share.ensures.shared threads loopers kept.controller.posters at.invariant.5 past timely

@@ -1,0 +1,226 @@
+-- What a block of the threads, and the controller's turns that move no time, make of what all senders have seen of each queue.
+use Rattle.std.proofs.Common.{◌≡◌, ◌≢◌, ◌<◌, ◌≤◌, ◌+◌, ◌==◌, ◌⊎◌, inl, inr, ℕ, suc, true, List, [], ◌∷◌, ◌++◌, map, length, filter, refl, sym, ap, ◌∙◌, subst, arith}
+use Rattle.std.specs.Prelude.{slice_index_or}
+use Rattle.std.specs.List.{AllByRecursion}
+use Rattle.std.proofs.lemmas.Bool.{ne_eqb}
+use Rattle.std.proofs.lemmas.List.{append-nil, length-append}
+use mathlib.Core.List.{IsPrefix}
+use mathlib.Core.Logic.{dite}
+use native.Mathlib.Decide.{ℕ_discrete}
+use Rattle.loop_model.specs.declared.entry.Entry.{Entry}
+use Rattle.loop_model.specs.Base.{empty_base}
+use Rattle.loop_model.specs.Legal.{IsLegal, AreNumbered}
+use Rattle.shared_queue.proofs.Prefixes.{prefix_self, prefix_trans}
+use Rattle.dash_script.specs.declared.script.Block.{Block}
+use Rattle.dash_script.specs.declared.script.Line.{Line}
+use Rattle.dash_script.specs.declared.script.Script.{Script}
+use Rattle.looper_run.specs.Holding.{Sender}
+use Rattle.run_model.specs.Senders.{controller, sender_count}
+use Rattle.run_model.specs.Asks.{AreFor, entries_by, token_in}
+use Rattle.run_model.specs.Planned.{Timed, lines_in, lines_of, labels_on, lines_on}
+use Rattle.run_model.specs.Control.{is_advanced_in_time, ends_halted, befores, At, are_on_time}
+use Rattle.run_model.proofs.RunLaws.{entries_by-append, entries_by-others, lines_on-append}
+use Rattle.dash_stage.specs.declared.thread.PostingThread.{PostingThread}
+use Rattle.dash_stage.specs.declared.looper.StageLooper.{StageLooper}
+use Rattle.dash_stage.specs.declared.control.Controller.{Controller}
+use Rattle.dash_stage.specs.declared.stage.Stage.{Stage}
+use Rattle.dash_stage.specs.Growth.{own}
+use Rattle.dash_stage.specs.Threads.{IsUpTo, HasCalled}
+use Rattle.dash_stage.specs.Loopers.{setting_for, is_given_up}
+use Rattle.dash_stage.specs.Stages.{IsStage, HaveRun, RunOn, LoopersGoOn}
+use Rattle.dash_stage.specs.Sharing.{AtEach, HaveHeard, ThreadKeeps, LooperKeeps, HaveSeenTheSame}
+use Rattle.dash_stage.specs.Timeliness.{whole_on, IsSoundOn, IsTimelyUpTo, AreTimelyUpTo, IsAtTime, AreAtTime, TurnsOn, EachTurnsOn, MovesNot, HasHaltedLast}
+use Rattle.dash_stage.proofs.Blocks.{lines_more}
+use Rattle.dash_stage.proofs.Timely.{advanced_more, advanced_other, timely_others, timely_block, is_whole}
+use Rattle.dash_stage.proofs.HallEnds.{some_of}
+use Rattle.dash_stage.proofs.ThreadShares.{up_to_kept}
+use Rattle.dash_stage.proofs.StageWhole.{as_many, controller_entries, thread_entries, sender_at, sound_front, none_behind}
+use Rattle.dash_stage.proofs.StageMoves.{none_between, others_none, turned_on}
+
+-- ---- lists and histories
+
+-- the entries for lines are as many as the lines
+for_count : {X : Type 0} (P : List ℕ → X → Entry → Type 0) (tokens : List ℕ) (xs : List X) (es : List Entry) → AreFor P tokens xs es → length xs ≡ length es
+for_count P tokens [] [] h = refl
+for_count P tokens [] (e ∷ es) h = absurd h
+for_count P tokens (x ∷ xs) [] h = absurd h
+for_count P tokens (x ∷ xs) (e ∷ es) h = ap suc (for_count P (tokens ++ token_in e.reply) xs es h.1)
+
+all_same : (time : ℕ) (ls : List Line) → AllByRecursion (λ (t : Timed). t.time ≡ time) (map (λ (l : Line). record { time = time; command = l.command }) ls)
+all_same time [] = tt
+all_same time (l ∷ ls) = (refl, all_same time ls)
+
+-- a thread's lines in a block have the block's time
+lines_at : (k : ℕ) (b : Block) → AllByRecursion (λ (t : Timed). t.time ≡ b.time) (lines_in k b)
+lines_at k b = all_same b.time (filter (λ l. l.thread == k) b.lines)
+
+-- ---- a block
+
+-- a thread that has come so far has made a call for each of its lines there
+called_count : (s : Script) (bs : List Block) (k : ℕ) (t : PostingThread) → t.number ≡ k → IsUpTo s (lines_of k bs) t → (q : ℕ) (d : Sender) → q < length t.kit.posters.items
+    → length (lines_on s (labels_on q (lines_of k s.blocks)) q (lines_of k bs)) ≡ length (own (slice_index_or t.kit.posters.items q d))
+called_count s bs k t number up q d lt = for_count _ [] _ _ (subst (λ n. HasCalled s (lines_of k bs) n t.kit.posters.items) number up.called q d lt)
+
+module _ (s : Script) (q : ℕ) (es whole : List Entry) (front : IsPrefix es whole) (sound : IsSoundOn s q whole) (controlled : entries_by (controller s) whole ≡ entries_by (controller s) es) where
+  -- no Advance came
+  advanced_behind : is_advanced_in_time whole ≡ is_advanced_in_time es
+  advanced_behind =
+      let base = empty_base (sender_count s) in
+      let numbered = subst (AreNumbered (setting_for s q) base) (sym front.1) sound.numbered in
+      ap is_advanced_in_time (sym front.1) ∙ advanced_more (setting_for s q) (controller s) refl es front.0 numbered (none_behind (controller s) es whole front controlled)
+
+  -- a thread that has made the calls of one block more, at the block's time, is on time
+  block_on_time : (past : List Block) (b : Block) (k : ℕ) → IsAtTime (sender_count s) b.time es → (let labels = labels_on q (lines_of k s.blocks) in
+      length (lines_on s labels q (lines_of k past)) ≡ length (entries_by k es) → length (lines_on s labels q (lines_of k (past ++ b ∷ []))) ≡ length (entries_by k whole)
+      → are_on_time (map (λ l. At l.time) (lines_on s labels q (lines_of k past))) (befores k es) ≡ true
+      → are_on_time (map (λ l. At l.time) (lines_on s labels q (lines_of k (past ++ b ∷ [])))) (befores k whole) ≡ true)
+  block_on_time past b k at before after h =
+      let set = setting_for s q in
+      let base = empty_base (sender_count s) in
+      let labels = labels_on q (lines_of k s.blocks) in
+      let numbered = subst (AreNumbered set base) (sym front.1) sound.numbered in
+      let legal = subst (IsLegal set base) (sym front.1) sound.legal in
+      let more = lines_more k past b in
+      let lines : length (lines_on s labels q (lines_of k (past ++ b ∷ []))) ≡ length (lines_on s labels q (lines_of k past)) + length (lines_on s labels q (lines_in k b)) =
+      ap (λ l. length (lines_on s labels q l)) (sym more) ∙ ap length (lines_on-append s labels q (lines_of k past) (lines_in k b)) ∙ length-append (lines_on s labels q (lines_of k past)) (lines_on s labels q (lines_in k b)) in
+      let entries : length (entries_by k whole) ≡ length (entries_by k es) + length (entries_by k front.0) =
+      ap (λ l. length (entries_by k l)) (sym front.1) ∙ ap length (entries_by-append k es front.0) ∙ length-append (entries_by k es) (entries_by k front.0) in
+      let long : length (entries_by k front.0) ≡ length (lines_on s labels q (lines_in k b)) = omega (arith, before, after, lines, entries) in
+      subst (λ (ls : List Timed). are_on_time (map (λ l. At l.time) (lines_on s labels q ls)) (befores k whole) ≡ true) more
+      (subst (λ (l : List Entry). are_on_time (map (λ l. At l.time) (lines_on s labels q (lines_of k past ++ lines_in k b))) (befores k l) ≡ true) front.1
+      (timely_block set (controller s) refl refl s labels q k b.time (lines_of k past) (lines_in k b) es front.0 legal numbered (none_behind (controller s) es whole front controlled) at (lines_at k b) long h))
+
+-- the controller's posters, which have heard others, have its entries as before
+heard_entries : (s : Script) (st st' : Stage) → IsStage s st → IsStage s st' → HaveHeard st.controller.kit.posters.items st'.controller.kit.posters.items → (q : ℕ) (d : Sender) → q < length st.controller.kit.posters.items
+    → entries_by (controller s) (whole_on st'.controller q d) ≡ entries_by (controller s) (whole_on st.controller q d)
+heard_entries s st st' is is' heard q d lt =
+    controller_entries s st' is' q d (subst (λ (n : ℕ). q < n) (sym heard.long) lt) ∙ (heard.each q d lt).called ∙ sym (controller_entries s st is q d lt)
+
+-- a block that the threads have run at its time
+pub block_timely : (s : Script) (st st' : Stage) (b : Block) (past : List Block) → IsStage s st → IsStage s st' → HaveRun s past st.threads.items → HaveRun s (past ++ b ∷ []) st'.threads.items
+    → HaveHeard st.controller.kit.posters.items st'.controller.kit.posters.items → HaveSeenTheSame st' → AreAtTime s b.time st → AreTimelyUpTo s past st → AreTimelyUpTo s (past ++ b ∷ []) st'
+block_timely s st st' b past is is' run run' heard same' at timely = record {
+  same = same';
+  timely = λ q d lt' sound'.
+      let lt : q < length st.controller.kit.posters.items = subst (λ (n : ℕ). q < n) heard.long lt' in
+      let es = whole_on st.controller q d in
+      let whole = whole_on st'.controller q d in
+      let front : IsPrefix es whole = (heard.each q d lt).more in
+      let controlled = heard_entries s st st' is is' heard q d lt in
+      let sound = sound_front s q es whole front sound' in
+      let was = timely.timely q d lt sound in record {
+        advances = advanced_behind s q es whole front sound' controlled ∙ was.advances;
+        threads = λ k few.
+            let in_st : k < length st.threads.items = subst (λ (n : ℕ). k < n) (sym is.threads.0) few in
+            let in_st' : k < length st'.threads.items = subst (λ (n : ℕ). k < n) (sym is'.threads.0) few in
+            let t : PostingThread = slice_index_or st.threads.items k (some_of st.threads.items k in_st) in
+            let t' : PostingThread = slice_index_or st'.threads.items k (some_of st'.threads.items k in_st') in
+            let z = some_of st.threads.items k in_st in
+            let z' = some_of st'.threads.items k in_st' in
+            let here : q < length t.kit.posters.items = subst (λ (n : ℕ). q < n) (sym (as_many t.kit.posters.items st.controller.kit.posters.items (timely.same.threads k z in_st))) lt in
+            let here' : q < length t'.kit.posters.items = subst (λ (n : ℕ). q < n) (sym (as_many t'.kit.posters.items st'.controller.kit.posters.items (same'.threads k z' in_st'))) lt' in
+            block_on_time s q es whole front sound' controlled past b k (at q d lt sound)
+            (called_count s past k t (is.threads.1 k z in_st).1 (run k z in_st) q d here ∙ ap length (sym (thread_entries s st is timely.same k q z d d in_st lt)))
+            (called_count s (past ++ b ∷ []) k t' (is'.threads.1 k z' in_st').1 (run' k z' in_st') q d here' ∙ ap length (sym (thread_entries s st' is' same' k q z' d d in_st' lt')))
+            (was.threads k few);
+      };
+}
+
+-- ---- turns of the controller that move no time
+
+-- a history stays timely by one entry of the controller that is no Advance
+timely_other : (s : Script) (past : List Block) (q : ℕ) (es : List Entry) (e : Entry) → MovesNot e → e.sender ≡ controller s → IsTimelyUpTo s past q es → IsTimelyUpTo s past q (es ++ e ∷ [])
+timely_other s past q es e moves_not sender timely = record {
+  advances = advanced_other es e moves_not timely.advances;
+  threads = λ k lt. timely_others k _ es (e ∷ []) (entries_by-others k (e ∷ []) (ne_eqb e.sender k (λ at. absurd (omega (arith, at, sender, lt))), tt)) (timely.threads k lt);
+}
+
+-- a history stays timely by a turn of the controller that moves no time
+timely_turned : (s : Script) (past : List Block) (q : ℕ) (es whole : List Entry) → IsSoundOn s q whole → (whole ≡ es) ⊎ ((e : Entry) × (whole ≡ es ++ e ∷ []) × MovesNot e × (e.sender ≡ controller s))
+    → (IsSoundOn s q es → IsTimelyUpTo s past q es) → IsTimelyUpTo s past q whole
+timely_turned s past q es whole sound (inl same) timely = subst (IsTimelyUpTo s past q) (sym same) (timely (subst (IsSoundOn s q) same sound))
+timely_turned s past q es whole sound (inr t) timely =
+    let e : Entry = t.0 in
+    let before = sound_front s q es whole (e ∷ [], sym t.1) sound in
+    subst (IsTimelyUpTo s past q) (sym t.1) (timely_other s past q es e t.2 t.3 (timely before))
+
+-- a turn leaves what it found, and maybe more
+step_on : (P : Entry → Type 0) (n : ℕ) (found left : List Entry) → (left ≡ found) ⊎ ((e : Entry) × (left ≡ found ++ e ∷ []) × P e × (e.sender ≡ n)) → IsPrefix found left
+step_on P n found left (inl same) = ([], append-nil found ∙ sym same)
+step_on P n found left (inr t) = (t.0 ∷ [], sym t.1)
+
+-- a controller that has taken no turn
+pub turns_none : (P : Entry → Type 0) (c : Controller) → EachTurnsOn P c c
+turns_none P c = record {
+  long = refl;
+  each = λ q d lt. record { found = (slice_index_or c.kit.posters.items q d).view.seen; begins = prefix_self (slice_index_or c.kit.posters.items q d).view.seen; made = refl; sender = refl; step = inl refl };
+}
+
+-- the queues from this one on are as they were
+abbrev pub AreKeptFrom : ℕ → Controller → Controller → Type 0
+AreKeptFrom n first now = (q : ℕ) (d : Sender) → n ≤ q → slice_index_or now.kit.posters.items q d ≡ slice_index_or first.kit.posters.items q d
+
+-- one queue more had its turn, and the others none
+pub turns_more : (P : Entry → Type 0) (first now after : Controller) (n : ℕ) → EachTurnsOn P first now → AreKeptFrom n first now → length after.kit.posters.items ≡ length now.kit.posters.items
+    → ((d : Sender) → TurnsOn P (slice_index_or now.kit.posters.items n d) (slice_index_or after.kit.posters.items n d))
+    → ((q : ℕ) (d : Sender) → q ≢ n → slice_index_or after.kit.posters.items q d ≡ slice_index_or now.kit.posters.items q d)
+    → EachTurnsOn P first after × AreKeptFrom (n + 1) first after
+turns_more P first now after n turns kept long here elsewhere = (
+  record {
+    long = long ∙ turns.long;
+    each = λ q d lt. dite (ℕ_discrete q n)
+        (λ at. subst (λ (m : ℕ). TurnsOn P (slice_index_or first.kit.posters.items m d) (slice_index_or after.kit.posters.items m d)) (sym at)
+        (subst (λ (p : Sender). TurnsOn P p (slice_index_or after.kit.posters.items n d)) (kept n d (omega arith)) (here d)))
+        (λ apart. subst (λ (p : Sender). TurnsOn P (slice_index_or first.kit.posters.items q d) p) (sym (elsewhere q d apart)) (turns.each q d lt));
+  },
+  λ q d le. elsewhere q d (λ at. absurd (omega (arith, at, le))) ∙ kept q d (omega (arith, le)),
+)
+
+-- from a stage, over the controller's turns, to one in which all have seen the same again, and nobody else called anything
+module _ (s : Script) (st : Stage) (c : Controller) (st' : Stage) (is : IsStage s st) (is' : IsStage s st') (same : HaveSeenTheSame st) (same' : HaveSeenTheSame st')
+    (threads : AtEach (ThreadKeeps HaveHeard) st.threads.items st'.threads.items) (loopers : AtEach (LooperKeeps HaveHeard) st.loopers.items st'.loopers.items)
+    (heard : HaveHeard c.kit.posters.items st'.controller.kit.posters.items) (turns : EachTurnsOn MovesNot st.controller c) where
+  -- the histories stay timely
+  pub turned_timely : (past : List Block) → AreTimelyUpTo s past st → AreTimelyUpTo s past st'
+  turned_timely past timely = record {
+    same = same';
+    timely = λ q d lt' sound.
+        let lt : q < length st.controller.kit.posters.items = subst (λ (n : ℕ). q < n) (heard.long ∙ turns.long) lt' in
+        timely_turned s past q (whole_on st.controller q d) (whole_on st'.controller q d) sound (turned_on s st c st' is is' same same' threads loopers heard MovesNot turns q d lt sound.numbered) (timely.timely q d lt);
+  }
+
+  -- all have seen what the controller left, and no more
+  turned_left : (q : ℕ) (d : Sender) → q < length st.controller.kit.posters.items → IsSoundOn s q (whole_on st'.controller q d) → whole_on st'.controller q d ≡ whole_on c q d
+  turned_left q d lt sound =
+      let within : q < length c.kit.posters.items = subst (λ (n : ℕ). q < n) (sym turns.long) lt in
+      let h = heard.each q d within in
+      let t = turns.each q d lt in
+      let es = whole_on st.controller q d in
+      let left = whole_on c q d in
+      let whole = whole_on st'.controller q d in
+      let n : (slice_index_or c.kit.posters.items q d).sender ≡ controller s = t.sender ∙ sender_at (controller s) st.hall.queues.items st.controller.kit.posters.items is.controller.posters q d lt in
+      let mine : entries_by (controller s) whole ≡ entries_by (controller s) left =
+      controller_entries s st' is' q d (subst (λ (m : ℕ). q < m) (sym (heard.long ∙ turns.long)) lt) ∙ h.called ∙ ap (λ (m : ℕ). entries_by m left) n in
+      let begins : IsPrefix es left = prefix_trans es t.found left t.begins (step_on MovesNot _ t.found left t.step) in
+      is_whole (setting_for s q) (empty_base (sender_count s)) left whole h.more sound.numbered (λ k known. dite (ℕ_discrete k (controller s))
+      (λ at. subst (λ (m : ℕ). entries_by m whole ≡ entries_by m left) (sym at) mine)
+      (λ apart.
+      let none = others_none s st c st' is is' same same' threads loopers heard (heard.long ∙ turns.long) q d lt k known apart in
+      none ∙ sym (none_between k es left whole begins h.more none)))
+
+  -- where the controller halted main, main's history ends with the halt
+  pub halted_stays : ((d : Sender) → ends_halted (whole_on c 0 d) ≡ true) → HasHaltedLast s st'
+  halted_stays halted d lt sound = ap ends_halted (turned_left 0 d (subst (λ (n : ℕ). 0 < n) (heard.long ∙ turns.long) lt) sound) ∙ halted d
+
+-- ---- what stays while others are heard
+
+-- the loopers go on
+pub go_on_kept : (R : List Sender → List Sender → Type 0) (ls ls' : List StageLooper) → AtEach (LooperKeeps R) ls ls' → LoopersGoOn ls → LoopersGoOn ls'
+go_on_kept R ls ls' kept on k d lt =
+    let within : k < length ls = subst (λ (n : ℕ). k < n) kept.long lt in
+    ap is_given_up (kept.each k d within).last ∙ on k d within
+
+-- what a thread does with a block, where others are heard after it
+pub continues_kept : (s : Script) (b : Block) (ts ms us : List PostingThread) → length ms ≡ length ts → RunOn s b ts ms → AtEach (ThreadKeeps HaveHeard) ms us → RunOn s b ts us
+continues_kept s b ts ms us long on kept k d lt past rest whole up =
+    up_to_kept s (past ++ lines_in (slice_index_or ts k d).number b) (slice_index_or ms k d) (slice_index_or us k d) (kept.each k d (subst (λ (n : ℕ). k < n) (sym long) lt)) (on k d lt past rest whole up)

@@ -1,0 +1,65 @@
+use Rattle.std.proofs.Common.{◌≡◌, ◌<◌, ◌+◌, ◌∙◌, List, refl, sym, subst, arith, length}
+use Rattle.dash_stage.specs.Controllers.{IsClosing}
+use Rattle.dash_stage.specs.Sharing.{HaveHeard}
+use Rattle.dash_stage.proofs.ControlKept.{closing_kept, closed_kept}
+use Rattle.dash_stage.proofs.StageTurns.{turned_timely, halted_stays, go_on_kept}
+use Rattle.dash_stage.proofs.stage.Stage.end.Goals as goal
+
+pub loop-init : goal.loop-init
+loop-init g c = (c.quit_others.ensures.stage, c.quit_others.ensures.run, c.in_ok-quit_others.ensures.closing, c.in_ok-quit_others.ensures.timely)
+
+pub loop-preserved : goal.loop-preserved
+loop-preserved g c =
+    let at = c.loop in (
+      c.run_round.ensures.stage,
+      λ past run. c.run_round.ensures.run past (at.invariant.1 past run),
+      closing_kept c.args.script.now at.self.controller c.run_round.new.self.controller c.run_round.ensures.none at.invariant.2,
+      λ past timely. c.in_ok-run_round.ensures.timely past (at.invariant.3 past timely),
+    )
+
+pub returns-in_err-run_round-clause-run : goal.returns-in_err-run_round-clause-run
+returns-in_err-run_round-clause-run g c past run = c.run_round.ensures.run past (c.loop.invariant.1 past run)
+
+pub returns-in_err-run_rounds-clause-run : goal.returns-in_err-run_rounds-clause-run
+returns-in_err-run_rounds-clause-run g c past run = c.run_rounds.ensures.run past (c.loop-2.invariant.1 past run)
+
+pub halt-halted-requires-clause-closing : goal.halt-halted-requires-clause-closing
+halt-halted-requires-clause-closing g c =
+    closing_kept c.args.script.now c.loop-2.self.controller c.run_rounds.new.self.controller c.run_rounds.ensures.none c.loop-2.invariant.2
+
+pub returns-then-halted-clause-run : goal.returns-then-halted-clause-run
+returns-then-halted-clause-run g c past run = c.share.ensures.run past (c.run_rounds.ensures.run past (c.loop-2.invariant.1 past run))
+
+pub returns-then-halted-clause-closed : goal.returns-then-halted-clause-closed
+returns-then-halted-clause-closed g c = closed_kept c.args.script.now c.halt-halted.new.self c.share.new.self.controller c.share.ensures.none (c.halt-halted.ensures.closed c.if-halted.true)
+
+pub returns-then-halted-clause-ended : goal.returns-then-halted-clause-ended
+returns-then-halted-clause-ended g c = c.share.ensures.ended (c.run_rounds.ensures.ended c.loop-2.invariant.4)
+
+pub returns-then-halted-clause-on : goal.returns-then-halted-clause-on
+returns-then-halted-clause-on g c = go_on_kept HaveHeard c.run_rounds.new.self.loopers.items c.share.new.self.loopers.items c.share.ensures.kept.loopers c.in_ok-run_rounds.ensures.on
+
+pub returns-then-halted-clause-timely : goal.returns-then-halted-clause-timely
+returns-then-halted-clause-timely g c past timely =
+    let kept = c.share.ensures.kept in
+    turned_timely c.args.script.now c.run_rounds.new.self c.halt-halted.new.self c.share.new.self c.run_rounds.ensures.stage c.share.ensures.stage c.in_ok-run_rounds.ensures.same c.share.ensures.shared
+    kept.threads kept.loopers kept.controller.posters c.halt-halted.ensures.turns past (c.in_ok-run_rounds.ensures.timely past (c.loop-2.invariant.3 past timely))
+
+pub returns-then-halted-clause-halted : goal.returns-then-halted-clause-halted
+returns-then-halted-clause-halted g c =
+    let kept = c.share.ensures.kept in
+    halted_stays c.args.script.now c.run_rounds.new.self c.halt-halted.new.self c.share.new.self c.run_rounds.ensures.stage c.share.ensures.stage c.in_ok-run_rounds.ensures.same c.share.ensures.shared
+    kept.threads kept.loopers kept.controller.posters c.halt-halted.ensures.turns (c.halt-halted.ensures.halted c.if-halted.true)
+
+pub loop-2-preserved : goal.loop-2-preserved
+loop-2-preserved g c =
+    let s = c.args.script.now in
+    let kept = c.share.ensures.kept in
+    let at = c.loop-2.invariant in (
+      c.share.ensures.stage,
+      λ past run. c.share.ensures.run past (c.run_rounds.ensures.run past (at.1 past run)),
+      closing_kept s c.halt-halted.new.self c.share.new.self.controller c.share.ensures.none (c.halt-halted.ensures.closing c.if-halted.false),
+      λ past timely. turned_timely s c.run_rounds.new.self c.halt-halted.new.self c.share.new.self c.run_rounds.ensures.stage c.share.ensures.stage c.in_ok-run_rounds.ensures.same c.share.ensures.shared
+          kept.threads kept.loopers kept.controller.posters c.halt-halted.ensures.turns past (c.in_ok-run_rounds.ensures.timely past (at.3 past timely)),
+      c.share.ensures.ended (c.run_rounds.ensures.ended at.4),
+    )

@@ -1,0 +1,41 @@
+use Rattle.std.proofs.Common.{◌∙◌, ◌++◌, ◌∷◌, List, [], refl, sym, subst, arith}
+use Rattle.std.proofs.lemmas.List.{with_items_is}
+use Rattle.dash_stage.specs.declared.thread.PostingThread.{PostingThread}
+use Rattle.dash_stage.specs.Sharing.{AtEach, HaveHeard, ThreadKeeps}
+use Rattle.dash_stage.specs.Stages.{HaveRun, RunOn}
+use Rattle.dash_stage.proofs.ControlKept.{none_same}
+use Rattle.dash_stage.proofs.Blocks.{run_one_more}
+use Rattle.dash_stage.proofs.StageTurns.{block_timely, continues_kept}
+use Rattle.dash_stage.proofs.stage.Stage.run_block.Goals as goal
+
+pub returns-in_err-run_threads-clause-none : goal.returns-in_err-run_threads-clause-none
+returns-in_err-run_threads-clause-none g c = none_same c.args.self.now.controller c.args.self.now.controller refl
+
+pub returns-clause-run : goal.returns-clause-run
+returns-clause-run g c =
+    let s = c.args.script.now in
+    let b = c.args.block.now in
+    let st = c.args.self.now in
+    let ran : List PostingThread = c.run_threads.new.threads in
+    let many = c.run_threads.ensures.threads.0 ∙ sym c.requires.stage.threads.0 in
+    let written = with_items_is st.threads ran (omega (arith, many, st.threads.ok.0)) in
+    continues_kept s b st.threads.items ran c.share.new.self.threads.items many
+    (subst (λ (l : List PostingThread). RunOn s b l ran) c.as_mut_slice.ensures.value c.in_ok-run_threads.ensures.run)
+    (subst (λ (l : List PostingThread). AtEach (ThreadKeeps HaveHeard) l c.share.new.self.threads.items) written c.share.ensures.kept.threads)
+
+pub returns-clause-time : goal.returns-clause-time
+returns-clause-time g c = c.share.ensures.kept.time
+
+pub returns-clause-timely : goal.returns-clause-timely
+returns-clause-timely g c past rest whole run at timely =
+    let s = c.args.script.now in
+    let b = c.args.block.now in
+    let st = c.args.self.now in
+    let stage = c.requires.stage in
+    let ran : List PostingThread = c.run_threads.new.threads in
+    let many = c.run_threads.ensures.threads.0 ∙ sym stage.threads.0 in
+    let written = with_items_is st.threads ran (omega (arith, many, st.threads.ok.0)) in
+    let on = subst (λ (l : List PostingThread). RunOn s b l ran) c.as_mut_slice.ensures.value c.in_ok-run_threads.ensures.run in
+    let more = run_one_more s past rest b whole st.threads.items ran (λ k d lt. (stage.threads.1 k d lt).1) many on run in
+    block_timely s st c.share.new.self b past stage c.share.ensures.stage run (c.share.ensures.run (past ++ b ∷ []) (subst (HaveRun s (past ++ b ∷ [])) (sym written) more))
+    c.share.ensures.kept.controller.posters c.share.ensures.shared at timely
