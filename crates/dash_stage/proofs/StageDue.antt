@@ -1,6 +1,6 @@
 -- When messages are due, as told by how the loopers' last rounds ended.
-use Rattle.std.proofs.Common.{◌≡◌, ◌<◌, ◌≤◌, ◌+◌, ◌⊎◌, inl, inr, ℕ, zero, suc, Bool, true, false, List, [], ◌∷◌, ◌++◌, length, Option, Some, None, refl, sym, ap, ap₂, ◌∙◌, subst, arith}
-use Rattle.std.specs.Prelude.{slice_index_or, map}
+use Rattle.std.proofs.Common.{◌≡◌, ◌<◌, ◌≤◌, ◌+◌, inl, inr, ℕ, suc, true, false, List, [], ◌∷◌, length, Option, Some, None, refl, sym, ap, ap₂, ◌∙◌, subst, arith}
+use Rattle.std.specs.Prelude.{slice_index_or}
 use Rattle.std.specs.List.{sum_by}
 use Rattle.std.specs.Option.{option_map}
 use Rattle.std.proofs.lemmas.Bool.{cases_Bool, le-leb}
@@ -74,9 +74,9 @@ seen_same st st' threads loopers posters same =
     let ps = st.controller.kit.posters in
     let before : SameBy st.threads.items st.loopers.items ps.items = (same.threads, same.loopers) in
     let after : SameBy st'.threads.items st'.loopers.items st'.controller.kit.posters.items =
-        subst (λ z. SameBy z st'.loopers.items st'.controller.kit.posters.items) (sym threads)
-        (subst (λ z. SameBy st.threads.items z.items st'.controller.kit.posters.items) (sym loopers)
-        (subst (λ z. SameBy st.threads.items st.loopers.items z.items) (sym posters) before)) in
+    subst (λ z. SameBy z st'.loopers.items st'.controller.kit.posters.items) (sym threads)
+    (subst (λ z. SameBy st.threads.items z.items st'.controller.kit.posters.items) (sym loopers)
+    (subst (λ z. SameBy st.threads.items st.loopers.items z.items) (sym posters) before)) in
     record { threads = after.0; loopers = after.1; controller = refl }
 
 -- and each history is as timely
@@ -116,10 +116,10 @@ module _ (s : Script) (st : Stage) (ls : List StageLooper) (st' : Stage) (is : I
       let one = loopers.1 q l lt1 in
       let mine : slice_index_or (posters_of x) q d ≡ x.looper.held.poster = subst (λ (n : ℕ). slice_index_or (posters_of x) n d ≡ x.looper.held.poster) one.1 (own_among s st.hall x is.hall one.0 d) in
       let before : (slice_index_or st.loopers.items q l).looper.held.poster.view.seen ≡ whole_on st'.controller q d =
-          looper_sees s st is same q l d lt0 ∙ sym (seen_at st'.controller.kit.posters.items st.controller.kit.posters.items still q d d (subst (λ (n : ℕ). q < n) (sym (queues_count s st is)) lt0)) in
+      looper_sees s st is same q l d lt0 ∙ sym (seen_at st'.controller.kit.posters.items st.controller.kit.posters.items still q d d (subst (λ (n : ℕ). q < n) (sym (queues_count s st is)) lt0)) in
       let after : IsPrefix x.looper.held.poster.view.seen (whole_on st'.controller q d) =
-          subst (λ (p : Sender). IsPrefix p.view.seen (whole_on st'.controller q d)) mine
-          (subst (IsPrefix (slice_index_or (posters_of x) q d).view.seen) (seen_at (posters_of z) st'.controller.kit.posters.items (same'.loopers q l lt) q d d within') heard.more) in
+      subst (λ (p : Sender). IsPrefix p.view.seen (whole_on st'.controller q d)) mine
+      (subst (IsPrefix (slice_index_or (posters_of x) q d).view.seen) (seen_at (posters_of z) st'.controller.kit.posters.items (same'.loopers q l lt) q d d within') heard.more) in
       begins_both x.looper.held.poster.view.seen (whole_on st'.controller q d) after (subst (λ (es : List Entry). IsPrefix es x.looper.held.poster.view.seen) before grown)
 
   -- each looper waits for the first message that no barrier holds back, or has seen its queue over

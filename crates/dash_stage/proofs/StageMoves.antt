@@ -1,5 +1,5 @@
 -- The controller's turn on each queue, where all senders have seen the same before it and after it.
-use Rattle.std.proofs.Common.{◌≡◌, ◌≢◌, ◌<◌, ◌≤◌, ◌+◌, ◌-◌, ◌⊎◌, inl, inr, ℕ, zero, suc, Bool, true, false, true≢false, List, [], ◌∷◌, ◌++◌, length, Option, Some, None, refl, sym, ap, ◌∙◌, subst, arith, append_assoc}
+use Rattle.std.proofs.Common.{◌≡◌, ◌≢◌, ◌<◌, ◌≤◌, ◌+◌, ◌-◌, ◌⊎◌, inl, inr, ℕ, zero, suc, Bool, true, false, true≢false, List, [], ◌∷◌, ◌++◌, length, Some, None, refl, sym, ap, ◌∙◌, subst, arith, append_assoc}
 use Rattle.std.specs.Prelude.{slice_index_or, nat_le, is_some, not, ◌||◌, ◌&&◌, ◌==◌, if◌then◌else◌}
 use Rattle.std.proofs.Math.Bool.{or-false}
 use Rattle.std.proofs.lemmas.Bool.{and_parts, and_from, ne_eqb, le-leb, leb-true}
@@ -10,7 +10,6 @@ use Rattle.loop_model.specs.declared.entry.Entry.{Entry}
 use Rattle.loop_model.specs.declared.base.Base.{Base}
 use Rattle.loop_model.specs.declared.call.Call.{Call}
 use Rattle.loop_model.specs.declared.call.Call.TheVariants.{Advance}
-use Rattle.loop_model.specs.declared.reply.Reply.{Reply}
 use Rattle.loop_model.specs.declared.reply.Reply.TheVariants.{Advanced}
 use Rattle.loop_model.specs.Base.{empty_base}
 use Rattle.loop_model.specs.Entries.{moment_of}
@@ -20,7 +19,7 @@ use Rattle.loop_model.specs.Answers.{Setting, clock, answer, is_over, has_dispos
 use Rattle.loop_model.specs.Legal.{IsLegal, AreNumbered}
 use Rattle.loop_model.proofs.LegalLaws.{IsLegal-last}
 use Rattle.loop_model.proofs.NumberLaws.{AreNumbered-front}
-use Rattle.shared_queue.proofs.Prefixes.{prefix_self, prefix_front, prefix_trans}
+use Rattle.shared_queue.proofs.Prefixes.{prefix_front, prefix_trans}
 use Rattle.dash_script.specs.declared.script.Block.{Block}
 use Rattle.dash_script.specs.declared.script.Script.{Script}
 use Rattle.looper_run.specs.Holding.{Sender}
@@ -33,7 +32,7 @@ use Rattle.dash_stage.specs.declared.stage.Stage.{Stage}
 use Rattle.dash_stage.specs.Controllers.{are_advances, time_in, calls_on, CallsNone}
 use Rattle.dash_stage.specs.Loopers.{setting_for}
 use Rattle.dash_stage.specs.Stages.{IsStage}
-use Rattle.dash_stage.specs.Sharing.{AtEach, HasHeard, HaveHeard, ThreadKeeps, LooperKeeps, HaveSeenTheSame}
+use Rattle.dash_stage.specs.Sharing.{AtEach, HaveHeard, ThreadKeeps, LooperKeeps, HaveSeenTheSame}
 use Rattle.dash_stage.specs.Timeliness.{whole_on, IsSoundOn, IsTimelyUpTo, AreTimelyUpTo, IsAtTime, AreAtTime, AreBy, AreDue, TurnsOn, EachTurnsOn, MovesTo, HaveCome}
 use Rattle.dash_stage.proofs.Controls.{time_by_controller, time_of_advances, main_is_not_over, side_is_not_halted}
 use Rattle.dash_stage.proofs.ControlKept.{calls_kept}

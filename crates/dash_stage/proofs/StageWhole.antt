@@ -1,5 +1,5 @@
 -- What all senders have seen of each queue tells what each of them has made, and stays timely where neither a thread nor the controller has made more.
-use Rattle.std.proofs.Common.{◌≡◌, ◌<◌, ◌≤◌, ◌+◌, ℕ, true, List, [], ◌∷◌, ◌++◌, length, refl, sym, ap, ap₂, ◌∙◌, subst, arith}
+use Rattle.std.proofs.Common.{◌≡◌, ◌<◌, ◌+◌, ℕ, List, [], length, refl, sym, ap, ap₂, ◌∙◌, subst}
 use Rattle.std.specs.Prelude.{slice_index_or}
 use Rattle.std.proofs.lemmas.List.Edits.{get_or-insert_at}
 use mathlib.Core.List.{IsPrefix}
@@ -15,20 +15,15 @@ use Rattle.shared_queue.specs.Known.{Shared}
 use Rattle.looper_run.specs.Holding.{Sender}
 use Rattle.run_model.specs.Senders.{controller, sender_count}
 use Rattle.run_model.specs.Asks.{entries_by}
-use Rattle.run_model.specs.Control.{is_advanced_in_time}
-use Rattle.run_model.proofs.RunLaws.{entries_by-append}
 use Rattle.dash_stage.specs.declared.hall.Hall.{Hall}
 use Rattle.dash_stage.specs.declared.thread.PostingThread.{PostingThread}
 use Rattle.dash_stage.specs.declared.looper.StageLooper.{StageLooper}
-use Rattle.dash_stage.specs.declared.control.Controller.{Controller}
 use Rattle.dash_stage.specs.declared.stage.Stage.{Stage}
 use Rattle.dash_stage.specs.Growth.{own}
 use Rattle.dash_stage.specs.Kits.{Badge, badge_of, badge_for, ArePostersOf, IsHall}
-use Rattle.dash_stage.specs.Threads.{IsThread}
 use Rattle.dash_stage.specs.Loopers.{IsLooper, setting_for}
-use Rattle.dash_stage.specs.Controllers.{IsController}
 use Rattle.dash_stage.specs.Stages.{IsStage}
-use Rattle.dash_stage.specs.Sharing.{seen_by, others_in, posters_of, AtEach, HasHeard, HaveHeard, ThreadKeeps, LooperKeeps, HaveSeenTheSame}
+use Rattle.dash_stage.specs.Sharing.{seen_by, others_in, posters_of, AtEach, HaveHeard, ThreadKeeps, LooperKeeps, HaveSeenTheSame}
 use Rattle.dash_stage.specs.Timeliness.{whole_on, IsSoundOn, IsTimelyUpTo, AreTimelyUpTo}
 use Rattle.dash_stage.proofs.Badges.{alike_length, alike_at}
 use Rattle.dash_stage.proofs.Controlling.{poster_count}

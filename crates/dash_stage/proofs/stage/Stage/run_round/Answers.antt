@@ -21,11 +21,11 @@ returns-clause-rested g c all same still =
     let s = c.args.script.now in
     let ran = c.run_loopers.new.loopers in
     let waits =
-        subst (λ (xs : List StageLooper). (k : ℕ) (d : StageLooper) → k < length xs → ComesToWait s (slice_index_or xs k d) (slice_index_or ran k d)) c.as_mut_slice.ensures.value (c.run_loopers.ensures.waits all) in
+    subst (λ (xs : List StageLooper). (k : ℕ) (d : StageLooper) → k < length xs → ComesToWait s (slice_index_or xs k d) (slice_index_or ran k d)) c.as_mut_slice.ensures.value (c.run_loopers.ensures.waits all) in
     let long = c.run_loopers.ensures.loopers.0 in
     let many = c.requires.stage.loopers.0 in
     let kept =
-        subst (λ (xs : List StageLooper). AtEach (LooperKeeps HaveHeard) xs c.share.new.self.loopers.items) (with_items_is c.args.self.now.loopers ran (omega (arith, long, many, c.args.self.now.loopers.ok.0)))
-        c.share.ensures.kept.loopers in
+    subst (λ (xs : List StageLooper). AtEach (LooperKeeps HaveHeard) xs c.share.new.self.loopers.items) (with_items_is c.args.self.now.loopers ran (omega (arith, long, many, c.args.self.now.loopers.ok.0)))
+    c.share.ensures.kept.loopers in
     come_to_rest s c.args.self.now ran c.share.new.self c.requires.stage c.share.ensures.stage same c.share.ensures.shared c.run_loopers.ensures.loopers c.in_ok-run_loopers.ensures.on waits
     kept still
