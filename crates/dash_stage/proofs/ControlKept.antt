@@ -7,7 +7,8 @@ use Rattle.dash_script.specs.declared.script.Script.{Script}
 use Rattle.looper_run.specs.Holding.{Sender}
 use Rattle.run_model.specs.Control.{are_controls}
 use Rattle.dash_stage.specs.declared.control.Controller.{Controller}
-use Rattle.dash_stage.specs.Controllers.{are_advances, time_in, calls_on, OnlyMoves, MovesAndQuits, IsMoving, HasReached, IsQuitting, IsClosing, HasClosed, CallsNone}
+use Rattle.dash_stage.specs.Controllers.{are_advances, time_in, calls_on, OnlyMoves, MovesAndQuits, IsMoving, HasReached, IsQuitting, IsClosing, CallsNone, HasClosed}
+use Rattle.dash_stage.specs.Timeliness.{AreBy}
 use Rattle.dash_stage.proofs.Controls.{advances_may_quit}
 
 -- the same controller has called nothing more
@@ -30,6 +31,10 @@ pub calls_kept : (c c' : Controller) → length c'.kit.posters.items ≡ length 
     → (d : Sender) → q < length c'.kit.posters.items → P (calls_on c' q d)
 calls_kept c c' long q same P h d lt = subst P (sym (same d)) (h d (subst (λ (n : ℕ). q < n) long lt))
 
+-- it has moved no queue past this time, as before
+pub by_kept : (c c' : Controller) → CallsNone c c' → (time : ℕ) → AreBy time c → AreBy time c'
+by_kept c c' none time by q = calls_kept c c' none.long q (none.calls q) (λ l. are_advances time l ≡ true) (by q)
+
 module _ (s : Script) (c c' : Controller) (none : CallsNone c c') where
   moves_kept : (q : ℕ) → OnlyMoves s c q → OnlyMoves s c' q
   moves_kept q = calls_kept c c' none.long q (none.calls q) (λ l. are_advances s.end l ≡ true)
@@ -39,7 +44,7 @@ module _ (s : Script) (c c' : Controller) (none : CallsNone c c') where
 
   -- it moves the queues' time on, as before
   pub moving_kept : IsMoving s c → IsMoving s c'
-  moving_kept moving q = moves_kept q (moving q)
+  moving_kept = by_kept c c' none s.end
 
   -- main has come to the same time
   pub reached_kept : (time : ℕ) → HasReached time c → HasReached time c'

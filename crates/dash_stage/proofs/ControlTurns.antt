@@ -24,14 +24,15 @@ use Rattle.queue_state.specs.Calls.{Quits}
 use Rattle.shared_queue.specs.Constants.{Constants, IsStateOf}
 use Rattle.shared_queue.specs.Known.{Shared, IsOf, IsTurn}
 use Rattle.looper_run.specs.Holding.{Sender, State}
-use Rattle.run_model.specs.Senders.{controller}
+use Rattle.run_model.specs.Senders.{controller, sender_count}
 use Rattle.run_model.specs.Asks.{entries_by}
 use Rattle.run_model.specs.Control.{are_controls}
 use Rattle.dash_stage.specs.declared.hall.Hall.{Hall}
 use Rattle.dash_stage.specs.declared.control.Controller.{Controller}
 use Rattle.dash_stage.specs.Growth.{own}
 use Rattle.dash_stage.specs.Kits.{IsHall, queue_constants}
-use Rattle.dash_stage.specs.Controllers.{IsController, are_advances, time_in, calls_on, OnlyMoves, IsMoving, HasReached, IsQuitting, IsClosing, HasClosed, CallsNone}
+use Rattle.dash_stage.specs.Controllers.{IsController, are_advances, time_in, calls_on, OnlyMoves, HasReached, IsQuitting, IsClosing, HasClosed, CallsNone}
+use Rattle.dash_stage.specs.Timeliness.{AreBy, whole_on}
 use Rattle.dash_stage.proofs.Badges.{queue_is}
 use Rattle.dash_stage.proofs.HallEnds.{own_entries}
 use Rattle.dash_stage.proofs.ThreadGrowth.{turn_makes, own_of_one}
@@ -57,9 +58,13 @@ module _ (c : Controller) (i : ℕ) (p p' : Sender) (pass : Tally) (within : i <
   same_count : length (with_poster c i p' pass).kit.posters.items ≡ length c.kit.posters.items
   same_count = length-set c.kit.posters.items i p'
 
-  -- on this queue the new poster's calls are those made
+  -- on this queue it has the new poster
+  pub poster_here : (d : Sender) → slice_index_or (with_poster c i p' pass).kit.posters.items i d ≡ p'
+  poster_here d = get_or-set_same c.kit.posters.items i p' d within
+
+  -- whose calls are those made
   called_here : (d : Sender) → calls_on (with_poster c i p' pass) i d ≡ own p'
-  called_here d = ap own (get_or-set_same c.kit.posters.items i p' d within)
+  called_here d = ap own (poster_here d)
 
   -- on the others none was made
   called_elsewhere : (j : ℕ) → j ≢ i → (d : Sender) → calls_on (with_poster c i p' pass) j d ≡ calls_on c j d
@@ -83,11 +88,11 @@ module _ (c : Controller) (i : ℕ) (p p' : Sender) (pass : Tally) (within : i <
       → (d : Sender) → j < length (with_poster c i p' pass).kit.posters.items → P (calls_on (with_poster c i p' pass) j d)
   elsewhere P j apart = calls_kept c (with_poster c i p' pass) same_count j (called_elsewhere j apart) P
 
-  -- the time of this queue was moved on
-  still_moving : (s : Script) → are_advances s.end (own p') ≡ true → IsMoving s c → IsMoving s (with_poster c i p' pass)
-  still_moving s moves moving j = dite (ℕ_discrete j i)
-      (here (λ l. are_advances s.end l ≡ true) moves j)
-      (λ apart. elsewhere (λ l. are_advances s.end l ≡ true) j apart (moving j))
+  -- the time of this queue was moved on, and of none past this one
+  still_by : (time : ℕ) → are_advances time (own p') ≡ true → AreBy time c → AreBy time (with_poster c i p' pass)
+  still_by time moves by j = dite (ℕ_discrete j i)
+      (here (λ l. are_advances time l ≡ true) moves j)
+      (λ apart. elsewhere (λ l. are_advances time l ≡ true) j apart (by j))
 
   -- what main had reached it has reached still, as the time of this queue did not fall
   still_reached : (time : ℕ) → time_in (own p) ≤ time_in (own p') → HasReached time c → HasReached time (with_poster c i p' pass)
@@ -120,7 +125,7 @@ module _ (c : Controller) (i : ℕ) (p p' : Sender) (pass : Tally) (within : i <
 -- one turn of a poster
 module _ (p p' : Sender) (x y : State) (t : IsTurn p p' x y) where
   -- it found of its sender's entries what the poster had made
-  found_own : entries_by p.sender x.entries ≡ own p
+  pub found_own : entries_by p.sender x.entries ≡ own p
   found_own = own_entries p p.sender x.entries refl t.begins t.found_made
 
   -- it made none
@@ -179,13 +184,13 @@ module _ (s : Script) (hall : Hall) (h : IsHall s hall) (i : ℕ) (lt : i < s.lo
   within : i < length c.kit.posters.items
   within = has_poster s hall h i lt c k
 
-  -- before, the time was only moved on
-  moves_before : OnlyMoves s c i → are_advances s.end (own p) ≡ true
-  moves_before moves = subst (λ (l : List Entry). are_advances s.end l ≡ true) (called_by c i p within is_p p) (moves p within)
+  -- before, the time was only moved on, and not past this one
+  moves_before : (time : ℕ) → ((d : Sender) → i < length c.kit.posters.items → are_advances time (calls_on c i d) ≡ true) → are_advances time (own p) ≡ true
+  moves_before time moves = subst (λ (l : List Entry). are_advances time l ≡ true) (called_by c i p within is_p p) (moves p within)
 
   -- main is not over, as long as its time was only moved on
   pub turned_over : {P : Type 0} → i ≡ 0 → OnlyMoves s c 0 → is_over x.start x.entries ≡ true → P
-  turned_over first moves over = absurd (true≢false (sym over ∙ main_lives first (moves_before (subst (OnlyMoves s c) (sym first) moves))))
+  turned_over first moves over = absurd (true≢false (sym over ∙ main_lives first (moves_before s.end (subst (OnlyMoves s c) (sym first) moves))))
 
   time_after : (now : ℕ) → y ≡ entered x p.sender (Advance now) Advanced → time_in (own p') ≡ max (time_in (own p)) now
   time_after now is = ap time_in (made_one p p' x y t (Advance now) Advanced (ap (λ (z : State). z.entries) is)) ∙ time_in-snoc (own p) _
@@ -199,22 +204,34 @@ module _ (s : Script) (hall : Hall) (h : IsHall s hall) (i : ℕ) (lt : i < s.lo
     pub turned_time : y ≡ x → (d : Sender) → time_of x ≡ time_in (calls_on (with_poster c i p' pass) i d)
     turned_time same d = time_found ∙ ap time_in (sym (called_here c i p p' pass within is_p d ∙ made_none p p' x y t same))
 
-    -- to which main had come before
-    pub turned_late : (now : ℕ) → i ≡ 0 → y ≡ x → now ≤ time_of x → HasReached now (with_poster c i p' pass)
-    turned_late now first same le =
-        here c i p p' pass within is_p (λ l. now ≤ time_in l) (subst (λ (n : ℕ). now ≤ n) (time_found ∙ ap time_in (sym (made_none p p' x y t same))) le) 0 (sym first)
+    -- and the time had come to this one before
+    pub turned_late : (now : ℕ) → y ≡ x → now ≤ time_of x → (d : Sender) → now ≤ time_in (calls_on (with_poster c i p' pass) i d)
+    turned_late now same le d = subst (λ (n : ℕ). now ≤ n) (turned_time same d) le
 
-    -- the turn moved the time on
-    pub turned_moving : (now : ℕ) → now ≤ s.end → y ≡ entered x p.sender (Advance now) Advanced → IsMoving s c → IsMoving s (with_poster c i p' pass)
-    turned_moving now le is moving =
-        still_moving c i p p' pass within is_p s
-        (subst (λ (l : List Entry). are_advances s.end l ≡ true) (sym (made_one p p' x y t (Advance now) Advanced (ap (λ (z : State). z.entries) is)))
-        (one_advance_more s.end now (own p) _ (moves_before (moving i)) refl le))
-        moving
+    -- the queue was found over, and is so still
+    pub still_over : y ≡ x → is_over x.start x.entries ≡ true → (d : Sender) → is_over (empty_base (sender_count s)) (whole_on (with_poster c i p' pass) i d) ≡ true
+    still_over same over d =
+        let first : x.start ≡ empty_base (sender_count s) = start ∙ ap (λ (z : Setting). empty_base z.senders) setting in
+        let seen : whole_on (with_poster c i p' pass) i d ≡ x.entries = ap (λ (z : Sender). z.view.seen) (poster_here c i p p' pass within is_p d) ∙ (t.seen ∙ ap (λ (z : State). z.entries) same) in
+        subst (λ (l : List Entry). is_over (empty_base (sender_count s)) l ≡ true) (sym seen) (subst (λ (b : Base). is_over b x.entries ≡ true) first over)
 
-    -- on main to this time
-    pub turned_reached : (now : ℕ) → y ≡ entered x p.sender (Advance now) Advanced → i ≡ 0 → HasReached now (with_poster c i p' pass)
-    turned_reached now is first = let time = time_after now is in here c i p p' pass within is_p (λ l. now ≤ time_in l) (omega (arith, time)) 0 (sym first)
+    -- the turn moved the time on, and of none past this one
+    pub turned_by : (now time : ℕ) → now ≤ time → y ≡ entered x p.sender (Advance now) Advanced → AreBy time c → AreBy time (with_poster c i p' pass)
+    turned_by now time le is by =
+        still_by c i p p' pass within is_p time
+        (subst (λ (l : List Entry). are_advances time l ≡ true) (sym (made_one p p' x y t (Advance now) Advanced (ap (λ (z : State). z.entries) is)))
+        (one_advance_more time now (own p) _ (moves_before time (by i)) refl le))
+        by
+
+    -- to this one
+    pub turned_to : (now : ℕ) → y ≡ entered x p.sender (Advance now) Advanced → (d : Sender) → now ≤ time_in (calls_on (with_poster c i p' pass) i d)
+    turned_to now is d =
+        let time = time_after now is in
+        subst (λ (l : List Entry). now ≤ time_in l) (sym (called_here c i p p' pass within is_p d)) (omega (arith, time))
+
+    -- so main has reached it, where the queue is main's
+    pub turned_reached : (now : ℕ) → i ≡ 0 → ((d : Sender) → now ≤ time_in (calls_on (with_poster c i p' pass) i d)) → HasReached now (with_poster c i p' pass)
+    turned_reached now first come d lt = subst (λ (m : ℕ). now ≤ time_in (calls_on (with_poster c i p' pass) m d)) first (come d)
 
     -- and what main had reached it has reached still
     pub turned_kept : (now time : ℕ) → y ≡ entered x p.sender (Advance now) Advanced → HasReached time c → HasReached time (with_poster c i p' pass)
@@ -226,7 +243,7 @@ module _ (s : Script) (hall : Hall) (h : IsHall s hall) (i : ℕ) (lt : i < s.lo
     turned_asked r above left late quitting =
         quits_one c i p p' pass within is_p s above
         (subst (λ (l : List Entry). are_controls false true s.end true l ≡ true) (sym (made_one p p' x y t (Quit true (moment_at x s.end)) r left))
-        (quits_at_end s.end (own p) _ (moves_before (quitting.rest i (omega arith))) (subst (λ (l : List Entry). s.end ≤ time_in l) (called_by c i p within is_p p) (late p)) (ap (Quit true) (moment_found s.end))))
+        (quits_at_end s.end (own p) _ (moves_before s.end (quitting.rest i (omega arith))) (subst (λ (l : List Entry). s.end ≤ time_in l) (called_by c i p within is_p p) (late p)) (ap (Quit true) (moment_found s.end))))
         quitting
 
     -- whatever the answer
@@ -242,5 +259,5 @@ module _ (s : Script) (hall : Hall) (h : IsHall s hall) (i : ℕ) (lt : i < s.lo
     turned_closed first is closing =
         closes c i p p' pass within is_p s (sym first)
         (subst (λ (l : List Entry). are_controls true true s.end false l ≡ true) (sym (made_one p p' x y t (Halt (moment_at x s.end)) Halted (ap (λ (z : State). z.entries) is)))
-        (halts_at_end s.end (own p) _ (moves_before (subst (OnlyMoves s c) (sym first) closing.main)) (reached_on c i p within is_p s.end (sym first) closing.reached) (ap Halt (moment_found s.end)) refl))
+        (halts_at_end s.end (own p) _ (moves_before s.end (subst (OnlyMoves s c) (sym first) closing.main)) (reached_on c i p within is_p s.end (sym first) closing.reached) (ap Halt (moment_found s.end)) refl))
         closing

@@ -1,7 +1,7 @@
 -- The queues end, one after another, with the posters of all kits.
-use Rattle.std.proofs.Common.{◌≡◌, ◌≢◌, ℕ, zero, suc, ◌+◌, ◌-◌, ◌<◌, ◌≤◌, List, [], ◌∷◌, ◌++◌, map, length, set, get_or, drop, true, refl, sym, ap, ◌∙◌, subst, arith, append_assoc, append-nil, length-append}
-use Rattle.std.specs.Prelude.{All, filter, ◌==◌}
-use Rattle.std.specs.List.{AllByRecursion, range_with_len}
+use Rattle.std.proofs.Common.{◌≡◌, ℕ, zero, suc, ◌+◌, ◌<◌, ◌≤◌, List, [], ◌∷◌, ◌++◌, map, length, set, get_or, drop, refl, sym, ap, ◌∙◌, subst, arith, append-nil, length-append}
+use Rattle.std.specs.Prelude.{◌==◌}
+use Rattle.std.specs.List.{AllByRecursion}
 use Rattle.std.proofs.Math.ListN.{get_or-append}
 use Rattle.std.proofs.Math.Seq.{get_or-append_seam}
 use Rattle.std.proofs.lemmas.List.{get_or-map, get_or-set_same, get_or-set_other, get_or_default, get_or-drop, length-set, length-drop, length-map, drop-drop}
@@ -17,7 +17,7 @@ use Rattle.loop_model.specs.Base.{empty_base}
 use Rattle.loop_model.specs.Legal.{IsLegal, AreNumbered}
 use Rattle.loop_model.specs.Answers.{Setting}
 use Rattle.dash_script.specs.declared.script.Script.{Script}
-use Rattle.shared_queue.specs.Known.{Shared, IsOf, made_by}
+use Rattle.shared_queue.specs.Known.{Shared, made_by}
 use Rattle.shared_queue.specs.Constants.{Constants, made_in}
 use Rattle.shared_queue.specs.Ends.{AreInOrder, HasCalls}
 use Rattle.shared_queue.proofs.Prefixes.{made_in-append}
@@ -32,7 +32,7 @@ use Rattle.dash_stage.specs.Growth.{own}
 use Rattle.dash_stage.specs.Kits.{Badge, badge_of, badge_for, AreQueuesOf, queue_key, queue_constants}
 use Rattle.dash_stage.specs.Dealing.{GivesPoster, EachGivesPoster}
 use Rattle.dash_stage.specs.Records.{HasAllOf, HaveAll, AreQueueRecords}
-use Rattle.dash_stage.specs.Ending.{HavePosters, IsNext, AreNext, HaveAllPosters, IsKeptOf, EndsPoster, EachEndsPoster, HasLeft, HaveLeft, KeepFrames}
+use Rattle.dash_stage.specs.Ending.{HavePosters, IsNext, AreNext, HaveAllPosters, IsKeptOf, EachEndsPoster, HaveLeft, KeepFrames}
 use Rattle.dash_stage.proofs.HallSteps.{within_parts, at_parts}
 
 -- an element of a list that has one

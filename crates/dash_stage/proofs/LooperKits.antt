@@ -4,21 +4,23 @@ use Rattle.std.specs.List.{insert, remove, slice_get, filter_map}
 use Rattle.std.specs.Option.{IsSomeAnd, option_map}
 use Rattle.std.proofs.lemmas.List.{length-map}
 use Rattle.std.proofs.lemmas.List.Edits.{length-remove, get_or-insert_at}
-use Rattle.std.proofs.lemmas.Option.{slice_get-map, slice_get-get_or, slice_get_cases, slice_get_read}
+use Rattle.std.proofs.lemmas.Option.{slice_get-map, slice_get_cases, slice_get_read}
 use Rattle.atomic_table.specs.Seated.{TableId}
 use Rattle.dash_script.specs.declared.script.Script.{Script}
+use mathlib.Core.List.{IsPrefix}
 use Rattle.loop_model.specs.Base.{empty_base}
+use Rattle.loop_model.specs.Items.{when_of}
+use Rattle.loop_model.specs.Pick.{first_eligible}
 use Rattle.loop_model.specs.Answers.{is_over}
 use Rattle.run_model.specs.Senders.{sender_count}
 use Rattle.shared_queue.specs.Constants.{Constants}
 use Rattle.shared_queue.specs.Known.{Shared}
-use Rattle.choreographer.specs.Known.{Shared as Frames, Known as Pass}
+use Rattle.choreographer.specs.Known.{Shared as Frames}
 use Rattle.looper_run.specs.declared.looper.Round.{Round}
 use Rattle.looper_run.specs.Holding.{Sender, Looping, Workplace, workplace}
 use Rattle.looper_run.specs.Tests.{IsSameLooper}
 use Rattle.looper_run.specs.Round.{RoundBy, is_ended}
-use Rattle.looper_run.specs.Acts.{taken_by}
-use Rattle.looper_run.specs.Acts.{dispatches, call_dispatch}
+use Rattle.looper_run.specs.Acts.{taken_by, dispatches, call_dispatch}
 use Rattle.loop_model.specs.declared.entry.Entry.{Entry}
 use Rattle.loop_model.specs.declared.journal.Journal.{Journal}
 use Rattle.run_model.specs.Asks.{entries_by}
@@ -28,12 +30,12 @@ use Rattle.dash_stage.specs.declared.kit.Kit.{Kit}
 use Rattle.dash_stage.specs.declared.player.Parts.{Parts}
 use Rattle.dash_stage.specs.declared.looper.StageLooper.{StageLooper}
 use Rattle.dash_stage.specs.Kits.{Badge, FrameBadge, badge_of, badge_for, frame_badge_of, frame_badge_for, frames_for, looper_frames, IsHall, IsKitOf}
-use Rattle.dash_stage.specs.Loopers.{ArePartsOf, IsPlaceOf, IsLooperOf, IsLooper, setting_for, is_given_up}
+use Rattle.dash_stage.specs.Loopers.{ArePartsOf, IsPlaceOf, IsLooperOf, IsLooper, setting_for, is_given_up, until_of}
 use Rattle.dash_stage.specs.Players.{Owner, ServesAt}
 use Rattle.dash_stage.specs.Runs.{IsUnusedKit}
 use Rattle.dash_stage.proofs.LooperLists.{map-remove, map-insert, insert_removed, at_same}
 use Rattle.dash_stage.proofs.LooperPlaces.{queue_count, frames_count, queue_is}
-use Rattle.dash_stage.proofs.LooperOver.{over_by_round}
+use Rattle.dash_stage.proofs.LooperOver.{over_by_round, waits_by_round}
 use Rattle.dash_stage.proofs.LooperTold.{taken_own, told_by_round}
 
 pub looper_of : (s : Script) (hall : Hall) (l : StageLooper) → IsHall s hall → IsLooper s hall l → IsLooperOf s hall l.number
@@ -134,6 +136,15 @@ pub ran_on : (s : Script) (hall : Hall) (now : ℕ) (l : StageLooper) (q : Share
     → RoundBy q.constants.setting now l.looper.held after.held last → RoundBy (setting_for s l.number) now l.looper.held after.held last
 ran_on s hall now l q after last is_hall is at round =
     subst (λ (c : Constants TableId). RoundBy c.setting now l.looper.held after.held last) (queue_is s hall l.number (looper_of s hall l is_hall is) l.number q at) round
+
+-- unless it ended or gave up, it has come to wait for the first message that no barrier holds back
+pub comes_to_wait : (s : Script) (hall : Hall) (now : ℕ) (l : StageLooper) (q : Shared TableId) (after : Looping) (last : Round) → IsHall s hall → IsLooper s hall l → slice_get hall.queues.items l.number ≡ Some q
+    → IsSameLooper l.looper.held after.held → RoundBy q.constants.setting now l.looper.held after.held last → is_ended last ≡ false → is_given_up last ≡ false
+    → IsPrefix l.looper.held.poster.view.seen after.held.poster.view.seen × (until_of last ≡ option_map when_of (first_eligible (empty_base (sender_count s)) after.held.poster.view.seen))
+comes_to_wait s hall now l q after last is_hall is at same round e g =
+    subst (λ (c : Constants TableId). IsPrefix l.looper.held.poster.view.seen after.held.poster.view.seen × (until_of last ≡ option_map when_of (first_eligible (empty_base c.setting.senders) after.held.poster.view.seen)))
+    (queue_is s hall l.number (looper_of s hall l is_hall is) l.number q at)
+    (waits_by_round q.constants.setting now l.looper.held after.held last q.constants (same.constants ∙ (is.place.queue q at).1) round e g)
 
 -- its posters are those of its kit
 pub posters_begin : (kit : Kit) (n : ℕ) (poster mine : Sender) (others : List Sender) → n < length kit.posters.items → poster ≡ get_or kit.posters.items n poster → others ≡ remove kit.posters.items n → mine ≡ poster

@@ -1,9 +1,6 @@
 -- What all senders have seen of each queue tells what each of them has made, and stays timely where neither a thread nor the controller has made more.
-use Rattle.std.proofs.Common.{◌≡◌, ◌<◌, ◌≤◌, ◌+◌, ℕ, true, List, [], ◌∷◌, ◌++◌, map, length, Option, Some, None, refl, sym, ap, ap₂, ◌∙◌, subst, arith}
+use Rattle.std.proofs.Common.{◌≡◌, ◌<◌, ◌≤◌, ◌+◌, ℕ, true, List, [], ◌∷◌, ◌++◌, length, refl, sym, ap, ap₂, ◌∙◌, subst, arith}
 use Rattle.std.specs.Prelude.{slice_index_or}
-use Rattle.std.specs.List.{insert, slice_get}
-use Rattle.std.specs.Option.{IsSomeAnd, option_map}
-use Rattle.std.proofs.lemmas.Option.{slice_get-map}
 use Rattle.std.proofs.lemmas.List.Edits.{get_or-insert_at}
 use mathlib.Core.List.{IsPrefix}
 use Rattle.atomic_table.specs.Seated.{TableId}
@@ -21,7 +18,6 @@ use Rattle.run_model.specs.Asks.{entries_by}
 use Rattle.run_model.specs.Control.{is_advanced_in_time}
 use Rattle.run_model.proofs.RunLaws.{entries_by-append}
 use Rattle.dash_stage.specs.declared.hall.Hall.{Hall}
-use Rattle.dash_stage.specs.declared.player.Parts.{Parts}
 use Rattle.dash_stage.specs.declared.thread.PostingThread.{PostingThread}
 use Rattle.dash_stage.specs.declared.looper.StageLooper.{StageLooper}
 use Rattle.dash_stage.specs.declared.control.Controller.{Controller}
@@ -29,7 +25,7 @@ use Rattle.dash_stage.specs.declared.stage.Stage.{Stage}
 use Rattle.dash_stage.specs.Growth.{own}
 use Rattle.dash_stage.specs.Kits.{Badge, badge_of, badge_for, ArePostersOf, IsHall}
 use Rattle.dash_stage.specs.Threads.{IsThread}
-use Rattle.dash_stage.specs.Loopers.{ArePartsOf, IsLooper, setting_for}
+use Rattle.dash_stage.specs.Loopers.{IsLooper, setting_for}
 use Rattle.dash_stage.specs.Controllers.{IsController}
 use Rattle.dash_stage.specs.Stages.{IsStage}
 use Rattle.dash_stage.specs.Sharing.{seen_by, others_in, posters_of, AtEach, HasHeard, HaveHeard, ThreadKeeps, LooperKeeps, HaveSeenTheSame}
@@ -37,42 +33,15 @@ use Rattle.dash_stage.specs.Timeliness.{whole_on, IsSoundOn, IsTimelyUpTo, AreTi
 use Rattle.dash_stage.proofs.Badges.{alike_length, alike_at}
 use Rattle.dash_stage.proofs.Controlling.{poster_count}
 use Rattle.dash_stage.proofs.HallEnds.{some_of}
-use Rattle.dash_stage.proofs.LooperKits.{looper_of, its_queue, others_many}
-use Rattle.dash_stage.proofs.LooperLists.{map-insert, insert_removed}
+use Rattle.dash_stage.proofs.LooperShares.{looper_within, looper_posters}
 use Rattle.dash_stage.proofs.Timely.{none_of, advanced_more, timely_others}
 
 abbrev seen : Sender → List Entry
 seen p = p.view.seen
 
--- a looper's posters, where its parts are these
-posters_with : (s : Script) (hall : Hall) (l : StageLooper) → IsHall s hall → IsLooper s hall l → (o : Option Parts) → IsSomeAnd o (ArePartsOf s hall l.number)
-    → ArePostersOf (s.threads + l.number) hall.queues.items (insert (others_in o) l.number l.looper.held.poster)
-posters_with s hall l is_hall is None none = absurd none
-posters_with s hall l is_hall is (Some parts) are =
-    let k : ℕ = s.threads + l.number in
-    let q = its_queue s hall l.number (looper_of s hall l is_hall is) in
-    let table = (is.place.queue q.0 q.1).0 in
-    let constants = (is.place.queue q.0 q.1).1 in
-    let sender = is.own ∙ is.sender in
-    let badge : badge_of l.looper.held.poster ≡ badge_for k q.0 = λ i. record { table = table i; constants = constants i; sender = sender i } in
-    let at : slice_get (map (badge_for k) hall.queues.items) l.number ≡ Some (badge_for k q.0) = slice_get-map (badge_for k) hall.queues.items l.number ∙ ap (option_map (badge_for k)) q.1 in
-    map-insert badge_of parts.others.items l.number l.looper.held.poster
-    ∙ (ap₂ (λ xs b. insert xs l.number b) are.others badge ∙ insert_removed (map (badge_for k) hall.queues.items) l.number (badge_for k q.0) at)
-
--- a looper's posters are its own, one of each queue and in order
-pub looper_posters : (s : Script) (hall : Hall) (l : StageLooper) → IsHall s hall → IsLooper s hall l → ArePostersOf (s.threads + l.number) hall.queues.items (posters_of l)
-looper_posters s hall l is_hall is = posters_with s hall l is_hall is l.parts is.parts
-
--- its own poster stands among them at its number, where its parts are these
-own_with : (s : Script) (hall : Hall) (l : StageLooper) → IsHall s hall → IsLooper s hall l → (o : Option Parts) → IsSomeAnd o (ArePartsOf s hall l.number) → (d : Sender)
-    → slice_index_or (insert (others_in o) l.number l.looper.held.poster) l.number d ≡ l.looper.held.poster
-own_with s hall l is_hall is None none d = absurd none
-own_with s hall l is_hall is (Some parts) are d =
-    get_or-insert_at parts.others.items l.number l.looper.held.poster d (others_many s hall l.number (looper_of s hall l is_hall is) parts are)
-
--- its own poster stands among them at its number
+-- a looper's own poster stands among all at its number
 pub own_among : (s : Script) (hall : Hall) (l : StageLooper) → IsHall s hall → IsLooper s hall l → (d : Sender) → slice_index_or (posters_of l) l.number d ≡ l.looper.held.poster
-own_among s hall l is_hall is d = own_with s hall l is_hall is l.parts is.parts d
+own_among s hall l is_hall is d = get_or-insert_at (others_in l.parts) l.number l.looper.held.poster d (looper_within s hall is_hall l is)
 
 -- posters that have seen the same as others are as many, and have seen the same at each place
 pub as_many : (ps cs : List Sender) → seen_by ps ≡ seen_by cs → length ps ≡ length cs
@@ -117,7 +86,7 @@ module _ (s : Script) (st : Stage) (is : IsStage s st) where
       let one = is.loopers.1 k l lt in
       let x : StageLooper = slice_index_or st.loopers.items k l in
       entries_own (s.threads + k) st.hall.queues.items (posters_of x) st.controller.kit.posters.items
-      (subst (λ (n : ℕ). ArePostersOf (s.threads + n) st.hall.queues.items (posters_of x)) one.1 (looper_posters s st.hall x is.hall one.0))
+      (subst (λ (n : ℕ). ArePostersOf (s.threads + n) st.hall.queues.items (posters_of x)) one.1 (looper_posters s st.hall is.hall x one.0))
       (same.loopers k l lt) q p d within
 
   -- a looper's own poster has seen of its queue what all have seen

@@ -1,5 +1,5 @@
 -- How the kits give their posters and passes back, queue after queue and choreographer after choreographer.
-use Rattle.std.specs.Prelude.{◌≡◌, ◌<◌, ◌+◌, ℕ, List, ◌∷◌, map, length, slice_index_or, drop}
+use Rattle.std.specs.Prelude.{◌≡◌, ◌<◌, ℕ, List, ◌∷◌, map, length, slice_index_or, drop}
 use mathlib.Core.List.{IsPrefix}
 use Rattle.atomic_table.specs.Seated.{TableId}
 use Rattle.frame_phases.specs.declared.entry.FrameEntry.{FrameEntry}

@@ -7,6 +7,7 @@ use Rattle.loop_model.specs.declared.entry.Entry.{Entry}
 use Rattle.shared_queue.specs.Known.{Shared, IsOf, IsSame}
 use Rattle.looper_run.specs.Holding.{Sender, IsBeside}
 use Rattle.choreographer.specs.Known.{Known as Pass}
+use Rattle.dash_stage.specs.declared.kit.Kit.{Kit}
 use Rattle.dash_stage.specs.declared.view_root.ViewRoot.{ViewRoot}
 use Rattle.dash_stage.specs.declared.player.Parts.{Parts}
 use Rattle.dash_stage.specs.declared.thread.PostingThread.{PostingThread}
@@ -134,6 +135,10 @@ SharesAt place before after = (whole : List Entry) × StageKeeps (HaveHeardAt pl
 -- the posters have seen these histories, one of each queue
 abbrev pub HaveSeenAll : List (List Entry) → List Sender → Type 0
 HaveSeenAll whole posters = seen_by posters ≡ whole
+
+-- so it is with the posters of each kit
+abbrev pub OfKits : (List Sender → Type 0) → List Kit → Type 0
+OfKits P kits = (k : ℕ) (d : Kit) → k < length kits → P (slice_index_or kits k d).posters.items
 
 -- all senders have seen the same of each queue's history
 abbrev pub HaveSeenTheSame : Stage → Type 0

@@ -1,7 +1,8 @@
 //! The report of a run.
-ghost use Rattle.std.specs.Prelude.{◌≡◌, ◌<◌, ◌+◌, IfOk, OnOk, map};
+ghost use Rattle.std.specs.Prelude.{◌≡◌, ◌<◌, ◌+◌, true, IfOk, OnOk, List, map};
 ghost use Rattle.std.specs.List.{AllByRecursion};
 ghost use Rattle.dash_script.specs.Reading.{HasText};
+ghost use Rattle.loop_model.specs.declared.entry.Entry.{Entry};
 ghost use Rattle.run_model.specs.Moments.{in_lockstep};
 ghost use Rattle.run_model.specs.Run.{IsAsPlanned, IsControlled, IsFrameRun, EachLooper, IsTimely, main_ends_halted};
 ghost use Rattle.dash_stage.specs.Controllers.{HasClosed};
@@ -11,6 +12,7 @@ ghost use Rattle.dash_stage.specs.Records.{AreQueueRecords, AreFrameRecords, Are
 ghost use Rattle.dash_stage.specs.Loopers.{HaveTold};
 ghost use Rattle.dash_stage.specs.Staged.{Stages, IsDispatched};
 ghost use Rattle.dash_stage.specs.Runs.{HaveRunAll};
+ghost use Rattle.dash_stage.specs.Sharing.{HaveSeenAll, OfThreads, OfLoopers, OfKits};
 ghost use Rattle.dash_stage.specs.Stages.{IsStage, IsPlayable, HaveRun, AreThreads, AreLoopers, AreThreadKits, AreSenderKits, OthersHaveEnded, LoopersGoOn};
 
 use crate::hall::Hall;
@@ -102,6 +104,7 @@ fn thread_kits(
     requires run { HaveRun script.now script.now.blocks threads.items }
     ensures kits { IfOk result (λ v. AreThreadKits script.now hall.now v.items) }
     ensures run { IfOk result (λ v. HaveRunAll script.now v.items) }
+    ensures seen { IfOk result (λ v. (whole : List (List Entry)) → OfThreads (HaveSeenAll whole) threads.items → OfKits (HaveSeenAll whole) v.items) }
 {
     let mut kits = Vec::new(alloc);
     'each: while !threads.is_empty() {
@@ -126,6 +129,7 @@ fn looper_kits(
     ensures run { OnOk result (HaveRunAll script.now kits.old.items → HaveRunAll script.now kits.new.items) }
     ensures told { IfOk result (λ v. LoopersGoOn loopers.items → HaveTold script.now v.items kits.new.items) }
     ensures over { OnOk result (OthersHaveEnded loopers.items → OthersAreOver script.now kits.new.items) }
+    ensures seen { OnOk result ((whole : List (List Entry)) → OfLoopers (HaveSeenAll whole) loopers.items → OfKits (HaveSeenAll whole) kits.old.items → OfKits (HaveSeenAll whole) kits.new.items) }
 {
     let mut journals = Vec::new(alloc);
     'each: while !loopers.is_empty() {

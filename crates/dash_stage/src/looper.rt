@@ -165,6 +165,7 @@ impl StageLooper {
         ensures kit { IfOk result (λ r. IsKitOf script.now hall.now (script.now.threads + self.number) r.1) }
         ensures told { IfOk result (λ r. is_given_up self.last ≡ false → HasTold script.now self.number r.0 r.1) }
         ensures over { IfOk result (λ r. is_ended self.last ≡ true → HasSeenOver script.now self.number r.1) }
+        ensures posters { IfOk result (λ r. r.1.posters.items ≡ posters_of self) }
     {
         let StageLooper {
             number,

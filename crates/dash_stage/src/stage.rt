@@ -40,6 +40,7 @@ pub(crate) struct Stage {
 
 impl Stage {
     /// The whole script: each block at its time, what comes due between two blocks, and the end.
+    #[tactic(auto, using(crate::proofs::Limits::before_end))]
     pub(crate) fn play<R: Threads + Wait + Sync, G: Gate + Sync>(
         &mut self,
         rt: &R,
@@ -100,15 +101,10 @@ impl Stage {
         ensures at { OnOk result (AreAtTime script.now time self.new) }
     {
         for _ in rt.forever() {
-            match self.next_due(rt, script) {
-                Some(due) if due < time => {
-                    self.advance(rt, script, due)?;
-                }
-                _ => {
-                    if self.advance(rt, script, time)? {
-                        return Ok(());
-                    }
-                }
+            let next = at_most(self.next_due(rt, script), time);
+            let moved = self.advance(rt, script, next)?;
+            if moved && next == time {
+                return Ok(());
             }
             self.run_rounds(rt, alloc, script, gate, Turn::All)?;
         }
@@ -339,6 +335,17 @@ impl Stage {
             }
         }
         true
+    }
+}
+
+/// The time, or this one where there is none or a later one.
+fn at_most(time: Option<u64>, last: u64) -> u64
+    ensures within { result ≤ last }
+    ensures early { NotLater result time }
+{
+    match time {
+        Some(due) => due.min(last),
+        None => last,
     }
 }
 

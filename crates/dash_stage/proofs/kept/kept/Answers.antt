@@ -1,4 +1,4 @@
-use Rattle.std.proofs.Common.{◌≡◌, ◌≤◌, ◌+◌, ◌∙◌, sym, ap, length, arith}
+use Rattle.std.proofs.Common.{◌≡◌, ◌≤◌, ◌+◌, ◌∙◌, refl, sym, ap, length, arith}
 use Rattle.dash_stage.proofs.Casting.{all_kits}
 use Rattle.run_model.specs.Senders.{controller}
 use Rattle.dash_stage.proofs.Carried.{run_kept, planned_records, frame_runs, numbered_count}
@@ -7,6 +7,8 @@ use Rattle.dash_stage.proofs.Dispatched.{dispatches_of_records}
 use Rattle.dash_stage.proofs.KitsTold.{told_kept}
 use Rattle.dash_stage.proofs.KitsOver.{over_kept, last_kit}
 use Rattle.dash_stage.proofs.Controls.{controls_of_records}
+use Rattle.dash_stage.specs.Sharing.{seen_by, HaveSeenAll}
+use Rattle.dash_stage.proofs.TimelyRecords.{kit_more, timely_of_records, halted_of_records}
 use Rattle.dash_stage.proofs.kept.kept.Goals as goal
 
 pub returns-clause-planned : goal.returns-clause-planned
@@ -59,3 +61,31 @@ returns-clause-dispatches c =
     dispatches_of_records s hall c.requires.stage.hall kits' (all_kits s hall kits kits' c.args.stage.controller c.in_ok-journals.ensures.kits c.requires.stage.controller grown)
     c.in_ok-queues.queues.items journals c.in_ok-queues.frames.items c.in_ok-queues.ensures.queues c.in_ok-queues.ensures.all c.in_ok-journals.ensures.journals c.in_ok-queues.ensures.frames
     (told_kept s journals kits kits' c.args.stage.controller.kit (count ∙ ap (λ n. s.threads + n) (sym many)) grown (c.in_ok-journals.ensures.told c.requires.on))
+
+pub returns-clause-timely : goal.returns-clause-timely
+returns-clause-timely c =
+    let s = c.args.script.now in
+    let hall = c.args.stage.hall in
+    let kits = c.looper_kits.new.kits.items in
+    let kits' = c.push.new.self.items in
+    let grown = c.in_ok-push.ensures.items in
+    let mine = c.args.stage.controller.kit in
+    let whole = seen_by mine.posters.items in
+    let same = c.requires.timely.same in
+    timely_of_records s hall kits' c.in_ok-queues.queues.items c.requires.stage.hall (all_kits s hall kits kits' c.args.stage.controller c.in_ok-journals.ensures.kits c.requires.stage.controller grown)
+    c.args.stage.controller (last_kit kits kits' mine (controller s) c.in_ok-journals.ensures.kits.0 grown) c.in_ok-queues.ensures.queues c.in_ok-queues.ensures.all
+    (kit_more (HaveSeenAll whole) kits kits' mine grown refl (c.in_ok-journals.ensures.seen whole same.loopers (c.in_ok-kits.ensures.seen whole same.threads))) c.requires.timely.timely
+
+pub returns-clause-halted : goal.returns-clause-halted
+returns-clause-halted c =
+    let s = c.args.script.now in
+    let hall = c.args.stage.hall in
+    let kits = c.looper_kits.new.kits.items in
+    let kits' = c.push.new.self.items in
+    let grown = c.in_ok-push.ensures.items in
+    let mine = c.args.stage.controller.kit in
+    let whole = seen_by mine.posters.items in
+    let same = c.requires.timely.same in
+    halted_of_records s hall kits' c.in_ok-queues.queues.items c.requires.stage.hall (all_kits s hall kits kits' c.args.stage.controller c.in_ok-journals.ensures.kits c.requires.stage.controller grown)
+    c.args.stage.controller (last_kit kits kits' mine (controller s) c.in_ok-journals.ensures.kits.0 grown) c.in_ok-queues.ensures.queues c.in_ok-queues.ensures.all
+    (kit_more (HaveSeenAll whole) kits kits' mine grown refl (c.in_ok-journals.ensures.seen whole same.loopers (c.in_ok-kits.ensures.seen whole same.threads))) c.requires.playable.loopers c.requires.halted

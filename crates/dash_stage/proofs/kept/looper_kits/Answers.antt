@@ -1,9 +1,11 @@
-use Rattle.std.proofs.Common.{rules, ◌≡◌, ◌≤◌, ◌<◌, ◌∙◌, ap, length, arith}
+use Rattle.std.proofs.Common.{rules, ◌≤◌, ◌<◌, ◌∙◌, ap, length, arith}
 use Rattle.dash_stage.specs.declared.looper.StageLooper.{StageLooper}
 use Rattle.dash_stage.proofs.Casting.{looper_back, first_looper}
 use Rattle.dash_stage.proofs.Carried.{run_kept}
 use Rattle.dash_stage.proofs.KitsOver.{over_back}
 use Rattle.dash_stage.proofs.KitsTold.{told_back}
+use Rattle.dash_stage.specs.Sharing.{HaveSeenAll}
+use Rattle.dash_stage.proofs.TimelyRecords.{looper_gives}
 use Rattle.dash_stage.proofs.kept.looper_kits.Goals as goal
 
 pub each-preserved : goal.each-preserved
@@ -26,4 +28,6 @@ each-preserved c =
           some c.remove.ensures.value c.remove.ensures.items at.invariant.1 number c.in_ok-journal.ensures.over c.in_ok-push.ensures.items c.in_ok-push-2.ensures.items (at.invariant.5 ended).0 (at.invariant.5 ended).1,
       λ on. told_back s at.journals.items c.push.new.self.items at.loopers.items c.remove.new.self.items at.kits.items c.push-in-each.new.self.items c.remove.result c.in_ok-journal.journal c.in_ok-journal.kit
           some c.remove.ensures.value c.remove.ensures.items at.invariant.1 number c.in_ok-journal.ensures.told c.in_ok-push.ensures.items c.in_ok-push-2.ensures.items (at.invariant.6 on),
+      λ whole seen of_kits. looper_gives (HaveSeenAll whole) at.loopers.items c.remove.new.self.items at.kits.items c.push-in-each.new.self.items c.remove.result c.in_ok-journal.kit
+          some c.remove.ensures.value c.remove.ensures.items c.in_ok-journal.ensures.posters c.in_ok-push-2.ensures.items (at.invariant.7 whole seen of_kits),
     )

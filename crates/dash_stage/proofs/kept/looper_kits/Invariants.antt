@@ -1,7 +1,9 @@
-use Rattle.std.proofs.Common.{◌≡◌, ◌+◌, length, map}
+use Rattle.std.proofs.Common.{◌≡◌, ◌+◌, List, length, map}
+use Rattle.loop_model.specs.declared.entry.Entry.{Entry}
 use Rattle.loop_model.specs.declared.journal.Journal.{Journal}
 use Rattle.run_model.specs.Senders.{numbers_from}
 use Rattle.dash_stage.specs.Runs.{HaveRunAll}
+use Rattle.dash_stage.specs.Sharing.{HaveSeenAll, OfLoopers, OfKits}
 use Rattle.dash_stage.specs.Loopers.{HaveTold}
 use Rattle.dash_stage.specs.Stages.{AreLoopersFrom, AreFirstKits, OthersHaveEnded, LoopersGoOn}
 use Rattle.dash_stage.proofs.KitsOver.{HaveEndedFrom, AreOverAmong}
@@ -13,6 +15,7 @@ invariant-each l = AreLoopersFrom l.script l.hall (length l.journals.items) l.lo
     × (HaveRunAll l.script l.initial.kits.items → HaveRunAll l.script l.kits.items)
     × (OthersHaveEnded l.initial.loopers.items → HaveEndedFrom (length l.journals.items) l.loopers.items × AreOverAmong l.script l.kits.items)
     × (LoopersGoOn l.initial.loopers.items → LoopersGoOn l.loopers.items × HaveTold l.script l.journals.items l.kits.items)
+    × ((whole : List (List Entry)) → OfLoopers (HaveSeenAll whole) l.initial.loopers.items → OfKits (HaveSeenAll whole) l.initial.kits.items → OfLoopers (HaveSeenAll whole) l.loopers.items × OfKits (HaveSeenAll whole) l.kits.items)
 
 abbrev pub decreases-each : goal.decreases-each
 decreases-each l = length l.loopers.items

@@ -1,6 +1,5 @@
-use Rattle.std.proofs.Common.{◌≡◌, suc, ◌+◌, ◌<◌, List, [], ◌∷◌, length, ap, subst, arith}
+use Rattle.std.proofs.Common.{◌≡◌, suc, ◌∷◌, length, ap, subst, arith}
 use Rattle.std.specs.Vec.Iter.{into_iter_items}
-use Rattle.dash_stage.specs.declared.kit.Kit.{Kit}
 use Rattle.dash_stage.specs.Ending.{AreOfPool}
 use Rattle.dash_stage.proofs.records.close.Goals as goal
 

@@ -1,12 +1,11 @@
-use Rattle.std.proofs.Common.{rules, ◌≡◌, ℕ, ◌+◌, ◌<◌, List, [], ◌∷◌, ◌++◌, length, refl, ap, sym, ◌∙◌, subst, append-nil, length-append, arith}
+use Rattle.std.proofs.Common.{rules, ◌≡◌, ◌+◌, ◌<◌, List, [], ◌∷◌, ◌++◌, length, refl, ap, sym, ◌∙◌, subst, append-nil, length-append, arith}
 use Rattle.std.specs.Vec.Iter.{into_iter_items}
 use Rattle.std.proofs.lemmas.List.{length-map}
 use Rattle.std.proofs.lemmas.List.FromFn.{length-map-range_with_len}
 use Rattle.choreographer.specs.Known.{Shared as Frames}
 use Rattle.frame_phases.specs.declared.entry.FrameRecord.{FrameRecord}
 use Rattle.shared_queue.proofs.Gathers.{nothing_left, regrouped}
-use Rattle.dash_stage.specs.declared.kit.Kit.{Kit}
-use Rattle.dash_stage.specs.Kits.{frame_key, frame_constants, frames_for}
+use Rattle.dash_stage.specs.Kits.{frame_key, frame_constants}
 use Rattle.dash_stage.specs.Ending.{HaveAllPasses}
 use Rattle.dash_stage.proofs.HallPasses.{given_all, given_are}
 use Rattle.dash_stage.proofs.HallFrames.{HaveEnded, ended_none, next_passes, next_constants, ends_more, ended_all}

@@ -1,14 +1,11 @@
-use Rattle.std.proofs.Common.{◌≡◌, ◌+◌, ◌<◌, List, [], ◌∷◌, ◌++◌, length, refl, ap, sym, ◌∙◌, subst, append-nil, length-append, arith}
+use Rattle.std.proofs.Common.{◌≡◌, [], ◌∷◌, ◌++◌, length, ap, sym, ◌∙◌, append-nil, length-append, arith}
 use Rattle.std.specs.Vec.Iter.{into_iter_items}
 use Rattle.std.proofs.lemmas.List.{length-map}
 use Rattle.std.proofs.lemmas.List.FromFn.{length-map-range_with_len}
 use Rattle.atomic_table.specs.Seated.{TableId}
-use Rattle.shared_queue.specs.Known.{Shared}
 use Rattle.shared_queue.specs.Constants.{Constants}
 use Rattle.shared_queue.proofs.Gathers.{nothing_left, regrouped}
-use Rattle.dash_stage.specs.declared.kit.Kit.{Kit}
-use Rattle.dash_stage.specs.Kits.{queue_key, queue_constants, AreQueuesOf}
-use Rattle.dash_stage.specs.Ending.{AreNext, HaveAllPosters}
+use Rattle.dash_stage.specs.Kits.{queue_key, queue_constants}
 use Rattle.dash_stage.proofs.HallEnds.{next_queue, retires_more, retired_all}
 use Rattle.dash_stage.proofs.records.queue_records.Goals as goal
 

@@ -1,5 +1,7 @@
-use Rattle.std.proofs.Common.{◌≡◌, ◌<◌, true}
+use Rattle.std.proofs.Common.{◌≡◌, ◌<◌, ◌≤◌, ℕ, true}
 use Rattle.dash_stage.specs.Controllers.{IsController, IsMoving, HasReached}
+use Rattle.dash_stage.specs.Timeliness.{AreBy, MovesTo}
+use Rattle.dash_stage.proofs.ControlWhole.{TurnsBelow, ComeBelow}
 use Rattle.dash_stage.proofs.control.Controller.advance.Given as goal
 
 abbrev pub invariant-loop-place : goal.invariant-loop-place
@@ -7,4 +9,7 @@ invariant-loop-place g l = record {
   controller : IsController l.script l.hall l.self;
   moving : IsMoving l.script l.self;
   reached : l.drained ≡ true → 0 < l.place → HasReached l.now l.self;
+  by : (t : ℕ) → l.now ≤ t → AreBy t l.initial.self → AreBy t l.self;
+  turns : TurnsBelow (MovesTo l.now) l.place l.initial.self l.self;
+  come : l.drained ≡ true → ComeBelow l.script l.now l.place l.self;
 }

@@ -1,8 +1,12 @@
-use Rattle.std.proofs.Common.{◌+◌}
-use Rattle.dash_stage.proofs.Controlling.{in_queues, in_posters, own_poster, in_pool, after_call}
+use Rattle.std.proofs.Common.{◌+◌, true}
+use Rattle.dash_stage.proofs.Controlling.{in_queues, in_posters, has_poster, own_poster, in_pool, after_call}
 use Rattle.dash_stage.specs.Controllers.{IsQuitting}
 use Rattle.dash_stage.proofs.ThreadSteps.{on_ok}
+use Rattle.dash_stage.specs.Timeliness.{TurnsOn, MovesNot}
+use Rattle.looper_run.specs.Holding.{Sender}
+use Rattle.std.specs.Prelude.{slice_index_or}
 use Rattle.dash_stage.proofs.ControlTurns.{turned_quit}
+use Rattle.dash_stage.proofs.ControlWhole.{turns_quit, turns_here, turns_elsewhere}
 use Rattle.dash_stage.proofs.control.Controller.quit_one.Goals as goal
 
 pub index-requires : goal.index-requires
@@ -26,4 +30,8 @@ returns g c = record {
       turned_quit c.args.script.now c.args.hall.now c.requires.hall c.args.place c.requires.place c.args.self.now c.requires.controller
       c.index_mut.result.now c.quit_by.new.poster c.index.result.now c.index_mut.ensures.value c.index.ensures _ _ quits.2.2 _ quits.0 quits.1 quits.2.3 c.requires.other c.requires.time c.requires.quitting)
       c.quit_by.ensures.quit;
+  here = on_ok c.quit_by.result _ ((d : Sender) → TurnsOn MovesNot (slice_index_or c.args.self.now.kit.posters.items c.args.place d) _)
+      (λ quits. turns_here c.args.self.now c.args.place c.index_mut.result.now c.quit_by.new.poster c.quit_by.new.pass (has_poster c.args.script.now c.args.hall.now c.requires.hall c.args.place c.requires.place c.args.self.now c.requires.controller) c.index_mut.ensures.value (turns_quit c.index_mut.result.now c.quit_by.new.poster true c.args.script.now.end quits))
+      c.quit_by.ensures.quit;
+  elsewhere = turns_elsewhere c.args.self.now c.args.place c.index_mut.result.now c.quit_by.new.poster c.quit_by.new.pass (has_poster c.args.script.now c.args.hall.now c.requires.hall c.args.place c.requires.place c.args.self.now c.requires.controller) c.index_mut.ensures.value;
 }

@@ -1,6 +1,7 @@
 use Rattle.std.proofs.Common.{refl, ◌∙◌}
-use Rattle.dash_stage.proofs.Controlling.{in_queues, in_posters, own_poster, after_turn}
+use Rattle.dash_stage.proofs.Controlling.{in_queues, in_posters, has_poster, own_poster, after_turn}
 use Rattle.dash_stage.proofs.ControlTurns.{turned_none, turned_time}
+use Rattle.dash_stage.proofs.ControlWhole.{turns_none, turns_here, turns_elsewhere}
 use Rattle.dash_stage.proofs.control.Controller.time_on.Goals as goal
 
 pub index_mut-requires : goal.index_mut-requires
@@ -18,4 +19,6 @@ returns g c = record {
   controller = after_turn c.args.script.now c.args.hall.now c.requires.hall c.args.place c.requires.place c.args.self.now c.requires.controller c.index_mut.result.now c.time.new.self _ _ c.index_mut.ensures.value c.time.ensures.1;
   none = turned_none c.args.script.now c.args.hall.now c.requires.hall c.args.place c.requires.place c.args.self.now c.requires.controller c.index_mut.result.now c.time.new.self c.index.result.now c.index_mut.ensures.value c.index.ensures _ _ c.time.ensures.1 _ refl;
   time = λ d. c.time.ensures.2 ∙ turned_time c.args.script.now c.args.hall.now c.requires.hall c.args.place c.requires.place c.args.self.now c.requires.controller c.index_mut.result.now c.time.new.self c.index.result.now c.index_mut.ensures.value c.index.ensures _ _ c.time.ensures.1 c.args.self.now.kit.pass refl d;
+  here = turns_here c.args.self.now c.args.place c.index_mut.result.now c.time.new.self c.args.self.now.kit.pass (has_poster c.args.script.now c.args.hall.now c.requires.hall c.args.place c.requires.place c.args.self.now c.requires.controller) c.index_mut.ensures.value (turns_none c.index_mut.result.now c.time.new.self _ _ c.time.ensures.1 refl);
+  elsewhere = turns_elsewhere c.args.self.now c.args.place c.index_mut.result.now c.time.new.self c.args.self.now.kit.pass (has_poster c.args.script.now c.args.hall.now c.requires.hall c.args.place c.requires.place c.args.self.now c.requires.controller) c.index_mut.ensures.value;
 }

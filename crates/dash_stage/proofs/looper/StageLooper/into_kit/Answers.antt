@@ -1,7 +1,9 @@
-use Rattle.std.proofs.Common.{List, [], ◌∷◌, ◌++◌, ap, ◌∙◌, arith}
+use Rattle.std.proofs.Common.{List, [], ◌∷◌, ◌++◌, Option, sym, ap, ◌∙◌, arith}
 use Rattle.std.specs.List.{insert}
 use Rattle.looper_run.specs.Holding.{Sender}
 use Rattle.choreographer.specs.Known.{Known as Pass}
+use Rattle.dash_stage.specs.declared.player.Parts.{Parts}
+use Rattle.dash_stage.specs.Sharing.{others_in}
 use Rattle.dash_stage.proofs.LooperKits.{looper_of, parts_of, others_many, kit_again, seen_over, told_again}
 use Rattle.dash_stage.proofs.looper.StageLooper.into_kit.Goals as goal
 
@@ -32,3 +34,9 @@ returns-clause-told c =
     let parts = c.in-Some.parts in
     told_again c.args.script.now c.args.hall.now c.args.self parts _ _ c.requires.hall c.requires.looper c.in-Some.is
     (c.in_ok-insert.ensures.items ∙ ap (λ (p : Sender). insert parts.others.items c.args.self.number p) c.into_parts-poster.ensures.0) c.into_parts-poster.ensures.2
+
+pub returns-clause-posters : goal.returns-clause-posters
+returns-clause-posters c =
+    let parts = c.in-Some.parts in
+    c.in_ok-insert.ensures.items ∙ ap (λ (p : Sender). insert parts.others.items c.args.self.number p) c.into_parts-poster.ensures.0
+    ∙ ap (λ (o : Option Parts). insert (others_in o) c.args.self.number c.args.self.looper.held.poster) (sym c.in-Some.is)

@@ -3,7 +3,7 @@ use Rattle.std.proofs.lemmas.Option.{slice_get_read}
 use Rattle.looper_run.specs.Round.{is_ended}
 use Rattle.dash_stage.specs.Loopers.{is_given_up}
 use Rattle.dash_stage.proofs.LooperPlaces.{queue_count, queue_home}
-use Rattle.dash_stage.proofs.LooperKits.{looper_of, looper_then, ran_on}
+use Rattle.dash_stage.proofs.LooperKits.{looper_of, looper_then, ran_on, comes_to_wait}
 use Rattle.dash_stage.proofs.looper.StageLooper.run_round.Goals as goal
 
 pub index-requires : goal.index-requires
@@ -54,3 +54,12 @@ returns-clause-round g c =
       ran = λ e. ran_on c.args.script.now hall c.args.now l c.index.result.now c.run_round-self.new.self c.run_round-self.result c.requires.hall c.requires.looper at c.run_round-self.ensures.round;
       looks = λ e. c.run_round-self.ensures.looks;
     }
+
+pub returns-clause-waits : goal.returns-clause-waits
+returns-clause-waits g c =
+    let hall = c.args.hall.now in
+    let l = c.args.self.now in
+    let count = queue_count c.args.script.now hall l.number (looper_of c.args.script.now hall l c.requires.hall c.requires.looper) in
+    let one = c.requires.looper.number in
+    let at = slice_get_read hall.queues.items hall.queues.len l.number c.index.result.now (omega (arith, hall.queues.ok.0)) (omega (arith, count, one, hall.queues.ok.0)) c.index.ensures in
+    comes_to_wait c.args.script.now hall c.args.now l c.index.result.now c.run_round-self.new.self c.run_round-self.result c.requires.hall c.requires.looper at c.run_round-self.ensures.same c.run_round-self.ensures.round

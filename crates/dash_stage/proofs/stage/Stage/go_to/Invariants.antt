@@ -1,7 +1,14 @@
-use Rattle.std.proofs.Common.{◌≡◌}
+use Rattle.std.proofs.Common.{◌≤◌, List}
+use Rattle.dash_script.specs.declared.script.Block.{Block}
 use Rattle.dash_stage.specs.Controllers.{IsMoving}
-use Rattle.dash_stage.specs.Stages.{IsStage}
+use Rattle.dash_stage.specs.Stages.{IsStage, HaveRun}
+use Rattle.dash_stage.specs.Timeliness.{AreTimelyUpTo, AreBy, AreRested}
 use Rattle.dash_stage.proofs.stage.Stage.go_to.Given as goal
 
 abbrev pub invariant-loop : goal.invariant-loop
-invariant-loop g l = IsStage l.script l.self × (l.self.threads.items ≡ l.initial.self.threads.items) × IsMoving l.script l.self.controller
+invariant-loop g l = IsStage l.script l.self
+    × ((past : List Block) → HaveRun l.script past l.initial.self.threads.items → HaveRun l.script past l.self.threads.items)
+    × IsMoving l.script l.self.controller
+    × AreBy l.self.time l.self.controller
+    × (l.self.time ≤ l.time)
+    × ((past : List Block) → AreTimelyUpTo l.script past l.initial.self → AreRested l.script l.initial.self → AreTimelyUpTo l.script past l.self × AreRested l.script l.self)

@@ -1,7 +1,11 @@
-use Rattle.std.proofs.Common.{◌≡◌}
+use Rattle.std.proofs.Common.{◌≡◌, ℕ}
 use Rattle.dash_stage.specs.Controllers.{CallsNone}
 use Rattle.dash_stage.specs.Stages.{IsStage}
+use Rattle.dash_stage.specs.Timeliness.{NotLater}
+use Rattle.dash_stage.proofs.StageDue.{WaitAfter}
 use Rattle.dash_stage.proofs.stage.Stage.next_due.Given as goal
 
 abbrev pub invariant-loop-looper : goal.invariant-loop-looper
 invariant-loop-looper g l = IsStage l.script l.self × (l.self.threads.items ≡ l.initial.self.threads.items) × CallsNone l.initial.self.controller l.self.controller
+    × (l.self.controller.kit.posters ≡ l.initial.self.controller.kit.posters) × (l.self.loopers ≡ l.initial.self.loopers) × (l.self.time ≡ l.initial.self.time)
+    × ((t : ℕ) → NotLater t l.next → WaitAfter t l.looper l.initial.self.loopers.items)

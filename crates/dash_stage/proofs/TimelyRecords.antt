@@ -1,0 +1,171 @@
+-- What all senders have seen of the queues at the end is what the records keep, so that the records are timely.
+use Rattle.std.proofs.Common.{◌≡◌, ◌<◌, ◌==◌, ℕ, suc, true, List, [], ◌∷◌, ◌++◌, map, length, sym, ap, ◌∙◌, subst, arith, slice_index_or}
+use Rattle.std.specs.List.{remove, AllByRecursion}
+use Rattle.std.proofs.lemmas.List.{get_or-map}
+use mathlib.Core.List.{IsPrefix}
+use Rattle.loop_model.specs.declared.entry.Entry.{Entry}
+use Rattle.loop_model.specs.declared.record.QueueRecord.{QueueRecord}
+use Rattle.loop_model.specs.Base.{empty_base}
+use Rattle.loop_model.specs.Answers.{Setting}
+use Rattle.loop_model.specs.Legal.{IsLegal, AreNumbered}
+use Rattle.loop_model.proofs.WellFormedLaws.{All_recursive, All_indexed}
+use Rattle.dash_script.specs.declared.script.Script.{Script}
+use Rattle.looper_run.specs.Holding.{Sender}
+use Rattle.run_model.specs.Asks.{entries_by}
+use Rattle.run_model.specs.Moments.{in_lockstep}
+use Rattle.run_model.specs.Planned.{lines_of, labels_on, lines_on}
+use Rattle.run_model.specs.Senders.{controller, sender_count}
+use Rattle.run_model.specs.Control.{is_advanced_in_time, ends_halted, befores, At, are_on_time}
+use Rattle.run_model.specs.Run.{IsHistory, IsTimely, all_entries, setting_of, main_ends_halted}
+use Rattle.dash_stage.specs.declared.hall.Hall.{Hall}
+use Rattle.dash_stage.specs.declared.kit.Kit.{Kit}
+use Rattle.dash_stage.specs.declared.thread.PostingThread.{PostingThread}
+use Rattle.dash_stage.specs.declared.looper.StageLooper.{StageLooper}
+use Rattle.dash_stage.specs.declared.control.Controller.{Controller}
+use Rattle.dash_stage.specs.Kits.{badge_of, badge_for, IsHall, AreKitsOf}
+use Rattle.dash_stage.specs.Loopers.{setting_for}
+use Rattle.dash_stage.specs.Records.{AreQueueRecords, HaveAll}
+use Rattle.dash_stage.specs.Sharing.{seen_by, posters_of, HaveSeenAll, OfThreads, OfLoopers, OfKits}
+use Rattle.dash_stage.specs.Timeliness.{whole_on, IsSoundOn, IsTimelyUpTo}
+use Rattle.dash_stage.proofs.Badges.{alike_length, queue_count, poster_at}
+use Rattle.dash_stage.proofs.Casting.{first_more}
+use Rattle.dash_stage.proofs.HallEnds.{some_of}
+use Rattle.dash_stage.proofs.Carried.{numbered_count, numbered_at}
+use Rattle.dash_stage.proofs.Timely.{is_whole}
+
+-- the threads behind the first one
+other_threads_of : (P : List Sender → Type 0) (ts : List PostingThread) → OfThreads P ts → 0 < length ts → OfThreads P (remove ts 0)
+other_threads_of P [] h some = absurd (omega (arith, some))
+other_threads_of P (x ∷ ts) h some = λ k d lt. h (suc k) d (omega (arith, lt))
+
+-- the loopers behind the first one
+other_loopers_of : (P : List Sender → Type 0) (ls : List StageLooper) → OfLoopers P ls → 0 < length ls → OfLoopers P (remove ls 0)
+other_loopers_of P [] h some = absurd (omega (arith, some))
+other_loopers_of P (x ∷ ls) h some = λ k d lt. h (suc k) d (omega (arith, lt))
+
+-- no kit yet
+pub none_yet : (P : List Sender → Type 0) (kits : List Kit) → kits ≡ [] → OfKits P kits
+none_yet P kits none = subst (OfKits P) (sym none) (λ k d lt. absurd (omega (arith, lt)))
+
+-- one kit more
+pub kit_more : (P : List Sender → Type 0) (kits kits' : List Kit) (kit : Kit) → kits' ≡ kits ++ kit ∷ [] → P kit.posters.items → OfKits P kits → OfKits P kits'
+kit_more P kits kits' kit grown one before = subst (OfKits P) (sym grown) (first_more (λ k (z : Kit). P z.posters.items) kits kit before one)
+
+-- one thread more has given its kit back
+pub thread_gives : (P : List Sender → Type 0) (ts ts' : List PostingThread) (kits kits' : List Kit) (t : PostingThread) (kit : Kit) → 0 < length ts → t ≡ slice_index_or ts 0 t → ts' ≡ remove ts 0
+    → kit ≡ t.kit → kits' ≡ kits ++ kit ∷ [] → OfThreads P ts × OfKits P kits → OfThreads P ts' × OfKits P kits'
+thread_gives P ts ts' kits kits' t kit some is_t rest is_kit grown before = (
+  subst (OfThreads P) (sym rest) (other_threads_of P ts before.0 some),
+  kit_more P kits kits' kit grown
+      (subst (λ (z : Kit). P z.posters.items) (sym is_kit) (subst (λ (z : PostingThread). P z.kit.posters.items) (sym is_t) (before.0 0 t some))) before.1,
+)
+
+-- one looper more has given its kit back
+pub looper_gives : (P : List Sender → Type 0) (ls ls' : List StageLooper) (kits kits' : List Kit) (l : StageLooper) (kit : Kit) → 0 < length ls → l ≡ slice_index_or ls 0 l → ls' ≡ remove ls 0
+    → kit.posters.items ≡ posters_of l → kits' ≡ kits ++ kit ∷ [] → OfLoopers P ls × OfKits P kits → OfLoopers P ls' × OfKits P kits'
+looper_gives P ls ls' kits kits' l kit some is_l rest are grown before = (
+  subst (OfLoopers P) (sym rest) (other_loopers_of P ls before.0 some),
+  kit_more P kits kits' kit grown (subst P (sym are) (subst (λ (z : StageLooper). P (posters_of z)) (sym is_l) (before.0 0 l some))) before.1,
+)
+
+-- posters that have seen these histories have seen at each place the one there
+seen_at : (ps whole : List Sender) (q : ℕ) (p d : Sender) → HaveSeenAll (seen_by whole) ps → q < length ps → q < length whole → (slice_index_or ps q p).view.seen ≡ (slice_index_or whole q d).view.seen
+seen_at ps whole q p d seen lt lt' =
+    sym (get_or-map (λ (z : Sender). z.view.seen) ps q p [] lt) ∙ ap (λ l. slice_index_or l q []) seen ∙ get_or-map (λ (z : Sender). z.view.seen) whole q d [] lt'
+
+-- the setting of a looper's record
+setting_is : (s : Script) (q : ℕ) (r : QueueRecord) → IsHistory in_lockstep all_entries s r → r.looper ≡ q → setting_of r ≡ setting_for s q
+setting_is s q r is number =
+    let main = is.main ∙ ap (λ (l : ℕ). l == 0) number in
+    let lockstep = is.lockstep in
+    let senders = is.senders in
+    λ i. record { main = main i; lockstep = lockstep i; senders = senders i }
+
+-- what is so of the history is so of the record
+timely_record : (s : Script) (q : ℕ) (r : QueueRecord) (es : List Entry) → r.looper ≡ q → r.entries ≡ es → IsTimelyUpTo s s.blocks q es → IsTimely s r
+timely_record s q r es number same h = record {
+  advances = ap is_advanced_in_time same ∙ h.advances;
+  threads = λ thread below. subst (λ (l : ℕ). are_on_time (map (λ x. At x.time) (lines_on s (labels_on l (lines_of thread s.blocks)) l (lines_of thread s.blocks))) (befores thread r.entries) ≡ true) (sym number)
+      (subst (λ (l : List Entry). are_on_time (map (λ x. At x.time) (lines_on s (labels_on q (lines_of thread s.blocks)) q (lines_of thread s.blocks))) (befores thread l) ≡ true) (sym same) (h.threads thread below));
+}
+
+-- main's record is the first one
+main_is_first : (records : List QueueRecord) (r : QueueRecord) → 0 < length records → ends_halted (slice_index_or records 0 r).entries ≡ true → main_ends_halted records ≡ true
+main_is_first [] r some h = absurd (omega (arith, some))
+main_is_first (x ∷ records) r some h = h
+
+module _ (s : Script) (hall : Hall) (kits : List Kit) (records : List QueueRecord) (h : IsHall s hall) (are : AreKitsOf s hall kits) (c : Controller) (held : (d : Kit) → slice_index_or kits (controller s) d ≡ c.kit)
+    (recs : AreQueueRecords s records) (all : HaveAll kits records) (seen : OfKits (HaveSeenAll (seen_by c.kit.posters.items)) kits) where
+  few : length records ≡ s.loopers
+  few = numbered_count (λ (z : QueueRecord). z.looper) s.loopers records recs.loopers
+
+  -- each kit has a poster of each record's queue
+  in_posters : (k q : ℕ) (d : Kit) → k < length kits → q < length records → q < length (slice_index_or kits k d).posters.items
+  in_posters k q d in_kits lt =
+      let kit = slice_index_or kits k d in
+      let long = alike_length badge_of (badge_for k) kit.posters.items hall.queues.items (are.each k d in_kits).posters ∙ queue_count s hall.pool hall.queues.items h.queues in
+      let short = few in
+      omega (arith, lt, short, long)
+
+  last : controller s < length kits
+  last = let count = are.count in omega (arith, count)
+
+  -- the controller has a poster of each record's queue
+  within : (q : ℕ) → q < length records → q < length c.kit.posters.items
+  within q lt = subst (λ (z : Kit). q < length z.posters.items) (held c.kit) (in_posters (controller s) q c.kit last lt)
+
+  -- each sender's entries in a record are those in what all senders have seen
+  made_by : (k q : ℕ) (d : Sender) (r : QueueRecord) → k < length kits → q < length records → entries_by k (slice_index_or records q r).entries ≡ entries_by k (whole_on c q d)
+  made_by k q d r in_kits lt =
+      let kit = slice_index_or kits k c.kit in
+      let there = in_posters k q c.kit in_kits lt in
+      let in_queues : q < length hall.queues.items = omega (arith, lt, few, queue_count s hall.pool hall.queues.items h.queues) in
+      let sender = (poster_at k hall.queues.items kit.posters.items (are.each k c.kit in_kits).posters q d (some_of hall.queues.items q in_queues) there).1 in
+      (all k q c.kit d r in_kits lt).0
+      ∙ (ap (λ (n : ℕ). entries_by n (slice_index_or kit.posters.items q d).view.seen) sender
+      ∙ ap (entries_by k) (seen_at kit.posters.items c.kit.posters.items q d d (seen k c.kit in_kits) there (within q lt)))
+
+  history : (q : ℕ) (r : QueueRecord) → q < length records → IsHistory in_lockstep all_entries s (slice_index_or records q r)
+  history q r lt = All_indexed (IsHistory in_lockstep all_entries s) records recs.histories q r lt
+
+  number : (q : ℕ) (r : QueueRecord) → q < length records → (slice_index_or records q r).looper ≡ q
+  number q r lt = numbered_at (λ (z : QueueRecord). z.looper) s.loopers records recs.loopers q r lt
+
+  -- a record keeps what all senders have seen
+  is_seen : (q : ℕ) (d : Sender) (r : QueueRecord) → q < length records → (slice_index_or records q r).entries ≡ whole_on c q d
+  is_seen q d r lt =
+      let mine = slice_index_or records q r in
+      let is = history q r lt in
+      let count = are.count in
+      let senders = is.senders in
+      let begins = (all (controller s) q c.kit d r last lt).1 in
+      is_whole (setting_of mine) (empty_base mine.senders) (whole_on c q d) mine.entries
+      (subst (λ (z : Kit). IsPrefix (slice_index_or z.posters.items q d).view.seen mine.entries) (held c.kit) begins) is.numbered
+      (λ k below. made_by k q d r (omega (arith, below, senders, count)) lt)
+
+  -- and it is one that the queue may have
+  is_sound : (q : ℕ) (d : Sender) (r : QueueRecord) → q < length records → IsSoundOn s q (whole_on c q d)
+  is_sound q d r lt =
+      let mine = slice_index_or records q r in
+      let is = history q r lt in
+      let set = setting_is s q mine is (number q r lt) in
+      let same = is_seen q d r lt in
+      record {
+        legal = subst (IsLegal (setting_for s q) (empty_base (sender_count s))) same (subst (λ (z : Setting). IsLegal z (empty_base z.senders) mine.entries) set is.legal);
+        numbered = subst (AreNumbered (setting_for s q) (empty_base (sender_count s))) same (subst (λ (z : Setting). AreNumbered z (empty_base z.senders) mine.entries) set is.numbered);
+      }
+
+  -- each record is timely
+  pub timely_of_records : ((q : ℕ) (d : Sender) → q < length c.kit.posters.items → IsSoundOn s q (whole_on c q d) → IsTimelyUpTo s s.blocks q (whole_on c q d)) → AllByRecursion (IsTimely s) records
+  timely_of_records timely = All_recursive (IsTimely s) records (λ q r lt.
+      let d = some_of c.kit.posters.items q (within q lt) in
+      timely_record s q (slice_index_or records q r) (whole_on c q d) (number q r lt) (is_seen q d r lt) (timely q d (within q lt) (is_sound q d r lt)))
+
+  -- main's record ends with its halt
+  pub halted_of_records : 0 < s.loopers → ((d : Sender) → 0 < length c.kit.posters.items → IsSoundOn s 0 (whole_on c 0 d) → ends_halted (whole_on c 0 d) ≡ true) → main_ends_halted records ≡ true
+  halted_of_records some halted =
+      let short = few in
+      let lt : 0 < length records = omega (arith, some, short) in
+      let d = some_of c.kit.posters.items 0 (within 0 lt) in
+      let r = some_of records 0 lt in
+      main_is_first records r lt (ap ends_halted (is_seen 0 d r lt) ∙ halted d (within 0 lt) (is_sound 0 d r lt))

@@ -1,0 +1,14 @@
+use Rattle.std.proofs.Common.{◌≡◌, ◌<◌, ℕ, length, slice_index_or, sym, ◌∙◌, subst}
+use Rattle.std.proofs.lemmas.List.{get_or_default}
+use Rattle.dash_stage.specs.declared.looper.StageLooper.{StageLooper}
+use Rattle.dash_stage.specs.Loopers.{until_of}
+use Rattle.dash_stage.specs.Timeliness.{NotLater}
+use Rattle.dash_stage.proofs.stage.Stage.due_on.Goals as goal
+
+pub returns-clause-due : goal.returns-clause-due
+returns-clause-due g c t l early going =
+    let x : StageLooper = c.index-2.result.now in
+    let ls = c.args.self.now.loopers.items in
+    let lt : c.args.looper < length ls = subst (λ (n : ℕ). c.args.looper < n) (sym c.requires.stage.loopers.0) c.requires.looper in
+    let same : x ≡ slice_index_or ls c.args.looper l = c.index-2.ensures ∙ get_or_default ls c.args.looper x l lt in
+    subst (λ (z : StageLooper). NotLater t (until_of z.last)) same (subst (NotLater t) c.until-until.ensures (c.earlier.ensures t early).0)

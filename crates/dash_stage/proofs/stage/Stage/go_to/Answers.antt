@@ -1,0 +1,43 @@
+use Rattle.std.proofs.Common.{ℕ, refl, sym, subst, arith}
+use Rattle.dash_stage.specs.Stages.{HaveRun}
+use Rattle.dash_stage.specs.Timeliness.{AreBy}
+use Rattle.dash_stage.proofs.ControlKept.{moving_kept}
+use Rattle.dash_stage.proofs.StageMoves.{by_kept}
+use Rattle.dash_stage.proofs.StageDue.{timely_same}
+use Rattle.dash_stage.proofs.stage.Stage.go_to.Goals as goal
+
+pub returns-in_err-moved-clause-run : goal.returns-in_err-moved-clause-run
+returns-in_err-moved-clause-run g c past run = c.advance.ensures.run past (subst (HaveRun c.args.script.now past) (sym c.next_due.ensures.threads) (c.loop.invariant.1 past run))
+
+pub returns-then-next-time-clause-run : goal.returns-then-next-time-clause-run
+returns-then-next-time-clause-run g c past run = c.advance.ensures.run past (subst (HaveRun c.args.script.now past) (sym c.next_due.ensures.threads) (c.loop.invariant.1 past run))
+
+pub returns-then-next-time-clause-timely : goal.returns-then-next-time-clause-timely
+returns-then-next-time-clause-timely g c past timely rest =
+    let s = c.args.script.now in
+    let before = c.loop.invariant.5 past timely rest in
+    let due = c.next_due.ensures in
+    c.in_ok-moved.ensures.timely past (timely_same s past c.loop.self c.next_due.new.self due.threads due.loopers due.posters before.0) (due.due c.at_most-next.result before.1 c.at_most-next.ensures.early)
+
+pub loop-preserved : goal.loop-preserved
+loop-preserved g c =
+    let s = c.args.script.now in
+    let at = c.loop.invariant in
+    let due = c.next_due.ensures in
+    let moved = c.in_ok-moved.ensures in
+    let ran = c.in_ok-run_rounds.ensures in (
+      ran.stage,
+      λ past run. ran.run past (moved.run past (subst (HaveRun s past) (sym due.threads) (at.1 past run))),
+      moving_kept s c.advance.new.self.controller c.run_rounds.new.self.controller ran.none moved.moving,
+      subst (λ (t : ℕ). AreBy t c.run_rounds.new.self.controller) (sym ran.time) (by_kept c.advance.new.self.time c.advance.new.self.controller c.run_rounds.new.self.controller ran.none moved.by),
+      (let a = at.4 in let b = due.time in let d = moved.time in let e = ran.time in let w = c.at_most-next.ensures.within in omega (arith, a, b, d, e, w)),
+      λ past timely rest.
+          let before = at.5 past timely rest in
+          let still = timely_same s past c.loop.self c.next_due.new.self due.threads due.loopers due.posters before.0 in
+          let went = moved.timely past still (due.due c.at_most-next.result before.1 c.at_most-next.ensures.early) in
+          (ran.timely past went, ran.rested refl went.same),
+    )
+
+pub returns-in_err-run_rounds-clause-run : goal.returns-in_err-run_rounds-clause-run
+returns-in_err-run_rounds-clause-run g c past run =
+    c.run_rounds.ensures.run past (c.advance.ensures.run past (subst (HaveRun c.args.script.now past) (sym c.next_due.ensures.threads) (c.loop.invariant.1 past run)))

@@ -1,0 +1,31 @@
+use Rattle.std.proofs.Common.{◌<◌, ℕ, List, length, slice_index_or, subst, arith}
+use Rattle.std.proofs.lemmas.List.{with_items_is}
+use Rattle.dash_stage.specs.declared.looper.StageLooper.{StageLooper}
+use Rattle.dash_stage.specs.Sharing.{AtEach, HaveHeard, LooperKeeps}
+use Rattle.dash_stage.specs.Timeliness.{ComesToWait}
+use Rattle.dash_stage.proofs.StageWhole.{threads_heard, kept_timely}
+use Rattle.dash_stage.proofs.StageDue.{heard_grown, come_to_rest}
+use Rattle.dash_stage.proofs.stage.Stage.run_round.Goals as goal
+
+pub returns-clause-timely : goal.returns-clause-timely
+returns-clause-timely g c past timely =
+    let kept = c.share.ensures.kept in
+    kept_timely c.args.script.now c.args.self.now c.share.new.self c.requires.stage c.share.ensures.stage timely.same c.share.ensures.shared past
+    (threads_heard c.args.self.now.threads.items c.share.new.self.threads.items kept.threads) kept.controller.posters timely
+
+pub returns-clause-grown : goal.returns-clause-grown
+returns-clause-grown g c = heard_grown c.args.self.now.controller.kit.posters.items c.share.new.self.controller.kit.posters.items c.share.ensures.kept.controller.posters
+
+pub returns-clause-rested : goal.returns-clause-rested
+returns-clause-rested g c all same still =
+    let s = c.args.script.now in
+    let ran = c.run_loopers.new.loopers in
+    let waits =
+        subst (λ (xs : List StageLooper). (k : ℕ) (d : StageLooper) → k < length xs → ComesToWait s (slice_index_or xs k d) (slice_index_or ran k d)) c.as_mut_slice.ensures.value (c.run_loopers.ensures.waits all) in
+    let long = c.run_loopers.ensures.loopers.0 in
+    let many = c.requires.stage.loopers.0 in
+    let kept =
+        subst (λ (xs : List StageLooper). AtEach (LooperKeeps HaveHeard) xs c.share.new.self.loopers.items) (with_items_is c.args.self.now.loopers ran (omega (arith, long, many, c.args.self.now.loopers.ok.0)))
+        c.share.ensures.kept.loopers in
+    come_to_rest s c.args.self.now ran c.share.new.self c.requires.stage c.share.ensures.stage same c.share.ensures.shared c.run_loopers.ensures.loopers c.in_ok-run_loopers.ensures.on waits
+    kept still

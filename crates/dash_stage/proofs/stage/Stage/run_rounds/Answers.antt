@@ -1,0 +1,37 @@
+use Rattle.std.proofs.Common.{sym, ◌∙◌}
+use Rattle.dash_stage.specs.Sharing.{seen_by}
+use Rattle.dash_stage.proofs.ControlKept.{none_after}
+use Rattle.dash_stage.proofs.StageDue.{grown_none}
+use Rattle.dash_stage.proofs.stage.Stage.run_rounds.Goals as goal
+
+pub loop-preserved : goal.loop-preserved
+loop-preserved g c =
+    let at = c.loop in
+    let done = c.in_ok-run_round.ensures in (
+      done.stage,
+      λ past run. done.run past (at.invariant.1 past run),
+      none_after _ _ _ at.invariant.2 done.none,
+      λ ended. done.ended (at.invariant.3 ended),
+      done.time ∙ at.invariant.4,
+      λ past timely. done.timely past (at.invariant.5 past timely),
+      λ same. done.same,
+    )
+
+pub returns-in_err-run_round-clause-run : goal.returns-in_err-run_round-clause-run
+returns-in_err-run_round-clause-run g c past run = c.run_round.ensures.run past (c.loop.invariant.1 past run)
+
+pub returns-in_err-run_round-clause-ended : goal.returns-in_err-run_round-clause-ended
+returns-in_err-run_round-clause-ended g c ended = c.run_round.ensures.ended (c.loop.invariant.3 ended)
+
+pub returns-then-entries_seen-before-clause-run : goal.returns-then-entries_seen-before-clause-run
+returns-then-entries_seen-before-clause-run g c past run = c.run_round.ensures.run past (c.loop.invariant.1 past run)
+
+pub returns-then-entries_seen-before-clause-timely : goal.returns-then-entries_seen-before-clause-timely
+returns-then-entries_seen-before-clause-timely g c past timely = c.in_ok-run_round.ensures.timely past (c.loop.invariant.5 past timely)
+
+pub returns-then-entries_seen-before-clause-rested : goal.returns-then-entries_seen-before-clause-rested
+returns-then-entries_seen-before-clause-rested g c all same =
+    let done = c.in_ok-run_round.ensures in
+    let as_many = sym c.entries_seen.ensures ∙ (c.if-entries_seen-before.true ∙ c.entries_seen-before.ensures) in
+    done.rested all (c.loop.invariant.6 same)
+    (grown_none (seen_by c.loop.self.controller.kit.posters.items) (seen_by c.run_round.new.self.controller.kit.posters.items) done.grown as_many)
