@@ -1,5 +1,5 @@
 -- A stage whose senders have seen nothing.
-use Rattle.std.proofs.Common.{◌≡◌, ◌<◌, ℕ, zero, suc, false, true, List, [], ◌∷◌, length, None, refl, sym, ap, ap₂, ◌∙◌, subst, arith}
+use Rattle.std.proofs.Common.{◌≡◌, ◌<◌, ℕ, suc, false, true, List, [], ◌∷◌, length, None, refl, sym, ap, ap₂, ◌∙◌, subst, arith}
 use Rattle.std.specs.Prelude.{slice_index_or}
 use Rattle.std.specs.Option.{option_map}
 use Rattle.atomic_table.specs.Seated.{TableId}
@@ -14,11 +14,9 @@ use Rattle.looper_run.specs.Holding.{Sender}
 use Rattle.run_model.specs.Senders.{sender_count}
 use Rattle.run_model.specs.Control.{is_advanced_in_time, befores}
 use Rattle.dash_stage.specs.declared.stage.Stage.{Stage}
-use Rattle.dash_stage.specs.declared.thread.PostingThread.{PostingThread}
-use Rattle.dash_stage.specs.declared.looper.StageLooper.{StageLooper}
 use Rattle.dash_stage.specs.Kits.{badge_of, badge_for, ArePostersOf, IsHall}
 use Rattle.dash_stage.specs.Runs.{AreUnseen}
-use Rattle.dash_stage.specs.Sharing.{seen_by, posters_of, OfThreads, OfLoopers, HaveSeenTheSame}
+use Rattle.dash_stage.specs.Sharing.{seen_by, posters_of, OfThreads, OfLoopers}
 use Rattle.dash_stage.specs.Stages.{AreThreads, AreLoopers}
 use Rattle.dash_stage.specs.Timeliness.{IsTimelyUpTo, AreTimelyUpTo, AreRested, WaitForNothing}
 use Rattle.dash_stage.proofs.Badges.{alike_length, queue_count}

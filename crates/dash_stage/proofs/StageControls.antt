@@ -1,5 +1,5 @@
 -- What the stage knows of its controller's calls, and of a kit that was not used.
-use Rattle.std.proofs.Common.{◌≡◌, ℕ, List, true, refl, sym, subst, arith}
+use Rattle.std.proofs.Common.{◌≡◌, ℕ, List, true, refl, sym, subst, arith, slice_index_or}
 use mathlib.Core.Logic.{dite}
 use native.Mathlib.Decide.{dec_lt}
 use Rattle.loop_model.specs.declared.entry.Entry.{Entry}

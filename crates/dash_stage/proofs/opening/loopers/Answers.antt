@@ -1,5 +1,4 @@
-use Rattle.std.proofs.Common.{◌≡◌, ◌<◌, ◌+◌, List, length, sym, subst, arith}
-use Rattle.looper_run.specs.Holding.{Sender}
+use Rattle.std.proofs.Common.{◌<◌, length, sym, subst, arith}
 use Rattle.dash_stage.specs.declared.kit.Kit.{Kit}
 use Rattle.dash_stage.specs.declared.looper.StageLooper.{StageLooper}
 use Rattle.dash_stage.specs.Runs.{AreUnseen, IsUnusedKit, AreUnusedKits}

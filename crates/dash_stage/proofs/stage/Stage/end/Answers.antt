@@ -1,5 +1,3 @@
-use Rattle.std.proofs.Common.{◌≡◌, ◌<◌, ◌+◌, ◌∙◌, List, refl, sym, subst, arith, length}
-use Rattle.dash_stage.specs.Controllers.{IsClosing}
 use Rattle.dash_stage.specs.Sharing.{HaveHeard}
 use Rattle.dash_stage.proofs.ControlKept.{closing_kept, closed_kept}
 use Rattle.dash_stage.proofs.StageTurns.{turned_timely, halted_stays, go_on_kept}

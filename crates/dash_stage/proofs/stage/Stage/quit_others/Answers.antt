@@ -1,5 +1,4 @@
 use Rattle.std.proofs.Common.{◌≡◌, ◌<◌, ◌+◌, ◌∙◌, List, refl, sym, subst, arith, length}
-use Rattle.dash_script.specs.declared.script.Script.{Script}
 use Rattle.dash_stage.specs.declared.thread.PostingThread.{PostingThread}
 use Rattle.dash_stage.specs.declared.looper.StageLooper.{StageLooper}
 use Rattle.dash_stage.specs.declared.control.Controller.{Controller}
@@ -25,7 +24,7 @@ loop-looper-preserved g c =
     let at = c.loop-looper in
     let first = c.args.self.now in
     let kept = λ (st : Stage). IsStage s st × (st.threads.items ≡ first.threads.items) × (st.loopers.items ≡ first.loopers.items) × (0 < at.looper + 1) × IsQuitting s (at.looper + 1) st.controller
-        × EachTurnsOn MovesNot first.controller st.controller × AreKeptFrom (at.looper + 1) first.controller st.controller in
+    × EachTurnsOn MovesNot first.controller st.controller × AreKeptFrom (at.looper + 1) first.controller st.controller in
     elim c.if-not-has_ended.branch [
       | then-not-has_ended+in_ok-quit w ↦
           let stage = at.invariant.0 in
