@@ -20,7 +20,7 @@ use Rattle.dash_stage.specs.Sharing.{seen_by, posters_of, OfThreads, OfLoopers}
 use Rattle.dash_stage.specs.Stages.{AreThreads, AreLoopers}
 use Rattle.dash_stage.specs.Timeliness.{IsTimelyUpTo, AreTimelyUpTo, AreRested, WaitForNothing}
 use Rattle.dash_stage.proofs.Badges.{alike_length, queue_count}
-use Rattle.dash_stage.proofs.StageWhole.{looper_posters}
+use Rattle.dash_stage.proofs.LooperShares.{looper_posters}
 
 -- posters that have seen nothing have seen the same
 unseen_same : (ps cs : List Sender) → length ps ≡ length cs → AreUnseen ps → AreUnseen cs → seen_by ps ≡ seen_by cs
@@ -54,7 +54,7 @@ module _ (s : Script) (st : Stage) (k : ℕ) (is_hall : IsHall s st.hall) where
       threads = λ n d lt. unseen_same (slice_index_or st.threads.items n d).kit.posters.items st.controller.kit.posters.items
           (as_long (slice_index_or st.threads.items n d).number k st.hall.queues.items (slice_index_or st.threads.items n d).kit.posters.items st.controller.kit.posters.items (threads.1 n d lt).0.posters controller) (of_threads n d lt) unseen;
       loopers = λ n d lt. unseen_same (posters_of (slice_index_or st.loopers.items n d)) st.controller.kit.posters.items
-          (as_long _ k st.hall.queues.items (posters_of (slice_index_or st.loopers.items n d)) st.controller.kit.posters.items (looper_posters s st.hall (slice_index_or st.loopers.items n d) is_hall (loopers.1 n d lt).0) controller) (of_loopers n d lt) unseen;
+          (as_long _ k st.hall.queues.items (posters_of (slice_index_or st.loopers.items n d)) st.controller.kit.posters.items (looper_posters s st.hall is_hall (slice_index_or st.loopers.items n d) (loopers.1 n d lt).0) controller) (of_loopers n d lt) unseen;
       controller = refl;
     };
     timely = λ q d lt sound. subst (IsTimelyUpTo s [] q) (sym (unseen q d lt)) (nothing_timely s q);
