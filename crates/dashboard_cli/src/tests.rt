@@ -113,6 +113,31 @@ fn words_name_a_command(rt: HostRuntime) -> Result<(), Fail> {
     Ok(())
 }
 
+/// Words that name no command are refused. Nothing is read, so a source that fails is no fault, and nothing is written.
+fn is_usage(
+    rt: &(impl Abort + Threads + Wait + Sync),
+    alloc: Global,
+    line: &str,
+) -> Result<(), AllocError> {
+    let mut source = source(Vec::new(alloc), 1, vec![in alloc; 0]?);
+    let (outcome, written) = run(rt, alloc, line, &mut source, Vec::new(alloc))?;
+    assert!(rt; outcome.status == Status::Usage, "at {line:?}");
+    assert!(rt; outcome.report.is_none());
+    assert!(rt; written.is_empty());
+    Ok(())
+}
+
+#[test]
+fn other_words_are_refused(rt: HostRuntime) -> Result<(), Fail> {
+    let alloc = rt.alloc();
+    for &(line, command) in &NAMED {
+        if command.is_none() {
+            is_usage(&rt, alloc, line)?;
+        }
+    }
+    Ok(())
+}
+
 /// Heads and bodies of scripts, with the first and the last lines of their reports.
 const EXAMPLES: [(&str, &str, &str, &str); 18] = [
     // A post without delay is dispatched before an earlier one that is delayed.
@@ -260,6 +285,132 @@ fn scripts_run_to_their_reports(rt: HostRuntime) -> Result<(), Fail> {
         let wanted = joined(alloc, front, rest)?;
         runs_to(&rt, alloc, input, wanted.as_slice())?;
     }
+    Ok(())
+}
+
+/// Scripts and their reports: an asynchronous handler, reactions, idle handlers, descriptors and frames.
+const OF_LOOPERS: [(&str, &str); 9] = [
+    // An asynchronous handler's plain post passes a barrier.
+    (
+        "dashboard 1\nloopers 1\nthreads 1\nhandler 0 0 async\nvsync 16666667\nat 10\n0 barrier 0 0\n0 post 0 1 0\nend 10\n",
+        "report 1\nlooper 0\n10 dispatch 0 0 1\nfates accepted 1 dispatched 1 removed 0 dropped 0 stranded 0 queued 0\nend\n",
+    ),
+    // A rule posts to another looper, twice and no more.
+    (
+        "dashboard 1\nloopers 2\nthreads 2\nhandler 0 0\nhandler 1 1\nvsync 16666667\non 0 1 times 2 post 1 2 3\nat 10\n0 post 0 1 0\n0 post 0 1 0\n0 post 0 1 0\nend 20\n",
+        "report 1\nlooper 0\n10 dispatch 0 0 1\n10 dispatch 1 0 1\n10 dispatch 2 0 1\nfates accepted 3 dispatched 3 removed 0 dropped 0 stranded 0 queued 0\nlooper 1\n13 dispatch 0 1 2\n13 dispatch 1 1 2\nfates accepted 2 dispatched 2 removed 0 dropped 0 stranded 0 queued 0\nend\n",
+    ),
+    // An idle handler runs where the head is due later, and goes when it answers false.
+    (
+        "dashboard 1\nloopers 1\nthreads 1\nhandler 0 0\nvsync 16666667\nat 0\n0 idle 0 3 once\n0 post 0 1 5\nend 5\n",
+        "report 1\nlooper 0\n5 dispatch 0 0 1\nfates accepted 1 dispatched 1 removed 0 dropped 0 stranded 0 queued 0\nidle 3\nend\n",
+    ),
+    // A barrier at the head that is due leaves no idle time.
+    (
+        "dashboard 1\nloopers 1\nthreads 1\nhandler 0 0\nvsync 16666667\nat 10\n0 idle 0 3 once\n0 barrier 0 0\nend 10\n",
+        "report 1\nlooper 0\nfates accepted 0 dispatched 0 removed 0 dropped 0 stranded 0 queued 0\nend\n",
+    ),
+    // A kept idle handler runs again after each dispatch.
+    (
+        "dashboard 1\nloopers 1\nthreads 1\nhandler 0 0\nvsync 16666667\nat 0\n0 idle 0 3 keep\n0 idle 0 4 once\n0 post 0 1 5\nat 10\n0 post 0 2 0\nend 10\n",
+        "report 1\nlooper 0\n5 dispatch 0 0 1\n10 dispatch 1 0 2\nfates accepted 2 dispatched 2 removed 0 dropped 0 stranded 0 queued 0\nidle 3\nidle 4\nidle 3\nidle 3\nend\n",
+    ),
+    // An event is masked, and a listener that answers 0 ends the watch.
+    (
+        "dashboard 1\nloopers 1\nthreads 1\nhandler 0 0\nvsync 16666667\nat 10\n0 watch 0 5 1 0\n0 event 0 5 3\n0 event 0 5 1\nend 10\n",
+        "report 1\nlooper 0\nfates accepted 0 dispatched 0 removed 0 dropped 0 stranded 0 queued 0\nevent 5 1\nend\n",
+    ),
+    // A delayed frame callback asks for its frame when it comes due.
+    (
+        "dashboard 1\nloopers 1\nthreads 1\nhandler 0 0\nvsync 16666667\nat 10\n0 frame 0 3 8 20\nend 60\n",
+        "report 1\nlooper 0\n30 dispatch 0 64 2\n34 dispatch 1 64 0\nfates accepted 2 dispatched 2 removed 0 dropped 0 stranded 0 queued 0\nframe 33333334\nrun 3 8\nend\n",
+    ),
+    // A gauge is animated by frames and painted behind its barriers.
+    (
+        "dashboard 1\nloopers 1\nthreads 1\nhandler 0 0\ngauge 0 0 3\nvsync 16666667\nat 0\n0 set 0 7\nend 70\n",
+        "report 1\nlooper 0\n0 dispatch 0 0 1\n17 dispatch 1 64 0\n34 dispatch 2 64 0\n51 dispatch 3 64 0\n67 dispatch 4 64 0\nfates accepted 5 dispatched 5 removed 0 dropped 0 stranded 0 queued 0\npaint 0 3\npaint 0 6\npaint 0 7\nframe 16666667\nrun 1 1000000\nrun 2 1000016\nframe 33333334\nrun 1 1000000\nrun 2 1000016\nframe 50000001\nrun 1 1000000\nrun 2 1000016\nframe 66666668\nend\n",
+    ),
+    // A removed frame callback leaves its frame, which is empty.
+    (
+        "dashboard 1\nloopers 1\nthreads 1\nhandler 0 0\nvsync 16666667\nat 10\n0 frame 0 0 8 0\n0 unframe 0 0 8\nend 20\n",
+        "report 1\nlooper 0\n17 dispatch 0 64 0\nfates accepted 1 dispatched 1 removed 0 dropped 0 stranded 0 queued 0\nframe 16666667\nend\n",
+    ),
+];
+
+#[test]
+fn loopers_do_as_their_reports_tell(rt: HostRuntime) -> Result<(), Fail> {
+    let alloc = rt.alloc();
+    for &(script, report) in &OF_LOOPERS {
+        let input = joined(alloc, script, "")?;
+        runs_to(&rt, alloc, input, report.as_bytes())?;
+    }
+    Ok(())
+}
+
+/// A post of one thread that races the quit of another.
+const RACE: &str = "at 10\n0 quit 1\n1 post 1 5 0\nend 10\n";
+
+/// The post came behind the quit and was refused, or before it and was dropped.
+const OUTCOMES: [&str; 2] = [
+    "refused 1 5 quit 1\nfates accepted 0 dispatched 0 removed 0 dropped 0 stranded 0 queued 0\nend\n",
+    "fates accepted 1 dispatched 0 removed 0 dropped 1 stranded 0 queued 0\nend\n",
+];
+
+#[test]
+fn a_race_has_one_of_two_reports(rt: HostRuntime) -> Result<(), Fail> {
+    let alloc = rt.alloc();
+    let first = joined(alloc, SECOND, OUTCOMES[0])?;
+    let second = joined(alloc, SECOND, OUTCOMES[1])?;
+    for _ in 0..20 {
+        let script = joined(alloc, THREE, RACE)?;
+        let mut source = source(script, 64, Vec::new(alloc));
+        let (outcome, written) = run(&rt, alloc, "run", &mut source, Vec::new(alloc))?;
+        assert!(rt; outcome.status == Status::Ok);
+        assert!(rt;
+            written.as_slice() == first.as_slice() || written.as_slice() == second.as_slice()
+        );
+    }
+    Ok(())
+}
+
+/// Three loopers, four threads and six gauges over two seconds.
+const BUSY: &str =
+    "dashboard 1\nloopers 3\nthreads 4\nhandler 0 0\nhandler 1 1\nhandler 2 2\ngauge 0 0 100\ngauge 1 0 100\ngauge 2 1 100\ngauge 3 1 100\ngauge 4 2 100\ngauge 5 2 100\nvsync 16666667\non 1 2 times 10 post 0 3 5\non 0 3 times 10 post 2 4 5\nat 0\n0 set 0 500\n1 set 2 1000\n2 post 1 2 10\n3 post 2 9 1500\nat 500\n0 post-async 0 6 0\n3 remove 2 9\nat 1000\n1 set 4 300\n2 frame 0 0 77 0\nat 1900\n0 quit-safely 2\n1 post 1 2 50\nend 2000\n";
+
+/// What its report says in whichever order its threads run: each looper's counts, each gauge's last value, and a frame
+/// callback of a thread.
+const BUSY_LINES: [&str; 7] = [
+    "fates accepted 11 dispatched 11 removed 0 dropped 0 stranded 0 queued 0",
+    "fates accepted 14 dispatched 14 removed 0 dropped 0 stranded 0 queued 0",
+    "fates accepted 7 dispatched 6 removed 1 dropped 0 stranded 0 queued 0",
+    "paint 0 500",
+    "paint 2 1000",
+    "paint 4 300",
+    "run 0 77",
+];
+
+/// Whether the text has this line.
+fn has_line(text: &[u8], wanted: &[u8]) -> bool {
+    text.split(|byte| *byte == b'\n').any(|line| line == wanted)
+}
+
+/// How many of its lines begin so.
+fn lines_with(text: &[u8], front: &[u8]) -> usize {
+    text.split(|byte| *byte == b'\n')
+        .filter(|line| line.starts_with(front))
+        .count()
+}
+
+#[test]
+fn a_busy_run_comes_to_its_counts(rt: HostRuntime) -> Result<(), Fail> {
+    let alloc = rt.alloc();
+    let mut source = source(BUSY.as_bytes().to_vec(alloc)?, 255, Vec::new(alloc));
+    let (outcome, written) = run(&rt, alloc, "run", &mut source, Vec::new(alloc))?;
+    assert!(rt; outcome.status == Status::Ok);
+    for &line in &BUSY_LINES {
+        assert!(rt; has_line(written.as_slice(), line.as_bytes()), "{line}");
+    }
+    assert!(rt; lines_with(written.as_slice(), b"refused 2 4 quit ") == 1);
     Ok(())
 }
 
@@ -450,6 +601,7 @@ fn writes(
     assert!(rt; outcome.report.is_some());
     assert!(rt; report.starts_with(written.as_slice()));
     assert!(rt; (written.len() == report.len()) != failed);
+    assert!(rt; !failed || written.len() as u64 == call.saturating_mul(16));
     Ok(failed)
 }
 
