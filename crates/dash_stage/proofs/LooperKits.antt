@@ -20,7 +20,8 @@ use Rattle.looper_run.specs.declared.looper.Round.{Round}
 use Rattle.looper_run.specs.Holding.{Sender, Looping, Workplace, workplace}
 use Rattle.looper_run.specs.Tests.{IsSameLooper}
 use Rattle.looper_run.specs.Round.{RoundBy, is_ended}
-use Rattle.looper_run.specs.Acts.{taken_by, dispatches, call_dispatch}
+use Rattle.looper_run.specs.Acts.{taken_by}
+use Rattle.loop_model.specs.Dispatches.{dispatches, call_dispatch}
 use Rattle.loop_model.specs.declared.entry.Entry.{Entry}
 use Rattle.loop_model.specs.declared.journal.Journal.{Journal}
 use Rattle.run_model.specs.Asks.{entries_by}

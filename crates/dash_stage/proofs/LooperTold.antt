@@ -6,7 +6,8 @@ use Rattle.std.proofs.lemmas.List.Elements.{filter_map-append}
 use Rattle.loop_model.specs.declared.entry.Entry.{Entry}
 use Rattle.loop_model.specs.declared.journal.Journal.{Journal}
 use Rattle.loop_model.specs.Answers.{Setting}
-use Rattle.looper_run.specs.Acts.{entry_dispatch, taken_by, act_dispatch, dispatches, call_dispatch}
+use Rattle.looper_run.specs.Acts.{entry_dispatch, taken_by}
+use Rattle.loop_model.specs.Dispatches.{act_dispatch, dispatches, call_dispatch}
 use Rattle.looper_run.specs.Holding.{Holding}
 use Rattle.looper_run.specs.declared.looper.Round.{Round}
 use Rattle.looper_run.specs.declared.looper.Round.TheVariants.{Drained, Ended, NoMemory}

@@ -9,7 +9,8 @@ use Rattle.shared_queue.specs.Known.{Shared}
 use Rattle.looper_run.specs.Holding.{Workplace, workplace}
 use Rattle.looper_run.specs.Round.{RoundBy, is_ended}
 use Rattle.looper_run.specs.Looks.{IsRound}
-use Rattle.looper_run.specs.Acts.{taken_by, dispatches}
+use Rattle.looper_run.specs.Acts.{taken_by}
+use Rattle.loop_model.specs.Dispatches.{dispatches}
 use Rattle.looper_run.specs.Holding.{Sender}
 use Rattle.loop_model.specs.declared.journal.Journal.{Journal}
 use Rattle.dash_stage.specs.declared.kit.Kit.{Kit}

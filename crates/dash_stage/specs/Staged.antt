@@ -7,7 +7,7 @@ use Rattle.dash_script.specs.declared.script.Script.{Script}
 use Rattle.run_model.specs.declared.report.Report.{Report}
 use Rattle.run_model.specs.Moments.{in_lockstep}
 use Rattle.run_model.specs.Run.{IsReportOf, AreRecordsOf, ArePlannedOf, AreControlsOf, AreFramesOf, AreTimelyOf, all_entries, EachLooper}
-use Rattle.looper_run.specs.Acts.{act_dispatch, call_dispatch}
+use Rattle.loop_model.specs.Dispatches.{act_dispatch, call_dispatch}
 use Rattle.run_model.specs.Asks.{entries_by}
 use Rattle.run_model.specs.Senders.{looper_sender}
 use Rattle.run_model.specs.Histories.{history_of}

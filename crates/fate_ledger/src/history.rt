@@ -8,7 +8,8 @@ use crate::ledger::Ledger;
 use loop_model::{Entry, Fate, NoMemory};
 use std::alloc::Global;
 
-/// What became of each accepted post of a history: what the first entry that ended it says, or that it is still queued.
+/// What became of each accepted post of a history: what the first entry that ended it says, or that it is still queued. It is
+/// refused only for want of memory. A rule of this project's profile.
 pub fn fates(alloc: Global, entries: &[Entry]) -> Result<Fates, NoMemory>
     ensures list { IfOk result (λ f. f.list ≡ fates entries.now) }
     ensures dispatched { IfOk result (λ f. f.dispatched ≡ count_by is_dispatched (fates entries.now)) }

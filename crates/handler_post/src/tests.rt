@@ -5,7 +5,7 @@ ghost use Rattle.handler_post.specs.Ways.{IsReady};
 use crate::{Erased, Handler, Sent, Way};
 use loop_model::NoMemory;
 use message_pool::{Pool, PoolClaim, PoolPass};
-use queue_state::Nexted;
+use queue_state::{Nexted, Quitting};
 use shared_queue::{Poster, SharedQueue};
 use std::alloc::Global;
 use std::sync::Wait;
@@ -102,6 +102,14 @@ fn a_removed_message_is_no_more(rt: HostRuntime) -> Result<(), Fail> {
     Ok(())
 }
 
+// How the post of this number is answered where no looper waits.
+fn accepted(number: u64) -> Sent {
+    Sent::Accepted {
+        number,
+        wake: false,
+    }
+}
+
 #[test]
 fn each_form_is_accepted(rt: HostRuntime) -> Result<(), Fail> {
     let mut opened = set_up(rt.alloc())?;
@@ -111,14 +119,35 @@ fn each_form_is_accepted(rt: HostRuntime) -> Result<(), Fail> {
         pool: &opened.pool,
         pass: &mut opened.pass,
     };
-    HANDLER.send_async_at(&rt, rt.alloc(), &mut way, 1, 2, 3);
-    HANDLER.send_delayed(&rt, rt.alloc(), &mut way, 1, 2, None, 3, 4);
-    HANDLER.send_front(&rt, rt.alloc(), &mut way, 1, 2, None);
-    HANDLER.post_callback(&rt, rt.alloc(), &mut way, 5, 6);
-    HANDLER.post_callback_delayed(&rt, rt.alloc(), &mut way, 5, 6, 7);
+    let sent = HANDLER.send_async_at(&rt, rt.alloc(), &mut way, 1, 2, 3);
+    assert!(rt; sent == accepted(0));
+    let sent = HANDLER.send_delayed(&rt, rt.alloc(), &mut way, 1, 2, None, 3, 4);
+    assert!(rt; sent == accepted(1));
+    let sent = HANDLER.send_front(&rt, rt.alloc(), &mut way, 1, 2, None);
+    assert!(rt; sent == accepted(2));
+    let sent = HANDLER.post_callback(&rt, rt.alloc(), &mut way, 5, 6);
+    assert!(rt; sent == accepted(3));
+    let sent = HANDLER.post_callback_delayed(&rt, rt.alloc(), &mut way, 5, 6, 7);
+    assert!(rt; sent == accepted(4));
     let erased = HANDLER.remove_callbacks(&rt, &mut way, 5, None);
     assert!(rt; erased == Erased::Removed { count: 2 });
     let erased = HANDLER.remove_all(&rt, &mut way, None);
     assert!(rt; erased == Erased::Removed { count: 3 });
+    Ok(())
+}
+
+#[test]
+fn a_queue_that_quits_refuses(rt: HostRuntime) -> Result<(), Fail> {
+    let mut opened = set_up(rt.alloc())?;
+    let quit = opened.poster.quit(&rt, &opened.queue, false, 0);
+    assert!(rt; matches!(quit, Quitting::Done(_)));
+    let mut way = Way {
+        queue: &opened.queue,
+        poster: &mut opened.poster,
+        pool: &opened.pool,
+        pass: &mut opened.pass,
+    };
+    let sent = HANDLER.send_at(&rt, rt.alloc(), &mut way, 3, 0, None, 5);
+    assert!(rt; sent == Sent::Refused { place: 0 });
     Ok(())
 }

@@ -1,4 +1,5 @@
-// The plain data of a message queue: calls, replies and histories. What they mean stands in `specs/`.
+//! The plain data of a message queue: calls, replies and histories. What they mean stands in `specs/`. Moments are
+//! milliseconds of uptime.
 #![tactic(auto)]
 
 mod base;

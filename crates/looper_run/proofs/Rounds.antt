@@ -11,7 +11,7 @@ use Rattle.shared_queue.specs.Known.{Shared, IsOf}
 use Rattle.looper_run.specs.declared.looper.Round.{Round}
 use Rattle.looper_run.specs.declared.looper.Round.TheVariants as round
 use Rattle.looper_run.specs.Holding.{Holding, Looping, IsAt}
-use Rattle.looper_run.specs.Acts.{act_dispatch, dispatches}
+use Rattle.loop_model.specs.Dispatches.{act_dispatch, dispatches}
 use Rattle.looper_run.specs.Tests.{IsSameLooper}
 use Rattle.looper_run.specs.Looks.{HasDispatched, HasIdled, HasWaited, HasEnded, LooksUntil, DrainBy, IsBegun, IsRound}
 use Rattle.looper_run.specs.Round.{Works, LastLook, RoundBy}

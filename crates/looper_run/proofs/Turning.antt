@@ -17,7 +17,8 @@ use Rattle.shared_queue.specs.Constants.{Constants, made_in, IsStateOf}
 use Rattle.shared_queue.specs.Known.{IsTurn}
 use Rattle.shared_queue.proofs.Prefixes.{one_of, made_in-append, one_of-yes}
 use Rattle.looper_run.specs.Holding.{Sender, State, Holding}
-use Rattle.looper_run.specs.Acts.{act_dispatch, dispatches, call_dispatch, entry_dispatch, taken_by, IsNoLookOf, IsQuiet, moment_on, IsLookAt, AreLooksAt}
+use Rattle.looper_run.specs.Acts.{entry_dispatch, taken_by, IsNoLookOf, IsQuiet, moment_on, IsLookAt, AreLooksAt}
+use Rattle.loop_model.specs.Dispatches.{act_dispatch, dispatches, call_dispatch}
 use Rattle.looper_run.specs.Tests.{Test, IsSameLooper, IsLent}
 use Rattle.looper_run.specs.Round.{Works}
 use Rattle.looper_run.proofs.Working.{first_all, told_none, takes_none, no_looks_at, looks_append, entry_of_own, same_then, behind}

@@ -14,7 +14,8 @@ use Rattle.loop_model.specs.declared.entry.Entry.{Entry}
 use Rattle.loop_model.specs.Answers.{Setting}
 use Rattle.loop_model.specs.Entries.{is_next}
 use Rattle.looper_run.specs.Holding.{Holding}
-use Rattle.looper_run.specs.Acts.{act_dispatch, IsOfDispatcher, dispatches, call_dispatch, entry_dispatch, taken_by, IsNoLookOf, moment_on, IsLookAt, AreLooksAt}
+use Rattle.looper_run.specs.Acts.{IsOfDispatcher, entry_dispatch, taken_by, IsNoLookOf, moment_on, IsLookAt, AreLooksAt}
+use Rattle.loop_model.specs.Dispatches.{act_dispatch, dispatches, call_dispatch}
 use Rattle.looper_run.specs.Tests.{IsSameLooper, IsLent}
 use Rattle.looper_run.specs.Round.{Works}
 

@@ -7,30 +7,14 @@ use Rattle.loop_model.specs.declared.post.Post.{Post as PostData}
 use Rattle.loop_model.specs.declared.call.Call.{Call}
 use Rattle.loop_model.specs.declared.call.Call.TheVariants.{Post, Next}
 use Rattle.loop_model.specs.declared.reply.Reply.{Reply}
-use Rattle.loop_model.specs.declared.reply.Reply.TheVariants.{Dispatched}
 use Rattle.loop_model.specs.declared.entry.Entry.{Entry}
 use Rattle.loop_sources.specs.declared.idle.IdleTurn.{IdleTurn}
 use Rattle.loop_model.specs.Base.{empty_base}
 use Rattle.loop_model.specs.Answers.{Setting, clock}
 use Rattle.loop_model.specs.Entries.{is_next, is_accepted}
+use Rattle.loop_model.specs.Dispatches.{call_dispatch}
 
--- the number and the moment of the message that an act dispatches
-abbrev pub act_dispatch : Act → Option (ℕ × ℕ)
-act_dispatch (Dispatch n now route) = Some (n, now)
-act_dispatch (Idle i k) = None
-act_dispatch (Event f e m) = None
-act_dispatch (Vsync s) = None
-act_dispatch (Paint g v) = None
-
--- the messages that acts dispatch, in order
-abbrev pub dispatches : List Act → List (ℕ × ℕ)
-dispatches acts = filter_map act_dispatch acts
-
--- the number and the moment of the message that a call takes
-abbrev pub call_dispatch : Call → Reply → Option (ℕ × ℕ)
-call_dispatch (Next now) (Dispatched n) = Some (n, now)
-call_dispatch _ _ = None
-
+-- the number and the moment of the message that an entry of the sender takes
 abbrev pub entry_dispatch : ℕ → Entry → Option (ℕ × ℕ)
 entry_dispatch sender e = if e.sender == sender then call_dispatch e.call e.reply else None
 

@@ -13,7 +13,8 @@ use Rattle.looper_run.specs.declared.looper.Round.TheVariants as round
 use Rattle.looper_run.specs.declared.step.Step.{Step}
 use Rattle.looper_run.specs.declared.step.Step.TheVariants as step
 use Rattle.looper_run.specs.Holding.{Sender, Holding}
-use Rattle.looper_run.specs.Acts.{dispatches, taken_by, AreLooksAt}
+use Rattle.looper_run.specs.Acts.{taken_by, AreLooksAt}
+use Rattle.loop_model.specs.Dispatches.{dispatches}
 use Rattle.looper_run.specs.Tests.{IsSameLooper}
 
 -- a part of a round that names this moment and dispatches so many messages: its Dispatch acts are, one for one and in order, the messages that the looper took, with the same numbers and moments

@@ -8,7 +8,7 @@ use crate::claim::Claim;
 use loop_model::{Item, Post};
 use std::marker::Model;
 
-/// A message is cleared, a post whose slot is that of its claim, or a barrier with its time and token.
+/// A message (`android.os.Message`) is cleared, a post whose slot is that of its claim, or a barrier with its time and token.
 ///
 /// Contracts see it as the item that it is in a queue, and its claim. A cleared message shows no target and every
 /// number 0.

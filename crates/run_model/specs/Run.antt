@@ -1,21 +1,16 @@
 -- When a report is a run of a script.
-use Rattle.std.specs.Prelude.{◌≡◌, ◌<◌, ◌≤◌, ℕ, ◌==◌, Bool, true, false, ◌&&◌, ◌||◌, nat_lt, List, [], ◌∷◌, ◌++◌, map, Option, Some, None, count_by}
+use Rattle.std.specs.Prelude.{◌≡◌, ◌<◌, ◌≤◌, ℕ, ◌==◌, Bool, true, false, ◌&&◌, List, [], ◌∷◌, ◌++◌, map, count_by}
 use Rattle.std.specs.List.{AllByRecursion, filter_map}
-use Rattle.loop_model.specs.declared.call.Call.{Call}
-use Rattle.loop_model.specs.declared.call.Call.TheVariants.{Next}
-use Rattle.loop_model.specs.declared.reply.Reply.{Reply}
-use Rattle.loop_model.specs.declared.reply.Reply.TheVariants.{Dispatched}
 use Rattle.loop_model.specs.declared.entry.Entry.{Entry}
 use Rattle.loop_model.specs.Base.{empty_base}
 use Rattle.loop_model.specs.Answers.{Setting}
 use Rattle.loop_model.specs.Legal.{IsLegal, AreNumbered}
+use Rattle.loop_model.specs.Dispatches.{act_dispatch, call_dispatch}
 use Rattle.frame_phases.specs.declared.entry.FrameRecord.{FrameRecord}
 use Rattle.frame_phases.specs.Frames.{lawful}
 use Rattle.dash_script.specs.declared.script.Command.{Command}
 use Rattle.dash_script.specs.declared.script.Command.TheVariants.{Frame, Unframe}
 use Rattle.dash_script.specs.declared.script.Script.{Script}
-use Rattle.loop_model.specs.declared.journal.Act.{Act}
-use Rattle.loop_model.specs.declared.journal.Act.TheVariants.{Dispatch}
 use Rattle.loop_model.specs.declared.journal.Journal.{Journal}
 use Rattle.loop_model.specs.declared.record.QueueRecord.{QueueRecord}
 use Rattle.run_model.specs.declared.report.Report.{Report}
@@ -71,16 +66,9 @@ IsControlled s r = is_controlled r.main r.lockstep (controller s) s.end (history
 abbrev pub AreControlsOf : Script → Report → Type 0
 AreControlsOf s r = AllByRecursion (IsControlled s) r.queues
 
--- all entries pass; as long as the loopers' own calls are not told, those other than their looks for a message do not
+-- all entries pass
 abbrev pub all_entries : Entry → Bool
 all_entries e = true
-
-abbrev pub is_next : Call → Bool
-is_next (Next now) = true
-is_next _ = false
-
-abbrev pub is_told : Script → Entry → Bool
-is_told s e = is_next e.call || nat_lt e.sender s.threads || e.sender == controller s
 
 -- the line posts, or removes, this frame callback at the looper
 abbrev pub is_frame_line : ℕ → ℕ → ℕ → Timed → Bool
@@ -122,22 +110,13 @@ AreFramesOf s r = AllByRecursion (IsFrameRun s) r.frames
 abbrev pub caused_on : ℕ → Looper → ℕ → ℕ → List Sent
 caused_on queue final looper disposed_at = sent_on queue (final.sent ++ closing looper disposed_at)
 
--- the number and the moment of the message that an act dispatches, and of the one that an entry takes
-abbrev pub act_dispatch : Act → Option (ℕ × ℕ)
-act_dispatch (Dispatch n now route) = Some (n, now)
-act_dispatch _ = None
-
-abbrev pub entry_dispatch : Call → Reply → Option (ℕ × ℕ)
-entry_dispatch (Next now) (Dispatched n) = Some (n, now)
-entry_dispatch _ _ = None
-
 -- a looper's calls on each queue, and its frame callbacks, are those that its acts cause, and its Dispatch acts are, one
 -- for one and in order, its entries answered Dispatched. In lockstep each call is on time
 pub record IsLooperRun (m : Mode) (s : Script) (queues : List QueueRecord) (q : QueueRecord) (j : Journal) (f : FrameRecord) : Type 0 where
   pub final : Looper
   pub acts : Lead s q.looper (history_of q) f.entries (first_looper s) j.acts final
   pub settled : final.painted ≡ []
-  pub dispatches : filter_map act_dispatch j.acts ≡ filter_map (λ e. entry_dispatch e.call e.reply) (entries_by (looper_sender s q.looper) (history_of q))
+  pub dispatches : filter_map act_dispatch j.acts ≡ filter_map (λ e. call_dispatch e.call e.reply) (entries_by (looper_sender s q.looper) (history_of q))
   pub disposed_at : ℕ
   pub calls : AllByRecursion (λ (r : QueueRecord). AreFor IsSent [] (caused_on r.looper final q.looper disposed_at) (entries_by (looper_sender s q.looper) (history_of r))) queues
   pub posted : (phase id : ℕ) → count_by (is_frame_post phase id) final.posted ≤ count_by (posts_frame phase id) f.entries

@@ -29,7 +29,8 @@ pub struct Retired<K: Claim> {
 }
 
 impl<K: Claim> SharedQueue<K> {
-    /// A queue in which nothing has happened, and the posters of the senders 0 to `senders` - 1, in order. There is at least one.
+    /// A queue in which nothing has happened, and the posters of the senders 0 to `senders` - 1, in order. There is at least
+    /// one. NoMemory where it found none.
     pub fn make(
         alloc: Global,
         home: K::Home,
