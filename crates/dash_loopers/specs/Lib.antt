@@ -1,0 +1,2 @@
+pub mod Loopers
+pub mod Players
