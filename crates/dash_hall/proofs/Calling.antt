@@ -1,5 +1,5 @@
 -- Each call on a queue, as the sender's own entries go on.
-use Rattle.std.proofs.Common.{◌≡◌, ℕ, ◌+◌, ◌≤◌, Bool, List, [], ◌∷◌, ◌++◌, Option, Some, None, refl, sym, ap, ◌∙◌, subst, arith, length}
+use Rattle.std.proofs.Common.{◌≡◌, ℕ, ◌≤◌, Bool, List, [], ◌∷◌, Option, Some, None, refl, sym, ap, ◌∙◌, arith, length}
 use Rattle.std.specs.Prelude.{OnOk, OnErr, Result, Ok, Err}
 use Rattle.atomic_table.specs.Seated.{TableId}
 use Rattle.loop_model.specs.declared.post.Post.{Post as PostData}
@@ -7,31 +7,23 @@ use Rattle.loop_model.specs.declared.post.Filter.{Filter}
 use Rattle.loop_model.specs.declared.call.Call.{Call}
 use Rattle.loop_model.specs.declared.call.Call.TheVariants.{Post, Barrier, Unbarrier, Remove, Quit}
 use Rattle.loop_model.specs.declared.reply.Reply.TheVariants.{Accepted, Refused, Token, Unbarriered, NotPosted, Removed, QuitDone, AlreadyQuit, NotAllowed}
-use Rattle.loop_model.specs.declared.entry.Entry.{Entry}
 use Rattle.message_slot.specs.Letter.{post_of}
 use Rattle.message_pool.specs.Passes.{Claimed, Node, Tally}
 use Rattle.message_pool.specs.declared.pool.Obtained.{Obtained}
 use Rattle.message_pool.specs.declared.pool.Obtained.TheVariants.{Pooled, Fresh, NoMemory}
 use Rattle.message_pool.specs.Obtain.{Answers, Returned}
 use Rattle.queue_state.specs.declared.answers.BarrierPosted.TheVariants as barred
-use Rattle.queue_state.specs.declared.answers.BarrierPosted.{BarrierPosted}
 use Rattle.queue_state.specs.declared.answers.BarrierGone.TheVariants as gone
-use Rattle.queue_state.specs.declared.answers.BarrierGone.{BarrierGone}
-use Rattle.queue_state.specs.declared.answers.Taking.TheVariants as taking
-use Rattle.queue_state.specs.declared.answers.Posted.TheVariants as posted
 use Rattle.queue_state.specs.declared.answers.Quitting.TheVariants as quitting
-use Rattle.queue_state.specs.declared.answers.Quitting.{Quitting}
-use Rattle.queue_state.specs.Queue.{Queue, moment_at, entry_of}
-use Rattle.queue_state.specs.Calls.{Posts, PostsBarrier, Unbars, Takes, Quits}
-use Rattle.shared_queue.specs.Known.{IsTurn}
-use Rattle.shared_queue.specs.Calls.{PostedBy, BarrierPostedBy, BarrierGoneBy, RemovedBy, QuitBy}
+use Rattle.queue_state.specs.Queue.{moment_at}
+use Rattle.shared_queue.specs.Calls.{BarrierPostedBy, BarrierGoneBy, QuitBy}
 use Rattle.looper_run.specs.Holding.{Sender, State}
 use Rattle.run_model.specs.Asks.{plain}
 use Rattle.handler_post.specs.declared.way.Sent.{Sent}
 use Rattle.handler_post.specs.declared.way.Sent.TheVariants.{Accepted as Took, Refused as Turned, NoMemory as NoRoom}
 use Rattle.handler_post.specs.declared.way.Erased.{Erased}
 use Rattle.handler_post.specs.declared.way.Erased.TheVariants.{Removed as Gone, NoMemory as NoSpace}
-use Rattle.handler_post.specs.Supply.{letter_of, Obtains, ObtainsInVain, BringsBack}
+use Rattle.handler_post.specs.Supply.{letter_of, Obtains, ObtainsInVain}
 use Rattle.handler_post.specs.declared.way.Way.{Way}
 use Rattle.handler_post.specs.Ways.{IsReady, IsSameWay}
 use Rattle.handler_post.specs.Sends.{Sending, Erasing, Sends, Erases}

@@ -1,5 +1,5 @@
 -- A turn of a sender, as its own entries go on.
-use Rattle.std.proofs.Common.{◌≡◌, ℕ, ◌+◌, ◌≤◌, ◌<◌, ◌==◌, eqb, cond, Bool, true, false, List, [], ◌∷◌, ◌++◌, length, All, Option, refl, sym, ap, ◌∙◌, subst, arith, append_assoc, inl, inr, eq-eqb, ne_eqb}
+use Rattle.std.proofs.Common.{◌≡◌, ℕ, ◌≤◌, ◌==◌, cond, Bool, false, List, [], ◌∷◌, ◌++◌, All, refl, sym, ap, ◌∙◌, subst, arith, append_assoc, inl, inr, eq-eqb, ne_eqb}
 use Rattle.std.proofs.lemmas.List.{append-nil}
 use Rattle.std.proofs.lemmas.List.Elements.{filter-append, All-append}
 use Rattle.loop_model.specs.declared.call.Call.{Call}
@@ -7,12 +7,12 @@ use Rattle.loop_model.specs.declared.reply.Reply.{Reply}
 use Rattle.loop_model.specs.declared.entry.Entry.{Entry}
 use Rattle.loop_model.specs.Entries.{is_next}
 use Rattle.message_pool.specs.Passes.{Tally}
-use Rattle.queue_state.specs.Queue.{Queue, entry_of}
-use Rattle.shared_queue.specs.Known.{Known, IsTurn}
+use Rattle.queue_state.specs.Queue.{entry_of}
+use Rattle.shared_queue.specs.Known.{IsTurn}
 use Rattle.looper_run.specs.Holding.{Sender, State}
 use Rattle.looper_run.specs.Acts.{IsNoLookOf}
 use Rattle.looper_run.proofs.Working.{first_all}
-use Rattle.looper_run.proofs.Turning.{IsOther, Found, found, all_first}
+use Rattle.looper_run.proofs.Turning.{IsOther, found, all_first}
 use Rattle.run_model.specs.Asks.{plain, token_in, entries_by}
 use Rattle.handler_post.specs.Ways.{MadeNone}
 use Rattle.dash_hall.specs.Growth.{own, GoesOn, Makes}

@@ -1,13 +1,12 @@
 -- What the kits got, call after call.
-use Rattle.std.proofs.Common.{◌≡◌, ◌≢◌, ℕ, ◌+◌, ◌<◌, List, [], ◌∷◌, ◌++◌, map, length, set, get_or, cond, eqb, refl, sym, ap, ◌∙◌, subst, arith, append_assoc, append-nil}
-use Rattle.std.specs.Prelude.{All}
+use Rattle.std.proofs.Common.{◌≡◌, ◌≢◌, ℕ, ◌<◌, List, [], ◌++◌, map, length, set, get_or, cond, eqb, refl, sym, ap, ◌∙◌, subst, arith, append_assoc, append-nil}
 use Rattle.std.proofs.lemmas.Bool.{eq-eqb, ne_eqb}
 use Rattle.std.proofs.lemmas.List.{get_or-set_same, get_or-set_other, get_or_default, length-set}
 use mathlib.Core.Logic.{dite}
 use native.Mathlib.Decide.{ℕ_discrete}
 use Rattle.dash_hall.specs.declared.kit.Kit.{Kit}
 use Rattle.dash_hall.specs.Kits.{Badge, FrameBadge, badge_of, frame_badge_of}
-use Rattle.dash_hall.specs.Dealing.{Gets, EachGets, nothing, IsUnused}
+use Rattle.dash_hall.specs.Dealing.{Gets, EachGets, nothing}
 
 pub gets_same : (kit : Kit) → Gets [] [] kit kit
 gets_same kit = record {

@@ -1,5 +1,5 @@
 -- One poster, and one pass, more in the kits.
-use Rattle.std.proofs.Common.{◌≡◌, ◌≢◌, ℕ, zero, suc, ◌+◌, ◌<◌, ◌≤◌, List, [], ◌∷◌, ◌++◌, map, length, set, get_or, cond, eqb, ltb, refl, sym, ap, ◌∙◌, subst, arith, append_assoc, append-nil, length-append}
+use Rattle.std.proofs.Common.{◌≡◌, ℕ, ◌+◌, ◌<◌, List, [], ◌∷◌, ◌++◌, map, length, set, get_or, cond, ltb, refl, sym, ap, ◌∙◌, subst, arith, length-append}
 use Rattle.std.specs.Prelude.{All}
 use Rattle.std.specs.List.{range_with_len}
 use Rattle.std.proofs.lemmas.List.FromFn.{map-range_with_len_more}
@@ -16,7 +16,6 @@ use Rattle.looper_run.specs.Holding.{Sender}
 use Rattle.choreographer.specs.Known.{Shared as Frames, Known as Pass, IsOf as IsOfFrames}
 use Rattle.choreographer.specs.Ends.{AreNew as AreNewPasses, IsNew as IsNewPass}
 use Rattle.dash_hall.specs.declared.kit.Kit.{Kit}
-use Rattle.dash_hall.specs.Growth.{own}
 use Rattle.dash_hall.specs.Kits.{Badge, badge_of, badge_for, FrameBadge, frame_badge_of, frame_badge_for, frames_for}
 use Rattle.dash_hall.specs.Dealing.{Gets, EachGets, nothing, IsEmptyKit, IsUnused, IsUnusedPoster, IsUnusedPass, DealsPosters, DealsPasses, holder_of, given, given_of, AreUsedNowhere}
 use Rattle.dash_hall.proofs.HallGets.{each_start, each_more, each_same, each_one, only, only_none}

@@ -1,18 +1,15 @@
 -- A host's sends, and what its calls keep.
-use Rattle.std.proofs.Common.{◌≡◌, ℕ, ◌+◌, ◌==◌, Bool, true, false, cond, List, [], ◌∷◌, ◌++◌, map, Option, Some, None, refl, sym, ap, ◌∙◌, subst, arith, eq-eqb}
+use Rattle.std.proofs.Common.{◌≡◌, ℕ, Bool, true, [], ◌∷◌, ◌++◌, map, None, refl, sym, ap, ◌∙◌, arith, eq-eqb}
 use Rattle.std.specs.Prelude.{◌&&◌, if◌then◌else◌}
 use Rattle.std.proofs.lemmas.List.{append-nil, map-append}
 use Rattle.atomic_table.specs.Seated.{TableId}
 use Rattle.loop_model.specs.declared.post.Post.{Post as PostData}
-use Rattle.loop_model.specs.declared.call.Call.{Call}
 use Rattle.loop_model.specs.declared.call.Call.TheVariants.{Post}
-use Rattle.loop_model.specs.declared.reply.Reply.{Reply}
 use Rattle.loop_model.specs.declared.reply.Reply.TheVariants.{Accepted, Refused}
 use Rattle.loop_model.specs.declared.entry.Entry.{Entry}
 use Rattle.message_slot.specs.Letter.{post_of}
 use Rattle.message_pool.specs.Passes.{Tally}
 use Rattle.queue_state.specs.Queue.{entry_of}
-use Rattle.shared_queue.specs.Known.{IsTurn}
 use Rattle.looper_run.specs.Holding.{Sender, State}
 use Rattle.choreographer.specs.declared.host.Sending.{Sending as Told}
 use Rattle.choreographer.specs.declared.host.HostSent.{HostSent}
@@ -26,9 +23,9 @@ use Rattle.handler_post.specs.declared.way.Way.{Way}
 use Rattle.handler_post.specs.Forms.{message_by}
 use Rattle.handler_post.specs.Ways.{IsReady, IsSameWay}
 use Rattle.handler_post.specs.Sends.{Sending, Sends}
-use Rattle.dash_hall.specs.Growth.{own, GoesOn, Makes}
-use Rattle.dash_hall.specs.Hosts.{Origin, IsHost, is_sending, sent_as, told_by, sends_by}
-use Rattle.dash_hall.proofs.Growing.{Keeps, goes_on_then, turn_makes, makes_none, own_of_one}
+use Rattle.dash_hall.specs.Growth.{own, GoesOn}
+use Rattle.dash_hall.specs.Hosts.{Origin, IsHost, is_sending, told_by, sends_by}
+use Rattle.dash_hall.proofs.Growing.{goes_on_then, turn_makes, makes_none, own_of_one}
 use Rattle.dash_hall.proofs.Calling.{sends, same_home}
 
 -- a host whose poster and pass went on is one still

@@ -1,4 +1,4 @@
-use Rattle.std.proofs.Common.{◌≡◌, sym, ◌∙◌}
+use Rattle.std.proofs.Common.{sym, ◌∙◌}
 use Rattle.dash_hall.proofs.Growing.{Keeps}
 use Rattle.dash_hall.proofs.Calling.{posts_barrier, posts_no_barrier, answers_back}
 use Rattle.dash_hall.proofs.barriers.post_barrier.Goals as goal

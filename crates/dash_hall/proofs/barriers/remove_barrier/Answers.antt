@@ -1,4 +1,4 @@
-use Rattle.std.proofs.Common.{◌≡◌, refl, sym, ◌∙◌, arith}
+use Rattle.std.proofs.Common.{refl, sym, ◌∙◌, arith}
 use Rattle.dash_hall.proofs.Growing.{Keeps}
 use Rattle.dash_hall.proofs.Calling.{unbars, unbars_none, unbars_not, returned_back}
 use Rattle.dash_hall.proofs.barriers.remove_barrier.Goals as goal

@@ -1,4 +1,4 @@
-use Rattle.std.proofs.Common.{◌≡◌, ◌+◌, [], ◌∷◌, ◌++◌, length, ap, ◌∙◌, arith, length-append}
+use Rattle.std.proofs.Common.{◌≡◌, [], ◌∷◌, ◌++◌, length, ap, arith, length-append}
 use Rattle.dash_hall.specs.Kits.{frame_key, frame_constants}
 use Rattle.dash_hall.proofs.HallSteps.{keyed_more, choreographers_more, choreographers_all}
 use Rattle.dash_hall.proofs.hall.choreographers.Goals as goal

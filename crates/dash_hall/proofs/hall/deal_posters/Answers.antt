@@ -1,11 +1,11 @@
-use Rattle.std.proofs.Common.{◌≡◌, ◌+◌, ◌<◌, List, [], ◌∷◌, ◌++◌, length, refl, ap, sym, ◌∙◌, subst, append-nil, length-append, arith}
+use Rattle.std.proofs.Common.{◌≡◌, ◌<◌, [], ◌∷◌, ◌++◌, length, refl, ap, sym, ◌∙◌, subst, append-nil, length-append, arith}
 use Rattle.std.specs.Vec.Iter.{into_iter_items}
 use Rattle.std.proofs.lemmas.List.{length-set}
 use Rattle.shared_queue.proofs.Gathers.{nothing_left, regrouped}
 use Rattle.dash_hall.specs.declared.kit.Kit.{Kit}
 use Rattle.dash_hall.specs.Kits.{badge_of}
 use Rattle.dash_hall.specs.Dealing.{Gets, IsUnusedPoster, DealsPosters}
-use Rattle.dash_hall.proofs.HallSteps.{within_parts, posters_start, posters_more, posters_all}
+use Rattle.dash_hall.proofs.HallSteps.{within_parts, posters_more, posters_all}
 use Rattle.dash_hall.proofs.hall.deal_posters.Goals as goal
 
 pub loop-poster-preserved : goal.loop-poster-preserved

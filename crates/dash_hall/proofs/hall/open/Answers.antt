@@ -1,4 +1,3 @@
-use Rattle.std.proofs.Common.{◌≡◌}
 use Rattle.dash_hall.proofs.HallSteps.{used_nowhere}
 use Rattle.dash_hall.proofs.hall.open.Goals as goal
 

@@ -1,4 +1,4 @@
-use Rattle.std.proofs.Common.{◌≡◌, map, length}
+use Rattle.std.proofs.Common.{◌≡◌, map}
 use Rattle.std.specs.List.{range_with_len}
 use Rattle.dash_hall.specs.Kits.{badge_for, queue_key, queue_constants}
 use Rattle.dash_hall.specs.Dealing.{EachGets, nothing}

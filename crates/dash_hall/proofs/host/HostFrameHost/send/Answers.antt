@@ -1,4 +1,3 @@
-use Rattle.std.proofs.Common.{◌≡◌, refl, sym, ap, ◌∙◌}
 use Rattle.handler_post.specs.declared.way.Sent.TheVariants.{Accepted, Refused, NoMemory}
 use Rattle.dash_hall.proofs.Sending.{sends_on}
 use Rattle.dash_hall.proofs.host.HostFrameHost.send.Goals as goal
