@@ -1,5 +1,5 @@
 -- What the calls of a looper's code leave of what they were lent.
-use Rattle.std.proofs.Common.{◌≡◌, ℕ, ◌+◌, ◌≤◌, List, [], ◌∷◌, ◌++◌, All, Option, Some, refl, sym, ap, ◌∙◌, subst, arith}
+use Rattle.std.proofs.Common.{◌≡◌, ℕ, ◌≤◌, List, [], ◌∷◌, ◌++◌, Some, refl, sym, ap, ◌∙◌, subst, arith}
 use Rattle.std.proofs.lemmas.List.{append-nil}
 use Rattle.std.proofs.lemmas.List.Elements.{All-append, All-push}
 use Rattle.atomic_table.specs.Seated.{TableId}
@@ -8,13 +8,13 @@ use Rattle.std.specs.List.{slice_get}
 use Rattle.loop_model.specs.declared.journal.Act.{Act}
 use Rattle.loop_model.specs.declared.journal.Journal.{Journal}
 use Rattle.message_pool.specs.Passes.{Tally}
-use Rattle.shared_queue.specs.Known.{Shared, IsOf}
+use Rattle.shared_queue.specs.Known.{Shared}
 use Rattle.looper_run.specs.declared.dispatcher.Did.{Did}
 use Rattle.looper_run.specs.declared.dispatcher.Did.TheVariants.{Yes, No, NoMemory}
 use Rattle.looper_run.specs.declared.own.Own.{Own}
 use Rattle.looper_run.specs.Acts.{IsOfDispatcher, GrowsBy}
 use Rattle.looper_run.specs.Holding.{Sender, Holding, IsSameOwn}
-use Rattle.looper_run.specs.Tests.{IsSameLooper, IsLent, Unless, Intercepts, IsUntouched}
+use Rattle.looper_run.specs.Tests.{IsLent, Unless, Intercepts}
 use Rattle.looper_run.proofs.Working.{behind}
 use Rattle.dash_hall.specs.declared.hall.Hall.{Hall}
 use Rattle.dash_hall.specs.Growth.{GoesOn}

@@ -1,5 +1,5 @@
 -- Lists that lack one element of another, and elements at one place of two lists.
-use Rattle.std.proofs.Common.{◌≡◌, ℕ, suc, ◌+◌, ◌<◌, ◌≤◌, ◌⊎◌, inl, inr, List, ◌∷◌, ◌++◌, map, length, take, drop, get_or, set, Option, Some, sym, ap, ap₂, ◌∙◌, subst, arith}
+use Rattle.std.proofs.Common.{◌≡◌, ℕ, suc, ◌+◌, ◌<◌, ◌≤◌, inl, inr, List, ◌∷◌, ◌++◌, map, length, take, drop, get_or, set, Some, sym, ap, ap₂, ◌∙◌, subst, arith}
 use Rattle.std.specs.List.{insert, remove, slice_get}
 use Rattle.std.specs.Option.{option_map}
 use Rattle.std.proofs.lemmas.List.{map-append, take-map, drop-map, take_at, drop_at, length-take-le, take-append-drop, map-set, set-get_or}

@@ -1,6 +1,6 @@
 -- A looper's place in its hall, and its parts.
-use Rattle.std.proofs.Common.{◌≡◌, ℕ, ◌+◌, ◌<◌, List, map, length, get_or, set, Option, Some, refl, sym, ap, ◌∙◌, subst, arith}
-use Rattle.std.specs.List.{range_with_len, remove, slice_get}
+use Rattle.std.proofs.Common.{◌≡◌, ℕ, ◌+◌, ◌<◌, List, map, length, get_or, set, Some, refl, sym, ap, ◌∙◌, subst, arith}
+use Rattle.std.specs.List.{range_with_len, slice_get}
 use Rattle.std.specs.Option.{option_map}
 use Rattle.std.proofs.lemmas.List.{length-map}
 use Rattle.std.proofs.lemmas.List.FromFn.{length-range_with_len, get_or-range_with_len}
@@ -14,8 +14,8 @@ use Rattle.looper_run.proofs.Steps.{workplace_same}
 use Rattle.choreographer.specs.Known.{Shared as Frames, Known as Pass, IsOf as IsFrameOf}
 use Rattle.dash_hall.specs.declared.hall.Hall.{Hall}
 use Rattle.dash_loopers.specs.declared.player.Parts.{Parts}
-use Rattle.dash_hall.specs.Kits.{Badge, FrameBadge, badge_of, badge_for, frame_badge_of, frame_badge_for, queue_key, queue_constants, frame_key, frame_constants, IsHall}
-use Rattle.dash_loopers.specs.Loopers.{ArePartsOf, IsPlaceOf, IsLooperOf}
+use Rattle.dash_hall.specs.Kits.{Badge, FrameBadge, badge_of, badge_for, frame_badge_of, frame_badge_for, queue_key, queue_constants, frame_key, frame_constants}
+use Rattle.dash_loopers.specs.Loopers.{ArePartsOf, IsLooperOf}
 use Rattle.dash_loopers.specs.Players.{ServesAt, AreSameParts, PlaceWithout}
 use Rattle.dash_loopers.proofs.LooperLists.{at_same, at_removed, within_removed, map_set_same}
 

@@ -23,7 +23,6 @@ use Rattle.dash_loopers.specs.declared.looper.StageLooper.{StageLooper}
 use Rattle.dash_hall.specs.Kits.{IsHall, badge_of, badge_for, frame_badge_of, frame_badge_for}
 use mathlib.Core.List.{IsPrefix}
 use Rattle.dash_loopers.specs.declared.view_root.ViewRoot.{ViewRoot}
-use Rattle.dash_hall.specs.Growth.{own}
 use Rattle.std.specs.Option.{option_map}
 use Rattle.loop_model.specs.Items.{when_of}
 use Rattle.loop_model.specs.Pick.{first_eligible}

@@ -1,11 +1,10 @@
 -- A thread that runs a line of frame callbacks.
-use Rattle.std.proofs.Common.{◌≡◌, ◌≢◌, ℕ, ◌+◌, ◌-◌, ◌^◌, ◌<◌, ◌≤◌, ◌==◌, eqb, min, Bool, true, false, cond, List, [], ◌∷◌, ◌++◌, length, set, get_or, Option, Some, None, refl, sym, ap, ◌∙◌, subst, arith, inl, inr, eq-eqb}
+use Rattle.std.proofs.Common.{◌≡◌, ◌≢◌, ℕ, ◌+◌, ◌<◌, ◌≤◌, ◌==◌, min, Bool, true, false, cond, List, [], ◌∷◌, ◌++◌, length, set, get_or, None, refl, sym, ap, ◌∙◌, subst, arith, inl, eq-eqb}
 use Rattle.std.specs.Prelude.{◌&&◌, count_by, MatchBool, if◌then◌else◌}
 use Rattle.std.specs.Option.{option_map}
 use Rattle.std.proofs.lemmas.Bool.{and_parts, eqb-true, ltb-true}
 use Rattle.std.proofs.lemmas.List.{get_or_read, get_or-set_same, get_or-set_other, length-set}
 use Rattle.std.proofs.lemmas.List.Sums.{sum_by_push}
-use Rattle.loop_model.specs.declared.call.Call.{Call}
 use Rattle.loop_model.specs.declared.call.Call.TheVariants as call
 use Rattle.dash_script.specs.declared.script.Command.{Command}
 use Rattle.dash_script.specs.declared.script.Command.TheVariants.{Frame, Unframe}
@@ -15,7 +14,7 @@ use Rattle.dash_script.specs.Reading.{HasText}
 use Rattle.looper_run.specs.Holding.{Sender}
 use Rattle.choreographer.specs.Known.{Known as Pass}
 use Rattle.run_model.specs.Asks.{call_of, tokens_in}
-use Rattle.run_model.specs.Planned.{Timed, planned, labels_on, lines_of, later, frame_message, on}
+use Rattle.run_model.specs.Planned.{Timed, labels_on, lines_of, later, frame_message, on}
 use Rattle.run_model.specs.Run.{is_frame_line, is_unframe_line}
 use Rattle.run_model.specs.FrameRuns.{posts_frame, removes_frame}
 use Rattle.dash_threads.specs.declared.labels.Labelled.{Labelled}
@@ -23,11 +22,11 @@ use Rattle.dash_hall.specs.declared.handlers.Request.TheVariants as request
 use Rattle.dash_hall.specs.declared.calls.QueueCall.TheVariants as on_queue
 use Rattle.dash_threads.specs.declared.planned.PlannedCall.{PlannedCall}
 use Rattle.dash_hall.specs.Growth.{own, Makes}
-use Rattle.dash_hall.specs.Requests.{call_made, tokens_of}
+use Rattle.dash_hall.specs.Requests.{call_made}
 use Rattle.dash_hall.specs.Hosts.{PostsFrame, RemovesFrame}
 use Rattle.dash_threads.specs.Threads.{HasCalled, HasPosted, HasRemoved, KeepsBarriers, Progress, CallsAt}
 use Rattle.dash_threads.proofs.ThreadText.{line_passes}
-use Rattle.dash_threads.proofs.ThreadPlans.{call_at, asked_if}
+use Rattle.dash_threads.proofs.ThreadPlans.{asked_if}
 use Rattle.dash_threads.proofs.ThreadSteps.{calls_at_set, step_calls}
 use Rattle.dash_threads.proofs.ThreadRuns.{called_more, kept_same, labels_none, count_no}
 

@@ -1,11 +1,11 @@
 -- The frame callbacks that a thread posts and removes.
-use Rattle.std.proofs.Common.{◌≡◌, ℕ, zero, suc, ◌+◌, ◌-◌, ◌*◌, ◌/◌, ◌^◌, ◌<◌, ◌≤◌, ◌==◌, eqb, ltb, min, Bool, true, false, cond, List, [], ◌∷◌, ◌++◌, map, length, Option, Some, None, refl, sym, ap, ◌∙◌, subst, arith, ne_eqb}
+use Rattle.std.proofs.Common.{◌≡◌, ℕ, zero, suc, ◌+◌, ◌-◌, ◌*◌, ◌/◌, ◌^◌, ◌<◌, ◌≤◌, ◌==◌, min, Bool, true, false, cond, List, [], ◌∷◌, ◌++◌, map, Option, Some, None, refl, sym, ap, ◌∙◌, subst, arith, ne_eqb}
 use Rattle.std.specs.Prelude.{◌&&◌, nat_lt, is_none, MatchBool, Result, Ok, Err, OnOk, count_by, if◌then◌else◌}
 use mathlib.Core.Logic.{dite}
-use native.Mathlib.Decide.{dec_lt, ℕ_discrete}
+use native.Mathlib.Decide.{dec_lt}
 use Rattle.std.proofs.lemmas.Bool.{eqb-true, lt-ltb, ltb-true, and_parts}
 use Rattle.std.proofs.lemmas.List.Elements.{filter-append}
-use Rattle.std.proofs.lemmas.List.{append-nil, map-append}
+use Rattle.std.proofs.lemmas.List.{append-nil}
 use Rattle.std.proofs.lemmas.List.Sums.{sum_by-append, sum_by_push}
 use Rattle.std.proofs.Math.Nat.{mul-div_cancel}
 use Rattle.loop_model.specs.declared.post.Post.{Post as PostData}
@@ -20,19 +20,18 @@ use Rattle.frame_phases.specs.declared.entry.FrameEntry.{FrameEntry}
 use Rattle.frame_phases.specs.declared.entry.FrameEntry.TheVariants as frame
 use Rattle.frame_phases.specs.declared.entry.Scheduling.{Scheduling}
 use Rattle.frame_phases.specs.declared.entry.Scheduling.TheVariants as sched
-use Rattle.frame_phases.specs.State.{Frames, with_entry, scheduling, next_callback, posted, removed, past}
+use Rattle.frame_phases.specs.State.{Frames, with_entry, next_callback, posted, removed, past}
 use Rattle.frame_phases.specs.Frames.{pulse, removed_count}
 use Rattle.looper_run.specs.Holding.{Sender}
 use Rattle.choreographer.specs.declared.kept.Kept.{Kept}
 use Rattle.choreographer.specs.declared.host.Sending.{Sending}
 use Rattle.choreographer.specs.declared.host.HostSent.{HostSent}
 use Rattle.choreographer.specs.declared.host.HostSent.TheVariants as host
-use Rattle.choreographer.specs.declared.hosted.Placed.{Placed}
 use Rattle.choreographer.specs.declared.hosted.Placed.TheVariants as placed
 use Rattle.choreographer.specs.Known.{Known as Pass, IsTurn}
-use Rattle.choreographer.specs.Calls.{due_at, with_post, PlacedBy, PostedBy, RemovedBy}
+use Rattle.choreographer.specs.Calls.{due_at, with_post}
 use Rattle.run_model.specs.Asks.{plain, token_in, entries_by}
-use Rattle.run_model.specs.Planned.{later, frame_message}
+use Rattle.run_model.specs.Planned.{later}
 use Rattle.run_model.specs.FrameRuns.{posts_frame, removes_frame}
 use Rattle.dash_hall.specs.Growth.{own, GoesOn, Makes}
 use Rattle.dash_hall.specs.Hosts.{Origin, IsHost, nanos_of, is_sending, not_sent, sent_as, told_by, sends_by, PlacesBy, PostsFrame, RemovesFrame, CountsOn}

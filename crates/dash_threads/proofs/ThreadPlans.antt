@@ -1,5 +1,5 @@
 -- The call that is made for a command is the call that the command plans.
-use Rattle.std.proofs.Common.{◌≡◌, ℕ, ◌+◌, ◌-◌, ◌^◌, ◌==◌, eqb, min, Bool, true, false, cond, List, [], ◌∷◌, ◌++◌, Option, Some, None, refl, sym, ap, ◌∙◌, subst, arith}
+use Rattle.std.proofs.Common.{◌≡◌, ℕ, ◌==◌, Bool, true, false, List, Option, Some, None, refl, subst}
 use Rattle.std.specs.Prelude.{is_some, if◌then◌else◌}
 use Rattle.std.specs.Option.{option_map}
 use Rattle.loop_model.specs.declared.call.Call.{Call}
@@ -8,8 +8,8 @@ use Rattle.dash_script.specs.declared.script.Command.{Command}
 use Rattle.dash_script.specs.declared.script.Command.TheVariants.{Post, PostAsync, Front, Callback, Set, Remove, RemoveCallback, RemoveAll, Barrier, Unbarrier, Quit, QuitSafely, Idle, Watch, Event, Frame, Unframe}
 use Rattle.dash_script.specs.declared.script.Script.{Script}
 use Rattle.run_model.specs.Senders.{looper_of, gauge_handler}
-use Rattle.run_model.specs.Asks.{Ask, Makes, Unbars, call_of}
-use Rattle.run_model.specs.Planned.{planned, later, frame_message, IsNoEarlier}
+use Rattle.run_model.specs.Asks.{Makes, call_of}
+use Rattle.run_model.specs.Planned.{planned, IsNoEarlier}
 use Rattle.run_model.specs.Moments.{in_lockstep}
 use Rattle.dash_threads.specs.declared.labels.Labelled.{Labelled}
 use Rattle.dash_threads.specs.declared.planned.PlannedCall.{PlannedCall}

@@ -1,7 +1,7 @@
 -- A thread that runs one line more.
-use Rattle.std.proofs.Common.{◌≡◌, ◌≢◌, ℕ, zero, suc, ◌+◌, ◌<◌, ◌≤◌, ◌==◌, eqb, Bool, true, false, cond, List, [], ◌∷◌, ◌++◌, length, get_or, Option, Some, None, refl, sym, ap, ◌∙◌, subst, arith, inl, inr, eq-eqb}
+use Rattle.std.proofs.Common.{◌≡◌, ◌≢◌, ℕ, ◌+◌, ◌<◌, ◌==◌, Bool, true, false, cond, List, [], ◌∷◌, ◌++◌, length, get_or, Option, Some, None, refl, sym, ap, ◌∙◌, subst, arith, inl, inr, eq-eqb}
 use Rattle.std.specs.Prelude.{is_some, count_by, if◌then◌else◌}
-use Rattle.std.specs.List.{filter_map, cons_option, find}
+use Rattle.std.specs.List.{cons_option}
 use Rattle.std.specs.Option.{option_map}
 use Rattle.std.proofs.lemmas.Bool.{and_parts, eqb-true, ltb-true}
 use Rattle.std.proofs.lemmas.List.{append-nil}
@@ -25,7 +25,7 @@ use Rattle.dash_hall.specs.declared.calls.QueueCall.TheVariants as on_queue
 use Rattle.dash_threads.specs.declared.thread.PostingThread.{PostingThread}
 use Rattle.dash_hall.specs.Growth.{own, Makes}
 use Rattle.dash_hall.specs.Requests.{call_made, tokens_of, posts_barrier}
-use Rattle.dash_threads.specs.Planning.{call_planned, removal_of}
+use Rattle.dash_threads.specs.Planning.{removal_of}
 use Rattle.dash_threads.specs.Threads.{HasCalled, HasPosted, HasRemoved, labels_kept, tokens_kept, KeepsBarriers, IsUpTo, Takes, CallsAt, with_barrier, Called, CalledIf, MakesPlanned}
 use Rattle.dash_threads.proofs.ThreadText.{line_passes}
 use Rattle.dash_threads.proofs.ThreadPlans.{call_at, as_planned}

@@ -1,5 +1,5 @@
 -- A thread's own entries, one line further.
-use Rattle.std.proofs.Common.{◌≡◌, ◌≢◌, ℕ, ◌+◌, ◌<◌, ◌≤◌, ◌==◌, eqb, Bool, true, false, cond, List, [], ◌∷◌, ◌++◌, set, length, get_or, Option, Some, None, refl, sym, ap, ◌∙◌, subst, arith, inl, inr}
+use Rattle.std.proofs.Common.{◌≡◌, ℕ, ◌<◌, ◌≤◌, Bool, true, false, cond, List, [], ◌∷◌, ◌++◌, set, length, get_or, Some, None, refl, sym, ap, ◌∙◌, subst, arith, inl, inr}
 use Rattle.std.specs.Prelude.{is_some, IfOk, OnOk, Result, Ok, Err, ◌⊎◌}
 use Rattle.std.specs.Option.{option_map}
 use Rattle.std.proofs.lemmas.List.{get_or_read, get_or-set_same, get_or-set_other, length-set}
@@ -7,11 +7,11 @@ use Rattle.loop_model.specs.declared.call.Call.{Call}
 use Rattle.loop_model.specs.declared.entry.Entry.{Entry}
 use Rattle.dash_script.specs.declared.script.Script.{Script}
 use Rattle.looper_run.specs.Holding.{Sender}
-use Rattle.run_model.specs.Asks.{plain, call_of, token_in, tokens_in}
+use Rattle.run_model.specs.Asks.{plain, call_of, tokens_in}
 use Rattle.run_model.specs.Moments.{in_lockstep}
 use Rattle.run_model.specs.Planned.{Timed, planned, lines_on, MakeCalls}
 use Rattle.run_model.proofs.RunLaws.{MakeCalls-line, MakeCalls-skip}
-use Rattle.dash_hall.specs.Growth.{own, Makes}
+use Rattle.dash_hall.specs.Growth.{Makes}
 use Rattle.dash_threads.specs.Threads.{CallsAt}
 use Rattle.dash_threads.proofs.ThreadPlans.{at_each_uptime, is_some_mapped, no_earlier}
 

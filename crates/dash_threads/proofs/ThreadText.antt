@@ -1,17 +1,16 @@
 -- What the limits of a text say of a thread's commands.
-use Rattle.std.proofs.Common.{◌≡◌, ℕ, ◌+◌, ◌<◌, ◌≤◌, ◌==◌, eqb, Bool, true, false, cond, List, [], ◌∷◌, ◌++◌, map, length, refl, sym, ap, ◌∙◌, subst, arith}
-use Rattle.std.specs.Prelude.{◌&&◌, filter, if◌then◌else◌}
+use Rattle.std.proofs.Common.{◌≡◌, ℕ, ◌≤◌, ◌==◌, Bool, true, false, cond, List, [], ◌∷◌, ◌++◌, map, refl, sym, ap, ◌∙◌}
+use Rattle.std.specs.Prelude.{filter}
 use Rattle.std.specs.List.{list_all, flat_map, enumerate_from}
-use Rattle.std.proofs.lemmas.Bool.{and_parts, and_from, leb-true, ltb-true, eqb-true}
+use Rattle.std.proofs.lemmas.Bool.{and_parts, and_from, leb-true, eqb-true}
 use Rattle.std.proofs.lemmas.List.Folds.{list_all-append}
 use Rattle.dash_script.specs.declared.form.Kind.TheVariants as kind
-use Rattle.dash_script.specs.declared.script.Command.{Command}
 use Rattle.dash_script.specs.declared.script.Line.{Line}
 use Rattle.dash_script.specs.declared.script.Block.{Block}
 use Rattle.dash_script.specs.declared.script.Script.{Script}
 use Rattle.dash_script.specs.declared.statement.Statement.{Statement}
 use Rattle.dash_script.specs.Text.{say, command_line, line_of, handler_line, gauge_line, rule_line, block_lines, first_lines, lines_before_end, lines}
-use Rattle.dash_script.specs.Causes.{each_number, numbers_pass, is_within, is_declared}
+use Rattle.dash_script.specs.Causes.{each_number, numbers_pass, is_within}
 use Rattle.dash_script.specs.Reading.{HasText}
 use Rattle.run_model.specs.Planned.{Timed, lines_in, lines_of}
 

@@ -1,4 +1,4 @@
-use Rattle.std.proofs.Common.{sym, arith}
+use Rattle.std.proofs.Common.{arith}
 use Rattle.std.proofs.lemmas.Option.{slice_get_read}
 use Rattle.dash_loopers.proofs.LooperPlaces.{frames_count}
 use Rattle.dash_loopers.proofs.player.Place.choreographer.Goals as goal

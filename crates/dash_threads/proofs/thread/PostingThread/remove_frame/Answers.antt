@@ -1,4 +1,4 @@
-use Rattle.std.proofs.Common.{◌≡◌, ◌<◌, ◌∙◌, ℕ, sym, subst, length, arith}
+use Rattle.std.proofs.Common.{◌<◌, ℕ, subst, length, arith}
 use Rattle.dash_threads.proofs.ThreadFrames.{removes_frame_by}
 use Rattle.dash_threads.proofs.ThreadFrameRuns.{unframe_progress, unframe_within}
 use Rattle.dash_threads.proofs.ThreadPlaces.{its_pass, its_phases, passes_kept, frame_badge_on, as_long, choreographers_long}

@@ -1,7 +1,5 @@
-use Rattle.std.proofs.Common.{◌≡◌, ◌∙◌}
-use Rattle.std.specs.Prelude.{OnOk}
+use Rattle.std.proofs.Common.{◌∙◌}
 use Rattle.dash_hall.specs.Kits.{badge_of, badge_for}
-use Rattle.dash_threads.specs.Threads.{Takes, MakesPlanned}
 use Rattle.dash_threads.proofs.ThreadPlaces.{as_long, queues_long}
 use Rattle.dash_threads.proofs.ThreadSteps.{on_ok, ok_from}
 use Rattle.dash_threads.proofs.ThreadRuns.{made_takes, idle_takes, watch_takes, event_takes}
