@@ -1,7 +1,7 @@
 -- What the threads have run is carried from their kits at the start to the records at the end.
 use Rattle.std.proofs.Common.{◌≡◌, ◌<◌, ◌≤◌, ◌+◌, ◌==◌, ℕ, zero, suc, List, [], ◌∷◌, ◌++◌, map, length, refl, sym, ap, ◌∙◌, subst, arith, slice_index_or, cond, Bool, if◌then◌else◌}
 use Rattle.std.specs.Prelude.{count_by}
-use Rattle.std.specs.List.{remove, AllByRecursion, filter_map, flat_map}
+use Rattle.std.specs.List.{remove, AllByRecursion}
 use Rattle.std.proofs.lemmas.List.{get_or-map, length-append, length-map}
 use Rattle.std.proofs.lemmas.List.Sums.{sum_by-append}
 use mathlib.Core.List.{IsPrefix}
@@ -11,21 +11,17 @@ use Rattle.loop_model.proofs.WellFormedLaws.{All_recursive, All_indexed}
 use Rattle.frame_phases.specs.declared.entry.FrameRecord.{FrameRecord}
 use Rattle.dash_script.specs.declared.script.Script.{Script}
 use Rattle.dash_script.specs.Reading.{HasText}
-use Rattle.looper_run.specs.Holding.{Sender}
-use Rattle.choreographer.specs.Known.{Known as Pass}
 use Rattle.run_model.specs.Moments.{in_lockstep}
-use Rattle.run_model.specs.Senders.{numbers_from, phase_count}
-use Rattle.run_model.specs.Asks.{entries_by, tokens_in, AreFor}
-use Rattle.run_model.specs.Planned.{Timed, lines_of, labels_on, MakeCalls, IsPlanned}
+use Rattle.run_model.specs.Senders.{numbers_from}
+use Rattle.run_model.specs.Asks.{entries_by}
+use Rattle.run_model.specs.Planned.{lines_of, labels_on, MakeCalls}
 use Rattle.run_model.specs.FrameRuns.{posts_frame, removes_frame}
 use Rattle.run_model.specs.Run.{IsAsPlanned, IsFrameRun, is_frame_line, is_unframe_line}
 use Rattle.dash_hall.specs.declared.hall.Hall.{Hall}
 use Rattle.dash_hall.specs.declared.kit.Kit.{Kit}
-use Rattle.dash_threads.specs.declared.labels.Labelled.{Labelled}
 use Rattle.dash_threads.specs.declared.thread.PostingThread.{PostingThread}
-use Rattle.dash_hall.specs.Growth.{own}
 use Rattle.dash_hall.specs.Kits.{badge_of, badge_for, frame_badge_of, frame_badge_for, IsHall, IsKitOf, AreKitsOf, IsUnusedKit, AreUnusedKits}
-use Rattle.dash_threads.specs.Threads.{IsThread, IsUpTo, HasMadeNone, HasCalled, HasPosted, HasRemoved, labels_kept, tokens_kept}
+use Rattle.dash_threads.specs.Threads.{IsThread, IsUpTo, HasMadeNone, HasCalled}
 use Rattle.dash_stage.specs.Staged.{IsFrameRecord}
 use Rattle.dash_stage.specs.Records.{AreQueueRecords, AreFrameRecords, HaveAll, HaveSeen}
 use Rattle.dash_hall.specs.Dealing.{AreUsedNowhere}

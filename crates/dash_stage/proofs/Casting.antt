@@ -1,5 +1,5 @@
 -- A sender's kit, and the sender that it makes.
-use Rattle.std.proofs.Common.{◌≡◌, ◌<◌, ◌≤◌, ◌+◌, ◌-◌, ℕ, zero, suc, List, [], ◌∷◌, ◌++◌, map, length, true, false, refl, sym, ap, ◌∙◌, subst, arith, slice_index_or, if◌then◌else◌, nat_lt, Bool, slice_get}
+use Rattle.std.proofs.Common.{◌≡◌, ◌<◌, ◌+◌, ◌-◌, ℕ, zero, suc, List, [], ◌∷◌, ◌++◌, map, length, sym, ap, ◌∙◌, subst, arith, slice_index_or, if◌then◌else◌, nat_lt, Bool, slice_get}
 use Rattle.std.specs.List.{remove}
 use Rattle.std.proofs.lemmas.Bool.{lt-ltb, le-ltb}
 use Rattle.std.proofs.lemmas.List.{length-append, map-append}
@@ -12,11 +12,11 @@ use Rattle.dash_hall.specs.declared.kit.Kit.{Kit}
 use Rattle.dash_threads.specs.declared.thread.PostingThread.{PostingThread}
 use Rattle.dash_loopers.specs.declared.looper.StageLooper.{StageLooper}
 use Rattle.dash_stage.specs.declared.control.Controller.{Controller}
-use Rattle.dash_hall.specs.Kits.{FrameBadge, frame_badge_of, frame_badge_for, frames_for, looper_frames, ArePostersOf, IsHall, IsKitOf, AreKitsOf}
+use Rattle.dash_hall.specs.Kits.{frame_badge_of, frame_badge_for, frames_for, looper_frames, ArePostersOf, IsKitOf, AreKitsOf}
 use Rattle.dash_threads.specs.Threads.{IsThread}
 use Rattle.dash_loopers.specs.Loopers.{IsLooper}
 use Rattle.dash_stage.specs.Controllers.{IsController}
-use Rattle.dash_stage.specs.Stages.{AreKitsFrom, AreThreadsFrom, AreLoopersFrom, AreFirstKits, AreFirstThreads, AreFirstLoopers, AreThreads, AreLoopers, AreSenderKits}
+use Rattle.dash_stage.specs.Stages.{AreKitsFrom, AreThreadsFrom, AreLoopersFrom, AreFirstKits, AreFirstLoopers, AreLoopers, AreSenderKits}
 
 -- a thread's passes
 pub frames_of_thread : (s : Script) (cs : List Frames) (k : ℕ) → k < s.threads → frames_for s cs k ≡ map (frame_badge_for k) cs

@@ -1,6 +1,6 @@
 -- What a run of this stage keeps.
-use Rattle.std.specs.Prelude.{◌≡◌, ℕ, true}
-use Rattle.std.specs.List.{AllByRecursion, filter_map}
+use Rattle.std.specs.Prelude.{◌≡◌, true}
+use Rattle.std.specs.List.{filter_map}
 use Rattle.frame_phases.specs.declared.entry.FrameRecord.{FrameRecord}
 use Rattle.frame_phases.specs.Frames.{lawful}
 use Rattle.dash_script.specs.declared.script.Script.{Script}

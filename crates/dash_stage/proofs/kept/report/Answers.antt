@@ -1,4 +1,4 @@
-use Rattle.std.proofs.Common.{List, refl, sym, subst, ◌≡◌, true, ap, ◌∙◌, map}
+use Rattle.std.proofs.Common.{List, refl, sym, subst, ◌≡◌, true}
 use Rattle.std.specs.List.{AllByRecursion}
 use Rattle.loop_model.specs.declared.journal.Journal.{Journal}
 use Rattle.loop_model.specs.declared.record.QueueRecord.{QueueRecord}

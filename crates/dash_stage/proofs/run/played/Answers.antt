@@ -1,4 +1,3 @@
-use Rattle.std.proofs.Common.{◌≡◌}
 use Rattle.dash_stage.proofs.Limits.{playable}
 use Rattle.dash_stage.proofs.run.played.Goals as goal
 
