@@ -14,7 +14,7 @@ use Rattle.dash_script.specs.Reading.{HasText}
 use Rattle.looper_run.specs.Holding.{Sender}
 use Rattle.choreographer.specs.Known.{Known as Pass}
 use Rattle.run_model.specs.Moments.{in_lockstep}
-use Rattle.run_model.specs.Senders.{numbers_from, phase_count}
+use Rattle.std.specs.List.{range_with_len as numbers_from}
 use Rattle.run_model.specs.Asks.{entries_by, tokens_in}
 use Rattle.run_model.specs.Planned.{Timed, lines_of, labels_on, MakeCalls, IsPlanned}
 use Rattle.run_model.specs.Asks.{AreFor}

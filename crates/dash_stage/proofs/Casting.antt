@@ -6,7 +6,8 @@ use Rattle.std.proofs.lemmas.List.{length-append, map-append}
 use Rattle.loop_model.specs.declared.journal.Journal.{Journal}
 use Rattle.dash_script.specs.declared.script.Script.{Script}
 use Rattle.choreographer.specs.Known.{Shared as Frames}
-use Rattle.run_model.specs.Senders.{sender_count, controller, numbers_from}
+use Rattle.std.specs.List.{range_with_len as numbers_from}
+use Rattle.run_model.specs.Senders.{sender_count, controller}
 use Rattle.dash_stage.specs.declared.hall.Hall.{Hall}
 use Rattle.dash_stage.specs.declared.kit.Kit.{Kit}
 use Rattle.dash_stage.specs.declared.thread.PostingThread.{PostingThread}

@@ -22,7 +22,8 @@ use Rattle.shared_queue.specs.Constants.{Constants, made_in}
 use Rattle.shared_queue.specs.Ends.{AreInOrder, HasCalls}
 use Rattle.shared_queue.proofs.Prefixes.{made_in-append}
 use Rattle.looper_run.specs.Holding.{Sender}
-use Rattle.run_model.specs.Senders.{numbers_from, sender_count}
+use Rattle.std.specs.List.{range_with_len as numbers_from}
+use Rattle.run_model.specs.Senders.{sender_count}
 use Rattle.run_model.specs.Asks.{entries_by}
 use Rattle.run_model.specs.Moments.{in_lockstep}
 use Rattle.run_model.specs.Run.{IsHistory, all_entries, setting_of}

@@ -15,7 +15,8 @@ use Rattle.dash_script.specs.Reading.{HasText}
 use Rattle.looper_run.specs.Holding.{Sender}
 use Rattle.choreographer.specs.Known.{Known as Pass}
 use Rattle.run_model.specs.Asks.{call_of, tokens_in}
-use Rattle.run_model.specs.Planned.{Timed, planned, labels_on, lines_of, later, frame_message, on}
+use Rattle.loop_model.specs.Posts.{moment_after as later}
+use Rattle.run_model.specs.Planned.{Timed, planned, labels_on, lines_of, frame_message, on}
 use Rattle.run_model.specs.Run.{is_frame_line, is_unframe_line}
 use Rattle.run_model.specs.FrameRuns.{posts_frame, removes_frame}
 use Rattle.dash_stage.specs.declared.labels.Labelled.{Labelled}

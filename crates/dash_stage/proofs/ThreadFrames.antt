@@ -32,7 +32,8 @@ use Rattle.choreographer.specs.declared.hosted.Placed.TheVariants as placed
 use Rattle.choreographer.specs.Known.{Known as Pass, IsTurn}
 use Rattle.choreographer.specs.Calls.{due_at, with_post, PlacedBy, PostedBy, RemovedBy}
 use Rattle.run_model.specs.Asks.{plain, token_in, entries_by}
-use Rattle.run_model.specs.Planned.{later, frame_message}
+use Rattle.loop_model.specs.Posts.{moment_after as later}
+use Rattle.run_model.specs.Planned.{frame_message}
 use Rattle.run_model.specs.FrameRuns.{posts_frame, removes_frame}
 use Rattle.dash_stage.specs.Growth.{own, GoesOn, Makes}
 use Rattle.dash_stage.specs.Hosts.{Origin, IsHost, nanos_of, is_sending, not_sent, sent_as, told_by, sends_by, PlacesBy, PostsFrame, RemovesFrame, CountsOn}

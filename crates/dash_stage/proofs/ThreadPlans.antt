@@ -9,7 +9,7 @@ use Rattle.dash_script.specs.declared.script.Command.TheVariants.{Post, PostAsyn
 use Rattle.dash_script.specs.declared.script.Script.{Script}
 use Rattle.run_model.specs.Senders.{looper_of, gauge_handler}
 use Rattle.run_model.specs.Asks.{Ask, Makes, Unbars, call_of}
-use Rattle.run_model.specs.Planned.{planned, later, frame_message}
+use Rattle.run_model.specs.Planned.{planned, frame_message}
 use Rattle.run_model.specs.Moments.{in_lockstep}
 use Rattle.run_model.specs.Planned.{IsNoEarlier}
 use Rattle.dash_stage.specs.declared.labels.Labelled.{Labelled}

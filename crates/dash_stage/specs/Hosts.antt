@@ -16,7 +16,7 @@ use Rattle.choreographer.specs.declared.hosted.Placed.{Placed}
 use Rattle.choreographer.specs.declared.hosted.Placed.TheVariants as placed
 use Rattle.choreographer.specs.Known.{Known as Pass}
 use Rattle.choreographer.specs.Calls.{PostedBy as CallbackPostedBy}
-use Rattle.run_model.specs.Planned.{later}
+use Rattle.loop_model.specs.Posts.{moment_after as later}
 use Rattle.run_model.specs.FrameRuns.{posts_frame, removes_frame}
 use Rattle.dash_stage.specs.Growth.{own, GoesOn, Makes}
 

@@ -6,7 +6,7 @@ use Rattle.dash_script.specs.declared.script.Command.{Command}
 use Rattle.dash_script.specs.declared.script.Command.TheVariants.{Post, PostAsync, Front, Callback, Set, Remove, RemoveCallback, RemoveAll, Barrier, Unbarrier, Quit, QuitSafely}
 use Rattle.dash_script.specs.declared.script.Script.{Script}
 use Rattle.run_model.specs.Senders.{handler_line, looper_of, gauge_handler}
-use Rattle.run_model.specs.Planned.{later}
+use Rattle.loop_model.specs.Posts.{moment_after as later}
 use Rattle.dash_stage.specs.declared.labels.Labelled.{Labelled}
 use Rattle.dash_stage.specs.declared.handlers.Request.{Request}
 use Rattle.dash_stage.specs.declared.handlers.Request.TheVariants as request

@@ -10,7 +10,7 @@ use Rattle.frame_phases.specs.declared.entry.FrameRecord.{FrameRecord}
 use Rattle.looper_run.specs.Holding.{Sender}
 use Rattle.choreographer.specs.Known.{Known as Pass}
 use Rattle.run_model.specs.Moments.{in_lockstep}
-use Rattle.run_model.specs.Senders.{numbers_from}
+use Rattle.std.specs.List.{range_with_len as numbers_from}
 use Rattle.run_model.specs.Asks.{entries_by}
 use Rattle.run_model.specs.Run.{IsHistory, all_entries}
 use Rattle.dash_stage.specs.declared.kit.Kit.{Kit}

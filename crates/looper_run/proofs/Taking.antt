@@ -12,6 +12,7 @@ use Rattle.loop_model.specs.declared.entry.Entry.{Entry}
 use Rattle.loop_model.specs.Items.{number_of, is_just}
 use Rattle.loop_model.specs.Live.{live_in_order}
 use Rattle.loop_model.specs.Entries.{ends_by}
+use Rattle.loop_model.specs.Posts.{post_at}
 use Rattle.loop_model.proofs.Sorting.{AllByRecursion-filter}
 use Rattle.message_slot.specs.Letter.{number_in, post_of}
 use Rattle.message_pool.specs.Passes.{Node}
@@ -20,7 +21,6 @@ use Rattle.queue_state.specs.Queue.{IsSound}
 use Rattle.queue_state.specs.Ended.{ended}
 use Rattle.shared_queue.specs.Constants.{Constants, IsStateOf}
 use Rattle.looper_run.specs.Holding.{State}
-use Rattle.looper_run.specs.Acts.{post_at}
 use Rattle.looper_run.proofs.Posts.{accepted, IsPostFrom, live_posts}
 
 kept_passes : {X : Type 0} (p : X → Bool) (x : X) (xs : List X) (b : Bool) → p x ≡ b → AllByRecursion (λ y. p y ≡ true) xs → AllByRecursion (λ y. p y ≡ true) (cond b (x ∷ xs) xs)

@@ -1,7 +1,7 @@
 use Rattle.std.proofs.Common.{◌≡◌, ◌+◌, List, length, map}
 use Rattle.loop_model.specs.declared.entry.Entry.{Entry}
 use Rattle.loop_model.specs.declared.journal.Journal.{Journal}
-use Rattle.run_model.specs.Senders.{numbers_from}
+use Rattle.std.specs.List.{range_with_len as numbers_from}
 use Rattle.dash_stage.specs.Runs.{HaveRunAll}
 use Rattle.dash_stage.specs.Sharing.{HaveSeenAll, OfLoopers, OfKits}
 use Rattle.dash_stage.specs.Loopers.{HaveTold}
