@@ -9,9 +9,10 @@ use native.Mathlib.Decide.{ℕ_discrete, dec_lt}
 use Rattle.atomic_table.specs.Seated.{TableId}
 use Rattle.loop_model.specs.declared.entry.Entry.{Entry}
 use Rattle.shared_queue.specs.Constants.{made_in}
-use Rattle.shared_queue.specs.Turn.{longer}
+use Rattle.loop_model.specs.Lists.{longer}
 use Rattle.shared_queue.specs.Known.{Shared, IsOf, IsSame}
-use Rattle.shared_queue.proofs.Prefixes.{prefix_self, prefix_trans, longer_first, longer_second, made_in-append}
+use Rattle.loop_model.proofs.Prefixes.{prefix_self, prefix_trans, longer_first, longer_second}
+use Rattle.shared_queue.proofs.Prefixes.{made_in-append}
 use Rattle.shared_queue.proofs.Gathers.{nothing_left}
 use Rattle.run_model.specs.Asks.{entries_by}
 use Rattle.looper_run.specs.Holding.{Sender}

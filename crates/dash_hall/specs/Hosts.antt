@@ -16,7 +16,7 @@ use Rattle.choreographer.specs.declared.hosted.Placed.{Placed}
 use Rattle.choreographer.specs.declared.hosted.Placed.TheVariants as placed
 use Rattle.choreographer.specs.Known.{Known as Pass}
 use Rattle.choreographer.specs.Calls.{PostedBy as CallbackPostedBy}
-use Rattle.run_model.specs.Planned.{later}
+use Rattle.loop_model.specs.Posts.{moment_after}
 use Rattle.run_model.specs.FrameRuns.{posts_frame, removes_frame}
 use Rattle.dash_hall.specs.Growth.{own, GoesOn, Makes}
 
@@ -95,5 +95,5 @@ pub record RemovesFrame (phase id : ℕ) (before after : Pass) : Type 0 where
 -- a frame callback was posted by this handler, at an uptime with a delay: with a delay the sender posted the message for its due time, and else it made no call
 pub record PostsFrame (handler u phase id delay : ℕ) (before after : Sender) (seen seen' : Pass) : Type 0 where
   pub calls : MatchBool (delay == 0) (own after ≡ own before)
-      (Makes before after (Post (record { handler = handler; what = 2; arg = phase; obj = None; callback = None; when = later (min u 18446744073709) delay; asynchronous = true; slot = None })) [])
+      (Makes before after (Post (record { handler = handler; what = 2; arg = phase; obj = None; callback = None; when = moment_after (min u 18446744073709) delay; asynchronous = true; slot = None })) [])
   pub counts : CountsOn phase id seen seen'

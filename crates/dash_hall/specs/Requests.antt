@@ -8,7 +8,8 @@ use Rattle.handler_post.specs.declared.way.Sent.{Sent}
 use Rattle.handler_post.specs.declared.way.Sent.TheVariants.{Accepted, Refused, NoMemory}
 use Rattle.handler_post.specs.declared.way.Erased.{Erased}
 use Rattle.handler_post.specs.declared.way.Erased.TheVariants.{Removed, NoMemory as NoRoom}
-use Rattle.handler_post.specs.Forms.{message_by, callback_by, filter_by, moment_after}
+use Rattle.loop_model.specs.Posts.{moment_after}
+use Rattle.handler_post.specs.Forms.{message_by, callback_by, filter_by}
 use Rattle.dash_hall.specs.declared.handlers.Request.{Request}
 use Rattle.dash_hall.specs.declared.handlers.Request.TheVariants as request
 use Rattle.dash_hall.specs.declared.calls.QueueCall.{QueueCall}

@@ -1,7 +1,7 @@
 //! The lines of a queue's history.
 ghost use Rattle.std.specs.Prelude.{◌≡◌, ◌++◌, ◌∷◌, [], Some, IfOk, OnOk, slice_get, string_bytes};
-ghost use Rattle.std.specs.List.{join_with_byte, flat_map, filter_map};
-ghost use Rattle.run_model.specs.Histories.{accepted_post};
+ghost use Rattle.std.specs.List.{join_with_byte, flat_map};
+ghost use Rattle.loop_model.specs.Posts.{accepted_post, accepted_posts};
 ghost use Rattle.run_model.specs.Text.{subject, dispatch_words, call_lines, history_lines, line_text};
 
 use loop_model::{Call, Entry, NoMemory, Post, Reply};
@@ -37,7 +37,7 @@ fn accepted_post(entry: &Entry) -> Option<Post>
 
 /// The accepted posts of a history, by number.
 fn accepted_posts(alloc: Global, entries: &[Entry]) -> Result<Vec<Post>, NoMemory>
-    ensures { IfOk result (λ posts. posts.items ≡ filter_map accepted_post entries.now) }
+    ensures { IfOk result (λ posts. posts.items ≡ accepted_posts entries.now) }
 {
     let posts = entries.iter().filter_map(accepted_post).collect(alloc)?;
     Ok(posts)

@@ -1,7 +1,7 @@
 -- What the threads have run is carried from their kits at the start to the records at the end.
 use Rattle.std.proofs.Common.{◌≡◌, ◌<◌, ◌≤◌, ◌+◌, ◌==◌, ℕ, zero, suc, List, [], ◌∷◌, ◌++◌, map, length, refl, sym, ap, ◌∙◌, subst, arith, slice_index_or, cond, Bool, if◌then◌else◌}
 use Rattle.std.specs.Prelude.{count_by}
-use Rattle.std.specs.List.{remove, AllByRecursion}
+use Rattle.std.specs.List.{remove, AllByRecursion, range_with_len}
 use Rattle.std.proofs.lemmas.List.{get_or-map, length-append, length-map}
 use Rattle.std.proofs.lemmas.List.Sums.{sum_by-append}
 use mathlib.Core.List.{IsPrefix}
@@ -12,7 +12,6 @@ use Rattle.frame_phases.specs.declared.entry.FrameRecord.{FrameRecord}
 use Rattle.dash_script.specs.declared.script.Script.{Script}
 use Rattle.dash_script.specs.Reading.{HasText}
 use Rattle.run_model.specs.Moments.{in_lockstep}
-use Rattle.run_model.specs.Senders.{numbers_from}
 use Rattle.run_model.specs.Asks.{entries_by}
 use Rattle.run_model.specs.Planned.{lines_of, labels_on, MakeCalls}
 use Rattle.run_model.specs.FrameRuns.{posts_frame, removes_frame}
@@ -112,16 +111,16 @@ any_of : {X : Type 0} (xs : List X) (k : ℕ) → k < length xs → X
 any_of [] k lt = absurd (omega (arith, lt))
 any_of (x ∷ xs) k lt = x
 
-length-numbers : (k n : ℕ) → length (numbers_from k n) ≡ n
+length-numbers : (k n : ℕ) → length (range_with_len k n) ≡ n
 length-numbers k zero = refl
 length-numbers k (suc n) = ap suc (length-numbers (k + 1) n)
 
-numbers_at : (k n i d : ℕ) → i < n → slice_index_or (numbers_from k n) i d ≡ k + i
+numbers_at : (k n i d : ℕ) → i < n → slice_index_or (range_with_len k n) i d ≡ k + i
 numbers_at k zero i d lt = absurd (omega (arith, lt))
 numbers_at k (suc n) zero d lt = let same : k ≡ k + 0 = omega arith in same
 numbers_at k (suc n) (suc i) d lt = numbers_at (k + 1) n i d (omega (arith, lt)) ∙ (let same : k + 1 + i ≡ k + suc i = omega arith in same)
 
-module _ {X : Type 0} (f : X → ℕ) (n : ℕ) (xs : List X) (are : map f xs ≡ numbers_from 0 n) where
+module _ {X : Type 0} (f : X → ℕ) (n : ℕ) (xs : List X) (are : map f xs ≡ range_with_len 0 n) where
   -- there is one for each number
   pub numbered_count : length xs ≡ n
   numbered_count = sym (length-map xs f) ∙ ap length are ∙ length-numbers 0 n

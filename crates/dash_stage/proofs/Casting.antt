@@ -1,12 +1,12 @@
 -- A sender's kit, and the sender that it makes.
 use Rattle.std.proofs.Common.{◌≡◌, ◌<◌, ◌+◌, ◌-◌, ℕ, zero, suc, List, [], ◌∷◌, ◌++◌, map, length, sym, ap, ◌∙◌, subst, arith, slice_index_or, if◌then◌else◌, nat_lt, Bool, slice_get}
-use Rattle.std.specs.List.{remove}
+use Rattle.std.specs.List.{remove, range_with_len}
 use Rattle.std.proofs.lemmas.Bool.{lt-ltb, le-ltb}
 use Rattle.std.proofs.lemmas.List.{length-append, map-append}
 use Rattle.loop_model.specs.declared.journal.Journal.{Journal}
 use Rattle.dash_script.specs.declared.script.Script.{Script}
 use Rattle.choreographer.specs.Known.{Shared as Frames}
-use Rattle.run_model.specs.Senders.{sender_count, controller, numbers_from}
+use Rattle.run_model.specs.Senders.{sender_count, controller}
 use Rattle.dash_hall.specs.declared.hall.Hall.{Hall}
 use Rattle.dash_hall.specs.declared.kit.Kit.{Kit}
 use Rattle.dash_threads.specs.declared.thread.PostingThread.{PostingThread}
@@ -98,12 +98,12 @@ first_more P (y ∷ ys) x all at zero d lt = all 0 d (omega arith)
 first_more P (y ∷ ys) x all at (suc k) d lt = first_more (λ n z. P (suc n) z) ys x (λ n e below. all (suc n) e (omega (arith, below))) at k d (omega (arith, lt))
 
 -- one number more
-pub numbers_more : (k n : ℕ) → numbers_from k (n + 1) ≡ numbers_from k n ++ (k + n) ∷ []
+pub numbers_more : (k n : ℕ) → range_with_len k (n + 1) ≡ range_with_len k n ++ (k + n) ∷ []
 numbers_more k zero = ap (λ m. m ∷ []) (let same : k ≡ k + zero = omega arith in same)
 numbers_more k (suc n) =
     let one : suc n + 1 ≡ suc (n + 1) = omega arith in
     let there : k + 1 + n ≡ k + suc n = omega arith in
-    ap (numbers_from k) one ∙ ap (λ l. k ∷ l) (numbers_more (k + 1) n ∙ ap (λ m. numbers_from (k + 1) n ++ m ∷ []) there)
+    ap (range_with_len k) one ∙ ap (λ l. k ∷ l) (numbers_more (k + 1) n ∙ ap (λ m. range_with_len (k + 1) n ++ m ∷ []) there)
 
 module _ (s : Script) (hall : Hall) where
   pub kits_from : (kits : List Kit) → AreKitsOf s hall kits → AreKitsFrom s hall 0 kits
@@ -126,8 +126,8 @@ module _ (s : Script) (hall : Hall) where
   -- one looper more has given its journal and its kit back
   pub looper_back : (js js' : List Journal) (ls ls' : List StageLooper) (kits kits' : List Kit) (l : StageLooper) (j : Journal) (kit : Kit)
       → AreLoopersFrom s hall (length js) ls → 0 < length ls → l ≡ slice_index_or ls 0 l → ls' ≡ remove ls 0 → length kits ≡ s.threads + length js → AreFirstKits s hall kits
-      → map (λ (z : Journal). z.looper) js ≡ numbers_from 0 (length js) → j.looper ≡ l.number → IsKitOf s hall (s.threads + l.number) kit → js' ≡ js ++ j ∷ [] → kits' ≡ kits ++ kit ∷ []
-      → AreLoopersFrom s hall (length js') ls' × (length kits' ≡ s.threads + length js') × AreFirstKits s hall kits' × (map (λ (z : Journal). z.looper) js' ≡ numbers_from 0 (length js'))
+      → map (λ (z : Journal). z.looper) js ≡ range_with_len 0 (length js) → j.looper ≡ l.number → IsKitOf s hall (s.threads + l.number) kit → js' ≡ js ++ j ∷ [] → kits' ≡ kits ++ kit ∷ []
+      → AreLoopersFrom s hall (length js') ls' × (length kits' ≡ s.threads + length js') × AreFirstKits s hall kits' × (map (λ (z : Journal). z.looper) js' ≡ range_with_len 0 (length js'))
   looper_back js js' ls ls' kits kits' l j kit are some is_l rest count first numbers told is_kit grown grown' =
       let number : l.number ≡ length js = ap (λ (z : StageLooper). z.number) is_l ∙ (first_looper s hall (length js) ls l are some).1 in
       let more : length js' ≡ length js + 1 = ap length grown ∙ length-append js (j ∷ []) in
@@ -137,7 +137,7 @@ module _ (s : Script) (hall : Hall) where
         (omega (arith, more, more', count)),
         subst (AreFirstKits s hall) (sym grown') (first_more (IsKitOf s hall) kits kit first (subst (λ n. IsKitOf s hall n kit) here is_kit)),
         ap (map (λ (z : Journal). z.looper)) grown ∙ map-append (λ (z : Journal). z.looper) js (j ∷ []) ∙ ap (λ l. l ++ j.looper ∷ []) numbers
-            ∙ ap (λ n. numbers_from 0 (length js) ++ n ∷ []) (told ∙ number ∙ (let same : length js ≡ 0 + length js = omega arith in same)) ∙ sym (numbers_more 0 (length js)) ∙ ap (numbers_from 0) (sym more),
+            ∙ ap (λ n. range_with_len 0 (length js) ++ n ∷ []) (told ∙ number ∙ (let same : length js ≡ 0 + length js = omega arith in same)) ∙ sym (numbers_more 0 (length js)) ∙ ap (range_with_len 0) (sym more),
       )
 
   -- with the controller's kit all kits are there

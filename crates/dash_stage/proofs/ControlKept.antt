@@ -96,11 +96,3 @@ module _ (s : Script) (c : Controller) where
     done = λ q some lt. dite (dec_lt q n) (λ below. k.done q some below) (λ here. moves_may_quit q (k.rest q (omega (arith, here))));
     rest = λ q le. k.rest q (omega (arith, le));
   }
-
-  -- after the last queue all have been passed
-  pub quitting_all : IsQuitting s s.loopers c → length c.kit.posters.items ≡ s.loopers → IsClosing s c
-  quitting_all k count = record {
-    main = k.main;
-    reached = k.reached;
-    others = λ q some d lt. k.done q some (subst (λ (n : ℕ). q < n) count lt) d lt;
-  }

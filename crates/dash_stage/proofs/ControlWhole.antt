@@ -20,7 +20,7 @@ use Rattle.queue_state.specs.declared.answers.Quitting.TheVariants as quitting
 use Rattle.queue_state.specs.Queue.{entry_of, entered, moment_at}
 use Rattle.queue_state.specs.Calls.{Quits}
 use Rattle.shared_queue.specs.Known.{IsTurn}
-use Rattle.shared_queue.proofs.Prefixes.{prefix_self, prefix_trans}
+use Rattle.loop_model.proofs.Prefixes.{prefix_self, prefix_trans}
 use Rattle.looper_run.specs.Holding.{Sender, State}
 use Rattle.run_model.specs.Asks.{entries_by}
 use Rattle.run_model.specs.Control.{ends_halted}

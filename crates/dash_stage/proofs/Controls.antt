@@ -24,7 +24,7 @@ use Rattle.loop_model.specs.Pick.{pick}
 use Rattle.loop_model.specs.Answers.{Setting, clock, answer, is_over, has_disposed, has_halted, quit_place, accepted_count, post_reply, quit_reply, next_reply}
 use Rattle.loop_model.specs.Legal.{IsLegal, AreNumbered, IsTimely, IsNextOfSender, MayFollow, is_control}
 use Rattle.loop_model.specs.Listed.{quit_at}
-use Rattle.loop_model.proofs.AfterLaws.{clock-snoc, quit_place-snoc, has_disposed-snoc, has_halted-snoc}
+use Rattle.loop_model.proofs.AfterLaws.{clock-snoc, quit_place-snoc, has_disposed-snoc, has_halted-snoc, disposed_stays}
 use Rattle.loop_model.proofs.Growing.{entry_by_entry}
 use Rattle.loop_model.proofs.LegalLaws.{IsLegal-front, IsLegal-last}
 use Rattle.loop_model.proofs.NumberLaws.{AreNumbered-front, AreNumbered-last}
@@ -341,14 +341,6 @@ module _ (set : Setting) (m : ℕ) where
       ∙ counted_once (has_disposed (empty_base m) es) (is_disposed e.reply) (λ d. (or_parts _ _ (tells.disposes d).1).0)
       ∙ ap one_if (sym (has_disposed-snoc (empty_base m) es e)))
 
--- what was disposed of stays so
-has_disposed-append : (b : Base) (es fs : List Entry) → has_disposed b es ≡ true → has_disposed b (es ++ fs) ≡ true
-unfolding has_disposed
-has_disposed-append b es fs h = elim (or_cases b.disposed (list_any (λ e. is_disposed e.reply) es) h) [
-  | inl before ↦ or_left _ _ before
-  | inr there ↦ or_right _ _ (list_any-append (λ (e : Entry). is_disposed e.reply) es fs ∙ or_left _ _ there)
-]
-
 -- where the controller has only moved the time on, another sender's quit is the one that was done
 quit_by_others : (set : Setting) (m end n : ℕ) (es : List Entry) → IsLegal set (empty_base m) es → are_advances end (entries_by n es) ≡ true
     → is_some (quit_place (empty_base m) es) ≡ true → is_quit_by_others n es ≡ true
@@ -393,7 +385,7 @@ side_is_controlled set n end seen es side legal begins over calls =
     let early = IsLegal-front set base seen begins.0 (subst (IsLegal set base) (sym begins.1) legal) in
     let not_halted = side_is_not_halted set set.senders side seen early in
     let was : has_disposed base seen ≡ true = sym (or-false (has_disposed base seen)) ∙ ap (λ t. has_disposed base seen || t) (sym not_halted) ∙ over in
-    let disposed = subst (λ l. has_disposed base l ≡ true) begins.1 (has_disposed-append base seen begins.0 was) in
+    let disposed = subst (λ l. has_disposed base l ≡ true) begins.1 (disposed_stays base seen begins.0 was) in
     let once : disposed_count es ≡ 1 = disposed_once set set.senders es legal ∙ ap one_if disposed in
     let own : are_controls false true end (is_quit_by_others n es) (entries_by n es) ≡ true = elim (moves_or_closed end (entries_by n es) calls) [
       | inl moves ↦ subst (λ q. are_controls false true end q (entries_by n es) ≡ true) (sym (quit_by_others set set.senders end n es legal moves (disposed_was_quit set set.senders es legal disposed))) calls

@@ -22,7 +22,8 @@ use Rattle.shared_queue.specs.Constants.{Constants, made_in}
 use Rattle.shared_queue.specs.Ends.{AreInOrder, HasCalls}
 use Rattle.shared_queue.proofs.Prefixes.{made_in-append}
 use Rattle.looper_run.specs.Holding.{Sender}
-use Rattle.run_model.specs.Senders.{numbers_from, sender_count}
+use Rattle.std.specs.List.{range_with_len}
+use Rattle.run_model.specs.Senders.{sender_count}
 use Rattle.run_model.specs.Asks.{entries_by}
 use Rattle.run_model.specs.Moments.{in_lockstep}
 use Rattle.run_model.specs.Run.{IsHistory, all_entries, setting_of}
@@ -133,15 +134,15 @@ ends_posters q before posters after entries next gives calls = record {
       };
 }
 
-pub numbers_more : (k n : ℕ) → numbers_from k (n + 1) ≡ numbers_from k n ++ (k + n) ∷ []
+pub numbers_more : (k n : ℕ) → range_with_len k (n + 1) ≡ range_with_len k n ++ (k + n) ∷ []
 numbers_more k zero =
     let one : 0 + 1 ≡ suc 0 = omega arith in
     let same : k ≡ k + 0 = omega arith in
-    ap (numbers_from k) one ∙ ap (λ m. m ∷ []) same
+    ap (range_with_len k) one ∙ ap (λ m. m ∷ []) same
 numbers_more k (suc n) =
     let one : suc n + 1 ≡ suc (n + 1) = omega arith in
     let same : (k + 1) + n ≡ k + suc n = omega arith in
-    ap (numbers_from k) one ∙ ap (λ l. k ∷ l) (numbers_more (k + 1) n ∙ ap (λ m. numbers_from (k + 1) n ++ m ∷ []) same)
+    ap (range_with_len k) one ∙ ap (λ l. k ∷ l) (numbers_more (k + 1) n ∙ ap (λ m. range_with_len (k + 1) n ++ m ∷ []) same)
 
 -- the record that is kept of this looper's queue
 pub kept_history : (s : Script) (pool : TableId) (n : ℕ) (c : Constants TableId) (r : QueueRecord) → c ≡ queue_constants s pool n → IsKeptOf c r → IsHistory in_lockstep all_entries s r × (r.looper ≡ n)
@@ -161,7 +162,7 @@ kept_history s pool n c r is kept =
 
 -- what is known where some queues have ended
 pub record AreRetired (s : Script) (orig : List Kit) (records : List QueueRecord) (kits : List Kit) : Type 0 where
-  pub loopers : map (λ (q : QueueRecord). q.looper) records ≡ numbers_from 0 (length records)
+  pub loopers : map (λ (q : QueueRecord). q.looper) records ≡ range_with_len 0 (length records)
   pub histories : AllByRecursion (IsHistory in_lockstep all_entries s) records
   pub all : HaveAll orig records
   pub left : HaveLeft (length records) orig kits
@@ -223,7 +224,7 @@ next_queue s pool queues yielded rest q n orig kits parts is keys senders have l
 pub retires_more : (s : Script) (pool : TableId) (c : Constants TableId) (orig kits kits' : List Kit) (records records' : List QueueRecord) (r : QueueRecord)
     → c ≡ queue_constants s pool (length records) → IsKeptOf c r → EachEndsPoster r.entries kits kits' → records' ≡ records ++ r ∷ [] → AreRetired s orig records kits → AreRetired s orig records' kits'
 retires_more s pool c orig kits kits' records records' r is kept ends more before = subst (λ l. AreRetired s orig l kits') (sym more) (record {
-  loopers = map-append (λ (q : QueueRecord). q.looper) records (r ∷ []) ∙ ((λ i. before.loopers i ++ (history.1 ∙ zeroth) i ∷ []) ∙ (sym (numbers_more 0 (length records)) ∙ ap (numbers_from 0) (sym one)));
+  loopers = map-append (λ (q : QueueRecord). q.looper) records (r ∷ []) ∙ ((λ i. before.loopers i ++ (history.1 ∙ zeroth) i ∷ []) ∙ (sym (numbers_more 0 (length records)) ∙ ap (range_with_len 0) (sym one)));
   histories = all_push records before.histories;
   all = λ k q d p x lt below. dite (dec_lt q (length records))
       (λ early. subst (λ (y : QueueRecord). HasAllOf k (get_or (get_or orig k d).posters.items q p) y.entries) (sym (get_or-append records (r ∷ []) x q early)) (before.all k q d p x lt early))
@@ -267,7 +268,7 @@ retires_more s pool c orig kits kits' records records' r is kept ends more befor
 
 pub retired_all : (s : Script) (orig kits : List Kit) (records : List QueueRecord) → length records ≡ s.loopers → AreRetired s orig records kits → AreQueueRecords s records × HaveAll orig records × KeepFrames orig kits
 retired_all s orig kits records all h = (
-  record { loopers = h.loopers ∙ ap (numbers_from 0) all; histories = h.histories },
+  record { loopers = h.loopers ∙ ap (range_with_len 0) all; histories = h.histories },
   h.all,
   record { count = h.left.count; each = λ k d lt. record { frames = (h.left.each k d lt).frames; pass = (h.left.each k d lt).pass } },
 )

@@ -1,6 +1,6 @@
 -- The choreographers end, one after another, with all their passes.
 use Rattle.std.proofs.Common.{◌≡◌, ℕ, suc, ◌+◌, ◌-◌, ◌<◌, ◌≤◌, List, [], ◌∷◌, ◌++◌, map, length, set, get_or, drop, refl, sym, ap, ◌∙◌, subst, arith, append_assoc, length-append}
-use Rattle.std.specs.List.{AllByRecursion}
+use Rattle.std.specs.List.{AllByRecursion, range_with_len}
 use Rattle.std.proofs.Math.ListN.{get_or-append}
 use Rattle.std.proofs.Math.Seq.{get_or-append_seam, drop-append_seam}
 use Rattle.std.proofs.lemmas.List.{get_or-map, get_or-set_same, get_or-set_other, get_or_default, get_or-drop, length-set, length-map, drop-drop, drop-map}
@@ -14,7 +14,6 @@ use Rattle.frame_phases.specs.declared.entry.FrameRecord.{FrameRecord}
 use Rattle.dash_script.specs.declared.script.Script.{Script}
 use Rattle.choreographer.specs.Known.{Shared as Frames, Known as Pass, IsOf as IsOfFrames}
 use Rattle.choreographer.specs.Ends.{AreInOrder, BeginWithSeen}
-use Rattle.run_model.specs.Senders.{numbers_from}
 use Rattle.dash_hall.specs.declared.kit.Kit.{Kit}
 use Rattle.dash_hall.specs.Kits.{FrameBadge, frame_badge_of, frame_badge_for, AreChoreographersOf, frame_key, frame_constants}
 use Rattle.dash_hall.specs.Dealing.{GivesPass, holder_of, given, given_of}
@@ -143,7 +142,7 @@ taken_all s looper c number orig passes kits entries count all taken seen = (
 
 -- what is known where the choreographers of the first loopers have ended, and these have not
 pub record HaveEnded (s : Script) (looper : ℕ) (rest : List Frames) (orig : List Kit) (records : List FrameRecord) (kits : List Kit) : Type 0 where
-  pub loopers : map (λ (f : FrameRecord). f.looper) records ≡ numbers_from 0 looper
+  pub loopers : map (λ (f : FrameRecord). f.looper) records ≡ range_with_len 0 looper
   pub lawful : AllByRecursion (IsFrameRecord s) records
   pub seen : HaveSeen s.threads orig records
   pub count : length kits ≡ length orig
@@ -220,7 +219,7 @@ ends_more s looper c rest orig kits kits' records records' r long enough lawful 
 pub ended_all : (s : Script) (looper : ℕ) (rest : List Frames) (orig kits : List Kit) (records : List FrameRecord) → looper ≡ s.loopers → HaveEnded s looper rest orig records kits
     → AreFrameRecords s records × HaveSeen s.threads orig records × ((pool : TableId) → AreOfPool pool orig → AreOfPool pool kits)
 ended_all s looper rest orig kits records all h = (
-  record { loopers = h.loopers ∙ ap (numbers_from 0) all; lawful = h.lawful },
+  record { loopers = h.loopers ∙ ap (range_with_len 0) all; lawful = h.lawful },
   h.seen,
   λ pool own k d lt. let same = h.count in h.pool k d (omega (arith, lt, same)) ∙ own k d (omega (arith, lt, same)),
 )

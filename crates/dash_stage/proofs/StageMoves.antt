@@ -19,7 +19,7 @@ use Rattle.loop_model.specs.Answers.{Setting, clock, answer, is_over, has_dispos
 use Rattle.loop_model.specs.Legal.{IsLegal, AreNumbered}
 use Rattle.loop_model.proofs.LegalLaws.{IsLegal-last}
 use Rattle.loop_model.proofs.NumberLaws.{AreNumbered-front}
-use Rattle.shared_queue.proofs.Prefixes.{prefix_front, prefix_trans}
+use Rattle.loop_model.proofs.Prefixes.{prefix_front, prefix_trans}
 use Rattle.dash_script.specs.declared.script.Block.{Block}
 use Rattle.dash_script.specs.declared.script.Script.{Script}
 use Rattle.looper_run.specs.Holding.{Sender}
@@ -38,7 +38,8 @@ use Rattle.dash_stage.specs.Sharing.{HaveSeenTheSame}
 use Rattle.dash_stage.specs.Timeliness.{whole_on, IsSoundOn, IsTimelyUpTo, AreTimelyUpTo, IsAtTime, AreAtTime, AreBy, AreDue, EachTurnsOn, MovesTo, HaveCome}
 use Rattle.dash_stage.proofs.Controls.{time_by_controller, time_of_advances, main_is_not_over, side_is_not_halted}
 use Rattle.dash_stage.proofs.ControlKept.{calls_kept}
-use Rattle.dash_stage.proofs.Timely.{none_of, none_front, of_others, is_whole, advanced_one, timely_others, disposed_stays}
+use Rattle.dash_stage.proofs.Timely.{none_of, none_front, of_others, is_whole, advanced_one, timely_others}
+use Rattle.loop_model.proofs.AfterLaws.{disposed_stays}
 use Rattle.dash_stage.proofs.StageWhole.{sender_at, queues_count, controller_entries, sound_front, threads_heard, thread_made_none, looper_made_none}
 
 -- a sender that has made nothing from one history to the last has made nothing in between

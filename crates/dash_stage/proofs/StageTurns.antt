@@ -10,7 +10,7 @@ use native.Mathlib.Decide.{ℕ_discrete}
 use Rattle.loop_model.specs.declared.entry.Entry.{Entry}
 use Rattle.loop_model.specs.Base.{empty_base}
 use Rattle.loop_model.specs.Legal.{IsLegal, AreNumbered}
-use Rattle.shared_queue.proofs.Prefixes.{prefix_self, prefix_trans}
+use Rattle.loop_model.proofs.Prefixes.{prefix_self, prefix_trans}
 use Rattle.dash_script.specs.declared.script.Block.{Block}
 use Rattle.dash_script.specs.declared.script.Line.{Line}
 use Rattle.dash_script.specs.declared.script.Script.{Script}

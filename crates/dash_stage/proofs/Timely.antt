@@ -1,11 +1,10 @@
 -- From what all senders of a queue in lockstep have seen of its history to what they have seen a while later.
 use Rattle.std.proofs.Common.{◌≡◌, ℕ, ◌<◌, ◌+◌, suc, Bool, true, false, List, [], ◌∷◌, ◌++◌, map, length, refl, sym, ap, ◌∙◌, subst, arith, inl, inr, append_assoc}
 use Rattle.std.specs.Prelude.{◌==◌, ◌&&◌, ◌||◌, not, if◌then◌else◌}
-use Rattle.std.specs.List.{AllByRecursion, list_any}
-use Rattle.std.proofs.Math.Bool.{and-true, and_assoc, or_assoc}
+use Rattle.std.specs.List.{AllByRecursion}
+use Rattle.std.proofs.Math.Bool.{and-true, and_assoc}
 use Rattle.std.proofs.lemmas.Bool.{and_parts, and_from, or_left, or_right, false_from_ne_true, eq-eqb}
 use Rattle.std.proofs.lemmas.List.{append-nil, append_cancel_left, map-append}
-use Rattle.std.proofs.lemmas.List.Folds.{list_any-append}
 use mathlib.Core.List.{IsPrefix}
 use Rattle.dash_script.specs.declared.script.Script.{Script}
 use Rattle.loop_model.specs.declared.call.Call.{Call}
@@ -13,11 +12,12 @@ use Rattle.loop_model.specs.declared.call.Call.TheVariants.{Post, Barrier, Unbar
 use Rattle.loop_model.specs.declared.reply.Reply.TheVariants.{Halted}
 use Rattle.loop_model.specs.declared.base.Base.{Base}
 use Rattle.loop_model.specs.declared.entry.Entry.{Entry}
-use Rattle.loop_model.specs.Entries.{moment_of, is_disposed, is_halted}
+use Rattle.loop_model.specs.Entries.{moment_of, is_halted}
 use Rattle.loop_model.specs.Base.{empty_base}
 use Rattle.loop_model.specs.Pick.{first_eligible}
 use Rattle.loop_model.specs.Answers.{Setting, clock, has_disposed}
 use Rattle.loop_model.specs.Legal.{IsLegal, AreNumbered, IsNextOfSender, is_control}
+use Rattle.loop_model.proofs.AfterLaws.{disposed_stays}
 use Rattle.loop_model.proofs.LegalLaws.{IsLegal-front}
 use Rattle.loop_model.proofs.NumberLaws.{AreNumbered-front, AreNumbered-last}
 use Rattle.loop_model.proofs.Sorting.{AllByRecursion-filter}
@@ -170,14 +170,6 @@ clock_same m es = refl
 pub has_disposed_same : (m : ℕ) (es : List Entry) → has_disposed (empty_base m) es ≡ has_disposed (empty_base 0) es
 unfolding has_disposed
 has_disposed_same m es = refl
-
--- a queue that was disposed of stays so
-pub disposed_stays : (b : Base) (es more : List Entry) → has_disposed b es ≡ true → has_disposed b (es ++ more) ≡ true
-unfolding has_disposed
-disposed_stays b es more gone =
-    ap (λ t. b.disposed || t) (list_any-append (λ (e : Entry). is_disposed e.reply) es more)
-    ∙ sym (or_assoc b.disposed (list_any (λ e. is_disposed e.reply) es) (list_any (λ e. is_disposed e.reply) more))
-    ∙ or_left _ _ gone
 
 -- a call that comes at the time, or after the disposal, is on time
 on_time_now : (senders time : ℕ) (es : List Entry) → IsAtTime senders time es → is_on_time (At time) (before es) ≡ true

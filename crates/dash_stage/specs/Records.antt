@@ -10,7 +10,7 @@ use Rattle.frame_phases.specs.declared.entry.FrameRecord.{FrameRecord}
 use Rattle.looper_run.specs.Holding.{Sender}
 use Rattle.choreographer.specs.Known.{Known as Pass}
 use Rattle.run_model.specs.Moments.{in_lockstep}
-use Rattle.run_model.specs.Senders.{numbers_from}
+use Rattle.std.specs.List.{range_with_len}
 use Rattle.run_model.specs.Asks.{entries_by}
 use Rattle.run_model.specs.Run.{IsHistory, all_entries}
 use Rattle.dash_hall.specs.declared.kit.Kit.{Kit}
@@ -19,12 +19,12 @@ use Rattle.dash_hall.specs.Growth.{own}
 
 -- each looper's queue has its record, in order, with the replies that a queue of one thread gives
 pub record AreQueueRecords (s : Script) (records : List QueueRecord) : Type 0 where
-  pub loopers : map (λ (q : QueueRecord). q.looper) records ≡ numbers_from 0 s.loopers
+  pub loopers : map (λ (q : QueueRecord). q.looper) records ≡ range_with_len 0 s.loopers
   pub histories : AllByRecursion (IsHistory in_lockstep all_entries s) records
 
 -- each looper's choreographer has its record, in order
 pub record AreFrameRecords (s : Script) (records : List FrameRecord) : Type 0 where
-  pub loopers : map (λ (f : FrameRecord). f.looper) records ≡ numbers_from 0 s.loopers
+  pub loopers : map (λ (f : FrameRecord). f.looper) records ≡ range_with_len 0 s.loopers
   pub lawful : AllByRecursion (IsFrameRecord s) records
 
 -- the history has the entries that the poster made and no others of its sender, and begins with what it has seen
@@ -43,4 +43,4 @@ HaveSeen threads kits records = (k q : ℕ) (d : Kit) (p : Pass) (r : FrameRecor
 
 -- each looper has its journal, in order
 abbrev pub AreJournals : Script → List Journal → Type 0
-AreJournals s js = map (λ (j : Journal). j.looper) js ≡ numbers_from 0 s.loopers
+AreJournals s js = map (λ (j : Journal). j.looper) js ≡ range_with_len 0 s.loopers

@@ -14,7 +14,8 @@ use Rattle.dash_script.specs.Reading.{HasText}
 use Rattle.looper_run.specs.Holding.{Sender}
 use Rattle.choreographer.specs.Known.{Known as Pass}
 use Rattle.run_model.specs.Asks.{call_of, tokens_in}
-use Rattle.run_model.specs.Planned.{Timed, labels_on, lines_of, later, frame_message, on}
+use Rattle.loop_model.specs.Posts.{moment_after}
+use Rattle.run_model.specs.Planned.{Timed, labels_on, lines_of, frame_message, on}
 use Rattle.run_model.specs.Run.{is_frame_line, is_unframe_line}
 use Rattle.run_model.specs.FrameRuns.{posts_frame, removes_frame}
 use Rattle.dash_threads.specs.declared.labels.Labelled.{Labelled}
@@ -45,7 +46,7 @@ at_place P xs i k x y d is near here there false other =
 
 -- the call that a frame line plans, where it is for later
 abbrev due_call : ℕ → ℕ → ℕ → ℕ → PlannedCall
-due_call u lo phase delay = record { looper = lo; call = on_queue.ByHandler (record { id = 64 + lo; asynchronous = true }) (request.Send 2 phase None (later (min u 18446744073709) delay)) }
+due_call u lo phase delay = record { looper = lo; call = on_queue.ByHandler (record { id = 64 + lo; asynchronous = true }) (request.Send 2 phase None (moment_after (min u 18446744073709) delay)) }
 
 module _ (s : Script) (u lo phase id delay n : ℕ) (bs : List Labelled) (ps : List Sender) (past : List Timed) (p q : Sender) (is : p ≡ get_or ps lo p) (near : lo < length ps) (called : HasCalled s past n ps) (kept : KeepsBarriers past bs ps) where
   same_own : own q ≡ own p → (k : ℕ) (d : Sender) → own (get_or (set ps lo q) k d) ≡ own (get_or ps k d)
@@ -57,15 +58,15 @@ module _ (s : Script) (u lo phase id delay n : ℕ) (bs : List Labelled) (ps : L
       let pc = due_call u lo phase delay in
       let calls : CallsAt lo (call_made pc.call) [] ps (set ps lo q) = calls_at_set ps lo p q (call_made pc.call) [] is near made in (
         called_more s past (line u (Frame lo phase id delay)) n n ps (set ps lo q) pc None refl calls called
-            (λ k d near'. ap (λ (z : Bool). option_map (call_of (tokens_in (own (get_or ps k d)))) (if z then None else on k lo (call.Post (frame_message lo 2 phase (later (min u 18446744073709) delay))))) some
-            ∙ asked_if (tokens_in (own (get_or ps k d))) (call.Post (frame_message lo 2 phase (later (min u 18446744073709) delay))) (lo == k)),
+            (λ k d near'. ap (λ (z : Bool). option_map (call_of (tokens_in (own (get_or ps k d)))) (if z then None else on k lo (call.Post (frame_message lo 2 phase (moment_after (min u 18446744073709) delay))))) some
+            ∙ asked_if (tokens_in (own (get_or ps k d))) (call.Post (frame_message lo 2 phase (moment_after (min u 18446744073709) delay))) (lo == k)),
         kept_same past (line u (Frame lo phase id delay)) bs bs ps (set ps lo q) pc None calls kept refl (λ k. refl) (λ near'. refl),
       )
   calls_by true none same = (
     (λ k d near'. (
         let near'' : k < length ps = omega (arith, near', length-set ps lo q) in
         step_calls s (labels_on k (lines_of n s.blocks)) k past (line u (Frame lo phase id delay)) (own (get_or ps k d)) (own (get_or (set ps lo q) k d)) (called k d near'')
-        (inl (ap (λ (z : Bool). if z then None else on k lo (call.Post (frame_message lo 2 phase (later (min u 18446744073709) delay)))) none, same_own same k d)))),
+        (inl (ap (λ (z : Bool). if z then None else on k lo (call.Post (frame_message lo 2 phase (moment_after (min u 18446744073709) delay)))) none, same_own same k d)))),
     record {
       labels = λ k. kept.labels k ∙ sym (labels_none k past (line u (Frame lo phase id delay)) refl);
       tokens = λ k d near'. (let near'' : k < length ps = omega (arith, near', length-set ps lo q) in kept.tokens k d near'' ∙ ap tokens_in (sym (same_own same k d)));

@@ -31,7 +31,7 @@ use Rattle.choreographer.specs.declared.hosted.Placed.TheVariants as placed
 use Rattle.choreographer.specs.Known.{Known as Pass, IsTurn}
 use Rattle.choreographer.specs.Calls.{due_at, with_post}
 use Rattle.run_model.specs.Asks.{plain, token_in, entries_by}
-use Rattle.run_model.specs.Planned.{later}
+use Rattle.loop_model.specs.Posts.{moment_after}
 use Rattle.run_model.specs.FrameRuns.{posts_frame, removes_frame}
 use Rattle.dash_hall.specs.Growth.{own, GoesOn, Makes}
 use Rattle.dash_hall.specs.Hosts.{Origin, IsHost, nanos_of, is_sending, not_sent, sent_as, told_by, sends_by, PlacesBy, PostsFrame, RemovesFrame, CountsOn}
@@ -198,7 +198,7 @@ told_none h p q a b g is =
 
 -- ---- a frame callback is posted
 
-due_is : (u delay now : ℕ) → now ≡ nanos_of u → due_at now delay ≡ later (min u 18446744073709) delay
+due_is : (u delay now : ℕ) → now ≡ nanos_of u → due_at now delay ≡ moment_after (min u 18446744073709) delay
 due_is u delay now is = ap (λ (n : ℕ). min (n + delay) (2 ^ 64 - 1)) (ap (λ (n : ℕ). n / 1000000) is ∙ millis_of u)
 
 abbrev Message : ℕ → ℕ → ℕ → Call
@@ -209,7 +209,7 @@ at_once : (h u phase id delay : ℕ) (p q : Sender) (a b : Tally) (f g : Pass) (
 at_once h u phase id delay p q a b f g x y now goes t is post soon same =
     let zero = no_delay u delay (due_at now delay) now (eqb-true now (nanos_of u) is) refl soon in
     record {
-      calls = subst (λ (z : Bool). MatchBool z (own q ≡ own p) (Makes p q (Message h phase (later (min u 18446744073709) delay)) [])) (sym zero) (told_none h p q a b goes same);
+      calls = subst (λ (z : Bool). MatchBool z (own q ≡ own p) (Makes p q (Message h phase (moment_after (min u 18446744073709) delay)) [])) (sym zero) (told_none h p q a b goes same);
       counts = counts_posted f g x y phase (due_at now delay) id now t post;
     }
 
@@ -220,7 +220,7 @@ for_later h u phase id delay p q a b f g x y now answer goes t is post later_on 
     let some = some_delay u delay (due_at now delay) now moment refl later_on in
     let made : Makes p q (Message h phase (due_at now delay)) [] = told_one h 2 phase (due_at now delay) answer p q a b goes taken sent in
     record {
-      calls = subst (λ (z : Bool). MatchBool z (own q ≡ own p) (Makes p q (Message h phase (later (min u 18446744073709) delay)) [])) (sym some)
+      calls = subst (λ (z : Bool). MatchBool z (own q ≡ own p) (Makes p q (Message h phase (moment_after (min u 18446744073709) delay)) [])) (sym some)
           (subst (λ (w : ℕ). Makes p q (Message h phase w) []) (due_is u delay now moment) made);
       counts = counts_posted f g x y phase (due_at now delay) id now t post;
     }

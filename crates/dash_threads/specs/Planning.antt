@@ -6,7 +6,7 @@ use Rattle.dash_script.specs.declared.script.Command.{Command}
 use Rattle.dash_script.specs.declared.script.Command.TheVariants.{Post, PostAsync, Front, Callback, Set, Remove, RemoveCallback, RemoveAll, Barrier, Unbarrier, Quit, QuitSafely}
 use Rattle.dash_script.specs.declared.script.Script.{Script}
 use Rattle.run_model.specs.Senders.{handler_line, looper_of, gauge_handler}
-use Rattle.run_model.specs.Planned.{later}
+use Rattle.loop_model.specs.Posts.{moment_after}
 use Rattle.dash_threads.specs.declared.labels.Labelled.{Labelled}
 use Rattle.dash_hall.specs.declared.handlers.Request.{Request}
 use Rattle.dash_hall.specs.declared.handlers.Request.TheVariants as request
@@ -23,8 +23,8 @@ removal_of b = record { looper = b.looper; call = on_queue.RemoveBarrier b.token
 
 -- the request of a command that goes by a handler, at an uptime
 abbrev pub request_planned : Script → ℕ → Command → Option PlannedCall
-request_planned s u (Post h w d) = Some (request_to s h (request.Send w 0 None (later u d)))
-request_planned s u (PostAsync h w d) = Some (request_to s h (request.SendAsync w (later u d)))
+request_planned s u (Post h w d) = Some (request_to s h (request.Send w 0 None (moment_after u d)))
+request_planned s u (PostAsync h w d) = Some (request_to s h (request.SendAsync w (moment_after u d)))
 request_planned s u (Front h w) = Some (request_to s h (request.SendFront w))
 request_planned s u (Callback h c d) = Some (request_to s h (request.PostCallback c u d))
 request_planned s u (Set g v) = Some (request_to s (gauge_handler s g) (request.Send 1 v (Some g) u))

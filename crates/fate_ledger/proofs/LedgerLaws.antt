@@ -23,8 +23,9 @@ use Rattle.loop_model.specs.Items.{number_of, is_just}
 use Rattle.loop_model.specs.Entries.{ends_by, ends}
 use Rattle.loop_model.specs.Order.{Placed}
 use Rattle.loop_model.specs.Fates.{fate_by, fate_in, fates, is_queued}
+use Rattle.loop_model.specs.Posts.{accepted_by}
 use Rattle.loop_model.proofs.Sorting.{AllByRecursion-weaker, AllByRecursion-filter, AllByRecursion-append}
-use Rattle.fate_ledger.specs.Steps.{Kept, empty_kept, next_kept, is_open, is_open_number, end_messages, number_in, dispatched_by, may_end, stays_open, ended_fates, ended_open, posted_by, posted_fates, posted_open}
+use Rattle.fate_ledger.specs.Steps.{Kept, empty_kept, next_kept, is_open, is_open_number, end_messages, number_in, dispatched_by, may_end, stays_open, ended_fates, ended_open, posted_fates, posted_open}
 use Rattle.fate_ledger.proofs.Marks.{mark, quiet, end_number-at, end_messages-at}
 use Rattle.fate_ledger.proofs.Messages.{messages_of, fates_are, messages_counted, message_number, numbered_is_message, fates_past, fates_past-at, posted_message, messages_of-snoc, fates-snoc}
 
@@ -257,7 +258,7 @@ posted_candidates ms fs ys p len h =
 -- one more entry
 follow_more : (es : List Entry) (e : Entry) (k : Kept) → Follows es k → Follows (es ++ e ∷ []) (next_kept k e)
 unfolding next_kept
-follow_more es e k h = go (posted_by e.call e.reply) refl
+follow_more es e k h = go (accepted_by e.call e.reply) refl
   where
     d : Option ℕ
     d = dispatched_by e.call e.reply
@@ -277,7 +278,7 @@ follow_more es e k h = go (posted_by e.call e.reply) refl
       listed = λ n o. h.candidates_held.listed n (ap (λ l. is_open (slice_get l n)) h.fates_held ∙ was_open es e n (sym (ap (λ l. is_open (slice_get l n)) are) ∙ o));
     })
 
-    go : (o : Option PostData) → posted_by e.call e.reply ≡ o → Follows (es ++ e ∷ []) (record { fates = posted_fates o ended; candidates = posted_open o (length ended) (ended_open d e k.candidates ended) })
+    go : (o : Option PostData) → accepted_by e.call e.reply ≡ o → Follows (es ++ e ∷ []) (record { fates = posted_fates o ended; candidates = posted_open o (length ended) (ended_open d e k.candidates ended) })
     go None is =
         let messages : items_of (messages_of (es ++ e ∷ [])) ≡ items_of (messages_of es) = ap items_of (messages_of-snoc es e ∙ (ap (λ o. messages_of es ++ posted_message o (length (fates es)) (length es)) is ∙ append-nil (messages_of es))) in
         record {

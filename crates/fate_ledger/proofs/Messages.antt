@@ -22,10 +22,11 @@ use Rattle.loop_model.specs.Order.{Origin, Given, Made, Placed}
 use Rattle.loop_model.specs.Live.{placed, made_items, later_entries}
 use Rattle.loop_model.specs.Answers.{accepted_count}
 use Rattle.loop_model.specs.Fates.{fate_of, fate_in, fates}
+use Rattle.loop_model.specs.Posts.{accepted_by}
 use Rattle.loop_model.proofs.Sorting.{AllByRecursion-filter}
 use Rattle.loop_model.proofs.Growing.{IsPast, all_items_past, made_items-snoc}
 use Rattle.loop_model.proofs.FateLaws.{fates_counted, fates_by_number}
-use Rattle.fate_ledger.specs.Steps.{posted_by, posted_fates}
+use Rattle.fate_ledger.specs.Steps.{posted_fates}
 use Rattle.fate_ledger.proofs.Marks.{mark, fate_of-more}
 
 abbrev pub is_message : Placed → Bool
@@ -87,7 +88,7 @@ abbrev pub posted_message : Option PostData → ℕ → ℕ → List Placed
 posted_message None n k = []
 posted_message (Some p) n k = record { item = Message n p; origin = Made k } ∷ []
 
-made_message : (n t k : ℕ) (c : Call) (r : Reply) → filter is_message (placed k (made_by n t c r)) ≡ posted_message (posted_by c r) n k
+made_message : (n t k : ℕ) (c : Call) (r : Reply) → filter is_message (placed k (made_by n t c r)) ≡ posted_message (accepted_by c r) n k
 made_message n t k (Post p) r = go (is_accepted r)
   where
     go : (b : Bool) → filter is_message (placed k (if b then Some (Message n p) else None)) ≡ posted_message (if b then Some p else None) n k
@@ -102,7 +103,7 @@ made_message n t k (Advance now) r = refl
 made_message n t k (Halt now) r = refl
 
 -- the messages after one more entry
-pub messages_of-snoc : (es : List Entry) (e : Entry) → messages_of (es ++ e ∷ []) ≡ messages_of es ++ posted_message (posted_by e.call e.reply) (length (fates es)) (length es)
+pub messages_of-snoc : (es : List Entry) (e : Entry) → messages_of (es ++ e ∷ []) ≡ messages_of es ++ posted_message (accepted_by e.call e.reply) (length (fates es)) (length es)
 unfolding accepted_count
 messages_of-snoc es e =
     let n : length (fates es) ≡ 0 + sum_by (λ e. posts_in e.call e.reply) es = fates_counted es in
@@ -115,7 +116,7 @@ posted_queued es e None fs n = append-nil fs
 posted_queued es e (Some p) fs n = ap (λ l. fs ++ fate_of (find (λ f. ends f (Message n p)) l) ∷ []) (drop-append-add es (e ∷ []) 1)
 
 -- the fates after one more entry
-pub fates-snoc : (es : List Entry) (e : Entry) → fates (es ++ e ∷ []) ≡ posted_fates (posted_by e.call e.reply) (fates_past es e)
+pub fates-snoc : (es : List Entry) (e : Entry) → fates (es ++ e ∷ []) ≡ posted_fates (accepted_by e.call e.reply) (fates_past es e)
 fates-snoc es e =
-    let o = posted_by e.call e.reply in
+    let o = accepted_by e.call e.reply in
     fates_are (es ++ e ∷ []) ∙ (ap (map (fate_in (es ++ e ∷ []))) (messages_of-snoc es e) ∙ (map-append (fate_in (es ++ e ∷ [])) (messages_of es) (posted_message o (length (fates es)) (length es)) ∙ posted_queued es e o (fates_past es e) (length (fates es))))

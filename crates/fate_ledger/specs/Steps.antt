@@ -4,7 +4,7 @@ use Rattle.std.specs.Prelude.{ℕ, Bool, true, false, List, [], ◌∷◌, ◌++
 use Rattle.std.specs.List.{slice_get}
 use Rattle.loop_model.specs.declared.post.Post.{Post as PostData}
 use Rattle.loop_model.specs.declared.call.Call.{Call}
-use Rattle.loop_model.specs.declared.call.Call.TheVariants.{Post, Remove, Quit, Next}
+use Rattle.loop_model.specs.declared.call.Call.TheVariants.{Remove, Quit, Next}
 use Rattle.loop_model.specs.declared.reply.Reply.{Reply}
 use Rattle.loop_model.specs.declared.reply.Reply.TheVariants.{Dispatched}
 use Rattle.loop_model.specs.declared.entry.Entry.{Entry}
@@ -14,8 +14,9 @@ use Rattle.loop_model.specs.declared.item.Item.{Item}
 use Rattle.loop_model.specs.declared.item.Item.TheVariants.{Post as Message}
 use Rattle.fate_ledger.specs.declared.ledger.Ledger.{Ledger}
 use Rattle.loop_model.specs.Items.{number_of}
-use Rattle.loop_model.specs.Entries.{is_accepted, ends}
+use Rattle.loop_model.specs.Entries.{ends}
 use Rattle.loop_model.specs.Fates.{fate_by, is_queued}
+use Rattle.loop_model.specs.Posts.{accepted_by}
 
 -- there is such a post, and it is queued
 abbrev pub is_open : Option Fate → Bool
@@ -73,11 +74,6 @@ abbrev pub ended_open : Option ℕ → Entry → List Item → List Fate → Lis
 ended_open None e candidates fs = if may_end e.call then filter (stays_open fs) candidates else candidates
 ended_open (Some n) e candidates fs = candidates
 
--- the post that an entry makes
-abbrev pub posted_by : Call → Reply → Option PostData
-posted_by (Post p) r = if is_accepted r then Some p else None
-posted_by _ r = None
-
 abbrev pub posted_fates : Option PostData → List Fate → List Fate
 posted_fates None fs = fs
 posted_fates (Some p) fs = fs ++ Queued ∷ []
@@ -99,8 +95,8 @@ unfoldable pub next_kept : Kept → Entry → Kept
 next_kept k e =
     let ended = ended_fates (dispatched_by e.call e.reply) e k.candidates k.fates in
     record {
-      fates = posted_fates (posted_by e.call e.reply) ended;
-      candidates = posted_open (posted_by e.call e.reply) (length ended) (ended_open (dispatched_by e.call e.reply) e k.candidates ended);
+      fates = posted_fates (accepted_by e.call e.reply) ended;
+      candidates = posted_open (accepted_by e.call e.reply) (length ended) (ended_open (dispatched_by e.call e.reply) e k.candidates ended);
     }
 
 -- what the ledger of the program keeps

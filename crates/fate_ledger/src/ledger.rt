@@ -2,7 +2,8 @@
 
 ghost use Rattle.std.specs.Prelude.{◌≡◌, OnOk, filter, length, slice_get};
 ghost use Rattle.loop_model.specs.Items.{number_of};
-ghost use Rattle.fate_ledger.specs.Steps.{is_open, end_number, end_message, end_messages, dispatched_by, may_end, stays_open, ended_fates, ended_open, posted_by, posted_fates, posted_open, empty_kept, next_kept, kept_in};
+ghost use Rattle.loop_model.specs.Posts.{accepted_by};
+ghost use Rattle.fate_ledger.specs.Steps.{is_open, end_number, end_message, end_messages, dispatched_by, may_end, stays_open, ended_fates, ended_open, posted_fates, posted_open, empty_kept, next_kept, kept_in};
 
 use loop_model::{Call, Entry, Fate, Item, NoMemory, Post, Reply};
 use std::alloc::Global;
@@ -157,7 +158,7 @@ fn may_end(call: &Call) -> bool
 
 /// The post that the entry adds.
 fn posted(entry: &Entry) -> Option<Post>
-    ensures { result ≡ posted_by entry.now.call entry.now.reply }
+    ensures { result ≡ accepted_by entry.now.call entry.now.reply }
 {
     match entry.call {
         Call::Post(post) if entry.reply.is_accepted() => Some(post),

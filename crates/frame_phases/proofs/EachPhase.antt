@@ -1,12 +1,15 @@
 -- Each frame takes each phase once.
 use Rattle.std.proofs.Common.{◌≡◌, ℕ, suc, ◌+◌, ◌-◌, ◌<◌, Bool, true, false, true≢false, Option, Some, None, List, [], ◌∷◌, ◌++◌, reverse, refl, sym, ap, ◌∙◌, subst, append_assoc, arith}
 use Rattle.std.specs.Prelude.{◌==◌, ◌&&◌, nat_le, is_none, if◌then◌else◌}
+use Rattle.std.specs.List.{range_with_len}
 use Rattle.std.proofs.lemmas.Bool.{and_parts, cond_both, eqb-true, eqb-false}
+use Rattle.loop_model.specs.Items.{is_just}
 use Rattle.frame_phases.specs.declared.entry.FrameEntry.{FrameEntry}
 use Rattle.frame_phases.specs.declared.entry.FrameEntry.TheVariants.{Posted, Removed, Begin, Take, Ran}
-use Rattle.frame_phases.specs.Frames.{all_allowed, is_allowed, is_settled, next_phase, is_number, take_time, frame_time, last_time}
-use Rattle.frame_phases.specs.EachPhase.{taken_first, has_begin, numbers_from, AreTaken, FramesTakeEachPhase}
+use Rattle.frame_phases.specs.Frames.{all_allowed, is_allowed, is_settled, next_phase, take_time, frame_time, last_time}
+use Rattle.frame_phases.specs.EachPhase.{taken_first, has_begin, AreTaken, FramesTakeEachPhase}
 use Rattle.frame_phases.proofs.History.{past-push, allowed_of}
+use Rattle.frame_phases.proofs.Lifted.{number_is}
 use Rattle.frame_phases.proofs.EndsOfFrames.{allowed_next}
 
 taken-cons : (over : Bool) (p : ℕ) (takes all : List ℕ) → AreTaken over takes all → AreTaken over (p ∷ takes) (p ∷ all)
@@ -21,7 +24,7 @@ taken-none false (p ∷ takes) h = absurd (cc (h.1))
 -- the phases that a frame has yet to take
 abbrev to_take : ℕ → Option ℕ → List ℕ
 to_take phases None = []
-to_take phases (Some next) = numbers_from next (phases - next)
+to_take phases (Some next) = range_with_len next (phases - next)
 
 -- the next phase is one of them
 abbrev IsBelow : ℕ → Option ℕ → Type 0
@@ -36,21 +39,16 @@ below_following phases phase l =
     cond_both (phase + 1 == phases) None (Some (phase + 1)) (IsBelow phases) (λ e. tt)
     (λ e. let apart = eqb-false (phase + 1) phases e in omega (arith, apart))
 
-to_take_following : (phases phase : ℕ) → phase < phases → phase ∷ to_take phases (following phases phase) ≡ numbers_from phase (phases - phase)
+to_take_following : (phases phase : ℕ) → phase < phases → phase ∷ to_take phases (following phases phase) ≡ range_with_len phase (phases - phase)
 to_take_following phases phase l =
-    cond_both (phase + 1 == phases) None (Some (phase + 1)) (λ o. phase ∷ to_take phases o ≡ numbers_from phase (phases - phase))
+    cond_both (phase + 1 == phases) None (Some (phase + 1)) (λ o. phase ∷ to_take phases o ≡ range_with_len phase (phases - phase))
     (λ e.
     let same : phase + 1 ≡ phases = eqb-true (phase + 1) phases e in
     let one : 1 ≡ phases - phase = omega (arith, same) in
-    ap (numbers_from phase) one)
+    ap (range_with_len phase) one)
     (λ e.
     let more : suc (phases - (phase + 1)) ≡ phases - phase = omega arith in
-    let next : phase + 1 ≡ suc phase = omega arith in
-    ap (λ n. phase ∷ numbers_from n (phases - (phase + 1))) next ∙ ap (numbers_from phase) more)
-
-number_is : (o : Option ℕ) (n : ℕ) → is_number o n ≡ true → o ≡ Some n
-number_is None n h = absurd (true≢false (sym h))
-number_is (Some m) n h = ap Some (eqb-true m n h)
+    ap (range_with_len phase) more)
 
 none_is : (o : Option ℕ) → is_none o ≡ true → o ≡ None
 none_is None h = refl
@@ -69,8 +67,8 @@ module _ (interval phases : ℕ) where
   unfolding is_allowed
   next_of_take seen p n t h =
       let past = reverse seen in
-      let first = (and_parts (is_settled past && is_number (next_phase phases past) p) (t == take_time interval phases past p n) h).0 in
-      number_is (next_phase phases past) p (and_parts (is_settled past) (is_number (next_phase phases past) p) first).1
+      let first = (and_parts (is_settled past && is_just (next_phase phases past) p) (t == take_time interval phases past p n) h).0 in
+      number_is (next_phase phases past) p (and_parts (is_settled past) (is_just (next_phase phases past) p) first).1
 
   pushed : (seen more : List FrameEntry) (e : FrameEntry) → all_allowed interval phases (reverse (seen ++ e ∷ more)) ≡ true → all_allowed interval phases (reverse ((seen ++ e ∷ []) ++ more)) ≡ true
   pushed seen more e h = subst (λ l. all_allowed interval phases (reverse l) ≡ true) (sym (append_assoc seen (e ∷ []) more)) h
@@ -97,11 +95,11 @@ module _ (interval phases : ℕ) where
       takes_rest (seen ++ Ran n ∷ []) more next (ap (next_phase phases) (past-push seen (Ran n)) ∙ is) below (pushed seen more (Ran n) h)
 
   takes_behind : (before after : List FrameEntry) (v s t : ℕ) → 0 < phases → all_allowed interval phases (reverse (before ++ Begin v s t ∷ after)) ≡ true
-      → AreTaken (has_begin after) (taken_first after) (numbers_from 0 phases)
+      → AreTaken (has_begin after) (taken_first after) (range_with_len 0 phases)
   unfolding next_phase
   takes_behind before after v s t above h =
       let all : phases - 0 ≡ phases = omega arith in
-      subst (λ n. AreTaken (has_begin after) (taken_first after) (numbers_from 0 n)) all
+      subst (λ n. AreTaken (has_begin after) (taken_first after) (range_with_len 0 n)) all
       (takes_rest (before ++ Begin v s t ∷ []) after (Some 0) (ap (next_phase phases) (past-push before (Begin v s t))) above (pushed before after (Begin v s t) h))
 
 pub frames_take_each_phase : FramesTakeEachPhase

@@ -1,5 +1,6 @@
 -- Which phases a frame takes.
-use Rattle.std.specs.Prelude.{◌≡◌, ℕ, zero, suc, ◌<◌, Bool, true, false, List, [], ◌∷◌, ◌++◌}
+use Rattle.std.specs.Prelude.{◌≡◌, ℕ, ◌<◌, Bool, true, false, List, [], ◌∷◌, ◌++◌}
+use Rattle.std.specs.List.{range_with_len}
 use mathlib.Core.List.{IsPrefix}
 use Rattle.frame_phases.specs.declared.entry.FrameEntry.{FrameEntry}
 use Rattle.frame_phases.specs.declared.entry.FrameEntry.TheVariants.{Posted, Removed, Begin, Take, Ran}
@@ -23,11 +24,6 @@ has_begin (Begin v s t ∷ entries) = true
 has_begin (Take p n t ∷ entries) = has_begin entries
 has_begin (Ran n ∷ entries) = has_begin entries
 
--- the numbers from `from` on, `count` of them
-abbrev pub numbers_from : ℕ → ℕ → List ℕ
-numbers_from from zero = []
-numbers_from from (suc count) = from ∷ numbers_from (suc from) count
-
 -- a frame that is over took all phases, and another one a beginning of them
 abbrev pub AreTaken : Bool → List ℕ → List ℕ → Type 0
 AreTaken true takes all = takes ≡ all
@@ -38,4 +34,4 @@ abbrev pub FramesTakeEachPhase : Type 0
 FramesTakeEachPhase = (interval phases : ℕ) (entries : List FrameEntry) → 0 < phases → lawful interval phases entries ≡ true
     → (taken_first entries ≡ [])
     × ((before after : List FrameEntry) (vsync start time : ℕ) → before ++ Begin vsync start time ∷ after ≡ entries
-    → AreTaken (has_begin after) (taken_first after) (numbers_from 0 phases))
+    → AreTaken (has_begin after) (taken_first after) (range_with_len 0 phases))

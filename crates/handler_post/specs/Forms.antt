@@ -1,5 +1,5 @@
 -- The message and the filter of each form.
-use Rattle.std.specs.Prelude.{ℕ, ◌+◌, ◌-◌, ◌^◌, min, Option, Some, None}
+use Rattle.std.specs.Prelude.{ℕ, Option, Some, None}
 use Rattle.loop_model.specs.declared.post.Post.{Post}
 use Rattle.loop_model.specs.declared.post.Filter.{Filter}
 use Rattle.loop_model.specs.declared.post.Kind.{Kind}
@@ -12,10 +12,6 @@ message_by h what arg obj when = record { handler = h.id; what = what; arg = arg
 -- a callback of this handler
 abbrev pub callback_by : Handler → ℕ → ℕ → Post
 callback_by h callback when = record { handler = h.id; what = 0; arg = 0; obj = None; callback = Some callback; when = when; asynchronous = h.asynchronous; slot = None }
-
--- the moment after this delay, but no later than the last one
-abbrev pub moment_after : ℕ → ℕ → ℕ
-moment_after now delay = min (now + delay) (2 ^ 64 - 1)
 
 -- messages of this handler
 abbrev pub filter_by : Handler → Kind → Option ℕ → Filter

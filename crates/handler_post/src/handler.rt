@@ -1,7 +1,8 @@
 //! The forms of sending and removing.
 ghost use Rattle.std.specs.Prelude.{◌≡◌, None, true};
 ghost use Rattle.loop_model.specs.declared.post.Kind.TheVariants.{What, Callback, All};
-ghost use Rattle.handler_post.specs.Forms.{message_by, callback_by, moment_after, filter_by};
+ghost use Rattle.loop_model.specs.Posts.{moment_after};
+ghost use Rattle.handler_post.specs.Forms.{message_by, callback_by, filter_by};
 ghost use Rattle.handler_post.specs.Ways.{IsReady, IsSameWay};
 ghost use Rattle.handler_post.specs.Sends.{Sends, Erases, Has};
 

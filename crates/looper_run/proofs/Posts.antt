@@ -1,7 +1,7 @@
 -- The items of a queue are posts of its history.
 use Rattle.std.proofs.Common.{◌≡◌, ℕ, suc, ◌+◌, Bool, true, false, List, [], ◌∷◌, ◌++◌, Option, Some, None, slice_get, refl, subst, arith, if◌then◌else◌}
 use Rattle.std.specs.Prelude.{map}
-use Rattle.std.specs.List.{AllByRecursion, filter_map, cons_option}
+use Rattle.std.specs.List.{AllByRecursion, cons_option}
 use Rattle.loop_model.specs.declared.post.Post.{Post as PostData}
 use Rattle.loop_model.specs.declared.call.Call.{Call}
 use Rattle.loop_model.specs.declared.call.Call.TheVariants.{Post, Barrier, Unbarrier, Remove, Quit, Next, Advance, Halt}
@@ -12,13 +12,9 @@ use Rattle.loop_model.specs.declared.entry.Entry.{Entry}
 use Rattle.loop_model.specs.Base.{empty_base}
 use Rattle.loop_model.specs.Entries.{is_accepted, posts_in, barriers_in, made_by}
 use Rattle.loop_model.specs.Order.{Placed, put_in_order, in_order}
+use Rattle.loop_model.specs.Posts.{accepted_by, accepted_posts}
 use Rattle.loop_model.specs.Live.{placed, made_items, is_live, live, live_in_order}
 use Rattle.loop_model.proofs.Sorting.{put_all, AllByRecursion-weaker, AllByRecursion-filter, AllByRecursion-put}
-use Rattle.looper_run.specs.Acts.{accepted_by}
-
--- the accepted posts
-abbrev pub accepted : List Entry → List PostData
-accepted es = filter_map (λ e. accepted_by e.call e.reply) es
 
 -- a message is the post of its number, where the first of these posts has number n
 abbrev pub IsPostFrom : ℕ → List PostData → Item → Type 0
@@ -61,10 +57,10 @@ module _ (n t k : ℕ) (posts : List PostData) (more : List Placed) where
   entry_by (Advance now) r rest = passed None (λ x some. absurd (cc)) rest
   entry_by (Halt now) r rest = passed None (λ x some. absurd (cc)) rest
 
-made_posts : (n t k : ℕ) (es : List Entry) → ArePostsFrom n (accepted es) (made_items n t k es)
+made_posts : (n t k : ℕ) (es : List Entry) → ArePostsFrom n (accepted_posts es) (made_items n t k es)
 made_posts n t k [] = tt
 made_posts n t k (e ∷ es) =
-    entry_by n t k (accepted es) (made_items (n + posts_in e.call e.reply) (t + barriers_in e.call) (k + 1) es) e.call e.reply (made_posts (n + posts_in e.call e.reply) (t + barriers_in e.call) (k + 1) es)
+    entry_by n t k (accepted_posts es) (made_items (n + posts_in e.call e.reply) (t + barriers_in e.call) (k + 1) es) e.call e.reply (made_posts (n + posts_in e.call e.reply) (t + barriers_in e.call) (k + 1) es)
 
 put_posts : (P : Placed → Type 0) (acc xs : List Placed) → AllByRecursion P acc → AllByRecursion P xs → AllByRecursion P (put_all acc xs)
 put_posts P acc [] h g = h
@@ -75,9 +71,9 @@ map_posts P [] h = tt
 map_posts P (x ∷ xs) h = (h.0, map_posts P xs h.1)
 
 -- each message in the list is the post of its number
-pub live_posts : (senders : ℕ) (es : List Entry) → AllByRecursion (IsPostFrom 0 (accepted es)) (live_in_order (empty_base senders) es)
+pub live_posts : (senders : ℕ) (es : List Entry) → AllByRecursion (IsPostFrom 0 (accepted_posts es)) (live_in_order (empty_base senders) es)
 unfolding live_in_order live
 live_posts senders es =
-    let P : Placed → Type 0 = λ z. IsPostFrom 0 (accepted es) z.item in
+    let P : Placed → Type 0 = λ z. IsPostFrom 0 (accepted_posts es) z.item in
     let items = AllByRecursion-filter P (is_live es) (made_items 0 0 0 es) (made_posts 0 0 0 es) in
-    map_posts (IsPostFrom 0 (accepted es)) (in_order (live (empty_base senders) es)) (put_posts P [] (live (empty_base senders) es) tt items)
+    map_posts (IsPostFrom 0 (accepted_posts es)) (in_order (live (empty_base senders) es)) (put_posts P [] (live (empty_base senders) es) tt items)

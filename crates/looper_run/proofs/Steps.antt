@@ -17,8 +17,9 @@ use Rattle.queue_state.specs.Ended.{ended}
 use Rattle.shared_queue.specs.Constants.{Constants, IsStateOf}
 use Rattle.shared_queue.specs.Known.{IsTurn}
 use Rattle.looper_run.specs.Holding.{Sender, State, Holding, Workplace, workplace}
-use Rattle.looper_run.specs.Acts.{IsQuiet, GrowsBy, post_at}
+use Rattle.looper_run.specs.Acts.{IsQuiet, GrowsBy}
 use Rattle.loop_model.specs.Dispatches.{act_dispatch, dispatches}
+use Rattle.loop_model.specs.Posts.{post_at}
 use Rattle.looper_run.specs.Tests.{Test, Passes, IsSameLooper, HasTaken}
 use Rattle.looper_run.specs.Told.{IsTold, IsRecycled, Dispatches}
 use Rattle.looper_run.specs.Round.{Works}

@@ -12,6 +12,7 @@ use Rattle.loop_model.specs.declared.entry.Entry.{Entry}
 use Rattle.loop_model.specs.Items.{number_of, is_just}
 use Rattle.loop_model.specs.Live.{live_in_order}
 use Rattle.loop_model.specs.Entries.{ends_by}
+use Rattle.loop_model.specs.Posts.{accepted_posts, post_at}
 use Rattle.loop_model.proofs.Sorting.{AllByRecursion-filter}
 use Rattle.message_slot.specs.Letter.{number_in, post_of}
 use Rattle.message_pool.specs.Passes.{Node}
@@ -20,8 +21,7 @@ use Rattle.queue_state.specs.Queue.{IsSound}
 use Rattle.queue_state.specs.Ended.{ended}
 use Rattle.shared_queue.specs.Constants.{Constants, IsStateOf}
 use Rattle.looper_run.specs.Holding.{State}
-use Rattle.looper_run.specs.Acts.{post_at}
-use Rattle.looper_run.proofs.Posts.{accepted, IsPostFrom, live_posts}
+use Rattle.looper_run.proofs.Posts.{IsPostFrom, live_posts}
 
 kept_passes : {X : Type 0} (p : X → Bool) (x : X) (xs : List X) (b : Bool) → p x ≡ b → AllByRecursion (λ y. p y ≡ true) xs → AllByRecursion (λ y. p y ≡ true) (cond b (x ∷ xs) xs)
 kept_passes p x xs true is rest = (is, rest)
@@ -42,17 +42,17 @@ IsPost es n item = (number_in item ≡ n) × (post_at es n ≡ Some (post_of ite
 same_number : (m n : ℕ) → (m == n) ≡ true → m ≡ n
 same_number m n e = grind (arith, nat_tests)
 
-is_post : (es : List Entry) (n : ℕ) (item : Item) → is_just (number_of item) n ≡ true → IsPostFrom 0 (accepted es) item → IsPost es n item
+is_post : (es : List Entry) (n : ℕ) (item : Item) → is_just (number_of item) n ≡ true → IsPostFrom 0 (accepted_posts es) item → IsPost es n item
 is_post es n (Message m p) is h =
     let e : m ≡ n = same_number m n is in
     let j : h.0 ≡ n = omega (arith, h.1, e) in
-    (e, subst (λ (k : ℕ). slice_get (accepted es) k ≡ Some p) j h.2)
+    (e, subst (λ (k : ℕ). slice_get (accepted_posts es) k ≡ Some p) j h.2)
 is_post es n (Fence t w) is h = absurd (cc)
 
 -- the message that a look takes is the post of its number
 pub taken_post : (key : Constants TableId) (x : State) (n at : ℕ) (node : Node) → IsStateOf key x → IsSound x → ended (Next at) (Dispatched n) x.messages ≡ node ∷ [] → IsPost x.entries n node.item
 taken_post key x n at node own sound took =
-    let P : Item → Type 0 = IsPostFrom 0 (accepted x.entries) in
+    let P : Item → Type 0 = IsPostFrom 0 (accepted_posts x.entries) in
     let posts : AllByRecursion P (live_in_order x.start x.entries) = subst (λ b. AllByRecursion P (live_in_order b x.entries)) (sym own.start) (live_posts key.setting.senders x.entries) in
     let letters : AllByRecursion (λ m. P m.item) x.messages = letters_of P x.messages (subst (AllByRecursion P) (sym sound.live) posts) in
     let kept = AllByRecursion-filter (λ (m : Node). P m.item) (λ m. ends_by (Next at) (Dispatched n) m.item) x.messages letters in

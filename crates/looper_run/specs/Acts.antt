@@ -1,17 +1,15 @@
 -- The dispatches in a journal and in a history.
-use Rattle.std.specs.Prelude.{◌≡◌, ℕ, ◌≤◌, ◌==◌, false, max, List, [], ◌∷◌, ◌++◌, Option, Some, None, if◌then◌else◌, slice_get, All}
+use Rattle.std.specs.Prelude.{◌≡◌, ℕ, ◌≤◌, ◌==◌, false, max, List, [], ◌∷◌, ◌++◌, Option, None, if◌then◌else◌, All}
 use Rattle.std.specs.List.{filter_map}
 use Rattle.loop_model.specs.declared.journal.Act.{Act}
 use Rattle.loop_model.specs.declared.journal.Act.TheVariants.{Dispatch, Idle, Event, Vsync, Paint}
-use Rattle.loop_model.specs.declared.post.Post.{Post as PostData}
 use Rattle.loop_model.specs.declared.call.Call.{Call}
-use Rattle.loop_model.specs.declared.call.Call.TheVariants.{Post, Next}
-use Rattle.loop_model.specs.declared.reply.Reply.{Reply}
+use Rattle.loop_model.specs.declared.call.Call.TheVariants.{Next}
 use Rattle.loop_model.specs.declared.entry.Entry.{Entry}
 use Rattle.loop_sources.specs.declared.idle.IdleTurn.{IdleTurn}
 use Rattle.loop_model.specs.Base.{empty_base}
 use Rattle.loop_model.specs.Answers.{Setting, clock}
-use Rattle.loop_model.specs.Entries.{is_next, is_accepted}
+use Rattle.loop_model.specs.Entries.{is_next}
 use Rattle.loop_model.specs.Dispatches.{call_dispatch}
 
 -- the number and the moment of the message that an entry of the sender takes
@@ -79,12 +77,3 @@ IsLookAt moment _ = Unit {0}
 abbrev pub AreLooksAt : Setting → ℕ → ℕ → List Entry → List Entry → Type 0
 AreLooksAt s sender now past [] = Unit {0}
 AreLooksAt s sender now past (e ∷ more) = (e.sender ≡ sender → IsLookAt (moment_on s past now) e.call) × AreLooksAt s sender now (past ++ e ∷ []) more
-
--- the fields of a post that a reply accepts
-abbrev pub accepted_by : Call → Reply → Option PostData
-accepted_by (Post p) r = if is_accepted r then Some p else None
-accepted_by _ r = None
-
--- the fields of the accepted post of this number, counted from 0
-abbrev pub post_at : List Entry → ℕ → Option PostData
-post_at entries n = slice_get (filter_map (λ e. accepted_by e.call e.reply) entries) n

@@ -6,12 +6,13 @@ use Rattle.loop_model.specs.declared.journal.Route.{Route}
 use Rattle.loop_model.specs.declared.call.Call.TheVariants.{Next}
 use Rattle.loop_model.specs.declared.reply.Reply.TheVariants.{Dispatched}
 use Rattle.loop_model.specs.declared.entry.Entry.{Entry}
+use Rattle.loop_model.specs.Posts.{post_at}
 use Rattle.message_slot.specs.Letter.{post_of, number_in}
 use Rattle.message_pool.specs.Passes.{Node}
 use Rattle.looper_run.specs.declared.dispatcher.Did.{Did}
 use Rattle.looper_run.specs.declared.dispatcher.Did.TheVariants.{Yes, No, NoMemory}
 use Rattle.looper_run.specs.Holding.{Sender, Holding}
-use Rattle.looper_run.specs.Acts.{IsOfDispatcher, IsNoLookOf, post_at}
+use Rattle.looper_run.specs.Acts.{IsOfDispatcher, IsNoLookOf}
 
 -- a test of a looper's sender number, of what it has seen of its queue's history, and of its journal's acts
 abbrev pub Test : Type 1

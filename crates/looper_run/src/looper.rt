@@ -1,7 +1,7 @@
 //! A looper.
 ghost use Rattle.std.specs.Prelude.{◌≡◌, true, false, [], OnOk, None};
 ghost use mathlib.Core.List.{IsPrefix};
-ghost use Rattle.shared_queue.specs.Turn.{longer};
+ghost use Rattle.loop_model.specs.Lists.{longer};
 ghost use Rattle.shared_queue.specs.Known.{IsOf, IsSame};
 ghost use Rattle.looper_run.specs.Holding.{Workplace, workplace, IsAt, IsBeside};
 ghost use Rattle.looper_run.specs.Tests.{Passes, IsSameLooper, Rings};

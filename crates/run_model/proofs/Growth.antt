@@ -1,16 +1,15 @@
 -- What a looper's acts have caused stays so where the histories grow.
 use Rattle.std.proofs.Common.{◌≡◌, ◌<◌, ℕ, zero, suc, Bool, true, false, List, [], ◌∷◌, ◌++◌, length, Option, Some, None, refl, sym, ap, ◌∙◌, subst, arith}
 use Rattle.std.specs.Prelude.{◌&&◌, ◌||◌, not, slice_get, is_some, nat_le}
-use Rattle.std.specs.List.{filter_map}
 use Rattle.std.proofs.lemmas.List.Elements.{filter_map-append}
 use Rattle.std.specs.Option.{option_map_or}
 use Rattle.loop_model.specs.declared.post.Post.{Post as PostData}
 use Rattle.loop_model.specs.declared.entry.Entry.{Entry}
+use Rattle.loop_model.specs.Posts.{accepted_post, accepted_posts, post_at}
 use Rattle.frame_phases.specs.declared.entry.FrameEntry.{FrameEntry}
 use Rattle.dash_script.specs.declared.script.Script.{Script}
 use Rattle.loop_model.specs.declared.journal.Act.{Act}
 use Rattle.loop_model.specs.declared.journal.Act.TheVariants.{Dispatch, Idle, Event, Vsync, Paint}
-use Rattle.run_model.specs.Histories.{accepted_post, post_of}
 use Rattle.run_model.specs.Loopers.{Looper, delivered, and_takes, starts_frame}
 use Rattle.run_model.specs.Acts.{dispatched, after_act, MayCome, Lead}
 use Rattle.run_model.specs.FrameRuns.{frame_ids, is_frame_from, is_begin, place_after}
@@ -21,9 +20,9 @@ slice_get-append (x ∷ xs) ys zero h = refl
 slice_get-append (x ∷ xs) ys (suc i) h = slice_get-append xs ys i h
 
 -- an accepted post keeps its number
-pub post_of-grows : (es more : List Entry) (n : ℕ) → is_some (post_of es n) ≡ true → post_of (es ++ more) n ≡ post_of es n
-post_of-grows es more n h =
-    ap (λ l. slice_get l n) (filter_map-append accepted_post es more) ∙ slice_get-append (filter_map accepted_post es) (filter_map accepted_post more) n h
+pub post_at-grows : (es more : List Entry) (n : ℕ) → is_some (post_at es n) ≡ true → post_at (es ++ more) n ≡ post_at es n
+post_at-grows es more n h =
+    ap (λ l. slice_get l n) (filter_map-append accepted_post es more) ∙ slice_get-append (accepted_posts es) (accepted_posts more) n h
 
 and_right : (a b : Bool) → (a && b) ≡ true → b ≡ true
 and_right true b h = h
@@ -45,7 +44,7 @@ module _ (s : Script) (q : ℕ) (es : List Entry) (fs : List FrameEntry) where
   after_act-entries : (more : List Entry) (frame : Option ℕ) (a : Looper) (x : Act) → MayCome s q es fs frame a x → after_act s q (es ++ more) fs frame a x ≡ after_act s q es fs frame a x
   unfolding after_act
   after_act-entries more frame a (Dispatch n now route) h =
-      ap (λ o. record (dispatched s q fs frame n now a o) { painted = [] }) (post_of-grows es more n h.accepted)
+      ap (λ o. record (dispatched s q fs frame n now a o) { painted = [] }) (post_at-grows es more n h.accepted)
   after_act-entries more frame a (Vsync stamp) h = refl
   after_act-entries more frame a (Paint g v) h = refl
   after_act-entries more frame a (Idle i k) h = refl
@@ -53,7 +52,7 @@ module _ (s : Script) (q : ℕ) (es : List Entry) (fs : List FrameEntry) where
 
   MayCome-entries : (more : List Entry) (frame : Option ℕ) (a : Looper) (x : Act) → MayCome s q es fs frame a x → MayCome s q (es ++ more) fs frame a x
   MayCome-entries more frame a (Dispatch n now route) h =
-      let same = post_of-grows es more n h.accepted in
+      let same = post_at-grows es more n h.accepted in
       record {
         accepted = ap is_some same ∙ h.accepted;
         starts = subst (λ o. (not (is_some frame) || option_map_or (starts_frame q) o false) ≡ true) (sym same) h.starts;
@@ -87,7 +86,7 @@ module _ (s : Script) (q : ℕ) (es : List Entry) (fs : List FrameEntry) where
 
   after_act-frames : (gs : List FrameEntry) → KeepsFrames gs → (frame : Option ℕ) (a : Looper) (x : Act) → MayCome s q es fs frame a x → after_act s q es (fs ++ gs) frame a x ≡ after_act s q es fs frame a x
   unfolding after_act
-  after_act-frames gs keeps frame a (Dispatch n now route) h = of_message (post_of es n)
+  after_act-frames gs keeps frame a (Dispatch n now route) h = of_message (post_at es n)
     where
       same : frame_ids (fs ++ gs) frame ≡ frame_ids fs frame
       same = frame_same gs keeps a.place frame h.place
@@ -105,7 +104,7 @@ module _ (s : Script) (q : ℕ) (es : List Entry) (fs : List FrameEntry) where
     accepted = h.accepted;
     starts = h.starts;
     place = frame_from gs a.place frame h.place;
-    painted = of_message (post_of es n) h.painted;
+    painted = of_message (post_at es n) h.painted;
   }
     where
       same : frame_ids (fs ++ gs) frame ≡ frame_ids fs frame

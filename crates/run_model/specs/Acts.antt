@@ -5,11 +5,11 @@ use Rattle.loop_model.specs.declared.post.Post.{Post as PostData}
 use Rattle.loop_model.specs.declared.call.Call.TheVariants.{Post, Next}
 use Rattle.loop_model.specs.declared.reply.Reply.TheVariants.{Disposed}
 use Rattle.loop_model.specs.declared.entry.Entry.{Entry}
+use Rattle.loop_model.specs.Posts.{post_at}
 use Rattle.frame_phases.specs.declared.entry.FrameEntry.{FrameEntry}
 use Rattle.dash_script.specs.declared.script.Script.{Script}
 use Rattle.loop_model.specs.declared.journal.Act.{Act}
 use Rattle.loop_model.specs.declared.journal.Act.TheVariants.{Dispatch, Idle, Event, Vsync, Paint}
-use Rattle.run_model.specs.Histories.{post_of}
 use Rattle.run_model.specs.Asks.{Makes, plain, call_of}
 use Rattle.run_model.specs.Planned.{frame_message}
 use Rattle.run_model.specs.Control.{NotBefore}
@@ -30,7 +30,7 @@ dispatched s q fs frame n now a (Some m) =
 -- begins at this place, or none
 unfoldable pub after_act : Script → ℕ → List Entry → List FrameEntry → Option ℕ → Looper → Act → Looper
 after_act s q es fs frame a (Dispatch n now route) =
-    record (dispatched s q fs frame n now a (post_of es n)) { painted = [] }
+    record (dispatched s q fs frame n now a (post_at es n)) { painted = [] }
 after_act s q es fs frame a (Vsync stamp) =
     record a { sent = a.sent ++ record { queue = q; ask = Makes (Post (frame_message q 0 0 (stamp / 1000000))); reply = None; timing = NotBefore (millis_up stamp) } ∷ [] }
 after_act s q es fs frame a (Paint g v) = record a { painted = a.painted ++ Paint g v ∷ [] }
@@ -40,10 +40,10 @@ after_act s q es fs frame a (Event f e m) = a
 -- a dispatch is of an accepted post, runs a frame only where its message starts one, and what was painted just before
 -- is what it paints
 pub record MayDispatch (s : Script) (q : ℕ) (es : List Entry) (fs : List FrameEntry) (frame : Option ℕ) (a : Looper) (n now : ℕ) : Type 0 where
-  pub accepted : is_some (post_of es n) ≡ true
-  pub starts : (not (is_some frame) || option_map_or (starts_frame q) (post_of es n) false) ≡ true
+  pub accepted : is_some (post_at es n) ≡ true
+  pub starts : (not (is_some frame) || option_map_or (starts_frame q) (post_at es n) false) ≡ true
   pub place : is_frame_from fs a.place frame ≡ true
-  pub painted : (dispatched s q fs frame n now a (post_of es n)).painted ≡ a.painted
+  pub painted : (dispatched s q fs frame n now a (post_at es n)).painted ≡ a.painted
 
 -- the act may come next: paints stand nowhere but just before the dispatch that makes them
 abbrev pub MayCome : Script → ℕ → List Entry → List FrameEntry → Option ℕ → Looper → Act → Type 0

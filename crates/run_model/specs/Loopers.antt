@@ -6,13 +6,14 @@ use Rattle.loop_model.specs.declared.post.Post.{Post as PostData}
 use Rattle.loop_model.specs.declared.call.Call.TheVariants.{Post, Barrier, Next}
 use Rattle.loop_model.specs.declared.reply.Reply.{Reply}
 use Rattle.loop_model.specs.declared.reply.Reply.TheVariants.{Dispatched}
+use Rattle.loop_model.specs.Posts.{moment_after}
 use Rattle.dash_script.specs.declared.script.Rule.{Rule}
 use Rattle.dash_script.specs.declared.script.Script.{Script}
 use Rattle.loop_model.specs.declared.journal.Act.{Act}
 use Rattle.loop_model.specs.declared.journal.Act.TheVariants.{Paint}
 use Rattle.run_model.specs.Asks.{Ask, Makes, Unbars}
 use Rattle.run_model.specs.Senders.{looper_of, gauge_line, gauge_looper, frame_handler, animation_id, animation_phase, traversal_id, traversal_phase}
-use Rattle.run_model.specs.Planned.{later, sent_by}
+use Rattle.run_model.specs.Planned.{sent_by}
 use Rattle.run_model.specs.Control.{Timing, At}
 
 pub record Gauge : Type 0 where
@@ -128,7 +129,7 @@ fires m r count = m.handler == r.handler && m.what == r.what && nat_lt count r.t
 abbrev pub reaction : Script → ℕ → Rule → Sent
 reaction s now r = record {
   queue = looper_of s r.to_handler;
-  ask = Makes (Post (sent_by s r.to_handler r.to_what (later now r.delay)));
+  ask = Makes (Post (sent_by s r.to_handler r.to_what (moment_after now r.delay)));
   reply = None;
   timing = At now;
 }

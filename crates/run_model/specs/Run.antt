@@ -1,6 +1,6 @@
 -- When a report is a run of a script.
 use Rattle.std.specs.Prelude.{◌≡◌, ◌<◌, ◌≤◌, ℕ, ◌==◌, Bool, true, false, ◌&&◌, List, [], ◌∷◌, ◌++◌, map, count_by}
-use Rattle.std.specs.List.{AllByRecursion, filter_map}
+use Rattle.std.specs.List.{AllByRecursion, filter_map, range_with_len}
 use Rattle.loop_model.specs.declared.entry.Entry.{Entry}
 use Rattle.loop_model.specs.Base.{empty_base}
 use Rattle.loop_model.specs.Answers.{Setting}
@@ -11,12 +11,13 @@ use Rattle.frame_phases.specs.Frames.{lawful}
 use Rattle.dash_script.specs.declared.script.Command.{Command}
 use Rattle.dash_script.specs.declared.script.Command.TheVariants.{Frame, Unframe}
 use Rattle.dash_script.specs.declared.script.Script.{Script}
+use Rattle.dash_script.specs.Causes.{phase_count}
 use Rattle.loop_model.specs.declared.journal.Journal.{Journal}
 use Rattle.loop_model.specs.declared.record.QueueRecord.{QueueRecord}
 use Rattle.run_model.specs.declared.report.Report.{Report}
 use Rattle.run_model.specs.Histories.{history_of}
 use Rattle.run_model.specs.Asks.{AreFor, entries_by}
-use Rattle.run_model.specs.Senders.{looper_sender, controller, sender_count, numbers_from, phase_count}
+use Rattle.run_model.specs.Senders.{looper_sender, controller, sender_count}
 use Rattle.run_model.specs.Moments.{Mode, IfLockstep, IsStart, AreOfClock}
 use Rattle.run_model.specs.Planned.{Timed, lines_of, labels_on, lines_on, AreAsPlanned}
 use Rattle.run_model.specs.Control.{is_controlled, ends_halted, is_advanced_in_time, befores, At, are_on_time}
@@ -30,9 +31,9 @@ setting_of r = record { main = r.main; lockstep = r.lockstep; senders = r.sender
 -- the report is of the script, and each of its three lists has one member per looper in order, with that number
 pub record IsReportOf (s : Script) (r : Report) : Type 0 where
   pub script : r.script ≡ s
-  pub queues : map (λ q. q.looper) r.queues ≡ numbers_from 0 s.loopers
-  pub journals : map (λ j. j.looper) r.journals ≡ numbers_from 0 s.loopers
-  pub frames : map (λ f. f.looper) r.frames ≡ numbers_from 0 s.loopers
+  pub queues : map (λ q. q.looper) r.queues ≡ range_with_len 0 s.loopers
+  pub journals : map (λ j. j.looper) r.journals ≡ range_with_len 0 s.loopers
+  pub frames : map (λ f. f.looper) r.frames ≡ range_with_len 0 s.loopers
 
 -- a queue's record: its constants are those of the run, and its entries have the replies that a queue of one thread gives
 -- and the numbers of their senders; in free mode the moments of the entries that pass the test are the clock's
@@ -97,7 +98,7 @@ HasFrameRemovals s f thread =
 -- a choreographer's record is lawful, and has the entries of the threads' lines
 pub record IsFrameRun (s : Script) (f : FrameRecord) : Type 0 where
   pub interval : f.interval ≡ s.period
-  pub phases : f.phases ≡ phase_count s
+  pub phases : f.phases ≡ phase_count s.edition
   pub lawful : lawful f.interval f.phases f.entries ≡ true
   pub posted : (thread : ℕ) → thread < s.threads → HasFramePosts s f thread
   pub removed : (thread : ℕ) → thread < s.threads → HasFrameRemovals s f thread

@@ -10,6 +10,7 @@ use Rattle.loop_model.specs.declared.reply.Reply.{Reply}
 use Rattle.loop_model.specs.declared.reply.Reply.TheVariants.{Refused, NotPosted, AlreadyQuit, NotAllowed, Dispatched}
 use Rattle.loop_model.specs.declared.entry.Entry.{Entry}
 use Rattle.loop_model.specs.declared.fate.Fate.{Fate}
+use Rattle.loop_model.specs.Posts.{accepted_posts}
 use Rattle.loop_model.specs.Fates.{fates, is_queued, is_dispatched, is_removed, is_dropped, is_stranded}
 use Rattle.std.specs.Prelude.{length}
 use Rattle.frame_phases.specs.declared.entry.Callback.{Callback}
@@ -21,7 +22,7 @@ use Rattle.loop_model.specs.declared.journal.Act.TheVariants.{Idle, Event, Paint
 use Rattle.loop_model.specs.declared.journal.Journal.{Journal}
 use Rattle.loop_model.specs.declared.record.QueueRecord.{QueueRecord}
 use Rattle.run_model.specs.declared.report.Report.{Report}
-use Rattle.run_model.specs.Histories.{history_of, accepted_post}
+use Rattle.run_model.specs.Histories.{history_of}
 use Rattle.run_model.specs.FrameRuns.{is_begin}
 
 -- a line, as its words
@@ -55,7 +56,7 @@ call_lines posts (Quit safe now) (AlreadyQuit place) = (codes "already-quit" ∷
 call_lines posts _ _ = []
 
 abbrev pub history_lines : List Entry → List Words
-history_lines es = flat_map (λ e. call_lines (filter_map accepted_post es) e.call e.reply) es
+history_lines es = flat_map (λ e. call_lines (accepted_posts es) e.call e.reply) es
 
 -- how many accepted posts have the fate
 abbrev pub counted : (Fate → Bool) → List Fate → List ℕ

@@ -19,7 +19,7 @@ use Rattle.shared_queue.specs.Turn.{Counts, holds, Fits, AtHome, Turn}
 use Rattle.shared_queue.specs.Plays.{Sat}
 use Rattle.shared_queue.specs.Known.{Shared, Known}
 use Rattle.shared_queue.specs.Ends.{AreInOrder, HasCalls, number_of, Gathered, IsSoundEnd}
-use Rattle.shared_queue.proofs.Prefixes.{prefix_trans}
+use Rattle.loop_model.proofs.Prefixes.{prefix_trans}
 use Rattle.shared_queue.proofs.Turns.{holds_at, all_rest}
 
 module _ {H K : Type 0} (key : Constants H) (q : Shared H) (posters : List (Known H K)) (m : Sat H K) (all : length posters ≡ key.setting.senders) (order : AreInOrder q posters) (g : Gathered q posters m) where

@@ -6,7 +6,7 @@ use native.Mathlib.Decide.{ℕ_discrete}
 use Rattle.loop_model.specs.declared.entry.Entry.{Entry}
 use Rattle.queue_state.specs.Queue.{Queue, IsSound}
 use Rattle.shared_queue.specs.declared.desk.Desk.{Desk}
-use Rattle.shared_queue.specs.Weights.{total}
+use Rattle.loop_model.specs.Lists.{total}
 use Rattle.shared_queue.specs.Constants.{Constants, made_in}
 use Rattle.shared_queue.specs.Turn.{holds, counted, giving}
 use Rattle.shared_queue.specs.Plays.{Sat, IsCounted}

@@ -11,11 +11,11 @@ use mathlib.Core.List.{IsPrefix, map-append}
 use Rattle.shared_queue.specs.Constants.{Constants}
 use Rattle.queue_state.specs.Queue.{Queue}
 use Rattle.shared_queue.specs.declared.view.View.{View}
-use Rattle.shared_queue.specs.Turn.{joined, numbers_from}
+use Rattle.shared_queue.specs.Turn.{joined, new_senders}
 use Rattle.shared_queue.specs.Plays.{Sat}
 use Rattle.shared_queue.specs.Known.{Shared, Known, IsOf, Rests, made_by}
 use Rattle.shared_queue.specs.Ends.{number_of, TakenIn, Gathered, IsNew, AreNew}
-use Rattle.shared_queue.proofs.Prefixes.{prefix_trans}
+use Rattle.loop_model.proofs.Prefixes.{prefix_trans}
 
 -- a seat takes in that of a poster
 pub takes_in : {H K : Type 0} (c : Constants H) (s u m n : Sat H K) (p : Known H K) → Rests c s → Rests c u → u.0 ≡ p.view → u.0.senders ≡ (p.sender, made_by p) ∷ [] → m ≡ (joined s.0 u.0, s.1) → n ≡ m → All (λ t. IsPrefix t m.0.seen) m.0.told → Rests c n × TakenIn s.0 p n.0
@@ -59,11 +59,10 @@ deals_more {H} {K} q posters p n long all of_queue number new = ((λ k d l. (at 
         subst (IsNewAt q k) (sym (ap (λ (i : ℕ). get_or (posters ++ p ∷ []) i d) last ∙ get_or-append_seam posters p [] d)) ((of_queue, number ∙ (sym long ∙ sym last)), new))
 
 -- the numbers without the first
-pub numbers_rest : (from senders : ℕ) → from < senders → drop 1 (numbers_from from (senders - from)) ≡ numbers_from (from + 1) (senders - (from + 1))
+pub numbers_rest : (from senders : ℕ) → from < senders → drop 1 (new_senders from (senders - from)) ≡ new_senders (from + 1) (senders - (from + 1))
 numbers_rest from senders below =
     let more : senders - from ≡ suc (senders - (from + 1)) = omega arith in
-    let next : suc from ≡ from + 1 = omega arith in
-    ap (λ (n : ℕ). drop 1 (numbers_from from n)) more ∙ ap (λ (n : ℕ). numbers_from n (senders - (from + 1))) next
+    ap (λ (n : ℕ). drop 1 (new_senders from n)) more
 
 -- one element goes from the rest to what came before
 pub regrouped : {X : Type 0} (before whole all rest : List X) (x : X) → all ≡ x ∷ rest → before ++ all ≡ whole → (before ++ x ∷ []) ++ rest ≡ whole

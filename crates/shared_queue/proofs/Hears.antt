@@ -3,16 +3,17 @@ use Rattle.std.proofs.Common.{◌≡◌, ℕ, max, List, [], ◌∷◌, ◌++◌
 use Rattle.std.specs.Prelude.{All}
 use mathlib.Core.List.{IsPrefix}
 use Rattle.queue_state.specs.Queue.{Queue}
+use Rattle.loop_model.specs.Lists.{longer}
 use Rattle.shared_queue.specs.declared.view.View.{View}
 use Rattle.shared_queue.specs.declared.desk.Desk.{Desk}
 use Rattle.shared_queue.specs.Constants.{made_in}
-use Rattle.shared_queue.specs.Turn.{fresh, longer, joined}
+use Rattle.shared_queue.specs.Turn.{fresh, joined}
 use Rattle.shared_queue.specs.Plays.{Sat}
 use Rattle.shared_queue.specs.Known.{IsSame}
 use Rattle.shared_queue.specs.Desk.{IsIdle}
 use Rattle.shared_queue.proofs.Desks.{only_sender}
 use Rattle.shared_queue.proofs.Knows.{known}
-use Rattle.shared_queue.proofs.Prefixes.{longer-length}
+use Rattle.loop_model.proofs.Prefixes.{longer-length}
 
 -- m is the desk's seat with the note taken in, and n the same once the lists are compared
 module _ {H K : Type 0} (d : Desk (Queue H K) H) (o : View (Queue H K) H) (m n : Sat H K) (idle : IsIdle d) (took_in : m ≡ (joined d.seat.me.0 (fresh o []), d.seat.me.1))

@@ -1,4 +1,3 @@
-pub mod Sums
 pub mod Prefixes
 pub mod Untold
 pub mod Turns

@@ -13,16 +13,17 @@ use prog.Atomic.{either}
 use Rattle.atomic_table.specs.Table.{Act, Valid, carried_after, step, keeps, takes, gives, rest, homes_after, stepped, Allows, Enters, Splits, Joins, opening}
 use Rattle.atomic_table.proofs.Lists.{at_set, set_here, set_else, at_snoc, exchanged}
 use Rattle.loop_model.specs.declared.entry.Entry.{Entry}
+use Rattle.loop_model.specs.Lists.{total, longer}
 use Rattle.loop_model.specs.Answers.{Setting}
 use Rattle.shared_queue.specs.Constants.{Constants, made_in, IsStateOf}
 use Rattle.queue_state.specs.Queue.{Queue}
 use Rattle.shared_queue.specs.declared.view.View.{View}
-use Rattle.shared_queue.specs.Weights.{total}
-use Rattle.shared_queue.specs.Turn.{IsFirst, Board, turn_of, holds, Counts, Fits, AtHome, Turn, numbers_from, opening_view, counted, taking, giving, fresh, keeping, longer, joined, gone}
+use Rattle.shared_queue.specs.Turn.{IsFirst, Board, turn_of, holds, Counts, Fits, AtHome, Turn, new_senders, opening_view, counted, taking, giving, fresh, keeping, joined, gone}
 use Rattle.shared_queue.proofs.Untold.{set_at, has_first, untold_before, untold_front, told_one}
 use Rattle.shared_queue.specs.Plays.{Sat, bare, sat, took, gave, MayGive, learned, rang, listened}
-use Rattle.shared_queue.proofs.Sums.{total-append, total-set, term_le, terms_le}
-use Rattle.shared_queue.proofs.Prefixes.{prefix_self, prefix_front, prefix_trans, longer_begins, made_in_push, one_of-no, made_in_between}
+use Rattle.loop_model.proofs.Sums.{total-append, total-set, term_le, terms_le}
+use Rattle.loop_model.proofs.Prefixes.{prefix_self, prefix_front, prefix_trans, longer_begins}
+use Rattle.shared_queue.proofs.Prefixes.{made_in_push, one_of-no, made_in_between}
 
 abbrev shown_or : {H K : Type 0} → Queue H K → Option (Queue H K) → Queue H K
 shown_or d None = d
@@ -427,22 +428,22 @@ module _ {H K : Type 0} (key : Constants H) where
         turn = λ e. absurd (true≢false (sym e));
       }
         where
-          all_below : (from count : ℕ) → from + count ≤ key.setting.senders → All (IsBelow key) (numbers_from from count)
+          all_below : (from count : ℕ) → from + count ≤ key.setting.senders → All (IsBelow key) (new_senders from count)
           all_below from zero le = All-nil (IsBelow key)
-          all_below from (suc count) le = All-cons (IsBelow key) (from, 0) (numbers_from (suc from) count) (omega arith) (all_below (suc from) count (omega arith))
+          all_below from (suc count) le = All-cons (IsBelow key) (from, 0) (new_senders (from + 1) count) (omega arith) (all_below (from + 1) count (omega arith))
 
-          no_calls : (from count : ℕ) → All (Counts [] []) (numbers_from from count)
+          no_calls : (from count : ℕ) → All (Counts [] []) (new_senders from count)
           no_calls from zero = All-nil (Counts [] [])
-          no_calls from (suc count) = All-cons (Counts [] []) (from, 0) (numbers_from (suc from) count) (refl, refl) (no_calls (suc from) count)
+          no_calls from (suc count) = All-cons (Counts [] []) (from, 0) (new_senders (from + 1) count) (refl, refl) (no_calls (from + 1) count)
 
       first_only : (j : ℕ) (v : View (Queue H K) H) → get_elem? (opening_view key ∷ []) j ≡ some v → Fits key [] v
       first_only zero v e = subst (Fits key []) (some-injective (opening_view key) v e) fits
       first_only (suc j) v e = absurd (some-ne-none v (sym e))
 
-      placed_from : (n from count : ℕ) → (from ≤ n → n < from + count → total (λ (p : ℕ × ℕ). cond (eqb p.0 n) 1 0) (numbers_from from count) ≡ 1) × (n < from → total (λ (p : ℕ × ℕ). cond (eqb p.0 n) 1 0) (numbers_from from count) ≡ 0)
+      placed_from : (n from count : ℕ) → (from ≤ n → n < from + count → total (λ (p : ℕ × ℕ). cond (eqb p.0 n) 1 0) (new_senders from count) ≡ 1) × (n < from → total (λ (p : ℕ × ℕ). cond (eqb p.0 n) 1 0) (new_senders from count) ≡ 0)
       placed_from n from zero = ((λ a b. absurd (omega arith)), λ _. refl)
       placed_from n from (suc count) =
-          let next = placed_from n (suc from) count in
+          let next = placed_from n (from + 1) count in
           dite (ℕ_discrete from n)
           (λ is. let one : cond {A = ℕ} (eqb from n) 1 0 ≡ 1 = ap (λ b. cond {A = ℕ} b 1 0) (eq-eqb from n is) in ((λ a b. omega (arith, next.1 (omega arith))), λ a. absurd (omega arith)))
           (λ apart. let no : cond {A = ℕ} (eqb from n) 1 0 ≡ 0 = ap (λ b. cond {A = ℕ} b 1 0) (ne_eqb from n apart) in ((λ a b. omega (arith, next.0 (omega arith) (omega arith))), λ a. omega (arith, next.1 (omega arith))))

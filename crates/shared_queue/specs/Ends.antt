@@ -12,7 +12,7 @@ use Rattle.when_queue.specs.Queue.{items_of}
 use Rattle.queue_state.specs.Queue.{Queue}
 use Rattle.shared_queue.specs.declared.view.View.{View}
 use Rattle.shared_queue.specs.Constants.{Constants, made_in}
-use Rattle.shared_queue.specs.Turn.{opening_view, numbers_from, keeping}
+use Rattle.shared_queue.specs.Turn.{opening_view, new_senders, keeping}
 use Rattle.shared_queue.specs.Known.{Shared, Known, IsOf, Rests, made_by}
 
 module _ {K : Type 0} where
@@ -45,7 +45,7 @@ module _ {H K : Type 0} where
 
   -- the first seat, once the sender numbers below `sender` have seats of their own
   abbrev pub undealt : Constants H → ℕ → View (Queue H K) H
-  undealt key sender = keeping (opening_view key) (numbers_from sender (key.setting.senders - sender))
+  undealt key sender = keeping (opening_view key) (new_senders sender (key.setting.senders - sender))
 
   -- the sender number of the poster, with the number of its entries
   abbrev pub number_of : Known H K → ℕ × ℕ

@@ -1,4 +1,3 @@
-pub mod Weights
 pub mod Constants
 pub mod Turn
 pub mod Plays

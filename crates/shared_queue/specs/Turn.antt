@@ -1,13 +1,14 @@
 -- The rule of the turn over the state of a queue. Word 0 is 1 while a seat has the turn, and word 1 is the bell. The one slot is the state's home.
-use Rattle.std.specs.Prelude.{◌≡◌, ℕ, zero, suc, ◌+◌, ◌%◌, ◌^◌, ◌<◌, ◌==◌, true, false, cond, nat_lt, List, [], ◌∷◌, ◌++◌, map, length, slice_index, All, Option, Some, None}
+use Rattle.std.specs.Prelude.{◌≡◌, ℕ, ◌+◌, ◌%◌, ◌^◌, ◌<◌, ◌==◌, true, false, cond, List, [], ◌∷◌, ◌++◌, map, length, slice_index, All, Option, Some, None}
+use Rattle.std.specs.List.{range_with_len}
 use mathlib.Core.Option.{some}
 use mathlib.Core.List.{IsPrefix}
 use lib.ListN.{get_elem?}
 use Rattle.atomic_table.specs.Table.{State}
 use Rattle.loop_model.specs.declared.entry.Entry.{Entry}
+use Rattle.loop_model.specs.Lists.{total, longer}
 use Rattle.queue_state.specs.Queue.{Queue}
 use Rattle.shared_queue.specs.declared.view.View.{View}
-use Rattle.shared_queue.specs.Weights.{total}
 use Rattle.shared_queue.specs.Constants.{Constants, made_in, IsStateOf}
 
 abbrev pub Board : Type 0 → Type 0 → Type 0
@@ -18,16 +19,12 @@ abbrev pub Counts : List Entry → List Entry → ℕ × ℕ → Type 0
 Counts whole seen p = (made_in p.0 whole ≡ p.1) × (made_in p.0 seen ≡ p.1)
 
 -- the sender numbers from `from` on, `count` of them, with no entry yet
-abbrev pub numbers_from : ℕ → ℕ → List (ℕ × ℕ)
-numbers_from from zero = []
-numbers_from from (suc count) = (from, 0) ∷ numbers_from (suc from) count
+abbrev pub new_senders : ℕ → ℕ → List (ℕ × ℕ)
+new_senders from count = map (λ n. (n, 0)) (range_with_len from count)
 
 -- the same senders, each with the number of its entries in this history
 abbrev pub counted : List Entry → List (ℕ × ℕ) → List (ℕ × ℕ)
 counted history senders = map (λ p. (p.0, made_in p.0 history)) senders
-
-abbrev pub longer : List Entry → List Entry → List Entry
-longer xs ys = cond (nat_lt (length xs) (length ys)) ys xs
 
 module _ {H K : Type 0} where
   -- 1 where the view has the turn
@@ -83,7 +80,7 @@ module _ {H K : Type 0} where
 
   -- the first seat: it has all sender numbers, and the history is empty
   abbrev pub opening_view : Constants H → View (Queue H K) H
-  opening_view key = record { constants = Some key; senders = numbers_from 0 key.setting.senders; seen = []; told = []; has_turn = false; turns = 0; found = None; left = None; rung = 0; heard = 0 }
+  opening_view key = record { constants = Some key; senders = new_senders 0 key.setting.senders; seen = []; told = []; has_turn = false; turns = 0; found = None; left = None; rung = 0; heard = 0 }
 
   -- a seat that wins the turn finds the state x
   abbrev pub taking : View (Queue H K) H → Queue H K → View (Queue H K) H

@@ -1,7 +1,7 @@
 // One sender's way to a queue.
 ghost use Rattle.std.specs.Prelude.{◌≡◌, ◌+◌, false, [], ◌∷◌, length};
 ghost use mathlib.Core.List.{IsPrefix};
-ghost use Rattle.shared_queue.specs.Turn.{longer};
+ghost use Rattle.loop_model.specs.Lists.{longer};
 ghost use Rattle.shared_queue.specs.Desk.{IsIdle};
 ghost use Rattle.shared_queue.specs.Known.{Known, IsOf, IsSame, made_by};
 

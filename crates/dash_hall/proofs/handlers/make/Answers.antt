@@ -1,6 +1,7 @@
 use Rattle.std.proofs.Common.{true, None}
 use Rattle.loop_model.specs.declared.post.Kind.TheVariants as kind
-use Rattle.handler_post.specs.Forms.{message_by, callback_by, filter_by, moment_after}
+use Rattle.loop_model.specs.Posts.{moment_after}
+use Rattle.handler_post.specs.Forms.{message_by, callback_by, filter_by}
 use Rattle.dash_hall.proofs.Calling.{by_send, by_erase}
 use Rattle.dash_hall.proofs.handlers.make.Goals as goal
 

@@ -1,7 +1,7 @@
 use Rattle.std.proofs.Common.{◌≡◌, ◌+◌, List, length, map}
 use Rattle.loop_model.specs.declared.entry.Entry.{Entry}
 use Rattle.loop_model.specs.declared.journal.Journal.{Journal}
-use Rattle.run_model.specs.Senders.{numbers_from}
+use Rattle.std.specs.List.{range_with_len}
 use Rattle.dash_stage.specs.Runs.{HaveRunAll}
 use Rattle.dash_hall.specs.Hearing.{HaveSeenAll}
 use Rattle.dash_stage.specs.Sharing.{OfLoopers, OfKits}
@@ -12,7 +12,7 @@ use Rattle.dash_stage.proofs.kept.looper_kits.Given as goal
 
 abbrev pub invariant-each : goal.invariant-each
 invariant-each l = AreLoopersFrom l.script l.hall (length l.journals.items) l.loopers.items × (length l.kits.items ≡ l.script.threads + length l.journals.items)
-    × AreFirstKits l.script l.hall l.kits.items × (map (λ (j : Journal). j.looper) l.journals.items ≡ numbers_from 0 (length l.journals.items))
+    × AreFirstKits l.script l.hall l.kits.items × (map (λ (j : Journal). j.looper) l.journals.items ≡ range_with_len 0 (length l.journals.items))
     × (HaveRunAll l.script l.initial.kits.items → HaveRunAll l.script l.kits.items)
     × (OthersHaveEnded l.initial.loopers.items → HaveEndedFrom (length l.journals.items) l.loopers.items × AreOverAmong l.script l.kits.items)
     × (LoopersGoOn l.initial.loopers.items → LoopersGoOn l.loopers.items × HaveTold l.script l.journals.items l.kits.items)

@@ -1,5 +1,5 @@
 use Rattle.std.proofs.Common.{sym, subst}
-use Rattle.shared_queue.proofs.Prefixes.{prefix_self}
+use Rattle.loop_model.proofs.Prefixes.{prefix_self}
 use Rattle.looper_run.specs.Holding.{Sender}
 use Rattle.dash_hall.specs.Hearing.{AreKept, AreReady, AreKnown}
 use Rattle.dash_stage.specs.Sharing.{OfLoopers}
