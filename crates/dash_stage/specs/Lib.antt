@@ -7,6 +7,7 @@ pub mod Hosts
 pub mod Threads
 pub mod Loopers
 pub mod Players
+pub mod Played
 pub mod Controllers
 pub mod Staged
 pub mod Records

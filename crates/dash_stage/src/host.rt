@@ -1,12 +1,18 @@
 //! The looper on which a choreographer runs, as the choreographer sees it.
-ghost use Rattle.std.specs.Prelude.{◌≡◌, ◌<◌, ℕ, ◌==◌, [], ◌∷◌, IfOk, OnOk};
+ghost use Rattle.std.specs.Prelude.{◌≡◌, ◌<◌, ℕ, ◌==◌, List, [], ◌∷◌, fold, IfOk, OnOk};
+ghost use mathlib.Core.List.{IsPrefix};
 ghost use Rattle.loop_model.specs.declared.call.Call.TheVariants.{Barrier, Unbarrier};
 ghost use Rattle.choreographer.specs.Known.{IsOf as IsFrameOf};
-ghost use Rattle.dash_stage.specs.Growth.{Makes};
+ghost use Rattle.choreographer.specs.Calls.{PulsedBy};
+ghost use Rattle.dash_script.specs.declared.script.Script.{Script as ScriptData};
+ghost use Rattle.run_model.specs.Loopers.{callback_ran};
+ghost use Rattle.dash_stage.specs.Growth.{own, Makes};
+ghost use Rattle.dash_stage.specs.Played.{RanFrame, Shows};
 ghost use Rattle.dash_stage.specs.Kits.{frame_badge_of};
 ghost use Rattle.dash_stage.specs.Hosts.{Origin, origin_of, IsHost, nanos_of, sends_by, PlacesBy};
 
 use crate::barriers::{post_barrier, remove_barrier};
+use crate::frame_run::FrameRun;
 use crate::view_root::ViewRoot;
 use choreographer::{Choreographer, FrameHost, FramePass, Framed, HostSent, Placed, Pulse};
 use handler_post::{Handler, Sent, Way};
@@ -110,6 +116,7 @@ impl<'a, R: Wait> Host<'a, R> {
         ensures ready { IsHost (origin_of self.new.queue.now self.new.pool.now self.new.poster.ghost_name self.new.pass.ghost_name self.new.began.now.value self.new.pass_began.now.value self.new.handler.id self.new.now) self.new.poster.now self.new.pass.now }
         ensures origin { origin_of self.new.queue.now self.new.pool.now self.new.poster.ghost_name self.new.pass.ghost_name self.new.began.now.value self.new.pass_began.now.value self.new.handler.id self.new.now ≡ origin_of self.old.queue.now self.old.pool.now self.old.poster.ghost_name self.old.pass.ghost_name self.old.began.now.value self.old.pass_began.now.value self.old.handler.id self.old.now }
         ensures pass { frame_badge_of pass.new ≡ frame_badge_of pass.old }
+        ensures pulse { PulsedBy pass.old pass.new (λ n. n == nanos_of self.old.now) (sends_by self.old.handler.id self.old.poster.now) (sends_by self.new.handler.id self.new.poster.now) result }
     {
         c.on_vsync(self.rt, pass, self)
     }
@@ -128,8 +135,18 @@ impl<'a, R: Wait> Host<'a, R> {
         ensures origin { origin_of self.new.queue.now self.new.pool.now self.new.poster.ghost_name self.new.pass.ghost_name self.new.began.now.value self.new.pass_began.now.value self.new.handler.id self.new.now ≡ origin_of self.old.queue.now self.old.pool.now self.old.poster.ghost_name self.old.pass.ghost_name self.old.began.now.value self.old.pass_began.now.value self.old.handler.id self.old.now }
         ensures pass { frame_badge_of pass.new ≡ frame_badge_of pass.old }
         ensures root { frame_badge_of root.new.pass ≡ frame_badge_of root.old.pass }
+        ensures ran { OnOk result ((ids : List ℕ) × RanFrame c.now.constants.interval c.now.constants.phases pass.old pass.new ids
+            × ((s : ScriptData) (q : ℕ) → Shows s q (λ a. fold (callback_ran s q self.old.now) a ids) (own self.old.poster.now) root.old (own self.new.poster.now) root.new)) }
     {
-        match c.do_frame(self.rt, pass, self, root) {
+        let began = Snapshot::of(&*root);
+        let poster_began = Snapshot::of(&*self.poster);
+        let mut client = FrameRun {
+            root,
+            began: &began,
+            poster_began: &poster_began,
+            ran: Vec::new(self.alloc),
+        };
+        match c.do_frame(self.rt, pass, self, &mut client) {
             Framed::NoMemory => Err(NoMemory),
             _ => Ok(()),
         }
@@ -142,6 +159,8 @@ impl<'a, R: Wait> Host<'a, R> {
         ensures ready { IsHost (origin_of self.new.queue.now self.new.pool.now self.new.poster.ghost_name self.new.pass.ghost_name self.new.began.now.value self.new.pass_began.now.value self.new.handler.id self.new.now) self.new.poster.now self.new.pass.now }
         ensures origin { origin_of self.new.queue.now self.new.pool.now self.new.poster.ghost_name self.new.pass.ghost_name self.new.began.now.value self.new.pass_began.now.value self.new.handler.id self.new.now ≡ origin_of self.old.queue.now self.old.pool.now self.old.poster.ghost_name self.old.pass.ghost_name self.old.began.now.value self.old.pass_began.now.value self.old.handler.id self.old.now }
         ensures pass { frame_badge_of pass.new ≡ frame_badge_of pass.old }
+        ensures seen { IsPrefix pass.old.view.seen pass.new.view.seen }
+        ensures calls { own self.new.poster.now ≡ own self.old.poster.now }
     {
         c.on_due(self.rt, pass, self, phase);
     }

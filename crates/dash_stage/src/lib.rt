@@ -4,6 +4,7 @@
 mod barriers;
 mod calls;
 mod control;
+mod frame_run;
 mod hall;
 mod handlers;
 mod host;
