@@ -20,6 +20,8 @@ use Rattle.dash_script.specs.declared.script.Script.{Script}
 use Rattle.dash_script.specs.Reading.{HasText}
 use Rattle.looper_run.specs.Holding.{Sender}
 use Rattle.choreographer.specs.Known.{Known as Pass}
+use Rattle.choreographer.specs.declared.host.HostSent.TheVariants as host
+use Rattle.choreographer.specs.declared.hosted.Pulse.{Pulse}
 use Rattle.choreographer.specs.Client.{Run}
 use Rattle.run_model.specs.Asks.{Makes, AreFor, tokens_in, entries_by}
 use Rattle.run_model.specs.Senders.{looper_of}
@@ -150,6 +152,12 @@ pulsed q (Some stamp) a = record a { sent = a.sent ++ record { queue = q; ask = 
 abbrev pub pulse_time : Option ℕ → ℕ
 pulse_time None = 0
 pulse_time (Some stamp) = millis_up stamp
+
+-- what came of a pulse: the frame message was sent, unless memory was wanting, or no pulse came
+abbrev pub DeliversPulse : Script → ℕ → ℕ → List Entry → List Entry → Parts → Parts → Option Pulse → Type 0
+DeliversPulse s q now made made' parts parts' None = IsPrefix parts.frames.view.seen parts'.frames.view.seen × Plays s q (pulsed q None) made parts made' parts'
+DeliversPulse s q now made made' parts parts' (Some pulse) =
+    (pulse.sent ≢ host.NoMemory → IsPrefix parts.frames.view.seen parts'.frames.view.seen × (millis_up pulse.stamp ≤ now) × Plays s q (pulsed q (Some pulse.stamp)) made parts made' parts')
 
 -- a pulse was delivered and told, or none came
 pub record Pulses (s : Script) (q now : ℕ) (made made' : List Entry) (parts parts' : Parts) (acts acts' : List Act) : Type 0 where

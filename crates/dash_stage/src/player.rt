@@ -16,7 +16,7 @@ ghost use Rattle.dash_stage.specs.Growth.{own as calls_of, Makes};
 ghost use Rattle.dash_stage.specs.declared.player.Parts.{Parts as PartsData};
 ghost use Rattle.dash_script.specs.Reading.{HasText};
 ghost use Rattle.dash_stage.specs.Requests.{call_by};
-ghost use Rattle.dash_stage.specs.Played.{FiresAt, Plays, Delivers, Pulses, IsPlaying, rule_met, with_call, paint_of};
+ghost use Rattle.dash_stage.specs.Played.{FiresAt, Plays, DeliversPulse, Delivers, Pulses, IsPlaying, rule_met, with_call, paint_of};
 ghost use Rattle.loop_model.specs.declared.post.Post.{Post as PostData};
 ghost use Rattle.run_model.specs.Senders.{frame_handler as the_frame_handler};
 ghost use Rattle.run_model.specs.Control.{Timing};
@@ -185,12 +185,14 @@ impl<'a, R: Wait> Place<'a, R> {
     }
 
     /// Delivers the pulse that is asked for, if it came.
-    fn deliver(&self, parts: &mut Parts, own: &mut Own, now: u64) -> Option<Pulse>
+    fn deliver_pulse(&self, parts: &mut Parts, own: &mut Own, now: u64) -> Option<Pulse>
         requires serves { ServesAt self.now.script.now self.now.hall.now self.now.looper parts.old (workplace (held own.old)) }
         ensures parts { AreSameParts parts.old parts.new }
         ensures own { IsSameOwn own.old own.new }
         ensures lent { IsLent (held own.old) (held own.new) }
         ensures rung { own.new.poster.now.view.rung ≡ own.old.poster.now.view.rung }
+        ensures pulses { DeliversPulse self.now.script.now self.now.looper now (calls_of own.old.poster.now) (calls_of own.new.poster.now) parts.old parts.new result }
+        ensures acts { own.new.journal.now.acts ≡ own.old.journal.now.acts }
     {
         let began = Snapshot::of(&*own.poster);
         let pass_began = Snapshot::of(&*own.pass);
@@ -207,7 +209,7 @@ impl<'a, R: Wait> Place<'a, R> {
         ensures rung { own.new.poster.now.view.rung ≡ own.old.poster.now.view.rung }
         ensures pulses { Unless result (Pulses self.now.script.now self.now.looper now (calls_of own.old.poster.now) (calls_of own.new.poster.now) parts.old parts.new own.old.journal.now.acts own.new.journal.now.acts) }
     {
-        match self.deliver(parts, own, now) {
+        match self.deliver_pulse(parts, own, now) {
             None => Did::No,
             Some(pulse) => {
                 if pulse.sent == HostSent::NoMemory {

@@ -227,7 +227,7 @@ impl ViewRoot {
     }
 
     /// Runs a frame callback, by its identity.
-    fn run_callback<R: Wait>(
+    pub(crate) fn run_callback<R: Wait>(
         &mut self,
         c: &Choreographer,
         host: &mut Host<R>,
