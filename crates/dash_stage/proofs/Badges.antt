@@ -13,8 +13,8 @@ use Rattle.looper_run.specs.Holding.{Sender, State}
 use Rattle.message_pool.specs.Passes.{Tally}
 use Rattle.choreographer.specs.declared.kept.Kept.{Kept}
 use Rattle.choreographer.specs.Known.{Shared as Frames, Known as Pass, IsOf as IsFrameOf, IsTurn as IsFrameTurn}
-use Rattle.dash_stage.specs.Growth.{GoesOn}
-use Rattle.dash_stage.specs.Kits.{Badge, badge_of, badge_for, ArePostersOf, FrameBadge, frame_badge_of, frame_badge_for, ArePassesOf, queue_key, queue_constants, AreQueuesOf, frame_key, frame_constants, AreChoreographersOf}
+use Rattle.dash_hall.specs.Growth.{GoesOn}
+use Rattle.dash_hall.specs.Kits.{Badge, badge_of, badge_for, ArePostersOf, FrameBadge, frame_badge_of, frame_badge_for, ArePassesOf, queue_key, queue_constants, AreQueuesOf, frame_key, frame_constants, AreChoreographersOf}
 
 module _ {X Y Z : Type 0} (f : X → Z) (g : Y → Z) where
   -- lists that look alike are as long, and look alike at each place

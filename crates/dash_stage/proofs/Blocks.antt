@@ -5,8 +5,8 @@ use Rattle.std.proofs.lemmas.Grind.{flat_map-append}
 use Rattle.dash_script.specs.declared.script.Block.{Block}
 use Rattle.dash_script.specs.declared.script.Script.{Script}
 use Rattle.run_model.specs.Planned.{Timed, lines_in, lines_of}
-use Rattle.dash_stage.specs.declared.thread.PostingThread.{PostingThread}
-use Rattle.dash_stage.specs.Threads.{IsUpTo}
+use Rattle.dash_threads.specs.declared.thread.PostingThread.{PostingThread}
+use Rattle.dash_threads.specs.Threads.{IsUpTo}
 use Rattle.dash_stage.specs.Stages.{HaveRun, RunOn}
 
 module _ (bs : List Block) (i : ℕ) (b : Block) (lt : i < length bs) (is : b ≡ slice_index_or bs i b) where

@@ -15,21 +15,21 @@ use Rattle.looper_run.specs.Holding.{Sender}
 use Rattle.choreographer.specs.Known.{Known as Pass}
 use Rattle.run_model.specs.Moments.{in_lockstep}
 use Rattle.run_model.specs.Senders.{numbers_from, phase_count}
-use Rattle.run_model.specs.Asks.{entries_by, tokens_in}
+use Rattle.run_model.specs.Asks.{entries_by, tokens_in, AreFor}
 use Rattle.run_model.specs.Planned.{Timed, lines_of, labels_on, MakeCalls, IsPlanned}
-use Rattle.run_model.specs.Asks.{AreFor}
 use Rattle.run_model.specs.FrameRuns.{posts_frame, removes_frame}
 use Rattle.run_model.specs.Run.{IsAsPlanned, IsFrameRun, is_frame_line, is_unframe_line}
-use Rattle.dash_stage.specs.declared.hall.Hall.{Hall}
-use Rattle.dash_stage.specs.declared.kit.Kit.{Kit}
-use Rattle.dash_stage.specs.declared.labels.Labelled.{Labelled}
-use Rattle.dash_stage.specs.declared.thread.PostingThread.{PostingThread}
-use Rattle.dash_stage.specs.Growth.{own}
-use Rattle.dash_stage.specs.Kits.{badge_of, badge_for, frame_badge_of, frame_badge_for, IsHall, IsKitOf, AreKitsOf}
-use Rattle.dash_stage.specs.Threads.{IsThread, IsUpTo, HasMadeNone, HasCalled, HasPosted, HasRemoved, labels_kept, tokens_kept}
+use Rattle.dash_hall.specs.declared.hall.Hall.{Hall}
+use Rattle.dash_hall.specs.declared.kit.Kit.{Kit}
+use Rattle.dash_threads.specs.declared.labels.Labelled.{Labelled}
+use Rattle.dash_threads.specs.declared.thread.PostingThread.{PostingThread}
+use Rattle.dash_hall.specs.Growth.{own}
+use Rattle.dash_hall.specs.Kits.{badge_of, badge_for, frame_badge_of, frame_badge_for, IsHall, IsKitOf, AreKitsOf, IsUnusedKit, AreUnusedKits}
+use Rattle.dash_threads.specs.Threads.{IsThread, IsUpTo, HasMadeNone, HasCalled, HasPosted, HasRemoved, labels_kept, tokens_kept}
 use Rattle.dash_stage.specs.Staged.{IsFrameRecord}
-use Rattle.dash_stage.specs.Records.{AreQueueRecords, AreFrameRecords, HaveAll, HaveSeen, AreUsedNowhere}
-use Rattle.dash_stage.specs.Runs.{IsUnusedKit, AreUnusedKits, HasRunAll, HaveRunAll, HaveRunFrom}
+use Rattle.dash_stage.specs.Records.{AreQueueRecords, AreFrameRecords, HaveAll, HaveSeen}
+use Rattle.dash_hall.specs.Dealing.{AreUsedNowhere}
+use Rattle.dash_stage.specs.Runs.{HasRunAll, HaveRunAll, HaveRunFrom}
 use Rattle.dash_stage.specs.Stages.{AreThreadsFrom, AreFirstKits, AreFirstThreads, AreKitsFrom, HaveRun}
 use Rattle.dash_stage.proofs.Badges.{alike_length, queue_count, choreographer_count}
 use Rattle.dash_stage.proofs.Casting.{first_more, first_thread, other_threads, kit_of_thread, other_kits, frames_of_thread}

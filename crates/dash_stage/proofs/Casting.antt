@@ -7,14 +7,14 @@ use Rattle.loop_model.specs.declared.journal.Journal.{Journal}
 use Rattle.dash_script.specs.declared.script.Script.{Script}
 use Rattle.choreographer.specs.Known.{Shared as Frames}
 use Rattle.run_model.specs.Senders.{sender_count, controller, numbers_from}
-use Rattle.dash_stage.specs.declared.hall.Hall.{Hall}
-use Rattle.dash_stage.specs.declared.kit.Kit.{Kit}
-use Rattle.dash_stage.specs.declared.thread.PostingThread.{PostingThread}
-use Rattle.dash_stage.specs.declared.looper.StageLooper.{StageLooper}
+use Rattle.dash_hall.specs.declared.hall.Hall.{Hall}
+use Rattle.dash_hall.specs.declared.kit.Kit.{Kit}
+use Rattle.dash_threads.specs.declared.thread.PostingThread.{PostingThread}
+use Rattle.dash_loopers.specs.declared.looper.StageLooper.{StageLooper}
 use Rattle.dash_stage.specs.declared.control.Controller.{Controller}
-use Rattle.dash_stage.specs.Kits.{FrameBadge, frame_badge_of, frame_badge_for, frames_for, looper_frames, ArePostersOf, IsHall, IsKitOf, AreKitsOf}
-use Rattle.dash_stage.specs.Threads.{IsThread}
-use Rattle.dash_stage.specs.Loopers.{IsLooper}
+use Rattle.dash_hall.specs.Kits.{FrameBadge, frame_badge_of, frame_badge_for, frames_for, looper_frames, ArePostersOf, IsHall, IsKitOf, AreKitsOf}
+use Rattle.dash_threads.specs.Threads.{IsThread}
+use Rattle.dash_loopers.specs.Loopers.{IsLooper}
 use Rattle.dash_stage.specs.Controllers.{IsController}
 use Rattle.dash_stage.specs.Stages.{AreKitsFrom, AreThreadsFrom, AreLoopersFrom, AreFirstKits, AreFirstThreads, AreFirstLoopers, AreThreads, AreLoopers, AreSenderKits}
 

@@ -27,15 +27,15 @@ use Rattle.looper_run.specs.Holding.{Sender, State}
 use Rattle.run_model.specs.Senders.{controller, sender_count}
 use Rattle.run_model.specs.Asks.{entries_by}
 use Rattle.run_model.specs.Control.{are_controls}
-use Rattle.dash_stage.specs.declared.hall.Hall.{Hall}
+use Rattle.dash_hall.specs.declared.hall.Hall.{Hall}
 use Rattle.dash_stage.specs.declared.control.Controller.{Controller}
-use Rattle.dash_stage.specs.Growth.{own}
-use Rattle.dash_stage.specs.Kits.{IsHall, queue_constants}
+use Rattle.dash_hall.specs.Growth.{own}
+use Rattle.dash_hall.specs.Kits.{IsHall, queue_constants}
 use Rattle.dash_stage.specs.Controllers.{IsController, are_advances, time_in, calls_on, OnlyMoves, HasReached, IsQuitting, IsClosing, HasClosed, CallsNone}
 use Rattle.dash_stage.specs.Timeliness.{AreBy, whole_on}
 use Rattle.dash_stage.proofs.Badges.{queue_is}
 use Rattle.dash_stage.proofs.HallEnds.{own_entries}
-use Rattle.dash_stage.proofs.ThreadGrowth.{turn_makes, own_of_one}
+use Rattle.dash_hall.proofs.Growing.{turn_makes, own_of_one}
 use Rattle.dash_stage.proofs.Controlling.{own_poster, has_poster}
 use Rattle.dash_stage.proofs.ControlKept.{calls_kept}
 use Rattle.dash_stage.proofs.Controls.{time_by_controller, main_is_not_over, one_advance_more, quits_at_end, halts_at_end, time_in-snoc}

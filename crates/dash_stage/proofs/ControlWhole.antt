@@ -27,7 +27,7 @@ use Rattle.run_model.specs.Control.{ends_halted}
 use Rattle.run_model.specs.Senders.{sender_count}
 use Rattle.dash_stage.specs.Controllers.{calls_on, time_in}
 use Rattle.dash_stage.specs.declared.control.Controller.{Controller}
-use Rattle.dash_stage.specs.Growth.{own, QuitsOf}
+use Rattle.dash_hall.specs.Growth.{own, QuitsOf}
 use Rattle.dash_stage.specs.Timeliness.{TurnsOn, EachTurnsOn, MovesNot, IsNone, whole_on}
 use Rattle.dash_stage.proofs.ControlTurns.{with_poster, found_own, poster_here}
 use Rattle.dash_stage.proofs.Timely.{ends_halted-snoc}

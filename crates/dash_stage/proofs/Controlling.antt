@@ -8,13 +8,13 @@ use Rattle.shared_queue.specs.Constants.{Constants}
 use Rattle.shared_queue.specs.Known.{Shared, IsOf, IsTurn}
 use Rattle.looper_run.specs.Holding.{Sender, State}
 use Rattle.message_pool.specs.Passes.{Tally}
-use Rattle.dash_stage.specs.Growth.{GoesOn}
+use Rattle.dash_hall.specs.Growth.{GoesOn}
 use Rattle.choreographer.specs.declared.kept.Kept.{Kept}
 use Rattle.choreographer.specs.Known.{Shared as Frames, Known as Pass, IsOf as IsFrameOf, IsTurn as IsFrameTurn}
 use Rattle.run_model.specs.Senders.{controller}
-use Rattle.dash_stage.specs.declared.hall.Hall.{Hall}
+use Rattle.dash_hall.specs.declared.hall.Hall.{Hall}
 use Rattle.dash_stage.specs.declared.control.Controller.{Controller}
-use Rattle.dash_stage.specs.Kits.{badge_of, badge_for, frame_badge_of, frame_badge_for, IsHall}
+use Rattle.dash_hall.specs.Kits.{badge_of, badge_for, frame_badge_of, frame_badge_for, IsHall}
 use Rattle.dash_stage.specs.Controllers.{IsController}
 use Rattle.dash_stage.proofs.Badges.{alike_length, queue_count, choreographer_count, poster_is, pass_is, queue_is, posters_kept, passes_kept, turn_badge, gone_badge, frame_turn_badge}
 

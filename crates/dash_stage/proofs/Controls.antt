@@ -38,11 +38,11 @@ use Rattle.run_model.specs.Run.{IsHistory, IsControlled, all_entries, setting_of
 use Rattle.run_model.specs.Control.{is_advance, is_halt, is_safe_quit, is_empty, is_closing, are_controls, is_quit_by_others, disposed_count, is_controlled}
 use Rattle.run_model.proofs.RunLaws.{entries_by-append, entries_by-own, entries_by-unchanged}
 use Rattle.run_model.proofs.ControlLaws.{are_advances as are_advances_in, are_controls-last, are_controls-quit}
-use Rattle.dash_stage.specs.declared.hall.Hall.{Hall}
-use Rattle.dash_stage.specs.declared.kit.Kit.{Kit}
+use Rattle.dash_hall.specs.declared.hall.Hall.{Hall}
+use Rattle.dash_hall.specs.declared.kit.Kit.{Kit}
 use Rattle.dash_stage.specs.declared.control.Controller.{Controller}
-use Rattle.dash_stage.specs.Growth.{own}
-use Rattle.dash_stage.specs.Kits.{badge_of, badge_for, ArePostersOf, IsHall, AreKitsOf, OthersAreOver}
+use Rattle.dash_hall.specs.Growth.{own}
+use Rattle.dash_hall.specs.Kits.{badge_of, badge_for, ArePostersOf, IsHall, AreKitsOf, OthersAreOver}
 use Rattle.dash_stage.specs.Controllers.{are_advances, time_in, calls_on, HasClosed}
 use Rattle.dash_stage.specs.Records.{AreQueueRecords, HaveAll}
 use Rattle.dash_stage.proofs.Badges.{alike_length, queue_count}

@@ -11,17 +11,17 @@ use Rattle.dash_script.specs.declared.script.Script.{Script}
 use Rattle.run_model.specs.Asks.{entries_by}
 use Rattle.run_model.specs.Senders.{looper_sender}
 use Rattle.run_model.specs.Run.{EachLooper}
-use Rattle.dash_stage.specs.declared.hall.Hall.{Hall}
-use Rattle.dash_stage.specs.declared.kit.Kit.{Kit}
-use Rattle.dash_stage.specs.Growth.{own}
-use Rattle.dash_stage.specs.Kits.{badge_of, badge_for, IsHall, AreKitsOf}
-use Rattle.dash_stage.specs.Loopers.{HaveTold}
+use Rattle.dash_hall.specs.declared.hall.Hall.{Hall}
+use Rattle.dash_hall.specs.declared.kit.Kit.{Kit}
+use Rattle.dash_hall.specs.Growth.{own}
+use Rattle.dash_hall.specs.Kits.{badge_of, badge_for, IsHall, AreKitsOf}
+use Rattle.dash_loopers.specs.Loopers.{HaveTold}
 use Rattle.dash_stage.specs.Records.{AreQueueRecords, AreFrameRecords, AreJournals, HaveAll}
 use Rattle.dash_stage.specs.Staged.{IsDispatched}
 use Rattle.dash_stage.proofs.Badges.{alike_length, queue_count, poster_at}
 use Rattle.dash_stage.proofs.HallEnds.{some_of}
 use Rattle.dash_stage.proofs.Carried.{numbered_count, numbered_at}
-use Rattle.dash_stage.proofs.LooperTold.{taken_own}
+use Rattle.dash_loopers.proofs.LooperTold.{taken_own}
 
 -- what holds at each place holds of each looper
 pub each_looper : (P : QueueRecord → Journal → FrameRecord → Type 0) (qs : List QueueRecord) (js : List Journal) (fs : List FrameRecord) → length js ≡ length qs → length fs ≡ length qs

@@ -27,13 +27,13 @@ use Rattle.run_model.specs.Asks.{entries_by}
 use Rattle.run_model.specs.Moments.{in_lockstep}
 use Rattle.run_model.specs.Run.{IsHistory, all_entries, setting_of}
 use Rattle.run_model.proofs.RunLaws.{entries_by-append}
-use Rattle.dash_stage.specs.declared.kit.Kit.{Kit}
-use Rattle.dash_stage.specs.Growth.{own}
-use Rattle.dash_stage.specs.Kits.{Badge, badge_of, badge_for, AreQueuesOf, queue_key, queue_constants}
-use Rattle.dash_stage.specs.Dealing.{GivesPoster, EachGivesPoster}
+use Rattle.dash_hall.specs.declared.kit.Kit.{Kit}
+use Rattle.dash_hall.specs.Growth.{own}
+use Rattle.dash_hall.specs.Kits.{Badge, badge_of, badge_for, AreQueuesOf, queue_key, queue_constants}
+use Rattle.dash_hall.specs.Dealing.{GivesPoster, EachGivesPoster}
 use Rattle.dash_stage.specs.Records.{HasAllOf, HaveAll, AreQueueRecords}
 use Rattle.dash_stage.specs.Ending.{HavePosters, IsNext, AreNext, HaveAllPosters, IsKeptOf, EachEndsPoster, HaveLeft, KeepFrames}
-use Rattle.dash_stage.proofs.HallSteps.{within_parts, at_parts}
+use Rattle.dash_hall.proofs.HallSteps.{within_parts, at_parts}
 
 -- an element of a list that has one
 pub some_of : {X : Type 0} (xs : List X) (k : ℕ) → k < length xs → X

@@ -16,14 +16,14 @@ use Rattle.choreographer.specs.Known.{Shared as Frames, Known as Pass, IsOf as I
 use Rattle.choreographer.specs.declared.view.Constants.{Constants as FrameConstants}
 use Rattle.choreographer.specs.Ends.{AreInOrder, BeginWithSeen}
 use Rattle.run_model.specs.Senders.{numbers_from}
-use Rattle.dash_stage.specs.declared.kit.Kit.{Kit}
-use Rattle.dash_stage.specs.Kits.{FrameBadge, frame_badge_of, frame_badge_for, AreChoreographersOf, frame_key, frame_constants}
-use Rattle.dash_stage.specs.Dealing.{GivesPass, holder_of, given, given_of}
+use Rattle.dash_hall.specs.declared.kit.Kit.{Kit}
+use Rattle.dash_hall.specs.Kits.{FrameBadge, frame_badge_of, frame_badge_for, AreChoreographersOf, frame_key, frame_constants}
+use Rattle.dash_hall.specs.Dealing.{GivesPass, holder_of, given, given_of}
 use Rattle.dash_stage.specs.Records.{HaveSeen, AreFrameRecords}
 use Rattle.dash_stage.specs.Staged.{IsFrameRecord}
 use Rattle.dash_stage.specs.Ending.{BeginWithPasses, HaveAllPasses, HasFramesLeft, HaveFramesLeft, BeginWithNext, AreOfPool}
-use Rattle.dash_stage.proofs.HallPasses.{given_one, given_more, given_parts, given_none, is_given, not_given, given_all, of_thread, thread_holds}
-use Rattle.dash_stage.proofs.HallSteps.{within_parts, at_parts}
+use Rattle.dash_hall.proofs.HallPasses.{given_one, given_more, given_parts, given_none, is_given, not_given, given_all, of_thread, thread_holds}
+use Rattle.dash_hall.proofs.HallSteps.{within_parts, at_parts}
 use Rattle.dash_stage.proofs.HallEnds.{some_of, numbers_more}
 
 -- the passes with the first numbers were taken from the kits

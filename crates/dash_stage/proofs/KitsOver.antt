@@ -7,9 +7,9 @@ use Rattle.std.proofs.lemmas.List.{length-append}
 use Rattle.loop_model.specs.declared.journal.Journal.{Journal}
 use Rattle.dash_script.specs.declared.script.Script.{Script}
 use Rattle.looper_run.specs.Round.{is_ended}
-use Rattle.dash_stage.specs.declared.kit.Kit.{Kit}
-use Rattle.dash_stage.specs.declared.looper.StageLooper.{StageLooper}
-use Rattle.dash_stage.specs.Kits.{HasSeenOver, OthersAreOver}
+use Rattle.dash_hall.specs.declared.kit.Kit.{Kit}
+use Rattle.dash_loopers.specs.declared.looper.StageLooper.{StageLooper}
+use Rattle.dash_hall.specs.Kits.{HasSeenOver, OthersAreOver}
 use Rattle.dash_stage.proofs.Casting.{first_more}
 
 -- of the loopers from n on, each but the main one has ended

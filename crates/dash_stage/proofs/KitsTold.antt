@@ -8,9 +8,9 @@ use Rattle.std.proofs.Math.Seq.{get_or-append_seam}
 use Rattle.std.proofs.lemmas.List.{length-append}
 use Rattle.loop_model.specs.declared.journal.Journal.{Journal}
 use Rattle.dash_script.specs.declared.script.Script.{Script}
-use Rattle.dash_stage.specs.declared.kit.Kit.{Kit}
-use Rattle.dash_stage.specs.declared.looper.StageLooper.{StageLooper}
-use Rattle.dash_stage.specs.Loopers.{is_given_up, HasTold, HaveTold}
+use Rattle.dash_hall.specs.declared.kit.Kit.{Kit}
+use Rattle.dash_loopers.specs.declared.looper.StageLooper.{StageLooper}
+use Rattle.dash_loopers.specs.Loopers.{is_given_up, HasTold, HaveTold}
 use Rattle.dash_stage.specs.Stages.{LoopersGoOn}
 
 -- the loopers behind the first one

@@ -20,17 +20,18 @@ use Rattle.run_model.specs.Senders.{sender_count}
 use Rattle.looper_run.specs.Holding.{Sender}
 use Rattle.looper_run.specs.Round.{is_ended}
 use Rattle.run_model.specs.Asks.{entries_by}
-use Rattle.dash_stage.specs.declared.hall.Hall.{Hall}
-use Rattle.dash_stage.specs.declared.player.Parts.{Parts}
-use Rattle.dash_stage.specs.declared.looper.StageLooper.{StageLooper}
-use Rattle.dash_stage.specs.Kits.{badge_of, badge_for, frame_badge_of, IsHall, ArePostersOf}
-use Rattle.dash_stage.specs.Loopers.{ArePartsOf, IsLooper, is_given_up}
-use Rattle.dash_stage.specs.Sharing.{HasHeard, HaveHeard, AtEach, AreKept, AreKnown, Rest, LooperKeeps, OfLoopers, posters_of, others_in, rest_in, IsWithin, AreWithin}
-use Rattle.dash_stage.proofs.LooperLists.{map-insert, insert_removed}
-use Rattle.dash_stage.proofs.LooperTold.{told_same}
-use Rattle.dash_stage.proofs.LooperKits.{looper_of, others_many, its_queue}
-use Rattle.dash_stage.proofs.Hearing.{known_more, heard_badges}
-use Rattle.dash_stage.proofs.Sharing.{FirstAre, next_within}
+use Rattle.dash_hall.specs.declared.hall.Hall.{Hall}
+use Rattle.dash_loopers.specs.declared.player.Parts.{Parts}
+use Rattle.dash_loopers.specs.declared.looper.StageLooper.{StageLooper}
+use Rattle.dash_hall.specs.Kits.{badge_of, badge_for, frame_badge_of, IsHall, ArePostersOf}
+use Rattle.dash_loopers.specs.Loopers.{ArePartsOf, IsLooper, is_given_up, Rest, LooperKeeps, posters_of, others_in, rest_in, IsWithin}
+use Rattle.dash_hall.specs.Hearing.{HasHeard, HaveHeard, AtEach, AreKept, AreKnown}
+use Rattle.dash_stage.specs.Sharing.{OfLoopers, AreWithin}
+use Rattle.dash_loopers.proofs.LooperLists.{map-insert, insert_removed}
+use Rattle.dash_loopers.proofs.LooperTold.{told_same}
+use Rattle.dash_loopers.proofs.LooperKits.{looper_of, others_many, its_queue}
+use Rattle.dash_hall.proofs.Hearing.{known_more, heard_badges}
+use Rattle.dash_hall.proofs.Sharing.{FirstAre, next_within}
 
 -- a looper that is kept, and whose poster at this place is known
 pub record LooperTells (place : ℕ) (whole : List Entry) (before after : StageLooper) : Type 0 where

@@ -14,9 +14,10 @@ use Rattle.looper_run.specs.Holding.{Sender}
 use Rattle.run_model.specs.Senders.{sender_count}
 use Rattle.run_model.specs.Control.{is_advanced_in_time, befores}
 use Rattle.dash_stage.specs.declared.stage.Stage.{Stage}
-use Rattle.dash_stage.specs.Kits.{badge_of, badge_for, ArePostersOf, IsHall}
-use Rattle.dash_stage.specs.Runs.{AreUnseen}
-use Rattle.dash_stage.specs.Sharing.{seen_by, posters_of, OfThreads, OfLoopers}
+use Rattle.dash_hall.specs.Kits.{badge_of, badge_for, ArePostersOf, IsHall, AreUnseen}
+use Rattle.dash_hall.specs.Hearing.{seen_by}
+use Rattle.dash_loopers.specs.Loopers.{posters_of}
+use Rattle.dash_stage.specs.Sharing.{OfThreads, OfLoopers}
 use Rattle.dash_stage.specs.Stages.{AreThreads, AreLoopers}
 use Rattle.dash_stage.specs.Timeliness.{IsTimelyUpTo, AreTimelyUpTo, AreRested, WaitForNothing}
 use Rattle.dash_stage.proofs.Badges.{alike_length, queue_count}

@@ -7,7 +7,7 @@ use Rattle.dash_script.specs.declared.script.Script.{Script}
 use Rattle.dash_stage.specs.declared.control.Controller.{Controller}
 use Rattle.dash_stage.specs.Controllers.{are_advances, IsMoving, IsQuitting, IsClosing}
 use Rattle.run_model.specs.Asks.{entries_by}
-use Rattle.dash_stage.specs.Runs.{IsUnusedKit}
+use Rattle.dash_hall.specs.Kits.{IsUnusedKit}
 use Rattle.dash_stage.specs.Timeliness.{AreBy}
 use Rattle.dash_stage.proofs.ControlKept.{moves_may_quit}
 

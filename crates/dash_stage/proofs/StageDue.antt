@@ -22,15 +22,16 @@ use Rattle.looper_run.specs.Holding.{Sender}
 use Rattle.looper_run.specs.Round.{is_ended}
 use Rattle.run_model.specs.Senders.{sender_count}
 use Rattle.run_model.specs.Control.{is_none_before}
-use Rattle.dash_stage.specs.declared.thread.PostingThread.{PostingThread}
-use Rattle.dash_stage.specs.declared.looper.StageLooper.{StageLooper}
+use Rattle.dash_threads.specs.declared.thread.PostingThread.{PostingThread}
+use Rattle.dash_loopers.specs.declared.looper.StageLooper.{StageLooper}
 use Rattle.dash_stage.specs.declared.stage.Stage.{Stage}
-use Rattle.dash_stage.specs.Loopers.{until_of}
+use Rattle.dash_loopers.specs.Loopers.{IsSoundOn, until_of, posters_of, LooperKeeps, ComesToWait}
 use Rattle.dash_stage.specs.Stages.{IsStage, AreLoopers, LoopersGoOn}
-use Rattle.dash_stage.specs.Sharing.{seen_by, posters_of, AtEach, HaveHeard, LooperKeeps, HaveSeenTheSame, HaveSeenAll, OfThreads, OfLoopers}
-use Rattle.dash_stage.specs.Timeliness.{whole_on, IsSoundOn, IsTimelyUpTo, AreTimelyUpTo, IsRested, AreRested, AreDue, NotLater, ComesToWait}
+use Rattle.dash_hall.specs.Hearing.{seen_by, AtEach, HaveHeard, HaveSeenAll}
+use Rattle.dash_stage.specs.Sharing.{HaveSeenTheSame, OfThreads, OfLoopers}
+use Rattle.dash_stage.specs.Timeliness.{whole_on, IsTimelyUpTo, AreTimelyUpTo, IsRested, AreRested, AreDue, NotLater}
 use Rattle.dash_stage.proofs.HallEnds.{some_of}
-use Rattle.dash_stage.proofs.Hearing.{prefix_whole}
+use Rattle.dash_hall.proofs.Hearing.{prefix_whole}
 use Rattle.dash_stage.proofs.StageWhole.{as_many, seen_at, own_among, queues_count, looper_sees}
 
 abbrev seen : Sender → List Entry

@@ -12,19 +12,22 @@ use Rattle.looper_run.specs.Holding.{Sender}
 use Rattle.looper_run.specs.Round.{is_ended}
 use Rattle.run_model.specs.Senders.{controller}
 use Rattle.run_model.specs.Planned.{lines_of}
-use Rattle.dash_stage.specs.declared.hall.Hall.{Hall}
-use Rattle.dash_stage.specs.declared.thread.PostingThread.{PostingThread}
-use Rattle.dash_stage.specs.declared.looper.StageLooper.{StageLooper}
+use Rattle.dash_hall.specs.declared.hall.Hall.{Hall}
+use Rattle.dash_threads.specs.declared.thread.PostingThread.{PostingThread}
+use Rattle.dash_loopers.specs.declared.looper.StageLooper.{StageLooper}
 use Rattle.dash_stage.specs.declared.control.Controller.{Controller}
 use Rattle.dash_stage.specs.declared.stage.Stage.{Stage}
-use Rattle.dash_stage.specs.Growth.{own}
-use Rattle.dash_stage.specs.Kits.{badge_of, badge_for, frame_badge_of, IsHall, ArePostersOf}
+use Rattle.dash_hall.specs.Growth.{own}
+use Rattle.dash_hall.specs.Kits.{badge_of, badge_for, frame_badge_of, IsHall, ArePostersOf}
 use Rattle.dash_stage.specs.Controllers.{IsController, CallsNone}
 use Rattle.dash_stage.specs.Stages.{AreThreads, AreLoopers, IsStage, HaveRun, OthersHaveEnded}
-use Rattle.dash_stage.specs.Sharing.{HaveHeard, HaveHeardAt, AtEach, AreReady, HaveSeenAt, HaveSeenTheSame, ThreadKeeps, LooperKeeps, ControllerKeeps, StageKeeps, OfThreads, OfLoopers, OfSenders, posters_of, AreWithin, SharesAt}
+use Rattle.dash_hall.specs.Hearing.{HaveHeard, HaveHeardAt, AtEach, AreReady, HaveSeenAt}
+use Rattle.dash_stage.specs.Sharing.{HaveSeenTheSame, ControllerKeeps, StageKeeps, OfThreads, OfLoopers, OfSenders, AreWithin, SharesAt}
+use Rattle.dash_threads.specs.Threads.{ThreadKeeps}
+use Rattle.dash_loopers.specs.Loopers.{LooperKeeps, posters_of}
 use Rattle.dash_stage.proofs.Badges.{alike_length, poster_at, queue_count}
-use Rattle.dash_stage.proofs.Hearing.{have_heard, have_heard_then, have_heard_self, heard_badges, seen_here, seen_elsewhere, seen_same}
-use Rattle.dash_stage.proofs.Sharing.{each_weaker, each_self, each_then}
+use Rattle.dash_hall.proofs.Hearing.{have_heard, have_heard_then, have_heard_self, heard_badges, seen_here, seen_elsewhere, seen_same}
+use Rattle.dash_hall.proofs.Sharing.{each_weaker, each_self, each_then}
 use Rattle.dash_stage.proofs.ThreadShares.{thread_self, thread_weaker, thread_then, thread_kept, up_to_kept, of_threads_then}
 use Rattle.dash_stage.proofs.LooperShares.{looper_self, looper_weaker, looper_then, looper_kept, looper_within, looper_posters, of_loopers_then}
 

@@ -20,16 +20,17 @@ use Rattle.run_model.specs.Asks.{AreFor, entries_by, token_in}
 use Rattle.run_model.specs.Planned.{Timed, lines_in, lines_of, labels_on, lines_on}
 use Rattle.run_model.specs.Control.{is_advanced_in_time, ends_halted, befores, At, are_on_time}
 use Rattle.run_model.proofs.RunLaws.{entries_by-append, entries_by-others, lines_on-append}
-use Rattle.dash_stage.specs.declared.thread.PostingThread.{PostingThread}
-use Rattle.dash_stage.specs.declared.looper.StageLooper.{StageLooper}
+use Rattle.dash_threads.specs.declared.thread.PostingThread.{PostingThread}
+use Rattle.dash_loopers.specs.declared.looper.StageLooper.{StageLooper}
 use Rattle.dash_stage.specs.declared.control.Controller.{Controller}
 use Rattle.dash_stage.specs.declared.stage.Stage.{Stage}
-use Rattle.dash_stage.specs.Growth.{own}
-use Rattle.dash_stage.specs.Threads.{IsUpTo, HasCalled}
-use Rattle.dash_stage.specs.Loopers.{setting_for, is_given_up}
+use Rattle.dash_hall.specs.Growth.{own}
+use Rattle.dash_threads.specs.Threads.{IsUpTo, HasCalled, ThreadKeeps}
+use Rattle.dash_loopers.specs.Loopers.{IsSoundOn, setting_for, is_given_up, LooperKeeps}
 use Rattle.dash_stage.specs.Stages.{IsStage, HaveRun, RunOn, LoopersGoOn}
-use Rattle.dash_stage.specs.Sharing.{AtEach, HaveHeard, ThreadKeeps, LooperKeeps, HaveSeenTheSame}
-use Rattle.dash_stage.specs.Timeliness.{whole_on, IsSoundOn, IsTimelyUpTo, AreTimelyUpTo, IsAtTime, AreAtTime, TurnsOn, EachTurnsOn, MovesNot, HasHaltedLast}
+use Rattle.dash_hall.specs.Hearing.{AtEach, HaveHeard}
+use Rattle.dash_stage.specs.Sharing.{HaveSeenTheSame}
+use Rattle.dash_stage.specs.Timeliness.{whole_on, IsTimelyUpTo, AreTimelyUpTo, IsAtTime, AreAtTime, TurnsOn, EachTurnsOn, MovesNot, HasHaltedLast}
 use Rattle.dash_stage.proofs.Blocks.{lines_more}
 use Rattle.dash_stage.proofs.Timely.{advanced_more, advanced_other, timely_others, timely_block, is_whole}
 use Rattle.dash_stage.proofs.HallEnds.{some_of}

@@ -15,16 +15,18 @@ use Rattle.shared_queue.specs.Known.{Shared}
 use Rattle.looper_run.specs.Holding.{Sender}
 use Rattle.run_model.specs.Senders.{controller, sender_count}
 use Rattle.run_model.specs.Asks.{entries_by}
-use Rattle.dash_stage.specs.declared.hall.Hall.{Hall}
-use Rattle.dash_stage.specs.declared.thread.PostingThread.{PostingThread}
-use Rattle.dash_stage.specs.declared.looper.StageLooper.{StageLooper}
+use Rattle.dash_hall.specs.declared.hall.Hall.{Hall}
+use Rattle.dash_threads.specs.declared.thread.PostingThread.{PostingThread}
+use Rattle.dash_loopers.specs.declared.looper.StageLooper.{StageLooper}
 use Rattle.dash_stage.specs.declared.stage.Stage.{Stage}
-use Rattle.dash_stage.specs.Growth.{own}
-use Rattle.dash_stage.specs.Kits.{Badge, badge_of, badge_for, ArePostersOf, IsHall}
-use Rattle.dash_stage.specs.Loopers.{IsLooper, setting_for}
+use Rattle.dash_hall.specs.Growth.{own}
+use Rattle.dash_hall.specs.Kits.{Badge, badge_of, badge_for, ArePostersOf, IsHall}
+use Rattle.dash_loopers.specs.Loopers.{IsSoundOn, IsLooper, setting_for, others_in, posters_of, LooperKeeps}
 use Rattle.dash_stage.specs.Stages.{IsStage}
-use Rattle.dash_stage.specs.Sharing.{seen_by, others_in, posters_of, AtEach, HaveHeard, ThreadKeeps, LooperKeeps, HaveSeenTheSame}
-use Rattle.dash_stage.specs.Timeliness.{whole_on, IsSoundOn, IsTimelyUpTo, AreTimelyUpTo}
+use Rattle.dash_hall.specs.Hearing.{seen_by, AtEach, HaveHeard}
+use Rattle.dash_threads.specs.Threads.{ThreadKeeps}
+use Rattle.dash_stage.specs.Sharing.{HaveSeenTheSame}
+use Rattle.dash_stage.specs.Timeliness.{whole_on, IsTimelyUpTo, AreTimelyUpTo}
 use Rattle.dash_stage.proofs.Badges.{alike_length, alike_at}
 use Rattle.dash_stage.proofs.Controlling.{poster_count}
 use Rattle.dash_stage.proofs.HallEnds.{some_of}

@@ -3,19 +3,20 @@ use Rattle.std.proofs.Common.{◌≡◌, ℕ, ◌<◌, List, map, length, get_or
 use mathlib.Core.List.{IsPrefix}
 use Rattle.loop_model.specs.declared.entry.Entry.{Entry}
 use Rattle.looper_run.specs.Holding.{Sender}
-use Rattle.dash_stage.specs.declared.thread.PostingThread.{PostingThread}
-use Rattle.dash_stage.specs.Sharing.{HaveHeard, AtEach, AreKept, AreKnown, ThreadKeeps, OfThreads}
+use Rattle.dash_threads.specs.declared.thread.PostingThread.{PostingThread}
+use Rattle.dash_hall.specs.Hearing.{HaveHeard, AtEach, AreKept, AreKnown}
+use Rattle.dash_threads.specs.Threads.{ThreadKeeps, IsThread, IsUpTo, labels_kept, tokens_kept, HasPosted, HasRemoved}
+use Rattle.dash_stage.specs.Sharing.{OfThreads}
 use Rattle.dash_script.specs.declared.script.Script.{Script}
 use Rattle.choreographer.specs.Known.{Known as Pass}
 use Rattle.run_model.specs.Asks.{tokens_in}
 use Rattle.run_model.specs.Moments.{in_lockstep}
 use Rattle.run_model.specs.Planned.{Timed, lines_of, labels_on, MakeCalls}
-use Rattle.dash_stage.specs.declared.hall.Hall.{Hall}
-use Rattle.dash_stage.specs.Growth.{own}
-use Rattle.dash_stage.specs.Kits.{frame_badge_of, ArePostersOf, ArePassesOf}
-use Rattle.dash_stage.specs.Threads.{IsThread, IsUpTo, labels_kept, tokens_kept, HasPosted, HasRemoved}
-use Rattle.dash_stage.proofs.Hearing.{known_more, heard_badges}
-use Rattle.dash_stage.proofs.Sharing.{FirstAre, next_within}
+use Rattle.dash_hall.specs.declared.hall.Hall.{Hall}
+use Rattle.dash_hall.specs.Growth.{own}
+use Rattle.dash_hall.specs.Kits.{frame_badge_of, ArePostersOf, ArePassesOf}
+use Rattle.dash_hall.proofs.Hearing.{known_more, heard_badges}
+use Rattle.dash_hall.proofs.Sharing.{FirstAre, next_within}
 
 -- a thread that is kept, and whose poster at this place is known
 pub record ThreadTells (place : ℕ) (whole : List Entry) (before after : PostingThread) : Type 0 where

@@ -17,16 +17,17 @@ use Rattle.run_model.specs.Planned.{lines_of, labels_on, lines_on}
 use Rattle.run_model.specs.Senders.{controller, sender_count}
 use Rattle.run_model.specs.Control.{is_advanced_in_time, ends_halted, befores, At, are_on_time}
 use Rattle.run_model.specs.Run.{IsHistory, IsTimely, all_entries, setting_of, main_ends_halted}
-use Rattle.dash_stage.specs.declared.hall.Hall.{Hall}
-use Rattle.dash_stage.specs.declared.kit.Kit.{Kit}
-use Rattle.dash_stage.specs.declared.thread.PostingThread.{PostingThread}
-use Rattle.dash_stage.specs.declared.looper.StageLooper.{StageLooper}
+use Rattle.dash_hall.specs.declared.hall.Hall.{Hall}
+use Rattle.dash_hall.specs.declared.kit.Kit.{Kit}
+use Rattle.dash_threads.specs.declared.thread.PostingThread.{PostingThread}
+use Rattle.dash_loopers.specs.declared.looper.StageLooper.{StageLooper}
 use Rattle.dash_stage.specs.declared.control.Controller.{Controller}
-use Rattle.dash_stage.specs.Kits.{badge_of, badge_for, IsHall, AreKitsOf}
-use Rattle.dash_stage.specs.Loopers.{setting_for}
+use Rattle.dash_hall.specs.Kits.{badge_of, badge_for, IsHall, AreKitsOf}
+use Rattle.dash_loopers.specs.Loopers.{IsSoundOn, setting_for, posters_of}
 use Rattle.dash_stage.specs.Records.{AreQueueRecords, HaveAll}
-use Rattle.dash_stage.specs.Sharing.{seen_by, posters_of, HaveSeenAll, OfThreads, OfLoopers, OfKits}
-use Rattle.dash_stage.specs.Timeliness.{whole_on, IsSoundOn, IsTimelyUpTo}
+use Rattle.dash_hall.specs.Hearing.{seen_by, HaveSeenAll}
+use Rattle.dash_stage.specs.Sharing.{OfThreads, OfLoopers, OfKits}
+use Rattle.dash_stage.specs.Timeliness.{whole_on, IsTimelyUpTo}
 use Rattle.dash_stage.proofs.Badges.{alike_length, queue_count, poster_at}
 use Rattle.dash_stage.proofs.Casting.{first_more}
 use Rattle.dash_stage.proofs.HallEnds.{some_of}

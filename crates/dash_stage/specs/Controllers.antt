@@ -8,10 +8,10 @@ use Rattle.dash_script.specs.declared.script.Script.{Script}
 use Rattle.looper_run.specs.Holding.{Sender}
 use Rattle.run_model.specs.Senders.{controller}
 use Rattle.run_model.specs.Control.{is_advance, are_controls}
-use Rattle.dash_stage.specs.declared.hall.Hall.{Hall}
+use Rattle.dash_hall.specs.declared.hall.Hall.{Hall}
 use Rattle.dash_stage.specs.declared.control.Controller.{Controller}
-use Rattle.dash_stage.specs.Growth.{own}
-use Rattle.dash_stage.specs.Kits.{ArePostersOf, ArePassesOf}
+use Rattle.dash_hall.specs.Growth.{own}
+use Rattle.dash_hall.specs.Kits.{ArePostersOf, ArePassesOf}
 
 -- the controller of the script, with what it needs in the hall
 pub record IsController (s : Script) (hall : Hall) (c : Controller) : Type 0 where

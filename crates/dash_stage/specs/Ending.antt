@@ -13,9 +13,9 @@ use Rattle.shared_queue.specs.Constants.{Constants}
 use Rattle.looper_run.specs.Holding.{Sender}
 use Rattle.choreographer.specs.Known.{Shared as Frames, Known as Pass}
 use Rattle.run_model.specs.Run.{setting_of}
-use Rattle.dash_stage.specs.declared.kit.Kit.{Kit}
-use Rattle.dash_stage.specs.Kits.{ArePostersOf, badge_of, badge_for, FrameBadge, frame_badge_of}
-use Rattle.dash_stage.specs.Dealing.{given_of}
+use Rattle.dash_hall.specs.declared.kit.Kit.{Kit}
+use Rattle.dash_hall.specs.Kits.{ArePostersOf, badge_of, badge_for, FrameBadge, frame_badge_of}
+use Rattle.dash_hall.specs.Dealing.{given_of}
 use Rattle.dash_stage.specs.Records.{HasAllOf}
 
 -- each kit has a poster

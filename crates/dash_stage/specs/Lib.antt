@@ -1,13 +1,3 @@
-pub mod Growth
-pub mod Requests
-pub mod Planning
-pub mod Kits
-pub mod Dealing
-pub mod Hosts
-pub mod Threads
-pub mod Loopers
-pub mod Players
-pub mod Played
 pub mod Controllers
 pub mod Staged
 pub mod Records

@@ -1,5 +1,5 @@
 -- What is kept of the queues and the choreographers of a run.
-use Rattle.std.specs.Prelude.{◌≡◌, ◌<◌, ℕ, List, [], map, length, slice_index_or}
+use Rattle.std.specs.Prelude.{◌≡◌, ◌<◌, ℕ, List, map, length, slice_index_or}
 use Rattle.std.specs.List.{AllByRecursion}
 use mathlib.Core.List.{IsPrefix}
 use Rattle.dash_script.specs.declared.script.Script.{Script}
@@ -13,9 +13,9 @@ use Rattle.run_model.specs.Moments.{in_lockstep}
 use Rattle.run_model.specs.Senders.{numbers_from}
 use Rattle.run_model.specs.Asks.{entries_by}
 use Rattle.run_model.specs.Run.{IsHistory, all_entries}
-use Rattle.dash_stage.specs.declared.kit.Kit.{Kit}
+use Rattle.dash_hall.specs.declared.kit.Kit.{Kit}
 use Rattle.dash_stage.specs.Staged.{IsFrameRecord}
-use Rattle.dash_stage.specs.Growth.{own}
+use Rattle.dash_hall.specs.Growth.{own}
 
 -- each looper's queue has its record, in order, with the replies that a queue of one thread gives
 pub record AreQueueRecords (s : Script) (records : List QueueRecord) : Type 0 where
@@ -40,12 +40,6 @@ HaveAll kits records = (k q : ℕ) (d : Kit) (p : Sender) (r : QueueRecord) → 
 abbrev pub HaveSeen : ℕ → List Kit → List FrameRecord → Type 0
 HaveSeen threads kits records = (k q : ℕ) (d : Kit) (p : Pass) (r : FrameRecord) → k < threads → q < length records
     → IsPrefix (slice_index_or (slice_index_or kits k d).frames.items q p).view.seen (slice_index_or records q r).entries
-
--- nobody has seen a call, or a frame callback
-abbrev pub AreUsedNowhere : List Kit → Type 0
-AreUsedNowhere kits = (k q : ℕ) (d : Kit) → k < length kits
-    → ((p : Sender) → q < length (slice_index_or kits k d).posters.items → (slice_index_or (slice_index_or kits k d).posters.items q p).view.seen ≡ [])
-    × ((p : Pass) → q < length (slice_index_or kits k d).frames.items → (slice_index_or (slice_index_or kits k d).frames.items q p).view.seen ≡ [])
 
 -- each looper has its journal, in order
 abbrev pub AreJournals : Script → List Journal → Type 0

@@ -1,24 +1,10 @@
 -- What the threads have run, told by their kits.
-use Rattle.std.specs.Prelude.{◌≡◌, ◌<◌, ◌+◌, ℕ, List, [], length, slice_index_or}
+use Rattle.std.specs.Prelude.{◌<◌, ◌+◌, ℕ, List, length, slice_index_or}
 use Rattle.dash_script.specs.declared.script.Script.{Script}
 use Rattle.run_model.specs.Planned.{lines_of}
-use Rattle.looper_run.specs.Holding.{Sender}
-use Rattle.choreographer.specs.Known.{Known as Pass}
-use Rattle.dash_stage.specs.declared.kit.Kit.{Kit}
-use Rattle.dash_stage.specs.declared.thread.PostingThread.{PostingThread}
-use Rattle.dash_stage.specs.Threads.{HasCalled, HasPosted, HasRemoved, IsUpTo}
-
--- the posters have seen nothing
-abbrev pub AreUnseen : List Sender → Type 0
-AreUnseen ps = (q : ℕ) (p : Sender) → q < length ps → (slice_index_or ps q p).view.seen ≡ []
-
--- the kit's posters have seen no call, and none of its passes a frame callback
-pub record IsUnusedKit (kit : Kit) : Type 0 where
-  pub posters : AreUnseen kit.posters.items
-  pub frames : (q : ℕ) (p : Pass) → q < length kit.frames.items → (slice_index_or kit.frames.items q p).view.seen ≡ []
-
-abbrev pub AreUnusedKits : List Kit → Type 0
-AreUnusedKits kits = (k : ℕ) (d : Kit) → k < length kits → IsUnusedKit (slice_index_or kits k d)
+use Rattle.dash_hall.specs.declared.kit.Kit.{Kit}
+use Rattle.dash_threads.specs.declared.thread.PostingThread.{PostingThread}
+use Rattle.dash_threads.specs.Threads.{HasCalled, HasPosted, HasRemoved, IsUpTo}
 
 -- on each queue the calls of all the thread's lines were made, and at each choreographer as many callbacks posted and removed
 pub record HasRunAll (s : Script) (thread : ℕ) (kit : Kit) : Type 0 where

@@ -3,16 +3,16 @@ use Rattle.std.specs.Prelude.{◌≡◌, ◌<◌, ◌+◌, ℕ, true, false, Lis
 use Rattle.dash_script.specs.declared.script.Block.{Block}
 use Rattle.dash_script.specs.declared.script.Script.{Script}
 use Rattle.run_model.specs.Planned.{lines_of}
-use Rattle.dash_stage.specs.declared.hall.Hall.{Hall}
-use Rattle.dash_stage.specs.declared.thread.PostingThread.{PostingThread}
-use Rattle.dash_stage.specs.declared.looper.StageLooper.{StageLooper}
+use Rattle.dash_hall.specs.declared.hall.Hall.{Hall}
+use Rattle.dash_threads.specs.declared.thread.PostingThread.{PostingThread}
+use Rattle.dash_loopers.specs.declared.looper.StageLooper.{StageLooper}
 use Rattle.dash_stage.specs.declared.stage.Stage.{Stage}
 use Rattle.run_model.specs.Senders.{sender_count}
-use Rattle.dash_stage.specs.declared.kit.Kit.{Kit}
+use Rattle.dash_hall.specs.declared.kit.Kit.{Kit}
 use Rattle.looper_run.specs.Round.{is_ended}
-use Rattle.dash_stage.specs.Kits.{IsHall, IsKitOf}
-use Rattle.dash_stage.specs.Threads.{IsThread, IsUpTo, Continues}
-use Rattle.dash_stage.specs.Loopers.{IsLooper, is_given_up}
+use Rattle.dash_hall.specs.Kits.{IsHall, IsKitOf}
+use Rattle.dash_threads.specs.Threads.{IsThread, IsUpTo, Continues}
+use Rattle.dash_loopers.specs.Loopers.{IsLooper, is_given_up}
 use Rattle.dash_stage.specs.Controllers.{IsController}
 
 -- the threads of the script, in order

@@ -1,5 +1,5 @@
 -- How timely a run is so far, told by what all senders have seen of each queue.
-use Rattle.std.specs.Prelude.{◌≡◌, ◌<◌, ◌≤◌, ◌⊎◌, ◌++◌, ℕ, Bool, true, false, List, [], ◌∷◌, map, length, slice_index_or, Option, Some, None}
+use Rattle.std.specs.Prelude.{◌≡◌, ◌<◌, ◌≤◌, ◌⊎◌, ◌++◌, ℕ, true, false, List, [], ◌∷◌, map, length, slice_index_or, Option, Some, None}
 use Rattle.std.specs.Option.{option_map}
 use mathlib.Core.List.{IsPrefix}
 use Rattle.loop_model.specs.declared.entry.Entry.{Entry}
@@ -8,32 +8,25 @@ use Rattle.loop_model.specs.Base.{empty_base}
 use Rattle.loop_model.specs.Items.{when_of}
 use Rattle.loop_model.specs.Pick.{first_eligible}
 use Rattle.loop_model.specs.Answers.{clock, has_disposed, is_over}
-use Rattle.loop_model.specs.Legal.{IsLegal, AreNumbered}
 use Rattle.dash_script.specs.declared.script.Block.{Block}
 use Rattle.dash_script.specs.declared.script.Script.{Script}
 use Rattle.looper_run.specs.Holding.{Sender}
-use Rattle.looper_run.specs.declared.looper.Round.{Round}
 use Rattle.looper_run.specs.Round.{is_ended}
 use Rattle.run_model.specs.Asks.{entries_by}
 use Rattle.run_model.specs.Planned.{lines_of, labels_on, lines_on}
 use Rattle.run_model.specs.Senders.{sender_count}
 use Rattle.run_model.specs.Control.{is_advance, is_advanced_in_time, is_none_before, befores, At, are_on_time, ends_halted}
-use Rattle.dash_stage.specs.declared.looper.StageLooper.{StageLooper}
+use Rattle.dash_loopers.specs.declared.looper.StageLooper.{StageLooper}
 use Rattle.dash_stage.specs.declared.control.Controller.{Controller}
 use Rattle.dash_stage.specs.declared.stage.Stage.{Stage}
-use Rattle.dash_stage.specs.Growth.{own}
+use Rattle.dash_hall.specs.Growth.{own}
 use Rattle.dash_stage.specs.Controllers.{are_advances, time_in, calls_on}
-use Rattle.dash_stage.specs.Loopers.{setting_for, is_given_up, until_of}
+use Rattle.dash_loopers.specs.Loopers.{IsSoundOn, setting_for, until_of, WaitsForNothing}
 use Rattle.dash_stage.specs.Sharing.{HaveSeenTheSame}
 
 -- what the controller has seen of this queue, and all others where they have seen the same
 abbrev pub whole_on : Controller → ℕ → Sender → List Entry
 whole_on c q d = (slice_index_or c.kit.posters.items q d).view.seen
-
--- the history is one that this looper's queue may have
-pub record IsSoundOn (s : Script) (q : ℕ) (es : List Entry) : Type 0 where
-  pub legal : IsLegal (setting_for s q) (empty_base (sender_count s)) es
-  pub numbered : AreNumbered (setting_for s q) (empty_base (sender_count s)) es
 
 -- no Advance went past an eligible message, and each thread's calls for its lines of these blocks came at their times
 pub record IsTimelyUpTo (s : Script) (past : List Block) (q : ℕ) (es : List Entry) : Type 0 where
@@ -55,10 +48,6 @@ AreAtTime s time st = (q : ℕ) (d : Sender) → q < length st.controller.kit.po
 -- the controller has moved no queue past this time
 abbrev pub AreBy : ℕ → Controller → Type 0
 AreBy time c = (q : ℕ) (d : Sender) → q < length c.kit.posters.items → are_advances time (calls_on c q d) ≡ true
-
--- the round ended with a wait, and no message to wait for
-abbrev pub WaitsForNothing : Round → Type 0
-WaitsForNothing r = (is_ended r ≡ false) × (until_of r ≡ None)
 
 -- so it is with each looper
 abbrev pub WaitForNothing : List StageLooper → Type 0
@@ -110,12 +99,6 @@ IsNone e = ⊥
 -- each queue's time has come to this one, or the queue is over
 abbrev pub HaveCome : Script → ℕ → Controller → Type 0
 HaveCome s now c = (q : ℕ) (d : Sender) → q < length c.kit.posters.items → (now ≤ time_in (calls_on c q d)) ⊎ (is_over (empty_base (sender_count s)) (whole_on c q d) ≡ true)
-
--- unless it ended or gave up, the looper has come to wait for the first message that no barrier holds back of all that it has seen
-abbrev pub ComesToWait : Script → StageLooper → StageLooper → Type 0
-ComesToWait s before after = is_ended after.last ≡ false → is_given_up after.last ≡ false
-    → IsPrefix before.looper.held.poster.view.seen after.looper.held.poster.view.seen
-    × (until_of after.last ≡ option_map when_of (first_eligible (empty_base (sender_count s)) after.looper.held.poster.view.seen))
 
 -- main's history ends with its halt
 abbrev pub HasHaltedLast : Script → Stage → Type 0

@@ -1,20 +1,18 @@
 //! The controller of a run.
 ghost use Rattle.std.specs.Prelude.{◌≡◌, ◌≢◌, ◌<◌, ◌≤◌, ◌+◌, ◌⊎◌, ℕ, true, false, length, slice_index_or, sum_by, IfOk, OnOk};
 ghost use Rattle.shared_queue.specs.Known.{IsOf};
-ghost use Rattle.dash_stage.specs.Growth.{GoesOn, QuitsOf};
-ghost use Rattle.dash_stage.specs.Kits.{IsHall};
+ghost use Rattle.dash_hall.specs.Growth.{GoesOn, QuitsOf};
+ghost use Rattle.dash_hall.specs.Kits.{IsHall};
 ghost use Rattle.dash_stage.specs.Controllers.{IsController, IsMoving, HasReached, IsQuitting, IsClosing, HasClosed, CallsNone, calls_on, time_in};
 ghost use Rattle.loop_model.specs.Base.{empty_base};
 ghost use Rattle.loop_model.specs.Answers.{is_over};
 ghost use Rattle.looper_run.specs.Holding.{Sender};
 ghost use Rattle.run_model.specs.Control.{ends_halted};
 ghost use Rattle.run_model.specs.Senders.{sender_count};
-ghost use Rattle.dash_stage.specs.Sharing.{seen_by};
+ghost use Rattle.dash_hall.specs.Hearing.{seen_by};
 ghost use Rattle.dash_stage.specs.Timeliness.{AreBy, TurnsOn, EachTurnsOn, MovesTo, MovesNot, IsNone, HaveCome, whole_on};
 
-use crate::barriers::quit;
-use crate::hall::Hall;
-use crate::kit::Kit;
+use dash_hall::{Hall, Kit, quit};
 use dash_script::Script;
 use handler_post::Way;
 use loop_model::NoMemory;

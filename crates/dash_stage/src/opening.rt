@@ -2,18 +2,16 @@
 ghost use Rattle.std.specs.Prelude.{◌≡◌, ◌<◌, ◌+◌, [], IfOk, OnOk, length};
 ghost use Rattle.dash_stage.specs.Controllers.{IsMoving};
 ghost use Rattle.dash_stage.specs.Timeliness.{AreBy, AreTimelyUpTo, AreRested, WaitForNothing};
-ghost use Rattle.dash_stage.specs.Kits.{IsHall};
-ghost use Rattle.dash_stage.specs.Runs.{AreUnseen, AreUnusedKits};
+ghost use Rattle.dash_hall.specs.Kits.{IsHall, AreUnseen, AreUnusedKits};
 ghost use Rattle.dash_stage.specs.Sharing.{OfThreads, OfLoopers};
 ghost use Rattle.dash_stage.specs.Stages.{IsStage, IsPlayable, HaveRun, AreKitsFrom, AreThreads, AreLoopers};
 
 use crate::control::Controller;
-use crate::hall::{Hall, open};
-use crate::kit::Kit;
-use crate::looper::StageLooper;
 use crate::stage::Stage;
-use crate::thread::PostingThread;
+use dash_hall::{Hall, Kit, open};
+use dash_loopers::StageLooper;
 use dash_script::Script;
+use dash_threads::PostingThread;
 use loop_model::NoMemory;
 use std::alloc::Global;
 

@@ -2,16 +2,14 @@
 ghost use Rattle.std.specs.Prelude.{◌≡◌, ◌<◌, ◌+◌, length, IfOk, OnOk};
 ghost use Rattle.atomic_table.specs.Seated.{TableId};
 ghost use Rattle.run_model.specs.Senders.{sender_count};
-ghost use Rattle.dash_stage.specs.Kits.{IsHall, AreKitsOf, AreQueuesOf, AreChoreographersOf, frame_constants, frames_for};
-ghost use Rattle.dash_stage.specs.Dealing.{EachGivesPoster, given_of};
+ghost use Rattle.dash_hall.specs.Kits.{IsHall, AreKitsOf, AreQueuesOf, AreChoreographersOf, frame_constants, frames_for};
+ghost use Rattle.dash_hall.specs.Dealing.{EachGivesPoster, given_of};
 ghost use Rattle.dash_stage.specs.Ending.{HavePosters, AreNext, HaveAllPosters, IsKeptOf, EachEndsPoster, KeepFrames, BeginWithPasses, HaveAllPasses, HaveFramesLeft, BeginWithNext, AreOfPool};
 ghost use Rattle.dash_stage.specs.Records.{AreQueueRecords, AreFrameRecords, HaveAll, HaveSeen};
 ghost use Rattle.dash_stage.specs.Staged.{IsFrameRecord};
 
-use crate::barriers::recycle_all;
-use crate::hall::{Hall, holder};
-use crate::kit::Kit;
 use choreographer::{Choreographer, FramePass};
+use dash_hall::{Hall, Kit, holder, recycle_all};
 use dash_script::Script;
 use frame_phases::FrameRecord;
 use loop_model::{NoMemory, QueueRecord};

@@ -3,14 +3,16 @@ ghost use Rattle.std.specs.Prelude.{◌≡◌, ◌<◌, List};
 ghost use Rattle.dash_script.specs.declared.script.Block.{Block};
 ghost use Rattle.shared_queue.specs.Known.{IsOf};
 ghost use Rattle.dash_stage.specs.Controllers.{CallsNone};
-ghost use Rattle.dash_stage.specs.Players.{PlaceWithout};
 ghost use Rattle.dash_stage.specs.Stages.{IsStage, HaveRun, OthersHaveEnded};
-ghost use Rattle.dash_stage.specs.Sharing.{HasHeard, HaveHeard, HaveHeardAt, AtEach, AreKept, AreReady, AreKnown, IsWithin, AreWithin, posters_of, ThreadKeeps, LooperKeeps, StageKeeps, OfThreads, OfLoopers, SharesAt, HaveSeenTheSame};
+ghost use Rattle.dash_hall.specs.Hearing.{HasHeard, HaveHeard, HaveHeardAt, AtEach, AreKept, AreReady, AreKnown};
+ghost use Rattle.dash_stage.specs.Sharing.{AreWithin, StageKeeps, OfThreads, OfLoopers, SharesAt, HaveSeenTheSame};
+ghost use Rattle.dash_threads.specs.Threads.{ThreadKeeps};
+ghost use Rattle.dash_loopers.specs.Loopers.{LooperKeeps};
 
-use crate::looper::StageLooper;
 use crate::stage::Stage;
-use crate::thread::PostingThread;
+use dash_loopers::StageLooper;
 use dash_script::Script;
+use dash_threads::PostingThread;
 use message_pool::PoolClaim;
 use shared_queue::{Poster, SharedQueue};
 
@@ -140,80 +142,4 @@ fn loopers_hear(
     for k in 0..loopers.len() {
         loopers[k].hear(queue, place, other);
     }
-}
-
-impl PostingThread {
-    /// Lets another poster of the queue at this place hear the thread's.
-    fn tell(&mut self, queue: &SharedQueue<PoolClaim>, place: usize, other: &mut Poster<PoolClaim>)
-        requires ready { AreReady place queue.now self.old.kit.posters.items }
-        requires other { IsOf other.old queue.now }
-        ensures kept { ThreadKeeps AreKept self.old self.new }
-        ensures heard { HasHeard other.old other.new }
-        ensures told { AreKnown place other.new.view.seen self.old.kit.posters.items }
-    {
-        other.hear(queue, &mut self.kit.posters[place]);
-    }
-
-    /// Lets its poster of the queue at this place hear another one, which has seen all that it has.
-    fn hear(&mut self, queue: &SharedQueue<PoolClaim>, place: usize, other: &mut Poster<PoolClaim>)
-        requires ready { AreReady place queue.now self.old.kit.posters.items }
-        requires other { IsOf other.old queue.now }
-        requires known { AreKnown place other.old.view.seen self.old.kit.posters.items }
-        ensures kept { ThreadKeeps (HaveHeardAt place other.old.view.seen) self.old self.new }
-        ensures other { other.new ≡ other.old }
-    {
-        self.kit.posters[place].hear(queue, other);
-    }
-}
-
-impl StageLooper {
-    /// Lets another poster of the queue at this place hear the looper's.
-    fn tell(&mut self, queue: &SharedQueue<PoolClaim>, place: usize, other: &mut Poster<PoolClaim>)
-        requires ready { AreReady place queue.now (posters_of self.old) }
-        requires within { IsWithin self.old }
-        requires other { IsOf other.old queue.now }
-        ensures kept { LooperKeeps AreKept self.old self.new }
-        ensures heard { HasHeard other.old other.new }
-        ensures told { AreKnown place other.new.view.seen (posters_of self.old) }
-    {
-        let number = self.number as usize;
-        if place == number {
-            self.looper.tell(queue, other);
-            return;
-        }
-        let Some(mut parts) = self.parts.take() else {
-            unreachable!()
-        };
-        other.hear(queue, &mut parts.others[place_without(number, place)]);
-        self.parts = Some(parts);
-    }
-
-    /// Lets its poster of the queue at this place hear another one, which has seen all that it has.
-    fn hear(&mut self, queue: &SharedQueue<PoolClaim>, place: usize, other: &mut Poster<PoolClaim>)
-        requires ready { AreReady place queue.now (posters_of self.old) }
-        requires within { IsWithin self.old }
-        requires other { IsOf other.old queue.now }
-        requires known { AreKnown place other.old.view.seen (posters_of self.old) }
-        ensures kept { LooperKeeps (HaveHeardAt place other.old.view.seen) self.old self.new }
-        ensures other { other.new ≡ other.old }
-    {
-        let number = self.number as usize;
-        if place == number {
-            self.looper.hear(queue, other);
-            return;
-        }
-        let Some(mut parts) = self.parts.take() else {
-            unreachable!()
-        };
-        parts.others[place_without(number, place)].hear(queue, other);
-        self.parts = Some(parts);
-    }
-}
-
-/// At which place the poster of another looper's queue stands among the others of the looper of this number.
-fn place_without(number: usize, place: usize) -> usize
-    requires { place ≡ number → ⊥ }
-    ensures { PlaceWithout number place result }
-{
-    if place < number { place } else { place - 1 }
 }

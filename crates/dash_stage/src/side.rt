@@ -3,18 +3,17 @@ ghost use Rattle.std.specs.Prelude.{◌≡◌, ◌<◌, ℕ, true, false, OnOk, 
 ghost use Rattle.std.specs.Thread.{IsSync};
 ghost use Rattle.dash_script.specs.Reading.{HasText};
 ghost use Rattle.looper_run.specs.Round.{is_ended};
-ghost use Rattle.dash_stage.specs.Kits.{IsHall};
-ghost use Rattle.dash_stage.specs.Threads.{IsThread, Continues};
-ghost use Rattle.dash_stage.specs.Loopers.{IsLooper};
+ghost use Rattle.dash_hall.specs.Kits.{IsHall};
+ghost use Rattle.dash_threads.specs.Threads.{IsThread, Continues};
+ghost use Rattle.dash_loopers.specs.Loopers.{IsLooper, ComesToWait};
 ghost use Rattle.dash_stage.specs.declared.side.Turn.TheVariants.{All};
-ghost use Rattle.dash_stage.specs.declared.looper.StageLooper.{StageLooper};
-ghost use Rattle.dash_stage.specs.Timeliness.{ComesToWait};
+ghost use Rattle.dash_loopers.specs.declared.looper.StageLooper.{StageLooper};
 ghost use Rattle.dash_stage.specs.Stages.{AreThreads, AreLoopers, RunOn, GoOn, OthersHaveEnded, LoopersGoOn};
 
-use crate::hall::Hall;
-use crate::looper::StageLooper;
-use crate::thread::PostingThread;
+use dash_hall::Hall;
+use dash_loopers::StageLooper;
 use dash_script::{Block, Script};
+use dash_threads::PostingThread;
 use loop_io::Gate;
 use loop_model::NoMemory;
 use std::alloc::Global;

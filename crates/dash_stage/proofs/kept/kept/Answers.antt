@@ -7,7 +7,7 @@ use Rattle.dash_stage.proofs.Dispatched.{dispatches_of_records}
 use Rattle.dash_stage.proofs.KitsTold.{told_kept}
 use Rattle.dash_stage.proofs.KitsOver.{over_kept, last_kit}
 use Rattle.dash_stage.proofs.Controls.{controls_of_records}
-use Rattle.dash_stage.specs.Sharing.{seen_by, HaveSeenAll}
+use Rattle.dash_hall.specs.Hearing.{seen_by, HaveSeenAll}
 use Rattle.dash_stage.proofs.TimelyRecords.{kit_more, timely_of_records, halted_of_records}
 use Rattle.dash_stage.proofs.kept.kept.Goals as goal
 

@@ -1,10 +1,10 @@
 use Rattle.std.proofs.Common.{rules, ◌≤◌, ◌<◌, ◌∙◌, ap, length, arith}
-use Rattle.dash_stage.specs.declared.looper.StageLooper.{StageLooper}
+use Rattle.dash_loopers.specs.declared.looper.StageLooper.{StageLooper}
 use Rattle.dash_stage.proofs.Casting.{looper_back, first_looper}
 use Rattle.dash_stage.proofs.Carried.{run_kept}
 use Rattle.dash_stage.proofs.KitsOver.{over_back}
 use Rattle.dash_stage.proofs.KitsTold.{told_back}
-use Rattle.dash_stage.specs.Sharing.{HaveSeenAll}
+use Rattle.dash_hall.specs.Hearing.{HaveSeenAll}
 use Rattle.dash_stage.proofs.TimelyRecords.{looper_gives}
 use Rattle.dash_stage.proofs.kept.looper_kits.Goals as goal
 

@@ -3,8 +3,9 @@ use Rattle.loop_model.specs.declared.entry.Entry.{Entry}
 use Rattle.loop_model.specs.declared.journal.Journal.{Journal}
 use Rattle.run_model.specs.Senders.{numbers_from}
 use Rattle.dash_stage.specs.Runs.{HaveRunAll}
-use Rattle.dash_stage.specs.Sharing.{HaveSeenAll, OfLoopers, OfKits}
-use Rattle.dash_stage.specs.Loopers.{HaveTold}
+use Rattle.dash_hall.specs.Hearing.{HaveSeenAll}
+use Rattle.dash_stage.specs.Sharing.{OfLoopers, OfKits}
+use Rattle.dash_loopers.specs.Loopers.{HaveTold}
 use Rattle.dash_stage.specs.Stages.{AreLoopersFrom, AreFirstKits, OthersHaveEnded, LoopersGoOn}
 use Rattle.dash_stage.proofs.KitsOver.{HaveEndedFrom, AreOverAmong}
 use Rattle.dash_stage.proofs.kept.looper_kits.Given as goal

@@ -1,5 +1,5 @@
 use Rattle.std.proofs.Common.{rules, ◌<◌, length}
-use Rattle.dash_stage.specs.Sharing.{HaveSeenAll}
+use Rattle.dash_hall.specs.Hearing.{HaveSeenAll}
 use Rattle.dash_stage.proofs.Carried.{thread_back, threads_start}
 use Rattle.dash_stage.proofs.TimelyRecords.{thread_gives, none_yet}
 use Rattle.dash_stage.proofs.kept.thread_kits.Goals as goal

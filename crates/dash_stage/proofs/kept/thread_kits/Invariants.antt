@@ -1,7 +1,8 @@
 use Rattle.std.proofs.Common.{length, ◌≡◌, List}
 use Rattle.loop_model.specs.declared.entry.Entry.{Entry}
 use Rattle.dash_stage.specs.Runs.{HaveRunFrom, HaveRunAll}
-use Rattle.dash_stage.specs.Sharing.{HaveSeenAll, OfThreads, OfKits}
+use Rattle.dash_hall.specs.Hearing.{HaveSeenAll}
+use Rattle.dash_stage.specs.Sharing.{OfThreads, OfKits}
 use Rattle.dash_stage.specs.Stages.{AreThreadsFrom, AreFirstKits}
 use Rattle.dash_stage.proofs.kept.thread_kits.Given as goal
 

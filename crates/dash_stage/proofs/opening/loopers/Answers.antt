@@ -1,9 +1,10 @@
 use Rattle.std.proofs.Common.{◌<◌, length, sym, subst, arith}
-use Rattle.dash_stage.specs.declared.kit.Kit.{Kit}
-use Rattle.dash_stage.specs.declared.looper.StageLooper.{StageLooper}
-use Rattle.dash_stage.specs.Runs.{AreUnseen, IsUnusedKit, AreUnusedKits}
-use Rattle.dash_stage.specs.Sharing.{OfLoopers, posters_of}
-use Rattle.dash_stage.specs.Timeliness.{WaitsForNothing, WaitForNothing}
+use Rattle.dash_hall.specs.declared.kit.Kit.{Kit}
+use Rattle.dash_loopers.specs.declared.looper.StageLooper.{StageLooper}
+use Rattle.dash_hall.specs.Kits.{AreUnseen, IsUnusedKit, AreUnusedKits}
+use Rattle.dash_stage.specs.Sharing.{OfLoopers}
+use Rattle.dash_loopers.specs.Loopers.{posters_of, WaitsForNothing}
+use Rattle.dash_stage.specs.Timeliness.{WaitForNothing}
 use Rattle.dash_stage.proofs.Casting.{looper_made, first_more}
 use Rattle.dash_stage.proofs.Carried.{other_unused}
 use Rattle.dash_stage.proofs.opening.loopers.Goals as goal

@@ -1,7 +1,6 @@
 use Rattle.std.proofs.Common.{◌<◌, length, refl, sym, subst, arith}
 use Rattle.dash_stage.specs.declared.stage.Stage.{Stage}
-use Rattle.dash_stage.specs.Kits.{IsKitOf}
-use Rattle.dash_stage.specs.Runs.{IsUnusedKit}
+use Rattle.dash_hall.specs.Kits.{IsKitOf, IsUnusedKit}
 use Rattle.dash_stage.proofs.Carried.{unused_kits}
 use Rattle.dash_stage.proofs.StageControls.{unused_by, unused_moves}
 use Rattle.dash_stage.proofs.StageBegins.{begins_timely, begins_rested}

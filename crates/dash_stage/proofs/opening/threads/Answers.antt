@@ -1,8 +1,7 @@
 use Rattle.std.proofs.Common.{◌<◌, length, sym, subst, arith}
-use Rattle.dash_stage.specs.declared.kit.Kit.{Kit}
-use Rattle.dash_stage.specs.declared.thread.PostingThread.{PostingThread}
-use Rattle.dash_stage.specs.Kits.{IsKitOf}
-use Rattle.dash_stage.specs.Runs.{AreUnseen, IsUnusedKit}
+use Rattle.dash_hall.specs.declared.kit.Kit.{Kit}
+use Rattle.dash_threads.specs.declared.thread.PostingThread.{PostingThread}
+use Rattle.dash_hall.specs.Kits.{IsKitOf, AreUnseen, IsUnusedKit}
 use Rattle.dash_stage.specs.Sharing.{OfThreads}
 use Rattle.dash_stage.proofs.Casting.{thread_of, first_kit, first_more}
 use Rattle.dash_stage.proofs.Carried.{thread_made, unused_calls}

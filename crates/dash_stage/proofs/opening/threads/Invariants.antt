@@ -1,5 +1,5 @@
 use Rattle.std.proofs.Common.{◌≡◌, [], length}
-use Rattle.dash_stage.specs.Runs.{AreUnseen, AreUnusedKits}
+use Rattle.dash_hall.specs.Kits.{AreUnseen, AreUnusedKits}
 use Rattle.dash_stage.specs.Sharing.{OfThreads}
 use Rattle.dash_stage.specs.Stages.{AreKitsFrom, AreFirstThreads, HaveRun}
 use Rattle.dash_stage.proofs.opening.threads.Given as goal

@@ -1,7 +1,7 @@
 use Rattle.std.proofs.Common.{◌≡◌, ◌+◌, ◌<◌, [], ◌∷◌, ◌++◌, length, refl, ap, sym, subst, length-append, arith}
-use Rattle.dash_stage.specs.declared.kit.Kit.{Kit}
-use Rattle.dash_stage.specs.Dealing.{GivesPass}
-use Rattle.dash_stage.proofs.HallSteps.{holder_within}
+use Rattle.dash_hall.specs.declared.kit.Kit.{Kit}
+use Rattle.dash_hall.specs.Dealing.{GivesPass}
+use Rattle.dash_hall.proofs.HallSteps.{holder_within}
 use Rattle.dash_stage.proofs.HallFrames.{has_pass, takes_more, taken_all}
 use Rattle.dash_stage.proofs.records.frame_record.Goals as goal
 

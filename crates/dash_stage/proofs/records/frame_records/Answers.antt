@@ -5,9 +5,9 @@ use Rattle.std.proofs.lemmas.List.FromFn.{length-map-range_with_len}
 use Rattle.choreographer.specs.Known.{Shared as Frames}
 use Rattle.frame_phases.specs.declared.entry.FrameRecord.{FrameRecord}
 use Rattle.shared_queue.proofs.Gathers.{nothing_left, regrouped}
-use Rattle.dash_stage.specs.Kits.{frame_key, frame_constants}
+use Rattle.dash_hall.specs.Kits.{frame_key, frame_constants}
 use Rattle.dash_stage.specs.Ending.{HaveAllPasses}
-use Rattle.dash_stage.proofs.HallPasses.{given_all, given_are}
+use Rattle.dash_hall.proofs.HallPasses.{given_all, given_are}
 use Rattle.dash_stage.proofs.HallFrames.{HaveEnded, ended_none, next_passes, next_constants, ends_more, ended_all}
 use Rattle.dash_stage.proofs.records.frame_records.Goals as goal
 

@@ -5,7 +5,7 @@ use Rattle.std.proofs.lemmas.List.FromFn.{length-map-range_with_len}
 use Rattle.atomic_table.specs.Seated.{TableId}
 use Rattle.shared_queue.specs.Constants.{Constants}
 use Rattle.shared_queue.proofs.Gathers.{nothing_left, regrouped}
-use Rattle.dash_stage.specs.Kits.{queue_key, queue_constants}
+use Rattle.dash_hall.specs.Kits.{queue_key, queue_constants}
 use Rattle.dash_stage.proofs.HallEnds.{next_queue, retires_more, retired_all}
 use Rattle.dash_stage.proofs.records.queue_records.Goals as goal
 

@@ -1,7 +1,9 @@
 use Rattle.std.proofs.Common.{◌<◌, length, slice_index_or, sym, ◌∙◌, subst, arith}
 use Rattle.looper_run.specs.Holding.{Sender}
-use Rattle.dash_stage.specs.Sharing.{AreKnown, HaveHeardAt, LooperKeeps, OfLoopers}
-use Rattle.dash_stage.proofs.Sharing.{first_more}
+use Rattle.dash_hall.specs.Hearing.{AreKnown, HaveHeardAt}
+use Rattle.dash_loopers.specs.Loopers.{LooperKeeps}
+use Rattle.dash_stage.specs.Sharing.{OfLoopers}
+use Rattle.dash_hall.proofs.Sharing.{first_more}
 use Rattle.dash_stage.proofs.LooperShares.{of_next_looper}
 use Rattle.dash_stage.proofs.share.loopers_hear.Goals as goal
 

@@ -1,6 +1,7 @@
 use Rattle.std.proofs.Common.{◌≡◌}
-use Rattle.dash_stage.specs.Sharing.{LooperKeeps, HaveHeardAt}
-use Rattle.dash_stage.proofs.Sharing.{FirstAre}
+use Rattle.dash_loopers.specs.Loopers.{LooperKeeps}
+use Rattle.dash_hall.specs.Hearing.{HaveHeardAt}
+use Rattle.dash_hall.proofs.Sharing.{FirstAre}
 use Rattle.dash_stage.proofs.share.loopers_hear.Given as goal
 
 abbrev pub invariant-loop-k : goal.invariant-loop-k

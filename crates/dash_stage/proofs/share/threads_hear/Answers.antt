@@ -1,7 +1,9 @@
 use Rattle.std.proofs.Common.{◌<◌, length, slice_index_or, sym, ◌∙◌, subst, arith}
 use Rattle.looper_run.specs.Holding.{Sender}
-use Rattle.dash_stage.specs.Sharing.{AreKnown, HaveHeardAt, ThreadKeeps, OfThreads}
-use Rattle.dash_stage.proofs.Sharing.{first_more}
+use Rattle.dash_hall.specs.Hearing.{AreKnown, HaveHeardAt}
+use Rattle.dash_threads.specs.Threads.{ThreadKeeps}
+use Rattle.dash_stage.specs.Sharing.{OfThreads}
+use Rattle.dash_hall.proofs.Sharing.{first_more}
 use Rattle.dash_stage.proofs.ThreadShares.{of_next}
 use Rattle.dash_stage.proofs.share.threads_hear.Goals as goal
 

@@ -1,6 +1,7 @@
 use Rattle.std.proofs.Common.{◌≡◌}
-use Rattle.dash_stage.specs.Sharing.{ThreadKeeps, HaveHeardAt}
-use Rattle.dash_stage.proofs.Sharing.{FirstAre}
+use Rattle.dash_threads.specs.Threads.{ThreadKeeps}
+use Rattle.dash_hall.specs.Hearing.{HaveHeardAt}
+use Rattle.dash_hall.proofs.Sharing.{FirstAre}
 use Rattle.dash_stage.proofs.share.threads_hear.Given as goal
 
 abbrev pub invariant-loop-k : goal.invariant-loop-k

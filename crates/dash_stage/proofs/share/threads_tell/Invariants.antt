@@ -1,5 +1,5 @@
-use Rattle.dash_stage.specs.Sharing.{HasHeard}
-use Rattle.dash_stage.proofs.Sharing.{FirstAre}
+use Rattle.dash_hall.specs.Hearing.{HasHeard}
+use Rattle.dash_hall.proofs.Sharing.{FirstAre}
 use Rattle.dash_stage.proofs.ThreadShares.{ThreadTells}
 use Rattle.dash_stage.proofs.share.threads_tell.Given as goal
 

@@ -1,7 +1,7 @@
 use Rattle.std.proofs.Common.{◌≤◌, ℕ, subst}
 use Rattle.dash_stage.proofs.ControlKept.{quitting_kept, quitting_skips}
 use Rattle.dash_stage.proofs.ControlWhole.{turns_behind}
-use Rattle.dash_stage.proofs.ThreadSteps.{on_ok}
+use Rattle.dash_threads.proofs.ThreadSteps.{on_ok}
 use Rattle.dash_stage.proofs.control.Controller.quit.Goals as goal
 
 pub returns-then-time_on-script-clause-quitting : goal.returns-then-time_on-script-clause-quitting

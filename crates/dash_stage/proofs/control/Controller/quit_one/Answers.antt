@@ -1,7 +1,7 @@
 use Rattle.std.proofs.Common.{◌+◌, true}
 use Rattle.dash_stage.proofs.Controlling.{in_queues, in_posters, has_poster, own_poster, in_pool, after_call}
 use Rattle.dash_stage.specs.Controllers.{IsQuitting}
-use Rattle.dash_stage.proofs.ThreadSteps.{on_ok}
+use Rattle.dash_threads.proofs.ThreadSteps.{on_ok}
 use Rattle.dash_stage.specs.Timeliness.{TurnsOn, MovesNot}
 use Rattle.looper_run.specs.Holding.{Sender}
 use Rattle.std.specs.Prelude.{slice_index_or}

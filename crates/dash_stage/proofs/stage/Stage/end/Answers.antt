@@ -1,4 +1,4 @@
-use Rattle.dash_stage.specs.Sharing.{HaveHeard}
+use Rattle.dash_hall.specs.Hearing.{HaveHeard}
 use Rattle.dash_stage.proofs.ControlKept.{closing_kept, closed_kept}
 use Rattle.dash_stage.proofs.StageTurns.{turned_timely, halted_stays, go_on_kept}
 use Rattle.dash_stage.proofs.stage.Stage.end.Goals as goal

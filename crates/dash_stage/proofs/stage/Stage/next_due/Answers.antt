@@ -1,7 +1,7 @@
 use Rattle.std.proofs.Common.{◌≡◌, ◌<◌, ℕ, false, List, length, slice_index_or, sym, ap, ◌∙◌, subst, arith}
 use Rattle.looper_run.specs.Round.{is_ended}
-use Rattle.dash_stage.specs.declared.looper.StageLooper.{StageLooper}
-use Rattle.dash_stage.specs.Loopers.{until_of}
+use Rattle.dash_loopers.specs.declared.looper.StageLooper.{StageLooper}
+use Rattle.dash_loopers.specs.Loopers.{until_of}
 use Rattle.dash_stage.specs.Timeliness.{NotLater}
 use Rattle.dash_stage.proofs.ControlKept.{none_after}
 use Rattle.dash_stage.proofs.StageDue.{one_waits_more, due_of_rest, rested_same}

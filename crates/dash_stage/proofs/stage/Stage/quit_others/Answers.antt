@@ -1,10 +1,12 @@
 use Rattle.std.proofs.Common.{◌≡◌, ◌<◌, ◌+◌, ◌∙◌, List, refl, sym, subst, arith, length}
-use Rattle.dash_stage.specs.declared.thread.PostingThread.{PostingThread}
-use Rattle.dash_stage.specs.declared.looper.StageLooper.{StageLooper}
+use Rattle.dash_threads.specs.declared.thread.PostingThread.{PostingThread}
+use Rattle.dash_loopers.specs.declared.looper.StageLooper.{StageLooper}
 use Rattle.dash_stage.specs.declared.control.Controller.{Controller}
 use Rattle.dash_stage.specs.declared.stage.Stage.{Stage}
 use Rattle.dash_stage.specs.Controllers.{IsQuitting}
-use Rattle.dash_stage.specs.Sharing.{AtEach, HaveHeard, ThreadKeeps, LooperKeeps}
+use Rattle.dash_hall.specs.Hearing.{AtEach, HaveHeard}
+use Rattle.dash_threads.specs.Threads.{ThreadKeeps}
+use Rattle.dash_loopers.specs.Loopers.{LooperKeeps}
 use Rattle.dash_stage.specs.Stages.{IsStage, HaveRun}
 use Rattle.dash_stage.specs.Timeliness.{EachTurnsOn, MovesNot}
 use Rattle.dash_stage.proofs.Controlling.{poster_count}

@@ -1,7 +1,8 @@
 use Rattle.std.proofs.Common.{◌∙◌, ◌++◌, ◌∷◌, List, [], refl, sym, subst, arith}
 use Rattle.std.proofs.lemmas.List.{with_items_is}
-use Rattle.dash_stage.specs.declared.thread.PostingThread.{PostingThread}
-use Rattle.dash_stage.specs.Sharing.{AtEach, HaveHeard, ThreadKeeps}
+use Rattle.dash_threads.specs.declared.thread.PostingThread.{PostingThread}
+use Rattle.dash_hall.specs.Hearing.{AtEach, HaveHeard}
+use Rattle.dash_threads.specs.Threads.{ThreadKeeps}
 use Rattle.dash_stage.specs.Stages.{HaveRun, RunOn}
 use Rattle.dash_stage.proofs.ControlKept.{none_same}
 use Rattle.dash_stage.proofs.Blocks.{run_one_more}

@@ -1,8 +1,8 @@
 use Rattle.std.proofs.Common.{◌<◌, ℕ, List, length, slice_index_or, subst, arith}
 use Rattle.std.proofs.lemmas.List.{with_items_is}
-use Rattle.dash_stage.specs.declared.looper.StageLooper.{StageLooper}
-use Rattle.dash_stage.specs.Sharing.{AtEach, HaveHeard, LooperKeeps}
-use Rattle.dash_stage.specs.Timeliness.{ComesToWait}
+use Rattle.dash_loopers.specs.declared.looper.StageLooper.{StageLooper}
+use Rattle.dash_hall.specs.Hearing.{AtEach, HaveHeard}
+use Rattle.dash_loopers.specs.Loopers.{LooperKeeps, ComesToWait}
 use Rattle.dash_stage.proofs.StageWhole.{threads_heard, kept_timely}
 use Rattle.dash_stage.proofs.StageDue.{heard_grown, come_to_rest}
 use Rattle.dash_stage.proofs.stage.Stage.run_round.Goals as goal

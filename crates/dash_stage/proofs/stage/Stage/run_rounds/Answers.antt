@@ -1,5 +1,5 @@
 use Rattle.std.proofs.Common.{sym, ◌∙◌}
-use Rattle.dash_stage.specs.Sharing.{seen_by}
+use Rattle.dash_hall.specs.Hearing.{seen_by}
 use Rattle.dash_stage.proofs.ControlKept.{none_after}
 use Rattle.dash_stage.proofs.StageDue.{grown_none}
 use Rattle.dash_stage.proofs.stage.Stage.run_rounds.Goals as goal

@@ -1,6 +1,6 @@
 use Rattle.std.proofs.Common.{arith}
 use Rattle.dash_stage.proofs.StageShares.{stage_self, stage_weaker, stage_then, stage_kept, share_none, share_more, share_all, run_kept, calls_none, ended_kept}
-use Rattle.dash_stage.specs.Sharing.{HaveHeard}
+use Rattle.dash_hall.specs.Hearing.{HaveHeard}
 use Rattle.dash_stage.proofs.stage.Stage.share.Goals as goal
 
 pub loop-looper-init : goal.loop-looper-init

@@ -1,5 +1,6 @@
 use Rattle.dash_stage.specs.Stages.{IsStage}
-use Rattle.dash_stage.specs.Sharing.{HaveHeard, StageKeeps}
+use Rattle.dash_hall.specs.Hearing.{HaveHeard}
+use Rattle.dash_stage.specs.Sharing.{StageKeeps}
 use Rattle.dash_stage.proofs.StageShares.{ShareFirst}
 use Rattle.dash_stage.proofs.stage.Stage.share.Given as goal
 

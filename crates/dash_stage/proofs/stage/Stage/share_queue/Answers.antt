@@ -1,10 +1,13 @@
 use Rattle.std.proofs.Common.{List, refl, sym, subst, arith}
 use Rattle.std.proofs.lemmas.List.{with_items_is}
-use Rattle.dash_stage.specs.declared.thread.PostingThread.{PostingThread}
-use Rattle.dash_stage.specs.declared.looper.StageLooper.{StageLooper}
-use Rattle.dash_stage.specs.Sharing.{HaveHeardAt, AtEach, AreReady, AreWithin, ThreadKeeps, LooperKeeps, OfThreads, OfLoopers}
+use Rattle.dash_threads.specs.declared.thread.PostingThread.{PostingThread}
+use Rattle.dash_loopers.specs.declared.looper.StageLooper.{StageLooper}
+use Rattle.dash_hall.specs.Hearing.{HaveHeardAt, AtEach, AreReady}
+use Rattle.dash_stage.specs.Sharing.{AreWithin, OfThreads, OfLoopers}
+use Rattle.dash_threads.specs.Threads.{ThreadKeeps}
+use Rattle.dash_loopers.specs.Loopers.{LooperKeeps}
 use Rattle.dash_stage.proofs.Controlling.{in_queues, in_posters}
-use Rattle.dash_stage.proofs.Hearing.{ready_is, heard_at}
+use Rattle.dash_hall.proofs.Hearing.{ready_is, heard_at}
 use Rattle.dash_stage.proofs.StageShares.{threads_ready, loopers_ready, controller_ready, are_within}
 use Rattle.dash_stage.proofs.stage.Stage.share_queue.Goals as goal
 

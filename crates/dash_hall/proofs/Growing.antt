@@ -1,0 +1,130 @@
+-- A turn of a sender, as its own entries go on.
+use Rattle.std.proofs.Common.{◌≡◌, ℕ, ◌≤◌, ◌==◌, cond, Bool, false, List, [], ◌∷◌, ◌++◌, All, refl, sym, ap, ◌∙◌, subst, arith, append_assoc, inl, inr, eq-eqb, ne_eqb}
+use Rattle.std.proofs.lemmas.List.{append-nil}
+use Rattle.std.proofs.lemmas.List.Elements.{filter-append, All-append}
+use Rattle.loop_model.specs.declared.call.Call.{Call}
+use Rattle.loop_model.specs.declared.reply.Reply.{Reply}
+use Rattle.loop_model.specs.declared.entry.Entry.{Entry}
+use Rattle.loop_model.specs.Entries.{is_next}
+use Rattle.message_pool.specs.Passes.{Tally}
+use Rattle.queue_state.specs.Queue.{entry_of}
+use Rattle.shared_queue.specs.Known.{IsTurn}
+use Rattle.looper_run.specs.Holding.{Sender, State}
+use Rattle.looper_run.specs.Acts.{IsNoLookOf}
+use Rattle.looper_run.proofs.Working.{first_all}
+use Rattle.looper_run.proofs.Turning.{IsOther, found, all_first}
+use Rattle.run_model.specs.Asks.{plain, token_in, entries_by}
+use Rattle.handler_post.specs.Ways.{MadeNone}
+use Rattle.dash_hall.specs.Growth.{own, GoesOn, Makes}
+
+-- what a sender's calls keep of its pass
+pub record Keeps (before after : Tally) : Type 0 where
+  pub home : after.home ≡ before.home
+  pub back : before.back ≤ after.back
+
+pub own_of_others : (s : ℕ) (es : List Entry) → All (IsOther s) es → entries_by s es ≡ []
+own_of_others s [] others = refl
+own_of_others s (e ∷ es) others =
+    let parts = first_all (IsOther s) e es others in
+    ap (λ (b : Bool). cond b (e ∷ entries_by s es) (entries_by s es)) (ne_eqb e.sender s (λ is. parts.0 is)) ∙ own_of_others s es parts.1
+
+pub own_of_one : (s : ℕ) (e : Entry) → e.sender ≡ s → entries_by s (e ∷ []) ≡ e ∷ []
+own_of_one s e is = ap (λ (b : Bool). cond b (e ∷ []) []) (eq-eqb e.sender s is)
+
+none_looks : (s : ℕ) (es : List Entry) → All (IsOther s) es → All (IsNoLookOf s) es
+none_looks s es others = λ k d near. λ mine. absurd (others k d near mine)
+
+-- nothing happened but at the pass
+pub stays : (p : Sender) (a b : Tally) → Keeps a b → GoesOn p p a b
+stays p a b k = record {
+  table = refl;
+  sender = refl;
+  constants = refl;
+  heard = refl;
+  rung = refl;
+  turns = omega arith;
+  more = [];
+  seen = sym (append-nil p.view.seen);
+  no_looks = λ n d near. absurd (omega (arith, near));
+  home = k.home;
+  back = k.back;
+}
+
+-- one after the other
+pub goes_on_then : (p q r : Sender) (a b c : Tally) → GoesOn p q a b → GoesOn q r b c → GoesOn p r a c
+goes_on_then p q r a b c f g =
+    let turns : p.view.turns ≤ r.view.turns = omega (arith, f.turns, g.turns) in
+    let back : a.back ≤ c.back = omega (arith, f.back, g.back) in
+    record {
+      table = g.table ∙ f.table;
+      sender = g.sender ∙ f.sender;
+      constants = g.constants ∙ f.constants;
+      heard = g.heard ∙ f.heard;
+      rung = g.rung ∙ f.rung;
+      turns = turns;
+      more = f.more ++ g.more;
+      seen = g.seen ∙ (ap (λ (l : List Entry). l ++ g.more) f.seen ∙ append_assoc p.view.seen f.more g.more);
+      no_looks = All-append (IsNoLookOf p.sender) f.more g.more f.no_looks (subst (λ (s : ℕ). All (IsNoLookOf s) g.more) f.sender g.no_looks);
+      home = g.home ∙ f.home;
+      back = back;
+    }
+
+-- a turn by which the sender left these entries of its own, none of which is a look
+module _ (p q : Sender) (x y : State) (tail : List Entry) (t : IsTurn p q x y) (left : y.entries ≡ x.entries ++ tail) where
+  more : List Entry
+  more = (found p q x y t).others ++ tail
+
+  seen_is : q.view.seen ≡ p.view.seen ++ more
+  unfolding more
+  seen_is =
+      let f = found p q x y t in
+      t.seen ∙ (left ∙ (ap (λ (l : List Entry). l ++ tail) f.entries ∙ append_assoc p.view.seen f.others tail))
+
+  pub turn_goes_on : (a b : Tally) → Keeps a b → All (IsNoLookOf p.sender) tail → GoesOn p q a b
+  unfolding more
+  turn_goes_on a b k quiet =
+      let f = found p q x y t in
+      record {
+        table = t.table;
+        sender = t.sender;
+        constants = t.constants;
+        heard = t.heard;
+        rung = t.rung;
+        turns = omega (arith, t.turns);
+        more = more;
+        seen = seen_is;
+        no_looks = All-append (IsNoLookOf p.sender) f.others tail (none_looks p.sender f.others f.all) quiet;
+        home = k.home;
+        back = k.back;
+      }
+
+  pub turn_makes : entries_by p.sender tail ≡ tail → own q ≡ own p ++ tail
+  unfolding more
+  turn_makes mine =
+      let f = found p q x y t in
+      (λ i. entries_by (t.sender i) (seen_is i))
+      ∙ (filter-append (λ (e : Entry). e.sender == p.sender) p.view.seen more
+      ∙ (ap (λ (l : List Entry). own p ++ l) (filter-append (λ (e : Entry). e.sender == p.sender) f.others tail)
+      ∙ (λ i. own p ++ (own_of_others p.sender f.others f.all i ++ mine i))))
+
+-- a turn that entered one call of the sender, which is no look
+pub enters : (p q : Sender) (x y : State) (c : Call) (r : Reply) (a b : Tally) → IsTurn p q x y → y.entries ≡ x.entries ++ entry_of x p.sender c r ∷ [] → is_next c ≡ false → Keeps a b
+    → GoesOn p q a b × Makes p q (plain c) (token_in r)
+enters p q x y c r a b t left quiet k =
+    let e = entry_of x p.sender c r in (
+      turn_goes_on p q x y (e ∷ []) t left a b k (all_first (IsNoLookOf p.sender) e [] (λ _. quiet) (λ n d near. absurd (omega (arith, near)))),
+      record { entry = e; made = turn_makes p q x y (e ∷ []) t left (own_of_one p.sender e refl); makes = refl; answered = refl },
+    )
+
+-- a turn that left what it found
+pub leaves : (p q : Sender) (x y : State) (a b : Tally) → IsTurn p q x y → y ≡ x → Keeps a b → GoesOn p q a b × (own q ≡ own p)
+leaves p q x y a b t same k =
+    let left : y.entries ≡ x.entries ++ [] = ap (λ (z : State). z.entries) same ∙ sym (append-nil x.entries) in (
+      turn_goes_on p q x y [] t left a b k (λ n d near. absurd (omega (arith, near))),
+      turn_makes p q x y [] t left refl ∙ append-nil (own p),
+    )
+
+-- no entry was made
+pub makes_none : (p q : Sender) (a b : Tally) → MadeNone p q → Keeps a b → GoesOn p q a b × (own q ≡ own p)
+makes_none p q a b (inl same) k = subst (λ (z : Sender). GoesOn p z a b × (own z ≡ own p)) (sym same) (stays p a b k, refl)
+makes_none p q a b (inr turn) k = leaves p q turn.0 turn.0 a b turn.1 refl k

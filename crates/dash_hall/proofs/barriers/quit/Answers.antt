@@ -1,0 +1,46 @@
+use Rattle.std.proofs.Common.{refl, sym, ◌∙◌, arith}
+use Rattle.dash_hall.proofs.Growing.{Keeps}
+use Rattle.dash_hall.proofs.Calling.{quits, quits_twice, quits_main, quits_not}
+use Rattle.dash_hall.proofs.barriers.quit.Goals as goal
+
+pub returns-in-Done-clause-on : goal.returns-in-Done-clause-on
+returns-in-Done-clause-on g c =
+    let w = c.args.way.now in
+    let kept : Keeps w.pass.now c.recycle_all.new.pass = record { home = c.recycle_all.ensures.home ∙ sym c.requires.pass; back = c.recycle_all.ensures.back } in
+    (quits _ _ _ _ _ _ _ kept c.in-Done.ensures.done).0
+
+pub returns-in-Done-clause-made : goal.returns-in-Done-clause-made
+returns-in-Done-clause-made g c =
+    let w = c.args.way.now in
+    let kept : Keeps w.pass.now c.recycle_all.new.pass = record { home = c.recycle_all.ensures.home ∙ sym c.requires.pass; back = c.recycle_all.ensures.back } in
+    (quits _ _ _ _ _ _ _ kept c.in-Done.ensures.done).1
+
+pub returns-in-AlreadyQuit-clause-on : goal.returns-in-AlreadyQuit-clause-on
+returns-in-AlreadyQuit-clause-on g c =
+    let w = c.args.way.now in
+    let kept : Keeps w.pass.now w.pass.now = record { home = refl; back = omega arith } in
+    (quits_twice _ _ _ _ _ _ _ kept c.in-AlreadyQuit.ensures.done).0
+
+pub returns-in-AlreadyQuit-clause-made : goal.returns-in-AlreadyQuit-clause-made
+returns-in-AlreadyQuit-clause-made g c =
+    let w = c.args.way.now in
+    let kept : Keeps w.pass.now w.pass.now = record { home = refl; back = omega arith } in
+    (quits_twice _ _ _ _ _ _ _ kept c.in-AlreadyQuit.ensures.done).1
+
+pub returns-in-NotAllowed-clause-on : goal.returns-in-NotAllowed-clause-on
+returns-in-NotAllowed-clause-on g c =
+    let w = c.args.way.now in
+    let kept : Keeps w.pass.now w.pass.now = record { home = refl; back = omega arith } in
+    (quits_main _ _ _ _ _ _ kept c.in-NotAllowed.ensures.done).0
+
+pub returns-in-NotAllowed-clause-made : goal.returns-in-NotAllowed-clause-made
+returns-in-NotAllowed-clause-made g c =
+    let w = c.args.way.now in
+    let kept : Keeps w.pass.now w.pass.now = record { home = refl; back = omega arith } in
+    (quits_main _ _ _ _ _ _ kept c.in-NotAllowed.ensures.done).1
+
+pub returns-in-NoMemory-clause-none : goal.returns-in-NoMemory-clause-none
+returns-in-NoMemory-clause-none g c =
+    let w = c.args.way.now in
+    let kept : Keeps w.pass.now w.pass.now = record { home = refl; back = omega arith } in
+    (quits_not c.args.safe c.args.now _ _ _ _ kept c.in-NoMemory.ensures.done).1

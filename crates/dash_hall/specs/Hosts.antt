@@ -1,0 +1,99 @@
+-- The looper on which a choreographer runs, as the choreographer sees it.
+use Rattle.std.specs.Prelude.{◌≡◌, ◌-◌, ◌*◌, ◌^◌, ◌==◌, ◌&&◌, min, ◌+◌, ◌≤◌, ℕ, Bool, List, [], map, is_none, None, count_by, MatchBool, true, if◌then◌else◌}
+use Rattle.atomic_table.specs.Seated.{TableId}
+use Rattle.loop_model.specs.declared.post.Post.{Post as PostData}
+use Rattle.loop_model.specs.declared.call.Call.{Call}
+use Rattle.loop_model.specs.declared.call.Call.TheVariants.{Post}
+use Rattle.loop_model.specs.declared.reply.Reply.{Reply}
+use Rattle.loop_model.specs.declared.reply.Reply.TheVariants.{Accepted, Refused}
+use Rattle.loop_model.specs.declared.entry.Entry.{Entry}
+use Rattle.message_pool.specs.Passes.{Tally}
+use Rattle.shared_queue.specs.Known.{Shared, IsOf}
+use Rattle.looper_run.specs.Holding.{Sender}
+use Rattle.choreographer.specs.declared.host.Sending.{Sending}
+use Rattle.choreographer.specs.declared.host.HostSent.TheVariants as host
+use Rattle.choreographer.specs.declared.hosted.Placed.{Placed}
+use Rattle.choreographer.specs.declared.hosted.Placed.TheVariants as placed
+use Rattle.choreographer.specs.Known.{Known as Pass}
+use Rattle.choreographer.specs.Calls.{PostedBy as CallbackPostedBy}
+use Rattle.run_model.specs.Planned.{later}
+use Rattle.run_model.specs.FrameRuns.{posts_frame, removes_frame}
+use Rattle.dash_hall.specs.Growth.{own, GoesOn, Makes}
+
+-- what a host keeps through all its calls: its queue and pool, its poster and its pass by their references, what these were when it was made, and its handler's number and moment
+pub record Origin : Type 0 where
+  pub queue : Shared TableId
+  pub pool : TableId
+  pub poster_name : ℕ
+  pub pass_name : ℕ
+  pub poster : Sender
+  pub pass : Tally
+  pub handler : ℕ
+  pub now : ℕ
+
+-- the poster is one of the queue, the pass is one of the pool, the queue's messages are the pool's, and both have gone on since the host was made
+pub record IsHost (o : Origin) (poster : Sender) (pass : Tally) : Type 0 where
+  pub of_queue : IsOf poster o.queue
+  pub of_pool : pass.home ≡ o.pool
+  pub home : o.queue.constants.home ≡ o.pool
+  pub on : GoesOn o.poster poster o.pass pass
+
+-- a time in milliseconds in nanoseconds, at most the greatest number of 64 bits
+abbrev pub nanos_of : ℕ → ℕ
+nanos_of millis = min (millis * 1000000) (2 ^ 64 - 1)
+
+-- a message that the handler sends for a choreographer: asynchronous, with no object and no callback
+abbrev pub is_sending : ℕ → PostData → Bool
+is_sending handler p = p.handler == handler && p.asynchronous && is_none p.obj && is_none p.callback
+
+-- what no host answers to a choreographer
+abbrev pub not_sent : Sending
+not_sent = record { what = 0; arg = 0; when = 0; answer = host.NoMemory }
+
+-- a message as the queue took it
+abbrev pub sent_as : PostData → Reply → Sending
+sent_as p (Accepted number) = record { what = p.what; arg = p.arg; when = p.when; answer = host.Accepted }
+sent_as p (Refused place) = record { what = p.what; arg = p.arg; when = p.when; answer = host.Refused }
+sent_as p _ = not_sent
+
+-- a call as a choreographer is told of it: a message that this handler sends for it as itself, and any other call as none of its sends
+abbrev pub told_by : ℕ → Call → Reply → Sending
+told_by handler (Post p) r = if is_sending handler p then sent_as p r else not_sent
+told_by handler _ r = not_sent
+
+-- all calls that the poster has made, as a choreographer is told of them
+abbrev pub sends_by : ℕ → Sender → List Sending
+sends_by handler p = map (λ (e : Entry). told_by handler e.call e.reply) (own p)
+
+-- the origin that a host has, by its parts
+abbrev pub origin_of : Shared TableId → TableId → ℕ → ℕ → Sender → Tally → ℕ → ℕ → Origin
+origin_of queue pool poster_name pass_name poster pass handler now =
+    record { queue = queue; pool = pool; poster_name = poster_name; pass_name = pass_name; poster = poster; pass = pass; handler = handler; now = now }
+
+-- a callback was placed, with memory for all that it takes
+abbrev pub IsPlaced : Placed → Type 0
+IsPlaced placed.Asked = Unit {0}
+IsPlaced placed.Sent = Unit {0}
+IsPlaced placed.Already = Unit {0}
+IsPlaced placed.Refused = Unit {0}
+IsPlaced placed.NoMemory = ⊥
+
+-- a frame callback was placed at this moment of a host, whose sends were the one list and are the other
+abbrev pub PlacesBy : Pass → Pass → ℕ → List Sending → List Sending → ℕ → ℕ → ℕ → Type 0
+PlacesBy before after u sends sends' phase id delay = (r : Placed) × IsPlaced r × CallbackPostedBy before after (λ n. n == nanos_of u) sends sends' phase id None delay r
+
+-- the pass has seen one posting more of this phase and identity, and no fewer of others
+pub record CountsOn (phase id : ℕ) (before after : Pass) : Type 0 where
+  pub posts : (p i : ℕ) → count_by (posts_frame p i) before.view.seen + (if phase == p && id == i then 1 else 0) ≤ count_by (posts_frame p i) after.view.seen
+  pub removes : (p i : ℕ) → count_by (removes_frame p i) before.view.seen ≤ count_by (removes_frame p i) after.view.seen
+
+-- the pass has seen one removal more of this phase and identity, and no fewer of others
+pub record RemovesFrame (phase id : ℕ) (before after : Pass) : Type 0 where
+  pub removes : (p i : ℕ) → count_by (removes_frame p i) before.view.seen + (if phase == p && id == i then 1 else 0) ≤ count_by (removes_frame p i) after.view.seen
+  pub posts : (p i : ℕ) → count_by (posts_frame p i) before.view.seen ≤ count_by (posts_frame p i) after.view.seen
+
+-- a frame callback was posted by this handler, at an uptime with a delay: with a delay the sender posted the message for its due time, and else it made no call
+pub record PostsFrame (handler u phase id delay : ℕ) (before after : Sender) (seen seen' : Pass) : Type 0 where
+  pub calls : MatchBool (delay == 0) (own after ≡ own before)
+      (Makes before after (Post (record { handler = handler; what = 2; arg = phase; obj = None; callback = None; when = later (min u 18446744073709) delay; asynchronous = true; slot = None })) [])
+  pub counts : CountsOn phase id seen seen'

@@ -1,0 +1,6 @@
+pub mod Growth
+pub mod Requests
+pub mod Kits
+pub mod Dealing
+pub mod Hosts
+pub mod Hearing

@@ -1,0 +1,53 @@
+-- The calls that are made by handlers.
+use Rattle.std.specs.Prelude.{ℕ, Bool, true, false, Option, Some, None, List, [], ◌∷◌}
+use Rattle.loop_model.specs.declared.call.Call.{Call}
+use Rattle.loop_model.specs.declared.call.Call.TheVariants.{Post, Remove, Barrier, Unbarrier, Quit}
+use Rattle.loop_model.specs.declared.post.Kind.TheVariants as kind
+use Rattle.handler_post.specs.declared.handler.Handler.{Handler}
+use Rattle.handler_post.specs.declared.way.Sent.{Sent}
+use Rattle.handler_post.specs.declared.way.Sent.TheVariants.{Accepted, Refused, NoMemory}
+use Rattle.handler_post.specs.declared.way.Erased.{Erased}
+use Rattle.handler_post.specs.declared.way.Erased.TheVariants.{Removed, NoMemory as NoRoom}
+use Rattle.handler_post.specs.Forms.{message_by, callback_by, filter_by, moment_after}
+use Rattle.dash_hall.specs.declared.handlers.Request.{Request}
+use Rattle.dash_hall.specs.declared.handlers.Request.TheVariants as request
+use Rattle.dash_hall.specs.declared.calls.QueueCall.{QueueCall}
+use Rattle.dash_hall.specs.declared.calls.QueueCall.TheVariants as on_queue
+
+-- the call of a request, by a handler
+abbrev pub call_by : Handler → Request → Call
+call_by h (request.Send what arg obj when) = Post (message_by h what arg obj when)
+call_by h (request.SendAsync what when) = Post (record (message_by h what 0 None when) { asynchronous = true })
+call_by h (request.SendFront what) = Post (message_by h what 0 None 0)
+call_by h (request.PostCallback id now delay) = Post (callback_by h id (moment_after now delay))
+call_by h (request.RemoveMessages what) = Remove (filter_by h (kind.What what) None)
+call_by h (request.RemoveCallbacks id) = Remove (filter_by h (kind.Callback id) None)
+call_by h request.RemoveAll = Remove (filter_by h kind.All None)
+
+-- what holds of a sending that found no memory, and of any other
+abbrev pub IfSent : Sent → Type 0 → Type 0 → Type 0
+IfSent NoMemory P Q = P
+IfSent (Accepted number wake) P Q = Q
+IfSent (Refused place) P Q = Q
+
+-- the same of a removal
+abbrev pub IfErased : Erased → Type 0 → Type 0 → Type 0
+IfErased NoRoom P Q = P
+IfErased (Removed count) P Q = Q
+
+-- a call on a queue, without what is left open: the slot of a message, and the moment of a barrier or a quit
+abbrev pub call_made : QueueCall → Call
+call_made (on_queue.ByHandler handler request) = call_by handler request
+call_made (on_queue.PostBarrier now) = Barrier 0
+call_made (on_queue.RemoveBarrier token) = Unbarrier token
+call_made (on_queue.Quit safe now) = Quit safe 0
+
+-- the call is a barrier's posting, which is answered a token
+abbrev pub posts_barrier : QueueCall → Bool
+posts_barrier (on_queue.PostBarrier now) = true
+posts_barrier _ = false
+
+-- the token that was answered, where one was
+abbrev pub tokens_of : Option ℕ → List ℕ
+tokens_of None = []
+tokens_of (Some token) = token ∷ []

@@ -1,0 +1,97 @@
+//! The calls of a sender that go by no handler: barriers and quits.
+ghost use Rattle.std.specs.Prelude.{◌≡◌, ◌≤◌, [], ◌∷◌, All, IfOk, OnOk, OnErr};
+ghost use Rattle.loop_model.specs.declared.call.Call.TheVariants.{Barrier, Unbarrier, Quit};
+ghost use Rattle.message_pool.specs.Obtain.{IsNodeOf};
+ghost use Rattle.handler_post.specs.Ways.{IsReady, IsSameWay};
+ghost use Rattle.dash_hall.specs.Growth.{own, WayGoesOn, WayMakes, QuitsOf};
+
+use handler_post::Way;
+use loop_model::NoMemory;
+use message_list::NodeList;
+use message_pool::{Obtained, Pool, PoolClaim, PoolPass};
+use message_slot::Message;
+use queue_state::{BarrierGone, BarrierPosted, Quitting};
+use std::alloc::Global;
+use std::sync::Wait;
+
+/// Posts a barrier at this moment, in milliseconds, and answers its token.
+pub(crate) fn post_barrier<R: Wait>(
+    rt: &R,
+    alloc: Global,
+    way: &mut Way,
+    now: u64,
+) -> Result<u64, NoMemory>
+    requires { IsReady way.old }
+    ensures ready { IsReady way.new }
+    ensures same { IsSameWay way.old way.new }
+    ensures on { WayGoesOn way.old way.new }
+    ensures made { IfOk result (λ token. WayMakes way.old way.new (Barrier 0) (token ∷ [])) }
+    ensures none { OnErr result (own way.new.poster.now ≡ own way.old.poster.now) }
+{
+    let node = match way.pool.obtain(alloc, way.pass) {
+        Obtained::Pooled(node) => node,
+        Obtained::Fresh { node, .. } => node,
+        Obtained::NoMemory => return Err(NoMemory),
+    };
+    match way.poster.post_barrier(rt, way.queue, now, node) {
+        BarrierPosted::Token { token } => Ok(token),
+        BarrierPosted::NoMemory(node) => {
+            way.pool.recycle(way.pass, node);
+            Err(NoMemory)
+        }
+    }
+}
+
+/// Removes the barrier of the token, and recycles it. Where there is none, the history says so.
+pub(crate) fn remove_barrier<R: Wait>(rt: &R, way: &mut Way, token: u64) -> Result<(), NoMemory>
+    requires { IsReady way.old }
+    ensures ready { IsReady way.new }
+    ensures same { IsSameWay way.old way.new }
+    ensures on { WayGoesOn way.old way.new }
+    ensures made { OnOk result (WayMakes way.old way.new (Unbarrier token) []) }
+    ensures none { OnErr result (own way.new.poster.now ≡ own way.old.poster.now) }
+{
+    match way.poster.remove_barrier(rt, way.queue, token) {
+        BarrierGone::Unbarriered { node, .. } => {
+            way.pool.recycle(way.pass, node);
+            Ok(())
+        }
+        BarrierGone::NotPosted => Ok(()),
+        BarrierGone::NoMemory => Err(NoMemory),
+    }
+}
+
+/// Quits, at this moment in milliseconds, and recycles what is dropped: with `safe` what is due by then stays. Where the queue may not
+/// quit or has quit, the history says so. NoMemory where it found none: then it made no call. As `quit` and `quitSafely` of AOSP's
+/// `Looper`.
+pub fn quit<R: Wait>(rt: &R, way: &mut Way, safe: bool, now: u64) -> Result<(), NoMemory>
+    requires { IsReady way.old }
+    ensures ready { IsReady way.new }
+    ensures same { IsSameWay way.old way.new }
+    ensures on { WayGoesOn way.old way.new }
+    ensures made { OnOk result (WayMakes way.old way.new (Quit safe 0) []) }
+    ensures turn { OnOk result (QuitsOf way.old.poster.now way.new.poster.now safe now) }
+    ensures none { OnErr result (own way.new.poster.now ≡ own way.old.poster.now) }
+{
+    match way.poster.quit(rt, way.queue, safe, now) {
+        Quitting::Done(left) => {
+            recycle_all(way.pool, way.pass, left);
+            Ok(())
+        }
+        Quitting::AlreadyQuit { .. } => Ok(()),
+        Quitting::NotAllowed => Ok(()),
+        Quitting::NoMemory => Err(NoMemory),
+    }
+}
+
+/// Recycles all these messages, which are of the pool (`recycle` of AOSP's `Message`).
+pub fn recycle_all(pool: &Pool, pass: &mut PoolPass, mut nodes: NodeList<Message<PoolClaim>>)
+    requires pass { pass.old.home ≡ pool.now }
+    requires nodes { All (IsNodeOf pool.now) nodes }
+    ensures home { pass.new.home ≡ pool.now }
+    ensures back { pass.old.back ≤ pass.new.back }
+{
+    while let Some(node) = nodes.pop_front() {
+        pool.recycle(pass, node);
+    }
+}

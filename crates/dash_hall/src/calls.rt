@@ -1,0 +1,87 @@
+//! One call of a sender on a queue.
+ghost use Rattle.std.specs.Prelude.{◌≡◌, is_some, IfOk, OnErr};
+ghost use Rattle.handler_post.specs.Ways.{IsReady, IsSameWay};
+ghost use Rattle.shared_queue.specs.Known.{IsOf};
+ghost use Rattle.dash_hall.specs.Growth.{own, GoesOn, Makes, WayGoesOn, WayMakes};
+ghost use Rattle.dash_hall.specs.Requests.{call_made, tokens_of, posts_barrier};
+
+use crate::barriers::{post_barrier, quit, remove_barrier};
+use crate::handlers::{Request, make};
+use handler_post::{Handler, Way};
+use loop_model::NoMemory;
+use message_pool::{Pool, PoolClaim, PoolPass};
+use shared_queue::{Poster, SharedQueue};
+use std::alloc::Global;
+use std::sync::Wait;
+
+/// A call that a sender makes on a queue. Moments are in milliseconds.
+#[derive(Clone, Copy, Debug, PartialEq, Eq)]
+pub enum QueueCall {
+    ByHandler { handler: Handler, request: Request },
+    PostBarrier { now: u64 },
+    RemoveBarrier { token: u64 },
+    Quit { safe: bool, now: u64 },
+}
+
+/// Makes the call, and answers the token of a barrier that it posts. A refusal stands in the history.
+pub(crate) fn perform<R: Wait>(
+    rt: &R,
+    alloc: Global,
+    way: &mut Way,
+    call: QueueCall,
+) -> Result<Option<u64>, NoMemory>
+    requires { IsReady way.old }
+    ensures ready { IsReady way.new }
+    ensures same { IsSameWay way.old way.new }
+    ensures on { WayGoesOn way.old way.new }
+    ensures made { IfOk result (λ token. WayMakes way.old way.new (call_made call) (tokens_of token)) }
+    ensures none { OnErr result (own way.new.poster.now ≡ own way.old.poster.now) }
+    ensures token { IfOk result (λ token. is_some token ≡ posts_barrier call) }
+{
+    match call {
+        QueueCall::ByHandler { handler, request } => {
+            make(rt, alloc, way, handler, request)?;
+            Ok(None)
+        }
+        QueueCall::PostBarrier { now } => {
+            let token = post_barrier(rt, alloc, way, now)?;
+            Ok(Some(token))
+        }
+        QueueCall::RemoveBarrier { token } => {
+            remove_barrier(rt, way, token)?;
+            Ok(None)
+        }
+        QueueCall::Quit { safe, now } => {
+            quit(rt, way, safe, now)?;
+            Ok(None)
+        }
+    }
+}
+
+/// Makes the call on this queue by this poster and this pass of the pool, and answers the token of a barrier that it posts. A refusal
+/// stands in the history. NoMemory where it found none: then it made no call.
+pub fn perform_by<R: Wait>(
+    rt: &R,
+    alloc: Global,
+    queue: &SharedQueue<PoolClaim>,
+    poster: &mut Poster<PoolClaim>,
+    pool: &Pool,
+    pass: &mut PoolPass,
+    call: QueueCall,
+) -> Result<Option<u64>, NoMemory>
+    requires queue { IsOf poster.old queue.now }
+    requires pass { pass.old.home ≡ pool.now }
+    requires home { queue.now.constants.home ≡ pool.now }
+    ensures on { GoesOn poster.old poster.new pass.old pass.new }
+    ensures made { IfOk result (λ token. Makes poster.old poster.new (call_made call) (tokens_of token)) }
+    ensures none { OnErr result (own poster.new ≡ own poster.old) }
+    ensures token { IfOk result (λ token. is_some token ≡ posts_barrier call) }
+{
+    let mut way = Way {
+        queue,
+        poster,
+        pool,
+        pass,
+    };
+    perform(rt, alloc, &mut way, call)
+}

@@ -1,0 +1,159 @@
+//! The looper on which a choreographer runs, as the choreographer sees it.
+ghost use Rattle.std.specs.Prelude.{◌≡◌, ◌<◌, ℕ, ◌==◌, [], ◌∷◌, IfOk, OnOk};
+ghost use mathlib.Core.List.{IsPrefix};
+ghost use Rattle.loop_model.specs.declared.call.Call.TheVariants.{Barrier, Unbarrier};
+ghost use Rattle.choreographer.specs.Known.{IsOf as IsFrameOf};
+ghost use Rattle.choreographer.specs.Calls.{PulsedBy};
+ghost use Rattle.dash_hall.specs.Growth.{own, Makes};
+ghost use Rattle.dash_hall.specs.Kits.{frame_badge_of};
+ghost use Rattle.dash_hall.specs.Hosts.{Origin, origin_of, IsHost, nanos_of, sends_by, PlacesBy};
+
+use crate::barriers::{post_barrier, remove_barrier};
+use choreographer::{Choreographer, FrameHost, FramePass, HostSent, Placed, Pulse};
+use handler_post::{Handler, Sent, Way};
+use loop_model::NoMemory;
+use message_pool::{Pool, PoolClaim, PoolPass};
+use shared_queue::{Poster, SharedQueue};
+use std::alloc::Global;
+use std::snapshot::Snapshot;
+use std::sync::Wait;
+
+const NANOS_PER_MILLI: u64 = 1_000_000;
+
+/// A sender's way to a looper's queue, by which the choreographer sends its messages, at a moment in milliseconds.
+#[derive(Drop)]
+pub struct Host<'a, R: Wait> {
+    pub rt: &'a R,
+    pub alloc: Global,
+    pub handler: Handler,
+    pub queue: &'a SharedQueue<PoolClaim>,
+    pub pool: &'a Pool,
+    pub poster: &'a mut Poster<PoolClaim>,
+    pub pass: &'a mut PoolPass,
+    /// The poster and the pass as they were when the host was made.
+    pub began: &'a Snapshot<Poster<PoolClaim>>,
+    pub pass_began: &'a Snapshot<PoolPass>,
+    pub now: u64,
+}
+
+impl<'a, R: Wait> FrameHost for Host<'a, R> {
+    ghost Origin = { Origin };
+
+    ghost origin = { λ h. origin_of h.queue.now h.pool.now h.poster.ghost_name h.pass.ghost_name h.began.now.value h.pass_began.now.value h.handler.id h.now };
+
+    ghost Ready = { λ h. IsHost (origin_of h.queue.now h.pool.now h.poster.ghost_name h.pass.ghost_name h.began.now.value h.pass_began.now.value h.handler.id h.now) h.poster.now h.pass.now };
+
+    ghost is_moment = { λ h n. n == nanos_of h.now };
+
+    ghost sends = { λ h. sends_by h.handler.id h.poster.now };
+
+    ghost Reads = { λ h n k. k ≡ h };
+
+    fn now_nanos(&mut self) -> u64 {
+        self.now.saturating_mul(NANOS_PER_MILLI)
+    }
+
+    fn send(&mut self, what: u32, arg: u32, when: u64) -> HostSent {
+        let mut way = Way {
+            queue: self.queue,
+            poster: self.poster,
+            pool: self.pool,
+            pass: self.pass,
+        };
+        match self
+            .handler
+            .send_async_at(self.rt, self.alloc, &mut way, what, arg, when)
+        {
+            Sent::Accepted { .. } => HostSent::Accepted,
+            Sent::Refused { .. } => HostSent::Refused,
+            Sent::NoMemory => HostSent::NoMemory,
+        }
+    }
+}
+
+impl<'a, R: Wait> Host<'a, R> {
+    /// Posts a barrier at the host's moment, and answers its token. NoMemory where it found none.
+    pub fn post_barrier(&mut self) -> Result<u64, NoMemory>
+        requires { IsHost (origin_of self.old.queue.now self.old.pool.now self.old.poster.ghost_name self.old.pass.ghost_name self.old.began.now.value self.old.pass_began.now.value self.old.handler.id self.old.now) self.old.poster.now self.old.pass.now }
+        ensures ready { IsHost (origin_of self.new.queue.now self.new.pool.now self.new.poster.ghost_name self.new.pass.ghost_name self.new.began.now.value self.new.pass_began.now.value self.new.handler.id self.new.now) self.new.poster.now self.new.pass.now }
+        ensures origin { origin_of self.new.queue.now self.new.pool.now self.new.poster.ghost_name self.new.pass.ghost_name self.new.began.now.value self.new.pass_began.now.value self.new.handler.id self.new.now ≡ origin_of self.old.queue.now self.old.pool.now self.old.poster.ghost_name self.old.pass.ghost_name self.old.began.now.value self.old.pass_began.now.value self.old.handler.id self.old.now }
+        ensures made { IfOk result (λ token. Makes self.old.poster.now self.new.poster.now (Barrier 0) (token ∷ [])) }
+    {
+        let mut way = Way {
+            queue: self.queue,
+            poster: self.poster,
+            pool: self.pool,
+            pass: self.pass,
+        };
+        post_barrier(self.rt, self.alloc, &mut way, self.now)
+    }
+
+    /// Removes the barrier of the token. Where there is none, the history says so. NoMemory where it found none.
+    pub fn remove_barrier(&mut self, token: u64) -> Result<(), NoMemory>
+        requires { IsHost (origin_of self.old.queue.now self.old.pool.now self.old.poster.ghost_name self.old.pass.ghost_name self.old.began.now.value self.old.pass_began.now.value self.old.handler.id self.old.now) self.old.poster.now self.old.pass.now }
+        ensures ready { IsHost (origin_of self.new.queue.now self.new.pool.now self.new.poster.ghost_name self.new.pass.ghost_name self.new.began.now.value self.new.pass_began.now.value self.new.handler.id self.new.now) self.new.poster.now self.new.pass.now }
+        ensures origin { origin_of self.new.queue.now self.new.pool.now self.new.poster.ghost_name self.new.pass.ghost_name self.new.began.now.value self.new.pass_began.now.value self.new.handler.id self.new.now ≡ origin_of self.old.queue.now self.old.pool.now self.old.poster.ghost_name self.old.pass.ghost_name self.old.began.now.value self.old.pass_began.now.value self.old.handler.id self.old.now }
+        ensures made { OnOk result (Makes self.old.poster.now self.new.poster.now (Unbarrier token) []) }
+    {
+        let mut way = Way {
+            queue: self.queue,
+            poster: self.poster,
+            pool: self.pool,
+            pass: self.pass,
+        };
+        remove_barrier(self.rt, &mut way, token)
+    }
+
+    /// Delivers the pulse that is asked for at the choreographer, and answers it. None where none is asked for, or it has not come
+    /// yet. The pass is one of the choreographer.
+    pub fn deliver(&mut self, c: &Choreographer, pass: &mut FramePass) -> Option<Pulse>
+        requires ready { IsHost (origin_of self.old.queue.now self.old.pool.now self.old.poster.ghost_name self.old.pass.ghost_name self.old.began.now.value self.old.pass_began.now.value self.old.handler.id self.old.now) self.old.poster.now self.old.pass.now }
+        requires pass { IsFrameOf pass.old c.now }
+        ensures ready { IsHost (origin_of self.new.queue.now self.new.pool.now self.new.poster.ghost_name self.new.pass.ghost_name self.new.began.now.value self.new.pass_began.now.value self.new.handler.id self.new.now) self.new.poster.now self.new.pass.now }
+        ensures origin { origin_of self.new.queue.now self.new.pool.now self.new.poster.ghost_name self.new.pass.ghost_name self.new.began.now.value self.new.pass_began.now.value self.new.handler.id self.new.now ≡ origin_of self.old.queue.now self.old.pool.now self.old.poster.ghost_name self.old.pass.ghost_name self.old.began.now.value self.old.pass_began.now.value self.old.handler.id self.old.now }
+        ensures pass { frame_badge_of pass.new ≡ frame_badge_of pass.old }
+        ensures pulse { PulsedBy pass.old pass.new (λ n. n == nanos_of self.old.now) (sends_by self.old.handler.id self.old.poster.now) (sends_by self.new.handler.id self.new.poster.now) result }
+    {
+        c.on_vsync(self.rt, pass, self)
+    }
+
+    /// Schedules a frame where the phase has a due callback and none is scheduled (`doScheduleCallback` of AOSP's `Choreographer`). The
+    /// pass is one of the choreographer, and the phase one of its phases.
+    pub fn on_due(&mut self, c: &Choreographer, pass: &mut FramePass, phase: u32)
+        requires ready { IsHost (origin_of self.old.queue.now self.old.pool.now self.old.poster.ghost_name self.old.pass.ghost_name self.old.began.now.value self.old.pass_began.now.value self.old.handler.id self.old.now) self.old.poster.now self.old.pass.now }
+        requires pass { IsFrameOf pass.old c.now × (phase < c.now.constants.phases) }
+        ensures ready { IsHost (origin_of self.new.queue.now self.new.pool.now self.new.poster.ghost_name self.new.pass.ghost_name self.new.began.now.value self.new.pass_began.now.value self.new.handler.id self.new.now) self.new.poster.now self.new.pass.now }
+        ensures origin { origin_of self.new.queue.now self.new.pool.now self.new.poster.ghost_name self.new.pass.ghost_name self.new.began.now.value self.new.pass_began.now.value self.new.handler.id self.new.now ≡ origin_of self.old.queue.now self.old.pool.now self.old.poster.ghost_name self.old.pass.ghost_name self.old.began.now.value self.old.pass_began.now.value self.old.handler.id self.old.now }
+        ensures pass { frame_badge_of pass.new ≡ frame_badge_of pass.old }
+        ensures seen { IsPrefix pass.old.view.seen pass.new.view.seen }
+        ensures calls { own self.new.poster.now ≡ own self.old.poster.now }
+    {
+        c.on_due(self.rt, pass, self, phase);
+    }
+
+    /// Posts a frame callback for the moment in `delay` milliseconds. A refused message for its due time stands in the history. The pass
+    /// is one of the choreographer, and the phase one of its phases. NoMemory where it found none.
+    pub fn post_callback(
+        &mut self,
+        c: &Choreographer,
+        pass: &mut FramePass,
+        phase: u32,
+        id: u64,
+        delay: u64,
+    ) -> Result<(), NoMemory>
+        requires ready { IsHost (origin_of self.old.queue.now self.old.pool.now self.old.poster.ghost_name self.old.pass.ghost_name self.old.began.now.value self.old.pass_began.now.value self.old.handler.id self.old.now) self.old.poster.now self.old.pass.now }
+        requires pass { IsFrameOf pass.old c.now × (phase < c.now.constants.phases) }
+        ensures ready { IsHost (origin_of self.new.queue.now self.new.pool.now self.new.poster.ghost_name self.new.pass.ghost_name self.new.began.now.value self.new.pass_began.now.value self.new.handler.id self.new.now) self.new.poster.now self.new.pass.now }
+        ensures origin { origin_of self.new.queue.now self.new.pool.now self.new.poster.ghost_name self.new.pass.ghost_name self.new.began.now.value self.new.pass_began.now.value self.new.handler.id self.new.now ≡ origin_of self.old.queue.now self.old.pool.now self.old.poster.ghost_name self.old.pass.ghost_name self.old.began.now.value self.old.pass_began.now.value self.old.handler.id self.old.now }
+        ensures pass { frame_badge_of pass.new ≡ frame_badge_of pass.old }
+        ensures turn { OnOk result (PlacesBy pass.old pass.new self.old.now (sends_by self.old.handler.id self.old.poster.now) (sends_by self.new.handler.id self.new.poster.now) phase id delay) }
+    {
+        match c.post_callback(self.rt, pass, self, phase, id, None, delay) {
+            Placed::Asked => Ok(()),
+            Placed::Sent => Ok(()),
+            Placed::Already => Ok(()),
+            Placed::Refused => Ok(()),
+            Placed::NoMemory => Err(NoMemory),
+        }
+    }
+}

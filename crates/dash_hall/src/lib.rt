@@ -1,0 +1,18 @@
+//! What the senders of a script's run share, what each of them owns, and the ways in which a sender calls.
+//!
+//! A `Hall` has the queues, the choreographers and the pool; a `Kit` is what one sender works with. Lockstep is this project's profile.
+#![tactic(auto)]
+
+mod barriers;
+mod calls;
+mod hall;
+mod handlers;
+mod host;
+mod kit;
+
+pub use barriers::{quit, recycle_all};
+pub use calls::{QueueCall, perform_by};
+pub use hall::{Hall, PHASES, holder, open};
+pub use handlers::{Request, frame_handler, gauge_handler, handler_of, looper_of, make};
+pub use host::Host;
+pub use kit::Kit;

@@ -1,0 +1,128 @@
+-- What the calls of a looper's code leave of what they were lent.
+use Rattle.std.proofs.Common.{◌≡◌, ℕ, ◌≤◌, List, [], ◌∷◌, ◌++◌, Some, refl, sym, ap, ◌∙◌, subst, arith}
+use Rattle.std.proofs.lemmas.List.{append-nil}
+use Rattle.std.proofs.lemmas.List.Elements.{All-append, All-push}
+use Rattle.atomic_table.specs.Seated.{TableId}
+use Rattle.dash_script.specs.declared.script.Script.{Script}
+use Rattle.std.specs.List.{slice_get}
+use Rattle.loop_model.specs.declared.journal.Act.{Act}
+use Rattle.loop_model.specs.declared.journal.Journal.{Journal}
+use Rattle.message_pool.specs.Passes.{Tally}
+use Rattle.shared_queue.specs.Known.{Shared}
+use Rattle.looper_run.specs.declared.dispatcher.Did.{Did}
+use Rattle.looper_run.specs.declared.dispatcher.Did.TheVariants.{Yes, No, NoMemory}
+use Rattle.looper_run.specs.declared.own.Own.{Own}
+use Rattle.looper_run.specs.Acts.{IsOfDispatcher, GrowsBy}
+use Rattle.looper_run.specs.Holding.{Sender, Holding, IsSameOwn}
+use Rattle.looper_run.specs.Tests.{IsLent, Unless, Intercepts}
+use Rattle.looper_run.proofs.Working.{behind}
+use Rattle.dash_hall.specs.declared.hall.Hall.{Hall}
+use Rattle.dash_hall.specs.Growth.{GoesOn}
+use Rattle.dash_hall.specs.Hosts.{Origin, IsHost}
+use Rattle.dash_hall.specs.Kits.{badge_of}
+use Rattle.dash_loopers.specs.Loopers.{IsPlaceOf, IsLooperOf}
+use Rattle.dash_loopers.proofs.LooperPlaces.{queue_home}
+
+abbrev pub holding : Sender → Tally → Journal → Holding
+holding p t j = record { poster = p; pass = t; journal = j }
+
+-- a poster and a pass that nothing was done with
+pub goes_nowhere : (p : Sender) (t : Tally) → GoesOn p p t t
+goes_nowhere p t = record {
+  table = refl;
+  sender = refl;
+  constants = refl;
+  heard = refl;
+  rung = refl;
+  turns = omega arith;
+  more = [];
+  seen = sym (append-nil p.view.seen);
+  no_looks = λ k d near. absurd (omega (arith, near));
+  home = refl;
+  back = omega arith;
+}
+
+-- a poster and a pass that went on, beside the journal as it was
+pub lent_on : (p q : Sender) (t u : Tally) (j : Journal) → GoesOn p q t u → IsLent (holding p t j) (holding q u j)
+lent_on p q t u j g = record {
+  same = record { table = g.table; sender = g.sender; constants = g.constants; heard = g.heard; turns = g.turns; home = g.home; looper = refl };
+  more = g.more;
+  did = [];
+  seen = g.seen;
+  acts = sym (append-nil j.acts);
+  no_looks = g.no_looks;
+  told = λ k d near. absurd (omega (arith, near));
+  back = g.back;
+}
+
+-- the poster of another queue went on, with the pass
+pub lent_pass : (p : Sender) (t u : Tally) (j : Journal) → u.home ≡ t.home → t.back ≤ u.back → IsLent (holding p t j) (holding p u j)
+lent_pass p t u j home back = record {
+  same = record { table = refl; sender = refl; constants = refl; heard = refl; turns = omega arith; home = home; looper = refl };
+  more = [];
+  did = [];
+  seen = sym (append-nil p.view.seen);
+  acts = sym (append-nil j.acts);
+  no_looks = λ k d near. absurd (omega (arith, near));
+  told = λ k d near. absurd (omega (arith, near));
+  back = back;
+}
+
+-- acts of the dispatcher were appended, beside the poster and the pass as they were
+pub lent_grown : (p : Sender) (t : Tally) (j k : Journal) → k.looper ≡ j.looper → GrowsBy IsOfDispatcher j.acts k.acts → IsLent (holding p t j) (holding p t k)
+lent_grown p t j k looper grew = record {
+  same = record { table = refl; sender = refl; constants = refl; heard = refl; turns = omega arith; home = refl; looper = looper };
+  more = [];
+  did = grew.0;
+  seen = sym (append-nil p.view.seen);
+  acts = grew.1;
+  no_looks = λ k d near. absurd (omega (arith, near));
+  told = grew.2;
+  back = omega arith;
+}
+
+pub grows_none : (acts : List Act) → GrowsBy IsOfDispatcher acts acts
+grows_none acts = ([], sym (append-nil acts), λ k d near. absurd (omega (arith, near)))
+
+pub grows_one : (acts more : List Act) (act : Act) → IsOfDispatcher act → more ≡ acts ++ act ∷ [] → GrowsBy IsOfDispatcher acts more
+grows_one acts more act is e = (act ∷ [], e, All-push IsOfDispatcher [] act (λ k d near. absurd (omega (arith, near))) is)
+
+pub grows_then : (a b c : List Act) → GrowsBy IsOfDispatcher a b → GrowsBy IsOfDispatcher b c → GrowsBy IsOfDispatcher a c
+grows_then a b c p q = (p.0 ++ q.0, behind a b c p.0 q.0 p.1 q.1, All-append IsOfDispatcher p.0 q.0 p.2 q.2)
+
+-- a host as it begins
+pub host_begins : (s : Script) (hall : Hall) (n : ℕ) (q : Shared TableId) (p a : Sender) (t u : Tally) (b c handler now : ℕ) → IsLooperOf s hall n → slice_get hall.queues.items n ≡ Some q
+    → IsPlaceOf hall n (record { table = p.table; constants = p.view.constants; pool = t.home }) → a ≡ p → u ≡ t
+    → IsHost (record { queue = q; pool = hall.pool; poster_name = b; pass_name = c; poster = a; pass = u; handler = handler; now = now }) p t
+host_begins s hall n q p a t u b c handler now l at place e f = record {
+  of_queue = place.queue q at;
+  of_pool = place.pool;
+  home = queue_home s hall n l n q at;
+  on = subst (λ (x : Sender). GoesOn x p u t) (sym e) (subst (λ (x : Tally). GoesOn p p x t) (sym f) (goes_nowhere p t));
+}
+
+-- how a host leaves what it was made with
+pub host_leaves : (o k : Origin) (p q : Sender) (t u : Tally) (j : Journal) → o.poster ≡ p → o.pass ≡ t → k ≡ o → IsHost k q u → IsLent (holding p t j) (holding q u j)
+host_leaves o k p q t u j is_p is_t e h =
+    lent_on p q t u j (subst (λ (a : Sender). GoesOn a q t u) (ap (λ (x : Origin). x.poster) e ∙ is_p) (subst (λ (a : Tally). GoesOn k.poster q a u) (ap (λ (x : Origin). x.pass) e ∙ is_t) h.on))
+
+pub host_rung : (o k : Origin) (p q : Sender) (u : Tally) → o.poster ≡ p → k ≡ o → IsHost k q u → q.view.rung ≡ p.view.rung
+host_rung o k p q u is_p e h = h.on.rung ∙ ap (λ (a : Sender). a.view.rung) (ap (λ (x : Origin). x.poster) e ∙ is_p)
+
+-- what always holds
+pub unless_known : (r : Did) (P : Type 0) → P → Unless r P
+unless_known Yes P x = x
+unless_known No P x = x
+unless_known NoMemory P x = tt
+
+pub intercepts_known : (r : Did) (P Q : Type 0) → P → (r ≡ No → Q) → Intercepts r P Q
+intercepts_known Yes P Q x y = x
+intercepts_known No P Q x y = y refl
+intercepts_known NoMemory P Q x y = tt
+
+-- a poster that went on keeps its badge
+pub badge_on : (p q : Sender) (t u : Tally) → GoesOn p q t u → badge_of q ≡ badge_of p
+badge_on p q t u g = λ i. record { table = g.table i; constants = g.constants i; sender = g.sender i }
+
+pub own_then : (a b c : Own) → IsSameOwn a b → IsSameOwn b c → IsSameOwn a c
+own_then a b c p q = record { poster = q.poster ∙ p.poster; pass = q.pass ∙ p.pass; journal = q.journal ∙ p.journal }

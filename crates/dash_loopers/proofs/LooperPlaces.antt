@@ -1,0 +1,113 @@
+-- A looper's place in its hall, and its parts.
+use Rattle.std.proofs.Common.{◌≡◌, ℕ, ◌+◌, ◌<◌, List, map, length, get_or, set, Some, refl, sym, ap, ◌∙◌, subst, arith}
+use Rattle.std.specs.List.{range_with_len, slice_get}
+use Rattle.std.specs.Option.{option_map}
+use Rattle.std.proofs.lemmas.List.{length-map}
+use Rattle.std.proofs.lemmas.List.FromFn.{length-range_with_len, get_or-range_with_len}
+use Rattle.std.proofs.lemmas.Option.{slice_get-get_or, slice_get-map, slice_get_within}
+use Rattle.atomic_table.specs.Seated.{TableId}
+use Rattle.dash_script.specs.declared.script.Script.{Script}
+use Rattle.shared_queue.specs.Known.{Shared, IsOf}
+use Rattle.looper_run.specs.Holding.{Sender, Holding, Workplace, workplace}
+use Rattle.looper_run.specs.Tests.{IsSameLooper}
+use Rattle.looper_run.proofs.Steps.{workplace_same}
+use Rattle.choreographer.specs.Known.{Shared as Frames, Known as Pass, IsOf as IsFrameOf}
+use Rattle.dash_hall.specs.declared.hall.Hall.{Hall}
+use Rattle.dash_loopers.specs.declared.player.Parts.{Parts}
+use Rattle.dash_hall.specs.Kits.{Badge, FrameBadge, badge_of, badge_for, frame_badge_of, frame_badge_for, queue_key, queue_constants, frame_key, frame_constants}
+use Rattle.dash_loopers.specs.Loopers.{ArePartsOf, IsLooperOf}
+use Rattle.dash_loopers.specs.Players.{ServesAt, AreSameParts, PlaceWithout}
+use Rattle.dash_loopers.proofs.LooperLists.{at_same, at_removed, within_removed, map_set_same}
+
+-- a pass keeps its choreographer where it keeps its badge
+pub frame_of_then : (p q : Pass) (c : Frames) → frame_badge_of q ≡ frame_badge_of p → IsFrameOf p c → IsFrameOf q c
+frame_of_then p q c e h = (ap (λ (b : FrameBadge). b.table) e ∙ h.0, ap (λ (b : FrameBadge). b.constants) e ∙ h.1)
+
+pub frame_of_badge : (n : ℕ) (p : Pass) (c : Frames) → frame_badge_of p ≡ frame_badge_for n c → IsFrameOf p c
+frame_of_badge n p c e = (ap (λ (b : FrameBadge). b.table) e, ap (λ (b : FrameBadge). b.constants) e)
+
+pub of_badge : (k : ℕ) (p : Sender) (q : Shared TableId) → badge_of p ≡ badge_for k q → IsOf p q
+of_badge k p q e = (ap (λ (b : Badge). b.table) e, ap (λ (b : Badge). b.constants) e)
+
+-- how many there are of what a range is mapped to
+count_of : {X Y : Type 0} (f : X → Y) (g : ℕ → Y) (xs : List X) (n : ℕ) → map f xs ≡ map g (range_with_len 0 n) → length xs ≡ n
+count_of f g xs n e = sym (length-map xs f) ∙ (ap length e ∙ (length-map (range_with_len 0 n) g ∙ length-range_with_len 0 n))
+
+-- which number stands at a place of a range
+at_range : (n i : ℕ) → i < n → slice_get (range_with_len 0 n) i ≡ Some i
+at_range n i lt =
+    let within : i < length (range_with_len 0 n) = omega (arith, length-range_with_len 0 n) in
+    let is : get_or (range_with_len 0 n) i 0 ≡ i = omega (arith, get_or-range_with_len 0 n i 0 lt) in
+    slice_get-get_or (range_with_len 0 n) i 0 within ∙ ap Some is
+
+module _ (s : Script) (hall : Hall) (n : ℕ) (l : IsLooperOf s hall n) where
+  pub queue_count : length hall.queues.items ≡ s.loopers
+  queue_count = count_of queue_key (queue_constants s hall.pool) hall.queues.items s.loopers l.is_hall.queues
+
+  pub frames_count : length hall.choreographers.items ≡ s.loopers
+  frames_count = count_of frame_key (frame_constants s) hall.choreographers.items s.loopers l.is_hall.choreographers
+
+  pub queue_is : (i : ℕ) (q : Shared TableId) → slice_get hall.queues.items i ≡ Some q → q.constants ≡ queue_constants s hall.pool i
+  queue_is i q at =
+      let lt : i < s.loopers = omega (arith, slice_get_within hall.queues.items i q at, queue_count) in
+      at_same queue_key (queue_constants s hall.pool) hall.queues.items (range_with_len 0 s.loopers) i q i l.is_hall.queues at (at_range s.loopers i lt)
+
+  pub queue_home : (i : ℕ) (q : Shared TableId) → slice_get hall.queues.items i ≡ Some q → q.constants.home ≡ hall.pool
+  queue_home i q at = ap (λ c. c.home) (queue_is i q at)
+
+  pub four_phases : (c : Frames) → slice_get hall.choreographers.items n ≡ Some c → c.constants.phases ≡ 4
+  four_phases c at =
+      let e = at_same frame_key (frame_constants s) hall.choreographers.items (range_with_len 0 s.loopers) n c n l.is_hall.choreographers at (at_range s.loopers n l.one) in
+      ap (λ k. k.phases) e
+
+pub parts_self : (a : Parts) → AreSameParts a a
+parts_self a = record { others = refl; frames = refl; client = refl }
+
+pub parts_then : (a b c : Parts) → AreSameParts a b → AreSameParts b c → AreSameParts a c
+parts_then a b c p q = record { others = q.others ∙ p.others; frames = q.frames ∙ p.frames; client = q.client ∙ p.client }
+
+-- a looper's parts stay its parts where they are the same
+pub are_parts_then : (s : Script) (hall : Hall) (n : ℕ) (a b : Parts) → AreSameParts a b → ArePartsOf s hall n a → ArePartsOf s hall n b
+are_parts_then s hall n a b p h = record {
+  others = p.others ∙ h.others;
+  frames = λ c at. p.frames ∙ h.frames c at;
+  client = λ c at. p.client ∙ h.client c at;
+}
+
+-- the code serves its workplace with the parts that it leaves
+pub serves_with : (s : Script) (hall : Hall) (n : ℕ) (a b : Parts) (w : Workplace) → AreSameParts a b → ServesAt s hall n a w → ServesAt s hall n b w
+serves_with s hall n a b w p h = record { looper = h.looper; place = h.place; are_parts = are_parts_then s hall n a b p h.are_parts }
+
+-- the same at the end of a call that was lent what the looper has
+pub serves_then : (s : Script) (hall : Hall) (n : ℕ) (a b : Parts) (h k : Holding) → AreSameParts a b → IsSameLooper h k → ServesAt s hall n a (workplace h) → ServesAt s hall n b (workplace k)
+serves_then s hall n a b h k p same serves =
+    serves_with s hall n a b (workplace k) p (subst (λ (w : Workplace). ServesAt s hall n a w) (sym (workplace_same h k same)) serves)
+
+-- a poster of another looper's queue
+pub other_of : (s : Script) (hall : Hall) (n place j : ℕ) (parts : Parts) (p : Sender) (q : Shared TableId) → IsLooperOf s hall n → ArePartsOf s hall n parts → PlaceWithout n place j → slice_get parts.others.items j ≡ Some p → slice_get hall.queues.items place ≡ Some q → IsOf p q
+other_of s hall n place j parts p q l are w at at' =
+    let k : ℕ = s.threads + n in
+    let count = queue_count s hall n l in
+    let one = l.one in
+    let within : n < length (map (badge_for k) hall.queues.items) = omega (arith, count, one, length-map hall.queues.items (badge_for k)) in
+    let at_p : slice_get (map badge_of parts.others.items) j ≡ Some (badge_of p) = slice_get-map badge_of parts.others.items j ∙ ap (λ o. option_map badge_of o) at in
+    let at_q : slice_get (map (badge_for k) hall.queues.items) place ≡ Some (badge_for k q) = slice_get-map (badge_for k) hall.queues.items place ∙ ap (λ o. option_map (badge_for k) o) at' in
+    of_badge k p q (at_removed (map badge_of parts.others.items) (map (badge_for k) hall.queues.items) n place j (badge_of p) (badge_for k q) are.others within w at_p at_q)
+
+pub other_within : (s : Script) (hall : Hall) (n place j : ℕ) (parts : Parts) → IsLooperOf s hall n → ArePartsOf s hall n parts → place < length hall.queues.items → PlaceWithout n place j → j < length parts.others.items
+other_within s hall n place j parts l are near w =
+    let k : ℕ = s.threads + n in
+    let count = queue_count s hall n l in
+    let one = l.one in
+    let many = length-map hall.queues.items (badge_for k) in
+    let within : n < length (map (badge_for k) hall.queues.items) = omega (arith, count, one, many) in
+    let near' : place < length (map (badge_for k) hall.queues.items) = omega (arith, near, many) in
+    omega (arith, within_removed (map badge_of parts.others.items) (map (badge_for k) hall.queues.items) n place j are.others within near' w, length-map parts.others.items badge_of)
+
+-- the parts are the same with another poster of the same badge
+pub parts_with : (a : Parts) (j : ℕ) (p q : Sender) (b : Parts) → slice_get a.others.items j ≡ Some p → badge_of q ≡ badge_of p → b.others.items ≡ set a.others.items j q → b.frames ≡ a.frames → b.root ≡ a.root → AreSameParts a b
+parts_with a j p q b at e others frames root = record {
+  others = ap (map badge_of) others ∙ map_set_same badge_of a.others.items j p q at e;
+  frames = ap frame_badge_of frames;
+  client = ap (λ r. frame_badge_of r.pass) root;
+}

@@ -1,0 +1,38 @@
+use Rattle.std.proofs.Common.{◌≡◌, get_or, List, refl, sym, ap, subst, arith}
+use Rattle.std.specs.List.{remove}
+use Rattle.choreographer.specs.Known.{Known as Pass}
+use Rattle.looper_run.specs.Holding.{Holding}
+use Rattle.dash_loopers.specs.Loopers.{IsLooperOf}
+use Rattle.dash_loopers.proofs.LooperKits.{kit_many, kit_two, posters_begin, looper_begins}
+use Rattle.dash_loopers.proofs.looper.StageLooper.new.Goals as goal
+
+pub remove-poster-requires : goal.remove-poster-requires
+remove-poster-requires c =
+    let of : IsLooperOf c.args.script.now c.args.hall.now c.args.number = record { few = c.requires.fits; one = c.requires.number; is_hall = c.requires.hall } in
+    omega (arith, kit_many c.args.script.now c.args.hall.now c.args.number of c.args.kit c.requires.kit, c.args.kit.posters.ok.0)
+
+pub remove-own_frames-requires : goal.remove-own_frames-requires
+remove-own_frames-requires c =
+    let of : IsLooperOf c.args.script.now c.args.hall.now c.args.number = record { few = c.requires.fits; one = c.requires.number; is_hall = c.requires.hall } in
+    omega (arith, kit_two c.args.script.now c.args.hall.now c.args.number of c.args.kit c.requires.kit, c.args.kit.frames.ok.0)
+
+pub remove-client-requires : goal.remove-client-requires
+remove-client-requires c =
+    let of : IsLooperOf c.args.script.now c.args.hall.now c.args.number = record { few = c.requires.fits; one = c.requires.number; is_hall = c.requires.hall } in
+    let len = c.remove-own_frames.ensures.len in
+    omega (arith, len, kit_two c.args.script.now c.args.hall.now c.args.number of c.args.kit c.requires.kit, c.args.kit.frames.ok.0)
+
+pub returns-clause-looper : goal.returns-clause-looper
+returns-clause-looper c =
+    let of : IsLooperOf c.args.script.now c.args.hall.now c.args.number = record { few = c.requires.fits; one = c.requires.number; is_hall = c.requires.hall } in
+    let second : c.remove-client.result ≡ get_or (remove c.args.kit.frames.items 0) 0 c.remove-client.result = subst (λ (l : List Pass). c.remove-client.result ≡ get_or l 0 c.remove-client.result) c.remove-own_frames.ensures.items c.remove-client.ensures.value in
+    looper_begins c.args.script.now c.args.hall.now c.args.number c.args.kit _ c.make.result c.remove-poster.result _ of c.requires.kit c.requires.unused
+    c.remove-poster.ensures.value c.remove-poster.ensures.items c.remove-own_frames.ensures.value
+    (subst (λ (p : Pass). p ≡ get_or (remove c.args.kit.frames.items 0) 0 p) (sym c.in_ok-new.ensures) second)
+    c.make.ensures.held c.make.ensures.flags.1 refl
+
+pub returns-clause-posters : goal.returns-clause-posters
+returns-clause-posters c =
+    let of : IsLooperOf c.args.script.now c.args.hall.now c.args.number = record { few = c.requires.fits; one = c.requires.number; is_hall = c.requires.hall } in
+    posters_begin c.args.kit c.args.number c.remove-poster.result c.make.result.held.poster c.remove-poster.new.self.items (kit_many c.args.script.now c.args.hall.now c.args.number of c.args.kit c.requires.kit)
+    c.remove-poster.ensures.value c.remove-poster.ensures.items (ap (λ (h : Holding). h.poster) c.make.ensures.held)

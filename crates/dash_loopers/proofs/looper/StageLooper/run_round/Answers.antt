@@ -1,0 +1,65 @@
+use Rattle.std.proofs.Common.{◌≡◌, ◌||◌, Some, true, false, sym, ap₂, ◌∙◌, arith}
+use Rattle.std.proofs.lemmas.Option.{slice_get_read}
+use Rattle.looper_run.specs.Round.{is_ended}
+use Rattle.dash_loopers.specs.Loopers.{is_given_up}
+use Rattle.dash_loopers.proofs.LooperPlaces.{queue_count, queue_home}
+use Rattle.dash_loopers.proofs.LooperKits.{looper_of, looper_then, ran_on, comes_to_wait}
+use Rattle.dash_loopers.proofs.looper.StageLooper.run_round.Goals as goal
+
+pub index-requires : goal.index-requires
+index-requires g c =
+    let hall = c.args.hall.now in
+    let l = c.args.self.now in
+    let count = queue_count c.args.script.now hall l.number (looper_of c.args.script.now hall l c.requires.hall c.requires.looper) in
+    let one = c.requires.looper.number in
+    omega (arith, count, one, hall.queues.ok.0)
+
+pub run_round-self-requires-clause-at : goal.run_round-self-requires-clause-at
+run_round-self-requires-clause-at g c =
+    let hall = c.args.hall.now in
+    let l = c.args.self.now in
+    let of = looper_of c.args.script.now hall l c.requires.hall c.requires.looper in
+    let count = queue_count c.args.script.now hall l.number of in
+    let one = c.requires.looper.number in
+    let at = slice_get_read hall.queues.items hall.queues.len l.number c.index.result.now (omega (arith, hall.queues.ok.0)) (omega (arith, count, one, hall.queues.ok.0)) c.index.ensures in
+    record {
+      poster = c.requires.looper.place.queue c.index.result.now at;
+      pass = c.requires.looper.place.pool;
+      home = queue_home c.args.script.now hall l.number of l.number c.index.result.now at;
+    }
+
+pub returns-clause-looper : goal.returns-clause-looper
+returns-clause-looper g c =
+    let hall = c.args.hall.now in
+    let l = c.args.self.now in
+    let is : l.parts ≡ Some c.in-Some.parts = cc in
+    let count = queue_count c.args.script.now hall l.number (looper_of c.args.script.now hall l c.requires.hall c.requires.looper) in
+    let one = c.requires.looper.number in
+    let at = slice_get_read hall.queues.items hall.queues.len l.number c.index.result.now (omega (arith, hall.queues.ok.0)) (omega (arith, count, one, hall.queues.ok.0)) c.index.ensures in
+    looper_then c.args.script.now hall c.args.now l c.index.result.now _ c.in-Some.parts c.run_round-self.new.d.parts c.run_round-self.new.self c.run_round-self.result c.requires.hall c.requires.looper is at
+    c.run_round-self.ensures.origin c.run_round-self.ensures.serves c.run_round-self.ensures.same c.run_round-self.ensures.ended c.run_round-self.ensures.round (sym c.gave_up.ensures ∙ c.if-gave_up.false)
+
+pub returns-clause-round : goal.returns-clause-round
+returns-clause-round g c =
+    let hall = c.args.hall.now in
+    let l = c.args.self.now in
+    let count = queue_count c.args.script.now hall l.number (looper_of c.args.script.now hall l c.requires.hall c.requires.looper) in
+    let one = c.requires.looper.number in
+    let at = slice_get_read hall.queues.items hall.queues.len l.number c.index.result.now (omega (arith, hall.queues.ok.0)) (omega (arith, count, one, hall.queues.ok.0)) c.index.ensures in
+    let no_end : is_ended l.last ≡ false = sym c.has_ended.ensures ∙ c.if-has_ended.false in
+    let no_want : is_given_up l.last ≡ false = sym c.gave_up.ensures ∙ c.if-gave_up.false in
+    let going : (is_ended l.last || is_given_up l.last) ≡ false = ap₂ (λ a b. a || b) no_end no_want in
+    record {
+      stopped = λ e. absurd (let wrong : false ≡ true = sym going ∙ e in cc);
+      ran = λ e. ran_on c.args.script.now hall c.args.now l c.index.result.now c.run_round-self.new.self c.run_round-self.result c.requires.hall c.requires.looper at c.run_round-self.ensures.round;
+      looks = λ e. c.run_round-self.ensures.looks;
+    }
+
+pub returns-clause-waits : goal.returns-clause-waits
+returns-clause-waits g c =
+    let hall = c.args.hall.now in
+    let l = c.args.self.now in
+    let count = queue_count c.args.script.now hall l.number (looper_of c.args.script.now hall l c.requires.hall c.requires.looper) in
+    let one = c.requires.looper.number in
+    let at = slice_get_read hall.queues.items hall.queues.len l.number c.index.result.now (omega (arith, hall.queues.ok.0)) (omega (arith, count, one, hall.queues.ok.0)) c.index.ensures in
+    comes_to_wait c.args.script.now hall c.args.now l c.index.result.now c.run_round-self.new.self c.run_round-self.result c.requires.hall c.requires.looper at c.run_round-self.ensures.same c.run_round-self.ensures.round

@@ -1,0 +1,141 @@
+-- A looper of a script.
+use Rattle.std.specs.Prelude.{◌≡◌, List, length, ◌<◌, ◌+◌, ◌==◌, ◌||◌, ℕ, Bool, true, false, map, slice_get, Option, Some, None, IsSomeAnd, slice_index_or, ◌≤◌, []}
+use Rattle.std.specs.List.{remove, insert}
+use Rattle.atomic_table.specs.Seated.{TableId}
+use Rattle.dash_script.specs.declared.script.Script.{Script}
+use Rattle.loop_model.specs.Base.{empty_base}
+use Rattle.loop_model.specs.Answers.{Setting, is_over}
+use Rattle.loop_model.specs.Legal.{IsLegal, AreNumbered}
+use Rattle.loop_model.specs.declared.entry.Entry.{Entry}
+use Rattle.shared_queue.specs.Known.{Shared}
+use Rattle.looper_run.specs.Holding.{Workplace, workplace, Sender, IsBeside}
+use Rattle.looper_run.specs.Round.{RoundBy, is_ended}
+use Rattle.looper_run.specs.Looks.{IsRound}
+use Rattle.looper_run.specs.Acts.{taken_by}
+use Rattle.loop_model.specs.Dispatches.{dispatches}
+use Rattle.loop_model.specs.declared.journal.Journal.{Journal}
+use Rattle.dash_hall.specs.declared.kit.Kit.{Kit}
+use Rattle.run_model.specs.Senders.{sender_count}
+use Rattle.looper_run.specs.declared.looper.Round.{Round}
+use Rattle.looper_run.specs.declared.looper.Round.TheVariants as round
+use Rattle.choreographer.specs.Known.{Shared as Frames, Known as Pass}
+use Rattle.dash_hall.specs.declared.hall.Hall.{Hall}
+use Rattle.dash_loopers.specs.declared.player.Parts.{Parts}
+use Rattle.dash_loopers.specs.declared.looper.StageLooper.{StageLooper}
+use Rattle.dash_hall.specs.Kits.{IsHall, badge_of, badge_for, frame_badge_of, frame_badge_for}
+use mathlib.Core.List.{IsPrefix}
+use Rattle.dash_loopers.specs.declared.view_root.ViewRoot.{ViewRoot}
+use Rattle.std.specs.Option.{option_map}
+use Rattle.loop_model.specs.Items.{when_of}
+use Rattle.loop_model.specs.Pick.{first_eligible}
+
+-- what a looper has beside its own poster: the posters of the other queues in order, and two passes of its choreographer
+pub record ArePartsOf (s : Script) (hall : Hall) (number : ℕ) (parts : Parts) : Type 0 where
+  pub others : map badge_of parts.others.items ≡ remove (map (badge_for (s.threads + number)) hall.queues.items) number
+  pub frames : (c : Frames) → slice_get hall.choreographers.items number ≡ Some c → frame_badge_of parts.frames ≡ frame_badge_for s.threads c
+  pub client : (c : Frames) → slice_get hall.choreographers.items number ≡ Some c → frame_badge_of parts.root.pass ≡ frame_badge_for (s.threads + 1) c
+
+-- the workplace is the queue of this looper, and the pool of the hall
+pub record IsPlaceOf (hall : Hall) (number : ℕ) (w : Workplace) : Type 0 where
+  pub queue : (q : Shared TableId) → slice_get hall.queues.items number ≡ Some q → (w.table ≡ q.table) × (w.constants ≡ Some q.constants)
+  pub pool : w.pool ≡ hall.pool
+
+-- the number is one of a looper of the script, which has few senders, and the hall is the script's
+pub record IsLooperOf (s : Script) (hall : Hall) (number : ℕ) : Type 0 where
+  pub few : s.threads + s.loopers < 100
+  pub one : number < s.loopers
+  pub is_hall : IsHall s hall
+
+-- the setting of a looper's queue: in lockstep, main for looper 0 alone
+abbrev pub setting_for : Script → ℕ → Setting
+setting_for s looper = record { main = looper == 0; lockstep = true; senders = sender_count s }
+
+-- the history is one that this looper's queue may have
+pub record IsSoundOn (s : Script) (q : ℕ) (es : List Entry) : Type 0 where
+  pub legal : IsLegal (setting_for s q) (empty_base (sender_count s)) es
+  pub numbered : AreNumbered (setting_for s q) (empty_base (sender_count s)) es
+
+-- a round that found no memory
+abbrev pub is_given_up : Round → Bool
+is_given_up (round.Drained dispatched until) = false
+is_given_up (round.Ended dispatched) = false
+is_given_up round.NoMemory = true
+
+-- when the first message is due that no barrier holds back, after a round that ended with a wait
+abbrev pub until_of : Round → Option ℕ
+until_of (round.Drained dispatched until) = until
+until_of (round.Ended dispatched) = None
+until_of round.NoMemory = None
+
+-- a looper of the script, with what it needs in the hall
+pub record IsLooper (s : Script) (hall : Hall) (l : StageLooper) : Type 0 where
+  pub few : s.threads + s.loopers < 100
+  pub number : l.number < s.loopers
+  pub sender : l.sender ≡ s.threads + l.number
+  pub parts : IsSomeAnd l.parts (ArePartsOf s hall l.number)
+  pub place : IsPlaceOf hall l.number (workplace l.looper.held)
+  pub own : l.looper.held.poster.sender ≡ l.sender
+  pub journal : l.looper.held.journal.looper ≡ l.number
+  pub ended : l.looper.ended ≡ is_ended l.last
+  -- unless memory was wanting, its Dispatch acts are, one for one and in order, the messages that it took
+  pub told : is_given_up l.last ≡ false → dispatches l.looper.held.journal.acts ≡ taken_by l.sender l.looper.held.poster.view.seen
+  -- a round that ended it has seen its queue over
+  pub over : is_ended l.last ≡ true → is_over (empty_base (sender_count s)) l.looper.held.poster.view.seen ≡ true
+
+-- one that a round has ended, or that found no memory, stays as it is; another runs a round on its queue
+pub record HasRun (s : Script) (now : ℕ) (before after : StageLooper) : Type 0 where
+  pub stopped : (is_ended before.last || is_given_up before.last) ≡ true → after ≡ before
+  pub ran : (is_ended before.last || is_given_up before.last) ≡ false → RoundBy (setting_for s before.number) now before.looper.held after.looper.held after.last
+  pub looks : (is_ended before.last || is_given_up before.last) ≡ false → IsRound now before.looper after.looper after.last
+
+-- the Dispatch acts in the journal are, one for one and in order, the messages that this looper's own poster took
+abbrev pub HasTold : Script → ℕ → Journal → Kit → Type 0
+HasTold s number j kit = (d : Sender) → dispatches j.acts ≡ taken_by (s.threads + number) (slice_index_or kit.posters.items number d).view.seen
+
+-- so it is with each looper, whose kit comes behind the threads'
+abbrev pub HaveTold : Script → List Journal → List Kit → Type 0
+HaveTold s js kits = (k : ℕ) (j : Journal) (d : Kit) → k < length js → HasTold s k (slice_index_or js k j) (slice_index_or kits (s.threads + k) d)
+
+-- a looper's posters of the other queues
+abbrev pub others_in : Option Parts → List Sender
+others_in None = []
+others_in (Some parts) = parts.others.items
+
+-- a looper's posters, one of each queue and in order
+abbrev pub posters_of : StageLooper → List Sender
+posters_of l = insert (others_in l.parts) l.number l.looper.held.poster
+
+-- what a looper has beside its posters, its pass of the pool and its journal
+pub record Rest : Type 0 where
+  pub frames : Pass
+  pub root : ViewRoot
+  pub fired : List ℕ
+  pub passed : ℕ
+
+-- the same, where it is there
+abbrev pub rest_in : Option Parts → Option Rest
+rest_in None = None
+rest_in (Some parts) = Some (record { frames = parts.frames; root = parts.root; fired = parts.fired.items; passed = parts.passed })
+
+-- a looper's posters before and after are so, and all else of it is as before
+pub record LooperKeeps (R : List Sender → List Sender → Type 0) (before after : StageLooper) : Type 0 where
+  pub number : after.number ≡ before.number
+  pub sender : after.sender ≡ before.sender
+  pub posters : R (posters_of before) (posters_of after)
+  pub beside : IsBeside before.looper after.looper
+  pub rest : rest_in after.parts ≡ rest_in before.parts
+  pub last : after.last ≡ before.last
+
+-- the looper's number is that of one of its posters
+abbrev pub IsWithin : StageLooper → Type 0
+IsWithin l = l.number ≤ length (others_in l.parts)
+
+-- the round ended with a wait, and no message to wait for
+abbrev pub WaitsForNothing : Round → Type 0
+WaitsForNothing r = (is_ended r ≡ false) × (until_of r ≡ None)
+
+-- unless it ended or gave up, the looper has come to wait for the first message that no barrier holds back of all that it has seen
+abbrev pub ComesToWait : Script → StageLooper → StageLooper → Type 0
+ComesToWait s before after = is_ended after.last ≡ false → is_given_up after.last ≡ false
+    → IsPrefix before.looper.held.poster.view.seen after.looper.held.poster.view.seen
+    × (until_of after.last ≡ option_map when_of (first_eligible (empty_base (sender_count s)) after.looper.held.poster.view.seen))

@@ -1,0 +1,12 @@
+//! The loopers of a script's run: a looper runs rounds on its queue, with reactions, gauges and frames.
+#![tactic(auto)]
+
+mod frame_run;
+mod hearing;
+mod looper;
+mod player;
+mod view_root;
+
+pub use looper::StageLooper;
+pub use player::Parts;
+pub use view_root::ViewRoot;

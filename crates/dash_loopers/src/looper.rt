@@ -1,0 +1,212 @@
+//! A looper of a script.
+ghost use Rattle.std.specs.Prelude.{◌≡◌, ◌+◌, ◌<◌, true, false, IfOk};
+ghost use Rattle.looper_run.specs.Round.{is_ended};
+ghost use Rattle.dash_hall.specs.Kits.{IsHall, IsKitOf, HasSeenOver, IsUnusedKit};
+ghost use Rattle.dash_loopers.specs.Loopers.{posters_of, ComesToWait, WaitsForNothing, IsLooper, HasRun, HasTold, is_given_up, until_of};
+ghost use Rattle.dash_loopers.specs.Played.{HasCome, HasPlayed, HasLeft};
+ghost use Rattle.run_model.specs.Loopers.{Looper as LooperState, first_looper};
+
+use crate::player::{Parts, Place, Player};
+use crate::view_root::ViewRoot;
+use dash_hall::{Hall, Kit};
+use dash_script::Script;
+use loop_io::Gate;
+use loop_model::{Journal, NoMemory};
+use looper_run::{Looper, Round};
+use std::alloc::Global;
+use std::snapshot::Snapshot;
+use std::sync::Wait;
+
+/// A looper with all that it works with, and how its last round ended.
+#[derive(Drop)]
+pub struct StageLooper {
+    pub number: u32,
+    pub sender: u32,
+    pub looper: Looper,
+    /// They are there between two rounds.
+    pub parts: Option<Parts>,
+    pub last: Round,
+}
+
+impl StageLooper {
+    /// The looper of this number, which has done nothing, with what it needs to work with the queues. NoMemory where it found none.
+    pub fn new(
+        alloc: Global,
+        hall: &Hall,
+        script: &Script,
+        number: u32,
+        kit: Kit,
+    ) -> Result<StageLooper, NoMemory>
+        requires number { number < script.now.loopers }
+        requires fits { script.now.threads + script.now.loopers < 100 }
+        requires hall { IsHall script.now hall.now }
+        requires kit { IsKitOf script.now hall.now (script.now.threads + number) kit }
+        requires unused { IsUnusedKit kit }
+        ensures looper { IfOk result (λ l. IsLooper script.now hall.now l) }
+        ensures number_is { IfOk result (λ l. l.number ≡ number) }
+        ensures posters { IfOk result (λ l. posters_of l ≡ kit.posters.items) }
+        ensures waits { IfOk result (λ l. WaitsForNothing l.last) }
+        ensures begun { IfOk result (λ l. HasCome script.now l (first_looper script.now)) }
+    {
+        let Kit {
+            mut posters,
+            pass,
+            mut frames,
+        } = kit;
+        let poster = posters.remove(number as usize);
+        let own_frames = frames.remove(0);
+        let client = frames.remove(0);
+        let parts = Parts {
+            others: posters,
+            frames: own_frames,
+            root: ViewRoot::new(alloc, script, number, client)?,
+            fired: vec![in alloc; 0; script.rules.len()]?,
+            passed: 0,
+        };
+        Ok(StageLooper {
+            number,
+            sender: script.threads + number,
+            looper: Looper::make(alloc, number, poster, pass),
+            parts: Some(parts),
+            last: Round::Drained {
+                dispatched: 0,
+                until: None,
+            },
+        })
+    }
+
+    /// Whether its last round ended, since its queue was over.
+    pub fn has_ended(&self) -> bool
+        ensures { result ≡ is_ended self.now.last }
+    {
+        match self.last {
+            Round::Ended { .. } => true,
+            _ => false,
+        }
+    }
+
+    /// Whether its last round found no memory.
+    pub fn gave_up(&self) -> bool
+        ensures { result ≡ is_given_up self.now.last }
+    {
+        match self.last {
+            Round::NoMemory => true,
+            _ => false,
+        }
+    }
+
+    /// When its first message is due that no barrier holds back, in milliseconds, as its last round left it. None where there is none,
+    /// or the round didn't end with a wait.
+    pub fn until(&self) -> Option<u64>
+        ensures { result ≡ until_of self.now.last }
+    {
+        match self.last {
+            Round::Drained { until, .. } => until,
+            _ => None,
+        }
+    }
+
+    /// One round at this time, in milliseconds, unless it has ended or given up (`loop` of AOSP's `Looper`, up to its wait). Where it
+    /// finds no memory it has given up.
+    pub fn run_round<R: Wait, G: Gate>(
+        &mut self,
+        rt: &R,
+        alloc: Global,
+        hall: &Hall,
+        script: &Script,
+        gate: &G,
+        now: u64,
+    )
+        requires hall { IsHall script.now hall.now }
+        requires looper { IsLooper script.now hall.now self.old }
+        ensures looper { IsLooper script.now hall.now self.new }
+        ensures number { self.new.number ≡ self.old.number }
+        ensures round { HasRun script.now now self.old self.new }
+        ensures waits { ComesToWait script.now self.old self.new }
+        ensures plays { HasPlayed script.now now self.old self.new }
+    {
+        if self.has_ended() || self.gave_up() {
+            return;
+        }
+        let began = Snapshot::of(&*self);
+        let Some(parts) = self.parts.take() else {
+            unreachable!()
+        };
+        let place = self.number as usize;
+        let mut player = Player {
+            place: Place {
+                rt,
+                alloc,
+                hall,
+                script,
+                looper: self.number,
+            },
+            gate,
+            sender: self.sender,
+            now,
+            began: &began,
+            parts,
+        };
+        self.last = self.looper.run_round(
+            rt,
+            &hall.queues[place],
+            &hall.pool,
+            &hall.sources[place],
+            &mut player,
+            now,
+        );
+        self.parts = Some(player.parts);
+    }
+
+    /// Its journal, and what it worked with, at its end. NoMemory where it found none.
+    pub fn into_kit(
+        self,
+        alloc: Global,
+        hall: &Hall,
+        script: &Script,
+    ) -> Result<(Journal, Kit), NoMemory>
+        requires hall { IsHall script.now hall.now }
+        requires looper { IsLooper script.now hall.now self }
+        ensures journal { IfOk result (λ r. r.0.looper ≡ self.number) }
+        ensures kit { IfOk result (λ r. IsKitOf script.now hall.now (script.now.threads + self.number) r.1) }
+        ensures told { IfOk result (λ r. is_given_up self.last ≡ false → HasTold script.now self.number r.0 r.1) }
+        ensures over { IfOk result (λ r. is_ended self.last ≡ true → HasSeenOver script.now self.number r.1) }
+        ensures posters { IfOk result (λ r. r.1.posters.items ≡ posters_of self) }
+        ensures left { IfOk result (λ r. (a : LooperState) → HasCome script.now self a → HasLeft script.now self.number r.0 r.1 a) }
+    {
+        let StageLooper {
+            number,
+            sender: _,
+            looper,
+            parts,
+            last: _,
+        } = self;
+        let Some(parts) = parts else { unreachable!() };
+        let Parts {
+            mut others,
+            frames,
+            root,
+            fired: _,
+            passed: _,
+        } = parts;
+        let ViewRoot {
+            gauges: _,
+            barrier: _,
+            pass: client,
+            painted: _,
+        } = root;
+        let (poster, pass, journal) = looper.into_parts();
+        others.insert(number as usize, poster)?;
+        let mut passes = Vec::new(alloc);
+        passes.push(frames)?;
+        passes.push(client)?;
+        Ok((
+            journal,
+            Kit {
+                posters: others,
+                pass,
+                frames: passes,
+            },
+        ))
+    }
+}

@@ -1,0 +1,261 @@
+//! The gauges of a looper, and its traversals.
+ghost use Rattle.std.specs.Prelude.{◌≡◌, ◌<◌, ◌≤◌, ◌++◌, [], ℕ, map, slice_get, replicate, length, IfOk, OnOk, None, IsTrue, true};
+ghost use Rattle.std.specs.Option.{option_map_or};
+ghost use Rattle.choreographer.specs.Known.{IsOf};
+ghost use Rattle.dash_hall.specs.Hosts.{IsHost, origin_of};
+ghost use Rattle.dash_hall.specs.Kits.{FrameBadge, frame_badge_of};
+ghost use Rattle.dash_hall.specs.Growth.{own as calls_of};
+ghost use Rattle.dash_loopers.specs.Played.{standing, fixed, fixed_by, paint_of, Shows};
+ghost use Rattle.dash_script.specs.declared.script.Script.{Script as ScriptData};
+ghost use Rattle.dash_script.specs.Reading.{HasText};
+ghost use Rattle.run_model.specs.Loopers.{object_set, traversal_requested, animation_ran, traversal_ran, callback_ran, and_posts_frame, paints, moved as moved_by};
+
+use choreographer::{Choreographer, FramePass};
+use dash_hall::{Host, looper_of};
+use dash_script::Script;
+use loop_model::NoMemory;
+use std::alloc::Global;
+use std::sync::Wait;
+
+/// The phase of animations.
+const ANIMATION: u32 = 1;
+
+/// The phase of traversals.
+const TRAVERSAL: u32 = 2;
+
+/// The callback of gauge 0's animation; the other gauges' follow.
+const FIRST_ANIMATION: u64 = 1_000_000;
+
+/// The callback of a looper's traversal.
+const TRAVERSAL_CALLBACK: u64 = 1_000_016;
+
+/// A gauge moves from its value to its target by frames, by at most its step.
+#[derive(Clone, Copy, Debug, PartialEq, Eq)]
+pub(crate) struct Gauge {
+    /// It lives on this looper.
+    own: bool,
+    step: u32,
+    value: u32,
+    target: u32,
+    animating: bool,
+}
+
+/// What a traversal painted.
+#[derive(Clone, Copy, Debug, PartialEq, Eq)]
+pub(crate) struct Painted {
+    pub(crate) gauge: u32,
+    pub(crate) value: u32,
+}
+
+/// The gauges of a script, of which the looper's own change, and the looper's traversal: while one is under way, a sync barrier
+/// stands in the looper's queue, as AOSP's `ViewRootImpl` has it. It posts frame callbacks by a pass of its own.
+#[derive(Drop)]
+pub struct ViewRoot {
+    pub(crate) gauges: Vec<Gauge>,
+    pub(crate) barrier: Option<u64>,
+    pub pass: FramePass,
+    pub(crate) painted: Vec<Painted>,
+}
+
+impl ViewRoot {
+    /// Gauges that stand at 0, and no traversal.
+    pub(crate) fn new(
+        alloc: Global,
+        script: &Script,
+        looper: u32,
+        pass: FramePass,
+    ) -> Result<ViewRoot, NoMemory>
+        ensures pass { IfOk result (λ v. v.pass ≡ pass) }
+        ensures gauges { IfOk result (λ v. (map standing v.gauges.items ≡ replicate (length script.now.gauges) (record { value = 0; target = 0; animating = false })) × (map fixed v.gauges.items ≡ map (fixed_by script.now looper) script.now.gauges)) }
+        ensures rest { IfOk result (λ v. (v.barrier ≡ None) × (v.painted.items ≡ [])) }
+    {
+        let mut gauges = Vec::new(alloc);
+        for line in script.gauges.as_slice() {
+            gauges.push(Gauge {
+                own: looper_of(script, line.handler) == looper,
+                step: line.step,
+                value: 0,
+                target: 0,
+                animating: false,
+            })?;
+        }
+        Ok(ViewRoot {
+            gauges,
+            barrier: None,
+            pass,
+            painted: Vec::new(alloc),
+        })
+    }
+
+    /// A message sets the target of a gauge, where it is one of this looper. It begins to animate where its value is another.
+    pub(crate) fn set_target<R: Wait>(
+        &mut self,
+        c: &Choreographer,
+        host: &mut Host<R>,
+        gauge: u64,
+        target: u32,
+    ) -> Result<(), NoMemory>
+        requires ready { IsHost (origin_of host.old.queue.now host.old.pool.now host.old.poster.ghost_name host.old.pass.ghost_name host.old.began.now.value host.old.pass_began.now.value host.old.handler.id host.old.now) host.old.poster.now host.old.pass.now }
+        requires pass { IsOf self.old.pass c.now × (TRAVERSAL < c.now.constants.phases) }
+        ensures ready { IsHost (origin_of host.new.queue.now host.new.pool.now host.new.poster.ghost_name host.new.pass.ghost_name host.new.began.now.value host.new.pass_began.now.value host.new.handler.id host.new.now) host.new.poster.now host.new.pass.now }
+        ensures origin { origin_of host.new.queue.now host.new.pool.now host.new.poster.ghost_name host.new.pass.ghost_name host.new.began.now.value host.new.pass_began.now.value host.new.handler.id host.new.now ≡ origin_of host.old.queue.now host.old.pool.now host.old.poster.ghost_name host.old.pass.ghost_name host.old.began.now.value host.old.pass_began.now.value host.old.handler.id host.old.now }
+        ensures pass { frame_badge_of self.new.pass ≡ frame_badge_of self.old.pass }
+        ensures shows { (s : ScriptData) (q : ℕ) → OnOk result (Shows s q (object_set s q host.old.now gauge target) (calls_of host.old.poster.now) self.old (calls_of host.new.poster.now) self.new) }
+    {
+        let place = gauge as usize;
+        if place >= self.gauges.len() || !self.gauges[place].own {
+            return Ok(());
+        }
+        self.gauges[place].target = target;
+        if self.gauges[place].animating || self.gauges[place].value == target {
+            return Ok(());
+        }
+        self.gauges[place].animating = true;
+        self.post(c, host, ANIMATION, FIRST_ANIMATION.saturating_add(gauge))?;
+        self.request_traversal(c, host)
+    }
+
+    /// Posts a barrier and the traversal's callback, unless a traversal is under way.
+    fn request_traversal<R: Wait>(
+        &mut self,
+        c: &Choreographer,
+        host: &mut Host<R>,
+    ) -> Result<(), NoMemory>
+        requires ready { IsHost (origin_of host.old.queue.now host.old.pool.now host.old.poster.ghost_name host.old.pass.ghost_name host.old.began.now.value host.old.pass_began.now.value host.old.handler.id host.old.now) host.old.poster.now host.old.pass.now }
+        requires pass { IsOf self.old.pass c.now × (TRAVERSAL < c.now.constants.phases) }
+        ensures ready { IsHost (origin_of host.new.queue.now host.new.pool.now host.new.poster.ghost_name host.new.pass.ghost_name host.new.began.now.value host.new.pass_began.now.value host.new.handler.id host.new.now) host.new.poster.now host.new.pass.now }
+        ensures origin { origin_of host.new.queue.now host.new.pool.now host.new.poster.ghost_name host.new.pass.ghost_name host.new.began.now.value host.new.pass_began.now.value host.new.handler.id host.new.now ≡ origin_of host.old.queue.now host.old.pool.now host.old.poster.ghost_name host.old.pass.ghost_name host.old.began.now.value host.old.pass_began.now.value host.old.handler.id host.old.now }
+        ensures pass { frame_badge_of self.new.pass ≡ frame_badge_of self.old.pass }
+        ensures shows { (s : ScriptData) (q : ℕ) → OnOk result (Shows s q (traversal_requested s q host.old.now) (calls_of host.old.poster.now) self.old (calls_of host.new.poster.now) self.new) }
+    {
+        if self.barrier.is_some() {
+            return Ok(());
+        }
+        let token = host.post_barrier()?;
+        self.barrier = Some(token);
+        self.post(c, host, TRAVERSAL, TRAVERSAL_CALLBACK)
+    }
+
+    /// The animation of a gauge moves it by a step, requests a traversal, and goes on until the target is reached.
+    fn animate<R: Wait>(
+        &mut self,
+        c: &Choreographer,
+        host: &mut Host<R>,
+        gauge: u64,
+    ) -> Result<(), NoMemory>
+        requires ready { IsHost (origin_of host.old.queue.now host.old.pool.now host.old.poster.ghost_name host.old.pass.ghost_name host.old.began.now.value host.old.pass_began.now.value host.old.handler.id host.old.now) host.old.poster.now host.old.pass.now }
+        requires pass { IsOf self.old.pass c.now × (TRAVERSAL < c.now.constants.phases) }
+        ensures ready { IsHost (origin_of host.new.queue.now host.new.pool.now host.new.poster.ghost_name host.new.pass.ghost_name host.new.began.now.value host.new.pass_began.now.value host.new.handler.id host.new.now) host.new.poster.now host.new.pass.now }
+        ensures origin { origin_of host.new.queue.now host.new.pool.now host.new.poster.ghost_name host.new.pass.ghost_name host.new.began.now.value host.new.pass_began.now.value host.new.handler.id host.new.now ≡ origin_of host.old.queue.now host.old.pool.now host.old.poster.ghost_name host.old.pass.ghost_name host.old.began.now.value host.old.pass_began.now.value host.old.handler.id host.old.now }
+        ensures pass { frame_badge_of self.new.pass ≡ frame_badge_of self.old.pass }
+        ensures shows { (s : ScriptData) (q : ℕ) → OnOk result (Shows s q (λ a. option_map_or (λ x. animation_ran s q host.old.now gauge x a) (slice_get a.gauges gauge) a) (calls_of host.old.poster.now) self.old (calls_of host.new.poster.now) self.new) }
+    {
+        let place = gauge as usize;
+        if place >= self.gauges.len() || !self.gauges[place].animating {
+            return Ok(());
+        }
+        let Gauge {
+            step,
+            target,
+            value,
+            ..
+        } = self.gauges[place];
+        let value = moved(step, target, value);
+        self.gauges[place].value = value;
+        self.gauges[place].animating = value != target;
+        self.request_traversal(c, host)?;
+        if value == target {
+            return Ok(());
+        }
+        self.post(c, host, ANIMATION, FIRST_ANIMATION.saturating_add(gauge))
+    }
+
+    /// The traversal removes its barrier, and paints each gauge of the looper.
+    fn traverse<R: Wait>(&mut self, host: &mut Host<R>) -> Result<(), NoMemory>
+        requires { IsHost (origin_of host.old.queue.now host.old.pool.now host.old.poster.ghost_name host.old.pass.ghost_name host.old.began.now.value host.old.pass_began.now.value host.old.handler.id host.old.now) host.old.poster.now host.old.pass.now }
+        ensures ready { IsHost (origin_of host.new.queue.now host.new.pool.now host.new.poster.ghost_name host.new.pass.ghost_name host.new.began.now.value host.new.pass_began.now.value host.new.handler.id host.new.now) host.new.poster.now host.new.pass.now }
+        ensures origin { origin_of host.new.queue.now host.new.pool.now host.new.poster.ghost_name host.new.pass.ghost_name host.new.began.now.value host.new.pass_began.now.value host.new.handler.id host.new.now ≡ origin_of host.old.queue.now host.old.pool.now host.old.poster.ghost_name host.old.pass.ghost_name host.old.began.now.value host.old.pass_began.now.value host.old.handler.id host.old.now }
+        ensures pass { frame_badge_of self.new.pass ≡ frame_badge_of self.old.pass }
+        ensures shows { (s : ScriptData) (q : ℕ) → OnOk result (Shows s q (traversal_ran s q host.old.now) (calls_of host.old.poster.now) self.old (calls_of host.new.poster.now) self.new) }
+    {
+        let Some(token) = self.barrier else {
+            return Ok(());
+        };
+        self.barrier = None;
+        host.remove_barrier(token)?;
+        self.paint()
+    }
+
+    /// Paints each gauge of the looper, by rising number.
+    fn paint(&mut self) -> Result<(), NoMemory>
+        ensures pass { self.new.pass ≡ self.old.pass }
+        ensures painted { (s : ScriptData) (q : ℕ) → HasText s → map fixed self.old.gauges.items ≡ map (fixed_by s q) s.gauges
+            → OnOk result (map paint_of self.new.painted.items ≡ map paint_of self.old.painted.items ++ paints s q (map standing self.old.gauges.items)) }
+        ensures same { (self.new.gauges ≡ self.old.gauges) × (self.new.barrier ≡ self.old.barrier) }
+    {
+        let mut gauge: u32 = 0;
+        for state in &self.gauges {
+            if state.own {
+                self.painted.push(Painted {
+                    gauge,
+                    value: state.value,
+                })?;
+            }
+            gauge = gauge.saturating_add(1);
+        }
+        Ok(())
+    }
+
+    /// Posts a frame callback that is due at once.
+    fn post<R: Wait>(
+        &mut self,
+        c: &Choreographer,
+        host: &mut Host<R>,
+        phase: u32,
+        id: u64,
+    ) -> Result<(), NoMemory>
+        requires ready { IsHost (origin_of host.old.queue.now host.old.pool.now host.old.poster.ghost_name host.old.pass.ghost_name host.old.began.now.value host.old.pass_began.now.value host.old.handler.id host.old.now) host.old.poster.now host.old.pass.now }
+        requires pass { IsOf self.old.pass c.now × (TRAVERSAL < c.now.constants.phases) }
+        requires phase { phase ≤ TRAVERSAL }
+        ensures ready { IsHost (origin_of host.new.queue.now host.new.pool.now host.new.poster.ghost_name host.new.pass.ghost_name host.new.began.now.value host.new.pass_began.now.value host.new.handler.id host.new.now) host.new.poster.now host.new.pass.now }
+        ensures origin { origin_of host.new.queue.now host.new.pool.now host.new.poster.ghost_name host.new.pass.ghost_name host.new.began.now.value host.new.pass_began.now.value host.new.handler.id host.new.now ≡ origin_of host.old.queue.now host.old.pool.now host.old.poster.ghost_name host.old.pass.ghost_name host.old.began.now.value host.old.pass_began.now.value host.old.handler.id host.old.now }
+        ensures pass { frame_badge_of self.new.pass ≡ frame_badge_of self.old.pass }
+        ensures shows { (s : ScriptData) (q : ℕ) → OnOk result (Shows s q (and_posts_frame phase id) (calls_of host.old.poster.now) self.old (calls_of host.new.poster.now) self.new) }
+    {
+        host.post_callback(c, &mut self.pass, phase, id, 0)
+    }
+
+    /// Runs a frame callback, by its identity.
+    pub(crate) fn run_callback<R: Wait>(
+        &mut self,
+        c: &Choreographer,
+        host: &mut Host<R>,
+        id: u64,
+    ) -> Result<(), NoMemory>
+        requires ready { IsHost (origin_of host.old.queue.now host.old.pool.now host.old.poster.ghost_name host.old.pass.ghost_name host.old.began.now.value host.old.pass_began.now.value host.old.handler.id host.old.now) host.old.poster.now host.old.pass.now }
+        requires pass { IsOf self.old.pass c.now × (TRAVERSAL < c.now.constants.phases) }
+        ensures ready { IsHost (origin_of host.new.queue.now host.new.pool.now host.new.poster.ghost_name host.new.pass.ghost_name host.new.began.now.value host.new.pass_began.now.value host.new.handler.id host.new.now) host.new.poster.now host.new.pass.now }
+        ensures origin { origin_of host.new.queue.now host.new.pool.now host.new.poster.ghost_name host.new.pass.ghost_name host.new.began.now.value host.new.pass_began.now.value host.new.handler.id host.new.now ≡ origin_of host.old.queue.now host.old.pool.now host.old.poster.ghost_name host.old.pass.ghost_name host.old.began.now.value host.old.pass_began.now.value host.old.handler.id host.old.now }
+        ensures pass { frame_badge_of self.new.pass ≡ frame_badge_of self.old.pass }
+        ensures shows { (s : ScriptData) (q : ℕ) → OnOk result (Shows s q (λ a. callback_ran s q host.old.now a id) (calls_of host.old.poster.now) self.old (calls_of host.new.poster.now) self.new) }
+    {
+        if id == TRAVERSAL_CALLBACK {
+            self.traverse(host)
+        } else if id >= FIRST_ANIMATION {
+            self.animate(c, host, id - FIRST_ANIMATION)
+        } else {
+            Ok(())
+        }
+    }
+}
+
+/// A value moved towards a target by a step, but not past it.
+fn moved(step: u32, target: u32, value: u32) -> u32
+    ensures { result ≡ moved_by step target value }
+{
+    if value <= target {
+        value.saturating_add(step).min(target)
+    } else {
+        value - step.min(value - target)
+    }
+}

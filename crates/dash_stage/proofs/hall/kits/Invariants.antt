@@ -1,7 +1,0 @@
-use Rattle.std.proofs.Common.{◌≡◌, length}
-use Rattle.std.specs.Prelude.{All}
-use Rattle.dash_stage.specs.Dealing.{IsEmptyKit}
-use Rattle.dash_stage.proofs.hall.kits.Given as goal
-
-abbrev pub invariant-loop : goal.invariant-loop
-invariant-loop l = (l.pass.home ≡ l.pool) × (length l.kits.items ≡ l.counter) × All (IsEmptyKit l.pool) l.kits.items

@@ -1,0 +1,9 @@
+pub mod ThreadPlaces
+pub mod ThreadText
+pub mod ThreadPlans
+pub mod ThreadSteps
+pub mod ThreadLabels
+pub mod ThreadRuns
+pub mod ThreadBlocks
+pub mod ThreadFrames
+pub mod ThreadFrameRuns

@@ -1,0 +1,55 @@
+-- A thread that runs the lines of a block, one after another.
+use Rattle.std.proofs.Common.{◌≡◌, ◌≢◌, ℕ, ◌+◌, ◌<◌, ◌==◌, Bool, cond, List, [], ◌∷◌, ◌++◌, map, length, take, drop, get_or, sym, ap, ◌∙◌, subst, append_assoc, eq-eqb, ne_eqb}
+use Rattle.std.specs.Prelude.{filter}
+use Rattle.std.proofs.lemmas.List.{append-nil, map-append, take_more, drop_more, take-append-drop}
+use Rattle.std.proofs.lemmas.List.Elements.{filter-append}
+use Rattle.dash_script.specs.declared.script.Line.{Line}
+use Rattle.dash_script.specs.declared.script.Script.{Script}
+use Rattle.run_model.specs.Planned.{Timed, lines_of}
+use Rattle.dash_threads.specs.declared.thread.PostingThread.{PostingThread}
+use Rattle.dash_threads.specs.Threads.{IsUpTo, Takes, HasRun, timed_in}
+
+abbrev at_time : ℕ → Line → Timed
+at_time time l = record { time = time; command = l.command }
+
+timed_append : (n time : ℕ) (xs ys : List Line) → timed_in n time (xs ++ ys) ≡ timed_in n time xs ++ timed_in n time ys
+timed_append n time xs ys =
+    ap (map (at_time time)) (filter-append (λ (l : Line). l.thread == n) xs ys) ∙ map-append (at_time time) (filter (λ (l : Line). l.thread == n) xs) (filter (λ (l : Line). l.thread == n) ys)
+
+timed_own : (n time : ℕ) (l : Line) (ls : List Line) → l.thread ≡ n → timed_in n time (l ∷ ls) ≡ at_time time l ∷ timed_in n time ls
+timed_own n time l ls is = ap (λ (b : Bool). map (at_time time) (cond b (l ∷ filter (λ (x : Line). x.thread == n) ls) (filter (λ (x : Line). x.thread == n) ls))) (eq-eqb l.thread n is)
+
+timed_other : (n time : ℕ) (l : Line) (ls : List Line) → l.thread ≢ n → timed_in n time (l ∷ ls) ≡ timed_in n time ls
+timed_other n time l ls isnt = ap (λ (b : Bool). map (at_time time) (cond b (l ∷ filter (λ (x : Line). x.thread == n) ls) (filter (λ (x : Line). x.thread == n) ls))) (ne_eqb l.thread n isnt)
+
+pub begins : (s : Script) (time : ℕ) (all : List Line) (t : PostingThread) → HasRun s time all [] t t
+begins s time all t = λ past rest are up. subst (λ (ls : List Timed). IsUpTo s ls t) (sym (append-nil past)) up
+
+regroup : (a b c d : List Timed) (x : Timed) → (a ++ b) ++ (x ∷ (c ++ d)) ≡ a ++ ((b ++ (x ∷ c)) ++ d)
+regroup a b c d x = append_assoc a b (x ∷ (c ++ d)) ∙ ap (λ (l : List Timed). a ++ l) (sym (append_assoc b (x ∷ c) d))
+
+-- one line more of the thread, and one of another
+pub goes_on : (s : Script) (time : ℕ) (all : List Line) (i : ℕ) (d l : Line) (t u v : PostingThread) → i < length all → l ≡ get_or all i d → l.thread ≡ t.number → u.number ≡ t.number
+    → HasRun s time all (take i all) t u → Takes s (at_time time l) u v → HasRun s time all (take (i + 1) all) t v
+goes_on s time all i d l t u v near is own number has takes = λ past rest are up. (
+    let n = t.number in
+    let before = timed_in n time (take i all) in
+    let after = timed_in n time (drop (i + 1) all) in
+    let here : drop i all ≡ l ∷ drop (i + 1) all = drop_more all i d near ∙ ap (λ (x : Line). x ∷ drop (i + 1) all) (sym is) in
+    let whole : timed_in n time all ≡ before ++ (at_time time l ∷ after) =
+    ap (timed_in n time) (sym (take-append-drop i all)) ∙ (timed_append n time (take i all) (drop i all)
+    ∙ ap (λ (x : List Timed). before ++ x) (ap (timed_in n time) here ∙ timed_own n time l (drop (i + 1) all) own)) in
+    let split : (past ++ before) ++ (at_time time l ∷ (after ++ rest)) ≡ lines_of u.number s.blocks =
+    regroup past before after rest (at_time time l) ∙ (ap (λ (x : List Timed). past ++ (x ++ rest)) (sym whole) ∙ (are ∙ ap (λ (k : ℕ). lines_of k s.blocks) (sym number))) in
+    let more : timed_in n time (take (i + 1) all) ≡ before ++ at_time time l ∷ [] =
+    ap (timed_in n time) (take_more all i d near ∙ ap (λ (x : Line). take i all ++ x ∷ []) (sym is)) ∙ (timed_append n time (take i all) (l ∷ []) ∙ ap (λ (x : List Timed). before ++ x) (timed_own n time l [] own)) in
+    let done : IsUpTo s ((past ++ before) ++ at_time time l ∷ []) v = takes (past ++ before) (after ++ rest) split (has past rest are up) in
+    subst (λ (ls : List Timed). IsUpTo s ls v) (append_assoc past before (at_time time l ∷ []) ∙ ap (λ (x : List Timed). past ++ x) (sym more)) done)
+
+pub goes_by : (s : Script) (time : ℕ) (all : List Line) (i : ℕ) (d l : Line) (t u : PostingThread) → i < length all → l ≡ get_or all i d → l.thread ≢ t.number → HasRun s time all (take i all) t u → HasRun s time all (take (i + 1) all) t u
+goes_by s time all i d l t u near is other has = λ past rest are up. (
+    let n = t.number in
+    let before = timed_in n time (take i all) in
+    let more : timed_in n time (take (i + 1) all) ≡ before =
+    ap (timed_in n time) (take_more all i d near ∙ ap (λ (x : Line). take i all ++ x ∷ []) (sym is)) ∙ (timed_append n time (take i all) (l ∷ []) ∙ (ap (λ (x : List Timed). before ++ x) (timed_other n time l [] other) ∙ append-nil before)) in
+    subst (λ (ls : List Timed). IsUpTo s (past ++ ls) u) (sym more) (has past rest are up))

@@ -1,0 +1,381 @@
+//! A thread of a script, and its commands.
+ghost use Rattle.std.specs.Prelude.{◌≡◌, ◌<◌, [], length, false, is_some, IfOk, OnOk};
+ghost use Rattle.dash_script.specs.declared.script.Script.{Script as TheScript};
+ghost use Rattle.dash_script.specs.declared.script.Command.TheVariants.{Frame, Unframe};
+ghost use Rattle.dash_script.specs.Reading.{HasText};
+ghost use Rattle.shared_queue.specs.Known.{IsOf};
+ghost use Rattle.choreographer.specs.Known.{IsOf as IsFrameOf};
+ghost use Rattle.dash_hall.specs.Growth.{GoesOn};
+ghost use Rattle.dash_hall.specs.Kits.{IsHall, frame_badge_of};
+ghost use Rattle.dash_hall.specs.Hosts.{PostsFrame};
+ghost use Rattle.dash_hall.specs.Requests.{call_made, tokens_of, posts_barrier};
+ghost use Rattle.dash_threads.specs.Threads.{IsThread, CallsAt, with_barrier, MakesPlanned, Takes, Continues, HasMadeNone, HasBegun};
+
+use crate::labels::Labelled;
+use crate::planned::call_for;
+use choreographer::{Choreographer, FramePass};
+use dash_hall::{Hall, Host, Kit, PHASES, QueueCall, frame_handler, perform_by};
+use dash_script::{Block, Command, Script};
+use handler_post::Handler;
+use loop_io::Gate;
+use loop_model::NoMemory;
+use message_pool::{Pool, PoolClaim, PoolPass};
+use shared_queue::{Poster, SharedQueue};
+use std::alloc::Global;
+use std::snapshot::Snapshot;
+use std::sync::Wait;
+
+/// A posting thread: what it needs to work with the queues, the barriers that it posted, and how often it came to the gate.
+#[derive(Drop)]
+pub struct PostingThread {
+    pub number: u32,
+    pub kit: Kit,
+    /// The barriers that it posted, in order.
+    pub barriers: Vec<Labelled>,
+    /// How often it came to the gate.
+    pub passed: u64,
+    /// It found no memory, and makes no command more.
+    pub gave_up: bool,
+}
+
+impl PostingThread {
+    /// The thread of this number, which has run nothing yet, with what it needs to work with the queues.
+    pub fn new(alloc: Global, number: u32, kit: Kit) -> PostingThread
+        ensures number { result.number ≡ number }
+        ensures kit { result.kit ≡ kit }
+        ensures goes { result.gave_up ≡ false }
+        ensures begun { (s : TheScript) → HasMadeNone kit.posters.items → HasBegun s result }
+    {
+        PostingThread {
+            number,
+            kit,
+            barriers: Vec::new(alloc),
+            passed: 0,
+            gave_up: false,
+        }
+    }
+
+    /// What it worked with, at its end.
+    pub fn into_kit(self) -> Kit
+        ensures { result ≡ self.kit }
+    {
+        let PostingThread {
+            number: _,
+            kit,
+            barriers: _,
+            passed: _,
+            gave_up: _,
+        } = self;
+        kit
+    }
+
+    /// Runs its commands of a block, in the order of their lines, at the block's time in milliseconds. Each passes the gate first. Where
+    /// one finds no memory the thread gives up, and runs none behind it.
+    pub fn run_block<R: Wait, G: Gate>(
+        &mut self,
+        rt: &R,
+        alloc: Global,
+        hall: &Hall,
+        script: &Script,
+        gate: &G,
+        block: &Block,
+    )
+        requires text { HasText script.now }
+        requires hall { IsHall script.now hall.now }
+        requires thread { IsThread script.now hall.now self.old }
+        ensures thread { IsThread script.now hall.now self.new }
+        ensures number { self.new.number ≡ self.old.number }
+        ensures goes { self.new.gave_up ≡ false → self.old.gave_up ≡ false }
+        ensures made { self.new.gave_up ≡ false → Continues script.now block.now self.old self.new }
+    {
+        for line in block.lines.as_slice() {
+            if line.thread == self.number {
+                self.run_line(rt, alloc, hall, script, gate, block.time, line.command);
+            }
+        }
+    }
+
+    /// Passes the gate and runs a command at this uptime, in milliseconds, unless it has given up.
+    fn run_line<R: Wait, G: Gate>(
+        &mut self,
+        rt: &R,
+        alloc: Global,
+        hall: &Hall,
+        script: &Script,
+        gate: &G,
+        now: u64,
+        command: Command,
+    )
+        requires text { HasText script.now }
+        requires hall { IsHall script.now hall.now }
+        requires thread { IsThread script.now hall.now self.old }
+        ensures thread { IsThread script.now hall.now self.new }
+        ensures number { self.new.number ≡ self.old.number }
+        ensures made { self.new.gave_up ≡ false → (self.old.gave_up ≡ false) × Takes script.now (record { time = now; command = command }) self.old self.new }
+    {
+        if self.gave_up {
+            return;
+        }
+        gate.pass(self.number, self.passed);
+        self.passed = self.passed.saturating_add(1);
+        let done = self.run(rt, alloc, hall, script, now, command);
+        self.gave_up = done.is_err();
+    }
+
+    /// Runs a command at this uptime, in milliseconds.
+    fn run<R: Wait>(
+        &mut self,
+        rt: &R,
+        alloc: Global,
+        hall: &Hall,
+        script: &Script,
+        now: u64,
+        command: Command,
+    ) -> Result<(), NoMemory>
+        requires text { HasText script.now }
+        requires hall { IsHall script.now hall.now }
+        requires thread { IsThread script.now hall.now self.old }
+        ensures thread { IsThread script.now hall.now self.new }
+        ensures number { self.new.number ≡ self.old.number }
+        ensures made { OnOk result (Takes script.now (record { time = now; command = command }) self.old self.new) }
+    {
+        match command {
+            Command::Frame {
+                looper,
+                phase,
+                id,
+                delay,
+            } => self.post_frame(rt, alloc, hall, script, now, looper, phase, id, delay),
+            Command::Unframe { looper, phase, id } => {
+                self.remove_frame(rt, hall, script, now, looper, phase, id)
+            }
+            Command::Idle { .. } => hand_in(rt, hall, command),
+            Command::Watch { .. } => hand_in(rt, hall, command),
+            Command::Event { .. } => hand_in(rt, hall, command),
+            _ => self.make_call(rt, alloc, hall, script, now, command),
+        }
+    }
+
+    /// Makes the call of a command, and keeps the token of a barrier under its label.
+    fn make_call<R: Wait>(
+        &mut self,
+        rt: &R,
+        alloc: Global,
+        hall: &Hall,
+        script: &Script,
+        now: u64,
+        command: Command,
+    ) -> Result<(), NoMemory>
+        requires hall { IsHall script.now hall.now }
+        requires thread { IsThread script.now hall.now self.old }
+        ensures thread { IsThread script.now hall.now self.new }
+        ensures number { self.new.number ≡ self.old.number }
+        ensures made { OnOk result (MakesPlanned script.now now command self.old self.new) }
+    {
+        let Some(planned) = call_for(script, self.barriers.as_slice(), now, command) else {
+            return Ok(());
+        };
+        let token = self.call(rt, alloc, hall, script, planned.looper, planned.call)?;
+        self.keep(command, token)
+    }
+
+    /// Makes a call on the queue of this looper, and answers the token of a barrier that it posts.
+    fn call<R: Wait>(
+        &mut self,
+        rt: &R,
+        alloc: Global,
+        hall: &Hall,
+        script: &Script,
+        looper: u32,
+        call: QueueCall,
+    ) -> Result<Option<u64>, NoMemory>
+        requires hall { IsHall script.now hall.now }
+        requires thread { IsThread script.now hall.now self.old }
+        ensures thread { IsThread script.now hall.now self.new }
+        ensures number { self.new.number ≡ self.old.number }
+        ensures made { IfOk result (λ token. CallsAt looper (call_made call) (tokens_of token) self.old.kit.posters.items self.new.kit.posters.items) }
+        ensures token { IfOk result (λ token. looper < length self.old.kit.posters.items → is_some token ≡ posts_barrier call) }
+        ensures barriers { self.new.barriers ≡ self.old.barriers }
+        ensures frames { self.new.kit.frames ≡ self.old.kit.frames }
+    {
+        let place = looper as usize;
+        if place < self.kit.posters.len() && place < hall.queues.len() {
+            return perform_by(
+                rt,
+                alloc,
+                &hall.queues[place],
+                &mut self.kit.posters[place],
+                &hall.pool,
+                &mut self.kit.pass,
+                call,
+            );
+        }
+        Ok(None)
+    }
+
+    /// Keeps the token of the barrier that a command posted.
+    fn keep(&mut self, command: Command, token: Option<u64>) -> Result<(), NoMemory>
+        ensures kit { self.new.kit ≡ self.old.kit }
+        ensures number { self.new.number ≡ self.old.number }
+        ensures kept { OnOk result (self.new.barriers.items ≡ with_barrier self.old.barriers.items command token) }
+    {
+        let Command::Barrier { looper, label } = command else {
+            return Ok(());
+        };
+        let Some(token) = token else {
+            return Ok(());
+        };
+        self.barriers.push(Labelled {
+            label,
+            looper,
+            token,
+        })?;
+        Ok(())
+    }
+
+    /// Posts a frame callback. A refused message for its due time stands in the history.
+    fn post_frame<R: Wait>(
+        &mut self,
+        rt: &R,
+        alloc: Global,
+        hall: &Hall,
+        script: &Script,
+        now: u64,
+        looper: u32,
+        phase: u32,
+        id: u32,
+        delay: u64,
+    ) -> Result<(), NoMemory>
+        requires text { HasText script.now }
+        requires hall { IsHall script.now hall.now }
+        requires thread { IsThread script.now hall.now self.old }
+        ensures thread { IsThread script.now hall.now self.new }
+        ensures number { self.new.number ≡ self.old.number }
+        ensures made { OnOk result (Takes script.now (record { time = now; command = Frame looper phase id delay }) self.old self.new) }
+    {
+        let place = looper as usize;
+        if place < self.kit.posters.len()
+            && place < hall.queues.len()
+            && place < self.kit.frames.len()
+            && place < hall.choreographers.len()
+            && phase < PHASES
+        {
+            return post_frame(
+                rt,
+                alloc,
+                frame_handler(looper),
+                &hall.queues[place],
+                &mut self.kit.posters[place],
+                &hall.pool,
+                &mut self.kit.pass,
+                &hall.choreographers[place],
+                &mut self.kit.frames[place],
+                now,
+                phase,
+                u64::from(id),
+                delay,
+            );
+        }
+        Ok(())
+    }
+
+    /// Takes a frame callback out of its phase, at this uptime.
+    fn remove_frame<R: Wait>(
+        &mut self,
+        rt: &R,
+        hall: &Hall,
+        script: &Script,
+        now: u64,
+        looper: u32,
+        phase: u32,
+        id: u32,
+    ) -> Result<(), NoMemory>
+        requires text { HasText script.now }
+        requires hall { IsHall script.now hall.now }
+        requires thread { IsThread script.now hall.now self.old }
+        ensures thread { IsThread script.now hall.now self.new }
+        ensures number { self.new.number ≡ self.old.number }
+        ensures made { OnOk result (Takes script.now (record { time = now; command = Unframe looper phase id }) self.old self.new) }
+    {
+        let place = looper as usize;
+        if place < self.kit.frames.len() && place < hall.choreographers.len() && phase < PHASES {
+            hall.choreographers[place].remove_callbacks(
+                rt,
+                &mut self.kit.frames[place],
+                phase,
+                u64::from(id),
+                None,
+            )?;
+        }
+        Ok(())
+    }
+}
+
+/// Posts a frame callback at a choreographer, whose message for its due time goes by this handler.
+fn post_frame<R: Wait>(
+    rt: &R,
+    alloc: Global,
+    handler: Handler,
+    queue: &SharedQueue<PoolClaim>,
+    poster: &mut Poster<PoolClaim>,
+    pool: &Pool,
+    pass: &mut PoolPass,
+    choreographer: &Choreographer,
+    frames: &mut FramePass,
+    now: u64,
+    phase: u32,
+    id: u64,
+    delay: u64,
+) -> Result<(), NoMemory>
+    requires queue { IsOf poster.old queue.now }
+    requires pass { pass.old.home ≡ pool.now }
+    requires home { queue.now.constants.home ≡ pool.now }
+    requires frames { IsFrameOf frames.old choreographer.now × (phase < choreographer.now.constants.phases) }
+    ensures on { GoesOn poster.old poster.new pass.old pass.new }
+    ensures frames { frame_badge_of frames.new ≡ frame_badge_of frames.old }
+    ensures made { OnOk result (PostsFrame handler.id now phase id delay poster.old poster.new frames.old frames.new) }
+{
+    let began = Snapshot::of(poster);
+    let pass_began = Snapshot::of(pass);
+    let mut host = Host {
+        rt,
+        alloc,
+        handler,
+        queue,
+        pool,
+        poster,
+        pass,
+        began: &began,
+        pass_began: &pass_began,
+        now,
+    };
+    host.post_callback(choreographer, frames, phase, id, delay)
+}
+
+/// Adds an idle handler, watches a descriptor or hands in an event.
+fn hand_in<R: Wait>(rt: &R, hall: &Hall, command: Command) -> Result<(), NoMemory> {
+    match command {
+        Command::Idle { looper, id, keep } => {
+            if let Some(sources) = hall.sources.get(looper as usize) {
+                sources.lock(rt).idle.add(id, keep)?;
+            }
+        }
+        Command::Watch {
+            looper,
+            fd,
+            mask,
+            answer,
+        } => {
+            if let Some(sources) = hall.sources.get(looper as usize) {
+                sources.lock(rt).fds.set(fd, mask.min(7), answer)?;
+            }
+        }
+        Command::Event { looper, fd, events } => {
+            if let Some(sources) = hall.sources.get(looper as usize) {
+                sources.lock(rt).fds.hand_in(fd, events.min(7))?;
+            }
+        }
+        _ => {}
+    }
+    Ok(())
+}
