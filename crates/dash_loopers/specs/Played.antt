@@ -1,14 +1,14 @@
 -- What a looper has come to, told by what it works with: the calls and the frame callbacks that its acts cause are made, and
 -- its gauges, its barrier and its rule counts stand as its acts lead to.
-use Rattle.std.specs.Prelude.{◌≡◌, ◌≢◌, ◌<◌, ◌≤◌, ◌==◌, ◌||◌, ℕ, Bool, true, false, not, All, List, [], ◌∷◌, ◌++◌, map, fold, filter, length, slice_get, slice_set, slice_index_or, count_by, Option, Some, None, is_some, IsSomeAnd, if◌then◌else◌, ◌+◌, ◌/◌}
+use Rattle.std.specs.Prelude.{◌≡◌, ◌≢◌, ◌<◌, ◌≤◌, ◌==◌, ◌||◌, ◌&&◌, ℕ, Bool, true, false, not, All, List, [], ◌∷◌, ◌++◌, map, fold, filter, length, slice_get, slice_set, slice_index_or, count_by, Option, Some, None, is_some, IsSomeAnd, if◌then◌else◌, ◌+◌, ◌/◌}
 use Rattle.std.specs.List.{Contains}
 use Rattle.std.specs.Option.{option_map_or}
 use mathlib.Core.List.{IsPrefix}
 use Rattle.loop_model.specs.declared.post.Post.{Post as PostData}
 use Rattle.loop_model.specs.declared.call.Call.{Call}
 use Rattle.loop_model.specs.declared.call.Call.TheVariants.{Post, Next}
-use Rattle.loop_model.specs.declared.reply.Reply.TheVariants.{Disposed}
 use Rattle.loop_model.specs.declared.entry.Entry.{Entry}
+use Rattle.loop_model.specs.Entries.{is_next, is_disposed}
 use Rattle.loop_model.specs.declared.journal.Act.{Act}
 use Rattle.loop_model.specs.declared.journal.Act.TheVariants.{Vsync, Paint}
 use Rattle.loop_model.specs.declared.journal.Journal.{Journal}
@@ -73,6 +73,18 @@ pub record IsRootOf (s : Script) (q : ℕ) (tokens : List ℕ) (a : Looper) (roo
   pub painted : map paint_of root.painted.items ≡ a.painted
 
 -- ---- what a step keeps
+
+-- a look that disposed of the queue
+abbrev pub is_disposal : Entry → Bool
+is_disposal e = is_next e.call && is_disposed e.reply
+
+-- the entries that a sender made, but the looks that disposed of the queue
+abbrev pub calls_in : ℕ → List Entry → List Entry
+calls_in sender es = filter (λ e. not (is_disposal e)) (entries_by sender es)
+
+-- the same, by its poster
+abbrev pub calls_of : Sender → List Entry
+calls_of p = calls_in p.sender p.view.seen
 
 -- the looper made these entries on its own queue, its pass has seen the frame callbacks that the state posts, and its view root stands as the state says
 pub record IsShown (s : Script) (q : ℕ) (made : List Entry) (root : ViewRoot) (a : Looper) : Type 0 where
@@ -172,22 +184,12 @@ pub record Pulses (s : Script) (q now : ℕ) (made made' : List Entry) (parts pa
 
 -- ---- between two acts
 
--- a look that disposed of the queue
-pub record IsDisposal (e : Entry) : Type 0 where
-  pub now : ℕ
-  pub call : e.call ≡ Next now
-  pub reply : e.reply ≡ Disposed
-
--- the looper's acts lead to this state, by whatever its frame record comes to, all that it says is so, and beside that the looper made no call but the looks that disposed of its queue
+-- the looper's acts lead to this state, by whatever its frame record comes to, and all that it says is so
 pub record Stands (s : Script) (q sender : ℕ) (es : List Entry) (acts : List Act) (parts : Parts) (a : Looper) : Type 0 where
   pub led : (fs : List FrameEntry) → IsPrefix parts.frames.view.seen fs → lawful s.period 4 fs ≡ true → Lead s q es fs (first_looper s) acts a
   pub place : a.place ≤ length parts.frames.view.seen
   pub settled : a.painted ≡ []
-  pub made : List Entry
-  pub ends : List Entry
-  pub entries : entries_by sender es ≡ made ++ ends
-  pub disposals : All IsDisposal ends
-  pub played : IsPlayed s q made parts a
+  pub played : IsPlayed s q (calls_in sender es) parts a
 
 -- a call is timed by a look of the sender among these entries, or it may come no later than at this moment
 abbrev pub IsTimedBy : ℕ → List Entry → ℕ → Timing → Type 0
@@ -228,10 +230,6 @@ pub record HasLeft (s : Script) (q : ℕ) (j : Journal) (kit : Kit) (a : Looper)
   pub led : (d : Sender) (p : Pass) (fs : List FrameEntry) → IsPrefix (slice_index_or kit.frames.items 0 p).view.seen fs → lawful s.period 4 fs ≡ true
       → Lead s q (slice_index_or kit.posters.items q d).view.seen fs (first_looper s) j.acts a
   pub settled : a.painted ≡ []
-  pub made : List Entry
-  pub ends : List Entry
-  pub entries : (d : Sender) → own (slice_index_or kit.posters.items q d) ≡ made ++ ends
-  pub disposals : All IsDisposal ends
-  pub calls : AreFor IsSent [] (sent_on q a.sent) made
+  pub calls : (d : Sender) → AreFor IsSent [] (sent_on q a.sent) (calls_of (slice_index_or kit.posters.items q d))
   pub elsewhere : (k : ℕ) (d : Sender) → k ≢ q → k < length kit.posters.items → AreFor IsSent [] (sent_on k a.sent) (own (slice_index_or kit.posters.items k d))
   pub posted : (phase id : ℕ) (p : Pass) → count_by (is_frame_post phase id) a.posted ≤ count_by (posts_frame phase id) (slice_index_or kit.frames.items 1 p).view.seen

@@ -6,8 +6,7 @@ ghost use Rattle.dash_script.specs.declared.script.Script.{Script as ScriptData}
 ghost use Rattle.run_model.specs.Loopers.{callback_ran};
 ghost use Rattle.dash_hall.specs.Hosts.{IsHost, origin_of};
 ghost use Rattle.dash_hall.specs.Kits.{frame_badge_of};
-ghost use Rattle.dash_hall.specs.Growth.{own as calls_of};
-ghost use Rattle.dash_loopers.specs.Played.{RanFrame, Shows, ids_of};
+ghost use Rattle.dash_loopers.specs.Played.{calls_of, RanFrame, Shows, ids_of};
 ghost use Rattle.dash_loopers.specs.Players.{FrameOwner, frame_owner};
 
 use crate::view_root::ViewRoot;
