@@ -1,5 +1,5 @@
 //! The gauges of a looper, and its traversals.
-ghost use Rattle.std.specs.Prelude.{◌≡◌, ◌<◌, ◌≤◌, ◌++◌, [], ℕ, map, slice_get, replicate, length, IfOk, OnOk, None, IsTrue, true};
+ghost use Rattle.std.specs.Prelude.{◌≡◌, ◌<◌, ◌≤◌, ◌++◌, [], ℕ, map, slice_get, replicate, length, IfOk, OnOk, None, IsTrue, true, false};
 ghost use Rattle.std.specs.Option.{option_map_or};
 ghost use Rattle.choreographer.specs.Known.{IsOf};
 ghost use Rattle.dash_hall.specs.Hosts.{IsHost, origin_of};
