@@ -1,10 +1,12 @@
 //! The looper on which a choreographer runs, as the choreographer sees it.
 ghost use Rattle.std.specs.Prelude.{◌≡◌, ◌<◌, ℕ, ◌==◌, [], ◌∷◌, IfOk, OnOk};
+ghost use mathlib.Core.List.{IsPrefix};
 ghost use Rattle.loop_model.specs.declared.call.Call.TheVariants.{Barrier, Unbarrier};
 ghost use Rattle.choreographer.specs.Known.{IsOf as IsFrameOf};
-ghost use Rattle.dash_hall.specs.Growth.{Makes};
+ghost use Rattle.choreographer.specs.Calls.{PulsedBy};
+ghost use Rattle.dash_hall.specs.Growth.{GoesOn, Makes};
 ghost use Rattle.dash_hall.specs.Kits.{frame_badge_of};
-ghost use Rattle.dash_hall.specs.Hosts.{Origin, origin_of, IsHost, nanos_of, sends_by, PlacesBy};
+ghost use Rattle.dash_hall.specs.Hosts.{Origin, origin_of, IsHost, nanos_of, sends_by, IsPlaced, PlacesBy};
 
 use crate::barriers::{post_barrier, remove_barrier};
 use choreographer::{Choreographer, FrameHost, FramePass, HostSent, Placed, Pulse};
@@ -110,6 +112,7 @@ impl<'a, R: Wait> Host<'a, R> {
         ensures ready { IsHost (origin_of self.new.queue.now self.new.pool.now self.new.poster.ghost_name self.new.pass.ghost_name self.new.began.now.value self.new.pass_began.now.value self.new.handler.id self.new.now) self.new.poster.now self.new.pass.now }
         ensures origin { origin_of self.new.queue.now self.new.pool.now self.new.poster.ghost_name self.new.pass.ghost_name self.new.began.now.value self.new.pass_began.now.value self.new.handler.id self.new.now ≡ origin_of self.old.queue.now self.old.pool.now self.old.poster.ghost_name self.old.pass.ghost_name self.old.began.now.value self.old.pass_began.now.value self.old.handler.id self.old.now }
         ensures pass { frame_badge_of pass.new ≡ frame_badge_of pass.old }
+        ensures pulse { PulsedBy pass.old pass.new (λ n. n == nanos_of self.old.now) (sends_by self.old.handler.id self.old.poster.now) (sends_by self.new.handler.id self.new.poster.now) result }
     {
         c.on_vsync(self.rt, pass, self)
     }
@@ -122,6 +125,8 @@ impl<'a, R: Wait> Host<'a, R> {
         ensures ready { IsHost (origin_of self.new.queue.now self.new.pool.now self.new.poster.ghost_name self.new.pass.ghost_name self.new.began.now.value self.new.pass_began.now.value self.new.handler.id self.new.now) self.new.poster.now self.new.pass.now }
         ensures origin { origin_of self.new.queue.now self.new.pool.now self.new.poster.ghost_name self.new.pass.ghost_name self.new.began.now.value self.new.pass_began.now.value self.new.handler.id self.new.now ≡ origin_of self.old.queue.now self.old.pool.now self.old.poster.ghost_name self.old.pass.ghost_name self.old.began.now.value self.old.pass_began.now.value self.old.handler.id self.old.now }
         ensures pass { frame_badge_of pass.new ≡ frame_badge_of pass.old }
+        ensures seen { IsPrefix pass.old.view.seen pass.new.view.seen }
+        ensures sends { sends_by self.new.handler.id self.new.poster.now ≡ sends_by self.old.handler.id self.old.poster.now }
     {
         c.on_due(self.rt, pass, self, phase);
     }
@@ -141,14 +146,36 @@ impl<'a, R: Wait> Host<'a, R> {
         ensures ready { IsHost (origin_of self.new.queue.now self.new.pool.now self.new.poster.ghost_name self.new.pass.ghost_name self.new.began.now.value self.new.pass_began.now.value self.new.handler.id self.new.now) self.new.poster.now self.new.pass.now }
         ensures origin { origin_of self.new.queue.now self.new.pool.now self.new.poster.ghost_name self.new.pass.ghost_name self.new.began.now.value self.new.pass_began.now.value self.new.handler.id self.new.now ≡ origin_of self.old.queue.now self.old.pool.now self.old.poster.ghost_name self.old.pass.ghost_name self.old.began.now.value self.old.pass_began.now.value self.old.handler.id self.old.now }
         ensures pass { frame_badge_of pass.new ≡ frame_badge_of pass.old }
+        ensures on { GoesOn self.old.poster.now self.new.poster.now self.old.pass.now self.new.pass.now }
         ensures turn { OnOk result (PlacesBy pass.old pass.new self.old.now (sends_by self.old.handler.id self.old.poster.now) (sends_by self.new.handler.id self.new.poster.now) phase id delay) }
     {
-        match c.post_callback(self.rt, pass, self, phase, id, None, delay) {
-            Placed::Asked => Ok(()),
-            Placed::Sent => Ok(()),
-            Placed::Already => Ok(()),
-            Placed::Refused => Ok(()),
-            Placed::NoMemory => Err(NoMemory),
-        }
+        let began = Snapshot::of(&*self.poster);
+        let pass_began = Snapshot::of(&*self.pass);
+        let mut here = Host {
+            rt: self.rt,
+            alloc: self.alloc,
+            handler: self.handler,
+            queue: self.queue,
+            pool: self.pool,
+            poster: self.poster,
+            pass: self.pass,
+            began: &began,
+            pass_began: &pass_began,
+            now: self.now,
+        };
+        placed(c.post_callback(self.rt, pass, &mut here, phase, id, None, delay))
+    }
+}
+
+/// Ok unless memory was wanting.
+fn placed(answer: Placed) -> Result<(), NoMemory>
+    ensures ok { OnOk result (IsPlaced answer) }
+{
+    match answer {
+        Placed::Asked => Ok(()),
+        Placed::Sent => Ok(()),
+        Placed::Already => Ok(()),
+        Placed::Refused => Ok(()),
+        Placed::NoMemory => Err(NoMemory),
     }
 }

@@ -1,2 +1,3 @@
 pub mod Loopers
 pub mod Players
+pub mod Played

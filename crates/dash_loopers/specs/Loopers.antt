@@ -5,6 +5,8 @@ use Rattle.atomic_table.specs.Seated.{TableId}
 use Rattle.dash_script.specs.declared.script.Script.{Script}
 use Rattle.loop_model.specs.Base.{empty_base}
 use Rattle.loop_model.specs.Answers.{Setting, is_over}
+use Rattle.loop_model.specs.Legal.{IsLegal, AreNumbered}
+use Rattle.loop_model.specs.declared.entry.Entry.{Entry}
 use Rattle.shared_queue.specs.Known.{Shared}
 use Rattle.looper_run.specs.Holding.{Workplace, workplace, Sender, IsBeside}
 use Rattle.looper_run.specs.Round.{RoundBy, is_ended}
@@ -47,6 +49,11 @@ pub record IsLooperOf (s : Script) (hall : Hall) (number : ℕ) : Type 0 where
 -- the setting of a looper's queue: in lockstep, main for looper 0 alone
 abbrev pub setting_for : Script → ℕ → Setting
 setting_for s looper = record { main = looper == 0; lockstep = true; senders = sender_count s }
+
+-- the history is one that this looper's queue may have
+pub record IsSoundOn (s : Script) (q : ℕ) (es : List Entry) : Type 0 where
+  pub legal : IsLegal (setting_for s q) (empty_base (sender_count s)) es
+  pub numbered : AreNumbered (setting_for s q) (empty_base (sender_count s)) es
 
 -- a round that found no memory
 abbrev pub is_given_up : Round → Bool

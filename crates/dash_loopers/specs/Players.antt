@@ -1,10 +1,11 @@
 -- What a looper's code works with, and what it keeps.
 use Rattle.std.specs.Prelude.{◌≡◌, ℕ, ◌<◌, ◌+◌, ◌⊎◌, map}
 use Rattle.dash_script.specs.declared.script.Script.{Script}
-use Rattle.looper_run.specs.Holding.{Workplace}
+use Rattle.looper_run.specs.Holding.{Workplace, Sender}
 use Rattle.dash_hall.specs.declared.hall.Hall.{Hall}
 use Rattle.dash_loopers.specs.declared.player.Parts.{Parts}
-use Rattle.dash_hall.specs.Kits.{badge_of, frame_badge_of}
+use Rattle.dash_loopers.specs.declared.view_root.ViewRoot.{ViewRoot}
+use Rattle.dash_hall.specs.Kits.{FrameBadge, badge_of, frame_badge_of}
 use Rattle.dash_loopers.specs.Loopers.{ArePartsOf, IsPlaceOf, IsLooperOf}
 
 -- whose code it is: the looper of this number in the hall of the script
@@ -28,3 +29,13 @@ pub record AreSameParts (before after : Parts) : Type 0 where
 -- the place that one of a list has once the one at n is taken out
 abbrev pub PlaceWithout : ℕ → ℕ → ℕ → Type 0
 PlaceWithout n place j = ((place < n) × (j ≡ place)) ⊎ ((n < place) × (place ≡ j + 1))
+
+-- whose frame it is: the view root by its reference and its pass, and the root and the poster as they were when the frame began
+pub record FrameOwner : Type 0 where
+  pub root_name : ℕ
+  pub pass : FrameBadge
+  pub root : ViewRoot
+  pub poster : Sender
+
+abbrev pub frame_owner : ℕ → ViewRoot → ViewRoot → Sender → FrameOwner
+frame_owner root_name now began poster = record { root_name = root_name; pass = frame_badge_of now.pass; root = began; poster = poster }

@@ -3,6 +3,8 @@ ghost use Rattle.std.specs.Prelude.{◌≡◌, ◌+◌, ◌<◌, true, false, If
 ghost use Rattle.looper_run.specs.Round.{is_ended};
 ghost use Rattle.dash_hall.specs.Kits.{IsHall, IsKitOf, HasSeenOver, IsUnusedKit};
 ghost use Rattle.dash_loopers.specs.Loopers.{posters_of, ComesToWait, WaitsForNothing, IsLooper, HasRun, HasTold, is_given_up, until_of};
+ghost use Rattle.dash_loopers.specs.Played.{HasCome, HasPlayed, HasLeft};
+ghost use Rattle.run_model.specs.Loopers.{Looper as LooperState, first_looper};
 
 use crate::player::{Parts, Place, Player};
 use crate::view_root::ViewRoot;
@@ -12,6 +14,7 @@ use loop_io::Gate;
 use loop_model::{Journal, NoMemory};
 use looper_run::{Looper, Round};
 use std::alloc::Global;
+use std::snapshot::Snapshot;
 use std::sync::Wait;
 
 /// A looper with all that it works with, and how its last round ended.
@@ -43,6 +46,7 @@ impl StageLooper {
         ensures number_is { IfOk result (λ l. l.number ≡ number) }
         ensures posters { IfOk result (λ l. posters_of l ≡ kit.posters.items) }
         ensures waits { IfOk result (λ l. WaitsForNothing l.last) }
+        ensures begun { IfOk result (λ l. HasCome script.now l (first_looper script.now)) }
     {
         let Kit {
             mut posters,
@@ -119,10 +123,12 @@ impl StageLooper {
         ensures number { self.new.number ≡ self.old.number }
         ensures round { HasRun script.now now self.old self.new }
         ensures waits { ComesToWait script.now self.old self.new }
+        ensures plays { HasPlayed script.now now self.old self.new }
     {
         if self.has_ended() || self.gave_up() {
             return;
         }
+        let began = Snapshot::of(&*self);
         let Some(parts) = self.parts.take() else {
             unreachable!()
         };
@@ -137,6 +143,8 @@ impl StageLooper {
             },
             gate,
             sender: self.sender,
+            now,
+            began: &began,
             parts,
         };
         self.last = self.looper.run_round(
@@ -164,6 +172,7 @@ impl StageLooper {
         ensures told { IfOk result (λ r. is_given_up self.last ≡ false → HasTold script.now self.number r.0 r.1) }
         ensures over { IfOk result (λ r. is_ended self.last ≡ true → HasSeenOver script.now self.number r.1) }
         ensures posters { IfOk result (λ r. r.1.posters.items ≡ posters_of self) }
+        ensures left { IfOk result (λ r. (a : LooperState) → HasCome script.now self a → HasLeft script.now self.number r.0 r.1 a) }
     {
         let StageLooper {
             number,

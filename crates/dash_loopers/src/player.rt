@@ -1,5 +1,6 @@
 //! What a looper does with its messages.
-ghost use Rattle.std.specs.Prelude.{◌≡◌, ℕ, List, [], ◌∷◌, ◌++◌, slice_get, Some, IsTrue, true, OnOk};
+ghost use Rattle.std.specs.Prelude.{◌≡◌, ◌<◌, ℕ, List, [], ◌∷◌, ◌++◌, map, slice_get, Some, None, IsTrue, true, OnOk};
+ghost use mathlib.Core.List.{IsPrefix};
 ghost use Rattle.loop_model.specs.declared.journal.Act.{Act};
 ghost use Rattle.loop_model.specs.declared.entry.Entry.{Entry};
 ghost use Rattle.shared_queue.specs.Known.{IsOf};
@@ -11,14 +12,25 @@ ghost use Rattle.dash_hall.specs.Hosts.{origin_of, IsHost};
 ghost use Rattle.dash_hall.specs.Kits.{badge_of};
 ghost use Rattle.dash_loopers.specs.Loopers.{ArePartsOf, IsPlaceOf, IsLooperOf};
 ghost use Rattle.dash_loopers.specs.Players.{Owner, ServesAt, AreSameParts, PlaceWithout};
+ghost use Rattle.dash_hall.specs.Growth.{Makes};
+ghost use Rattle.dash_loopers.specs.declared.player.Parts.{Parts as PartsData};
+ghost use Rattle.dash_script.specs.Reading.{HasText};
+ghost use Rattle.dash_hall.specs.Requests.{call_by};
+ghost use Rattle.dash_loopers.specs.Played.{calls_of, FiresAt, Plays, DeliversPulse, Delivers, Pulses, IsPlaying, rule_met, with_call, paint_of};
+ghost use Rattle.loop_model.specs.declared.post.Post.{Post as PostData};
+ghost use Rattle.run_model.specs.Senders.{frame_handler as the_frame_handler};
+ghost use Rattle.run_model.specs.Control.{Timing};
+ghost use Rattle.run_model.specs.Loopers.{starts_frame, object_set, reacted, reaction};
+ghost use Rattle.looper_run.specs.Tests.{Unless};
 
+use crate::looper::StageLooper;
 use crate::view_root::{Painted, ViewRoot};
 use choreographer::{Choreographer, FramePass, HostSent, Pulse};
 use dash_hall::{Hall, Host, PHASES, Request, frame_handler, handler_of, looper_of, make};
 use dash_script::{Rule, Script};
 use handler_post::{Handler, Way};
 use loop_io::Gate;
-use loop_model::{Act, Journal, NoMemory};
+use loop_model::{Act, Journal, NoMemory, Post};
 use looper_run::{Did, Dispatcher, Own};
 use message_pool::{PoolClaim, PoolPass};
 use message_slot::Message;
@@ -63,6 +75,10 @@ pub(crate) struct Player<'a, R: Wait, G: Gate> {
     pub(crate) place: Place<'a, R>,
     pub(crate) gate: &'a G,
     pub(crate) sender: u32,
+    /// The moment of the round, in milliseconds. A pulse is delivered then.
+    pub(crate) now: u64,
+    /// The looper as it was when the round began.
+    pub(crate) began: &'a Snapshot<StageLooper>,
     pub(crate) parts: Parts,
 }
 
@@ -77,7 +93,7 @@ impl<'a, R: Wait, G: Gate> Dispatcher for Player<'a, R, G> {
 
     ghost nudges = { λ d. 0 };
 
-    ghost Meets = { λ d s es acts. IsTrue true };
+    ghost Meets = { λ d s es acts. IsPlaying d.place.script.now d.place.looper d.now d.began.now.value s es acts d.parts };
 
     fn before(&mut self, number: u64) {
         self.gate.pass(self.sender, self.parts.passed);
@@ -85,7 +101,7 @@ impl<'a, R: Wait, G: Gate> Dispatcher for Player<'a, R, G> {
     }
 
     fn pulse(&mut self, own: &mut Own, now: u64) -> Did {
-        self.place.pulse(&mut self.parts, own, now)
+        self.place.pulse(&mut self.parts, own, self.now)
     }
 
     fn listen(&mut self, fd: u32, events: u32, listener: u32) -> u32 {
@@ -97,11 +113,18 @@ impl<'a, R: Wait, G: Gate> Dispatcher for Player<'a, R, G> {
     }
 
     fn intercept(&mut self, own: &mut Own, m: &Message<PoolClaim>, now: u64) -> Did {
-        self.place.intercept(&mut self.parts, own, m, now)
+        if !self.place.intercepts(m) {
+            return Did::No;
+        }
+        did(self
+            .place
+            .deliver(&mut self.parts, own, &m.as_post(), now))
     }
 
     fn handle(&mut self, own: &mut Own, m: &Message<PoolClaim>, now: u64) -> Did {
-        did(self.place.react(&mut self.parts, own, m, now))
+        did(self
+            .place
+            .deliver(&mut self.parts, own, &m.as_post(), now))
     }
 
     ghost others = { λ d s es e acts apart meets. meets };
@@ -160,12 +183,14 @@ impl<'a, R: Wait> Place<'a, R> {
     }
 
     /// Delivers the pulse that is asked for, if it came.
-    fn deliver(&self, parts: &mut Parts, own: &mut Own, now: u64) -> Option<Pulse>
+    fn deliver_pulse(&self, parts: &mut Parts, own: &mut Own, now: u64) -> Option<Pulse>
         requires serves { ServesAt self.now.script.now self.now.hall.now self.now.looper parts.old (workplace (held own.old)) }
         ensures parts { AreSameParts parts.old parts.new }
         ensures own { IsSameOwn own.old own.new }
         ensures lent { IsLent (held own.old) (held own.new) }
         ensures rung { own.new.poster.now.view.rung ≡ own.old.poster.now.view.rung }
+        ensures pulses { DeliversPulse self.now.script.now self.now.looper now (calls_of own.old.poster.now) (calls_of own.new.poster.now) parts.old parts.new result }
+        ensures acts { own.new.journal.now.acts ≡ own.old.journal.now.acts }
     {
         let began = Snapshot::of(&*own.poster);
         let pass_began = Snapshot::of(&*own.pass);
@@ -180,8 +205,9 @@ impl<'a, R: Wait> Place<'a, R> {
         ensures own { IsSameOwn own.old own.new }
         ensures lent { IsLent (held own.old) (held own.new) }
         ensures rung { own.new.poster.now.view.rung ≡ own.old.poster.now.view.rung }
+        ensures pulses { Unless result (Pulses self.now.script.now self.now.looper now (calls_of own.old.poster.now) (calls_of own.new.poster.now) parts.old parts.new own.old.journal.now.acts own.new.journal.now.acts) }
     {
-        match self.deliver(parts, own, now) {
+        match self.deliver_pulse(parts, own, now) {
             None => Did::No,
             Some(pulse) => {
                 if pulse.sent == HostSent::NoMemory {
@@ -215,6 +241,7 @@ impl<'a, R: Wait> Place<'a, R> {
         ensures own { IsSameOwn own.old own.new }
         ensures lent { IsLent (held own.old) (held own.new) }
         ensures rung { own.new.poster.now.view.rung ≡ own.old.poster.now.view.rung }
+        ensures delivers { (m : PostData) → starts_frame self.now.looper m ≡ true → OnOk result (Delivers self.now.script.now self.now.looper now m (calls_of own.old.poster.now) (calls_of own.new.poster.now) parts.old parts.new own.old.journal.now.acts own.new.journal.now.acts) }
     {
         self.run_frame(parts, own, now)?;
         tell_painted(own.journal, parts.root.painted.as_slice())?;
@@ -229,6 +256,10 @@ impl<'a, R: Wait> Place<'a, R> {
         ensures own { IsSameOwn own.old own.new }
         ensures lent { IsLent (held own.old) (held own.new) }
         ensures rung { own.new.poster.now.view.rung ≡ own.old.poster.now.view.rung }
+        ensures plays { Plays self.now.script.now self.now.looper (λ a. a) (calls_of own.old.poster.now) parts.old (calls_of own.new.poster.now) parts.new }
+        ensures acts { own.new.journal.now.acts ≡ own.old.journal.now.acts }
+        ensures seen { IsPrefix parts.old.frames.view.seen parts.new.frames.view.seen }
+        ensures calls { calls_of own.new.poster.now ≡ calls_of own.old.poster.now }
     {
         if phase >= PHASES {
             return;
@@ -253,6 +284,9 @@ impl<'a, R: Wait> Place<'a, R> {
         ensures own { IsSameOwn own.old own.new }
         ensures lent { IsLent (held own.old) (held own.new) }
         ensures rung { own.new.poster.now.view.rung ≡ own.old.poster.now.view.rung }
+        ensures plays { OnOk result (Plays self.now.script.now self.now.looper (object_set self.now.script.now self.now.looper now object target) (calls_of own.old.poster.now) parts.old (calls_of own.new.poster.now) parts.new) }
+        ensures acts { own.new.journal.now.acts ≡ own.old.journal.now.acts }
+        ensures frames { parts.new.frames ≡ parts.old.frames }
     {
         let began = Snapshot::of(&*own.poster);
         let pass_began = Snapshot::of(&*own.pass);
@@ -267,40 +301,58 @@ impl<'a, R: Wait> Place<'a, R> {
         &self,
         parts: &mut Parts,
         own: &mut Own,
-        m: &Message<PoolClaim>,
+        p: &Post,
         now: u64,
     ) -> Result<(), NoMemory>
+        requires callback { p.now.callback ≡ None }
+        requires handler { p.now.handler ≡ the_frame_handler self.now.looper }
         requires serves { ServesAt self.now.script.now self.now.hall.now self.now.looper parts.old (workplace (held own.old)) }
         ensures parts { AreSameParts parts.old parts.new }
         ensures own { IsSameOwn own.old own.new }
         ensures lent { IsLent (held own.old) (held own.new) }
         ensures rung { own.new.poster.now.view.rung ≡ own.old.poster.now.view.rung }
+        ensures delivers { OnOk result (Delivers self.now.script.now self.now.looper now p.now (calls_of own.old.poster.now) (calls_of own.new.poster.now) parts.old parts.new own.old.journal.now.acts own.new.journal.now.acts) }
     {
-        match m.what() {
+        match p.what {
             FRAME => self.do_frame(parts, own, now),
             DUE => {
-                self.on_due(parts, own, m.arg(), now);
+                self.on_due(parts, own, p.arg, now);
                 Ok(())
             }
             _ => Ok(()),
         }
     }
 
-    /// A message of the choreographer, or one with an object; another is left to its handler.
-    fn intercept(&self, parts: &mut Parts, own: &mut Own, m: &Message<PoolClaim>, now: u64) -> Did
+    /// Whether the message is one of the choreographer, or has an object: the handler's callback object takes it then.
+    fn intercepts(&self, m: &Message<PoolClaim>) -> bool
+        requires { IsLooperOf self.now.script.now self.now.hall.now self.now.looper }
+    {
+        m.handler() == Some(frame_handler(self.looper).id) || m.obj().is_some()
+    }
+
+    /// Delivers a message that has no callback: one of the choreographer to it, one with an object to the gauge of that number, and
+    /// any other to the rules.
+    fn deliver(
+        &self,
+        parts: &mut Parts,
+        own: &mut Own,
+        p: &Post,
+        now: u64,
+    ) -> Result<(), NoMemory>
         requires serves { ServesAt self.now.script.now self.now.hall.now self.now.looper parts.old (workplace (held own.old)) }
+        requires callback { p.now.callback ≡ None }
         ensures parts { AreSameParts parts.old parts.new }
         ensures own { IsSameOwn own.old own.new }
         ensures lent { IsLent (held own.old) (held own.new) }
         ensures rung { own.new.poster.now.view.rung ≡ own.old.poster.now.view.rung }
-        ensures left { result ≡ No → held own.new ≡ held own.old }
+        ensures delivers { OnOk result (Delivers self.now.script.now self.now.looper now p.now (calls_of own.old.poster.now) (calls_of own.new.poster.now) parts.old parts.new own.old.journal.now.acts own.new.journal.now.acts) }
     {
-        if m.handler() == Some(frame_handler(self.looper).id) {
-            return did(self.on_frame(parts, own, m, now));
+        if p.handler == frame_handler(self.looper).id {
+            return self.on_frame(parts, own, p, now);
         }
-        match m.obj() {
-            Some(object) => did(self.set_target(parts, own, object, m.arg(), now)),
-            None => Did::No,
+        match p.obj {
+            Some(object) => self.set_target(parts, own, object, p.arg, now),
+            None => self.react(parts, own, p, now),
         }
     }
 
@@ -309,7 +361,7 @@ impl<'a, R: Wait> Place<'a, R> {
         &self,
         parts: &mut Parts,
         own: &mut Own,
-        m: &Message<PoolClaim>,
+        p: &Post,
         now: u64,
     ) -> Result<(), NoMemory>
         requires serves { ServesAt self.now.script.now self.now.hall.now self.now.looper parts.old (workplace (held own.old)) }
@@ -317,9 +369,12 @@ impl<'a, R: Wait> Place<'a, R> {
         ensures own { IsSameOwn own.old own.new }
         ensures lent { IsLent (held own.old) (held own.new) }
         ensures rung { own.new.poster.now.view.rung ≡ own.old.poster.now.view.rung }
+        ensures plays { OnOk result (Plays self.now.script.now self.now.looper (reacted self.now.script.now now p.now) (calls_of own.old.poster.now) parts.old (calls_of own.new.poster.now) parts.new) }
+        ensures acts { own.new.journal.now.acts ≡ own.old.journal.now.acts }
+        ensures rest { (parts.new.frames ≡ parts.old.frames) × (parts.new.root ≡ parts.old.root) }
     {
         for (place, rule) in self.script.rules.as_slice().iter().enumerate() {
-            self.fire(parts, own, m, place, rule, now)?;
+            self.fire(parts, own, p, place, rule, now)?;
         }
         Ok(())
     }
@@ -329,18 +384,22 @@ impl<'a, R: Wait> Place<'a, R> {
         &self,
         parts: &mut Parts,
         own: &mut Own,
-        m: &Message<PoolClaim>,
+        p: &Post,
         place: usize,
         rule: &Rule,
         now: u64,
     ) -> Result<(), NoMemory>
+        requires one { slice_get self.now.script.now.rules place ≡ Some rule.now }
         requires serves { ServesAt self.now.script.now self.now.hall.now self.now.looper parts.old (workplace (held own.old)) }
         ensures parts { AreSameParts parts.old parts.new }
         ensures own { IsSameOwn own.old own.new }
         ensures lent { IsLent (held own.old) (held own.new) }
         ensures rung { own.new.poster.now.view.rung ≡ own.old.poster.now.view.rung }
+        ensures plays { OnOk result (Plays self.now.script.now self.now.looper (rule_met self.now.script.now now p.now place rule.now) (calls_of own.old.poster.now) parts.old (calls_of own.new.poster.now) parts.new) }
+        ensures acts { own.new.journal.now.acts ≡ own.old.journal.now.acts }
+        ensures rest { (parts.new.frames ≡ parts.old.frames) × (parts.new.root ≡ parts.old.root) }
     {
-        if m.handler() != Some(rule.handler) || m.what() != rule.what {
+        if p.handler != rule.handler || p.what != rule.what {
             return Ok(());
         }
         if fires(parts, place, rule.times) {
@@ -351,11 +410,15 @@ impl<'a, R: Wait> Place<'a, R> {
 
     /// A rule's message, by the looper's poster of that queue.
     fn send(&self, parts: &mut Parts, own: &mut Own, rule: &Rule, now: u64) -> Result<(), NoMemory>
+        requires one { (place : ℕ) × (slice_get self.now.script.now.rules place ≡ Some rule.now) }
         requires serves { ServesAt self.now.script.now self.now.hall.now self.now.looper parts.old (workplace (held own.old)) }
         ensures parts { AreSameParts parts.old parts.new }
         ensures own { IsSameOwn own.old own.new }
         ensures lent { IsLent (held own.old) (held own.new) }
         ensures rung { own.new.poster.now.view.rung ≡ own.old.poster.now.view.rung }
+        ensures plays { OnOk result (Plays self.now.script.now self.now.looper (λ a. record a { sent = a.sent ++ reaction self.now.script.now now rule.now ∷ [] }) (calls_of own.old.poster.now) parts.old (calls_of own.new.poster.now) parts.new) }
+        ensures acts { own.new.journal.now.acts ≡ own.old.journal.now.acts }
+        ensures rest { (parts.new.frames ≡ parts.old.frames) × (parts.new.root ≡ parts.old.root) }
     {
         let looper = looper_of(self.script, rule.to_handler);
         let handler = handler_of(self.script, rule.to_handler);
@@ -378,6 +441,8 @@ impl<'a, R: Wait> Place<'a, R> {
         ensures own { IsSameOwn own.old own.new }
         ensures lent { IsLent (held own.old) (held own.new) }
         ensures rung { own.new.poster.now.view.rung ≡ own.old.poster.now.view.rung }
+        ensures plays { (parts : PartsData) (timing : Timing) → OnOk result (Plays self.now.script.now self.now.looper (with_call self.now.looper (call_by handler request) timing) (calls_of own.old.poster.now) parts (calls_of own.new.poster.now) parts) }
+        ensures acts { own.new.journal.now.acts ≡ own.old.journal.now.acts }
     {
         let mut way = Way {
             queue: self.queue(),
@@ -397,12 +462,17 @@ impl<'a, R: Wait> Place<'a, R> {
         handler: Handler,
         request: Request,
     ) -> Result<(), NoMemory>
+        requires within { HasText self.now.script.now → looper < self.now.script.now.loopers }
         requires other { looper ≡ self.now.looper → ⊥ }
         requires serves { ServesAt self.now.script.now self.now.hall.now self.now.looper parts.old (workplace (held own.old)) }
         ensures parts { AreSameParts parts.old parts.new }
         ensures own { IsSameOwn own.old own.new }
         ensures lent { IsLent (held own.old) (held own.new) }
         ensures rung { own.new.poster.now.view.rung ≡ own.old.poster.now.view.rung }
+        ensures plays { (timing : Timing) → OnOk result (Plays self.now.script.now self.now.looper (with_call looper (call_by handler request) timing) (calls_of own.old.poster.now) parts.old (calls_of own.new.poster.now) parts.new) }
+        ensures calls { calls_of own.new.poster.now ≡ calls_of own.old.poster.now }
+        ensures acts { own.new.journal.now.acts ≡ own.old.journal.now.acts }
+        ensures rest { (parts.new.frames ≡ parts.old.frames) × (parts.new.root ≡ parts.old.root) }
     {
         let place = looper as usize;
         if place >= self.hall.queues.len() {
@@ -442,6 +512,9 @@ impl<'a, R: Wait> Place<'a, R> {
         ensures own { IsSameOwn own.old own.new }
         ensures lent { IsLent (held own.old) (held own.new) }
         ensures rung { own.new.poster.now.view.rung ≡ own.old.poster.now.view.rung }
+        ensures made { OnOk result (Makes poster.old poster.new (call_by handler request) []) }
+        ensures acts { own.new.journal.now.acts ≡ own.old.journal.now.acts }
+        ensures seen { own.new.poster.now ≡ own.old.poster.now }
     {
         let mut way = Way {
             queue,
@@ -455,7 +528,8 @@ impl<'a, R: Wait> Place<'a, R> {
 
 /// Whether the rule at this place fires once more; if so, it is counted.
 fn fires(parts: &mut Parts, place: usize, times: u32) -> bool
-    ensures { AreSameParts parts.old parts.new }
+    ensures same { AreSameParts parts.old parts.new }
+    ensures fires { FiresAt place times parts.old parts.new result }
 {
     if place < parts.fired.len() && parts.fired[place] < times {
         parts.fired[place] += 1;
@@ -468,6 +542,7 @@ fn fires(parts: &mut Parts, place: usize, times: u32) -> bool
 fn tell_painted(journal: &mut Journal, painted: &[Painted]) -> Result<(), NoMemory>
     ensures looper { journal.new.looper ≡ journal.old.looper }
     ensures grew { GrowsBy IsOfDispatcher journal.old.acts journal.new.acts }
+    ensures told { OnOk result (journal.new.acts ≡ journal.old.acts ++ map paint_of painted.now) }
 {
     for paint in painted {
         let act = Act::Paint {

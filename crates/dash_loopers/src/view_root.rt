@@ -1,13 +1,17 @@
 //! The gauges of a looper, and its traversals.
-ghost use Rattle.std.specs.Prelude.{◌≡◌, ◌<◌, ◌≤◌, IfOk, None, IsTrue, true};
+ghost use Rattle.std.specs.Prelude.{◌≡◌, ◌<◌, ◌≤◌, ◌++◌, [], ℕ, map, slice_get, replicate, length, IfOk, OnOk, None, IsTrue, true, false};
+ghost use Rattle.std.specs.Option.{option_map_or};
 ghost use Rattle.choreographer.specs.Known.{IsOf};
 ghost use Rattle.dash_hall.specs.Hosts.{IsHost, origin_of};
 ghost use Rattle.dash_hall.specs.Kits.{FrameBadge, frame_badge_of};
+ghost use Rattle.dash_loopers.specs.Played.{calls_of, standing, fixed, fixed_by, paint_of, Shows};
+ghost use Rattle.dash_script.specs.declared.script.Script.{Script as ScriptData};
+ghost use Rattle.dash_script.specs.Reading.{HasText};
+ghost use Rattle.run_model.specs.Loopers.{object_set, traversal_requested, animation_ran, traversal_ran, callback_ran, and_posts_frame, paints, moved as moved_by};
 
-use choreographer::{Choreographer, ClientRan, FrameClient, FramePass, Framed};
+use choreographer::{Choreographer, FramePass};
 use dash_hall::{Host, looper_of};
 use dash_script::Script;
-use frame_phases::Callback;
 use loop_model::NoMemory;
 use std::alloc::Global;
 use std::sync::Wait;
@@ -60,7 +64,9 @@ impl ViewRoot {
         looper: u32,
         pass: FramePass,
     ) -> Result<ViewRoot, NoMemory>
-        ensures { IfOk result (λ v. v.pass ≡ pass) }
+        ensures pass { IfOk result (λ v. v.pass ≡ pass) }
+        ensures gauges { IfOk result (λ v. (map standing v.gauges.items ≡ replicate (length script.now.gauges) (record { value = 0; target = 0; animating = false })) × (map fixed v.gauges.items ≡ map (fixed_by script.now looper) script.now.gauges)) }
+        ensures rest { IfOk result (λ v. (v.barrier ≡ None) × (v.painted.items ≡ [])) }
     {
         let mut gauges = Vec::new(alloc);
         for line in script.gauges.as_slice() {
@@ -93,6 +99,7 @@ impl ViewRoot {
         ensures ready { IsHost (origin_of host.new.queue.now host.new.pool.now host.new.poster.ghost_name host.new.pass.ghost_name host.new.began.now.value host.new.pass_began.now.value host.new.handler.id host.new.now) host.new.poster.now host.new.pass.now }
         ensures origin { origin_of host.new.queue.now host.new.pool.now host.new.poster.ghost_name host.new.pass.ghost_name host.new.began.now.value host.new.pass_began.now.value host.new.handler.id host.new.now ≡ origin_of host.old.queue.now host.old.pool.now host.old.poster.ghost_name host.old.pass.ghost_name host.old.began.now.value host.old.pass_began.now.value host.old.handler.id host.old.now }
         ensures pass { frame_badge_of self.new.pass ≡ frame_badge_of self.old.pass }
+        ensures shows { (s : ScriptData) (q : ℕ) → OnOk result (Shows s q (object_set s q host.old.now gauge target) (calls_of host.old.poster.now) self.old (calls_of host.new.poster.now) self.new) }
     {
         let place = gauge as usize;
         if place >= self.gauges.len() || !self.gauges[place].own {
@@ -107,27 +114,6 @@ impl ViewRoot {
         self.request_traversal(c, host)
     }
 
-    /// Begins a frame, where one is scheduled, and runs its callbacks.
-    pub(crate) fn do_frame<R: Wait>(
-        &mut self,
-        c: &Choreographer,
-        pass: &mut FramePass,
-        host: &mut Host<R>,
-    ) -> Result<(), NoMemory>
-        requires ready { IsHost (origin_of host.old.queue.now host.old.pool.now host.old.poster.ghost_name host.old.pass.ghost_name host.old.began.now.value host.old.pass_began.now.value host.old.handler.id host.old.now) host.old.poster.now host.old.pass.now }
-        requires pass { IsOf pass.old c.now }
-        requires root { IsOf self.old.pass c.now × (2 < c.now.constants.phases) }
-        ensures ready { IsHost (origin_of host.new.queue.now host.new.pool.now host.new.poster.ghost_name host.new.pass.ghost_name host.new.began.now.value host.new.pass_began.now.value host.new.handler.id host.new.now) host.new.poster.now host.new.pass.now }
-        ensures origin { origin_of host.new.queue.now host.new.pool.now host.new.poster.ghost_name host.new.pass.ghost_name host.new.began.now.value host.new.pass_began.now.value host.new.handler.id host.new.now ≡ origin_of host.old.queue.now host.old.pool.now host.old.poster.ghost_name host.old.pass.ghost_name host.old.began.now.value host.old.pass_began.now.value host.old.handler.id host.old.now }
-        ensures pass { frame_badge_of pass.new ≡ frame_badge_of pass.old }
-        ensures root { frame_badge_of self.new.pass ≡ frame_badge_of self.old.pass }
-    {
-        match c.do_frame(host.rt, pass, host, self) {
-            Framed::NoMemory => Err(NoMemory),
-            _ => Ok(()),
-        }
-    }
-
     /// Posts a barrier and the traversal's callback, unless a traversal is under way.
     fn request_traversal<R: Wait>(
         &mut self,
@@ -139,6 +125,7 @@ impl ViewRoot {
         ensures ready { IsHost (origin_of host.new.queue.now host.new.pool.now host.new.poster.ghost_name host.new.pass.ghost_name host.new.began.now.value host.new.pass_began.now.value host.new.handler.id host.new.now) host.new.poster.now host.new.pass.now }
         ensures origin { origin_of host.new.queue.now host.new.pool.now host.new.poster.ghost_name host.new.pass.ghost_name host.new.began.now.value host.new.pass_began.now.value host.new.handler.id host.new.now ≡ origin_of host.old.queue.now host.old.pool.now host.old.poster.ghost_name host.old.pass.ghost_name host.old.began.now.value host.old.pass_began.now.value host.old.handler.id host.old.now }
         ensures pass { frame_badge_of self.new.pass ≡ frame_badge_of self.old.pass }
+        ensures shows { (s : ScriptData) (q : ℕ) → OnOk result (Shows s q (traversal_requested s q host.old.now) (calls_of host.old.poster.now) self.old (calls_of host.new.poster.now) self.new) }
     {
         if self.barrier.is_some() {
             return Ok(());
@@ -160,6 +147,7 @@ impl ViewRoot {
         ensures ready { IsHost (origin_of host.new.queue.now host.new.pool.now host.new.poster.ghost_name host.new.pass.ghost_name host.new.began.now.value host.new.pass_began.now.value host.new.handler.id host.new.now) host.new.poster.now host.new.pass.now }
         ensures origin { origin_of host.new.queue.now host.new.pool.now host.new.poster.ghost_name host.new.pass.ghost_name host.new.began.now.value host.new.pass_began.now.value host.new.handler.id host.new.now ≡ origin_of host.old.queue.now host.old.pool.now host.old.poster.ghost_name host.old.pass.ghost_name host.old.began.now.value host.old.pass_began.now.value host.old.handler.id host.old.now }
         ensures pass { frame_badge_of self.new.pass ≡ frame_badge_of self.old.pass }
+        ensures shows { (s : ScriptData) (q : ℕ) → OnOk result (Shows s q (λ a. option_map_or (λ x. animation_ran s q host.old.now gauge x a) (slice_get a.gauges gauge) a) (calls_of host.old.poster.now) self.old (calls_of host.new.poster.now) self.new) }
     {
         let place = gauge as usize;
         if place >= self.gauges.len() || !self.gauges[place].animating {
@@ -187,6 +175,7 @@ impl ViewRoot {
         ensures ready { IsHost (origin_of host.new.queue.now host.new.pool.now host.new.poster.ghost_name host.new.pass.ghost_name host.new.began.now.value host.new.pass_began.now.value host.new.handler.id host.new.now) host.new.poster.now host.new.pass.now }
         ensures origin { origin_of host.new.queue.now host.new.pool.now host.new.poster.ghost_name host.new.pass.ghost_name host.new.began.now.value host.new.pass_began.now.value host.new.handler.id host.new.now ≡ origin_of host.old.queue.now host.old.pool.now host.old.poster.ghost_name host.old.pass.ghost_name host.old.began.now.value host.old.pass_began.now.value host.old.handler.id host.old.now }
         ensures pass { frame_badge_of self.new.pass ≡ frame_badge_of self.old.pass }
+        ensures shows { (s : ScriptData) (q : ℕ) → OnOk result (Shows s q (traversal_ran s q host.old.now) (calls_of host.old.poster.now) self.old (calls_of host.new.poster.now) self.new) }
     {
         let Some(token) = self.barrier else {
             return Ok(());
@@ -199,6 +188,9 @@ impl ViewRoot {
     /// Paints each gauge of the looper, by rising number.
     fn paint(&mut self) -> Result<(), NoMemory>
         ensures pass { self.new.pass ≡ self.old.pass }
+        ensures painted { (s : ScriptData) (q : ℕ) → HasText s → map fixed self.old.gauges.items ≡ map (fixed_by s q) s.gauges
+            → OnOk result (map paint_of self.new.painted.items ≡ map paint_of self.old.painted.items ++ paints s q (map standing self.old.gauges.items)) }
+        ensures same { (self.new.gauges ≡ self.old.gauges) × (self.new.barrier ≡ self.old.barrier) }
     {
         let mut gauge: u32 = 0;
         for state in &self.gauges {
@@ -227,12 +219,13 @@ impl ViewRoot {
         ensures ready { IsHost (origin_of host.new.queue.now host.new.pool.now host.new.poster.ghost_name host.new.pass.ghost_name host.new.began.now.value host.new.pass_began.now.value host.new.handler.id host.new.now) host.new.poster.now host.new.pass.now }
         ensures origin { origin_of host.new.queue.now host.new.pool.now host.new.poster.ghost_name host.new.pass.ghost_name host.new.began.now.value host.new.pass_began.now.value host.new.handler.id host.new.now ≡ origin_of host.old.queue.now host.old.pool.now host.old.poster.ghost_name host.old.pass.ghost_name host.old.began.now.value host.old.pass_began.now.value host.old.handler.id host.old.now }
         ensures pass { frame_badge_of self.new.pass ≡ frame_badge_of self.old.pass }
+        ensures shows { (s : ScriptData) (q : ℕ) → OnOk result (Shows s q (and_posts_frame phase id) (calls_of host.old.poster.now) self.old (calls_of host.new.poster.now) self.new) }
     {
         host.post_callback(c, &mut self.pass, phase, id, 0)
     }
 
     /// Runs a frame callback, by its identity.
-    fn run_callback<R: Wait>(
+    pub(crate) fn run_callback<R: Wait>(
         &mut self,
         c: &Choreographer,
         host: &mut Host<R>,
@@ -243,6 +236,7 @@ impl ViewRoot {
         ensures ready { IsHost (origin_of host.new.queue.now host.new.pool.now host.new.poster.ghost_name host.new.pass.ghost_name host.new.began.now.value host.new.pass_began.now.value host.new.handler.id host.new.now) host.new.poster.now host.new.pass.now }
         ensures origin { origin_of host.new.queue.now host.new.pool.now host.new.poster.ghost_name host.new.pass.ghost_name host.new.began.now.value host.new.pass_began.now.value host.new.handler.id host.new.now ≡ origin_of host.old.queue.now host.old.pool.now host.old.poster.ghost_name host.old.pass.ghost_name host.old.began.now.value host.old.pass_began.now.value host.old.handler.id host.old.now }
         ensures pass { frame_badge_of self.new.pass ≡ frame_badge_of self.old.pass }
+        ensures shows { (s : ScriptData) (q : ℕ) → OnOk result (Shows s q (λ a. callback_ran s q host.old.now a id) (calls_of host.old.poster.now) self.old (calls_of host.new.poster.now) self.new) }
     {
         if id == TRAVERSAL_CALLBACK {
             self.traverse(host)
@@ -255,37 +249,12 @@ impl ViewRoot {
 }
 
 /// A value moved towards a target by a step, but not past it.
-fn moved(step: u32, target: u32, value: u32) -> u32 {
+fn moved(step: u32, target: u32, value: u32) -> u32
+    ensures { result ≡ moved_by step target value }
+{
     if value <= target {
         value.saturating_add(step).min(target)
     } else {
         value - step.min(value - target)
     }
-}
-
-impl<'b, R: Wait> FrameClient<Host<'b, R>> for ViewRoot {
-    ghost Serves = { λ l c. IsOf l.pass c × (2 < c.constants.phases) };
-
-    ghost Origin = { FrameBadge };
-
-    ghost origin = { λ l. frame_badge_of l.pass };
-
-    ghost ran = { λ l. None };
-
-    ghost Meets = { λ l h. IsTrue true };
-
-    fn run(
-        &mut self,
-        c: &Choreographer,
-        host: &mut Host<'b, R>,
-        callback: &Callback,
-        time: u64,
-    ) -> ClientRan {
-        match self.run_callback(c, host, callback.id) {
-            Ok(()) => ClientRan::Done,
-            Err(NoMemory) => ClientRan::NoMemory,
-        }
-    }
-
-    ghost stays = { λ l h now k reads meets. meets };
 }

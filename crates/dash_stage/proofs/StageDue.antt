@@ -25,11 +25,11 @@ use Rattle.run_model.specs.Control.{is_none_before}
 use Rattle.dash_threads.specs.declared.thread.PostingThread.{PostingThread}
 use Rattle.dash_loopers.specs.declared.looper.StageLooper.{StageLooper}
 use Rattle.dash_stage.specs.declared.stage.Stage.{Stage}
-use Rattle.dash_loopers.specs.Loopers.{until_of, posters_of, LooperKeeps, ComesToWait}
+use Rattle.dash_loopers.specs.Loopers.{IsSoundOn, until_of, posters_of, LooperKeeps, ComesToWait}
 use Rattle.dash_stage.specs.Stages.{IsStage, AreLoopers, LoopersGoOn}
 use Rattle.dash_hall.specs.Hearing.{seen_by, AtEach, HaveHeard, HaveSeenAll}
 use Rattle.dash_stage.specs.Sharing.{HaveSeenTheSame, OfThreads, OfLoopers}
-use Rattle.dash_stage.specs.Timeliness.{whole_on, IsSoundOn, IsTimelyUpTo, AreTimelyUpTo, IsRested, AreRested, AreDue, NotLater}
+use Rattle.dash_stage.specs.Timeliness.{whole_on, IsTimelyUpTo, AreTimelyUpTo, IsRested, AreRested, AreDue, NotLater}
 use Rattle.dash_stage.proofs.HallEnds.{some_of}
 use Rattle.dash_hall.proofs.Hearing.{prefix_whole}
 use Rattle.dash_stage.proofs.StageWhole.{as_many, seen_at, own_among, queues_count, looper_sees}

@@ -30,12 +30,12 @@ use Rattle.run_model.proofs.RunLaws.{entries_by-append, entries_by-unchanged, en
 use Rattle.dash_stage.specs.declared.control.Controller.{Controller}
 use Rattle.dash_stage.specs.declared.stage.Stage.{Stage}
 use Rattle.dash_stage.specs.Controllers.{are_advances, time_in, calls_on, CallsNone}
-use Rattle.dash_loopers.specs.Loopers.{setting_for, LooperKeeps}
+use Rattle.dash_loopers.specs.Loopers.{IsSoundOn, setting_for, LooperKeeps}
 use Rattle.dash_stage.specs.Stages.{IsStage}
 use Rattle.dash_hall.specs.Hearing.{AtEach, HaveHeard}
 use Rattle.dash_threads.specs.Threads.{ThreadKeeps}
 use Rattle.dash_stage.specs.Sharing.{HaveSeenTheSame}
-use Rattle.dash_stage.specs.Timeliness.{whole_on, IsSoundOn, IsTimelyUpTo, AreTimelyUpTo, IsAtTime, AreAtTime, AreBy, AreDue, EachTurnsOn, MovesTo, HaveCome}
+use Rattle.dash_stage.specs.Timeliness.{whole_on, IsTimelyUpTo, AreTimelyUpTo, IsAtTime, AreAtTime, AreBy, AreDue, EachTurnsOn, MovesTo, HaveCome}
 use Rattle.dash_stage.proofs.Controls.{time_by_controller, time_of_advances, main_is_not_over, side_is_not_halted}
 use Rattle.dash_stage.proofs.ControlKept.{calls_kept}
 use Rattle.dash_stage.proofs.Timely.{none_of, none_front, of_others, is_whole, advanced_one, timely_others}

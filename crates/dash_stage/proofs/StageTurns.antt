@@ -26,11 +26,11 @@ use Rattle.dash_stage.specs.declared.control.Controller.{Controller}
 use Rattle.dash_stage.specs.declared.stage.Stage.{Stage}
 use Rattle.dash_hall.specs.Growth.{own}
 use Rattle.dash_threads.specs.Threads.{IsUpTo, HasCalled, ThreadKeeps}
-use Rattle.dash_loopers.specs.Loopers.{setting_for, is_given_up, LooperKeeps}
+use Rattle.dash_loopers.specs.Loopers.{IsSoundOn, setting_for, is_given_up, LooperKeeps}
 use Rattle.dash_stage.specs.Stages.{IsStage, HaveRun, RunOn, LoopersGoOn}
 use Rattle.dash_hall.specs.Hearing.{AtEach, HaveHeard}
 use Rattle.dash_stage.specs.Sharing.{HaveSeenTheSame}
-use Rattle.dash_stage.specs.Timeliness.{whole_on, IsSoundOn, IsTimelyUpTo, AreTimelyUpTo, IsAtTime, AreAtTime, TurnsOn, EachTurnsOn, MovesNot, HasHaltedLast}
+use Rattle.dash_stage.specs.Timeliness.{whole_on, IsTimelyUpTo, AreTimelyUpTo, IsAtTime, AreAtTime, TurnsOn, EachTurnsOn, MovesNot, HasHaltedLast}
 use Rattle.dash_stage.proofs.Blocks.{lines_more}
 use Rattle.dash_stage.proofs.Timely.{advanced_more, advanced_other, timely_others, timely_block, is_whole}
 use Rattle.dash_stage.proofs.HallEnds.{some_of}

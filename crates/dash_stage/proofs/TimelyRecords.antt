@@ -23,11 +23,11 @@ use Rattle.dash_threads.specs.declared.thread.PostingThread.{PostingThread}
 use Rattle.dash_loopers.specs.declared.looper.StageLooper.{StageLooper}
 use Rattle.dash_stage.specs.declared.control.Controller.{Controller}
 use Rattle.dash_hall.specs.Kits.{badge_of, badge_for, IsHall, AreKitsOf}
-use Rattle.dash_loopers.specs.Loopers.{setting_for, posters_of}
+use Rattle.dash_loopers.specs.Loopers.{IsSoundOn, setting_for, posters_of}
 use Rattle.dash_stage.specs.Records.{AreQueueRecords, HaveAll}
 use Rattle.dash_hall.specs.Hearing.{seen_by, HaveSeenAll}
 use Rattle.dash_stage.specs.Sharing.{OfThreads, OfLoopers, OfKits}
-use Rattle.dash_stage.specs.Timeliness.{whole_on, IsSoundOn, IsTimelyUpTo}
+use Rattle.dash_stage.specs.Timeliness.{whole_on, IsTimelyUpTo}
 use Rattle.dash_stage.proofs.Badges.{alike_length, queue_count, poster_at}
 use Rattle.dash_stage.proofs.Casting.{first_more}
 use Rattle.dash_stage.proofs.HallEnds.{some_of}

@@ -6,3 +6,4 @@ pub mod Stages
 pub mod Sharing
 pub mod Ending
 pub mod Timeliness
+pub mod Playing

@@ -8,7 +8,6 @@ use Rattle.loop_model.specs.Base.{empty_base}
 use Rattle.loop_model.specs.Items.{when_of}
 use Rattle.loop_model.specs.Pick.{first_eligible}
 use Rattle.loop_model.specs.Answers.{clock, has_disposed, is_over}
-use Rattle.loop_model.specs.Legal.{IsLegal, AreNumbered}
 use Rattle.dash_script.specs.declared.script.Block.{Block}
 use Rattle.dash_script.specs.declared.script.Script.{Script}
 use Rattle.looper_run.specs.Holding.{Sender}
@@ -22,17 +21,12 @@ use Rattle.dash_stage.specs.declared.control.Controller.{Controller}
 use Rattle.dash_stage.specs.declared.stage.Stage.{Stage}
 use Rattle.dash_hall.specs.Growth.{own}
 use Rattle.dash_stage.specs.Controllers.{are_advances, time_in, calls_on}
-use Rattle.dash_loopers.specs.Loopers.{setting_for, until_of, WaitsForNothing}
+use Rattle.dash_loopers.specs.Loopers.{IsSoundOn, setting_for, until_of, WaitsForNothing}
 use Rattle.dash_stage.specs.Sharing.{HaveSeenTheSame}
 
 -- what the controller has seen of this queue, and all others where they have seen the same
 abbrev pub whole_on : Controller → ℕ → Sender → List Entry
 whole_on c q d = (slice_index_or c.kit.posters.items q d).view.seen
-
--- the history is one that this looper's queue may have
-pub record IsSoundOn (s : Script) (q : ℕ) (es : List Entry) : Type 0 where
-  pub legal : IsLegal (setting_for s q) (empty_base (sender_count s)) es
-  pub numbered : AreNumbered (setting_for s q) (empty_base (sender_count s)) es
 
 -- no Advance went past an eligible message, and each thread's calls for its lines of these blocks came at their times
 pub record IsTimelyUpTo (s : Script) (past : List Block) (q : ℕ) (es : List Entry) : Type 0 where

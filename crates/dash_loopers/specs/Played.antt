@@ -1,0 +1,235 @@
+-- What a looper has come to, told by what it works with: the calls and the frame callbacks that its acts cause are made, and
+-- its gauges, its barrier and its rule counts stand as its acts lead to.
+use Rattle.std.specs.Prelude.{◌≡◌, ◌≢◌, ◌<◌, ◌≤◌, ◌==◌, ◌||◌, ◌&&◌, ℕ, Bool, true, false, not, All, List, [], ◌∷◌, ◌++◌, map, fold, filter, length, slice_get, slice_set, slice_index_or, count_by, Option, Some, None, is_some, IsSomeAnd, if◌then◌else◌, ◌+◌, ◌/◌}
+use Rattle.std.specs.List.{Contains}
+use Rattle.std.specs.Option.{option_map_or}
+use mathlib.Core.List.{IsPrefix}
+use Rattle.loop_model.specs.declared.post.Post.{Post as PostData}
+use Rattle.loop_model.specs.declared.call.Call.{Call}
+use Rattle.loop_model.specs.declared.call.Call.TheVariants.{Post, Next}
+use Rattle.loop_model.specs.declared.entry.Entry.{Entry}
+use Rattle.loop_model.specs.Entries.{is_next, is_disposed}
+use Rattle.loop_model.specs.declared.journal.Act.{Act}
+use Rattle.loop_model.specs.declared.journal.Act.TheVariants.{Vsync, Paint}
+use Rattle.loop_model.specs.declared.journal.Journal.{Journal}
+use Rattle.frame_phases.specs.declared.entry.FrameEntry.{FrameEntry}
+use Rattle.frame_phases.specs.Frames.{lawful}
+use Rattle.dash_script.specs.declared.script.GaugeLine.{GaugeLine}
+use Rattle.dash_script.specs.declared.script.Rule.{Rule}
+use Rattle.dash_script.specs.declared.script.Script.{Script}
+use Rattle.dash_script.specs.Reading.{HasText}
+use Rattle.looper_run.specs.Holding.{Sender}
+use Rattle.choreographer.specs.Known.{Known as Pass}
+use Rattle.choreographer.specs.declared.host.HostSent.TheVariants as host
+use Rattle.choreographer.specs.declared.hosted.Pulse.{Pulse}
+use Rattle.choreographer.specs.Client.{Run}
+use Rattle.run_model.specs.Asks.{Makes, AreFor, tokens_in, entries_by}
+use Rattle.run_model.specs.Senders.{looper_of}
+use Rattle.run_model.specs.Planned.{frame_message}
+use Rattle.run_model.specs.Control.{Timing, At, NotBefore}
+use Rattle.run_model.specs.Loopers.{Looper, Gauge, Sent, first_looper, is_frame_post, starts_frame, delivered, fires, reaction}
+use Rattle.run_model.specs.Acts.{Lead, sent_on, IsSent, millis_up}
+use Rattle.run_model.specs.FrameRuns.{frame_ids, is_frame_from, posts_frame}
+use Rattle.dash_hall.specs.declared.kit.Kit.{Kit}
+use Rattle.dash_loopers.specs.declared.view_root.Gauge.{Gauge as ViewGauge}
+use Rattle.dash_loopers.specs.declared.view_root.Painted.{Painted}
+use Rattle.dash_loopers.specs.declared.view_root.ViewRoot.{ViewRoot}
+use Rattle.dash_loopers.specs.declared.player.Parts.{Parts}
+use Rattle.dash_loopers.specs.declared.looper.StageLooper.{StageLooper}
+use Rattle.dash_hall.specs.Growth.{own}
+use Rattle.dash_loopers.specs.Players.{PlaceWithout}
+use Rattle.dash_loopers.specs.Loopers.{is_given_up, IsSoundOn}
+
+-- ---- how a view root stands
+
+-- a gauge as it stands
+abbrev pub standing : ViewGauge → Gauge
+standing g = record { value = g.value; target = g.target; animating = g.animating }
+
+-- what stays the same in a gauge: whether it is the looper's own, and its step
+abbrev pub fixed : ViewGauge → Bool × ℕ
+fixed g = (g.own, g.step)
+
+-- the same, by the gauge's line
+abbrev pub fixed_by : Script → ℕ → GaugeLine → Bool × ℕ
+fixed_by s q line = (looper_of s line.handler == q, line.step)
+
+-- a token is kept exactly where a traversal is under way, and it is the one that the looper's barrier of this number was answered
+abbrev pub IsBarrierOf : List ℕ → Option ℕ → Option ℕ → Type 0
+IsBarrierOf tokens None None = Unit {0}
+IsBarrierOf tokens (Some k) (Some token) = slice_get tokens k ≡ Some token
+IsBarrierOf tokens _ _ = ⊥
+
+-- what was painted, as an act
+abbrev pub paint_of : Painted → Act
+paint_of p = Paint p.gauge p.value
+
+-- the view root of looper q stands as the state says, where the looper's barriers were answered these tokens
+pub record IsRootOf (s : Script) (q : ℕ) (tokens : List ℕ) (a : Looper) (root : ViewRoot) : Type 0 where
+  pub gauges : map standing root.gauges.items ≡ a.gauges
+  pub lines : map fixed root.gauges.items ≡ map (fixed_by s q) s.gauges
+  pub barrier : IsBarrierOf tokens a.barrier root.barrier
+  pub barriers : a.barriers ≡ length tokens
+  pub painted : map paint_of root.painted.items ≡ a.painted
+
+-- ---- what a step keeps
+
+-- a look that disposed of the queue
+abbrev pub is_disposal : Entry → Bool
+is_disposal e = is_next e.call && is_disposed e.reply
+
+-- the entries that a sender made, but the looks that disposed of the queue
+abbrev pub calls_in : ℕ → List Entry → List Entry
+calls_in sender es = filter (λ e. not (is_disposal e)) (entries_by sender es)
+
+-- the same, by its poster
+abbrev pub calls_of : Sender → List Entry
+calls_of p = calls_in p.sender p.view.seen
+
+-- the looper made these entries on its own queue, its pass has seen the frame callbacks that the state posts, and its view root stands as the state says
+pub record IsShown (s : Script) (q : ℕ) (made : List Entry) (root : ViewRoot) (a : Looper) : Type 0 where
+  pub calls : AreFor IsSent [] (sent_on q a.sent) made
+  pub posted : (phase id : ℕ) → count_by (is_frame_post phase id) a.posted ≤ count_by (posts_frame phase id) root.pass.view.seen
+  pub stands : IsRootOf s q (tokens_in made) a root
+
+-- on each other queue the calls that the state tells were made; the posters of the others stand in order
+abbrev pub AreMadeElsewhere : ℕ → List Sender → Looper → Type 0
+AreMadeElsewhere q others a = (k j : ℕ) (d : Sender) → PlaceWithout q k j → j < length others → AreFor IsSent [] (sent_on k a.sent) (own (slice_index_or others j d))
+
+-- all that the state says is so, of the looper's own queue, of the others, and of its rule counts
+pub record IsPlayed (s : Script) (q : ℕ) (made : List Entry) (parts : Parts) (a : Looper) : Type 0 where
+  pub shown : IsShown s q made parts.root a
+  pub elsewhere : AreMadeElsewhere q parts.others.items a
+  pub fired : parts.fired.items ≡ a.fired
+
+-- a step of the view root: whatever state it stood at, it stands now at what the step makes of that
+abbrev pub Shows : Script → ℕ → (Looper → Looper) → List Entry → ViewRoot → List Entry → ViewRoot → Type 0
+Shows s q step made root made' root' = HasText s → (a : Looper) → IsShown s q made root a → IsShown s q made' root' (step a)
+
+-- the same of all that a looper has
+abbrev pub Plays : Script → ℕ → (Looper → Looper) → List Entry → Parts → List Entry → Parts → Type 0
+Plays s q step made parts made' parts' = HasText s → (a : Looper) → IsPlayed s q made parts a → IsPlayed s q made' parts' (step a)
+
+-- all but the rule counts is as before
+abbrev pub AreAllButCounts : Parts → Parts → Type 0
+AreAllButCounts parts parts' = (parts'.others ≡ parts.others) × (parts'.frames ≡ parts.frames) × (parts'.root ≡ parts.root) × (parts'.passed ≡ parts.passed)
+
+-- the count at this place is below the limit, and rises by one, or all is as before
+abbrev pub FiresAt : ℕ → ℕ → Parts → Parts → Bool → Type 0
+FiresAt place times parts parts' true = (n : ℕ) × (slice_get parts.fired.items place ≡ Some n) × (n < times) × (parts'.fired.items ≡ slice_set parts.fired.items place (n + 1)) × AreAllButCounts parts parts'
+FiresAt place times parts parts' false = (parts' ≡ parts) × ((n : ℕ) → slice_get parts.fired.items place ≡ Some n → times ≤ n)
+
+-- ---- a frame, a message and a pulse
+
+-- the identities of callbacks that ran
+abbrev pub ids_of : List Run → List ℕ
+ids_of runs = map (λ r. r.0.id) runs
+
+-- one call more
+abbrev pub with_call : ℕ → Call → Timing → Looper → Looper
+with_call queue call timing a = record a { sent = a.sent ++ record { queue = queue; ask = Makes call; reply = None; timing = timing } ∷ [] }
+
+-- the rule at this place, where it fires at the message: it is counted and its own message is sent
+abbrev pub rule_met : Script → ℕ → PostData → ℕ → Rule → Looper → Looper
+rule_met s now m place r a =
+    option_map_or (λ n. if fires m r n then record a { fired = slice_set a.fired place (n + 1); sent = a.sent ++ reaction s now r ∷ [] } else a) (slice_get a.fired place) a
+
+-- by whatever the frame record comes to, a frame began behind all that the pass had seen before and ran callbacks of these identities, or none began and none ran
+abbrev pub IsFrameBy : ℕ → ℕ → Pass → Pass → Option ℕ → List ℕ → Type 0
+IsFrameBy interval phases before after frame ids = (fs : List FrameEntry) → IsPrefix after.view.seen fs → lawful interval phases fs ≡ true
+    → (is_frame_from fs (length before.view.seen) frame ≡ true) × (frame_ids fs frame ≡ ids)
+
+-- callbacks of these identities ran, of a frame that began or none
+pub record RanFrame (interval phases : ℕ) (before after : Pass) (ids : List ℕ) : Type 0 where
+  pub frame : Option ℕ
+  pub framed : IsFrameBy interval phases before after frame ids
+  pub grew : IsPrefix before.view.seen after.view.seen
+
+-- a message was delivered: its frame, where it began one, ran, and what was painted is told
+pub record Delivers (s : Script) (q now : ℕ) (m : PostData) (made made' : List Entry) (parts parts' : Parts) (acts acts' : List Act) : Type 0 where
+  pub ids : List ℕ
+  pub ran : RanFrame s.period 4 parts.frames parts'.frames ids
+  pub starts : (not (is_some ran.frame) || starts_frame q m) ≡ true
+  pub plays : HasText s → (a : Looper) → a.painted ≡ [] → IsPlayed s q made parts a
+      → IsPlayed s q made' parts' (record (delivered s q now ids m a) { painted = [] }) × (acts' ≡ acts ++ (delivered s q now ids m a).painted)
+
+-- the act of a pulse that came, or none
+abbrev pub pulse_acts : Option ℕ → List Act
+pulse_acts None = []
+pulse_acts (Some stamp) = Vsync stamp ∷ []
+
+-- what a looper comes to by a pulse: it sends the frame message
+abbrev pub pulsed : ℕ → Option ℕ → Looper → Looper
+pulsed q None a = a
+pulsed q (Some stamp) a = record a { sent = a.sent ++ record { queue = q; ask = Makes (Post (frame_message q 0 0 (stamp / 1000000))); reply = None; timing = NotBefore (millis_up stamp) } ∷ [] }
+
+-- the time in whole milliseconds by which a pulse that came is due
+abbrev pub pulse_time : Option ℕ → ℕ
+pulse_time None = 0
+pulse_time (Some stamp) = millis_up stamp
+
+-- what came of a pulse: the frame message was sent, unless memory was wanting, or no pulse came
+abbrev pub DeliversPulse : Script → ℕ → ℕ → List Entry → List Entry → Parts → Parts → Option Pulse → Type 0
+DeliversPulse s q now made made' parts parts' None = IsPrefix parts.frames.view.seen parts'.frames.view.seen × Plays s q (pulsed q None) made parts made' parts'
+DeliversPulse s q now made made' parts parts' (Some pulse) =
+    (pulse.sent ≢ host.NoMemory → IsPrefix parts.frames.view.seen parts'.frames.view.seen × (millis_up pulse.stamp ≤ now) × Plays s q (pulsed q (Some pulse.stamp)) made parts made' parts')
+
+-- a pulse was delivered and told, or none came
+pub record Pulses (s : Script) (q now : ℕ) (made made' : List Entry) (parts parts' : Parts) (acts acts' : List Act) : Type 0 where
+  pub stamp : Option ℕ
+  pub due : pulse_time stamp ≤ now
+  pub told : acts' ≡ acts ++ pulse_acts stamp
+  pub grew : IsPrefix parts.frames.view.seen parts'.frames.view.seen
+  pub plays : Plays s q (pulsed q stamp) made parts made' parts'
+
+-- ---- between two acts
+
+-- the looper's acts lead to this state, by whatever its frame record comes to, and all that it says is so
+pub record Stands (s : Script) (q sender : ℕ) (es : List Entry) (acts : List Act) (parts : Parts) (a : Looper) : Type 0 where
+  pub led : (fs : List FrameEntry) → IsPrefix parts.frames.view.seen fs → lawful s.period 4 fs ≡ true → Lead s q es fs (first_looper s) acts a
+  pub place : a.place ≤ length parts.frames.view.seen
+  pub settled : a.painted ≡ []
+  pub played : IsPlayed s q (calls_in sender es) parts a
+
+-- a call is timed by a look of the sender among these entries, or it may come no later than at this moment
+abbrev pub IsTimedBy : ℕ → List Entry → ℕ → Timing → Type 0
+IsTimedBy sender looks now (At time) = (e : Entry) × Contains looks e × (e.sender ≡ sender) × (e.call ≡ Next time)
+IsTimedBy sender looks now (NotBefore time) = time ≤ now
+
+-- the second state has these calls more, each timed so
+pub record GoesOnTo (sender : ℕ) (looks : List Entry) (now : ℕ) (a b : Looper) : Type 0 where
+  pub more : List Sent
+  pub sent : b.sent ≡ a.sent ++ more
+  pub timed : All (λ x. IsTimedBy sender looks now x.timing) more
+
+-- where a looper stands between two rounds
+abbrev pub HasCome : Script → StageLooper → Looper → Type 0
+HasCome s l a = IsSomeAnd l.parts (λ parts. Stands s l.number l.sender l.looper.held.poster.view.seen l.looper.held.journal.acts parts a)
+
+-- the looper went on to this state, and has seen these entries more
+pub record ComesTo (s : Script) (q now : ℕ) (a : Looper) (sender : ℕ) (seen es : List Entry) (acts : List Act) (parts : Parts) : Type 0 where
+  pub state : Looper
+  pub stands : Stands s q sender es acts parts state
+  pub looks : List Entry
+  pub saw : es ≡ seen ++ looks
+  pub on : GoesOnTo sender looks now a state
+
+-- in a round at this moment: whatever state the looper stood at when the round began, it has gone on from there, where its queue's history is a lawful one
+abbrev pub IsPlaying : Script → ℕ → ℕ → StageLooper → ℕ → List Entry → List Act → Parts → Type 0
+IsPlaying s q now began sender es acts parts = HasText s → IsSoundOn s q es → (a : Looper) → HasCome s began a → ComesTo s q now a sender began.looper.held.poster.view.seen es acts parts
+
+-- the same once the round is over, unless memory was wanting
+abbrev pub HasPlayed : Script → ℕ → StageLooper → StageLooper → Type 0
+HasPlayed s now before after = is_given_up after.last ≡ false → HasText s → IsSoundOn s before.number after.looper.held.poster.view.seen → (a : Looper) → HasCome s before a
+    → IsSomeAnd after.parts (ComesTo s before.number now a before.sender before.looper.held.poster.view.seen after.looper.held.poster.view.seen after.looper.held.journal.acts)
+
+-- ---- at the end
+
+-- where a looper stood, told by its journal and what it worked with
+pub record HasLeft (s : Script) (q : ℕ) (j : Journal) (kit : Kit) (a : Looper) : Type 0 where
+  pub led : (d : Sender) (p : Pass) (fs : List FrameEntry) → IsPrefix (slice_index_or kit.frames.items 0 p).view.seen fs → lawful s.period 4 fs ≡ true
+      → Lead s q (slice_index_or kit.posters.items q d).view.seen fs (first_looper s) j.acts a
+  pub settled : a.painted ≡ []
+  pub calls : (d : Sender) → AreFor IsSent [] (sent_on q a.sent) (calls_of (slice_index_or kit.posters.items q d))
+  pub elsewhere : (k : ℕ) (d : Sender) → k ≢ q → k < length kit.posters.items → AreFor IsSent [] (sent_on k a.sent) (own (slice_index_or kit.posters.items k d))
+  pub posted : (phase id : ℕ) (p : Pass) → count_by (is_frame_post phase id) a.posted ≤ count_by (posts_frame phase id) (slice_index_or kit.frames.items 1 p).view.seen

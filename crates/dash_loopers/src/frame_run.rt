@@ -1,0 +1,94 @@
+//! The callbacks of one frame.
+ghost use Rattle.std.specs.Prelude.{◌≡◌, ◌<◌, ℕ, List, map, fold, Some, OnOk};
+ghost use Rattle.choreographer.specs.Known.{IsOf};
+ghost use Rattle.choreographer.specs.Client.{Run};
+ghost use Rattle.dash_script.specs.declared.script.Script.{Script as ScriptData};
+ghost use Rattle.run_model.specs.Loopers.{callback_ran};
+ghost use Rattle.dash_hall.specs.Hosts.{IsHost, origin_of};
+ghost use Rattle.dash_hall.specs.Kits.{frame_badge_of};
+ghost use Rattle.dash_loopers.specs.Played.{calls_of, RanFrame, Shows, ids_of};
+ghost use Rattle.dash_loopers.specs.Players.{FrameOwner, frame_owner};
+
+use crate::view_root::ViewRoot;
+use choreographer::{Choreographer, ClientRan, FrameClient, FramePass, Framed};
+use dash_hall::Host;
+use frame_phases::Callback;
+use loop_model::NoMemory;
+use message_pool::PoolClaim;
+use shared_queue::Poster;
+use std::snapshot::Snapshot;
+use std::sync::Wait;
+
+/// A view root that runs the callbacks of one frame, and keeps which.
+#[derive(Drop)]
+pub(crate) struct FrameRun<'a> {
+    pub(crate) root: &'a mut ViewRoot,
+    /// The root, and the poster of its looper's queue, as they were when the frame began.
+    pub(crate) began: &'a Snapshot<ViewRoot>,
+    pub(crate) poster_began: &'a Snapshot<Poster<PoolClaim>>,
+    /// The callbacks that ran, each with its frame time in nanoseconds.
+    pub(crate) ran: Vec<(Callback, u64)>,
+}
+
+impl<'a, 'b, R: Wait> FrameClient<Host<'b, R>> for FrameRun<'a> {
+    ghost Serves = { λ l c. IsOf l.root.now.pass c × (2 < c.constants.phases) };
+
+    ghost Origin = { FrameOwner };
+
+    ghost origin = { λ l. frame_owner l.root.ghost_name l.root.now l.began.now.value l.poster_began.now.value };
+
+    ghost ran = { λ l. Some l.ran.items };
+
+    ghost Meets = { λ l h. (s : ScriptData) (q : ℕ) → Shows s q (λ a. fold (callback_ran s q h.now) a (ids_of l.ran.items)) (calls_of l.poster_began.now.value) l.began.now.value (calls_of h.poster.now) l.root.now };
+
+    fn run(
+        &mut self,
+        c: &Choreographer,
+        host: &mut Host<'b, R>,
+        callback: &Callback,
+        time: u64,
+    ) -> ClientRan {
+        match self.root.run_callback(c, host, callback.id) {
+            Ok(()) => match self.ran.push((*callback, time)) {
+                Ok(()) => ClientRan::Done,
+                Err(_) => ClientRan::NoMemory,
+            },
+            Err(NoMemory) => ClientRan::NoMemory,
+        }
+    }
+
+    ghost stays = { λ l h now k reads meets. meets };
+}
+
+impl ViewRoot {
+    /// Begins a frame, where one is scheduled, and runs its callbacks.
+    pub(crate) fn do_frame<R: Wait>(
+        &mut self,
+        c: &Choreographer,
+        pass: &mut FramePass,
+        host: &mut Host<R>,
+    ) -> Result<(), NoMemory>
+        requires ready { IsHost (origin_of host.old.queue.now host.old.pool.now host.old.poster.ghost_name host.old.pass.ghost_name host.old.began.now.value host.old.pass_began.now.value host.old.handler.id host.old.now) host.old.poster.now host.old.pass.now }
+        requires pass { IsOf pass.old c.now }
+        requires root { IsOf self.old.pass c.now × (2 < c.now.constants.phases) }
+        ensures ready { IsHost (origin_of host.new.queue.now host.new.pool.now host.new.poster.ghost_name host.new.pass.ghost_name host.new.began.now.value host.new.pass_began.now.value host.new.handler.id host.new.now) host.new.poster.now host.new.pass.now }
+        ensures origin { origin_of host.new.queue.now host.new.pool.now host.new.poster.ghost_name host.new.pass.ghost_name host.new.began.now.value host.new.pass_began.now.value host.new.handler.id host.new.now ≡ origin_of host.old.queue.now host.old.pool.now host.old.poster.ghost_name host.old.pass.ghost_name host.old.began.now.value host.old.pass_began.now.value host.old.handler.id host.old.now }
+        ensures pass { frame_badge_of pass.new ≡ frame_badge_of pass.old }
+        ensures root { frame_badge_of self.new.pass ≡ frame_badge_of self.old.pass }
+        ensures ran { OnOk result ((ids : List ℕ) × RanFrame c.now.constants.interval c.now.constants.phases pass.old pass.new ids
+            × ((s : ScriptData) (q : ℕ) → Shows s q (λ a. fold (callback_ran s q host.old.now) a ids) (calls_of host.old.poster.now) self.old (calls_of host.new.poster.now) self.new)) }
+    {
+        let began = Snapshot::of(&*self);
+        let poster_began = Snapshot::of(&*host.poster);
+        let mut client = FrameRun {
+            root: self,
+            began: &began,
+            poster_began: &poster_began,
+            ran: Vec::new(host.alloc),
+        };
+        match c.do_frame(host.rt, pass, host, &mut client) {
+            Framed::NoMemory => Err(NoMemory),
+            _ => Ok(()),
+        }
+    }
+}
