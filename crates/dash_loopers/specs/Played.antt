@@ -96,11 +96,12 @@ pub record IsShown (s : Script) (q : ℕ) (made : List Entry) (root : ViewRoot) 
 abbrev pub AreMadeElsewhere : ℕ → List Sender → Looper → Type 0
 AreMadeElsewhere q others a = (k j : ℕ) (d : Sender) → PlaceWithout q k j → j < length others → AreFor IsSent [] (sent_on k a.sent) (own (slice_index_or others j d))
 
--- all that the state says is so, of the looper's own queue, of the others, and of its rule counts
+-- all that the state says is so, of the looper's own queue, of the others, and of its rule counts, of which there are as many as rules
 pub record IsPlayed (s : Script) (q : ℕ) (made : List Entry) (parts : Parts) (a : Looper) : Type 0 where
   pub shown : IsShown s q made parts.root a
   pub elsewhere : AreMadeElsewhere q parts.others.items a
   pub fired : parts.fired.items ≡ a.fired
+  pub counts : length parts.fired.items ≡ length s.rules
 
 -- a step of the view root: whatever state it stood at, it stands now at what the step makes of that
 abbrev pub Shows : Script → ℕ → (Looper → Looper) → List Entry → ViewRoot → List Entry → ViewRoot → Type 0
