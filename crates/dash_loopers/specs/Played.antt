@@ -64,6 +64,10 @@ IsBarrierOf tokens _ _ = ⊥
 abbrev pub paint_of : Painted → Act
 paint_of p = Paint p.gauge p.value
 
+-- what a gauge of this number is painted as, where it is the looper's own
+abbrev pub paint_of_gauge : ℕ × ViewGauge → List Act
+paint_of_gauge (g, v) = if v.own then Paint g v.value ∷ [] else []
+
 -- the view root of looper q stands as the state says, where the looper's barriers were answered these tokens
 pub record IsRootOf (s : Script) (q : ℕ) (tokens : List ℕ) (a : Looper) (root : ViewRoot) : Type 0 where
   pub gauges : map standing root.gauges.items ≡ a.gauges

@@ -1,0 +1,16 @@
+use Rattle.std.proofs.Common.{◌≡◌, map, ap, ◌∙◌, arith, List, length, subst, sym}
+use Rattle.std.specs.Prelude.{replicate, take}
+use Rattle.std.proofs.lemmas.List.{take_all}
+use Rattle.dash_script.specs.declared.script.GaugeLine.{GaugeLine}
+use Rattle.run_model.specs.Loopers.{Gauge}
+use Rattle.dash_loopers.specs.declared.view_root.Gauge.{Gauge as ViewGauge}
+use Rattle.dash_loopers.specs.Played.{standing, fixed, fixed_by}
+use Rattle.dash_loopers.proofs.ViewSteps.{unmoved, made_unmoved}
+use Rattle.dash_loopers.proofs.view_root.ViewRoot.new.Goals as goal
+
+pub returns-clause-gauges : goal.returns-clause-gauges
+returns-clause-gauges c =
+    let s = c.args.script.now in
+    let all : c.loop-line.gauges.items ≡ map (unmoved s c.args.looper) s.gauges = c.loop-line.invariant ∙ ap (map (unmoved s c.args.looper)) (take_all c.loop-line.line-index c.as_slice-line-items.result.now c.loop-line-test.false ∙ c.as_slice-line-items.ensures) in
+    let done = made_unmoved s c.args.looper s.gauges in
+    (ap (map standing) all ∙ done.0, ap (map fixed) all ∙ done.1)
