@@ -5,5 +5,4 @@ pub mod LooperOver
 pub mod LooperTold
 pub mod LooperKits
 pub mod LooperSeats
-pub mod FramePosts
 pub mod ViewSteps

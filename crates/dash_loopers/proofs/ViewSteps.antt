@@ -1,6 +1,6 @@
 -- How a view root stands after each of its steps.
-use Rattle.std.proofs.Common.{◌≡◌, ◌≢◌, ℕ, zero, suc, ◌+◌, ◌-◌, ◌*◌, ◌^◌, ◌<◌, ◌≤◌, ◌==◌, min, Bool, true, false, cond, not, List, [], ◌∷◌, ◌++◌, map, length, Option, Some, None, is_some, refl, sym, ap, ◌∙◌, subst, arith, eq-eqb, ne_eqb, append_assoc, Vec, Global}
-use Rattle.std.specs.Prelude.{◌&&◌, ◌||◌, filter, count_by, replicate, slice_get, slice_index, slice_index_or, slice_set, set, get_or, take, Result, Ok, Err, OnOk, nat_le, if◌then◌else◌}
+use Rattle.std.proofs.Common.{◌≡◌, ◌≢◌, ℕ, suc, ◌+◌, ◌-◌, ◌^◌, ◌<◌, ◌≤◌, ◌==◌, min, Bool, true, false, cond, not, List, [], ◌∷◌, ◌++◌, map, length, Option, Some, None, is_some, refl, sym, ap, ◌∙◌, subst, arith, eq-eqb, ne_eqb, Vec, Global}
+use Rattle.std.specs.Prelude.{◌&&◌, ◌||◌, filter, count_by, replicate, slice_get, slice_index, slice_index_or, slice_set, take, Result, Ok, Err, OnOk, nat_le, if◌then◌else◌}
 use Rattle.std.specs.List.{flat_map, filter_map, cons_option, enumerate_from}
 use Rattle.std.specs.Option.{option_map, option_map_or}
 use Rattle.std.proofs.lemmas.List.{append-nil, map-set, length-append, length-map, length-take-le, take_more, flat_map_more, get_or_default}
@@ -12,7 +12,6 @@ use Rattle.std.proofs.Math.Seq.{map-set_same}
 use Rattle.std.proofs.lemmas.Bool.{le-leb}
 use Rattle.loop_model.specs.declared.call.Call.{Call}
 use Rattle.loop_model.specs.declared.call.Call.TheVariants.{Post, Barrier, Unbarrier, Remove, Quit, Next, Advance, Halt}
-use Rattle.loop_model.specs.declared.reply.Reply.{Reply}
 use Rattle.loop_model.specs.declared.entry.Entry.{Entry}
 use Rattle.loop_model.specs.declared.journal.Act.{Act}
 use Rattle.loop_model.specs.declared.journal.Act.TheVariants.{Paint}
@@ -32,7 +31,7 @@ use Rattle.run_model.proofs.RunLaws.{AreFor-snoc, sent_on-append}
 use Rattle.message_pool.specs.Passes.{Tally}
 use Rattle.dash_hall.specs.Growth.{own, Makes, GoesOn}
 use Rattle.dash_hall.specs.Hosts.{PostsFrame, PlacesBy, sends_by}
-use Rattle.dash_loopers.proofs.FramePosts.{posts_frame_by}
+use Rattle.dash_hall.proofs.FramePosts.{posts_frame_by}
 use Rattle.dash_loopers.specs.declared.view_root.Gauge.{Gauge as ViewGauge}
 use Rattle.dash_loopers.specs.declared.view_root.Painted.{Painted}
 use Rattle.dash_loopers.specs.declared.view_root.ViewRoot.{ViewRoot}
@@ -40,11 +39,7 @@ use Rattle.dash_loopers.specs.Played.{standing, fixed, fixed_by, IsBarrierOf, pa
 
 -- ---- calls
 
--- what holds of the answer holds of what follows from it
-pub on_ok : {A E : Type 0} (r : Result A E) (P Q : Type 0) → (P → Q) → OnOk r P → OnOk r Q
-on_ok (Ok x) P Q f h = f h
-on_ok (Err e) P Q f h = tt
-
+-- what an answer brings under facts of its own is brought by it under them
 pub ok_within : {A E : Type 0} (r : Result A E) (P Q R : Type 0) → (P → Q → OnOk r R) → OnOk r (P → Q → R)
 ok_within (Ok x) P Q R f = f
 ok_within (Err e) P Q R f = tt

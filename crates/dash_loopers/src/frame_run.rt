@@ -1,6 +1,5 @@
 //! The callbacks of one frame.
 ghost use Rattle.std.specs.Prelude.{◌≡◌, ◌<◌, ℕ, List, map, fold, Some, OnOk};
-ghost use Rattle.std.proofs.Common.{subst, sym};
 ghost use Rattle.choreographer.specs.Known.{IsOf};
 ghost use Rattle.choreographer.specs.Client.{Run};
 ghost use Rattle.dash_script.specs.declared.script.Script.{Script as ScriptData};
@@ -58,7 +57,7 @@ impl<'a, 'b, R: Wait> FrameClient<Host<'b, R>> for FrameRun<'a> {
         }
     }
 
-    ghost stays = { λ l h now k reads meets s q. subst (λ x. Shows s q (λ a. fold (callback_ran s q x.now) a (ids_of l.ran.items)) (calls_of l.poster_began.now.value) l.began.now.value (calls_of x.poster.now) l.root.now) (sym reads) (meets s q) };
+    ghost stays = { λ l h now k reads meets. meets };
 }
 
 impl ViewRoot {

@@ -1,10 +1,6 @@
-use Rattle.std.proofs.Common.{◌≡◌, map, ap, ◌∙◌, arith, List, length, subst, sym}
-use Rattle.std.specs.Prelude.{replicate, take}
+use Rattle.std.proofs.Common.{◌≡◌, map, ap, ◌∙◌}
 use Rattle.std.proofs.lemmas.List.{take_all}
-use Rattle.dash_script.specs.declared.script.GaugeLine.{GaugeLine}
-use Rattle.run_model.specs.Loopers.{Gauge}
-use Rattle.dash_loopers.specs.declared.view_root.Gauge.{Gauge as ViewGauge}
-use Rattle.dash_loopers.specs.Played.{standing, fixed, fixed_by}
+use Rattle.dash_loopers.specs.Played.{standing, fixed}
 use Rattle.dash_loopers.proofs.ViewSteps.{unmoved, made_unmoved}
 use Rattle.dash_loopers.proofs.view_root.ViewRoot.new.Goals as goal
 

@@ -1,8 +1,9 @@
 use Rattle.std.proofs.Common.{true, false, sym, ◌∙◌, ap}
 use Rattle.std.proofs.lemmas.Option.{slice_get_within}
+use Rattle.std.proofs.lemmas.Result.{on_ok_weaker}
 use Rattle.dash_hall.specs.Hosts.{Origin}
 use Rattle.dash_loopers.specs.Played.{calls_of}
-use Rattle.dash_loopers.proofs.ViewSteps.{on_ok, sets_no_other, sets_target, sets_off, from_not}
+use Rattle.dash_loopers.proofs.ViewSteps.{sets_no_other, sets_target, sets_off, from_not}
 use Rattle.dash_loopers.proofs.view_root.ViewRoot.set_target.Goals as goal
 
 pub returns-then-not-x-clause-shows : goal.returns-then-not-x-clause-shows
@@ -21,7 +22,7 @@ returns-then-not-starts-clause-shows g c s q =
 pub returns-clause-shows : goal.returns-clause-shows
 returns-clause-shows g c s q =
     let host = c.args.host.now in
-    on_ok c.request_traversal.result _ _
+    on_ok_weaker c.request_traversal.result
         (sets_off s q host.now c.post.new.host.now c.args.gauge c.args.target c.saturating_add.result c.in-Some.x (calls_of host.poster.now) (calls_of c.post.new.host.poster.now) (calls_of c.request_traversal.new.host.poster.now) c.args.self.now c.put.new.self c.post.new.self c.request_traversal.new.self
             (sym c.gauge.ensures ∙ c.in-Some.is) (from_not c.in-Some.x.own false c.if-not-x.false) c.if-not-starts.false (record { gauges = c.put.ensures.gauges; same = c.put.ensures.same }) c.saturating_add.ensures (ap (λ (o : Origin). o.now) c.in_ok-post.ensures.origin) (c.in_ok-post.ensures.shows s q))
         (c.request_traversal.ensures.shows s q)

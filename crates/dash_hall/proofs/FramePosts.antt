@@ -122,7 +122,7 @@ one_more f [] (y ∷ []) b is = (y, refl, cc is)
 one_more f [] (y ∷ z ∷ ys) b is = absurd cc
 one_more f (x ∷ xs) ys b is = one_more f xs ys b (cc is)
 
-own_more : (p q : Sender) (a b : Tally) (g : GoesOn p q a b) → own q ≡ own p ++ entries_by p.sender g.more
+pub own_more : (p q : Sender) (a b : Tally) (g : GoesOn p q a b) → own q ≡ own p ++ entries_by p.sender g.more
 own_more p q a b g = (λ i. entries_by (g.sender i) (g.seen i)) ∙ filter-append (λ (e : Entry). e.sender == p.sender) p.view.seen g.more
 
 none_is : {A : Type 0} (o : Option A) → is_none o ≡ true → o ≡ None
@@ -145,7 +145,7 @@ fields h what arg when q r is a b c none =
     }
 
 -- the two answers that a queue gives to a message
-data IsTaken : HostSent → Type 0 where
+pub data IsTaken : HostSent → Type 0 where
   accepted : IsTaken host.Accepted
   refused : IsTaken host.Refused
 
@@ -180,7 +180,7 @@ sent_call h what arg when answer (Next now) r taken is = absurd (untold what arg
 sent_call h what arg when answer (Advance now) r taken is = absurd (untold what arg when answer taken is)
 sent_call h what arg when answer (Halt now) r taken is = absurd (untold what arg when answer taken is)
 
-told_one : (h what arg when : ℕ) (answer : HostSent) (p q : Sender) (a b : Tally) → GoesOn p q a b → IsTaken answer → sends_by h q ≡ sends_by h p ++ record { what = what; arg = arg; when = when; answer = answer } ∷ []
+pub told_one : (h what arg when : ℕ) (answer : HostSent) (p q : Sender) (a b : Tally) → GoesOn p q a b → IsTaken answer → sends_by h q ≡ sends_by h p ++ record { what = what; arg = arg; when = when; answer = answer } ∷ []
     → Makes p q (Post (record { handler = h; what = what; arg = arg; obj = None; callback = None; when = when; asynchronous = true; slot = None })) []
 told_one h what arg when answer p q a b g taken is =
     let more = own_more p q a b g in
@@ -189,7 +189,7 @@ told_one h what arg when answer p q a b g taken is =
     let sent = sent_call h what arg when answer one.0.call one.0.reply taken one.2 in
     record { entry = one.0; made = more ∙ ap (λ (l : List Entry). own p ++ l) one.1; makes = sent.call; answered = sent.tokens }
 
-told_none : (h : ℕ) (p q : Sender) (a b : Tally) → GoesOn p q a b → sends_by h q ≡ sends_by h p → own q ≡ own p
+pub told_none : (h : ℕ) (p q : Sender) (a b : Tally) → GoesOn p q a b → sends_by h q ≡ sends_by h p → own q ≡ own p
 told_none h p q a b g is =
     let more = own_more p q a b g in
     let tell = λ (e : Entry). told_by h e.call e.reply in
