@@ -123,10 +123,10 @@ frame_posted s q h u phase id p p' root pass a posts shown =
     subst (λ (l : List Entry). IsShown s q l (record root { pass = pass }) (and_posts_frame phase id a)) (sym (calls_same p p' posts.calls)) (record {
       calls = shown.calls;
       posted = λ k i. (
-        let had = shown.posted k i in
-        let has = posts.counts.posts k i in
-        let more : count_by (is_frame_post k i) (a.posted ++ x ∷ []) ≡ count_by (is_frame_post k i) a.posted + cond (phase == k && id == i) 1 0 = sum_by_push (λ (z : FramePost). cond (is_frame_post k i z) 1 0) a.posted x in
-        omega (arith, had, has, more));
+          let had = shown.posted k i in
+          let has = posts.counts.posts k i in
+          let more : count_by (is_frame_post k i) (a.posted ++ x ∷ []) ≡ count_by (is_frame_post k i) a.posted + cond (phase == k && id == i) 1 0 = sum_by_push (λ (z : FramePost). cond (is_frame_post k i z) 1 0) a.posted x in
+          omega (arith, had, has, more));
       stands = record { gauges = shown.stands.gauges; lines = shown.stands.lines; barrier = shown.stands.barrier; barriers = shown.stands.barriers; painted = shown.stands.painted };
     })
 
@@ -147,7 +147,7 @@ requested_anew s q now p p' token root made root' none m rest text a h =
     let b = and_sends q now (Asks (Barrier 0)) (record a { barrier = Some a.barriers; barriers = a.barriers + 1 }) in
     let still : is_some a.barrier ≡ false = barrier_alike (tokens_in (calls_of p)) a.barrier root.barrier h.stands.barrier ∙ none in
     subst (λ (t : Bool). IsShown s q made root' (if t then a else and_posts_frame (traversal_phase s) traversal_id b)) (sym still)
-        (subst (λ (n : ℕ). IsShown s q made root' (and_posts_frame n traversal_id b)) (sym (phase_is s text.edition)) (rest text b (barrier_posted s q now p p' token root a m h)))
+    (subst (λ (n : ℕ). IsShown s q made root' (and_posts_frame n traversal_id b)) (sym (phase_is s text.edition)) (rest text b (barrier_posted s q now p p' token root a m h)))
 
 -- ---- gauges
 
@@ -195,12 +195,6 @@ gauge_put s q g v w made root root' a put at alike h = record {
   };
 }
 
-pub from_not : (b c : Bool) → not b ≡ c → b ≡ not c
-from_not true false is = refl
-from_not false true is = refl
-from_not true true is = absurd cc
-from_not false false is = absurd cc
-
 -- ---- a message with an object
 
 -- the gauge is another looper's
@@ -208,7 +202,7 @@ pub sets_no_other : (s : Script) (q now g target : ℕ) (v : ViewGauge) (made : 
 sets_no_other s q now g target v made root at other text a h =
     let is = gauge_of s q g (tokens_in made) v root a at h.stands in
     let same : object_set s q now g target a ≡ a =
-        ap (λ (b : Bool). if b then option_map_or (λ x. target_set s q now g target x a) (slice_get a.gauges g) a else a) (sym is.own ∙ other) in
+    ap (λ (b : Bool). if b then option_map_or (λ x. target_set s q now g target x a) (slice_get a.gauges g) a else a) (sym is.own ∙ other) in
     subst (IsShown s q made root) (sym same) h
 
 -- the state's step is that of the gauge
@@ -237,10 +231,10 @@ pub sets_target : (s : Script) (q now g target : ℕ) (v : ViewGauge) (made : Li
 sets_target s q now g target v made root root' at mine rests put text a h =
     let x = standing v in
     let step : object_set s q now g target a ≡ with_gauge g (record x { target = target }) a =
-        sets_own s q now g target v made root a at mine h
-        ∙ ap (λ (b : Bool). if b then with_gauge g (record x { target = target }) a else traversal_requested s q now (and_posts_frame animation_phase (animation_id g) (with_gauge g (record { value = x.value; target = target; animating = true }) a))) rests in
+    sets_own s q now g target v made root a at mine h
+    ∙ ap (λ (b : Bool). if b then with_gauge g (record x { target = target }) a else traversal_requested s q now (and_posts_frame animation_phase (animation_id g) (with_gauge g (record { value = x.value; target = target; animating = true }) a))) rests in
     let put_is : with_gauge g (standing (with_target target v)) a ≡ with_gauge g (record x { target = target }) a =
-        ap (λ (b : Bool). with_gauge g (record { value = v.value; target = target; animating = b }) a) (rests_so v.animating (v.value == target) rests) in
+    ap (λ (b : Bool). with_gauge g (record { value = v.value; target = target; animating = b }) a) (rests_so v.animating (v.value == target) rests) in
     subst (IsShown s q made root') (put_is ∙ sym step) (gauge_put s q g v (with_target target v) made root root' a put at refl h)
 
 -- the callback of a gauge's animation, by its number
@@ -259,8 +253,8 @@ sets_off s q now now' g target id v made made1 made2 root root1 root2 root3 at m
     let is = gauge_of s q g (tokens_in made) v root a at h.stands in
     let b = with_gauge g (record { value = v.value; target = target; animating = true }) a in
     let step : object_set s q now g target a ≡ traversal_requested s q now (and_posts_frame 1 (animation_id g) b) =
-        sets_own s q now g target v made root a at mine h
-        ∙ ap (λ (t : Bool). if t then with_gauge g (record x { target = target }) a else traversal_requested s q now (and_posts_frame 1 (animation_id g) b)) starts in
+    sets_own s q now g target v made root a at mine h
+    ∙ ap (λ (t : Bool). if t then with_gauge g (record x { target = target }) a else traversal_requested s q now (and_posts_frame 1 (animation_id g) b)) starts in
     let placed : IsShown s q made root1 b = subst (λ (t : Bool). IsShown s q made root1 (with_gauge g (record { value = v.value; target = target; animating = t }) a)) (starts_so v.animating (v.value == target) starts) (gauge_put s q g v (with_target target v) made root root1 a put at refl h) in
     let posted : IsShown s q made1 root2 (and_posts_frame 1 (animation_id g) b) = subst (λ (n : ℕ). IsShown s q made1 root2 (and_posts_frame 1 n b)) (few g (length s.gauges) id is.within text.gauges is_id) (posts text b placed) in
     subst (IsShown s q made2 root3) (sym step) (subst (λ (n : ℕ). IsShown s q made2 root3 (traversal_requested s q n (and_posts_frame 1 (animation_id g) b))) same (requests text (and_posts_frame 1 (animation_id g) b) posted))
@@ -287,14 +281,14 @@ with_move n v = record v { value = n; animating = not (n == v.target) }
 -- the state's step is that of the gauge, as it moves
 moves : (s : Script) (q now g n : ℕ) (v : ViewGauge) (made : List Entry) (root : ViewRoot) (a : Looper) → slice_get root.gauges.items g ≡ Some v → v.animating ≡ true → n ≡ moved v.step v.target v.value → IsShown s q made root a
     → animated s q now g a ≡ (if n == v.target then traversal_requested s q now (with_gauge g (record { value = n; target = v.target; animating = false }) a)
-        else and_posts_frame 1 (animation_id g) (traversal_requested s q now (with_gauge g (record { value = n; target = v.target; animating = v.animating }) a)))
+    else and_posts_frame 1 (animation_id g) (traversal_requested s q now (with_gauge g (record { value = n; target = v.target; animating = v.animating }) a)))
 moves s q now g n v made root a at on to h =
     let is = gauge_of s q g (tokens_in made) v root a at h.stands in
     let value : moved (gauge_line s g).step v.target v.value ≡ n = ap (λ (k : ℕ). moved k v.target v.value) (sym is.step) ∙ sym to in
     animates s q now g v made root a at h
     ∙ (ap (λ (b : Bool). if b then gauge_moved s q now g (standing v) a else a) on
     ∙ ap (λ (k : ℕ). if k == v.target then traversal_requested s q now (with_gauge g (record { value = k; target = v.target; animating = false }) a)
-        else and_posts_frame 1 (animation_id g) (traversal_requested s q now (with_gauge g (record { value = k; target = v.target; animating = v.animating }) a))) value)
+    else and_posts_frame 1 (animation_id g) (traversal_requested s q now (with_gauge g (record { value = k; target = v.target; animating = v.animating }) a))) value)
 
 -- the gauge comes to its target
 pub animates_last : (s : Script) (q now g n : ℕ) (v : ViewGauge) (made made' : List Entry) (root root1 root' : ViewRoot) → slice_get root.gauges.items g ≡ Some v → v.animating ≡ true → n ≡ moved v.step v.target v.value → n ≡ v.target
@@ -303,8 +297,8 @@ animates_last s q now g n v made made' root root1 root' at on to there put reque
     let b = with_gauge g (record { value = n; target = v.target; animating = false }) a in
     let is : (n == v.target) ≡ true = eq-eqb n v.target there in
     let step : animated s q now g a ≡ traversal_requested s q now b =
-        moves s q now g n v made root a at on to h
-        ∙ ap (λ (t : Bool). if t then traversal_requested s q now b else and_posts_frame 1 (animation_id g) (traversal_requested s q now (with_gauge g (record { value = n; target = v.target; animating = v.animating }) a))) is in
+    moves s q now g n v made root a at on to h
+    ∙ ap (λ (t : Bool). if t then traversal_requested s q now b else and_posts_frame 1 (animation_id g) (traversal_requested s q now (with_gauge g (record { value = n; target = v.target; animating = v.animating }) a))) is in
     let placed : IsShown s q made root1 b = subst (λ (t : Bool). IsShown s q made root1 (with_gauge g (record { value = n; target = v.target; animating = not t }) a)) is (gauge_put s q g v (with_move n v) made root root1 a put at refl h) in
     subst (IsShown s q made' root') (sym step) (requests text b placed)
 
@@ -317,11 +311,11 @@ animates_on s q now g n id v made made1 made2 root root1 root2 root3 at on to fa
     let b = with_gauge g (record { value = n; target = v.target; animating = v.animating }) a in
     let isnt : (n == v.target) ≡ false = ne_eqb n v.target far in
     let step : animated s q now g a ≡ and_posts_frame 1 (animation_id g) (traversal_requested s q now b) =
-        moves s q now g n v made root a at on to h
-        ∙ ap (λ (t : Bool). if t then traversal_requested s q now (with_gauge g (record { value = n; target = v.target; animating = false }) a) else and_posts_frame 1 (animation_id g) (traversal_requested s q now b)) isnt in
+    moves s q now g n v made root a at on to h
+    ∙ ap (λ (t : Bool). if t then traversal_requested s q now (with_gauge g (record { value = n; target = v.target; animating = false }) a) else and_posts_frame 1 (animation_id g) (traversal_requested s q now b)) isnt in
     let placed : IsShown s q made root1 b = subst (λ (t : Bool). IsShown s q made root1 (with_gauge g (record { value = n; target = v.target; animating = t }) a)) (ap not isnt ∙ sym on) (gauge_put s q g v (with_move n v) made root root1 a put at refl h) in
     subst (IsShown s q made2 root3) (sym step)
-        (subst (λ (k : ℕ). IsShown s q made2 root3 (and_posts_frame 1 k (traversal_requested s q now b))) (few g (length s.gauges) id is.within text.gauges is_id) (posts text (traversal_requested s q now b) (requests text b placed)))
+    (subst (λ (k : ℕ). IsShown s q made2 root3 (and_posts_frame 1 k (traversal_requested s q now b))) (few g (length s.gauges) id is.within text.gauges is_id) (posts text (traversal_requested s q now b) (requests text b placed)))
 
 -- ---- a callback
 
@@ -334,7 +328,7 @@ runs_traversal s q now id made made' root root' is shows text a h =
 pub runs_animation : (s : Script) (q now id : ℕ) (made made' : List Entry) (root root' : ViewRoot) → id ≢ 1000016 → 1000000 ≤ id → Shows s q (animated s q now (id - 1000000)) made root made' root' → Shows s q (λ a. callback_ran s q now a id) made root made' root'
 runs_animation s q now id made made' root root' isnt least shows text a h =
     subst (λ (b : Bool). IsShown s q made' root' (if b then traversal_ran s q now a else if nat_le 1000000 id then animated s q now (id - 1000000) a else a)) (sym (ne_eqb id 1000016 isnt))
-        (subst (λ (b : Bool). IsShown s q made' root' (if b then animated s q now (id - 1000000) a else a)) (sym (le-leb 1000000 id least)) (shows text a h))
+    (subst (λ (b : Bool). IsShown s q made' root' (if b then animated s q now (id - 1000000) a else a)) (sym (le-leb 1000000 id least)) (shows text a h))
 
 -- a gauge of a line, before it moves
 abbrev pub unmoved : Script → ℕ → GaugeLine → ViewGauge
@@ -362,8 +356,8 @@ paints_from s q n (v ∷ vs) (l ∷ ls) is lines =
     let line : gauge_line s n ≡ l = ap (gauge_line s) (sym here) ∙ lines 0 l (omega arith) in
     let mine : v.own ≡ (gauge_looper s n == q) = ap (λ (x : Bool × ℕ). x.0) first ∙ ap (λ (x : GaugeLine). looper_of s x.handler == q) (sym line) in
     first_paint v.own (gauge_looper s n == q) (Paint n v.value) _ _ mine (paints_from s q (n + 1) vs ls rest (λ k d lt. (
-        let next : n + 1 + k ≡ n + suc k = omega arith in
-        ap (gauge_line s) next ∙ lines (suc k) d (omega (arith, lt)))))
+    let next : n + 1 + k ≡ n + suc k = omega arith in
+    ap (gauge_line s) next ∙ lines (suc k) d (omega (arith, lt)))))
 
 -- a view root has as many gauges as the script
 pub as_many : (s : Script) (q : ℕ) (vs : List ViewGauge) → map fixed vs ≡ map (fixed_by s q) s.gauges → length vs ≡ length s.gauges
@@ -388,7 +382,7 @@ painted_more before now vs i g d lt few counted had =
     let number : g ≡ i = omega (arith, lt, few, counted) in
     let here : 0 + length (take i vs) ≡ i = (let long = length-take-le i vs (omega (arith, lt)) in omega (arith, long)) in
     let more : enumerate_from 0 (take (i + 1) vs) ≡ enumerate_from 0 (take i vs) ++ (i, v) ∷ [] =
-        ap (enumerate_from 0) (take_more vs i d lt) ∙ (enumerated_more 0 (take i vs) v ∙ ap (λ (k : ℕ). enumerate_from 0 (take i vs) ++ (k, v) ∷ []) here) in
+    ap (enumerate_from 0) (take_more vs i d lt) ∙ (enumerated_more 0 (take i vs) v ∙ ap (λ (k : ℕ). enumerate_from 0 (take i vs) ++ (k, v) ∷ []) here) in
     (λ j. had j ++ paint_of_gauge (number j, v))
     ∙ (flat_map_more paint_of_gauge before (enumerate_from 0 (take i vs)) (i, v) ∙ ap (λ (l : List (ℕ × ViewGauge)). before ++ flat_map paint_of_gauge l) (sym more))
 

@@ -15,5 +15,5 @@ returns-clause-painted c s q text lines =
     let same = ap (λ (vs : List Gauge). length vs) c.as_slice.ensures.value in
     let most = text.gauges in
     on_ok_weaker c.paint_all.result
-        (λ told. told ∙ (ap (λ (vs : List Gauge). before ++ flat_map paint_of_gauge (enumerate_from 0 vs)) c.as_slice.ensures.value ∙ ap (λ (l : List Act). before ++ l) (painted_so s q root.gauges.items lines)))
-        (c.paint_all.ensures (omega (arith, same, many, most)))
+    (λ told. told ∙ (ap (λ (vs : List Gauge). before ++ flat_map paint_of_gauge (enumerate_from 0 vs)) c.as_slice.ensures.value ∙ ap (λ (l : List Act). before ++ l) (painted_so s q root.gauges.items lines)))
+    (c.paint_all.ensures (omega (arith, same, many, most)))
