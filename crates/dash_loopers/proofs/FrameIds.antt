@@ -14,15 +14,20 @@ use Rattle.frame_phases.specs.declared.entry.FrameEntry.{FrameEntry}
 use Rattle.frame_phases.specs.declared.entry.FrameEntry.TheVariants.{Posted, Removed, Begin, Take, Ran}
 use Rattle.frame_phases.specs.Frames.{lawful, all_allowed, is_allowed, is_settled, owed, posted_count, next_phase, live, taken, number_of, is_number, is_due, is_undue, is_unmatched, before_later, in_due_order}
 use Rattle.frame_phases.proofs.EndsOfFrames.{allowed_before}
-use Rattle.frame_phases.proofs.History.{allowed_of, lawful_from}
+use Rattle.frame_phases.specs.State.{past as past_of}
+use Rattle.choreographer.specs.declared.kept.Kept.{Kept}
+use Rattle.choreographer.specs.declared.frame.Framed.{Framed}
+use Rattle.choreographer.specs.declared.frame.Framed.TheVariants.{Done, Elsewhere, Unscheduled, Backwards, NoMemory}
+use Rattle.choreographer.specs.Known.{Known as Pass, IsTurn}
 use Rattle.choreographer.specs.Client.{Run}
 use Rattle.choreographer.specs.Frame.{Batch, begin_place, ran_since, batches_since}
-use Rattle.choreographer.specs.Done.{runs, runs_of, numbers_of}
+use Rattle.choreographer.specs.Done.{runs, runs_of, numbers_of, FramedBy, UnlessNoMemory}
+use Rattle.choreographer.proofs.Prefixes.{prefix_trans, prefix_length}
 use Rattle.dash_script.specs.declared.script.Script.{Script}
 use Rattle.run_model.specs.FrameRuns.{frame_ids, is_frame_from, is_begin, posted_id, ran_id}
 use Rattle.run_model.proofs.Growth.{slice_get-append}
 use Rattle.run_model.proofs.FrameKeeping.{KeepsFrames-lawful}
-use Rattle.dash_loopers.specs.Played.{ids_of}
+use Rattle.dash_loopers.specs.Played.{RanFrame, ids_of}
 
 -- ---- where the latest frame began
 
@@ -40,14 +45,14 @@ record IsBegun (past : List FrameEntry) : Type 0 where
 -- an entry behind it that is no Begin
 begun_more : (e : FrameEntry) (past : List FrameEntry) → is_begin e ≡ false → begin_place (e ∷ past) ≡ begin_place past
     → ((ids : List ℕ) → filter_map (λ n. slice_get ids n) (ran_since (e ∷ past)) ≡ filter_map (λ n. slice_get ids n) (ran_since past) ++ cons_option (ran_id ids e) []) → IsBegun past → IsBegun (e ∷ past)
-begun_more e past no same one b = record {
+begun_more e past isnt same one b = record {
   newer = e ∷ b.newer;
   older = b.older;
   begin = b.begin;
   begins = b.begins;
   is = ap (λ l. e ∷ l) b.is;
   place = same ∙ b.place;
-  none = (no, b.none);
+  none = (isnt, b.none);
   ran = λ ids. ap (filter_map (ran_id ids)) (reverse-append (e ∷ []) b.newer) ∙ (filter_map-append (ran_id ids) (reverse b.newer) (e ∷ [])
       ∙ (ap (λ l. l ++ cons_option (ran_id ids e) []) (b.ran ids) ∙ sym (one ids)));
 }
@@ -97,7 +102,7 @@ ids_pushed e past = ap (filter_map posted_id) (reverse-append (e ∷ []) past) �
 
 -- an entry that posts nothing
 unposted : (e : FrameEntry) (past : List FrameEntry) → posted_id e ≡ None → ids_in (e ∷ past) ≡ ids_in past
-unposted e past no = ids_pushed e past ∙ (ap (λ o. ids_in past ++ cons_option o []) no ∙ append-nil (ids_in past))
+unposted e past isnt = ids_pushed e past ∙ (ap (λ o. ids_in past ++ cons_option o []) isnt ∙ append-nil (ids_in past))
 
 posted_in : (past : List FrameEntry) → posted_count past ≡ length (ids_in past)
 unfolding posted_count
@@ -227,3 +232,41 @@ frame_ran interval phases first fs gs whole none settled some same near =
       and_from (nat_le first (begin_place (reverse fs))) _ (le-leb first (begin_place (reverse fs)) near) (stands interval phases fs allowed some gs),
       KeepsFrames-lawful no_script 0 [] interval phases fs gs (and_from _ _ allowed ended) none whole (begin_place (reverse fs)) (place_within interval phases fs allowed some) ∙ ran_ids interval phases fs allowed some same,
     )
+
+-- a turn's pass has seen what it had seen, and more
+pub turn_grew : (f g : Pass) (x y : Kept) → IsTurn f g x y → IsPrefix f.view.seen g.view.seen
+turn_grew f g x y t = prefix_trans f.view.seen x.frames.entries g.view.seen t.begins.0 (subst (IsPrefix x.frames.entries) (sym t.seen) t.grows)
+
+no_frame : (interval phases : ℕ) (before after : Pass) (told : List Run) → told ≡ [] → IsPrefix before.view.seen after.view.seen → RanFrame interval phases before after (ids_of told)
+no_frame interval phases before after told none grew = record { frame = None; framed = λ fs begins is. (refl, ap ids_of (sym none)); within = omega arith; grew = grew }
+
+-- a frame ran the callbacks that its client tells
+pub framed_ran : (interval phases : ℕ) (before after : Pass) (is_moment : ℕ → Bool) (told : List Run) (r : Framed) → 0 < phases → FramedBy phases before after is_moment (Some []) (Some told) r → UnlessNoMemory r (RanFrame interval phases before after (ids_of told))
+framed_ran interval phases before after is_moment told Done some (start, time, middle, moment, turn, (batches, told_is, long, are, (y, left, numbers, batches_are, at, near, none, settled, seen_is), turns, grew)) =
+    let same : told ≡ runs_of batches = cc (told_is) in
+    let many : length batches ≡ length (batches_since (past_of y.frames)) = ap length batches_are in
+    let few : 0 < length (batches_since (past_of y.frames)) = omega (arith, some, long, many) in
+    let place : ℕ = begin_place (past_of y.frames) in
+    let first : ℕ = length before.view.seen in
+    let ids : ids_of (runs_of (batches_since (past_of y.frames))) ≡ ids_of told = ap (λ (bs : List Batch). ids_of (runs_of bs)) (sym batches_are) ∙ ap ids_of (sym same) in
+    record {
+      frame = Some place;
+      framed = λ fs begins is. (
+      let whole : y.frames.entries ++ begins.0 ≡ fs = ap (λ l. l ++ begins.0) seen_is ∙ begins.1 in
+      let ran = frame_ran interval phases first y.frames.entries begins.0 (subst (λ (l : List FrameEntry). lawful interval phases l ≡ true) (sym whole) is) none settled few (ap numbers_of (sym batches_are) ∙ numbers) near in
+      subst (λ (l : List FrameEntry). (is_frame_from l first (Some place) ≡ true) × (frame_ids l (Some place) ≡ ids_of told)) whole (ran.0, ran.1 ∙ ids));
+      within = omega (arith, at, prefix_length middle.view.seen after.view.seen grew);
+      grew = prefix_trans before.view.seen middle.view.seen after.view.seen (turn_grew before middle turn.0 turn.1 turn.2) grew;
+    }
+framed_ran interval phases before after is_moment told (Elsewhere next) some (start, moment, turn, told_is) = no_frame interval phases before after told (let same : told ≡ [] = cc (told_is) in same) (turn_grew before after turn.0 turn.1 turn.2)
+framed_ran interval phases before after is_moment told Unscheduled some (start, moment, turn, told_is) = no_frame interval phases before after told (let same : told ≡ [] = cc (told_is) in same) (turn_grew before after turn.0 turn.1 turn.2)
+framed_ran interval phases before after is_moment told (Backwards last) some (start, moment, turn, told_is) = no_frame interval phases before after told (let same : told ≡ [] = cc (told_is) in same) (turn_grew before after turn.0 turn.1 turn.2)
+framed_ran interval phases before after is_moment told NoMemory some t = tt
+
+-- what holds where memory was not wanting
+pub not_wanting : (r : Framed) (P : Type 0) → (r ≡ NoMemory → ⊥) → UnlessNoMemory r P → P
+not_wanting Done P isnt h = h
+not_wanting (Elsewhere next) P isnt h = h
+not_wanting Unscheduled P isnt h = h
+not_wanting (Backwards last) P isnt h = h
+not_wanting NoMemory P isnt h = absurd (isnt refl)

@@ -5,3 +5,6 @@ pub mod LooperOver
 pub mod LooperTold
 pub mod LooperKits
 pub mod LooperSeats
+pub mod FramePosts
+pub mod FrameIds
+pub mod FrameSteps
