@@ -237,7 +237,7 @@ frame_ran interval phases first fs gs whole none settled some same near =
 pub turn_grew : (f g : Pass) (x y : Kept) → IsTurn f g x y → IsPrefix f.view.seen g.view.seen
 turn_grew f g x y t = prefix_trans f.view.seen x.frames.entries g.view.seen t.begins.0 (subst (IsPrefix x.frames.entries) (sym t.seen) t.grows)
 
-no_frame : (interval phases : ℕ) (before after : Pass) (told : List Run) → told ≡ [] → IsPrefix before.view.seen after.view.seen → RanFrame interval phases before after (ids_of told)
+pub no_frame : (interval phases : ℕ) (before after : Pass) (told : List Run) → told ≡ [] → IsPrefix before.view.seen after.view.seen → RanFrame interval phases before after (ids_of told)
 no_frame interval phases before after told none grew = record { frame = None; framed = λ fs begins is. (refl, ap ids_of (sym none)); within = omega arith; grew = grew }
 
 -- a frame ran the callbacks that its client tells

@@ -8,3 +8,4 @@ pub mod LooperSeats
 pub mod FramePosts
 pub mod FrameIds
 pub mod FrameSteps
+pub mod PlaySteps

@@ -1,5 +1,5 @@
 //! What a looper does with its messages.
-ghost use Rattle.std.specs.Prelude.{◌≡◌, ◌<◌, ℕ, List, [], ◌∷◌, ◌++◌, map, slice_get, Some, None, IsTrue, true, OnOk};
+ghost use Rattle.std.specs.Prelude.{◌≡◌, ◌<◌, ℕ, List, [], ◌∷◌, ◌++◌, map, slice_get, Some, None, IsTrue, true, false, OnOk, is_ok};
 ghost use mathlib.Core.List.{IsPrefix};
 ghost use Rattle.loop_model.specs.declared.journal.Act.{Act};
 ghost use Rattle.loop_model.specs.declared.entry.Entry.{Entry};
@@ -22,6 +22,8 @@ ghost use Rattle.run_model.specs.Senders.{frame_handler as the_frame_handler};
 ghost use Rattle.run_model.specs.Control.{Timing};
 ghost use Rattle.run_model.specs.Loopers.{starts_frame, object_set, reacted, reaction};
 ghost use Rattle.looper_run.specs.Tests.{Unless};
+ghost use Rattle.looper_run.specs.declared.dispatcher.Did.TheVariants.{Yes};
+ghost use Rattle.choreographer.specs.declared.host.HostSent.TheVariants.{NoMemory as NoRoom};
 
 use crate::looper::StageLooper;
 use crate::view_root::{Painted, ViewRoot};
@@ -166,6 +168,7 @@ impl<'a, R: Wait> Place<'a, R> {
         ensures poster { (result.poster.ghost_name ≡ poster.entry.ghost_name) × (result.poster.now ≡ poster.old) }
         ensures pass { (result.pass.ghost_name ≡ pass.entry.ghost_name) × (result.pass.now ≡ pass.old) }
         ensures began { (result.began.now.value ≡ poster.old) × (result.pass_began.now.value ≡ pass.old) }
+        ensures moment { (result.now ≡ now) × (result.handler.id ≡ the_frame_handler self.now.looper) }
         ensures ready { IsHost (origin_of result.queue.now result.pool.now result.poster.ghost_name result.pass.ghost_name result.began.now.value result.pass_began.now.value result.handler.id result.now) result.poster.now result.pass.now }
     {
         Host {
@@ -210,7 +213,7 @@ impl<'a, R: Wait> Place<'a, R> {
         match self.deliver_pulse(parts, own, now) {
             None => Did::No,
             Some(pulse) => {
-                if pulse.sent == HostSent::NoMemory {
+                if is_wanting(pulse.sent) {
                     return Did::NoMemory;
                 }
                 did(tell(own.journal, Act::Vsync { stamp: pulse.stamp }))
@@ -565,8 +568,16 @@ fn tell(journal: &mut Journal, act: Act) -> Result<(), NoMemory>
     Ok(())
 }
 
+/// Whether memory was wanting for a message.
+fn is_wanting(sent: HostSent) -> bool
+    ensures { result ≡ false → sent ≡ NoRoom → ⊥ }
+{
+    matches!(sent, HostSent::NoMemory)
+}
+
 fn did(done: Result<(), NoMemory>) -> Did
-    ensures { result ≡ No → ⊥ }
+    ensures no { result ≡ No → ⊥ }
+    ensures yes { result ≡ Yes → is_ok done ≡ true }
 {
     match done {
         Ok(()) => Did::Yes,
