@@ -6,3 +6,6 @@ pub mod LooperTold
 pub mod LooperKits
 pub mod LooperSeats
 pub mod ViewSteps
+pub mod FrameIds
+pub mod FrameSteps
+pub mod PlaySteps
