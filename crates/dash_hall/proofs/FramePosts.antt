@@ -1,6 +1,6 @@
 -- The frame callbacks that a sender posts.
 use Rattle.std.proofs.Common.{◌≡◌, ℕ, zero, suc, ◌+◌, ◌-◌, ◌*◌, ◌/◌, ◌^◌, ◌<◌, ◌≤◌, ◌==◌, min, Bool, true, false, cond, List, [], ◌∷◌, ◌++◌, map, Option, Some, None, refl, sym, ap, ◌∙◌, subst, arith, ne_eqb}
-use Rattle.std.specs.Prelude.{◌&&◌, nat_lt, is_none, MatchBool, Result, Ok, Err, OnOk, count_by, if◌then◌else◌}
+use Rattle.std.specs.Prelude.{◌&&◌, nat_lt, is_none, MatchBool, count_by, if◌then◌else◌}
 use mathlib.Core.Logic.{dite}
 use native.Mathlib.Decide.{dec_lt}
 use Rattle.std.proofs.lemmas.Bool.{eqb-true, lt-ltb, ltb-true, and_parts}
@@ -20,8 +20,8 @@ use Rattle.frame_phases.specs.declared.entry.FrameEntry.{FrameEntry}
 use Rattle.frame_phases.specs.declared.entry.FrameEntry.TheVariants as frame
 use Rattle.frame_phases.specs.declared.entry.Scheduling.{Scheduling}
 use Rattle.frame_phases.specs.declared.entry.Scheduling.TheVariants as sched
-use Rattle.frame_phases.specs.State.{Frames, with_entry, next_callback, posted, removed, past}
-use Rattle.frame_phases.specs.Frames.{pulse, removed_count}
+use Rattle.frame_phases.specs.State.{Frames, with_entry, next_callback, posted}
+use Rattle.frame_phases.specs.Frames.{pulse}
 use Rattle.looper_run.specs.Holding.{Sender}
 use Rattle.choreographer.specs.declared.kept.Kept.{Kept}
 use Rattle.choreographer.specs.declared.host.Sending.{Sending}
@@ -34,7 +34,7 @@ use Rattle.run_model.specs.Asks.{plain, token_in, entries_by}
 use Rattle.run_model.specs.Planned.{later}
 use Rattle.run_model.specs.FrameRuns.{posts_frame, removes_frame}
 use Rattle.dash_hall.specs.Growth.{own, GoesOn, Makes}
-use Rattle.dash_hall.specs.Hosts.{Origin, IsHost, nanos_of, is_sending, not_sent, sent_as, told_by, sends_by, PlacesBy, PostsFrame, RemovesFrame, CountsOn}
+use Rattle.dash_hall.specs.Hosts.{nanos_of, is_sending, not_sent, sent_as, told_by, sends_by, PlacesBy, PostsFrame, CountsOn}
 
 -- ---- what a pass has seen
 
