@@ -7,3 +7,7 @@ pub mod LooperKits
 pub mod LooperSeats
 pub mod RuleSteps
 pub mod RuleText
+pub mod ViewSteps
+pub mod FrameIds
+pub mod FrameSteps
+pub mod PlaySteps

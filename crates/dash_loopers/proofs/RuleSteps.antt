@@ -21,7 +21,7 @@ use Rattle.handler_post.specs.declared.handler.Handler.{Handler}
 use Rattle.run_model.specs.Asks.{Makes as Asks, AreFor, plain, token_in, tokens_in}
 use Rattle.run_model.specs.Control.{Timing, At}
 use Rattle.run_model.specs.Senders.{looper_of, handler_line}
-use Rattle.run_model.specs.Planned.{later}
+use Rattle.loop_model.specs.Posts.{moment_after}
 use Rattle.run_model.specs.Loopers.{Looper, Sent, fires, reaction, reacted}
 use Rattle.run_model.specs.Acts.{sent_on, IsSent}
 use Rattle.run_model.proofs.RunLaws.{AreFor-snoc, sent_on-append}
@@ -283,7 +283,7 @@ module _ (s : Script) (now : ℕ) (m : PostData) (a : Looper) where
 -- ---- what the functions' clauses are put together from
 
 -- the rule's own message, as the request that it makes
-pub request_is : (s : Script) (now : ℕ) (r : Rule) (looper : ℕ) (handler : Handler) (when : ℕ) (a : Looper) → looper ≡ looper_of s r.to_handler → handler ≡ record { id = r.to_handler; asynchronous = (handler_line s r.to_handler).asynchronous } → when ≡ later now r.delay
+pub request_is : (s : Script) (now : ℕ) (r : Rule) (looper : ℕ) (handler : Handler) (when : ℕ) (a : Looper) → looper ≡ looper_of s r.to_handler → handler ≡ record { id = r.to_handler; asynchronous = (handler_line s r.to_handler).asynchronous } → when ≡ moment_after now r.delay
     → with_call looper (call_by handler (request.Send r.to_what 0 None when)) (At now) a ≡ record a { sent = a.sent ++ reaction s now r ∷ [] }
 request_is s now r looper handler when a is_looper is_handler is_when = λ i. with_call (is_looper i) (call_by (is_handler i) (request.Send r.to_what 0 None (is_when i))) (At now) a
 
@@ -325,7 +325,7 @@ plays_other s q now m place r made parts other text a is =
     played_as s q made parts _ _ (sym (rule_missed s now m place r a (λ n at. fires_not m r n (inl other)))) is
 
 -- the request of a rule is its message
-pub plays_sent : (s : Script) (q now : ℕ) (r : Rule) (looper : ℕ) (handler : Handler) (when : ℕ) (made made' : List Entry) (parts parts' : Parts) → looper ≡ looper_of s r.to_handler → handler ≡ record { id = r.to_handler; asynchronous = (handler_line s r.to_handler).asynchronous } → when ≡ later now r.delay
+pub plays_sent : (s : Script) (q now : ℕ) (r : Rule) (looper : ℕ) (handler : Handler) (when : ℕ) (made made' : List Entry) (parts parts' : Parts) → looper ≡ looper_of s r.to_handler → handler ≡ record { id = r.to_handler; asynchronous = (handler_line s r.to_handler).asynchronous } → when ≡ moment_after now r.delay
     → Plays s q (with_call looper (call_by handler (request.Send r.to_what 0 None when)) (At now)) made parts made' parts' → Plays s q (λ a. record a { sent = a.sent ++ reaction s now r ∷ [] }) made parts made' parts'
 plays_sent s q now r looper handler when made made' parts parts' is_looper is_handler is_when plays text a is =
     played_as s q made' parts' _ _ (request_is s now r looper handler when a is_looper is_handler is_when) (plays text a is)

@@ -1,5 +1,5 @@
 //! What a looper does with its messages.
-ghost use Rattle.std.specs.Prelude.{◌≡◌, ◌<◌, ℕ, List, [], ◌∷◌, ◌++◌, map, slice_get, Some, None, IsTrue, true, OnOk};
+ghost use Rattle.std.specs.Prelude.{◌≡◌, ◌<◌, ℕ, List, [], ◌∷◌, ◌++◌, map, fold, slice_get, Some, None, IsTrue, true, false, OnOk, is_ok};
 ghost use mathlib.Core.List.{IsPrefix};
 ghost use Rattle.loop_model.specs.declared.journal.Act.{Act};
 ghost use Rattle.loop_model.specs.declared.entry.Entry.{Entry};
@@ -16,12 +16,14 @@ ghost use Rattle.dash_hall.specs.Growth.{Makes};
 ghost use Rattle.dash_loopers.specs.declared.player.Parts.{Parts as PartsData};
 ghost use Rattle.dash_script.specs.Reading.{HasText};
 ghost use Rattle.dash_hall.specs.Requests.{call_by};
-ghost use Rattle.dash_loopers.specs.Played.{calls_of, FiresAt, Plays, DeliversPulse, Delivers, Pulses, IsPlaying, rule_met, with_call, paint_of};
+ghost use Rattle.dash_loopers.specs.Played.{calls_of, FiresAt, Plays, DeliversPulse, Delivers, RanFrame, Pulses, IsPlaying, rule_met, with_call, paint_of};
 ghost use Rattle.loop_model.specs.declared.post.Post.{Post as PostData};
 ghost use Rattle.run_model.specs.Senders.{frame_handler as the_frame_handler};
 ghost use Rattle.run_model.specs.Control.{Timing};
-ghost use Rattle.run_model.specs.Loopers.{starts_frame, object_set, reacted, reaction};
+ghost use Rattle.run_model.specs.Loopers.{starts_frame, callback_ran, object_set, reacted, reaction};
 ghost use Rattle.looper_run.specs.Tests.{Unless};
+ghost use Rattle.looper_run.specs.declared.dispatcher.Did.TheVariants.{Yes};
+ghost use Rattle.choreographer.specs.declared.host.HostSent.TheVariants.{NoMemory as NoRoom};
 
 use crate::looper::StageLooper;
 use crate::view_root::{Painted, ViewRoot};
@@ -166,6 +168,7 @@ impl<'a, R: Wait> Place<'a, R> {
         ensures poster { (result.poster.ghost_name ≡ poster.entry.ghost_name) × (result.poster.now ≡ poster.old) }
         ensures pass { (result.pass.ghost_name ≡ pass.entry.ghost_name) × (result.pass.now ≡ pass.old) }
         ensures began { (result.began.now.value ≡ poster.old) × (result.pass_began.now.value ≡ pass.old) }
+        ensures moment { (result.now ≡ now) × (result.handler.id ≡ the_frame_handler self.now.looper) }
         ensures ready { IsHost (origin_of result.queue.now result.pool.now result.poster.ghost_name result.pass.ghost_name result.began.now.value result.pass_began.now.value result.handler.id result.now) result.poster.now result.pass.now }
     {
         Host {
@@ -210,7 +213,7 @@ impl<'a, R: Wait> Place<'a, R> {
         match self.deliver_pulse(parts, own, now) {
             None => Did::No,
             Some(pulse) => {
-                if pulse.sent == HostSent::NoMemory {
+                if is_wanting(pulse.sent) {
                     return Did::NoMemory;
                 }
                 did(tell(own.journal, Act::Vsync { stamp: pulse.stamp }))
@@ -225,6 +228,9 @@ impl<'a, R: Wait> Place<'a, R> {
         ensures own { IsSameOwn own.old own.new }
         ensures lent { IsLent (held own.old) (held own.new) }
         ensures rung { own.new.poster.now.view.rung ≡ own.old.poster.now.view.rung }
+        ensures ran { OnOk result ((ids : List ℕ) × RanFrame self.now.script.now.period 4 parts.old.frames parts.new.frames ids
+            × Plays self.now.script.now self.now.looper (λ a. fold (callback_ran self.now.script.now self.now.looper now) a ids) (calls_of own.old.poster.now) parts.old (calls_of own.new.poster.now) parts.new) }
+        ensures acts { own.new.journal.now.acts ≡ own.old.journal.now.acts }
     {
         let began = Snapshot::of(&*own.poster);
         let pass_began = Snapshot::of(&*own.pass);
@@ -565,8 +571,16 @@ fn tell(journal: &mut Journal, act: Act) -> Result<(), NoMemory>
     Ok(())
 }
 
+/// Whether memory was wanting for a message.
+fn is_wanting(sent: HostSent) -> bool
+    ensures { result ≡ false → sent ≡ NoRoom → ⊥ }
+{
+    matches!(sent, HostSent::NoMemory)
+}
+
 fn did(done: Result<(), NoMemory>) -> Did
-    ensures { result ≡ No → ⊥ }
+    ensures no { result ≡ No → ⊥ }
+    ensures yes { result ≡ Yes → is_ok done ≡ true }
 {
     match done {
         Ok(()) => Did::Yes,
