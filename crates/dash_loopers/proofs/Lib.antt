@@ -5,3 +5,5 @@ pub mod LooperOver
 pub mod LooperTold
 pub mod LooperKits
 pub mod LooperSeats
+pub mod LooperSteps
+pub mod LooperStands

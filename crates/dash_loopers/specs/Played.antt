@@ -29,7 +29,7 @@ use Rattle.run_model.specs.Planned.{frame_message}
 use Rattle.run_model.specs.Control.{Timing, At, NotBefore}
 use Rattle.run_model.specs.Loopers.{Looper, Gauge, Sent, first_looper, is_frame_post, starts_frame, delivered, fires, reaction}
 use Rattle.run_model.specs.Acts.{Lead, sent_on, IsSent, millis_up}
-use Rattle.run_model.specs.FrameRuns.{frame_ids, is_frame_from, posts_frame}
+use Rattle.run_model.specs.FrameRuns.{frame_ids, is_frame_from, place_after, posts_frame}
 use Rattle.dash_hall.specs.declared.kit.Kit.{Kit}
 use Rattle.dash_loopers.specs.declared.view_root.Gauge.{Gauge as ViewGauge}
 use Rattle.dash_loopers.specs.declared.view_root.Painted.{Painted}
@@ -139,10 +139,11 @@ abbrev pub IsFrameBy : ℕ → ℕ → Pass → Pass → Option ℕ → List ℕ
 IsFrameBy interval phases before after frame ids = (fs : List FrameEntry) → IsPrefix after.view.seen fs → lawful interval phases fs ≡ true
     → (is_frame_from fs (length before.view.seen) frame ≡ true) × (frame_ids fs frame ≡ ids)
 
--- callbacks of these identities ran, of a frame that began or none
+-- callbacks of these identities ran, of a frame whose beginning the pass has seen, or of none
 pub record RanFrame (interval phases : ℕ) (before after : Pass) (ids : List ℕ) : Type 0 where
   pub frame : Option ℕ
   pub framed : IsFrameBy interval phases before after frame ids
+  pub within : place_after 0 frame ≤ length after.view.seen
   pub grew : IsPrefix before.view.seen after.view.seen
 
 -- a message was delivered: its frame, where it began one, ran, and what was painted is told
@@ -214,9 +215,9 @@ pub record ComesTo (s : Script) (q now : ℕ) (a : Looper) (sender : ℕ) (seen 
   pub saw : es ≡ seen ++ looks
   pub on : GoesOnTo sender looks now a state
 
--- in a round at this moment: whatever state the looper stood at when the round began, it has gone on from there, where its queue's history is a lawful one
+-- in a round at this moment: whatever state the looper stood at when the round began, it has gone on from there
 abbrev pub IsPlaying : Script → ℕ → ℕ → StageLooper → ℕ → List Entry → List Act → Parts → Type 0
-IsPlaying s q now began sender es acts parts = HasText s → IsSoundOn s q es → (a : Looper) → HasCome s began a → ComesTo s q now a sender began.looper.held.poster.view.seen es acts parts
+IsPlaying s q now began sender es acts parts = HasText s → (a : Looper) → HasCome s began a → ComesTo s q now a sender began.looper.held.poster.view.seen es acts parts
 
 -- the same once the round is over, unless memory was wanting
 abbrev pub HasPlayed : Script → ℕ → StageLooper → StageLooper → Type 0
