@@ -7,3 +7,5 @@ pub mod LooperKits
 pub mod LooperSeats
 pub mod LooperSteps
 pub mod LooperStands
+pub mod LooperPlaying
+pub mod LooperPlayed

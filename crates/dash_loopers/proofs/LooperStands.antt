@@ -1,68 +1,45 @@
 -- Where a looper stands, as entries and acts are added: entries of others, its look that ends the queue, acts that cause
 -- nothing, a pulse, and a dispatch.
-use Rattle.std.proofs.Common.{◌≡◌, ◌≢◌, ℕ, ◌+◌, ◌<◌, ◌≤◌, ◌⊎◌, zero, suc, Bool, true, false, cond, List, [], ◌∷◌, ◌++◌, length, Option, Some, None, inl, inr, refl, sym, ap, ap₂, ◌∙◌, subst, arith, append_assoc, eq-eqb, ne_eqb}
-use Rattle.std.specs.Prelude.{◌==◌, ◌&&◌, ◌||◌, not, filter, is_some, nat_le, count_by, slice_get, slice_index_or, if◌then◌else◌}
+use Rattle.std.proofs.Common.{◌≡◌, ℕ, ◌+◌, ◌≤◌, Bool, true, false, List, [], ◌∷◌, ◌++◌, length, Option, Some, None, inl, inr, refl, sym, ap, ap₂, ◌∙◌, subst, arith, append_assoc, eq-eqb, ne_eqb}
+use Rattle.std.specs.Prelude.{◌==◌, ◌&&◌, ◌||◌, not, is_some, nat_le, slice_get, slice_index_or}
 use Rattle.std.specs.List.{AllByRecursion, filter_map, cons_option}
 use Rattle.std.specs.Option.{option_map_or}
 use Rattle.std.proofs.lemmas.List.{append-nil}
-use Rattle.std.proofs.lemmas.List.Elements.{filter-append}
 use Rattle.std.proofs.lemmas.List.Concat.{flat_map-append}
 use Rattle.std.proofs.lemmas.Bool.Decides.{nat_tests}
 use Rattle.std.proofs.lemmas.Bool.{and_parts}
-use mathlib.Core.List.{IsPrefix}
 use Rattle.loop_model.specs.declared.post.Post.{Post as PostData}
 use Rattle.loop_model.specs.declared.call.Call.{Call}
 use Rattle.loop_model.specs.declared.call.Call.TheVariants.{Post, Barrier, Unbarrier, Remove, Quit, Next, Advance, Halt}
-use Rattle.loop_model.specs.declared.reply.Reply.{Reply}
-use Rattle.loop_model.specs.declared.reply.Reply.TheVariants.{Dispatched, Disposed}
+use Rattle.loop_model.specs.declared.reply.Reply.TheVariants.{Dispatched}
 use Rattle.loop_model.specs.declared.entry.Entry.{Entry}
-use Rattle.loop_model.specs.Entries.{is_next, is_disposed, is_accepted}
+use Rattle.loop_model.specs.Entries.{is_accepted}
 use Rattle.loop_model.specs.declared.journal.Act.{Act}
-use Rattle.loop_model.specs.declared.journal.Act.TheVariants.{Dispatch, Idle, Event, Vsync, Paint}
+use Rattle.loop_model.specs.declared.journal.Act.TheVariants.{Dispatch, Vsync}
 use Rattle.loop_model.specs.declared.journal.Route.{Route}
 use Rattle.frame_phases.specs.declared.entry.FrameEntry.{FrameEntry}
-use Rattle.frame_phases.specs.Frames.{lawful}
 use Rattle.dash_script.specs.declared.script.Script.{Script}
 use Rattle.dash_script.specs.Reading.{HasText}
-use Rattle.looper_run.specs.Acts.{IsQuiet, post_at, accepted_by}
+use Rattle.looper_run.specs.Acts.{post_at, accepted_by}
 use Rattle.looper_run.specs.Tests.{IsTake}
 use Rattle.choreographer.proofs.Prefixes.{prefix_trans, prefix_length}
 use Rattle.run_model.specs.Histories.{accepted_post, post_of}
 use Rattle.run_model.specs.Control.{At}
-use Rattle.run_model.specs.Asks.{Makes, plain, token_in, tokens_in, entries_by, AreFor}
+use Rattle.run_model.specs.Asks.{Makes, plain, token_in, tokens_in, AreFor}
 use Rattle.run_model.specs.Loopers.{Looper, Sent, first_looper, starts_frame, delivered, and_takes}
 use Rattle.run_model.specs.Acts.{dispatched, after_act, MayDispatch, Lead, sent_on, IsSent}
 use Rattle.run_model.specs.FrameRuns.{frame_ids, is_frame_from, place_after}
 use Rattle.run_model.proofs.RunLaws.{AreFor-snoc, Lead-snoc, sent_on-append}
 use Rattle.run_model.proofs.Growth.{Lead-entries, post_of-grows}
 use Rattle.run_model.proofs.SoFarLaws.{ArePaints, Lead-paints}
-use Rattle.choreographer.specs.Known.{Known as Pass}
 use Rattle.dash_loopers.specs.declared.player.Parts.{Parts}
 use Rattle.dash_hall.specs.Growth.{own}
 use Rattle.dash_loopers.specs.Players.{PlaceWithout}
-use Rattle.dash_loopers.specs.Played.{IsRootOf, is_disposal, calls_in, IsShown, IsPlayed, IsBarrierOf, RanFrame, Delivers, pulse_acts, pulsed, Pulses, Stands}
+use Rattle.dash_loopers.specs.Played.{IsRootOf, calls_in, IsPlayed, Delivers, pulse_acts, pulsed, Pulses, Stands}
+use Rattle.dash_loopers.specs.PlayingLaws.{calls_more}
 use Rattle.dash_loopers.proofs.LooperSteps.{AddsAt, delivers}
 
 -- ---- the calls of a sender, as entries are added
-
-abbrev is_call : Entry → Bool
-is_call e = not (is_disposal e)
-
-calls_more : (k : ℕ) (es more : List Entry) → calls_in k (es ++ more) ≡ calls_in k es ++ calls_in k more
-calls_more k es more = ap (filter is_call) (filter-append (λ e. e.sender == k) es more) ∙ filter-append is_call (entries_by k es) (entries_by k more)
-
-none_more : (k : ℕ) (es more : List Entry) → calls_in k more ≡ [] → calls_in k (es ++ more) ≡ calls_in k es
-none_more k es more none = calls_more k es more ∙ (ap (λ l. calls_in k es ++ l) none ∙ append-nil (calls_in k es))
-
-pub calls_others : (k : ℕ) (es : List Entry) (e : Entry) → (e.sender ≡ k → ⊥) → calls_in k (es ++ e ∷ []) ≡ calls_in k es
-calls_others k es e apart =
-    let other : (e.sender == k) ≡ false = ne_eqb e.sender k apart in
-    none_more k es (e ∷ []) (rw other refl)
-
-pub calls_disposed : (k : ℕ) (es : List Entry) (e : Entry) (now : ℕ) → e.sender ≡ k → e.call ≡ Next now → e.reply ≡ Disposed → calls_in k (es ++ e ∷ []) ≡ calls_in k es
-calls_disposed k es e now is call reply =
-    let mine : (e.sender == k) ≡ true = eq-eqb e.sender k is in
-    none_more k es (e ∷ []) (rw (mine, call, reply) refl)
 
 pub calls_taken : (k n now : ℕ) (es : List Entry) (e : Entry) → IsTake k now n e → calls_in k (es ++ e ∷ []) ≡ calls_in k es ++ e ∷ []
 calls_taken k n now es e t =
@@ -104,34 +81,6 @@ vsynced s q es fs acts a stamp settled lead = Lead-snoc s q es fs None (first_lo
 -- ---- what stays as entries and acts are added that cause nothing
 
 module _ (s : Script) (q k : ℕ) where
-  -- entries that are no calls of the looper
-  pub stands_beside : (es more : List Entry) (acts : List Act) (parts : Parts) (a : Looper) → calls_in k (es ++ more) ≡ calls_in k es → Stands s q k es acts parts a → Stands s q k (es ++ more) acts parts a
-  stands_beside es more acts parts a same st = record {
-    led = λ fs begins is. Lead-entries s q es fs more (first_looper s) acts a (st.led fs begins is);
-    place = st.place;
-    settled = st.settled;
-    played = subst (λ l. IsPlayed s q l parts a) (sym same) st.played;
-  }
-
-  -- an act of an idle handler or an event
-  pub stands_quiet : (es : List Entry) (x : Act) (acts : List Act) (parts : Parts) (a : Looper) → IsQuiet x → Stands s q k es acts parts a → Stands s q k es (acts ++ x ∷ []) parts a
-  unfolding after_act
-  stands_quiet es (Idle i t) acts parts a is st = record {
-    led = λ fs begins law. Lead-snoc s q es fs None (first_looper s) acts a (Idle i t) (st.led fs begins law) (refl, st.settled);
-    place = st.place;
-    settled = st.settled;
-    played = st.played;
-  }
-  stands_quiet es (Event f e m) acts parts a is st = record {
-    led = λ fs begins law. Lead-snoc s q es fs None (first_looper s) acts a (Event f e m) (st.led fs begins law) (refl, st.settled);
-    place = st.place;
-    settled = st.settled;
-    played = st.played;
-  }
-  stands_quiet es (Dispatch n m r) acts parts a is st = absurd is
-  stands_quiet es (Vsync v) acts parts a is st = absurd is
-  stands_quiet es (Paint g v) acts parts a is st = absurd is
-
   -- a pulse, or none
   pub stands_pulse : (now : ℕ) (es more : List Entry) (acts acts' : List Act) (parts parts' : Parts) (a : Looper) → HasText s
       → (p : Pulses s q now (calls_in k es) (calls_in k (es ++ more)) parts parts' acts acts') → Stands s q k es acts parts a → Stands s q k (es ++ more) acts' parts' (pulsed q p.stamp a)
@@ -223,6 +172,7 @@ module _ (s : Script) (q k n now : ℕ) (es : List Entry) (e : Entry) (take : Is
     elsewhere = λ place j d at near.
         subst (λ l. AreFor IsSent [] l (own (slice_index_or parts.others.items j d))) (sym (not_sent place (not_there q place j at))) (p.elsewhere place j d at near);
     fired = p.fired;
+    counts = p.counts;
   })
     where
       look : Sent

@@ -1,6 +1,6 @@
 -- What a looper's state gains by a step: calls at the step's moment and paints, and nothing at its place in the frame record.
-use Rattle.std.proofs.Common.{◌≡◌, ℕ, ◌-◌, Bool, true, false, List, [], ◌∷◌, ◌++◌, Option, Some, None, refl, sym, ap, ◌∙◌, subst, append_assoc}
-use Rattle.std.specs.Prelude.{◌==◌, ◌&&◌, ◌||◌, nat_le, is_some, map, fold, slice_get, slice_set, if◌then◌else◌}
+use Rattle.std.proofs.Common.{◌≡◌, ℕ, ◌-◌, Bool, true, false, List, [], ◌∷◌, ◌++◌, Option, Some, None, refl, sym, ap, ◌∙◌, append_assoc}
+use Rattle.std.specs.Prelude.{◌==◌, ◌||◌, nat_le, is_some, fold, slice_get, if◌then◌else◌}
 use Rattle.std.specs.List.{AllByRecursion, filter_map, cons_option, zip, enumerate_from}
 use Rattle.std.specs.Option.{option_map_or, IfSome}
 use Rattle.std.proofs.lemmas.List.{append-nil}
@@ -9,7 +9,7 @@ use Rattle.loop_model.specs.declared.journal.Act.{Act}
 use Rattle.loop_model.specs.declared.journal.Act.TheVariants.{Dispatch, Idle, Event, Vsync, Paint}
 use Rattle.loop_model.proofs.Sorting.{AllByRecursion-append}
 use Rattle.dash_script.specs.declared.script.Script.{Script}
-use Rattle.run_model.specs.Senders.{gauge_line, gauge_looper, frame_handler, animation_id, animation_phase, traversal_id, traversal_phase}
+use Rattle.run_model.specs.Senders.{gauge_line, gauge_looper, frame_handler, animation_id, animation_phase, traversal_id}
 use Rattle.run_model.specs.Control.{At}
 use Rattle.run_model.specs.Loopers.{Looper, Gauge, Sent, with_gauge, and_posts_frame, traversal_requested, target_set, object_set, moved, gauge_moved, animation_ran, paints, traversal_ran, callback_ran, fires, reaction, reacted, delivered, and_takes}
 use Rattle.run_model.proofs.SoFarLaws.{ArePaints}

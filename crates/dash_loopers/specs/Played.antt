@@ -64,6 +64,10 @@ IsBarrierOf tokens _ _ = ⊥
 abbrev pub paint_of : Painted → Act
 paint_of p = Paint p.gauge p.value
 
+-- what a gauge of this number is painted as, where it is the looper's own
+abbrev pub paint_of_gauge : ℕ × ViewGauge → List Act
+paint_of_gauge (g, v) = if v.own then Paint g v.value ∷ [] else []
+
 -- the view root of looper q stands as the state says, where the looper's barriers were answered these tokens
 pub record IsRootOf (s : Script) (q : ℕ) (tokens : List ℕ) (a : Looper) (root : ViewRoot) : Type 0 where
   pub gauges : map standing root.gauges.items ≡ a.gauges
@@ -96,11 +100,12 @@ pub record IsShown (s : Script) (q : ℕ) (made : List Entry) (root : ViewRoot) 
 abbrev pub AreMadeElsewhere : ℕ → List Sender → Looper → Type 0
 AreMadeElsewhere q others a = (k j : ℕ) (d : Sender) → PlaceWithout q k j → j < length others → AreFor IsSent [] (sent_on k a.sent) (own (slice_index_or others j d))
 
--- all that the state says is so, of the looper's own queue, of the others, and of its rule counts
+-- all that the state says is so, of the looper's own queue, of the others, and of its rule counts, of which there are as many as rules
 pub record IsPlayed (s : Script) (q : ℕ) (made : List Entry) (parts : Parts) (a : Looper) : Type 0 where
   pub shown : IsShown s q made parts.root a
   pub elsewhere : AreMadeElsewhere q parts.others.items a
   pub fired : parts.fired.items ≡ a.fired
+  pub counts : length parts.fired.items ≡ length s.rules
 
 -- a step of the view root: whatever state it stood at, it stands now at what the step makes of that
 abbrev pub Shows : Script → ℕ → (Looper → Looper) → List Entry → ViewRoot → List Entry → ViewRoot → Type 0

@@ -1,5 +1,5 @@
 //! What a looper does with its messages.
-ghost use Rattle.std.specs.Prelude.{◌≡◌, ◌<◌, ℕ, List, [], ◌∷◌, ◌++◌, map, slice_get, Some, None, IsTrue, true, OnOk};
+ghost use Rattle.std.specs.Prelude.{◌≡◌, ◌<◌, ℕ, List, [], ◌∷◌, ◌++◌, map, slice_get, Some, None, IsTrue, true, OnOk, is_ok};
 ghost use mathlib.Core.List.{IsPrefix};
 ghost use Rattle.loop_model.specs.declared.journal.Act.{Act};
 ghost use Rattle.loop_model.specs.declared.entry.Entry.{Entry};
@@ -22,6 +22,8 @@ ghost use Rattle.run_model.specs.Senders.{frame_handler as the_frame_handler};
 ghost use Rattle.run_model.specs.Control.{Timing};
 ghost use Rattle.run_model.specs.Loopers.{starts_frame, object_set, reacted, reaction};
 ghost use Rattle.looper_run.specs.Tests.{Unless};
+ghost use Rattle.looper_run.specs.declared.dispatcher.Did.TheVariants.{Yes};
+ghost use Rattle.dash_loopers.specs.PlayingLaws.{playing_others, playing_disposed, playing_quiet};
 
 use crate::looper::StageLooper;
 use crate::view_root::{Painted, ViewRoot};
@@ -87,7 +89,7 @@ impl<'a, R: Wait, G: Gate> Dispatcher for Player<'a, R, G> {
 
     ghost Origin = { Owner };
 
-    ghost origin = { λ d. record { script = d.place.script.now; hall = d.place.hall.now; number = d.place.looper } };
+    ghost origin = { λ d. record { script = d.place.script.now; hall = d.place.hall.now; number = d.place.looper; now = d.now; began = d.began.now.value } };
 
     ghost Awaits = { λ d awaited. IsTrue true };
 
@@ -127,11 +129,11 @@ impl<'a, R: Wait, G: Gate> Dispatcher for Player<'a, R, G> {
             .deliver(&mut self.parts, own, &m.as_post(), now))
     }
 
-    ghost others = { λ d s es e acts apart meets. meets };
+    ghost others = { λ d s es e acts apart meets. playing_others d.place.script.now d.place.looper d.now d.began.now.value s es e acts d.parts apart meets };
 
-    ghost disposal = { λ d s es e now acts own call reply meets. meets };
+    ghost disposal = { λ d s es e now acts own call reply meets. playing_disposed d.place.script.now d.place.looper d.now d.began.now.value s es e now acts d.parts own call reply meets };
 
-    ghost quiet = { λ d s es a acts is meets. meets };
+    ghost quiet = { λ d s es a acts is meets. playing_quiet d.place.script.now d.place.looper d.now d.began.now.value s es a acts d.parts is meets };
 }
 
 impl<'a, R: Wait> Place<'a, R> {
@@ -566,7 +568,8 @@ fn tell(journal: &mut Journal, act: Act) -> Result<(), NoMemory>
 }
 
 fn did(done: Result<(), NoMemory>) -> Did
-    ensures { result ≡ No → ⊥ }
+    ensures no { result ≡ No → ⊥ }
+    ensures yes { result ≡ Yes → is_ok done ≡ true }
 {
     match done {
         Ok(()) => Did::Yes,

@@ -1,2 +1,0 @@
-use Rattle.dash_loopers.proofs.LooperSteps.{AddsAt}
-use Rattle.dash_loopers.proofs.LooperStands.{calls_others}
