@@ -1,9 +1,9 @@
 -- What a looper has come to after a pulse, a frame and a message.
-use Rattle.std.proofs.Common.{◌≡◌, ◌≢◌, ℕ, zero, suc, ◌+◌, ◌-◌, ◌*◌, ◌/◌, ◌^◌, ◌<◌, ◌≤◌, ◌==◌, min, Bool, true, false, cond, not, List, [], ◌∷◌, ◌++◌, map, length, Option, Some, None, Result, Ok, Err, OnOk, inl, inr, refl, sym, ap, ◌∙◌, subst, arith, eq-eqb, ne_eqb}
+use Rattle.std.proofs.Common.{◌≡◌, ◌≢◌, ℕ, zero, suc, ◌+◌, ◌-◌, ◌*◌, ◌/◌, ◌^◌, ◌<◌, ◌≤◌, ◌==◌, min, Bool, true, false, cond, not, List, [], ◌∷◌, ◌++◌, map, length, get_or, take, Option, Some, None, Result, Ok, Err, OnOk, inl, inr, refl, sym, ap, ◌∙◌, subst, arith, append_assoc, eq-eqb, ne_eqb}
 use Rattle.std.specs.Prelude.{◌&&◌, ◌||◌, filter, fold, count_by, is_some, is_ok, nat_le, slice_get, slice_index_or, if◌then◌else◌}
 use Rattle.std.specs.Option.{option_map_or}
 use Rattle.std.proofs.lemmas.Bool.{and_parts, eqb-true, leb-true}
-use Rattle.std.proofs.lemmas.List.{append-nil}
+use Rattle.std.proofs.lemmas.List.{append-nil, map-append, take_more}
 use Rattle.std.proofs.lemmas.List.Elements.{filter-append}
 use Rattle.std.proofs.lemmas.Grind.{flat_map-append}
 use Rattle.std.proofs.Math.Nat.{div-mul-le_self}
@@ -40,6 +40,7 @@ use Rattle.run_model.specs.FrameRuns.{place_after, posts_frame}
 use Rattle.run_model.proofs.RunLaws.{AreFor-snoc, sent_on-append}
 use Rattle.dash_hall.specs.Growth.{own, GoesOn, Makes}
 use Rattle.dash_hall.specs.Hosts.{Origin, IsHost, nanos_of, sends_by}
+use Rattle.dash_loopers.specs.declared.view_root.Painted.{Painted}
 use Rattle.dash_loopers.specs.declared.view_root.ViewRoot.{ViewRoot}
 use Rattle.dash_loopers.specs.declared.player.Parts.{Parts}
 use Rattle.dash_loopers.specs.Players.{PlaceWithout}
@@ -188,6 +189,12 @@ pub pulse_told : (s : Script) (q now : ℕ) (made made' : List Entry) (parts par
 pulse_told s q now made made' parts parts' acts acts0 acts' pulse delivers isnt same told =
     let done = delivers isnt in
     record { stamp = Some pulse.stamp; due = done.1; told = told ∙ ap (λ (l : List Act). l ++ Vsync pulse.stamp ∷ []) same; grew = done.0; plays = done.2 }
+
+-- such a host's calls that told of nothing
+pub untold_hosted : (o o' : Origin) (p p0 p' : Sender) (b : Tally) → o' ≡ o → IsHost o' p' b → o.poster ≡ p → p0 ≡ p → sends_by o'.handler p' ≡ sends_by o.handler p0 → calls_of p' ≡ calls_of p
+untold_hosted o o' p p0 p' b same is began at sends =
+    calls_untold o.handler p p' o.pass b (hosted_on o o' p p' b same is began)
+    (subst (λ (z : Sender). sends_by o.handler p' ≡ sends_by o.handler z) at (subst (λ (z : Origin). sends_by z.handler p' ≡ sends_by o.handler p0) same sends))
 
 -- ---- what a step leaves as it was
 
@@ -412,3 +419,9 @@ still_delivered s q now m made made' parts parts' acts acts' step frames is_step
 pub on_ok : {E : Type 0} (r : Result Unit E) (P Q : Type 0) → OnOk r P → (P → Q) → OnOk r Q
 on_ok (Ok u) P Q h f = f h
 on_ok (Err e) P Q h f = tt
+
+-- one paint more was told
+pub painted_more : (acts0 acts : List Act) (ps : List Painted) (i : ℕ) (d : Painted) → i < length ps → acts ≡ acts0 ++ map paint_of (take i ps) → acts ++ paint_of (get_or ps i d) ∷ [] ≡ acts0 ++ map paint_of (take (i + 1) ps)
+painted_more acts0 acts ps i d near is =
+    let more : map paint_of (take (i + 1) ps) ≡ map paint_of (take i ps) ++ paint_of (get_or ps i d) ∷ [] = ap (map paint_of) (take_more ps i d near) ∙ map-append paint_of (take i ps) (get_or ps i d ∷ []) in
+    ap (λ (l : List Act). l ++ paint_of (get_or ps i d) ∷ []) is ∙ (append_assoc acts0 (map paint_of (take i ps)) (paint_of (get_or ps i d) ∷ []) ∙ ap (λ (l : List Act). acts0 ++ l) (sym more))
