@@ -252,9 +252,9 @@ framed_ran interval phases before after is_moment told Done some (start, time, m
     record {
       frame = Some place;
       framed = λ fs begins is. (
-      let whole : y.frames.entries ++ begins.0 ≡ fs = ap (λ l. l ++ begins.0) seen_is ∙ begins.1 in
-      let ran = frame_ran interval phases first y.frames.entries begins.0 (subst (λ (l : List FrameEntry). lawful interval phases l ≡ true) (sym whole) is) none settled few (ap numbers_of (sym batches_are) ∙ numbers) near in
-      subst (λ (l : List FrameEntry). (is_frame_from l first (Some place) ≡ true) × (frame_ids l (Some place) ≡ ids_of told)) whole (ran.0, ran.1 ∙ ids));
+          let whole : y.frames.entries ++ begins.0 ≡ fs = ap (λ l. l ++ begins.0) seen_is ∙ begins.1 in
+          let ran = frame_ran interval phases first y.frames.entries begins.0 (subst (λ (l : List FrameEntry). lawful interval phases l ≡ true) (sym whole) is) none settled few (ap numbers_of (sym batches_are) ∙ numbers) near in
+          subst (λ (l : List FrameEntry). (is_frame_from l first (Some place) ≡ true) × (frame_ids l (Some place) ≡ ids_of told)) whole (ran.0, ran.1 ∙ ids));
       within = omega (arith, at, prefix_length middle.view.seen after.view.seen grew);
       grew = prefix_trans before.view.seen middle.view.seen after.view.seen (turn_grew before middle turn.0 turn.1 turn.2) grew;
     }

@@ -220,9 +220,9 @@ stays_or q (Some x) a f h = h x
 module _ (s : Script) (q now : ℕ) where
   stays_requested : (a : Looper) → StaysElsewhere q a (traversal_requested s q now a)
   stays_requested a = stays_if q (is_some a.barrier) a a _ (stays_self q a) (record {
-      elsewhere = λ k isnt. sent_else k a.sent (record { queue = q; ask = Asks (Barrier 0); reply = None; timing = At now }) (λ e. isnt (sym e));
-      fired = refl;
-    })
+    elsewhere = λ k isnt. sent_else k a.sent (record { queue = q; ask = Asks (Barrier 0); reply = None; timing = At now }) (λ e. isnt (sym e));
+    fired = refl;
+  })
 
   stays_target : (g target : ℕ) (x : Gauge) (a : Looper) → StaysElsewhere q a (target_set s q now g target x a)
   stays_target g target x a =
@@ -247,9 +247,9 @@ module _ (s : Script) (q now : ℕ) where
 
   stays_traversed : (a : Looper) → StaysElsewhere q a (traversal_ran s q now a)
   stays_traversed a = stays_or q a.barrier a (λ k. and_sends q now (Unbars k) (record a { barrier = None; painted = a.painted ++ paints s q a.gauges })) (λ n. record {
-      elsewhere = λ k isnt. sent_else k a.sent (record { queue = q; ask = Unbars n; reply = None; timing = At now }) (λ e. isnt (sym e));
-      fired = refl;
-    })
+    elsewhere = λ k isnt. sent_else k a.sent (record { queue = q; ask = Unbars n; reply = None; timing = At now }) (λ e. isnt (sym e));
+    fired = refl;
+  })
 
   stays_called : (id : ℕ) (a : Looper) → StaysElsewhere q a (callback_ran s q now a id)
   stays_called id a = stays_if q (id == traversal_id) a (traversal_ran s q now a) _ (stays_traversed a)
@@ -370,28 +370,28 @@ frame_delivered s q now m made made' parts mid parts' acts acts0 acts' ids start
   };
   starts = ap (λ (t : Bool). not (is_some ran.frame) || t) starts ∙ or_true (not (is_some ran.frame));
   plays = λ text a unpainted is. (
-  let b : Looper = fold (callback_ran s q now) a ids in
-  let done : IsPlayed s q made' mid b = plays text a is in
-  let root = done.shown.stands in
-  subst (λ (z : Looper). IsPlayed s q made' parts' (record z { painted = [] }) × (acts' ≡ acts ++ z.painted)) (sym (delivered_frame s q now ids m a starts)) (
-    record {
-      shown = record {
-        calls = done.shown.calls;
-        posted = λ phase id. subst (λ (f : Pass). count_by (is_frame_post phase id) b.posted ≤ count_by (posts_frame phase id) f.view.seen) (sym pass) (done.shown.posted phase id);
-        stands = record {
-          gauges = ap (λ v. map standing v.items) gauges ∙ root.gauges;
-          lines = ap (λ v. map fixed v.items) gauges ∙ root.lines;
-          barrier = subst (IsBarrierOf (tokens_in made') b.barrier) (sym barrier) root.barrier;
-          barriers = root.barriers;
-          painted = ap (map paint_of) none;
-        };
-      };
-      elsewhere = λ k j d place near. subst (λ (l : List Sender). AreFor IsSent [] (sent_on k b.sent) (own (slice_index_or l j d))) (sym (ap (λ v. v.items) others)) (done.elsewhere k j d place (subst (λ (l : List Sender). j < length l) (ap (λ v. v.items) others) near));
-      fired = ap (λ v. v.items) fired ∙ done.fired;
-      counts = ap (λ v. length v.items) fired ∙ done.counts;
-    },
-    told ∙ (λ i. same i ++ root.painted i),
-  ));
+      let b : Looper = fold (callback_ran s q now) a ids in
+      let done : IsPlayed s q made' mid b = plays text a is in
+      let root = done.shown.stands in
+      subst (λ (z : Looper). IsPlayed s q made' parts' (record z { painted = [] }) × (acts' ≡ acts ++ z.painted)) (sym (delivered_frame s q now ids m a starts)) (
+        record {
+          shown = record {
+            calls = done.shown.calls;
+            posted = λ phase id. subst (λ (f : Pass). count_by (is_frame_post phase id) b.posted ≤ count_by (posts_frame phase id) f.view.seen) (sym pass) (done.shown.posted phase id);
+            stands = record {
+              gauges = ap (λ v. map standing v.items) gauges ∙ root.gauges;
+              lines = ap (λ v. map fixed v.items) gauges ∙ root.lines;
+              barrier = subst (IsBarrierOf (tokens_in made') b.barrier) (sym barrier) root.barrier;
+              barriers = root.barriers;
+              painted = ap (map paint_of) none;
+            };
+          };
+          elsewhere = λ k j d place near. subst (λ (l : List Sender). AreFor IsSent [] (sent_on k b.sent) (own (slice_index_or l j d))) (sym (ap (λ v. v.items) others)) (done.elsewhere k j d place (subst (λ (l : List Sender). j < length l) (ap (λ v. v.items) others) near));
+          fired = ap (λ v. v.items) fired ∙ done.fired;
+          counts = ap (λ v. length v.items) fired ∙ done.counts;
+        },
+        told ∙ (λ i. same i ++ root.painted i),
+      ));
 }
 
 -- a message that begins no frame and paints nothing
@@ -402,12 +402,12 @@ step_delivered s q now m made made' parts parts' acts acts' step grew is_step st
   ran = record { frame = None; framed = λ fs begins is. (refl, refl); within = omega arith; grew = grew };
   starts = refl;
   plays = λ text a unpainted is. (
-  let b : Looper = step a in
-  let nothing : b.painted ≡ [] = still a ∙ unpainted in
-  subst (λ (z : Looper). IsPlayed s q made' parts' (record z { painted = [] }) × (acts' ≡ acts ++ z.painted)) (sym (is_step a)) (
-    subst (λ (l : List Act). IsPlayed s q made' parts' (record b { painted = l })) nothing (plays text a is),
-    same ∙ (sym (append-nil acts) ∙ ap (λ (l : List Act). acts ++ l) (sym nothing)),
-  ));
+      let b : Looper = step a in
+      let nothing : b.painted ≡ [] = still a ∙ unpainted in
+      subst (λ (z : Looper). IsPlayed s q made' parts' (record z { painted = [] }) × (acts' ≡ acts ++ z.painted)) (sym (is_step a)) (
+        subst (λ (l : List Act). IsPlayed s q made' parts' (record b { painted = l })) nothing (plays text a is),
+        same ∙ (sym (append-nil acts) ∙ ap (λ (l : List Act). acts ++ l) (sym nothing)),
+      ));
 }
 
 -- the same where the pass of frames is as it was

@@ -118,15 +118,11 @@ impl<'a, R: Wait, G: Gate> Dispatcher for Player<'a, R, G> {
         if !self.place.intercepts(m) {
             return Did::No;
         }
-        did(self
-            .place
-            .deliver(&mut self.parts, own, &m.as_post(), now))
+        did(self.place.deliver(&mut self.parts, own, &m.as_post(), now))
     }
 
     fn handle(&mut self, own: &mut Own, m: &Message<PoolClaim>, now: u64) -> Did {
-        did(self
-            .place
-            .deliver(&mut self.parts, own, &m.as_post(), now))
+        did(self.place.deliver(&mut self.parts, own, &m.as_post(), now))
     }
 
     ghost others = { λ d s es e acts apart meets. meets };
@@ -303,13 +299,7 @@ impl<'a, R: Wait> Place<'a, R> {
     }
 
     /// A message by the choreographer's handler, which begins a frame or says that a callback came due.
-    fn on_frame(
-        &self,
-        parts: &mut Parts,
-        own: &mut Own,
-        p: &Post,
-        now: u64,
-    ) -> Result<(), NoMemory>
+    fn on_frame(&self, parts: &mut Parts, own: &mut Own, p: &Post, now: u64) -> Result<(), NoMemory>
         requires callback { p.now.callback ≡ None }
         requires handler { p.now.handler ≡ the_frame_handler self.now.looper }
         requires serves { ServesAt self.now.script.now self.now.hall.now self.now.looper parts.old (workplace (held own.old)) }
@@ -338,13 +328,7 @@ impl<'a, R: Wait> Place<'a, R> {
 
     /// Delivers a message that has no callback: one of the choreographer to it, one with an object to the gauge of that number, and
     /// any other to the rules.
-    fn deliver(
-        &self,
-        parts: &mut Parts,
-        own: &mut Own,
-        p: &Post,
-        now: u64,
-    ) -> Result<(), NoMemory>
+    fn deliver(&self, parts: &mut Parts, own: &mut Own, p: &Post, now: u64) -> Result<(), NoMemory>
         requires serves { ServesAt self.now.script.now self.now.hall.now self.now.looper parts.old (workplace (held own.old)) }
         requires callback { p.now.callback ≡ None }
         ensures parts { AreSameParts parts.old parts.new }
@@ -363,13 +347,7 @@ impl<'a, R: Wait> Place<'a, R> {
     }
 
     /// Each rule of the message that has not fired so often sends its own.
-    fn react(
-        &self,
-        parts: &mut Parts,
-        own: &mut Own,
-        p: &Post,
-        now: u64,
-    ) -> Result<(), NoMemory>
+    fn react(&self, parts: &mut Parts, own: &mut Own, p: &Post, now: u64) -> Result<(), NoMemory>
         requires serves { ServesAt self.now.script.now self.now.hall.now self.now.looper parts.old (workplace (held own.old)) }
         ensures parts { AreSameParts parts.old parts.new }
         ensures own { IsSameOwn own.old own.new }
