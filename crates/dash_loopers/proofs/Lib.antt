@@ -5,7 +5,7 @@ pub mod LooperOver
 pub mod LooperTold
 pub mod LooperKits
 pub mod LooperSeats
-pub mod FramePosts
 pub mod FrameIds
 pub mod FrameSteps
 pub mod PlaySteps
+pub mod ViewSteps

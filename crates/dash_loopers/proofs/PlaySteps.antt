@@ -45,7 +45,7 @@ use Rattle.dash_loopers.specs.declared.view_root.ViewRoot.{ViewRoot}
 use Rattle.dash_loopers.specs.declared.player.Parts.{Parts}
 use Rattle.dash_loopers.specs.Players.{PlaceWithout}
 use Rattle.dash_loopers.specs.Played.{standing, fixed, IsBarrierOf, IsFrameBy, is_disposal, calls_of, IsRootOf, IsShown, IsPlayed, Shows, Plays, RanFrame, Delivers, DeliversPulse, Pulses, pulse_acts, pulse_time, pulsed, with_call, paint_of}
-use Rattle.dash_loopers.proofs.FramePosts.{IsTaken, accepted, refused, told_one, told_none}
+use Rattle.dash_hall.proofs.FramePosts.{IsTaken, accepted, refused, told_one, told_none}
 use Rattle.dash_loopers.proofs.FrameIds.{turn_grew}
 use Rattle.dash_loopers.proofs.FrameSteps.{FrameShows}
 
