@@ -9,3 +9,5 @@ pub mod FrameIds
 pub mod FrameSteps
 pub mod PlaySteps
 pub mod ViewSteps
+pub mod RuleSteps
+pub mod RuleText
