@@ -1,5 +1,6 @@
 -- What the steps of a call leave: words of its private methods.
 use Rattle.std.specs.Prelude.{◌≡◌, ℕ, ◌+◌, ◌==◌, Bool, if◌then◌else◌, IfOk, OnOk, OnErr, IsTrue, Result, Option, Some, None, List, [], ◌∷◌, ◌++◌, length, reverse}
+use mathlib.Core.List.{IsPrefix}
 use Rattle.loop_model.specs.declared.memory.NoMemory.{NoMemory}
 use Rattle.frame_phases.specs.declared.entry.Scheduling.{Scheduling}
 use Rattle.frame_phases.specs.declared.entry.Took.{Took}
@@ -44,6 +45,7 @@ at_phase phases k = if k == phases then None else Some k
 pub record PassRan (phases done count : ℕ) (before after : Known) (batches : List Batch) : Type 0 where
   pub same : IsSamePass before after
   pub turns : after.view.turns ≡ before.view.turns + count
+  pub grew : IsPrefix before.view.seen after.view.seen
   pub begin : begin_place (reverse after.view.seen) ≡ begin_place (reverse before.view.seen)
   pub ran : ran_since (reverse after.view.seen) ≡ ran_since (reverse before.view.seen) ++ numbers_of batches
   pub taken : batches_since (reverse after.view.seen) ≡ batches_since (reverse before.view.seen) ++ batches

@@ -6,3 +6,4 @@ pub mod HallPasses
 pub mod HallSteps
 pub mod Sending
 pub mod Hearing
+pub mod FramePosts

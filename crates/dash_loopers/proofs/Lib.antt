@@ -9,3 +9,9 @@ pub mod LooperSteps
 pub mod LooperStands
 pub mod LooperPlaying
 pub mod LooperPlayed
+pub mod FrameIds
+pub mod FrameSteps
+pub mod PlaySteps
+pub mod ViewSteps
+pub mod RuleSteps
+pub mod RuleText

@@ -60,6 +60,11 @@ module _ (s : Script) (hall : Hall) (n : ℕ) (l : IsLooperOf s hall n) where
       let e = at_same frame_key (frame_constants s) hall.choreographers.items (range_with_len 0 s.loopers) n c n l.is_hall.choreographers at (at_range s.loopers n l.one) in
       ap (λ k. k.phases) e
 
+  pub its_period : (c : Frames) → slice_get hall.choreographers.items n ≡ Some c → c.constants.interval ≡ s.period
+  its_period c at =
+      let e = at_same frame_key (frame_constants s) hall.choreographers.items (range_with_len 0 s.loopers) n c n l.is_hall.choreographers at (at_range s.loopers n l.one) in
+      ap (λ k. k.interval) e
+
 pub parts_self : (a : Parts) → AreSameParts a a
 parts_self a = record { others = refl; frames = refl; client = refl }
 

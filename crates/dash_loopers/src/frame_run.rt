@@ -1,7 +1,8 @@
 //! The callbacks of one frame.
 ghost use Rattle.std.specs.Prelude.{◌≡◌, ◌<◌, ℕ, List, map, fold, Some, OnOk};
+ghost use Rattle.std.proofs.Common.{subst, sym};
 ghost use Rattle.choreographer.specs.Known.{IsOf};
-ghost use Rattle.choreographer.specs.Client.{Run};
+ghost use Rattle.choreographer.specs.declared.frame.Framed.TheVariants.{NoMemory as NoRoom};
 ghost use Rattle.dash_script.specs.declared.script.Script.{Script as ScriptData};
 ghost use Rattle.run_model.specs.Loopers.{callback_ran};
 ghost use Rattle.dash_hall.specs.Hosts.{IsHost, origin_of};
@@ -27,7 +28,7 @@ pub(crate) struct FrameRun<'a> {
     pub(crate) began: &'a Snapshot<ViewRoot>,
     pub(crate) poster_began: &'a Snapshot<Poster<PoolClaim>>,
     /// The callbacks that ran, each with its frame time in nanoseconds.
-    pub(crate) ran: Vec<(Callback, u64)>,
+    pub(crate) ran: &'a mut Vec<(Callback, u64)>,
 }
 
 impl<'a, 'b, R: Wait> FrameClient<Host<'b, R>> for FrameRun<'a> {
@@ -37,9 +38,9 @@ impl<'a, 'b, R: Wait> FrameClient<Host<'b, R>> for FrameRun<'a> {
 
     ghost origin = { λ l. frame_owner l.root.ghost_name l.root.now l.began.now.value l.poster_began.now.value };
 
-    ghost ran = { λ l. Some l.ran.items };
+    ghost ran = { λ l. Some l.ran.now.items };
 
-    ghost Meets = { λ l h. (s : ScriptData) (q : ℕ) → Shows s q (λ a. fold (callback_ran s q h.now) a (ids_of l.ran.items)) (calls_of l.poster_began.now.value) l.began.now.value (calls_of h.poster.now) l.root.now };
+    ghost Meets = { λ l h. (s : ScriptData) (q : ℕ) → Shows s q (λ a. fold (callback_ran s q h.now) a (ids_of l.ran.now.items)) (calls_of l.poster_began.now.value) l.began.now.value (calls_of h.poster.now) l.root.now };
 
     fn run(
         &mut self,
@@ -57,7 +58,7 @@ impl<'a, 'b, R: Wait> FrameClient<Host<'b, R>> for FrameRun<'a> {
         }
     }
 
-    ghost stays = { λ l h now k reads meets. meets };
+    ghost stays = { λ l h now k reads meets. subst (λ x. (s : ScriptData) (q : ℕ) → Shows s q (λ a. fold (callback_ran s q x.now) a (ids_of l.ran.now.items)) (calls_of l.poster_began.now.value) l.began.now.value (calls_of x.poster.now) l.root.now) (sym reads) meets };
 }
 
 impl ViewRoot {
@@ -80,15 +81,26 @@ impl ViewRoot {
     {
         let began = Snapshot::of(&*self);
         let poster_began = Snapshot::of(&*host.poster);
+        let mut ran = Vec::new(host.alloc);
         let mut client = FrameRun {
             root: self,
             began: &began,
             poster_began: &poster_began,
-            ran: Vec::new(host.alloc),
+            ran: &mut ran,
         };
-        match c.do_frame(host.rt, pass, host, &mut client) {
-            Framed::NoMemory => Err(NoMemory),
-            _ => Ok(()),
-        }
+        framed(c.do_frame(host.rt, pass, host, &mut client))
+    }
+}
+
+/// Ok unless memory was wanting.
+fn framed(how: Framed) -> Result<(), NoMemory>
+    ensures ok { OnOk result (how ≡ NoRoom → ⊥) }
+{
+    match how {
+        Framed::Done => Ok(()),
+        Framed::Elsewhere { .. } => Ok(()),
+        Framed::Unscheduled => Ok(()),
+        Framed::Backwards { .. } => Ok(()),
+        Framed::NoMemory => Err(NoMemory),
     }
 }

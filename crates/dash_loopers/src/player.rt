@@ -1,5 +1,5 @@
 //! What a looper does with its messages.
-ghost use Rattle.std.specs.Prelude.{◌≡◌, ◌<◌, ℕ, List, [], ◌∷◌, ◌++◌, map, slice_get, Some, None, IsTrue, true, OnOk, is_ok};
+ghost use Rattle.std.specs.Prelude.{◌≡◌, ◌<◌, ℕ, List, [], ◌∷◌, ◌++◌, map, fold, slice_get, Some, None, IsTrue, true, false, OnOk, is_ok};
 ghost use mathlib.Core.List.{IsPrefix};
 ghost use Rattle.loop_model.specs.declared.journal.Act.{Act};
 ghost use Rattle.loop_model.specs.declared.entry.Entry.{Entry};
@@ -16,14 +16,15 @@ ghost use Rattle.dash_hall.specs.Growth.{Makes};
 ghost use Rattle.dash_loopers.specs.declared.player.Parts.{Parts as PartsData};
 ghost use Rattle.dash_script.specs.Reading.{HasText};
 ghost use Rattle.dash_hall.specs.Requests.{call_by};
-ghost use Rattle.dash_loopers.specs.Played.{calls_of, FiresAt, Plays, DeliversPulse, Delivers, Pulses, IsPlaying, rule_met, with_call, paint_of};
+ghost use Rattle.dash_loopers.specs.Played.{calls_of, FiresAt, Plays, DeliversPulse, Delivers, RanFrame, Pulses, IsPlaying, rule_met, with_call, paint_of};
 ghost use Rattle.loop_model.specs.declared.post.Post.{Post as PostData};
 ghost use Rattle.run_model.specs.Senders.{frame_handler as the_frame_handler};
 ghost use Rattle.run_model.specs.Control.{Timing};
-ghost use Rattle.run_model.specs.Loopers.{starts_frame, object_set, reacted, reaction};
+ghost use Rattle.run_model.specs.Loopers.{starts_frame, callback_ran, object_set, reacted, reaction};
 ghost use Rattle.looper_run.specs.Tests.{Unless};
 ghost use Rattle.looper_run.specs.declared.dispatcher.Did.TheVariants.{Yes};
 ghost use Rattle.dash_loopers.specs.PlayingLaws.{playing_others, playing_disposed, playing_quiet};
+ghost use Rattle.choreographer.specs.declared.host.HostSent.TheVariants.{NoMemory as NoRoom};
 
 use crate::looper::StageLooper;
 use crate::view_root::{Painted, ViewRoot};
@@ -118,15 +119,11 @@ impl<'a, R: Wait, G: Gate> Dispatcher for Player<'a, R, G> {
         if !self.place.intercepts(m) {
             return Did::No;
         }
-        did(self
-            .place
-            .deliver(&mut self.parts, own, &m.as_post(), now))
+        did(self.place.deliver(&mut self.parts, own, &m.as_post(), now))
     }
 
     fn handle(&mut self, own: &mut Own, m: &Message<PoolClaim>, now: u64) -> Did {
-        did(self
-            .place
-            .deliver(&mut self.parts, own, &m.as_post(), now))
+        did(self.place.deliver(&mut self.parts, own, &m.as_post(), now))
     }
 
     ghost others = { λ d s es e acts apart meets. playing_others d.place.script.now d.place.looper d.now d.began.now.value s es e acts d.parts apart meets };
@@ -168,6 +165,7 @@ impl<'a, R: Wait> Place<'a, R> {
         ensures poster { (result.poster.ghost_name ≡ poster.entry.ghost_name) × (result.poster.now ≡ poster.old) }
         ensures pass { (result.pass.ghost_name ≡ pass.entry.ghost_name) × (result.pass.now ≡ pass.old) }
         ensures began { (result.began.now.value ≡ poster.old) × (result.pass_began.now.value ≡ pass.old) }
+        ensures moment { (result.now ≡ now) × (result.handler.id ≡ the_frame_handler self.now.looper) }
         ensures ready { IsHost (origin_of result.queue.now result.pool.now result.poster.ghost_name result.pass.ghost_name result.began.now.value result.pass_began.now.value result.handler.id result.now) result.poster.now result.pass.now }
     {
         Host {
@@ -212,7 +210,7 @@ impl<'a, R: Wait> Place<'a, R> {
         match self.deliver_pulse(parts, own, now) {
             None => Did::No,
             Some(pulse) => {
-                if pulse.sent == HostSent::NoMemory {
+                if is_wanting(pulse.sent) {
                     return Did::NoMemory;
                 }
                 did(tell(own.journal, Act::Vsync { stamp: pulse.stamp }))
@@ -227,6 +225,9 @@ impl<'a, R: Wait> Place<'a, R> {
         ensures own { IsSameOwn own.old own.new }
         ensures lent { IsLent (held own.old) (held own.new) }
         ensures rung { own.new.poster.now.view.rung ≡ own.old.poster.now.view.rung }
+        ensures ran { OnOk result ((ids : List ℕ) × RanFrame self.now.script.now.period 4 parts.old.frames parts.new.frames ids
+            × Plays self.now.script.now self.now.looper (λ a. fold (callback_ran self.now.script.now self.now.looper now) a ids) (calls_of own.old.poster.now) parts.old (calls_of own.new.poster.now) parts.new) }
+        ensures acts { own.new.journal.now.acts ≡ own.old.journal.now.acts }
     {
         let began = Snapshot::of(&*own.poster);
         let pass_began = Snapshot::of(&*own.pass);
@@ -299,13 +300,7 @@ impl<'a, R: Wait> Place<'a, R> {
     }
 
     /// A message by the choreographer's handler, which begins a frame or says that a callback came due.
-    fn on_frame(
-        &self,
-        parts: &mut Parts,
-        own: &mut Own,
-        p: &Post,
-        now: u64,
-    ) -> Result<(), NoMemory>
+    fn on_frame(&self, parts: &mut Parts, own: &mut Own, p: &Post, now: u64) -> Result<(), NoMemory>
         requires callback { p.now.callback ≡ None }
         requires handler { p.now.handler ≡ the_frame_handler self.now.looper }
         requires serves { ServesAt self.now.script.now self.now.hall.now self.now.looper parts.old (workplace (held own.old)) }
@@ -334,13 +329,7 @@ impl<'a, R: Wait> Place<'a, R> {
 
     /// Delivers a message that has no callback: one of the choreographer to it, one with an object to the gauge of that number, and
     /// any other to the rules.
-    fn deliver(
-        &self,
-        parts: &mut Parts,
-        own: &mut Own,
-        p: &Post,
-        now: u64,
-    ) -> Result<(), NoMemory>
+    fn deliver(&self, parts: &mut Parts, own: &mut Own, p: &Post, now: u64) -> Result<(), NoMemory>
         requires serves { ServesAt self.now.script.now self.now.hall.now self.now.looper parts.old (workplace (held own.old)) }
         requires callback { p.now.callback ≡ None }
         ensures parts { AreSameParts parts.old parts.new }
@@ -359,13 +348,7 @@ impl<'a, R: Wait> Place<'a, R> {
     }
 
     /// Each rule of the message that has not fired so often sends its own.
-    fn react(
-        &self,
-        parts: &mut Parts,
-        own: &mut Own,
-        p: &Post,
-        now: u64,
-    ) -> Result<(), NoMemory>
+    fn react(&self, parts: &mut Parts, own: &mut Own, p: &Post, now: u64) -> Result<(), NoMemory>
         requires serves { ServesAt self.now.script.now self.now.hall.now self.now.looper parts.old (workplace (held own.old)) }
         ensures parts { AreSameParts parts.old parts.new }
         ensures own { IsSameOwn own.old own.new }
@@ -565,6 +548,13 @@ fn tell(journal: &mut Journal, act: Act) -> Result<(), NoMemory>
 {
     journal.acts.push(act)?;
     Ok(())
+}
+
+/// Whether memory was wanting for a message.
+fn is_wanting(sent: HostSent) -> bool
+    ensures { result ≡ false → sent ≡ NoRoom → ⊥ }
+{
+    matches!(sent, HostSent::NoMemory)
 }
 
 fn did(done: Result<(), NoMemory>) -> Did

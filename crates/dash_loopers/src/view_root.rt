@@ -1,10 +1,11 @@
 //! The gauges of a looper, and its traversals.
-ghost use Rattle.std.specs.Prelude.{◌≡◌, ◌<◌, ◌≤◌, ◌++◌, [], ℕ, map, slice_get, replicate, length, IfOk, OnOk, None, IsTrue, true, false};
+ghost use Rattle.std.specs.Prelude.{◌≡◌, ◌<◌, ◌≤◌, ◌++◌, [], ℕ, map, slice_get, slice_set, replicate, length, IfOk, OnOk, None, IsTrue, true, false};
+ghost use Rattle.std.specs.List.{flat_map, enumerate_from};
 ghost use Rattle.std.specs.Option.{option_map_or};
 ghost use Rattle.choreographer.specs.Known.{IsOf};
 ghost use Rattle.dash_hall.specs.Hosts.{IsHost, origin_of};
 ghost use Rattle.dash_hall.specs.Kits.{FrameBadge, frame_badge_of};
-ghost use Rattle.dash_loopers.specs.Played.{calls_of, standing, fixed, fixed_by, paint_of, Shows};
+ghost use Rattle.dash_loopers.specs.Played.{calls_of, standing, fixed, fixed_by, paint_of, paint_of_gauge, Shows};
 ghost use Rattle.dash_script.specs.declared.script.Script.{Script as ScriptData};
 ghost use Rattle.dash_script.specs.Reading.{HasText};
 ghost use Rattle.run_model.specs.Loopers.{object_set, traversal_requested, animation_ran, traversal_ran, callback_ran, and_posts_frame, paints, moved as moved_by};
@@ -101,17 +102,42 @@ impl ViewRoot {
         ensures pass { frame_badge_of self.new.pass ≡ frame_badge_of self.old.pass }
         ensures shows { (s : ScriptData) (q : ℕ) → OnOk result (Shows s q (object_set s q host.old.now gauge target) (calls_of host.old.poster.now) self.old (calls_of host.new.poster.now) self.new) }
     {
-        let place = gauge as usize;
-        if place >= self.gauges.len() || !self.gauges[place].own {
+        let Some(x) = self.gauge(gauge) else {
+            return Ok(());
+        };
+        if !x.own {
             return Ok(());
         }
-        self.gauges[place].target = target;
-        if self.gauges[place].animating || self.gauges[place].value == target {
+        let starts = !(x.animating | (x.value == target));
+        self.put(
+            gauge,
+            Gauge {
+                target,
+                animating: x.animating | starts,
+                ..x
+            },
+        );
+        if !starts {
             return Ok(());
         }
-        self.gauges[place].animating = true;
         self.post(c, host, ANIMATION, FIRST_ANIMATION.saturating_add(gauge))?;
         self.request_traversal(c, host)
+    }
+
+    /// The gauge of this number, where there is one.
+    fn gauge(&self, gauge: u64) -> Option<Gauge>
+        ensures { result ≡ slice_get self.now.gauges.items gauge }
+    {
+        self.gauges.as_slice().get(gauge as usize).copied()
+    }
+
+    /// Puts a gauge in the place of the one of this number.
+    fn put(&mut self, gauge: u64, x: Gauge)
+        requires { gauge < length self.old.gauges.items }
+        ensures gauges { self.new.gauges.items ≡ slice_set self.old.gauges.items gauge x }
+        ensures same { (self.new.barrier ≡ self.old.barrier) × (self.new.pass ≡ self.old.pass) × (self.new.painted ≡ self.old.painted) }
+    {
+        self.gauges[gauge as usize] = x;
     }
 
     /// Posts a barrier and the traversal's callback, unless a traversal is under way.
@@ -149,21 +175,24 @@ impl ViewRoot {
         ensures pass { frame_badge_of self.new.pass ≡ frame_badge_of self.old.pass }
         ensures shows { (s : ScriptData) (q : ℕ) → OnOk result (Shows s q (λ a. option_map_or (λ x. animation_ran s q host.old.now gauge x a) (slice_get a.gauges gauge) a) (calls_of host.old.poster.now) self.old (calls_of host.new.poster.now) self.new) }
     {
-        let place = gauge as usize;
-        if place >= self.gauges.len() || !self.gauges[place].animating {
+        let Some(x) = self.gauge(gauge) else {
+            return Ok(());
+        };
+        if !x.animating {
             return Ok(());
         }
-        let Gauge {
-            step,
-            target,
-            value,
-            ..
-        } = self.gauges[place];
-        let value = moved(step, target, value);
-        self.gauges[place].value = value;
-        self.gauges[place].animating = value != target;
+        let value = moved(x.step, x.target, x.value);
+        let animating = value != x.target;
+        self.put(
+            gauge,
+            Gauge {
+                value,
+                animating,
+                ..x
+            },
+        );
         self.request_traversal(c, host)?;
-        if value == target {
+        if !animating {
             return Ok(());
         }
         self.post(c, host, ANIMATION, FIRST_ANIMATION.saturating_add(gauge))
@@ -192,17 +221,7 @@ impl ViewRoot {
             → OnOk result (map paint_of self.new.painted.items ≡ map paint_of self.old.painted.items ++ paints s q (map standing self.old.gauges.items)) }
         ensures same { (self.new.gauges ≡ self.old.gauges) × (self.new.barrier ≡ self.old.barrier) }
     {
-        let mut gauge: u32 = 0;
-        for state in &self.gauges {
-            if state.own {
-                self.painted.push(Painted {
-                    gauge,
-                    value: state.value,
-                })?;
-            }
-            gauge = gauge.saturating_add(1);
-        }
-        Ok(())
+        paint_all(&mut self.painted, self.gauges.as_slice())
     }
 
     /// Posts a frame callback that is due at once.
@@ -246,6 +265,31 @@ impl ViewRoot {
             Ok(())
         }
     }
+}
+
+/// Paints each of these gauges that is the looper's, by its place.
+fn paint_all(painted: &mut Vec<Painted>, gauges: &[Gauge]) -> Result<(), NoMemory>
+    ensures { length gauges.now ≤ 16 → OnOk result (map paint_of painted.new.items ≡ map paint_of painted.old.items ++ flat_map paint_of_gauge (enumerate_from 0 gauges.now)) }
+{
+    let mut gauge: u32 = 0;
+    for state in gauges {
+        paint_gauge(painted, gauge, state)?;
+        gauge = gauge.saturating_add(1);
+    }
+    Ok(())
+}
+
+/// Paints a gauge, where it is the looper's.
+fn paint_gauge(painted: &mut Vec<Painted>, gauge: u32, state: &Gauge) -> Result<(), NoMemory>
+    ensures { OnOk result (map paint_of painted.new.items ≡ map paint_of painted.old.items ++ paint_of_gauge (gauge, state.now)) }
+{
+    if state.own {
+        painted.push(Painted {
+            gauge,
+            value: state.value,
+        })?;
+    }
+    Ok(())
 }
 
 /// A value moved towards a target by a step, but not past it.

@@ -1,9 +1,31 @@
+use Rattle.std.proofs.Common.{subst, inl, inr, eq-eqb}
 use Rattle.looper_run.specs.Holding.{held}
 use Rattle.looper_run.proofs.Working.{lent_self}
+use Rattle.choreographer.proofs.Phases.{on_ok}
+use Rattle.dash_loopers.proofs.RuleSteps.{plays_fired, plays_used_up, plays_other}
+use Rattle.dash_loopers.specs.Played.{calls_of, FiresAt}
 use Rattle.dash_loopers.proofs.player.Place.fire.Goals as goal
+use Rattle.dash_loopers.proofs.player.Place.fire.Goals.{then-p-rule-via-then-p-rule, then-p-rule-via-else-p-rule+then-p-rule-2}
 
 pub returns-clause-lent : goal.returns-clause-lent
 returns-clause-lent g c = lent_self (held c.args.own.now)
 
-pub returns-then-ne-clause-lent : goal.returns-then-ne-clause-lent
-returns-then-ne-clause-lent g c = lent_self (held c.args.own.now)
+pub returns-then-p-rule-clause-lent : goal.returns-then-p-rule-clause-lent
+returns-then-p-rule-clause-lent g c = lent_self (held c.args.own.now)
+
+pub returns-then-p-rule-clause-plays : goal.returns-then-p-rule-clause-plays
+returns-then-p-rule-clause-plays g c =
+    plays_other c.args.self.now.script.now c.args.self.now.looper c.args.now c.args.p.now c.args.place c.args.rule.now (calls_of c.args.own.now.poster.now) c.args.parts.now
+    (elim c.then-p-rule.branch [ then-p-rule-via-then-p-rule w ↦ inl w.if-p-rule.true | then-p-rule-via-else-p-rule+then-p-rule-2 w ↦ inr w.if-p-rule-2.true ])
+
+pub returns-then-fires-clause-plays : goal.returns-then-fires-clause-plays
+returns-then-fires-clause-plays g c =
+    on_ok c.send.result _ _ c.send.ensures.plays (λ sends.
+      plays_fired c.args.self.now.script.now c.args.self.now.looper c.args.now c.args.p.now c.args.place c.args.rule.now (calls_of c.args.own.now.poster.now) (calls_of c.send.new.own.poster.now) c.args.parts.now c.fires.new.parts c.send.new.parts
+      (eq-eqb c.args.p.now.handler c.args.rule.now.handler c.if-p-rule.false) (eq-eqb c.args.p.now.what c.args.rule.now.what c.if-p-rule-2.false)
+      (subst (FiresAt c.args.place c.args.rule.now.times c.args.parts.now c.fires.new.parts) c.if-fires.true c.fires.ensures.fires) sends)
+
+pub returns-clause-plays : goal.returns-clause-plays
+returns-clause-plays g c =
+    plays_used_up c.args.self.now.script.now c.args.self.now.looper c.args.now c.args.p.now c.args.place c.args.rule.now (calls_of c.args.own.now.poster.now) c.args.parts.now c.fires.new.parts
+    (subst (FiresAt c.args.place c.args.rule.now.times c.args.parts.now c.fires.new.parts) c.if-fires.false c.fires.ensures.fires)

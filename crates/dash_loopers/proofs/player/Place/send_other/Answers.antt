@@ -1,8 +1,11 @@
-use Rattle.std.proofs.Common.{◌<◌, length, refl, arith}
+use Rattle.std.proofs.Common.{◌<◌, length, refl, sym, subst, arith}
 use Rattle.std.proofs.lemmas.Option.{slice_get_read}
-use Rattle.looper_run.specs.Holding.{held}
+use Rattle.looper_run.specs.Holding.{Sender, held}
+use Rattle.choreographer.proofs.Phases.{on_ok}
+use Rattle.dash_loopers.specs.Played.{calls_of, IsPlayed}
 use Rattle.looper_run.proofs.Working.{lent_self}
-use Rattle.dash_loopers.proofs.LooperPlaces.{queue_home, other_of, other_within, parts_with}
+use Rattle.dash_loopers.proofs.LooperPlaces.{queue_home, queue_count, other_of, other_within, parts_with}
+use Rattle.dash_loopers.proofs.RuleSteps.{called_there}
 use Rattle.dash_loopers.proofs.player.Place.send_other.Goals as goal
 
 pub returns-then-place-len-clause-lent : goal.returns-then-place-len-clause-lent
@@ -44,3 +47,21 @@ returns-clause-parts g c =
     parts_with c.args.parts.now c.place_without.result c.index_mut-poster.result.now c.send_by.new.poster _
     (slice_get_read others.items others.len c.place_without.result c.index_mut-poster.result.now (omega (arith, others.ok.0)) (omega (arith, within, others.ok.0)) c.index_mut-poster.ensures.value)
     c.send_by.ensures.poster refl refl refl
+
+pub returns-then-place-len-clause-plays : goal.returns-then-place-len-clause-plays
+returns-then-place-len-clause-plays g c = λ timing text.
+    let place = c.args.self.now in
+    let hall = place.hall.now in
+    absurd (omega (arith, c.requires.within text, queue_count place.script.now hall place.looper c.requires.serves.looper, hall.queues.ok.0, c.if-place-len.true, c.len.ensures))
+
+pub returns-clause-plays : goal.returns-clause-plays
+returns-clause-plays g c = λ timing.
+    let place = c.args.self.now in
+    let hall = place.hall.now in
+    let others = c.args.parts.now.others in
+    let near : c.args.looper < length hall.queues.items = omega (arith, hall.queues.ok.0) in
+    let within : c.place_without.result < length others.items = other_within place.script.now hall place.looper c.args.looper c.place_without.result c.args.parts.now c.requires.serves.looper c.requires.serves.are_parts near c.place_without.ensures in
+    on_ok c.send_by.result _ _ c.send_by.ensures.made (λ m text a is.
+      called_there place.script.now place.looper c.args.looper c.place_without.result c.args.handler c.args.request timing c.index_mut-poster.result.now c.send_by.new.poster _ c.args.parts.now _ c.place_without.ensures
+      (slice_get_read others.items others.len c.place_without.result c.index_mut-poster.result.now (omega (arith, others.ok.0)) (omega (arith, within, others.ok.0)) c.index_mut-poster.ensures.value)
+      m refl refl refl a (subst (λ (p : Sender). IsPlayed place.script.now place.looper (calls_of p) c.args.parts.now a) (sym c.send_by.ensures.seen) is))

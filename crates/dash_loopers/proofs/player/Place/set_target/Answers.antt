@@ -1,4 +1,6 @@
-use Rattle.std.proofs.Common.{◌+◌, arith}
+use Rattle.std.proofs.Common.{◌+◌, refl, arith}
+use Rattle.dash_loopers.specs.Played.{calls_of}
+use Rattle.dash_loopers.proofs.PlaySteps.{set_hosted}
 use Rattle.dash_loopers.proofs.LooperPlaces.{frame_of_badge, four_phases}
 use Rattle.dash_loopers.proofs.player.Place.set_target.Goals as goal
 
@@ -8,3 +10,9 @@ set_target-requires-clause-pass g c =
     let frames = c.choreographer.result.now in
     let four = four_phases place.script.now place.hall.now place.looper c.requires.serves.looper frames c.choreographer.ensures in
     (frame_of_badge (place.script.now.threads + 1) c.args.parts.now.root.pass frames (c.requires.serves.are_parts.client frames c.choreographer.ensures), omega (arith, four))
+
+pub returns-clause-plays : goal.returns-clause-plays
+returns-clause-plays g c =
+    let place = c.args.self.now in
+    set_hosted c.set_target.result place.script.now place.looper c.args.now c.host-host.result.now c.args.object c.args.target c.args.own.now.poster.now c.host-host.result.poster.now (calls_of c.set_target.new.host.poster.now) c.args.parts.now _
+    (c.set_target.ensures.shows place.script.now place.looper) c.host-host.ensures.moment.0 c.host-host.ensures.poster.1 refl refl

@@ -1,0 +1,272 @@
+-- Which callbacks a frame runs, in the frame record and as its client tells them.
+use Rattle.std.proofs.Common.{◌≡◌, ◌+◌, ◌/◌, ◌<◌, ◌≤◌, ℕ, zero, suc, Bool, true, false, List, [], ◌∷◌, ◌++◌, length, drop, reverse, Option, Some, None, refl, sym, ap, ◌∙◌, subst, arith, append_assoc}
+use Rattle.std.specs.Prelude.{◌==◌, ◌&&◌, not, map, slice_get, nat_le, nat_lt, if◌then◌else◌}
+use Rattle.std.specs.List.{filter_map, cons_option, before_first, prefix_len, AllByRecursion}
+use Rattle.std.specs.Option.{option_map_or}
+use Rattle.std.proofs.lemmas.List.{append-nil, map-append, reverse-append, reverse-reverse, length-reverse, length-append}
+use Rattle.std.proofs.lemmas.List.Elements.{filter_map-append}
+use Rattle.std.proofs.lemmas.Bool.{and_parts, and_from, cond_both, eqb-true, le-leb}
+use Rattle.std.proofs.Math.Seq.{drop-append_seam}
+use mathlib.Core.List.{IsPrefix}
+use Rattle.loop_model.proofs.Sorting.{AllByRecursion-append, AllByRecursion-filter}
+use Rattle.frame_phases.specs.declared.entry.Callback.{Callback}
+use Rattle.frame_phases.specs.declared.entry.FrameEntry.{FrameEntry}
+use Rattle.frame_phases.specs.declared.entry.FrameEntry.TheVariants.{Posted, Removed, Begin, Take, Ran}
+use Rattle.frame_phases.specs.Frames.{lawful, all_allowed, is_allowed, is_settled, owed, posted_count, next_phase, live, taken, number_of, is_number, is_due, is_undue, is_unmatched, before_later, in_due_order}
+use Rattle.frame_phases.proofs.EndsOfFrames.{allowed_before}
+use Rattle.frame_phases.specs.State.{past as past_of}
+use Rattle.choreographer.specs.declared.kept.Kept.{Kept}
+use Rattle.choreographer.specs.declared.frame.Framed.{Framed}
+use Rattle.choreographer.specs.declared.frame.Framed.TheVariants.{Done, Elsewhere, Unscheduled, Backwards, NoMemory}
+use Rattle.choreographer.specs.Known.{Known as Pass, IsTurn}
+use Rattle.choreographer.specs.Client.{Run}
+use Rattle.choreographer.specs.Frame.{Batch, begin_place, ran_since, batches_since}
+use Rattle.choreographer.specs.Done.{runs, runs_of, numbers_of, FramedBy, UnlessNoMemory}
+use Rattle.choreographer.proofs.Prefixes.{prefix_trans, prefix_length}
+use Rattle.dash_script.specs.declared.script.Script.{Script}
+use Rattle.run_model.specs.FrameRuns.{frame_ids, is_frame_from, is_begin, posted_id, ran_id}
+use Rattle.run_model.proofs.Growth.{slice_get-append}
+use Rattle.run_model.proofs.FrameKeeping.{KeepsFrames-lawful}
+use Rattle.dash_loopers.specs.Played.{RanFrame, ids_of}
+
+-- ---- where the latest frame began
+
+-- the latest Begin of a past, with what stands before and behind it
+record IsBegun (past : List FrameEntry) : Type 0 where
+  newer : List FrameEntry
+  older : List FrameEntry
+  begin : FrameEntry
+  begins : is_begin begin ≡ true
+  is : past ≡ newer ++ begin ∷ older
+  place : begin_place past ≡ length older
+  none : AllByRecursion (λ e. is_begin e ≡ false) newer
+  ran : (ids : List ℕ) → filter_map (ran_id ids) (reverse newer) ≡ filter_map (λ n. slice_get ids n) (ran_since past)
+
+-- an entry behind it that is no Begin
+begun_more : (e : FrameEntry) (past : List FrameEntry) → is_begin e ≡ false → begin_place (e ∷ past) ≡ begin_place past
+    → ((ids : List ℕ) → filter_map (λ n. slice_get ids n) (ran_since (e ∷ past)) ≡ filter_map (λ n. slice_get ids n) (ran_since past) ++ cons_option (ran_id ids e) []) → IsBegun past → IsBegun (e ∷ past)
+begun_more e past isnt same one b = record {
+  newer = e ∷ b.newer;
+  older = b.older;
+  begin = b.begin;
+  begins = b.begins;
+  is = ap (λ l. e ∷ l) b.is;
+  place = same ∙ b.place;
+  none = (isnt, b.none);
+  ran = λ ids. ap (filter_map (ran_id ids)) (reverse-append (e ∷ []) b.newer) ∙ (filter_map-append (ran_id ids) (reverse b.newer) (e ∷ [])
+      ∙ (ap (λ l. l ++ cons_option (ran_id ids e) []) (b.ran ids) ∙ sym (one ids)));
+}
+
+-- 1 where a phase is next
+abbrev has_next : Option ℕ → ℕ
+has_next None = 0
+has_next (Some n) = 1
+
+next_is : (o : Option ℕ) (n : ℕ) → is_number o n ≡ true → has_next o ≡ 1
+next_is None n h = cc
+next_is (Some m) n h = refl
+
+-- a frame whose phases were taken, or are to be, began
+begun : (interval phases : ℕ) (past : List FrameEntry) → all_allowed interval phases past ≡ true → 0 < length (batches_since past) + has_next (next_phase phases past) → IsBegun past
+unfolding all_allowed is_allowed next_phase batches_since begin_place ran_since
+begun i p [] h some = absurd (omega (arith, some))
+begun i p (Posted c ∷ past) h some = begun_more (Posted c) past refl refl (λ ids. sym (append-nil _)) (begun i p past (and_parts _ _ h).0 some)
+begun i p (Removed phase id token n ∷ past) h some = begun_more (Removed phase id token n) past refl refl (λ ids. sym (append-nil _)) (begun i p past (and_parts _ _ h).0 some)
+begun i p (Begin v s t ∷ past) h some = record { newer = []; older = past; begin = Begin v s t; begins = refl; is = refl; place = refl; none = tt; ran = λ ids. refl }
+begun i p (Take phase now t ∷ past) h some =
+    let parts = and_parts _ _ h in
+    let number = next_is (next_phase p past) phase (and_parts _ _ (and_parts _ _ parts.1).0).1 in
+    begun_more (Take phase now t) past refl refl (λ ids. sym (append-nil _)) (begun i p past parts.0 (omega (arith, number)))
+begun i p (Ran n ∷ past) h some =
+    begun_more (Ran n) past refl refl (λ ids. filter_map-append (λ m. slice_get ids m) (ran_since past) (n ∷ [])) (begun i p past (and_parts _ _ h).0 some)
+
+-- ---- the identities of callbacks
+
+-- the identity that was posted with the callback's number is the callback's
+abbrev IsPosted : List ℕ → Callback → Type 0
+IsPosted ids c = slice_get ids c.number ≡ Some c.id
+
+-- the same for all that was taken
+abbrev ArePosted : List ℕ → List Batch → Type 0
+ArePosted ids bs = AllByRecursion (λ b. AllByRecursion (IsPosted ids) b.callbacks) bs
+
+at_seam : {X : Type 0} (xs : List X) (x : X) (ys : List X) → slice_get (xs ++ x ∷ ys) (length xs) ≡ Some x
+at_seam [] x ys = refl
+at_seam (y ∷ xs) x ys = at_seam xs x ys
+
+abbrev ids_in : List FrameEntry → List ℕ
+ids_in past = filter_map posted_id (reverse past)
+
+ids_pushed : (e : FrameEntry) (past : List FrameEntry) → ids_in (e ∷ past) ≡ ids_in past ++ cons_option (posted_id e) []
+ids_pushed e past = ap (filter_map posted_id) (reverse-append (e ∷ []) past) ∙ filter_map-append posted_id (reverse past) (e ∷ [])
+
+-- an entry that posts nothing
+unposted : (e : FrameEntry) (past : List FrameEntry) → posted_id e ≡ None → ids_in (e ∷ past) ≡ ids_in past
+unposted e past isnt = ids_pushed e past ∙ (ap (λ o. ids_in past ++ cons_option o []) isnt ∙ append-nil (ids_in past))
+
+posted_in : (past : List FrameEntry) → posted_count past ≡ length (ids_in past)
+unfolding posted_count
+posted_in [] = refl
+posted_in (Posted c ∷ past) =
+    let rest = posted_in past in
+    let more = ap length (ids_pushed (Posted c) past) ∙ length-append (ids_in past) (c.id ∷ []) in
+    omega (arith, rest, more)
+posted_in (Removed p i t n ∷ past) = posted_in past ∙ ap length (sym (unposted (Removed p i t n) past refl))
+posted_in (Begin v s t ∷ past) = posted_in past ∙ ap length (sym (unposted (Begin v s t) past refl))
+posted_in (Take p n t ∷ past) = posted_in past ∙ ap length (sym (unposted (Take p n t) past refl))
+posted_in (Ran n ∷ past) = posted_in past ∙ ap length (sym (unposted (Ran n) past refl))
+
+all-before_later : (P : Callback → Type 0) (c : Callback) (cs : List Callback) → P c → AllByRecursion P cs → AllByRecursion P (before_later c cs)
+unfolding before_later
+all-before_later P c [] p h = (p, tt)
+all-before_later P c (d ∷ ds) p h =
+    let rest = all-before_later P c ds p h.1 in
+    cond_both (nat_le c.due d.due) (c ∷ d ∷ ds) (d ∷ before_later c ds) (AllByRecursion P) (λ t. (p, h)) (λ t. (h.0, rest))
+
+all-in_due_order : (P : Callback → Type 0) (cs : List Callback) → AllByRecursion P cs → AllByRecursion P (in_due_order cs)
+unfolding in_due_order
+all-in_due_order P [] h = tt
+all-in_due_order P (c ∷ cs) h = all-before_later P c (in_due_order cs) h.0 (all-in_due_order P cs h.1)
+
+all-reverse : {X : Type 0} (P : X → Type 0) (xs : List X) → AllByRecursion P xs → AllByRecursion P (reverse xs)
+all-reverse P [] h = tt
+all-reverse P (x ∷ xs) h = subst (AllByRecursion P) (sym (reverse-append (x ∷ []) xs)) (AllByRecursion-append P (reverse xs) (x ∷ []) (all-reverse P xs h.1) (h.0, tt))
+
+module _ (interval phases : ℕ) (ids : List ℕ) where
+  live_posted : (past : List FrameEntry) (more : List ℕ) → ids ≡ ids_in past ++ more → all_allowed interval phases past ≡ true → AllByRecursion (IsPosted ids) (live past)
+  unfolding all_allowed is_allowed live
+  live_posted [] more is h = tt
+  live_posted (Posted c ∷ past) more is h =
+      let parts = and_parts _ _ h in
+      let number : c.number ≡ length (ids_in past) = eqb-true c.number (posted_count past) (and_parts _ _ (and_parts _ _ parts.1).0).1 ∙ posted_in past in
+      let is' : ids ≡ ids_in past ++ c.id ∷ more = is ∙ (ap (λ l. l ++ more) (ids_pushed (Posted c) past) ∙ append_assoc (ids_in past) (c.id ∷ []) more) in
+      let mine : slice_get ids c.number ≡ Some c.id = (λ i. slice_get (is' i) (number i)) ∙ at_seam (ids_in past) c.id more in
+      AllByRecursion-append (IsPosted ids) (live past) (c ∷ []) (live_posted past (c.id ∷ more) is' parts.0) (mine, tt)
+  live_posted (Removed phase id token n ∷ past) more is h =
+      AllByRecursion-filter (IsPosted ids) (is_unmatched phase id token) (live past) (live_posted past more (is ∙ ap (λ l. l ++ more) (unposted (Removed phase id token n) past refl)) (and_parts _ _ h).0)
+  live_posted (Begin v s t ∷ past) more is h = live_posted past more (is ∙ ap (λ l. l ++ more) (unposted (Begin v s t) past refl)) (and_parts _ _ h).0
+  live_posted (Take phase now t ∷ past) more is h =
+      AllByRecursion-filter (IsPosted ids) (is_undue phase (now / 1000000)) (live past) (live_posted past more (is ∙ ap (λ l. l ++ more) (unposted (Take phase now t) past refl)) (and_parts _ _ h).0)
+  live_posted (Ran n ∷ past) more is h = live_posted past more (is ∙ ap (λ l. l ++ more) (unposted (Ran n) past refl)) (and_parts _ _ h).0
+
+  batches_posted : (past : List FrameEntry) (more : List ℕ) → ids ≡ ids_in past ++ more → all_allowed interval phases past ≡ true → ArePosted ids (batches_since past)
+  unfolding all_allowed batches_since
+  batches_posted [] more is h = tt
+  batches_posted (Posted c ∷ past) more is h =
+      batches_posted past (c.id ∷ more) (is ∙ (ap (λ l. l ++ more) (ids_pushed (Posted c) past) ∙ append_assoc (ids_in past) (c.id ∷ []) more)) (and_parts _ _ h).0
+  batches_posted (Removed phase id token n ∷ past) more is h = batches_posted past more (is ∙ ap (λ l. l ++ more) (unposted (Removed phase id token n) past refl)) (and_parts _ _ h).0
+  batches_posted (Begin v s t ∷ past) more is h = tt
+  batches_posted (Take phase now t ∷ past) more is h =
+      let before : ids ≡ ids_in past ++ more = is ∙ ap (λ l. l ++ more) (unposted (Take phase now t) past refl) in
+      let allowed = (and_parts _ _ h).0 in
+      let mine = all-in_due_order (IsPosted ids) _ (AllByRecursion-filter (IsPosted ids) (is_due phase (now / 1000000)) (live past) (live_posted past more before allowed)) in
+      AllByRecursion-append (λ (b : Batch). AllByRecursion (IsPosted ids) b.callbacks) (batches_since past) (record { now = now; time = t; callbacks = taken past phase now } ∷ []) (batches_posted past more before allowed) (mine, tt)
+  batches_posted (Ran n ∷ past) more is h = batches_posted past more (is ∙ ap (λ l. l ++ more) (unposted (Ran n) past refl)) (and_parts _ _ h).0
+
+  ids_of_batch : (time : ℕ) (cs : List Callback) → AllByRecursion (IsPosted ids) cs → filter_map (λ n. slice_get ids n) (map number_of cs) ≡ ids_of (runs time cs)
+  ids_of_batch time [] h = refl
+  ids_of_batch time (c ∷ cs) h = ap (λ o. cons_option o (filter_map (λ n. slice_get ids n) (map number_of cs))) h.0 ∙ ap (λ l. c.id ∷ l) (ids_of_batch time cs h.1)
+
+  ids_of_batches : (bs : List Batch) → ArePosted ids bs → filter_map (λ n. slice_get ids n) (numbers_of bs) ≡ ids_of (runs_of bs)
+  ids_of_batches [] h = refl
+  ids_of_batches (b ∷ bs) h =
+      let one = ids_of_batch b.time b.callbacks h.0 in
+      let rest = ids_of_batches bs h.1 in
+      filter_map-append (λ n. slice_get ids n) (map number_of b.callbacks) (numbers_of bs) ∙ ((λ i. one i ++ rest i) ∙ sym (map-append (λ (r : Run). r.0.id) (runs b.time b.callbacks) (runs_of bs)))
+
+-- ---- what a frame ran
+
+before_first-step : {X : Type 0} (p : X → Bool) (x : X) (xs : List X) → p x ≡ false → before_first p (x ∷ xs) ≡ x ∷ before_first p xs
+before_first-step p x xs h =
+    let one : 1 + prefix_len (λ y. not (p y)) xs ≡ suc (prefix_len (λ y. not (p y)) xs) = omega arith in
+    rw (h, one) refl
+
+before_none : {X : Type 0} (p : X → Bool) (xs : List X) → AllByRecursion (λ x. p x ≡ false) xs → before_first p xs ≡ xs
+before_none p [] h = refl
+before_none p (x ∷ xs) h = before_first-step p x xs h.0 ∙ ap (λ l. x ∷ l) (before_none p xs h.1)
+
+-- the record in which a frame has just ended
+module _ (interval phases : ℕ) (fs : List FrameEntry) (allowed : all_allowed interval phases (reverse fs) ≡ true) (some : 0 < length (batches_since (reverse fs))) where
+  it : IsBegun (reverse fs)
+  it = begun interval phases (reverse fs) allowed (omega (arith, some))
+
+  fs_are : fs ≡ (reverse it.older ++ it.begin ∷ []) ++ reverse it.newer
+  fs_are = sym (reverse-reverse fs) ∙ (ap reverse it.is ∙ (reverse-append it.newer (it.begin ∷ it.older) ∙ ap (λ l. l ++ reverse it.newer) (reverse-append (it.begin ∷ []) it.older)))
+
+  front : length (reverse it.older) ≡ begin_place (reverse fs)
+  front = length-reverse it.older ∙ sym it.place
+
+  within : begin_place (reverse fs) + 1 ≡ length (reverse it.older ++ it.begin ∷ [])
+  within = let long = length-append (reverse it.older) (it.begin ∷ []) in let f = front in omega (arith, long, f)
+
+  place_within : begin_place (reverse fs) < length fs
+  place_within = let long = ap length fs_are ∙ length-append (reverse it.older ++ it.begin ∷ []) (reverse it.newer) in let w = within in omega (arith, long, w)
+
+  stands : (gs : List FrameEntry) → option_map_or is_begin (slice_get (fs ++ gs) (begin_place (reverse fs))) false ≡ true
+  stands gs =
+      let all = ap (λ l. l ++ gs) fs_are ∙ (append_assoc (reverse it.older ++ it.begin ∷ []) (reverse it.newer) gs ∙ append_assoc (reverse it.older) (it.begin ∷ []) (reverse it.newer ++ gs)) in
+      ap (λ o. option_map_or is_begin o false) ((λ i. slice_get (all i) (sym front i)) ∙ at_seam (reverse it.older) it.begin (reverse it.newer ++ gs)) ∙ it.begins
+
+  behind : drop (begin_place (reverse fs) + 1) fs ≡ reverse it.newer
+  behind = (λ i. drop (within i) (fs_are i)) ∙ drop-append_seam (reverse it.older ++ it.begin ∷ []) (reverse it.newer)
+
+  ran_ids : numbers_of (batches_since (reverse fs)) ≡ ran_since (reverse fs) → frame_ids fs (Some (begin_place (reverse fs))) ≡ ids_of (runs_of (batches_since (reverse fs)))
+  ran_ids same =
+      let ids : List ℕ = filter_map posted_id fs in
+      let ids_are : ids ≡ ids_in (reverse fs) ++ [] = ap (filter_map posted_id) (sym (reverse-reverse fs)) ∙ sym (append-nil (ids_in (reverse fs))) in
+      let none = all-reverse (λ (e : FrameEntry). is_begin e ≡ false) it.newer it.none in
+      ap (λ l. filter_map (ran_id ids) (before_first is_begin l)) behind ∙ (ap (filter_map (ran_id ids)) (before_none is_begin (reverse it.newer) none)
+      ∙ (it.ran ids ∙ (ap (filter_map (λ n. slice_get ids n)) (sym same) ∙ ids_of_batches interval phases ids (batches_since (reverse fs)) (batches_posted interval phases ids (reverse fs) [] ids_are allowed))))
+
+no_script : Script
+no_script = record { edition = 0; loopers = 0; threads = 0; handlers = []; gauges = []; period = 0; rules = []; blocks = []; end = 0 }
+
+-- however the record grows, the frame that has just ended is one that began there, and runs what its client told
+pub frame_ran : (interval phases first : ℕ) (fs gs : List FrameEntry) → lawful interval phases (fs ++ gs) ≡ true → next_phase phases (reverse fs) ≡ None → owed (reverse fs) ≡ [] → 0 < length (batches_since (reverse fs))
+    → numbers_of (batches_since (reverse fs)) ≡ ran_since (reverse fs) → first ≤ begin_place (reverse fs)
+    → (is_frame_from (fs ++ gs) first (Some (begin_place (reverse fs))) ≡ true) × (frame_ids (fs ++ gs) (Some (begin_place (reverse fs))) ≡ ids_of (runs_of (batches_since (reverse fs))))
+unfolding lawful
+frame_ran interval phases first fs gs whole none settled some same near =
+    let allowed = allowed_before interval phases fs gs (and_parts _ _ whole).0 in
+    let ended : is_settled (reverse fs) ≡ true = ap (λ (l : List ℕ). length l == 0) settled in (
+      and_from (nat_le first (begin_place (reverse fs))) _ (le-leb first (begin_place (reverse fs)) near) (stands interval phases fs allowed some gs),
+      KeepsFrames-lawful no_script 0 [] interval phases fs gs (and_from _ _ allowed ended) none whole (begin_place (reverse fs)) (place_within interval phases fs allowed some) ∙ ran_ids interval phases fs allowed some same,
+    )
+
+-- a turn's pass has seen what it had seen, and more
+pub turn_grew : (f g : Pass) (x y : Kept) → IsTurn f g x y → IsPrefix f.view.seen g.view.seen
+turn_grew f g x y t = prefix_trans f.view.seen x.frames.entries g.view.seen t.begins.0 (subst (IsPrefix x.frames.entries) (sym t.seen) t.grows)
+
+pub no_frame : (interval phases : ℕ) (before after : Pass) (told : List Run) → told ≡ [] → IsPrefix before.view.seen after.view.seen → RanFrame interval phases before after (ids_of told)
+no_frame interval phases before after told none grew = record { frame = None; framed = λ fs begins is. (refl, ap ids_of (sym none)); within = omega arith; grew = grew }
+
+-- a frame ran the callbacks that its client tells
+pub framed_ran : (interval phases : ℕ) (before after : Pass) (is_moment : ℕ → Bool) (told : List Run) (r : Framed) → 0 < phases → FramedBy phases before after is_moment (Some []) (Some told) r → UnlessNoMemory r (RanFrame interval phases before after (ids_of told))
+framed_ran interval phases before after is_moment told Done some (start, time, middle, moment, turn, (batches, told_is, long, are, (y, left, numbers, batches_are, at, near, none, settled, seen_is), turns, grew)) =
+    let same : told ≡ runs_of batches = cc (told_is) in
+    let many : length batches ≡ length (batches_since (past_of y.frames)) = ap length batches_are in
+    let few : 0 < length (batches_since (past_of y.frames)) = omega (arith, some, long, many) in
+    let place : ℕ = begin_place (past_of y.frames) in
+    let first : ℕ = length before.view.seen in
+    let ids : ids_of (runs_of (batches_since (past_of y.frames))) ≡ ids_of told = ap (λ (bs : List Batch). ids_of (runs_of bs)) (sym batches_are) ∙ ap ids_of (sym same) in
+    record {
+      frame = Some place;
+      framed = λ fs begins is. (
+          let whole : y.frames.entries ++ begins.0 ≡ fs = ap (λ l. l ++ begins.0) seen_is ∙ begins.1 in
+          let ran = frame_ran interval phases first y.frames.entries begins.0 (subst (λ (l : List FrameEntry). lawful interval phases l ≡ true) (sym whole) is) none settled few (ap numbers_of (sym batches_are) ∙ numbers) near in
+          subst (λ (l : List FrameEntry). (is_frame_from l first (Some place) ≡ true) × (frame_ids l (Some place) ≡ ids_of told)) whole (ran.0, ran.1 ∙ ids));
+      within = omega (arith, at, prefix_length middle.view.seen after.view.seen grew);
+      grew = prefix_trans before.view.seen middle.view.seen after.view.seen (turn_grew before middle turn.0 turn.1 turn.2) grew;
+    }
+framed_ran interval phases before after is_moment told (Elsewhere next) some (start, moment, turn, told_is) = no_frame interval phases before after told (let same : told ≡ [] = cc (told_is) in same) (turn_grew before after turn.0 turn.1 turn.2)
+framed_ran interval phases before after is_moment told Unscheduled some (start, moment, turn, told_is) = no_frame interval phases before after told (let same : told ≡ [] = cc (told_is) in same) (turn_grew before after turn.0 turn.1 turn.2)
+framed_ran interval phases before after is_moment told (Backwards last) some (start, moment, turn, told_is) = no_frame interval phases before after told (let same : told ≡ [] = cc (told_is) in same) (turn_grew before after turn.0 turn.1 turn.2)
+framed_ran interval phases before after is_moment told NoMemory some t = tt
+
+-- what holds where memory was not wanting
+pub not_wanting : (r : Framed) (P : Type 0) → (r ≡ NoMemory → ⊥) → UnlessNoMemory r P → P
+not_wanting Done P isnt h = h
+not_wanting (Elsewhere next) P isnt h = h
+not_wanting Unscheduled P isnt h = h
+not_wanting (Backwards last) P isnt h = h
+not_wanting NoMemory P isnt h = absurd (isnt refl)

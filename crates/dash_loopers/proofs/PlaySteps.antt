@@ -1,0 +1,427 @@
+-- What a looper has come to after a pulse, a frame and a message.
+use Rattle.std.proofs.Common.{◌≡◌, ◌≢◌, ℕ, zero, suc, ◌+◌, ◌-◌, ◌*◌, ◌/◌, ◌^◌, ◌<◌, ◌≤◌, ◌==◌, min, Bool, true, false, cond, not, List, [], ◌∷◌, ◌++◌, map, length, get_or, take, Option, Some, None, Result, Ok, Err, OnOk, inl, inr, refl, sym, ap, ◌∙◌, subst, arith, append_assoc, eq-eqb, ne_eqb}
+use Rattle.std.specs.Prelude.{◌&&◌, ◌||◌, filter, fold, count_by, is_some, is_ok, nat_le, slice_get, slice_index_or, if◌then◌else◌}
+use Rattle.std.specs.Option.{option_map_or}
+use Rattle.std.proofs.lemmas.Bool.{and_parts, eqb-true, leb-true}
+use Rattle.std.proofs.lemmas.List.{append-nil, map-append, take_more}
+use Rattle.std.proofs.lemmas.List.Elements.{filter-append}
+use Rattle.std.proofs.lemmas.Grind.{flat_map-append}
+use Rattle.std.proofs.Math.Nat.{div-mul-le_self}
+use mathlib.Core.List.{IsPrefix}
+use Rattle.loop_model.specs.declared.post.Post.{Post as PostData}
+use Rattle.loop_model.specs.declared.call.Call.{Call}
+use Rattle.loop_model.specs.declared.call.Call.TheVariants.{Post, Barrier, Unbarrier, Remove, Quit, Next, Advance, Halt}
+use Rattle.loop_model.specs.declared.entry.Entry.{Entry}
+use Rattle.loop_model.specs.declared.journal.Act.{Act}
+use Rattle.loop_model.specs.declared.journal.Act.TheVariants.{Vsync}
+use Rattle.loop_model.specs.Entries.{is_next, is_disposed}
+use Rattle.dash_script.specs.declared.script.Script.{Script}
+use Rattle.message_pool.specs.Passes.{Tally}
+use Rattle.looper_run.specs.declared.dispatcher.Did.{Did}
+use Rattle.looper_run.specs.declared.dispatcher.Did.TheVariants.{Yes, No, NoMemory}
+use Rattle.looper_run.specs.Tests.{Unless}
+use Rattle.looper_run.specs.Holding.{Sender}
+use Rattle.choreographer.specs.declared.kept.Kept.{Kept}
+use Rattle.choreographer.specs.declared.host.HostSent.{HostSent}
+use Rattle.choreographer.specs.declared.host.HostSent.TheVariants as host
+use Rattle.choreographer.specs.declared.hosted.Pulse.{Pulse}
+use Rattle.choreographer.specs.Host.{sent_by}
+use Rattle.choreographer.specs.Known.{Known as Pass}
+use Rattle.choreographer.specs.Calls.{PulsedBy}
+use Rattle.choreographer.proofs.Prefixes.{prefix_self}
+use Rattle.frame_phases.specs.State.{delivered as delivered_at}
+use Rattle.run_model.specs.Asks.{Ask, Makes as Asks, Unbars, AreFor, plain, token_in, tokens_in}
+use Rattle.run_model.specs.Control.{Timing, At, NotBefore}
+use Rattle.run_model.specs.Senders.{frame_handler, gauge_line, gauge_looper, animation_id, animation_phase, traversal_id}
+use Rattle.run_model.specs.Planned.{frame_message}
+use Rattle.run_model.specs.Loopers.{Looper, Gauge, Sent, is_frame_post, and_sends, and_posts_frame, with_gauge, moved, paints, starts_frame, delivered, reacted, object_set, target_set, traversal_requested, traversal_ran, animation_ran, gauge_moved, callback_ran}
+use Rattle.run_model.specs.Acts.{sent_on, IsSent, millis_up}
+use Rattle.run_model.specs.FrameRuns.{place_after, posts_frame}
+use Rattle.run_model.proofs.RunLaws.{AreFor-snoc, sent_on-append}
+use Rattle.dash_hall.specs.Growth.{own, GoesOn, Makes}
+use Rattle.dash_hall.specs.Hosts.{Origin, IsHost, nanos_of, sends_by}
+use Rattle.dash_loopers.specs.declared.view_root.Painted.{Painted}
+use Rattle.dash_loopers.specs.declared.view_root.ViewRoot.{ViewRoot}
+use Rattle.dash_loopers.specs.declared.player.Parts.{Parts}
+use Rattle.dash_loopers.specs.Players.{PlaceWithout}
+use Rattle.dash_loopers.specs.Played.{standing, fixed, IsBarrierOf, IsFrameBy, is_disposal, calls_of, IsRootOf, IsShown, IsPlayed, Shows, Plays, RanFrame, Delivers, DeliversPulse, Pulses, pulse_acts, pulse_time, pulsed, with_call, paint_of}
+use Rattle.dash_hall.proofs.FramePosts.{IsTaken, accepted, refused, told_one, told_none}
+use Rattle.dash_loopers.proofs.FrameIds.{turn_grew}
+use Rattle.dash_loopers.proofs.FrameSteps.{FrameShows}
+
+-- ---- one call more
+
+next_plain : (c : Call) → is_next (plain c) ≡ is_next c
+next_plain (Post p) = refl
+next_plain (Barrier now) = refl
+next_plain (Unbarrier token) = refl
+next_plain (Remove f) = refl
+next_plain (Quit safe now) = refl
+next_plain (Next now) = refl
+next_plain (Advance now) = refl
+next_plain (Halt now) = refl
+
+one_kept : (e : Entry) → is_next e.call ≡ false → filter (λ x. not (is_disposal x)) (e ∷ []) ≡ e ∷ []
+one_kept e quiet = ap (λ (b : Bool). cond (not (b && is_disposed e.reply)) (e ∷ []) []) quiet
+
+-- a call that is no look is one more of the calls
+calls_more : (p q : Sender) (c : Call) (tokens : List ℕ) → is_next c ≡ false → (m : Makes p q c tokens) → calls_of q ≡ calls_of p ++ m.entry ∷ []
+calls_more p q c tokens looks m =
+    let quiet : is_next m.entry.call ≡ false = sym (next_plain m.entry.call) ∙ (ap is_next m.makes ∙ looks) in
+    ap (filter (λ x. not (is_disposal x))) m.made
+    ∙ (filter-append (λ x. not (is_disposal x)) (own p) (m.entry ∷ [])
+    ∙ ap (λ (l : List Entry). calls_of p ++ l) (one_kept m.entry quiet))
+
+pub calls_same : (p q : Sender) → own q ≡ own p → calls_of q ≡ calls_of p
+calls_same p q same = ap (filter (λ x. not (is_disposal x))) same
+
+-- no more calls were made by a host's call that told of none
+pub calls_untold : (h : ℕ) (p q : Sender) (a b : Tally) → GoesOn p q a b → sends_by h q ≡ sends_by h p → calls_of q ≡ calls_of p
+calls_untold h p q a b goes same = calls_same p q (told_none h p q a b goes same)
+
+tokens_same : (made : List Entry) (e : Entry) → token_in e.reply ≡ [] → tokens_in made ≡ tokens_in (made ++ e ∷ [])
+tokens_same made e none =
+    sym (flat_map-append (λ (x : Entry). token_in x.reply) made (e ∷ []) ∙ (ap (λ (l : List ℕ). tokens_in made ++ l) (append-nil (token_in e.reply) ∙ none) ∙ append-nil (tokens_in made)))
+
+sent_here : (q : ℕ) (xs : List Sent) (x : Sent) → x.queue ≡ q → sent_on q (xs ++ x ∷ []) ≡ sent_on q xs ++ x ∷ []
+sent_here q xs x is = sent_on-append q xs (x ∷ []) ∙ ap (λ (b : Bool). sent_on q xs ++ cond b (x ∷ []) []) (eq-eqb x.queue q is)
+
+sent_else : (k : ℕ) (xs : List Sent) (x : Sent) → x.queue ≢ k → sent_on k (xs ++ x ∷ []) ≡ sent_on k xs
+sent_else k xs x isnt = sent_on-append k xs (x ∷ []) ∙ (ap (λ (b : Bool). sent_on k xs ++ cond b (x ∷ []) []) (ne_eqb x.queue k isnt) ∙ append-nil (sent_on k xs))
+
+without_self : (q k j : ℕ) → PlaceWithout q k j → q ≢ k
+without_self q k j (inl p) is = (let lt : k < q = p.0 in absurd (omega (arith, is)))
+without_self q k j (inr p) is = (let lt : q < k = p.0 in absurd (omega (arith, is)))
+
+-- other parts with the same view root, posters and counts
+pub played_with : (s : Script) (q : ℕ) (made made' : List Entry) (parts parts' : Parts) (a : Looper) → made' ≡ made → parts'.root ≡ parts.root → parts'.others ≡ parts.others → parts'.fired ≡ parts.fired → IsPlayed s q made parts a → IsPlayed s q made' parts' a
+played_with s q made made' parts parts' a calls root others fired is = record {
+  shown = subst (λ (v : ViewRoot). IsShown s q made' v a) (sym root) (subst (λ (l : List Entry). IsShown s q l parts.root a) (sym calls) is.shown);
+  elsewhere = λ k j d place near. subst (λ (l : List Sender). AreFor IsSent [] (sent_on k a.sent) (own (slice_index_or l j d))) (sym (ap (λ v. v.items) others)) (is.elsewhere k j d place (subst (λ (l : List Sender). j < length l) (ap (λ v. v.items) others) near));
+  fired = ap (λ v. v.items) fired ∙ is.fired;
+  counts = ap (λ v. length v.items) fired ∙ is.counts;
+}
+
+-- a call on the own queue was made
+pub played_call : (s : Script) (q : ℕ) (call : Call) (timing : Timing) (p p' : Sender) (parts : Parts) → is_next call ≡ false → Makes p p' call [] → (a : Looper) → IsPlayed s q (calls_of p) parts a
+    → IsPlayed s q (calls_of p') parts (with_call q call timing a)
+played_call s q call timing p p' parts looks m a is =
+    let x : Sent = record { queue = q; ask = Asks call; reply = None; timing = timing } in
+    let made = calls_of p in
+    let root = is.shown.stands in
+    subst (λ (l : List Entry). IsPlayed s q l parts (with_call q call timing a)) (sym (calls_more p p' call [] looks m)) (record {
+      shown = record {
+        calls = subst (λ (l : List Sent). AreFor IsSent [] l (made ++ m.entry ∷ [])) (sym (sent_here q a.sent x refl)) (AreFor-snoc IsSent (sent_on q a.sent) x made m.entry is.shown.calls (record { call = m.makes; reply = tt }));
+        posted = is.shown.posted;
+        stands = subst (λ (l : List ℕ). IsRootOf s q l (with_call q call timing a) parts.root) (tokens_same made m.entry m.answered) (record { gauges = root.gauges; lines = root.lines; barrier = root.barrier; barriers = root.barriers; painted = root.painted });
+      };
+      elsewhere = λ k j d place near. subst (λ (l : List Sent). AreFor IsSent [] l (own (slice_index_or parts.others.items j d))) (sym (sent_else k a.sent x (without_self q k j place))) (is.elsewhere k j d place near);
+      fired = is.fired;
+      counts = is.counts;
+    })
+
+-- ---- a pulse
+
+-- a pulse that is delivered is not after the moment
+pulse_near : (asked : Option ℕ) (n stamp : ℕ) → delivered_at asked n ≡ Some stamp → stamp ≤ n
+pulse_near None n stamp is = absurd cc
+pulse_near (Some pulse) n stamp is = go (nat_le pulse n) refl is
+  where
+    go : (b : Bool) → nat_le pulse n ≡ b → (if b then Some pulse else None) ≡ Some stamp → stamp ≤ n
+    go true e is = (let same : pulse ≡ stamp = cc (is) in let near = leb-true pulse n e in omega (arith, same, near))
+    go false e is = absurd cc
+
+-- a stamp that is not after a moment in milliseconds, rounded up, is not after it either
+pub millis_near : (stamp now : ℕ) → stamp ≤ nanos_of now → millis_up stamp ≤ now
+millis_near stamp now near =
+    let whole = div-mul-le_self (stamp + 999999) 1000000 in
+    let least : stamp ≤ now * 1000000 = omega (arith, near) in
+    omega (arith, whole, least)
+
+frame_sent : (h w : ℕ) (answer : HostSent) (p p' : Sender) (a b : Tally) → GoesOn p p' a b → answer ≢ host.NoMemory → sends_by h p' ≡ sends_by h p ++ sent_by 0 0 w answer
+    → Makes p p' (Post (record { handler = h; what = 0; arg = 0; obj = None; callback = None; when = w; asynchronous = true; slot = None })) []
+frame_sent h w host.Accepted p p' a b goes isnt sends = told_one h 0 0 w host.Accepted p p' a b goes accepted sends
+frame_sent h w host.Refused p p' a b goes isnt sends = told_one h 0 0 w host.Refused p p' a b goes refused sends
+frame_sent h w host.NoMemory p p' a b goes isnt sends = absurd (isnt refl)
+
+-- what the delivery of a pulse leaves
+pub pulse_delivered : (s : Script) (q now : ℕ) (p p' : Sender) (a b : Tally) (parts parts' : Parts) (r : Option Pulse) → GoesOn p p' a b
+    → PulsedBy parts.frames parts'.frames (λ n. n == nanos_of now) (sends_by (frame_handler q) p) (sends_by (frame_handler q) p') r → parts'.root ≡ parts.root → parts'.others ≡ parts.others → parts'.fired ≡ parts.fired
+    → DeliversPulse s q now (calls_of p) (calls_of p') parts parts' r
+pulse_delivered s q now p p' a b parts parts' None goes (x, y, n, t, moment, (none, left, sends)) root others fired = (
+  turn_grew parts.frames parts'.frames x y t,
+  λ text l is. played_with s q (calls_of p) (calls_of p') parts parts' l (calls_untold (frame_handler q) p p' a b goes sends) root others fired is,
+)
+pulse_delivered s q now p p' a b parts parts' (Some pulse) goes (x, y, n, t, moment, (some, left, sends)) root others fired = λ isnt.
+    (let near : pulse.stamp ≤ nanos_of now = subst (λ (m : ℕ). pulse.stamp ≤ m) (eqb-true n (nanos_of now) moment) (pulse_near x.frames.asked n pulse.stamp some) in
+    let made = frame_sent (frame_handler q) (pulse.stamp / 1000000) pulse.sent p p' a b goes isnt sends in (
+      turn_grew parts.frames parts'.frames x y t,
+      millis_near pulse.stamp now near,
+      λ text l is. played_with s q (calls_of p') (calls_of p') parts parts' (pulsed q (Some pulse.stamp) l) refl root others fired (played_call s q (Post (frame_message q 0 0 (pulse.stamp / 1000000))) (NotBefore (millis_up pulse.stamp)) p p' parts refl made l is),
+    ))
+
+-- ---- by a host that was made of the looper's poster
+
+pub hosted_on : (o o' : Origin) (p p' : Sender) (b : Tally) → o' ≡ o → IsHost o' p' b → o.poster ≡ p → GoesOn p p' o.pass b
+hosted_on o o' p p' b same is began = subst (λ (z : Sender). GoesOn z p' o.pass b) began (subst (λ (z : Origin). IsHost z p' b) same is).on
+
+pub pulse_hosted : (s : Script) (q now : ℕ) (o o' : Origin) (p p0 p' : Sender) (b : Tally) (parts parts' : Parts) (r : Option Pulse) → o' ≡ o → IsHost o' p' b → o.poster ≡ p → p0 ≡ p → o.now ≡ now → o.handler ≡ frame_handler q
+    → PulsedBy parts.frames parts'.frames (λ n. n == nanos_of o.now) (sends_by o.handler p0) (sends_by o'.handler p') r → parts'.root ≡ parts.root → parts'.others ≡ parts.others → parts'.fired ≡ parts.fired
+    → DeliversPulse s q now (calls_of p) (calls_of p') parts parts' r
+pulse_hosted s q now o o' p p0 p' b parts parts' r same is began at moment mine pulse root others fired =
+    pulse_delivered s q now p p' o.pass b parts parts' r (hosted_on o o' p p' b same is began)
+    (subst (λ (n : ℕ). PulsedBy parts.frames parts'.frames (λ m. m == nanos_of n) (sends_by (frame_handler q) p) (sends_by (frame_handler q) p') r) moment
+    (subst (λ (h : ℕ). PulsedBy parts.frames parts'.frames (λ m. m == nanos_of o.now) (sends_by h p) (sends_by h p') r) mine
+    (subst (λ (z : Sender). PulsedBy parts.frames parts'.frames (λ m. m == nanos_of o.now) (sends_by o.handler z) (sends_by o.handler p') r) at
+    (subst (λ (z : Origin). PulsedBy parts.frames parts'.frames (λ m. m == nanos_of o.now) (sends_by o.handler p0) (sends_by z.handler p') r) same pulse))))
+    root others fired
+
+-- what holds where a call was made holds unless memory was wanting
+pub unless_made : {E : Type 0} (r : Did) (done : Result Unit E) (P Q : Type 0) → (r ≡ No → ⊥) → (r ≡ Yes → is_ok done ≡ true) → OnOk done P → (P → Q) → Unless r Q
+unless_made Yes (Ok u) P Q isnt is h f = f h
+unless_made Yes (Err e) P Q isnt is h f = absurd (let wrong : false ≡ true = is refl in cc wrong)
+unless_made No done P Q isnt is h f = absurd (isnt refl)
+unless_made NoMemory done P Q isnt is h f = tt
+
+-- a pulse was told
+pub pulse_told : (s : Script) (q now : ℕ) (made made' : List Entry) (parts parts' : Parts) (acts acts0 acts' : List Act) (pulse : Pulse) → DeliversPulse s q now made made' parts parts' (Some pulse) → pulse.sent ≢ host.NoMemory → acts0 ≡ acts
+    → acts' ≡ acts0 ++ Vsync pulse.stamp ∷ [] → Pulses s q now made made' parts parts' acts acts'
+pulse_told s q now made made' parts parts' acts acts0 acts' pulse delivers isnt same told =
+    let done = delivers isnt in
+    record { stamp = Some pulse.stamp; due = done.1; told = told ∙ ap (λ (l : List Act). l ++ Vsync pulse.stamp ∷ []) same; grew = done.0; plays = done.2 }
+
+-- such a host's calls that told of nothing
+pub untold_hosted : (o o' : Origin) (p p0 p' : Sender) (b : Tally) → o' ≡ o → IsHost o' p' b → o.poster ≡ p → p0 ≡ p → sends_by o'.handler p' ≡ sends_by o.handler p0 → calls_of p' ≡ calls_of p
+untold_hosted o o' p p0 p' b same is began at sends =
+    calls_untold o.handler p p' o.pass b (hosted_on o o' p p' b same is began)
+    (subst (λ (z : Sender). sends_by o.handler p' ≡ sends_by o.handler z) at (subst (λ (z : Origin). sends_by z.handler p' ≡ sends_by o.handler p0) same sends))
+
+-- ---- what a step leaves as it was
+
+-- nothing was sent on another queue, and no rule was counted
+pub record StaysElsewhere (q : ℕ) (a b : Looper) : Type 0 where
+  pub elsewhere : (k : ℕ) → k ≢ q → sent_on k b.sent ≡ sent_on k a.sent
+  pub fired : b.fired ≡ a.fired
+
+stays_self : (q : ℕ) (a : Looper) → StaysElsewhere q a a
+stays_self q a = record { elsewhere = λ k isnt. refl; fired = refl }
+
+stays_then : (q : ℕ) (a b c : Looper) → StaysElsewhere q a b → StaysElsewhere q b c → StaysElsewhere q a c
+stays_then q a b c f g = record { elsewhere = λ k isnt. g.elsewhere k isnt ∙ f.elsewhere k isnt; fired = g.fired ∙ f.fired }
+
+stays_if : (q : ℕ) (t : Bool) (a b c : Looper) → StaysElsewhere q a b → StaysElsewhere q a c → StaysElsewhere q a (if t then b else c)
+stays_if q true a b c f g = f
+stays_if q false a b c f g = g
+
+stays_or : {X : Type 0} (q : ℕ) (o : Option X) (a : Looper) (f : X → Looper) → ((x : X) → StaysElsewhere q a (f x)) → StaysElsewhere q a (option_map_or f o a)
+stays_or q None a f h = stays_self q a
+stays_or q (Some x) a f h = h x
+
+module _ (s : Script) (q now : ℕ) where
+  stays_requested : (a : Looper) → StaysElsewhere q a (traversal_requested s q now a)
+  stays_requested a = stays_if q (is_some a.barrier) a a _ (stays_self q a) (record {
+    elsewhere = λ k isnt. sent_else k a.sent (record { queue = q; ask = Asks (Barrier 0); reply = None; timing = At now }) (λ e. isnt (sym e));
+    fired = refl;
+  })
+
+  stays_target : (g target : ℕ) (x : Gauge) (a : Looper) → StaysElsewhere q a (target_set s q now g target x a)
+  stays_target g target x a =
+      let moving : Looper = and_posts_frame animation_phase (animation_id g) (with_gauge g (record { value = x.value; target = target; animating = true }) a) in
+      stays_if q (x.animating || x.value == target) a _ (traversal_requested s q now moving) (record { elsewhere = λ k isnt. refl; fired = refl })
+      (stays_then q a moving (traversal_requested s q now moving) (record { elsewhere = λ k isnt. refl; fired = refl }) (stays_requested moving))
+
+  pub stays_object : (g target : ℕ) (a : Looper) → StaysElsewhere q a (object_set s q now g target a)
+  stays_object g target a = stays_if q (gauge_looper s g == q) a _ a (stays_or q (slice_get a.gauges g) a (λ x. target_set s q now g target x a) (λ x. stays_target g target x a)) (stays_self q a)
+
+  stays_moved : (g : ℕ) (x : Gauge) (a : Looper) → StaysElsewhere q a (gauge_moved s q now g x a)
+  stays_moved g x a =
+      let value : ℕ = moved (gauge_line s g).step x.target x.value in
+      let there : Looper = with_gauge g (record { value = value; target = x.target; animating = false }) a in
+      let on : Looper = with_gauge g (record x { value = value }) a in
+      stays_if q (value == x.target) a (traversal_requested s q now there) (and_posts_frame animation_phase (animation_id g) (traversal_requested s q now on))
+      (stays_then q a there (traversal_requested s q now there) (record { elsewhere = λ k isnt. refl; fired = refl }) (stays_requested there))
+      (let on_its_way = stays_requested on in record { elsewhere = λ k isnt. on_its_way.elsewhere k isnt; fired = on_its_way.fired })
+
+  stays_animated : (g : ℕ) (x : Gauge) (a : Looper) → StaysElsewhere q a (animation_ran s q now g x a)
+  stays_animated g x a = stays_if q x.animating a (gauge_moved s q now g x a) a (stays_moved g x a) (stays_self q a)
+
+  stays_traversed : (a : Looper) → StaysElsewhere q a (traversal_ran s q now a)
+  stays_traversed a = stays_or q a.barrier a (λ k. and_sends q now (Unbars k) (record a { barrier = None; painted = a.painted ++ paints s q a.gauges })) (λ n. record {
+    elsewhere = λ k isnt. sent_else k a.sent (record { queue = q; ask = Unbars n; reply = None; timing = At now }) (λ e. isnt (sym e));
+    fired = refl;
+  })
+
+  stays_called : (id : ℕ) (a : Looper) → StaysElsewhere q a (callback_ran s q now a id)
+  stays_called id a = stays_if q (id == traversal_id) a (traversal_ran s q now a) _ (stays_traversed a)
+      (stays_if q (nat_le 1000000 id) a _ a (stays_or q (slice_get a.gauges (id - 1000000)) a (λ x. animation_ran s q now (id - 1000000) x a) (λ x. stays_animated (id - 1000000) x a)) (stays_self q a))
+
+  pub stays_ran : (ids : List ℕ) (a : Looper) → StaysElsewhere q a (fold (callback_ran s q now) a ids)
+  stays_ran [] a = stays_self q a
+  stays_ran (id ∷ ids) a = stays_then q a (callback_ran s q now a id) (fold (callback_ran s q now) (callback_ran s q now a id) ids) (stays_called id a) (stays_ran ids (callback_ran s q now a id))
+
+-- a message with an object paints nothing
+painted_if : (t : Bool) (b c : Looper) (l : List Act) → b.painted ≡ l → c.painted ≡ l → (if t then b else c).painted ≡ l
+painted_if true b c l f g = f
+painted_if false b c l f g = g
+
+painted_or : {X : Type 0} (o : Option X) (a : Looper) (f : X → Looper) → ((x : X) → (f x).painted ≡ a.painted) → (option_map_or f o a).painted ≡ a.painted
+painted_or None a f h = refl
+painted_or (Some x) a f h = h x
+
+requested_painted : (s : Script) (q now : ℕ) (a : Looper) → (traversal_requested s q now a).painted ≡ a.painted
+requested_painted s q now a = painted_if (is_some a.barrier) a _ a.painted refl refl
+
+target_painted : (s : Script) (q now g target : ℕ) (x : Gauge) (a : Looper) → (target_set s q now g target x a).painted ≡ a.painted
+target_painted s q now g target x a =
+    let moving : Looper = and_posts_frame animation_phase (animation_id g) (with_gauge g (record { value = x.value; target = target; animating = true }) a) in
+    painted_if (x.animating || x.value == target) _ (traversal_requested s q now moving) a.painted refl (requested_painted s q now moving)
+
+pub object_painted : (s : Script) (q now g target : ℕ) (a : Looper) → (object_set s q now g target a).painted ≡ a.painted
+object_painted s q now g target a =
+    painted_if (gauge_looper s g == q) _ a a.painted (painted_or (slice_get a.gauges g) a (λ x. target_set s q now g target x a) (λ x. target_painted s q now g target x a)) refl
+
+-- a step of the view root is one of all that the looper has
+pub played_shown : (s : Script) (q : ℕ) (step : Looper → Looper) (made made' : List Entry) (parts parts' : Parts) → Shows s q step made parts.root made' parts'.root → ((a : Looper) → StaysElsewhere q a (step a)) → parts'.others ≡ parts.others
+    → parts'.fired ≡ parts.fired → Plays s q step made parts made' parts'
+played_shown s q step made made' parts parts' shows stays others fired text a is =
+    let still = stays a in
+    record {
+      shown = shows text a is.shown;
+      elsewhere = λ k j d place near. subst (λ (l : List Sent). AreFor IsSent [] l (own (slice_index_or parts'.others.items j d))) (sym (still.elsewhere k (λ e. without_self q k j place (sym e))))
+          (subst (λ (l : List Sender). AreFor IsSent [] (sent_on k a.sent) (own (slice_index_or l j d))) (sym (ap (λ v. v.items) others)) (is.elsewhere k j d place (subst (λ (l : List Sender). j < length l) (ap (λ v. v.items) others) near)));
+      fired = ap (λ v. v.items) fired ∙ (is.fired ∙ sym still.fired);
+      counts = ap (λ v. length v.items) fired ∙ is.counts;
+    }
+
+-- a target was set by a host that was made of the looper's poster
+pub set_hosted : {E : Type 0} (r : Result Unit E) (s : Script) (q now now' g target : ℕ) (p p0 : Sender) (made' : List Entry) (parts parts' : Parts) → OnOk r (Shows s q (object_set s q now' g target) (calls_of p0) parts.root made' parts'.root) → now' ≡ now → p0 ≡ p
+    → parts'.others ≡ parts.others → parts'.fired ≡ parts.fired → OnOk r (Plays s q (object_set s q now g target) (calls_of p) parts made' parts')
+set_hosted (Ok u) s q now now' g target p p0 made' parts parts' shows at same others fired =
+    played_shown s q (object_set s q now g target) (calls_of p) made' parts parts'
+    (subst (λ (n : ℕ). Shows s q (object_set s q n g target) (calls_of p) parts.root made' parts'.root) at (subst (λ (z : Sender). Shows s q (object_set s q now' g target) (calls_of z) parts.root made' parts'.root) same shows))
+    (stays_object s q now g target) others fired
+set_hosted (Err e) s q now now' g target p p0 made' parts parts' shows at same others fired = tt
+
+-- a frame ran by such a host
+pub frame_hosted : {E : Type 0} (r : Result Unit E) (s : Script) (q now now' interval phases : ℕ) (p p0 p' : Sender) (parts parts' : Parts)
+    → OnOk r ((ids : List ℕ) × RanFrame interval phases parts.frames parts'.frames ids × FrameShows now' ids p0 parts.root p' parts'.root) → interval ≡ s.period → phases ≡ 4 → now' ≡ now → p0 ≡ p → parts'.others ≡ parts.others → parts'.fired ≡ parts.fired
+    → OnOk r ((ids : List ℕ) × RanFrame s.period 4 parts.frames parts'.frames ids × Plays s q (λ a. fold (callback_ran s q now) a ids) (calls_of p) parts (calls_of p') parts')
+frame_hosted (Ok u) s q now now' interval phases p p0 p' parts parts' (ids, ran, shows) period four at same others fired = (
+  ids,
+  subst (λ (n : ℕ). RanFrame s.period n parts.frames parts'.frames ids) four (subst (λ (n : ℕ). RanFrame n phases parts.frames parts'.frames ids) period ran),
+  played_shown s q (λ a. fold (callback_ran s q now) a ids) (calls_of p) (calls_of p') parts parts'
+      (subst (λ (n : ℕ). Shows s q (λ a. fold (callback_ran s q n) a ids) (calls_of p) parts.root (calls_of p') parts'.root) at (subst (λ (z : Sender). Shows s q (λ a. fold (callback_ran s q now') a ids) (calls_of z) parts.root (calls_of p') parts'.root) same (shows s q)))
+      (stays_ran s q now ids) others fired,
+)
+frame_hosted (Err e) s q now now' interval phases p p0 p' parts parts' h period four at same others fired = tt
+
+-- ---- a message was delivered
+
+or_true : (t : Bool) → (t || true) ≡ true
+or_true true = refl
+or_true false = refl
+
+if_starts : (c h w : Bool) (x y z : Looper) → (not c && h && w) ≡ true → (if c then x else if h then (if w then y else x) else z) ≡ y
+if_starts true h w x y z is = absurd cc
+if_starts false false w x y z is = absurd cc
+if_starts false true false x y z is = absurd cc
+if_starts false true true x y z is = refl
+
+if_quiet : (c h w : Bool) (x y z : Looper) → c ≡ false → h ≡ true → w ≡ false → (if c then x else if h then (if w then y else x) else z) ≡ x
+if_quiet true h w x y z a b d = refl
+if_quiet false false w x y z a b d = absurd (let wrong : false ≡ true = b in cc wrong)
+if_quiet false true false x y z a b d = refl
+if_quiet false true true x y z a b d = absurd (let wrong : true ≡ false = d in cc wrong)
+
+if_other : (c h : Bool) (x y z : Looper) → c ≡ false → h ≡ false → (if c then x else if h then y else z) ≡ z
+if_other true h x y z a b = absurd (let wrong : true ≡ false = a in cc wrong)
+if_other false true x y z a b = absurd (let wrong : true ≡ false = b in cc wrong)
+if_other false false x y z a b = refl
+
+-- the message of a frame runs its callbacks
+delivered_frame : (s : Script) (q now : ℕ) (ids : List ℕ) (m : PostData) (a : Looper) → starts_frame q m ≡ true → delivered s q now ids m a ≡ fold (callback_ran s q now) a ids
+delivered_frame s q now ids m a is = if_starts (is_some m.callback) (m.handler == frame_handler q) (m.what == 0) a (fold (callback_ran s q now) a ids) _ is
+
+-- another message of the choreographer changes nothing
+pub delivered_quiet : (s : Script) (q now : ℕ) (m : PostData) (a : Looper) → m.callback ≡ None → m.handler ≡ frame_handler q → m.what ≢ 0 → delivered s q now [] m a ≡ a
+delivered_quiet s q now m a none mine isnt = if_quiet (is_some m.callback) (m.handler == frame_handler q) (m.what == 0) a a _ (ap is_some none) (eq-eqb m.handler (frame_handler q) mine) (ne_eqb m.what 0 isnt)
+
+-- a message with an object sets its target
+pub delivered_object : (s : Script) (q now : ℕ) (m : PostData) (object : ℕ) (a : Looper) → m.callback ≡ None → m.handler ≢ frame_handler q → m.obj ≡ Some object → delivered s q now [] m a ≡ object_set s q now object m.arg a
+delivered_object s q now m object a none other some =
+    if_other (is_some m.callback) (m.handler == frame_handler q) a _ _ (ap is_some none) (ne_eqb m.handler (frame_handler q) other) ∙ ap (λ (o : Option ℕ). option_map_or (λ g. object_set s q now g m.arg a) o (reacted s now m a)) some
+
+-- any other is one for the rules
+pub delivered_plain : (s : Script) (q now : ℕ) (m : PostData) (a : Looper) → m.callback ≡ None → m.handler ≢ frame_handler q → m.obj ≡ None → delivered s q now [] m a ≡ reacted s now m a
+delivered_plain s q now m a none other nothing =
+    if_other (is_some m.callback) (m.handler == frame_handler q) a _ _ (ap is_some none) (ne_eqb m.handler (frame_handler q) other) ∙ ap (λ (o : Option ℕ). option_map_or (λ g. object_set s q now g m.arg a) o (reacted s now m a)) nothing
+
+-- what a frame painted was told, and is painted no more
+pub frame_delivered : (s : Script) (q now : ℕ) (m : PostData) (made made' : List Entry) (parts mid parts' : Parts) (acts acts0 acts' : List Act) (ids : List ℕ) → starts_frame q m ≡ true → RanFrame s.period 4 parts.frames mid.frames ids
+    → Plays s q (λ a. fold (callback_ran s q now) a ids) made parts made' mid → acts0 ≡ acts → acts' ≡ acts0 ++ map paint_of mid.root.painted.items → parts'.frames ≡ mid.frames → parts'.others ≡ mid.others → parts'.fired ≡ mid.fired
+    → parts'.root.gauges ≡ mid.root.gauges → parts'.root.barrier ≡ mid.root.barrier → parts'.root.pass ≡ mid.root.pass → parts'.root.painted.items ≡ [] → Delivers s q now m made made' parts parts' acts acts'
+frame_delivered s q now m made made' parts mid parts' acts acts0 acts' ids starts ran plays same told frames others fired gauges barrier pass none = record {
+  ids = ids;
+  ran = record {
+    frame = ran.frame;
+    framed = subst (λ (f : Pass). IsFrameBy s.period 4 parts.frames f ran.frame ids) (sym frames) ran.framed;
+    within = subst (λ (f : Pass). place_after 0 ran.frame ≤ length f.view.seen) (sym frames) ran.within;
+    grew = subst (λ (f : Pass). IsPrefix parts.frames.view.seen f.view.seen) (sym frames) ran.grew;
+  };
+  starts = ap (λ (t : Bool). not (is_some ran.frame) || t) starts ∙ or_true (not (is_some ran.frame));
+  plays = λ text a unpainted is. (
+      let b : Looper = fold (callback_ran s q now) a ids in
+      let done : IsPlayed s q made' mid b = plays text a is in
+      let root = done.shown.stands in
+      subst (λ (z : Looper). IsPlayed s q made' parts' (record z { painted = [] }) × (acts' ≡ acts ++ z.painted)) (sym (delivered_frame s q now ids m a starts)) (
+        record {
+          shown = record {
+            calls = done.shown.calls;
+            posted = λ phase id. subst (λ (f : Pass). count_by (is_frame_post phase id) b.posted ≤ count_by (posts_frame phase id) f.view.seen) (sym pass) (done.shown.posted phase id);
+            stands = record {
+              gauges = ap (λ v. map standing v.items) gauges ∙ root.gauges;
+              lines = ap (λ v. map fixed v.items) gauges ∙ root.lines;
+              barrier = subst (IsBarrierOf (tokens_in made') b.barrier) (sym barrier) root.barrier;
+              barriers = root.barriers;
+              painted = ap (map paint_of) none;
+            };
+          };
+          elsewhere = λ k j d place near. subst (λ (l : List Sender). AreFor IsSent [] (sent_on k b.sent) (own (slice_index_or l j d))) (sym (ap (λ v. v.items) others)) (done.elsewhere k j d place (subst (λ (l : List Sender). j < length l) (ap (λ v. v.items) others) near));
+          fired = ap (λ v. v.items) fired ∙ done.fired;
+          counts = ap (λ v. length v.items) fired ∙ done.counts;
+        },
+        told ∙ (λ i. same i ++ root.painted i),
+      ));
+}
+
+-- a message that begins no frame and paints nothing
+pub step_delivered : (s : Script) (q now : ℕ) (m : PostData) (made made' : List Entry) (parts parts' : Parts) (acts acts' : List Act) (step : Looper → Looper) → IsPrefix parts.frames.view.seen parts'.frames.view.seen
+    → ((a : Looper) → delivered s q now [] m a ≡ step a) → ((a : Looper) → (step a).painted ≡ a.painted) → Plays s q step made parts made' parts' → acts' ≡ acts → Delivers s q now m made made' parts parts' acts acts'
+step_delivered s q now m made made' parts parts' acts acts' step grew is_step still plays same = record {
+  ids = [];
+  ran = record { frame = None; framed = λ fs begins is. (refl, refl); within = omega arith; grew = grew };
+  starts = refl;
+  plays = λ text a unpainted is. (
+      let b : Looper = step a in
+      let nothing : b.painted ≡ [] = still a ∙ unpainted in
+      subst (λ (z : Looper). IsPlayed s q made' parts' (record z { painted = [] }) × (acts' ≡ acts ++ z.painted)) (sym (is_step a)) (
+        subst (λ (l : List Act). IsPlayed s q made' parts' (record b { painted = l })) nothing (plays text a is),
+        same ∙ (sym (append-nil acts) ∙ ap (λ (l : List Act). acts ++ l) (sym nothing)),
+      ));
+}
+
+-- the same where the pass of frames is as it was
+pub still_delivered : (s : Script) (q now : ℕ) (m : PostData) (made made' : List Entry) (parts parts' : Parts) (acts acts' : List Act) (step : Looper → Looper) → parts'.frames ≡ parts.frames
+    → ((a : Looper) → delivered s q now [] m a ≡ step a) → ((a : Looper) → (step a).painted ≡ a.painted) → Plays s q step made parts made' parts' → acts' ≡ acts → Delivers s q now m made made' parts parts' acts acts'
+still_delivered s q now m made made' parts parts' acts acts' step frames is_step still plays same =
+    step_delivered s q now m made made' parts parts' acts acts' step (subst (λ (f : Pass). IsPrefix parts.frames.view.seen f.view.seen) (sym frames) (prefix_self parts.frames.view.seen)) is_step still plays same
+
+pub on_ok : {E : Type 0} (r : Result Unit E) (P Q : Type 0) → OnOk r P → (P → Q) → OnOk r Q
+on_ok (Ok u) P Q h f = f h
+on_ok (Err e) P Q h f = tt
+
+-- one paint more was told
+pub painted_more : (acts0 acts : List Act) (ps : List Painted) (i : ℕ) (d : Painted) → i < length ps → acts ≡ acts0 ++ map paint_of (take i ps) → acts ++ paint_of (get_or ps i d) ∷ [] ≡ acts0 ++ map paint_of (take (i + 1) ps)
+painted_more acts0 acts ps i d near is =
+    let more : map paint_of (take (i + 1) ps) ≡ map paint_of (take i ps) ++ paint_of (get_or ps i d) ∷ [] = ap (map paint_of) (take_more ps i d near) ∙ map-append paint_of (take i ps) (get_or ps i d ∷ []) in
+    ap (λ (l : List Act). l ++ paint_of (get_or ps i d) ∷ []) is ∙ (append_assoc acts0 (map paint_of (take i ps)) (paint_of (get_or ps i d) ∷ []) ∙ ap (λ (l : List Act). acts0 ++ l) (sym more))

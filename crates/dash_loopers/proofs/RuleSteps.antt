@@ -1,0 +1,348 @@
+-- A rule's message is one call more of the looper, and the rules of a message follow one after another.
+use Rattle.std.proofs.Common.{◌≡◌, ◌≢◌, ℕ, ◌+◌, ◌<◌, ◌≤◌, ◌==◌, ◌&&◌, Bool, true, false, cond, not, List, [], ◌∷◌, ◌++◌, map, length, get_or, set, take, Option, Some, None, inl, inr, refl, sym, ap, ◌∙◌, subst, arith, append_assoc, eq-eqb, ne_eqb}
+use Rattle.std.specs.Prelude.{◌⊎◌, slice_get, slice_set, slice_index_or, filter, nat_lt, if◌then◌else◌}
+use Rattle.std.specs.List.{zip, filter_map, cons_option}
+use Rattle.std.specs.Option.{option_map_or}
+use mathlib.Core.Logic.{dite}
+use native.Mathlib.Decide.{ℕ_discrete}
+use Rattle.std.proofs.lemmas.Bool.{lt-ltb, le-ltb}
+use Rattle.std.proofs.lemmas.List.{append-nil, get_or-set_same, get_or-set_other, length-set, length-append, set_at, take_more, length-take-le, take_all}
+use Rattle.std.proofs.lemmas.List.Elements.{filter-append}
+use Rattle.std.proofs.lemmas.Option.{slice_get-get_or, slice_get_within, get_or_from_slice_get}
+use Rattle.loop_model.specs.declared.post.Post.{Post as PostData}
+use Rattle.loop_model.specs.declared.call.Call.{Call}
+use Rattle.loop_model.specs.declared.call.Call.TheVariants.{Post, Barrier, Quit}
+use Rattle.loop_model.specs.declared.entry.Entry.{Entry}
+use Rattle.loop_model.specs.Entries.{is_next, is_disposed}
+use Rattle.dash_script.specs.declared.script.Rule.{Rule}
+use Rattle.dash_script.specs.declared.script.Script.{Script}
+use Rattle.looper_run.specs.Holding.{Sender}
+use Rattle.handler_post.specs.declared.handler.Handler.{Handler}
+use Rattle.run_model.specs.Asks.{Makes as Asks, AreFor, plain, token_in, tokens_in}
+use Rattle.run_model.specs.Control.{Timing, At}
+use Rattle.run_model.specs.Senders.{looper_of, handler_line}
+use Rattle.run_model.specs.Planned.{later}
+use Rattle.run_model.specs.Loopers.{Looper, Sent, fires, reaction, reacted}
+use Rattle.run_model.specs.Acts.{sent_on, IsSent}
+use Rattle.run_model.proofs.RunLaws.{AreFor-snoc, sent_on-append}
+use Rattle.dash_hall.specs.declared.handlers.Request.{Request}
+use Rattle.dash_hall.specs.declared.handlers.Request.TheVariants as request
+use Rattle.dash_hall.specs.Requests.{call_by}
+use Rattle.dash_hall.specs.Growth.{own, Makes}
+use Rattle.dash_loopers.specs.declared.view_root.ViewRoot.{ViewRoot}
+use Rattle.dash_loopers.specs.declared.player.Parts.{Parts}
+use Rattle.dash_loopers.specs.Players.{PlaceWithout}
+use Rattle.dash_loopers.specs.Played.{is_disposal, calls_of, IsRootOf, IsShown, AreMadeElsewhere, IsPlayed, Plays, AreAllButCounts, FiresAt, with_call, rule_met}
+
+-- ---- a call that a handler makes is no look
+
+plain_look : (c : Call) → is_next (plain c) ≡ is_next c
+plain_look (Post p) = refl
+plain_look (Barrier now) = refl
+plain_look (Quit safe now) = refl
+plain_look c = refl
+
+no_look_by : (h : Handler) (r : Request) → is_next (call_by h r) ≡ false
+no_look_by h (request.Send what arg obj when) = refl
+no_look_by h (request.SendAsync what when) = refl
+no_look_by h (request.SendFront what) = refl
+no_look_by h (request.PostCallback id now delay) = refl
+no_look_by h (request.RemoveMessages what) = refl
+no_look_by h (request.RemoveCallbacks id) = refl
+no_look_by h request.RemoveAll = refl
+
+no_disposal : (h : Handler) (r : Request) (e : Entry) → plain e.call ≡ call_by h r → is_disposal e ≡ false
+no_disposal h r e is = ap (λ (b : Bool). b && is_disposed e.reply) (sym (plain_look e.call) ∙ (ap is_next is ∙ no_look_by h r))
+
+-- the poster's calls with one more
+pub one_called : (h : Handler) (r : Request) (p q : Sender) (m : Makes p q (call_by h r) []) → calls_of q ≡ calls_of p ++ m.entry ∷ []
+one_called h r p q m =
+    let keep : Entry → Bool = λ e. not (is_disposal e) in
+    ap (filter keep) m.made ∙ (filter-append keep (own p) (m.entry ∷ []) ∙ ap (λ (b : Bool). calls_of p ++ cond (not b) (m.entry ∷ []) []) (no_disposal h r m.entry m.makes))
+
+-- ---- one call more
+
+-- what is sent on a queue with one call more
+pub sent_here : (k : ℕ) (xs : List Sent) (x : Sent) (is : x.queue ≡ k) → sent_on k (xs ++ x ∷ []) ≡ sent_on k xs ++ x ∷ []
+sent_here k xs x is = sent_on-append k xs (x ∷ []) ∙ ap (λ (b : Bool). sent_on k xs ++ cond b (x ∷ []) []) (eq-eqb x.queue k is)
+
+pub sent_else : (k : ℕ) (xs : List Sent) (x : Sent) (is : x.queue ≢ k) → sent_on k (xs ++ x ∷ []) ≡ sent_on k xs
+sent_else k xs x is = sent_on-append k xs (x ∷ []) ∙ (ap (λ (b : Bool). sent_on k xs ++ cond b (x ∷ []) []) (ne_eqb x.queue k is) ∙ append-nil (sent_on k xs))
+
+-- the calls for what is sent, with one more
+pub one_for : (k : ℕ) (xs : List Sent) (call : Call) (timing : Timing) (es : List Entry) (e : Entry) → plain e.call ≡ call → AreFor IsSent [] (sent_on k xs) es
+    → AreFor IsSent [] (sent_on k (xs ++ record { queue = k; ask = Asks call; reply = None; timing = timing } ∷ [])) (es ++ e ∷ [])
+one_for k xs call timing es e is h =
+    let x : Sent = record { queue = k; ask = Asks call; reply = None; timing = timing } in
+    subst (λ (l : List Sent). AreFor IsSent [] l (es ++ e ∷ [])) (sym (sent_here k xs x refl))
+    (AreFor-snoc IsSent (sent_on k xs) x es e h (record { call = is; reply = tt }))
+
+-- a call elsewhere leaves what is sent on this queue
+pub none_for : (k queue : ℕ) (xs : List Sent) (call : Call) (timing : Timing) (es : List Entry) → queue ≢ k → AreFor IsSent [] (sent_on k xs) es
+    → AreFor IsSent [] (sent_on k (xs ++ record { queue = queue; ask = Asks call; reply = None; timing = timing } ∷ [])) es
+none_for k queue xs call timing es other h =
+    subst (λ (l : List Sent). AreFor IsSent [] l es) (sym (sent_else k xs (record { queue = queue; ask = Asks call; reply = None; timing = timing }) other)) h
+
+pub tokens_more : (es : List Entry) (e : Entry) → token_in e.reply ≡ [] → tokens_in es ≡ tokens_in (es ++ e ∷ [])
+tokens_more [] e none = sym (ap (λ (l : List ℕ). l ++ []) none)
+tokens_more (x ∷ es) e none = ap (λ (l : List ℕ). token_in x.reply ++ l) (tokens_more es e none)
+
+-- a view root stands as it stood, whatever was sent
+pub root_sent : (s : Script) (q : ℕ) (tokens : List ℕ) (a : Looper) (xs : List Sent) (root : ViewRoot) → IsRootOf s q tokens a root → IsRootOf s q tokens (record a { sent = xs }) root
+root_sent s q tokens a xs root h = record { gauges = h.gauges; lines = h.lines; barrier = h.barrier; barriers = h.barriers; painted = h.painted }
+
+pub without_self : (q k j : ℕ) → PlaceWithout q k j → q ≢ k
+without_self q k j (inl p) is = (let lt : k < q = p.0 in absurd (omega (arith, is)))
+without_self q k j (inr p) is = (let lt : q < k = p.0 in absurd (omega (arith, is)))
+
+-- a call on the own queue
+pub called_here : (s : Script) (q : ℕ) (h : Handler) (r : Request) (timing : Timing) (p p' : Sender) (parts : Parts) → Makes p p' (call_by h r) []
+    → Plays s q (with_call q (call_by h r) timing) (calls_of p) parts (calls_of p') parts
+called_here s q h r timing p p' parts m text a is =
+    let x : Sent = record { queue = q; ask = Asks (call_by h r); reply = None; timing = timing } in
+    subst (λ (l : List Entry). IsPlayed s q l parts (with_call q (call_by h r) timing a)) (sym (one_called h r p p' m))
+    (record {
+      shown = record {
+        calls = one_for q a.sent (call_by h r) timing (calls_of p) m.entry m.makes is.shown.calls;
+        posted = is.shown.posted;
+        stands = subst (λ (l : List ℕ). IsRootOf s q l (with_call q (call_by h r) timing a) parts.root) (tokens_more (calls_of p) m.entry m.answered) (root_sent s q (tokens_in (calls_of p)) a (a.sent ++ x ∷ []) parts.root is.shown.stands);
+      };
+      elsewhere = λ k j d place near. none_for k q a.sent (call_by h r) timing (own (slice_index_or parts.others.items j d)) (without_self q k j place) (is.elsewhere k j d place near);
+      fired = is.fired;
+      counts = is.counts;
+    })
+
+-- which queue stands at which place
+same_place : (q k k' j j' : ℕ) → PlaceWithout q k j → PlaceWithout q k' j' → k ≡ k' → j' ≡ j
+same_place q k k' j j' (inl p) (inl p') is = p'.1 ∙ (sym is ∙ sym p.1)
+same_place q k k' j j' (inl p) (inr p') is = (let a : k < q = p.0 in let b : q < k' = p'.0 in absurd (omega (arith, is)))
+same_place q k k' j j' (inr p) (inl p') is = (let a : q < k = p.0 in let b : k' < q = p'.0 in absurd (omega (arith, is)))
+same_place q k k' j j' (inr p) (inr p') is = (let a : k ≡ j + 1 = p.1 in let b : k' ≡ j' + 1 = p'.1 in omega (arith, is))
+
+other_place : (q k k' j j' : ℕ) → PlaceWithout q k j → PlaceWithout q k' j' → k ≢ k' → j ≢ j'
+other_place q k k' j j' (inl p) (inl p') apart is = apart (sym p.1 ∙ (is ∙ p'.1))
+other_place q k k' j j' (inl p) (inr p') apart is = (let a : k < q = p.0 in let b : j ≡ k = p.1 in let c : q < k' = p'.0 in let d : k' ≡ j' + 1 = p'.1 in absurd (omega (arith, is)))
+other_place q k k' j j' (inr p) (inl p') apart is = (let a : q < k = p.0 in let b : k ≡ j + 1 = p.1 in let c : k' < q = p'.0 in let d : j' ≡ k' = p'.1 in absurd (omega (arith, is)))
+other_place q k k' j j' (inr p) (inr p') apart is = (let a : k ≡ j + 1 = p.1 in let b : k' ≡ j' + 1 = p'.1 in apart (omega (arith, is)))
+
+-- a call on another queue, by its poster at place j among the others
+module _ (s : Script) (q k j : ℕ) (h : Handler) (r : Request) (timing : Timing) (p p' : Sender) (made : List Entry) (parts parts' : Parts) (place : PlaceWithout q k j) (at : slice_get parts.others.items j ≡ Some p) (m : Makes p p' (call_by h r) [])
+  (others : parts'.others.items ≡ set parts.others.items j p') (root : parts'.root ≡ parts.root) (fired : parts'.fired.items ≡ parts.fired.items) (a : Looper) (is : IsPlayed s q made parts a) where
+  -- what is sent with this call more
+  sent_more : List Sent
+  sent_more = a.sent ++ record { queue = k; ask = Asks (call_by h r); reply = None; timing = timing } ∷ []
+
+  entries_there : (k' j' : ℕ) (d : Sender) → PlaceWithout q k' j' → j' < length parts.others.items → AreFor IsSent [] (sent_on k' sent_more) (own (slice_index_or (set parts.others.items j p') j' d))
+  unfolding sent_more
+  entries_there k' j' d place' near =
+      let items = parts.others.items in
+      let near_j : j < length items = slice_get_within items j p at in
+      let hit : k ≡ k' → AreFor IsSent [] (sent_on k' sent_more) (own (slice_index_or (set items j p') j' d)) = λ same.
+          (let here : get_or (set items j p') j' d ≡ p' = ap (λ (i : ℕ). get_or (set items j p') i d) (same_place q k k' j j' place place' same) ∙ get_or-set_same items j p' d near_j in
+          let before : AreFor IsSent [] (sent_on k a.sent) (own p) = subst (λ (z : Sender). AreFor IsSent [] (sent_on k a.sent) (own z)) (get_or_from_slice_get items j p d at) (is.elsewhere k j d place near_j) in
+          let after : AreFor IsSent [] (sent_on k sent_more) (own p') = subst (λ (l : List Entry). AreFor IsSent [] (sent_on k sent_more) l) (sym m.made) (one_for k a.sent (call_by h r) timing (own p) m.entry m.makes before) in
+          subst (λ (n : ℕ). AreFor IsSent [] (sent_on n sent_more) (own (get_or (set items j p') j' d))) same (subst (λ (z : Sender). AreFor IsSent [] (sent_on k sent_more) (own z)) (sym here) after)) in
+      let miss : k ≢ k' → AreFor IsSent [] (sent_on k' sent_more) (own (slice_index_or (set items j p') j' d)) = λ apart.
+          (let there : get_or (set items j p') j' d ≡ get_or items j' d = get_or-set_other items j j' p' d (λ e. other_place q k k' j j' place place' apart (sym e)) in
+          subst (λ (z : Sender). AreFor IsSent [] (sent_on k' sent_more) (own z)) (sym there) (none_for k' k a.sent (call_by h r) timing (own (get_or items j' d)) apart (is.elsewhere k' j' d place' near))) in
+      dite (ℕ_discrete k k') hit miss
+
+  pub called_there : IsPlayed s q made parts' (with_call k (call_by h r) timing a)
+  unfolding sent_more
+  called_there =
+      let items = parts.others.items in
+      let as_many : length parts'.others.items ≡ length items = ap length others ∙ length-set items j p' in
+      record {
+        shown = subst (λ (v : ViewRoot). IsShown s q made v (with_call k (call_by h r) timing a)) (sym root) (record {
+          calls = none_for q k a.sent (call_by h r) timing made (λ e. without_self q k j place (sym e)) is.shown.calls;
+          posted = is.shown.posted;
+          stands = root_sent s q (tokens_in made) a sent_more parts.root is.shown.stands;
+        });
+        elsewhere = λ k' j' d place' near. subst (λ (l : List Sender). AreFor IsSent [] (sent_on k' sent_more) (own (slice_index_or l j' d))) (sym others) (entries_there k' j' d place' (omega (arith, near, as_many)));
+        fired = fired ∙ is.fired;
+        counts = ap length fired ∙ is.counts;
+      }
+
+-- ---- the rules of a message
+
+-- what a rule's firing says of its count
+fires_below : (m : PostData) (r : Rule) (n : ℕ) → (m.handler == r.handler) ≡ true → (m.what == r.what) ≡ true → n < r.times → fires m r n ≡ true
+fires_below m r n h w lt = rw (h, w) (lt-ltb n r.times lt)
+
+and-false : (b : Bool) → (b && false) ≡ false
+and-false true = refl
+and-false false = refl
+
+-- a rule of another message, or whose count is at its limit
+fires_not : (m : PostData) (r : Rule) (n : ℕ) → ((m.handler ≢ r.handler) ⊎ (m.what ≢ r.what)) ⊎ (r.times ≤ n) → fires m r n ≡ false
+fires_not m r n (inl (inl h)) = ap (λ (b : Bool). b && m.what == r.what && nat_lt n r.times) (ne_eqb m.handler r.handler h)
+fires_not m r n (inl (inr w)) = ap (λ (b : Bool). m.handler == r.handler && b && nat_lt n r.times) (ne_eqb m.what r.what w) ∙ ap (λ (b : Bool). b && nat_lt n r.times) (and-false (m.handler == r.handler))
+fires_not m r n (inr many) = ap (λ (b : Bool). m.handler == r.handler && m.what == r.what && b) (le-ltb n r.times many) ∙ and-false (m.handler == r.handler && m.what == r.what)
+
+-- a rule that does not fire changes nothing
+pub rule_missed : (s : Script) (now : ℕ) (m : PostData) (place : ℕ) (r : Rule) (a : Looper) → ((n : ℕ) → slice_get a.fired place ≡ Some n → fires m r n ≡ false) → rule_met s now m place r a ≡ a
+rule_missed s now m place r a never = by_count (slice_get a.fired place) never
+  where
+    by_count : (o : Option ℕ) → ((n : ℕ) → o ≡ Some n → fires m r n ≡ false)
+      → option_map_or (λ n. if fires m r n then record a { fired = slice_set a.fired place (n + 1); sent = a.sent ++ reaction s now r ∷ [] } else a) o a ≡ a
+    by_count None missed = refl
+    by_count (Some n) missed = ap (λ (b : Bool). if b then record a { fired = slice_set a.fired place (n + 1); sent = a.sent ++ reaction s now r ∷ [] } else a) (missed n refl)
+
+-- a rule that fires is counted and sends its message
+pub rule_fired : (s : Script) (now : ℕ) (m : PostData) (place : ℕ) (r : Rule) (a : Looper) (n : ℕ) → slice_get a.fired place ≡ Some n → fires m r n ≡ true
+    → rule_met s now m place r a ≡ record a { fired = slice_set a.fired place (n + 1); sent = a.sent ++ reaction s now r ∷ [] }
+rule_fired s now m place r a n at is =
+    let met : ℕ → Looper = λ x. record a { fired = slice_set a.fired place (x + 1); sent = a.sent ++ reaction s now r ∷ [] } in
+    ap (λ (o : Option ℕ). option_map_or (λ x. if fires m r x then met x else a) o a) at ∙ ap (λ (b : Bool). if b then met n else a) is
+
+-- the rules of a list one after another, the first of which stands at this place
+abbrev pub rules_met : Script → ℕ → PostData → ℕ → List Rule → Looper → Looper
+rules_met s now m place [] a = a
+rules_met s now m place (r ∷ rs) a = rules_met s now m (place + 1) rs (rule_met s now m place r a)
+
+-- one rule more
+rules_more : (s : Script) (now : ℕ) (m : PostData) (place : ℕ) (rs : List Rule) (r : Rule) (a : Looper) → rules_met s now m place (rs ++ r ∷ []) a ≡ rule_met s now m (place + length rs) r (rules_met s now m place rs a)
+rules_more s now m place [] r a = ap (λ (n : ℕ). rule_met s now m n r a) (omega arith)
+rules_more s now m place (x ∷ rs) r a =
+    rules_more s now m (place + 1) rs r (rule_met s now m place x a) ∙ ap (λ (n : ℕ). rule_met s now m n r (rules_met s now m place (x ∷ rs) a)) (omega arith)
+
+-- the rules up to the next place
+pub rules_next : (s : Script) (now : ℕ) (m : PostData) (place : ℕ) (r : Rule) (a : Looper) → slice_get s.rules place ≡ Some r
+    → rule_met s now m place r (rules_met s now m 0 (take place s.rules) a) ≡ rules_met s now m 0 (take (place + 1) s.rules) a
+rules_next s now m place r a at =
+    let near : place < length s.rules = slice_get_within s.rules place r at in
+    let few : place ≤ length s.rules = omega (arith, near) in
+    let taken : take (place + 1) s.rules ≡ take place s.rules ++ r ∷ [] = take_more s.rules place r near ∙ ap (λ (x : Rule). take place s.rules ++ x ∷ []) (get_or_from_slice_get s.rules place r r at) in
+    let long : place ≡ 0 + length (take place s.rules) = omega (arith, length-take-le place s.rules few) in
+    ap (λ (n : ℕ). rule_met s now m n r (rules_met s now m 0 (take place s.rules) a)) long ∙ (sym (rules_more s now m 0 (take place s.rules) r a) ∙ ap (λ (l : List Rule). rules_met s now m 0 l a) (sym taken))
+
+module _ (s : Script) (now : ℕ) (m : PostData) (a : Looper) where
+  -- the state with these counts and these calls
+  with_both : List ℕ → List Sent → Looper
+  with_both fired sent = record a { fired = fired; sent = sent }
+
+  -- a rule's count once the message has met it, and what it sends then
+  count_after : Rule × ℕ → ℕ
+  count_after (r, n) = if fires m r n then n + 1 else n
+
+  sent_after : Rule × ℕ → Option Sent
+  sent_after (r, n) = if fires m r n then Some (reaction s now r) else None
+
+  -- the same as a list
+  more_sent : Rule × ℕ → List Sent
+  more_sent (r, n) = if fires m r n then reaction s now r ∷ [] else []
+
+  at_count : (done : List ℕ) (n : ℕ) (ns : List ℕ) → slice_get (done ++ n ∷ ns) (length done) ≡ Some n
+  at_count [] n ns = refl
+  at_count (x ∷ done) n ns = at_count done n ns
+
+  consed : (x : Sent) (xs : List Sent) (b : Bool) → (if b then x ∷ [] else []) ++ xs ≡ cons_option (if b then Some x else None) xs
+  consed x xs true = refl
+  consed x xs false = refl
+
+  -- one rule, whose count stands behind those of the rules before
+  one_met : (r : Rule) (n : ℕ) (ns done : List ℕ) (sent : List Sent)
+      → rule_met s now m (length done) r (with_both (done ++ n ∷ ns) sent) ≡ with_both ((done ++ count_after (r, n) ∷ []) ++ ns) (sent ++ more_sent (r, n))
+  unfolding with_both count_after more_sent
+  one_met r n ns done sent = by_test (fires m r n) refl
+    where
+      by_test : (b : Bool) → fires m r n ≡ b
+        → rule_met s now m (length done) r (with_both (done ++ n ∷ ns) sent) ≡ with_both ((done ++ (if fires m r n then n + 1 else n) ∷ []) ++ ns) (sent ++ (if fires m r n then reaction s now r ∷ [] else []))
+      by_test true is =
+          rule_fired s now m (length done) r (with_both (done ++ n ∷ ns) sent) n (at_count done n ns) is
+          ∙ (ap (λ (l : List ℕ). with_both l (sent ++ reaction s now r ∷ [])) (set_at done n ns (n + 1) (length done) refl ∙ sym (append_assoc done ((n + 1) ∷ []) ns))
+          ∙ ap (λ (b : Bool). with_both ((done ++ (if b then n + 1 else n) ∷ []) ++ ns) (sent ++ (if b then reaction s now r ∷ [] else []))) (sym is))
+      by_test false is =
+          rule_missed s now m (length done) r (with_both (done ++ n ∷ ns) sent) (λ k at. (let same : n ≡ k = (let e : Some n ≡ Some k = sym (at_count done n ns) ∙ at in cc) in ap (fires m r) (sym same) ∙ is))
+          ∙ (λ i. with_both (sym (append_assoc done (n ∷ []) ns) i) (sym (append-nil sent) i))
+          ∙ ap (λ (b : Bool). with_both ((done ++ (if b then n + 1 else n) ∷ []) ++ ns) (sent ++ (if b then reaction s now r ∷ [] else []))) (sym is)
+
+  rules_from : (rs : List Rule) (ns done : List ℕ) (sent : List Sent) → length ns ≡ length rs
+      → rules_met s now m (length done) rs (with_both (done ++ ns) sent) ≡ with_both (done ++ map count_after (zip rs ns)) (sent ++ filter_map sent_after (zip rs ns))
+  unfolding with_both count_after sent_after more_sent
+  rules_from [] [] done sent same = ap (λ (l : List Sent). with_both (done ++ []) l) (sym (append-nil sent))
+  rules_from [] (n ∷ ns) done sent same = absurd (omega (arith, same))
+  rules_from (r ∷ rs) [] done sent same = absurd (omega (arith, same))
+  rules_from (r ∷ rs) (n ∷ ns) done sent same =
+      let n' = count_after (r, n) in
+      let x = more_sent (r, n) in
+      let ms = map count_after (zip rs ns) in
+      let fs = filter_map sent_after (zip rs ns) in
+      let long : length done + 1 ≡ length (done ++ n' ∷ []) = omega (arith, length-append done (n' ∷ [])) in
+      let rest : length ns ≡ length rs = omega (arith, same) in
+      ap (rules_met s now m (length done + 1) rs) (one_met r n ns done sent)
+      ∙ (ap (λ (k : ℕ). rules_met s now m k rs (with_both ((done ++ n' ∷ []) ++ ns) (sent ++ x))) long
+      ∙ (rules_from rs ns (done ++ n' ∷ []) (sent ++ x) rest
+      ∙ (λ i. with_both (append_assoc done (n' ∷ []) ms i) ((append_assoc sent x fs ∙ ap (λ (l : List Sent). sent ++ l) (consed (reaction s now r) fs (fires m r n))) i))))
+
+  -- all rules one after another are what every other message causes
+  pub rules_are : length a.fired ≡ length s.rules → rules_met s now m 0 s.rules a ≡ reacted s now m a
+  unfolding with_both count_after sent_after
+  rules_are many = rules_from s.rules a.fired [] a.sent many
+
+-- ---- what the functions' clauses are put together from
+
+-- the rule's own message, as the request that it makes
+pub request_is : (s : Script) (now : ℕ) (r : Rule) (looper : ℕ) (handler : Handler) (when : ℕ) (a : Looper) → looper ≡ looper_of s r.to_handler → handler ≡ record { id = r.to_handler; asynchronous = (handler_line s r.to_handler).asynchronous } → when ≡ later now r.delay
+    → with_call looper (call_by handler (request.Send r.to_what 0 None when)) (At now) a ≡ record a { sent = a.sent ++ reaction s now r ∷ [] }
+request_is s now r looper handler when a is_looper is_handler is_when = λ i. with_call (is_looper i) (call_by (is_handler i) (request.Send r.to_what 0 None (is_when i))) (At now) a
+
+-- a step of the same state in other words
+pub played_as : (s : Script) (q : ℕ) (made : List Entry) (parts : Parts) (a b : Looper) → a ≡ b → IsPlayed s q made parts a → IsPlayed s q made parts b
+played_as s q made parts a b same is = subst (IsPlayed s q made parts) same is
+
+-- the rule is counted
+counted : (s : Script) (q place n : ℕ) (made : List Entry) (parts parts' : Parts) (a : Looper) → parts'.fired.items ≡ slice_set parts.fired.items place (n + 1) → AreAllButCounts parts parts' → IsPlayed s q made parts a
+    → IsPlayed s q made parts' (record a { fired = slice_set a.fired place (n + 1) })
+counted s q place n made parts parts' a fired same is = record {
+  shown = subst (λ (v : ViewRoot). IsShown s q made v (record a { fired = slice_set a.fired place (n + 1) })) (sym same.2) (record {
+    calls = is.shown.calls;
+    posted = is.shown.posted;
+    stands = record { gauges = is.shown.stands.gauges; lines = is.shown.stands.lines; barrier = is.shown.stands.barrier; barriers = is.shown.stands.barriers; painted = is.shown.stands.painted };
+  });
+  elsewhere = subst (λ (l : List Sender). AreMadeElsewhere q l (record a { fired = slice_set a.fired place (n + 1) })) (λ i. (sym same.0 i).items) is.elsewhere;
+  fired = fired ∙ ap (λ (l : List ℕ). slice_set l place (n + 1)) is.fired;
+  counts = ap length fired ∙ (length-set parts.fired.items place (n + 1) ∙ is.counts);
+}
+
+-- a rule of the message whose count is below its limit is counted, and its message is sent
+pub plays_fired : (s : Script) (q now : ℕ) (m : PostData) (place : ℕ) (r : Rule) (made made' : List Entry) (parts parts' parts'' : Parts) → (m.handler == r.handler) ≡ true → (m.what == r.what) ≡ true → FiresAt place r.times parts parts' true
+    → Plays s q (λ a. record a { sent = a.sent ++ reaction s now r ∷ [] }) made parts' made' parts'' → Plays s q (rule_met s now m place r) made parts made' parts''
+plays_fired s q now m place r made made' parts parts' parts'' h w (n, at, lt, fired, same) sends text a is =
+    let at_a : slice_get a.fired place ≡ Some n = ap (λ (l : List ℕ). slice_get l place) (sym is.fired) ∙ at in
+    played_as s q made' parts'' _ _ (sym (rule_fired s now m place r a n at_a (fires_below m r n h w lt))) (sends text (record a { fired = slice_set a.fired place (n + 1) }) (counted s q place n made parts parts' a fired same is))
+
+-- one whose count is at its limit does nothing
+pub plays_used_up : (s : Script) (q now : ℕ) (m : PostData) (place : ℕ) (r : Rule) (made : List Entry) (parts parts' : Parts) → FiresAt place r.times parts parts' false → Plays s q (rule_met s now m place r) made parts made parts'
+plays_used_up s q now m place r made parts parts' (same, used_up) text a is =
+    let never : (n : ℕ) → slice_get a.fired place ≡ Some n → fires m r n ≡ false = λ n at.
+        (let many = used_up n (ap (λ (l : List ℕ). slice_get l place) is.fired ∙ at) in fires_not m r n (inr many)) in
+    subst (λ (z : Parts). IsPlayed s q made z (rule_met s now m place r a)) (sym same) (played_as s q made parts _ _ (sym (rule_missed s now m place r a never)) is)
+
+-- one of another message does nothing
+pub plays_other : (s : Script) (q now : ℕ) (m : PostData) (place : ℕ) (r : Rule) (made : List Entry) (parts : Parts) → (m.handler ≢ r.handler) ⊎ (m.what ≢ r.what) → Plays s q (rule_met s now m place r) made parts made parts
+plays_other s q now m place r made parts other text a is =
+    played_as s q made parts _ _ (sym (rule_missed s now m place r a (λ n at. fires_not m r n (inl other)))) is
+
+-- the request of a rule is its message
+pub plays_sent : (s : Script) (q now : ℕ) (r : Rule) (looper : ℕ) (handler : Handler) (when : ℕ) (made made' : List Entry) (parts parts' : Parts) → looper ≡ looper_of s r.to_handler → handler ≡ record { id = r.to_handler; asynchronous = (handler_line s r.to_handler).asynchronous } → when ≡ later now r.delay
+    → Plays s q (with_call looper (call_by handler (request.Send r.to_what 0 None when)) (At now)) made parts made' parts' → Plays s q (λ a. record a { sent = a.sent ++ reaction s now r ∷ [] }) made parts made' parts'
+plays_sent s q now r looper handler when made made' parts parts' is_looper is_handler is_when plays text a is =
+    played_as s q made' parts' _ _ (request_is s now r looper handler when a is_looper is_handler is_when) (plays text a is)
+
+-- the rule at a place of the same list
+pub rule_at : (xs ys : List Rule) (place : ℕ) (d : Rule) → ys ≡ xs → place < length ys → slice_get xs place ≡ Some (get_or ys place d)
+rule_at xs ys place d same near = ap (λ (l : List Rule). slice_get l place) (sym same) ∙ slice_get-get_or ys place d near
+
+-- one rule more
+pub plays_next : (s : Script) (q now : ℕ) (m : PostData) (place : ℕ) (r : Rule) (made made' made'' : List Entry) (parts parts' parts'' : Parts) → slice_get s.rules place ≡ Some r → Plays s q (rules_met s now m 0 (take place s.rules)) made parts made' parts'
+    → Plays s q (rule_met s now m place r) made' parts' made'' parts'' → Plays s q (rules_met s now m 0 (take (place + 1) s.rules)) made parts made'' parts''
+plays_next s q now m place r made made' made'' parts parts' parts'' at before next text a is =
+    played_as s q made'' parts'' _ _ (rules_next s now m place r a at) (next text (rules_met s now m 0 (take place s.rules) a) (before text a is))
+
+-- all rules of the message have been met
+pub plays_all : (s : Script) (q now : ℕ) (m : PostData) (place : ℕ) (made made' : List Entry) (parts parts' : Parts) → length s.rules ≤ place → Plays s q (rules_met s now m 0 (take place s.rules)) made parts made' parts' → Plays s q (reacted s now m) made parts made' parts'
+plays_all s q now m place made made' parts parts' all plays text a is =
+    let taken : take place s.rules ≡ s.rules = take_all place s.rules all in
+    let many : length a.fired ≡ length s.rules = sym (ap length is.fired) ∙ is.counts in
+    played_as s q made' parts' _ _ (ap (λ (l : List Rule). rules_met s now m 0 l a) taken ∙ rules_are s now m a many) (plays text a is)

@@ -1,0 +1,13 @@
+use Rattle.std.proofs.Common.{refl}
+use Rattle.dash_hall.specs.Hosts.{origin_of}
+use Rattle.dash_loopers.proofs.PlaySteps.{pulse_hosted}
+use Rattle.dash_loopers.proofs.player.Place.deliver_pulse.Goals as goal
+
+pub returns-clause-pulses : goal.returns-clause-pulses
+returns-clause-pulses g c =
+    let h = c.host-host.result in
+    let k = c.deliver.new.self in
+    let o = origin_of h.queue.now h.pool.now h.poster.ghost_name h.pass.ghost_name h.began.now.value h.pass_began.now.value h.handler.id h.now in
+    let o' = origin_of k.queue.now k.pool.now k.poster.ghost_name k.pass.ghost_name k.began.now.value k.pass_began.now.value k.handler.id k.now in
+    pulse_hosted c.args.self.now.script.now c.args.self.now.looper c.args.now o o' c.args.own.now.poster.now h.poster.now k.poster.now k.pass.now c.args.parts.now _ c.deliver.result
+    c.deliver.ensures.origin c.deliver.ensures.ready c.host-host.ensures.began.0 c.host-host.ensures.poster.1 c.host-host.ensures.moment.0 c.host-host.ensures.moment.1 c.deliver.ensures.pulse refl refl refl

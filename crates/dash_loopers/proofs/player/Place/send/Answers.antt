@@ -1,0 +1,18 @@
+use Rattle.std.proofs.Common.{sym, subst, ◌<◌, ◌∙◌}
+use Rattle.run_model.specs.Control.{At}
+use Rattle.choreographer.proofs.Phases.{on_ok}
+use Rattle.dash_loopers.proofs.RuleSteps.{plays_sent}
+use Rattle.dash_loopers.proofs.RuleText.{sends_within}
+use Rattle.dash_loopers.proofs.player.Place.send.Goals as goal
+
+pub returns-then-looper-self-clause-plays : goal.returns-then-looper-self-clause-plays
+returns-then-looper-self-clause-plays g c =
+    on_ok c.send_own.result _ _ (c.send_own.ensures.plays c.args.parts.now (At c.args.now)) (λ plays. plays_sent c.args.self.now.script.now c.args.self.now.looper c.args.now c.args.rule.now c.args.self.now.looper c.handler_of-handler.result c.saturating_add.result _ _ _ _ (sym c.if-looper-self.true ∙ c.looper_of-looper.ensures) c.handler_of-handler.ensures c.saturating_add.ensures plays)
+
+pub send_other-requires-clause-within : goal.send_other-requires-clause-within
+send_other-requires-clause-within g c = λ text.
+    subst (λ n. n < c.args.self.now.script.now.loopers) (sym c.looper_of-looper.ensures) (sends_within c.args.self.now.script.now c.requires.one.0 c.args.rule.now text c.requires.one.1)
+
+pub returns-clause-plays : goal.returns-clause-plays
+returns-clause-plays g c =
+    on_ok c.send_other.result _ _ (c.send_other.ensures.plays (At c.args.now)) (λ plays. plays_sent c.args.self.now.script.now c.args.self.now.looper c.args.now c.args.rule.now c.looper_of-looper.result c.handler_of-handler.result c.saturating_add.result _ _ _ _ c.looper_of-looper.ensures c.handler_of-handler.ensures c.saturating_add.ensures plays)
