@@ -1,6 +1,6 @@
 -- Which callbacks a frame runs, in the frame record and as its client tells them.
-use Rattle.std.proofs.Common.{◌≡◌, ◌+◌, ◌/◌, ◌<◌, ◌≤◌, ℕ, zero, suc, Bool, true, false, List, [], ◌∷◌, ◌++◌, length, drop, reverse, Option, Some, None, refl, sym, ap, ◌∙◌, subst, arith, append_assoc}
-use Rattle.std.specs.Prelude.{◌==◌, ◌&&◌, not, map, slice_get, nat_le, nat_lt, if◌then◌else◌}
+use Rattle.std.proofs.Common.{◌≡◌, ◌+◌, ◌/◌, ◌<◌, ◌≤◌, ℕ, suc, Bool, true, false, List, [], ◌∷◌, ◌++◌, length, drop, reverse, Option, Some, None, refl, sym, ap, ◌∙◌, subst, arith, append_assoc}
+use Rattle.std.specs.Prelude.{◌==◌, not, map, slice_get, nat_le}
 use Rattle.std.specs.List.{filter_map, cons_option, before_first, prefix_len, AllByRecursion}
 use Rattle.std.specs.Option.{option_map_or}
 use Rattle.std.proofs.lemmas.List.{append-nil, map-append, reverse-append, reverse-reverse, length-reverse, length-append}
@@ -25,7 +25,6 @@ use Rattle.choreographer.specs.Done.{runs, runs_of, numbers_of, FramedBy, Unless
 use Rattle.choreographer.proofs.Prefixes.{prefix_trans, prefix_length}
 use Rattle.dash_script.specs.declared.script.Script.{Script}
 use Rattle.run_model.specs.FrameRuns.{frame_ids, is_frame_from, is_begin, posted_id, ran_id}
-use Rattle.run_model.proofs.Growth.{slice_get-append}
 use Rattle.run_model.proofs.FrameKeeping.{KeepsFrames-lawful}
 use Rattle.dash_loopers.specs.Played.{RanFrame, ids_of}
 

@@ -1,8 +1,8 @@
 -- What a looper has come to after a pulse, a frame and a message.
-use Rattle.std.proofs.Common.{◌≡◌, ◌≢◌, ℕ, zero, suc, ◌+◌, ◌-◌, ◌*◌, ◌/◌, ◌^◌, ◌<◌, ◌≤◌, ◌==◌, min, Bool, true, false, cond, not, List, [], ◌∷◌, ◌++◌, map, length, get_or, take, Option, Some, None, Result, Ok, Err, OnOk, inl, inr, refl, sym, ap, ◌∙◌, subst, arith, append_assoc, eq-eqb, ne_eqb}
+use Rattle.std.proofs.Common.{◌≡◌, ◌≢◌, ℕ, ◌+◌, ◌-◌, ◌*◌, ◌/◌, ◌<◌, ◌≤◌, ◌==◌, Bool, true, false, cond, not, List, [], ◌∷◌, ◌++◌, map, length, get_or, take, Option, Some, None, Result, Ok, Err, OnOk, inl, inr, refl, sym, ap, ◌∙◌, subst, arith, append_assoc, eq-eqb, ne_eqb}
 use Rattle.std.specs.Prelude.{◌&&◌, ◌||◌, filter, fold, count_by, is_some, is_ok, nat_le, slice_get, slice_index_or, if◌then◌else◌}
 use Rattle.std.specs.Option.{option_map_or}
-use Rattle.std.proofs.lemmas.Bool.{and_parts, eqb-true, leb-true}
+use Rattle.std.proofs.lemmas.Bool.{eqb-true, leb-true}
 use Rattle.std.proofs.lemmas.List.{append-nil, map-append, take_more}
 use Rattle.std.proofs.lemmas.List.Elements.{filter-append}
 use Rattle.std.proofs.lemmas.Grind.{flat_map-append}
@@ -21,7 +21,6 @@ use Rattle.looper_run.specs.declared.dispatcher.Did.{Did}
 use Rattle.looper_run.specs.declared.dispatcher.Did.TheVariants.{Yes, No, NoMemory}
 use Rattle.looper_run.specs.Tests.{Unless}
 use Rattle.looper_run.specs.Holding.{Sender}
-use Rattle.choreographer.specs.declared.kept.Kept.{Kept}
 use Rattle.choreographer.specs.declared.host.HostSent.{HostSent}
 use Rattle.choreographer.specs.declared.host.HostSent.TheVariants as host
 use Rattle.choreographer.specs.declared.hosted.Pulse.{Pulse}
@@ -30,7 +29,7 @@ use Rattle.choreographer.specs.Known.{Known as Pass}
 use Rattle.choreographer.specs.Calls.{PulsedBy}
 use Rattle.choreographer.proofs.Prefixes.{prefix_self}
 use Rattle.frame_phases.specs.State.{delivered as delivered_at}
-use Rattle.run_model.specs.Asks.{Ask, Makes as Asks, Unbars, AreFor, plain, token_in, tokens_in}
+use Rattle.run_model.specs.Asks.{Makes as Asks, Unbars, AreFor, plain, token_in, tokens_in}
 use Rattle.run_model.specs.Control.{Timing, At, NotBefore}
 use Rattle.run_model.specs.Senders.{frame_handler, gauge_line, gauge_looper, animation_id, animation_phase, traversal_id}
 use Rattle.run_model.specs.Planned.{frame_message}
@@ -44,8 +43,8 @@ use Rattle.dash_loopers.specs.declared.view_root.Painted.{Painted}
 use Rattle.dash_loopers.specs.declared.view_root.ViewRoot.{ViewRoot}
 use Rattle.dash_loopers.specs.declared.player.Parts.{Parts}
 use Rattle.dash_loopers.specs.Players.{PlaceWithout}
-use Rattle.dash_loopers.specs.Played.{standing, fixed, IsBarrierOf, IsFrameBy, is_disposal, calls_of, IsRootOf, IsShown, IsPlayed, Shows, Plays, RanFrame, Delivers, DeliversPulse, Pulses, pulse_acts, pulse_time, pulsed, with_call, paint_of}
-use Rattle.dash_hall.proofs.FramePosts.{IsTaken, accepted, refused, told_one, told_none}
+use Rattle.dash_loopers.specs.Played.{standing, fixed, IsBarrierOf, IsFrameBy, is_disposal, calls_of, IsRootOf, IsShown, IsPlayed, Shows, Plays, RanFrame, Delivers, DeliversPulse, Pulses, pulsed, with_call, paint_of}
+use Rattle.dash_hall.proofs.FramePosts.{accepted, refused, told_one, told_none}
 use Rattle.dash_loopers.proofs.FrameIds.{turn_grew}
 use Rattle.dash_loopers.proofs.FrameSteps.{FrameShows}
 
