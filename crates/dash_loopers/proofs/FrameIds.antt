@@ -1,6 +1,6 @@
 -- Which callbacks a frame runs, in the frame record and as its client tells them.
-use Rattle.std.proofs.Common.{◌≡◌, ◌+◌, ◌/◌, ◌<◌, ◌≤◌, ℕ, zero, suc, Bool, true, false, List, [], ◌∷◌, ◌++◌, length, drop, reverse, Option, Some, None, refl, sym, ap, ◌∙◌, subst, arith, append_assoc}
-use Rattle.std.specs.Prelude.{◌==◌, ◌&&◌, not, map, slice_get, nat_le, nat_lt, if◌then◌else◌}
+use Rattle.std.proofs.Common.{◌≡◌, ◌+◌, ◌/◌, ◌<◌, ◌≤◌, ℕ, suc, Bool, true, false, List, [], ◌∷◌, ◌++◌, length, drop, reverse, Option, Some, None, refl, sym, ap, ◌∙◌, subst, arith, append_assoc}
+use Rattle.std.specs.Prelude.{◌==◌, not, map, slice_get, nat_le}
 use Rattle.std.specs.List.{filter_map, cons_option, before_first, prefix_len, AllByRecursion}
 use Rattle.std.specs.Option.{option_map_or}
 use Rattle.std.proofs.lemmas.List.{append-nil, map-append, reverse-append, reverse-reverse, length-reverse, length-append}
@@ -26,7 +26,6 @@ use Rattle.choreographer.specs.Done.{runs, runs_of, numbers_of, FramedBy, Unless
 use Rattle.loop_model.proofs.Prefixes.{prefix_trans, prefix_length}
 use Rattle.dash_script.specs.declared.script.Script.{Script}
 use Rattle.run_model.specs.FrameRuns.{frame_ids, is_frame_from, is_begin, posted_id, ran_id}
-use Rattle.run_model.proofs.Growth.{slice_get-append}
 use Rattle.run_model.proofs.FrameKeeping.{KeepsFrames-lawful}
 use Rattle.dash_loopers.specs.Played.{RanFrame, ids_of}
 
@@ -253,9 +252,9 @@ framed_ran interval phases before after is_moment told Done some (start, time, m
     record {
       frame = Some place;
       framed = λ fs begins is. (
-      let whole : y.frames.entries ++ begins.0 ≡ fs = ap (λ l. l ++ begins.0) seen_is ∙ begins.1 in
-      let ran = frame_ran interval phases first y.frames.entries begins.0 (subst (λ (l : List FrameEntry). lawful interval phases l ≡ true) (sym whole) is) none settled few (ap numbers_of (sym batches_are) ∙ numbers) near in
-      subst (λ (l : List FrameEntry). (is_frame_from l first (Some place) ≡ true) × (frame_ids l (Some place) ≡ ids_of told)) whole (ran.0, ran.1 ∙ ids));
+          let whole : y.frames.entries ++ begins.0 ≡ fs = ap (λ l. l ++ begins.0) seen_is ∙ begins.1 in
+          let ran = frame_ran interval phases first y.frames.entries begins.0 (subst (λ (l : List FrameEntry). lawful interval phases l ≡ true) (sym whole) is) none settled few (ap numbers_of (sym batches_are) ∙ numbers) near in
+          subst (λ (l : List FrameEntry). (is_frame_from l first (Some place) ≡ true) × (frame_ids l (Some place) ≡ ids_of told)) whole (ran.0, ran.1 ∙ ids));
       within = omega (arith, at, prefix_length middle.view.seen after.view.seen grew);
       grew = prefix_trans before.view.seen middle.view.seen after.view.seen (turn_grew before middle turn.0 turn.1 turn.2) grew;
     }

@@ -1,5 +1,5 @@
 -- What the steps of a frame show, one after another.
-use Rattle.std.proofs.Common.{◌≡◌, ℕ, ◌<◌, Bool, List, [], ◌∷◌, ◌++◌, map, Some, Result, Ok, Err, OnOk, refl, sym, ap, ◌∙◌, subst}
+use Rattle.std.proofs.Common.{◌≡◌, ℕ, ◌<◌, Bool, List, [], ◌∷◌, ◌++◌, Some, Result, Ok, Err, OnOk, sym, ap, ◌∙◌, subst}
 use Rattle.std.specs.Prelude.{fold}
 use Rattle.std.proofs.lemmas.List.{map-append}
 use Rattle.std.proofs.lemmas.List.Sums.{fold-append}
@@ -43,7 +43,10 @@ pub frame_shown : {E : Type 0} (r : Result Unit E) (how : Framed) (interval phas
     → OnOk r ((ids : List ℕ) × RanFrame interval phases before after ids × FrameShows now ids p root p' given)
 frame_shown (Ok u) how interval phases now now' before after is_moment first told p began p' root began_root root' given had some none framed shows e f g h =
     let ran = not_wanting how (RanFrame interval phases before after (ids_of told)) had (framed_ran interval phases before after is_moment told how some (subst (λ (l : List Run). FramedBy phases before after is_moment (Some l) (Some told) how) none framed)) in
-    let shown = not_wanting how (FrameShows now' (ids_of told) began began_root p' root') had shows in
-    (ids_of told, ran, subst (λ (v : ViewRoot). FrameShows now (ids_of told) p root p' v) (sym h)
-    (subst (λ (v : ViewRoot). FrameShows now (ids_of told) p v p' root') g (subst (λ (z : Sender). FrameShows now (ids_of told) z began_root p' root') f (subst (λ (n : ℕ). FrameShows n (ids_of told) began began_root p' root') e shown))))
+    let shown = not_wanting how (FrameShows now' (ids_of told) began began_root p' root') had shows in (
+      ids_of told,
+      ran,
+      subst (λ (v : ViewRoot). FrameShows now (ids_of told) p root p' v) (sym h)
+          (subst (λ (v : ViewRoot). FrameShows now (ids_of told) p v p' root') g (subst (λ (z : Sender). FrameShows now (ids_of told) z began_root p' root') f (subst (λ (n : ℕ). FrameShows n (ids_of told) began began_root p' root') e shown))),
+    )
 frame_shown (Err x) how interval phases now now' before after is_moment first told p began p' root began_root root' given had some none framed shows e f g h = tt

@@ -5,9 +5,13 @@ pub mod LooperOver
 pub mod LooperTold
 pub mod LooperKits
 pub mod LooperSeats
-pub mod RuleSteps
-pub mod RuleText
-pub mod ViewSteps
+pub mod LooperSteps
+pub mod LooperStands
+pub mod LooperPlaying
+pub mod LooperPlayed
 pub mod FrameIds
 pub mod FrameSteps
 pub mod PlaySteps
+pub mod ViewSteps
+pub mod RuleSteps
+pub mod RuleText

@@ -103,17 +103,17 @@ second_is f (y ∷ []) x a b e is = absurd cc
 second_is f (y ∷ z ∷ ys) x a b e is = let head : f z ≡ b = cc in ap f is ∙ head
 
 -- what a round leaves is still the looper
-pub looper_then : (s : Script) (hall : Hall) (now : ℕ) (l : StageLooper) (q : Shared TableId) (o : Owner) (parts parts' : Parts) (after : Looping) (last : Round) → IsHall s hall → IsLooper s hall l
+pub looper_then : (s : Script) (hall : Hall) (now : ℕ) (began l : StageLooper) (q : Shared TableId) (o : Owner) (parts parts' : Parts) (after : Looping) (last : Round) → IsHall s hall → IsLooper s hall l
     → l.parts ≡ Some parts → slice_get hall.queues.items l.number ≡ Some q
-    → o ≡ record { script = s; hall = hall; number = l.number }
+    → o ≡ record { script = s; hall = hall; number = l.number; now = now; began = began }
     → ((w : Workplace) → ServesAt s hall l.number parts w → ServesAt o.script o.hall o.number parts' w)
     → IsSameLooper l.looper.held after.held → after.ended ≡ is_ended last → RoundBy q.constants.setting now l.looper.held after.held last → is_given_up l.last ≡ false
     → IsLooper s hall (record { number = l.number; sender = l.sender; looper = after; parts = Some parts'; last = last })
-looper_then s hall now l q o parts parts' after last is_hall is e at origin serves same ended round going =
+looper_then s hall now began l q o parts parts' after last is_hall is e at origin serves same ended round going =
     let w : Workplace = workplace l.looper.held in
     let of = looper_of s hall l is_hall is in
-    let began : ServesAt s hall l.number parts w = record { looper = of; place = is.place; are_parts = parts_of s hall l parts is e } in
-    let left : ServesAt s hall l.number parts' w = subst (λ (x : Owner). ServesAt x.script x.hall x.number parts' w) origin (serves w began) in
+    let first : ServesAt s hall l.number parts w = record { looper = of; place = is.place; are_parts = parts_of s hall l parts is e } in
+    let left : ServesAt s hall l.number parts' w = subst (λ (x : Owner). ServesAt x.script x.hall x.number parts' w) origin (serves w first) in
     record {
       few = is.few;
       number = is.number;

@@ -16,7 +16,7 @@ use Rattle.dash_loopers.specs.Loopers.{others_in, posters_of, IsWithin}
 use Rattle.dash_hall.proofs.Hearing.{heard_at}
 
 -- another place than the one at n has a place without that one
-its_place : (n place : ℕ) → place ≢ n → (j : ℕ) × PlaceWithout n place j
+pub its_place : (n place : ℕ) → place ≢ n → (j : ℕ) × PlaceWithout n place j
 its_place n place not = by_order (cases_lt place n) where
   by_order : (place < n) ⊎ (n ≤ place) → (j : ℕ) × PlaceWithout n place j
   by_order (inl lt) = (place, inl (lt, refl))
@@ -31,7 +31,7 @@ places_apart n a b i j (inr p) (inr q) not = λ e. not (p.1 ∙ (ap (λ (k : ℕ
 
 module _ {X : Type 0} (xs : List X) (n : ℕ) (le : n ≤ length xs) where
   -- one of the others, by its place among all
-  at_other : (y d : X) (place j : ℕ) → PlaceWithout n place j → get_or (insert xs n y) place d ≡ get_or xs j d
+  pub at_other : (y d : X) (place j : ℕ) → PlaceWithout n place j → get_or (insert xs n y) place d ≡ get_or xs j d
   at_other y d place j (inl p) = get_or-insert_below xs n y d place p.0 le ∙ ap (λ (k : ℕ). get_or xs k d) (sym p.1)
   at_other y d place j (inr p) =
       let lt : n < place = p.0 in
@@ -39,7 +39,7 @@ module _ {X : Type 0} (xs : List X) (n : ℕ) (le : n ≤ length xs) where
       ap (λ (k : ℕ). get_or (insert xs n y) k d) is ∙ get_or-insert_above xs n y d j (omega arith) le
 
   -- its place among the others is one of them
-  within_others : (y : X) (place j : ℕ) → PlaceWithout n place j → place < length (insert xs n y) → j < length xs
+  pub within_others : (y : X) (place j : ℕ) → PlaceWithout n place j → place < length (insert xs n y) → j < length xs
   within_others y place j (inl p) near = (let lt : place < n = p.0 in let is : j ≡ place = p.1 in omega (arith, le))
   within_others y place j (inr p) near = (let long = length-insert xs n y le in let is : place ≡ j + 1 = p.1 in omega (arith, long, near))
 

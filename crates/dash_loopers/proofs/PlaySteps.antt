@@ -1,9 +1,9 @@
 -- What a looper has come to after a pulse, a frame and a message.
-use Rattle.std.proofs.Common.{◌≡◌, ◌≢◌, ℕ, zero, suc, ◌+◌, ◌-◌, ◌*◌, ◌/◌, ◌^◌, ◌<◌, ◌≤◌, ◌==◌, min, Bool, true, false, cond, not, List, [], ◌∷◌, ◌++◌, map, length, Option, Some, None, Result, Ok, Err, OnOk, inl, inr, refl, sym, ap, ◌∙◌, subst, arith, eq-eqb, ne_eqb}
+use Rattle.std.proofs.Common.{◌≡◌, ◌≢◌, ℕ, ◌+◌, ◌-◌, ◌*◌, ◌/◌, ◌<◌, ◌≤◌, ◌==◌, Bool, true, false, cond, not, List, [], ◌∷◌, ◌++◌, map, length, get_or, take, Option, Some, None, Result, Ok, Err, OnOk, inl, inr, refl, sym, ap, ◌∙◌, subst, arith, append_assoc, eq-eqb, ne_eqb}
 use Rattle.std.specs.Prelude.{◌&&◌, ◌||◌, filter, fold, count_by, is_some, is_ok, nat_le, slice_get, slice_index_or, if◌then◌else◌}
 use Rattle.std.specs.Option.{option_map_or}
-use Rattle.std.proofs.lemmas.Bool.{and_parts, eqb-true, leb-true}
-use Rattle.std.proofs.lemmas.List.{append-nil}
+use Rattle.std.proofs.lemmas.Bool.{eqb-true, leb-true}
+use Rattle.std.proofs.lemmas.List.{append-nil, map-append, take_more}
 use Rattle.std.proofs.lemmas.List.Elements.{filter-append}
 use Rattle.std.proofs.lemmas.Grind.{flat_map-append}
 use Rattle.std.proofs.Math.Nat.{div-mul-le_self}
@@ -21,7 +21,6 @@ use Rattle.looper_run.specs.declared.dispatcher.Did.{Did}
 use Rattle.looper_run.specs.declared.dispatcher.Did.TheVariants.{Yes, No, NoMemory}
 use Rattle.looper_run.specs.Tests.{Unless}
 use Rattle.looper_run.specs.Holding.{Sender}
-use Rattle.choreographer.specs.declared.kept.Kept.{Kept}
 use Rattle.choreographer.specs.declared.host.HostSent.{HostSent}
 use Rattle.choreographer.specs.declared.host.HostSent.TheVariants as host
 use Rattle.choreographer.specs.declared.hosted.Pulse.{Pulse}
@@ -30,7 +29,7 @@ use Rattle.choreographer.specs.Known.{Known as Pass}
 use Rattle.choreographer.specs.Calls.{PulsedBy}
 use Rattle.loop_model.proofs.Prefixes.{prefix_self}
 use Rattle.frame_phases.specs.State.{delivered as delivered_at}
-use Rattle.run_model.specs.Asks.{Ask, Makes as Asks, Unbars, AreFor, plain, token_in, tokens_in}
+use Rattle.run_model.specs.Asks.{Makes as Asks, Unbars, AreFor, plain, token_in, tokens_in}
 use Rattle.run_model.specs.Control.{Timing, At, NotBefore}
 use Rattle.run_model.specs.Senders.{frame_handler, gauge_line, gauge_looper, animation_id, animation_phase, traversal_id}
 use Rattle.run_model.specs.Planned.{frame_message}
@@ -40,11 +39,12 @@ use Rattle.run_model.specs.FrameRuns.{place_after, posts_frame}
 use Rattle.run_model.proofs.RunLaws.{AreFor-snoc, sent_on-append}
 use Rattle.dash_hall.specs.Growth.{own, GoesOn, Makes}
 use Rattle.dash_hall.specs.Hosts.{Origin, IsHost, nanos_of, sends_by}
+use Rattle.dash_loopers.specs.declared.view_root.Painted.{Painted}
 use Rattle.dash_loopers.specs.declared.view_root.ViewRoot.{ViewRoot}
 use Rattle.dash_loopers.specs.declared.player.Parts.{Parts}
 use Rattle.dash_loopers.specs.Players.{PlaceWithout}
-use Rattle.dash_loopers.specs.Played.{standing, fixed, IsBarrierOf, IsFrameBy, is_disposal, calls_of, IsRootOf, IsShown, IsPlayed, Shows, Plays, RanFrame, Delivers, DeliversPulse, Pulses, pulse_acts, pulse_time, pulsed, with_call, paint_of}
-use Rattle.dash_hall.proofs.FramePosts.{IsTaken, accepted, refused, told_one, told_none}
+use Rattle.dash_loopers.specs.Played.{standing, fixed, IsBarrierOf, IsFrameBy, is_disposal, calls_of, IsRootOf, IsShown, IsPlayed, Shows, Plays, RanFrame, Delivers, DeliversPulse, Pulses, pulsed, with_call, paint_of}
+use Rattle.dash_hall.proofs.FramePosts.{accepted, refused, told_one, told_none}
 use Rattle.dash_loopers.proofs.FrameIds.{turn_grew}
 use Rattle.dash_loopers.proofs.FrameSteps.{FrameShows}
 
@@ -189,6 +189,12 @@ pulse_told s q now made made' parts parts' acts acts0 acts' pulse delivers isnt 
     let done = delivers isnt in
     record { stamp = Some pulse.stamp; due = done.1; told = told ∙ ap (λ (l : List Act). l ++ Vsync pulse.stamp ∷ []) same; grew = done.0; plays = done.2 }
 
+-- such a host's calls that told of nothing
+pub untold_hosted : (o o' : Origin) (p p0 p' : Sender) (b : Tally) → o' ≡ o → IsHost o' p' b → o.poster ≡ p → p0 ≡ p → sends_by o'.handler p' ≡ sends_by o.handler p0 → calls_of p' ≡ calls_of p
+untold_hosted o o' p p0 p' b same is began at sends =
+    calls_untold o.handler p p' o.pass b (hosted_on o o' p p' b same is began)
+    (subst (λ (z : Sender). sends_by o.handler p' ≡ sends_by o.handler z) at (subst (λ (z : Origin). sends_by z.handler p' ≡ sends_by o.handler p0) same sends))
+
 -- ---- what a step leaves as it was
 
 -- nothing was sent on another queue, and no rule was counted
@@ -213,9 +219,9 @@ stays_or q (Some x) a f h = h x
 module _ (s : Script) (q now : ℕ) where
   stays_requested : (a : Looper) → StaysElsewhere q a (traversal_requested s q now a)
   stays_requested a = stays_if q (is_some a.barrier) a a _ (stays_self q a) (record {
-      elsewhere = λ k isnt. sent_else k a.sent (record { queue = q; ask = Asks (Barrier 0); reply = None; timing = At now }) (λ e. isnt (sym e));
-      fired = refl;
-    })
+    elsewhere = λ k isnt. sent_else k a.sent (record { queue = q; ask = Asks (Barrier 0); reply = None; timing = At now }) (λ e. isnt (sym e));
+    fired = refl;
+  })
 
   stays_target : (g target : ℕ) (x : Gauge) (a : Looper) → StaysElsewhere q a (target_set s q now g target x a)
   stays_target g target x a =
@@ -240,9 +246,9 @@ module _ (s : Script) (q now : ℕ) where
 
   stays_traversed : (a : Looper) → StaysElsewhere q a (traversal_ran s q now a)
   stays_traversed a = stays_or q a.barrier a (λ k. and_sends q now (Unbars k) (record a { barrier = None; painted = a.painted ++ paints s q a.gauges })) (λ n. record {
-      elsewhere = λ k isnt. sent_else k a.sent (record { queue = q; ask = Unbars n; reply = None; timing = At now }) (λ e. isnt (sym e));
-      fired = refl;
-    })
+    elsewhere = λ k isnt. sent_else k a.sent (record { queue = q; ask = Unbars n; reply = None; timing = At now }) (λ e. isnt (sym e));
+    fired = refl;
+  })
 
   stays_called : (id : ℕ) (a : Looper) → StaysElsewhere q a (callback_ran s q now a id)
   stays_called id a = stays_if q (id == traversal_id) a (traversal_ran s q now a) _ (stays_traversed a)
@@ -363,28 +369,28 @@ frame_delivered s q now m made made' parts mid parts' acts acts0 acts' ids start
   };
   starts = ap (λ (t : Bool). not (is_some ran.frame) || t) starts ∙ or_true (not (is_some ran.frame));
   plays = λ text a unpainted is. (
-  let b : Looper = fold (callback_ran s q now) a ids in
-  let done : IsPlayed s q made' mid b = plays text a is in
-  let root = done.shown.stands in
-  subst (λ (z : Looper). IsPlayed s q made' parts' (record z { painted = [] }) × (acts' ≡ acts ++ z.painted)) (sym (delivered_frame s q now ids m a starts)) (
-    record {
-      shown = record {
-        calls = done.shown.calls;
-        posted = λ phase id. subst (λ (f : Pass). count_by (is_frame_post phase id) b.posted ≤ count_by (posts_frame phase id) f.view.seen) (sym pass) (done.shown.posted phase id);
-        stands = record {
-          gauges = ap (λ v. map standing v.items) gauges ∙ root.gauges;
-          lines = ap (λ v. map fixed v.items) gauges ∙ root.lines;
-          barrier = subst (IsBarrierOf (tokens_in made') b.barrier) (sym barrier) root.barrier;
-          barriers = root.barriers;
-          painted = ap (map paint_of) none;
-        };
-      };
-      elsewhere = λ k j d place near. subst (λ (l : List Sender). AreFor IsSent [] (sent_on k b.sent) (own (slice_index_or l j d))) (sym (ap (λ v. v.items) others)) (done.elsewhere k j d place (subst (λ (l : List Sender). j < length l) (ap (λ v. v.items) others) near));
-      fired = ap (λ v. v.items) fired ∙ done.fired;
-      counts = ap (λ v. length v.items) fired ∙ done.counts;
-    },
-    told ∙ (λ i. same i ++ root.painted i),
-  ));
+      let b : Looper = fold (callback_ran s q now) a ids in
+      let done : IsPlayed s q made' mid b = plays text a is in
+      let root = done.shown.stands in
+      subst (λ (z : Looper). IsPlayed s q made' parts' (record z { painted = [] }) × (acts' ≡ acts ++ z.painted)) (sym (delivered_frame s q now ids m a starts)) (
+        record {
+          shown = record {
+            calls = done.shown.calls;
+            posted = λ phase id. subst (λ (f : Pass). count_by (is_frame_post phase id) b.posted ≤ count_by (posts_frame phase id) f.view.seen) (sym pass) (done.shown.posted phase id);
+            stands = record {
+              gauges = ap (λ v. map standing v.items) gauges ∙ root.gauges;
+              lines = ap (λ v. map fixed v.items) gauges ∙ root.lines;
+              barrier = subst (IsBarrierOf (tokens_in made') b.barrier) (sym barrier) root.barrier;
+              barriers = root.barriers;
+              painted = ap (map paint_of) none;
+            };
+          };
+          elsewhere = λ k j d place near. subst (λ (l : List Sender). AreFor IsSent [] (sent_on k b.sent) (own (slice_index_or l j d))) (sym (ap (λ v. v.items) others)) (done.elsewhere k j d place (subst (λ (l : List Sender). j < length l) (ap (λ v. v.items) others) near));
+          fired = ap (λ v. v.items) fired ∙ done.fired;
+          counts = ap (λ v. length v.items) fired ∙ done.counts;
+        },
+        told ∙ (λ i. same i ++ root.painted i),
+      ));
 }
 
 -- a message that begins no frame and paints nothing
@@ -395,12 +401,12 @@ step_delivered s q now m made made' parts parts' acts acts' step grew is_step st
   ran = record { frame = None; framed = λ fs begins is. (refl, refl); within = omega arith; grew = grew };
   starts = refl;
   plays = λ text a unpainted is. (
-  let b : Looper = step a in
-  let nothing : b.painted ≡ [] = still a ∙ unpainted in
-  subst (λ (z : Looper). IsPlayed s q made' parts' (record z { painted = [] }) × (acts' ≡ acts ++ z.painted)) (sym (is_step a)) (
-    subst (λ (l : List Act). IsPlayed s q made' parts' (record b { painted = l })) nothing (plays text a is),
-    same ∙ (sym (append-nil acts) ∙ ap (λ (l : List Act). acts ++ l) (sym nothing)),
-  ));
+      let b : Looper = step a in
+      let nothing : b.painted ≡ [] = still a ∙ unpainted in
+      subst (λ (z : Looper). IsPlayed s q made' parts' (record z { painted = [] }) × (acts' ≡ acts ++ z.painted)) (sym (is_step a)) (
+        subst (λ (l : List Act). IsPlayed s q made' parts' (record b { painted = l })) nothing (plays text a is),
+        same ∙ (sym (append-nil acts) ∙ ap (λ (l : List Act). acts ++ l) (sym nothing)),
+      ));
 }
 
 -- the same where the pass of frames is as it was
@@ -412,3 +418,9 @@ still_delivered s q now m made made' parts parts' acts acts' step frames is_step
 pub on_ok : {E : Type 0} (r : Result Unit E) (P Q : Type 0) → OnOk r P → (P → Q) → OnOk r Q
 on_ok (Ok u) P Q h f = f h
 on_ok (Err e) P Q h f = tt
+
+-- one paint more was told
+pub painted_more : (acts0 acts : List Act) (ps : List Painted) (i : ℕ) (d : Painted) → i < length ps → acts ≡ acts0 ++ map paint_of (take i ps) → acts ++ paint_of (get_or ps i d) ∷ [] ≡ acts0 ++ map paint_of (take (i + 1) ps)
+painted_more acts0 acts ps i d near is =
+    let more : map paint_of (take (i + 1) ps) ≡ map paint_of (take i ps) ++ paint_of (get_or ps i d) ∷ [] = ap (map paint_of) (take_more ps i d near) ∙ map-append paint_of (take i ps) (get_or ps i d ∷ []) in
+    ap (λ (l : List Act). l ++ paint_of (get_or ps i d) ∷ []) is ∙ (append_assoc acts0 (map paint_of (take i ps)) (paint_of (get_or ps i d) ∷ []) ∙ ap (λ (l : List Act). acts0 ++ l) (sym more))

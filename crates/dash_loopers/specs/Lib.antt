@@ -1,3 +1,4 @@
 pub mod Loopers
 pub mod Players
 pub mod Played
+pub mod PlayingLaws

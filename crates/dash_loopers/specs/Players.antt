@@ -4,15 +4,18 @@ use Rattle.dash_script.specs.declared.script.Script.{Script}
 use Rattle.looper_run.specs.Holding.{Workplace, Sender}
 use Rattle.dash_hall.specs.declared.hall.Hall.{Hall}
 use Rattle.dash_loopers.specs.declared.player.Parts.{Parts}
+use Rattle.dash_loopers.specs.declared.looper.StageLooper.{StageLooper}
 use Rattle.dash_loopers.specs.declared.view_root.ViewRoot.{ViewRoot}
 use Rattle.dash_hall.specs.Kits.{FrameBadge, badge_of, frame_badge_of}
 use Rattle.dash_loopers.specs.Loopers.{ArePartsOf, IsPlaceOf, IsLooperOf}
 
--- whose code it is: the looper of this number in the hall of the script
+-- whose code it is: the looper of this number in the hall of the script, in the round at this moment, and the looper as the round began
 pub record Owner : Type 0 where
   pub script : Script
   pub hall : Hall
   pub number : ℕ
+  pub now : ℕ
+  pub began : StageLooper
 
 -- the code works at the queue of its looper and with the hall's pool, and these are the looper's parts
 pub record ServesAt (s : Script) (hall : Hall) (number : ℕ) (parts : Parts) (w : Workplace) : Type 0 where

@@ -23,6 +23,7 @@ ghost use Rattle.run_model.specs.Control.{Timing};
 ghost use Rattle.run_model.specs.Loopers.{starts_frame, callback_ran, object_set, reacted, reaction};
 ghost use Rattle.looper_run.specs.Tests.{Unless};
 ghost use Rattle.looper_run.specs.declared.dispatcher.Did.TheVariants.{Yes};
+ghost use Rattle.dash_loopers.specs.PlayingLaws.{playing_others, playing_disposed, playing_quiet};
 ghost use Rattle.choreographer.specs.declared.host.HostSent.TheVariants.{NoMemory as NoRoom};
 
 use crate::looper::StageLooper;
@@ -89,7 +90,7 @@ impl<'a, R: Wait, G: Gate> Dispatcher for Player<'a, R, G> {
 
     ghost Origin = { Owner };
 
-    ghost origin = { λ d. record { script = d.place.script.now; hall = d.place.hall.now; number = d.place.looper } };
+    ghost origin = { λ d. record { script = d.place.script.now; hall = d.place.hall.now; number = d.place.looper; now = d.now; began = d.began.now.value } };
 
     ghost Awaits = { λ d awaited. IsTrue true };
 
@@ -118,22 +119,18 @@ impl<'a, R: Wait, G: Gate> Dispatcher for Player<'a, R, G> {
         if !self.place.intercepts(m) {
             return Did::No;
         }
-        did(self
-            .place
-            .deliver(&mut self.parts, own, &m.as_post(), now))
+        did(self.place.deliver(&mut self.parts, own, &m.as_post(), now))
     }
 
     fn handle(&mut self, own: &mut Own, m: &Message<PoolClaim>, now: u64) -> Did {
-        did(self
-            .place
-            .deliver(&mut self.parts, own, &m.as_post(), now))
+        did(self.place.deliver(&mut self.parts, own, &m.as_post(), now))
     }
 
-    ghost others = { λ d s es e acts apart meets. meets };
+    ghost others = { λ d s es e acts apart meets. playing_others d.place.script.now d.place.looper d.now d.began.now.value s es e acts d.parts apart meets };
 
-    ghost disposal = { λ d s es e now acts own call reply meets. meets };
+    ghost disposal = { λ d s es e now acts own call reply meets. playing_disposed d.place.script.now d.place.looper d.now d.began.now.value s es e now acts d.parts own call reply meets };
 
-    ghost quiet = { λ d s es a acts is meets. meets };
+    ghost quiet = { λ d s es a acts is meets. playing_quiet d.place.script.now d.place.looper d.now d.began.now.value s es a acts d.parts is meets };
 }
 
 impl<'a, R: Wait> Place<'a, R> {
@@ -303,13 +300,7 @@ impl<'a, R: Wait> Place<'a, R> {
     }
 
     /// A message by the choreographer's handler, which begins a frame or says that a callback came due.
-    fn on_frame(
-        &self,
-        parts: &mut Parts,
-        own: &mut Own,
-        p: &Post,
-        now: u64,
-    ) -> Result<(), NoMemory>
+    fn on_frame(&self, parts: &mut Parts, own: &mut Own, p: &Post, now: u64) -> Result<(), NoMemory>
         requires callback { p.now.callback ≡ None }
         requires handler { p.now.handler ≡ the_frame_handler self.now.looper }
         requires serves { ServesAt self.now.script.now self.now.hall.now self.now.looper parts.old (workplace (held own.old)) }
@@ -338,13 +329,7 @@ impl<'a, R: Wait> Place<'a, R> {
 
     /// Delivers a message that has no callback: one of the choreographer to it, one with an object to the gauge of that number, and
     /// any other to the rules.
-    fn deliver(
-        &self,
-        parts: &mut Parts,
-        own: &mut Own,
-        p: &Post,
-        now: u64,
-    ) -> Result<(), NoMemory>
+    fn deliver(&self, parts: &mut Parts, own: &mut Own, p: &Post, now: u64) -> Result<(), NoMemory>
         requires serves { ServesAt self.now.script.now self.now.hall.now self.now.looper parts.old (workplace (held own.old)) }
         requires callback { p.now.callback ≡ None }
         ensures parts { AreSameParts parts.old parts.new }
@@ -363,13 +348,7 @@ impl<'a, R: Wait> Place<'a, R> {
     }
 
     /// Each rule of the message that has not fired so often sends its own.
-    fn react(
-        &self,
-        parts: &mut Parts,
-        own: &mut Own,
-        p: &Post,
-        now: u64,
-    ) -> Result<(), NoMemory>
+    fn react(&self, parts: &mut Parts, own: &mut Own, p: &Post, now: u64) -> Result<(), NoMemory>
         requires serves { ServesAt self.now.script.now self.now.hall.now self.now.looper parts.old (workplace (held own.old)) }
         ensures parts { AreSameParts parts.old parts.new }
         ensures own { IsSameOwn own.old own.new }

@@ -1,9 +1,11 @@
-use Rattle.std.proofs.Common.{◌≡◌, get_or, List, refl, sym, ap, subst, arith}
+use Rattle.std.proofs.Common.{◌≡◌, ℕ, get_or, replicate, List, [], refl, sym, ap, ◌∙◌, subst, arith}
 use Rattle.std.specs.List.{remove}
 use Rattle.choreographer.specs.Known.{Known as Pass}
-use Rattle.looper_run.specs.Holding.{Holding}
+use Rattle.looper_run.specs.Holding.{Sender, Holding}
+use Rattle.dash_hall.specs.Kits.{AreUnseen}
 use Rattle.dash_loopers.specs.Loopers.{IsLooperOf}
 use Rattle.dash_loopers.proofs.LooperKits.{kit_many, kit_two, posters_begin, looper_begins}
+use Rattle.dash_loopers.proofs.LooperPlayed.{unseen_without, stands_first}
 use Rattle.dash_loopers.proofs.looper.StageLooper.new.Goals as goal
 
 pub remove-poster-requires : goal.remove-poster-requires
@@ -28,7 +30,7 @@ returns-clause-looper c =
     let second : c.remove-client.result ≡ get_or (remove c.args.kit.frames.items 0) 0 c.remove-client.result = subst (λ (l : List Pass). c.remove-client.result ≡ get_or l 0 c.remove-client.result) c.remove-own_frames.ensures.items c.remove-client.ensures.value in
     looper_begins c.args.script.now c.args.hall.now c.args.number c.args.kit _ c.make.result c.remove-poster.result _ of c.requires.kit c.requires.unused
     c.remove-poster.ensures.value c.remove-poster.ensures.items c.remove-own_frames.ensures.value
-    (subst (λ (p : Pass). p ≡ get_or (remove c.args.kit.frames.items 0) 0 p) (sym c.in_ok-new.ensures) second)
+    (subst (λ (p : Pass). p ≡ get_or (remove c.args.kit.frames.items 0) 0 p) (sym c.in_ok-new.ensures.pass) second)
     c.make.ensures.held c.make.ensures.flags.1 refl
 
 pub returns-clause-posters : goal.returns-clause-posters
@@ -36,3 +38,13 @@ returns-clause-posters c =
     let of : IsLooperOf c.args.script.now c.args.hall.now c.args.number = record { few = c.requires.fits; one = c.requires.number; is_hall = c.requires.hall } in
     posters_begin c.args.kit c.args.number c.remove-poster.result c.make.result.held.poster c.remove-poster.new.self.items (kit_many c.args.script.now c.args.hall.now c.args.number of c.args.kit c.requires.kit)
     c.remove-poster.ensures.value c.remove-poster.ensures.items (ap (λ (h : Holding). h.poster) c.make.ensures.held)
+
+pub returns-clause-begun : goal.returns-clause-begun
+returns-clause-begun c =
+    let of : IsLooperOf c.args.script.now c.args.hall.now c.args.number = record { few = c.requires.fits; one = c.requires.number; is_hall = c.requires.hall } in
+    let many = kit_many c.args.script.now c.args.hall.now c.args.number of c.args.kit c.requires.kit in
+    let none = subst (λ (p : Sender). p.view.seen ≡ []) (sym c.remove-poster.ensures.value) (c.requires.unused.posters c.args.number c.remove-poster.result many) in
+    stands_first c.args.script.now c.args.number _ _ _ _ (ap (λ (h : Holding). h.poster.view.seen) c.make.ensures.held ∙ none) (ap (λ (h : Holding). h.journal.acts) c.make.ensures.held)
+    c.in_ok-new.ensures.gauges.0 c.in_ok-new.ensures.gauges.1 c.in_ok-new.ensures.rest.0 c.in_ok-new.ensures.rest.1
+    (subst AreUnseen (sym c.remove-poster.ensures.items) (unseen_without c.args.kit.posters.items c.args.number many c.requires.unused.posters))
+    (c.in_ok-vec.ensures.items_if_clones_equal (λ y same. same) ∙ ap (λ (n : ℕ). replicate n 0) c.len.ensures)

@@ -4,6 +4,7 @@ use Rattle.looper_run.specs.Round.{is_ended}
 use Rattle.dash_loopers.specs.Loopers.{is_given_up}
 use Rattle.dash_loopers.proofs.LooperPlaces.{queue_count, queue_home}
 use Rattle.dash_loopers.proofs.LooperKits.{looper_of, looper_then, ran_on, comes_to_wait}
+use Rattle.dash_loopers.proofs.LooperPlayed.{played_round}
 use Rattle.dash_loopers.proofs.looper.StageLooper.run_round.Goals as goal
 
 pub index-requires : goal.index-requires
@@ -36,7 +37,7 @@ returns-clause-looper g c =
     let count = queue_count c.args.script.now hall l.number (looper_of c.args.script.now hall l c.requires.hall c.requires.looper) in
     let one = c.requires.looper.number in
     let at = slice_get_read hall.queues.items hall.queues.len l.number c.index.result.now (omega (arith, hall.queues.ok.0)) (omega (arith, count, one, hall.queues.ok.0)) c.index.ensures in
-    looper_then c.args.script.now hall c.args.now l c.index.result.now _ c.in-Some.parts c.run_round-self.new.d.parts c.run_round-self.new.self c.run_round-self.result c.requires.hall c.requires.looper is at
+    looper_then c.args.script.now hall c.args.now _ l c.index.result.now _ c.in-Some.parts c.run_round-self.new.d.parts c.run_round-self.new.self c.run_round-self.result c.requires.hall c.requires.looper is at
     c.run_round-self.ensures.origin c.run_round-self.ensures.serves c.run_round-self.ensures.same c.run_round-self.ensures.ended c.run_round-self.ensures.round (sym c.gave_up.ensures ∙ c.if-gave_up.false)
 
 pub returns-clause-round : goal.returns-clause-round
@@ -63,3 +64,9 @@ returns-clause-waits g c =
     let one = c.requires.looper.number in
     let at = slice_get_read hall.queues.items hall.queues.len l.number c.index.result.now (omega (arith, hall.queues.ok.0)) (omega (arith, count, one, hall.queues.ok.0)) c.index.ensures in
     comes_to_wait c.args.script.now hall c.args.now l c.index.result.now c.run_round-self.new.self c.run_round-self.result c.requires.hall c.requires.looper at c.run_round-self.ensures.same c.run_round-self.ensures.round
+
+pub returns-clause-plays : goal.returns-clause-plays
+returns-clause-plays g c =
+    let l = c.args.self.now in
+    played_round c.args.script.now c.args.hall.now c.args.now l _ _ c.run_round-self.new.d.parts c.run_round-self.new.self c.run_round-self.result c.of-began.ensures c.requires.looper.own
+    c.run_round-self.ensures.origin c.run_round-self.ensures.same c.run_round-self.ensures.meets

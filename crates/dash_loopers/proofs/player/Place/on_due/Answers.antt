@@ -1,4 +1,8 @@
-use Rattle.std.proofs.Common.{arith}
+use Rattle.std.proofs.Common.{refl, arith}
+use Rattle.loop_model.proofs.Prefixes.{prefix_self}
+use Rattle.dash_hall.specs.Hosts.{origin_of}
+use Rattle.dash_loopers.specs.Played.{calls_of}
+use Rattle.dash_loopers.proofs.PlaySteps.{untold_hosted, played_with}
 use Rattle.looper_run.specs.Holding.{held}
 use Rattle.looper_run.proofs.Working.{lent_self}
 use Rattle.dash_loopers.proofs.LooperPlaces.{frame_of_badge, four_phases}
@@ -13,3 +17,23 @@ on_due-requires-clause-pass g c =
     let frames = c.choreographer.result.now in
     let four = four_phases place.script.now place.hall.now place.looper c.requires.serves.looper frames c.choreographer.ensures in
     (frame_of_badge place.script.now.threads c.args.parts.now.frames frames (c.requires.serves.are_parts.frames frames c.choreographer.ensures), omega (arith, four))
+
+pub returns-then-phase-ge-PHASES-clause-seen : goal.returns-then-phase-ge-PHASES-clause-seen
+returns-then-phase-ge-PHASES-clause-seen g c = prefix_self c.args.parts.now.frames.view.seen
+
+pub returns-clause-plays : goal.returns-clause-plays
+returns-clause-plays g c = λ text a is.
+    (let h = c.host-host.result in
+    let k = c.on_due.new.self in
+    let o = origin_of h.queue.now h.pool.now h.poster.ghost_name h.pass.ghost_name h.began.now.value h.pass_began.now.value h.handler.id h.now in
+    let o' = origin_of k.queue.now k.pool.now k.poster.ghost_name k.pass.ghost_name k.began.now.value k.pass_began.now.value k.handler.id k.now in
+    let calls = untold_hosted o o' c.args.own.now.poster.now h.poster.now k.poster.now k.pass.now c.on_due.ensures.origin c.on_due.ensures.ready c.host-host.ensures.began.0 c.host-host.ensures.poster.1 c.on_due.ensures.sends in
+    played_with c.args.self.now.script.now c.args.self.now.looper (calls_of c.args.own.now.poster.now) (calls_of k.poster.now) c.args.parts.now _ a calls refl refl refl is)
+
+pub returns-clause-calls : goal.returns-clause-calls
+returns-clause-calls g c =
+    let h = c.host-host.result in
+    let k = c.on_due.new.self in
+    let o = origin_of h.queue.now h.pool.now h.poster.ghost_name h.pass.ghost_name h.began.now.value h.pass_began.now.value h.handler.id h.now in
+    let o' = origin_of k.queue.now k.pool.now k.poster.ghost_name k.pass.ghost_name k.began.now.value k.pass_began.now.value k.handler.id k.now in
+    untold_hosted o o' c.args.own.now.poster.now h.poster.now k.poster.now k.pass.now c.on_due.ensures.origin c.on_due.ensures.ready c.host-host.ensures.began.0 c.host-host.ensures.poster.1 c.on_due.ensures.sends

@@ -1,6 +1,17 @@
 use Rattle.looper_run.specs.Holding.{held}
+use Rattle.loop_model.specs.declared.journal.Route.TheVariants.{Callback}
+use Rattle.message_slot.specs.Letter.{post_of}
+use Rattle.dash_loopers.specs.Played.{calls_of}
 use Rattle.looper_run.proofs.Working.{lent_self}
+use Rattle.dash_loopers.proofs.LooperPlaying.{playing_dispatch, delivers_none}
 use Rattle.dash_loopers.proofs.player.PlayerDispatcher.run_callback.Goals as goal
 
 pub returns-clause-lent : goal.returns-clause-lent
 returns-clause-lent g c = lent_self (held c.args.own.now)
+
+pub returns-clause-meets : goal.returns-clause-meets
+returns-clause-meets g c =
+    let p = c.args.self.now in
+    let h = held c.args.own.now in
+    playing_dispatch p.place.script.now p.place.looper p.now p.began.now.value c.args.now c.args.m.now (Callback c.args.id) h h p.parts p.parts (lent_self h) c.requires.taken
+    (delivers_none p.place.script.now p.place.looper p.now p.began.now.value c.args.now (post_of c.args.m.now.item) c.args.id (calls_of h.poster) p.parts h.journal.acts c.requires.callback)

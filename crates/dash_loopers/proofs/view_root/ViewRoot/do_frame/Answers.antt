@@ -1,4 +1,4 @@
-use Rattle.std.proofs.Common.{rules, ap, ◌∙◌, ◌<◌, sym, arith}
+use Rattle.std.proofs.Common.{rules, ap, ◌∙◌, ◌<◌, arith}
 use Rattle.dash_hall.specs.Hosts.{Origin}
 use Rattle.dash_loopers.specs.Players.{FrameOwner}
 use Rattle.dash_loopers.proofs.FrameSteps.{frame_shown}

@@ -1,0 +1,120 @@
+-- Where a looper stands as it begins, as a round of it begins and ends, and at its end.
+use Rattle.std.proofs.Common.{◌≡◌, ℕ, ◌<◌, ◌≤◌, ◌⊎◌, inl, inr, false, List, [], ◌∷◌, ◌+◌, map, length, get_or, replicate, Option, Some, None, refl, sym, ap, ◌∙◌, subst, arith}
+use Rattle.std.specs.Prelude.{slice_index_or, count_by}
+use Rattle.std.specs.List.{insert, remove}
+use Rattle.std.specs.Option.{IsSomeAnd}
+use Rattle.std.proofs.lemmas.List.{length-replicate}
+use Rattle.std.proofs.lemmas.List.Edits.{get_or-remove_below, get_or-remove_above, length-remove}
+use Rattle.std.proofs.lemmas.Bool.{cases_lt}
+use mathlib.Core.List.{IsPrefix}
+use Rattle.loop_model.specs.declared.entry.Entry.{Entry}
+use Rattle.loop_model.specs.declared.journal.Act.{Act}
+use Rattle.loop_model.specs.declared.journal.Journal.{Journal}
+use Rattle.dash_script.specs.declared.script.Script.{Script}
+use Rattle.looper_run.specs.declared.looper.Round.{Round}
+use Rattle.looper_run.specs.declared.looper.Round.TheVariants.{Drained, Ended, NoMemory}
+use Rattle.looper_run.specs.Holding.{Sender, Looping}
+use Rattle.looper_run.specs.Round.{UnlessWanting}
+use Rattle.looper_run.specs.Tests.{Passes, IsSameLooper}
+use Rattle.choreographer.specs.Known.{Known as Pass}
+use Rattle.run_model.specs.Asks.{entries_by, AreFor}
+use Rattle.run_model.specs.Loopers.{Looper, first_looper, is_frame_post}
+use Rattle.run_model.specs.Acts.{Lead, sent_on, IsSent}
+use Rattle.run_model.specs.FrameRuns.{posts_frame}
+use Rattle.dash_hall.specs.declared.hall.Hall.{Hall}
+use Rattle.dash_hall.specs.declared.kit.Kit.{Kit}
+use Rattle.dash_hall.specs.Kits.{IsHall, AreUnseen}
+use Rattle.dash_hall.specs.Growth.{own}
+use Rattle.dash_loopers.specs.declared.player.Parts.{Parts}
+use Rattle.dash_loopers.specs.declared.looper.StageLooper.{StageLooper}
+use Rattle.dash_loopers.specs.Players.{Owner}
+use Rattle.dash_loopers.specs.Loopers.{IsLooper, is_given_up}
+use Rattle.dash_loopers.specs.Played.{standing, fixed, fixed_by, IsBarrierOf, paint_of, calls_in, calls_of, IsPlayed, Stands, HasCome, ComesTo, IsPlaying, HasPlayed, HasLeft}
+use Rattle.dash_loopers.proofs.LooperSeats.{its_place, at_other, within_others}
+use Rattle.dash_loopers.proofs.LooperKits.{looper_of, parts_of, others_many, own_again}
+
+-- ---- as it begins
+
+pub unseen_without : (xs : List Sender) (n : ℕ) → n < length xs → AreUnseen xs → AreUnseen (remove xs n)
+unseen_without xs n within unseen = λ j d near. by_order j d near (cases_lt j n)
+  where
+    by_order : (j : ℕ) (d : Sender) → j < length (remove xs n) → (j < n) ⊎ (n ≤ j) → (get_or (remove xs n) j d).view.seen ≡ []
+    by_order j d near (inl lt) = ap (λ (p : Sender). p.view.seen) (get_or-remove_below xs n d j lt within) ∙ unseen j d (omega (arith, lt, within))
+    by_order j d near (inr le) = ap (λ (p : Sender). p.view.seen) (get_or-remove_above xs n d j le within) ∙ unseen (j + 1) d (omega (arith, near, length-remove xs n within))
+
+-- a looper that has done nothing stands at the first state
+pub stands_first : (s : Script) (q k : ℕ) (seen : List Entry) (acts : List Act) (parts : Parts) → seen ≡ [] → acts ≡ []
+    → map standing parts.root.gauges.items ≡ replicate (length s.gauges) (record { value = 0; target = 0; animating = false }) → map fixed parts.root.gauges.items ≡ map (fixed_by s q) s.gauges
+    → parts.root.barrier ≡ None → parts.root.painted.items ≡ [] → AreUnseen parts.others.items → parts.fired.items ≡ replicate (length s.rules) 0
+    → Stands s q k seen acts parts (first_looper s)
+stands_first s q k seen acts parts none still gauges lines barrier painted unseen fired = record {
+  led = λ fs begins law. subst (λ (xs : List Act). Lead s q seen fs (first_looper s) xs (first_looper s)) (sym still) refl;
+  place = omega arith;
+  settled = refl;
+  played = subst (λ (es : List Entry). IsPlayed s q (calls_in k es) parts (first_looper s)) (sym none) (record {
+    shown = record {
+      calls = tt;
+      posted = λ phase id. omega arith;
+      stands = record {
+        gauges = gauges;
+        lines = lines;
+        barrier = subst (λ (o : Option ℕ). IsBarrierOf [] None o) (sym barrier) tt;
+        barriers = refl;
+        painted = ap (map paint_of) painted;
+      };
+    };
+    elsewhere = λ place j d at near. subst (λ es. AreFor IsSent [] [] es) (sym (ap (entries_by (slice_index_or parts.others.items j d).sender) (unseen j d near))) tt;
+    fired = fired;
+    counts = ap length fired ∙ length-replicate (length s.rules) 0;
+  });
+}
+
+-- ---- a round
+
+unless : (r : Round) (P : Type 0) → is_given_up r ≡ false → UnlessWanting r P → P
+unless (Drained dispatched until) P going h = h
+unless (Ended dispatched) P going h = h
+unless NoMemory P going h = absurd cc
+
+-- as a round ends
+pub played_round : (s : Script) (hall : Hall) (now : ℕ) (l began : StageLooper) (o : Owner) (parts' : Parts) (after : Looping) (last : Round) → began ≡ l → l.looper.held.poster.sender ≡ l.sender
+    → o ≡ record { script = s; hall = hall; number = l.number; now = now; began = began } → IsSameLooper l.looper.held after.held
+    → UnlessWanting last (Passes (λ k es acts. IsPlaying o.script o.number o.now o.began k es acts parts') after.held)
+    → HasPlayed s now l (record { number = l.number; sender = l.sender; looper = after; parts = Some parts'; last = last })
+played_round s hall now l began o parts' after last same mine origin kept meets = λ going text sound a come.
+    let here : IsPlaying s l.number now began after.held.poster.sender after.held.poster.view.seen after.held.journal.acts parts' =
+    subst (λ (x : Owner). IsPlaying x.script x.number x.now x.began after.held.poster.sender after.held.poster.view.seen after.held.journal.acts parts') origin (unless last _ going meets) in
+    let from : IsPlaying s l.number now l after.held.poster.sender after.held.poster.view.seen after.held.journal.acts parts' =
+    subst (λ (b : StageLooper). IsPlaying s l.number now b after.held.poster.sender after.held.poster.view.seen after.held.journal.acts parts') same here in
+    subst (λ (k : ℕ). ComesTo s l.number now a k l.looper.held.poster.view.seen after.held.poster.view.seen after.held.journal.acts parts') (kept.sender ∙ mine) (from text a come)
+
+-- ---- at its end
+
+-- what it leaves tells where it stood
+pub left_by : (s : Script) (hall : Hall) (l : StageLooper) (parts : Parts) (j : Journal) (kit : Kit) → IsHall s hall → IsLooper s hall l → l.parts ≡ Some parts
+    → kit.posters.items ≡ insert parts.others.items l.number l.looper.held.poster → kit.frames.items ≡ parts.frames ∷ parts.root.pass ∷ [] → j ≡ l.looper.held.journal
+    → (a : Looper) → HasCome s l a → HasLeft s l.number j kit a
+left_by s hall l parts j kit is_hall is e posters frames journal a come = record {
+  led = λ d p fs begins law.
+      subst (λ (x : Sender). Lead s l.number x.view.seen fs (first_looper s) j.acts a) (sym (mine d))
+      (subst (λ (x : Journal). Lead s l.number l.looper.held.poster.view.seen fs (first_looper s) x.acts a) (sym journal)
+      (st.led fs (subst (λ (ps : List Pass). IsPrefix (slice_index_or ps 0 p).view.seen fs) frames begins) law));
+  settled = st.settled;
+  calls = λ d. subst (λ (x : Sender). AreFor IsSent [] (sent_on l.number a.sent) (calls_of x)) (sym (mine d))
+      (subst (λ (k : ℕ). AreFor IsSent [] (sent_on l.number a.sent) (calls_in k l.looper.held.poster.view.seen)) (sym is.own) st.played.shown.calls);
+  elsewhere = λ k d apart near.
+      let w = its_place l.number k apart in
+      let within : k < length (insert parts.others.items l.number l.looper.held.poster) = subst (λ (ps : List Sender). k < length ps) posters near in
+      subst (λ (x : Sender). AreFor IsSent [] (sent_on k a.sent) (own x)) (sym (ap (λ (ps : List Sender). get_or ps k d) posters ∙ at_other parts.others.items l.number many l.looper.held.poster d k w.0 w.1))
+      (st.played.elsewhere k w.0 d w.1 (within_others parts.others.items l.number many l.looper.held.poster k w.0 w.1 within));
+  posted = λ phase id p. subst (λ (ps : List Pass). count_by (is_frame_post phase id) a.posted ≤ count_by (posts_frame phase id) (slice_index_or ps 1 p).view.seen) (sym frames) (st.played.shown.posted phase id);
+}
+  where
+    st : Stands s l.number l.sender l.looper.held.poster.view.seen l.looper.held.journal.acts parts a
+    st = subst (λ (o : Option Parts). IsSomeAnd o (λ ps. Stands s l.number l.sender l.looper.held.poster.view.seen l.looper.held.journal.acts ps a)) e come
+
+    many : l.number ≤ length parts.others.items
+    many = others_many s hall l.number (looper_of s hall l is_hall is) parts (parts_of s hall l parts is e)
+
+    mine : (d : Sender) → get_or kit.posters.items l.number d ≡ l.looper.held.poster
+    mine d = own_again s hall l parts kit.posters.items is_hall is e posters d

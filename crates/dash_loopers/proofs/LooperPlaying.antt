@@ -1,0 +1,141 @@
+-- In a round a looper goes on from where it stood: what keeps that it has, and what a round leaves of it.
+use Rattle.std.proofs.Common.{◌≡◌, ℕ, ◌≤◌, true, false, List, [], ◌∷◌, ◌++◌, Option, Some, None, refl, sym, ap, ◌∙◌, subst, arith, append_assoc}
+use Rattle.std.specs.Prelude.{Result, Ok, Err, is_ok, OnOk}
+use Rattle.std.specs.List.{AllByRecursion, Contains}
+use Rattle.std.proofs.lemmas.List.{append-nil}
+use Rattle.std.proofs.lemmas.List.Elements.{All-cons, All-nil, Contains-append_left, Contains-push}
+use Rattle.loop_model.specs.declared.post.Post.{Post as PostData}
+use Rattle.loop_model.specs.declared.call.Call.TheVariants.{Next}
+use Rattle.loop_model.specs.declared.entry.Entry.{Entry}
+use Rattle.loop_model.specs.declared.journal.Act.{Act}
+use Rattle.loop_model.specs.declared.journal.Act.TheVariants.{Dispatch}
+use Rattle.loop_model.specs.declared.journal.Route.{Route}
+use Rattle.loop_model.proofs.WellFormedLaws.{All_indexed}
+use Rattle.loop_model.proofs.Sorting.{AllByRecursion-weaker}
+use Rattle.message_slot.specs.Letter.{number_in, post_of}
+use Rattle.message_pool.specs.Passes.{Node}
+use Rattle.dash_script.specs.declared.script.Script.{Script}
+use Rattle.looper_run.specs.Holding.{Holding}
+use Rattle.loop_model.specs.Posts.{post_at}
+use Rattle.looper_run.specs.Tests.{Passes, PassesWith, IsLent, IsTake, HasTaken, Unless, Intercepts}
+use Rattle.looper_run.specs.declared.dispatcher.Did.{Did}
+use Rattle.looper_run.specs.declared.dispatcher.Did.TheVariants.{Yes, No, NoMemory}
+use Rattle.loop_model.proofs.Prefixes.{prefix_self}
+use Rattle.run_model.specs.Control.{At}
+use Rattle.run_model.specs.Loopers.{Looper, Sent, delivered}
+use Rattle.dash_loopers.specs.declared.player.Parts.{Parts}
+use Rattle.dash_loopers.specs.declared.looper.StageLooper.{StageLooper}
+use Rattle.dash_loopers.specs.Played.{calls_in, calls_of, IsPlayed, Delivers, pulsed, Pulses, pulse_time, Stands, IsTimedBy, GoesOnTo, IsPlaying}
+use Rattle.dash_loopers.specs.PlayingLaws.{goes_nowhere, comes_on}
+use Rattle.dash_loopers.proofs.LooperStands.{stands_pulse, by_dispatch, sends_dispatch, stands_dispatch}
+
+-- ---- calls more, and looks more
+
+goes_one : (k : ℕ) (looks : List Entry) (now : ℕ) (a b : Looper) (x : Sent) → b.sent ≡ a.sent ++ x ∷ [] → IsTimedBy k looks now x.timing → GoesOnTo k looks now a b
+goes_one k looks now a b x sent timed = record { more = x ∷ []; sent = sent; timed = All-cons (λ y. IsTimedBy k looks now y.timing) x [] timed (All-nil (λ y. IsTimedBy k looks now y.timing)) }
+
+-- a pulse that came is due by now
+goes_pulsed : (k q : ℕ) (looks : List Entry) (now : ℕ) (stamp : Option ℕ) (a : Looper) → pulse_time stamp ≤ now → GoesOnTo k looks now a (pulsed q stamp a)
+goes_pulsed k q looks now None a due = goes_nowhere k looks now a
+goes_pulsed k q looks now (Some stamp) a due = goes_one k looks now a (pulsed q (Some stamp) a) _ refl due
+
+-- calls at the moment of a look
+goes_looked : (k : ℕ) (looks : List Entry) (now time : ℕ) (e : Entry) (a b : Looper) → Contains looks e → e.sender ≡ k → e.call ≡ Next time
+    → (more : List Sent) × (b.sent ≡ a.sent ++ more) × AllByRecursion (λ x. x.timing ≡ At time) more → GoesOnTo k looks now a b
+goes_looked k looks now time e a b among sender call m = record {
+  more = m.0;
+  sent = m.1;
+  timed = All_indexed (λ x. IsTimedBy k looks now x.timing) m.0
+      (AllByRecursion-weaker (λ x. x.timing ≡ At time) (λ x. IsTimedBy k looks now x.timing) (λ x is. subst (IsTimedBy k looks now) (sym is) (e, among, sender, call)) m.0 m.2);
+}
+
+module _ (s : Script) (q now : ℕ) (began : StageLooper) where
+  -- a pulse was delivered and told, or none came
+  pulsed_on : (k k' : ℕ) (es es' more : List Entry) (acts acts' : List Act) (parts parts' : Parts) → k' ≡ k → es' ≡ es ++ more → Pulses s q now (calls_in k es) (calls_in k' es') parts parts' acts acts'
+      → IsPlaying s q now began k es acts parts → IsPlaying s q now began k' es' acts' parts'
+  pulsed_on k k' es es' more acts acts' parts parts' same saw p meets =
+      let here : Pulses s q now (calls_in k es) (calls_in k (es ++ more)) parts parts' acts acts' = subst (λ l. Pulses s q now (calls_in k es) l parts parts' acts acts') (λ i. calls_in (same i) (saw i)) p in
+      subst (λ (n : ℕ). IsPlaying s q now began n es' acts' parts') (sym same) (subst (λ (l : List Entry). IsPlaying s q now began k l acts' parts') (sym saw) (λ text a come.
+      (let c = meets text a come in
+      comes_on s q now a k began.looper.held.poster.view.seen es more acts acts' parts parts' c (pulsed q here.stamp c.state) (stands_pulse s q k now es more acts acts' parts parts' c.state text here c.stands) (goes_pulsed k q more now here.stamp c.state here.due))))
+
+  pub playing_pulse : (before after : Holding) (parts parts' : Parts) → IsLent before after → Pulses s q now (calls_of before.poster) (calls_of after.poster) parts parts' before.journal.acts after.journal.acts
+      → Passes (λ k es acts. IsPlaying s q now began k es acts parts) before → Passes (λ k es acts. IsPlaying s q now began k es acts parts') after
+  playing_pulse before after parts parts' lent p meets =
+      pulsed_on before.poster.sender after.poster.sender before.poster.view.seen after.poster.view.seen lent.more before.journal.acts after.journal.acts parts parts' lent.same.sender lent.seen p meets
+
+  -- a message that was taken is dispatched
+  dispatched_on : (k k' n time : ℕ) (m : PostData) (past es es' more : List Entry) (e : Entry) (acts acts' : List Act) (route : Route) (parts parts' : Parts) → k' ≡ k → es ≡ past ++ e ∷ [] → es' ≡ es ++ more
+      → IsTake k time n e → post_at past n ≡ Some m → Delivers s q time m (calls_in k es) (calls_in k' es') parts parts' acts acts'
+      → IsPlaying s q now began k past acts parts → IsPlaying s q now began k' es' (acts' ++ Dispatch n time route ∷ []) parts'
+  dispatched_on k k' n time m past es es' more e acts acts' route parts parts' same seen saw take post d meets =
+      let whole : es' ≡ (past ++ e ∷ []) ++ more = saw ∙ ap (λ (l : List Entry). l ++ more) seen in
+      let here : Delivers s q time m (calls_in k (past ++ e ∷ [])) (calls_in k ((past ++ e ∷ []) ++ more)) parts parts' acts acts' =
+      subst (λ l. Delivers s q time m l (calls_in k ((past ++ e ∷ []) ++ more)) parts parts' acts acts') (ap (calls_in k) seen) (subst (λ l. Delivers s q time m (calls_in k es) l parts parts' acts acts') (λ i. calls_in (same i) (whole i)) d) in
+      subst (λ (j : ℕ). IsPlaying s q now began j es' (acts' ++ Dispatch n time route ∷ []) parts') (sym same)
+      (subst (λ (l : List Entry). IsPlaying s q now began k l (acts' ++ Dispatch n time route ∷ []) parts') (sym (whole ∙ append_assoc past (e ∷ []) more)) (λ text a come.
+      (let c = meets text a come in
+      comes_on s q now a k began.looper.held.poster.view.seen past (e ∷ more) acts (acts' ++ Dispatch n time route ∷ []) parts parts' c (by_dispatch s q k n time m past more e take acts acts' parts parts' here c.state)
+      (subst (λ (l : List Entry). Stands s q k l (acts' ++ Dispatch n time route ∷ []) parts' (by_dispatch s q k n time m past more e take acts acts' parts parts' here c.state)) (append_assoc past (e ∷ []) more)
+      (stands_dispatch s q k n time m past more e take acts acts' parts parts' here c.state route text post c.stands))
+      (goes_looked k (e ∷ more) now time e c.state _ (Contains-append_left (e ∷ []) more e (Contains-push [] e)) take.sender_is take.call (sends_dispatch s q k n time m past more e take acts acts' parts parts' here c.state)))))
+
+  pub playing_dispatch : (time : ℕ) (node : Node) (route : Route) (before after : Holding) (parts parts' : Parts) → IsLent before after
+      → HasTaken (λ k es acts. IsPlaying s q now began k es acts parts) before node time
+      → Delivers s q time (post_of node.item) (calls_of before.poster) (calls_of after.poster) parts parts' before.journal.acts after.journal.acts
+      → PassesWith (λ k es acts. IsPlaying s q now began k es acts parts') after node time route
+  playing_dispatch time node route before after parts parts' lent t d =
+      dispatched_on before.poster.sender after.poster.sender (number_in node.item) time (post_of node.item) t.past before.poster.view.seen after.poster.view.seen lent.more t.take before.journal.acts after.journal.acts route parts parts' lent.same.sender t.seen lent.seen t.is_take t.post d t.passes
+
+  -- a message with a callback causes nothing
+  pub delivers_none : (time : ℕ) (m : PostData) (id : ℕ) (made : List Entry) (parts : Parts) (acts : List Act) → m.callback ≡ Some id → Delivers s q time m made made parts parts acts acts
+  delivers_none time m id made parts acts callback = record {
+    ids = [];
+    ran = record { frame = None; framed = λ fs begins law. (refl, refl); within = omega arith; grew = prefix_self parts.frames.view.seen };
+    starts = refl;
+    plays = λ text a settled played. (subst (IsPlayed s q made parts) (sym (same a settled)) played, sym (ap (λ (l : List Act). acts ++ l) (ap (λ (b : Looper). b.painted) (nothing a) ∙ settled) ∙ append-nil acts));
+  }
+    where
+      nothing : (a : Looper) → delivered s q time [] m a ≡ a
+      nothing a = rw callback refl
+
+      same : (a : Looper) → a.painted ≡ [] → record (delivered s q time [] m a) { painted = [] } ≡ a
+      same a settled = ap (λ (b : Looper). record b { painted = [] }) (nothing a) ∙ (λ i. record a { painted = sym settled i })
+
+-- how a call was told that went well, or found no memory
+pub did_well : {A E : Type 0} (r : Result A E) (d : Did) (P : Type 0) → (d ≡ No → ⊥) → (d ≡ Yes → is_ok r ≡ true) → OnOk r P → Unless d P
+did_well (Ok x) d P never well h = holds d h
+  where
+    holds : (d : Did) → P → Unless d P
+    holds Yes h = h
+    holds No h = h
+    holds NoMemory h = tt
+did_well (Err e) Yes P never well h = absurd (let wrong : false ≡ true = well refl in cc)
+did_well (Err e) No P never well h = absurd (never refl)
+did_well (Err e) NoMemory P never well h = tt
+
+-- the same where the message was to be intercepted
+pub intercepted : (d : Did) (P Q : Type 0) → (d ≡ No → ⊥) → Unless d P → Intercepts d P Q
+intercepted Yes P Q never h = h
+intercepted No P Q never h = absurd (never refl)
+intercepted NoMemory P Q never h = tt
+
+module _ (s : Script) (q now : ℕ) (began : StageLooper) where
+  -- a pulse was delivered, or none came, unless memory was wanting
+  pub pulse_or_none : (d : Did) (before after : Holding) (parts parts' : Parts) → IsLent before after → Unless d (Pulses s q now (calls_of before.poster) (calls_of after.poster) parts parts' before.journal.acts after.journal.acts)
+      → Passes (λ k es acts. IsPlaying s q now began k es acts parts) before → Unless d (Passes (λ k es acts. IsPlaying s q now began k es acts parts') after)
+  pulse_or_none Yes before after parts parts' lent p meets = playing_pulse s q now began before after parts parts' lent p meets
+  pulse_or_none No before after parts parts' lent p meets = playing_pulse s q now began before after parts parts' lent p meets
+  pulse_or_none NoMemory before after parts parts' lent p meets = tt
+
+  -- a message was dispatched, unless memory was wanting
+  pub dispatches_well : {A E : Type 0} (time : ℕ) (node : Node) (route : Route) (m : PostData) (r : Result A E) (d : Did) (before after : Holding) (parts parts' : Parts) → m ≡ post_of node.item → IsLent before after
+      → HasTaken (λ k es acts. IsPlaying s q now began k es acts parts) before node time
+      → OnOk r (Delivers s q time m (calls_of before.poster) (calls_of after.poster) parts parts' before.journal.acts after.journal.acts)
+      → (d ≡ No → ⊥) → (d ≡ Yes → is_ok r ≡ true)
+      → Unless d (PassesWith (λ k es acts. IsPlaying s q now began k es acts parts') after node time route)
+  dispatches_well time node route m r d before after parts parts' is lent t done never well = did_well r d _ never well (by_end r done)
+    where
+      by_end : {A E : Type 0} (r : Result A E) → OnOk r (Delivers s q time m (calls_of before.poster) (calls_of after.poster) parts parts' before.journal.acts after.journal.acts) → OnOk r (PassesWith (λ k es acts. IsPlaying s q now began k es acts parts') after node time route)
+      by_end (Ok x) h = playing_dispatch s q now began time node route before after parts parts' lent t (subst (λ (p : PostData). Delivers s q time p (calls_of before.poster) (calls_of after.poster) parts parts' before.journal.acts after.journal.acts) is h)
+      by_end (Err e) h = tt

@@ -1,0 +1,234 @@
+-- Where a looper stands, as entries and acts are added: entries of others, its look that ends the queue, acts that cause
+-- nothing, a pulse, and a dispatch.
+use Rattle.std.proofs.Common.{◌≡◌, ℕ, ◌≤◌, Bool, true, false, List, [], ◌∷◌, ◌++◌, length, Option, Some, None, inl, inr, refl, sym, ap, ap₂, ◌∙◌, subst, arith, append_assoc, eq-eqb, ne_eqb}
+use Rattle.std.specs.Prelude.{◌==◌, ◌&&◌, ◌||◌, not, is_some, nat_le, slice_get, slice_index_or}
+use Rattle.std.specs.List.{AllByRecursion, filter_map, cons_option}
+use Rattle.std.specs.Option.{option_map_or}
+use Rattle.std.proofs.lemmas.List.{append-nil}
+use Rattle.std.proofs.lemmas.List.Concat.{flat_map-append}
+use Rattle.std.proofs.lemmas.Bool.Decides.{nat_tests}
+use Rattle.std.proofs.lemmas.Bool.{and_parts}
+use Rattle.loop_model.specs.declared.post.Post.{Post as PostData}
+use Rattle.loop_model.specs.declared.call.Call.{Call}
+use Rattle.loop_model.specs.declared.call.Call.TheVariants.{Post, Barrier, Unbarrier, Remove, Quit, Next, Advance, Halt}
+use Rattle.loop_model.specs.declared.reply.Reply.TheVariants.{Dispatched}
+use Rattle.loop_model.specs.declared.entry.Entry.{Entry}
+use Rattle.loop_model.specs.Entries.{is_accepted}
+use Rattle.loop_model.specs.declared.journal.Act.{Act}
+use Rattle.loop_model.specs.declared.journal.Act.TheVariants.{Dispatch, Vsync}
+use Rattle.loop_model.specs.declared.journal.Route.{Route}
+use Rattle.frame_phases.specs.declared.entry.FrameEntry.{FrameEntry}
+use Rattle.dash_script.specs.declared.script.Script.{Script}
+use Rattle.dash_script.specs.Reading.{HasText}
+use Rattle.looper_run.specs.Tests.{IsTake}
+use Rattle.loop_model.proofs.Prefixes.{prefix_trans, prefix_length}
+use Rattle.loop_model.specs.Posts.{post_at, accepted_post, accepted_by}
+use Rattle.run_model.specs.Control.{At}
+use Rattle.run_model.specs.Asks.{Makes, plain, token_in, tokens_in, AreFor}
+use Rattle.run_model.specs.Loopers.{Looper, Sent, first_looper, starts_frame, delivered, and_takes}
+use Rattle.run_model.specs.Acts.{dispatched, after_act, MayDispatch, Lead, sent_on, IsSent}
+use Rattle.run_model.specs.FrameRuns.{frame_ids, is_frame_from, place_after}
+use Rattle.run_model.proofs.RunLaws.{AreFor-snoc, Lead-snoc, sent_on-append}
+use Rattle.run_model.proofs.Growth.{Lead-entries, post_of-grows}
+use Rattle.run_model.proofs.SoFarLaws.{ArePaints, Lead-paints}
+use Rattle.dash_loopers.specs.declared.player.Parts.{Parts}
+use Rattle.dash_hall.specs.Growth.{own}
+use Rattle.dash_loopers.specs.Players.{PlaceWithout}
+use Rattle.dash_loopers.specs.Played.{IsRootOf, calls_in, IsPlayed, Delivers, pulse_acts, pulsed, Pulses, Stands}
+use Rattle.dash_loopers.specs.PlayingLaws.{calls_more}
+use Rattle.dash_loopers.proofs.LooperSteps.{AddsAt, delivers}
+
+-- ---- the calls of a sender, as entries are added
+
+pub calls_taken : (k n now : ℕ) (es : List Entry) (e : Entry) → IsTake k now n e → calls_in k (es ++ e ∷ []) ≡ calls_in k es ++ e ∷ []
+calls_taken k n now es e t =
+    let mine : (e.sender == k) ≡ true = eq-eqb e.sender k t.sender_is in
+    calls_more k es (e ∷ []) ∙ ap (λ l. calls_in k es ++ l) (let call = t.call in let reply = t.reply in rw (mine, call, reply) refl)
+
+-- ---- the post of a number, in the two layers' words
+
+accepted_same : (e : Entry) → accepted_post e ≡ accepted_by e.call e.reply
+accepted_same e = by_call e.call refl
+  where
+    by_reply : (p : PostData) (t : Bool) → e.call ≡ Post p → is_accepted e.reply ≡ t → accepted_post e ≡ accepted_by e.call e.reply
+    by_reply p true is t = rw (is, t) refl
+    by_reply p false is t = rw (is, t) refl
+
+    by_call : (c : Call) → e.call ≡ c → accepted_post e ≡ accepted_by e.call e.reply
+    by_call (Post p) is = by_reply p (is_accepted e.reply) is refl
+    by_call (Barrier n) is = rw is refl
+    by_call (Unbarrier t) is = rw is refl
+    by_call (Remove f) is = rw is refl
+    by_call (Quit f n) is = rw is refl
+    by_call (Next n) is = rw is refl
+    by_call (Advance n) is = rw is refl
+    by_call (Halt n) is = rw is refl
+
+accepted_all : (es : List Entry) → filter_map accepted_post es ≡ filter_map (λ e. accepted_by e.call e.reply) es
+accepted_all [] = refl
+accepted_all (e ∷ es) = ap₂ cons_option (accepted_same e) (accepted_all es)
+
+pub post_same : (es : List Entry) (n : ℕ) → post_of es n ≡ post_at es n
+post_same es n = ap (λ l. slice_get l n) (accepted_all es)
+
+-- a pulse that came
+vsynced : (s : Script) (q : ℕ) (es : List Entry) (fs : List FrameEntry) (acts : List Act) (a : Looper) (stamp : ℕ) → a.painted ≡ [] → Lead s q es fs (first_looper s) acts a
+    → Lead s q es fs (first_looper s) (acts ++ Vsync stamp ∷ []) (pulsed q (Some stamp) a)
+unfolding after_act
+vsynced s q es fs acts a stamp settled lead = Lead-snoc s q es fs None (first_looper s) acts a (Vsync stamp) lead (refl, settled)
+
+-- ---- what stays as entries and acts are added that cause nothing
+
+module _ (s : Script) (q k : ℕ) where
+  -- a pulse, or none
+  pub stands_pulse : (now : ℕ) (es more : List Entry) (acts acts' : List Act) (parts parts' : Parts) (a : Looper) → HasText s
+      → (p : Pulses s q now (calls_in k es) (calls_in k (es ++ more)) parts parts' acts acts') → Stands s q k es acts parts a → Stands s q k (es ++ more) acts' parts' (pulsed q p.stamp a)
+  stands_pulse now es more acts acts' parts parts' a text p st = record {
+    led = λ fs begins law.
+        subst (λ l. Lead s q (es ++ more) fs (first_looper s) l (pulsed q p.stamp a)) (sym p.told)
+        (by_stamp fs p.stamp (Lead-entries s q es fs more (first_looper s) acts a (st.led fs (prefix_trans parts.frames.view.seen parts'.frames.view.seen fs p.grew begins) law)));
+    place = (let at : (pulsed q p.stamp a).place ≡ a.place = placed p.stamp in let le = st.place in let longer = prefix_length parts.frames.view.seen parts'.frames.view.seen p.grew in omega (arith, at, le, longer));
+    settled = painted p.stamp;
+    played = p.plays text a st.played;
+  }
+    where
+      placed : (o : Option ℕ) → (pulsed q o a).place ≡ a.place
+      placed None = refl
+      placed (Some stamp) = refl
+
+      painted : (o : Option ℕ) → (pulsed q o a).painted ≡ []
+      painted None = st.settled
+      painted (Some stamp) = st.settled
+
+      by_stamp : (fs : List FrameEntry) (o : Option ℕ) → Lead s q (es ++ more) fs (first_looper s) acts a → Lead s q (es ++ more) fs (first_looper s) (acts ++ pulse_acts o) (pulsed q o a)
+      by_stamp fs None lead = subst (λ l. Lead s q (es ++ more) fs (first_looper s) l a) (sym (append-nil acts)) lead
+      by_stamp fs (Some stamp) lead = vsynced s q (es ++ more) fs acts a stamp st.settled lead
+
+-- ---- a dispatch
+
+-- the state once the message is taken, before what it causes
+abbrev pub taken : ℕ → ℕ → ℕ → Option ℕ → Looper → Looper
+taken q n now frame a = and_takes q n now (record a { painted = []; place = place_after a.place frame })
+
+sooner : (fs : List FrameEntry) (first later : ℕ) (frame : Option ℕ) → first ≤ later → is_frame_from fs later frame ≡ true → is_frame_from fs first frame ≡ true
+sooner fs first later None le h = refl
+sooner fs first later (Some place) le h = both (nat_le first place) _ (no_later first later place le (and_parts (nat_le later place) _ h).0) (and_parts (nat_le later place) _ h).1
+  where
+    no_later : (a b p : ℕ) → a ≤ b → nat_le b p ≡ true → nat_le a p ≡ true
+    no_later a b p le h = grind (arith, nat_tests)
+
+    both : (a b : Bool) → a ≡ true → b ≡ true → (a && b) ≡ true
+    both a b f g = rw (f, g) refl
+
+-- the acts lead on by a dispatch, with the paints that it makes before it
+leads_dispatch : (s : Script) (q : ℕ) (es : List Entry) (fs : List FrameEntry) (acts ps : List Act) (a : Looper) (ids : List ℕ) (frame : Option ℕ) (n now : ℕ) (route : Route) (m : PostData)
+    → a.painted ≡ [] → Lead s q es fs (first_looper s) acts a → post_of es n ≡ Some m → (not (is_some frame) || starts_frame q m) ≡ true → is_frame_from fs a.place frame ≡ true → frame_ids fs frame ≡ ids
+    → ArePaints ps → (delivered s q now ids m (taken q n now frame a)).painted ≡ ps
+    → Lead s q es fs (first_looper s) ((acts ++ ps) ++ Dispatch n now route ∷ []) (record (delivered s q now ids m (taken q n now frame a)) { painted = [] })
+unfolding after_act
+leads_dispatch s q es fs acts ps a ids frame n now route m settled lead post starts from are paints painted =
+    subst (λ b. Lead s q es fs (first_looper s) ((acts ++ ps) ++ Dispatch n now route ∷ []) b) state (Lead-snoc s q es fs frame (first_looper s) (acts ++ ps) (record a { painted = ps }) (Dispatch n now route) told may)
+  where
+    told : Lead s q es fs (first_looper s) (acts ++ ps) (record a { painted = ps })
+    told = subst (λ l. Lead s q es fs (first_looper s) (acts ++ ps) (record a { painted = l ++ ps })) settled (Lead-paints s q es fs (first_looper s) acts a ps paints lead)
+
+    causes : dispatched s q fs frame n now (record a { painted = ps }) (post_of es n) ≡ delivered s q now ids m (taken q n now frame a)
+    causes = ap (λ o. dispatched s q fs frame n now (record a { painted = ps }) o) post ∙ ap (λ l. delivered s q now l m (taken q n now frame a)) are
+
+    state : record (dispatched s q fs frame n now (record a { painted = ps }) (post_of es n)) { painted = [] } ≡ record (delivered s q now ids m (taken q n now frame a)) { painted = [] }
+    state = ap (λ (b : Looper). record b { painted = [] }) causes
+
+    may : MayDispatch s q es fs frame (record a { painted = ps }) n now
+    may = record {
+      accepted = ap is_some post;
+      starts = subst (λ o. (not (is_some frame) || option_map_or (starts_frame q) o false) ≡ true) (sym post) starts;
+      place = from;
+      painted = ap (λ (b : Looper). b.painted) causes ∙ painted;
+    }
+
+tokens_more : (es : List Entry) (e : Entry) → token_in e.reply ≡ [] → tokens_in (es ++ e ∷ []) ≡ tokens_in es
+tokens_more es e none = flat_map-append _ es (e ∷ []) ∙ (ap (λ l. tokens_in es ++ (l ++ [])) none ∙ append-nil (tokens_in es))
+
+not_there : (q place j : ℕ) → PlaceWithout q place j → (q == place) ≡ false
+not_there q place j (inl p) = ne_eqb q place (λ is. (let lt = p.0 in absurd (omega (arith, is, lt))))
+not_there q place j (inr p) = ne_eqb q place (λ is. (let lt = p.0 in absurd (omega (arith, is, lt))))
+
+module _ (s : Script) (q k n now : ℕ) (es : List Entry) (e : Entry) (take : IsTake k now n e) (parts : Parts) (a : Looper) (settled : a.painted ≡ []) where
+  -- the look that took the message is made
+  played_taken : (frame : Option ℕ) → IsPlayed s q (calls_in k es) parts a → IsPlayed s q (calls_in k (es ++ e ∷ [])) parts (taken q n now frame a)
+  played_taken frame p = subst (λ l. IsPlayed s q l parts (taken q n now frame a)) (sym (calls_taken k n now es e take)) (record {
+    shown = record {
+      calls = subst (λ l. AreFor IsSent [] l (calls_in k es ++ e ∷ [])) (sym there) (AreFor-snoc IsSent (sent_on q a.sent) look (calls_in k es) e p.shown.calls is_look);
+      posted = p.shown.posted;
+      stands = subst (λ l. IsRootOf s q l (taken q n now frame a) parts.root) (sym (tokens_more (calls_in k es) e (ap token_in take.reply))) (record {
+        gauges = p.shown.stands.gauges;
+        lines = p.shown.stands.lines;
+        barrier = p.shown.stands.barrier;
+        barriers = p.shown.stands.barriers;
+        painted = p.shown.stands.painted ∙ settled;
+      });
+    };
+    elsewhere = λ place j d at near.
+        subst (λ l. AreFor IsSent [] l (own (slice_index_or parts.others.items j d))) (sym (not_sent place (not_there q place j at))) (p.elsewhere place j d at near);
+    fired = p.fired;
+    counts = p.counts;
+  })
+    where
+      look : Sent
+      look = record { queue = q; ask = Makes (Next now); reply = Some (Dispatched n); timing = At now }
+
+      here : (q == q) ≡ true
+      here = eq-eqb q q refl
+
+      there : sent_on q (a.sent ++ look ∷ []) ≡ sent_on q a.sent ++ look ∷ []
+      there = sent_on-append q a.sent (look ∷ []) ∙ rw here refl
+
+      not_sent : (place : ℕ) → (q == place) ≡ false → sent_on place (a.sent ++ look ∷ []) ≡ sent_on place a.sent
+      not_sent place away = sent_on-append place a.sent (look ∷ []) ∙ rw away (append-nil (sent_on place a.sent))
+
+      is_look : IsSent (tokens_in (calls_in k es)) look e
+      is_look = record { call = ap plain take.call; reply = take.reply }
+
+module _ (s : Script) (q k n now : ℕ) (m : PostData) (es more : List Entry) (e : Entry) (take : IsTake k now n e) (acts acts' : List Act) (parts parts' : Parts) (d : Delivers s q now m (calls_in k (es ++ e ∷ [])) (calls_in k ((es ++ e ∷ []) ++ more)) parts parts' acts acts') (a : Looper) where
+  -- what the dispatch leads to
+  abbrev pub by_dispatch : Looper
+  by_dispatch = record (delivered s q now d.ids m (taken q n now d.ran.frame a)) { painted = [] }
+
+  adds : AddsAt now (taken q n now d.ran.frame a) (delivered s q now d.ids m (taken q n now d.ran.frame a))
+  adds = delivers s q now d.ids m (taken q n now d.ran.frame a)
+
+  -- its calls come at its moment
+  pub sends_dispatch : (more : List Sent) × (by_dispatch.sent ≡ a.sent ++ more) × AllByRecursion (λ x. x.timing ≡ At now) more
+  sends_dispatch = (look ∷ adds.more, adds.sent ∙ append_assoc a.sent (look ∷ []) adds.more, (refl, adds.timed))
+    where
+      look : Sent
+      look = record { queue = q; ask = Makes (Next now); reply = Some (Dispatched n); timing = At now }
+
+  pub stands_dispatch : (route : Route) → HasText s → post_at es n ≡ Some m → Stands s q k es acts parts a → Stands s q k ((es ++ e ∷ []) ++ more) (acts' ++ Dispatch n now route ∷ []) parts' by_dispatch
+  stands_dispatch route text post st = record {
+    led = λ fs begins law.
+        let framed = d.ran.framed fs begins law in
+        subst (λ l. Lead s q ((es ++ e ∷ []) ++ more) fs (first_looper s) (l ++ Dispatch n now route ∷ []) by_dispatch) (sym done.1)
+        (leads_dispatch s q ((es ++ e ∷ []) ++ more) fs acts _ a d.ids d.ran.frame n now route m st.settled
+        (Lead-entries s q (es ++ e ∷ []) fs more (first_looper s) acts a (Lead-entries s q es fs (e ∷ []) (first_looper s) acts a (st.led fs (prefix_trans parts.frames.view.seen parts'.frames.view.seen fs d.ran.grew begins) law)))
+        posts d.starts (sooner fs a.place (length parts.frames.view.seen) d.ran.frame st.place framed.0) framed.1 (adds.paints tt) refl);
+    place = (let at = adds.place in let le = st.place in let longer = prefix_length parts.frames.view.seen parts'.frames.view.seen d.ran.grew in placed d.ran.frame by_dispatch.place at le longer d.ran.within);
+    settled = refl;
+    played = done.0;
+  }
+    where
+      done : IsPlayed s q (calls_in k ((es ++ e ∷ []) ++ more)) parts' by_dispatch × (acts' ≡ acts ++ (delivered s q now d.ids m (taken q n now d.ran.frame a)).painted)
+      done = d.plays text (taken q n now d.ran.frame a) refl (played_taken s q k n now es e take parts a st.settled d.ran.frame st.played)
+
+      found : post_of es n ≡ Some m
+      found = post_same es n ∙ post
+
+      once : post_of (es ++ e ∷ []) n ≡ Some m
+      once = post_of-grows es (e ∷ []) n (ap is_some found) ∙ found
+
+      posts : post_of ((es ++ e ∷ []) ++ more) n ≡ Some m
+      posts = post_of-grows (es ++ e ∷ []) more n (ap is_some once) ∙ once
+
+      placed : (frame : Option ℕ) (p : ℕ) → p ≡ place_after a.place frame → a.place ≤ length parts.frames.view.seen → length parts.frames.view.seen ≤ length parts'.frames.view.seen → place_after 0 frame ≤ length parts'.frames.view.seen → p ≤ length parts'.frames.view.seen
+      placed None p at le longer within = omega (arith, at, le, longer)
+      placed (Some place) p at le longer within = omega (arith, at, within)

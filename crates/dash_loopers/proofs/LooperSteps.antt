@@ -1,0 +1,151 @@
+-- What a looper's state gains by a step: calls at the step's moment and paints, and nothing at its place in the frame record.
+use Rattle.std.proofs.Common.{◌≡◌, ℕ, ◌-◌, Bool, true, false, List, [], ◌∷◌, ◌++◌, Option, Some, None, refl, sym, ap, ◌∙◌, append_assoc}
+use Rattle.std.specs.Prelude.{◌==◌, ◌||◌, nat_le, is_some, fold, slice_get, if◌then◌else◌}
+use Rattle.std.specs.List.{AllByRecursion, filter_map, cons_option, zip, enumerate_from}
+use Rattle.std.specs.Option.{option_map_or, IfSome}
+use Rattle.std.proofs.lemmas.List.{append-nil}
+use Rattle.loop_model.specs.declared.post.Post.{Post as PostData}
+use Rattle.loop_model.specs.declared.journal.Act.{Act}
+use Rattle.loop_model.specs.declared.journal.Act.TheVariants.{Dispatch, Idle, Event, Vsync, Paint}
+use Rattle.loop_model.proofs.Sorting.{AllByRecursion-append}
+use Rattle.dash_script.specs.declared.script.Script.{Script}
+use Rattle.run_model.specs.Senders.{gauge_line, gauge_looper, frame_handler, animation_id, animation_phase, traversal_id}
+use Rattle.run_model.specs.Control.{At}
+use Rattle.run_model.specs.Loopers.{Looper, Gauge, Sent, with_gauge, and_posts_frame, traversal_requested, target_set, object_set, moved, gauge_moved, animation_ran, paints, traversal_ran, callback_ran, fires, reaction, reacted, delivered, and_takes}
+use Rattle.run_model.proofs.SoFarLaws.{ArePaints}
+
+-- the second state has calls more, all at this moment, and paints more at most
+pub record AddsAt (now : ℕ) (a b : Looper) : Type 0 where
+  pub more : List Sent
+  pub sent : b.sent ≡ a.sent ++ more
+  pub timed : AllByRecursion (λ x. x.timing ≡ At now) more
+  pub place : b.place ≡ a.place
+  pub paints : ArePaints a.painted → ArePaints b.painted
+
+-- what is alike in calls, place and paints
+adds_none : (now : ℕ) (a b : Looper) → b.sent ≡ a.sent → b.place ≡ a.place → (ArePaints a.painted → ArePaints b.painted) → AddsAt now a b
+adds_none now a b sent place paints = record { more = []; sent = sent ∙ sym (append-nil a.sent); timed = tt; place = place; paints = paints }
+
+adds_one : (now : ℕ) (a b : Looper) (x : Sent) → b.sent ≡ a.sent ++ x ∷ [] → x.timing ≡ At now → b.place ≡ a.place → (ArePaints a.painted → ArePaints b.painted) → AddsAt now a b
+adds_one now a b x sent timed place paints = record { more = x ∷ []; sent = sent; timed = (timed, tt); place = place; paints = paints }
+
+pub adds_then : (now : ℕ) (a b c : Looper) → AddsAt now a b → AddsAt now b c → AddsAt now a c
+adds_then now a b c f g = record {
+  more = f.more ++ g.more;
+  sent = g.sent ∙ (ap (λ l. l ++ g.more) f.sent ∙ append_assoc a.sent f.more g.more);
+  timed = AllByRecursion-append (λ x. x.timing ≡ At now) f.more g.more f.timed g.timed;
+  place = g.place ∙ f.place;
+  paints = λ p. g.paints (f.paints p);
+}
+
+adds_self : (now : ℕ) (a : Looper) → AddsAt now a a
+adds_self now a = adds_none now a a refl refl (λ p. p)
+
+by_test : (now : ℕ) (a x y : Looper) (t : Bool) → AddsAt now a x → AddsAt now a y → AddsAt now a (if t then x else y)
+by_test now a x y true f g = f
+by_test now a x y false f g = g
+
+by_option : {X : Type 0} (now : ℕ) (a d : Looper) (f : X → Looper) (o : Option X) → ((x : X) → AddsAt now a (f x)) → AddsAt now a d → AddsAt now a (option_map_or f o d)
+by_option now a d f None h g = g
+by_option now a d f (Some x) h g = h x
+
+module _ (s : Script) (q now : ℕ) where
+  requests : (a : Looper) → AddsAt now a (traversal_requested s q now a)
+  requests a = by_test now a a _ (is_some a.barrier) (adds_self now a) (adds_one now a _ _ refl refl refl (λ p. p))
+
+  sets : (g target : ℕ) (x : Gauge) (a : Looper) → AddsAt now a (target_set s q now g target x a)
+  sets g target x a =
+      let animating : Looper = and_posts_frame (animation_phase) (animation_id g) (with_gauge g (record { value = x.value; target = target; animating = true }) a) in
+      by_test now a _ _ (x.animating || x.value == target) (adds_none now a _ refl refl (λ p. p)) (adds_then now a animating _ (adds_none now a animating refl refl (λ p. p)) (requests animating))
+
+  sets_object : (g target : ℕ) (a : Looper) → AddsAt now a (object_set s q now g target a)
+  sets_object g target a =
+      by_test now a _ a (gauge_looper s g == q) (by_option now a a (λ x. target_set s q now g target x a) (slice_get a.gauges g) (λ x. sets g target x a) (adds_self now a)) (adds_self now a)
+
+  moves : (g : ℕ) (x : Gauge) (a : Looper) → AddsAt now a (gauge_moved s q now g x a)
+  moves g x a =
+      let value : ℕ = moved (gauge_line s g).step x.target x.value in
+      let there : Looper = with_gauge g (record { value = value; target = x.target; animating = false }) a in
+      let nearer : Looper = with_gauge g (record x { value = value }) a in
+      by_test now a _ _ (value == x.target)
+      (adds_then now a there _ (adds_none now a there refl refl (λ p. p)) (requests there))
+      (adds_then now a (traversal_requested s q now nearer) _ (adds_then now a nearer _ (adds_none now a nearer refl refl (λ p. p)) (requests nearer)) (adds_none now (traversal_requested s q now nearer) _ refl refl (λ p. p)))
+
+  animates : (g : ℕ) (x : Gauge) (a : Looper) → AddsAt now a (animation_ran s q now g x a)
+  animates g x a = by_test now a _ a x.animating (moves g x a) (adds_self now a)
+
+  -- what a traversal paints is paints
+  painted_one : (o : Option Act) (xs : List Act) → IfSome o (λ x. ArePaints (x ∷ [])) → ArePaints xs → ArePaints (cons_option o xs)
+  painted_one None xs h rest = rest
+  painted_one (Some (Paint g v)) xs h rest = rest
+  painted_one (Some (Dispatch n m r)) xs h rest = absurd h
+  painted_one (Some (Idle i k)) xs h rest = absurd h
+  painted_one (Some (Event f e m)) xs h rest = absurd h
+  painted_one (Some (Vsync v)) xs h rest = absurd h
+
+  painted_all : {Z : Type 0} (f : Z → Option Act) → ((z : Z) → IfSome (f z) (λ x. ArePaints (x ∷ []))) → (zs : List Z) → ArePaints (filter_map f zs)
+  painted_all f h [] = tt
+  painted_all f h (z ∷ zs) = painted_one (f z) (filter_map f zs) (h z) (painted_all f h zs)
+
+  paints_more : (xs ys : List Act) → ArePaints xs → ArePaints ys → ArePaints (xs ++ ys)
+  paints_more [] ys h rest = rest
+  paints_more (Paint g v ∷ xs) ys h rest = paints_more xs ys h rest
+  paints_more (Dispatch n m r ∷ xs) ys h rest = absurd h
+  paints_more (Idle i k ∷ xs) ys h rest = absurd h
+  paints_more (Event f e m ∷ xs) ys h rest = absurd h
+  paints_more (Vsync v ∷ xs) ys h rest = absurd h
+
+  one_paint : (g v : ℕ) (t : Bool) → IfSome (if t then Some (Paint g v) else None) (λ x. ArePaints (x ∷ []))
+  one_paint g v true = tt
+  one_paint g v false = tt
+
+  paints_are : (gauges : List Gauge) → ArePaints (paints s q gauges)
+  paints_are gauges = painted_all _ (λ z. one_paint z.0 z.1.value (gauge_looper s z.0 == q)) (enumerate_from 0 gauges)
+
+  traverses : (a : Looper) → AddsAt now a (traversal_ran s q now a)
+  traverses a = by_option now a a _ a.barrier (λ k. adds_one now a _ _ refl refl refl (λ p. paints_more a.painted (paints s q a.gauges) p (paints_are a.gauges))) (adds_self now a)
+
+  runs : (a : Looper) (id : ℕ) → AddsAt now a (callback_ran s q now a id)
+  runs a id =
+      by_test now a _ _ (id == traversal_id) (traverses a)
+      (by_test now a _ a (nat_le 1000000 id) (by_option now a a (λ x. animation_ran s q now (id - 1000000) x a) (slice_get a.gauges (id - 1000000)) (λ x. animates (id - 1000000) x a) (adds_self now a)) (adds_self now a))
+
+  runs_all : (a : Looper) (ids : List ℕ) → AddsAt now a (fold (callback_ran s q now) a ids)
+  runs_all a [] = adds_self now a
+  runs_all a (id ∷ ids) = adds_then now a (callback_ran s q now a id) _ (runs a id) (runs_all (callback_ran s q now a id) ids)
+
+  timed_one : (o : Option Sent) (xs : List Sent) → IfSome o (λ x. x.timing ≡ At now) → AllByRecursion (λ x. x.timing ≡ At now) xs → AllByRecursion (λ x. x.timing ≡ At now) (cons_option o xs)
+  timed_one None xs h rest = rest
+  timed_one (Some x) xs h rest = (h, rest)
+
+  timed_all : {Z : Type 0} (f : Z → Option Sent) → ((z : Z) → IfSome (f z) (λ x. x.timing ≡ At now)) → (zs : List Z) → AllByRecursion (λ x. x.timing ≡ At now) (filter_map f zs)
+  timed_all f h [] = tt
+  timed_all f h (z ∷ zs) = timed_one (f z) (filter_map f zs) (h z) (timed_all f h zs)
+
+  timed_if : (x : Sent) (t : Bool) → x.timing ≡ At now → IfSome (if t then Some x else None) (λ y. y.timing ≡ At now)
+  timed_if x true h = h
+  timed_if x false h = tt
+
+  reacts : (m : PostData) (a : Looper) → AddsAt now a (reacted s now m a)
+  reacts m a = record {
+    more = filter_map _ (zip s.rules a.fired);
+    sent = refl;
+    timed = timed_all _ (λ z. timed_if (reaction s now z.0) (fires m z.0 z.1) refl) (zip s.rules a.fired);
+    place = refl;
+    paints = λ p. p;
+  }
+
+  object_or_rules : (m : PostData) (a : Looper) → AddsAt now a (option_map_or (λ g. object_set s q now g m.arg a) m.obj (reacted s now m a))
+  object_or_rules m a = by_option now a (reacted s now m a) (λ g. object_set s q now g m.arg a) m.obj (λ g. sets_object g m.arg a) (reacts m a)
+
+  frame_run : (ids : List ℕ) (m : PostData) (a : Looper) → AddsAt now a (if m.what == 0 then fold (callback_ran s q now) a ids else a)
+  frame_run ids m a = by_test now a _ a (m.what == 0) (runs_all a ids) (adds_self now a)
+
+  -- what a message causes
+  pub delivers : (ids : List ℕ) (m : PostData) (a : Looper) → AddsAt now a (delivered s q now ids m a)
+  delivers ids m a =
+      by_test now a a _ (is_some m.callback) (adds_self now a) (by_test now a _ _ (m.handler == frame_handler q) (frame_run ids m a) (object_or_rules m a))
+
+  -- the look that takes a message
+  pub takes : (n : ℕ) (a : Looper) → AddsAt now a (and_takes q n now a)
+  takes n a = adds_one now a _ _ refl refl refl (λ p. p)

@@ -1,0 +1,8 @@
+use Rattle.looper_run.specs.Holding.{held}
+use Rattle.dash_loopers.proofs.LooperPlaying.{pulse_or_none}
+use Rattle.dash_loopers.proofs.player.PlayerDispatcher.pulse.Goals as goal
+
+pub returns-clause-meets : goal.returns-clause-meets
+returns-clause-meets g c =
+    let p = c.args.self.now in
+    pulse_or_none p.place.script.now p.place.looper p.now p.began.now.value c.pulse.result (held c.args.own.now) (held c.pulse.new.own) p.parts c.pulse.new.parts c.pulse.ensures.lent c.pulse.ensures.pulses c.requires.meets

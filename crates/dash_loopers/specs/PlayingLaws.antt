@@ -1,0 +1,130 @@
+-- What a looper has come to stays so by what it doesn't do itself: another sender's entry, its look that ends the queue, an idle
+-- handler or an event. These are the laws of its code, with their proofs.
+use Rattle.std.proofs.Common.{◌≡◌, ℕ, Bool, true, false, List, [], ◌∷◌, ◌++◌, None, refl, sym, ap, ◌∙◌, subst, append_assoc, eq-eqb, ne_eqb}
+use Rattle.std.specs.Prelude.{◌==◌, not, filter}
+use Rattle.std.proofs.lemmas.List.{append-nil}
+use Rattle.std.proofs.lemmas.List.Elements.{All-append, All-nil, Contains-append_left, Contains-append_right, filter-append}
+use Rattle.loop_model.specs.declared.call.Call.TheVariants.{Next}
+use Rattle.loop_model.specs.declared.reply.Reply.TheVariants.{Disposed}
+use Rattle.loop_model.specs.declared.entry.Entry.{Entry}
+use Rattle.loop_model.specs.declared.journal.Act.{Act}
+use Rattle.loop_model.specs.declared.journal.Act.TheVariants.{Dispatch, Idle, Event, Vsync, Paint}
+use Rattle.dash_script.specs.declared.script.Script.{Script}
+use Rattle.looper_run.specs.Acts.{IsQuiet}
+use Rattle.run_model.specs.Asks.{entries_by}
+use Rattle.run_model.specs.Control.{Timing, At, NotBefore}
+use Rattle.run_model.specs.Loopers.{Looper, first_looper}
+use Rattle.run_model.specs.Acts.{after_act}
+use Rattle.run_model.proofs.RunLaws.{Lead-snoc}
+use Rattle.run_model.proofs.Growth.{Lead-entries}
+use Rattle.dash_loopers.specs.declared.player.Parts.{Parts}
+use Rattle.dash_loopers.specs.declared.looper.StageLooper.{StageLooper}
+use Rattle.dash_loopers.specs.Played.{is_disposal, calls_in, IsPlayed, Stands, IsTimedBy, GoesOnTo, ComesTo, IsPlaying}
+
+-- ---- the calls of a sender, as entries are added
+
+abbrev pub is_call : Entry → Bool
+is_call e = not (is_disposal e)
+
+pub calls_more : (k : ℕ) (es more : List Entry) → calls_in k (es ++ more) ≡ calls_in k es ++ calls_in k more
+calls_more k es more = ap (filter is_call) (filter-append (λ e. e.sender == k) es more) ∙ filter-append is_call (entries_by k es) (entries_by k more)
+
+none_more : (k : ℕ) (es more : List Entry) → calls_in k more ≡ [] → calls_in k (es ++ more) ≡ calls_in k es
+none_more k es more none = calls_more k es more ∙ (ap (λ l. calls_in k es ++ l) none ∙ append-nil (calls_in k es))
+
+pub calls_others : (k : ℕ) (es : List Entry) (e : Entry) → (e.sender ≡ k → ⊥) → calls_in k (es ++ e ∷ []) ≡ calls_in k es
+calls_others k es e apart =
+    let other : (e.sender == k) ≡ false = ne_eqb e.sender k apart in
+    none_more k es (e ∷ []) (rw other refl)
+
+pub calls_disposed : (k : ℕ) (es : List Entry) (e : Entry) (now : ℕ) → e.sender ≡ k → e.call ≡ Next now → e.reply ≡ Disposed → calls_in k (es ++ e ∷ []) ≡ calls_in k es
+calls_disposed k es e now is call reply =
+    let mine : (e.sender == k) ≡ true = eq-eqb e.sender k is in
+    none_more k es (e ∷ []) (rw (mine, call, reply) refl)
+
+-- ---- where it stands, as entries and acts are added
+
+module _ (s : Script) (q k : ℕ) where
+  -- entries that are no calls of the looper
+  pub stands_beside : (es more : List Entry) (acts : List Act) (parts : Parts) (a : Looper) → calls_in k (es ++ more) ≡ calls_in k es → Stands s q k es acts parts a → Stands s q k (es ++ more) acts parts a
+  stands_beside es more acts parts a same st = record {
+    led = λ fs begins is. Lead-entries s q es fs more (first_looper s) acts a (st.led fs begins is);
+    place = st.place;
+    settled = st.settled;
+    played = subst (λ l. IsPlayed s q l parts a) (sym same) st.played;
+  }
+
+  -- an act of an idle handler or an event
+  pub stands_quiet : (es : List Entry) (x : Act) (acts : List Act) (parts : Parts) (a : Looper) → IsQuiet x → Stands s q k es acts parts a → Stands s q k es (acts ++ x ∷ []) parts a
+  unfolding after_act
+  stands_quiet es (Idle i t) acts parts a is st = record {
+    led = λ fs begins law. Lead-snoc s q es fs None (first_looper s) acts a (Idle i t) (st.led fs begins law) (refl, st.settled);
+    place = st.place;
+    settled = st.settled;
+    played = st.played;
+  }
+  stands_quiet es (Event f e m) acts parts a is st = record {
+    led = λ fs begins law. Lead-snoc s q es fs None (first_looper s) acts a (Event f e m) (st.led fs begins law) (refl, st.settled);
+    place = st.place;
+    settled = st.settled;
+    played = st.played;
+  }
+  stands_quiet es (Dispatch n m r) acts parts a is st = absurd is
+  stands_quiet es (Vsync v) acts parts a is st = absurd is
+  stands_quiet es (Paint g v) acts parts a is st = absurd is
+
+-- ---- calls more, and looks more
+
+-- a call that was timed by some looks is timed by more
+pub timed_left : (k : ℕ) (looks more : List Entry) (now : ℕ) (t : Timing) → IsTimedBy k looks now t → IsTimedBy k (looks ++ more) now t
+timed_left k looks more now (At time) h = (h.0, Contains-append_left looks more h.0 h.1, h.2, h.3)
+timed_left k looks more now (NotBefore time) h = h
+
+pub timed_right : (k : ℕ) (looks more : List Entry) (now : ℕ) (t : Timing) → IsTimedBy k more now t → IsTimedBy k (looks ++ more) now t
+timed_right k looks more now (At time) h = (h.0, Contains-append_right looks more h.0 h.1, h.2, h.3)
+timed_right k looks more now (NotBefore time) h = h
+
+pub goes_then : (k : ℕ) (looks more : List Entry) (now : ℕ) (a b c : Looper) → GoesOnTo k looks now a b → GoesOnTo k more now b c → GoesOnTo k (looks ++ more) now a c
+goes_then k looks more now a b c f g = record {
+  more = f.more ++ g.more;
+  sent = g.sent ∙ (ap (λ l. l ++ g.more) f.sent ∙ append_assoc a.sent f.more g.more);
+  timed = All-append (λ x. IsTimedBy k (looks ++ more) now x.timing) f.more g.more
+      (λ i x near. timed_left k looks more now _ (f.timed i x near)) (λ i x near. timed_right k looks more now _ (g.timed i x near));
+}
+
+pub goes_nowhere : (k : ℕ) (looks : List Entry) (now : ℕ) (a : Looper) → GoesOnTo k looks now a a
+goes_nowhere k looks now a = record { more = []; sent = sym (append-nil a.sent); timed = All-nil (λ x. IsTimedBy k looks now x.timing) }
+
+-- ---- the laws
+
+module _ (s : Script) (q now : ℕ) where
+  -- one step more
+  pub comes_on : (a : Looper) (k : ℕ) (seen es looks : List Entry) (acts acts' : List Act) (parts parts' : Parts) (c : ComesTo s q now a k seen es acts parts) (b : Looper)
+      → Stands s q k (es ++ looks) acts' parts' b → GoesOnTo k looks now c.state b → ComesTo s q now a k seen (es ++ looks) acts' parts'
+  comes_on a k seen es looks acts acts' parts parts' c b stands on = record {
+    state = b;
+    stands = stands;
+    looks = c.looks ++ looks;
+    saw = ap (λ l. l ++ looks) c.saw ∙ append_assoc seen c.looks looks;
+    on = goes_then k c.looks looks now a c.state b c.on on;
+  }
+
+  module _ (began : StageLooper) where
+    -- another sender's entry
+    pub playing_others : (k : ℕ) (es : List Entry) (e : Entry) (acts : List Act) (parts : Parts) → (e.sender ≡ k → ⊥) → IsPlaying s q now began k es acts parts → IsPlaying s q now began k (es ++ e ∷ []) acts parts
+    playing_others k es e acts parts apart meets = λ text a come.
+        let c = meets text a come in
+        comes_on a k began.looper.held.poster.view.seen es (e ∷ []) acts acts parts parts c c.state (stands_beside s q k es (e ∷ []) acts parts c.state (calls_others k es e apart) c.stands) (goes_nowhere k (e ∷ []) now c.state)
+
+    -- the looper's look that ends the queue
+    pub playing_disposed : (k : ℕ) (es : List Entry) (e : Entry) (time : ℕ) (acts : List Act) (parts : Parts) → e.sender ≡ k → e.call ≡ Next time → e.reply ≡ Disposed → IsPlaying s q now began k es acts parts
+        → IsPlaying s q now began k (es ++ e ∷ []) acts parts
+    playing_disposed k es e time acts parts mine call reply meets = λ text a come.
+        let c = meets text a come in
+        comes_on a k began.looper.held.poster.view.seen es (e ∷ []) acts acts parts parts c c.state (stands_beside s q k es (e ∷ []) acts parts c.state (calls_disposed k es e time mine call reply) c.stands) (goes_nowhere k (e ∷ []) now c.state)
+
+    -- an idle handler ran, or a listener was told of an event
+    pub playing_quiet : (k : ℕ) (es : List Entry) (x : Act) (acts : List Act) (parts : Parts) → IsQuiet x → IsPlaying s q now began k es acts parts → IsPlaying s q now began k es (acts ++ x ∷ []) parts
+    playing_quiet k es x acts parts is meets = λ text a come.
+        let c = meets text a come in
+        record { state = c.state; stands = stands_quiet s q k es x acts parts c.state is c.stands; looks = c.looks; saw = c.saw; on = c.on }
