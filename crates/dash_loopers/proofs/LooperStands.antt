@@ -22,14 +22,14 @@ use Rattle.dash_script.specs.declared.script.Script.{Script}
 use Rattle.dash_script.specs.Reading.{HasText}
 use Rattle.looper_run.specs.Tests.{IsTake}
 use Rattle.loop_model.proofs.Prefixes.{prefix_trans, prefix_length}
-use Rattle.loop_model.specs.Posts.{post_at, accepted_post, accepted_by}
+use Rattle.loop_model.specs.Posts.{post_at}
 use Rattle.run_model.specs.Control.{At}
 use Rattle.run_model.specs.Asks.{Makes, plain, token_in, tokens_in, AreFor}
 use Rattle.run_model.specs.Loopers.{Looper, Sent, first_looper, starts_frame, delivered, and_takes}
 use Rattle.run_model.specs.Acts.{dispatched, after_act, MayDispatch, Lead, sent_on, IsSent}
 use Rattle.run_model.specs.FrameRuns.{frame_ids, is_frame_from, place_after}
 use Rattle.run_model.proofs.RunLaws.{AreFor-snoc, Lead-snoc, sent_on-append}
-use Rattle.run_model.proofs.Growth.{Lead-entries, post_of-grows}
+use Rattle.run_model.proofs.Growth.{Lead-entries, post_at-grows}
 use Rattle.run_model.proofs.SoFarLaws.{ArePaints, Lead-paints}
 use Rattle.dash_loopers.specs.declared.player.Parts.{Parts}
 use Rattle.dash_hall.specs.Growth.{own}
@@ -44,32 +44,6 @@ pub calls_taken : (k n now : ℕ) (es : List Entry) (e : Entry) → IsTake k now
 calls_taken k n now es e t =
     let mine : (e.sender == k) ≡ true = eq-eqb e.sender k t.sender_is in
     calls_more k es (e ∷ []) ∙ ap (λ l. calls_in k es ++ l) (let call = t.call in let reply = t.reply in rw (mine, call, reply) refl)
-
--- ---- the post of a number, in the two layers' words
-
-accepted_same : (e : Entry) → accepted_post e ≡ accepted_by e.call e.reply
-accepted_same e = by_call e.call refl
-  where
-    by_reply : (p : PostData) (t : Bool) → e.call ≡ Post p → is_accepted e.reply ≡ t → accepted_post e ≡ accepted_by e.call e.reply
-    by_reply p true is t = rw (is, t) refl
-    by_reply p false is t = rw (is, t) refl
-
-    by_call : (c : Call) → e.call ≡ c → accepted_post e ≡ accepted_by e.call e.reply
-    by_call (Post p) is = by_reply p (is_accepted e.reply) is refl
-    by_call (Barrier n) is = rw is refl
-    by_call (Unbarrier t) is = rw is refl
-    by_call (Remove f) is = rw is refl
-    by_call (Quit f n) is = rw is refl
-    by_call (Next n) is = rw is refl
-    by_call (Advance n) is = rw is refl
-    by_call (Halt n) is = rw is refl
-
-accepted_all : (es : List Entry) → filter_map accepted_post es ≡ filter_map (λ e. accepted_by e.call e.reply) es
-accepted_all [] = refl
-accepted_all (e ∷ es) = ap₂ cons_option (accepted_same e) (accepted_all es)
-
-pub post_same : (es : List Entry) (n : ℕ) → post_of es n ≡ post_at es n
-post_same es n = ap (λ l. slice_get l n) (accepted_all es)
 
 -- a pulse that came
 vsynced : (s : Script) (q : ℕ) (es : List Entry) (fs : List FrameEntry) (acts : List Act) (a : Looper) (stamp : ℕ) → a.painted ≡ [] → Lead s q es fs (first_looper s) acts a
@@ -122,7 +96,7 @@ sooner fs first later (Some place) le h = both (nat_le first place) _ (no_later 
 
 -- the acts lead on by a dispatch, with the paints that it makes before it
 leads_dispatch : (s : Script) (q : ℕ) (es : List Entry) (fs : List FrameEntry) (acts ps : List Act) (a : Looper) (ids : List ℕ) (frame : Option ℕ) (n now : ℕ) (route : Route) (m : PostData)
-    → a.painted ≡ [] → Lead s q es fs (first_looper s) acts a → post_of es n ≡ Some m → (not (is_some frame) || starts_frame q m) ≡ true → is_frame_from fs a.place frame ≡ true → frame_ids fs frame ≡ ids
+    → a.painted ≡ [] → Lead s q es fs (first_looper s) acts a → post_at es n ≡ Some m → (not (is_some frame) || starts_frame q m) ≡ true → is_frame_from fs a.place frame ≡ true → frame_ids fs frame ≡ ids
     → ArePaints ps → (delivered s q now ids m (taken q n now frame a)).painted ≡ ps
     → Lead s q es fs (first_looper s) ((acts ++ ps) ++ Dispatch n now route ∷ []) (record (delivered s q now ids m (taken q n now frame a)) { painted = [] })
 unfolding after_act
@@ -132,10 +106,10 @@ leads_dispatch s q es fs acts ps a ids frame n now route m settled lead post sta
     told : Lead s q es fs (first_looper s) (acts ++ ps) (record a { painted = ps })
     told = subst (λ l. Lead s q es fs (first_looper s) (acts ++ ps) (record a { painted = l ++ ps })) settled (Lead-paints s q es fs (first_looper s) acts a ps paints lead)
 
-    causes : dispatched s q fs frame n now (record a { painted = ps }) (post_of es n) ≡ delivered s q now ids m (taken q n now frame a)
+    causes : dispatched s q fs frame n now (record a { painted = ps }) (post_at es n) ≡ delivered s q now ids m (taken q n now frame a)
     causes = ap (λ o. dispatched s q fs frame n now (record a { painted = ps }) o) post ∙ ap (λ l. delivered s q now l m (taken q n now frame a)) are
 
-    state : record (dispatched s q fs frame n now (record a { painted = ps }) (post_of es n)) { painted = [] } ≡ record (delivered s q now ids m (taken q n now frame a)) { painted = [] }
+    state : record (dispatched s q fs frame n now (record a { painted = ps }) (post_at es n)) { painted = [] } ≡ record (delivered s q now ids m (taken q n now frame a)) { painted = [] }
     state = ap (λ (b : Looper). record b { painted = [] }) causes
 
     may : MayDispatch s q es fs frame (record a { painted = ps }) n now
@@ -220,14 +194,14 @@ module _ (s : Script) (q k n now : ℕ) (m : PostData) (es more : List Entry) (e
       done : IsPlayed s q (calls_in k ((es ++ e ∷ []) ++ more)) parts' by_dispatch × (acts' ≡ acts ++ (delivered s q now d.ids m (taken q n now d.ran.frame a)).painted)
       done = d.plays text (taken q n now d.ran.frame a) refl (played_taken s q k n now es e take parts a st.settled d.ran.frame st.played)
 
-      found : post_of es n ≡ Some m
-      found = post_same es n ∙ post
+      found : post_at es n ≡ Some m
+      found = post
 
-      once : post_of (es ++ e ∷ []) n ≡ Some m
-      once = post_of-grows es (e ∷ []) n (ap is_some found) ∙ found
+      once : post_at (es ++ e ∷ []) n ≡ Some m
+      once = post_at-grows es (e ∷ []) n (ap is_some found) ∙ found
 
-      posts : post_of ((es ++ e ∷ []) ++ more) n ≡ Some m
-      posts = post_of-grows (es ++ e ∷ []) more n (ap is_some once) ∙ once
+      posts : post_at ((es ++ e ∷ []) ++ more) n ≡ Some m
+      posts = post_at-grows (es ++ e ∷ []) more n (ap is_some once) ∙ once
 
       placed : (frame : Option ℕ) (p : ℕ) → p ≡ place_after a.place frame → a.place ≤ length parts.frames.view.seen → length parts.frames.view.seen ≤ length parts'.frames.view.seen → place_after 0 frame ≤ length parts'.frames.view.seen → p ≤ length parts'.frames.view.seen
       placed None p at le longer within = omega (arith, at, le, longer)
