@@ -3,6 +3,7 @@ pub mod LooperPlaces
 pub mod LooperLent
 pub mod LooperOver
 pub mod LooperTold
+pub mod LooperDisposes
 pub mod LooperKits
 pub mod LooperSeats
 pub mod LooperSteps

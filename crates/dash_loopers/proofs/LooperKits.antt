@@ -19,6 +19,7 @@ use Rattle.choreographer.specs.Known.{Shared as Frames}
 use Rattle.looper_run.specs.declared.looper.Round.{Round}
 use Rattle.looper_run.specs.Holding.{Sender, Looping, Workplace, workplace}
 use Rattle.looper_run.specs.Tests.{IsSameLooper}
+use Rattle.looper_run.specs.Looks.{IsRound}
 use Rattle.looper_run.specs.Round.{RoundBy, is_ended}
 use Rattle.looper_run.specs.Acts.{taken_by}
 use Rattle.loop_model.specs.Dispatches.{dispatches, call_dispatch}
@@ -31,10 +32,11 @@ use Rattle.dash_hall.specs.declared.kit.Kit.{Kit}
 use Rattle.dash_loopers.specs.declared.player.Parts.{Parts}
 use Rattle.dash_loopers.specs.declared.looper.StageLooper.{StageLooper}
 use Rattle.dash_hall.specs.Kits.{Badge, badge_of, badge_for, frame_badge_of, frame_badge_for, frames_for, IsHall, IsKitOf, IsUnusedKit}
-use Rattle.dash_loopers.specs.Loopers.{ArePartsOf, IsPlaceOf, IsLooperOf, IsLooper, setting_for, is_given_up, until_of}
+use Rattle.dash_loopers.specs.Loopers.{ArePartsOf, IsPlaceOf, IsLooperOf, IsLooper, DisposesLast, setting_for, is_given_up, until_of}
 use Rattle.dash_loopers.specs.Players.{Owner, ServesAt}
 use Rattle.dash_loopers.proofs.LooperLists.{map-remove, map-insert, insert_removed, at_same}
 use Rattle.dash_loopers.proofs.LooperPlaces.{queue_count, frames_count, queue_is}
+use Rattle.dash_loopers.proofs.LooperDisposes.{disposes_by_round, disposes_none, disposes_so_far}
 use Rattle.dash_loopers.proofs.LooperOver.{over_by_round, waits_by_round}
 use Rattle.dash_loopers.proofs.LooperTold.{taken_own, told_by_round}
 
@@ -107,9 +109,9 @@ pub looper_then : (s : Script) (hall : Hall) (now : ℕ) (began l : StageLooper)
     → l.parts ≡ Some parts → slice_get hall.queues.items l.number ≡ Some q
     → o ≡ record { script = s; hall = hall; number = l.number; now = now; began = began }
     → ((w : Workplace) → ServesAt s hall l.number parts w → ServesAt o.script o.hall o.number parts' w)
-    → IsSameLooper l.looper.held after.held → after.ended ≡ is_ended last → RoundBy q.constants.setting now l.looper.held after.held last → is_given_up l.last ≡ false
+    → IsSameLooper l.looper.held after.held → after.ended ≡ is_ended last → RoundBy q.constants.setting now l.looper.held after.held last → IsRound now l.looper after last → is_ended l.last ≡ false → is_given_up l.last ≡ false
     → IsLooper s hall (record { number = l.number; sender = l.sender; looper = after; parts = Some parts'; last = last })
-looper_then s hall now began l q o parts parts' after last is_hall is e at origin serves same ended round going =
+looper_then s hall now began l q o parts parts' after last is_hall is e at origin serves same ended round looks unended going =
     let w : Workplace = workplace l.looper.held in
     let of = looper_of s hall l is_hall is in
     let first : ServesAt s hall l.number parts w = record { looper = of; place = is.place; are_parts = parts_of s hall l parts is e } in
@@ -129,6 +131,7 @@ looper_then s hall now began l q o parts parts' after last is_hall is e at origi
           subst (λ (n : ℕ). dispatches after.held.journal.acts ≡ taken_by n after.held.poster.view.seen) mine (told_by_round q.constants.setting now l.looper.held after.held last round on before);
       over = λ over. subst (λ (c : Constants TableId). is_over (empty_base c.setting.senders) after.held.poster.view.seen ≡ true) (queue_is s hall l.number of l.number q at)
           (over_by_round q.constants.setting now l.looper.held after.held last q.constants (same.constants ∙ (is.place.queue q at).1) round over);
+      disposes = disposes_by_round l.sender now l.looper after l.last last unended going is.own looks is.disposes;
     }
 
 -- the round that was run, by the setting of the looper's queue
@@ -186,6 +189,7 @@ looper_begins s hall n kit parts looping poster last l k unused is others frames
       ended = ended;
       told = λ on. ap (λ h. dispatches h.journal.acts) held ∙ sym (ap (λ h. taken_by (s.threads + n) h.poster.view.seen) held ∙ taken_none);
       over = λ over. absurd (let wrong : false ≡ true = sym going ∙ over in cc);
+      disposes = disposes_none last (entries_by (s.threads + n) looping.held.poster.view.seen) going (ap (λ h. entries_by (s.threads + n) h.poster.view.seen) held ∙ none);
     }
 
 -- the looper's kit again
@@ -223,6 +227,14 @@ pub seen_over : (s : Script) (hall : Hall) (l : StageLooper) (parts : Parts) (po
     → (d : Sender) → is_over (empty_base (sender_count s)) (get_or posters l.number d).view.seen ≡ true
 seen_over s hall l parts posters is_hall is e back ended d =
     subst (λ (p : Sender). is_over (empty_base (sender_count s)) p.view.seen ≡ true) (sym (own_again s hall l parts posters is_hall is e back d)) (is.over ended)
+
+-- and it has disposed of its queue by its last call, if at all
+pub disposes_again : (s : Script) (hall : Hall) (l : StageLooper) (parts : Parts) (posters : List Sender) → IsHall s hall → IsLooper s hall l → l.parts ≡ Some parts
+    → posters ≡ insert parts.others.items l.number l.looper.held.poster → is_given_up l.last ≡ false
+    → (d : Sender) → DisposesLast (entries_by (s.threads + l.number) (get_or posters l.number d).view.seen)
+disposes_again s hall l parts posters is_hall is e back on d =
+    subst (λ (p : Sender). DisposesLast (entries_by (s.threads + l.number) p.view.seen)) (sym (own_again s hall l parts posters is_hall is e back d))
+    (subst (λ (n : ℕ). DisposesLast (entries_by n l.looper.held.poster.view.seen)) is.sender (disposes_so_far l.last (entries_by l.sender l.looper.held.poster.view.seen) on is.disposes))
 
 -- and what it has taken is told by the looper's journal
 pub told_again : (s : Script) (hall : Hall) (l : StageLooper) (parts : Parts) (posters : List Sender) (j : Journal) → IsHall s hall → IsLooper s hall l → l.parts ≡ Some parts

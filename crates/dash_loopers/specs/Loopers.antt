@@ -1,5 +1,5 @@
 -- A looper of a script.
-use Rattle.std.specs.Prelude.{◌≡◌, List, length, ◌<◌, ◌+◌, ◌==◌, ◌||◌, ℕ, Bool, true, false, map, slice_get, Option, Some, None, IsSomeAnd, slice_index_or, ◌≤◌, []}
+use Rattle.std.specs.Prelude.{◌≡◌, List, length, ◌<◌, ◌+◌, ◌==◌, ◌||◌, ◌&&◌, ◌⊎◌, ◌++◌, ◌∷◌, not, filter, ℕ, Bool, true, false, map, slice_get, Option, Some, None, IsSomeAnd, slice_index_or, ◌≤◌, []}
 use Rattle.std.specs.List.{remove, insert}
 use Rattle.atomic_table.specs.Seated.{TableId}
 use Rattle.dash_script.specs.declared.script.Script.{Script}
@@ -7,6 +7,7 @@ use Rattle.loop_model.specs.Base.{empty_base}
 use Rattle.loop_model.specs.Answers.{Setting, is_over}
 use Rattle.loop_model.specs.Legal.{IsLegal, AreNumbered}
 use Rattle.loop_model.specs.declared.entry.Entry.{Entry}
+use Rattle.loop_model.specs.Entries.{is_next, is_disposed}
 use Rattle.shared_queue.specs.Known.{Shared}
 use Rattle.looper_run.specs.Holding.{Workplace, workplace, Sender, IsBeside}
 use Rattle.looper_run.specs.Round.{RoundBy, is_ended}
@@ -16,6 +17,7 @@ use Rattle.loop_model.specs.Dispatches.{dispatches}
 use Rattle.loop_model.specs.declared.journal.Journal.{Journal}
 use Rattle.dash_hall.specs.declared.kit.Kit.{Kit}
 use Rattle.run_model.specs.Senders.{sender_count}
+use Rattle.run_model.specs.Asks.{entries_by}
 use Rattle.looper_run.specs.declared.looper.Round.{Round}
 use Rattle.looper_run.specs.declared.looper.Round.TheVariants as round
 use Rattle.choreographer.specs.Known.{Shared as Frames, Known as Pass}
@@ -67,6 +69,24 @@ until_of (round.Drained dispatched until) = until
 until_of (round.Ended dispatched) = None
 until_of round.NoMemory = None
 
+-- a look that disposed of the queue
+abbrev pub is_disposal : Entry → Bool
+is_disposal e = is_next e.call && is_disposed e.reply
+
+-- the entries but the looks that disposed of the queue
+abbrev pub calls_among : List Entry → List Entry
+calls_among es = filter (λ e. not (is_disposal e)) es
+
+-- none of the entries disposed of the queue, or the last one alone did
+abbrev pub DisposesLast : List Entry → Type 0
+DisposesLast es = (calls_among es ≡ es) ⊎ ((e : Entry) × (es ≡ calls_among es ++ e ∷ []) × (is_disposal e ≡ true))
+
+-- after a round, none of these entries of the looper disposed of its queue, but the last one may have where the round ended the looper
+abbrev pub DisposesAtEnd : Round → List Entry → Type 0
+DisposesAtEnd (round.Drained dispatched until) es = calls_among es ≡ es
+DisposesAtEnd (round.Ended dispatched) es = DisposesLast es
+DisposesAtEnd round.NoMemory es = Unit {0}
+
 -- a looper of the script, with what it needs in the hall
 pub record IsLooper (s : Script) (hall : Hall) (l : StageLooper) : Type 0 where
   pub few : s.threads + s.loopers < 100
@@ -81,6 +101,8 @@ pub record IsLooper (s : Script) (hall : Hall) (l : StageLooper) : Type 0 where
   pub told : is_given_up l.last ≡ false → dispatches l.looper.held.journal.acts ≡ taken_by l.sender l.looper.held.poster.view.seen
   -- a round that ended it has seen its queue over
   pub over : is_ended l.last ≡ true → is_over (empty_base (sender_count s)) l.looper.held.poster.view.seen ≡ true
+  -- it disposes of its queue by its last call, if at all
+  pub disposes : DisposesAtEnd l.last (entries_by l.sender l.looper.held.poster.view.seen)
 
 -- one that a round has ended, or that found no memory, stays as it is; another runs a round on its queue
 pub record HasRun (s : Script) (now : ℕ) (before after : StageLooper) : Type 0 where
@@ -91,6 +113,10 @@ pub record HasRun (s : Script) (now : ℕ) (before after : StageLooper) : Type 0
 -- the Dispatch acts in the journal are, one for one and in order, the messages that this looper's own poster took
 abbrev pub HasTold : Script → ℕ → Journal → Kit → Type 0
 HasTold s number j kit = (d : Sender) → dispatches j.acts ≡ taken_by (s.threads + number) (slice_index_or kit.posters.items number d).view.seen
+
+-- of this looper's own calls on its queue, none disposed of it, or the last one alone did
+abbrev pub HasDisposedLast : Script → ℕ → Kit → Type 0
+HasDisposedLast s number kit = (d : Sender) → DisposesLast (entries_by (s.threads + number) (slice_index_or kit.posters.items number d).view.seen)
 
 -- so it is with each looper, whose kit comes behind the threads'
 abbrev pub HaveTold : Script → List Journal → List Kit → Type 0

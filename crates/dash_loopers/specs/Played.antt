@@ -1,6 +1,6 @@
 -- What a looper has come to, told by what it works with: the calls and the frame callbacks that its acts cause are made, and
 -- its gauges, its barrier and its rule counts stand as its acts lead to.
-use Rattle.std.specs.Prelude.{◌≡◌, ◌≢◌, ◌<◌, ◌≤◌, ◌==◌, ◌||◌, ◌&&◌, ℕ, Bool, true, false, not, All, List, [], ◌∷◌, ◌++◌, map, filter, length, slice_get, slice_set, slice_index_or, count_by, Option, Some, None, is_some, IsSomeAnd, if◌then◌else◌, ◌+◌, ◌/◌}
+use Rattle.std.specs.Prelude.{◌≡◌, ◌≢◌, ◌<◌, ◌≤◌, ◌==◌, ◌||◌, ℕ, Bool, true, false, not, All, List, [], ◌∷◌, ◌++◌, map, length, slice_get, slice_set, slice_index_or, count_by, Option, Some, None, is_some, IsSomeAnd, if◌then◌else◌, ◌+◌, ◌/◌}
 use Rattle.std.specs.List.{Contains}
 use Rattle.std.specs.Option.{option_map_or}
 use mathlib.Core.List.{IsPrefix}
@@ -8,7 +8,6 @@ use Rattle.loop_model.specs.declared.post.Post.{Post as PostData}
 use Rattle.loop_model.specs.declared.call.Call.{Call}
 use Rattle.loop_model.specs.declared.call.Call.TheVariants.{Post, Next}
 use Rattle.loop_model.specs.declared.entry.Entry.{Entry}
-use Rattle.loop_model.specs.Entries.{is_next, is_disposed}
 use Rattle.loop_model.specs.declared.journal.Act.{Act}
 use Rattle.loop_model.specs.declared.journal.Act.TheVariants.{Vsync, Paint}
 use Rattle.loop_model.specs.declared.journal.Journal.{Journal}
@@ -38,7 +37,8 @@ use Rattle.dash_loopers.specs.declared.player.Parts.{Parts}
 use Rattle.dash_loopers.specs.declared.looper.StageLooper.{StageLooper}
 use Rattle.dash_hall.specs.Growth.{own}
 use Rattle.dash_loopers.specs.Players.{PlaceWithout}
-use Rattle.dash_loopers.specs.Loopers.{is_given_up, IsSoundOn}
+use Rattle.dash_loopers.specs.Loopers.{is_given_up, IsSoundOn, calls_among}
+pub use Rattle.dash_loopers.specs.Loopers.{is_disposal}
 
 -- ---- how a view root stands
 
@@ -78,13 +78,9 @@ pub record IsRootOf (s : Script) (q : ℕ) (tokens : List ℕ) (a : Looper) (roo
 
 -- ---- what a step keeps
 
--- a look that disposed of the queue
-abbrev pub is_disposal : Entry → Bool
-is_disposal e = is_next e.call && is_disposed e.reply
-
 -- the entries that a sender made, but the looks that disposed of the queue
 abbrev pub calls_in : ℕ → List Entry → List Entry
-calls_in sender es = filter (λ e. not (is_disposal e)) (entries_by sender es)
+calls_in sender es = calls_among (entries_by sender es)
 
 -- the same, by its poster
 abbrev pub calls_of : Sender → List Entry

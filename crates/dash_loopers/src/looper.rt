@@ -2,7 +2,7 @@
 ghost use Rattle.std.specs.Prelude.{◌≡◌, ◌+◌, ◌<◌, true, false, IfOk};
 ghost use Rattle.looper_run.specs.Round.{is_ended};
 ghost use Rattle.dash_hall.specs.Kits.{IsHall, IsKitOf, HasSeenOver, IsUnusedKit};
-ghost use Rattle.dash_loopers.specs.Loopers.{posters_of, ComesToWait, WaitsForNothing, IsLooper, HasRun, HasTold, is_given_up, until_of};
+ghost use Rattle.dash_loopers.specs.Loopers.{posters_of, ComesToWait, WaitsForNothing, IsLooper, HasRun, HasTold, HasDisposedLast, is_given_up, until_of};
 ghost use Rattle.dash_loopers.specs.Played.{HasCome, HasPlayed, HasLeft};
 ghost use Rattle.run_model.specs.Loopers.{Looper as LooperState, first_looper};
 
@@ -170,6 +170,7 @@ impl StageLooper {
         ensures journal { IfOk result (λ r. r.0.looper ≡ self.number) }
         ensures kit { IfOk result (λ r. IsKitOf script.now hall.now (script.now.threads + self.number) r.1) }
         ensures told { IfOk result (λ r. is_given_up self.last ≡ false → HasTold script.now self.number r.0 r.1) }
+        ensures disposes { IfOk result (λ r. is_given_up self.last ≡ false → HasDisposedLast script.now self.number r.1) }
         ensures over { IfOk result (λ r. is_ended self.last ≡ true → HasSeenOver script.now self.number r.1) }
         ensures posters { IfOk result (λ r. r.1.posters.items ≡ posters_of self) }
         ensures left { IfOk result (λ r. (a : LooperState) → HasCome script.now self a → HasLeft script.now self.number r.0 r.1 a) }

@@ -132,7 +132,7 @@ module _ {X : Type 0} (f : X → ℕ) (n : ℕ) (xs : List X) (are : map f xs �
       ∙ (let same : 0 + i ≡ i = omega arith in same)
 
 -- a longer history has no fewer such entries
-count_prefix : {X : Type 0} (p : X → Bool) (xs ys : List X) → IsPrefix xs ys → count_by p xs ≤ count_by p ys
+pub count_prefix : {X : Type 0} (p : X → Bool) (xs ys : List X) → IsPrefix xs ys → count_by p xs ≤ count_by p ys
 count_prefix p xs ys h =
     let sum : count_by p (xs ++ h.0) ≡ count_by p xs + count_by p h.0 = sum_by-append (λ x. cond (p x) 1 0) xs h.0 in
     subst (λ l. count_by p xs ≤ count_by p l) h.1 (omega (arith, sum))

@@ -18,7 +18,7 @@ use Rattle.loop_model.specs.declared.item.Item.TheVariants.{Post as Message, Bar
 use Rattle.loop_model.specs.declared.record.QueueRecord.{QueueRecord}
 use Rattle.loop_model.specs.declared.base.Base.{Base}
 use Rattle.loop_model.specs.declared.entry.Entry.{Entry}
-use Rattle.loop_model.specs.Entries.{moment_of, is_quit_done, is_disposed, is_halted}
+use Rattle.loop_model.specs.Entries.{moment_of, is_next, is_quit_done, is_disposed, is_halted}
 use Rattle.loop_model.specs.Base.{empty_base}
 use Rattle.loop_model.specs.Pick.{pick}
 use Rattle.loop_model.specs.Answers.{Setting, clock, answer, is_over, has_disposed, has_halted, quit_place, accepted_count, post_reply, quit_reply, next_reply}
@@ -28,6 +28,7 @@ use Rattle.loop_model.proofs.AfterLaws.{clock-snoc, quit_place-snoc, has_dispose
 use Rattle.loop_model.proofs.Growing.{entry_by_entry}
 use Rattle.loop_model.proofs.LegalLaws.{IsLegal-front, IsLegal-last}
 use Rattle.loop_model.proofs.NumberLaws.{AreNumbered-front, AreNumbered-last}
+use Rattle.loop_model.proofs.Sorting.{AllByRecursion-append}
 use Rattle.loop_model.proofs.WellFormedLaws.{All_recursive, All_indexed}
 use Rattle.dash_script.specs.declared.script.Script.{Script}
 use Rattle.looper_run.specs.Holding.{Sender}
@@ -149,10 +150,10 @@ moment_within time (Next now) c h = omega (arith, h)
 moment_within time (Advance now) c h = absurd cc
 moment_within time (Halt now) c h = absurd cc
 
--- what a reply tells: a quit alone is done, and not on main; what was quit, and is not over, is disposed of; and a halt alone halts, and main
+-- what a reply tells: a quit alone is done, and not on main; what was quit, and is not over, is disposed of, by a look alone; and a halt alone halts, and main
 record Tells (main over quit : Bool) (call : Call) (r : Reply) : Type 0 where
   quits : is_quit_done r ≡ true → (is_quit call ≡ true) × (main ≡ false)
-  disposes : is_disposed r ≡ true → (quit ≡ true) × (over ≡ false)
+  disposes : is_disposed r ≡ true → (quit ≡ true) × (over ≡ false) × (is_next call ≡ true)
   halts : is_halted r ≡ true → (is_halt call ≡ true) × (main ≡ true)
 
 module _ (main over quit : Bool) where
@@ -182,7 +183,7 @@ quit_tells false over quit safe now (Some place) = tells_none false over quit (Q
 -- what the reply to a look for a message tells
 next_tells : (main over quit : Bool) (now : ℕ) (x : Option Item) → IfSome (if over then None else next_reply x quit) (Tells main over quit (Next now))
 next_tells main true quit now x = tt
-next_tells main false true now None = record { quits = λ e. absurd cc; disposes = λ e. (refl, refl); halts = λ e. absurd cc }
+next_tells main false true now None = record { quits = λ e. absurd cc; disposes = λ e. (refl, refl, refl); halts = λ e. absurd cc }
 next_tells main false false now None = tt
 next_tells main false quit now (Some (Message n p)) = tells_none main false quit (Next now) _ refl refl refl
 next_tells main false quit now (Some (SyncBarrier t w)) = tt
@@ -340,6 +341,19 @@ module _ (set : Setting) (m : ℕ) where
       disposed_count-snoc es e ∙ ap (λ k. k + one_if (is_disposed e.reply)) early
       ∙ counted_once (has_disposed (empty_base m) es) (is_disposed e.reply) (λ d. (or_parts _ _ (tells.disposes d).1).0)
       ∙ ap one_if (sym (has_disposed-snoc (empty_base m) es e)))
+
+-- main is not disposed of
+pub main_is_not_disposed : (set : Setting) (m : ℕ) → set.main ≡ true → (es : List Entry) → IsLegal set (empty_base m) es → has_disposed (empty_base m) es ≡ false
+main_is_not_disposed set m main es legal =
+    false_from_ne_true (has_disposed (empty_base m) es) (λ d. let was = disposed_was_quit set m es legal d in let none = main_is_not_quit set m main es legal in absurd cc)
+
+-- a look alone disposes of a queue
+pub looks_dispose : (set : Setting) (m : ℕ) (es : List Entry) → IsLegal set (empty_base m) es → AllByRecursion (λ e. is_disposed e.reply ≡ true → is_next e.call ≡ true) es
+looks_dispose set m = entry_by_entry (λ es. IsLegal set (empty_base m) es → AllByRecursion (λ e. is_disposed e.reply ≡ true → is_next e.call ≡ true) es)
+    (λ legal. tt)
+    (λ es e before legal.
+    let tells = reply_tells set (empty_base m) es e (IsLegal-last set (empty_base m) es e legal) in
+    AllByRecursion-append (λ f. is_disposed f.reply ≡ true → is_next f.call ≡ true) es (e ∷ []) (before (IsLegal-front set (empty_base m) es (e ∷ []) legal)) (λ d. (tells.disposes d).2, tt))
 
 -- where the controller has only moved the time on, another sender's quit is the one that was done
 quit_by_others : (set : Setting) (m end n : ℕ) (es : List Entry) → IsLegal set (empty_base m) es → are_advances end (entries_by n es) ≡ true

@@ -4,7 +4,7 @@ use Rattle.std.specs.List.{filter_map}
 use Rattle.loop_model.specs.declared.entry.Entry.{Entry}
 use Rattle.loop_model.specs.declared.journal.Journal.{Journal}
 use Rattle.loop_model.specs.declared.record.QueueRecord.{QueueRecord}
-use Rattle.loop_model.specs.Dispatches.{call_dispatch}
+use Rattle.loop_model.specs.Dispatches.{act_dispatch, call_dispatch}
 use Rattle.frame_phases.specs.declared.entry.FrameRecord.{FrameRecord}
 use Rattle.dash_script.specs.declared.script.Script.{Script}
 use Rattle.run_model.specs.Asks.{entries_by}
@@ -15,11 +15,10 @@ use Rattle.dash_hall.specs.declared.kit.Kit.{Kit}
 use Rattle.dash_hall.specs.Growth.{own}
 use Rattle.dash_hall.specs.Kits.{badge_of, badge_for, IsHall, AreKitsOf}
 use Rattle.dash_loopers.specs.Loopers.{HaveTold}
-use Rattle.dash_stage.specs.Records.{AreQueueRecords, AreFrameRecords, AreJournals, HaveAll}
-use Rattle.dash_stage.specs.Staged.{IsDispatched}
+use Rattle.dash_stage.specs.Records.{AreQueueRecords, AreJournals, HaveAll}
 use Rattle.dash_stage.proofs.Badges.{alike_length, queue_count, poster_at}
 use Rattle.dash_stage.proofs.HallEnds.{some_of}
-use Rattle.dash_stage.proofs.Carried.{numbered_count, numbered_at}
+use Rattle.dash_stage.proofs.Carried.{numbered_count}
 use Rattle.dash_loopers.proofs.LooperTold.{taken_own}
 
 -- what holds at each place holds of each looper
@@ -34,13 +33,12 @@ each_looper P (q ∷ qs) (j ∷ js) [] a b at = absurd (omega (arith, b))
 
 module _ (s : Script) (hall : Hall) (h : IsHall s hall) (kits : List Kit) (are : AreKitsOf s hall kits) where
   -- each journal tells what its looper took from its queue
-  pub dispatches_of_records : (queues : List QueueRecord) (js : List Journal) (fs : List FrameRecord) → AreQueueRecords s queues → HaveAll kits queues → AreJournals s js → AreFrameRecords s fs
-      → HaveTold s js kits → EachLooper (IsDispatched s) queues js fs
-  dispatches_of_records queues js fs recs all are_js are_fs told =
+  pub dispatches_of_records : (queues : List QueueRecord) (js : List Journal) → AreQueueRecords s queues → HaveAll kits queues → AreJournals s js → HaveTold s js kits
+      → (k : ℕ) (q : QueueRecord) (j : Journal) → k < length queues
+      → filter_map act_dispatch (slice_index_or js k j).acts ≡ filter_map (λ e. call_dispatch e.call e.reply) (entries_by (looper_sender s k) (slice_index_or queues k q).entries)
+  dispatches_of_records queues js recs all are_js told k q j lt =
       let few = numbered_count (λ (z : QueueRecord). z.looper) s.loopers queues recs.loopers in
       let few_js = numbered_count (λ (z : Journal). z.looper) s.loopers js are_js in
-      let few_fs = numbered_count (λ (z : FrameRecord). z.looper) s.loopers fs are_fs.loopers in
-      each_looper (IsDispatched s) queues js fs (few_js ∙ sym few) (few_fs ∙ sym few) (λ k q j f lt.
       let count = are.count in
       let n : ℕ = s.threads + k in
       let in_kits : n < length kits = omega (arith, lt, few, count) in
@@ -53,10 +51,8 @@ module _ (s : Script) (hall : Hall) (h : IsHall s hall) (kits : List Kit) (are :
       let poster = slice_index_or kit.posters.items k p in
       let in_queues : k < length hall.queues.items = omega (arith, lt, few, queue_count s hall.pool hall.queues.items h.queues) in
       let sender = (poster_at n hall.queues.items kit.posters.items badges k p (some_of hall.queues.items k in_queues) in_posters).1 in
-      let number = numbered_at (λ (z : QueueRecord). z.looper) s.loopers queues recs.loopers k q lt in
       let made : entries_by n (slice_index_or queues k q).entries ≡ own poster = (all n k d p q in_kits lt).0 in
       let in_js : k < length js = omega (arith, lt, few, few_js) in
       told k j d in_js p
       ∙ (taken_own n poster.view.seen
-      ∙ ap (filter_map (λ (e : Entry). call_dispatch e.call e.reply))
-      (ap (λ (m : ℕ). entries_by m poster.view.seen) (sym sender) ∙ (sym made ∙ ap (λ (m : ℕ). entries_by (looper_sender s m) (slice_index_or queues k q).entries) (sym number)))))
+      ∙ ap (filter_map (λ (e : Entry). call_dispatch e.call e.reply)) (ap (λ (m : ℕ). entries_by m poster.view.seen) (sym sender) ∙ sym made))

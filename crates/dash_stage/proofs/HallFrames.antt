@@ -17,23 +17,37 @@ use Rattle.choreographer.specs.Ends.{AreInOrder, BeginWithSeen}
 use Rattle.dash_hall.specs.declared.kit.Kit.{Kit}
 use Rattle.dash_hall.specs.Kits.{FrameBadge, frame_badge_of, frame_badge_for, AreChoreographersOf, frame_key, frame_constants}
 use Rattle.dash_hall.specs.Dealing.{GivesPass, holder_of, given, given_of}
-use Rattle.dash_stage.specs.Records.{HaveSeen, AreFrameRecords}
+use Rattle.dash_stage.specs.Records.{HaveSeen, HaveSeenOwn, AreFrameRecords}
 use Rattle.dash_stage.specs.Staged.{IsFrameRecord}
-use Rattle.dash_stage.specs.Ending.{BeginWithPasses, HaveAllPasses, HasFramesLeft, HaveFramesLeft, BeginWithNext, AreOfPool}
-use Rattle.dash_hall.proofs.HallPasses.{given_one, given_more, given_parts, given_none, is_given, not_given, given_all, of_thread, thread_holds}
+use Rattle.dash_stage.specs.Ending.{BeginWithPasses, HaveAllPasses, HasFramesLeft, HaveFramesLeft, BeginWithNext, BeginWithOwn, AreOfPool}
+use Rattle.dash_hall.proofs.HallPasses.{given_one, given_more, given_parts, given_none, is_given, not_given, given_all, of_thread, of_other, thread_holds, looper_holds}
 use Rattle.dash_hall.proofs.HallSteps.{within_parts, at_parts}
 use Rattle.dash_stage.proofs.HallEnds.{numbers_more}
+
+-- the passes of the looper's that come before its pass of this place
+given_mine : (s : Script) (looper : ℕ) (c : Frames) (k i : ℕ) → k ≡ s.threads + looper → i < 2 → length (given s looper c k 0 (s.threads + i)) ≡ i
+given_mine s looper c k zero is small =
+    let none : s.threads + 0 ≡ s.threads = omega arith in
+    ap (λ m. length (given s looper c k 0 m)) none ∙ ap length (given_none s looper c k s.threads (omega arith) (omega (arith, is)))
+given_mine s looper c k (suc zero) is small =
+    let zeroth : 0 + s.threads ≡ s.threads = omega arith in
+    let one = is_given s looper c k s.threads (looper_holds s looper s.threads (omega arith) (omega arith) ∙ sym is) in
+    ap length (given_more s looper c k 0 s.threads
+    ∙ (λ i. given_none s looper c k s.threads (omega arith) (omega (arith, is)) i ++ (ap (given_one s looper c k) zeroth ∙ one) i))
+given_mine s looper c k (suc (suc i)) is small = absurd (omega (arith, small))
 
 -- the passes with the first numbers were taken from the kits
 pub record AreTaken (s : Script) (looper : ℕ) (c : Frames) (number : ℕ) (orig : List Kit) (passes : List Pass) (kits : List Kit) : Type 0 where
   pub order : AreInOrder c passes
   pub firsts : (k : ℕ) (d : Kit) (p : Pass) → k < number → k < s.threads → get_or passes k p ≡ get_or (get_or orig k d).frames.items 0 p
+  pub mine : (i : ℕ) (d : Kit) (p : Pass) → i < 2 → s.threads + i < number → get_or passes (s.threads + i) p ≡ get_or (get_or orig (s.threads + looper) d).frames.items i p
   pub left : HaveFramesLeft (λ k. length (given s looper c k 0 number)) orig kits
 
 pub taken_none : (s : Script) (looper : ℕ) (c : Frames) (kits : List Kit) → AreTaken s looper c 0 kits [] kits
 taken_none s looper c kits = record {
   order = λ k d lt. absurd (omega (arith, lt));
   firsts = λ k d p lt thread. absurd (omega (arith, lt));
+  mine = λ i d p small lt. absurd (omega (arith, lt));
   left = record { count = refl; each = λ k d lt. record { frames = refl; pass = refl } };
 }
 
@@ -94,6 +108,20 @@ takes_more s looper c number orig passes passes' p kits kits' h e kit lt held wi
           ap (λ j. get_or (passes ++ p ∷ []) j x) (last ∙ sym count)
           ∙ (get_or-append_seam passes p [] x
           ∙ (ap (λ l. get_or l 0 x) first ∙ ap (λ j. get_or (get_or orig j d).frames.items 0 x) mine)));
+      mine = λ i d x small below. dite (dec_lt (s.threads + i) number)
+          (λ early. get_or-append passes (p ∷ []) x (s.threads + i) (omega (arith, early, count)) ∙ taken.mine i d x small early)
+          (λ late.
+          let last : s.threads + i ≡ number = omega (arith, late, below) in
+          let here : h ≡ s.threads + looper = held ∙ (ap (holder_of s looper) (sym last) ∙ looper_holds s looper (s.threads + i) (omega arith) (omega (arith, small))) in
+          let gone : length (given s looper c h 0 number) ≡ i = ap (λ m. length (given s looper c h 0 m)) (sym last) ∙ given_mine s looper c h i here small in
+          let place : i + 0 ≡ i = omega arith in
+          let next : p ∷ kit.frames.items ≡ drop i (get_or orig h d).frames.items =
+          sym gives.frames ∙ (ap (λ (y : Kit). y.frames.items) (get_or_default kits h e d inside) ∙ ((taken.left.each h d within).frames ∙ ap (λ m. drop m (get_or orig h d).frames.items) gone)) in
+          ap (λ j. get_or (passes ++ p ∷ []) j x) (last ∙ sym count)
+          ∙ (get_or-append_seam passes p [] x
+          ∙ (ap (λ l. get_or l 0 x) next
+          ∙ (get_or-drop i (get_or orig h d).frames.items 0 x
+          ∙ (ap (λ m. get_or (get_or orig h d).frames.items m x) place ∙ ap (λ j. get_or (get_or orig j d).frames.items i x) here)))));
       left = record {
         count = length-set kits h kit ∙ taken.left.count;
         each = λ k d below. dite (ℕ_discrete k h)
@@ -140,6 +168,12 @@ taken_all s looper c number orig passes kits entries count all taken seen = (
   subst (λ m. HaveFramesLeft (λ k. length (given s looper c k 0 m)) orig kits) all taken.left,
 )
 
+-- what was seen by the looper's two passes begins them too
+pub taken_own : (s : Script) (looper : ℕ) (c : Frames) (number : ℕ) (orig : List Kit) (passes : List Pass) (kits : List Kit) (entries : List FrameEntry)
+    → length passes ≡ number → number ≡ s.threads + 3 → AreTaken s looper c number orig passes kits → BeginWithSeen entries passes → BeginWithOwn (s.threads + looper) orig entries
+taken_own s looper c number orig passes kits entries count all taken seen =
+    λ i d p small. subst (λ (x : Pass). IsPrefix x.view.seen entries) (taken.mine i d p small (omega (arith, small, all))) (seen (s.threads + i) p (omega (arith, small, all, count)))
+
 -- what is known where the choreographers of the first loopers have ended, and these have not
 pub record HaveEnded (s : Script) (looper : ℕ) (rest : List Frames) (orig : List Kit) (records : List FrameRecord) (kits : List Kit) : Type 0 where
   pub loopers : map (λ (f : FrameRecord). f.looper) records ≡ range_with_len 0 looper
@@ -148,6 +182,8 @@ pub record HaveEnded (s : Script) (looper : ℕ) (rest : List Frames) (orig : Li
   pub count : length kits ≡ length orig
   pub marks : HaveAllPasses (given_all s looper rest) kits
   pub threads : (k : ℕ) (d : Kit) → k < s.threads → (get_or kits k d).frames.items ≡ drop looper (get_or orig k d).frames.items
+  pub own : HaveSeenOwn s.threads orig records
+  pub later : (j : ℕ) (d : Kit) → looper ≤ j → j < s.loopers → (get_or kits (s.threads + j) d).frames.items ≡ (get_or orig (s.threads + j) d).frames.items
   pub pool : (k : ℕ) (d : Kit) → k < length orig → (get_or kits k d).pass.home ≡ (get_or orig k d).pass.home
 
 pub ended_none : (s : Script) (cs : List Frames) (kits : List Kit) → HaveAllPasses (given_all s 0 cs) kits → HaveEnded s 0 cs kits [] kits
@@ -158,6 +194,8 @@ ended_none s cs kits marks = record {
   count = refl;
   marks = marks;
   threads = λ k d lt. refl;
+  own = λ q i d p r small none. absurd (omega (arith, none));
+  later = λ j d from lt. refl;
   pool = λ k d lt. refl;
 }
 
@@ -178,9 +216,9 @@ next_constants s cs yielded rest c n parts is keys =
 
 -- one choreographer more has ended
 pub ends_more : (s : Script) (looper : ℕ) (c : Frames) (rest : List Frames) (orig kits kits' : List Kit) (records records' : List FrameRecord) (r : FrameRecord)
-    → length records ≡ looper → s.threads ≤ length orig → IsFrameRecord s r → r.looper ≡ looper → BeginWithNext s.threads kits r.entries → HaveFramesLeft (λ k. length (given_of s looper c k)) kits kits'
+    → length records ≡ looper → looper < s.loopers → s.threads + s.loopers ≤ length orig → IsFrameRecord s r → r.looper ≡ looper → BeginWithNext s.threads kits r.entries → BeginWithOwn (s.threads + looper) kits r.entries → HaveFramesLeft (λ k. length (given_of s looper c k)) kits kits'
     → records' ≡ records ++ r ∷ [] → HaveEnded s looper (c ∷ rest) orig records kits → HaveEnded s (looper + 1) rest orig records' kits'
-ends_more s looper c rest orig kits kits' records records' r long enough lawful number begins left more before = subst (λ l. HaveEnded s (looper + 1) rest orig l kits') (sym more) (record {
+ends_more s looper c rest orig kits kits' records records' r long few enough lawful number begins begins_own left more before = subst (λ l. HaveEnded s (looper + 1) rest orig l kits') (sym more) (record {
   loopers = map-append (λ (f : FrameRecord). f.looper) records (r ∷ []) ∙ ((λ i. before.loopers i ++ (number ∙ zeroth) i ∷ []) ∙ sym (numbers_more 0 looper));
   lawful = all_push records before.lawful;
   seen = λ k q d p x lt below. dite (dec_lt q (length records))
@@ -206,6 +244,22 @@ ends_more s looper c rest orig kits kits' records records' r long enough lawful 
       (left.each k d (omega (arith, lt, enough, same))).frames
       ∙ (ap (λ m. drop m (get_or kits k d).frames.items) one
       ∙ (ap (drop 1) (before.threads k d lt) ∙ drop-drop 1 looper (get_or orig k d).frames.items));
+  own = λ q i d p x small below. dite (dec_lt q (length records))
+      (λ early. subst (λ (y : FrameRecord). IsPrefix (get_or (get_or orig (s.threads + q) d).frames.items i p).view.seen y.entries) (sym (get_or-append records (r ∷ []) x q early)) (before.own q i d p x small early))
+      (λ late.
+      let all = length-append records (r ∷ []) in
+      let last : q ≡ length records = omega (arith, late, below, all) in
+      let place : q ≡ looper = omega (arith, last, long) in
+      let first : get_or (get_or kits (s.threads + looper) d).frames.items i p ≡ get_or (get_or orig (s.threads + q) d).frames.items i p =
+      ap (λ l. get_or l i p) (before.later looper d (omega arith) few) ∙ ap (λ m. get_or (get_or orig (s.threads + m) d).frames.items i p) (sym place) in
+      subst (λ (y : FrameRecord). IsPrefix (get_or (get_or orig (s.threads + q) d).frames.items i p).view.seen y.entries) (sym (ap (λ m. get_or (records ++ r ∷ []) m x) last ∙ get_or-append_seam records r [] x))
+      (subst (λ (y : Pass). IsPrefix y.view.seen r.entries) first (begins_own i d p small)));
+  later = λ j d from lt.
+      let none : length (given_of s looper c (s.threads + j)) ≡ 0 =
+      ap length (of_other s looper c (s.threads + j) (omega arith) (λ e. absurd (omega (arith, e, from))) (λ e. absurd (omega (arith, e, lt)))) in
+      let same = before.count in
+      (left.each (s.threads + j) d (omega (arith, lt, enough, same))).frames
+      ∙ (ap (λ m. drop m (get_or kits (s.threads + j) d).frames.items) none ∙ before.later j d (omega (arith, from)) lt);
   pool = λ k d lt. let same = before.count in (left.each k d (omega (arith, lt, same))).pass ∙ before.pool k d lt;
 })
   where

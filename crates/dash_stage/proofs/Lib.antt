@@ -24,3 +24,7 @@ pub mod StageMoves
 pub mod StageDue
 pub mod StageTurns
 pub mod StageBegins
+pub mod OwnLooks
+pub mod Disposing
+pub mod LoopersGive
+pub mod PlayedRecords

@@ -28,6 +28,7 @@ use Rattle.dash_loopers.specs.Loopers.{ArePartsOf, IsLooper, is_given_up, Rest, 
 use Rattle.dash_hall.specs.Hearing.{HasHeard, HaveHeard, AtEach, AreKept, AreKnown}
 use Rattle.dash_stage.specs.Sharing.{OfLoopers, AreWithin}
 use Rattle.dash_loopers.proofs.LooperLists.{map-insert, insert_removed}
+use Rattle.dash_loopers.proofs.LooperDisposes.{disposes_same}
 use Rattle.dash_loopers.proofs.LooperTold.{told_same}
 use Rattle.dash_loopers.proofs.LooperKits.{looper_of, others_many, its_queue}
 use Rattle.dash_hall.proofs.Hearing.{known_more, heard_badges}
@@ -249,4 +250,7 @@ module _ (s : Script) (hall : Hall) (is_hall : IsHall s hall) (l : StageLooper) 
               (ap (λ (n : ℕ). entries_by n b.looper.held.poster.view.seen) (sym (h.same.sender ∙ (is.own ∙ sym k.sender))) ∙ h.called ∙ ap (λ (n : ℕ). entries_by n l.looper.held.poster.view.seen) is.own)
               (is.told (ap is_given_up (sym k.last) ∙ on));
           over = λ e. over_more (empty_base (sender_count s)) l.looper.held.poster.view.seen b.looper.held.poster.view.seen h.more (is.over (ap is_ended (sym k.last) ∙ e));
+          disposes = disposes_same l.last b.last (entries_by l.sender l.looper.held.poster.view.seen) (entries_by b.sender b.looper.held.poster.view.seen) k.last
+              (ap (λ (n : ℕ). entries_by n b.looper.held.poster.view.seen) (sym (h.same.sender ∙ (is.own ∙ sym k.sender))) ∙ h.called ∙ ap (λ (n : ℕ). entries_by n l.looper.held.poster.view.seen) is.own)
+              is.disposes;
         }

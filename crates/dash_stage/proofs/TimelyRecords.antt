@@ -28,6 +28,7 @@ use Rattle.dash_stage.specs.Records.{AreQueueRecords, HaveAll}
 use Rattle.dash_hall.specs.Hearing.{seen_by, HaveSeenAll}
 use Rattle.dash_stage.specs.Sharing.{OfThreads, OfLoopers, OfKits}
 use Rattle.dash_stage.specs.Timeliness.{whole_on, IsTimelyUpTo}
+use Rattle.dash_stage.specs.Playing.{AreSound}
 use Rattle.dash_stage.proofs.Badges.{alike_length, queue_count, poster_at}
 use Rattle.dash_stage.proofs.Casting.{first_more}
 use Rattle.dash_stage.proofs.HallEnds.{some_of}
@@ -97,11 +98,11 @@ main_is_first (x ∷ records) r some h = h
 
 module _ (s : Script) (hall : Hall) (kits : List Kit) (records : List QueueRecord) (h : IsHall s hall) (are : AreKitsOf s hall kits) (c : Controller) (held : (d : Kit) → slice_index_or kits (controller s) d ≡ c.kit)
     (recs : AreQueueRecords s records) (all : HaveAll kits records) (seen : OfKits (HaveSeenAll (seen_by c.kit.posters.items)) kits) where
-  few : length records ≡ s.loopers
+  pub few : length records ≡ s.loopers
   few = numbered_count (λ (z : QueueRecord). z.looper) s.loopers records recs.loopers
 
   -- each kit has a poster of each record's queue
-  in_posters : (k q : ℕ) (d : Kit) → k < length kits → q < length records → q < length (slice_index_or kits k d).posters.items
+  pub in_posters : (k q : ℕ) (d : Kit) → k < length kits → q < length records → q < length (slice_index_or kits k d).posters.items
   in_posters k q d in_kits lt =
       let kit = slice_index_or kits k d in
       let long = alike_length badge_of (badge_for k) kit.posters.items hall.queues.items (are.each k d in_kits).posters ∙ queue_count s hall.pool hall.queues.items h.queues in
@@ -112,7 +113,7 @@ module _ (s : Script) (hall : Hall) (kits : List Kit) (records : List QueueRecor
   last = let count = are.count in omega (arith, count)
 
   -- the controller has a poster of each record's queue
-  within : (q : ℕ) → q < length records → q < length c.kit.posters.items
+  pub within : (q : ℕ) → q < length records → q < length c.kit.posters.items
   within q lt = subst (λ (z : Kit). q < length z.posters.items) (held c.kit) (in_posters (controller s) q c.kit last lt)
 
   -- each sender's entries in a record are those in what all senders have seen
@@ -126,14 +127,14 @@ module _ (s : Script) (hall : Hall) (kits : List Kit) (records : List QueueRecor
       ∙ (ap (λ (n : ℕ). entries_by n (slice_index_or kit.posters.items q d).view.seen) sender
       ∙ ap (entries_by k) (seen_at kit.posters.items c.kit.posters.items q d d (seen k c.kit in_kits) there (within q lt)))
 
-  history : (q : ℕ) (r : QueueRecord) → q < length records → IsHistory in_lockstep all_entries s (slice_index_or records q r)
+  pub history : (q : ℕ) (r : QueueRecord) → q < length records → IsHistory in_lockstep all_entries s (slice_index_or records q r)
   history q r lt = All_indexed (IsHistory in_lockstep all_entries s) records recs.histories q r lt
 
-  number : (q : ℕ) (r : QueueRecord) → q < length records → (slice_index_or records q r).looper ≡ q
+  pub number : (q : ℕ) (r : QueueRecord) → q < length records → (slice_index_or records q r).looper ≡ q
   number q r lt = numbered_at (λ (z : QueueRecord). z.looper) s.loopers records recs.loopers q r lt
 
   -- a record keeps what all senders have seen
-  is_seen : (q : ℕ) (d : Sender) (r : QueueRecord) → q < length records → (slice_index_or records q r).entries ≡ whole_on c q d
+  pub is_seen : (q : ℕ) (d : Sender) (r : QueueRecord) → q < length records → (slice_index_or records q r).entries ≡ whole_on c q d
   is_seen q d r lt =
       let mine = slice_index_or records q r in
       let is = history q r lt in
@@ -145,7 +146,7 @@ module _ (s : Script) (hall : Hall) (kits : List Kit) (records : List QueueRecor
       (λ k below. made_by k q d r (omega (arith, below, senders, count)) lt)
 
   -- and it is one that the queue may have
-  is_sound : (q : ℕ) (d : Sender) (r : QueueRecord) → q < length records → IsSoundOn s q (whole_on c q d)
+  pub is_sound : (q : ℕ) (d : Sender) (r : QueueRecord) → q < length records → IsSoundOn s q (whole_on c q d)
   is_sound q d r lt =
       let mine = slice_index_or records q r in
       let is = history q r lt in
@@ -155,6 +156,19 @@ module _ (s : Script) (hall : Hall) (kits : List Kit) (records : List QueueRecor
         legal = subst (IsLegal (setting_for s q) (empty_base (sender_count s))) same (subst (λ (z : Setting). IsLegal z (empty_base z.senders) mine.entries) set is.legal);
         numbered = subst (AreNumbered (setting_for s q) (empty_base (sender_count s))) same (subst (λ (z : Setting). AreNumbered z (empty_base z.senders) mine.entries) set is.numbered);
       }
+
+  -- the controller has no poster of another queue
+  known : (q : ℕ) → q < length c.kit.posters.items → q < length records
+  known q lt =
+      let kit = slice_index_or kits (controller s) c.kit in
+      let long = alike_length badge_of (badge_for (controller s)) kit.posters.items hall.queues.items (are.each (controller s) c.kit last).posters ∙ queue_count s hall.pool hall.queues.items h.queues in
+      let mine : length kit.posters.items ≡ length c.kit.posters.items = ap (λ (z : Kit). length z.posters.items) (held c.kit) in
+      let short = few in
+      omega (arith, lt, mine, short, long)
+
+  -- each queue's history is one that it may have
+  pub all_sound : AreSound s c
+  all_sound q d lt = let below = known q lt in is_sound q d (some_of records q below) below
 
   -- each record is timely
   pub timely_of_records : ((q : ℕ) (d : Sender) → q < length c.kit.posters.items → IsSoundOn s q (whole_on c q d) → IsTimelyUpTo s s.blocks q (whole_on c q d)) → AllByRecursion (IsTimely s) records

@@ -96,6 +96,11 @@ abbrev pub BeginWithNext : ℕ → List Kit → List FrameEntry → Type 0
 BeginWithNext threads kits entries = (k : ℕ) (d : Kit) (p : Pass) → k < threads
     → IsPrefix (slice_index_or (slice_index_or kits k d).frames.items 0 p).view.seen entries
 
+-- the entries begin with what each of this sender's next two passes has seen
+abbrev pub BeginWithOwn : ℕ → List Kit → List FrameEntry → Type 0
+BeginWithOwn sender kits entries = (i : ℕ) (d : Kit) (p : Pass) → i < 2
+    → IsPrefix (slice_index_or (slice_index_or kits sender d).frames.items i p).view.seen entries
+
 -- all kits have a pass of this pool
 abbrev pub AreOfPool : TableId → List Kit → Type 0
 AreOfPool pool kits = (k : ℕ) (d : Kit) → k < length kits → (slice_index_or kits k d).pass.home ≡ pool

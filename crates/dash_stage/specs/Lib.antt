@@ -7,3 +7,4 @@ pub mod Sharing
 pub mod Ending
 pub mod Timeliness
 pub mod Playing
+pub mod Leaving

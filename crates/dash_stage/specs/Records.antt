@@ -1,5 +1,5 @@
 -- What is kept of the queues and the choreographers of a run.
-use Rattle.std.specs.Prelude.{◌≡◌, ◌<◌, ℕ, List, map, length, slice_index_or}
+use Rattle.std.specs.Prelude.{◌≡◌, ◌<◌, ◌+◌, ℕ, List, map, length, slice_index_or}
 use Rattle.std.specs.List.{AllByRecursion}
 use mathlib.Core.List.{IsPrefix}
 use Rattle.dash_script.specs.declared.script.Script.{Script}
@@ -40,6 +40,11 @@ HaveAll kits records = (k q : ℕ) (d : Kit) (p : Sender) (r : QueueRecord) → 
 abbrev pub HaveSeen : ℕ → List Kit → List FrameRecord → Type 0
 HaveSeen threads kits records = (k q : ℕ) (d : Kit) (p : Pass) (r : FrameRecord) → k < threads → q < length records
     → IsPrefix (slice_index_or (slice_index_or kits k d).frames.items q p).view.seen (slice_index_or records q r).entries
+
+-- each looper's frame record begins with what each of its two passes has seen
+abbrev pub HaveSeenOwn : ℕ → List Kit → List FrameRecord → Type 0
+HaveSeenOwn threads kits records = (q i : ℕ) (d : Kit) (p : Pass) (r : FrameRecord) → i < 2 → q < length records
+    → IsPrefix (slice_index_or (slice_index_or kits (threads + q) d).frames.items i p).view.seen (slice_index_or records q r).entries
 
 -- each looper has its journal, in order
 abbrev pub AreJournals : Script → List Journal → Type 0

@@ -1,16 +1,18 @@
 //! The report of a run.
-ghost use Rattle.std.specs.Prelude.{◌≡◌, ◌<◌, ◌+◌, true, IfOk, OnOk, List, map};
+ghost use Rattle.std.specs.Prelude.{◌≡◌, true, IfOk, OnOk, List};
 ghost use Rattle.std.specs.List.{AllByRecursion};
 ghost use Rattle.dash_script.specs.Reading.{HasText};
 ghost use Rattle.loop_model.specs.declared.entry.Entry.{Entry};
 ghost use Rattle.run_model.specs.Moments.{in_lockstep};
-ghost use Rattle.run_model.specs.Run.{IsAsPlanned, IsControlled, IsFrameRun, EachLooper, IsTimely, main_ends_halted};
+ghost use Rattle.run_model.specs.Run.{IsAsPlanned, IsControlled, IsFrameRun, IsLooperRun, EachLooper, IsTimely, main_ends_halted};
 ghost use Rattle.dash_stage.specs.Controllers.{HasClosed};
 ghost use Rattle.dash_stage.specs.Timeliness.{AreTimelyUpTo, HasHaltedLast};
-ghost use Rattle.dash_hall.specs.Kits.{IsHall, AreKitsOf, OthersAreOver};
+ghost use Rattle.dash_hall.specs.Kits.{IsHall, OthersAreOver};
 ghost use Rattle.dash_stage.specs.Records.{AreQueueRecords, AreFrameRecords, AreJournals};
 ghost use Rattle.dash_loopers.specs.Loopers.{HaveTold};
-ghost use Rattle.dash_stage.specs.Staged.{Stages, IsDispatched};
+ghost use Rattle.dash_stage.specs.Staged.{Stages};
+ghost use Rattle.dash_stage.specs.Leaving.{HaveGiven};
+ghost use Rattle.dash_stage.specs.Playing.{ArePlayed};
 ghost use Rattle.dash_stage.specs.Runs.{HaveRunAll};
 ghost use Rattle.dash_hall.specs.Hearing.{HaveSeenAll};
 ghost use Rattle.dash_stage.specs.Sharing.{OfThreads, OfLoopers, OfKits};
@@ -39,6 +41,7 @@ pub(crate) fn report(alloc: Global, script: Script, stage: Stage) -> Ran
     requires on { LoopersGoOn stage.loopers.items }
     requires timely { AreTimelyUpTo script script.blocks stage }
     requires halted { HasHaltedLast script stage }
+    requires played { ArePlayed script stage }
     ensures { Stages script result }
 {
     match kept(alloc, &script, stage) {
@@ -68,11 +71,12 @@ fn kept(
     requires on { LoopersGoOn stage.loopers.items }
     requires timely { AreTimelyUpTo script.now script.now.blocks stage }
     requires halted { HasHaltedLast script.now stage }
+    requires played { ArePlayed script.now stage }
     ensures queues { IfOk result (λ r. AreQueueRecords script.now r.0.items) }
     ensures planned { IfOk result (λ r. AllByRecursion (IsAsPlanned in_lockstep script.now) r.0.items) }
     ensures halted { IfOk result (λ r. main_ends_halted r.0.items ≡ true) }
     ensures timely { IfOk result (λ r. AllByRecursion (IsTimely script.now) r.0.items) }
-    ensures dispatches { IfOk result (λ r. EachLooper (IsDispatched script.now) r.0.items r.1.items r.2.items) }
+    ensures loopers { IfOk result (λ r. EachLooper (IsLooperRun in_lockstep script.now r.0.items) r.0.items r.1.items r.2.items) }
     ensures controls { IfOk result (λ r. AllByRecursion (IsControlled script.now) r.0.items) }
     ensures journals { IfOk result (λ r. AreJournals script.now r.1.items) }
     ensures frames { IfOk result (λ r. AreFrameRecords script.now r.2.items) }
@@ -128,6 +132,7 @@ fn looper_kits(
     ensures kits { OnOk result (AreSenderKits script.now hall.now kits.new.items) }
     ensures run { OnOk result (HaveRunAll script.now kits.old.items → HaveRunAll script.now kits.new.items) }
     ensures told { IfOk result (λ v. LoopersGoOn loopers.items → HaveTold script.now v.items kits.new.items) }
+    ensures left { IfOk result (λ v. HaveGiven script.now loopers.items v.items kits.new.items) }
     ensures over { OnOk result (OthersHaveEnded loopers.items → OthersAreOver script.now kits.new.items) }
     ensures seen { OnOk result ((whole : List (List Entry)) → OfLoopers (HaveSeenAll whole) loopers.items → OfKits (HaveSeenAll whole) kits.old.items → OfKits (HaveSeenAll whole) kits.new.items) }
 {

@@ -4,6 +4,7 @@ use Rattle.dash_stage.proofs.Casting.{looper_back, first_looper}
 use Rattle.dash_stage.proofs.Carried.{run_kept}
 use Rattle.dash_stage.proofs.KitsOver.{over_back}
 use Rattle.dash_stage.proofs.KitsTold.{told_back}
+use Rattle.dash_stage.proofs.LoopersGive.{given_back}
 use Rattle.dash_hall.specs.Hearing.{HaveSeenAll}
 use Rattle.dash_stage.proofs.TimelyRecords.{looper_gives}
 use Rattle.dash_stage.proofs.kept.looper_kits.Goals as goal
@@ -18,7 +19,9 @@ each-preserved c =
     at.invariant.0 some c.remove.ensures.value c.remove.ensures.items at.invariant.1 at.invariant.2 at.invariant.3 c.in_ok-journal.ensures.journal c.in_ok-journal.ensures.kit c.in_ok-push.ensures.items c.in_ok-push-2.ensures.items in
     let count = at.invariant.1 in
     let all : s.threads ≤ length at.kits.items = omega (arith, count) in
-    let number = ap (λ (z : StageLooper). z.number) c.remove.ensures.value ∙ (first_looper s hall (length at.journals.items) at.loopers.items c.remove.result at.invariant.0 some).1 in (
+    let number = ap (λ (z : StageLooper). z.number) c.remove.ensures.value ∙ (first_looper s hall (length at.journals.items) at.loopers.items c.remove.result at.invariant.0 some).1 in
+    let given = given_back s c.args.loopers.items at.journals.items c.push.new.self.items at.loopers.items c.remove.new.self.items at.kits.items c.push-in-each.new.self.items c.remove.result c.in_ok-journal.journal c.in_ok-journal.kit
+    some c.remove.ensures.value c.remove.ensures.items at.invariant.1 number c.in_ok-journal.ensures.left c.in_ok-journal.ensures.disposes c.in_ok-push.ensures.items c.in_ok-push-2.ensures.items at.invariant.8 at.invariant.9 in (
       back.0,
       back.1,
       back.2,
@@ -30,4 +33,6 @@ each-preserved c =
           some c.remove.ensures.value c.remove.ensures.items at.invariant.1 number c.in_ok-journal.ensures.told c.in_ok-push.ensures.items c.in_ok-push-2.ensures.items (at.invariant.6 on),
       λ whole seen of_kits. looper_gives (HaveSeenAll whole) at.loopers.items c.remove.new.self.items at.kits.items c.push-in-each.new.self.items c.remove.result c.in_ok-journal.kit
           some c.remove.ensures.value c.remove.ensures.items c.in_ok-journal.ensures.posters c.in_ok-push-2.ensures.items (at.invariant.7 whole seen of_kits),
+      given.0,
+      given.1,
     )

@@ -1,4 +1,4 @@
-use Rattle.std.proofs.Common.{◌≡◌, ◌+◌, List, length, map}
+use Rattle.std.proofs.Common.{◌≡◌, ◌+◌, List, length, map, drop}
 use Rattle.loop_model.specs.declared.entry.Entry.{Entry}
 use Rattle.loop_model.specs.declared.journal.Journal.{Journal}
 use Rattle.std.specs.List.{range_with_len}
@@ -6,6 +6,7 @@ use Rattle.dash_stage.specs.Runs.{HaveRunAll}
 use Rattle.dash_hall.specs.Hearing.{HaveSeenAll}
 use Rattle.dash_stage.specs.Sharing.{OfLoopers, OfKits}
 use Rattle.dash_loopers.specs.Loopers.{HaveTold}
+use Rattle.dash_stage.specs.Leaving.{HaveGiven}
 use Rattle.dash_stage.specs.Stages.{AreLoopersFrom, AreFirstKits, OthersHaveEnded, LoopersGoOn}
 use Rattle.dash_stage.proofs.KitsOver.{HaveEndedFrom, AreOverAmong}
 use Rattle.dash_stage.proofs.kept.looper_kits.Given as goal
@@ -17,6 +18,7 @@ invariant-each l = AreLoopersFrom l.script l.hall (length l.journals.items) l.lo
     × (OthersHaveEnded l.initial.loopers.items → HaveEndedFrom (length l.journals.items) l.loopers.items × AreOverAmong l.script l.kits.items)
     × (LoopersGoOn l.initial.loopers.items → LoopersGoOn l.loopers.items × HaveTold l.script l.journals.items l.kits.items)
     × ((whole : List (List Entry)) → OfLoopers (HaveSeenAll whole) l.initial.loopers.items → OfKits (HaveSeenAll whole) l.initial.kits.items → OfLoopers (HaveSeenAll whole) l.loopers.items × OfKits (HaveSeenAll whole) l.kits.items)
+    × (l.loopers.items ≡ drop (length l.journals.items) l.initial.loopers.items) × HaveGiven l.script l.initial.loopers.items l.journals.items l.kits.items
 
 abbrev pub decreases-each : goal.decreases-each
 decreases-each l = length l.loopers.items

@@ -2,7 +2,7 @@ use Rattle.std.proofs.Common.{◌≡◌, ◌+◌, ◌<◌, [], ◌∷◌, ◌++�
 use Rattle.dash_hall.specs.declared.kit.Kit.{Kit}
 use Rattle.dash_hall.specs.Dealing.{GivesPass}
 use Rattle.dash_hall.proofs.HallSteps.{holder_within}
-use Rattle.dash_stage.proofs.HallFrames.{has_pass, takes_more, taken_all}
+use Rattle.dash_stage.proofs.HallFrames.{has_pass, takes_more, taken_all, taken_own}
 use Rattle.dash_stage.proofs.records.frame_record.Goals as goal
 
 pub next_pass-requires : goal.next_pass-requires
@@ -39,3 +39,12 @@ returns-clause-seen c =
     let most = at.auto.number-end in
     let all : at.number ≡ s.threads + 3 = omega (arith, over, most) in
     (taken_all s c.args.looper c.args.choreographer at.number c.args.kits.now.items at.passes.items at.kits.items c.into_kept.result.entries at.invariant.count all at.invariant.taken c.into_kept.ensures.passes).0
+
+pub returns-clause-own : goal.returns-clause-own
+returns-clause-own c =
+    let at = c.loop-number in
+    let s = c.args.script.now in
+    let over = c.loop-number-test.false in
+    let most = at.auto.number-end in
+    let all : at.number ≡ s.threads + 3 = omega (arith, over, most) in
+    taken_own s c.args.looper c.args.choreographer at.number c.args.kits.now.items at.passes.items at.kits.items c.into_kept.result.entries at.invariant.count all at.invariant.taken c.into_kept.ensures.passes

@@ -75,12 +75,15 @@ loop-choreographer-preserved c =
     let looper = at.invariant.looper in
     let count = at.invariant.count in
     let senders : length c.args.kits.now.items ≡ s.threads + s.loopers + 1 = c.requires.count in
+    let all = c.into_iter-choreographer-iterator.ensures.into_iter_gives.0 in
+    let parts : at.yielded ++ x ∷ rest ≡ c.args.choreographers.items = ap (λ l. at.yielded ++ l) (sym steps) ∙ (at.invariant.parts ∙ all) in
+    let few = (next_constants s c.args.choreographers.items at.yielded rest x at.looper parts looper c.requires.choreographers).1 in
     record {
       parts = regrouped at.yielded _ _ _ x steps at.invariant.parts;
       long = let was = at.invariant.long in let gone = c.in-Some.ensures.steps.1 in let short = ap length steps in omega arith;
       looper = let done = length-append at.yielded (x ∷ []) in omega (arith, done, looper);
       count = let more = length-append at.records.items (r ∷ []) in let now = ap length items in omega (arith, now, more, count);
-      ended = ends_more s at.looper x rest c.args.kits.now.items at.kits.items c.frame_record.new.kits.items at.records.items _ r count (omega (arith, senders)) c.in_ok-record.ensures.record.0 c.in_ok-record.ensures.record.1 c.in_ok-record.ensures.seen c.in_ok-record.ensures.kits items
+      ended = ends_more s at.looper x rest c.args.kits.now.items at.kits.items c.frame_record.new.kits.items at.records.items _ r count few (omega (arith, senders)) c.in_ok-record.ensures.record.0 c.in_ok-record.ensures.record.1 c.in_ok-record.ensures.seen c.in_ok-record.ensures.own c.in_ok-record.ensures.kits items
           (subst (λ (l : List Frames). HaveEnded s at.looper l c.args.kits.now.items at.records.items at.kits.items) steps at.invariant.ended);
     }
 

@@ -1,6 +1,8 @@
 use Rattle.std.proofs.Common.{◌≡◌, ◌+◌, ◌<◌, List, length, get_or, subst, ◌∙◌, arith}
 use mathlib.Core.List.{IsPrefix}
 use Rattle.choreographer.specs.Known.{Known as Pass}
+use Rattle.frame_phases.specs.declared.entry.FrameRecord.{FrameRecord}
+use Rattle.dash_stage.proofs.Carried.{numbered_count}
 use Rattle.dash_stage.proofs.records.records.Goals as goal
 
 pub close-requires-clause-kits : goal.close-requires-clause-kits
@@ -18,3 +20,12 @@ returns-clause-seen c k q d p r lt below =
     let senders : length c.args.kits.items ≡ s.threads + s.loopers + 1 = c.requires.kits.count in
     let within : k < length c.args.kits.items = omega (arith, lt, senders) in
     subst (λ (l : List Pass). IsPrefix (get_or l q p).view.seen (get_or c.in_ok-frames.frames.items q r).entries) (kept.each k d within).frames (c.in_ok-frames.ensures.seen k q d p r lt below)
+
+pub returns-clause-own : goal.returns-clause-own
+returns-clause-own c q i d p r small below =
+    let kept = c.in_ok-queues.ensures.kits in
+    let s = c.args.script.now in
+    let senders : length c.args.kits.items ≡ s.threads + s.loopers + 1 = c.requires.kits.count in
+    let few : length c.in_ok-frames.frames.items ≡ s.loopers = numbered_count (λ (z : FrameRecord). z.looper) s.loopers c.in_ok-frames.frames.items c.in_ok-frames.ensures.records.loopers in
+    let within : s.threads + q < length c.args.kits.items = omega (arith, below, few, senders) in
+    subst (λ (l : List Pass). IsPrefix (get_or l i p).view.seen (get_or c.in_ok-frames.frames.items q r).entries) (kept.each (s.threads + q) d within).frames (c.in_ok-frames.ensures.own q i d p r small below)

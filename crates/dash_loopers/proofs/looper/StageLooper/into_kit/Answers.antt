@@ -4,7 +4,7 @@ use Rattle.looper_run.specs.Holding.{Sender}
 use Rattle.choreographer.specs.Known.{Known as Pass}
 use Rattle.dash_loopers.specs.declared.player.Parts.{Parts}
 use Rattle.dash_loopers.specs.Loopers.{others_in}
-use Rattle.dash_loopers.proofs.LooperKits.{looper_of, parts_of, others_many, kit_again, seen_over, told_again}
+use Rattle.dash_loopers.proofs.LooperKits.{looper_of, parts_of, others_many, kit_again, seen_over, disposes_again, told_again}
 use Rattle.dash_loopers.proofs.LooperPlayed.{left_by}
 use Rattle.dash_loopers.proofs.looper.StageLooper.into_kit.Goals as goal
 
@@ -23,6 +23,12 @@ returns-clause-kit c =
     (c.in_ok-insert.ensures.items ∙ ap (λ (p : Sender). insert parts.others.items c.args.self.number p) c.into_parts-poster.ensures.0)
     (c.in_ok-push-2.ensures.items ∙ ap (λ (l : List Pass). l ++ parts.root.pass ∷ []) (c.in_ok-push.ensures.items ∙ ap (λ (l : List Pass). l ++ parts.frames ∷ []) c.new-passes.ensures.items))
     c.into_parts-poster.ensures.1
+
+pub returns-clause-disposes : goal.returns-clause-disposes
+returns-clause-disposes c =
+    let parts = c.in-Some.parts in
+    disposes_again c.args.script.now c.args.hall.now c.args.self parts _ c.requires.hall c.requires.looper c.in-Some.is
+    (c.in_ok-insert.ensures.items ∙ ap (λ (p : Sender). insert parts.others.items c.args.self.number p) c.into_parts-poster.ensures.0)
 
 pub returns-clause-over : goal.returns-clause-over
 returns-clause-over c =

@@ -38,7 +38,7 @@ returns-clause-looper g c =
     let one = c.requires.looper.number in
     let at = slice_get_read hall.queues.items hall.queues.len l.number c.index.result.now (omega (arith, hall.queues.ok.0)) (omega (arith, count, one, hall.queues.ok.0)) c.index.ensures in
     looper_then c.args.script.now hall c.args.now _ l c.index.result.now _ c.in-Some.parts c.run_round-self.new.d.parts c.run_round-self.new.self c.run_round-self.result c.requires.hall c.requires.looper is at
-    c.run_round-self.ensures.origin c.run_round-self.ensures.serves c.run_round-self.ensures.same c.run_round-self.ensures.ended c.run_round-self.ensures.round (sym c.gave_up.ensures ∙ c.if-gave_up.false)
+    c.run_round-self.ensures.origin c.run_round-self.ensures.serves c.run_round-self.ensures.same c.run_round-self.ensures.ended c.run_round-self.ensures.round c.run_round-self.ensures.looks (sym c.has_ended.ensures ∙ c.if-has_ended.false) (sym c.gave_up.ensures ∙ c.if-gave_up.false)
 
 pub returns-clause-round : goal.returns-clause-round
 returns-clause-round g c =
