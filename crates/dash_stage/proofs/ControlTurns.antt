@@ -1,6 +1,7 @@
 -- A turn of the controller on one queue, as its own calls there go on, and those on the others stay.
-use Rattle.std.proofs.Common.{◌≡◌, ◌≢◌, ◌<◌, ◌≤◌, ◌+◌, ◌++◌, ℕ, Bool, true, false, true≢false, cond, max, List, [], ◌∷◌, length, refl, sym, ap, ◌∙◌, subst, arith, append-nil, length-set}
-use Rattle.std.specs.Prelude.{slice_index_or, ◌==◌}
+use Rattle.std.proofs.Common.{◌≡◌, ◌≢◌, ◌<◌, ◌≤◌, ◌+◌, ◌++◌, ℕ, Bool, true, false, true≢false, cond, max, List, [], ◌∷◌, length, Option, Some, None, refl, sym, ap, ◌∙◌, subst, arith, append-nil, length-set}
+use Rattle.std.specs.Prelude.{slice_index_or, ◌==◌, is_some}
+use Rattle.std.specs.Option.{option_and_then}
 use Rattle.std.specs.Vec.{with_item}
 use Rattle.std.proofs.lemmas.List.{get_or-set_same, get_or-set_other, get_or_default}
 use mathlib.Core.Logic.{dite}
@@ -12,6 +13,9 @@ use Rattle.loop_model.specs.declared.call.Call.TheVariants.{Quit, Advance, Halt}
 use Rattle.loop_model.specs.declared.reply.Reply.{Reply}
 use Rattle.loop_model.specs.declared.reply.Reply.TheVariants.{QuitDone, AlreadyQuit, NotAllowed, Advanced, Halted}
 use Rattle.loop_model.specs.Base.{empty_base}
+use Rattle.loop_model.specs.declared.item.Item.{Item}
+use Rattle.loop_model.specs.Items.{number_of}
+use Rattle.loop_model.specs.Pick.{pick}
 use Rattle.loop_model.specs.Legal.{IsLegal, AreNumbered}
 use Rattle.loop_model.specs.Answers.{Setting, clock, is_over}
 use Rattle.loop_model.specs.declared.base.Base.{Base}
@@ -33,6 +37,7 @@ use Rattle.dash_hall.specs.Growth.{own}
 use Rattle.dash_hall.specs.Kits.{IsHall, queue_constants}
 use Rattle.dash_stage.specs.Controllers.{IsController, are_advances, time_in, calls_on, OnlyMoves, HasReached, IsQuitting, IsClosing, HasClosed, CallsNone}
 use Rattle.dash_stage.specs.Timeliness.{AreBy, whole_on}
+use Rattle.dash_stage.specs.Playing.{IsStuck}
 use Rattle.dash_stage.proofs.Badges.{queue_is}
 use Rattle.dash_stage.proofs.HallEnds.{own_entries}
 use Rattle.dash_hall.proofs.Growing.{turn_makes, own_of_one}
@@ -121,6 +126,11 @@ module _ (c : Controller) (i : ℕ) (p p' : Sender) (pass : Tally) (within : i <
     main = here (λ l. are_controls true true s.end false l ≡ true) halts 0 first;
     others = λ j some. elsewhere (λ l. are_controls false true s.end true l ≡ true) j (λ e. absurd (omega (arith, e, some, first))) (k.others j some);
   }
+
+-- a message of which the number is known is there
+some_numbered : (o : Option Item) (n : ℕ) → option_and_then number_of o ≡ Some n → is_some o ≡ true
+some_numbered None n h = absurd cc
+some_numbered (Some x) n h = refl
 
 -- one turn of a poster
 module _ (p p' : Sender) (x y : State) (t : IsTurn p p' x y) where
@@ -214,6 +224,17 @@ module _ (s : Script) (hall : Hall) (h : IsHall s hall) (i : ℕ) (lt : i < s.lo
         let first : x.start ≡ empty_base (sender_count s) = start ∙ ap (λ (z : Setting). empty_base z.senders) setting in
         let seen : whole_on (with_poster c i p' pass) i d ≡ x.entries = ap (λ (z : Sender). z.view.seen) (poster_here c i p p' pass within is_p d) ∙ (t.seen ∙ ap (λ (z : State). z.entries) same) in
         subst (λ (l : List Entry). is_over (empty_base (sender_count s)) l ≡ true) (sym seen) (subst (λ (b : Base). is_over b x.entries ≡ true) first over)
+
+    -- a message was found due before this time, and is due still
+    pub still_stuck : (now n : ℕ) → y ≡ x → is_over x.start x.entries ≡ false → time_of x < now → option_and_then number_of (pick x.start x.entries (time_of x)) ≡ Some n → (d : Sender) → IsStuck s now (whole_on (with_poster c i p' pass) i d)
+    still_stuck now n same going early is_due d =
+        let first : x.start ≡ empty_base (sender_count s) = start ∙ ap (λ (z : Setting). empty_base z.senders) setting in
+        let seen : whole_on (with_poster c i p' pass) i d ≡ x.entries = ap (λ (z : Sender). z.view.seen) (poster_here c i p p' pass within is_p d) ∙ (t.seen ∙ ap (λ (z : State). z.entries) same) in
+        subst (IsStuck s now) (sym seen) (record {
+          going = subst (λ (b : Base). is_over b x.entries ≡ false) first going;
+          early = subst (λ (b : Base). clock b x.entries < now) first early;
+          due = subst (λ (b : Base). is_some (pick b x.entries (clock b x.entries)) ≡ true) first (some_numbered (pick x.start x.entries (time_of x)) n is_due);
+        })
 
     -- the turn moved the time on, and of none past this one
     pub turned_by : (now time : ℕ) → now ≤ time → y ≡ entered x p.sender (Advance now) Advanced → AreBy time c → AreBy time (with_poster c i p' pass)

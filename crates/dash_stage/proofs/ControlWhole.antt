@@ -1,6 +1,6 @@
 -- By its turns a poster of the controller finds a history, and leaves it as it was or makes one entry more.
-use Rattle.std.proofs.Common.{◌≡◌, ◌≢◌, ◌<◌, ◌≤◌, ◌⊎◌, ◌++◌, ℕ, Bool, true, [], ◌∷◌, length, length-set, refl, sym, ap, ◌∙◌, subst, inl, inr}
-use Rattle.std.specs.Prelude.{slice_index_or}
+use Rattle.std.proofs.Common.{◌≡◌, ◌≢◌, ◌<◌, ◌≤◌, ◌+◌, ◌⊎◌, ◌++◌, ℕ, Bool, true, false, arith, [], ◌∷◌, length, length-set, refl, sym, ap, ◌∙◌, subst, inl, inr}
+use Rattle.std.specs.Prelude.{slice_index_or, ◌&&◌}
 use Rattle.std.proofs.lemmas.List.{get_or-set_other, get_or_default}
 use mathlib.Core.List.{IsPrefix}
 use mathlib.Core.Logic.{dite}
@@ -29,6 +29,7 @@ use Rattle.dash_stage.specs.Controllers.{calls_on, time_in}
 use Rattle.dash_stage.specs.declared.control.Controller.{Controller}
 use Rattle.dash_hall.specs.Growth.{own, QuitsOf}
 use Rattle.dash_stage.specs.Timeliness.{TurnsOn, EachTurnsOn, MovesNot, IsNone, whole_on}
+use Rattle.dash_stage.specs.Playing.{IsStuck, AreStuck}
 use Rattle.dash_stage.proofs.ControlTurns.{with_poster, found_own, poster_here}
 use Rattle.dash_stage.proofs.Timely.{ends_halted-snoc}
 
@@ -110,3 +111,34 @@ pub record TurnsBelow (P : Entry → Type 0) (n : ℕ) (before after : Controlle
 -- the first queues' times have come to this one, or they are over
 abbrev pub ComeBelow : Script → ℕ → ℕ → Controller → Type 0
 ComeBelow s now n c = (q : ℕ) (d : Sender) → q < n → (now ≤ time_in (calls_on c q d)) ⊎ (is_over (empty_base (sender_count s)) (whole_on c q d) ≡ true)
+
+-- where one of the first queues is stuck, or the next one, after a turn there alone
+pub stuck_more : (s : Script) (now n : ℕ) (before after : Controller) (x y : Bool) → (x ≡ false → AreStuck s now n before) → (y ≡ false → (d : Sender) → IsStuck s now (whole_on after n d))
+    → ((q : ℕ) (d : Sender) → q ≢ n → slice_index_or after.kit.posters.items q d ≡ slice_index_or before.kit.posters.items q d) → (x && y) ≡ false → AreStuck s now (n + 1) after
+stuck_more s now n before after false y first here elsewhere none =
+    let h = first refl in
+    let lt = h.1 in
+    let apart : h.0 ≢ n = λ e. absurd (omega (arith, lt, e)) in
+    (h.0, omega (arith, lt), λ d. subst (λ (p : Sender). IsStuck s now p.view.seen) (sym (elsewhere h.0 d apart)) (h.2 d))
+stuck_more s now n before after true y first here elsewhere none = (n, omega arith, here none)
+
+-- one poster more did something
+pub below_more : (P : Entry → Type 0) (n : ℕ) (first now after : Controller) → TurnsBelow P n first now → length after.kit.posters.items ≡ length now.kit.posters.items
+    → ((d : Sender) → TurnsOn P (slice_index_or now.kit.posters.items n d) (slice_index_or after.kit.posters.items n d))
+    → ((q : ℕ) (d : Sender) → q ≢ n → slice_index_or after.kit.posters.items q d ≡ slice_index_or now.kit.posters.items q d) → TurnsBelow P (n + 1) first after
+below_more P n first now after turns long here elsewhere = record {
+  long = long ∙ turns.long;
+  below = λ q d lt. dite (ℕ_discrete q n)
+      (λ at. subst (λ (m : ℕ). TurnsOn P (slice_index_or first.kit.posters.items m d) (slice_index_or after.kit.posters.items m d)) (sym at)
+      (subst (λ (p : Sender). TurnsOn P p (slice_index_or after.kit.posters.items n d)) (turns.rest n d (omega arith)) (here d)))
+      (λ apart. subst (TurnsOn P (slice_index_or first.kit.posters.items q d)) (sym (elsewhere q d apart)) (turns.below q d (omega (arith, lt, apart))));
+  rest = λ q d le. elsewhere q d (λ at. absurd (omega (arith, at, le))) ∙ turns.rest q d (omega (arith, le));
+}
+
+-- one queue more has come to this time, or is over
+pub come_more : (s : Script) (now n : ℕ) (before after : Controller) → ComeBelow s now n before
+    → ((d : Sender) → (now ≤ time_in (calls_on after n d)) ⊎ (is_over (empty_base (sender_count s)) (whole_on after n d) ≡ true))
+    → ((q : ℕ) (d : Sender) → q ≢ n → slice_index_or after.kit.posters.items q d ≡ slice_index_or before.kit.posters.items q d) → ComeBelow s now (n + 1) after
+come_more s now n before after come here elsewhere q d lt = dite (ℕ_discrete q n)
+    (λ at. subst (λ (m : ℕ). (now ≤ time_in (calls_on after m d)) ⊎ (is_over (empty_base (sender_count s)) (whole_on after m d) ≡ true)) (sym at) (here d))
+    (λ apart. subst (λ (p : Sender). (now ≤ time_in (own p)) ⊎ (is_over (empty_base (sender_count s)) p.view.seen ≡ true)) (sym (elsewhere q d apart)) (come q d (omega (arith, lt, apart))))

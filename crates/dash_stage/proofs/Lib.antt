@@ -28,3 +28,7 @@ pub mod OwnLooks
 pub mod Disposing
 pub mod LoopersGive
 pub mod PlayedRecords
+pub mod RoundTimes
+pub mod PlayedStage
+pub mod PlayedRounds
+pub mod PlayedTurns

@@ -118,7 +118,7 @@ over_more b xs ys p h =
     (or_either (has_disposed b xs) (has_disposed b (xs ++ p.0)) (has_halted b xs) (has_halted b (xs ++ p.0)) (disposed_more b xs p.0) (halted_more b xs p.0) h)
 
 -- one is inserted, wherever
-insert_long : {X : Type 0} (xs : List X) (i : ℕ) (x : X) → length (insert xs i x) ≡ length xs + 1
+pub insert_long : {X : Type 0} (xs : List X) (i : ℕ) (x : X) → length (insert xs i x) ≡ length xs + 1
 insert_long xs i x =
     let parts = length-append (take i xs) (x ∷ drop i xs) in
     let whole = ap length (take-append-drop i xs) in
@@ -146,7 +146,7 @@ with_parts P None h = absurd h
 with_parts P (Some parts) h = (parts, refl, h)
 
 -- parts of which this is the rest
-with_rest : (o : Option Parts) (r : Rest) → rest_in o ≡ Some r → (parts : Parts) × (o ≡ Some parts) × (rest_in (Some parts) ≡ Some r)
+pub with_rest : (o : Option Parts) (r : Rest) → rest_in o ≡ Some r → (parts : Parts) × (o ≡ Some parts) × (rest_in (Some parts) ≡ Some r)
 with_rest None r e = absurd cc
 with_rest (Some parts) r e = (parts, refl, e)
 
@@ -163,7 +163,7 @@ remove_inserted xs n x le =
 
 module _ (s : Script) (hall : Hall) (is_hall : IsHall s hall) (l : StageLooper) (is : IsLooper s hall l) where
   -- a looper has its parts
-  looper_parts : (parts : Parts) × (l.parts ≡ Some parts) × ArePartsOf s hall l.number parts
+  pub looper_parts : (parts : Parts) × (l.parts ≡ Some parts) × ArePartsOf s hall l.number parts
   looper_parts = with_parts (ArePartsOf s hall l.number) l.parts is.parts
 
   -- a looper's number is that of one of its posters
@@ -189,11 +189,11 @@ module _ (s : Script) (hall : Hall) (is_hall : IsHall s hall) (l : StageLooper) 
 
   module _ (b : StageLooper) (k : LooperKeeps HaveHeard l b) where
     -- its number is still that of one of its posters
-    after_within : IsWithin b
+    pub after_within : IsWithin b
     after_within = within_then l b k.number k.posters.long looper_within
 
     -- its own poster heard others
-    own_kept : HasHeard l.looper.held.poster b.looper.held.poster
+    pub own_kept : HasHeard l.looper.held.poster b.looper.held.poster
     own_kept =
         let d = l.looper.held.poster in
         let near : l.number < length (posters_of l) = omega (arith, insert_long (others_in l.parts) l.number d, looper_within) in

@@ -1,5 +1,5 @@
 -- A stage whose senders have seen nothing.
-use Rattle.std.proofs.Common.{◌≡◌, ◌<◌, ℕ, suc, false, true, List, [], ◌∷◌, length, None, refl, sym, ap, ap₂, ◌∙◌, subst, arith}
+use Rattle.std.proofs.Common.{◌≡◌, ◌<◌, inl, ℕ, suc, false, true, List, [], ◌∷◌, length, None, refl, sym, ap, ap₂, ◌∙◌, subst, arith}
 use Rattle.std.specs.Prelude.{slice_index_or}
 use Rattle.std.specs.Option.{option_map}
 use Rattle.atomic_table.specs.Seated.{TableId}
@@ -9,10 +9,12 @@ use Rattle.loop_model.specs.Base.{empty_base}
 use Rattle.loop_model.specs.Items.{when_of}
 use Rattle.loop_model.specs.Live.{live}
 use Rattle.loop_model.specs.Pick.{first_eligible}
+use Rattle.loop_model.specs.Answers.{clock, is_over, has_disposed, has_halted}
 use Rattle.dash_script.specs.declared.script.Script.{Script}
 use Rattle.looper_run.specs.Holding.{Sender}
-use Rattle.run_model.specs.Senders.{sender_count}
-use Rattle.run_model.specs.Control.{is_advanced_in_time, befores}
+use Rattle.run_model.specs.Senders.{looper_sender, sender_count}
+use Rattle.run_model.specs.Control.{is_advanced_in_time, befores, are_on_time}
+use Rattle.run_model.specs.Loopers.{first_looper}
 use Rattle.dash_stage.specs.declared.stage.Stage.{Stage}
 use Rattle.dash_hall.specs.Kits.{badge_of, badge_for, ArePostersOf, IsHall, AreUnseen}
 use Rattle.dash_hall.specs.Hearing.{seen_by}
@@ -20,6 +22,7 @@ use Rattle.dash_loopers.specs.Loopers.{posters_of}
 use Rattle.dash_stage.specs.Sharing.{OfThreads, OfLoopers}
 use Rattle.dash_stage.specs.Stages.{AreThreads, AreLoopers}
 use Rattle.dash_stage.specs.Timeliness.{IsTimelyUpTo, AreTimelyUpTo, AreRested, WaitForNothing}
+use Rattle.dash_stage.specs.Playing.{befores_called, HaveBegun, IsInStep}
 use Rattle.dash_stage.proofs.Badges.{alike_length, queue_count}
 use Rattle.dash_stage.proofs.LooperShares.{looper_posters}
 
@@ -46,6 +49,25 @@ nothing_eligible : (n : ℕ) → option_map when_of (first_eligible (empty_base 
 unfolding first_eligible live
 nothing_eligible n = refl
 
+-- and the queue is not over
+nothing_over : (n : ℕ) → is_over (empty_base n) [] ≡ false
+unfolding has_disposed has_halted
+nothing_over n = refl
+
+-- and its clock shows 0
+nothing_timed : (n : ℕ) → clock (empty_base n) [] ≡ 0
+unfolding clock
+nothing_timed n = refl
+
+-- no call was made
+nothing_called : (k : ℕ) → are_on_time [] (befores_called k []) ≡ true
+unfolding befores_called
+nothing_called k = refl
+
+nothing_stood : (k : ℕ) → are_on_time [] (befores k []) ≡ true
+unfolding befores
+nothing_stood k = refl
+
 module _ (s : Script) (st : Stage) (k : ℕ) (is_hall : IsHall s st.hall) where
   -- the histories are timely, and all have seen the same
   pub begins_timely : AreThreads s st.hall st.threads.items → AreLoopers s st.hall st.loopers.items → ArePostersOf k st.hall.queues.items st.controller.kit.posters.items
@@ -67,6 +89,25 @@ module _ (s : Script) (st : Stage) (k : ℕ) (is_hall : IsHall s st.hall) where
       let queues : length st.controller.kit.posters.items ≡ s.loopers = alike_length badge_of (badge_for k) st.controller.kit.posters.items st.hall.queues.items controller ∙ queue_count s st.hall.pool st.hall.queues.items is_hall.queues in
       let none = unseen q d (subst (λ (n : ℕ). q < n) (loopers.0 ∙ sym queues) lt) in
       let wait = waits q l lt in record {
+        going = λ on. ap (is_over (empty_base (sender_count s))) none ∙ nothing_over (sender_count s);
         waits = λ on. wait.1 ∙ sym (ap (λ (es : List Entry). option_map when_of (first_eligible (empty_base (sender_count s)) es)) none ∙ nothing_eligible (sender_count s));
         ended = λ over. absurd (let wrong : false ≡ true = sym wait.0 ∙ over in cc);
       }
+
+  -- the queues are at time 0, and each looper stands at the state before the first act
+  pub begins_in_step : AreTimelyUpTo s [] st → AreLoopers s st.hall st.loopers.items → ArePostersOf k st.hall.queues.items st.controller.kit.posters.items → AreUnseen st.controller.kit.posters.items → st.time ≡ 0
+      → HaveBegun s st.loopers.items → IsInStep s st
+  begins_in_step timely loopers controller unseen zero begun = record {
+    same = timely.same;
+    in_time = λ sound q l d lt.
+        let queues : length st.controller.kit.posters.items ≡ s.loopers = alike_length badge_of (badge_for k) st.controller.kit.posters.items st.hall.queues.items controller ∙ queue_count s st.hall.pool st.hall.queues.items is_hall.queues in
+        inl (ap (clock (empty_base (sender_count s))) (unseen q d (subst (λ (n : ℕ). q < n) (loopers.0 ∙ sym queues) lt)) ∙ (nothing_timed (sender_count s) ∙ sym zero));
+    played = λ sound n l lt. record {
+      state = first_looper s;
+      come = begun n l lt;
+      on_time = record {
+        own = λ d near. ap (λ es. are_on_time [] (befores_called (looper_sender s (slice_index_or st.loopers.items n l).number) es)) (unseen _ d near) ∙ nothing_called (looper_sender s (slice_index_or st.loopers.items n l).number);
+        elsewhere = λ r d apart near. ap (λ es. are_on_time [] (befores (looper_sender s (slice_index_or st.loopers.items n l).number) es)) (unseen r d near) ∙ nothing_stood (looper_sender s (slice_index_or st.loopers.items n l).number);
+      };
+    };
+  }

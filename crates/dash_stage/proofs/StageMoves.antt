@@ -3,6 +3,7 @@ use Rattle.std.proofs.Common.{◌≡◌, ◌≢◌, ◌<◌, ◌≤◌, ◌+◌,
 use Rattle.std.specs.Prelude.{slice_index_or, nat_le, is_some, not, ◌||◌, ◌&&◌, ◌==◌, if◌then◌else◌}
 use Rattle.std.proofs.Math.Bool.{or-false}
 use Rattle.std.proofs.lemmas.Bool.{and_parts, and_from, ne_eqb, le-leb, leb-true}
+use Rattle.std.proofs.lemmas.List.{append-nil}
 use mathlib.Core.List.{IsPrefix}
 use mathlib.Core.Logic.{dite}
 use native.Mathlib.Decide.{ℕ_discrete, dec_lt}
@@ -118,6 +119,11 @@ module _ (s : Script) (past : List Block) (q now : ℕ) (es whole : List Entry) 
         threads = λ k lt. timely_others k _ es (e ∷ []) (entries_by-others k (e ∷ []) (other_entry k (controller s) e t.3 (λ at. absurd (omega (arith, at, lt))), tt)) (before.threads k lt);
       })
 
+-- a turn leaves what it found, and maybe more
+pub step_on : (P : Entry → Type 0) (n : ℕ) (found left : List Entry) → (left ≡ found) ⊎ ((e : Entry) × (left ≡ found ++ e ∷ []) × P e × (e.sender ≡ n)) → IsPrefix found left
+step_on P n found left (inl same) = ([], append-nil found ∙ sym same)
+step_on P n found left (inr t) = (t.0 ∷ [], sym t.1)
+
 -- from a stage in which all have seen the same, over the controller's turns, to one in which all have seen the same again
 module _ (s : Script) (st : Stage) (c : Controller) (st' : Stage) (is : IsStage s st) (is' : IsStage s st') (same : HaveSeenTheSame st) (same' : HaveSeenTheSame st')
     (threads : AtEach (ThreadKeeps HaveHeard) st.threads.items st'.threads.items) (loopers : AtEach (LooperKeeps HaveHeard) st.loopers.items st'.loopers.items)
@@ -150,6 +156,26 @@ module _ (s : Script) (st : Stage) (c : Controller) (st' : Stage) (is : IsStage 
       h.more
       (controller_entries s st' is' q d lt' ∙ h.called ∙ ap (λ (m : ℕ). entries_by m left) (t.sender ∙ n))
 
+  -- all have seen what the controller left, and no more
+  pub turned_left : (P : Entry → Type 0) → EachTurnsOn P st.controller c → (q : ℕ) (d : Sender) → q < length st.controller.kit.posters.items → AreNumbered (setting_for s q) (empty_base (sender_count s)) (whole_on st'.controller q d)
+      → whole_on st'.controller q d ≡ whole_on c q d
+  turned_left P turns q d lt numbered =
+      let within : q < length c.kit.posters.items = subst (λ (n : ℕ). q < n) (sym turns.long) lt in
+      let h = heard.each q d within in
+      let t = turns.each q d lt in
+      let es = whole_on st.controller q d in
+      let left = whole_on c q d in
+      let whole = whole_on st'.controller q d in
+      let n : (slice_index_or c.kit.posters.items q d).sender ≡ controller s = t.sender ∙ sender_at (controller s) st.hall.queues.items st.controller.kit.posters.items is.controller.posters q d lt in
+      let mine : entries_by (controller s) whole ≡ entries_by (controller s) left =
+      controller_entries s st' is' q d (subst (λ (m : ℕ). q < m) (sym (heard.long ∙ turns.long)) lt) ∙ h.called ∙ ap (λ (m : ℕ). entries_by m left) n in
+      let begins : IsPrefix es left = prefix_trans es t.found left t.begins (step_on P _ t.found left t.step) in
+      is_whole (setting_for s q) (empty_base (sender_count s)) left whole h.more numbered (λ k known. dite (ℕ_discrete k (controller s))
+      (λ at. subst (λ (m : ℕ). entries_by m whole ≡ entries_by m left) (sym at) mine)
+      (λ apart.
+      let none = others_none (heard.long ∙ turns.long) q d lt k known apart in
+      none ∙ sym (none_between k es left whole begins h.more none)))
+
   -- moved on to a time before which no message was due, each history stays timely
   pub advanced_timely : (now : ℕ) (past : List Block) → EachTurnsOn (MovesTo now) st.controller c → AreDue s now st → AreTimelyUpTo s past st → AreTimelyUpTo s past st'
   advanced_timely now past turns due timely = record {
@@ -178,7 +204,7 @@ pub by_kept : (t : ℕ) (c c' : Controller) → CallsNone c c' → AreBy t c →
 by_kept t c c' none by q = calls_kept c c' none.long q (none.calls q) (λ l. are_advances t l ≡ true) (by q)
 
 -- a queue that is over, where the controller has only moved the time, was disposed of
-over_is_disposed : (s : Script) (q time : ℕ) (es : List Entry) → IsSoundOn s q es → are_advances time (entries_by (controller s) es) ≡ true → is_over (empty_base (sender_count s)) es ≡ true
+pub over_is_disposed : (s : Script) (q time : ℕ) (es : List Entry) → IsSoundOn s q es → are_advances time (entries_by (controller s) es) ≡ true → is_over (empty_base (sender_count s)) es ≡ true
     → has_disposed (empty_base (sender_count s)) es ≡ true
 over_is_disposed s zero time es sound moves over =
     absurd (true≢false (sym over ∙ main_is_not_over (setting_for s zero) (controller s) refl refl time es sound.legal sound.numbered moves))

@@ -3,14 +3,14 @@ use Rattle.std.proofs.Common.{◌≡◌, ◌≢◌, ◌<◌, ◌≤◌, ◌+◌,
 use Rattle.std.specs.Prelude.{slice_index_or}
 use Rattle.std.specs.List.{AllByRecursion}
 use Rattle.std.proofs.lemmas.Bool.{ne_eqb}
-use Rattle.std.proofs.lemmas.List.{append-nil, length-append}
+use Rattle.std.proofs.lemmas.List.{length-append}
 use mathlib.Core.List.{IsPrefix}
 use mathlib.Core.Logic.{dite}
 use native.Mathlib.Decide.{ℕ_discrete}
 use Rattle.loop_model.specs.declared.entry.Entry.{Entry}
 use Rattle.loop_model.specs.Base.{empty_base}
 use Rattle.loop_model.specs.Legal.{IsLegal, AreNumbered}
-use Rattle.loop_model.proofs.Prefixes.{prefix_self, prefix_trans}
+use Rattle.loop_model.proofs.Prefixes.{prefix_self}
 use Rattle.dash_script.specs.declared.script.Block.{Block}
 use Rattle.dash_script.specs.declared.script.Line.{Line}
 use Rattle.dash_script.specs.declared.script.Script.{Script}
@@ -32,16 +32,16 @@ use Rattle.dash_hall.specs.Hearing.{AtEach, HaveHeard}
 use Rattle.dash_stage.specs.Sharing.{HaveSeenTheSame}
 use Rattle.dash_stage.specs.Timeliness.{whole_on, IsTimelyUpTo, AreTimelyUpTo, IsAtTime, AreAtTime, TurnsOn, EachTurnsOn, MovesNot, HasHaltedLast}
 use Rattle.dash_stage.proofs.Blocks.{lines_more}
-use Rattle.dash_stage.proofs.Timely.{advanced_more, advanced_other, timely_others, timely_block, is_whole}
+use Rattle.dash_stage.proofs.Timely.{advanced_more, advanced_other, timely_others, timely_block}
 use Rattle.dash_stage.proofs.HallEnds.{some_of}
 use Rattle.dash_stage.proofs.ThreadShares.{up_to_kept}
-use Rattle.dash_stage.proofs.StageWhole.{as_many, controller_entries, thread_entries, sender_at, sound_front, none_behind}
-use Rattle.dash_stage.proofs.StageMoves.{none_between, others_none, turned_on}
+use Rattle.dash_stage.proofs.StageWhole.{as_many, controller_entries, thread_entries, sound_front, none_behind}
+use Rattle.dash_stage.proofs.StageMoves.{turned_on, turned_left}
 
 -- ---- lists and histories
 
 -- the entries for lines are as many as the lines
-for_count : {X : Type 0} (P : List ℕ → X → Entry → Type 0) (tokens : List ℕ) (xs : List X) (es : List Entry) → AreFor P tokens xs es → length xs ≡ length es
+pub for_count : {X : Type 0} (P : List ℕ → X → Entry → Type 0) (tokens : List ℕ) (xs : List X) (es : List Entry) → AreFor P tokens xs es → length xs ≡ length es
 for_count P tokens [] [] h = refl
 for_count P tokens [] (e ∷ es) h = absurd h
 for_count P tokens (x ∷ xs) [] h = absurd h
@@ -92,7 +92,7 @@ module _ (s : Script) (q : ℕ) (es whole : List Entry) (front : IsPrefix es who
       (timely_block set (controller s) refl refl s labels q k b.time (lines_of k past) (lines_in k b) es front.0 legal numbered (none_behind (controller s) es whole front controlled) at (lines_at k b) long h))
 
 -- the controller's posters, which have heard others, have its entries as before
-heard_entries : (s : Script) (st st' : Stage) → IsStage s st → IsStage s st' → HaveHeard st.controller.kit.posters.items st'.controller.kit.posters.items → (q : ℕ) (d : Sender) → q < length st.controller.kit.posters.items
+pub heard_entries : (s : Script) (st st' : Stage) → IsStage s st → IsStage s st' → HaveHeard st.controller.kit.posters.items st'.controller.kit.posters.items → (q : ℕ) (d : Sender) → q < length st.controller.kit.posters.items
     → entries_by (controller s) (whole_on st'.controller q d) ≡ entries_by (controller s) (whole_on st.controller q d)
 heard_entries s st st' is is' heard q d lt =
     controller_entries s st' is' q d (subst (λ (n : ℕ). q < n) (sym heard.long) lt) ∙ (heard.each q d lt).called ∙ sym (controller_entries s st is q d lt)
@@ -145,11 +145,6 @@ timely_turned s past q es whole sound (inr t) timely =
     let before = sound_front s q es whole (e ∷ [], sym t.1) sound in
     subst (IsTimelyUpTo s past q) (sym t.1) (timely_other s past q es e t.2 t.3 (timely before))
 
--- a turn leaves what it found, and maybe more
-step_on : (P : Entry → Type 0) (n : ℕ) (found left : List Entry) → (left ≡ found) ⊎ ((e : Entry) × (left ≡ found ++ e ∷ []) × P e × (e.sender ≡ n)) → IsPrefix found left
-step_on P n found left (inl same) = ([], append-nil found ∙ sym same)
-step_on P n found left (inr t) = (t.0 ∷ [], sym t.1)
-
 -- a controller that has taken no turn
 pub turns_none : (P : Entry → Type 0) (c : Controller) → EachTurnsOn P c c
 turns_none P c = record {
@@ -190,28 +185,9 @@ module _ (s : Script) (st : Stage) (c : Controller) (st' : Stage) (is : IsStage 
         timely_turned s past q (whole_on st.controller q d) (whole_on st'.controller q d) sound (turned_on s st c st' is is' same same' threads loopers heard MovesNot turns q d lt sound.numbered) (timely.timely q d lt);
   }
 
-  -- all have seen what the controller left, and no more
-  turned_left : (q : ℕ) (d : Sender) → q < length st.controller.kit.posters.items → IsSoundOn s q (whole_on st'.controller q d) → whole_on st'.controller q d ≡ whole_on c q d
-  turned_left q d lt sound =
-      let within : q < length c.kit.posters.items = subst (λ (n : ℕ). q < n) (sym turns.long) lt in
-      let h = heard.each q d within in
-      let t = turns.each q d lt in
-      let es = whole_on st.controller q d in
-      let left = whole_on c q d in
-      let whole = whole_on st'.controller q d in
-      let n : (slice_index_or c.kit.posters.items q d).sender ≡ controller s = t.sender ∙ sender_at (controller s) st.hall.queues.items st.controller.kit.posters.items is.controller.posters q d lt in
-      let mine : entries_by (controller s) whole ≡ entries_by (controller s) left =
-      controller_entries s st' is' q d (subst (λ (m : ℕ). q < m) (sym (heard.long ∙ turns.long)) lt) ∙ h.called ∙ ap (λ (m : ℕ). entries_by m left) n in
-      let begins : IsPrefix es left = prefix_trans es t.found left t.begins (step_on MovesNot _ t.found left t.step) in
-      is_whole (setting_for s q) (empty_base (sender_count s)) left whole h.more sound.numbered (λ k known. dite (ℕ_discrete k (controller s))
-      (λ at. subst (λ (m : ℕ). entries_by m whole ≡ entries_by m left) (sym at) mine)
-      (λ apart.
-      let none = others_none s st c st' is is' same same' threads loopers heard (heard.long ∙ turns.long) q d lt k known apart in
-      none ∙ sym (none_between k es left whole begins h.more none)))
-
   -- where the controller halted main, main's history ends with the halt
   pub halted_stays : ((d : Sender) → ends_halted (whole_on c 0 d) ≡ true) → HasHaltedLast s st'
-  halted_stays halted d lt sound = ap ends_halted (turned_left 0 d (subst (λ (n : ℕ). 0 < n) (heard.long ∙ turns.long) lt) sound) ∙ halted d
+  halted_stays halted d lt sound = ap ends_halted (turned_left s st c st' is is' same same' threads loopers heard MovesNot turns 0 d (subst (λ (n : ℕ). 0 < n) (heard.long ∙ turns.long) lt) sound.numbered) ∙ halted d
 
 -- ---- what stays while others are heard
 

@@ -1,17 +1,22 @@
 -- How far the loopers of a run have come, told by what all senders have seen of each queue.
-use Rattle.std.specs.Prelude.{◌≡◌, ◌≢◌, ◌<◌, ◌++◌, ◌==◌, ◌&&◌, ℕ, Bool, true, not, List, [], ◌∷◌, map, length, slice_index_or, if◌then◌else◌}
+use Rattle.std.specs.Prelude.{◌≡◌, ◌≢◌, ◌<◌, ◌≤◌, ◌⊎◌, ◌++◌, ◌==◌, ◌&&◌, ℕ, Bool, true, not, is_some, false, List, [], ◌∷◌, map, length, slice_index_or, if◌then◌else◌}
 use Rattle.loop_model.specs.declared.entry.Entry.{Entry}
+use Rattle.loop_model.specs.Base.{empty_base}
+use Rattle.loop_model.specs.Pick.{pick}
+use Rattle.loop_model.specs.Answers.{clock, has_disposed, is_over}
 use Rattle.dash_script.specs.declared.script.Script.{Script}
 use Rattle.looper_run.specs.Holding.{Sender}
-use Rattle.run_model.specs.Senders.{looper_sender}
-use Rattle.run_model.specs.Control.{Before, before, befores, are_on_time}
-use Rattle.run_model.specs.Loopers.{Looper}
+use Rattle.looper_run.specs.Round.{is_ended}
+use Rattle.run_model.specs.Senders.{looper_sender, sender_count}
+use Rattle.run_model.specs.Control.{Before, before, befores, Timing, At, NotBefore, are_on_time}
+use Rattle.run_model.specs.Loopers.{Looper, first_looper}
 use Rattle.run_model.specs.Acts.{sent_on}
 use Rattle.dash_loopers.specs.declared.looper.StageLooper.{StageLooper}
-use Rattle.dash_loopers.specs.Loopers.{IsSoundOn}
-use Rattle.dash_loopers.specs.Played.{is_disposal, HasCome}
+use Rattle.dash_loopers.specs.Loopers.{IsSoundOn, HasRun}
+use Rattle.dash_loopers.specs.Played.{is_disposal, HasCome, HasPlayed}
 use Rattle.dash_stage.specs.declared.control.Controller.{Controller}
 use Rattle.dash_stage.specs.declared.stage.Stage.{Stage}
+use Rattle.dash_stage.specs.Sharing.{HaveSeenTheSame}
 use Rattle.dash_stage.specs.Timeliness.{whole_on}
 
 -- each queue's history is one that it may have
@@ -27,6 +32,11 @@ befores_from test past (e ∷ es) = (if test e then before past ∷ [] else []) 
 unfoldable pub befores_called : ℕ → List Entry → List Before
 befores_called sender es = befores_from (λ e. e.sender == sender && not (is_disposal e)) [] es
 
+-- a call of this timing is on time where it comes at this time, on a queue whose clock is this
+abbrev pub IsMet : ℕ → ℕ → Timing → Type 0
+IsMet time clock (At t) = t ≡ time
+IsMet time clock (NotBefore t) = t ≤ clock
+
 -- the calls of looper q that the state tells came at their times: on its own queue all but the looks that disposed of it, and on each other queue all
 pub record AreCallsOnTime (s : Script) (c : Controller) (q : ℕ) (a : Looper) : Type 0 where
   pub own : (d : Sender) → q < length c.kit.posters.items → are_on_time (map (λ x. x.timing) (sent_on q a.sent)) (befores_called (looper_sender s q) (whole_on c q d)) ≡ true
@@ -41,3 +51,35 @@ pub record IsTimelyLooper (s : Script) (c : Controller) (l : StageLooper) : Type
 -- so it is with each looper, where each queue's history is one that it may have
 abbrev pub ArePlayed : Script → Stage → Type 0
 ArePlayed s st = AreSound s st.controller → (k : ℕ) (d : StageLooper) → k < length st.loopers.items → IsTimelyLooper s st.controller (slice_index_or st.loopers.items k d)
+
+-- each looper stands at the state before the first act
+abbrev pub HaveBegun : Script → List StageLooper → Type 0
+HaveBegun s ls = (k : ℕ) (d : StageLooper) → k < length ls → HasCome s (slice_index_or ls k d) (first_looper s)
+
+-- the queue's clock shows this time, or its looper has ended and the queue was disposed of
+abbrev pub IsInTime : Script → ℕ → StageLooper → List Entry → Type 0
+IsInTime s time l es = (clock (empty_base (sender_count s)) es ≡ time) ⊎ ((is_ended l.last ≡ true) × (has_disposed (empty_base (sender_count s)) es ≡ true))
+
+-- so it is with each queue at the stage's time
+abbrev pub AreInTime : Script → Stage → Type 0
+AreInTime s st = (q : ℕ) (l : StageLooper) (d : Sender) → q < length st.loopers.items → IsInTime s st.time (slice_index_or st.loopers.items q l) (whole_on st.controller q d)
+
+-- all have seen the same, and where each queue's history is one that it may have, the queues are at the stage's time and each looper stands at a state whose calls came at their times
+pub record IsInStep (s : Script) (st : Stage) : Type 0 where
+  pub same : HaveSeenTheSame st
+  pub in_time : AreSound s st.controller → AreInTime s st
+  pub played : ArePlayed s st
+
+-- the looper is as it was, or ran a round at this moment and played on
+abbrev pub PlaysOn : Script → ℕ → StageLooper → StageLooper → Type 0
+PlaysOn s now before after = (after ≡ before) ⊎ (HasRun s now before after × HasPlayed s now before after)
+
+-- a message is due on the queue, which is not over and whose clock is before this time
+pub record IsStuck (s : Script) (now : ℕ) (es : List Entry) : Type 0 where
+  pub going : is_over (empty_base (sender_count s)) es ≡ false
+  pub early : clock (empty_base (sender_count s)) es < now
+  pub due : is_some (pick (empty_base (sender_count s)) es (clock (empty_base (sender_count s)) es)) ≡ true
+
+-- so it is on one of the first queues
+abbrev pub AreStuck : Script → ℕ → ℕ → Controller → Type 0
+AreStuck s now n c = (q : ℕ) × (q < n) × ((d : Sender) → IsStuck s now (whole_on c q d))

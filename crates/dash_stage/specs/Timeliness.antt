@@ -21,7 +21,7 @@ use Rattle.dash_stage.specs.declared.control.Controller.{Controller}
 use Rattle.dash_stage.specs.declared.stage.Stage.{Stage}
 use Rattle.dash_hall.specs.Growth.{own}
 use Rattle.dash_stage.specs.Controllers.{are_advances, time_in, calls_on}
-use Rattle.dash_loopers.specs.Loopers.{IsSoundOn, setting_for, until_of, WaitsForNothing}
+use Rattle.dash_loopers.specs.Loopers.{IsSoundOn, until_of, WaitsForNothing}
 use Rattle.dash_stage.specs.Sharing.{HaveSeenTheSame}
 
 -- what the controller has seen of this queue, and all others where they have seen the same
@@ -53,8 +53,9 @@ AreBy time c = (q : ℕ) (d : Sender) → q < length c.kit.posters.items → are
 abbrev pub WaitForNothing : List StageLooper → Type 0
 WaitForNothing ls = (k : ℕ) (d : StageLooper) → k < length ls → WaitsForNothing (slice_index_or ls k d).last
 
--- a looper that has not ended waits for the first message that no barrier holds back, and one that has ended has seen its queue over
+-- a looper that has not ended waits for the first message that no barrier holds back, of a queue that is not over, and one that has ended has seen its queue over
 pub record IsRested (s : Script) (l : StageLooper) (es : List Entry) : Type 0 where
+  pub going : is_ended l.last ≡ false → is_over (empty_base (sender_count s)) es ≡ false
   pub waits : is_ended l.last ≡ false → until_of l.last ≡ option_map when_of (first_eligible (empty_base (sender_count s)) es)
   pub ended : is_ended l.last ≡ true → is_over (empty_base (sender_count s)) es ≡ true
 

@@ -11,6 +11,7 @@ ghost use Rattle.run_model.specs.Control.{ends_halted};
 ghost use Rattle.run_model.specs.Senders.{sender_count};
 ghost use Rattle.dash_hall.specs.Hearing.{seen_by};
 ghost use Rattle.dash_stage.specs.Timeliness.{AreBy, TurnsOn, EachTurnsOn, MovesTo, MovesNot, IsNone, HaveCome, whole_on};
+ghost use Rattle.dash_stage.specs.Playing.{IsStuck, AreStuck};
 
 use dash_hall::{Hall, Kit, quit};
 use dash_script::Script;
@@ -47,6 +48,7 @@ impl Controller {
         ensures by { (t : ℕ) → now ≤ t → AreBy t self.old → AreBy t self.new }
         ensures turns { OnOk result (EachTurnsOn (MovesTo now) self.old self.new) }
         ensures come { IfOk result (λ drained. drained ≡ true → HaveCome script.now now self.new) }
+        ensures stuck { IfOk result (λ drained. drained ≡ false → AreStuck script.now now script.now.loopers self.new) }
     {
         let mut drained = true;
         for place in 0..script.loopers {
@@ -77,6 +79,7 @@ impl Controller {
         ensures here { OnOk result ((d : Sender) → TurnsOn (MovesTo now) (slice_index_or self.old.kit.posters.items place d) (slice_index_or self.new.kit.posters.items place d)) }
         ensures elsewhere { (q : ℕ) (d : Sender) → q ≢ place → slice_index_or self.new.kit.posters.items q d ≡ slice_index_or self.old.kit.posters.items q d }
         ensures come { IfOk result (λ drained. drained ≡ true → (d : Sender) → (now ≤ time_in (calls_on self.new place d)) ⊎ (is_over (empty_base (sender_count script.now)) (whole_on self.new place d) ≡ true)) }
+        ensures stuck { IfOk result (λ drained. drained ≡ false → (d : Sender) → IsStuck script.now now (whole_on self.new place d)) }
     {
         match self.kit.posters[place].advance(rt, &hall.queues[place], now) {
             Advancing::Advanced => Ok(true),

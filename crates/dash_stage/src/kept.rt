@@ -16,6 +16,7 @@ ghost use Rattle.dash_stage.specs.Playing.{ArePlayed};
 ghost use Rattle.dash_stage.specs.Runs.{HaveRunAll};
 ghost use Rattle.dash_hall.specs.Hearing.{HaveSeenAll};
 ghost use Rattle.dash_stage.specs.Sharing.{OfThreads, OfLoopers, OfKits};
+ghost use Rattle.dash_stage.specs.Playing.{ArePlayed};
 ghost use Rattle.dash_stage.specs.Stages.{IsStage, IsPlayable, HaveRun, AreThreads, AreLoopers, AreThreadKits, AreSenderKits, OthersHaveEnded, LoopersGoOn};
 
 use crate::records::records;

@@ -4,6 +4,7 @@ ghost use Rattle.dash_stage.specs.Controllers.{IsMoving};
 ghost use Rattle.dash_stage.specs.Timeliness.{AreBy, AreTimelyUpTo, AreRested, WaitForNothing};
 ghost use Rattle.dash_hall.specs.Kits.{IsHall, AreUnseen, AreUnusedKits};
 ghost use Rattle.dash_stage.specs.Sharing.{OfThreads, OfLoopers};
+ghost use Rattle.dash_stage.specs.Playing.{HaveBegun, IsInStep};
 ghost use Rattle.dash_stage.specs.Stages.{IsStage, IsPlayable, HaveRun, AreKitsFrom, AreThreads, AreLoopers};
 
 use crate::control::Controller;
@@ -24,6 +25,7 @@ pub(crate) fn set_up(alloc: Global, script: &Script) -> Result<Stage, NoMemory>
     ensures by { IfOk result (λ st. AreBy st.time st.controller × (st.time ≡ 0)) }
     ensures timely { IfOk result (λ st. AreTimelyUpTo script.now [] st) }
     ensures rested { IfOk result (λ st. AreRested script.now st) }
+    ensures step { IfOk result (λ st. IsInStep script.now st) }
 {
     let (hall, mut kits, pass) = open(alloc, script)?;
     let threads = threads(alloc, script, &hall, &mut kits)?;
@@ -78,6 +80,7 @@ fn loopers(
     ensures loopers { IfOk result (λ v. AreLoopers script.now hall.now v.items) }
     ensures unseen { IfOk result (λ v. OfLoopers AreUnseen v.items) }
     ensures waits { IfOk result (λ v. WaitForNothing v.items) }
+    ensures begun { IfOk result (λ v. HaveBegun script.now v.items) }
     ensures kits { OnOk result (AreKitsFrom script.now hall.now (script.now.threads + script.now.loopers) kits.new.items) }
     ensures unused { OnOk result (AreUnusedKits kits.new.items) }
 {

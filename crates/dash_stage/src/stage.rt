@@ -12,6 +12,7 @@ ghost use Rattle.dash_stage.specs.Timeliness.{AreTimelyUpTo, AreAtTime, AreBy, A
 ghost use Rattle.dash_script.specs.Reading.{HasText};
 ghost use Rattle.dash_hall.specs.Kits.{IsHall};
 ghost use Rattle.dash_stage.specs.Controllers.{IsMoving, HasReached, IsClosing, HasClosed, CallsNone};
+ghost use Rattle.dash_stage.specs.Playing.{ArePlayed, IsInStep};
 ghost use Rattle.dash_stage.specs.Stages.{IsStage, HaveRun, RunOn, OthersHaveEnded, LoopersGoOn};
 
 use crate::control::Controller;
@@ -58,6 +59,7 @@ impl Stage {
         requires begun_timely { AreTimelyUpTo script.now [] self.old }
         requires rested { AreRested script.now self.old }
         requires zero { self.old.time ≡ 0 }
+        requires step { IsInStep script.now self.old }
         ensures stage { IsStage script.now self.new }
         ensures run { OnOk result (HaveRun script.now script.now.blocks self.new.threads.items) }
         ensures closed { OnOk result (HasClosed script.now self.new.controller) }
@@ -65,6 +67,7 @@ impl Stage {
         ensures on { OnOk result (LoopersGoOn self.new.loopers.items) }
         ensures timely { OnOk result (AreTimelyUpTo script.now script.now.blocks self.new) }
         ensures halted { OnOk result (HasHaltedLast script.now self.new) }
+        ensures played { OnOk result (ArePlayed script.now self.new) }
     {
         for block in script.blocks.as_slice() {
             self.go_to(rt, alloc, script, gate, block.time)?;
@@ -86,6 +89,7 @@ impl Stage {
         gate: &G,
         time: u64,
     ) -> Result<(), NoMemory>
+        requires text { HasText script.now }
         requires stage { IsStage script.now self.old }
         requires some { 0 < script.now.loopers }
         requires end { time ≤ script.now.end }
@@ -100,6 +104,7 @@ impl Stage {
         ensures time { OnOk result (self.new.time ≡ time) }
         ensures timely { (past : List BlockData) → AreTimelyUpTo script.now past self.old → AreRested script.now self.old → OnOk result (AreTimelyUpTo script.now past self.new) }
         ensures at { OnOk result (AreAtTime script.now time self.new) }
+        ensures step { IsInStep script.now self.old → AreRested script.now self.old → OnOk result (IsInStep script.now self.new) }
     {
         for _ in rt.forever() {
             let next = at_most(self.next_due(rt, script), time);
@@ -164,6 +169,7 @@ impl Stage {
         ensures time { self.new.time ≡ max self.old.time time }
         ensures timely { (past : List BlockData) → AreTimelyUpTo script.now past self.old → AreDue script.now time self.old → OnOk result (AreTimelyUpTo script.now past self.new) }
         ensures at { IfOk result (λ moved. moved ≡ true → self.old.time ≤ time → AreAtTime script.now time self.new) }
+        ensures step { IsInStep script.now self.old → AreRested script.now self.old → AreDue script.now time self.old → OnOk result (IsInStep script.now self.new) }
     {
         self.time = self.time.max(time);
         let moved = self.controller.advance(rt, &self.hall, script, time)?;
@@ -187,6 +193,7 @@ impl Stage {
         ensures none { CallsNone self.old.controller self.new.controller }
         ensures time { self.new.time ≡ self.old.time }
         ensures timely { (past rest : List BlockData) → past ++ block.now ∷ rest ≡ script.now.blocks → HaveRun script.now past self.old.threads.items → AreAtTime script.now block.now.time self.old → AreTimelyUpTo script.now past self.old → OnOk result (AreTimelyUpTo script.now (past ++ block.now ∷ []) self.new) }
+        ensures step { IsInStep script.now self.old → OnOk result (IsInStep script.now self.new) }
     {
         run_threads(
             rt,
@@ -210,6 +217,7 @@ impl Stage {
         gate: &G,
         turn: Turn,
     ) -> Result<(), NoMemory>
+        requires text { HasText script.now }
         requires stage { IsStage script.now self.old }
         ensures stage { IsStage script.now self.new }
         ensures run { (past : List BlockData) → HaveRun script.now past self.old.threads.items → HaveRun script.now past self.new.threads.items }
@@ -220,6 +228,7 @@ impl Stage {
         ensures timely { (past : List BlockData) → AreTimelyUpTo script.now past self.old → OnOk result (AreTimelyUpTo script.now past self.new) }
         ensures same { OnOk result (HaveSeenTheSame self.new) }
         ensures rested { turn ≡ All → HaveSeenTheSame self.old → OnOk result (AreRested script.now self.new) }
+        ensures step { IsInStep script.now self.old → OnOk result (IsInStep script.now self.new) }
     {
         for _ in rt.forever() {
             let before = self.controller.entries_seen();
@@ -240,6 +249,7 @@ impl Stage {
         gate: &G,
         turn: Turn,
     ) -> Result<(), NoMemory>
+        requires text { HasText script.now }
         requires stage { IsStage script.now self.old }
         ensures stage { IsStage script.now self.new }
         ensures run { (past : List BlockData) → HaveRun script.now past self.old.threads.items → HaveRun script.now past self.new.threads.items }
@@ -251,6 +261,7 @@ impl Stage {
         ensures same { OnOk result (HaveSeenTheSame self.new) }
         ensures grown { OnOk result (AtEach IsPrefix (seen_by self.old.controller.kit.posters.items) (seen_by self.new.controller.kit.posters.items)) }
         ensures rested { turn ≡ All → HaveSeenTheSame self.old → OnOk result (seen_by self.new.controller.kit.posters.items ≡ seen_by self.old.controller.kit.posters.items → AreRested script.now self.new) }
+        ensures step { IsInStep script.now self.old → OnOk result (IsInStep script.now self.new) }
     {
         run_loopers(
             rt,
@@ -275,6 +286,7 @@ impl Stage {
         script: &Script,
         gate: &G,
     ) -> Result<(), NoMemory>
+        requires text { HasText script.now }
         requires some { 0 < script.now.loopers }
         requires stage { IsStage script.now self.old }
         requires moving { IsMoving script.now self.old.controller }
@@ -286,6 +298,7 @@ impl Stage {
         ensures on { OnOk result (LoopersGoOn self.new.loopers.items) }
         ensures timely { (past : List BlockData) → AreTimelyUpTo script.now past self.old → OnOk result (AreTimelyUpTo script.now past self.new) }
         ensures halted { OnOk result (HasHaltedLast script.now self.new) }
+        ensures step { IsInStep script.now self.old → OnOk result (IsInStep script.now self.new) }
     {
         self.quit_others(rt, script)?;
         for _ in rt.forever() {
@@ -315,6 +328,7 @@ impl Stage {
         ensures closing { OnOk result (IsClosing script.now self.new.controller) }
         ensures timely { (past : List BlockData) → AreTimelyUpTo script.now past self.old → OnOk result (AreTimelyUpTo script.now past self.new) }
         ensures same { OnOk result (HaveSeenTheSame self.new) }
+        ensures step { IsInStep script.now self.old → OnOk result (IsInStep script.now self.new) }
     {
         for looper in 1..script.loopers {
             if !self.loopers[looper as usize].has_ended() {

@@ -4,7 +4,10 @@ use Rattle.dash_loopers.specs.declared.looper.StageLooper.{StageLooper}
 use Rattle.dash_hall.specs.Kits.{AreUnseen, IsUnusedKit, AreUnusedKits}
 use Rattle.dash_stage.specs.Sharing.{OfLoopers}
 use Rattle.dash_loopers.specs.Loopers.{posters_of, WaitsForNothing}
+use Rattle.run_model.specs.Loopers.{first_looper}
+use Rattle.dash_loopers.specs.Played.{HasCome}
 use Rattle.dash_stage.specs.Timeliness.{WaitForNothing}
+use Rattle.dash_stage.specs.Playing.{HaveBegun}
 use Rattle.dash_stage.proofs.Casting.{looper_made, first_more}
 use Rattle.dash_stage.proofs.Carried.{other_unused}
 use Rattle.dash_stage.proofs.opening.loopers.Goals as goal
@@ -33,4 +36,5 @@ loop-number-preserved c =
       made.2,
       subst (OfLoopers AreUnseen) (sym grown) (first_more (λ k (z : StageLooper). AreUnseen (posters_of z)) at.loopers.items one at.invariant.4 unseen),
       subst WaitForNothing (sym grown) (first_more (λ k (z : StageLooper). WaitsForNothing z.last) at.loopers.items one at.invariant.5 c.in_ok-looper.ensures.waits),
+      subst (HaveBegun c.args.script.now) (sym grown) (first_more (λ k (z : StageLooper). HasCome c.args.script.now z (first_looper c.args.script.now)) at.loopers.items one at.invariant.6 c.in_ok-looper.ensures.begun),
     )

@@ -1,6 +1,7 @@
-use Rattle.std.proofs.Common.{◌≡◌, ◌<◌, ◌≤◌, ℕ, true}
+use Rattle.std.proofs.Common.{◌≡◌, ◌<◌, ◌≤◌, ℕ, true, false}
 use Rattle.dash_stage.specs.Controllers.{IsController, IsMoving, HasReached}
 use Rattle.dash_stage.specs.Timeliness.{AreBy, MovesTo}
+use Rattle.dash_stage.specs.Playing.{AreStuck}
 use Rattle.dash_stage.proofs.ControlWhole.{TurnsBelow, ComeBelow}
 use Rattle.dash_stage.proofs.control.Controller.advance.Given as goal
 
@@ -11,5 +12,6 @@ invariant-loop-place g l = record {
   reached : l.drained ≡ true → 0 < l.place → HasReached l.now l.self;
   by : (t : ℕ) → l.now ≤ t → AreBy t l.initial.self → AreBy t l.self;
   turns : TurnsBelow (MovesTo l.now) l.place l.initial.self l.self;
+  stuck : l.drained ≡ false → AreStuck l.script l.now l.place l.self;
   come : l.drained ≡ true → ComeBelow l.script l.now l.place l.self;
 }

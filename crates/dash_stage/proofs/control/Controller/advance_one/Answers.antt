@@ -4,7 +4,7 @@ use Rattle.loop_model.specs.declared.reply.Reply.TheVariants.{Advanced}
 use Rattle.looper_run.specs.Holding.{State}
 use Rattle.dash_stage.proofs.Controlling.{in_queues, in_posters, has_poster, own_poster, is_last, in_step, after_turn}
 use Rattle.dash_stage.proofs.ControlKept.{by_kept, moving_kept, reached_kept}
-use Rattle.dash_stage.proofs.ControlTurns.{turned_none, turned_by, turned_to, turned_reached, turned_kept, turned_over, turned_late, still_over}
+use Rattle.dash_stage.proofs.ControlTurns.{turned_none, turned_by, turned_to, turned_reached, turned_kept, turned_over, turned_late, still_over, still_stuck}
 use Rattle.dash_stage.proofs.ControlWhole.{turns_none, turns_one, turns_here, turns_elsewhere}
 use Rattle.dash_stage.proofs.control.Controller.advance_one.Goals as goal
 
@@ -38,6 +38,7 @@ returns-in-Advanced g c =
       here = turns_here c.args.self.now c.args.place c.index_mut.result.now c.advance.new.self c.args.self.now.kit.pass (has_poster c.args.script.now c.args.hall.now c.requires.hall c.args.place c.requires.place c.args.self.now c.requires.controller) c.index_mut.ensures.value (turns_one c.index_mut.result.now c.advance.new.self _ _ c.in-Advanced.ensures.2 (Advance c.args.now) Advanced (ap (λ (z : State). z.entries) c.in-Advanced.ensures.3.1) refl);
       elsewhere = turns_elsewhere c.args.self.now c.args.place c.index_mut.result.now c.advance.new.self c.args.self.now.kit.pass (has_poster c.args.script.now c.args.hall.now c.requires.hall c.args.place c.requires.place c.args.self.now c.requires.controller) c.index_mut.ensures.value;
       come = λ _ d. inl (come d);
+      stuck = λ wrong. absurd cc;
     }
 
 pub returns-in-Over : goal.returns-in-Over
@@ -52,6 +53,7 @@ returns-in-Over g c =
       here = turns_here c.args.self.now c.args.place c.index_mut.result.now c.advance.new.self c.args.self.now.kit.pass (has_poster c.args.script.now c.args.hall.now c.requires.hall c.args.place c.requires.place c.args.self.now c.requires.controller) c.index_mut.ensures.value (turns_none c.index_mut.result.now c.advance.new.self _ _ c.in-Over.ensures.2 c.in-Over.ensures.3.1);
       elsewhere = turns_elsewhere c.args.self.now c.args.place c.index_mut.result.now c.advance.new.self c.args.self.now.kit.pass (has_poster c.args.script.now c.args.hall.now c.requires.hall c.args.place c.requires.place c.args.self.now c.requires.controller) c.index_mut.ensures.value;
       come = λ _ d. inr (still_over c.args.script.now c.args.hall.now c.requires.hall c.args.place c.requires.place c.args.self.now c.requires.controller c.index_mut.result.now c.advance.new.self c.index.result.now c.index_mut.ensures.value c.index.ensures _ _ c.in-Over.ensures.2 c.args.self.now.kit.pass c.in-Over.ensures.3.1 c.in-Over.ensures.3.0 d);
+      stuck = λ wrong. absurd cc;
     }
 
 pub returns-in-Reached : goal.returns-in-Reached
@@ -67,6 +69,7 @@ returns-in-Reached g c =
       here = turns_here c.args.self.now c.args.place c.index_mut.result.now c.advance.new.self c.args.self.now.kit.pass (has_poster c.args.script.now c.args.hall.now c.requires.hall c.args.place c.requires.place c.args.self.now c.requires.controller) c.index_mut.ensures.value (turns_none c.index_mut.result.now c.advance.new.self _ _ c.in-Reached.ensures.2 c.in-Reached.ensures.3.3);
       elsewhere = turns_elsewhere c.args.self.now c.args.place c.index_mut.result.now c.advance.new.self c.args.self.now.kit.pass (has_poster c.args.script.now c.args.hall.now c.requires.hall c.args.place c.requires.place c.args.self.now c.requires.controller) c.index_mut.ensures.value;
       come = λ _ d. inl (come d);
+      stuck = λ wrong. absurd cc;
     }
 
 pub returns-in-NotDrained : goal.returns-in-NotDrained
@@ -81,6 +84,7 @@ returns-in-NotDrained g c =
       here = turns_here c.args.self.now c.args.place c.index_mut.result.now c.advance.new.self c.args.self.now.kit.pass (has_poster c.args.script.now c.args.hall.now c.requires.hall c.args.place c.requires.place c.args.self.now c.requires.controller) c.index_mut.ensures.value (turns_none c.index_mut.result.now c.advance.new.self _ _ c.in-NotDrained.ensures.2 c.in-NotDrained.ensures.3.3);
       elsewhere = turns_elsewhere c.args.self.now c.args.place c.index_mut.result.now c.advance.new.self c.args.self.now.kit.pass (has_poster c.args.script.now c.args.hall.now c.requires.hall c.args.place c.requires.place c.args.self.now c.requires.controller) c.index_mut.ensures.value;
       come = λ wrong. absurd cc;
+      stuck = λ _. still_stuck c.args.script.now c.args.hall.now c.requires.hall c.args.place c.requires.place c.args.self.now c.requires.controller c.index_mut.result.now c.advance.new.self c.index.result.now c.index_mut.ensures.value c.index.ensures _ _ c.in-NotDrained.ensures.2 c.args.self.now.kit.pass c.args.now _ c.in-NotDrained.ensures.3.3 c.in-NotDrained.ensures.3.0 c.in-NotDrained.ensures.3.1 c.in-NotDrained.ensures.3.2;
     }
 
 pub returns-in-NoMemory : goal.returns-in-NoMemory
@@ -95,4 +99,5 @@ returns-in-NoMemory g c =
       here = tt;
       elsewhere = turns_elsewhere c.args.self.now c.args.place c.index_mut.result.now c.advance.new.self c.args.self.now.kit.pass (has_poster c.args.script.now c.args.hall.now c.requires.hall c.args.place c.requires.place c.args.self.now c.requires.controller) c.index_mut.ensures.value;
       come = tt;
+      stuck = tt;
     }

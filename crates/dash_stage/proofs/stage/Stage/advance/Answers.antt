@@ -1,6 +1,7 @@
-use Rattle.std.proofs.Common.{ℕ, sym, subst, arith}
+use Rattle.std.proofs.Common.{ℕ, ◌∙◌, sym, subst, arith}
 use Rattle.dash_stage.specs.Timeliness.{AreBy}
 use Rattle.dash_stage.proofs.StageMoves.{by_later, by_kept, advanced_timely, come_at_time}
+use Rattle.dash_stage.proofs.PlayedTurns.{advanced_in_step}
 use Rattle.dash_stage.proofs.stage.Stage.advance.Goals as goal
 
 pub returns-in_err-moved-clause-by : goal.returns-in_err-moved-clause-by
@@ -25,3 +26,12 @@ returns-clause-at g c moved later =
     come_at_time c.args.script.now c.args.time c.advance.new.self c.share.new.self c.share.ensures.stage c.share.ensures.kept.controller.posters
     (c.advance.ensures.by c.args.time (omega arith) (by_later c.args.self.now.time c.args.time c.args.self.now.controller later c.requires.by))
     (c.in_ok-moved.ensures.come moved)
+
+pub returns-clause-step : goal.returns-clause-step
+returns-clause-step g c step rested due =
+    let kept = c.share.ensures.kept in
+    let m = c.max-self.ensures in
+    let now = kept.time ∙ m in
+    let by = c.advance.ensures.by c.share.new.self.time (omega (arith, now)) (by_later c.args.self.now.time c.share.new.self.time c.args.self.now.controller (omega (arith, now)) c.requires.by) in
+    advanced_in_step c.args.script.now c.args.self.now c.advance.new.self c.share.new.self c.requires.stage c.share.ensures.stage c.share.ensures.shared kept.threads kept.loopers kept.controller.posters step
+    c.args.time c.in_ok-moved.ensures.turns now by rested due _ c.in_ok-moved.ensures.come c.in_ok-moved.ensures.stuck

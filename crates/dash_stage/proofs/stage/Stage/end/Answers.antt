@@ -1,10 +1,11 @@
 use Rattle.dash_hall.specs.Hearing.{HaveHeard}
 use Rattle.dash_stage.proofs.ControlKept.{closing_kept, closed_kept}
 use Rattle.dash_stage.proofs.StageTurns.{turned_timely, halted_stays, go_on_kept}
+use Rattle.dash_stage.proofs.PlayedTurns.{turned_in_step}
 use Rattle.dash_stage.proofs.stage.Stage.end.Goals as goal
 
 pub loop-init : goal.loop-init
-loop-init g c = (c.quit_others.ensures.stage, c.quit_others.ensures.run, c.in_ok-quit_others.ensures.closing, c.in_ok-quit_others.ensures.timely)
+loop-init g c = (c.quit_others.ensures.stage, c.quit_others.ensures.run, c.in_ok-quit_others.ensures.closing, c.in_ok-quit_others.ensures.timely, c.in_ok-quit_others.ensures.step)
 
 pub loop-preserved : goal.loop-preserved
 loop-preserved g c =
@@ -13,6 +14,7 @@ loop-preserved g c =
       λ past run. c.run_round.ensures.run past (at.invariant.1 past run),
       closing_kept c.args.script.now at.self.controller c.run_round.new.self.controller c.run_round.ensures.none at.invariant.2,
       λ past timely. c.in_ok-run_round.ensures.timely past (at.invariant.3 past timely),
+      λ step. c.in_ok-run_round.ensures.step (at.invariant.4 step),
     )
 
 pub returns-in_err-run_round-clause-run : goal.returns-in_err-run_round-clause-run
@@ -49,6 +51,12 @@ returns-then-halted-clause-halted g c =
     halted_stays c.args.script.now c.run_rounds.new.self c.halt-halted.new.self c.share.new.self c.run_rounds.ensures.stage c.share.ensures.stage c.in_ok-run_rounds.ensures.same c.share.ensures.shared
     kept.threads kept.loopers kept.controller.posters c.halt-halted.ensures.turns (c.halt-halted.ensures.halted c.if-halted.true)
 
+pub returns-then-halted-clause-step : goal.returns-then-halted-clause-step
+returns-then-halted-clause-step g c step =
+    let kept = c.share.ensures.kept in
+    turned_in_step c.args.script.now c.run_rounds.new.self c.halt-halted.new.self c.share.new.self c.run_rounds.ensures.stage c.share.ensures.stage c.share.ensures.shared
+    kept.threads kept.loopers kept.controller.posters (c.in_ok-run_rounds.ensures.step (c.loop-2.invariant.5 step)) c.halt-halted.ensures.turns kept.time
+
 pub loop-2-preserved : goal.loop-2-preserved
 loop-2-preserved g c =
     let s = c.args.script.now in
@@ -60,4 +68,6 @@ loop-2-preserved g c =
       λ past timely. turned_timely s c.run_rounds.new.self c.halt-halted.new.self c.share.new.self c.run_rounds.ensures.stage c.share.ensures.stage c.in_ok-run_rounds.ensures.same c.share.ensures.shared
           kept.threads kept.loopers kept.controller.posters c.halt-halted.ensures.turns past (c.in_ok-run_rounds.ensures.timely past (at.3 past timely)),
       c.share.ensures.ended (c.run_rounds.ensures.ended at.4),
+      λ step. turned_in_step s c.run_rounds.new.self c.halt-halted.new.self c.share.new.self c.run_rounds.ensures.stage c.share.ensures.stage c.share.ensures.shared
+          kept.threads kept.loopers kept.controller.posters (c.in_ok-run_rounds.ensures.step (at.5 step)) c.halt-halted.ensures.turns kept.time,
     )

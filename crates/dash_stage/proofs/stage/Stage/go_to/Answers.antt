@@ -3,7 +3,8 @@ use Rattle.dash_stage.specs.Stages.{HaveRun}
 use Rattle.dash_stage.specs.Timeliness.{AreBy}
 use Rattle.dash_stage.proofs.ControlKept.{moving_kept}
 use Rattle.dash_stage.proofs.StageMoves.{by_kept}
-use Rattle.dash_stage.proofs.StageDue.{timely_same}
+use Rattle.dash_stage.proofs.StageDue.{timely_same, rested_same}
+use Rattle.dash_stage.proofs.PlayedTurns.{step_same}
 use Rattle.dash_stage.proofs.stage.Stage.go_to.Goals as goal
 
 pub returns-in_err-moved-clause-run : goal.returns-in_err-moved-clause-run
@@ -18,6 +19,14 @@ returns-then-next-time-clause-timely g c past timely rest =
     let before = c.loop.invariant.5 past timely rest in
     let due = c.next_due.ensures in
     c.in_ok-moved.ensures.timely past (timely_same s past c.loop.self c.next_due.new.self due.threads due.loopers due.posters before.0) (due.due c.at_most-next.result before.1 c.at_most-next.ensures.early)
+
+pub returns-then-next-time-clause-step : goal.returns-then-next-time-clause-step
+returns-then-next-time-clause-step g c step rest =
+    let s = c.args.script.now in
+    let before = c.loop.invariant.6 step rest in
+    let due = c.next_due.ensures in
+    c.in_ok-moved.ensures.step (step_same s c.loop.self c.next_due.new.self c.loop.invariant.0 due.stage due.threads due.loopers due.posters due.time before.0)
+    (rested_same s c.loop.self c.next_due.new.self due.loopers due.posters before.1) (due.due c.at_most-next.result before.1 c.at_most-next.ensures.early)
 
 pub loop-preserved : goal.loop-preserved
 loop-preserved g c =
@@ -36,6 +45,11 @@ loop-preserved g c =
           let still = timely_same s past c.loop.self c.next_due.new.self due.threads due.loopers due.posters before.0 in
           let went = moved.timely past still (due.due c.at_most-next.result before.1 c.at_most-next.ensures.early) in
           (ran.timely past went, ran.rested refl went.same),
+      λ step rest.
+          let before = at.6 step rest in
+          let still = step_same s c.loop.self c.next_due.new.self at.0 due.stage due.threads due.loopers due.posters due.time before.0 in
+          let went = moved.step still (rested_same s c.loop.self c.next_due.new.self due.loopers due.posters before.1) (due.due c.at_most-next.result before.1 c.at_most-next.ensures.early) in
+          (ran.step went, ran.rested refl went.same),
     )
 
 pub returns-in_err-run_rounds-clause-run : goal.returns-in_err-run_rounds-clause-run

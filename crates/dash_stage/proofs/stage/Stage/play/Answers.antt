@@ -14,7 +14,7 @@ use Rattle.dash_stage.proofs.stage.Stage.play.Goals as goal
 pub loop-block-init : goal.loop-block-init
 loop-block-init g c =
     let zero_time = c.requires.zero in
-    (c.requires.stage, c.requires.begun, c.requires.moving, c.requires.by, c.requires.begun_timely, c.requires.rested, omega (arith, zero_time), λ d some. omega (arith, zero_time))
+    (c.requires.stage, c.requires.begun, c.requires.moving, c.requires.by, c.requires.begun_timely, c.requires.rested, omega (arith, zero_time), λ d some. omega (arith, zero_time), c.requires.step)
 
 pub go_to-requires-clause-end : goal.go_to-requires-clause-end
 go_to-requires-clause-end g c κs within =
@@ -64,6 +64,7 @@ loop-block-preserved g c =
       c.in_ok-run_rounds.ensures.rested refl timely.same,
       subst (λ (t : ℕ). t ≤ s.end) (sym time) (before_end s i b c.requires.text lt is),
       λ d some. subst (λ (t : ℕ). t ≤ (slice_index_or bs (i + 1) d).time) (sym time) (before_next s i b d c.requires.text is some),
+      c.in_ok-run_rounds.ensures.step (c.in_ok-run_block.ensures.step (c.in_ok-go_to.ensures.step at.8 at.5)),
     )
 
 pub end-requires-clause-moving : goal.end-requires-clause-moving
@@ -87,3 +88,8 @@ returns-clause-timely g c =
     let all = subst (λ (l : List Block). length l ≤ i) c.as_slice-block-items.ensures c.loop-block-test.false in
     let before = subst (λ (l : List Block). AreTimelyUpTo s l c.loop-block.self) (take_all i s.blocks all) c.loop-block.invariant.4 in
     c.in_ok-end.ensures.timely s.blocks (c.in_ok-run_rounds-2.ensures.timely s.blocks (c.in_ok-go_to-2.ensures.timely s.blocks before c.loop-block.invariant.5))
+
+pub returns-clause-played : goal.returns-clause-played
+returns-clause-played g c =
+    let at = c.loop-block.invariant in
+    (c.in_ok-end.ensures.step (c.in_ok-run_rounds-2.ensures.step (c.in_ok-go_to-2.ensures.step at.8 at.5))).played

@@ -13,12 +13,13 @@ use Rattle.dash_stage.proofs.Controlling.{poster_count}
 use Rattle.dash_stage.proofs.ControlKept.{quitting_starts, quitting_skips, closing_kept}
 use Rattle.dash_stage.proofs.StageControls.{quitting_ends}
 use Rattle.dash_stage.proofs.StageTurns.{AreKeptFrom, turns_none, turns_more, turned_timely}
+use Rattle.dash_stage.proofs.PlayedTurns.{turned_in_step}
 use Rattle.dash_stage.proofs.stage.Stage.quit_others.Goals as goal
 use Rattle.dash_stage.proofs.stage.Stage.quit_others.Goals.{then-not-has_ended+in_ok-quit, else-not-has_ended}
 
 pub loop-looper-init : goal.loop-looper-init
 loop-looper-init g c =
-    (c.requires.stage, refl, refl, omega arith, quitting_starts c.args.script.now c.args.self.now.controller c.requires.moving c.requires.reached, turns_none MovesNot c.args.self.now.controller, λ q d le. refl)
+    (c.requires.stage, refl, refl, omega arith, quitting_starts c.args.script.now c.args.self.now.controller c.requires.moving c.requires.reached, turns_none MovesNot c.args.self.now.controller, λ q d le. refl, refl)
 
 pub loop-looper-preserved : goal.loop-looper-preserved
 loop-looper-preserved g c =
@@ -26,7 +27,7 @@ loop-looper-preserved g c =
     let at = c.loop-looper in
     let first = c.args.self.now in
     let kept = λ (st : Stage). IsStage s st × (st.threads.items ≡ first.threads.items) × (st.loopers.items ≡ first.loopers.items) × (0 < at.looper + 1) × IsQuitting s (at.looper + 1) st.controller
-    × EachTurnsOn MovesNot first.controller st.controller × AreKeptFrom (at.looper + 1) first.controller st.controller in
+    × EachTurnsOn MovesNot first.controller st.controller × AreKeptFrom (at.looper + 1) first.controller st.controller × (st.time ≡ first.time) in
     elim c.if-not-has_ended.branch [
       | then-not-has_ended+in_ok-quit w ↦
           let stage = at.invariant.0 in
@@ -42,9 +43,10 @@ loop-looper-preserved g c =
             w.in_ok-quit.ensures.quitting,
             more.0,
             more.1,
+            at.invariant.7,
           )
       | else-not-has_ended w ↦
-          subst kept (sym w.self-is) (at.invariant.0, at.invariant.1, at.invariant.2, omega arith, quitting_skips s at.self.controller at.looper at.invariant.3 at.invariant.4, at.invariant.5, λ q d le. at.invariant.6 q d (omega (arith, le)))
+          subst kept (sym w.self-is) (at.invariant.0, at.invariant.1, at.invariant.2, omega arith, quitting_skips s at.self.controller at.looper at.invariant.3 at.invariant.4, at.invariant.5, λ q d le. at.invariant.6 q d (omega (arith, le)), at.invariant.7)
     ]
 
 pub returns-in_err-quit-clause-run : goal.returns-in_err-quit-clause-run
@@ -66,3 +68,13 @@ returns-clause-timely g c past timely =
     let threads = subst (λ (l : List PostingThread). AtEach (ThreadKeeps HaveHeard) l st'.threads.items) at.invariant.1 kept.threads in
     let loopers = subst (λ (l : List StageLooper). AtEach (LooperKeeps HaveHeard) l st'.loopers.items) at.invariant.2 kept.loopers in
     turned_timely c.args.script.now st at.self.controller st' c.requires.stage c.share.ensures.stage timely.same c.share.ensures.shared threads loopers kept.controller.posters at.invariant.5 past timely
+
+pub returns-clause-step : goal.returns-clause-step
+returns-clause-step g c step =
+    let at = c.loop-looper in
+    let st = c.args.self.now in
+    let st' = c.share.new.self in
+    let kept = c.share.ensures.kept in
+    let threads = subst (λ (l : List PostingThread). AtEach (ThreadKeeps HaveHeard) l st'.threads.items) at.invariant.1 kept.threads in
+    let loopers = subst (λ (l : List StageLooper). AtEach (LooperKeeps HaveHeard) l st'.loopers.items) at.invariant.2 kept.loopers in
+    turned_in_step c.args.script.now st at.self.controller st' c.requires.stage c.share.ensures.stage c.share.ensures.shared threads loopers kept.controller.posters step at.invariant.5 (kept.time ∙ at.invariant.7)

@@ -7,6 +7,7 @@ use Rattle.dash_stage.specs.Stages.{HaveRun, RunOn}
 use Rattle.dash_stage.proofs.ControlKept.{none_same}
 use Rattle.dash_stage.proofs.Blocks.{run_one_more}
 use Rattle.dash_stage.proofs.StageTurns.{block_timely, continues_kept}
+use Rattle.dash_stage.proofs.PlayedTurns.{block_in_step}
 use Rattle.dash_stage.proofs.stage.Stage.run_block.Goals as goal
 
 pub returns-in_err-run_threads-clause-none : goal.returns-in_err-run_threads-clause-none
@@ -40,3 +41,8 @@ returns-clause-timely g c past rest whole run at timely =
     let more = run_one_more s past rest b whole st.threads.items ran (λ k d lt. (stage.threads.1 k d lt).1) many on run in
     block_timely s st c.share.new.self b past stage c.share.ensures.stage run (c.share.ensures.run (past ++ b ∷ []) (subst (HaveRun s (past ++ b ∷ [])) (sym written) more))
     c.share.ensures.kept.controller.posters c.share.ensures.shared at timely
+
+pub returns-clause-step : goal.returns-clause-step
+returns-clause-step g c step =
+    let kept = c.share.ensures.kept in
+    block_in_step c.args.script.now c.args.self.now c.share.new.self c.requires.stage c.share.ensures.stage c.share.ensures.shared kept.time kept.loopers kept.controller.posters step

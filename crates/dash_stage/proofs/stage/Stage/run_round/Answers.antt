@@ -2,7 +2,9 @@ use Rattle.std.proofs.Common.{◌<◌, ℕ, List, length, slice_index_or, subst,
 use Rattle.std.proofs.lemmas.List.{with_items_is}
 use Rattle.dash_loopers.specs.declared.looper.StageLooper.{StageLooper}
 use Rattle.dash_hall.specs.Hearing.{AtEach, HaveHeard}
-use Rattle.dash_loopers.specs.Loopers.{LooperKeeps, ComesToWait}
+use Rattle.dash_loopers.specs.Loopers.{LooperKeeps, HasRun, ComesToWait}
+use Rattle.dash_stage.specs.Playing.{PlaysOn}
+use Rattle.dash_stage.proofs.PlayedRounds.{round_in_step}
 use Rattle.dash_stage.proofs.StageWhole.{threads_heard, kept_timely}
 use Rattle.dash_stage.proofs.StageDue.{heard_grown, come_to_rest}
 use Rattle.dash_stage.proofs.stage.Stage.run_round.Goals as goal
@@ -22,10 +24,26 @@ returns-clause-rested g c all same still =
     let ran = c.run_loopers.new.loopers in
     let waits =
     subst (λ (xs : List StageLooper). (k : ℕ) (d : StageLooper) → k < length xs → ComesToWait s (slice_index_or xs k d) (slice_index_or ran k d)) c.as_mut_slice.ensures.value (c.run_loopers.ensures.waits all) in
+    let rounds =
+    subst (λ (xs : List StageLooper). (k : ℕ) (d : StageLooper) → k < length xs → HasRun s c.args.self.now.time (slice_index_or xs k d) (slice_index_or ran k d)) c.as_mut_slice.ensures.value (c.run_loopers.ensures.rounds all) in
     let long = c.run_loopers.ensures.loopers.0 in
     let many = c.requires.stage.loopers.0 in
     let kept =
     subst (λ (xs : List StageLooper). AtEach (LooperKeeps HaveHeard) xs c.share.new.self.loopers.items) (with_items_is c.args.self.now.loopers ran (omega (arith, long, many, c.args.self.now.loopers.ok.0)))
     c.share.ensures.kept.loopers in
-    come_to_rest s c.args.self.now ran c.share.new.self c.requires.stage c.share.ensures.stage same c.share.ensures.shared c.run_loopers.ensures.loopers c.in_ok-run_loopers.ensures.on waits
+    come_to_rest s c.args.self.now ran c.share.new.self c.requires.stage c.share.ensures.stage same c.share.ensures.shared c.run_loopers.ensures.loopers c.in_ok-run_loopers.ensures.on c.args.self.now.time rounds waits
     kept still
+
+pub returns-clause-step : goal.returns-clause-step
+returns-clause-step g c step =
+    let s = c.args.script.now in
+    let ran = c.run_loopers.new.loopers in
+    let plays =
+    subst (λ (xs : List StageLooper). (k : ℕ) (d : StageLooper) → k < length xs → PlaysOn s c.args.self.now.time (slice_index_or xs k d) (slice_index_or ran k d)) c.as_mut_slice.ensures.value c.run_loopers.ensures.plays in
+    let long = c.run_loopers.ensures.loopers.0 in
+    let many = c.requires.stage.loopers.0 in
+    let kept =
+    subst (λ (xs : List StageLooper). AtEach (LooperKeeps HaveHeard) xs c.share.new.self.loopers.items) (with_items_is c.args.self.now.loopers ran (omega (arith, long, many, c.args.self.now.loopers.ok.0)))
+    c.share.ensures.kept.loopers in
+    round_in_step s c.requires.text c.args.self.now ran c.share.new.self c.requires.stage c.share.ensures.stage c.share.ensures.shared c.share.ensures.kept.time c.run_loopers.ensures.loopers c.in_ok-run_loopers.ensures.on plays
+    kept c.share.ensures.kept.controller.posters step

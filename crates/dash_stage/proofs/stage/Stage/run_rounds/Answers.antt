@@ -15,6 +15,7 @@ loop-preserved g c =
       done.time ∙ at.invariant.4,
       λ past timely. done.timely past (at.invariant.5 past timely),
       λ same. done.same,
+      λ step. done.step (at.invariant.7 step),
     )
 
 pub returns-in_err-run_round-clause-run : goal.returns-in_err-run_round-clause-run
@@ -35,3 +36,9 @@ returns-then-entries_seen-before-clause-rested g c all same =
     let as_many = sym c.entries_seen.ensures ∙ (c.if-entries_seen-before.true ∙ c.entries_seen-before.ensures) in
     done.rested all (c.loop.invariant.6 same)
     (grown_none (seen_by c.loop.self.controller.kit.posters.items) (seen_by c.run_round.new.self.controller.kit.posters.items) done.grown as_many)
+
+pub returns-then-entries_seen-before-clause-step : goal.returns-then-entries_seen-before-clause-step
+returns-then-entries_seen-before-clause-step g c step = c.in_ok-run_round.ensures.step (c.loop.invariant.7 step)
+
+pub returns-then-entries_seen-before-clause-ended : goal.returns-then-entries_seen-before-clause-ended
+returns-then-entries_seen-before-clause-ended g c ended = c.run_round.ensures.ended (c.loop.invariant.3 ended)

@@ -1,0 +1,10 @@
+use Rattle.std.proofs.Common.{inr, ap, ◌∙◌}
+use Rattle.std.proofs.lemmas.Bool.{or_left}
+use Rattle.dash_loopers.specs.declared.looper.StageLooper.{StageLooper}
+use Rattle.looper_run.specs.Round.{is_ended}
+use Rattle.dash_stage.proofs.side.fn.run_loopers.for_each_mut.Goals as goal
+
+pub returns-then-has : goal.returns-then-has
+returns-then-has g c =
+    let ran = c.run_round.ensures in
+    (ran.looper, ran.number, λ ended. ap (λ (z : StageLooper). is_ended z.last) (ran.round.stopped (or_left _ _ ended)) ∙ ended, λ all. ran.waits, λ all. ran.round, inr (ran.round, ran.plays))
