@@ -158,7 +158,7 @@ module _ (s : Script) (q : ℕ) where
 
     act_kept : (frame : Option ℕ) (a : Looper) (x : Act) → LooksAtOwn a → LooksAtOwn (after_act s q es fs frame a x)
     unfolding after_act
-    act_kept frame a (Dispatch n now route) h = dispatched_kept frame n now a (post_of es n) h
+    act_kept frame a (Dispatch n now route) h = dispatched_kept frame n now a (post_at es n) h
     act_kept frame a (Vsync stamp) h =
         one_more a.sent (record { queue = q; ask = Makes (Post (frame_message q 0 0 (stamp / 1000000))); reply = None; timing = NotBefore (millis_up stamp) }) h (λ other. refl)
     act_kept frame a (Paint g v) h = h
