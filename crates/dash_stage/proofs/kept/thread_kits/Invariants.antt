@@ -1,4 +1,4 @@
-use Rattle.std.proofs.Common.{length, ◌≡◌, List}
+use Rattle.std.proofs.Common.{length, List}
 use Rattle.loop_model.specs.declared.entry.Entry.{Entry}
 use Rattle.dash_stage.specs.Runs.{HaveRunFrom, HaveRunAll}
 use Rattle.dash_hall.specs.Hearing.{HaveSeenAll}
