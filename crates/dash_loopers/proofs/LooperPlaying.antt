@@ -31,22 +31,22 @@ use Rattle.dash_loopers.proofs.LooperStands.{stands_pulse, by_dispatch, sends_di
 
 -- ---- calls more, and looks more
 
-goes_one : (k : ℕ) (looks : List Entry) (now : ℕ) (a b : Looper) (x : Sent) → b.sent ≡ a.sent ++ x ∷ [] → IsTimedBy k looks now x.timing → GoesOnTo k looks now a b
-goes_one k looks now a b x sent timed = record { more = x ∷ []; sent = sent; timed = All-cons (λ y. IsTimedBy k looks now y.timing) x [] timed (All-nil (λ y. IsTimedBy k looks now y.timing)) }
+goes_one : (q k : ℕ) (looks : List Entry) (now : ℕ) (a b : Looper) (x : Sent) → b.sent ≡ a.sent ++ x ∷ [] → IsTimedBy q k looks now x.queue x.timing → GoesOnTo q k looks now a b
+goes_one q k looks now a b x sent timed = record { more = x ∷ []; sent = sent; timed = All-cons (λ y. IsTimedBy q k looks now y.queue y.timing) x [] timed (All-nil (λ y. IsTimedBy q k looks now y.queue y.timing)) }
 
 -- a pulse that came is due by now
-goes_pulsed : (k q : ℕ) (looks : List Entry) (now : ℕ) (stamp : Option ℕ) (a : Looper) → pulse_time stamp ≤ now → GoesOnTo k looks now a (pulsed q stamp a)
-goes_pulsed k q looks now None a due = goes_nowhere k looks now a
-goes_pulsed k q looks now (Some stamp) a due = goes_one k looks now a (pulsed q (Some stamp) a) _ refl due
+goes_pulsed : (k q : ℕ) (looks : List Entry) (now : ℕ) (stamp : Option ℕ) (a : Looper) → pulse_time stamp ≤ now → GoesOnTo q k looks now a (pulsed q stamp a)
+goes_pulsed k q looks now None a due = goes_nowhere q k looks now a
+goes_pulsed k q looks now (Some stamp) a due = goes_one q k looks now a (pulsed q (Some stamp) a) _ refl (due, refl)
 
 -- calls at the moment of a look
-goes_looked : (k : ℕ) (looks : List Entry) (now time : ℕ) (e : Entry) (a b : Looper) → Contains looks e → e.sender ≡ k → e.call ≡ Next time
-    → (more : List Sent) × (b.sent ≡ a.sent ++ more) × AllByRecursion (λ x. x.timing ≡ At time) more → GoesOnTo k looks now a b
-goes_looked k looks now time e a b among sender call m = record {
+goes_looked : (q k : ℕ) (looks : List Entry) (now time : ℕ) (e : Entry) (a b : Looper) → Contains looks e → e.sender ≡ k → e.call ≡ Next time
+    → (more : List Sent) × (b.sent ≡ a.sent ++ more) × AllByRecursion (λ x. x.timing ≡ At time) more → GoesOnTo q k looks now a b
+goes_looked q k looks now time e a b among sender call m = record {
   more = m.0;
   sent = m.1;
-  timed = All_indexed (λ x. IsTimedBy k looks now x.timing) m.0
-      (AllByRecursion-weaker (λ x. x.timing ≡ At time) (λ x. IsTimedBy k looks now x.timing) (λ x is. subst (IsTimedBy k looks now) (sym is) (e, among, sender, call)) m.0 m.2);
+  timed = All_indexed (λ x. IsTimedBy q k looks now x.queue x.timing) m.0
+      (AllByRecursion-weaker (λ x. x.timing ≡ At time) (λ x. IsTimedBy q k looks now x.queue x.timing) (λ x is. subst (IsTimedBy q k looks now x.queue) (sym is) (e, among, sender, call)) m.0 m.2);
 }
 
 module _ (s : Script) (q now : ℕ) (began : StageLooper) where
@@ -78,7 +78,7 @@ module _ (s : Script) (q now : ℕ) (began : StageLooper) where
       comes_on s q now a k began.looper.held.poster.view.seen past (e ∷ more) acts (acts' ++ Dispatch n time route ∷ []) parts parts' c (by_dispatch s q k n time m past more e take acts acts' parts parts' here c.state)
       (subst (λ (l : List Entry). Stands s q k l (acts' ++ Dispatch n time route ∷ []) parts' (by_dispatch s q k n time m past more e take acts acts' parts parts' here c.state)) (append_assoc past (e ∷ []) more)
       (stands_dispatch s q k n time m past more e take acts acts' parts parts' here c.state route text post c.stands))
-      (goes_looked k (e ∷ more) now time e c.state _ (Contains-append_left (e ∷ []) more e (Contains-push [] e)) take.sender_is take.call (sends_dispatch s q k n time m past more e take acts acts' parts parts' here c.state)))))
+      (goes_looked q k (e ∷ more) now time e c.state _ (Contains-append_left (e ∷ []) more e (Contains-push [] e)) take.sender_is take.call (sends_dispatch s q k n time m past more e take acts acts' parts parts' here c.state)))))
 
   pub playing_dispatch : (time : ℕ) (node : Node) (route : Route) (before after : Holding) (parts parts' : Parts) → IsLent before after
       → HasTaken (λ k es acts. IsPlaying s q now began k es acts parts) before node time

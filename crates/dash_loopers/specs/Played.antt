@@ -193,16 +193,16 @@ pub record Stands (s : Script) (q sender : ℕ) (es : List Entry) (acts : List A
   pub settled : a.painted ≡ []
   pub played : IsPlayed s q (calls_in sender es) parts a
 
--- a call is timed by a look of the sender among these entries, or it may come no later than at this moment
-abbrev pub IsTimedBy : ℕ → List Entry → ℕ → Timing → Type 0
-IsTimedBy sender looks now (At time) = (e : Entry) × Contains looks e × (e.sender ≡ sender) × (e.call ≡ Next time)
-IsTimedBy sender looks now (NotBefore time) = time ≤ now
+-- a call is timed by a look of the sender among these entries, or it is one on the looper's own queue that may come no later than at this moment
+abbrev pub IsTimedBy : ℕ → ℕ → List Entry → ℕ → ℕ → Timing → Type 0
+IsTimedBy q sender looks now queue (At time) = (e : Entry) × Contains looks e × (e.sender ≡ sender) × (e.call ≡ Next time)
+IsTimedBy q sender looks now queue (NotBefore time) = (time ≤ now) × (queue ≡ q)
 
 -- the second state has these calls more, each timed so
-pub record GoesOnTo (sender : ℕ) (looks : List Entry) (now : ℕ) (a b : Looper) : Type 0 where
+pub record GoesOnTo (q sender : ℕ) (looks : List Entry) (now : ℕ) (a b : Looper) : Type 0 where
   pub more : List Sent
   pub sent : b.sent ≡ a.sent ++ more
-  pub timed : All (λ x. IsTimedBy sender looks now x.timing) more
+  pub timed : All (λ x. IsTimedBy q sender looks now x.queue x.timing) more
 
 -- where a looper stands between two rounds
 abbrev pub HasCome : Script → StageLooper → Looper → Type 0
@@ -214,7 +214,7 @@ pub record ComesTo (s : Script) (q now : ℕ) (a : Looper) (sender : ℕ) (seen 
   pub stands : Stands s q sender es acts parts state
   pub looks : List Entry
   pub saw : es ≡ seen ++ looks
-  pub on : GoesOnTo sender looks now a state
+  pub on : GoesOnTo q sender looks now a state
 
 -- in a round at this moment: whatever state the looper stood at when the round began, it has gone on from there
 abbrev pub IsPlaying : Script → ℕ → ℕ → StageLooper → ℕ → List Entry → List Act → Parts → Type 0

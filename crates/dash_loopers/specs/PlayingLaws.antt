@@ -76,37 +76,37 @@ module _ (s : Script) (q k : ℕ) where
 -- ---- calls more, and looks more
 
 -- a call that was timed by some looks is timed by more
-pub timed_left : (k : ℕ) (looks more : List Entry) (now : ℕ) (t : Timing) → IsTimedBy k looks now t → IsTimedBy k (looks ++ more) now t
-timed_left k looks more now (At time) h = (h.0, Contains-append_left looks more h.0 h.1, h.2, h.3)
-timed_left k looks more now (NotBefore time) h = h
+pub timed_left : (q k : ℕ) (looks more : List Entry) (now queue : ℕ) (t : Timing) → IsTimedBy q k looks now queue t → IsTimedBy q k (looks ++ more) now queue t
+timed_left q k looks more now queue (At time) h = (h.0, Contains-append_left looks more h.0 h.1, h.2, h.3)
+timed_left q k looks more now queue (NotBefore time) h = h
 
-pub timed_right : (k : ℕ) (looks more : List Entry) (now : ℕ) (t : Timing) → IsTimedBy k more now t → IsTimedBy k (looks ++ more) now t
-timed_right k looks more now (At time) h = (h.0, Contains-append_right looks more h.0 h.1, h.2, h.3)
-timed_right k looks more now (NotBefore time) h = h
+pub timed_right : (q k : ℕ) (looks more : List Entry) (now queue : ℕ) (t : Timing) → IsTimedBy q k more now queue t → IsTimedBy q k (looks ++ more) now queue t
+timed_right q k looks more now queue (At time) h = (h.0, Contains-append_right looks more h.0 h.1, h.2, h.3)
+timed_right q k looks more now queue (NotBefore time) h = h
 
-pub goes_then : (k : ℕ) (looks more : List Entry) (now : ℕ) (a b c : Looper) → GoesOnTo k looks now a b → GoesOnTo k more now b c → GoesOnTo k (looks ++ more) now a c
-goes_then k looks more now a b c f g = record {
+pub goes_then : (q k : ℕ) (looks more : List Entry) (now : ℕ) (a b c : Looper) → GoesOnTo q k looks now a b → GoesOnTo q k more now b c → GoesOnTo q k (looks ++ more) now a c
+goes_then q k looks more now a b c f g = record {
   more = f.more ++ g.more;
   sent = g.sent ∙ (ap (λ l. l ++ g.more) f.sent ∙ append_assoc a.sent f.more g.more);
-  timed = All-append (λ x. IsTimedBy k (looks ++ more) now x.timing) f.more g.more
-      (λ i x near. timed_left k looks more now _ (f.timed i x near)) (λ i x near. timed_right k looks more now _ (g.timed i x near));
+  timed = All-append (λ x. IsTimedBy q k (looks ++ more) now x.queue x.timing) f.more g.more
+      (λ i x near. timed_left q k looks more now _ _ (f.timed i x near)) (λ i x near. timed_right q k looks more now _ _ (g.timed i x near));
 }
 
-pub goes_nowhere : (k : ℕ) (looks : List Entry) (now : ℕ) (a : Looper) → GoesOnTo k looks now a a
-goes_nowhere k looks now a = record { more = []; sent = sym (append-nil a.sent); timed = All-nil (λ x. IsTimedBy k looks now x.timing) }
+pub goes_nowhere : (q k : ℕ) (looks : List Entry) (now : ℕ) (a : Looper) → GoesOnTo q k looks now a a
+goes_nowhere q k looks now a = record { more = []; sent = sym (append-nil a.sent); timed = All-nil (λ x. IsTimedBy q k looks now x.queue x.timing) }
 
 -- ---- the laws
 
 module _ (s : Script) (q now : ℕ) where
   -- one step more
   pub comes_on : (a : Looper) (k : ℕ) (seen es looks : List Entry) (acts acts' : List Act) (parts parts' : Parts) (c : ComesTo s q now a k seen es acts parts) (b : Looper)
-      → Stands s q k (es ++ looks) acts' parts' b → GoesOnTo k looks now c.state b → ComesTo s q now a k seen (es ++ looks) acts' parts'
+      → Stands s q k (es ++ looks) acts' parts' b → GoesOnTo q k looks now c.state b → ComesTo s q now a k seen (es ++ looks) acts' parts'
   comes_on a k seen es looks acts acts' parts parts' c b stands on = record {
     state = b;
     stands = stands;
     looks = c.looks ++ looks;
     saw = ap (λ l. l ++ looks) c.saw ∙ append_assoc seen c.looks looks;
-    on = goes_then k c.looks looks now a c.state b c.on on;
+    on = goes_then q k c.looks looks now a c.state b c.on on;
   }
 
   module _ (began : StageLooper) where
@@ -114,14 +114,14 @@ module _ (s : Script) (q now : ℕ) where
     pub playing_others : (k : ℕ) (es : List Entry) (e : Entry) (acts : List Act) (parts : Parts) → (e.sender ≡ k → ⊥) → IsPlaying s q now began k es acts parts → IsPlaying s q now began k (es ++ e ∷ []) acts parts
     playing_others k es e acts parts apart meets = λ text a come.
         let c = meets text a come in
-        comes_on a k began.looper.held.poster.view.seen es (e ∷ []) acts acts parts parts c c.state (stands_beside s q k es (e ∷ []) acts parts c.state (calls_others k es e apart) c.stands) (goes_nowhere k (e ∷ []) now c.state)
+        comes_on a k began.looper.held.poster.view.seen es (e ∷ []) acts acts parts parts c c.state (stands_beside s q k es (e ∷ []) acts parts c.state (calls_others k es e apart) c.stands) (goes_nowhere q k (e ∷ []) now c.state)
 
     -- the looper's look that ends the queue
     pub playing_disposed : (k : ℕ) (es : List Entry) (e : Entry) (time : ℕ) (acts : List Act) (parts : Parts) → e.sender ≡ k → e.call ≡ Next time → e.reply ≡ Disposed → IsPlaying s q now began k es acts parts
         → IsPlaying s q now began k (es ++ e ∷ []) acts parts
     playing_disposed k es e time acts parts mine call reply meets = λ text a come.
         let c = meets text a come in
-        comes_on a k began.looper.held.poster.view.seen es (e ∷ []) acts acts parts parts c c.state (stands_beside s q k es (e ∷ []) acts parts c.state (calls_disposed k es e time mine call reply) c.stands) (goes_nowhere k (e ∷ []) now c.state)
+        comes_on a k began.looper.held.poster.view.seen es (e ∷ []) acts acts parts parts c c.state (stands_beside s q k es (e ∷ []) acts parts c.state (calls_disposed k es e time mine call reply) c.stands) (goes_nowhere q k (e ∷ []) now c.state)
 
     -- an idle handler ran, or a listener was told of an event
     pub playing_quiet : (k : ℕ) (es : List Entry) (x : Act) (acts : List Act) (parts : Parts) → IsQuiet x → IsPlaying s q now began k es acts parts → IsPlaying s q now began k es (acts ++ x ∷ []) parts
