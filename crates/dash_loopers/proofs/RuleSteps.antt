@@ -127,7 +127,7 @@ other_place q k k' j j' (inr p) (inr p') apart is = (let a : k ≡ j + 1 = p.1 i
 
 -- a call on another queue, by its poster at place j among the others
 module _ (s : Script) (q k j : ℕ) (h : Handler) (r : Request) (timing : Timing) (p p' : Sender) (made : List Entry) (parts parts' : Parts) (place : PlaceWithout q k j) (at : slice_get parts.others.items j ≡ Some p) (m : Makes p p' (call_by h r) [])
-  (others : parts'.others.items ≡ set parts.others.items j p') (root : parts'.root ≡ parts.root) (fired : parts'.fired.items ≡ parts.fired.items) (a : Looper) (is : IsPlayed s q made parts a) where
+    (others : parts'.others.items ≡ set parts.others.items j p') (root : parts'.root ≡ parts.root) (fired : parts'.fired.items ≡ parts.fired.items) (a : Looper) (is : IsPlayed s q made parts a) where
   -- what is sent with this call more
   sent_more : List Sent
   sent_more = a.sent ++ record { queue = k; ask = Asks (call_by h r); reply = None; timing = timing } ∷ []
@@ -138,13 +138,13 @@ module _ (s : Script) (q k j : ℕ) (h : Handler) (r : Request) (timing : Timing
       let items = parts.others.items in
       let near_j : j < length items = slice_get_within items j p at in
       let hit : k ≡ k' → AreFor IsSent [] (sent_on k' sent_more) (own (slice_index_or (set items j p') j' d)) = λ same.
-          (let here : get_or (set items j p') j' d ≡ p' = ap (λ (i : ℕ). get_or (set items j p') i d) (same_place q k k' j j' place place' same) ∙ get_or-set_same items j p' d near_j in
-          let before : AreFor IsSent [] (sent_on k a.sent) (own p) = subst (λ (z : Sender). AreFor IsSent [] (sent_on k a.sent) (own z)) (get_or_from_slice_get items j p d at) (is.elsewhere k j d place near_j) in
-          let after : AreFor IsSent [] (sent_on k sent_more) (own p') = subst (λ (l : List Entry). AreFor IsSent [] (sent_on k sent_more) l) (sym m.made) (one_for k a.sent (call_by h r) timing (own p) m.entry m.makes before) in
-          subst (λ (n : ℕ). AreFor IsSent [] (sent_on n sent_more) (own (get_or (set items j p') j' d))) same (subst (λ (z : Sender). AreFor IsSent [] (sent_on k sent_more) (own z)) (sym here) after)) in
+      (let here : get_or (set items j p') j' d ≡ p' = ap (λ (i : ℕ). get_or (set items j p') i d) (same_place q k k' j j' place place' same) ∙ get_or-set_same items j p' d near_j in
+      let before : AreFor IsSent [] (sent_on k a.sent) (own p) = subst (λ (z : Sender). AreFor IsSent [] (sent_on k a.sent) (own z)) (get_or_from_slice_get items j p d at) (is.elsewhere k j d place near_j) in
+      let after : AreFor IsSent [] (sent_on k sent_more) (own p') = subst (λ (l : List Entry). AreFor IsSent [] (sent_on k sent_more) l) (sym m.made) (one_for k a.sent (call_by h r) timing (own p) m.entry m.makes before) in
+      subst (λ (n : ℕ). AreFor IsSent [] (sent_on n sent_more) (own (get_or (set items j p') j' d))) same (subst (λ (z : Sender). AreFor IsSent [] (sent_on k sent_more) (own z)) (sym here) after)) in
       let miss : k ≢ k' → AreFor IsSent [] (sent_on k' sent_more) (own (slice_index_or (set items j p') j' d)) = λ apart.
-          (let there : get_or (set items j p') j' d ≡ get_or items j' d = get_or-set_other items j j' p' d (λ e. other_place q k k' j j' place place' apart (sym e)) in
-          subst (λ (z : Sender). AreFor IsSent [] (sent_on k' sent_more) (own z)) (sym there) (none_for k' k a.sent (call_by h r) timing (own (get_or items j' d)) apart (is.elsewhere k' j' d place' near))) in
+      (let there : get_or (set items j p') j' d ≡ get_or items j' d = get_or-set_other items j j' p' d (λ e. other_place q k k' j j' place place' apart (sym e)) in
+      subst (λ (z : Sender). AreFor IsSent [] (sent_on k' sent_more) (own z)) (sym there) (none_for k' k a.sent (call_by h r) timing (own (get_or items j' d)) apart (is.elsewhere k' j' d place' near))) in
       dite (ℕ_discrete k k') hit miss
 
   pub called_there : IsPlayed s q made parts' (with_call k (call_by h r) timing a)
@@ -184,7 +184,7 @@ pub rule_missed : (s : Script) (now : ℕ) (m : PostData) (place : ℕ) (r : Rul
 rule_missed s now m place r a never = by_count (slice_get a.fired place) never
   where
     by_count : (o : Option ℕ) → ((n : ℕ) → o ≡ Some n → fires m r n ≡ false)
-      → option_map_or (λ n. if fires m r n then record a { fired = slice_set a.fired place (n + 1); sent = a.sent ++ reaction s now r ∷ [] } else a) o a ≡ a
+        → option_map_or (λ n. if fires m r n then record a { fired = slice_set a.fired place (n + 1); sent = a.sent ++ reaction s now r ∷ [] } else a) o a ≡ a
     by_count None missed = refl
     by_count (Some n) missed = ap (λ (b : Bool). if b then record a { fired = slice_set a.fired place (n + 1); sent = a.sent ++ reaction s now r ∷ [] } else a) (missed n refl)
 
@@ -247,7 +247,7 @@ module _ (s : Script) (now : ℕ) (m : PostData) (a : Looper) where
   one_met r n ns done sent = by_test (fires m r n) refl
     where
       by_test : (b : Bool) → fires m r n ≡ b
-        → rule_met s now m (length done) r (with_both (done ++ n ∷ ns) sent) ≡ with_both ((done ++ (if fires m r n then n + 1 else n) ∷ []) ++ ns) (sent ++ (if fires m r n then reaction s now r ∷ [] else []))
+          → rule_met s now m (length done) r (with_both (done ++ n ∷ ns) sent) ≡ with_both ((done ++ (if fires m r n then n + 1 else n) ∷ []) ++ ns) (sent ++ (if fires m r n then reaction s now r ∷ [] else []))
       by_test true is =
           rule_fired s now m (length done) r (with_both (done ++ n ∷ ns) sent) n (at_count done n ns) is
           ∙ (ap (λ (l : List ℕ). with_both l (sent ++ reaction s now r ∷ [])) (set_at done n ns (n + 1) (length done) refl ∙ sym (append_assoc done ((n + 1) ∷ []) ns))
@@ -316,7 +316,7 @@ plays_fired s q now m place r made made' parts parts' parts'' h w (n, at, lt, fi
 pub plays_used_up : (s : Script) (q now : ℕ) (m : PostData) (place : ℕ) (r : Rule) (made : List Entry) (parts parts' : Parts) → FiresAt place r.times parts parts' false → Plays s q (rule_met s now m place r) made parts made parts'
 plays_used_up s q now m place r made parts parts' (same, used_up) text a is =
     let never : (n : ℕ) → slice_get a.fired place ≡ Some n → fires m r n ≡ false = λ n at.
-        (let many = used_up n (ap (λ (l : List ℕ). slice_get l place) is.fired ∙ at) in fires_not m r n (inr many)) in
+    (let many = used_up n (ap (λ (l : List ℕ). slice_get l place) is.fired ∙ at) in fires_not m r n (inr many)) in
     subst (λ (z : Parts). IsPlayed s q made z (rule_met s now m place r a)) (sym same) (played_as s q made parts _ _ (sym (rule_missed s now m place r a never)) is)
 
 -- one of another message does nothing

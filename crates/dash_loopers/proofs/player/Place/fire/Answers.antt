@@ -21,9 +21,9 @@ returns-then-p-rule-clause-plays g c =
 pub returns-then-fires-clause-plays : goal.returns-then-fires-clause-plays
 returns-then-fires-clause-plays g c =
     on_ok c.send.result _ _ c.send.ensures.plays (λ sends.
-      plays_fired c.args.self.now.script.now c.args.self.now.looper c.args.now c.args.p.now c.args.place c.args.rule.now (calls_of c.args.own.now.poster.now) (calls_of c.send.new.own.poster.now) c.args.parts.now c.fires.new.parts c.send.new.parts
-      (eq-eqb c.args.p.now.handler c.args.rule.now.handler c.if-p-rule.false) (eq-eqb c.args.p.now.what c.args.rule.now.what c.if-p-rule-2.false)
-      (subst (FiresAt c.args.place c.args.rule.now.times c.args.parts.now c.fires.new.parts) c.if-fires.true c.fires.ensures.fires) sends)
+    plays_fired c.args.self.now.script.now c.args.self.now.looper c.args.now c.args.p.now c.args.place c.args.rule.now (calls_of c.args.own.now.poster.now) (calls_of c.send.new.own.poster.now) c.args.parts.now c.fires.new.parts c.send.new.parts
+    (eq-eqb c.args.p.now.handler c.args.rule.now.handler c.if-p-rule.false) (eq-eqb c.args.p.now.what c.args.rule.now.what c.if-p-rule-2.false)
+    (subst (FiresAt c.args.place c.args.rule.now.times c.args.parts.now c.fires.new.parts) c.if-fires.true c.fires.ensures.fires) sends)
 
 pub returns-clause-plays : goal.returns-clause-plays
 returns-clause-plays g c =
