@@ -61,7 +61,7 @@ module _ {H K : Type 0} (d : Desk (Queue H K) H) (o : View (Queue H K) H) (m n :
           table = table;
           sender = sender;
           constants = ap (λ (z : View (Queue H K) H). z.constants) now;
-          turns = ap (λ (z : View (Queue H K) H). z.turns) now;
+          turns = ap (λ (z : View (Queue H K) H). z.turns) now ∙ omega arith;
           found = ap (λ (z : View (Queue H K) H). z.found) now;
           left = ap (λ (z : View (Queue H K) H). z.left) now;
           made = (λ i. made_in (sender i) (is_n i).0.seen) ∙ (heard_made ∙ sym idle.2.made);

@@ -45,6 +45,7 @@ module _ {H K : Type 0} (key : Constants H) (d e n : Desk (Queue H K) H) (x y : 
     made = made;
     rung = ap (λ (v : View (Queue H K) H). v.rung) after;
     heard = ap (λ (v : View (Queue H K) H). v.heard) after;
+    listens = ap (λ (v : View (Queue H K) H). v.listens) after;
   }
 
 -- a call between the two ends of a turn, whose clause P speaks of the desk's sender, is that turn

@@ -1,12 +1,12 @@
 -- Each step keeps the rule.
-use Rattle.std.proofs.Common.{◌≡◌, ℕ, zero, suc, ◌+◌, ◌%◌, ◌<◌, ◌≤◌, ◌≢◌, Bool, true, false, true≢false, cond, eqb, List, [], ◌∷◌, ◌++◌, length, get_or, set, take, drop, refl, sym, ap, ◌∙◌, subst, ⊎_elim, arith, Option, Some, None, length-set, get_or-set_other, get_or-set_same, eq-eqb, ne_eqb}
+use Rattle.std.proofs.Common.{◌≡◌, ℕ, zero, suc, ◌+◌, ◌%◌, ◌<◌, ◌≤◌, ◌≢◌, Bool, true, false, true≢false, cond, eqb, List, [], ◌∷◌, ◌++◌, length, get_or, set, take, drop, refl, sym, ap, ◌∙◌, subst, ⊎_elim, arith, Option, Some, None, length-append, length-set, get_or-set_other, get_or-set_same, eq-eqb, ne_eqb}
 use Rattle.std.specs.Prelude.{All}
 use Rattle.std.proofs.lemmas.List.Elements.{All-nil, All-cons, All-append, All-weaker, All-map, All-take, All-drop}
-use Rattle.std.proofs.lemmas.List.{take-append-drop}
+use Rattle.std.proofs.lemmas.List.{take-append-drop, length-map}
 use mathlib.Core.Logic.{dite}
 use mathlib.Core.Option.{some, none, some-ne-none, some-injective}
 use mathlib.Core.List.{IsPrefix}
-use native.Mathlib.Decide.{ℕ_discrete}
+use native.Mathlib.Decide.{ℕ_discrete, dec_lt}
 use lib.ListN.{get_elem?}
 use lib.Seq.{set-get_or}
 use prog.Atomic.{either}
@@ -18,7 +18,7 @@ use Rattle.loop_model.specs.Answers.{Setting}
 use Rattle.shared_queue.specs.Constants.{Constants, made_in, IsStateOf}
 use Rattle.queue_state.specs.Queue.{Queue}
 use Rattle.shared_queue.specs.declared.view.View.{View}
-use Rattle.shared_queue.specs.Turn.{IsFirst, Board, turn_of, holds, Counts, Fits, AtHome, Turn, new_senders, opening_view, counted, taking, giving, fresh, keeping, joined, gone}
+use Rattle.shared_queue.specs.Turn.{IsFirst, Board, turn_of, holds, Counts, Fits, AtHome, Turn, new_senders, opening_view, counted, taking, giving, fresh, dealt, keeping, joined, gone}
 use Rattle.shared_queue.proofs.Untold.{set_at, has_first, untold_before, untold_front, told_one}
 use Rattle.shared_queue.specs.Plays.{Sat, bare, sat, took, gave, MayGive, learned, rang, listened}
 use Rattle.loop_model.proofs.Sums.{total-append, total-set, term_le, terms_le}
@@ -102,6 +102,7 @@ module _ {H K : Type 0} (key : Constants H) where
     below = f.below;
     mine = All-weaker (Counts whole v.seen) (Counts whole x.entries) (λ p c. (c.0, ap (made_in p.0) same ∙ c.0)) v.senders f.mine;
     turn = λ _. (same, some_sender);
+    quiet = f.quiet;
   }
 
   abbrev Goes : Board H K → ℕ → ℕ → Sat H K → (ℕ → Sat H K → Type 0) → ℕ → Type 0
@@ -161,14 +162,15 @@ module _ {H K : Type 0} (key : Constants H) where
       (λ held. (m.0, keeps, tt, unmoved s r 0 id m.1 m.0 m.0 at refl refl refl refl (r.each id m.0 at), ((λ free. absurd (held free)), λ _. refl)))
 
   -- the view of a seat that gives the turn back, with the state x
-  given_fits : (v : View (Queue H K) H) (x : Queue H K) → ((c : Constants H) → v.constants ≡ Some c → c ≡ key) → IsPrefix v.seen x.entries → All (λ t. IsPrefix t v.seen) v.told → All (IsBelow key) v.senders → Fits key x.entries (giving v x)
-  given_fits v x constants more told below = record {
+  given_fits : (v : View (Queue H K) H) (x : Queue H K) → ((c : Constants H) → v.constants ≡ Some c → c ≡ key) → IsPrefix v.seen x.entries → All (λ t. IsPrefix t v.seen) v.told → All (IsBelow key) v.senders → (0 < v.rung → 0 < length v.senders) → Fits key x.entries (giving v x)
+  given_fits v x constants more told below quiet = record {
     constants = constants;
     seen = prefix_self x.entries;
     told = All-cons (λ t. IsPrefix t x.entries) v.seen v.told more (All-weaker (λ t. IsPrefix t v.seen) (λ t. IsPrefix t x.entries) (λ t p. prefix_trans t v.seen x.entries p more) v.told told);
     below = All-map (IsBelow key) (λ (p : ℕ × ℕ). (p.0, made_in p.0 x.entries)) v.senders below;
     mine = All-map (Counts x.entries x.entries) (λ (p : ℕ × ℕ). (p.0, made_in p.0 x.entries)) v.senders (λ k d l. (refl, refl));
     turn = λ e. absurd (true≢false (sym e));
+    quiet = λ rings. subst (λ (n : ℕ). 0 < n) (sym (length-map v.senders (λ (p : ℕ × ℕ). (p.0, made_in p.0 x.entries)))) (quiet rings);
   }
 
   -- another view stays so where the history grows by no entry of a sender of it
@@ -180,6 +182,7 @@ module _ {H K : Type 0} (key : Constants H) where
     below = f.below;
     mine = λ k d l. let c = f.mine k d l in (same k d l ∙ c.0, c.1);
     turn = λ e. absurd (true≢false (sym e ∙ no_turn));
+    quiet = f.quiet;
   }
 
   held_by : (v : View (Queue H K) H) → turn_of v ≡ 0 → v.has_turn ≡ false
@@ -238,7 +241,7 @@ module _ {H K : Type 0} (key : Constants H) where
           once = omega (arith, now);
           free = λ _. (x, set_here s.homes 0 (some (Some x)) (omega arith), own, refl);
           first = λ untold. absurd (told_one s.views id v w v.seen v.told at refl untold);
-          each = each_set x.entries s.views id w (given_fits v x f.constants (gives_more v x may) f.told f.below)
+          each = each_set x.entries s.views id w (given_fits v x f.constants (gives_more v x may) f.told f.below f.quiet)
               (λ j u other there. others_fit r.whole x.entries u (r.each j u there)
               (held_by u (omega (arith, terms_le turn_of s.views id j v u other at there, r.turns))) more
               (others_stay s r id j v u x at there other whole_seen may));
@@ -249,33 +252,35 @@ module _ {H K : Type 0} (key : Constants H) where
       )
 
   -- another view that has no turn and the same list
-  fits_with : (whole : List Entry) (v : View (Queue H K) H) (senders : List (ℕ × ℕ)) → Fits key whole v → (v.has_turn ≡ true → 0 < length senders) → All (IsBelow key) senders → All (Counts whole v.seen) senders → Fits key whole (keeping v senders)
-  fits_with whole v senders f some_sender below mine = record {
+  fits_with : (whole : List Entry) (v : View (Queue H K) H) (senders : List (ℕ × ℕ)) → Fits key whole v → (v.has_turn ≡ true → 0 < length senders) → (0 < v.rung → 0 < length senders) → All (IsBelow key) senders → All (Counts whole v.seen) senders → Fits key whole (keeping v senders)
+  fits_with whole v senders f some_sender quiet below mine = record {
     constants = f.constants;
     seen = f.seen;
     told = f.told;
     below = below;
     mine = mine;
     turn = λ has. ((f.turn has).0, some_sender has);
+    quiet = quiet;
   }
 
-  fits_fresh : (whole : List Entry) (v : View (Queue H K) H) (senders : List (ℕ × ℕ)) → Fits key whole v → All (IsBelow key) senders → All (Counts whole v.seen) senders → Fits key whole (fresh v senders)
-  fits_fresh whole v senders f below mine = record {
+  fits_fresh : (whole : List Entry) (v : View (Queue H K) H) (had : ℕ) (senders : List (ℕ × ℕ)) → Fits key whole v → All (IsBelow key) senders → All (Counts whole v.seen) senders → Fits key whole (record (fresh v senders) { turns = had })
+  fits_fresh whole v had senders f below mine = record {
     constants = f.constants;
     seen = f.seen;
     told = All-nil (λ t. IsPrefix t v.seen);
     below = below;
     mine = mine;
     turn = λ e. absurd (true≢false (sym e));
+    quiet = λ (rings : 0 < 0). absurd (omega arith);
   }
 
   -- a new seat comes with some of the sender numbers
-  pub splits_off : (id : ℕ) (v : View (Queue H K) H) (first second : List (ℕ × ℕ)) → (v.has_turn ≡ true → 0 < length second)
+  pub splits_off : (id : ℕ) (v : View (Queue H K) H) (had : ℕ) (first second : List (ℕ × ℕ)) → (v.has_turn ≡ true → 0 < length second) → (0 < v.rung → 0 < length v.senders → 0 < length second)
       → ((P : ℕ × ℕ → Type 0) → All P v.senders → All P first × All P second) → ((g : ℕ × ℕ → ℕ) → total g v.senders ≡ total g first + total g second)
-      → Splits (Turn key) id v (keeping v second) (fresh v first)
-  splits_off id v first second some_sender parts sums s r at =
+      → Splits (Turn key) id v (keeping v second) (record (fresh v first) { turns = had })
+  splits_off id v had first second some_sender quiet parts sums s r at =
       let w : View (Queue H K) H = keeping v second in
-      let u : View (Queue H K) H = fresh v first in
+      let u : View (Queue H K) H = record (fresh v first) { turns = had } in
       let f : Fits key r.whole v = r.each id v at in
       let mine = parts (Counts r.whole v.seen) f.mine in
       let below = parts (IsBelow key) f.below in
@@ -290,19 +295,19 @@ module _ {H K : Type 0} (key : Constants H) where
         free = r.free;
         first = λ untold. r.first (untold_before s.views id v w at (λ e. e) (untold_front (set s.views id w) (u ∷ []) untold));
         each = λ j x e. ⊎_elim
-            (λ (t : get_elem? (set s.views id w) j ≡ some x). each_set r.whole s.views id w (fits_with r.whole v second f some_sender below.1 mine.1) (λ i y _ e'. r.each i y e') j x t)
-            (λ (t : u ≡ x). subst (Fits key r.whole) t (fits_fresh r.whole v first f below.0 mine.0))
+            (λ (t : get_elem? (set s.views id w) j ≡ some x). each_set r.whole s.views id w (fits_with r.whole v second f some_sender (λ rings. quiet rings (f.quiet rings)) below.1 mine.1) (λ i y _ e'. r.each i y e') j x t)
+            (λ (t : u ≡ x). subst (Fits key r.whole) t (fits_fresh r.whole v had first f below.0 mine.0))
             (at_snoc (set s.views id w) u x j e);
         placed = λ n below. omega (arith, total-append (holds n) (set s.views id w) (u ∷ []), total-set (holds n) s.views id v w at, r.placed n below, sums (λ (p : ℕ × ℕ). cond (eqb p.0 n) 1 0));
         bell = r.bell ∙ ap (λ (n : ℕ). n % 18446744073709551616) (sym rings);
       }
 
-  pub deals : (id : ℕ) (v : View (Queue H K) H) → v.has_turn ≡ false → Splits (Turn key) id v (keeping v (drop 1 v.senders)) (fresh v (take 1 v.senders))
-  deals id v no_turn = splits_off id v (take 1 v.senders) (drop 1 v.senders) (λ has. absurd (true≢false (sym has ∙ no_turn)))
+  pub deals : (id : ℕ) (v : View (Queue H K) H) → v.has_turn ≡ false → v.rung ≡ 0 → Splits (Turn key) id v (keeping v (drop 1 v.senders)) (dealt v (take 1 v.senders))
+  deals id v no_turn no_rings = splits_off id v v.turns (take 1 v.senders) (drop 1 v.senders) (λ has. absurd (true≢false (sym has ∙ no_turn))) (λ rings some_sender. absurd (omega (arith, no_rings, rings)))
       (λ P all. (All-take P 1 v.senders all, All-drop P 1 v.senders all)) (λ g. ap (total g) (sym (take-append-drop 1 v.senders)) ∙ total-append g (take 1 v.senders) (drop 1 v.senders))
 
   pub notes : (id : ℕ) (v : View (Queue H K) H) → v.has_turn ≡ false → Splits (Turn key) id v v (fresh v [])
-  notes id v no_turn = splits_off id v [] v.senders (λ has. absurd (true≢false (sym has ∙ no_turn))) (λ P all. (All-nil P, all)) (λ g. omega arith)
+  notes id v no_turn = splits_off id v 0 [] v.senders (λ has. absurd (true≢false (sym has ∙ no_turn))) (λ rings some_sender. some_sender) (λ P all. (All-nil P, all)) (λ g. omega arith)
 
   -- a seat that takes in another has what both had
   joined_fits : (whole : List Entry) (v w : View (Queue H K) H) → v.has_turn ≡ false → Fits key whole v → Fits key whole w → Fits key whole (joined v w)
@@ -319,6 +324,12 @@ module _ {H K : Type 0} (key : Constants H) where
             (All-weaker (Counts whole v.seen) (Counts whole all) (λ p c. (c.0, made_in_between p.0 p.1 v.seen all whole both.0 both.2 c.1 c.0)) v.senders f.mine)
             (All-weaker (Counts whole w.seen) (Counts whole all) (λ p c. (c.0, made_in_between p.0 p.1 w.seen all whole both.1 both.2 c.1 c.0)) w.senders h.mine);
         turn = λ has. absurd (true≢false (sym has ∙ no_turn));
+        quiet = λ (rings : 0 < v.rung + w.rung).
+            let long : length (v.senders ++ w.senders) ≡ length v.senders + length w.senders = omega (arith, length-append v.senders w.senders) in
+            let some_sender : 0 < length (v.senders ++ w.senders) = dite (dec_lt 0 v.rung)
+            (λ here. let mine = f.quiet here in omega (arith, long, mine))
+            (λ apart. let there = h.quiet (omega (arith, rings, apart)) in omega (arith, long, there)) in
+            some_sender;
       }
 
   gone_fits : (whole : List Entry) → Fits {H = H} {K = K} key whole gone
@@ -329,6 +340,7 @@ module _ {H K : Type 0} (key : Constants H) where
     below = All-nil (IsBelow key);
     mine = All-nil (Counts whole []);
     turn = λ e. absurd (true≢false (sym e));
+    quiet = λ (rings : 0 < 0). absurd (omega arith);
   }
 
   pub joins_in : (id : ℕ) (v : View (Queue H K) H) (other : ℕ) (w : View (Queue H K) H) → v.has_turn ≡ false → w.has_turn ≡ false → Joins (Turn key) id v other w (joined v w) gone
@@ -366,14 +378,14 @@ module _ {H K : Type 0} (key : Constants H) where
       let f : Fits key r.whole m.0 = r.each id m.0 at in
       (m.0, keeps, tt, unmoved s r i id m.1 m.0 m.0 at refl refl refl refl f, (refl, f.told, All-weaker (Counts r.whole m.0.seen) (λ p. made_in p.0 m.0.seen ≡ p.1) (λ p c. c.1) m.0.senders f.mine))
 
-  pub listens : (slots i id : ℕ) (m : Sat H K) → Allows (Turn key) slots id m i (λ n. n) (listened (step slots i 0 0 none) m)
-  listens slots i id m s r wide at small =
+  pub listens : (slots id : ℕ) (m : Sat H K) → Allows (Turn key) slots id m 1 (λ n. n) (listened (step slots 1 0 0 none) m)
+  listens slots id m s r wide at small =
       let f : Fits key r.whole m.0 = r.each id m.0 at in
-      let w : View (Queue H K) H = record m.0 { heard = get_or s.words i 0 } in
-      (w, keeps, tt, unmoved s r i id m.1 m.0 w at refl refl refl refl (record { constants = f.constants; seen = f.seen; told = f.told; below = f.below; mine = f.mine; turn = f.turn }), refl)
+      let w : View (Queue H K) H = record m.0 { heard = get_or s.words 1 0; listens = m.0.listens + 1 } in
+      (w, keeps, tt, unmoved s r 1 id m.1 m.0 w at refl refl refl refl (record { constants = f.constants; seen = f.seen; told = f.told; below = f.below; mine = f.mine; turn = f.turn; quiet = f.quiet }), (refl, refl))
 
-  pub rings_it : (slots id : ℕ) (m : Sat H K) → Allows (Turn key) slots id m 1 (λ n. (n + 1) % 18446744073709551616) (rang (step slots 1 1 0 none) m)
-  rings_it slots id m s r wide at small =
+  pub rings_it : (slots id : ℕ) (m : Sat H K) → 0 < length m.0.senders → Allows (Turn key) slots id m 1 (λ n. (n + 1) % 18446744073709551616) (rang (step slots 1 1 0 none) m)
+  rings_it slots id m some_sender s r wide at small =
       let f : Fits key r.whole m.0 = r.each id m.0 at in
       let w : View (Queue H K) H = record m.0 { rung = m.0.rung + 1 } in
       let words_wide = r.wide in
@@ -396,7 +408,7 @@ module _ {H K : Type 0} (key : Constants H) where
           once = let o = r.once in omega (arith, apart);
           free = λ e. r.free (sym apart ∙ e);
           first = λ untold. r.first (untold_before s.views id m.0 w at (λ e. e) untold);
-          each = each_set r.whole s.views id w (record { constants = f.constants; seen = f.seen; told = f.told; below = f.below; mine = f.mine; turn = f.turn }) (λ j u _ e. r.each j u e);
+          each = each_set r.whole s.views id w (record { constants = f.constants; seen = f.seen; told = f.told; below = f.below; mine = f.mine; turn = f.turn; quiet = λ _. some_sender }) (λ j u _ e. r.each j u e);
           placed = λ n below. omega (arith, total-set (holds n) s.views id m.0 w at, r.placed n below);
           bell = here ∙ omega (arith, is, one_more);
         },
@@ -426,6 +438,7 @@ module _ {H K : Type 0} (key : Constants H) where
         below = all_below 0 key.setting.senders (omega arith);
         mine = no_calls 0 key.setting.senders;
         turn = λ e. absurd (true≢false (sym e));
+        quiet = λ (rings : 0 < 0). absurd (omega arith);
       }
         where
           all_below : (from count : ℕ) → from + count ≤ key.setting.senders → All (IsBelow key) (new_senders from count)
@@ -503,4 +516,5 @@ module _ {H K : Type 0} (key : Constants H) where
         below = All-nil (IsBelow key);
         mine = All-nil (Counts whole []);
         turn = λ e. absurd (true≢false (sym e));
+        quiet = λ (rings : 0 < 0). absurd (omega arith);
       }

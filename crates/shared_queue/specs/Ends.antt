@@ -34,6 +34,7 @@ module _ {H K : Type 0} where
     pub turns : p.view.turns ≡ 0
     pub rung : p.view.rung ≡ 0
     pub heard : p.view.heard ≡ 0
+    pub listens : p.view.listens ≡ 0
 
   abbrev pub AreNew : Shared H → List (Known H K) → Type 0
   AreNew q posters = AreInOrder q posters × ((k : ℕ) (d : Known H K) → k < length posters → IsNew (slice_index_or posters k d))

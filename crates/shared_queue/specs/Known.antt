@@ -56,6 +56,7 @@ module _ {H K : Type 0} where
     pub made : made_by after ≡ made_by before + (length y.entries - length x.entries)
     pub rung : after.view.rung ≡ before.view.rung
     pub heard : after.view.heard ≡ before.view.heard
+    pub listens : after.view.listens ≡ before.view.listens
 
   -- a call that is no turn leaves all but what was seen, and the numbers of the bell
   pub record IsSame (before after : Known H K) : Type 0 where

@@ -55,5 +55,6 @@ module _ {H K : Type 0} where
   abbrev pub rang : Play H K
   rang st m r n = n ≡ (record m.0 { rung = m.0.rung + 1 }, m.1)
 
+  -- the word that was read is the bell
   abbrev pub listened : Play H K
-  listened st m r n = n ≡ (record m.0 { heard = r }, m.1)
+  listened st m r n = (st.word ≡ 1) × (n ≡ (record m.0 { heard = r; listens = m.0.listens + 1 }, m.1))

@@ -43,6 +43,8 @@ module _ {H K : Type 0} where
     pub below : All (λ p. p.0 < key.setting.senders) v.senders
     pub mine : All (Counts whole v.seen) v.senders
     pub turn : v.has_turn ≡ true → (v.seen ≡ whole) × (0 < length v.senders)
+    -- only a seat with a sender number rings the bell
+    pub quiet : 0 < v.rung → 0 < length v.senders
 
   -- the state is at home, with these constants and this history
   abbrev pub AtHome : Constants H → List Entry → Board H K → Type 0
@@ -80,7 +82,7 @@ module _ {H K : Type 0} where
 
   -- the first seat: it has all sender numbers, and the history is empty
   abbrev pub opening_view : Constants H → View (Queue H K) H
-  opening_view key = record { constants = Some key; senders = new_senders 0 key.setting.senders; seen = []; told = []; has_turn = false; turns = 0; found = None; left = None; rung = 0; heard = 0 }
+  opening_view key = record { constants = Some key; senders = new_senders 0 key.setting.senders; seen = []; told = []; has_turn = false; turns = 0; found = None; left = None; rung = 0; heard = 0; listens = 0 }
 
   -- a seat that wins the turn finds the state x
   abbrev pub taking : View (Queue H K) H → Queue H K → View (Queue H K) H
@@ -92,15 +94,19 @@ module _ {H K : Type 0} where
 
   -- a new seat with some of the sender numbers
   abbrev pub fresh : View (Queue H K) H → List (ℕ × ℕ) → View (Queue H K) H
-  fresh v senders = record v { senders = senders; told = []; has_turn = false; turns = 0; found = None; left = None; rung = 0 }
+  fresh v senders = record v { senders = senders; told = []; has_turn = false; turns = 0; found = None; left = None; rung = 0; listens = 0 }
+
+  -- a new seat with some of them, which tells of as many turns
+  abbrev pub dealt : View (Queue H K) H → List (ℕ × ℕ) → View (Queue H K) H
+  dealt v senders = record (fresh v senders) { turns = v.turns }
 
   abbrev pub keeping : View (Queue H K) H → List (ℕ × ℕ) → View (Queue H K) H
   keeping v senders = record v { senders = senders }
 
   -- a seat that takes in another
   abbrev pub joined : View (Queue H K) H → View (Queue H K) H → View (Queue H K) H
-  joined v w = record v { senders = v.senders ++ w.senders; seen = longer v.seen w.seen; told = v.seen ∷ w.seen ∷ v.told; rung = v.rung + w.rung }
+  joined v w = record v { senders = v.senders ++ w.senders; seen = longer v.seen w.seen; told = v.seen ∷ w.seen ∷ v.told; turns = v.turns + w.turns; rung = v.rung + w.rung }
 
   -- what is left of that other
   abbrev pub gone : View (Queue H K) H
-  gone = record { constants = None; senders = []; seen = []; told = []; has_turn = false; turns = 0; found = None; left = None; rung = 0; heard = 0 }
+  gone = record { constants = None; senders = []; seen = []; told = []; has_turn = false; turns = 0; found = None; left = None; rung = 0; heard = 0; listens = 0 }

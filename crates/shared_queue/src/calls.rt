@@ -30,8 +30,9 @@ impl<K: Claim> Poster<K> {
         answer
     }
 
-    /// Posts a barrier at the moment `now`, in milliseconds, in place of what the message was, and answers its token. In
-    /// lockstep the moment is the queue's time. As `postSyncBarrier` of AOSP's `MessageQueue`.
+    /// Posts a barrier at the moment `now`, in milliseconds, in place of what the message was, and answers its token. In lockstep
+    /// the moment is the queue's time. NoMemory where its entries find no room; the message comes back. As `postSyncBarrier` of
+    /// AOSP's `MessageQueue`.
     pub fn post_barrier<R: Wait>(
         &mut self,
         rt: &R,
@@ -49,8 +50,8 @@ impl<K: Claim> Poster<K> {
         answer
     }
 
-    /// Removes the barrier of the token, and answers whether that wakes the looper. NotPosted where no barrier of it
-    /// stands. As `removeSyncBarrier` of AOSP's `MessageQueue`.
+    /// Removes the barrier of the token, hands its message out, and answers whether that wakes the looper. NotPosted where no
+    /// barrier of it stands, NoMemory where its entry finds no room. As `removeSyncBarrier` of AOSP's `MessageQueue`.
     pub fn remove_barrier<R: Wait>(
         &mut self,
         rt: &R,
@@ -67,8 +68,8 @@ impl<K: Claim> Poster<K> {
         answer
     }
 
-    /// Removes the messages that the filter matches, and hands them out in order. As `removeMessages`, `removeCallbacks` and
-    /// `removeCallbacksAndMessages` of the Android API reference.
+    /// Removes the messages that the filter matches, and hands them out in order. NoMemory where its entry finds no room. As
+    /// `removeMessages`, `removeCallbacks` and `removeCallbacksAndMessages` of the Android API reference's `Handler`.
     pub fn remove<R: Wait>(&mut self, rt: &R, queue: &SharedQueue<K>, filter: &Filter) -> Taking<K>
         requires queue { IsOf self.old queue.now }
         ensures done { RemovedBy self.old self.new filter.now result }
@@ -80,8 +81,9 @@ impl<K: Claim> Poster<K> {
         answer
     }
 
-    /// Quits: drops every message, or safely those that are due later than `now`, and hands them out. NotAllowed for the
-    /// queue of the main looper, AlreadyQuit, with its place, where a quit was done. As `quit` of AOSP's `MessageQueue`.
+    /// Quits: drops every message, or safely those that are due later than `now`, in milliseconds, and hands them out. NotAllowed
+    /// for the queue of the main looper, AlreadyQuit, with its place, where a quit was done, and NoMemory only in place of one of
+    /// these two. As `quit` of AOSP's `MessageQueue`.
     pub fn quit<R: Wait>(
         &mut self,
         rt: &R,
@@ -99,9 +101,9 @@ impl<K: Claim> Poster<K> {
         answer
     }
 
-    /// Moves the time of a queue in lockstep on to `now`, in milliseconds. The last sender alone does. Over where the queue
-    /// was disposed or halted, else Reached where `now` is not later than its time, else NotDrained where a message is due.
-    /// A rule of this project's profile.
+    /// Moves the time of a queue in lockstep on to `now`, in milliseconds. The last sender alone does. Over where the queue was
+    /// disposed of or halted, else Reached where `now` is not later than its time, else NotDrained where a message is due, else
+    /// NoMemory where its entry finds no room. A rule of this project's profile.
     pub fn advance<R: Wait>(&mut self, rt: &R, queue: &SharedQueue<K>, now: u64) -> Advancing
         requires queue { IsOf self.old queue.now }
         requires sender { self.old.sender + 1 ≡ queue.now.constants.setting.senders }
@@ -114,8 +116,8 @@ impl<K: Claim> Poster<K> {
         answer
     }
 
-    /// Stops the main looper. The last sender alone does. Over where that was done, else NotDrained where a message is due.
-    /// A rule of this project's profile.
+    /// Stops the main looper at `now`, in milliseconds. The last sender alone does. Over where that was done, else NotDrained
+    /// where a message is due. A rule of this project's profile.
     pub fn halt<R: Wait>(&mut self, rt: &R, queue: &SharedQueue<K>, now: u64) -> Halting
         requires queue { IsOf self.old queue.now }
         requires sender { self.old.sender + 1 ≡ queue.now.constants.setting.senders }
@@ -129,7 +131,7 @@ impl<K: Claim> Poster<K> {
     }
 
     /// Whether a message stands in the queue that the filter matches. It makes no entry. As `hasMessages` of the Android API
-    /// reference.
+    /// reference's `Handler`.
     pub fn has<R: Wait>(&mut self, rt: &R, queue: &SharedQueue<K>, filter: &Filter) -> bool
         requires queue { IsOf self.old queue.now }
         ensures { HasBy self.old self.new filter.now result }
@@ -140,7 +142,8 @@ impl<K: Claim> Poster<K> {
         answer
     }
 
-    /// The time of the queue, in milliseconds: the latest moment of its history. It makes no entry.
+    /// The time of the queue, in milliseconds: the latest moment of its history. It makes no entry. A rule of this project's
+    /// profile.
     pub fn time<R: Wait>(&mut self, rt: &R, queue: &SharedQueue<K>) -> u64
         requires queue { IsOf self.old queue.now }
         ensures { TimedBy self.old self.new result }

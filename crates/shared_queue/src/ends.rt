@@ -29,8 +29,9 @@ pub struct Retired<K: Claim> {
 }
 
 impl<K: Claim> SharedQueue<K> {
-    /// A queue in which nothing has happened, and the posters of the senders 0 to `senders` - 1, in order. There is at least
-    /// one. NoMemory where it found none.
+    /// The queue of a looper, in which nothing has happened, and the posters of the senders 0 to `senders` - 1, in order. There
+    /// is at least one. Its messages are of this home; on `main` it may not quit, and in lockstep its time moves by `advance`
+    /// alone. NoMemory where it found none. A rule of this project's profile.
     pub fn make(
         alloc: Global,
         home: K::Home,
@@ -105,7 +106,8 @@ impl<K: Claim> SharedQueue<K> {
         }
     }
 
-    /// Ends the sharing. It takes all posters, in the order of their senders. It takes no memory.
+    /// Ends the sharing, and answers the whole history with what stayed the same, and the messages that still stood in the queue.
+    /// It takes all posters, in the order of their senders. It takes no memory. A rule of this project's profile.
     pub fn retire(self, posters: Vec<Poster<K>>) -> Retired<K>
         requires { (length posters.items ≡ self.constants.setting.senders) × AreInOrder self posters.items }
         ensures looper { result.kept.looper ≡ self.constants.looper }

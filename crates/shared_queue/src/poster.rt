@@ -58,33 +58,34 @@ impl<K: Claim> Poster<K> {
         seat
     }
 
-    /// Its number among the senders of the queue.
+    /// Its number among the senders of the queue, counted from 0 (this project's profile).
     pub fn sender(&self) -> u32
         ensures { result ≡ self.now.sender }
     {
         self.desk.sender
     }
 
-    /// How many entries of the history it has made.
+    /// How many entries of the history it has made (this project's profile).
     pub fn made(&self) -> u64
         ensures { result ≡ made_by self.now }
     {
         self.desk.made
     }
 
-    /// How long the beginning of the history is that it has seen. All entries that it made stand there.
+    /// How long the beginning of the history is that it has seen. All entries that it made stand there (this project's profile).
     pub fn seen(&self) -> u64
         ensures { result ≡ length self.now.view.seen }
     {
         self.desk.seen
     }
 
-    /// Takes in what the other poster has seen. It takes no turn.
+    /// Takes in what the other poster of this queue has seen. It takes no turn. A rule of this project's profile.
     pub fn hear(&mut self, queue: &SharedQueue<K>, other: &mut Poster<K>)
         requires { IsOf self.old queue.now × IsOf other.old queue.now }
         ensures seen { self.new.view.seen ≡ longer self.old.view.seen other.old.view.seen }
         ensures begins { IsPrefix self.old.view.seen self.new.view.seen × IsPrefix other.old.view.seen self.new.view.seen }
         ensures same { IsSame self.old self.new × (self.new.view.rung ≡ self.old.view.rung) × (self.new.view.heard ≡ self.old.view.heard) }
+        ensures listens { self.new.view.listens ≡ self.old.view.listens }
         ensures other { other.new ≡ other.old }
     {
         let note = queue.table.shared.split_seat::<Note>(&mut other.desk.seat);
@@ -96,11 +97,12 @@ impl<K: Claim> Poster<K> {
         self.desk.seen = self.desk.seen.max(other.desk.seen);
     }
 
-    /// Rings the bell, which ends the wait of the queue's looper. It takes no turn.
+    /// Rings the bell, for the looper of the queue (`nativeWake` of AOSP's `MessageQueue`). It takes no turn.
     pub fn nudge(&mut self, queue: &SharedQueue<K>)
         requires { IsOf self.old queue.now }
         ensures rung { self.new.view.rung ≡ self.old.view.rung + 1 }
         ensures same { IsSame self.old self.new × (self.new.view.seen ≡ self.old.view.seen) × (self.new.view.heard ≡ self.old.view.heard) }
+        ensures listens { self.new.view.listens ≡ self.old.view.listens }
     {
         queue
             .table
@@ -111,7 +113,7 @@ impl<K: Claim> Poster<K> {
     // Reads the bell.
     pub(crate) fn listen(&mut self, queue: &SharedQueue<K>) -> u64
         requires { IsOf self.old queue.now }
-        ensures heard { self.new.view.heard ≡ result }
+        ensures heard { (self.new.view.heard ≡ result) × (self.new.view.listens ≡ self.old.view.listens + 1) }
         ensures same { IsSame self.old self.new × (self.new.view.seen ≡ self.old.view.seen) × (self.new.view.rung ≡ self.old.view.rung) }
     {
         let bell = queue.table.shared.load::<Listen>(&mut self.desk.seat, 1);

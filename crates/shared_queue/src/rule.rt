@@ -1,6 +1,6 @@
 // The rule of the table, and the names of its steps.
 ghost use Rattle.std.specs.Prelude.{[], take, drop};
-ghost use Rattle.shared_queue.specs.Turn.{Turn, opening_view, fresh, keeping, joined, gone};
+ghost use Rattle.shared_queue.specs.Turn.{Turn, opening_view, fresh, dealt, keeping, joined, gone};
 ghost use Rattle.shared_queue.specs.Plays.{sat, took, gave, learned, rang, listened};
 
 use crate::view::{QueueKey, View};
@@ -56,13 +56,13 @@ impl<K: Claim> Play<Option<QueueState<K>>, View<QueueState<K>, K::Home>> for Lis
     ghost then = { listened };
 }
 
-/// The new seat has the first sender number.
+/// The new seat has the first sender number, and tells of the turns that the old one had.
 pub(crate) struct Deal;
 
 impl<K: Claim> Split<View<QueueState<K>, K::Home>> for Deal {
     ghost left = { λ v. keeping v (drop 1 v.senders) };
 
-    ghost right = { λ v. fresh v (take 1 v.senders) };
+    ghost right = { λ v. dealt v (take 1 v.senders) };
 }
 
 /// The new seat knows what the old one has seen, and has no sender number.

@@ -41,4 +41,6 @@ pub struct View<S, H> {
     pub rung: u64,
     /// What it read last on the bell.
     pub heard: u64,
+    /// How often it read the bell.
+    pub listens: u64,
 }
