@@ -60,3 +60,9 @@ PhaseRan is_moment phases phase before after told told' = (b : Batch) × (told' 
 abbrev pub PhasesRan : (ℕ → Bool) → ℕ → ℕ → Known → Known → Option (List Run) → Option (List Run) → Type 0
 PhasesRan is_moment phases count before after told told' = (batches : List Batch) × (told' ≡ with_runs told (runs_of batches)) × (length batches ≡ count) × AreBatches is_moment 0 batches
     × PassRan phases count count before after batches
+
+-- some turns of a frame that wanted memory: with the runs told more, those of the phases taken before begin those of the phases taken now
+abbrev pub GivenUp : Known → Known → Option (List Run) → Option (List Run) → Type 0
+GivenUp before after told told' = (more : List Run) × (told' ≡ with_runs told more)
+    × IsPrefix (runs_of (batches_since (reverse before.view.seen)) ++ more) (runs_of (batches_since (reverse after.view.seen)))
+    × IsPrefix before.view.seen after.view.seen
