@@ -3,6 +3,7 @@ pub mod Working
 pub mod Turning
 pub mod Posts
 pub mod Taking
+pub mod Asking
 pub mod Quiet
 pub mod Steps
 pub mod Looking

@@ -12,10 +12,12 @@ use Rattle.looper_run.specs.declared.looper.Round.{Round}
 use Rattle.looper_run.specs.declared.looper.Round.TheVariants as round
 use Rattle.looper_run.specs.Holding.{Holding, Looping, IsAt}
 use Rattle.loop_model.specs.Dispatches.{act_dispatch, dispatches}
+use Rattle.looper_run.specs.Asked.{Listening, any_heard}
 use Rattle.looper_run.specs.Tests.{IsSameLooper}
 use Rattle.looper_run.specs.Looks.{HasDispatched, HasIdled, HasWaited, HasEnded, LooksUntil, DrainBy, IsBegun, IsRound}
 use Rattle.looper_run.specs.Round.{Works, LastLook, RoundBy}
 use Rattle.looper_run.proofs.Working.{works_none, works_then, works_lent}
+use Rattle.looper_run.proofs.Asking.{tells_as}
 use Rattle.looper_run.proofs.Quiet.{quiet_events}
 use Rattle.looper_run.proofs.Steps.{works_acts}
 use Rattle.looper_run.proofs.Looking.{works_dispatching, works_idling, works_waiting, works_ending}
@@ -114,12 +116,25 @@ pub ends_marked : (now : ℕ) (a b : Looping) → HasEnded now a b → HasEnded 
 ends_marked now a b h = record { look = h.look; home = h.home; journal = h.journal; idle_owed = h.idle_owed }
 
 -- a pulse, and then events
-pub works_beginning : (s : Setting) (now : ℕ) (a b : Looping) → IsBegun a b → Works s now a.held b.held 0
-works_beginning s now a b h =
+pub works_beginning : (called : List Listening → Type 0) (s : Setting) (now : ℕ) (a b : Looping) → IsBegun called a b → Works s now a.held b.held 0
+works_beginning called s now a b h =
     none_before s now a.held h.left b.held 0 (works_lent s now a.held h.left h.lent)
-    (works_acts s now h.left b.held h.poster (ap (λ (p : Tally). p.home) h.pass) h.looper (quiet_events h.left.journal.acts b.held.journal.acts h.told))
+    (works_acts s now h.left b.held h.poster (ap (λ (p : Tally). p.home) h.pass) h.looper (quiet_events called h.left.journal.acts b.held.journal.acts h.told))
 
-pub round_looks : (now : ℕ) (a b c : Looping) (r : Round) → IsBegun a b → DrainBy now b c r → IsRound now a c r
-round_looks now a b c (round.Drained n until) h d = (b, h, d)
-round_looks now a b c (round.Ended n) h d = (b, h, d)
-round_looks now a b c round.NoMemory h d = (b, h, inr d)
+-- what is said of the listenings can be weakened
+begun_as : (P Q : List Listening → Type 0) (a b : Looping) → ((heard : List Listening) → P heard → Q heard) → IsBegun P a b → IsBegun Q a b
+begun_as P Q a b weaker h = record { left = h.left; lent = h.lent; poster = h.poster; pass = h.pass; looper = h.looper; told = tells_as P Q h.left.journal.acts b.held.journal.acts weaker h.told; idle_owed = h.idle_owed }
+
+pub begun_any : (P : List Listening → Type 0) (a b : Looping) → IsBegun P a b → IsBegun any_heard a b
+begun_any P a b h = begun_as P any_heard a b (λ heard p. tt) h
+
+-- a round of which nothing is said of the listenings
+pub round_any : (P : List Listening → Type 0) (now : ℕ) (a b : Looping) (r : Round) → IsRound P now a b r → IsRound any_heard now a b r
+round_any P now a b (round.Drained n until) h = (h.0, begun_any P a h.0 h.1, h.2)
+round_any P now a b (round.Ended n) h = (h.0, begun_any P a h.0 h.1, h.2)
+round_any P now a b round.NoMemory h = h
+
+pub round_looks : (P Q : List Listening → Type 0) (now : ℕ) (a b c : Looping) (r : Round) → IsBegun P a b → ((heard : List Listening) → P heard → Q heard) → DrainBy now b c r → IsRound Q now a c r
+round_looks P Q now a b c (round.Drained n until) h weaker d = (b, begun_as P Q a b weaker h, d)
+round_looks P Q now a b c (round.Ended n) h weaker d = (b, begun_as P Q a b weaker h, d)
+round_looks P Q now a b c round.NoMemory h weaker d = (b, begun_any P a b h, inr d)

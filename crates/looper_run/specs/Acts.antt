@@ -1,5 +1,5 @@
 -- The dispatches in a journal and in a history.
-use Rattle.std.specs.Prelude.{◌≡◌, ℕ, ◌≤◌, ◌==◌, false, max, List, [], ◌∷◌, ◌++◌, Option, None, if◌then◌else◌, All}
+use Rattle.std.specs.Prelude.{◌≡◌, ℕ, ◌==◌, false, max, List, [], ◌∷◌, ◌++◌, Option, None, if◌then◌else◌, All}
 use Rattle.std.specs.List.{filter_map}
 use Rattle.loop_model.specs.declared.journal.Act.{Act}
 use Rattle.loop_model.specs.declared.journal.Act.TheVariants.{Dispatch, Idle, Event, Vsync, Paint}
@@ -35,14 +35,6 @@ IsIdle (Idle i k) = Unit {0}
 IsIdle (Event f e m) = ⊥
 IsIdle (Vsync s) = ⊥
 IsIdle (Paint g v) = ⊥
-
--- an event that a listener was told of, with a mask that it may answer
-abbrev pub IsEvent : Act → Type 0
-IsEvent (Dispatch n now route) = ⊥
-IsEvent (Idle i k) = ⊥
-IsEvent (Event f e m) = m ≤ 7
-IsEvent (Vsync s) = ⊥
-IsEvent (Paint g v) = ⊥
 
 -- a pulse that was delivered, or a gauge that was painted: what a dispatcher tells itself
 abbrev pub IsOfDispatcher : Act → Type 0

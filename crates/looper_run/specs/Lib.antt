@@ -1,5 +1,6 @@
 pub mod Holding
 pub mod Acts
+pub mod Asked
 pub mod Tests
 pub mod Told
 pub mod Looks

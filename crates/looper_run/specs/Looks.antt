@@ -8,7 +8,8 @@ use Rattle.looper_run.specs.declared.looper.Round.TheVariants as round
 use Rattle.looper_run.specs.declared.step.Step.{Step}
 use Rattle.looper_run.specs.declared.step.Step.TheVariants as step
 use Rattle.looper_run.specs.Holding.{Sender, Holding, Looping}
-use Rattle.looper_run.specs.Acts.{IsIdle, IsEvent, GrowsBy}
+use Rattle.looper_run.specs.Acts.{IsIdle, GrowsBy}
+use Rattle.looper_run.specs.Asked.{Listening, TellsOf, any_heard}
 use Rattle.looper_run.specs.Tests.{IsLent}
 use Rattle.looper_run.specs.Told.{Dispatches, GivesBack, AreRecycled}
 
@@ -88,19 +89,19 @@ DrainBy now before after (round.Drained dispatched until) = (last : Looping) × 
 DrainBy now before after (round.Ended dispatched) = (last : Looping) × LooksUntil now before dispatched last × HasEnded now last after
 DrainBy now before after round.NoMemory = (last : Looping) × (dispatched : ℕ) × LooksUntil now before dispatched last × GivesUp now last after
 
--- the beginning of a round: the dispatcher had its pulse, and then listeners were told of events
-pub record IsBegun (before after : Looping) : Type 0 where
+-- the beginning of a round: the dispatcher had its pulse, and then listeners were told of events; this holds of what they were asked
+pub record IsBegun (called : List Listening → Type 0) (before after : Looping) : Type 0 where
   -- what the dispatcher left
   pub left : Holding
   pub lent : IsLent before.held left
   pub poster : after.held.poster ≡ left.poster
   pub pass : after.held.pass ≡ left.pass
   pub looper : after.held.journal.looper ≡ left.journal.looper
-  pub told : GrowsBy IsEvent left.journal.acts after.held.journal.acts
+  pub told : TellsOf called left.journal.acts after.held.journal.acts
   pub idle_owed : after.idle_owed ≡ before.idle_owed
 
--- a round: it began, and then it looked for messages, unless memory was wanting before
-abbrev pub IsRound : ℕ → Looping → Looping → Round → Type 0
-IsRound now before after (round.Drained dispatched until) = (start : Looping) × IsBegun before start × DrainBy now start after (round.Drained dispatched until)
-IsRound now before after (round.Ended dispatched) = (start : Looping) × IsBegun before start × DrainBy now start after (round.Ended dispatched)
-IsRound now before after round.NoMemory = (start : Looping) × IsBegun before start × ((after ≡ start) ⊎ DrainBy now start after round.NoMemory)
+-- a round: it began, and then it looked for messages, unless memory was wanting before; unless memory was wanting, this holds of what the listeners were asked
+abbrev pub IsRound : (List Listening → Type 0) → ℕ → Looping → Looping → Round → Type 0
+IsRound called now before after (round.Drained dispatched until) = (start : Looping) × IsBegun called before start × DrainBy now start after (round.Drained dispatched until)
+IsRound called now before after (round.Ended dispatched) = (start : Looping) × IsBegun called before start × DrainBy now start after (round.Ended dispatched)
+IsRound called now before after round.NoMemory = (start : Looping) × IsBegun any_heard before start × ((after ≡ start) ⊎ DrainBy now start after round.NoMemory)

@@ -35,6 +35,7 @@ fn offer<D: Dispatcher>(d: &mut D, own: &mut Own, m: &Message<PoolClaim>, now: u
     ensures own { IsSameOwn own.old own.new }
     ensures lent { IsLent (held own.old) (held own.new) }
     ensures nudges { Rings own.old.poster.now own.new.poster.now (D.nudges d.old) (D.nudges d.new) }
+    ensures asked { D.asked d.new ≡ D.asked d.old }
     ensures route { IfSome result (IsRouteOf None) }
     ensures meets { IfSome result (PassesWith (D.Meets d.new) (held own.new) m.now now) }
     ensures awaits { IfSome result (λ r. D.Awaits d.new None) }
@@ -59,6 +60,7 @@ fn route<D: Dispatcher>(d: &mut D, own: &mut Own, m: &Message<PoolClaim>, now: u
     ensures own { IsSameOwn own.old own.new }
     ensures lent { IsLent (held own.old) (held own.new) }
     ensures nudges { Rings own.old.poster.now own.new.poster.now (D.nudges d.old) (D.nudges d.new) }
+    ensures asked { D.asked d.new ≡ D.asked d.old }
     ensures route { IfSome result (IsRouteOf (callback_of m.now.item)) }
     ensures meets { IfSome result (PassesWith (D.Meets d.new) (held own.new) m.now now) }
     ensures awaits { IfSome result (λ r. D.Awaits d.new None) }
@@ -89,6 +91,7 @@ fn dispatch_one<D: Dispatcher>(
     ensures own { IsSameOwn own.old own.new }
     ensures same { IsSameLooper (held own.old) (held own.new) }
     ensures nudges { Rings own.old.poster.now own.new.poster.now (D.nudges d.old) (D.nudges d.new) }
+    ensures asked { D.asked d.new ≡ D.asked d.old }
     ensures told { OnOk result (IsTold (held own.old) (held own.new) m.now now) }
     ensures given_up { OnErr result (IsLent (held own.old) (held own.new)) }
     ensures meets { OnOk result (Passes (D.Meets d.new) (held own.new)) }
@@ -121,6 +124,7 @@ pub(crate) fn dispatch<D: Dispatcher>(
     ensures own { IsSameOwn own.old own.new }
     ensures same { IsSameLooper (held own.old) (held own.new) }
     ensures nudges { Rings own.old.poster.now own.new.poster.now (D.nudges d.old) (D.nudges d.new) }
+    ensures asked { D.asked d.new ≡ D.asked d.old }
     ensures done { OnOk result (Dispatches (held own.old) (held own.new) node now) }
     ensures given_up { OnErr result (GivesBack (held own.old) (held own.new) node) }
     ensures meets { OnOk result (Passes (D.Meets d.new) (held own.new)) }

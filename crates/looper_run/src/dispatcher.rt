@@ -1,5 +1,5 @@
 //! What dispatches the messages of a looper.
-ghost use Rattle.std.specs.Prelude.{◌≡◌, ℕ, ◌≤◌, List, [], ◌∷◌, ◌++◌, Option, Some, None};
+ghost use Rattle.std.specs.Prelude.{◌≡◌, ℕ, ◌≤◌, List, [], ◌∷◌, ◌++◌, Option, Some, None, IfSome};
 ghost use Rattle.loop_model.specs.declared.journal.Act.{Act};
 ghost use Rattle.loop_model.specs.declared.journal.Route.TheVariants.{Callback, Intercepted, Handled};
 ghost use Rattle.loop_model.specs.declared.call.Call.TheVariants.{Next};
@@ -9,6 +9,7 @@ ghost use Rattle.message_slot.specs.Letter.{number_in};
 ghost use Rattle.message_slot.specs.Fields.{callback_of};
 ghost use Rattle.looper_run.specs.Holding.{Workplace, workplace, held, IsSameOwn};
 ghost use Rattle.looper_run.specs.Acts.{IsQuiet};
+ghost use Rattle.looper_run.specs.Asked.{Asked, Pulse, Listen, with_asked};
 ghost use Rattle.looper_run.specs.Tests.{Passes, PassesWith, IsLent, Rings, HasTaken, Unless, Intercepts, IsUntouched};
 
 use crate::own::Own;
@@ -18,7 +19,9 @@ use message_slot::Message;
 /// How a call of a dispatcher went.
 #[derive(Clone, Copy, Debug, PartialEq, Eq)]
 pub enum Did {
+    /// The message was taken.
     Yes,
+    /// The callback object left the message to the handler. Elsewhere it counts as Yes.
     No,
     /// The run is given up.
     NoMemory,
@@ -40,6 +43,9 @@ pub trait Dispatcher {
     /// How often its calls rang the bell by the looper's poster, modulo 2 to the 64.
     ghost nudges: { Self → ℕ };
 
+    /// What it was asked at the starts of rounds, where it tells that.
+    ghost asked: { Self → Option (List Asked) };
+
     /// What holds, between two dispatches, of the looper's sender number, of what it has seen of its queue's history, and
     /// of its journal's acts.
     ghost Meets: { Self → ℕ → List Entry → List Act → Type 0 };
@@ -54,9 +60,10 @@ pub trait Dispatcher {
         ensures serves { (w : Workplace) → Serves self.old w → Serves self.new w }
         ensures origin { origin self.new ≡ origin self.old }
         ensures meets { (s : ℕ) (es : List Entry) (acts : List Act) → Meets self.old s es acts → Meets self.new s es acts }
-        ensures nudges { nudges self.new ≡ nudges self.old };
+        ensures nudges { nudges self.new ≡ nudges self.old }
+        ensures asked { asked self.new ≡ asked self.old };
 
-    /// Called at the start of each round, where a pulse that was asked for is delivered. Only NoMemory counts as an answer.
+    /// Called once at the start of each round, where a pulse that was asked for is delivered. Only NoMemory counts as an answer.
     fn pulse(&mut self, own: &mut Own, now: u64) -> Did
         requires serves { Serves self.old (workplace (held own.old)) }
         requires awaits { Awaits self.old None }
@@ -67,12 +74,14 @@ pub trait Dispatcher {
         ensures own { IsSameOwn own.old own.new }
         ensures lent { IsLent (held own.old) (held own.new) }
         ensures nudges { Rings own.old.poster.now own.new.poster.now (nudges self.old) (nudges self.new) }
+        ensures asked { Unless result (asked self.new ≡ with_asked (asked self.old) (Pulse now ∷ [])) }
         ensures meets { Unless result (Passes (Meets self.new) (held own.new)) };
 
     /// Tells a listener of the events on a descriptor, and answers its new mask: INPUT 1, OUTPUT 2, ERROR 4, and with 0 it
-    /// is told no more.
-    fn listen(&mut self, fd: u32, events: u32, listener: u32) -> u32
-        ensures mask { result ≤ 7 }
+    /// is told no more. None where memory was wanting, and then the run is given up.
+    fn listen(&mut self, fd: u32, events: u32, listener: u32) -> Option<u32>
+        ensures mask { IfSome result (λ mask. mask ≤ 7) }
+        ensures asked { IfSome result (λ mask. asked self.new ≡ with_asked (asked self.old) (Listen (record { fd = fd; events = events; listener = listener; mask = mask }) ∷ [])) }
         ensures awaits { (awaited : Option ℕ) → Awaits self.old awaited → Awaits self.new awaited }
         ensures serves { (w : Workplace) → Serves self.old w → Serves self.new w }
         ensures origin { origin self.new ≡ origin self.old }
@@ -91,6 +100,7 @@ pub trait Dispatcher {
         ensures own { IsSameOwn own.old own.new }
         ensures lent { IsLent (held own.old) (held own.new) }
         ensures nudges { Rings own.old.poster.now own.new.poster.now (nudges self.old) (nudges self.new) }
+        ensures asked { asked self.new ≡ asked self.old }
         ensures meets { Unless result (PassesWith (Meets self.new) (held own.new) m.now now (Callback id)) };
 
     /// Asks the handler's callback object, which answers No where the handler itself is to handle the message.
@@ -105,6 +115,7 @@ pub trait Dispatcher {
         ensures own { IsSameOwn own.old own.new }
         ensures lent { IsLent (held own.old) (held own.new) }
         ensures nudges { Rings own.old.poster.now own.new.poster.now (nudges self.old) (nudges self.new) }
+        ensures asked { asked self.new ≡ asked self.old }
         ensures meets { Intercepts result (PassesWith (Meets self.new) (held own.new) m.now now Intercepted) (IsUntouched (held own.old) (held own.new) × HasTaken (Meets self.new) (held own.new) m.now now) };
 
     /// Handles a message that has no callback and was not intercepted. Only NoMemory counts as an answer.
@@ -119,6 +130,7 @@ pub trait Dispatcher {
         ensures own { IsSameOwn own.old own.new }
         ensures lent { IsLent (held own.old) (held own.new) }
         ensures nudges { Rings own.old.poster.now own.new.poster.now (nudges self.old) (nudges self.new) }
+        ensures asked { asked self.new ≡ asked self.old }
         ensures meets { Unless result (PassesWith (Meets self.new) (held own.new) m.now now Handled) };
 
     /// The test stays true where another sender makes an entry.

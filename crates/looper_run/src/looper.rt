@@ -4,6 +4,7 @@ ghost use mathlib.Core.List.{IsPrefix};
 ghost use Rattle.loop_model.specs.Lists.{longer};
 ghost use Rattle.shared_queue.specs.Known.{IsOf, IsSame};
 ghost use Rattle.looper_run.specs.Holding.{Workplace, workplace, IsAt, IsBeside};
+ghost use Rattle.looper_run.specs.Asked.{with_asked, asked_by_round};
 ghost use Rattle.looper_run.specs.Tests.{Passes, IsSameLooper, Rings};
 ghost use Rattle.looper_run.specs.Looks.{IsBegun, DrainBy, IsRound};
 ghost use Rattle.looper_run.specs.Round.{RoundBy, UnlessWanting, is_ended};
@@ -48,7 +49,8 @@ impl Model for Looper {
 }
 
 impl Looper {
-    /// A looper that has done nothing, by its poster of its own queue and a pass of the queue's pool. An idle turn is owed.
+    /// A looper that has done nothing, by its poster of its own queue and a pass of the queue's pool. An idle turn is owed. It
+    /// takes no memory. As `prepare` of AOSP's `Looper`.
     pub fn make(alloc: Global, looper: u32, poster: Poster<PoolClaim>, pass: PoolPass) -> Looper
         ensures held { result.held ≡ record { poster = poster; pass = pass; journal = record { looper = looper; acts = [] } } }
         ensures flags { (result.idle_owed ≡ true) × (result.ended ≡ false) }
@@ -65,7 +67,7 @@ impl Looper {
         }
     }
 
-    /// Its poster, its pass and its journal.
+    /// Its poster, its pass and its journal, at its end (this project's profile).
     pub fn into_parts(self) -> (Poster<PoolClaim>, PoolPass, Journal)
         ensures { (result.0 ≡ self.held.poster) × (result.1 ≡ self.held.pass) × (result.2 ≡ self.held.journal) }
     {
@@ -79,7 +81,7 @@ impl Looper {
         (poster, pass, journal)
     }
 
-    /// Lets its poster hear another poster of the queue. It takes no turn.
+    /// Lets its poster hear another poster of the queue. It takes no turn (this project's profile).
     pub fn hear(&mut self, queue: &SharedQueue<PoolClaim>, other: &mut Poster<PoolClaim>)
         requires { IsOf self.old.held.poster queue.now × IsOf other.old queue.now }
         ensures seen { self.new.held.poster.view.seen ≡ longer self.old.held.poster.view.seen other.old.view.seen }
@@ -91,7 +93,7 @@ impl Looper {
         self.poster.hear(queue, other);
     }
 
-    /// Lets another poster of the queue hear its poster. It takes no turn.
+    /// Lets another poster of the queue hear its poster. It takes no turn (this project's profile).
     pub fn tell(&mut self, queue: &SharedQueue<PoolClaim>, other: &mut Poster<PoolClaim>)
         requires { IsOf self.old.held.poster queue.now × IsOf other.old queue.now }
         ensures seen { other.new.view.seen ≡ longer other.old.view.seen self.old.held.poster.view.seen }
@@ -128,7 +130,7 @@ impl Looper {
         ensures origin { D.origin d.new ≡ D.origin d.old }
         ensures nudges { Rings self.old.held.poster self.new.held.poster (D.nudges d.old) (D.nudges d.new) }
         ensures round { RoundBy queue.now.constants.setting now self.old.held self.new.held result }
-        ensures looks { IsRound now self.old self.new result }
+        ensures looks { IsRound (λ heard. D.asked d.new ≡ with_asked (D.asked d.old) (asked_by_round now heard)) now self.old self.new result }
         ensures meets { UnlessWanting result (Passes (D.Meets d.new) self.new.held) }
         ensures awaits { UnlessWanting result (D.Awaits d.new None) }
         ensures ended { self.new.ended ≡ is_ended result }
@@ -154,7 +156,7 @@ impl Looper {
         ensures serves { (w : Workplace) → D.Serves d.old w → D.Serves d.new w }
         ensures origin { D.origin d.new ≡ D.origin d.old }
         ensures nudges { Rings self.old.held.poster self.new.held.poster (D.nudges d.old) (D.nudges d.new) }
-        ensures begun { IsBegun self.old self.new }
+        ensures begun { IsBegun (λ heard. OnOk result (D.asked d.new ≡ with_asked (D.asked d.old) (asked_by_round now heard))) self.old self.new }
         ensures meets { OnOk result (Passes (D.Meets d.new) self.new.held) }
         ensures awaits { OnOk result (D.Awaits d.new None) }
         ensures ended { self.new.ended ≡ self.old.ended }
@@ -189,6 +191,7 @@ impl Looper {
         ensures serves { (w : Workplace) → D.Serves d.old w → D.Serves d.new w }
         ensures origin { D.origin d.new ≡ D.origin d.old }
         ensures nudges { Rings self.old.held.poster self.new.held.poster (D.nudges d.old) (D.nudges d.new) }
+        ensures asked { D.asked d.new ≡ D.asked d.old }
         ensures round { RoundBy queue.now.constants.setting now self.old.held self.new.held result }
         ensures looks { DrainBy now self.old self.new result }
         ensures meets { UnlessWanting result (Passes (D.Meets d.new) self.new.held) }

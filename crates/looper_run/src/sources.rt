@@ -2,7 +2,8 @@
 ghost use Rattle.std.specs.Prelude.{◌≡◌, ℕ, List, ◌++◌, map, OnOk, Option};
 ghost use Rattle.loop_model.specs.declared.entry.Entry.{Entry};
 ghost use Rattle.looper_run.specs.Holding.{Workplace};
-ghost use Rattle.looper_run.specs.Acts.{idle_act, IsIdle, IsEvent, GrowsBy};
+ghost use Rattle.looper_run.specs.Acts.{idle_act, IsIdle, GrowsBy};
+ghost use Rattle.looper_run.specs.Asked.{Listen, with_asked, TellsOf};
 
 use crate::dispatch::tell;
 use crate::dispatcher::Dispatcher;
@@ -60,7 +61,7 @@ pub(crate) fn take_events<R: Wait, D: Dispatcher>(
     d: &mut D,
 ) -> Result<(), NoMemory>
     ensures looper { journal.new.looper ≡ journal.old.looper }
-    ensures told { GrowsBy IsEvent journal.old.acts journal.new.acts }
+    ensures told { TellsOf (λ heard. OnOk result (D.asked d.new ≡ with_asked (D.asked d.old) (map Listen heard))) journal.old.acts journal.new.acts }
     ensures awaits { (awaited : Option ℕ) → D.Awaits d.old awaited → D.Awaits d.new awaited }
     ensures serves { (w : Workplace) → D.Serves d.old w → D.Serves d.new w }
     ensures origin { D.origin d.new ≡ D.origin d.old }
@@ -81,7 +82,9 @@ pub(crate) fn take_events<R: Wait, D: Dispatcher>(
                     listener,
                 },
             ) => {
-                let mask = d.listen(fd, events, listener);
+                let Some(mask) = d.listen(fd, events, listener) else {
+                    return Err(NoMemory)
+                };
                 sources.lock(rt).fds.answer(fd, birth, seq, mask);
                 tell(journal, Act::Event { fd, events, mask })?;
             }

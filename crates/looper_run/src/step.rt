@@ -64,6 +64,7 @@ impl Looper {
         ensures serves { (w : Workplace) → D.Serves d.old w → D.Serves d.new w }
         ensures origin { D.origin d.new ≡ D.origin d.old }
         ensures nudges { Rings self.old.held.poster self.new.held.poster (D.nudges d.old) (D.nudges d.new) }
+        ensures asked { D.asked d.new ≡ D.asked d.old }
         ensures step { StepBy now self.old self.new result }
         ensures meets { UnlessStopped result (Passes (D.Meets d.new) self.new.held) }
         ensures awaits { UnlessStopped result (D.Awaits d.new None) }

@@ -1,8 +1,14 @@
 //! A dispatcher that records its calls.
-ghost use Rattle.std.specs.Prelude.{◌≡◌, ℕ, IfOk, IsTrue, None, true, false};
+ghost use Rattle.std.specs.Prelude.{◌≡◌, ℕ, IfOk, IsTrue, Option, Some, None, true, false, [], ◌∷◌, ◌++◌};
+ghost use Rattle.std.specs.List.{filter_map};
 ghost use Rattle.loop_model.specs.Items.{is_barrier};
 ghost use Rattle.shared_queue.specs.Known.{IsOf};
+ghost use Rattle.looper_run.specs.declared.dispatcher.Did.TheVariants as did;
+ghost use Rattle.looper_run.specs.declared.tests.Noted.{Noted};
+ghost use Rattle.looper_run.specs.declared.tests.Noted.TheVariants as noted;
 ghost use Rattle.looper_run.specs.Holding.{IsAt};
+ghost use Rattle.looper_run.specs.Asked.{Asked, Pulse, Listen};
+ghost use Rattle.looper_run.specs.Tests.{Unless};
 
 use crate::{Did, Dispatcher, Looper, Own, Round, Sources};
 use loop_model::{Act, NoMemory, Post, Route};
@@ -19,12 +25,33 @@ use std::test::Fail;
 
 #[derive(Clone, Copy, Debug, PartialEq, Eq)]
 enum Noted {
-    Pulse { now: u64 },
-    Before { number: u64 },
-    Listen { fd: u32, events: u32 },
-    Callback { id: u64, now: u64, told: usize },
-    Intercept { what: u32, now: u64, told: usize },
-    Handle { what: u32, now: u64, told: usize },
+    Pulse {
+        now: u64,
+    },
+    Before {
+        number: u64,
+    },
+    Listen {
+        fd: u32,
+        events: u32,
+        listener: u32,
+        mask: u32,
+    },
+    Callback {
+        id: u64,
+        now: u64,
+        told: usize,
+    },
+    Intercept {
+        what: u32,
+        now: u64,
+        told: usize,
+    },
+    Handle {
+        what: u32,
+        now: u64,
+        told: usize,
+    },
 }
 
 /// It notes how many acts were told when it was called. It intercepts the messages whose `what` is 2, and its listeners answer their identity as the new mask.
@@ -34,7 +61,10 @@ struct Recorder {
 }
 
 impl Recorder {
-    fn note(&mut self, call: Noted) -> Did {
+    fn note(&mut self, call: Noted) -> Did
+        ensures noted { Unless result (self.new.calls.items ≡ self.old.calls.items ++ call ∷ []) }
+        ensures lost { result ≡ did.NoMemory → self.new.calls.items ≡ self.old.calls.items }
+    {
         match self.calls.push(call) {
             Ok(()) => Did::Yes,
             Err(_) => Did::NoMemory,
@@ -51,6 +81,8 @@ impl Dispatcher for Recorder {
 
     ghost nudges = { λ d. 0 };
 
+    ghost asked = { λ d. Some (filter_map (λ (c : Noted). elim c as (λ x. Option Asked) [ noted.Pulse now ↦ Some (Pulse now) | noted.Before number ↦ None | noted.Listen fd events listener mask ↦ Some (Listen (record { fd = fd; events = events; listener = listener; mask = mask })) | noted.Callback id now told ↦ None | noted.Intercept what now told ↦ None | noted.Handle what now told ↦ None ]) d.calls.items) };
+
     ghost Meets = { λ d s es acts. IsTrue true };
 
     ghost Awaits = { λ d awaited. IsTrue true };
@@ -63,9 +95,19 @@ impl Dispatcher for Recorder {
         self.note(Noted::Pulse { now })
     }
 
-    fn listen(&mut self, fd: u32, events: u32, listener: u32) -> u32 {
-        self.note(Noted::Listen { fd, events });
-        listener.min(7)
+    fn listen(&mut self, fd: u32, events: u32, listener: u32) -> Option<u32> {
+        let mask = listener.min(7);
+        let noted = self.note(Noted::Listen {
+            fd,
+            events,
+            listener,
+            mask,
+        });
+        match noted {
+            Did::Yes => Some(mask),
+            Did::No => Some(mask),
+            Did::NoMemory => None,
+        }
     }
 
     fn run_callback(&mut self, own: &mut Own, id: u64, m: &Message<PoolClaim>, now: u64) -> Did {
@@ -304,6 +346,28 @@ fn listeners_answer_what_is_watched(rt: HostRuntime) -> Result<(), Fail> {
         .run_round(&rt, &o.queue, &o.pool, &sources, &mut d, 1);
     assert!(rt; sources.lock(&rt).fds.watched(5) == Some(6));
     assert!(rt; sources.lock(&rt).fds.watched(6).is_none());
+    let calls = [
+        Noted::Pulse { now: 1 },
+        Noted::Listen {
+            fd: 5,
+            events: 1,
+            listener: 2,
+            mask: 2,
+        },
+        Noted::Listen {
+            fd: 5,
+            events: 2,
+            listener: 2,
+            mask: 2,
+        },
+        Noted::Listen {
+            fd: 6,
+            events: 1,
+            listener: 0,
+            mask: 0,
+        },
+    ];
+    assert!(rt; d.calls.as_slice() == calls.as_slice());
     let (_, _, journal) = o.looper.into_parts();
     let acts = [
         Act::Event {

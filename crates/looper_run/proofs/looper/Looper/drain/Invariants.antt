@@ -10,6 +10,7 @@ invariant-loop g l = record {
   serves : (w : Workplace) → g.D.Dispatcher.Serves l.initial.d w → g.D.Dispatcher.Serves l.d w;
   origin : g.D.Dispatcher.origin l.d ≡ g.D.Dispatcher.origin l.initial.d;
   nudges : Rings l.initial.self.held.poster l.self.held.poster (g.D.Dispatcher.nudges l.initial.d) (g.D.Dispatcher.nudges l.d);
+  asked : g.D.Dispatcher.asked l.d ≡ g.D.Dispatcher.asked l.initial.d;
   meets : Passes (g.D.Dispatcher.Meets l.d) l.self.held;
   awaits : g.D.Dispatcher.Awaits l.d None;
   going : l.self.ended ≡ false;
