@@ -1,7 +1,8 @@
 //! The calls of a sender that go by no handler: barriers and quits.
-ghost use Rattle.std.specs.Prelude.{◌≡◌, ◌≤◌, [], ◌∷◌, All, IfOk, OnOk, OnErr};
+ghost use Rattle.std.specs.Prelude.{◌≡◌, [], ◌∷◌, All, IfOk, OnOk, OnErr};
 ghost use Rattle.loop_model.specs.declared.call.Call.TheVariants.{Barrier, Unbarrier, Quit};
 ghost use Rattle.message_pool.specs.Obtain.{IsNodeOf};
+ghost use Rattle.handler_post.specs.Supply.{BringsBack};
 ghost use Rattle.handler_post.specs.Ways.{IsReady, IsSameWay};
 ghost use Rattle.dash_hall.specs.Growth.{own, WayGoesOn, WayMakes, QuitsOf};
 
@@ -89,7 +90,7 @@ pub fn recycle_all(pool: &Pool, pass: &mut PoolPass, mut nodes: NodeList<Message
     requires pass { pass.old.home ≡ pool.now }
     requires nodes { All (IsNodeOf pool.now) nodes }
     ensures home { pass.new.home ≡ pool.now }
-    ensures back { pass.old.back ≤ pass.new.back }
+    ensures back { BringsBack nodes pass.old pass.new }
 {
     while let Some(node) = nodes.pop_front() {
         pool.recycle(pass, node);

@@ -1,10 +1,10 @@
 //! The looper on which a choreographer runs, as the choreographer sees it.
-ghost use Rattle.std.specs.Prelude.{◌≡◌, ◌<◌, ℕ, ◌==◌, [], ◌∷◌, IfOk, OnOk};
+ghost use Rattle.std.specs.Prelude.{◌≡◌, ◌<◌, ℕ, ◌==◌, [], ◌∷◌, IfOk, OnOk, OnErr};
 ghost use mathlib.Core.List.{IsPrefix};
 ghost use Rattle.loop_model.specs.declared.call.Call.TheVariants.{Barrier, Unbarrier};
 ghost use Rattle.choreographer.specs.Known.{IsOf as IsFrameOf};
-ghost use Rattle.choreographer.specs.Calls.{PulsedBy};
-ghost use Rattle.dash_hall.specs.Growth.{GoesOn, Makes};
+ghost use Rattle.choreographer.specs.Calls.{PulsedBy, DueBy};
+ghost use Rattle.dash_hall.specs.Growth.{own, GoesOn, Makes};
 ghost use Rattle.dash_hall.specs.Kits.{frame_badge_of};
 ghost use Rattle.dash_hall.specs.Hosts.{Origin, origin_of, IsHost, nanos_of, sends_by, IsPlaced, PlacesBy};
 
@@ -78,6 +78,7 @@ impl<'a, R: Wait> Host<'a, R> {
         ensures ready { IsHost (origin_of self.new.queue.now self.new.pool.now self.new.poster.ghost_name self.new.pass.ghost_name self.new.began.now.value self.new.pass_began.now.value self.new.handler.id self.new.now) self.new.poster.now self.new.pass.now }
         ensures origin { origin_of self.new.queue.now self.new.pool.now self.new.poster.ghost_name self.new.pass.ghost_name self.new.began.now.value self.new.pass_began.now.value self.new.handler.id self.new.now ≡ origin_of self.old.queue.now self.old.pool.now self.old.poster.ghost_name self.old.pass.ghost_name self.old.began.now.value self.old.pass_began.now.value self.old.handler.id self.old.now }
         ensures made { IfOk result (λ token. Makes self.old.poster.now self.new.poster.now (Barrier 0) (token ∷ [])) }
+        ensures none { OnErr result (own self.new.poster.now ≡ own self.old.poster.now) }
     {
         let mut way = Way {
             queue: self.queue,
@@ -94,6 +95,7 @@ impl<'a, R: Wait> Host<'a, R> {
         ensures ready { IsHost (origin_of self.new.queue.now self.new.pool.now self.new.poster.ghost_name self.new.pass.ghost_name self.new.began.now.value self.new.pass_began.now.value self.new.handler.id self.new.now) self.new.poster.now self.new.pass.now }
         ensures origin { origin_of self.new.queue.now self.new.pool.now self.new.poster.ghost_name self.new.pass.ghost_name self.new.began.now.value self.new.pass_began.now.value self.new.handler.id self.new.now ≡ origin_of self.old.queue.now self.old.pool.now self.old.poster.ghost_name self.old.pass.ghost_name self.old.began.now.value self.old.pass_began.now.value self.old.handler.id self.old.now }
         ensures made { OnOk result (Makes self.old.poster.now self.new.poster.now (Unbarrier token) []) }
+        ensures none { OnErr result (own self.new.poster.now ≡ own self.old.poster.now) }
     {
         let mut way = Way {
             queue: self.queue,
@@ -117,18 +119,19 @@ impl<'a, R: Wait> Host<'a, R> {
         c.on_vsync(self.rt, pass, self)
     }
 
-    /// Schedules a frame where the phase has a due callback and none is scheduled (`doScheduleCallback` of AOSP's `Choreographer`). The
-    /// pass is one of the choreographer, and the phase one of its phases.
-    pub fn on_due(&mut self, c: &Choreographer, pass: &mut FramePass, phase: u32)
+    /// Schedules a frame where the phase has a due callback and none is scheduled, and answers whether it did (`doScheduleCallback` of
+    /// AOSP's `Choreographer`). The pass is one of the choreographer, and the phase one of its phases.
+    pub fn on_due(&mut self, c: &Choreographer, pass: &mut FramePass, phase: u32) -> bool
         requires ready { IsHost (origin_of self.old.queue.now self.old.pool.now self.old.poster.ghost_name self.old.pass.ghost_name self.old.began.now.value self.old.pass_began.now.value self.old.handler.id self.old.now) self.old.poster.now self.old.pass.now }
         requires pass { IsFrameOf pass.old c.now × (phase < c.now.constants.phases) }
         ensures ready { IsHost (origin_of self.new.queue.now self.new.pool.now self.new.poster.ghost_name self.new.pass.ghost_name self.new.began.now.value self.new.pass_began.now.value self.new.handler.id self.new.now) self.new.poster.now self.new.pass.now }
         ensures origin { origin_of self.new.queue.now self.new.pool.now self.new.poster.ghost_name self.new.pass.ghost_name self.new.began.now.value self.new.pass_began.now.value self.new.handler.id self.new.now ≡ origin_of self.old.queue.now self.old.pool.now self.old.poster.ghost_name self.old.pass.ghost_name self.old.began.now.value self.old.pass_began.now.value self.old.handler.id self.old.now }
         ensures pass { frame_badge_of pass.new ≡ frame_badge_of pass.old }
+        ensures due { DueBy pass.old pass.new (λ n. n == nanos_of self.old.now) phase result }
         ensures seen { IsPrefix pass.old.view.seen pass.new.view.seen }
         ensures sends { sends_by self.new.handler.id self.new.poster.now ≡ sends_by self.old.handler.id self.old.poster.now }
     {
-        c.on_due(self.rt, pass, self, phase);
+        c.on_due(self.rt, pass, self, phase)
     }
 
     /// Posts a frame callback for the moment in `delay` milliseconds. A refused message for its due time stands in the history. The pass

@@ -6,13 +6,13 @@ use Rattle.dash_hall.proofs.barriers.quit.Goals as goal
 pub returns-in-Done-clause-on : goal.returns-in-Done-clause-on
 returns-in-Done-clause-on g c =
     let w = c.args.way.now in
-    let kept : Keeps w.pass.now c.recycle_all.new.pass = record { home = c.recycle_all.ensures.home ∙ sym c.requires.pass; back = c.recycle_all.ensures.back } in
+    let kept : Keeps w.pass.now c.recycle_all.new.pass = record { home = c.recycle_all.ensures.home ∙ sym c.requires.pass; back = omega (arith, c.recycle_all.ensures.back.0) } in
     (quits _ _ _ _ _ _ _ kept c.in-Done.ensures.done).0
 
 pub returns-in-Done-clause-made : goal.returns-in-Done-clause-made
 returns-in-Done-clause-made g c =
     let w = c.args.way.now in
-    let kept : Keeps w.pass.now c.recycle_all.new.pass = record { home = c.recycle_all.ensures.home ∙ sym c.requires.pass; back = c.recycle_all.ensures.back } in
+    let kept : Keeps w.pass.now c.recycle_all.new.pass = record { home = c.recycle_all.ensures.home ∙ sym c.requires.pass; back = omega (arith, c.recycle_all.ensures.back.0) } in
     (quits _ _ _ _ _ _ _ kept c.in-Done.ensures.done).1
 
 pub returns-in-AlreadyQuit-clause-on : goal.returns-in-AlreadyQuit-clause-on
