@@ -6,4 +6,5 @@ pub mod ThreadLabels
 pub mod ThreadRuns
 pub mod ThreadBlocks
 pub mod ThreadFrames
+pub mod ThreadFraming
 pub mod ThreadFrameRuns

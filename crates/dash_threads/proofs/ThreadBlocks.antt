@@ -9,7 +9,7 @@ use Rattle.run_model.specs.Planned.{Timed, lines_of}
 use Rattle.dash_threads.specs.declared.thread.PostingThread.{PostingThread}
 use Rattle.dash_threads.specs.Threads.{IsUpTo, Takes, HasRun, timed_in}
 
-abbrev at_time : ℕ → Line → Timed
+abbrev pub at_time : ℕ → Line → Timed
 at_time time l = record { time = time; command = l.command }
 
 timed_append : (n time : ℕ) (xs ys : List Line) → timed_in n time (xs ++ ys) ≡ timed_in n time xs ++ timed_in n time ys
@@ -28,6 +28,28 @@ begins s time all t = λ past rest are up. subst (λ (ls : List Timed). IsUpTo s
 regroup : (a b c d : List Timed) (x : Timed) → (a ++ b) ++ (x ∷ (c ++ d)) ≡ a ++ ((b ++ (x ∷ c)) ++ d)
 regroup a b c d x = append_assoc a b (x ∷ (c ++ d)) ∙ ap (λ (l : List Timed). a ++ l) (sym (append_assoc b (x ∷ c) d))
 
+-- the thread's lines, parted at one of them
+pub split_at : (n time : ℕ) (all : List Line) (i : ℕ) (d l : Line) (past rest : List Timed) → i < length all → l ≡ get_or all i d → l.thread ≡ n
+    → (past ++ timed_in n time (take i all)) ++ (at_time time l ∷ (timed_in n time (drop (i + 1) all) ++ rest)) ≡ past ++ (timed_in n time all ++ rest)
+split_at n time all i d l past rest near is own =
+    let before = timed_in n time (take i all) in
+    let after = timed_in n time (drop (i + 1) all) in
+    let here : drop i all ≡ l ∷ drop (i + 1) all = drop_more all i d near ∙ ap (λ (x : Line). x ∷ drop (i + 1) all) (sym is) in
+    let whole : timed_in n time all ≡ before ++ (at_time time l ∷ after) =
+    ap (timed_in n time) (sym (take-append-drop i all)) ∙ (timed_append n time (take i all) (drop i all)
+    ∙ ap (λ (x : List Timed). before ++ x) (ap (timed_in n time) here ∙ timed_own n time l (drop (i + 1) all) own)) in
+    regroup past before after rest (at_time time l) ∙ ap (λ (x : List Timed). past ++ (x ++ rest)) (sym whole)
+
+pub own_more : (n time : ℕ) (all : List Line) (i : ℕ) (d l : Line) → i < length all → l ≡ get_or all i d → l.thread ≡ n → timed_in n time (take (i + 1) all) ≡ timed_in n time (take i all) ++ at_time time l ∷ []
+own_more n time all i d l near is own =
+    let before = timed_in n time (take i all) in
+    ap (timed_in n time) (take_more all i d near ∙ ap (λ (x : Line). take i all ++ x ∷ []) (sym is)) ∙ (timed_append n time (take i all) (l ∷ []) ∙ ap (λ (x : List Timed). before ++ x) (timed_own n time l [] own))
+
+pub other_more : (n time : ℕ) (all : List Line) (i : ℕ) (d l : Line) → i < length all → l ≡ get_or all i d → l.thread ≢ n → timed_in n time (take (i + 1) all) ≡ timed_in n time (take i all)
+other_more n time all i d l near is other =
+    let before = timed_in n time (take i all) in
+    ap (timed_in n time) (take_more all i d near ∙ ap (λ (x : Line). take i all ++ x ∷ []) (sym is)) ∙ (timed_append n time (take i all) (l ∷ []) ∙ (ap (λ (x : List Timed). before ++ x) (timed_other n time l [] other) ∙ append-nil before))
+
 -- one line more of the thread, and one of another
 pub goes_on : (s : Script) (time : ℕ) (all : List Line) (i : ℕ) (d l : Line) (t u v : PostingThread) → i < length all → l ≡ get_or all i d → l.thread ≡ t.number → u.number ≡ t.number
     → HasRun s time all (take i all) t u → Takes s (at_time time l) u v → HasRun s time all (take (i + 1) all) t v
@@ -35,21 +57,11 @@ goes_on s time all i d l t u v near is own number has takes = λ past rest are u
     let n = t.number in
     let before = timed_in n time (take i all) in
     let after = timed_in n time (drop (i + 1) all) in
-    let here : drop i all ≡ l ∷ drop (i + 1) all = drop_more all i d near ∙ ap (λ (x : Line). x ∷ drop (i + 1) all) (sym is) in
-    let whole : timed_in n time all ≡ before ++ (at_time time l ∷ after) =
-    ap (timed_in n time) (sym (take-append-drop i all)) ∙ (timed_append n time (take i all) (drop i all)
-    ∙ ap (λ (x : List Timed). before ++ x) (ap (timed_in n time) here ∙ timed_own n time l (drop (i + 1) all) own)) in
     let split : (past ++ before) ++ (at_time time l ∷ (after ++ rest)) ≡ lines_of u.number s.blocks =
-    regroup past before after rest (at_time time l) ∙ (ap (λ (x : List Timed). past ++ (x ++ rest)) (sym whole) ∙ (are ∙ ap (λ (k : ℕ). lines_of k s.blocks) (sym number))) in
-    let more : timed_in n time (take (i + 1) all) ≡ before ++ at_time time l ∷ [] =
-    ap (timed_in n time) (take_more all i d near ∙ ap (λ (x : Line). take i all ++ x ∷ []) (sym is)) ∙ (timed_append n time (take i all) (l ∷ []) ∙ ap (λ (x : List Timed). before ++ x) (timed_own n time l [] own)) in
+    split_at n time all i d l past rest near is own ∙ (are ∙ ap (λ (k : ℕ). lines_of k s.blocks) (sym number)) in
     let done : IsUpTo s ((past ++ before) ++ at_time time l ∷ []) v = takes (past ++ before) (after ++ rest) split (has past rest are up) in
-    subst (λ (ls : List Timed). IsUpTo s ls v) (append_assoc past before (at_time time l ∷ []) ∙ ap (λ (x : List Timed). past ++ x) (sym more)) done)
+    subst (λ (ls : List Timed). IsUpTo s ls v) (append_assoc past before (at_time time l ∷ []) ∙ ap (λ (x : List Timed). past ++ x) (sym (own_more n time all i d l near is own))) done)
 
 pub goes_by : (s : Script) (time : ℕ) (all : List Line) (i : ℕ) (d l : Line) (t u : PostingThread) → i < length all → l ≡ get_or all i d → l.thread ≢ t.number → HasRun s time all (take i all) t u → HasRun s time all (take (i + 1) all) t u
-goes_by s time all i d l t u near is other has = λ past rest are up. (
-    let n = t.number in
-    let before = timed_in n time (take i all) in
-    let more : timed_in n time (take (i + 1) all) ≡ before =
-    ap (timed_in n time) (take_more all i d near ∙ ap (λ (x : Line). take i all ++ x ∷ []) (sym is)) ∙ (timed_append n time (take i all) (l ∷ []) ∙ (ap (λ (x : List Timed). before ++ x) (timed_other n time l [] other) ∙ append-nil before)) in
-    subst (λ (ls : List Timed). IsUpTo s (past ++ ls) u) (sym more) (has past rest are up))
+goes_by s time all i d l t u near is other has = λ past rest are up.
+    subst (λ (ls : List Timed). IsUpTo s (past ++ ls) u) (sym (other_more t.number time all i d l near is other)) (has past rest are up)

@@ -1,5 +1,5 @@
 //! A thread of a script, and its commands.
-ghost use Rattle.std.specs.Prelude.{◌≡◌, ◌<◌, [], length, false, is_some, IfOk, OnOk};
+ghost use Rattle.std.specs.Prelude.{◌≡◌, ◌<◌, [], length, true, false, is_some, IfOk, OnOk};
 ghost use Rattle.dash_script.specs.declared.script.Script.{Script as TheScript};
 ghost use Rattle.dash_script.specs.declared.script.Command.TheVariants.{Frame, Unframe};
 ghost use Rattle.dash_script.specs.Reading.{HasText};
@@ -9,6 +9,7 @@ ghost use Rattle.dash_hall.specs.Growth.{GoesOn};
 ghost use Rattle.dash_hall.specs.Kits.{IsHall, frame_badge_of};
 ghost use Rattle.dash_hall.specs.Hosts.{PostsFrame};
 ghost use Rattle.dash_hall.specs.Requests.{call_made, tokens_of, posts_barrier};
+ghost use Rattle.dash_threads.specs.Framing.{PostsOnce, TakesFrames, ContinuesFrames};
 ghost use Rattle.dash_threads.specs.Threads.{IsThread, CallsAt, with_barrier, MakesPlanned, Takes, Continues, HasMadeNone, HasBegun};
 
 use crate::labels::Labelled;
@@ -86,7 +87,9 @@ impl PostingThread {
         ensures thread { IsThread script.now hall.now self.new }
         ensures number { self.new.number ≡ self.old.number }
         ensures goes { self.new.gave_up ≡ false → self.old.gave_up ≡ false }
+        ensures stays { self.old.gave_up ≡ true → self.new ≡ self.old }
         ensures made { self.new.gave_up ≡ false → Continues script.now block.now self.old self.new }
+        ensures frames { self.new.gave_up ≡ false → ContinuesFrames script.now block.now self.old self.new }
     {
         for line in block.lines.as_slice() {
             if line.thread == self.number {
@@ -111,7 +114,9 @@ impl PostingThread {
         requires thread { IsThread script.now hall.now self.old }
         ensures thread { IsThread script.now hall.now self.new }
         ensures number { self.new.number ≡ self.old.number }
+        ensures stays { self.old.gave_up ≡ true → self.new ≡ self.old }
         ensures made { self.new.gave_up ≡ false → (self.old.gave_up ≡ false) × Takes script.now (record { time = now; command = command }) self.old self.new }
+        ensures frames { self.new.gave_up ≡ false → TakesFrames script.now (record { time = now; command = command }) self.old self.new }
     {
         if self.gave_up {
             return;
@@ -138,6 +143,7 @@ impl PostingThread {
         ensures thread { IsThread script.now hall.now self.new }
         ensures number { self.new.number ≡ self.old.number }
         ensures made { OnOk result (Takes script.now (record { time = now; command = command }) self.old self.new) }
+        ensures frames { OnOk result (TakesFrames script.now (record { time = now; command = command }) self.old self.new) }
     {
         match command {
             Command::Frame {
@@ -252,6 +258,7 @@ impl PostingThread {
         ensures thread { IsThread script.now hall.now self.new }
         ensures number { self.new.number ≡ self.old.number }
         ensures made { OnOk result (Takes script.now (record { time = now; command = Frame looper phase id delay }) self.old self.new) }
+        ensures frames { OnOk result (TakesFrames script.now (record { time = now; command = Frame looper phase id delay }) self.old self.new) }
     {
         let place = looper as usize;
         if place < self.kit.posters.len()
@@ -296,6 +303,7 @@ impl PostingThread {
         ensures thread { IsThread script.now hall.now self.new }
         ensures number { self.new.number ≡ self.old.number }
         ensures made { OnOk result (Takes script.now (record { time = now; command = Unframe looper phase id }) self.old self.new) }
+        ensures frames { OnOk result (TakesFrames script.now (record { time = now; command = Unframe looper phase id }) self.old self.new) }
     {
         let place = looper as usize;
         if place < self.kit.frames.len() && place < hall.choreographers.len() && phase < PHASES {
@@ -334,6 +342,7 @@ fn post_frame<R: Wait>(
     ensures on { GoesOn poster.old poster.new pass.old pass.new }
     ensures frames { frame_badge_of frames.new ≡ frame_badge_of frames.old }
     ensures made { OnOk result (PostsFrame handler.id now phase id delay poster.old poster.new frames.old frames.new) }
+    ensures once { OnOk result (PostsOnce now phase id delay frames.old frames.new) }
 {
     let began = Snapshot::of(poster);
     let pass_began = Snapshot::of(pass);

@@ -2,12 +2,14 @@ use Rattle.std.proofs.Common.{◌<◌, ◌+◌, ◌∙◌, ℕ, subst, length, a
 use Rattle.dash_hall.specs.Kits.{badge_of, badge_for, frame_badge_of, frame_badge_for}
 use Rattle.dash_threads.proofs.ThreadSteps.{on_ok}
 use Rattle.dash_threads.proofs.ThreadFrameRuns.{frame_progress, frame_within}
+use Rattle.dash_threads.proofs.ThreadFraming.{one_goes_on}
 use Rattle.dash_threads.proofs.ThreadText.{few_loopers}
 use Rattle.dash_threads.proofs.ThreadPlaces.{its_poster, its_home, its_pass, its_phases, queues_long, posters_kept, passes_kept, badge_on, as_long, choreographers_long}
 use Rattle.dash_threads.proofs.thread.PostingThread.post_frame.Goals as goal
 use Rattle.dash_threads.proofs.thread.PostingThread.post_frame.Goals.{else-place-len-via-then-place-len+then-place-len-2+then-place-len-3+then-place-len-4+else-phase-lt-PHASES, else-place-len-via-then-place-len+then-place-len-2+then-place-len-3+else-place-len-4, else-place-len-via-then-place-len+then-place-len-2+else-place-len-3, else-place-len-via-then-place-len+else-place-len-2, else-place-len-via-else-place-len}
 use Rattle.handler_post.specs.declared.handler.Handler.{Handler}
 use Rattle.dash_hall.specs.Hosts.{PostsFrame}
+use Rattle.dash_threads.specs.Framing.{PostsOnce}
 
 pub frame_handler-requires : goal.frame_handler-requires
 frame_handler-requires g c =
@@ -65,8 +67,39 @@ returns-then-phase-lt-PHASES-clause-made g c =
     (subst (λ (x : Handler). PostsFrame x.id c.args.now c.args.phase c.from.result c.args.delay p q f h) c.frame_handler.ensures made)) up)
     c.post_frame.ensures.made
 
+pub returns-then-phase-lt-PHASES-clause-frames : goal.returns-then-phase-lt-PHASES-clause-frames
+returns-then-phase-lt-PHASES-clause-frames g c =
+    let passes = c.args.self.now.kit.frames.items in
+    let f = c.index_mut-then-phase-lt-PHASES.result.now in
+    let h = c.post_frame.new.frames in
+    let near : c.args.looper < length passes = omega (arith, c.len-then-place-len-2.ensures, c.if-place-len-3.true) in
+    on_ok c.post_frame.result _ _
+    (λ once. λ past rest are. one_goes_on passes c.args.looper f h (PostsOnce c.args.now c.args.phase c.args.id c.args.delay) c.index_mut-then-phase-lt-PHASES.ensures.value near
+    (subst (λ (i : ℕ). PostsOnce c.args.now c.args.phase i c.args.delay f h) c.from.ensures once))
+    c.post_frame.ensures.once
+
 pub returns-clause-made : goal.returns-clause-made
 returns-clause-made g c = λ past rest are up. (
+    let t = c.args.self.now in
+    let s = c.args.script.now in
+    let hall = c.args.hall.now in
+    let within = frame_within s t.number c.args.now c.args.looper c.args.phase c.args.id c.args.delay past rest c.requires.text are in
+    let lt = within.0 in
+    let ph = within.1 in
+    let queues = queues_long s hall c.requires.hall in
+    let posters = as_long badge_of (badge_for t.number) t.kit.posters.items hall.queues.items c.requires.thread.posters in
+    let cs = choreographers_long s hall c.requires.hall in
+    let frames = as_long frame_badge_of (frame_badge_for t.number) t.kit.frames.items hall.choreographers.items c.requires.thread.frames in
+    elim c.else-place-len.branch [
+      | else-place-len-via-then-place-len+then-place-len-2+then-place-len-3+then-place-len-4+else-phase-lt-PHASES w ↦ absurd (omega (arith, ph, w.if-phase-lt-PHASES.false))
+      | else-place-len-via-then-place-len+then-place-len-2+then-place-len-3+else-place-len-4 w ↦ absurd (omega (arith, lt, cs, w.len-then-place-len-3.ensures, w.if-place-len-4.false))
+      | else-place-len-via-then-place-len+then-place-len-2+else-place-len-3 w ↦ absurd (omega (arith, lt, cs, frames, w.len-then-place-len-2.ensures, w.if-place-len-3.false))
+      | else-place-len-via-then-place-len+else-place-len-2 w ↦ absurd (omega (arith, lt, queues, w.len-then-place-len.ensures, w.if-place-len-2.false))
+      | else-place-len-via-else-place-len w ↦ absurd (omega (arith, lt, queues, posters, c.len.ensures, w.if-place-len.false))
+    ])
+
+pub returns-clause-frames : goal.returns-clause-frames
+returns-clause-frames g c = λ past rest are. (
     let t = c.args.self.now in
     let s = c.args.script.now in
     let hall = c.args.hall.now in

@@ -1,10 +1,12 @@
 use Rattle.std.proofs.Common.{◌<◌, ℕ, subst, length, arith}
 use Rattle.dash_threads.proofs.ThreadFrames.{removes_frame_by}
 use Rattle.dash_threads.proofs.ThreadFrameRuns.{unframe_progress, unframe_within}
+use Rattle.dash_threads.proofs.ThreadFraming.{one_goes_on}
 use Rattle.dash_threads.proofs.ThreadPlaces.{its_pass, its_phases, passes_kept, frame_badge_on, as_long, choreographers_long}
 use Rattle.dash_threads.proofs.thread.PostingThread.remove_frame.Goals as goal
 use Rattle.dash_threads.proofs.thread.PostingThread.remove_frame.Goals.{else-place-len-via-then-place-len+then-place-len-2+else-phase-lt-PHASES, else-place-len-via-then-place-len+else-place-len-2, else-place-len-via-else-place-len}
 use Rattle.dash_hall.specs.Hosts.{RemovesFrame}
+use Rattle.dash_threads.specs.Framing.{RemovesOnce}
 use Rattle.dash_hall.specs.Kits.{frame_badge_of, frame_badge_for}
 
 pub remove_callbacks-requires : goal.remove_callbacks-requires
@@ -46,8 +48,34 @@ returns-in_ok-remove_callbacks-clause-made g c = λ past rest are up. (
     unframe_progress c.args.script.now c.args.now c.args.looper c.args.phase c.args.id t.number t.barriers.items t.kit.posters.items t.kit.frames.items f h past c.index_mut.ensures.value near
     (subst (λ (i : ℕ). RemovesFrame c.args.phase i f h) c.from.ensures (removes_frame_by c.args.phase c.from.result f h turn.0 turn.1 turn.2 turn.4)) up)
 
+pub returns-in_ok-remove_callbacks-clause-frames : goal.returns-in_ok-remove_callbacks-clause-frames
+returns-in_ok-remove_callbacks-clause-frames g c = λ past rest are. (
+    let passes = c.args.self.now.kit.frames.items in
+    let f = c.index_mut.result.now in
+    let h = c.remove_callbacks.new.pass in
+    let turn = c.in_ok-remove_callbacks.ensures in
+    let near : c.args.looper < length passes = omega (arith, c.len.ensures, c.if-place-len.true) in
+    one_goes_on passes c.args.looper f h (RemovesOnce c.args.phase c.args.id) c.index_mut.ensures.value near
+    (subst (λ (i : ℕ). RemovesOnce c.args.phase i f h) c.from.ensures (turn.0, turn.1, turn.2, turn.4)))
+
 pub returns-else-place-len-clause-made : goal.returns-else-place-len-clause-made
 returns-else-place-len-clause-made g c = λ past rest are up. (
+    let t = c.args.self.now in
+    let s = c.args.script.now in
+    let hall = c.args.hall.now in
+    let within = unframe_within s t.number c.args.now c.args.looper c.args.phase c.args.id past rest c.requires.text are in
+    let lt = within.0 in
+    let ph = within.1 in
+    let cs = choreographers_long s hall c.requires.hall in
+    let frames = as_long frame_badge_of (frame_badge_for t.number) t.kit.frames.items hall.choreographers.items c.requires.thread.frames in
+    elim c.else-place-len.branch [
+      | else-place-len-via-then-place-len+then-place-len-2+else-phase-lt-PHASES w ↦ absurd (omega (arith, ph, w.if-phase-lt-PHASES.false))
+      | else-place-len-via-then-place-len+else-place-len-2 w ↦ absurd (omega (arith, lt, cs, w.len-then-place-len.ensures, w.if-place-len-2.false))
+      | else-place-len-via-else-place-len w ↦ absurd (omega (arith, lt, cs, frames, c.len.ensures, w.if-place-len.false))
+    ])
+
+pub returns-else-place-len-clause-frames : goal.returns-else-place-len-clause-frames
+returns-else-place-len-clause-frames g c = λ past rest are. (
     let t = c.args.self.now in
     let s = c.args.script.now in
     let hall = c.args.hall.now in
