@@ -28,6 +28,7 @@ use Rattle.dash_script.specs.declared.script.Script.{Script}
 use Rattle.run_model.specs.FrameRuns.{frame_ids, is_frame_from, is_begin, posted_id, ran_id}
 use Rattle.run_model.proofs.FrameKeeping.{KeepsFrames-lawful}
 use Rattle.dash_loopers.specs.Played.{RanFrame, ids_of}
+use Rattle.dash_loopers.proofs.LooperLists.{at_seam}
 
 -- ---- where the latest frame began
 
@@ -89,10 +90,6 @@ IsPosted ids c = slice_get ids c.number ≡ Some c.id
 -- the same for all that was taken
 abbrev ArePosted : List ℕ → List Batch → Type 0
 ArePosted ids bs = AllByRecursion (λ b. AllByRecursion (IsPosted ids) b.callbacks) bs
-
-at_seam : {X : Type 0} (xs : List X) (x : X) (ys : List X) → slice_get (xs ++ x ∷ ys) (length xs) ≡ Some x
-at_seam [] x ys = refl
-at_seam (y ∷ xs) x ys = at_seam xs x ys
 
 abbrev ids_in : List FrameEntry → List ℕ
 ids_in past = filter_map posted_id (reverse past)

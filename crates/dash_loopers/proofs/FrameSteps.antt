@@ -19,18 +19,18 @@ use Rattle.dash_loopers.proofs.FrameIds.{framed_ran, not_wanting}
 -- no callback ran yet
 pub none_ran : (s : Script) (q now : ℕ) (p p' : Sender) (root root' : ViewRoot) (ran : List Run) → p ≡ p' → root ≡ root' → ran ≡ []
     → Shows s q (λ a. fold (callback_ran s q now) a (ids_of ran)) (calls_of p) root (calls_of p') root'
-none_ran s q now p p' root root' ran is_p is_root none text a is =
-    subst (λ (l : List Run). IsShown s q (calls_of p') root' (fold (callback_ran s q now) a (ids_of l))) (sym none)
-    (subst (λ (z : Sender). IsShown s q (calls_of z) root' a) is_p (subst (λ (z : ViewRoot). IsShown s q (calls_of p) z a) is_root is))
+none_ran s q now p p' root root' ran is_p is_root none text first a is =
+    subst (λ (l : List Run). IsShown s q first (calls_of p') root' (fold (callback_ran s q now) a (ids_of l))) (sym none)
+    (subst (λ (z : Sender). IsShown s q first (calls_of z) root' a) is_p (subst (λ (z : ViewRoot). IsShown s q first (calls_of p) z a) is_root is))
 
 -- one callback more ran
 pub ran_more : (s : Script) (q now now' : ℕ) (began : Sender) (root0 : ViewRoot) (p p' : Sender) (root root' : ViewRoot) (ran ran' : List Run) (c : Callback) (time : ℕ) → now' ≡ now → ran' ≡ ran ++ (c, time) ∷ []
     → Shows s q (λ a. fold (callback_ran s q now) a (ids_of ran)) (calls_of began) root0 (calls_of p) root → Shows s q (λ a. callback_ran s q now a c.id) (calls_of p) root (calls_of p') root'
     → Shows s q (λ a. fold (callback_ran s q now') a (ids_of ran')) (calls_of began) root0 (calls_of p') root'
-ran_more s q now now' began root0 p p' root root' ran ran' c time same grew before here text a is =
+ran_more s q now now' began root0 p p' root root' ran ran' c time same grew before here text first a is =
     let ids : ids_of ran' ≡ ids_of ran ++ c.id ∷ [] = ap ids_of grew ∙ map-append (λ (r : Run). r.0.id) ran ((c, time) ∷ []) in
     let steps : fold (callback_ran s q now') a (ids_of ran') ≡ callback_ran s q now (fold (callback_ran s q now) a (ids_of ran)) c.id = (λ i. fold (callback_ran s q (same i)) a (ids i)) ∙ fold-append (callback_ran s q now) a (ids_of ran) (c.id ∷ []) in
-    subst (λ (b : Looper). IsShown s q (calls_of p') root' b) (sym steps) (here text (fold (callback_ran s q now) a (ids_of ran)) (before text a is))
+    subst (λ (b : Looper). IsShown s q first (calls_of p') root' b) (sym steps) (here text first (fold (callback_ran s q now) a (ids_of ran)) (before text first a is))
 
 -- what the callbacks of a frame show, from this root and this poster to those
 abbrev pub FrameShows : ℕ → List ℕ → Sender → ViewRoot → Sender → ViewRoot → Type 0

@@ -12,6 +12,7 @@ pub mod LooperPlaying
 pub mod LooperPlayed
 pub mod FrameIds
 pub mod FrameSteps
+pub mod MoreCalls
 pub mod PlaySteps
 pub mod ViewSteps
 pub mod RuleSteps

@@ -13,6 +13,7 @@ use Rattle.looper_run.specs.declared.looper.Round.TheVariants.{Drained, Ended, N
 use Rattle.looper_run.specs.Holding.{Sender, State, Holding, Looping}
 use Rattle.looper_run.specs.Acts.{IsNoLookOf}
 use Rattle.looper_run.specs.Tests.{IsLent}
+use Rattle.looper_run.specs.Asked.{any_heard}
 use Rattle.looper_run.specs.Looks.{HasDispatched, HasIdled, EndsBy, HasEnded, Looked, IsBegun, IsRound}
 use Rattle.looper_run.specs.Round.{is_ended}
 use Rattle.looper_run.proofs.Turning.{IsOther, found}
@@ -110,7 +111,7 @@ calls_looked now [] a b h = calls_none a.held.poster b.held.poster (ap (λ (l : 
 calls_looked now (true ∷ looks) a b h = calls_then a.held.poster h.0.held.poster b.held.poster (calls_looked now looks a h.0 h.1) (calls_taken now h.0 b h.2)
 calls_looked now (false ∷ looks) a b h = calls_then a.held.poster h.0.held.poster b.held.poster (calls_looked now looks a h.0 h.1) (calls_idle now h.0 b h.2)
 
-calls_begun : (a b : Looping) → IsBegun a b → Calls a.held.poster b.held.poster
+calls_begun : (a b : Looping) → IsBegun any_heard a b → Calls a.held.poster b.held.poster
 calls_begun a b h = calls_then a.held.poster h.left.poster b.held.poster (calls_lent a.held h.left h.lent) (calls_none h.left.poster b.held.poster h.poster)
 
 -- all of the sender's own entries, where none disposed before
@@ -149,7 +150,7 @@ open_before (Ended dispatched) es e g h = absurd cc
 open_before NoMemory es e g h = absurd cc
 
 -- so it is after a round, where it was so before
-pub disposes_by_round : (k now : ℕ) (a b : Looping) (last last' : Round) → is_ended last ≡ false → is_given_up last ≡ false → a.held.poster.sender ≡ k → IsRound now a b last'
+pub disposes_by_round : (k now : ℕ) (a b : Looping) (last last' : Round) → is_ended last ≡ false → is_given_up last ≡ false → a.held.poster.sender ≡ k → IsRound any_heard now a b last'
     → DisposesAtEnd last (entries_by k a.held.poster.view.seen) → DisposesAtEnd last' (entries_by k b.held.poster.view.seen)
 disposes_by_round k now a b last (Drained dispatched until) e g own r h =
     let start = r.0 in

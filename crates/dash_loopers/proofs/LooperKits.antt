@@ -19,6 +19,7 @@ use Rattle.choreographer.specs.Known.{Shared as Frames}
 use Rattle.looper_run.specs.declared.looper.Round.{Round}
 use Rattle.looper_run.specs.Holding.{Sender, Looping, Workplace, workplace}
 use Rattle.looper_run.specs.Tests.{IsSameLooper}
+use Rattle.looper_run.specs.Asked.{any_heard}
 use Rattle.looper_run.specs.Looks.{IsRound}
 use Rattle.looper_run.specs.Round.{RoundBy, is_ended}
 use Rattle.looper_run.specs.Acts.{taken_by}
@@ -109,7 +110,7 @@ pub looper_then : (s : Script) (hall : Hall) (now : ℕ) (began l : StageLooper)
     → l.parts ≡ Some parts → slice_get hall.queues.items l.number ≡ Some q
     → o ≡ record { script = s; hall = hall; number = l.number; now = now; began = began }
     → ((w : Workplace) → ServesAt s hall l.number parts w → ServesAt o.script o.hall o.number parts' w)
-    → IsSameLooper l.looper.held after.held → after.ended ≡ is_ended last → RoundBy q.constants.setting now l.looper.held after.held last → IsRound now l.looper after last → is_ended l.last ≡ false → is_given_up l.last ≡ false
+    → IsSameLooper l.looper.held after.held → after.ended ≡ is_ended last → RoundBy q.constants.setting now l.looper.held after.held last → IsRound any_heard now l.looper after last → is_ended l.last ≡ false → is_given_up l.last ≡ false
     → IsLooper s hall (record { number = l.number; sender = l.sender; looper = after; parts = Some parts'; last = last })
 looper_then s hall now began l q o parts parts' after last is_hall is e at origin serves same ended round looks unended going =
     let w : Workplace = workplace l.looper.held in

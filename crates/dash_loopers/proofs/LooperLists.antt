@@ -1,5 +1,5 @@
 -- Lists that lack one element of another, and elements at one place of two lists.
-use Rattle.std.proofs.Common.{◌≡◌, ℕ, suc, ◌+◌, ◌<◌, ◌≤◌, inl, inr, List, ◌∷◌, ◌++◌, map, length, take, drop, get_or, set, Some, sym, ap, ap₂, ◌∙◌, subst, arith}
+use Rattle.std.proofs.Common.{◌≡◌, ℕ, suc, ◌+◌, ◌<◌, ◌≤◌, inl, inr, List, [], ◌∷◌, ◌++◌, map, length, take, drop, get_or, set, Some, refl, sym, ap, ap₂, ◌∙◌, subst, arith}
 use Rattle.std.specs.List.{insert, remove, slice_get}
 use Rattle.std.specs.Option.{option_map}
 use Rattle.std.proofs.lemmas.List.{map-append, take-map, drop-map, take_at, drop_at, length-take-le, take-append-drop, map-set, set-get_or}
@@ -25,6 +25,11 @@ insert_removed xs i x at =
     let back = drop_at (take i xs) (drop (suc i) xs) i (length-take-le i xs few) in
     let head : drop i xs ≡ x ∷ drop (suc i) xs = drop-cons xs i x within ∙ ap (λ y. y ∷ drop (suc i) xs) (get_or_from_slice_get xs i x x at) in
     ap₂ (λ p q. p ++ x ∷ q) front back ∙ (ap (λ l. take i xs ++ l) (sym head) ∙ take-append-drop i xs)
+
+-- the element behind the first ones
+pub at_seam : {X : Type 0} (xs : List X) (x : X) (ys : List X) → slice_get (xs ++ x ∷ ys) (length xs) ≡ Some x
+at_seam [] x ys = refl
+at_seam (y ∷ xs) x ys = at_seam xs x ys
 
 -- what two lists are mapped to agrees at each place
 pub at_same : {X Y Z : Type 0} (f : X → Y) (g : Z → Y) (xs : List X) (zs : List Z) (i : ℕ) (x : X) (z : Z) → map f xs ≡ map g zs → slice_get xs i ≡ Some x → slice_get zs i ≡ Some z → f x ≡ g z

@@ -51,10 +51,12 @@ stands_first s q k seen acts parts none still gauges lines barrier painted unsee
   led = λ fs begins law. subst (λ (xs : List Act). Lead s q seen fs (first_looper s) xs (first_looper s)) (sym still) refl;
   place = omega arith;
   settled = refl;
-  played = subst (λ (es : List Entry). IsPlayed s q (calls_in k es) parts (first_looper s)) (sym none) (record {
+  first = parts.root.pass.view.turns;
+  played = subst (λ (es : List Entry). IsPlayed s q parts.root.pass.view.turns (calls_in k es) parts (first_looper s)) (sym none) (record {
     shown = record {
       calls = tt;
       posted = λ phase id. omega arith;
+      turns = omega arith;
       stands = record {
         gauges = gauges;
         lines = lines;
@@ -81,7 +83,7 @@ pub played_round : (s : Script) (hall : Hall) (now : ℕ) (l began : StageLooper
     → o ≡ record { script = s; hall = hall; number = l.number; now = now; began = began } → IsSameLooper l.looper.held after.held
     → UnlessWanting last (Passes (λ k es acts. IsPlaying o.script o.number o.now o.began k es acts parts') after.held)
     → HasPlayed s now l (record { number = l.number; sender = l.sender; looper = after; parts = Some parts'; last = last })
-played_round s hall now l began o parts' after last same mine origin kept meets = λ going text sound a come.
+played_round s hall now l began o parts' after last same mine origin kept meets = λ going text a come.
     let here : IsPlaying s l.number now began after.held.poster.sender after.held.poster.view.seen after.held.journal.acts parts' =
     subst (λ (x : Owner). IsPlaying x.script x.number x.now x.began after.held.poster.sender after.held.poster.view.seen after.held.journal.acts parts') origin (unless last _ going meets) in
     let from : IsPlaying s l.number now l after.held.poster.sender after.held.poster.view.seen after.held.journal.acts parts' =

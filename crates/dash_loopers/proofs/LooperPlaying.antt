@@ -93,7 +93,7 @@ module _ (s : Script) (q now : ℕ) (began : StageLooper) where
     ids = [];
     ran = record { frame = None; framed = λ fs begins law. (refl, refl); within = omega arith; grew = prefix_self parts.frames.view.seen };
     starts = refl;
-    plays = λ text a settled played. (subst (IsPlayed s q made parts) (sym (same a settled)) played, sym (ap (λ (l : List Act). acts ++ l) (ap (λ (b : Looper). b.painted) (nothing a) ∙ settled) ∙ append-nil acts));
+    plays = λ text first a settled played. (subst (IsPlayed s q first made parts) (sym (same a settled)) played, sym (ap (λ (l : List Act). acts ++ l) (ap (λ (b : Looper). b.painted) (nothing a) ∙ settled) ∙ append-nil acts));
   }
     where
       nothing : (a : Looper) → delivered s q time [] m a ≡ a

@@ -1,19 +1,16 @@
 -- Where a looper stands, as entries and acts are added: entries of others, its look that ends the queue, acts that cause
 -- nothing, a pulse, and a dispatch.
-use Rattle.std.proofs.Common.{◌≡◌, ℕ, ◌≤◌, Bool, true, false, List, [], ◌∷◌, ◌++◌, length, Option, Some, None, inl, inr, refl, sym, ap, ap₂, ◌∙◌, subst, arith, append_assoc, eq-eqb, ne_eqb}
-use Rattle.std.specs.Prelude.{◌==◌, ◌&&◌, ◌||◌, not, is_some, nat_le, slice_get, slice_index_or}
-use Rattle.std.specs.List.{AllByRecursion, filter_map, cons_option}
+use Rattle.std.proofs.Common.{◌≡◌, ℕ, ◌≤◌, Bool, true, false, List, [], ◌∷◌, ◌++◌, length, Option, Some, None, refl, sym, ap, ◌∙◌, subst, arith, append_assoc, eq-eqb}
+use Rattle.std.specs.Prelude.{◌==◌, ◌&&◌, ◌||◌, not, is_some, nat_le, slice_index_or}
+use Rattle.std.specs.List.{AllByRecursion}
 use Rattle.std.specs.Option.{option_map_or}
 use Rattle.std.proofs.lemmas.List.{append-nil}
-use Rattle.std.proofs.lemmas.List.Concat.{flat_map-append}
 use Rattle.std.proofs.lemmas.Bool.Decides.{nat_tests}
 use Rattle.std.proofs.lemmas.Bool.{and_parts}
 use Rattle.loop_model.specs.declared.post.Post.{Post as PostData}
-use Rattle.loop_model.specs.declared.call.Call.{Call}
-use Rattle.loop_model.specs.declared.call.Call.TheVariants.{Post, Barrier, Unbarrier, Remove, Quit, Next, Advance, Halt}
+use Rattle.loop_model.specs.declared.call.Call.TheVariants.{Next}
 use Rattle.loop_model.specs.declared.reply.Reply.TheVariants.{Dispatched}
 use Rattle.loop_model.specs.declared.entry.Entry.{Entry}
-use Rattle.loop_model.specs.Entries.{is_accepted}
 use Rattle.loop_model.specs.declared.journal.Act.{Act}
 use Rattle.loop_model.specs.declared.journal.Act.TheVariants.{Dispatch, Vsync}
 use Rattle.loop_model.specs.declared.journal.Route.{Route}
@@ -28,7 +25,7 @@ use Rattle.run_model.specs.Asks.{Makes, plain, token_in, tokens_in, AreFor}
 use Rattle.run_model.specs.Loopers.{Looper, Sent, first_looper, starts_frame, delivered, and_takes}
 use Rattle.run_model.specs.Acts.{dispatched, after_act, MayDispatch, Lead, sent_on, IsSent}
 use Rattle.run_model.specs.FrameRuns.{frame_ids, is_frame_from, place_after}
-use Rattle.run_model.proofs.RunLaws.{AreFor-snoc, Lead-snoc, sent_on-append}
+use Rattle.run_model.proofs.RunLaws.{AreFor-snoc, Lead-snoc}
 use Rattle.run_model.proofs.Growth.{Lead-entries, post_at-grows}
 use Rattle.run_model.proofs.SoFarLaws.{ArePaints, Lead-paints}
 use Rattle.dash_loopers.specs.declared.player.Parts.{Parts}
@@ -37,6 +34,7 @@ use Rattle.dash_loopers.specs.Players.{PlaceWithout}
 use Rattle.dash_loopers.specs.Played.{IsRootOf, calls_in, IsPlayed, Delivers, pulse_acts, pulsed, Pulses, Stands}
 use Rattle.dash_loopers.specs.PlayingLaws.{calls_more}
 use Rattle.dash_loopers.proofs.LooperSteps.{AddsAt, delivers}
+use Rattle.dash_loopers.proofs.MoreCalls.{tokens_more, sent_here, sent_else, without_self}
 
 -- ---- the calls of a sender, as entries are added
 
@@ -63,7 +61,8 @@ module _ (s : Script) (q k : ℕ) where
         (by_stamp fs p.stamp (Lead-entries s q es fs more (first_looper s) acts a (st.led fs (prefix_trans parts.frames.view.seen parts'.frames.view.seen fs p.grew begins) law)));
     place = (let at : (pulsed q p.stamp a).place ≡ a.place = placed p.stamp in let le = st.place in let longer = prefix_length parts.frames.view.seen parts'.frames.view.seen p.grew in omega (arith, at, le, longer));
     settled = painted p.stamp;
-    played = p.plays text a st.played;
+    first = st.first;
+    played = p.plays text st.first a st.played;
   }
     where
       placed : (o : Option ℕ) → (pulsed q o a).place ≡ a.place
@@ -120,21 +119,15 @@ leads_dispatch s q es fs acts ps a ids frame n now route m settled lead post sta
       painted = ap (λ (b : Looper). b.painted) causes ∙ painted;
     }
 
-tokens_more : (es : List Entry) (e : Entry) → token_in e.reply ≡ [] → tokens_in (es ++ e ∷ []) ≡ tokens_in es
-tokens_more es e none = flat_map-append _ es (e ∷ []) ∙ (ap (λ l. tokens_in es ++ (l ++ [])) none ∙ append-nil (tokens_in es))
-
-not_there : (q place j : ℕ) → PlaceWithout q place j → (q == place) ≡ false
-not_there q place j (inl p) = ne_eqb q place (λ is. (let lt = p.0 in absurd (omega (arith, is, lt))))
-not_there q place j (inr p) = ne_eqb q place (λ is. (let lt = p.0 in absurd (omega (arith, is, lt))))
-
 module _ (s : Script) (q k n now : ℕ) (es : List Entry) (e : Entry) (take : IsTake k now n e) (parts : Parts) (a : Looper) (settled : a.painted ≡ []) where
   -- the look that took the message is made
-  played_taken : (frame : Option ℕ) → IsPlayed s q (calls_in k es) parts a → IsPlayed s q (calls_in k (es ++ e ∷ [])) parts (taken q n now frame a)
-  played_taken frame p = subst (λ l. IsPlayed s q l parts (taken q n now frame a)) (sym (calls_taken k n now es e take)) (record {
+  played_taken : (first : ℕ) (frame : Option ℕ) → IsPlayed s q first (calls_in k es) parts a → IsPlayed s q first (calls_in k (es ++ e ∷ [])) parts (taken q n now frame a)
+  played_taken first frame p = subst (λ l. IsPlayed s q first l parts (taken q n now frame a)) (sym (calls_taken k n now es e take)) (record {
     shown = record {
       calls = subst (λ l. AreFor IsSent [] l (calls_in k es ++ e ∷ [])) (sym there) (AreFor-snoc IsSent (sent_on q a.sent) look (calls_in k es) e p.shown.calls is_look);
       posted = p.shown.posted;
-      stands = subst (λ l. IsRootOf s q l (taken q n now frame a) parts.root) (sym (tokens_more (calls_in k es) e (ap token_in take.reply))) (record {
+      turns = p.shown.turns;
+      stands = subst (λ l. IsRootOf s q l (taken q n now frame a) parts.root) (sym (tokens_more (calls_in k es) e [] (ap token_in take.reply) ∙ append-nil (tokens_in (calls_in k es)))) (record {
         gauges = p.shown.stands.gauges;
         lines = p.shown.stands.lines;
         barrier = p.shown.stands.barrier;
@@ -143,7 +136,7 @@ module _ (s : Script) (q k n now : ℕ) (es : List Entry) (e : Entry) (take : Is
       });
     };
     elsewhere = λ place j d at near.
-        subst (λ l. AreFor IsSent [] l (own (slice_index_or parts.others.items j d))) (sym (not_sent place (not_there q place j at))) (p.elsewhere place j d at near);
+        subst (λ l. AreFor IsSent [] l (own (slice_index_or parts.others.items j d))) (sym (not_sent place j at)) (p.elsewhere place j d at near);
     fired = p.fired;
     counts = p.counts;
   })
@@ -151,14 +144,11 @@ module _ (s : Script) (q k n now : ℕ) (es : List Entry) (e : Entry) (take : Is
       look : Sent
       look = record { queue = q; ask = Makes (Next now); reply = Some (Dispatched n); timing = At now }
 
-      here : (q == q) ≡ true
-      here = eq-eqb q q refl
-
       there : sent_on q (a.sent ++ look ∷ []) ≡ sent_on q a.sent ++ look ∷ []
-      there = sent_on-append q a.sent (look ∷ []) ∙ rw here refl
+      there = sent_here q a.sent look refl
 
-      not_sent : (place : ℕ) → (q == place) ≡ false → sent_on place (a.sent ++ look ∷ []) ≡ sent_on place a.sent
-      not_sent place away = sent_on-append place a.sent (look ∷ []) ∙ rw away (append-nil (sent_on place a.sent))
+      not_sent : (place j : ℕ) → PlaceWithout q place j → sent_on place (a.sent ++ look ∷ []) ≡ sent_on place a.sent
+      not_sent place j at = sent_else place a.sent look (without_self q place j at)
 
       is_look : IsSent (tokens_in (calls_in k es)) look e
       is_look = record { call = ap plain take.call; reply = take.reply }
@@ -188,11 +178,12 @@ module _ (s : Script) (q k n now : ℕ) (m : PostData) (es more : List Entry) (e
         posts d.starts (sooner fs a.place (length parts.frames.view.seen) d.ran.frame st.place framed.0) framed.1 (adds.paints tt) refl);
     place = (let at = adds.place in let le = st.place in let longer = prefix_length parts.frames.view.seen parts'.frames.view.seen d.ran.grew in placed d.ran.frame by_dispatch.place at le longer d.ran.within);
     settled = refl;
+    first = st.first;
     played = done.0;
   }
     where
-      done : IsPlayed s q (calls_in k ((es ++ e ∷ []) ++ more)) parts' by_dispatch × (acts' ≡ acts ++ (delivered s q now d.ids m (taken q n now d.ran.frame a)).painted)
-      done = d.plays text (taken q n now d.ran.frame a) refl (played_taken s q k n now es e take parts a st.settled d.ran.frame st.played)
+      done : IsPlayed s q st.first (calls_in k ((es ++ e ∷ []) ++ more)) parts' by_dispatch × (acts' ≡ acts ++ (delivered s q now d.ids m (taken q n now d.ran.frame a)).painted)
+      done = d.plays text st.first (taken q n now d.ran.frame a) refl (played_taken s q k n now es e take parts a st.settled st.first d.ran.frame st.played)
 
       found : post_at es n ≡ Some m
       found = post

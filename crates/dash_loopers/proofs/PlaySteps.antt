@@ -1,20 +1,16 @@
 -- What a looper has come to after a pulse, a frame and a message.
-use Rattle.std.proofs.Common.{◌≡◌, ◌≢◌, ℕ, ◌+◌, ◌-◌, ◌*◌, ◌/◌, ◌<◌, ◌≤◌, ◌==◌, Bool, true, false, cond, not, List, [], ◌∷◌, ◌++◌, map, length, get_or, take, Option, Some, None, Result, Ok, Err, OnOk, inl, inr, refl, sym, ap, ◌∙◌, subst, arith, append_assoc, eq-eqb, ne_eqb}
-use Rattle.std.specs.Prelude.{◌&&◌, ◌||◌, filter, fold, count_by, is_some, is_ok, nat_le, slice_get, slice_index_or, if◌then◌else◌}
+use Rattle.std.proofs.Common.{◌≡◌, ◌≢◌, ℕ, ◌+◌, ◌-◌, ◌*◌, ◌/◌, ◌<◌, ◌≤◌, ◌==◌, Bool, true, false, not, List, [], ◌∷◌, ◌++◌, map, length, get_or, take, Option, Some, None, Result, Ok, Err, OnOk, refl, sym, ap, ◌∙◌, subst, arith, append_assoc, eq-eqb, ne_eqb}
+use Rattle.std.specs.Prelude.{◌&&◌, ◌||◌, fold, count_by, is_some, is_ok, nat_le, slice_get, slice_index_or, if◌then◌else◌}
 use Rattle.std.specs.Option.{option_map_or}
 use Rattle.std.proofs.lemmas.Bool.{eqb-true, leb-true}
 use Rattle.std.proofs.lemmas.List.{append-nil, map-append, take_more}
-use Rattle.std.proofs.lemmas.List.Elements.{filter-append}
-use Rattle.std.proofs.lemmas.Grind.{flat_map-append}
 use Rattle.std.proofs.Math.Nat.{div-mul-le_self}
 use mathlib.Core.List.{IsPrefix}
 use Rattle.loop_model.specs.declared.post.Post.{Post as PostData}
-use Rattle.loop_model.specs.declared.call.Call.{Call}
-use Rattle.loop_model.specs.declared.call.Call.TheVariants.{Post, Barrier, Unbarrier, Remove, Quit, Next, Advance, Halt}
+use Rattle.loop_model.specs.declared.call.Call.TheVariants.{Post, Barrier}
 use Rattle.loop_model.specs.declared.entry.Entry.{Entry}
 use Rattle.loop_model.specs.declared.journal.Act.{Act}
 use Rattle.loop_model.specs.declared.journal.Act.TheVariants.{Vsync}
-use Rattle.loop_model.specs.Entries.{is_next, is_disposed}
 use Rattle.dash_script.specs.declared.script.Script.{Script}
 use Rattle.message_pool.specs.Passes.{Tally}
 use Rattle.looper_run.specs.declared.dispatcher.Did.{Did}
@@ -29,95 +25,38 @@ use Rattle.choreographer.specs.Known.{Known as Pass}
 use Rattle.choreographer.specs.Calls.{PulsedBy}
 use Rattle.loop_model.proofs.Prefixes.{prefix_self}
 use Rattle.frame_phases.specs.State.{delivered as delivered_at}
-use Rattle.run_model.specs.Asks.{Makes as Asks, Unbars, AreFor, plain, token_in, tokens_in}
-use Rattle.run_model.specs.Control.{Timing, At, NotBefore}
+use Rattle.run_model.specs.Asks.{Makes as Asks, Unbars, AreFor, tokens_in}
+use Rattle.run_model.specs.Control.{At, NotBefore}
 use Rattle.run_model.specs.Senders.{frame_handler, gauge_line, gauge_looper, animation_id, animation_phase, traversal_id}
 use Rattle.run_model.specs.Planned.{frame_message}
 use Rattle.run_model.specs.Loopers.{Looper, Gauge, Sent, is_frame_post, and_sends, and_posts_frame, with_gauge, moved, paints, starts_frame, delivered, reacted, object_set, target_set, traversal_requested, traversal_ran, animation_ran, gauge_moved, callback_ran}
 use Rattle.run_model.specs.Acts.{sent_on, IsSent, millis_up}
 use Rattle.run_model.specs.FrameRuns.{place_after, posts_frame}
-use Rattle.run_model.proofs.RunLaws.{AreFor-snoc, sent_on-append}
 use Rattle.dash_hall.specs.Growth.{own, GoesOn, Makes}
 use Rattle.dash_hall.specs.Hosts.{Origin, IsHost, nanos_of, sends_by}
 use Rattle.dash_loopers.specs.declared.view_root.Painted.{Painted}
 use Rattle.dash_loopers.specs.declared.view_root.ViewRoot.{ViewRoot}
 use Rattle.dash_loopers.specs.declared.player.Parts.{Parts}
-use Rattle.dash_loopers.specs.Players.{PlaceWithout}
-use Rattle.dash_loopers.specs.Played.{standing, fixed, IsBarrierOf, IsFrameBy, is_disposal, calls_of, IsRootOf, IsShown, IsPlayed, Shows, Plays, RanFrame, Delivers, DeliversPulse, Pulses, pulsed, with_call, paint_of}
+use Rattle.dash_loopers.specs.Played.{standing, fixed, IsBarrierOf, IsFrameBy, calls_of, IsShown, IsPlayed, Shows, Plays, RanFrame, Delivers, DeliversPulse, Pulses, pulsed, paint_of}
 use Rattle.dash_hall.proofs.FramePosts.{accepted, refused, told_one, told_none}
 use Rattle.dash_loopers.proofs.FrameIds.{turn_grew}
 use Rattle.dash_loopers.proofs.FrameSteps.{FrameShows}
+use Rattle.dash_loopers.proofs.MoreCalls.{calls_same, sent_else, without_self, played_call}
 
--- ---- one call more
-
-next_plain : (c : Call) → is_next (plain c) ≡ is_next c
-next_plain (Post p) = refl
-next_plain (Barrier now) = refl
-next_plain (Unbarrier token) = refl
-next_plain (Remove f) = refl
-next_plain (Quit safe now) = refl
-next_plain (Next now) = refl
-next_plain (Advance now) = refl
-next_plain (Halt now) = refl
-
-one_kept : (e : Entry) → is_next e.call ≡ false → filter (λ x. not (is_disposal x)) (e ∷ []) ≡ e ∷ []
-one_kept e quiet = ap (λ (b : Bool). cond (not (b && is_disposed e.reply)) (e ∷ []) []) quiet
-
--- a call that is no look is one more of the calls
-calls_more : (p q : Sender) (c : Call) (tokens : List ℕ) → is_next c ≡ false → (m : Makes p q c tokens) → calls_of q ≡ calls_of p ++ m.entry ∷ []
-calls_more p q c tokens looks m =
-    let quiet : is_next m.entry.call ≡ false = sym (next_plain m.entry.call) ∙ (ap is_next m.makes ∙ looks) in
-    ap (filter (λ x. not (is_disposal x))) m.made
-    ∙ (filter-append (λ x. not (is_disposal x)) (own p) (m.entry ∷ [])
-    ∙ ap (λ (l : List Entry). calls_of p ++ l) (one_kept m.entry quiet))
-
-pub calls_same : (p q : Sender) → own q ≡ own p → calls_of q ≡ calls_of p
-calls_same p q same = ap (filter (λ x. not (is_disposal x))) same
+-- ---- calls that tell of nothing
 
 -- no more calls were made by a host's call that told of none
 pub calls_untold : (h : ℕ) (p q : Sender) (a b : Tally) → GoesOn p q a b → sends_by h q ≡ sends_by h p → calls_of q ≡ calls_of p
 calls_untold h p q a b goes same = calls_same p q (told_none h p q a b goes same)
 
-tokens_same : (made : List Entry) (e : Entry) → token_in e.reply ≡ [] → tokens_in made ≡ tokens_in (made ++ e ∷ [])
-tokens_same made e none =
-    sym (flat_map-append (λ (x : Entry). token_in x.reply) made (e ∷ []) ∙ (ap (λ (l : List ℕ). tokens_in made ++ l) (append-nil (token_in e.reply) ∙ none) ∙ append-nil (tokens_in made)))
-
-sent_here : (q : ℕ) (xs : List Sent) (x : Sent) → x.queue ≡ q → sent_on q (xs ++ x ∷ []) ≡ sent_on q xs ++ x ∷ []
-sent_here q xs x is = sent_on-append q xs (x ∷ []) ∙ ap (λ (b : Bool). sent_on q xs ++ cond b (x ∷ []) []) (eq-eqb x.queue q is)
-
-sent_else : (k : ℕ) (xs : List Sent) (x : Sent) → x.queue ≢ k → sent_on k (xs ++ x ∷ []) ≡ sent_on k xs
-sent_else k xs x isnt = sent_on-append k xs (x ∷ []) ∙ (ap (λ (b : Bool). sent_on k xs ++ cond b (x ∷ []) []) (ne_eqb x.queue k isnt) ∙ append-nil (sent_on k xs))
-
-without_self : (q k j : ℕ) → PlaceWithout q k j → q ≢ k
-without_self q k j (inl p) is = (let lt : k < q = p.0 in absurd (omega (arith, is)))
-without_self q k j (inr p) is = (let lt : q < k = p.0 in absurd (omega (arith, is)))
-
 -- other parts with the same view root, posters and counts
-pub played_with : (s : Script) (q : ℕ) (made made' : List Entry) (parts parts' : Parts) (a : Looper) → made' ≡ made → parts'.root ≡ parts.root → parts'.others ≡ parts.others → parts'.fired ≡ parts.fired → IsPlayed s q made parts a → IsPlayed s q made' parts' a
-played_with s q made made' parts parts' a calls root others fired is = record {
-  shown = subst (λ (v : ViewRoot). IsShown s q made' v a) (sym root) (subst (λ (l : List Entry). IsShown s q l parts.root a) (sym calls) is.shown);
+pub played_with : (s : Script) (q first : ℕ) (made made' : List Entry) (parts parts' : Parts) (a : Looper) → made' ≡ made → parts'.root ≡ parts.root → parts'.others ≡ parts.others → parts'.fired ≡ parts.fired → IsPlayed s q first made parts a → IsPlayed s q first made' parts' a
+played_with s q first made made' parts parts' a calls root others fired is = record {
+  shown = subst (λ (v : ViewRoot). IsShown s q first made' v a) (sym root) (subst (λ (l : List Entry). IsShown s q first l parts.root a) (sym calls) is.shown);
   elsewhere = λ k j d place near. subst (λ (l : List Sender). AreFor IsSent [] (sent_on k a.sent) (own (slice_index_or l j d))) (sym (ap (λ v. v.items) others)) (is.elsewhere k j d place (subst (λ (l : List Sender). j < length l) (ap (λ v. v.items) others) near));
   fired = ap (λ v. v.items) fired ∙ is.fired;
   counts = ap (λ v. length v.items) fired ∙ is.counts;
 }
-
--- a call on the own queue was made
-pub played_call : (s : Script) (q : ℕ) (call : Call) (timing : Timing) (p p' : Sender) (parts : Parts) → is_next call ≡ false → Makes p p' call [] → (a : Looper) → IsPlayed s q (calls_of p) parts a
-    → IsPlayed s q (calls_of p') parts (with_call q call timing a)
-played_call s q call timing p p' parts looks m a is =
-    let x : Sent = record { queue = q; ask = Asks call; reply = None; timing = timing } in
-    let made = calls_of p in
-    let root = is.shown.stands in
-    subst (λ (l : List Entry). IsPlayed s q l parts (with_call q call timing a)) (sym (calls_more p p' call [] looks m)) (record {
-      shown = record {
-        calls = subst (λ (l : List Sent). AreFor IsSent [] l (made ++ m.entry ∷ [])) (sym (sent_here q a.sent x refl)) (AreFor-snoc IsSent (sent_on q a.sent) x made m.entry is.shown.calls (record { call = m.makes; reply = tt }));
-        posted = is.shown.posted;
-        stands = subst (λ (l : List ℕ). IsRootOf s q l (with_call q call timing a) parts.root) (tokens_same made m.entry m.answered) (record { gauges = root.gauges; lines = root.lines; barrier = root.barrier; barriers = root.barriers; painted = root.painted });
-      };
-      elsewhere = λ k j d place near. subst (λ (l : List Sent). AreFor IsSent [] l (own (slice_index_or parts.others.items j d))) (sym (sent_else k a.sent x (without_self q k j place))) (is.elsewhere k j d place near);
-      fired = is.fired;
-      counts = is.counts;
-    })
 
 -- ---- a pulse
 
@@ -149,14 +88,14 @@ pub pulse_delivered : (s : Script) (q now : ℕ) (p p' : Sender) (a b : Tally) (
     → DeliversPulse s q now (calls_of p) (calls_of p') parts parts' r
 pulse_delivered s q now p p' a b parts parts' None goes (x, y, n, t, moment, (none, left, sends)) root others fired = (
   turn_grew parts.frames parts'.frames x y t,
-  λ text l is. played_with s q (calls_of p) (calls_of p') parts parts' l (calls_untold (frame_handler q) p p' a b goes sends) root others fired is,
+  λ text first l is. played_with s q first (calls_of p) (calls_of p') parts parts' l (calls_untold (frame_handler q) p p' a b goes sends) root others fired is,
 )
 pulse_delivered s q now p p' a b parts parts' (Some pulse) goes (x, y, n, t, moment, (some, left, sends)) root others fired = λ isnt.
     (let near : pulse.stamp ≤ nanos_of now = subst (λ (m : ℕ). pulse.stamp ≤ m) (eqb-true n (nanos_of now) moment) (pulse_near x.frames.asked n pulse.stamp some) in
     let made = frame_sent (frame_handler q) (pulse.stamp / 1000000) pulse.sent p p' a b goes isnt sends in (
       turn_grew parts.frames parts'.frames x y t,
       millis_near pulse.stamp now near,
-      λ text l is. played_with s q (calls_of p') (calls_of p') parts parts' (pulsed q (Some pulse.stamp) l) refl root others fired (played_call s q (Post (frame_message q 0 0 (pulse.stamp / 1000000))) (NotBefore (millis_up pulse.stamp)) p p' parts refl made l is),
+      λ text first l is. played_with s q first (calls_of p') (calls_of p') parts parts' (pulsed q (Some pulse.stamp) l) refl root others fired (played_call s q (Post (frame_message q 0 0 (pulse.stamp / 1000000))) (NotBefore (millis_up pulse.stamp)) p p' parts refl made first l is),
     ))
 
 -- ---- by a host that was made of the looper's poster
@@ -282,10 +221,10 @@ object_painted s q now g target a =
 -- a step of the view root is one of all that the looper has
 pub played_shown : (s : Script) (q : ℕ) (step : Looper → Looper) (made made' : List Entry) (parts parts' : Parts) → Shows s q step made parts.root made' parts'.root → ((a : Looper) → StaysElsewhere q a (step a)) → parts'.others ≡ parts.others
     → parts'.fired ≡ parts.fired → Plays s q step made parts made' parts'
-played_shown s q step made made' parts parts' shows stays others fired text a is =
+played_shown s q step made made' parts parts' shows stays others fired text first a is =
     let still = stays a in
     record {
-      shown = shows text a is.shown;
+      shown = shows text first a is.shown;
       elsewhere = λ k j d place near. subst (λ (l : List Sent). AreFor IsSent [] l (own (slice_index_or parts'.others.items j d))) (sym (still.elsewhere k (λ e. without_self q k j place (sym e))))
           (subst (λ (l : List Sender). AreFor IsSent [] (sent_on k a.sent) (own (slice_index_or l j d))) (sym (ap (λ v. v.items) others)) (is.elsewhere k j d place (subst (λ (l : List Sender). j < length l) (ap (λ v. v.items) others) near)));
       fired = ap (λ v. v.items) fired ∙ (is.fired ∙ sym still.fired);
@@ -368,15 +307,16 @@ frame_delivered s q now m made made' parts mid parts' acts acts0 acts' ids start
     grew = subst (λ (f : Pass). IsPrefix parts.frames.view.seen f.view.seen) (sym frames) ran.grew;
   };
   starts = ap (λ (t : Bool). not (is_some ran.frame) || t) starts ∙ or_true (not (is_some ran.frame));
-  plays = λ text a unpainted is. (
+  plays = λ text first a unpainted is. (
       let b : Looper = fold (callback_ran s q now) a ids in
-      let done : IsPlayed s q made' mid b = plays text a is in
+      let done : IsPlayed s q first made' mid b = plays text first a is in
       let root = done.shown.stands in
-      subst (λ (z : Looper). IsPlayed s q made' parts' (record z { painted = [] }) × (acts' ≡ acts ++ z.painted)) (sym (delivered_frame s q now ids m a starts)) (
+      subst (λ (z : Looper). IsPlayed s q first made' parts' (record z { painted = [] }) × (acts' ≡ acts ++ z.painted)) (sym (delivered_frame s q now ids m a starts)) (
         record {
           shown = record {
             calls = done.shown.calls;
             posted = λ phase id. subst (λ (f : Pass). count_by (is_frame_post phase id) b.posted ≤ count_by (posts_frame phase id) f.view.seen) (sym pass) (done.shown.posted phase id);
+            turns = ap (λ (f : Pass). f.view.turns) pass ∙ done.shown.turns;
             stands = record {
               gauges = ap (λ v. map standing v.items) gauges ∙ root.gauges;
               lines = ap (λ v. map fixed v.items) gauges ∙ root.lines;
@@ -400,11 +340,11 @@ step_delivered s q now m made made' parts parts' acts acts' step grew is_step st
   ids = [];
   ran = record { frame = None; framed = λ fs begins is. (refl, refl); within = omega arith; grew = grew };
   starts = refl;
-  plays = λ text a unpainted is. (
+  plays = λ text first a unpainted is. (
       let b : Looper = step a in
       let nothing : b.painted ≡ [] = still a ∙ unpainted in
-      subst (λ (z : Looper). IsPlayed s q made' parts' (record z { painted = [] }) × (acts' ≡ acts ++ z.painted)) (sym (is_step a)) (
-        subst (λ (l : List Act). IsPlayed s q made' parts' (record b { painted = l })) nothing (plays text a is),
+      subst (λ (z : Looper). IsPlayed s q first made' parts' (record z { painted = [] }) × (acts' ≡ acts ++ z.painted)) (sym (is_step a)) (
+        subst (λ (l : List Act). IsPlayed s q first made' parts' (record b { painted = l })) nothing (plays text first a is),
         same ∙ (sym (append-nil acts) ∙ ap (λ (l : List Act). acts ++ l) (sym nothing)),
       ));
 }
@@ -414,10 +354,6 @@ pub still_delivered : (s : Script) (q now : ℕ) (m : PostData) (made made' : Li
     → ((a : Looper) → delivered s q now [] m a ≡ step a) → ((a : Looper) → (step a).painted ≡ a.painted) → Plays s q step made parts made' parts' → acts' ≡ acts → Delivers s q now m made made' parts parts' acts acts'
 still_delivered s q now m made made' parts parts' acts acts' step frames is_step still plays same =
     step_delivered s q now m made made' parts parts' acts acts' step (subst (λ (f : Pass). IsPrefix parts.frames.view.seen f.view.seen) (sym frames) (prefix_self parts.frames.view.seen)) is_step still plays same
-
-pub on_ok : {E : Type 0} (r : Result Unit E) (P Q : Type 0) → OnOk r P → (P → Q) → OnOk r Q
-on_ok (Ok u) P Q h f = f h
-on_ok (Err e) P Q h f = tt
 
 -- one paint more was told
 pub painted_more : (acts0 acts : List Act) (ps : List Painted) (i : ℕ) (d : Painted) → i < length ps → acts ≡ acts0 ++ map paint_of (take i ps) → acts ++ paint_of (get_or ps i d) ∷ [] ≡ acts0 ++ map paint_of (take (i + 1) ps)

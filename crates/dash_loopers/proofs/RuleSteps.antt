@@ -1,30 +1,28 @@
 -- A rule's message is one call more of the looper, and the rules of a message follow one after another.
-use Rattle.std.proofs.Common.{◌≡◌, ◌≢◌, ℕ, ◌+◌, ◌<◌, ◌≤◌, ◌==◌, ◌&&◌, Bool, true, false, cond, not, List, [], ◌∷◌, ◌++◌, map, length, get_or, set, take, Option, Some, None, inl, inr, refl, sym, ap, ◌∙◌, subst, arith, append_assoc, eq-eqb, ne_eqb}
-use Rattle.std.specs.Prelude.{◌⊎◌, slice_get, slice_set, slice_index_or, filter, nat_lt, if◌then◌else◌}
+use Rattle.std.proofs.Common.{◌≡◌, ◌≢◌, ℕ, ◌+◌, ◌<◌, ◌≤◌, ◌==◌, ◌&&◌, Bool, true, false, List, [], ◌∷◌, ◌++◌, map, length, get_or, set, take, Option, Some, None, inl, inr, refl, sym, ap, ◌∙◌, subst, arith, append_assoc, ne_eqb}
+use Rattle.std.specs.Prelude.{◌⊎◌, slice_get, slice_set, slice_index_or, nat_lt, if◌then◌else◌}
 use Rattle.std.specs.List.{zip, filter_map, cons_option}
 use Rattle.std.specs.Option.{option_map_or}
 use mathlib.Core.Logic.{dite}
 use native.Mathlib.Decide.{ℕ_discrete}
 use Rattle.std.proofs.lemmas.Bool.{lt-ltb, le-ltb}
 use Rattle.std.proofs.lemmas.List.{append-nil, get_or-set_same, get_or-set_other, length-set, length-append, set_at, take_more, length-take-le, take_all}
-use Rattle.std.proofs.lemmas.List.Elements.{filter-append}
 use Rattle.std.proofs.lemmas.Option.{slice_get-get_or, slice_get_within, get_or_from_slice_get}
 use Rattle.loop_model.specs.declared.post.Post.{Post as PostData}
 use Rattle.loop_model.specs.declared.call.Call.{Call}
-use Rattle.loop_model.specs.declared.call.Call.TheVariants.{Post, Barrier, Quit}
 use Rattle.loop_model.specs.declared.entry.Entry.{Entry}
-use Rattle.loop_model.specs.Entries.{is_next, is_disposed}
+use Rattle.loop_model.specs.Entries.{is_next}
 use Rattle.dash_script.specs.declared.script.Rule.{Rule}
 use Rattle.dash_script.specs.declared.script.Script.{Script}
 use Rattle.looper_run.specs.Holding.{Sender}
 use Rattle.handler_post.specs.declared.handler.Handler.{Handler}
-use Rattle.run_model.specs.Asks.{Makes as Asks, AreFor, plain, token_in, tokens_in}
+use Rattle.run_model.specs.Asks.{Makes as Asks, AreFor, plain, tokens_in}
 use Rattle.run_model.specs.Control.{Timing, At}
 use Rattle.run_model.specs.Senders.{looper_of, handler_line}
 use Rattle.loop_model.specs.Posts.{moment_after}
 use Rattle.run_model.specs.Loopers.{Looper, Sent, fires, reaction, reacted}
 use Rattle.run_model.specs.Acts.{sent_on, IsSent}
-use Rattle.run_model.proofs.RunLaws.{AreFor-snoc, sent_on-append}
+use Rattle.run_model.proofs.RunLaws.{AreFor-snoc}
 use Rattle.dash_hall.specs.declared.handlers.Request.{Request}
 use Rattle.dash_hall.specs.declared.handlers.Request.TheVariants as request
 use Rattle.dash_hall.specs.Requests.{call_by}
@@ -32,15 +30,11 @@ use Rattle.dash_hall.specs.Growth.{own, Makes}
 use Rattle.dash_loopers.specs.declared.view_root.ViewRoot.{ViewRoot}
 use Rattle.dash_loopers.specs.declared.player.Parts.{Parts}
 use Rattle.dash_loopers.specs.Players.{PlaceWithout}
-use Rattle.dash_loopers.specs.Played.{is_disposal, calls_of, IsRootOf, IsShown, AreMadeElsewhere, IsPlayed, Plays, AreAllButCounts, FiresAt, with_call, rule_met}
+use Rattle.dash_loopers.specs.Played.{calls_of, IsRootOf, IsShown, AreMadeElsewhere, IsPlayed, Plays, AreAllButCounts, FiresAt, with_call, rule_met}
+use Rattle.dash_loopers.proofs.LooperLists.{at_seam}
+use Rattle.dash_loopers.proofs.MoreCalls.{sent_here, sent_else, without_self, played_call}
 
 -- ---- a call that a handler makes is no look
-
-plain_look : (c : Call) → is_next (plain c) ≡ is_next c
-plain_look (Post p) = refl
-plain_look (Barrier now) = refl
-plain_look (Quit safe now) = refl
-plain_look c = refl
 
 no_look_by : (h : Handler) (r : Request) → is_next (call_by h r) ≡ false
 no_look_by h (request.Send what arg obj when) = refl
@@ -51,23 +45,7 @@ no_look_by h (request.RemoveMessages what) = refl
 no_look_by h (request.RemoveCallbacks id) = refl
 no_look_by h request.RemoveAll = refl
 
-no_disposal : (h : Handler) (r : Request) (e : Entry) → plain e.call ≡ call_by h r → is_disposal e ≡ false
-no_disposal h r e is = ap (λ (b : Bool). b && is_disposed e.reply) (sym (plain_look e.call) ∙ (ap is_next is ∙ no_look_by h r))
-
--- the poster's calls with one more
-pub one_called : (h : Handler) (r : Request) (p q : Sender) (m : Makes p q (call_by h r) []) → calls_of q ≡ calls_of p ++ m.entry ∷ []
-one_called h r p q m =
-    let keep : Entry → Bool = λ e. not (is_disposal e) in
-    ap (filter keep) m.made ∙ (filter-append keep (own p) (m.entry ∷ []) ∙ ap (λ (b : Bool). calls_of p ++ cond (not b) (m.entry ∷ []) []) (no_disposal h r m.entry m.makes))
-
 -- ---- one call more
-
--- what is sent on a queue with one call more
-pub sent_here : (k : ℕ) (xs : List Sent) (x : Sent) (is : x.queue ≡ k) → sent_on k (xs ++ x ∷ []) ≡ sent_on k xs ++ x ∷ []
-sent_here k xs x is = sent_on-append k xs (x ∷ []) ∙ ap (λ (b : Bool). sent_on k xs ++ cond b (x ∷ []) []) (eq-eqb x.queue k is)
-
-pub sent_else : (k : ℕ) (xs : List Sent) (x : Sent) (is : x.queue ≢ k) → sent_on k (xs ++ x ∷ []) ≡ sent_on k xs
-sent_else k xs x is = sent_on-append k xs (x ∷ []) ∙ (ap (λ (b : Bool). sent_on k xs ++ cond b (x ∷ []) []) (ne_eqb x.queue k is) ∙ append-nil (sent_on k xs))
 
 -- the calls for what is sent, with one more
 pub one_for : (k : ℕ) (xs : List Sent) (call : Call) (timing : Timing) (es : List Entry) (e : Entry) → plain e.call ≡ call → AreFor IsSent [] (sent_on k xs) es
@@ -83,34 +61,14 @@ pub none_for : (k queue : ℕ) (xs : List Sent) (call : Call) (timing : Timing) 
 none_for k queue xs call timing es other h =
     subst (λ (l : List Sent). AreFor IsSent [] l es) (sym (sent_else k xs (record { queue = queue; ask = Asks call; reply = None; timing = timing }) other)) h
 
-pub tokens_more : (es : List Entry) (e : Entry) → token_in e.reply ≡ [] → tokens_in es ≡ tokens_in (es ++ e ∷ [])
-tokens_more [] e none = sym (ap (λ (l : List ℕ). l ++ []) none)
-tokens_more (x ∷ es) e none = ap (λ (l : List ℕ). token_in x.reply ++ l) (tokens_more es e none)
-
 -- a view root stands as it stood, whatever was sent
 pub root_sent : (s : Script) (q : ℕ) (tokens : List ℕ) (a : Looper) (xs : List Sent) (root : ViewRoot) → IsRootOf s q tokens a root → IsRootOf s q tokens (record a { sent = xs }) root
 root_sent s q tokens a xs root h = record { gauges = h.gauges; lines = h.lines; barrier = h.barrier; barriers = h.barriers; painted = h.painted }
 
-pub without_self : (q k j : ℕ) → PlaceWithout q k j → q ≢ k
-without_self q k j (inl p) is = (let lt : k < q = p.0 in absurd (omega (arith, is)))
-without_self q k j (inr p) is = (let lt : q < k = p.0 in absurd (omega (arith, is)))
-
 -- a call on the own queue
 pub called_here : (s : Script) (q : ℕ) (h : Handler) (r : Request) (timing : Timing) (p p' : Sender) (parts : Parts) → Makes p p' (call_by h r) []
     → Plays s q (with_call q (call_by h r) timing) (calls_of p) parts (calls_of p') parts
-called_here s q h r timing p p' parts m text a is =
-    let x : Sent = record { queue = q; ask = Asks (call_by h r); reply = None; timing = timing } in
-    subst (λ (l : List Entry). IsPlayed s q l parts (with_call q (call_by h r) timing a)) (sym (one_called h r p p' m))
-    (record {
-      shown = record {
-        calls = one_for q a.sent (call_by h r) timing (calls_of p) m.entry m.makes is.shown.calls;
-        posted = is.shown.posted;
-        stands = subst (λ (l : List ℕ). IsRootOf s q l (with_call q (call_by h r) timing a) parts.root) (tokens_more (calls_of p) m.entry m.answered) (root_sent s q (tokens_in (calls_of p)) a (a.sent ++ x ∷ []) parts.root is.shown.stands);
-      };
-      elsewhere = λ k j d place near. none_for k q a.sent (call_by h r) timing (own (slice_index_or parts.others.items j d)) (without_self q k j place) (is.elsewhere k j d place near);
-      fired = is.fired;
-      counts = is.counts;
-    })
+called_here s q h r timing p p' parts m text first a is = played_call s q (call_by h r) timing p p' parts (no_look_by h r) m first a is
 
 -- which queue stands at which place
 same_place : (q k k' j j' : ℕ) → PlaceWithout q k j → PlaceWithout q k' j' → k ≡ k' → j' ≡ j
@@ -127,7 +85,7 @@ other_place q k k' j j' (inr p) (inr p') apart is = (let a : k ≡ j + 1 = p.1 i
 
 -- a call on another queue, by its poster at place j among the others
 module _ (s : Script) (q k j : ℕ) (h : Handler) (r : Request) (timing : Timing) (p p' : Sender) (made : List Entry) (parts parts' : Parts) (place : PlaceWithout q k j) (at : slice_get parts.others.items j ≡ Some p) (m : Makes p p' (call_by h r) [])
-    (others : parts'.others.items ≡ set parts.others.items j p') (root : parts'.root ≡ parts.root) (fired : parts'.fired.items ≡ parts.fired.items) (a : Looper) (is : IsPlayed s q made parts a) where
+    (others : parts'.others.items ≡ set parts.others.items j p') (root : parts'.root ≡ parts.root) (fired : parts'.fired.items ≡ parts.fired.items) (first : ℕ) (a : Looper) (is : IsPlayed s q first made parts a) where
   -- what is sent with this call more
   sent_more : List Sent
   sent_more = a.sent ++ record { queue = k; ask = Asks (call_by h r); reply = None; timing = timing } ∷ []
@@ -147,15 +105,16 @@ module _ (s : Script) (q k j : ℕ) (h : Handler) (r : Request) (timing : Timing
       subst (λ (z : Sender). AreFor IsSent [] (sent_on k' sent_more) (own z)) (sym there) (none_for k' k a.sent (call_by h r) timing (own (get_or items j' d)) apart (is.elsewhere k' j' d place' near))) in
       dite (ℕ_discrete k k') hit miss
 
-  pub called_there : IsPlayed s q made parts' (with_call k (call_by h r) timing a)
+  pub called_there : IsPlayed s q first made parts' (with_call k (call_by h r) timing a)
   unfolding sent_more
   called_there =
       let items = parts.others.items in
       let as_many : length parts'.others.items ≡ length items = ap length others ∙ length-set items j p' in
       record {
-        shown = subst (λ (v : ViewRoot). IsShown s q made v (with_call k (call_by h r) timing a)) (sym root) (record {
+        shown = subst (λ (v : ViewRoot). IsShown s q first made v (with_call k (call_by h r) timing a)) (sym root) (record {
           calls = none_for q k a.sent (call_by h r) timing made (λ e. without_self q k j place (sym e)) is.shown.calls;
           posted = is.shown.posted;
+          turns = is.shown.turns;
           stands = root_sent s q (tokens_in made) a sent_more parts.root is.shown.stands;
         });
         elsewhere = λ k' j' d place' near. subst (λ (l : List Sender). AreFor IsSent [] (sent_on k' sent_more) (own (slice_index_or l j' d))) (sym others) (entries_there k' j' d place' (omega (arith, near, as_many)));
@@ -232,10 +191,6 @@ module _ (s : Script) (now : ℕ) (m : PostData) (a : Looper) where
   more_sent : Rule × ℕ → List Sent
   more_sent (r, n) = if fires m r n then reaction s now r ∷ [] else []
 
-  at_count : (done : List ℕ) (n : ℕ) (ns : List ℕ) → slice_get (done ++ n ∷ ns) (length done) ≡ Some n
-  at_count [] n ns = refl
-  at_count (x ∷ done) n ns = at_count done n ns
-
   consed : (x : Sent) (xs : List Sent) (b : Bool) → (if b then x ∷ [] else []) ++ xs ≡ cons_option (if b then Some x else None) xs
   consed x xs true = refl
   consed x xs false = refl
@@ -249,11 +204,11 @@ module _ (s : Script) (now : ℕ) (m : PostData) (a : Looper) where
       by_test : (b : Bool) → fires m r n ≡ b
           → rule_met s now m (length done) r (with_both (done ++ n ∷ ns) sent) ≡ with_both ((done ++ (if fires m r n then n + 1 else n) ∷ []) ++ ns) (sent ++ (if fires m r n then reaction s now r ∷ [] else []))
       by_test true is =
-          rule_fired s now m (length done) r (with_both (done ++ n ∷ ns) sent) n (at_count done n ns) is
+          rule_fired s now m (length done) r (with_both (done ++ n ∷ ns) sent) n (at_seam done n ns) is
           ∙ (ap (λ (l : List ℕ). with_both l (sent ++ reaction s now r ∷ [])) (set_at done n ns (n + 1) (length done) refl ∙ sym (append_assoc done ((n + 1) ∷ []) ns))
           ∙ ap (λ (b : Bool). with_both ((done ++ (if b then n + 1 else n) ∷ []) ++ ns) (sent ++ (if b then reaction s now r ∷ [] else []))) (sym is))
       by_test false is =
-          rule_missed s now m (length done) r (with_both (done ++ n ∷ ns) sent) (λ k at. (let same : n ≡ k = (let e : Some n ≡ Some k = sym (at_count done n ns) ∙ at in cc) in ap (fires m r) (sym same) ∙ is))
+          rule_missed s now m (length done) r (with_both (done ++ n ∷ ns) sent) (λ k at. (let same : n ≡ k = (let e : Some n ≡ Some k = sym (at_seam done n ns) ∙ at in cc) in ap (fires m r) (sym same) ∙ is))
           ∙ (λ i. with_both (sym (append_assoc done (n ∷ []) ns) i) (sym (append-nil sent) i))
           ∙ ap (λ (b : Bool). with_both ((done ++ (if b then n + 1 else n) ∷ []) ++ ns) (sent ++ (if b then reaction s now r ∷ [] else []))) (sym is)
 
@@ -288,16 +243,17 @@ pub request_is : (s : Script) (now : ℕ) (r : Rule) (looper : ℕ) (handler : H
 request_is s now r looper handler when a is_looper is_handler is_when = λ i. with_call (is_looper i) (call_by (is_handler i) (request.Send r.to_what 0 None (is_when i))) (At now) a
 
 -- a step of the same state in other words
-pub played_as : (s : Script) (q : ℕ) (made : List Entry) (parts : Parts) (a b : Looper) → a ≡ b → IsPlayed s q made parts a → IsPlayed s q made parts b
-played_as s q made parts a b same is = subst (IsPlayed s q made parts) same is
+pub played_as : (s : Script) (q first : ℕ) (made : List Entry) (parts : Parts) (a b : Looper) → a ≡ b → IsPlayed s q first made parts a → IsPlayed s q first made parts b
+played_as s q first made parts a b same is = subst (IsPlayed s q first made parts) same is
 
 -- the rule is counted
-counted : (s : Script) (q place n : ℕ) (made : List Entry) (parts parts' : Parts) (a : Looper) → parts'.fired.items ≡ slice_set parts.fired.items place (n + 1) → AreAllButCounts parts parts' → IsPlayed s q made parts a
-    → IsPlayed s q made parts' (record a { fired = slice_set a.fired place (n + 1) })
-counted s q place n made parts parts' a fired same is = record {
-  shown = subst (λ (v : ViewRoot). IsShown s q made v (record a { fired = slice_set a.fired place (n + 1) })) (sym same.2) (record {
+counted : (s : Script) (q first place n : ℕ) (made : List Entry) (parts parts' : Parts) (a : Looper) → parts'.fired.items ≡ slice_set parts.fired.items place (n + 1) → AreAllButCounts parts parts' → IsPlayed s q first made parts a
+    → IsPlayed s q first made parts' (record a { fired = slice_set a.fired place (n + 1) })
+counted s q first place n made parts parts' a fired same is = record {
+  shown = subst (λ (v : ViewRoot). IsShown s q first made v (record a { fired = slice_set a.fired place (n + 1) })) (sym same.2) (record {
     calls = is.shown.calls;
     posted = is.shown.posted;
+    turns = is.shown.turns;
     stands = record { gauges = is.shown.stands.gauges; lines = is.shown.stands.lines; barrier = is.shown.stands.barrier; barriers = is.shown.stands.barriers; painted = is.shown.stands.painted };
   });
   elsewhere = subst (λ (l : List Sender). AreMadeElsewhere q l (record a { fired = slice_set a.fired place (n + 1) })) (λ i. (sym same.0 i).items) is.elsewhere;
@@ -308,27 +264,27 @@ counted s q place n made parts parts' a fired same is = record {
 -- a rule of the message whose count is below its limit is counted, and its message is sent
 pub plays_fired : (s : Script) (q now : ℕ) (m : PostData) (place : ℕ) (r : Rule) (made made' : List Entry) (parts parts' parts'' : Parts) → (m.handler == r.handler) ≡ true → (m.what == r.what) ≡ true → FiresAt place r.times parts parts' true
     → Plays s q (λ a. record a { sent = a.sent ++ reaction s now r ∷ [] }) made parts' made' parts'' → Plays s q (rule_met s now m place r) made parts made' parts''
-plays_fired s q now m place r made made' parts parts' parts'' h w (n, at, lt, fired, same) sends text a is =
+plays_fired s q now m place r made made' parts parts' parts'' h w (n, at, lt, fired, same) sends text first a is =
     let at_a : slice_get a.fired place ≡ Some n = ap (λ (l : List ℕ). slice_get l place) (sym is.fired) ∙ at in
-    played_as s q made' parts'' _ _ (sym (rule_fired s now m place r a n at_a (fires_below m r n h w lt))) (sends text (record a { fired = slice_set a.fired place (n + 1) }) (counted s q place n made parts parts' a fired same is))
+    played_as s q first made' parts'' _ _ (sym (rule_fired s now m place r a n at_a (fires_below m r n h w lt))) (sends text first (record a { fired = slice_set a.fired place (n + 1) }) (counted s q first place n made parts parts' a fired same is))
 
 -- one whose count is at its limit does nothing
 pub plays_used_up : (s : Script) (q now : ℕ) (m : PostData) (place : ℕ) (r : Rule) (made : List Entry) (parts parts' : Parts) → FiresAt place r.times parts parts' false → Plays s q (rule_met s now m place r) made parts made parts'
-plays_used_up s q now m place r made parts parts' (same, used_up) text a is =
+plays_used_up s q now m place r made parts parts' (same, used_up) text first a is =
     let never : (n : ℕ) → slice_get a.fired place ≡ Some n → fires m r n ≡ false = λ n at.
     (let many = used_up n (ap (λ (l : List ℕ). slice_get l place) is.fired ∙ at) in fires_not m r n (inr many)) in
-    subst (λ (z : Parts). IsPlayed s q made z (rule_met s now m place r a)) (sym same) (played_as s q made parts _ _ (sym (rule_missed s now m place r a never)) is)
+    subst (λ (z : Parts). IsPlayed s q first made z (rule_met s now m place r a)) (sym same) (played_as s q first made parts _ _ (sym (rule_missed s now m place r a never)) is)
 
 -- one of another message does nothing
 pub plays_other : (s : Script) (q now : ℕ) (m : PostData) (place : ℕ) (r : Rule) (made : List Entry) (parts : Parts) → (m.handler ≢ r.handler) ⊎ (m.what ≢ r.what) → Plays s q (rule_met s now m place r) made parts made parts
-plays_other s q now m place r made parts other text a is =
-    played_as s q made parts _ _ (sym (rule_missed s now m place r a (λ n at. fires_not m r n (inl other)))) is
+plays_other s q now m place r made parts other text first a is =
+    played_as s q first made parts _ _ (sym (rule_missed s now m place r a (λ n at. fires_not m r n (inl other)))) is
 
 -- the request of a rule is its message
 pub plays_sent : (s : Script) (q now : ℕ) (r : Rule) (looper : ℕ) (handler : Handler) (when : ℕ) (made made' : List Entry) (parts parts' : Parts) → looper ≡ looper_of s r.to_handler → handler ≡ record { id = r.to_handler; asynchronous = (handler_line s r.to_handler).asynchronous } → when ≡ moment_after now r.delay
     → Plays s q (with_call looper (call_by handler (request.Send r.to_what 0 None when)) (At now)) made parts made' parts' → Plays s q (λ a. record a { sent = a.sent ++ reaction s now r ∷ [] }) made parts made' parts'
-plays_sent s q now r looper handler when made made' parts parts' is_looper is_handler is_when plays text a is =
-    played_as s q made' parts' _ _ (request_is s now r looper handler when a is_looper is_handler is_when) (plays text a is)
+plays_sent s q now r looper handler when made made' parts parts' is_looper is_handler is_when plays text first a is =
+    played_as s q first made' parts' _ _ (request_is s now r looper handler when a is_looper is_handler is_when) (plays text first a is)
 
 -- the rule at a place of the same list
 pub rule_at : (xs ys : List Rule) (place : ℕ) (d : Rule) → ys ≡ xs → place < length ys → slice_get xs place ≡ Some (get_or ys place d)
@@ -337,12 +293,12 @@ rule_at xs ys place d same near = ap (λ (l : List Rule). slice_get l place) (sy
 -- one rule more
 pub plays_next : (s : Script) (q now : ℕ) (m : PostData) (place : ℕ) (r : Rule) (made made' made'' : List Entry) (parts parts' parts'' : Parts) → slice_get s.rules place ≡ Some r → Plays s q (rules_met s now m 0 (take place s.rules)) made parts made' parts'
     → Plays s q (rule_met s now m place r) made' parts' made'' parts'' → Plays s q (rules_met s now m 0 (take (place + 1) s.rules)) made parts made'' parts''
-plays_next s q now m place r made made' made'' parts parts' parts'' at before next text a is =
-    played_as s q made'' parts'' _ _ (rules_next s now m place r a at) (next text (rules_met s now m 0 (take place s.rules) a) (before text a is))
+plays_next s q now m place r made made' made'' parts parts' parts'' at before next text first a is =
+    played_as s q first made'' parts'' _ _ (rules_next s now m place r a at) (next text first (rules_met s now m 0 (take place s.rules) a) (before text first a is))
 
 -- all rules of the message have been met
 pub plays_all : (s : Script) (q now : ℕ) (m : PostData) (place : ℕ) (made made' : List Entry) (parts parts' : Parts) → length s.rules ≤ place → Plays s q (rules_met s now m 0 (take place s.rules)) made parts made' parts' → Plays s q (reacted s now m) made parts made' parts'
-plays_all s q now m place made made' parts parts' all plays text a is =
+plays_all s q now m place made made' parts parts' all plays text first a is =
     let taken : take place s.rules ≡ s.rules = take_all place s.rules all in
     let many : length a.fired ≡ length s.rules = sym (ap length is.fired) ∙ is.counts in
-    played_as s q made' parts' _ _ (ap (λ (l : List Rule). rules_met s now m 0 l a) taken ∙ rules_are s now m a many) (plays text a is)
+    played_as s q first made' parts' _ _ (ap (λ (l : List Rule). rules_met s now m 0 l a) taken ∙ rules_are s now m a many) (plays text first a is)

@@ -11,6 +11,7 @@ use Rattle.loop_model.specs.Entries.{is_next, is_disposed}
 use Rattle.shared_queue.specs.Known.{Shared}
 use Rattle.looper_run.specs.Holding.{Workplace, workplace, Sender, IsBeside}
 use Rattle.looper_run.specs.Round.{RoundBy, is_ended}
+use Rattle.looper_run.specs.Asked.{any_heard}
 use Rattle.looper_run.specs.Looks.{IsRound}
 use Rattle.looper_run.specs.Acts.{taken_by}
 use Rattle.loop_model.specs.Dispatches.{dispatches}
@@ -108,7 +109,7 @@ pub record IsLooper (s : Script) (hall : Hall) (l : StageLooper) : Type 0 where
 pub record HasRun (s : Script) (now : ℕ) (before after : StageLooper) : Type 0 where
   pub stopped : (is_ended before.last || is_given_up before.last) ≡ true → after ≡ before
   pub ran : (is_ended before.last || is_given_up before.last) ≡ false → RoundBy (setting_for s before.number) now before.looper.held after.looper.held after.last
-  pub looks : (is_ended before.last || is_given_up before.last) ≡ false → IsRound now before.looper after.looper after.last
+  pub looks : (is_ended before.last || is_given_up before.last) ≡ false → IsRound any_heard now before.looper after.looper after.last
 
 -- the Dispatch acts in the journal are, one for one and in order, the messages that this looper's own poster took
 abbrev pub HasTold : Script → ℕ → Journal → Kit → Type 0

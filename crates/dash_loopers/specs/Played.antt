@@ -37,7 +37,7 @@ use Rattle.dash_loopers.specs.declared.player.Parts.{Parts}
 use Rattle.dash_loopers.specs.declared.looper.StageLooper.{StageLooper}
 use Rattle.dash_hall.specs.Growth.{own}
 use Rattle.dash_loopers.specs.Players.{PlaceWithout}
-use Rattle.dash_loopers.specs.Loopers.{is_given_up, IsSoundOn, calls_among}
+use Rattle.dash_loopers.specs.Loopers.{is_given_up, calls_among}
 pub use Rattle.dash_loopers.specs.Loopers.{is_disposal}
 
 -- ---- how a view root stands
@@ -86,10 +86,11 @@ calls_in sender es = calls_among (entries_by sender es)
 abbrev pub calls_of : Sender → List Entry
 calls_of p = calls_in p.sender p.view.seen
 
--- the looper made these entries on its own queue, its pass has seen the frame callbacks that the state posts, and its view root stands as the state says
-pub record IsShown (s : Script) (q : ℕ) (made : List Entry) (root : ViewRoot) (a : Looper) : Type 0 where
+-- the looper made these entries on its own queue, its pass has seen the frame callbacks that the state posts and took one turn for each of them after the first turns, and its view root stands as the state says
+pub record IsShown (s : Script) (q first : ℕ) (made : List Entry) (root : ViewRoot) (a : Looper) : Type 0 where
   pub calls : AreFor IsSent [] (sent_on q a.sent) made
   pub posted : (phase id : ℕ) → count_by (is_frame_post phase id) a.posted ≤ count_by (posts_frame phase id) root.pass.view.seen
+  pub turns : root.pass.view.turns ≡ first + length a.posted
   pub stands : IsRootOf s q (tokens_in made) a root
 
 -- on each other queue the calls that the state tells were made; the posters of the others stand in order
@@ -97,19 +98,19 @@ abbrev pub AreMadeElsewhere : ℕ → List Sender → Looper → Type 0
 AreMadeElsewhere q others a = (k j : ℕ) (d : Sender) → PlaceWithout q k j → j < length others → AreFor IsSent [] (sent_on k a.sent) (own (slice_index_or others j d))
 
 -- all that the state says is so, of the looper's own queue, of the others, and of its rule counts, of which there are as many as rules
-pub record IsPlayed (s : Script) (q : ℕ) (made : List Entry) (parts : Parts) (a : Looper) : Type 0 where
-  pub shown : IsShown s q made parts.root a
+pub record IsPlayed (s : Script) (q first : ℕ) (made : List Entry) (parts : Parts) (a : Looper) : Type 0 where
+  pub shown : IsShown s q first made parts.root a
   pub elsewhere : AreMadeElsewhere q parts.others.items a
   pub fired : parts.fired.items ≡ a.fired
   pub counts : length parts.fired.items ≡ length s.rules
 
 -- a step of the view root: whatever state it stood at, it stands now at what the step makes of that
 abbrev pub Shows : Script → ℕ → (Looper → Looper) → List Entry → ViewRoot → List Entry → ViewRoot → Type 0
-Shows s q step made root made' root' = HasText s → (a : Looper) → IsShown s q made root a → IsShown s q made' root' (step a)
+Shows s q step made root made' root' = HasText s → (first : ℕ) (a : Looper) → IsShown s q first made root a → IsShown s q first made' root' (step a)
 
 -- the same of all that a looper has
 abbrev pub Plays : Script → ℕ → (Looper → Looper) → List Entry → Parts → List Entry → Parts → Type 0
-Plays s q step made parts made' parts' = HasText s → (a : Looper) → IsPlayed s q made parts a → IsPlayed s q made' parts' (step a)
+Plays s q step made parts made' parts' = HasText s → (first : ℕ) (a : Looper) → IsPlayed s q first made parts a → IsPlayed s q first made' parts' (step a)
 
 -- all but the rule counts is as before
 abbrev pub AreAllButCounts : Parts → Parts → Type 0
@@ -152,8 +153,8 @@ pub record Delivers (s : Script) (q now : ℕ) (m : PostData) (made made' : List
   pub ids : List ℕ
   pub ran : RanFrame s.period 4 parts.frames parts'.frames ids
   pub starts : (not (is_some ran.frame) || starts_frame q m) ≡ true
-  pub plays : HasText s → (a : Looper) → a.painted ≡ [] → IsPlayed s q made parts a
-      → IsPlayed s q made' parts' (record (delivered s q now ids m a) { painted = [] }) × (acts' ≡ acts ++ (delivered s q now ids m a).painted)
+  pub plays : HasText s → (first : ℕ) (a : Looper) → a.painted ≡ [] → IsPlayed s q first made parts a
+      → IsPlayed s q first made' parts' (record (delivered s q now ids m a) { painted = [] }) × (acts' ≡ acts ++ (delivered s q now ids m a).painted)
 
 -- the act of a pulse that came, or none
 abbrev pub pulse_acts : Option ℕ → List Act
@@ -191,7 +192,8 @@ pub record Stands (s : Script) (q sender : ℕ) (es : List Entry) (acts : List A
   pub led : (fs : List FrameEntry) → IsPrefix parts.frames.view.seen fs → lawful s.period 4 fs ≡ true → Lead s q es fs (first_looper s) acts a
   pub place : a.place ≤ length parts.frames.view.seen
   pub settled : a.painted ≡ []
-  pub played : IsPlayed s q (calls_in sender es) parts a
+  pub first : ℕ
+  pub played : IsPlayed s q first (calls_in sender es) parts a
 
 -- a call is timed by a look of the sender among these entries, or it is one on the looper's own queue that may come no later than at this moment
 abbrev pub IsTimedBy : ℕ → ℕ → List Entry → ℕ → ℕ → Timing → Type 0
@@ -222,7 +224,7 @@ IsPlaying s q now began sender es acts parts = HasText s → (a : Looper) → Ha
 
 -- the same once the round is over, unless memory was wanting
 abbrev pub HasPlayed : Script → ℕ → StageLooper → StageLooper → Type 0
-HasPlayed s now before after = is_given_up after.last ≡ false → HasText s → IsSoundOn s before.number after.looper.held.poster.view.seen → (a : Looper) → HasCome s before a
+HasPlayed s now before after = is_given_up after.last ≡ false → HasText s → (a : Looper) → HasCome s before a
     → IsSomeAnd after.parts (ComesTo s before.number now a before.sender before.looper.held.poster.view.seen after.looper.held.poster.view.seen after.looper.held.journal.acts)
 
 -- ---- at the end

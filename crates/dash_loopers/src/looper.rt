@@ -168,6 +168,7 @@ impl StageLooper {
         requires hall { IsHall script.now hall.now }
         requires looper { IsLooper script.now hall.now self }
         ensures journal { IfOk result (λ r. r.0.looper ≡ self.number) }
+        ensures kept { IfOk result (λ r. (r.0 ≡ self.looper.held.journal) × (r.1.pass ≡ self.looper.held.pass)) }
         ensures kit { IfOk result (λ r. IsKitOf script.now hall.now (script.now.threads + self.number) r.1) }
         ensures told { IfOk result (λ r. is_given_up self.last ≡ false → HasTold script.now self.number r.0 r.1) }
         ensures disposes { IfOk result (λ r. is_given_up self.last ≡ false → HasDisposedLast script.now self.number r.1) }

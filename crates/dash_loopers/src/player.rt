@@ -1,5 +1,7 @@
 //! What a looper does with its messages.
-ghost use Rattle.std.specs.Prelude.{◌≡◌, ◌<◌, ℕ, List, [], ◌∷◌, ◌++◌, map, fold, slice_get, Some, None, IsTrue, true, false, OnOk, is_ok};
+ghost use Rattle.std.specs.Prelude.{◌≡◌, ◌<◌, ℕ, List, [], ◌∷◌, ◌++◌, map, fold, slice_get, Some, None, IsTrue, true, false, OnOk, is_ok, is_some, ◌==◌, ◌||◌};
+ghost use Rattle.std.specs.Option.{option_map_or};
+ghost use Rattle.message_slot.specs.Fields.{handler_of, obj_of};
 ghost use mathlib.Core.List.{IsPrefix};
 ghost use Rattle.loop_model.specs.declared.journal.Act.{Act};
 ghost use Rattle.loop_model.specs.declared.entry.Entry.{Entry};
@@ -96,6 +98,8 @@ impl<'a, R: Wait, G: Gate> Dispatcher for Player<'a, R, G> {
 
     ghost nudges = { λ d. 0 };
 
+    ghost asked = { λ d. None };
+
     ghost Meets = { λ d s es acts. IsPlaying d.place.script.now d.place.looper d.now d.began.now.value s es acts d.parts };
 
     fn before(&mut self, number: u64) {
@@ -107,8 +111,8 @@ impl<'a, R: Wait, G: Gate> Dispatcher for Player<'a, R, G> {
         self.place.pulse(&mut self.parts, own, self.now)
     }
 
-    fn listen(&mut self, fd: u32, events: u32, listener: u32) -> u32 {
-        listener.min(7)
+    fn listen(&mut self, fd: u32, events: u32, listener: u32) -> Option<u32> {
+        Some(listener.min(7))
     }
 
     fn run_callback(&mut self, own: &mut Own, id: u64, m: &Message<PoolClaim>, now: u64) -> Did {
@@ -323,6 +327,7 @@ impl<'a, R: Wait> Place<'a, R> {
     /// Whether the message is one of the choreographer, or has an object: the handler's callback object takes it then.
     fn intercepts(&self, m: &Message<PoolClaim>) -> bool
         requires { IsLooperOf self.now.script.now self.now.hall.now self.now.looper }
+        ensures { result ≡ (option_map_or (λ h. h == the_frame_handler self.now.looper) (handler_of m.now.item) false || is_some (obj_of m.now.item)) }
     {
         m.handler() == Some(frame_handler(self.looper).id) || m.obj().is_some()
     }

@@ -262,8 +262,7 @@ module _ (s : Script) (text : HasText s) (st : Stage) (ls : List StageLooper) (s
         let d = l.looper.held.poster in
         let was = is.loopers.1 k l was_looper in
         let p = looper_parts s st.hall is.hall ran (loopers.1 k l in_ran).0 in
-        let here : IsSoundOn s began.number ran.looper.held.poster.view.seen = subst (λ (n : ℕ). IsSoundOn s n ran.looper.held.poster.view.seen) (sym was.1) (sound_front s k ran.looper.held.poster.view.seen (whole_on st'.controller k d) (has_seen d) (sound k d (within_after k in_queues))) in
-        let some = played (on k l in_ran) text here timely_before.state timely_before.come in
+        let some = played (on k l in_ran) text timely_before.state timely_before.come in
         let come = subst (λ (o : Option Parts). IsSomeAnd o (ComesTo s began.number st.time timely_before.state began.sender began.looper.held.poster.view.seen ran.looper.held.poster.view.seen ran.looper.held.journal.acts)) p.1 some in
         let mine : began.sender ≡ sender = was.0.sender ∙ ap (λ (n : ℕ). s.threads + n) was.1 in (
           p.0,

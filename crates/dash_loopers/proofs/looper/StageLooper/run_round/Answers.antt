@@ -1,6 +1,7 @@
 use Rattle.std.proofs.Common.{◌≡◌, ◌||◌, Some, true, false, sym, ap₂, ◌∙◌, arith}
 use Rattle.std.proofs.lemmas.Option.{slice_get_read}
 use Rattle.looper_run.specs.Round.{is_ended}
+use Rattle.looper_run.proofs.Rounds.{round_any}
 use Rattle.dash_loopers.specs.Loopers.{is_given_up}
 use Rattle.dash_loopers.proofs.LooperPlaces.{queue_count, queue_home}
 use Rattle.dash_loopers.proofs.LooperKits.{looper_of, looper_then, ran_on, comes_to_wait}
@@ -38,7 +39,7 @@ returns-clause-looper g c =
     let one = c.requires.looper.number in
     let at = slice_get_read hall.queues.items hall.queues.len l.number c.index.result.now (omega (arith, hall.queues.ok.0)) (omega (arith, count, one, hall.queues.ok.0)) c.index.ensures in
     looper_then c.args.script.now hall c.args.now _ l c.index.result.now _ c.in-Some.parts c.run_round-self.new.d.parts c.run_round-self.new.self c.run_round-self.result c.requires.hall c.requires.looper is at
-    c.run_round-self.ensures.origin c.run_round-self.ensures.serves c.run_round-self.ensures.same c.run_round-self.ensures.ended c.run_round-self.ensures.round c.run_round-self.ensures.looks (sym c.has_ended.ensures ∙ c.if-has_ended.false) (sym c.gave_up.ensures ∙ c.if-gave_up.false)
+    c.run_round-self.ensures.origin c.run_round-self.ensures.serves c.run_round-self.ensures.same c.run_round-self.ensures.ended c.run_round-self.ensures.round (round_any _ c.args.now l.looper c.run_round-self.new.self c.run_round-self.result c.run_round-self.ensures.looks) (sym c.has_ended.ensures ∙ c.if-has_ended.false) (sym c.gave_up.ensures ∙ c.if-gave_up.false)
 
 pub returns-clause-round : goal.returns-clause-round
 returns-clause-round g c =
@@ -53,7 +54,7 @@ returns-clause-round g c =
     record {
       stopped = λ e. absurd (let wrong : false ≡ true = sym going ∙ e in cc);
       ran = λ e. ran_on c.args.script.now hall c.args.now l c.index.result.now c.run_round-self.new.self c.run_round-self.result c.requires.hall c.requires.looper at c.run_round-self.ensures.round;
-      looks = λ e. c.run_round-self.ensures.looks;
+      looks = λ e. round_any _ c.args.now l.looper c.run_round-self.new.self c.run_round-self.result c.run_round-self.ensures.looks;
     }
 
 pub returns-clause-waits : goal.returns-clause-waits

@@ -1,9 +1,10 @@
 use Rattle.std.proofs.Common.{◌≡◌, ap, ◌∙◌, refl, sym}
+use Rattle.choreographer.proofs.Phases.{on_ok}
 use Rattle.handler_post.specs.declared.handler.Handler.{Handler}
 use Rattle.run_model.specs.Senders.{frame_handler}
 use Rattle.run_model.specs.Loopers.{object_set, reacted}
 use Rattle.dash_loopers.specs.Played.{calls_of}
-use Rattle.dash_loopers.proofs.PlaySteps.{delivered_object, delivered_plain, object_painted, still_delivered, on_ok}
+use Rattle.dash_loopers.proofs.PlaySteps.{delivered_object, delivered_plain, object_painted, still_delivered}
 use Rattle.dash_loopers.proofs.player.Place.deliver.Goals as goal
 
 pub returns-in-Some-clause-delivers : goal.returns-in-Some-clause-delivers

@@ -22,13 +22,13 @@ pub returns-then-phase-ge-PHASES-clause-seen : goal.returns-then-phase-ge-PHASES
 returns-then-phase-ge-PHASES-clause-seen g c = prefix_self c.args.parts.now.frames.view.seen
 
 pub returns-clause-plays : goal.returns-clause-plays
-returns-clause-plays g c = λ text a is.
+returns-clause-plays g c = λ text first a is.
     (let h = c.host-host.result in
     let k = c.on_due.new.self in
     let o = origin_of h.queue.now h.pool.now h.poster.ghost_name h.pass.ghost_name h.began.now.value h.pass_began.now.value h.handler.id h.now in
     let o' = origin_of k.queue.now k.pool.now k.poster.ghost_name k.pass.ghost_name k.began.now.value k.pass_began.now.value k.handler.id k.now in
     let calls = untold_hosted o o' c.args.own.now.poster.now h.poster.now k.poster.now k.pass.now c.on_due.ensures.origin c.on_due.ensures.ready c.host-host.ensures.began.0 c.host-host.ensures.poster.1 c.on_due.ensures.sends in
-    played_with c.args.self.now.script.now c.args.self.now.looper (calls_of c.args.own.now.poster.now) (calls_of k.poster.now) c.args.parts.now _ a calls refl refl refl is)
+    played_with c.args.self.now.script.now c.args.self.now.looper first (calls_of c.args.own.now.poster.now) (calls_of k.poster.now) c.args.parts.now _ a calls refl refl refl is)
 
 pub returns-clause-calls : goal.returns-clause-calls
 returns-clause-calls g c =

@@ -26,4 +26,4 @@ returns-in_default-clause-delivers g c =
     let old = c.args.own.now in
     let isnt : m.what ≢ 0 = search rules in
     still_delivered s q c.args.now m (calls_of old.poster.now) (calls_of old.poster.now) c.args.parts.now c.args.parts.now old.journal.now.acts old.journal.now.acts (λ a. a) refl
-    (λ a. delivered_quiet s q c.args.now m a c.requires.callback c.requires.handler isnt) (λ a. refl) (λ text a is. is) refl
+    (λ a. delivered_quiet s q c.args.now m a c.requires.callback c.requires.handler isnt) (λ a. refl) (λ text first a is. is) refl
