@@ -1,9 +1,11 @@
 -- A command whose input is told and good stops for a fault or for want of memory alone.
 use Rattle.std.proofs.Common.{◌≡◌, ◌⊎◌, ◌+◌, ◌≤◌, ℕ, Bool, true, false, List, [], ◌++◌, Option, Some, None, refl, length, arith, sym, subst, inl, inr, ap, ◌∙◌, unwrap_or}
 use Rattle.std.proofs.lemmas.List.{append-nil, length-append}
+use Rattle.std.proofs.Math.Nat.{le_refl}
 use Rattle.std.specs.Io.KnownBytes.{Consumes, IsAtEnd}
 use Rattle.dash_script.specs.declared.refusal.Cause.{Cause}
-use Rattle.dashboard_cli.specs.Answers.{HasGoodInput, HasInput, IsOf, IsRefused, IsTold, IsTooLong, Stops}
+use Rattle.loop_io.specs.Causes.{one_more, Rose}
+use Rattle.dashboard_cli.specs.Answers.{CountsReads, HasGoodInput, HasInput, IsOf, IsRefused, IsTold, IsTooLong, Stops}
 use Rattle.dashboard_cli.specs.Streams.{limit, Known, ReadsWhole}
 use Rattle.dashboard_cli.specs.Words.{IsAsked}
 use Rattle.dashboard_cli.specs.Works.{reads, IsGood}
@@ -63,3 +65,9 @@ pub gives_up : (words : List (List ℕ)) (command : Command) (before after : Kno
 gives_up words command before after status asked stops of sound =
     let same : of.command ≡ command = one_command of.command command words of.asked asked in
     stops_for_memory command before after status stops (subst (λ (c : Command). HasGoodInput c before) same of.holds) sound
+
+-- a read fault that is told was counted
+pub told_rose : (status : Status) (before now : ℕ) → CountsReads status before now → status ≡ ReadFault → Rose before now
+told_rose status before now counts is =
+    let one : now ≡ one_more before = subst (λ (s : Status). CountsReads s before now) is counts in
+    subst (λ (n : ℕ). one_more before ≤ n) (sym one) (le_refl (one_more before))

@@ -4,7 +4,7 @@ use Rattle.std.specs.Io.KnownBytes.{Appends, Consumes, Keeps}
 use Rattle.dash_script.specs.declared.refusal.Cause.{Cause}
 use Rattle.dash_script.specs.declared.script.Script.{Script as ScriptData}
 use Rattle.dash_script.specs.Reading.{IsRefusal, IsText}
-use Rattle.loop_io.specs.Causes.{AppendsFront}
+use Rattle.loop_io.specs.Causes.{one_more, AppendsFront}
 use Rattle.run_model.specs.declared.report.Report.{Report}
 use Rattle.dashboard_cli.specs.Streams.{limit, Known, ReadsWhole}
 use Rattle.dashboard_cli.specs.Words.{IsAsked}
@@ -78,6 +78,16 @@ abbrev pub writes_nothing : Status → Bool
 writes_nothing Ok = false
 writes_nothing WriteFault = false
 writes_nothing status = true
+
+-- where the status tells that the source failed, it counted one fault in this call, and else none
+abbrev pub CountsReads : Status → ℕ → ℕ → Type 0
+CountsReads ReadFault before now = now ≡ one_more before
+CountsReads status before now = now ≡ before
+
+-- where the status tells that the sink failed, it counted one fault in this call, and else none
+abbrev pub CountsWrites : Status → ℕ → ℕ → Type 0
+CountsWrites WriteFault before now = now ≡ one_more before
+CountsWrites status before now = now ≡ before
 
 -- why a command stopped before its text was made
 abbrev pub Stops : Command → Known → Known → Status → Type 0

@@ -2,7 +2,8 @@
 use Rattle.std.specs.Prelude.{◌≡◌, ℕ, ◌+◌, ◌<◌, ◌≤◌, List, length, Option, ◌↔◌}
 use Rattle.std.specs.Io.KnownBytes.{Consumes, IsAtEnd}
 use Rattle.dashboard_cli.specs.declared.reading.ReadError.{ReadError}
-use Rattle.dashboard_cli.specs.declared.reading.ReadError.TheVariants.{TooLong}
+use Rattle.dashboard_cli.specs.declared.reading.ReadError.TheVariants.{Failed, TooLong}
+use Rattle.loop_io.specs.Causes.{one_more}
 
 -- the most bytes that an input may have
 abbrev pub limit : ℕ
@@ -24,3 +25,8 @@ pub record ReadsPart (most : ℕ) (before after : Known) (error : ReadError) : T
   pub consumed : Consumes before after input
   pub bounded : length input ≤ most + 1
   pub too_long : (error ≡ TooLong) ↔ (most < length input)
+
+-- where a read failed, the source counted one fault, and else none
+abbrev pub Counts : ReadError → ℕ → ℕ → Type 0
+Counts Failed before now = now ≡ one_more before
+Counts error before now = now ≡ before

@@ -1,10 +1,9 @@
 // The text of each command, made whole before it is written.
-ghost use Rattle.std.specs.Prelude.{◌≡◌, ◌≤◌, [], false, IfErr, IfOk};
-ghost use Rattle.loop_io.specs.Causes.{Rose};
+ghost use Rattle.std.specs.Prelude.{◌≡◌, [], false, IfErr, IfOk};
 ghost use Rattle.dash_script.specs.Generated.{generated};
 ghost use Rattle.dash_script.specs.Reading.{HasText, IsText};
 ghost use Rattle.dash_script.specs.Text.{text as script_text};
-ghost use Rattle.dashboard_cli.specs.Answers.{IsNoScript, MakesOf, Stops, StopsReading};
+ghost use Rattle.dashboard_cli.specs.Answers.{CountsReads, IsNoScript, MakesOf, Stops, StopsReading};
 ghost use Rattle.dashboard_cli.specs.Streams.{limit, ReadsWhole};
 ghost use Rattle.dash_stage.specs.Staged.{IsStaged};
 ghost use Rattle.dashboard_cli.specs.Works.{reads, Makes};
@@ -51,8 +50,8 @@ pub(crate) fn produce<R: Threads + Wait + Sync, S: Source, G: Gate + Sync>(
     ensures made { IfOk result (λ product. MakesOf command (S.left source.old) (S.left source.new) product.text.items product.report) }
     ensures stopped { IfErr result (Stops command (S.left source.old) (S.left source.new)) }
     ensures unread { reads command ≡ false → source.new ≡ source.old }
-    ensures read_fault { result ≡ Err Status.ReadFault → Rose (S.faults source.old) (S.faults source.new) }
-    ensures later { S.faults source.old ≤ S.faults source.new }
+    ensures sound { IfOk result (λ _. S.faults source.new ≡ S.faults source.old) }
+    ensures failed { IfErr result (λ status. CountsReads status (S.faults source.old) (S.faults source.new)) }
 {
     match command {
         Command::Run => run_input(rt, alloc, source, gate),
@@ -71,8 +70,8 @@ fn run_input<R: Threads + Wait + Sync, S: Source, G: Gate + Sync>(
 ) -> Result<Product, Status>
     ensures made { IfOk result (λ product. MakesOf Command.Run (S.left source.old) (S.left source.new) product.text.items product.report) }
     ensures stopped { IfErr result (Stops Command.Run (S.left source.old) (S.left source.new)) }
-    ensures read_fault { result ≡ Err Status.ReadFault → Rose (S.faults source.old) (S.faults source.new) }
-    ensures later { S.faults source.old ≤ S.faults source.new }
+    ensures sound { IfOk result (λ _. S.faults source.new ≡ S.faults source.old) }
+    ensures failed { IfErr result (λ status. CountsReads status (S.faults source.old) (S.faults source.new)) }
 {
     let input = read_input(alloc, source)?;
     let script = read_script(alloc, input.as_slice())?;
@@ -88,8 +87,8 @@ fn run_input<R: Threads + Wait + Sync, S: Source, G: Gate + Sync>(
 fn print_input<S: Source>(alloc: Global, source: &mut S) -> Result<Product, Status>
     ensures made { IfOk result (λ product. MakesOf Command.Text (S.left source.old) (S.left source.new) product.text.items product.report) }
     ensures stopped { IfErr result (Stops Command.Text (S.left source.old) (S.left source.new)) }
-    ensures read_fault { result ≡ Err Status.ReadFault → Rose (S.faults source.old) (S.faults source.new) }
-    ensures later { S.faults source.old ≤ S.faults source.new }
+    ensures sound { IfOk result (λ _. S.faults source.new ≡ S.faults source.old) }
+    ensures failed { IfErr result (λ status. CountsReads status (S.faults source.old) (S.faults source.new)) }
 {
     let input = read_input(alloc, source)?;
     let script = read_script(alloc, input.as_slice())?;
@@ -130,8 +129,8 @@ fn run_made<R: Threads + Wait + Sync, G: Gate + Sync>(
 fn read_input<S: Source>(alloc: Global, source: &mut S) -> Result<Vec<u8>, Status>
     ensures whole { IfOk result (λ input. ReadsWhole limit (S.left source.old) (S.left source.new) input.items) }
     ensures stopped { IfErr result (StopsReading (S.left source.old) (S.left source.new)) }
-    ensures read_fault { result ≡ Err Status.ReadFault → Rose (S.faults source.old) (S.faults source.new) }
-    ensures later { S.faults source.old ≤ S.faults source.new }
+    ensures sound { IfOk result (λ _. S.faults source.new ≡ S.faults source.old) }
+    ensures failed { IfErr result (λ status. CountsReads status (S.faults source.old) (S.faults source.new)) }
 {
     match read_whole(alloc, source, MOST_BYTES) {
         Ok(input) => Ok(input),

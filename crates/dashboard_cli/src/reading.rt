@@ -1,8 +1,7 @@
 // A source is read to its end, or until it has given one byte more than the limit.
-ghost use Rattle.std.specs.Prelude.{◌≡◌, ◌+◌, ◌-◌, ◌^◌, ◌<◌, ◌≤◌, ◌++◌, take, IfOk, IfErr};
+ghost use Rattle.std.specs.Prelude.{◌≡◌, ◌+◌, ◌-◌, ◌^◌, ◌<◌, ◌++◌, take, IfOk, IfErr};
 ghost use Rattle.std.specs.Io.KnownBytes.{Consumes};
-ghost use Rattle.loop_io.specs.Causes.{Rose};
-ghost use Rattle.dashboard_cli.specs.Streams.{ReadsWhole, ReadsPart};
+ghost use Rattle.dashboard_cli.specs.Streams.{ReadsWhole, ReadsPart, Counts};
 
 use loop_io::Source;
 use std::alloc::Global;
@@ -22,7 +21,8 @@ pub enum ReadError {
     NoMemory,
 }
 
-/// Reads the source to its end. It asks for at most one byte more than `most`.
+/// Reads the source to its end. It asks for at most one byte more than `most`. Failed where a read failed, TooLong where there
+/// are more than `most` bytes, NoMemory where they found none (this project's profile).
 pub fn read_whole<S: Source>(
     alloc: Global,
     source: &mut S,
@@ -31,8 +31,8 @@ pub fn read_whole<S: Source>(
     requires { most < 2 ^ 64 - 1 }
     ensures whole { IfOk result (λ bytes. ReadsWhole most (S.left source.old) (S.left source.new) bytes.items) }
     ensures part { IfErr result (ReadsPart most (S.left source.old) (S.left source.new)) }
-    ensures later { S.faults source.old ≤ S.faults source.new }
-    ensures failed { result ≡ Err ReadError.Failed → Rose (S.faults source.old) (S.faults source.new) }
+    ensures sound { IfOk result (λ _. S.faults source.new ≡ S.faults source.old) }
+    ensures failed { IfErr result (λ error. Counts error (S.faults source.old) (S.faults source.new)) }
 {
     let mut bytes = Vec::new(alloc);
     let mut buffer = [0u8; PIECE];

@@ -30,7 +30,7 @@ impl Status {
     ghost use Rattle.std.specs.Prelude.{◌≡◌};
     ghost use Rattle.dashboard_cli.specs.Status.{code_of};
 
-    /// The code that the process ends with.
+    /// The code that the process ends with (this project's profile).
     pub fn code(&self) -> u8
         ensures { result ≡ code_of self.now }
     {
@@ -82,7 +82,7 @@ impl fmt::Display for Status {
     }
 }
 
-/// The line on standard error, without its line feed. At `Ok` it is empty.
+/// The line on standard error, without its line feed. At `Ok` it is empty. NoMemory where it found none (this project's profile).
 pub fn status_text(alloc: Global, status: &Status) -> Result<String, NoMemory>
     ensures { IfOk result (λ text. string_bytes text ≡ status_line status.now) }
 {

@@ -2,7 +2,7 @@
 ghost use Rattle.std.specs.Prelude.{◌≡◌, ◌≢◌, ◌⊎◌, ℕ, IsTrue, None, true};
 ghost use Rattle.loop_io.specs.Causes.{Rose};
 ghost use Rattle.dash_script.specs.declared.refusal.Cause.{Cause};
-ghost use Rattle.dashboard_cli.specs.Answers.{writes_nothing, HasGoodInput, IsBrokenOff, IsDone, IsOf, IsRefused, IsTooLong, IsWithin};
+ghost use Rattle.dashboard_cli.specs.Answers.{writes_nothing, CountsReads, CountsWrites, HasGoodInput, IsBrokenOff, IsDone, IsOf, IsRefused, IsTooLong, IsWithin};
 ghost use Rattle.dashboard_cli.specs.Works.{reads};
 ghost use Rattle.dashboard_cli.specs.Words.{texts, IsListed};
 
@@ -63,9 +63,9 @@ pub fn dashboard<R: Threads + Wait + Sync, S: Source, K: Sink, C: Clock, G: Gate
     ensures nothing { IsTrue (writes_nothing result.status) → sink.new ≡ sink.old }
     ensures no_report { IsTrue (writes_nothing result.status) → result.report ≡ None }
 
-    // A fault is answered only where the object has counted one in this call.
-    ensures read_fault { result.status ≡ Status.ReadFault → Rose (S.faults source.old) (S.faults source.new) }
-    ensures write_fault { result.status ≡ Status.WriteFault → Rose (K.faults sink.old) (K.faults sink.new) }
+    // A fault is answered exactly where the object has counted one in this call.
+    ensures reads { CountsReads result.status (S.faults source.old) (S.faults source.new) }
+    ensures writes { CountsWrites result.status (K.faults sink.old) (K.faults sink.new) }
 
     // The input is too long exactly where more bytes were read than it may have.
     ensures too_long { result.status ≡ Status.TooLong

@@ -23,7 +23,8 @@ pub enum Command {
     MakeRun { number: u32 },
 }
 
-/// Reads the words: a command exactly where they are a spelling of one.
+/// Reads the words: a command exactly where they are a spelling of one, else None. NoMemory where it found none. The spellings
+/// are this project's profile.
 pub fn read_words(alloc: Global, words: &[String]) -> Result<Option<Command>, NoMemory>
     ensures command { IfOk result (λ found. IfSome found (IsAsked (texts words.now))) }
     ensures none { IfOk result (λ found. IfNone found (¬ (IsListed (texts words.now)))) }
