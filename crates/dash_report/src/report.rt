@@ -52,9 +52,9 @@ fn write_loopers(
     Ok(())
 }
 
-/// The text of a report, as the program prints it. For each looper it has the dispatches, refusals and other answers of its
-/// queue in order, the counts of the fates of its accepted posts, what its journal shows, and its frames with the callbacks
-/// that they ran. It is refused only for want of memory.
+/// The text of a report, as the program prints it. For each looper it has the dispatches, refusals and other answers of its queue
+/// in order, the counts of the fates of its accepted posts, what its journal shows, and its frames with the callbacks that they
+/// ran. It is refused only for want of memory. The form is this project's profile.
 #[tactic(auto, using(std::proofs::lemmas::List::append_assoc), unfolding(run_model::specs::Text::text, run_model::specs::Text::lines))]
 pub fn report_text(alloc: Global, report: &Report) -> Result<Vec<u8>, NoMemory>
     ensures { IfOk result (λ bytes. bytes.items ≡ text report.now) }

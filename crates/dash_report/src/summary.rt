@@ -82,8 +82,8 @@ fn count_paints(journals: &[Journal]) -> Result<u64, NoMemory>
 }
 
 /// The text of the summary of a run of the script that the generator makes from `number`: five lines with the number, the
-/// accepted posts, the dispatched ones, the frames that began and the paints, each over all loopers. It is refused for
-/// want of memory, or where a sum is past the greatest `u64`.
+/// accepted posts, the dispatched ones, the frames that began and the paints, each over all loopers. It is refused for want of
+/// memory, or where a sum is past the greatest `u64`. The form is this project's profile.
 pub fn summary_text(alloc: Global, number: u32, report: &Report) -> Result<Vec<u8>, NoMemory>
     ensures { IfOk result (λ bytes. bytes.items ≡ summary number report.now) }
 {

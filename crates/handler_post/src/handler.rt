@@ -13,7 +13,8 @@ use std::sync::Wait;
 
 /// A receiver of messages on one looper, by its number there (`android.os.Handler` of the Android API reference).
 ///
-/// A handler that is asynchronous marks each message that it sends, and barriers let those pass.
+/// A handler that is asynchronous marks each message that it sends, and barriers let those pass. Each sending answers as `Sent`
+/// says, and each removal as `Erased`; the methods in brackets are those of the reference's `Handler`.
 #[derive(Clone, Copy, Debug, PartialEq, Eq)]
 pub struct Handler {
     pub id: u32,

@@ -8,8 +8,9 @@ use crate::memory::NoMemory;
 use crate::sequence::Sequence;
 use std::alloc::Global;
 
-/// What the earlier part of a history has left: how long it was, the greatest moment in it, the numbers of accepted
-/// posts and of barriers, the place of its quit, how many entries each sender made, and its live items in order.
+/// What the earlier part of a history has left: how long it was, the greatest moment in it in milliseconds, the numbers of
+/// accepted posts and of barriers, the place of its quit, how many entries each sender made, and its live items in order.
+/// Histories are this project's profile: AOSP keeps none.
 #[derive(Debug, Drop)]
 pub struct Base {
     pub length: u64,
@@ -24,7 +25,7 @@ pub struct Base {
 }
 
 impl Base {
-    /// Nothing went before, on a queue with this many senders.
+    /// Nothing went before, on a queue with this many senders. NoMemory where the counts of their entries found none.
     pub fn empty(alloc: Global, senders: u32) -> Result<Base, NoMemory>
         ensures { IfOk result (λ base. base ≡ empty_base senders) }
     {

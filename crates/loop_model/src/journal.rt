@@ -26,7 +26,7 @@ pub enum Act {
     Paint { gauge: u32, value: u32 },
 }
 
-/// What a looper did, in order.
+/// What a looper did, in order (this project's profile).
 #[derive(Debug, Drop)]
 pub struct Journal {
     pub looper: u32,

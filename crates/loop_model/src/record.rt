@@ -3,7 +3,7 @@
 use crate::entry::Entry;
 use crate::sequence::Sequence;
 
-/// The whole history of a looper's queue, with what stayed fixed for it.
+/// The whole history of a looper's queue, with what stayed fixed for it (this project's profile).
 #[derive(Debug, Drop)]
 pub struct QueueRecord {
     pub looper: u32,

@@ -27,7 +27,7 @@ impl<K: Claim> Model for Message<K> {
 }
 
 impl<K: Claim> Message<K> {
-    /// A cleared message without a claim.
+    /// A cleared message without a claim, as a new `Message` of the Android API reference is.
     pub fn blank() -> Message<K>
         ensures { result ≡ blank }
     {
@@ -37,8 +37,8 @@ impl<K: Claim> Message<K> {
         }
     }
 
-    /// Makes it this post, but for the slot, which is always that of its claim. It has the number 0 until a queue
-    /// accepts it.
+    /// Makes it this post, with its time in milliseconds, but for the slot, which is always that of its claim (this project's
+    /// profile). It has the number 0 until a queue accepts it.
     pub fn set_post(&mut self, p: &Post)
         ensures { self.new ≡ record { item = posted (slot_by K.number self.old.claim) p.now; claim = self.old.claim } }
     {
@@ -48,21 +48,21 @@ impl<K: Claim> Message<K> {
         });
     }
 
-    /// Makes it a barrier with this time, in milliseconds, and this token.
+    /// Makes it a barrier with this time, in milliseconds, and this token (`postSyncBarrier` of AOSP's `MessageQueue`).
     pub fn set_barrier(&mut self, when: u64, token: u64)
         ensures { self.new ≡ record { item = Item.Barrier token when; claim = self.old.claim } }
     {
         self.item = Some(Item::Barrier { token, when });
     }
 
-    /// Clears all but the claim.
+    /// Clears all but the claim (`recycle` of the Android API reference's `Message`).
     pub fn clear(&mut self)
         ensures { self.new ≡ record { item = cleared; claim = self.old.claim } }
     {
         self.item = None;
     }
 
-    /// Numbers a post that a queue accepts.
+    /// Numbers a post that a queue accepts. A barrier and a cleared message stay as they are (this project's profile).
     pub fn set_number(&mut self, number: u64)
         ensures { self.new ≡ record { item = numbered number self.old.item; claim = self.old.claim } }
     {
@@ -71,7 +71,7 @@ impl<K: Claim> Message<K> {
         }
     }
 
-    /// Puts a claim into it, and answers the one that stood there before.
+    /// Puts a claim into it, and answers the one that stood there before, or None (this project's profile).
     pub fn put_claim(&mut self, claim: K) -> Option<K>
         ensures before { result ≡ self.old.claim }
         ensures claim { self.new.claim ≡ Some claim }
@@ -80,7 +80,7 @@ impl<K: Claim> Message<K> {
         self.claim.replace(claim)
     }
 
-    /// Takes the claim out.
+    /// Takes the claim out and answers it, or None where it has none (this project's profile).
     pub fn take_claim(&mut self) -> Option<K>
         ensures before { result ≡ self.old.claim }
         ensures claim { self.new.claim ≡ None }
@@ -99,7 +99,7 @@ impl<K: Claim> Message<K> {
         }
     }
 
-    /// The number of an accepted post, else 0.
+    /// The number of an accepted post, else 0 (this project's profile).
     pub fn number(&self) -> u64
         ensures { result ≡ number_in self.now.item }
     {
@@ -119,7 +119,7 @@ impl<K: Claim> Message<K> {
         }
     }
 
-    /// The handler that a post is for. A barrier and a cleared message have none.
+    /// The handler that a post is for (`getTarget`). A barrier and a cleared message have none.
     pub fn handler(&self) -> Option<u32>
         ensures { result ≡ handler_of self.now.item }
     {
@@ -129,49 +129,49 @@ impl<K: Claim> Message<K> {
         }
     }
 
-    /// The user's code of a post, else 0.
+    /// The user's code of a post (`what`), else 0.
     pub fn what(&self) -> u32
         ensures { result ≡ what_of self.now.item }
     {
         self.as_post().what
     }
 
-    /// The argument of a post, else 0.
+    /// The argument of a post (`arg1`), else 0.
     pub fn arg(&self) -> u32
         ensures { result ≡ arg_of self.now.item }
     {
         self.as_post().arg
     }
 
-    /// The identity of a post's object, where it has one.
+    /// The identity of a post's object (`obj`), where it has one.
     pub fn obj(&self) -> Option<u64>
         ensures { result ≡ obj_of self.now.item }
     {
         self.as_post().obj
     }
 
-    /// The identity of a post's callback, where it has one.
+    /// The identity of a post's callback (`getCallback`), where it has one.
     pub fn callback(&self) -> Option<u64>
         ensures { result ≡ callback_of self.now.item }
     {
         self.as_post().callback
     }
 
-    /// The time of a post or of a barrier in milliseconds, else 0.
+    /// The time of a post or of a barrier in milliseconds (`getWhen`), else 0.
     pub fn when(&self) -> u64
         ensures { result ≡ when_of self.now.item }
     {
         self.item().when()
     }
 
-    /// Whether a barrier lets a post pass.
+    /// Whether a barrier lets a post pass (`isAsynchronous`). False of a barrier and a cleared message.
     pub fn asynchronous(&self) -> bool
         ensures { result ≡ is_sent_asynchronous self.now.item }
     {
         self.as_post().asynchronous
     }
 
-    /// The token of a barrier, else 0.
+    /// The token of a barrier (AOSP keeps it in `arg1`), else 0.
     pub fn token(&self) -> u64
         ensures { result ≡ token_of self.now.item }
     {
@@ -181,7 +181,7 @@ impl<K: Claim> Message<K> {
         }
     }
 
-    /// The slot of its claim.
+    /// The slot of its claim, or None where it has none.
     pub fn slot(&self) -> Option<u32>
         ensures { result ≡ slot_by K.number self.now.claim }
     {
