@@ -4,7 +4,7 @@ use Rattle.std.specs.Prelude.{not, find, map, filter, sum_by, slice_get, if◌th
 use Rattle.std.specs.List.{AllByRecursion}
 use Rattle.std.specs.Option.{option_map}
 use Rattle.std.proofs.Math.Seq.{drop-append-add}
-use Rattle.std.proofs.lemmas.List.{append-nil, map-append, length-map, drop-append-le}
+use Rattle.std.proofs.lemmas.List.{append-nil, map-append, length-map}
 use Rattle.std.proofs.lemmas.List.Elements.{filter-append}
 use Rattle.std.proofs.lemmas.Option.{slice_get-map, slice_get_within, get_or_from_slice_get}
 use Rattle.loop_model.specs.declared.post.Post.{Post as PostData}
@@ -18,13 +18,13 @@ use Rattle.loop_model.specs.declared.item.Item.TheVariants.{Post as Message, Bar
 use Rattle.loop_model.specs.Items.{is_barrier, number_of}
 use Rattle.loop_model.specs.Entries.{is_accepted, posts_in, barriers_in, made_by, ends}
 use Rattle.loop_model.specs.Base.{empty_base}
-use Rattle.loop_model.specs.Order.{Origin, Given, Made, Placed}
+use Rattle.loop_model.specs.Order.{Made, Placed}
 use Rattle.loop_model.specs.Live.{placed, made_items, later_entries}
 use Rattle.loop_model.specs.Answers.{accepted_count}
 use Rattle.loop_model.specs.Fates.{fate_of, fate_in, fates}
 use Rattle.loop_model.specs.Posts.{accepted_by}
 use Rattle.loop_model.proofs.Sorting.{AllByRecursion-filter}
-use Rattle.loop_model.proofs.Growing.{IsPast, all_items_past, made_items-snoc}
+use Rattle.loop_model.proofs.Growing.{IsPast, all_items_past, made_items-snoc, later_entries-snoc}
 use Rattle.loop_model.proofs.FateLaws.{fates_counted, fates_by_number}
 use Rattle.fate_ledger.specs.Steps.{posted_fates}
 use Rattle.fate_ledger.proofs.Marks.{mark, fate_of-more}
@@ -62,10 +62,6 @@ All_found P (y ∷ xs) (suc i) x all h = All_found P xs i x all.1 h
 
 pub messages_past : (es : List Entry) → AllByRecursion (λ x. IsPast (length es) x.origin) (messages_of es)
 messages_past es = AllByRecursion-filter (λ x. IsPast (length es) x.origin) is_message (made_items 0 0 0 es) (all_items_past (empty_base 0) es)
-
-later_entries-snoc : (es : List Entry) (e : Entry) (o : Origin) → IsPast (length es) o → later_entries (es ++ e ∷ []) o ≡ later_entries es o ++ e ∷ []
-later_entries-snoc es e (Given i) h = refl
-later_entries-snoc es e (Made k) h = drop-append-le (k + 1) es (e ∷ []) (omega arith)
 
 -- the fate of a message after one more entry
 pub fate_in-more : (es : List Entry) (e : Entry) (x : Placed) → IsPast (length es) x.origin → is_barrier x.item ≡ false → fate_in (es ++ e ∷ []) x ≡ mark e x.item (fate_in es x)

@@ -11,10 +11,11 @@ use Rattle.loop_model.specs.declared.item.Item.TheVariants.{Post as Message, Bar
 use Rattle.loop_model.specs.declared.entry.Entry.{Entry}
 use Rattle.loop_model.specs.Base.{empty_base}
 use Rattle.loop_model.specs.Entries.{is_accepted, posts_in, barriers_in, made_by}
-use Rattle.loop_model.specs.Order.{Placed, put_in_order, in_order}
+use Rattle.loop_model.specs.Order.{Placed, in_order}
 use Rattle.loop_model.specs.Posts.{accepted_by, accepted_posts}
 use Rattle.loop_model.specs.Live.{placed, made_items, is_live, live, live_in_order}
-use Rattle.loop_model.proofs.Sorting.{put_all, AllByRecursion-weaker, AllByRecursion-filter, AllByRecursion-put}
+use Rattle.loop_model.proofs.Sorting.{AllByRecursion-weaker, AllByRecursion-filter}
+use Rattle.loop_model.proofs.ListedLaws.{AllByRecursion-put_all}
 
 -- a message is the post of its number, where the first of these posts has number n
 abbrev pub IsPostFrom : ℕ → List PostData → Item → Type 0
@@ -62,10 +63,6 @@ made_posts n t k [] = tt
 made_posts n t k (e ∷ es) =
     entry_by n t k (accepted_posts es) (made_items (n + posts_in e.call e.reply) (t + barriers_in e.call) (k + 1) es) e.call e.reply (made_posts (n + posts_in e.call e.reply) (t + barriers_in e.call) (k + 1) es)
 
-put_posts : (P : Placed → Type 0) (acc xs : List Placed) → AllByRecursion P acc → AllByRecursion P xs → AllByRecursion P (put_all acc xs)
-put_posts P acc [] h g = h
-put_posts P acc (x ∷ xs) h g = put_posts P (put_in_order x acc) xs (AllByRecursion-put P x acc g.0 h) g.1
-
 map_posts : (P : Item → Type 0) (xs : List Placed) → AllByRecursion (λ z. P z.item) xs → AllByRecursion P (map (λ z. z.item) xs)
 map_posts P [] h = tt
 map_posts P (x ∷ xs) h = (h.0, map_posts P xs h.1)
@@ -76,4 +73,4 @@ unfolding live_in_order live
 live_posts senders es =
     let P : Placed → Type 0 = λ z. IsPostFrom 0 (accepted_posts es) z.item in
     let items = AllByRecursion-filter P (is_live es) (made_items 0 0 0 es) (made_posts 0 0 0 es) in
-    map_posts (IsPostFrom 0 (accepted_posts es)) (in_order (live (empty_base senders) es)) (put_posts P [] (live (empty_base senders) es) tt items)
+    map_posts (IsPostFrom 0 (accepted_posts es)) (in_order (live (empty_base senders) es)) (AllByRecursion-put_all P [] (live (empty_base senders) es) tt items)

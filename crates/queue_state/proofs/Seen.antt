@@ -1,10 +1,9 @@
 -- What contracts see of the room and of the live messages.
-use Rattle.std.proofs.Common.{◌≡◌, ◌+◌, ℕ, Bool, true, List, [], ◌∷◌, length, refl, sym, ap, ◌∙◌, arith, if◌then◌else◌}
+use Rattle.std.proofs.Common.{◌≡◌, ◌+◌, ℕ, Bool, true, List, length, sym, ap, ◌∙◌, arith, if◌then◌else◌}
 use Rattle.std.specs.Prelude.{Option, not, ◌&&◌, ◌||◌, is_some}
 use Rattle.std.specs.List.{list_any}
 use Rattle.loop_model.specs.declared.post.Filter.{Filter}
 use Rattle.loop_model.specs.declared.entry.Entry.{Entry}
-use Rattle.loop_model.specs.declared.item.Item.{Item}
 use Rattle.loop_model.specs.declared.base.Base.{Base}
 use Rattle.loop_model.specs.Items.{matches}
 use Rattle.loop_model.specs.Live.{live_in_order}
@@ -12,13 +11,14 @@ use Rattle.loop_model.specs.Answers.{Setting, quit_place, has_disposed, has_halt
 use Rattle.loop_model.specs.Chain.{after}
 use Rattle.loop_model.proofs.FirstLaws.{list_any-listed}
 use Rattle.message_slot.specs.Letter.{Letter}
-use Rattle.when_queue.specs.Queue.{items_of, is_named}
+use Rattle.when_queue.specs.Queue.{is_named}
 use Rattle.queue_state.specs.declared.history.History.{History}
 use Rattle.queue_state.specs.History.{owed}
 use Rattle.queue_state.specs.Queue.{has_match, spare_room}
 use Rattle.queue_state.specs.Kept.{IsHistory, IsKept, view_of}
 use Rattle.queue_state.proofs.Histories.{live_is, quit_is}
-use Rattle.queue_state.proofs.Others.{length-items}
+use Rattle.queue_state.proofs.Looking.{any_items}
+use Rattle.when_queue.proofs.Lists.{length-items}
 
 disposed_is : (s : Setting) (start : Base) (es : List Entry) (b : Base) → IsHistory s start es b → has_disposed start es ≡ b.disposed
 unfolding after
@@ -27,10 +27,6 @@ disposed_is s start es b h = sym (ap (λ (b : Base). b.disposed) h.left)
 halted_is : (s : Setting) (start : Base) (es : List Entry) (b : Base) → IsHistory s start es b → has_halted start es ≡ b.halted
 unfolding after
 halted_is s start es b h = sym (ap (λ (b : Base). b.halted) h.left)
-
-any_items : {K : Type 0} (p : Item → Bool) (xs : List (Letter K)) → list_any (λ m. p m.item) xs ≡ list_any p (items_of xs)
-any_items p [] = refl
-any_items p (x ∷ xs) = ap (λ b. p x.item || b) (any_items p xs)
 
 pub second_true : (a b : Bool) → b ≡ true → a || b ≡ true
 second_true a b e = grind arith
