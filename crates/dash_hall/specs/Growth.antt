@@ -3,10 +3,12 @@ use Rattle.std.specs.Prelude.{◌≡◌, ◌≢◌, ◌≤◌, ℕ, Bool, List, 
 use Rattle.atomic_table.specs.Seated.{TableId}
 use Rattle.loop_model.specs.declared.call.Call.{Call}
 use Rattle.loop_model.specs.declared.entry.Entry.{Entry}
-use Rattle.message_pool.specs.Passes.{Claimed, Tally}
+use Rattle.message_pool.specs.Passes.{Claimed, Node, Tally}
+use Rattle.queue_state.specs.declared.answers.BarrierPosted.TheVariants as barred
 use Rattle.queue_state.specs.declared.answers.Quitting.{Quitting}
 use Rattle.queue_state.specs.declared.answers.Quitting.TheVariants as quitting
-use Rattle.shared_queue.specs.Calls.{QuitBy}
+use Rattle.shared_queue.specs.Calls.{BarrierPostedBy, QuitBy}
+use Rattle.handler_post.specs.Supply.{BringsBack}
 use Rattle.looper_run.specs.Holding.{Sender}
 use Rattle.looper_run.specs.Acts.{IsNoLookOf}
 use Rattle.run_model.specs.Asks.{plain, token_in, entries_by}
@@ -45,6 +47,21 @@ pub record Makes (before after : Sender) (call : Call) (tokens : List ℕ) : Typ
 abbrev pub WayMakes : Way → Way → Call → List ℕ → Type 0
 WayMakes before after call tokens = Makes before.poster.now after.poster.now call tokens
 
+-- one turn that posted a barrier of this token at this moment
+abbrev pub BarsOf : Sender → Sender → ℕ → ℕ → Type 0
+BarsOf before after now token = (node : Node) × BarrierPostedBy before after now node (barred.Token token)
+
 -- one turn that quit the queue, or was refused; either stands in the history
 abbrev pub QuitsOf : Sender → Sender → Bool → ℕ → Type 0
 QuitsOf before after safe now = (answer : Quitting Claimed TableId) × (answer ≢ quitting.NoMemory) × QuitBy before after safe now answer
+
+-- what a quit dropped was brought back to the pool
+abbrev pub BringsDroppedBack : Quitting Claimed TableId → Tally → Tally → Type 0
+BringsDroppedBack (quitting.Done left) pass pass' = BringsBack left pass pass'
+BringsDroppedBack (quitting.AlreadyQuit place) pass pass' = pass' ≡ pass
+BringsDroppedBack quitting.NotAllowed pass pass' = pass' ≡ pass
+BringsDroppedBack quitting.NoMemory pass pass' = pass' ≡ pass
+
+-- the same turn, and what it dropped is back in the pool
+abbrev pub WayQuits : Way → Way → Bool → ℕ → Type 0
+WayQuits before after safe now = (answer : Quitting Claimed TableId) × (answer ≢ quitting.NoMemory) × QuitBy before.poster.now after.poster.now safe now answer × BringsDroppedBack answer before.pass.now after.pass.now

@@ -78,9 +78,21 @@ IsPlaced placed.Already = Unit {0}
 IsPlaced placed.Refused = Unit {0}
 IsPlaced placed.NoMemory = ⊥
 
+-- memory was wanting as a callback was placed
+abbrev pub IsUnplaced : Placed → Type 0
+IsUnplaced placed.Asked = ⊥
+IsUnplaced placed.Sent = ⊥
+IsUnplaced placed.Already = ⊥
+IsUnplaced placed.Refused = ⊥
+IsUnplaced placed.NoMemory = Unit {0}
+
 -- a frame callback was placed at this moment of a host, whose sends were the one list and are the other
 abbrev pub PlacesBy : Pass → Pass → ℕ → List Sending → List Sending → ℕ → ℕ → ℕ → Type 0
 PlacesBy before after u sends sends' phase id delay = (r : Placed) × IsPlaced r × CallbackPostedBy before after (λ n. n == nanos_of u) sends sends' phase id None delay r
+
+-- memory was wanting as a frame callback was placed: nothing was sent, and at most the posting itself was done
+abbrev pub PlacesNot : Pass → Pass → ℕ → List Sending → List Sending → ℕ → ℕ → ℕ → Type 0
+PlacesNot before after u sends sends' phase id delay = (r : Placed) × IsUnplaced r × CallbackPostedBy before after (λ n. n == nanos_of u) sends sends' phase id None delay r
 
 -- the pass has seen one posting more of this phase and identity, and no fewer of others
 pub record CountsOn (phase id : ℕ) (before after : Pass) : Type 0 where

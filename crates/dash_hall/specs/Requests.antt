@@ -10,6 +10,8 @@ use Rattle.handler_post.specs.declared.way.Erased.{Erased}
 use Rattle.handler_post.specs.declared.way.Erased.TheVariants.{Removed, NoMemory as NoRoom}
 use Rattle.loop_model.specs.Posts.{moment_after}
 use Rattle.handler_post.specs.Forms.{message_by, callback_by, filter_by}
+use Rattle.looper_run.specs.Holding.{Sender}
+use Rattle.dash_hall.specs.Growth.{BarsOf, QuitsOf}
 use Rattle.dash_hall.specs.declared.handlers.Request.{Request}
 use Rattle.dash_hall.specs.declared.handlers.Request.TheVariants as request
 use Rattle.dash_hall.specs.declared.calls.QueueCall.{QueueCall}
@@ -52,3 +54,11 @@ posts_barrier _ = false
 abbrev pub tokens_of : Option ℕ → List ℕ
 tokens_of None = []
 tokens_of (Some token) = token ∷ []
+
+-- where the call has a moment, it was one turn at that moment
+abbrev pub IsAtItsMoment : QueueCall → Option ℕ → Sender → Sender → Type 0
+IsAtItsMoment (on_queue.ByHandler handler request) token before after = Unit {0}
+IsAtItsMoment (on_queue.PostBarrier now) None before after = ⊥
+IsAtItsMoment (on_queue.PostBarrier now) (Some token) before after = BarsOf before after now token
+IsAtItsMoment (on_queue.RemoveBarrier barrier) token before after = Unit {0}
+IsAtItsMoment (on_queue.Quit safe now) token before after = QuitsOf before after safe now

@@ -4,7 +4,7 @@ ghost use Rattle.loop_model.specs.declared.call.Call.TheVariants.{Barrier, Unbar
 ghost use Rattle.message_pool.specs.Obtain.{IsNodeOf};
 ghost use Rattle.handler_post.specs.Supply.{BringsBack};
 ghost use Rattle.handler_post.specs.Ways.{IsReady, IsSameWay};
-ghost use Rattle.dash_hall.specs.Growth.{own, WayGoesOn, WayMakes, QuitsOf};
+ghost use Rattle.dash_hall.specs.Growth.{own, WayGoesOn, WayMakes, BarsOf, QuitsOf, WayQuits};
 
 use handler_post::Way;
 use loop_model::NoMemory;
@@ -27,6 +27,7 @@ pub(crate) fn post_barrier<R: Wait>(
     ensures same { IsSameWay way.old way.new }
     ensures on { WayGoesOn way.old way.new }
     ensures made { IfOk result (λ token. WayMakes way.old way.new (Barrier 0) (token ∷ [])) }
+    ensures turn { IfOk result (λ token. BarsOf way.old.poster.now way.new.poster.now now token) }
     ensures none { OnErr result (own way.new.poster.now ≡ own way.old.poster.now) }
 {
     let node = match way.pool.obtain(alloc, way.pass) {
@@ -72,6 +73,7 @@ pub fn quit<R: Wait>(rt: &R, way: &mut Way, safe: bool, now: u64) -> Result<(), 
     ensures on { WayGoesOn way.old way.new }
     ensures made { OnOk result (WayMakes way.old way.new (Quit safe 0) []) }
     ensures turn { OnOk result (QuitsOf way.old.poster.now way.new.poster.now safe now) }
+    ensures recycled { OnOk result (WayQuits way.old way.new safe now) }
     ensures none { OnErr result (own way.new.poster.now ≡ own way.old.poster.now) }
 {
     match way.poster.quit(rt, way.queue, safe, now) {

@@ -3,7 +3,7 @@ ghost use Rattle.std.specs.Prelude.{◌≡◌, is_some, IfOk, OnErr};
 ghost use Rattle.handler_post.specs.Ways.{IsReady, IsSameWay};
 ghost use Rattle.shared_queue.specs.Known.{IsOf};
 ghost use Rattle.dash_hall.specs.Growth.{own, GoesOn, Makes, WayGoesOn, WayMakes};
-ghost use Rattle.dash_hall.specs.Requests.{call_made, tokens_of, posts_barrier};
+ghost use Rattle.dash_hall.specs.Requests.{call_made, tokens_of, posts_barrier, IsAtItsMoment};
 
 use crate::barriers::{post_barrier, quit, remove_barrier};
 use crate::handlers::{Request, make};
@@ -37,6 +37,7 @@ pub(crate) fn perform<R: Wait>(
     ensures made { IfOk result (λ token. WayMakes way.old way.new (call_made call) (tokens_of token)) }
     ensures none { OnErr result (own way.new.poster.now ≡ own way.old.poster.now) }
     ensures token { IfOk result (λ token. is_some token ≡ posts_barrier call) }
+    ensures moment { IfOk result (λ token. IsAtItsMoment call token way.old.poster.now way.new.poster.now) }
 {
     match call {
         QueueCall::ByHandler { handler, request } => {
@@ -76,6 +77,7 @@ pub fn perform_by<R: Wait>(
     ensures made { IfOk result (λ token. Makes poster.old poster.new (call_made call) (tokens_of token)) }
     ensures none { OnErr result (own poster.new ≡ own poster.old) }
     ensures token { IfOk result (λ token. is_some token ≡ posts_barrier call) }
+    ensures moment { IfOk result (λ token. IsAtItsMoment call token poster.old poster.new) }
 {
     let mut way = Way {
         queue,

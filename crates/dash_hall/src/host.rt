@@ -4,9 +4,9 @@ ghost use mathlib.Core.List.{IsPrefix};
 ghost use Rattle.loop_model.specs.declared.call.Call.TheVariants.{Barrier, Unbarrier};
 ghost use Rattle.choreographer.specs.Known.{IsOf as IsFrameOf};
 ghost use Rattle.choreographer.specs.Calls.{PulsedBy, DueBy};
-ghost use Rattle.dash_hall.specs.Growth.{own, GoesOn, Makes};
+ghost use Rattle.dash_hall.specs.Growth.{own, GoesOn, Makes, BarsOf};
 ghost use Rattle.dash_hall.specs.Kits.{frame_badge_of};
-ghost use Rattle.dash_hall.specs.Hosts.{Origin, origin_of, IsHost, nanos_of, sends_by, IsPlaced, PlacesBy};
+ghost use Rattle.dash_hall.specs.Hosts.{Origin, origin_of, IsHost, nanos_of, sends_by, IsPlaced, IsUnplaced, PlacesBy, PlacesNot};
 
 use crate::barriers::{post_barrier, remove_barrier};
 use choreographer::{Choreographer, FrameHost, FramePass, HostSent, Placed, Pulse};
@@ -78,6 +78,7 @@ impl<'a, R: Wait> Host<'a, R> {
         ensures ready { IsHost (origin_of self.new.queue.now self.new.pool.now self.new.poster.ghost_name self.new.pass.ghost_name self.new.began.now.value self.new.pass_began.now.value self.new.handler.id self.new.now) self.new.poster.now self.new.pass.now }
         ensures origin { origin_of self.new.queue.now self.new.pool.now self.new.poster.ghost_name self.new.pass.ghost_name self.new.began.now.value self.new.pass_began.now.value self.new.handler.id self.new.now ≡ origin_of self.old.queue.now self.old.pool.now self.old.poster.ghost_name self.old.pass.ghost_name self.old.began.now.value self.old.pass_began.now.value self.old.handler.id self.old.now }
         ensures made { IfOk result (λ token. Makes self.old.poster.now self.new.poster.now (Barrier 0) (token ∷ [])) }
+        ensures turn { IfOk result (λ token. BarsOf self.old.poster.now self.new.poster.now self.old.now token) }
         ensures none { OnErr result (own self.new.poster.now ≡ own self.old.poster.now) }
     {
         let mut way = Way {
@@ -135,7 +136,7 @@ impl<'a, R: Wait> Host<'a, R> {
     }
 
     /// Posts a frame callback for the moment in `delay` milliseconds. A refused message for its due time stands in the history. The pass
-    /// is one of the choreographer, and the phase one of its phases. NoMemory where it found none.
+    /// is one of the choreographer, and the phase one of its phases. NoMemory where it found none: then it sent no message.
     pub fn post_callback(
         &mut self,
         c: &Choreographer,
@@ -151,6 +152,7 @@ impl<'a, R: Wait> Host<'a, R> {
         ensures pass { frame_badge_of pass.new ≡ frame_badge_of pass.old }
         ensures on { GoesOn self.old.poster.now self.new.poster.now self.old.pass.now self.new.pass.now }
         ensures turn { OnOk result (PlacesBy pass.old pass.new self.old.now (sends_by self.old.handler.id self.old.poster.now) (sends_by self.new.handler.id self.new.poster.now) phase id delay) }
+        ensures none { OnErr result (PlacesNot pass.old pass.new self.old.now (sends_by self.old.handler.id self.old.poster.now) (sends_by self.new.handler.id self.new.poster.now) phase id delay) }
     {
         let began = Snapshot::of(&*self.poster);
         let pass_began = Snapshot::of(&*self.pass);
@@ -173,6 +175,7 @@ impl<'a, R: Wait> Host<'a, R> {
 /// Ok unless memory was wanting.
 fn placed(answer: Placed) -> Result<(), NoMemory>
     ensures ok { OnOk result (IsPlaced answer) }
+    ensures err { OnErr result (IsUnplaced answer) }
 {
     match answer {
         Placed::Asked => Ok(()),
