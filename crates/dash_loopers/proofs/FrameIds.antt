@@ -1,11 +1,11 @@
 -- Which callbacks a frame runs, in the frame record and as its client tells them.
-use Rattle.std.proofs.Common.{◌≡◌, ◌+◌, ◌/◌, ◌<◌, ◌≤◌, ℕ, suc, Bool, true, false, List, [], ◌∷◌, ◌++◌, length, drop, reverse, Option, Some, None, refl, sym, ap, ◌∙◌, subst, arith, append_assoc}
-use Rattle.std.specs.Prelude.{◌==◌, not, map, slice_get, nat_le}
-use Rattle.std.specs.List.{filter_map, cons_option, before_first, prefix_len, AllByRecursion}
+use Rattle.std.proofs.Common.{◌≡◌, ◌+◌, ◌/◌, ◌<◌, ◌≤◌, ℕ, Bool, true, false, List, [], ◌∷◌, ◌++◌, length, drop, reverse, Option, Some, None, refl, sym, ap, ◌∙◌, subst, arith, append_assoc}
+use Rattle.std.specs.Prelude.{◌==◌, map, slice_get, nat_le}
+use Rattle.std.specs.List.{filter_map, cons_option, before_first, AllByRecursion}
 use Rattle.std.specs.Option.{option_map_or}
 use Rattle.std.proofs.lemmas.List.{append-nil, map-append, reverse-append, reverse-reverse, length-reverse, length-append}
 use Rattle.std.proofs.lemmas.List.Elements.{filter_map-append}
-use Rattle.std.proofs.lemmas.Bool.{and_parts, and_from, cond_both, eqb-true, le-leb}
+use Rattle.std.proofs.lemmas.Bool.{and_parts, and_from, eqb-true, le-leb}
 use Rattle.std.proofs.Math.Seq.{drop-append_seam}
 use mathlib.Core.List.{IsPrefix}
 use Rattle.loop_model.proofs.Sorting.{AllByRecursion-append, AllByRecursion-filter}
@@ -13,7 +13,7 @@ use Rattle.frame_phases.specs.declared.entry.Callback.{Callback}
 use Rattle.frame_phases.specs.declared.entry.FrameEntry.{FrameEntry}
 use Rattle.frame_phases.specs.declared.entry.FrameEntry.TheVariants.{Posted, Removed, Begin, Take, Ran}
 use Rattle.loop_model.specs.Items.{is_just}
-use Rattle.frame_phases.specs.Frames.{lawful, all_allowed, is_allowed, is_settled, owed, posted_count, next_phase, live, taken, number_of, is_due, is_undue, is_unmatched, before_later, in_due_order}
+use Rattle.frame_phases.specs.Frames.{lawful, all_allowed, is_allowed, is_settled, owed, posted_count, next_phase, live, taken, number_of, is_due, is_undue, is_unmatched}
 use Rattle.frame_phases.proofs.EndsOfFrames.{allowed_before}
 use Rattle.frame_phases.specs.State.{past as past_of}
 use Rattle.choreographer.specs.declared.kept.Kept.{Kept}
@@ -26,7 +26,7 @@ use Rattle.choreographer.specs.Done.{runs, runs_of, numbers_of, FramedBy, Unless
 use Rattle.loop_model.proofs.Prefixes.{prefix_trans, prefix_length}
 use Rattle.dash_script.specs.declared.script.Script.{Script}
 use Rattle.run_model.specs.FrameRuns.{frame_ids, is_frame_from, is_begin, posted_id, ran_id}
-use Rattle.run_model.proofs.FrameKeeping.{KeepsFrames-lawful}
+use Rattle.run_model.proofs.FrameKeeping.{all-reverse, all-in_due_order, posted_in, posted-reverse, before_first-step, KeepsFrames-lawful}
 use Rattle.dash_loopers.specs.Played.{RanFrame, ids_of}
 use Rattle.dash_loopers.proofs.LooperLists.{at_seam}
 
@@ -101,41 +101,13 @@ ids_pushed e past = ap (filter_map posted_id) (reverse-append (e ∷ []) past) �
 unposted : (e : FrameEntry) (past : List FrameEntry) → posted_id e ≡ None → ids_in (e ∷ past) ≡ ids_in past
 unposted e past isnt = ids_pushed e past ∙ (ap (λ o. ids_in past ++ cons_option o []) isnt ∙ append-nil (ids_in past))
 
-posted_in : (past : List FrameEntry) → posted_count past ≡ length (ids_in past)
-unfolding posted_count
-posted_in [] = refl
-posted_in (Posted c ∷ past) =
-    let rest = posted_in past in
-    let more = ap length (ids_pushed (Posted c) past) ∙ length-append (ids_in past) (c.id ∷ []) in
-    omega (arith, rest, more)
-posted_in (Removed p i t n ∷ past) = posted_in past ∙ ap length (sym (unposted (Removed p i t n) past refl))
-posted_in (Begin v s t ∷ past) = posted_in past ∙ ap length (sym (unposted (Begin v s t) past refl))
-posted_in (Take p n t ∷ past) = posted_in past ∙ ap length (sym (unposted (Take p n t) past refl))
-posted_in (Ran n ∷ past) = posted_in past ∙ ap length (sym (unposted (Ran n) past refl))
-
-all-before_later : (P : Callback → Type 0) (c : Callback) (cs : List Callback) → P c → AllByRecursion P cs → AllByRecursion P (before_later c cs)
-unfolding before_later
-all-before_later P c [] p h = (p, tt)
-all-before_later P c (d ∷ ds) p h =
-    let rest = all-before_later P c ds p h.1 in
-    cond_both (nat_le c.due d.due) (c ∷ d ∷ ds) (d ∷ before_later c ds) (AllByRecursion P) (λ t. (p, h)) (λ t. (h.0, rest))
-
-all-in_due_order : (P : Callback → Type 0) (cs : List Callback) → AllByRecursion P cs → AllByRecursion P (in_due_order cs)
-unfolding in_due_order
-all-in_due_order P [] h = tt
-all-in_due_order P (c ∷ cs) h = all-before_later P c (in_due_order cs) h.0 (all-in_due_order P cs h.1)
-
-all-reverse : {X : Type 0} (P : X → Type 0) (xs : List X) → AllByRecursion P xs → AllByRecursion P (reverse xs)
-all-reverse P [] h = tt
-all-reverse P (x ∷ xs) h = subst (AllByRecursion P) (sym (reverse-append (x ∷ []) xs)) (AllByRecursion-append P (reverse xs) (x ∷ []) (all-reverse P xs h.1) (h.0, tt))
-
 module _ (interval phases : ℕ) (ids : List ℕ) where
   live_posted : (past : List FrameEntry) (more : List ℕ) → ids ≡ ids_in past ++ more → all_allowed interval phases past ≡ true → AllByRecursion (IsPosted ids) (live past)
   unfolding all_allowed is_allowed live
   live_posted [] more is h = tt
   live_posted (Posted c ∷ past) more is h =
       let parts = and_parts _ _ h in
-      let number : c.number ≡ length (ids_in past) = eqb-true c.number (posted_count past) (and_parts _ _ (and_parts _ _ parts.1).0).1 ∙ posted_in past in
+      let number : c.number ≡ length (ids_in past) = eqb-true c.number (posted_count past) (and_parts _ _ (and_parts _ _ parts.1).0).1 ∙ (sym (posted-reverse past) ∙ posted_in (reverse past)) in
       let is' : ids ≡ ids_in past ++ c.id ∷ more = is ∙ (ap (λ l. l ++ more) (ids_pushed (Posted c) past) ∙ append_assoc (ids_in past) (c.id ∷ []) more) in
       let mine : slice_get ids c.number ≡ Some c.id = (λ i. slice_get (is' i) (number i)) ∙ at_seam (ids_in past) c.id more in
       AllByRecursion-append (IsPosted ids) (live past) (c ∷ []) (live_posted past (c.id ∷ more) is' parts.0) (mine, tt)
@@ -172,11 +144,6 @@ module _ (interval phases : ℕ) (ids : List ℕ) where
       filter_map-append (λ n. slice_get ids n) (map number_of b.callbacks) (numbers_of bs) ∙ ((λ i. one i ++ rest i) ∙ sym (map-append (λ (r : Run). r.0.id) (runs b.time b.callbacks) (runs_of bs)))
 
 -- ---- what a frame ran
-
-before_first-step : {X : Type 0} (p : X → Bool) (x : X) (xs : List X) → p x ≡ false → before_first p (x ∷ xs) ≡ x ∷ before_first p xs
-before_first-step p x xs h =
-    let one : 1 + prefix_len (λ y. not (p y)) xs ≡ suc (prefix_len (λ y. not (p y)) xs) = omega arith in
-    rw (h, one) refl
 
 before_none : {X : Type 0} (p : X → Bool) (xs : List X) → AllByRecursion (λ x. p x ≡ false) xs → before_first p xs ≡ xs
 before_none p [] h = refl

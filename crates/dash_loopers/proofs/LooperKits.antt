@@ -7,10 +7,7 @@ use Rattle.std.proofs.lemmas.List.Edits.{length-remove, get_or-insert_at}
 use Rattle.std.proofs.lemmas.Option.{slice_get-map, slice_get_cases, slice_get_read}
 use Rattle.atomic_table.specs.Seated.{TableId}
 use Rattle.dash_script.specs.declared.script.Script.{Script}
-use mathlib.Core.List.{IsPrefix}
 use Rattle.loop_model.specs.Base.{empty_base}
-use Rattle.loop_model.specs.Items.{when_of}
-use Rattle.loop_model.specs.Pick.{first_eligible}
 use Rattle.loop_model.specs.Answers.{is_over}
 use Rattle.run_model.specs.Senders.{sender_count}
 use Rattle.shared_queue.specs.Constants.{Constants}
@@ -33,12 +30,12 @@ use Rattle.dash_hall.specs.declared.kit.Kit.{Kit}
 use Rattle.dash_loopers.specs.declared.player.Parts.{Parts}
 use Rattle.dash_loopers.specs.declared.looper.StageLooper.{StageLooper}
 use Rattle.dash_hall.specs.Kits.{Badge, badge_of, badge_for, frame_badge_of, frame_badge_for, frames_for, IsHall, IsKitOf, IsUnusedKit}
-use Rattle.dash_loopers.specs.Loopers.{ArePartsOf, IsPlaceOf, IsLooperOf, IsLooper, DisposesLast, setting_for, is_given_up, until_of}
+use Rattle.dash_loopers.specs.Loopers.{ArePartsOf, IsPlaceOf, IsLooperOf, IsLooper, DisposesLast, setting_for, is_given_up}
 use Rattle.dash_loopers.specs.Players.{Owner, ServesAt}
 use Rattle.dash_loopers.proofs.LooperLists.{map-remove, map-insert, insert_removed, at_same}
 use Rattle.dash_loopers.proofs.LooperPlaces.{queue_count, frames_count, queue_is}
 use Rattle.dash_loopers.proofs.LooperDisposes.{disposes_by_round, disposes_none, disposes_so_far}
-use Rattle.dash_loopers.proofs.LooperOver.{over_by_round, waits_by_round}
+use Rattle.dash_loopers.proofs.LooperOver.{over_by_round, waits_by_round, WaitsBy}
 use Rattle.dash_loopers.proofs.LooperTold.{taken_own, told_by_round}
 
 pub looper_of : (s : Script) (hall : Hall) (l : StageLooper) → IsHall s hall → IsLooper s hall l → IsLooperOf s hall l.number
@@ -141,12 +138,12 @@ pub ran_on : (s : Script) (hall : Hall) (now : ℕ) (l : StageLooper) (q : Share
 ran_on s hall now l q after last is_hall is at round =
     subst (λ (c : Constants TableId). RoundBy c.setting now l.looper.held after.held last) (queue_is s hall l.number (looper_of s hall l is_hall is) l.number q at) round
 
--- unless it ended or gave up, it has come to wait for the first message that no barrier holds back
+-- unless it ended or gave up, it has come to wait for the first message that no barrier holds back, and none is due
 pub comes_to_wait : (s : Script) (hall : Hall) (now : ℕ) (l : StageLooper) (q : Shared TableId) (after : Looping) (last : Round) → IsHall s hall → IsLooper s hall l → slice_get hall.queues.items l.number ≡ Some q
     → IsSameLooper l.looper.held after.held → RoundBy q.constants.setting now l.looper.held after.held last → is_ended last ≡ false → is_given_up last ≡ false
-    → IsPrefix l.looper.held.poster.view.seen after.held.poster.view.seen × (until_of last ≡ option_map when_of (first_eligible (empty_base (sender_count s)) after.held.poster.view.seen))
+    → WaitsBy (setting_for s l.number) now last l.looper.held.poster.view.seen after.held.poster.view.seen
 comes_to_wait s hall now l q after last is_hall is at same round e g =
-    subst (λ (c : Constants TableId). IsPrefix l.looper.held.poster.view.seen after.held.poster.view.seen × (until_of last ≡ option_map when_of (first_eligible (empty_base c.setting.senders) after.held.poster.view.seen)))
+    subst (λ (c : Constants TableId). WaitsBy c.setting now last l.looper.held.poster.view.seen after.held.poster.view.seen)
     (queue_is s hall l.number (looper_of s hall l is_hall is) l.number q at)
     (waits_by_round q.constants.setting now l.looper.held after.held last q.constants (same.constants ∙ (is.place.queue q at).1) round e g)
 

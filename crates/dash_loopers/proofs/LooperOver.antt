@@ -1,6 +1,7 @@
 -- A round that ended a looper has seen its queue over, and one that ended with a wait tells until when.
-use Rattle.std.proofs.Common.{◌≡◌, ℕ, ◌||◌, Bool, true, false, List, ◌∷◌, [], ◌++◌, Option, Some, refl, sym, ap, ◌∙◌, subst, inl, inr}
+use Rattle.std.proofs.Common.{◌≡◌, ℕ, max, ◌||◌, Bool, true, false, List, ◌∷◌, [], ◌++◌, Option, Some, refl, sym, ap, ◌∙◌, subst, inl, inr}
 use Rattle.std.proofs.Math.Bool.{or-true}
+use Rattle.std.specs.Prelude.{if◌then◌else◌}
 use Rattle.std.specs.Option.{option_map}
 use mathlib.Core.List.{IsPrefix}
 use Rattle.loop_model.specs.Items.{when_of}
@@ -8,7 +9,7 @@ use Rattle.loop_model.specs.Pick.{first_eligible}
 use Rattle.atomic_table.specs.Seated.{TableId}
 use Rattle.loop_model.specs.declared.base.Base.{Base}
 use Rattle.loop_model.specs.Base.{empty_base}
-use Rattle.loop_model.specs.Answers.{Setting, is_over, has_disposed, has_halted}
+use Rattle.loop_model.specs.Answers.{Setting, clock, is_over, has_disposed, has_halted}
 use Rattle.loop_model.specs.Entries.{is_disposed}
 use Rattle.loop_model.specs.declared.entry.Entry.{Entry}
 use Rattle.loop_model.specs.declared.reply.Reply.TheVariants.{Disposed}
@@ -22,7 +23,7 @@ use Rattle.looper_run.specs.declared.looper.Round.{Round}
 use Rattle.looper_run.specs.declared.looper.Round.TheVariants.{Drained, Ended, NoMemory}
 use Rattle.looper_run.specs.Holding.{Sender, Holding}
 use Rattle.looper_run.specs.Round.{RoundBy, LastLookEnds, is_ended}
-use Rattle.dash_loopers.specs.Loopers.{is_given_up, until_of}
+use Rattle.dash_loopers.specs.Loopers.{is_given_up, until_of, HasNoneDue}
 
 over_with : (b : Base) (es : List Entry) (e : Entry) → e.reply ≡ Disposed → is_over b (es ++ e ∷ []) ≡ true
 over_with b es e is =
@@ -51,6 +52,10 @@ over_by_round s now before after (Drained dispatched until) c is r e = absurd cc
 over_by_round s now before after (Ended dispatched) c is r e = over_by_look now before.poster after.poster c is r.1
 over_by_round s now before after NoMemory c is r e = absurd cc
 
+-- the moment that a look uses which names this one, on a queue of this setting at this time
+abbrev pub moment_of : Setting → ℕ → ℕ → ℕ
+moment_of set now time = if set.lockstep then time else max now time
+
 -- a look that was answered to wait tells when the first message is due that no barrier holds back
 waits_by_look : (now : ℕ) (p q : Sender) (idle : Bool) (until : Option ℕ) (c : Constants TableId) → q.view.constants ≡ Some c → NextedBy p q now idle (nexted.Wait until) → until ≡ option_map when_of (first_eligible (empty_base c.setting.senders) q.view.seen)
 waits_by_look now p q idle until c is n =
@@ -60,9 +65,25 @@ waits_by_look now p q idle until c is n =
     subst (λ (es : List Entry). until ≡ option_map when_of (first_eligible (empty_base c.setting.senders) es)) (sym seen)
     (subst (λ (b : Base). until ≡ option_map when_of (first_eligible b x.entries)) start n.3.2)
 
--- so a round that ended with a wait tells it of all that the looper has seen by then, and it forgot nothing
+-- such a look found a queue that is neither over nor quitting, and none due at the moment that it used
+none_due_by_look : (now : ℕ) (p q : Sender) (idle : Bool) (until : Option ℕ) (c : Constants TableId) → q.view.constants ≡ Some c → NextedBy p q now idle (nexted.Wait until)
+    → HasNoneDue (empty_base c.setting.senders) q.view.seen (moment_of c.setting now (clock (empty_base c.setting.senders) q.view.seen))
+none_due_by_look now p q idle until c is n =
+    let x = n.0 in
+    let own = (n.2.own c (sym n.2.constants ∙ is)).0 in
+    let seen = n.2.seen ∙ ap (λ (y : Queue TableId Claimed). y.entries) n.3.3 in
+    subst (λ (es : List Entry). HasNoneDue (empty_base c.setting.senders) es (moment_of c.setting now (clock (empty_base c.setting.senders) es))) (sym seen)
+    (subst (λ (b : Base). HasNoneDue b x.entries (moment_of c.setting now (clock b x.entries))) own.start
+    (subst (λ (s : Setting). HasNoneDue x.start x.entries (moment_of s now (clock x.start x.entries))) own.setting
+    (record { going = n.3.0.0; kept_on = n.3.0.2; none = n.3.0.1 })))
+
+-- what a round that ended with a wait tells: it forgot nothing, it knows when the first message is due, and none is due by then
+abbrev pub WaitsBy : Setting → ℕ → Round → List Entry → List Entry → Type 0
+WaitsBy set now last before seen = IsPrefix before seen × (until_of last ≡ option_map when_of (first_eligible (empty_base set.senders) seen))
+    × HasNoneDue (empty_base set.senders) seen (moment_of set now (clock (empty_base set.senders) seen))
+
 pub waits_by_round : (s : Setting) (now : ℕ) (before after : Holding) (last : Round) (c : Constants TableId) → after.poster.view.constants ≡ Some c → RoundBy s now before after last → is_ended last ≡ false → is_given_up last ≡ false
-    → IsPrefix before.poster.view.seen after.poster.view.seen × (until_of last ≡ option_map when_of (first_eligible (empty_base c.setting.senders) after.poster.view.seen))
-waits_by_round s now before after (Drained dispatched until) c is r e g = ((r.0.more, sym r.0.seen), waits_by_look now r.1.0 after.poster r.1.1 until c is r.1.3)
+    → WaitsBy c.setting now last before.poster.view.seen after.poster.view.seen
+waits_by_round s now before after (Drained dispatched until) c is r e g = ((r.0.more, sym r.0.seen), waits_by_look now r.1.0 after.poster r.1.1 until c is r.1.3, none_due_by_look now r.1.0 after.poster r.1.1 until c is r.1.3)
 waits_by_round s now before after (Ended dispatched) c is r e g = absurd cc
 waits_by_round s now before after NoMemory c is r e g = absurd cc

@@ -45,18 +45,17 @@ unseen_without xs n within unseen = λ j d near. by_order j d near (cases_lt j n
 -- a looper that has done nothing stands at the first state
 pub stands_first : (s : Script) (q k : ℕ) (seen : List Entry) (acts : List Act) (parts : Parts) → seen ≡ [] → acts ≡ []
     → map standing parts.root.gauges.items ≡ replicate (length s.gauges) (record { value = 0; target = 0; animating = false }) → map fixed parts.root.gauges.items ≡ map (fixed_by s q) s.gauges
-    → parts.root.barrier ≡ None → parts.root.painted.items ≡ [] → AreUnseen parts.others.items → parts.fired.items ≡ replicate (length s.rules) 0
+    → parts.root.barrier ≡ None → parts.root.painted.items ≡ [] → AreUnseen parts.others.items → parts.fired.items ≡ replicate (length s.rules) 0 → parts.root.pass.view.turns ≡ 0
     → Stands s q k seen acts parts (first_looper s)
-stands_first s q k seen acts parts none still gauges lines barrier painted unseen fired = record {
+stands_first s q k seen acts parts none still gauges lines barrier painted unseen fired untaken = record {
   led = λ fs begins law. subst (λ (xs : List Act). Lead s q seen fs (first_looper s) xs (first_looper s)) (sym still) refl;
   place = omega arith;
   settled = refl;
-  first = parts.root.pass.view.turns;
-  played = subst (λ (es : List Entry). IsPlayed s q parts.root.pass.view.turns (calls_in k es) parts (first_looper s)) (sym none) (record {
+  played = subst (λ (es : List Entry). IsPlayed s q 0 (calls_in k es) parts (first_looper s)) (sym none) (record {
     shown = record {
       calls = tt;
       posted = λ phase id. omega arith;
-      turns = omega arith;
+      turns = omega (arith, untaken);
       stands = record {
         gauges = gauges;
         lines = lines;
@@ -110,6 +109,7 @@ left_by s hall l parts j kit is_hall is e posters frames journal a come = record
       subst (λ (x : Sender). AreFor IsSent [] (sent_on k a.sent) (own x)) (sym (ap (λ (ps : List Sender). get_or ps k d) posters ∙ at_other parts.others.items l.number many l.looper.held.poster d k w.0 w.1))
       (st.played.elsewhere k w.0 d w.1 (within_others parts.others.items l.number many l.looper.held.poster k w.0 w.1 within));
   posted = λ phase id p. subst (λ (ps : List Pass). count_by (is_frame_post phase id) a.posted ≤ count_by (posts_frame phase id) (slice_index_or ps 1 p).view.seen) (sym frames) (st.played.shown.posted phase id);
+  turns = λ p. subst (λ (ps : List Pass). (slice_index_or ps 1 p).view.turns ≡ length a.posted) (sym frames) (let taken = st.played.shown.turns in omega (arith, taken));
 }
   where
     st : Stands s l.number l.sender l.looper.held.poster.view.seen l.looper.held.journal.acts parts a

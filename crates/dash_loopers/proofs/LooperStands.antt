@@ -61,8 +61,7 @@ module _ (s : Script) (q k : ℕ) where
         (by_stamp fs p.stamp (Lead-entries s q es fs more (first_looper s) acts a (st.led fs (prefix_trans parts.frames.view.seen parts'.frames.view.seen fs p.grew begins) law)));
     place = (let at : (pulsed q p.stamp a).place ≡ a.place = placed p.stamp in let le = st.place in let longer = prefix_length parts.frames.view.seen parts'.frames.view.seen p.grew in omega (arith, at, le, longer));
     settled = painted p.stamp;
-    first = st.first;
-    played = p.plays text st.first a st.played;
+    played = p.plays text 0 a st.played;
   }
     where
       placed : (o : Option ℕ) → (pulsed q o a).place ≡ a.place
@@ -178,12 +177,11 @@ module _ (s : Script) (q k n now : ℕ) (m : PostData) (es more : List Entry) (e
         posts d.starts (sooner fs a.place (length parts.frames.view.seen) d.ran.frame st.place framed.0) framed.1 (adds.paints tt) refl);
     place = (let at = adds.place in let le = st.place in let longer = prefix_length parts.frames.view.seen parts'.frames.view.seen d.ran.grew in placed d.ran.frame by_dispatch.place at le longer d.ran.within);
     settled = refl;
-    first = st.first;
     played = done.0;
   }
     where
-      done : IsPlayed s q st.first (calls_in k ((es ++ e ∷ []) ++ more)) parts' by_dispatch × (acts' ≡ acts ++ (delivered s q now d.ids m (taken q n now d.ran.frame a)).painted)
-      done = d.plays text st.first (taken q n now d.ran.frame a) refl (played_taken s q k n now es e take parts a st.settled st.first d.ran.frame st.played)
+      done : IsPlayed s q 0 (calls_in k ((es ++ e ∷ []) ++ more)) parts' by_dispatch × (acts' ≡ acts ++ (delivered s q now d.ids m (taken q n now d.ran.frame a)).painted)
+      done = d.plays text 0 (taken q n now d.ran.frame a) refl (played_taken s q k n now es e take parts a st.settled 0 d.ran.frame st.played)
 
       found : post_at es n ≡ Some m
       found = post

@@ -1,39 +1,19 @@
 -- A rule of a text sends to a declared handler, whose looper is one of the script.
-use Rattle.std.proofs.Common.{◌≡◌, ℕ, ◌<◌, ◌+◌, ◌&&◌, Bool, true, false, List, [], ◌∷◌, ◌++◌, map, length, Some, refl, sym, ◌∙◌, subst}
+use Rattle.std.proofs.Common.{◌≡◌, ℕ, ◌<◌, ◌+◌, ◌&&◌, Bool, true, false, List, [], ◌∷◌, map, length, Some, refl, sym, ◌∙◌, subst}
 use Rattle.std.specs.Prelude.{nat_lt, slice_get}
-use Rattle.std.specs.List.{list_all, flat_map, enumerate_from}
+use Rattle.std.specs.List.{list_all, enumerate_from}
 use Rattle.std.proofs.lemmas.Bool.{and_parts, and_from, ltb-true}
-use Rattle.std.proofs.lemmas.List.Folds.{list_all-append, list_all-map}
+use Rattle.std.proofs.lemmas.List.Folds.{list_all-map}
 use Rattle.std.proofs.lemmas.List.Sums.{AllPass-from_list_all}
 use Rattle.std.proofs.lemmas.Option.{slice_get_within, get_or_from_slice_get}
-use Rattle.dash_script.specs.declared.form.Kind.TheVariants as kind
 use Rattle.dash_script.specs.declared.script.HandlerLine.{HandlerLine}
 use Rattle.dash_script.specs.declared.script.Rule.{Rule}
 use Rattle.dash_script.specs.declared.script.Script.{Script}
-use Rattle.dash_script.specs.declared.statement.Statement.{Statement}
-use Rattle.dash_script.specs.Text.{say, handler_line, gauge_line, rule_line, block_lines, first_lines, lines_before_end, lines}
+use Rattle.dash_script.specs.Text.{handler_line, rule_line}
 use Rattle.dash_script.specs.Causes.{each_number, numbers_pass, is_declared}
 use Rattle.dash_script.specs.Reading.{HasText}
+use Rattle.dash_script.proofs.Sections.{sections_pass}
 use Rattle.run_model.specs.Senders.{looper_of}
-
-both : (p : Statement → Bool) (xs ys : List Statement) → list_all p (xs ++ ys) ≡ true → (list_all p xs ≡ true) × (list_all p ys ≡ true)
-both p xs ys all = and_parts (list_all p xs) (list_all p ys) (sym (list_all-append p xs ys) ∙ all)
-
--- the lines of the handlers and those of the rules pass
-sections_pass : (p : Statement → Bool) (s : Script) → list_all p (lines s) ≡ true → (list_all p (map handler_line (enumerate_from 0 s.handlers)) ≡ true) × (list_all p (map rule_line s.rules) ≡ true)
-unfolding lines_before_end
-sections_pass p s all =
-    let handlers = map handler_line (enumerate_from 0 s.handlers) in
-    let gauges = map gauge_line (enumerate_from 0 s.gauges) in
-    let vsync : List Statement = say kind.Vsync (s.period ∷ []) ∷ [] in
-    let rules = map rule_line s.rules in
-    let blocks = flat_map block_lines s.blocks in
-    let front = both p (first_lines s ++ handlers ++ gauges ++ vsync ++ rules ++ blocks) (say kind.End (s.end ∷ []) ∷ []) all in
-    let a = both p (first_lines s ++ handlers ++ gauges ++ vsync ++ rules) blocks front.0 in
-    let b = both p (first_lines s ++ handlers ++ gauges ++ vsync) rules a.0 in
-    let c = both p (first_lines s ++ handlers ++ gauges) vsync b.0 in
-    let d = both p (first_lines s ++ handlers) gauges c.0 in
-    ((both p (first_lines s) handlers d.0).1, b.1)
 
 looper_within : (s : Script) (h looper : ℕ) (asynchronous : Bool) → numbers_pass (is_declared s) (handler_line (h, record { looper = looper; asynchronous = asynchronous })) ≡ true → nat_lt looper s.loopers ≡ true
 unfolding each_number
@@ -57,7 +37,7 @@ sends_within s place r text at =
     let p = numbers_pass (is_declared s) in
     let sections = sections_pass p s text.names in
     let near : place < length s.rules = slice_get_within s.rules place r at in
-    let all : list_all (λ (x : Rule). p (rule_line x)) s.rules ≡ true = sym (list_all-map p rule_line s.rules) ∙ sections.1 in
+    let all : list_all (λ (x : Rule). p (rule_line x)) s.rules ≡ true = sym (list_all-map p rule_line s.rules) ∙ sections.rules in
     let passes : p (rule_line r) ≡ true = subst (λ (x : Rule). p (rule_line x) ≡ true) (get_or_from_slice_get s.rules place r r at) (AllPass-from_list_all (λ (x : Rule). p (rule_line x)) s.rules all place r near) in
     let declared : r.to_handler < length s.handlers = ltb-true _ _ (handler_within s r passes) in
-    ltb-true _ _ (AllPass-from_list_all (λ (l : HandlerLine). nat_lt l.looper s.loopers) s.handlers (loopers_within s 0 s.handlers sections.0) r.to_handler (record { looper = 0; asynchronous = false }) declared)
+    ltb-true _ _ (AllPass-from_list_all (λ (l : HandlerLine). nat_lt l.looper s.loopers) s.handlers (loopers_within s 0 s.handlers sections.handlers) r.to_handler (record { looper = 0; asynchronous = false }) declared)

@@ -3,8 +3,9 @@ use Rattle.std.specs.Prelude.{◌≡◌, List, length, ◌<◌, ◌+◌, ◌==�
 use Rattle.std.specs.List.{remove, insert}
 use Rattle.atomic_table.specs.Seated.{TableId}
 use Rattle.dash_script.specs.declared.script.Script.{Script}
+use Rattle.loop_model.specs.declared.base.Base.{Base}
 use Rattle.loop_model.specs.Base.{empty_base}
-use Rattle.loop_model.specs.Answers.{Setting, is_over}
+use Rattle.loop_model.specs.Answers.{Setting, clock, is_over, quit_place}
 use Rattle.loop_model.specs.Legal.{IsLegal, AreNumbered}
 use Rattle.loop_model.specs.declared.entry.Entry.{Entry}
 use Rattle.loop_model.specs.Entries.{is_next, is_disposed}
@@ -30,7 +31,7 @@ use mathlib.Core.List.{IsPrefix}
 use Rattle.dash_loopers.specs.declared.view_root.ViewRoot.{ViewRoot}
 use Rattle.std.specs.Option.{option_map}
 use Rattle.loop_model.specs.Items.{when_of}
-use Rattle.loop_model.specs.Pick.{first_eligible}
+use Rattle.loop_model.specs.Pick.{first_eligible, pick}
 
 -- what a looper has beside its own poster: the posters of the other queues in order, and two passes of its choreographer
 pub record ArePartsOf (s : Script) (hall : Hall) (number : ℕ) (parts : Parts) : Type 0 where
@@ -161,8 +162,15 @@ IsWithin l = l.number ≤ length (others_in l.parts)
 abbrev pub WaitsForNothing : Round → Type 0
 WaitsForNothing r = (is_ended r ≡ false) × (until_of r ≡ None)
 
--- unless it ended or gave up, the looper has come to wait for the first message that no barrier holds back of all that it has seen
+-- the queue of this history is neither over nor quitting, and no message that may be dispatched is due at this moment
+pub record HasNoneDue (b : Base) (es : List Entry) (now : ℕ) : Type 0 where
+  pub going : is_over b es ≡ false
+  pub kept_on : quit_place b es ≡ None
+  pub none : pick b es now ≡ None
+
+-- unless it ended or gave up, the looper has come to wait for the first message that no barrier holds back of all that it has seen, on a queue that isn't quitting, and no such message is due
 abbrev pub ComesToWait : Script → StageLooper → StageLooper → Type 0
 ComesToWait s before after = is_ended after.last ≡ false → is_given_up after.last ≡ false
     → IsPrefix before.looper.held.poster.view.seen after.looper.held.poster.view.seen
     × (until_of after.last ≡ option_map when_of (first_eligible (empty_base (sender_count s)) after.looper.held.poster.view.seen))
+    × HasNoneDue (empty_base (sender_count s)) after.looper.held.poster.view.seen (clock (empty_base (sender_count s)) after.looper.held.poster.view.seen)

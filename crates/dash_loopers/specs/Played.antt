@@ -187,13 +187,12 @@ pub record Pulses (s : Script) (q now : ℕ) (made made' : List Entry) (parts pa
 
 -- ---- between two acts
 
--- the looper's acts lead to this state, by whatever its frame record comes to, and all that it says is so
+-- the looper's acts lead to this state, by whatever its frame record comes to, and all that it says is so: the view root's pass has taken one turn for each frame callback that the state posts, and no other
 pub record Stands (s : Script) (q sender : ℕ) (es : List Entry) (acts : List Act) (parts : Parts) (a : Looper) : Type 0 where
   pub led : (fs : List FrameEntry) → IsPrefix parts.frames.view.seen fs → lawful s.period 4 fs ≡ true → Lead s q es fs (first_looper s) acts a
   pub place : a.place ≤ length parts.frames.view.seen
   pub settled : a.painted ≡ []
-  pub first : ℕ
-  pub played : IsPlayed s q first (calls_in sender es) parts a
+  pub played : IsPlayed s q 0 (calls_in sender es) parts a
 
 -- a call is timed by a look of the sender among these entries, or it is one on the looper's own queue that may come no later than at this moment
 abbrev pub IsTimedBy : ℕ → ℕ → List Entry → ℕ → ℕ → Timing → Type 0
@@ -237,3 +236,4 @@ pub record HasLeft (s : Script) (q : ℕ) (j : Journal) (kit : Kit) (a : Looper)
   pub calls : (d : Sender) → AreFor IsSent [] (sent_on q a.sent) (calls_of (slice_index_or kit.posters.items q d))
   pub elsewhere : (k : ℕ) (d : Sender) → k ≢ q → k < length kit.posters.items → AreFor IsSent [] (sent_on k a.sent) (own (slice_index_or kit.posters.items k d))
   pub posted : (phase id : ℕ) (p : Pass) → count_by (is_frame_post phase id) a.posted ≤ count_by (posts_frame phase id) (slice_index_or kit.frames.items 1 p).view.seen
+  pub turns : (p : Pass) → (slice_index_or kit.frames.items 1 p).view.turns ≡ length a.posted

@@ -51,8 +51,7 @@ module _ (s : Script) (q k : ℕ) where
     led = λ fs begins is. Lead-entries s q es fs more (first_looper s) acts a (st.led fs begins is);
     place = st.place;
     settled = st.settled;
-    first = st.first;
-    played = subst (λ l. IsPlayed s q st.first l parts a) (sym same) st.played;
+    played = subst (λ l. IsPlayed s q 0 l parts a) (sym same) st.played;
   }
 
   -- an act of an idle handler or an event
@@ -62,14 +61,12 @@ module _ (s : Script) (q k : ℕ) where
     led = λ fs begins law. Lead-snoc s q es fs None (first_looper s) acts a (Idle i t) (st.led fs begins law) (refl, st.settled);
     place = st.place;
     settled = st.settled;
-    first = st.first;
     played = st.played;
   }
   stands_quiet es (Event f e m) acts parts a is st = record {
     led = λ fs begins law. Lead-snoc s q es fs None (first_looper s) acts a (Event f e m) (st.led fs begins law) (refl, st.settled);
     place = st.place;
     settled = st.settled;
-    first = st.first;
     played = st.played;
   }
   stands_quiet es (Dispatch n m r) acts parts a is st = absurd is

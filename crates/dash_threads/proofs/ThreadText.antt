@@ -1,7 +1,7 @@
 -- What the limits of a text say of a thread's commands.
 use Rattle.std.proofs.Common.{◌≡◌, ℕ, ◌≤◌, ◌==◌, Bool, true, false, cond, List, [], ◌∷◌, ◌++◌, map, refl, sym, ap, ◌∙◌}
 use Rattle.std.specs.Prelude.{filter}
-use Rattle.std.specs.List.{list_all, flat_map, enumerate_from}
+use Rattle.std.specs.List.{list_all, flat_map}
 use Rattle.std.proofs.lemmas.Bool.{and_parts, and_from, leb-true, eqb-true}
 use Rattle.std.proofs.lemmas.List.Folds.{list_all-append}
 use Rattle.dash_script.specs.declared.form.Kind.TheVariants as kind
@@ -9,35 +9,17 @@ use Rattle.dash_script.specs.declared.script.Line.{Line}
 use Rattle.dash_script.specs.declared.script.Block.{Block}
 use Rattle.dash_script.specs.declared.script.Script.{Script}
 use Rattle.dash_script.specs.declared.statement.Statement.{Statement}
-use Rattle.dash_script.specs.Text.{say, command_line, line_of, handler_line, gauge_line, rule_line, block_lines, first_lines, lines_before_end, lines}
+use Rattle.dash_script.specs.Text.{say, command_line, line_of, block_lines, lines}
 use Rattle.dash_script.specs.Causes.{each_number, numbers_pass, is_within}
 use Rattle.dash_script.specs.Reading.{HasText}
+use Rattle.dash_script.proofs.Sections.{both, sections_pass}
 use Rattle.run_model.specs.Planned.{Timed, lines_in, lines_of}
-
-both : (p : Statement → Bool) (xs ys : List Statement) → list_all p (xs ++ ys) ≡ true → (list_all p xs ≡ true) × (list_all p ys ≡ true)
-both p xs ys all = and_parts (list_all p xs) (list_all p ys) (sym (list_all-append p xs ys) ∙ all)
-
--- the first lines pass, and the lines of the blocks
-sections_pass : (p : Statement → Bool) (s : Script) → list_all p (lines s) ≡ true → (list_all p (first_lines s) ≡ true) × (list_all p (flat_map block_lines s.blocks) ≡ true)
-unfolding lines_before_end
-sections_pass p s all =
-    let handlers = map handler_line (enumerate_from 0 s.handlers) in
-    let gauges = map gauge_line (enumerate_from 0 s.gauges) in
-    let vsync : List Statement = say kind.Vsync (s.period ∷ []) ∷ [] in
-    let rules = map rule_line s.rules in
-    let blocks = flat_map block_lines s.blocks in
-    let front = both p (first_lines s ++ handlers ++ gauges ++ vsync ++ rules ++ blocks) (say kind.End (s.end ∷ []) ∷ []) all in
-    let a = both p (first_lines s ++ handlers ++ gauges ++ vsync ++ rules) blocks front.0 in
-    let b = both p (first_lines s ++ handlers ++ gauges ++ vsync) rules a.0 in
-    let c = both p (first_lines s ++ handlers ++ gauges) vsync b.0 in
-    let d = both p (first_lines s ++ handlers) gauges c.0 in
-    ((both p (first_lines s) handlers d.0).0, a.1)
 
 -- at most eight loopers
 pub few_loopers : (s : Script) → HasText s → s.loopers ≤ 8
 unfolding each_number
 few_loopers s text =
-    let first = (sections_pass (numbers_pass (is_within s)) s text.limits).0 in
+    let first = (sections_pass (numbers_pass (is_within s)) s text.limits).first in
     let second = (and_parts _ _ (and_parts _ _ first).1).0 in
     leb-true s.loopers 8 (and_parts _ _ (and_parts _ _ second).0).1
 
@@ -69,6 +51,6 @@ lines_pass p thread (b ∷ bs) all =
 -- each line of a thread passes what all lines pass
 pub line_passes : (p : Statement → Bool) (s : Script) (thread : ℕ) (past rest : List Timed) (l : Timed) → list_all p (lines s) ≡ true → past ++ (l ∷ rest) ≡ lines_of thread s.blocks → p (command_line thread l.command) ≡ true
 line_passes p s thread past rest l all are =
-    let each : list_all (passes p thread) (past ++ (l ∷ rest)) ≡ true = ap (list_all (passes p thread)) are ∙ lines_pass p thread s.blocks (sections_pass p s all).1 in
+    let each : list_all (passes p thread) (past ++ (l ∷ rest)) ≡ true = ap (list_all (passes p thread)) are ∙ lines_pass p thread s.blocks (sections_pass p s all).blocks in
     let behind = and_parts (list_all (passes p thread) past) (list_all (passes p thread) (l ∷ rest)) (sym (list_all-append (passes p thread) past (l ∷ rest)) ∙ each) in
     (and_parts _ _ behind.1).0

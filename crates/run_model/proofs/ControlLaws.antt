@@ -1,14 +1,13 @@
 -- How the controller's part of a run, and its end, are put together.
 use Rattle.std.proofs.Common.{◌≡◌, ℕ, Bool, true, false, List, [], ◌∷◌, ◌++◌, refl, sym, ap, ◌∙◌, subst, arith, append_assoc}
-use Rattle.std.specs.Prelude.{◌==◌, ◌&&◌, ◌||◌, not, nat_le, if◌then◌else◌}
+use Rattle.std.specs.Prelude.{◌==◌, ◌&&◌, nat_le, if◌then◌else◌}
 use Rattle.std.proofs.lemmas.List.{append-nil}
+use Rattle.std.proofs.Math.Bool.{and_assoc}
 use Rattle.std.proofs.lemmas.Bool.{and_parts, and_from}
 use Rattle.std.proofs.lemmas.Bool.Decides.{nat_tests}
 use Rattle.loop_model.specs.declared.entry.Entry.{Entry}
 use Rattle.loop_model.specs.Entries.{moment_of}
-use Rattle.loop_model.specs.Base.{empty_base}
-use Rattle.loop_model.specs.Pick.{first_eligible}
-use Rattle.run_model.specs.Control.{is_advance, is_closing, are_controls, is_none_before, are_advances_due, is_advanced_in_time}
+use Rattle.run_model.specs.Control.{is_advance, is_closing, are_controls, each_behind}
 use Rattle.run_model.specs.Loopers.{Looper}
 use Rattle.run_model.specs.Acts.{sent_on, closing}
 use Rattle.run_model.specs.Run.{caused_on}
@@ -48,20 +47,19 @@ are_controls-quit lockstep end (f ∷ es) h =
     let rest = and_parts (lockstep && nat_le (moment_of f.call) end) (are_advances lockstep end es) parts.1 in
     one_advance (is_advance f.call) (lockstep && nat_le (moment_of f.call) end) (are_controls false lockstep end true es) _ parts.0 (and_from _ _ rest.0 (are_controls-quit lockstep end es rest.1))
 
--- the entry is no Advance past an eligible message
-abbrev pub goes_past_none : List Entry → Entry → Bool
-goes_past_none past e = not (is_advance e.call) || is_none_before (moment_of e.call) (first_eligible (empty_base 0) past)
+-- one more entry of which it is so
+pub each_behind-snoc : (test : List Entry → Entry → Bool) (past es : List Entry) (e : Entry) → each_behind test past es ≡ true → test (past ++ es) e ≡ true → each_behind test past (es ++ e ∷ []) ≡ true
+each_behind-snoc test past [] e h one = and_from _ true (subst (λ l. test l e ≡ true) (append-nil past) one) refl
+each_behind-snoc test past (f ∷ es) e h one =
+    let parts = and_parts (test past f) (each_behind test (past ++ f ∷ []) es) h in
+    and_from _ _ parts.0 (each_behind-snoc test (past ++ f ∷ []) es e parts.1 (subst (λ l. test l e ≡ true) (sym (append_assoc past (f ∷ []) es)) one))
 
-are_advances_due-snoc : (past es : List Entry) (e : Entry) → are_advances_due past es ≡ true → goes_past_none (past ++ es) e ≡ true → are_advances_due past (es ++ e ∷ []) ≡ true
-are_advances_due-snoc past [] e h one = and_from _ true (subst (λ l. goes_past_none l e ≡ true) (append-nil past) one) refl
-are_advances_due-snoc past (f ∷ es) e h one =
-    let parts = and_parts (goes_past_none past f) (are_advances_due (past ++ f ∷ []) es) h in
-    and_from _ _ parts.0 (are_advances_due-snoc (past ++ f ∷ []) es e parts.1 (subst (λ l. goes_past_none l e ≡ true) (sym (append_assoc past (f ∷ []) es)) one))
-
--- one more entry in time
-pub is_advanced_in_time-snoc : (es : List Entry) (e : Entry) → is_advanced_in_time es ≡ true → goes_past_none es e ≡ true → is_advanced_in_time (es ++ e ∷ []) ≡ true
-unfolding is_advanced_in_time
-is_advanced_in_time-snoc es e h one = are_advances_due-snoc [] es e h one
+-- and more entries
+pub each_behind-append : (test : List Entry → Entry → Bool) (past xs ys : List Entry) → each_behind test past (xs ++ ys) ≡ (each_behind test past xs && each_behind test (past ++ xs) ys)
+each_behind-append test past [] ys = ap (λ l. each_behind test l ys) (sym (append-nil past))
+each_behind-append test past (x ∷ xs) ys =
+    ap (λ t. test past x && t) (each_behind-append test (past ++ x ∷ []) xs ys ∙ ap (λ l. each_behind test (past ++ x ∷ []) xs && each_behind test l ys) (append_assoc past (x ∷ []) xs))
+    ∙ sym (and_assoc (test past x) (each_behind test (past ++ x ∷ []) xs) (each_behind test (past ++ x ∷ xs) ys))
 
 -- what is caused on a looper's own queue, and on another one
 pub caused_on-own : (final : Looper) (q now : ℕ) → caused_on q final q now ≡ sent_on q final.sent ++ disposals q (if q == 0 then [] else now ∷ [])

@@ -17,7 +17,7 @@ use Rattle.std.specs.Prelude.{MatchBool}
 use Rattle.run_model.specs.Planned.{Timed, lines_in, lines_of, lines_on, IsPlanned, MakeCalls}
 use Rattle.run_model.specs.Loopers.{Looper, Sent}
 use Rattle.run_model.specs.Acts.{after_act, MayCome, Lead, sent_on}
-use Rattle.run_model.specs.Control.{Before, Timing, before, befores, befores_after, are_on_time}
+use Rattle.run_model.specs.Control.{Before, Timing, before, befores, befores_from, befores_after, are_on_time}
 
 -- a sender's entries in a longer history
 pub entries_by-append : (k : ℕ) (xs ys : List Entry) → entries_by k (xs ++ ys) ≡ entries_by k xs ++ entries_by k ys
@@ -93,13 +93,17 @@ Lead-snoc s q es fs frame a (y ∷ xs) b x h may = (h.0, (h.1.0, Lead-snoc s q e
 pub sent_on-append : (q : ℕ) (xs ys : List Sent) → sent_on q (xs ++ ys) ≡ sent_on q xs ++ sent_on q ys
 sent_on-append q xs ys = filter-append (λ x. x.queue == q) xs ys
 
+-- what stood before the entries that pass, in a longer history
+pub befores_from-append : (test : Entry → Bool) (past xs ys : List Entry) → befores_from test past (xs ++ ys) ≡ befores_from test past xs ++ befores_from test (past ++ xs) ys
+befores_from-append test past [] ys = ap (λ l. befores_from test l ys) (sym (append-nil past))
+befores_from-append test past (x ∷ xs) ys =
+    let rest = befores_from-append test (past ++ x ∷ []) xs ys in
+    let first : List Before = if test x then before past ∷ [] else [] in
+    ap (λ l. first ++ l) (rest ∙ ap (λ p. befores_from test (past ++ x ∷ []) xs ++ befores_from test p ys) (append_assoc past (x ∷ []) xs)) ∙ sym (append_assoc first (befores_from test (past ++ x ∷ []) xs) (befores_from test (past ++ x ∷ xs) ys))
+
 -- what stood before a sender's entries in a longer history
 pub befores_after-append : (k : ℕ) (past xs ys : List Entry) → befores_after k past (xs ++ ys) ≡ befores_after k past xs ++ befores_after k (past ++ xs) ys
-befores_after-append k past [] ys = ap (λ l. befores_after k l ys) (sym (append-nil past))
-befores_after-append k past (x ∷ xs) ys =
-    let rest = befores_after-append k (past ++ x ∷ []) xs ys in
-    let first : List Before = if x.sender == k then before past ∷ [] else [] in
-    ap (λ l. first ++ l) (rest ∙ ap (λ p. befores_after k (past ++ x ∷ []) xs ++ befores_after k p ys) (append_assoc past (x ∷ []) xs)) ∙ sym (append_assoc first (befores_after k (past ++ x ∷ []) xs) (befores_after k (past ++ x ∷ xs) ys))
+befores_after-append k past xs ys = befores_from-append (λ e. e.sender == k) past xs ys
 
 pub befores_after-others : (k : ℕ) (past es : List Entry) → AreOfOthers k es → befores_after k past es ≡ []
 befores_after-others k past [] h = refl

@@ -18,7 +18,7 @@ use Rattle.dash_script.specs.declared.script.Script.{Script}
 use Rattle.loop_model.specs.declared.journal.Journal.{Journal}
 use Rattle.loop_model.specs.declared.record.QueueRecord.{QueueRecord}
 use Rattle.run_model.specs.declared.report.Report.{Report}
-use Rattle.run_model.specs.Control.{is_controlled, is_advanced_in_time, befores}
+use Rattle.run_model.specs.Control.{is_controlled, is_called_in_time, are_before_quit, befores}
 use Rattle.run_model.specs.Moments.{in_lockstep}
 use Rattle.run_model.specs.Planned.{AreAsPlanned}
 use Rattle.run_model.specs.Acts.{after_act}
@@ -126,9 +126,10 @@ looper_run_0 = record {
 }
 
 pub timely_0 : IsTimely script record_0
-unfolding is_advanced_in_time befores clock has_disposed first_eligible live
+unfolding is_called_in_time are_before_quit befores clock has_disposed quit_place first_eligible pick live
 timely_0 = record {
-  advances = refl;
+  controls = refl;
+  before_quit = refl;
   threads = each_below 1 (λ thread. IsThreadOnTime script record_0 thread) (tt, refl);
 }
 
@@ -181,9 +182,10 @@ looper_run_1 = record {
 }
 
 pub timely_1 : IsTimely script record_1
-unfolding is_advanced_in_time befores clock has_disposed first_eligible live
+unfolding is_called_in_time are_before_quit befores clock has_disposed quit_place first_eligible pick live
 timely_1 = record {
-  advances = refl;
+  controls = refl;
+  before_quit = refl;
   threads = each_below 1 (λ thread. IsThreadOnTime script record_1 thread) (tt, refl);
 }
 

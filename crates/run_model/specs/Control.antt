@@ -1,15 +1,16 @@
 -- The controller's own calls on a queue, and when a history in lockstep is timely.
-use Rattle.std.specs.Prelude.{ℕ, ◌==◌, Bool, true, false, ◌&&◌, ◌||◌, not, nat_le, List, [], ◌∷◌, ◌++◌, Option, Some, None, count_by, if◌then◌else◌}
+use Rattle.std.specs.Prelude.{ℕ, ◌==◌, Bool, true, false, ◌&&◌, ◌||◌, not, nat_le, nat_lt, List, [], ◌∷◌, ◌++◌, Option, Some, None, is_some, count_by, if◌then◌else◌}
 use Rattle.std.specs.List.{list_any}
 use Rattle.loop_model.specs.declared.call.Call.{Call}
 use Rattle.loop_model.specs.declared.call.Call.TheVariants.{Quit, Advance, Halt}
+use Rattle.loop_model.specs.declared.reply.Reply.{Reply}
 use Rattle.loop_model.specs.declared.entry.Entry.{Entry}
 use Rattle.loop_model.specs.declared.item.Item.{Item}
 use Rattle.loop_model.specs.Items.{when_of}
 use Rattle.loop_model.specs.Entries.{moment_of, is_quit_done, is_disposed, is_halted}
 use Rattle.loop_model.specs.Base.{empty_base}
-use Rattle.loop_model.specs.Pick.{first_eligible}
-use Rattle.loop_model.specs.Answers.{clock, has_disposed}
+use Rattle.loop_model.specs.Pick.{first_eligible, pick}
+use Rattle.loop_model.specs.Answers.{clock, has_disposed, quit_place}
 use Rattle.run_model.specs.Asks.{entries_by}
 
 abbrev pub is_advance : Call → Bool
@@ -28,7 +29,7 @@ is_safe_quit _ = false
 abbrev pub is_at_end : Bool → ℕ → ℕ → Bool
 is_at_end lockstep end now = if lockstep then now == end else nat_le end now
 
--- the last call: on main a Halt, and elsewhere a safe quit
+-- the last call: on main a Halt that is answered Halted, and elsewhere a safe quit
 abbrev pub is_closing : Bool → Bool → ℕ → Entry → Bool
 is_closing main lockstep end e =
     (if main then is_halt e.call && is_halted e.reply else is_safe_quit e.call) && is_at_end lockstep end (moment_of e.call)
@@ -45,7 +46,7 @@ are_controls main lockstep end quit (e ∷ es) =
     if is_advance e.call then lockstep && nat_le (moment_of e.call) end && are_controls main lockstep end quit es
     else is_empty es && is_closing main lockstep end e
 
--- another sender than this one quit
+-- another sender's quit was done
 abbrev pub is_quit_by_others : ℕ → List Entry → Bool
 is_quit_by_others sender es = list_any (λ e. is_quit_done e.reply && not (e.sender == sender)) es
 
@@ -63,19 +64,45 @@ ends_halted [] = false
 ends_halted (e ∷ []) = is_halted e.reply
 ends_halted (e ∷ f ∷ es) = ends_halted (f ∷ es)
 
--- nothing eligible, or not before this time
+-- there is no such message, or it isn't due before this time
 abbrev pub is_none_before : ℕ → Option Item → Bool
 is_none_before time None = true
 is_none_before time (Some x) = nat_le time (when_of x)
 
-abbrev pub are_advances_due : List Entry → List Entry → Bool
-are_advances_due past [] = true
-are_advances_due past (e ∷ es) =
-    (not (is_advance e.call) || is_none_before (moment_of e.call) (first_eligible (empty_base 0) past)) && are_advances_due (past ++ e ∷ []) es
+-- behind these entries the time moves past no message that may be dispatched, on a queue that isn't quitting; and a quit is the queue's first, and comes where no such message is due
+abbrev pub is_in_time : List Entry → Call → Reply → Bool
+is_in_time past (Advance now) reply = is_none_before now (first_eligible (empty_base 0) past) && not (is_some (quit_place (empty_base 0) past))
+is_in_time past (Quit safe now) reply = is_quit_done reply && not (is_some (pick (empty_base 0) past now))
+is_in_time past _ reply = true
 
--- no Advance goes past an eligible message
-unfoldable pub is_advanced_in_time : List Entry → Bool
-is_advanced_in_time es = are_advances_due [] es
+-- this is so of each entry and what stood before it, behind these entries
+abbrev pub each_behind : (List Entry → Entry → Bool) → List Entry → List Entry → Bool
+each_behind test past [] = true
+each_behind test past (e ∷ es) = test past e && each_behind test (past ++ e ∷ []) es
+
+-- another sender's entry, or one in time
+abbrev pub comes_in_time : ℕ → List Entry → Entry → Bool
+comes_in_time sender past e = not (e.sender == sender) || is_in_time past e.call e.reply
+
+-- each Advance and each quit of this sender is in time
+unfoldable pub is_called_in_time : ℕ → List Entry → Bool
+is_called_in_time sender es = each_behind (comes_in_time sender) [] es
+
+abbrev pub is_quit : Call → Bool
+is_quit (Quit safe now) = true
+is_quit _ = false
+
+-- this sender has called for a quit
+abbrev pub has_quit_by : ℕ → List Entry → Bool
+has_quit_by sender es = list_any (λ e. e.sender == sender && is_quit e.call) es
+
+-- no thread's entry (the senders below this number are the threads), or one before this sender's quit
+abbrev pub comes_before_quit : ℕ → ℕ → List Entry → Entry → Bool
+comes_before_quit threads sender past e = not (nat_lt e.sender threads) || not (has_quit_by sender past)
+
+-- each call of a thread comes before this sender's quit
+unfoldable pub are_before_quit : ℕ → ℕ → List Entry → Bool
+are_before_quit threads sender es = each_behind (comes_before_quit threads sender) [] es
 
 -- what stood before an entry
 pub record Before : Type 0 where
@@ -85,10 +112,14 @@ pub record Before : Type 0 where
 abbrev pub before : List Entry → Before
 before past = record { clock = clock (empty_base 0) past; disposed = has_disposed (empty_base 0) past }
 
+-- what stood before each entry that passes, after these entries
+abbrev pub befores_from : (Entry → Bool) → List Entry → List Entry → List Before
+befores_from test past [] = []
+befores_from test past (e ∷ es) = (if test e then before past ∷ [] else []) ++ befores_from test (past ++ e ∷ []) es
+
+-- what stood before each entry of a sender, after these entries
 abbrev pub befores_after : ℕ → List Entry → List Entry → List Before
-befores_after sender past [] = []
-befores_after sender past (e ∷ es) =
-    (if e.sender == sender then before past ∷ [] else []) ++ befores_after sender (past ++ e ∷ []) es
+befores_after sender past es = befores_from (λ e. e.sender == sender) past es
 
 -- what stood before each entry of a sender
 unfoldable pub befores : ℕ → List Entry → List Before
@@ -96,13 +127,13 @@ befores sender es = befores_after sender [] es
 
 -- when a call is to come in lockstep
 pub data Timing : Type 0 where
-  -- at this time, or after the queue was disposed of
+  -- at this time, or after the queue was disposed of by then
   At : (time : ℕ) → Timing
   -- at this time or later
   NotBefore : (time : ℕ) → Timing
 
 abbrev pub is_on_time : Timing → Before → Bool
-is_on_time (At time) b = b.clock == time || b.disposed
+is_on_time (At time) b = b.clock == time || b.disposed && nat_le b.clock time
 is_on_time (NotBefore time) b = nat_le time b.clock
 
 -- each is on time, one for one

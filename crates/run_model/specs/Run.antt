@@ -20,7 +20,7 @@ use Rattle.run_model.specs.Asks.{AreFor, entries_by}
 use Rattle.run_model.specs.Senders.{looper_sender, controller, sender_count}
 use Rattle.run_model.specs.Moments.{Mode, IfLockstep, IsStart, AreOfClock}
 use Rattle.run_model.specs.Planned.{Timed, lines_of, labels_on, lines_on, AreAsPlanned}
-use Rattle.run_model.specs.Control.{is_controlled, ends_halted, is_advanced_in_time, befores, At, are_on_time}
+use Rattle.run_model.specs.Control.{is_controlled, ends_halted, is_called_in_time, are_before_quit, befores, At, are_on_time}
 use Rattle.run_model.specs.Loopers.{Looper, Sent, first_looper, is_frame_post}
 use Rattle.run_model.specs.Acts.{Lead, sent_on, closing, IsSent}
 use Rattle.run_model.specs.FrameRuns.{posts_frame, removes_frame}
@@ -111,8 +111,8 @@ AreFramesOf s r = AllByRecursion (IsFrameRun s) r.frames
 abbrev pub caused_on : ℕ → Looper → ℕ → ℕ → List Sent
 caused_on queue final looper disposed_at = sent_on queue (final.sent ++ closing looper disposed_at)
 
--- a looper's calls on each queue, and its frame callbacks, are those that its acts cause, and its Dispatch acts are, one
--- for one and in order, its entries answered Dispatched. In lockstep each call is on time
+-- a looper's calls on each queue are those that its acts cause, its frame record has at least as many posts of each callback,
+-- and its Dispatch acts are, one for one and in order, its entries answered Dispatched. In lockstep each call is on time
 pub record IsLooperRun (m : Mode) (s : Script) (queues : List QueueRecord) (q : QueueRecord) (j : Journal) (f : FrameRecord) : Type 0 where
   pub final : Looper
   pub acts : Lead s q.looper (history_of q) f.entries (first_looper s) j.acts final
@@ -138,9 +138,10 @@ abbrev pub IsThreadOnTime : Script → QueueRecord → ℕ → Type 0
 IsThreadOnTime s r thread =
     are_on_time (map (λ l. At l.time) (lines_on s (labels_on r.looper (lines_of thread s.blocks)) r.looper (lines_of thread s.blocks))) (befores thread (history_of r)) ≡ true
 
--- no Advance goes past a message, and the threads' calls are on time
+-- the controller's calls are in time, and the threads' calls are on time and come before its quit
 pub record IsTimely (s : Script) (r : QueueRecord) : Type 0 where
-  pub advances : is_advanced_in_time (history_of r) ≡ true
+  pub controls : is_called_in_time (controller s) (history_of r) ≡ true
+  pub before_quit : are_before_quit s.threads (controller s) (history_of r) ≡ true
   pub threads : (thread : ℕ) → thread < s.threads → IsThreadOnTime s r thread
 
 -- main's history ends with its Halt

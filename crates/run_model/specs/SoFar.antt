@@ -24,7 +24,7 @@ pub record Seen : Type 0 where
 abbrev pub disposals : ℕ → List ℕ → List Sent
 disposals q nows = map (λ now. record { queue = q; ask = Makes (Next now); reply = Some Disposed; timing = NotBefore 0 }) nows
 
--- the calls, the frame callbacks and the paints that the acts cause are made, and no other calls
+-- the calls that the acts cause are made and no others, and at least as many frame callbacks are posted
 pub record IsMadeSoFar (q : ℕ) (es : List Entry) (seen : List Seen) (fs : List FrameEntry) (sender : ℕ) (disposed : List ℕ) (a : Looper) : Type 0 where
   pub own : AreFor IsSent [] (sent_on q a.sent ++ disposals q disposed) (entries_by sender es)
   pub others : AllByRecursion (λ o. AreFor IsSent [] (sent_on o.queue a.sent) (entries_by sender o.entries)) seen
