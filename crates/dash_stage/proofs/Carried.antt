@@ -31,7 +31,7 @@ use Rattle.dash_stage.proofs.Casting.{first_more, first_thread, other_threads, k
 
 -- kits that were used nowhere
 pub unused_kits : (kits : List Kit) → AreUsedNowhere kits → AreUnusedKits kits
-unused_kits kits h = λ k d lt. record { posters = λ q p below. (h k q d lt).0 p below; frames = λ q p below. (h k q d lt).1 p below }
+unused_kits kits h = λ k d lt. record { posters = λ q p below. (h k q d lt).0 p below; frames = λ q p below. ((h k q d lt).1 p below).0; turns = λ q p below. ((h k q d lt).1 p below).1 }
 
 -- a kit that was not used has made no call
 pub unused_calls : (kit : Kit) → IsUnusedKit kit → HasMadeNone kit.posters.items

@@ -17,6 +17,7 @@ use Rattle.dash_threads.specs.Threads.{IsThread}
 use Rattle.dash_loopers.specs.Loopers.{IsLooper}
 use Rattle.dash_stage.specs.Controllers.{IsController}
 use Rattle.dash_stage.specs.Stages.{AreKitsFrom, AreThreadsFrom, AreLoopersFrom, AreFirstKits, AreFirstLoopers, AreLoopers, AreSenderKits}
+use Rattle.dash_stage.proofs.HallEnds.{numbers_more}
 
 -- a thread's passes
 pub frames_of_thread : (s : Script) (cs : List Frames) (k : ℕ) → k < s.threads → frames_for s cs k ≡ map (frame_badge_for k) cs
@@ -96,14 +97,6 @@ first_more P [] x all at zero d lt = at
 first_more P [] x all at (suc k) d lt = absurd (omega (arith, lt))
 first_more P (y ∷ ys) x all at zero d lt = all 0 d (omega arith)
 first_more P (y ∷ ys) x all at (suc k) d lt = first_more (λ n z. P (suc n) z) ys x (λ n e below. all (suc n) e (omega (arith, below))) at k d (omega (arith, lt))
-
--- one number more
-pub numbers_more : (k n : ℕ) → range_with_len k (n + 1) ≡ range_with_len k n ++ (k + n) ∷ []
-numbers_more k zero = ap (λ m. m ∷ []) (let same : k ≡ k + zero = omega arith in same)
-numbers_more k (suc n) =
-    let one : suc n + 1 ≡ suc (n + 1) = omega arith in
-    let there : k + 1 + n ≡ k + suc n = omega arith in
-    ap (range_with_len k) one ∙ ap (λ l. k ∷ l) (numbers_more (k + 1) n ∙ ap (λ m. range_with_len (k + 1) n ++ m ∷ []) there)
 
 module _ (s : Script) (hall : Hall) where
   pub kits_from : (kits : List Kit) → AreKitsOf s hall kits → AreKitsFrom s hall 0 kits

@@ -241,7 +241,7 @@ main_is_not_quit set m main = entry_by_entry (λ es. IsLegal set (empty_base m) 
 
 module _ (end n : ℕ) where
   -- of the controller's moves in a longer history, those before, and the last one
-  own_advances : (es : List Entry) (e : Entry) → are_advances end (entries_by n (es ++ e ∷ [])) ≡ true
+  pub own_advances : (es : List Entry) (e : Entry) → are_advances end (entries_by n (es ++ e ∷ [])) ≡ true
       → (are_advances end (entries_by n es) ≡ true) × ((e.sender == n) ≡ true → is_advance e.call ≡ true)
   own_advances es e h =
       let parts = and_parts (are_advances end (entries_by n es)) (are_advances end (entries_by n (e ∷ []))) (sym (ap (are_advances end) (entries_by-append n es (e ∷ [])) ∙ are_advances-append end (entries_by n es) (entries_by n (e ∷ []))) ∙ h) in (

@@ -17,10 +17,10 @@ use Rattle.dash_script.specs.declared.script.Script.{Script}
 use Rattle.run_model.specs.Asks.{Ask, Makes, Unbars, plain, call_of, token_in, entries_by, AreFor}
 use Rattle.run_model.specs.Moments.{Mode}
 use Rattle.run_model.specs.Planned.{Timed, planned, lines_of, labels_on, lines_on, IsPlanned, AreAsPlanned}
-use Rattle.run_model.specs.Control.{is_advance, is_halt, is_safe_quit, is_empty, is_closing, are_controls, disposed_count, Before, before, befores, befores_after, NotBefore}
+use Rattle.run_model.specs.Control.{is_advance, is_halt, is_safe_quit, is_empty, is_closing, are_controls, disposed_count, Before, before, befores, befores_from, befores_after, NotBefore}
 use Rattle.run_model.specs.Acts.{IsSent}
 use Rattle.dash_loopers.specs.Loopers.{is_disposal, calls_among}
-use Rattle.dash_stage.specs.Playing.{befores_from, befores_called}
+use Rattle.dash_stage.specs.Playing.{befores_called}
 use Rattle.dash_stage.proofs.OwnLooks.{NoneDisposes, asks_look, no_look_made}
 
 -- what is asked, where anything is, is a look for a message

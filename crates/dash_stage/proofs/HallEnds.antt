@@ -134,15 +134,13 @@ ends_posters q before posters after entries next gives calls = record {
       };
 }
 
+-- one number more
 pub numbers_more : (k n : ℕ) → range_with_len k (n + 1) ≡ range_with_len k n ++ (k + n) ∷ []
-numbers_more k zero =
-    let one : 0 + 1 ≡ suc 0 = omega arith in
-    let same : k ≡ k + 0 = omega arith in
-    ap (range_with_len k) one ∙ ap (λ m. m ∷ []) same
+numbers_more k zero = ap (λ m. m ∷ []) (let same : k ≡ k + zero = omega arith in same)
 numbers_more k (suc n) =
     let one : suc n + 1 ≡ suc (n + 1) = omega arith in
-    let same : (k + 1) + n ≡ k + suc n = omega arith in
-    ap (range_with_len k) one ∙ ap (λ l. k ∷ l) (numbers_more (k + 1) n ∙ ap (λ m. range_with_len (k + 1) n ++ m ∷ []) same)
+    let there : k + 1 + n ≡ k + suc n = omega arith in
+    ap (range_with_len k) one ∙ ap (λ l. k ∷ l) (numbers_more (k + 1) n ∙ ap (λ m. range_with_len (k + 1) n ++ m ∷ []) there)
 
 -- the record that is kept of this looper's queue
 pub kept_history : (s : Script) (pool : TableId) (n : ℕ) (c : Constants TableId) (r : QueueRecord) → c ≡ queue_constants s pool n → IsKeptOf c r → IsHistory in_lockstep all_entries s r × (r.looper ≡ n)

@@ -5,6 +5,7 @@ pub mod ControlKept
 pub mod ControlTurns
 pub mod ControlWhole
 pub mod Blocks
+pub mod BlocksFirst
 pub mod KitsOver
 pub mod ThreadShares
 pub mod LooperShares
@@ -23,6 +24,7 @@ pub mod StageWhole
 pub mod StageMoves
 pub mod StageDue
 pub mod StageTurns
+pub mod StageQuits
 pub mod StageBegins
 pub mod OwnLooks
 pub mod Disposing

@@ -69,16 +69,15 @@ pub before_end : (s : Script) (i : ℕ) (b : Block) → HasText s → i < length
 before_end s i b h lt is =
     leb-true b.time s.end (subst (λ (z : Block). nat_le z.time s.end ≡ true) (sym is) (AllPass-from_list_all (λ (z : Block). nat_le z.time s.end) s.blocks h.end i b lt))
 
--- where times rise, none is later than one behind it
-rises : (bs : List Block) → IsTrue (rise bs) → (i j : ℕ) (d e : Block) → i < j → j < length bs → (slice_index_or bs i d).time ≤ (slice_index_or bs j e).time
+-- where times rise, each is earlier than one behind it
+rises : (bs : List Block) → IsTrue (rise bs) → (i j : ℕ) (d e : Block) → i < j → j < length bs → (slice_index_or bs i d).time < (slice_index_or bs j e).time
 rises [] h i j d e less lt = absurd (omega (arith, lt))
 rises (b ∷ bs) h i zero d e less lt = absurd (omega (arith, less))
 rises (b ∷ bs) h zero (suc j) d e less lt =
     let later = AllPass-from_list_all (λ (z : Block). nat_lt b.time z.time) bs (and_parts _ _ h).0 j e (omega (arith, lt)) in
-    let less_than = ltb-true b.time (slice_index_or bs j e).time later in
-    omega (arith, less_than)
+    ltb-true b.time (slice_index_or bs j e).time later
 rises (b ∷ bs) h (suc i) (suc j) d e less lt = rises bs (and_parts _ _ h).1 i j d e (omega (arith, less)) (omega (arith, lt))
 
--- the next block is no earlier than this one
-pub before_next : (s : Script) (i : ℕ) (b d : Block) → HasText s → b ≡ slice_index_or s.blocks i b → i + 1 < length s.blocks → b.time ≤ (slice_index_or s.blocks (i + 1) d).time
-before_next s i b d h is lt = subst (λ (z : Block). z.time ≤ (slice_index_or s.blocks (i + 1) d).time) (sym is) (rises s.blocks h.times i (i + 1) b d (omega arith) lt)
+-- the next block is later than this one
+pub before_next : (s : Script) (i : ℕ) (b d : Block) → HasText s → b ≡ slice_index_or s.blocks i b → i + 1 < length s.blocks → b.time < (slice_index_or s.blocks (i + 1) d).time
+before_next s i b d h is lt = subst (λ (z : Block). z.time < (slice_index_or s.blocks (i + 1) d).time) (sym is) (rises s.blocks h.times i (i + 1) b d (omega arith) lt)

@@ -24,6 +24,7 @@ use Rattle.run_model.specs.Loopers.{Looper, Sent}
 use Rattle.run_model.specs.Acts.{sent_on}
 use Rattle.run_model.proofs.RunLaws.{sent_on-append}
 use Rattle.dash_hall.specs.Hearing.{AtEach, HaveHeard}
+use Rattle.dash_threads.specs.Threads.{ThreadKeeps}
 use Rattle.dash_loopers.specs.declared.player.Parts.{Parts}
 use Rattle.dash_loopers.specs.declared.looper.StageLooper.{StageLooper}
 use Rattle.dash_loopers.specs.Loopers.{IsSoundOn, setting_for, is_given_up, posters_of, LooperKeeps}
@@ -32,11 +33,13 @@ use Rattle.dash_stage.specs.declared.stage.Stage.{Stage}
 use Rattle.dash_stage.specs.Stages.{IsStage, AreLoopers, LoopersGoOn}
 use Rattle.dash_stage.specs.Sharing.{HaveSeenTheSame}
 use Rattle.dash_stage.specs.Timeliness.{whole_on, IsAtTime}
-use Rattle.dash_stage.specs.Playing.{AreSound, befores_called, IsMet, AreCallsOnTime, IsTimelyLooper, IsInTime, AreInTime, IsInStep, PlaysOn}
+use Rattle.dash_stage.specs.Blocks.{come_first}
+use Rattle.dash_stage.specs.Playing.{AreSound, HaveComeFirst, befores_called, IsMet, AreCallsOnTime, IsTimelyLooper, IsInTime, AreInTime, IsInStep, PlaysOn}
+use Rattle.dash_stage.proofs.BlocksFirst.{first_more}
 use Rattle.dash_stage.proofs.LooperShares.{looper_parts, own_kept}
 use Rattle.loop_model.proofs.AfterLaws.{disposed_stays}
 use Rattle.dash_stage.proofs.Timely.{none_of, befores-append, befores_count, on_time_more, clock_stays, befores_at}
-use Rattle.dash_stage.proofs.StageWhole.{as_many, queues_count, looper_entries, looper_sees, sound_front, none_behind}
+use Rattle.dash_stage.proofs.StageWhole.{as_many, queues_count, looper_entries, looper_sees, sound_front, none_behind, threads_heard, thread_made_none}
 use Rattle.dash_stage.proofs.StageMoves.{none_between}
 use Rattle.dash_stage.proofs.StageTurns.{heard_entries}
 use Rattle.dash_stage.proofs.RoundTimes.{calls_on_time, befores_called-count, looks_at}
@@ -154,7 +157,8 @@ module _ (s : Script) (q time : ℕ) where
 -- from a stage in which all have seen the same, over a round of loopers, to one in which all have seen the same again
 module _ (s : Script) (text : HasText s) (st : Stage) (ls : List StageLooper) (st' : Stage) (is : IsStage s st) (is' : IsStage s st') (same' : HaveSeenTheSame st') (clock_is : st'.time ≡ st.time)
     (loopers : AreLoopers s st.hall ls) (on : LoopersGoOn ls) (plays : (k : ℕ) (d : StageLooper) → k < length st.loopers.items → PlaysOn s st.time (slice_index_or st.loopers.items k d) (slice_index_or ls k d))
-    (kept : AtEach (LooperKeeps HaveHeard) ls st'.loopers.items) (heard : HaveHeard st.controller.kit.posters.items st'.controller.kit.posters.items) (step : IsInStep s st) where
+    (threads : AtEach (ThreadKeeps HaveHeard) st.threads.items st'.threads.items) (kept : AtEach (LooperKeeps HaveHeard) ls st'.loopers.items) (heard : HaveHeard st.controller.kit.posters.items st'.controller.kit.posters.items)
+    (step : IsInStep s st) where
   within_before : (q : ℕ) → q < length st'.controller.kit.posters.items → q < length st.controller.kit.posters.items
   within_before q lt = subst (λ (n : ℕ). q < n) heard.long lt
 
@@ -173,6 +177,17 @@ module _ (s : Script) (text : HasText s) (st : Stage) (ls : List StageLooper) (s
   -- there are as many loopers before, in between and after
   in_round : (k : ℕ) → k < length st'.loopers.items → (k < length st.loopers.items) × (k < length ls)
   in_round k lt = (subst (λ (n : ℕ). k < n) (is'.loopers.0 ∙ sym is.loopers.0) lt, subst (λ (n : ℕ). k < n) kept.long lt)
+
+  -- the threads have called nothing
+  round_first : HaveComeFirst s st'
+  round_first sound q d lt' =
+      let lt = within_before q lt' in
+      let es = whole_on st.controller q d in
+      let whole = whole_on st'.controller q d in
+      let front : IsPrefix es whole = grown q d lt in
+      subst (λ w. come_first s.threads w ≡ true) front.1 (first_more s.threads es front.0
+      (λ k few. none_behind k es whole front (thread_made_none s st st' is is' step.same same' (threads_heard st.threads.items st'.threads.items threads) heard.long q k d lt few))
+      (step.first (sound_once sound) q d lt))
 
   -- each queue is at the time still
   round_in_time : AreSound s st'.controller → AreInTime s st'
@@ -194,16 +209,22 @@ module _ (s : Script) (text : HasText s) (st : Stage) (ls : List StageLooper) (s
       ends (inl stays) ended = ap (λ (z : StageLooper). is_ended z.last) stays ∙ ended
       ends (inr (run, played)) ended = ap (λ (z : StageLooper). is_ended z.last) (run.stopped (or_left _ _ ended)) ∙ ended
 
-      by_time : IsInTime s st.time (slice_index_or st.loopers.items q l) (whole_on st.controller q d) → IsInTime s st'.time (slice_index_or st'.loopers.items q l) (whole_on st'.controller q d)
-      by_time (inl now) =
+      still : clock (empty_base (sender_count s)) (whole_on st'.controller q d) ≡ clock (empty_base (sender_count s)) (whole_on st.controller q d)
+      still =
           let base = empty_base (sender_count s) in
           let all = sound q d (within_after q within) in
-          let still = clock_stays (setting_for s q) (controller s) refl refl (whole_on st.controller q d) front.0 (subst (IsLegal (setting_for s q) base) (sym front.1) all.legal) (subst (AreNumbered (setting_for s q) base) (sym front.1) all.numbered)
-          (none_behind (controller s) (whole_on st.controller q d) (whole_on st'.controller q d) front (controlled q d within)) in
-          inl (ap (clock base) (sym front.1) ∙ (still ∙ (now ∙ sym clock_is)))
-      by_time (inr (ended, gone)) = inr (
+          ap (clock base) (sym front.1)
+          ∙ clock_stays (setting_for s q) (controller s) refl refl (whole_on st.controller q d) front.0 (subst (IsLegal (setting_for s q) base) (sym front.1) all.legal) (subst (AreNumbered (setting_for s q) base) (sym front.1) all.numbered)
+          (none_behind (controller s) (whole_on st.controller q d) (whole_on st'.controller q d) front (controlled q d within))
+
+      by_time : IsInTime s st.time (slice_index_or st.loopers.items q l) (whole_on st.controller q d) → IsInTime s st'.time (slice_index_or st'.loopers.items q l) (whole_on st'.controller q d)
+      by_time (inl now) = inl (still ∙ (now ∙ sym clock_is))
+      by_time (inr (ended, (gone, by))) = inr (
         ap is_ended (kept.each q l lt1).last ∙ ends (plays q l lt) ended,
-        subst (λ es. has_disposed (empty_base (sender_count s)) es ≡ true) front.1 (disposed_stays (empty_base (sender_count s)) (whole_on st.controller q d) front.0 gone),
+        (
+          subst (λ es. has_disposed (empty_base (sender_count s)) es ≡ true) front.1 (disposed_stays (empty_base (sender_count s)) (whole_on st.controller q d) front.0 gone),
+          (let same = still in omega (arith, same, by, clock_is)),
+        ),
       )
 
   module _ (sound : AreSound s st'.controller) (k : ℕ) (l : StageLooper) (lt' : k < length st'.loopers.items) where
@@ -294,14 +315,14 @@ module _ (s : Script) (text : HasText s) (st : Stage) (ls : List StageLooper) (s
         where
           at : IsInTime s st.time began (whole_on st.controller k d) → clock (empty_base (sender_count s)) (whole_on st.controller k d) ≡ st.time
           at (inl now) = now
-          at (inr (ended, gone)) = absurd (true≢false (sym ended ∙ going))
+          at (inr (ended, (gone, by))) = absurd (true≢false (sym ended ∙ going))
 
       at_time : (r : ℕ) (d : Sender) → r < length st.controller.kit.posters.items → IsAtTime (sender_count s) st.time (whole_on st.controller r d)
       at_time r d within = at (step.in_time (sound_once sound) r l d (subst (λ (n : ℕ). r < n) (queues_count s st is) within))
         where
           at : IsInTime s st.time (slice_index_or st.loopers.items r l) (whole_on st.controller r d) → IsAtTime (sender_count s) st.time (whole_on st.controller r d)
           at (inl now) = inl now
-          at (inr (ended, gone)) = inr gone
+          at (inr (ended, (gone, by))) = inr (gone, by)
 
       its_looks : IsSeenThen s k st.time (whole_on st.controller k l.looper.held.poster) came.looks
       its_looks =
@@ -335,4 +356,5 @@ module _ (s : Script) (text : HasText s) (st : Stage) (ls : List StageLooper) (s
     same = same';
     in_time = round_in_time;
     played = λ sound k l lt. round_one sound k l lt (plays k l (in_round k lt).0);
+    first = round_first;
   }

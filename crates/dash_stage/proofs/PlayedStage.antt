@@ -77,9 +77,8 @@ stands_heard s q k es es' acts parts parts' a more calls frames root fired long 
       (Lead-entries s q es fs more.0 (first_looper s) acts a (st.led fs (subst (λ (p : Pass). IsPrefix p.view.seen fs) frames begins) law));
   place = subst (λ (p : Pass). a.place ≤ length p.view.seen) (sym frames) st.place;
   settled = st.settled;
-  first = st.first;
   played = record {
-    shown = subst (λ (r : ViewRoot). IsShown s q st.first (calls_in k es') r a) (sym root) (subst (λ l. IsShown s q st.first l parts.root a) (sym calls) st.played.shown);
+    shown = subst (λ (r : ViewRoot). IsShown s q 0 (calls_in k es') r a) (sym root) (subst (λ l. IsShown s q 0 l parts.root a) (sym calls) st.played.shown);
     elsewhere = λ r j d at lt.
         let was : j < length parts.others.items = subst (λ (n : ℕ). j < n) long lt in
         subst (λ l. AreFor IsSent [] (sent_on r a.sent) l) (sym (called j d was)) (st.played.elsewhere r j d at was);
@@ -122,20 +121,19 @@ module _ (s : Script) (st : Stage) (is : IsStage s st) (same : HaveSeenTheSame s
   looper = slice_index_or st.loopers.items k l
 
   -- with the looper's parts, told by its number
-  come_parts : (parts : Parts) × (looper.parts ≡ Some parts) × (first : ℕ) × IsPlayed s k first (calls_in (looper_sender s k) looper.looper.held.poster.view.seen) parts a
+  come_parts : (parts : Parts) × (looper.parts ≡ Some parts) × IsPlayed s k 0 (calls_in (looper_sender s k) looper.looper.held.poster.view.seen) parts a
   come_parts =
       let one = is.loopers.1 k l lt in
       let p = looper_parts s st.hall is.hall looper one.0 in
       let stands = subst (λ (o : Option Parts). IsSomeAnd o (λ parts. Stands s looper.number looper.sender looper.looper.held.poster.view.seen looper.looper.held.journal.acts parts a)) p.1 come in (
         p.0,
         p.1,
-        stands.first,
-        subst (λ (m : ℕ). IsPlayed s m stands.first (calls_in (looper_sender s m) looper.looper.held.poster.view.seen) p.0 a) one.1
-            (subst (λ (m : ℕ). IsPlayed s looper.number stands.first (calls_in m looper.looper.held.poster.view.seen) p.0 a) one.0.sender stands.played),
+        subst (λ (m : ℕ). IsPlayed s m 0 (calls_in (looper_sender s m) looper.looper.held.poster.view.seen) p.0 a) one.1
+            (subst (λ (m : ℕ). IsPlayed s looper.number 0 (calls_in m looper.looper.held.poster.view.seen) p.0 a) one.0.sender stands.played),
       )
 
   pub own_count : (d : Sender) → length (sent_on k a.sent) ≡ length (calls_in (looper_sender s k) (whole_on st.controller k d))
-  own_count d = for_count IsSent [] _ _ (subst (λ es. AreFor IsSent [] (sent_on k a.sent) (calls_in (looper_sender s k) es)) (looper_sees s st is same k l d lt) come_parts.3.shown.calls)
+  own_count d = for_count IsSent [] _ _ (subst (λ es. AreFor IsSent [] (sent_on k a.sent) (calls_in (looper_sender s k) es)) (looper_sees s st is same k l d lt) come_parts.2.shown.calls)
 
   -- the posters of the others stand in order, without the looper's own
   other_at : (r : ℕ) (d : Sender) → r ≢ k → r < length st.controller.kit.posters.items
@@ -161,7 +159,7 @@ module _ (s : Script) (st : Stage) (is : IsStage s st) (same : HaveSeenTheSame s
   pub elsewhere_count : (r : ℕ) (d : Sender) → r ≢ k → r < length st.controller.kit.posters.items → length (sent_on r a.sent) ≡ length (entries_by (looper_sender s k) (whole_on st.controller r d))
   elsewhere_count r d apart within =
       let o = other_at r d apart within in
-      for_count IsSent [] _ _ (come_parts.3.elsewhere r o.0 d o.1 o.2) ∙ ap length (sym (looper_entries s st is same k r l d d lt within ∙ ap own o.3))
+      for_count IsSent [] _ _ (come_parts.2.elsewhere r o.0 d o.1 o.2) ∙ ap length (sym (looper_entries s st is same k r l d d lt within ∙ ap own o.3))
 
 -- ---- all loopers
 

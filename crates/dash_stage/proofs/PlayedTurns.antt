@@ -1,9 +1,11 @@
 -- A stage stays in step where the threads run a block, and where the controller takes its turns.
-use Rattle.std.proofs.Common.{◌≡◌, ◌<◌, ◌≤◌, ◌⊎◌, inl, inr, ℕ, Bool, true, false, true≢false, max, List, [], ◌∷◌, ◌++◌, length, Option, Some, None, refl, sym, ap, ◌∙◌, subst, arith}
+use Rattle.std.proofs.Common.{◌≡◌, ◌<◌, ◌≤◌, ◌+◌, ◌-◌, ◌⊎◌, inl, inr, ℕ, Bool, true, false, true≢false, max, List, [], ◌∷◌, ◌++◌, length, Option, Some, None, refl, sym, ap, ◌∙◌, subst, arith}
 use Rattle.std.specs.Prelude.{slice_index_or, is_some, nat_le}
 use Rattle.std.specs.Option.{option_and_then}
 use Rattle.std.proofs.lemmas.Bool.{cases_Bool, leb-true}
 use mathlib.Core.List.{IsPrefix}
+use mathlib.Core.Logic.{dite}
+use native.Mathlib.Decide.{ℕ_discrete, dec_lt}
 use Rattle.loop_model.specs.declared.call.Call.{Call}
 use Rattle.loop_model.specs.declared.call.Call.TheVariants.{Post, Barrier, Unbarrier, Remove, Quit, Next, Advance, Halt}
 use Rattle.loop_model.specs.declared.base.Base.{Base}
@@ -33,12 +35,15 @@ use Rattle.dash_stage.specs.declared.stage.Stage.{Stage}
 use Rattle.dash_stage.specs.Controllers.{are_advances, time_in, calls_on}
 use Rattle.dash_stage.specs.Stages.{IsStage}
 use Rattle.dash_stage.specs.Sharing.{HaveSeenTheSame}
-use Rattle.dash_stage.specs.Timeliness.{whole_on, AreBy, AreRested, AreDue, EachTurnsOn, MovesTo, MovesNot, HaveCome}
-use Rattle.dash_stage.specs.Playing.{AreSound, IsInTime, AreInTime, IsInStep, IsStuck, AreStuck}
+use Rattle.dash_stage.specs.Timeliness.{whole_on, AreBy, AreRested, HasNoneBefore, AreDue, EachTurnsOn, MovesTo, MovesNot, HaveCome}
+use Rattle.dash_stage.specs.Blocks.{is_fresh, come_first, IsFresh}
+use Rattle.dash_stage.specs.Playing.{AreSound, AreFresh, LiesAhead, HaveComeFirst, IsInTime, AreInTime, IsInStep, IsStuck, AreStuck}
 use Rattle.dash_stage.proofs.Controls.{time_by_controller}
-use Rattle.dash_stage.proofs.Timely.{clock_stays}
-use Rattle.dash_stage.proofs.StageWhole.{queues_count, controller_entries, none_behind}
-use Rattle.dash_stage.proofs.StageMoves.{step_on, turned_on, turned_left, over_is_disposed}
+use Rattle.dash_stage.proofs.Timely.{clock_stays, has_disposed_same}
+use Rattle.dash_stage.proofs.BlocksFirst.{fresh_moved, first_block, first_one, all_threads}
+use Rattle.dash_stage.proofs.HallEnds.{some_of}
+use Rattle.dash_stage.proofs.StageWhole.{queues_count, controller_entries, looper_made_none, sound_front, none_behind}
+use Rattle.dash_stage.proofs.StageMoves.{controls_above, step_on, turned_on, turned_left, over_is_disposed}
 use Rattle.dash_stage.proofs.StageTurns.{heard_entries}
 use Rattle.dash_stage.proofs.StageDue.{seen_same}
 use Rattle.dash_stage.proofs.LooperShares.{looper_self}
@@ -85,18 +90,77 @@ none_picked b es now time none early = none_due now time (first_eligible b es) n
 in_time_on : (s : Script) (time now : ℕ) (l l' : StageLooper) (es whole : List Entry) → now ≡ time → IsPrefix es whole → (is_ended l.last ≡ true → is_ended l'.last ≡ true)
     → clock (empty_base (sender_count s)) whole ≡ clock (empty_base (sender_count s)) es → IsInTime s time l es → IsInTime s now l' whole
 in_time_on s time now l l' es whole same front ends still (inl at) = inl (still ∙ (at ∙ sym same))
-in_time_on s time now l l' es whole same front ends still (inr (ended, gone)) =
-    inr (ends ended, subst (λ w. has_disposed (empty_base (sender_count s)) w ≡ true) front.1 (disposed_stays (empty_base (sender_count s)) es front.0 gone))
+in_time_on s time now l l' es whole same front ends still (inr (ended, (gone, by))) =
+    inr (ends ended, (subst (λ w. has_disposed (empty_base (sender_count s)) w ≡ true) front.1 (disposed_stays (empty_base (sender_count s)) es front.0 gone), omega (arith, still, by, same)))
+
+-- what posters have seen that heard others may be only if what they had seen before may be
+pub sound_heard : (s : Script) (c c' : Controller) → HaveHeard c.kit.posters.items c'.kit.posters.items → AreSound s c' → AreSound s c
+sound_heard s c c' heard sound q d lt =
+    sound_front s q (whole_on c q d) (whole_on c' q d) (heard.each q d lt).more (sound q d (subst (λ (n : ℕ). q < n) (sym heard.long) lt))
+
+-- the posters tell the same, as long as they don't change
+abbrev SoundBy : Script → List Sender → Type 0
+SoundBy s ps = (q : ℕ) (d : Sender) → q < length ps → IsSoundOn s q (slice_index_or ps q d).view.seen
+
+abbrev FirstBy : Script → List Sender → Type 0
+FirstBy s ps = SoundBy s ps → (q : ℕ) (d : Sender) → q < length ps → come_first s.threads (slice_index_or ps q d).view.seen ≡ true
+
+abbrev FreshBy : Script → List Sender → Type 0
+FreshBy s ps = (q : ℕ) (d : Sender) → q < length ps → IsFresh s.threads (slice_index_or ps q d).view.seen
+
+pub sound_same : (s : Script) (c c' : Controller) → c'.kit.posters ≡ c.kit.posters → AreSound s c' → AreSound s c
+sound_same s c c' posters sound = subst (λ z. SoundBy s z.items) posters sound
+
+pub ahead_same : (s : Script) (time : ℕ) (st st' : Stage) → st'.controller.kit.posters ≡ st.controller.kit.posters → st'.time ≡ st.time → LiesAhead s time st → LiesAhead s time st'
+ahead_same s time st st' posters now (inl later) = inl (omega (arith, now, later))
+ahead_same s time st st' posters now (inr (zero, fresh)) = inr (zero, subst (λ z. FreshBy s z.items) (sym posters) fresh)
+
+-- at the start each time lies ahead
+pub ahead_of_zero : (s : Script) (time : ℕ) (st : Stage) → st.time ≡ 0 → AreFresh s st → LiesAhead s time st
+ahead_of_zero s time st start fresh = dite (dec_lt 0 time)
+    (λ later. inl (omega (arith, start, later)))
+    (λ none. inr (omega (arith, none), fresh))
+
+-- a time lies ahead still where the stage came to an earlier one
+pub ahead_on : (s : Script) (time next : ℕ) (st st' : Stage) → next < time → st'.time ≡ max st.time next → LiesAhead s time st → LiesAhead s time st'
+ahead_on s time next st st' earlier now (inl later) = inl (omega (arith, earlier, now, later))
+ahead_on s time next st st' earlier now (inr (zero, fresh)) = absurd (omega (arith, earlier, zero))
+
+-- the threads ran a block, which came first
+pub block_first : (s : Script) (st st' : Stage) → IsStage s st → IsStage s st' → HaveSeenTheSame st' → AtEach (LooperKeeps HaveHeard) st.loopers.items st'.loopers.items
+    → HaveHeard st.controller.kit.posters.items st'.controller.kit.posters.items → IsInStep s st → (AreSound s st.controller → AreFresh s st) → HaveComeFirst s st'
+block_first s st st' is is' same' kept heard step fresh sound q d lt' =
+    let lt : q < length st.controller.kit.posters.items = subst (λ (n : ℕ). q < n) heard.long lt' in
+    let set = setting_for s q in
+    let base = empty_base (sender_count s) in
+    let es = whole_on st.controller q d in
+    let whole = whole_on st'.controller q d in
+    let front : IsPrefix es whole = (heard.each q d lt).more in
+    let was = sound_heard s st.controller st'.controller heard sound in
+    let none : (k : ℕ) → k < sender_count s → s.threads ≤ k → entries_by k whole ≡ entries_by k es = λ k known above. dite (ℕ_discrete k (controller s))
+    (λ at. subst (λ (m : ℕ). entries_by m whole ≡ entries_by m es) (sym at) (heard_entries s st st' is is' heard q d lt))
+    (λ apart.
+    let at : s.threads + (k - s.threads) ≡ k = omega (arith, above) in
+    let looper : k - s.threads < s.loopers = omega (arith, above, known, apart) in
+    subst (λ (m : ℕ). entries_by m whole ≡ entries_by m es) at (looper_made_none s st st' is is' step.same same' kept heard.long q (k - s.threads) d lt looper)) in
+    let theirs = all_threads set base s.threads es front.0 (subst (AreNumbered set base) (sym front.1) (sound q d lt').numbered) (λ k known above. none_behind k es whole front (none k known above)) in
+    subst (λ w. come_first s.threads w ≡ true) front.1 (first_block s.threads es front.0 theirs (fresh was q d lt) (step.first was q d lt))
+
+-- the controller made one entry, or none
+one_first : (s : Script) (P : Entry → Type 0) (es whole : List Entry) → come_first s.threads es ≡ true → (whole ≡ es) ⊎ ((e : Entry) × (whole ≡ es ++ e ∷ []) × P e × (e.sender ≡ controller s)) → come_first s.threads whole ≡ true
+one_first s P es whole h (inl stays) = ap (come_first s.threads) stays ∙ h
+one_first s P es whole h (inr t) = ap (come_first s.threads) t.1 ∙ first_one s.threads es t.0 (controls_above s t.0 t.3) h
 
 -- the threads ran a block, and then all heard each other
 pub block_in_step : (s : Script) (st st' : Stage) → IsStage s st → IsStage s st' → HaveSeenTheSame st' → st'.time ≡ st.time → AtEach (LooperKeeps HaveHeard) st.loopers.items st'.loopers.items
-    → HaveHeard st.controller.kit.posters.items st'.controller.kit.posters.items → IsInStep s st → IsInStep s st'
-block_in_step s st st' is is' same' now kept heard step =
+    → HaveHeard st.controller.kit.posters.items st'.controller.kit.posters.items → IsInStep s st → HaveComeFirst s st' → IsInStep s st'
+block_in_step s st st' is is' same' now kept heard step first =
     let grown : (q : ℕ) (d : Sender) → q < length st.controller.kit.posters.items → IsPrefix (whole_on st.controller q d) (whole_on st'.controller q d) = λ q d lt. (heard.each q d lt).more in
     let base = empty_base (sender_count s) in
     record {
       same = same';
       played = played_kept s st st' is is' step.same same' kept heard.long grown step.played;
+      first = first;
       in_time = λ sound q l d lt'.
           let lt : q < length st.loopers.items = subst (λ (n : ℕ). q < n) kept.long lt' in
           let within : q < length st.controller.kit.posters.items = subst (λ (n : ℕ). q < n) (sym (queues_count s st is)) lt in
@@ -117,6 +181,7 @@ step_same s st st' is is' threads loopers posters now step =
     block_in_step s st st' is is' (seen_same st st' threads loopers posters step.same) now
     (subst (λ z. AtEach (LooperKeeps HaveHeard) st.loopers.items z.items) (sym loopers) (each_self (LooperKeeps HaveHeard) st.loopers.items (looper_self HaveHeard have_heard_self)))
     (subst (λ z. HaveHeard st.controller.kit.posters.items z.items) (sym posters) (have_heard_self st.controller.kit.posters.items)) step
+    (subst (λ z. FirstBy s z.items) (sym posters) step.first)
 
 -- over the controller's turns, after which all heard each other
 module _ (s : Script) (st : Stage) (c : Controller) (st' : Stage) (is : IsStage s st) (is' : IsStage s st') (same' : HaveSeenTheSame st')
@@ -138,10 +203,6 @@ module _ (s : Script) (st : Stage) (c : Controller) (st' : Stage) (is : IsStage 
     turned_sound : AreSound s st'.controller → AreSound s st.controller
     turned_sound = sound_before s st st' is is' step.same same' loopers longer turned_grown
 
-    -- it stays in step where the queues are at the time then
-    turned_step : (AreSound s st'.controller → AreInTime s st') → IsInStep s st'
-    turned_step in_time = record { same = same'; in_time = in_time; played = played_kept s st st' is is' step.same same' loopers longer turned_grown step.played }
-
     in_turned : (q : ℕ) → q < length st'.loopers.items → (q < length st.loopers.items) × (q < length st.controller.kit.posters.items)
     in_turned q lt' =
         let lt : q < length st.loopers.items = subst (λ (n : ℕ). q < n) loopers.long lt' in
@@ -149,6 +210,16 @@ module _ (s : Script) (st : Stage) (c : Controller) (st' : Stage) (is : IsStage 
 
     sound_at : AreSound s st'.controller → (q : ℕ) (d : Sender) → q < length st.controller.kit.posters.items → IsSoundOn s q (whole_on st'.controller q d)
     sound_at sound q d lt = sound q d (subst (λ (n : ℕ). q < n) (sym longer) lt)
+
+    turned_first : HaveComeFirst s st'
+    turned_first sound q d lt' =
+        let lt : q < length st.controller.kit.posters.items = subst (λ (n : ℕ). q < n) longer lt' in
+        one_first s P (whole_on st.controller q d) (whole_on st'.controller q d) (step.first (turned_sound sound) q d lt)
+        (turned_on s st c st' is is' step.same same' threads loopers heard P turns q d lt (sound_at sound q d lt).numbered)
+
+    -- it stays in step where the queues are at the time then
+    turned_step : (AreSound s st'.controller → AreInTime s st') → IsInStep s st'
+    turned_step in_time = record { same = same'; in_time = in_time; played = played_kept s st st' is is' step.same same' loopers longer turned_grown step.played; first = turned_first }
 
   -- turns that moved no time
   module _ (turns : EachTurnsOn MovesNot st.controller c) (now : st'.time ≡ st.time) where
@@ -171,10 +242,10 @@ module _ (s : Script) (st : Stage) (c : Controller) (st' : Stage) (is : IsStage 
   module _ (time : ℕ) (turns : EachTurnsOn (MovesTo time) st.controller c) (now : st'.time ≡ max st.time time) (by : AreBy st'.time c) (rested : AreRested s st) (due_then : AreDue s time st)
       (drained : Bool) (come : drained ≡ true → HaveCome s time c) (stuck : drained ≡ false → AreStuck s time s.loopers c) where
     -- no queue that may have its history is stuck
-    none_stuck : (es whole left : List Entry) → whole ≡ left → IsStuck s time left → (is_over (empty_base (sender_count s)) es ≡ true) ⊎ (is_none_before time (first_eligible (empty_base (sender_count s)) es) ≡ true)
+    none_stuck : (es whole left : List Entry) → whole ≡ left → IsStuck s time left → (is_over (empty_base (sender_count s)) es ≡ true) ⊎ HasNoneBefore (sender_count s) time es
         → (whole ≡ es) ⊎ ((e : Entry) × (whole ≡ es ++ e ∷ []) × MovesTo time e × (e.sender ≡ controller s)) → ⊥
     none_stuck es whole left is_left h (inl over) (inl stays) = true≢false (sym over ∙ subst (λ w. is_over (empty_base (sender_count s)) w ≡ false) (sym is_left ∙ stays) h.going)
-    none_stuck es whole left is_left h (inr none) (inl stays) =
+    none_stuck es whole left is_left h (inr (none, kept_on)) (inl stays) =
         let base = empty_base (sender_count s) in
         let here : IsStuck s time es = subst (IsStuck s time) (sym is_left ∙ stays) h in
         true≢false (sym here.due ∙ none_picked base es (clock base es) time none here.early)
@@ -185,17 +256,25 @@ module _ (s : Script) (st : Stage) (c : Controller) (st' : Stage) (is : IsStage 
         let at = clock_moved base es t.0 time t.2 in
         absurd (omega (arith, early, at))
 
-    -- so each has come to the time, or is over
-    all_come : AreSound s st'.controller → HaveCome s time c
-    all_come sound = elim (cases_Bool drained) [
-      | inl moved ↦ come moved
+    -- so the controller found none stuck
+    is_drained : AreSound s st'.controller → drained ≡ true
+    is_drained sound = elim (cases_Bool drained) [
+      | inl moved ↦ moved
       | inr left ↦ (let h = stuck left in
           let few : h.0 < length st.loopers.items = subst (λ (n : ℕ). h.0 < n) (sym is.loopers.0) h.1 in
           let lt : h.0 < length st.controller.kit.posters.items = subst (λ (n : ℕ). h.0 < n) (sym (queues_count s st is)) few in
-          λ q d within. absurd (none_stuck (whole_on st.controller h.0 d) (whole_on st'.controller h.0 d) (whole_on c h.0 d)
+          let d = some_of st.controller.kit.posters.items h.0 lt in
+          absurd (none_stuck (whole_on st.controller h.0 d) (whole_on st'.controller h.0 d) (whole_on c h.0 d)
           (turned_left s st c st' is is' step.same same' threads loopers heard (MovesTo time) turns h.0 d lt (sound_at (MovesTo time) turns sound h.0 d lt).numbered) (h.2 d) (due_then h.0 d few)
           (turned_on s st c st' is is' step.same same' threads loopers heard (MovesTo time) turns h.0 d lt (sound_at (MovesTo time) turns sound h.0 d lt).numbered)))
     ]
+
+    -- and each has come to the time, or is over
+    all_come : AreSound s st'.controller → HaveCome s time c
+    all_come sound = come (is_drained sound)
+
+    pub advanced_sound : AreSound s st'.controller → (drained ≡ true) × AreSound s st.controller
+    advanced_sound sound = (is_drained sound, turned_sound (MovesTo time) turns sound)
 
     module _ (sound : AreSound s st'.controller) (q : ℕ) (l : StageLooper) (d : Sender) (lt' : q < length st'.loopers.items) where
       abbrev es : List Entry
@@ -233,18 +312,56 @@ module _ (s : Script) (st : Stage) (c : Controller) (st' : Stage) (is : IsStage 
           let base = empty_base (sender_count s) in
           let gone : is_over base whole ≡ true = ap (is_over base) (turned_left s st c st' is is' step.same same' threads loopers heard (MovesTo time) turns q d within here.numbered) ∙ over in
           elim (cases_Bool (is_ended (slice_index_or st.loopers.items q l).last)) [
-            | inl ended ↦ inr (ends ended, over_is_disposed s q st'.time whole here (subst (λ (z : List Entry). are_advances st'.time z ≡ true) its_calls (by q d (within_turned (MovesTo time) turns q within))) gone)
-            | inr going ↦ absurd (true≢false (sym gone ∙ (ap (is_over base) stays ∙ (rested q l d lt).going going)))
+            | inl ended ↦ (let was : clock base whole ≡ st.time = ap (clock base) stays ∙ at in
+                inr (ends ended, (over_is_disposed s q st'.time whole here (subst (λ (z : List Entry). are_advances st'.time z ≡ true) its_calls (by q d (within_turned (MovesTo time) turns q within))) gone, omega (arith, was, now))))
+            | inr going ↦ absurd (true≢false (sym gone ∙ (ap (is_over base) stays ∙ ((rested q l d lt).quiet going).going)))
           ]
 
+      -- its clock is not past the time
+      no_later : clock (empty_base (sender_count s)) es ≤ st.time → (whole ≡ es) ⊎ ((e : Entry) × (whole ≡ es ++ e ∷ []) × MovesTo time e × (e.sender ≡ controller s)) → clock (empty_base (sender_count s)) whole ≤ st'.time
+      no_later by_then (inl stays) = (let is = ap (clock (empty_base (sender_count s))) stays in omega (arith, is, by_then, now))
+      no_later by_then (inr t) = (let is = ap (clock (empty_base (sender_count s))) t.1 ∙ clock_moved (empty_base (sender_count s)) es t.0 time t.2 in omega (arith, is, by_then, now))
+
       queue_in_time : IsInTime s st.time (slice_index_or st.loopers.items q l) es → (whole ≡ es) ⊎ ((e : Entry) × (whole ≡ es ++ e ∷ []) × MovesTo time e × (e.sender ≡ controller s)) → IsInTime s st'.time (slice_index_or st'.loopers.items q l) whole
-      queue_in_time (inr (ended, gone)) either =
+      queue_in_time (inr (ended, (gone, by_then))) either =
           let front = turned_grown (MovesTo time) turns q d within in
-          inr (ends ended, subst (λ w. has_disposed (empty_base (sender_count s)) w ≡ true) front.1 (disposed_stays (empty_base (sender_count s)) es front.0 gone))
+          inr (ends ended, (subst (λ w. has_disposed (empty_base (sender_count s)) w ≡ true) front.1 (disposed_stays (empty_base (sender_count s)) es front.0 gone), no_later by_then either))
       queue_in_time (inl at) (inl stays) = stays_in_time stays at (all_come sound q d (within_turned (MovesTo time) turns q within))
       queue_in_time (inl at) (inr t) =
           let base = empty_base (sender_count s) in
           inl (ap (clock base) t.1 ∙ (clock_moved base es t.0 time t.2 ∙ (ap (λ (n : ℕ). max n time) at ∙ sym now)))
+
+      -- a queue that was not moved to a time ahead was disposed of, unless the time is 0
+      still_fresh : LiesAhead s time st → whole ≡ es → IsInTime s st.time (slice_index_or st.loopers.items q l) es
+          → (time ≤ time_in (calls_on c q d)) ⊎ (is_over (empty_base (sender_count s)) (whole_on c q d) ≡ true) → IsFresh s.threads whole
+      still_fresh (inr (zero, fresh)) stays at where_to = subst (IsFresh s.threads) (sym stays) (fresh q d within)
+      still_fresh (inl later) stays (inr (ended, (gone, by_then))) where_to =
+          inl (sym (has_disposed_same (sender_count s) whole) ∙ (ap (has_disposed (empty_base (sender_count s))) stays ∙ gone))
+      still_fresh (inl later) stays (inl at) (inl le) =
+          let base = empty_base (sender_count s) in
+          let clock_is : clock base whole ≡ time_in (calls_on c q d) = time_by_controller (setting_for s q) (controller s) refl refl whole here.legal here.numbered ∙ ap time_in (sym its_calls) in
+          let was : clock base whole ≡ st.time = ap (clock base) stays ∙ at in
+          absurd (omega (arith, clock_is, was, le, later))
+      still_fresh (inl later) stays (inl at) (inr over) =
+          let base = empty_base (sender_count s) in
+          let gone : is_over base whole ≡ true = ap (is_over base) (turned_left s st c st' is is' step.same same' threads loopers heard (MovesTo time) turns q d within here.numbered) ∙ over in
+          inl (sym (has_disposed_same (sender_count s) whole)
+          ∙ over_is_disposed s q st'.time whole here (subst (λ (z : List Entry). are_advances st'.time z ≡ true) its_calls (by q d (within_turned (MovesTo time) turns q within))) gone)
+
+      -- and one that was moved has no call behind the move
+      queue_fresh : LiesAhead s time st → IsInTime s st.time (slice_index_or st.loopers.items q l) es
+          → (whole ≡ es) ⊎ ((e : Entry) × (whole ≡ es ++ e ∷ []) × MovesTo time e × (e.sender ≡ controller s)) → IsFresh s.threads whole
+      queue_fresh ahead at (inl stays) = still_fresh ahead stays at (all_come sound q d (within_turned (MovesTo time) turns q within))
+      queue_fresh ahead at (inr t) = inr (ap (is_fresh s.threads) t.1 ∙ fresh_moved s.threads es t.0 (ap is_advance t.2))
+
+    -- so it is with each queue
+    pub advanced_fresh : LiesAhead s time st → AreSound s st'.controller → AreFresh s st'
+    advanced_fresh ahead sound q d near =
+        let lt' : q < length st'.loopers.items = subst (λ (n : ℕ). q < n) (queues_count s st' is') near in
+        let lt = in_turned (MovesTo time) turns q lt' in
+        let l = some_of st.loopers.items q lt.0 in
+        queue_fresh sound q l d lt' ahead (step.in_time (turned_sound (MovesTo time) turns sound) q l d lt.0)
+        (turned_on s st c st' is is' step.same same' threads loopers heard (MovesTo time) turns q d lt.1 (sound_at (MovesTo time) turns sound q d lt.1).numbered)
 
     advanced_in_time : AreSound s st'.controller → AreInTime s st'
     advanced_in_time sound q l d lt' =

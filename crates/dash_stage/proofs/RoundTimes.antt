@@ -16,20 +16,13 @@ use Rattle.loop_model.proofs.NumberLaws.{AreNumbered-front}
 use Rattle.dash_script.specs.declared.script.Script.{Script}
 use Rattle.run_model.specs.Asks.{entries_by}
 use Rattle.run_model.specs.Senders.{controller, sender_count}
-use Rattle.run_model.specs.Control.{Before, before, Timing, At, NotBefore, is_on_time, are_on_time}
-use Rattle.run_model.proofs.RunLaws.{entries_by-others}
+use Rattle.run_model.specs.Control.{Before, before, befores_from, Timing, At, NotBefore, is_on_time, are_on_time}
+use Rattle.run_model.proofs.RunLaws.{entries_by-others, befores_from-append}
 use Rattle.dash_loopers.specs.Loopers.{IsSoundOn, setting_for}
 use Rattle.dash_loopers.specs.Played.{is_disposal, calls_in, IsTimedBy}
 use Rattle.dash_stage.specs.Timeliness.{IsAtTime}
-use Rattle.dash_stage.specs.Playing.{befores_from, befores_called, IsMet}
-use Rattle.dash_stage.proofs.Timely.{of_others, none_of, on_time_more, clock_same, has_disposed_same, clock_stays, stays_at}
-
--- what stood before the entries that pass, in a longer list
-befores_from-append : (test : Entry → Bool) (past xs ys : List Entry) → befores_from test past (xs ++ ys) ≡ befores_from test past xs ++ befores_from test (past ++ xs) ys
-befores_from-append test past [] ys = ap (λ l. befores_from test l ys) (sym (append-nil past))
-befores_from-append test past (x ∷ xs) ys =
-    ap (λ l. (if test x then before past ∷ [] else []) ++ l) (befores_from-append test (past ++ x ∷ []) xs ys ∙ ap (λ l. befores_from test (past ++ x ∷ []) xs ++ befores_from test l ys) (append_assoc past (x ∷ []) xs))
-    ∙ sym (append_assoc (if test x then before past ∷ [] else []) (befores_from test (past ++ x ∷ []) xs) (befores_from test (past ++ x ∷ xs) ys))
+use Rattle.dash_stage.specs.Playing.{befores_called, IsMet}
+use Rattle.dash_stage.proofs.Timely.{of_others, none_of, befores_from-count, on_time_more, clock_same, has_disposed_same, clock_stays, stays_at}
 
 -- the test of a sender's calls, but the looks that disposed of the queue
 abbrev pub is_call_of : ℕ → Entry → Bool
@@ -54,10 +47,6 @@ pub befores_called_of_others : (k : ℕ) (es more : List Entry) → entries_by k
 befores_called_of_others k es more none =
     befores_called-append k es more ∙ (ap (λ l. befores_called k es ++ l) (befores_from-others k es more (of_others k more none)) ∙ append-nil (befores_called k es))
 
-counted_next : (t : Bool) (b : Before) (e : Entry) (bs : List Before) (es : List Entry) → length bs ≡ length es → length ((if t then b ∷ [] else []) ++ bs) ≡ length (if t then e ∷ es else es)
-counted_next true b e bs es h = ap suc h
-counted_next false b e bs es h = h
-
 filters_next : (k : ℕ) (e : Entry) (es : List Entry) (a b : Bool) → (e.sender == k) ≡ a → not (is_disposal e) ≡ b → filter (is_call_of k) es ≡ calls_in k es → filter (is_call_of k) (e ∷ es) ≡ calls_in k (e ∷ es)
 filters_next k e es true true p q h = rw (p, q) (ap (λ l. e ∷ l) h)
 filters_next k e es true false p q h = rw (p, q) h
@@ -67,22 +56,18 @@ both_filters : (k : ℕ) (es : List Entry) → filter (is_call_of k) es ≡ call
 both_filters k [] = refl
 both_filters k (e ∷ es) = filters_next k e es (e.sender == k) (not (is_disposal e)) refl refl (both_filters k es)
 
-befores_from-count : (test : Entry → Bool) (past es : List Entry) → length (befores_from test past es) ≡ length (filter test es)
-befores_from-count test past [] = refl
-befores_from-count test past (e ∷ es) = counted_next (test e) (before past) e (befores_from test (past ++ e ∷ []) es) (filter test es) (befores_from-count test (past ++ e ∷ []) es)
-
 -- for each call there is what stood before it
 pub befores_called-count : (k : ℕ) (es : List Entry) → length (befores_called k es) ≡ length (calls_in k es)
 unfolding befores_called
 befores_called-count k es = befores_from-count (is_call_of k) [] es ∙ ap length (both_filters k es)
 
--- it stood at this clock, which was the time unless the queue was disposed of
+-- it stood at this clock, which was the time unless the queue was disposed of by then
 abbrev StoodAt : ℕ → ℕ → Before → Type 0
-StoodAt time at b = (b.clock ≡ at) × ((at ≡ time) ⊎ (b.disposed ≡ true))
+StoodAt time at b = (b.clock ≡ at) × ((at ≡ time) ⊎ ((b.disposed ≡ true) × (at ≤ time)))
 
 met_one : (time at : ℕ) (u : Timing) (b : Before) → IsMet time at u → StoodAt time at b → is_on_time u b ≡ true
 met_one time at (At t) b met (clock_is, inl now) = or_left _ _ (eq-eqb b.clock t (clock_is ∙ now ∙ sym met))
-met_one time at (At t) b met (clock_is, inr gone) = or_right _ _ gone
+met_one time at (At t) b met (clock_is, inr (gone, by)) = or_right _ _ (and_from _ _ gone (le-leb b.clock t (omega (arith, clock_is, by, met))))
 met_one time at (NotBefore t) b met (clock_is, either) = le-leb t b.clock (subst (λ n. t ≤ n) (sym clock_is) met)
 
 all_met : (time at : ℕ) (us : List Timing) (bs : List Before) → length us ≡ length bs → AllByRecursion (IsMet time at) us → AllByRecursion (StoodAt time at) bs → are_on_time us bs ≡ true
@@ -116,9 +101,9 @@ module _ (s : Script) (q time : ℕ) where
       let rest = subst (λ n. AllByRecursion (StoodAt time n) (befores_from test (es ++ e ∷ []) more)) still (all_stood test (es ++ e ∷ []) more sound_on (entries_by-others (controller s) more others.1) then_at) in
       stood_next time (clock base es) (test e) (before es) _ (sym (clock_same (sender_count s) es), here at) rest
     where
-      here : IsAtTime (sender_count s) time es → (clock (empty_base (sender_count s)) es ≡ time) ⊎ ((before es).disposed ≡ true)
+      here : IsAtTime (sender_count s) time es → (clock (empty_base (sender_count s)) es ≡ time) ⊎ (((before es).disposed ≡ true) × (clock (empty_base (sender_count s)) es ≤ time))
       here (inl now) = inl now
-      here (inr gone) = inr (sym (has_disposed_same (sender_count s) es) ∙ gone)
+      here (inr (gone, by)) = inr (sym (has_disposed_same (sender_count s) es) ∙ gone, by)
 
   -- calls that came more, while the controller called nothing, are on time as those before
   pub calls_on_time : (k : ℕ) (es whole : List Entry) → IsPrefix es whole → IsSoundOn s q whole → entries_by (controller s) whole ≡ entries_by (controller s) es → IsAtTime (sender_count s) time es
@@ -137,7 +122,7 @@ module _ (s : Script) (q time : ℕ) where
   look_timed : (es : List Entry) (e : Entry) (t : ℕ) → MayFollow set (empty_base (sender_count s)) es e → e.call ≡ Next t → IsAtTime (sender_count s) time es → t ≡ time
   unfolding answer
   look_timed es e t may is (inl now) = subst (IsTimely true (clock (empty_base (sender_count s)) es)) is may.timely ∙ now
-  look_timed es e t may is (inr gone) =
+  look_timed es e t may is (inr (gone, by)) =
       let none = sym (ap (λ c. answer set (empty_base (sender_count s)) es c) is) ∙ may.reply in
       absurd (over (has_disposed (empty_base (sender_count s)) es) (has_halted (empty_base (sender_count s)) es) gone _ _ none)
     where

@@ -1,5 +1,5 @@
 -- A stage whose senders have seen nothing.
-use Rattle.std.proofs.Common.{◌≡◌, ◌<◌, inl, ℕ, suc, false, true, List, [], ◌∷◌, length, None, refl, sym, ap, ap₂, ◌∙◌, subst, arith}
+use Rattle.std.proofs.Common.{◌≡◌, ◌<◌, inl, inr, ℕ, suc, false, true, List, [], ◌∷◌, length, None, refl, sym, ap, ap₂, ◌∙◌, subst, arith}
 use Rattle.std.specs.Prelude.{slice_index_or}
 use Rattle.std.specs.Option.{option_map}
 use Rattle.atomic_table.specs.Seated.{TableId}
@@ -8,23 +8,25 @@ use Rattle.loop_model.specs.declared.entry.Entry.{Entry}
 use Rattle.loop_model.specs.Base.{empty_base}
 use Rattle.loop_model.specs.Items.{when_of}
 use Rattle.loop_model.specs.Live.{live}
-use Rattle.loop_model.specs.Pick.{first_eligible}
-use Rattle.loop_model.specs.Answers.{clock, is_over, has_disposed, has_halted}
+use Rattle.loop_model.specs.Pick.{first_eligible, pick}
+use Rattle.loop_model.specs.Answers.{clock, has_disposed, has_halted, quit_place}
 use Rattle.dash_script.specs.declared.script.Script.{Script}
 use Rattle.looper_run.specs.Holding.{Sender}
 use Rattle.run_model.specs.Senders.{looper_sender, sender_count}
-use Rattle.run_model.specs.Control.{is_advanced_in_time, befores, are_on_time}
+use Rattle.run_model.specs.Control.{is_called_in_time, are_before_quit, befores, are_on_time}
 use Rattle.run_model.specs.Loopers.{first_looper}
 use Rattle.dash_stage.specs.declared.stage.Stage.{Stage}
 use Rattle.dash_hall.specs.Kits.{badge_of, badge_for, ArePostersOf, IsHall, AreUnseen}
 use Rattle.dash_hall.specs.Hearing.{seen_by}
-use Rattle.dash_loopers.specs.Loopers.{posters_of}
+use Rattle.dash_loopers.specs.Loopers.{posters_of, HasNoneDue}
 use Rattle.dash_stage.specs.Sharing.{OfThreads, OfLoopers}
 use Rattle.dash_stage.specs.Stages.{AreThreads, AreLoopers}
 use Rattle.dash_stage.specs.Timeliness.{IsTimelyUpTo, AreTimelyUpTo, AreRested, WaitForNothing}
-use Rattle.dash_stage.specs.Playing.{befores_called, HaveBegun, IsInStep}
+use Rattle.dash_stage.specs.Blocks.{come_first, IsFresh}
+use Rattle.dash_stage.specs.Playing.{befores_called, HaveBegun, AreFresh, IsInStep}
 use Rattle.dash_stage.proofs.Badges.{alike_length, queue_count}
 use Rattle.dash_stage.proofs.LooperShares.{looper_posters}
+use Rattle.dash_stage.proofs.BlocksFirst.{nothing_fresh, nothing_first}
 
 -- posters that have seen nothing have seen the same
 unseen_same : (ps cs : List Sender) → length ps ≡ length cs → AreUnseen ps → AreUnseen cs → seen_by ps ≡ seen_by cs
@@ -41,18 +43,18 @@ as_long k n qs ps cs a b = alike_length badge_of (badge_for k) ps qs a ∙ sym (
 
 -- with no call seen and no block run each history is timely
 nothing_timely : (s : Script) (q : ℕ) → IsTimelyUpTo s [] q []
-unfolding is_advanced_in_time befores
-nothing_timely s q = record { advances = refl; threads = λ k lt. refl }
+unfolding is_called_in_time are_before_quit befores
+nothing_timely s q = record { controls = refl; before_quit = refl; threads = λ k lt. refl }
 
 -- there is no message before the first call
 nothing_eligible : (n : ℕ) → option_map when_of (first_eligible (empty_base n) []) ≡ None
 unfolding first_eligible live
 nothing_eligible n = refl
 
--- and the queue is not over
-nothing_over : (n : ℕ) → is_over (empty_base n) [] ≡ false
-unfolding has_disposed has_halted
-nothing_over n = refl
+-- and the queue is neither over nor quitting, and has none due
+nothing_due : (n : ℕ) → HasNoneDue (empty_base n) [] (clock (empty_base n) [])
+unfolding has_disposed has_halted quit_place pick first_eligible live clock
+nothing_due n = record { going = refl; kept_on = refl; none = refl }
 
 -- and its clock shows 0
 nothing_timed : (n : ℕ) → clock (empty_base n) [] ≡ 0
@@ -89,7 +91,7 @@ module _ (s : Script) (st : Stage) (k : ℕ) (is_hall : IsHall s st.hall) where
       let queues : length st.controller.kit.posters.items ≡ s.loopers = alike_length badge_of (badge_for k) st.controller.kit.posters.items st.hall.queues.items controller ∙ queue_count s st.hall.pool st.hall.queues.items is_hall.queues in
       let none = unseen q d (subst (λ (n : ℕ). q < n) (loopers.0 ∙ sym queues) lt) in
       let wait = waits q l lt in record {
-        going = λ on. ap (is_over (empty_base (sender_count s))) none ∙ nothing_over (sender_count s);
+        quiet = λ on. subst (λ (es : List Entry). HasNoneDue (empty_base (sender_count s)) es (clock (empty_base (sender_count s)) es)) (sym none) (nothing_due (sender_count s));
         waits = λ on. wait.1 ∙ sym (ap (λ (es : List Entry). option_map when_of (first_eligible (empty_base (sender_count s)) es)) none ∙ nothing_eligible (sender_count s));
         ended = λ over. absurd (let wrong : false ≡ true = sym wait.0 ∙ over in cc);
       }
@@ -102,6 +104,7 @@ module _ (s : Script) (st : Stage) (k : ℕ) (is_hall : IsHall s st.hall) where
     in_time = λ sound q l d lt.
         let queues : length st.controller.kit.posters.items ≡ s.loopers = alike_length badge_of (badge_for k) st.controller.kit.posters.items st.hall.queues.items controller ∙ queue_count s st.hall.pool st.hall.queues.items is_hall.queues in
         inl (ap (clock (empty_base (sender_count s))) (unseen q d (subst (λ (n : ℕ). q < n) (loopers.0 ∙ sym queues) lt)) ∙ (nothing_timed (sender_count s) ∙ sym zero));
+    first = λ sound q d lt. ap (come_first s.threads) (unseen q d lt) ∙ nothing_first s.threads;
     played = λ sound n l lt. record {
       state = first_looper s;
       come = begun n l lt;
@@ -111,3 +114,7 @@ module _ (s : Script) (st : Stage) (k : ℕ) (is_hall : IsHall s st.hall) where
       };
     };
   }
+
+-- no queue has a call
+pub begins_fresh : (s : Script) (st : Stage) → AreUnseen st.controller.kit.posters.items → AreFresh s st
+begins_fresh s st unseen q d lt = subst (IsFresh s.threads) (sym (unseen q d lt)) (inr (nothing_fresh s.threads))

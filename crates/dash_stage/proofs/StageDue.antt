@@ -1,5 +1,5 @@
 -- When messages are due, as told by how the loopers' last rounds ended.
-use Rattle.std.proofs.Common.{◌≡◌, ◌<◌, ◌≤◌, ◌+◌, ◌||◌, inl, inr, ℕ, suc, Bool, true, false, true≢false, List, [], ◌∷◌, length, Option, Some, None, refl, sym, ap, ap₂, ◌∙◌, subst, arith}
+use Rattle.std.proofs.Common.{◌≡◌, ◌<◌, ◌≤◌, ◌+◌, inl, inr, ℕ, suc, true, false, List, [], ◌∷◌, length, Option, Some, None, refl, sym, ap, ap₂, ◌∙◌, subst, arith}
 use Rattle.std.specs.Prelude.{slice_index_or}
 use Rattle.std.specs.List.{sum_by}
 use Rattle.std.specs.Option.{option_map}
@@ -14,28 +14,18 @@ use Rattle.loop_model.specs.declared.item.Item.{Item}
 use Rattle.loop_model.specs.Base.{empty_base}
 use Rattle.loop_model.specs.Items.{when_of}
 use Rattle.loop_model.specs.Pick.{first_eligible}
-use Rattle.loop_model.specs.Answers.{Setting, is_over}
-use Rattle.loop_model.specs.declared.base.Base.{Base}
+use Rattle.loop_model.specs.Answers.{clock, is_over}
 use Rattle.dash_script.specs.declared.script.Block.{Block}
 use Rattle.dash_script.specs.declared.script.Script.{Script}
 use Rattle.looper_run.specs.declared.looper.Round.{Round}
-use Rattle.looper_run.specs.Holding.{Sender, Holding, State}
-use Rattle.looper_run.specs.Round.{RoundBy, is_ended}
+use Rattle.looper_run.specs.Holding.{Sender}
+use Rattle.looper_run.specs.Round.{is_ended}
 use Rattle.run_model.specs.Senders.{sender_count}
 use Rattle.run_model.specs.Control.{is_none_before}
 use Rattle.dash_threads.specs.declared.thread.PostingThread.{PostingThread}
 use Rattle.dash_loopers.specs.declared.looper.StageLooper.{StageLooper}
 use Rattle.dash_stage.specs.declared.stage.Stage.{Stage}
-use Rattle.dash_loopers.specs.Loopers.{IsSoundOn, setting_for, IsLooper, HasRun, is_given_up, until_of, posters_of, LooperKeeps, ComesToWait}
-use Rattle.dash_loopers.proofs.LooperKits.{looper_of, its_queue}
-use Rattle.dash_loopers.proofs.LooperPlaces.{queue_is}
-use Rattle.dash_hall.specs.declared.hall.Hall.{Hall}
-use Rattle.dash_hall.specs.Kits.{IsHall}
-use Rattle.atomic_table.specs.Seated.{TableId}
-use Rattle.queue_state.specs.declared.answers.Nexted.TheVariants as nexted
-use Rattle.shared_queue.specs.Constants.{Constants}
-use Rattle.shared_queue.specs.Calls.{NextedBy}
-use Rattle.looper_run.specs.declared.looper.Round.TheVariants.{Drained, Ended, NoMemory}
+use Rattle.dash_loopers.specs.Loopers.{IsSoundOn, until_of, posters_of, LooperKeeps, ComesToWait, HasNoneDue}
 use Rattle.dash_stage.specs.Stages.{IsStage, AreLoopers, LoopersGoOn}
 use Rattle.dash_hall.specs.Hearing.{seen_by, AtEach, HaveHeard, HaveSeenAll}
 use Rattle.dash_stage.specs.Sharing.{HaveSeenTheSame, OfThreads, OfLoopers}
@@ -61,7 +51,7 @@ due_of_rest s t st rest h q d lt =
     let base = empty_base (sender_count s) in
     elim (cases_Bool (is_ended (slice_index_or st.loopers.items q l).last)) [
       | inl ended ↦ inl (one.ended ended)
-      | inr waits ↦ inr (none_early t (first_eligible base (whole_on st.controller q d)) (subst (NotLater t) (one.waits waits) (h q l lt waits)))
+      | inr waits ↦ inr (none_early t (first_eligible base (whole_on st.controller q d)) (subst (NotLater t) (one.waits waits) (h q l lt waits)), (one.quiet waits).kept_on)
     ]
 
 -- the posters tell the same, as long as neither they nor the loopers change
@@ -104,39 +94,9 @@ begins_both xs ys p q =
     let long = ap length q.1 in
     prefix_whole xs ys p (omega (arith, long, length-append ys q.0))
 
--- a look that was answered to wait found a queue that is not over
-lives_by_look : (now : ℕ) (p q : Sender) (idle : Bool) (until : Option ℕ) (c : Constants TableId) → q.view.constants ≡ Some c → NextedBy p q now idle (nexted.Wait until) → is_over (empty_base c.setting.senders) q.view.seen ≡ false
-lives_by_look now p q idle until c is n =
-    let x = n.0 in
-    let start = (n.2.own c (sym n.2.constants ∙ is)).0.start in
-    let seen = n.2.seen ∙ ap (λ (y : State). y.entries) n.3.3 in
-    subst (λ (es : List Entry). is_over (empty_base c.setting.senders) es ≡ false) (sym seen) (subst (λ (b : Base). is_over b x.entries ≡ false) start n.3.0.0)
-
--- so does a round that ended with a wait
-lives_by_round : (s : Setting) (now : ℕ) (before after : Holding) (last : Round) (c : Constants TableId) → after.poster.view.constants ≡ Some c → RoundBy s now before after last → is_ended last ≡ false → is_given_up last ≡ false
-    → is_over (empty_base c.setting.senders) after.poster.view.seen ≡ false
-lives_by_round s now before after (Drained dispatched until) c is r e g = lives_by_look now r.1.0 after.poster r.1.1 until c is r.1.3
-lives_by_round s now before after (Ended dispatched) c is r e g = absurd cc
-lives_by_round s now before after NoMemory c is r e g = absurd cc
-
--- neither of two facts that do not hold
-neither : (a b : Bool) → a ≡ false → b ≡ false → (a || b) ≡ false
-neither a b p q = ap₂ (λ (x y : Bool). x || y) p q
-
--- a looper that neither ended nor gave up in a round has seen its queue not over
-lives_on : (s : Script) (hall : Hall) → IsHall s hall → (now : ℕ) (x m : StageLooper) → IsLooper s hall m → HasRun s now x m → is_ended m.last ≡ false → is_given_up m.last ≡ false
-    → is_over (empty_base (sender_count s)) m.looper.held.poster.view.seen ≡ false
-lives_on s hall is_hall now x m is run going on = elim (cases_Bool (is_ended x.last || is_given_up x.last)) [
-  | inl stopped ↦ absurd (true≢false (sym stopped ∙ (ap (λ (z : StageLooper). is_ended z.last || is_given_up z.last) (sym (run.stopped stopped)) ∙ neither (is_ended m.last) (is_given_up m.last) going on)))
-  | inr ran ↦ (let of = looper_of s hall m is_hall is in
-      let q = its_queue s hall m.number of in
-      subst (λ (c : Constants TableId). is_over (empty_base c.setting.senders) m.looper.held.poster.view.seen ≡ false) (queue_is s hall m.number of m.number q.0 q.1)
-      (lives_by_round (setting_for s x.number) now x.looper.held m.looper.held m.last q.0.constants (is.place.queue q.0 q.1).1 (run.ran ran) going on))
-]
-
 -- what a round has come to is what all have seen after it, where no history has grown
 module _ (s : Script) (st : Stage) (ls : List StageLooper) (st' : Stage) (is : IsStage s st) (is' : IsStage s st') (same : HaveSeenTheSame st) (same' : HaveSeenTheSame st')
-    (loopers : AreLoopers s st.hall ls) (on : LoopersGoOn ls) (now : ℕ) (rounds : (k : ℕ) (d : StageLooper) → k < length st.loopers.items → HasRun s now (slice_index_or st.loopers.items k d) (slice_index_or ls k d)) (waits : (k : ℕ) (d : StageLooper) → k < length st.loopers.items → ComesToWait s (slice_index_or st.loopers.items k d) (slice_index_or ls k d))
+    (loopers : AreLoopers s st.hall ls) (on : LoopersGoOn ls) (waits : (k : ℕ) (d : StageLooper) → k < length st.loopers.items → ComesToWait s (slice_index_or st.loopers.items k d) (slice_index_or ls k d))
     (kept : AtEach (LooperKeeps HaveHeard) ls st'.loopers.items) (still : seen_by st'.controller.kit.posters.items ≡ seen_by st.controller.kit.posters.items) where
   -- the loopers are as many as the queues, before and after
   counts : (length ls ≡ length st'.loopers.items) × (length st.loopers.items ≡ length st'.loopers.items)
@@ -171,9 +131,9 @@ module _ (s : Script) (st : Stage) (ls : List StageLooper) (st' : Stage) (is : I
       let lt1 : q < length ls = subst (λ (n : ℕ). q < n) (sym counts.0) lt in
       let last = (kept.each q l lt1).last in
       record {
-        going = subst (λ (r : Round). is_ended r ≡ false → is_over base (whole_on st'.controller q d) ≡ false) (sym last) (λ going.
+        quiet = subst (λ (r : Round). is_ended r ≡ false → HasNoneDue base (whole_on st'.controller q d) (clock base (whole_on st'.controller q d))) (sym last) (λ going.
             let come = waits q l lt0 going (on q l lt1) in
-            subst (λ (es : List Entry). is_over base es ≡ false) (came_seen q l d lt come.0) (lives_on s st.hall is.hall now (slice_index_or st.loopers.items q l) (slice_index_or ls q l) (loopers.1 q l lt1).0 (rounds q l lt0) going (on q l lt1)));
+            subst (λ (es : List Entry). HasNoneDue base es (clock base es)) (came_seen q l d lt come.0) come.2);
         waits = subst (λ (r : Round). is_ended r ≡ false → until_of r ≡ option_map when_of (first_eligible base (whole_on st'.controller q d))) (sym last) (λ going.
             let come = waits q l lt0 going (on q l lt1) in
             subst (λ (es : List Entry). until_of (slice_index_or ls q l).last ≡ option_map when_of (first_eligible base es)) (came_seen q l d lt come.0) come.1);

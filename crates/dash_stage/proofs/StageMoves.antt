@@ -16,7 +16,7 @@ use Rattle.loop_model.specs.Base.{empty_base}
 use Rattle.loop_model.specs.Entries.{moment_of}
 use Rattle.loop_model.specs.Live.{live}
 use Rattle.loop_model.specs.Pick.{first_eligible, pick}
-use Rattle.loop_model.specs.Answers.{Setting, clock, answer, is_over, has_disposed}
+use Rattle.loop_model.specs.Answers.{Setting, clock, answer, is_over, has_disposed, quit_place}
 use Rattle.loop_model.specs.Legal.{IsLegal, AreNumbered}
 use Rattle.loop_model.proofs.LegalLaws.{IsLegal-last}
 use Rattle.loop_model.proofs.NumberLaws.{AreNumbered-front}
@@ -26,7 +26,7 @@ use Rattle.dash_script.specs.declared.script.Script.{Script}
 use Rattle.looper_run.specs.Holding.{Sender}
 use Rattle.run_model.specs.Asks.{entries_by}
 use Rattle.run_model.specs.Senders.{controller, sender_count}
-use Rattle.run_model.specs.Control.{is_advance, is_none_before}
+use Rattle.run_model.specs.Control.{is_advance, is_none_before, is_in_time}
 use Rattle.run_model.proofs.RunLaws.{entries_by-append, entries_by-unchanged, entries_by-others}
 use Rattle.dash_stage.specs.declared.control.Controller.{Controller}
 use Rattle.dash_stage.specs.declared.stage.Stage.{Stage}
@@ -36,10 +36,10 @@ use Rattle.dash_stage.specs.Stages.{IsStage}
 use Rattle.dash_hall.specs.Hearing.{AtEach, HaveHeard}
 use Rattle.dash_threads.specs.Threads.{ThreadKeeps}
 use Rattle.dash_stage.specs.Sharing.{HaveSeenTheSame}
-use Rattle.dash_stage.specs.Timeliness.{whole_on, IsTimelyUpTo, AreTimelyUpTo, IsAtTime, AreAtTime, AreBy, AreDue, EachTurnsOn, MovesTo, HaveCome}
+use Rattle.dash_stage.specs.Timeliness.{whole_on, IsTimelyUpTo, AreTimelyUpTo, IsAtTime, AreAtTime, AreBy, HasNoneBefore, AreDue, EachTurnsOn, MovesTo, HaveCome}
 use Rattle.dash_stage.proofs.Controls.{time_by_controller, time_of_advances, main_is_not_over, side_is_not_halted}
 use Rattle.dash_stage.proofs.ControlKept.{calls_kept}
-use Rattle.dash_stage.proofs.Timely.{none_of, none_front, of_others, is_whole, advanced_one, timely_others}
+use Rattle.dash_stage.proofs.Timely.{none_of, none_front, of_others, is_whole, in_time_one, before_quit_one, timely_others}
 use Rattle.loop_model.proofs.AfterLaws.{disposed_stays}
 use Rattle.dash_stage.proofs.StageWhole.{sender_at, queues_count, controller_entries, sound_front, threads_heard, thread_made_none, looper_made_none}
 
@@ -89,33 +89,44 @@ eligible_same : (m : ℕ) (es : List Entry) → first_eligible (empty_base m) es
 unfolding first_eligible live
 eligible_same m es = refl
 
+-- nor of whether it is quitting
+quit_same : (m : ℕ) (es : List Entry) → quit_place (empty_base m) es ≡ quit_place (empty_base 0) es
+unfolding quit_place
+quit_same m es = refl
+
+-- the controller is no thread
+pub controls_above : (s : Script) (e : Entry) → e.sender ≡ controller s → s.threads ≤ e.sender
+controls_above s e is = omega (arith, is)
+
 -- no Advance moves a queue that is over
 over_moves_none : (set : Setting) (b : Base) (es : List Entry) (now : ℕ) → is_over b es ≡ true → answer set b es (Advance now) ≡ None
 unfolding answer
 over_moves_none set b es now over = ap (λ (t : Bool). if t || nat_le now (clock b es) || not set.lockstep || is_some (pick b es (clock b es)) then None else Some Advanced) over
 
 -- a queue that the Advance moved was not over, so there was no message before
-none_before : (set : Setting) (b : Base) (es : List Entry) (e : Entry) (now : ℕ) → e.call ≡ Advance now → IsLegal set b (es ++ e ∷ []) → (is_over b es ≡ true) ⊎ (is_none_before now (first_eligible b es) ≡ true)
-    → is_none_before now (first_eligible b es) ≡ true
-none_before set b es e now is legal (inl over) =
+none_before : (set : Setting) (m : ℕ) (es : List Entry) (e : Entry) (now : ℕ) → e.call ≡ Advance now → IsLegal set (empty_base m) (es ++ e ∷ []) → (is_over (empty_base m) es ≡ true) ⊎ HasNoneBefore m now es
+    → HasNoneBefore m now es
+none_before set m es e now is legal (inl over) =
+    let b = empty_base m in
     let reply : answer set b es (Advance now) ≡ Some e.reply = subst (λ (c : Call). answer set b es c ≡ Some e.reply) is (IsLegal-last set b es e legal).reply in
     let wrong : None ≡ Some e.reply = sym (over_moves_none set b es now over) ∙ reply in
     absurd cc
-none_before set b es e now is legal (inr none) = none
+none_before set m es e now is legal (inr none) = none
 
 module _ (s : Script) (past : List Block) (q now : ℕ) (es whole : List Entry) (sound : IsSoundOn s q whole) where
   -- a history stays timely by an Advance past no message
-  pub timely_advanced : (is_over (empty_base (sender_count s)) es ≡ true) ⊎ (is_none_before now (first_eligible (empty_base (sender_count s)) es) ≡ true)
+  pub timely_advanced : (is_over (empty_base (sender_count s)) es ≡ true) ⊎ HasNoneBefore (sender_count s) now es
       → (whole ≡ es) ⊎ ((e : Entry) × (whole ≡ es ++ e ∷ []) × MovesTo now e × (e.sender ≡ controller s)) → (IsSoundOn s q es → IsTimelyUpTo s past q es) → IsTimelyUpTo s past q whole
   timely_advanced due (inl same) timely = subst (IsTimelyUpTo s past q) (sym same) (timely (subst (IsSoundOn s q) same sound))
   timely_advanced due (inr t) timely =
       let e : Entry = t.0 in
-      let base = empty_base (sender_count s) in
       let here = subst (IsSoundOn s q) t.1 sound in
       let before = timely (sound_front s q es (es ++ e ∷ []) (prefix_front es (e ∷ [])) here) in
-      let none = none_before (setting_for s q) base es e now t.2 here.legal due in
+      let none = none_before (setting_for s q) (sender_count s) es e now t.2 here.legal due in
+      let moves : is_in_time es (Advance now) e.reply ≡ true = and_from _ _ (subst (λ o. is_none_before now o ≡ true) (eligible_same (sender_count s) es) none.0) (ap (λ o. not (is_some o)) (sym (quit_same (sender_count s) es) ∙ none.1)) in
       subst (IsTimelyUpTo s past q) (sym t.1) (record {
-        advances = advanced_one es e now t.2 (subst (λ o. is_none_before now o ≡ true) (eligible_same (sender_count s) es) none) before.advances;
+        controls = in_time_one (controller s) es e (ap (λ c. is_in_time es c e.reply) t.2 ∙ moves) before.controls;
+        before_quit = before_quit_one s.threads (controller s) es e (controls_above s e t.3) before.before_quit;
         threads = λ k lt. timely_others k _ es (e ∷ []) (entries_by-others k (e ∷ []) (other_entry k (controller s) e t.3 (λ at. absurd (omega (arith, at, lt))), tt)) (before.threads k lt);
       })
 
@@ -222,7 +233,9 @@ at_time_on s q time es whole front sound same moves (inl le) =
     inl (omega (arith, is, within, le))
 at_time_on s q time es whole front sound same moves (inr over) =
     let base = empty_base (sender_count s) in
-    inr (subst (λ (l : List Entry). has_disposed base l ≡ true) front.1 (disposed_stays base es front.0 (over_is_disposed s q time es (sound_front s q es whole front sound) moves over)))
+    let is : clock base whole ≡ time_in (entries_by (controller s) es) = time_by_controller (setting_for s q) (controller s) refl refl whole sound.legal sound.numbered ∙ ap time_in same in
+    let within = time_of_advances time (entries_by (controller s) es) moves in
+    inr (subst (λ (l : List Entry). has_disposed base l ≡ true) front.1 (disposed_stays base es front.0 (over_is_disposed s q time es (sound_front s q es whole front sound) moves over)), omega (arith, is, within))
 
 -- where each queue's time has come to a moment and no further, or the queue is over, each is at that time
 pub come_at_time : (s : Script) (time : ℕ) (c : Controller) (st' : Stage) (is' : IsStage s st') → HaveHeard c.kit.posters.items st'.controller.kit.posters.items → AreBy time c → HaveCome s time c → AreAtTime s time st'

@@ -18,25 +18,26 @@ use Rattle.looper_run.specs.Holding.{Sender}
 use Rattle.run_model.specs.Senders.{controller, sender_count}
 use Rattle.run_model.specs.Asks.{AreFor, entries_by, token_in}
 use Rattle.run_model.specs.Planned.{Timed, lines_in, lines_of, labels_on, lines_on}
-use Rattle.run_model.specs.Control.{is_advanced_in_time, ends_halted, befores, At, are_on_time}
+use Rattle.run_model.specs.Control.{is_in_time, is_called_in_time, are_before_quit, ends_halted, befores, At, are_on_time}
 use Rattle.run_model.proofs.RunLaws.{entries_by-append, entries_by-others, lines_on-append}
 use Rattle.dash_threads.specs.declared.thread.PostingThread.{PostingThread}
 use Rattle.dash_loopers.specs.declared.looper.StageLooper.{StageLooper}
 use Rattle.dash_stage.specs.declared.control.Controller.{Controller}
 use Rattle.dash_stage.specs.declared.stage.Stage.{Stage}
 use Rattle.dash_hall.specs.Growth.{own}
+use Rattle.dash_stage.specs.Controllers.{are_advances, IsMoving}
 use Rattle.dash_threads.specs.Threads.{IsUpTo, HasCalled, ThreadKeeps}
 use Rattle.dash_loopers.specs.Loopers.{IsSoundOn, setting_for, is_given_up, LooperKeeps}
 use Rattle.dash_stage.specs.Stages.{IsStage, HaveRun, RunOn, LoopersGoOn}
 use Rattle.dash_hall.specs.Hearing.{AtEach, HaveHeard}
 use Rattle.dash_stage.specs.Sharing.{HaveSeenTheSame}
-use Rattle.dash_stage.specs.Timeliness.{whole_on, IsTimelyUpTo, AreTimelyUpTo, IsAtTime, AreAtTime, TurnsOn, EachTurnsOn, MovesNot, HasHaltedLast}
+use Rattle.dash_stage.specs.Timeliness.{whole_on, IsTimelyUpTo, AreTimelyUpTo, IsAtTime, AreAtTime, TurnsOn, EachTurnsOn, HasHaltedLast}
 use Rattle.dash_stage.proofs.Blocks.{lines_more}
-use Rattle.dash_stage.proofs.Timely.{advanced_more, advanced_other, timely_others, timely_block}
+use Rattle.dash_stage.proofs.Timely.{in_time_one, in_time_more, before_quit_one, before_quit_block, moves_quit_not, timely_others, timely_block}
 use Rattle.dash_stage.proofs.HallEnds.{some_of}
 use Rattle.dash_stage.proofs.ThreadShares.{up_to_kept}
 use Rattle.dash_stage.proofs.StageWhole.{as_many, controller_entries, thread_entries, sound_front, none_behind}
-use Rattle.dash_stage.proofs.StageMoves.{turned_on, turned_left}
+use Rattle.dash_stage.proofs.StageMoves.{controls_above, turned_on, turned_left}
 
 -- ---- lists and histories
 
@@ -63,12 +64,9 @@ called_count : (s : Script) (bs : List Block) (k : ℕ) (t : PostingThread) → 
 called_count s bs k t number up q d lt = for_count _ [] _ _ (subst (λ n. HasCalled s (lines_of k bs) n t.kit.posters.items) number up.called q d lt)
 
 module _ (s : Script) (q : ℕ) (es whole : List Entry) (front : IsPrefix es whole) (sound : IsSoundOn s q whole) (controlled : entries_by (controller s) whole ≡ entries_by (controller s) es) where
-  -- no Advance came
-  advanced_behind : is_advanced_in_time whole ≡ is_advanced_in_time es
-  advanced_behind =
-      let base = empty_base (sender_count s) in
-      let numbered = subst (AreNumbered (setting_for s q) base) (sym front.1) sound.numbered in
-      ap is_advanced_in_time (sym front.1) ∙ advanced_more (setting_for s q) (controller s) refl es front.0 numbered (none_behind (controller s) es whole front controlled)
+  -- the controller called nothing
+  in_time_behind : is_called_in_time (controller s) whole ≡ is_called_in_time (controller s) es
+  in_time_behind = ap (is_called_in_time (controller s)) (sym front.1) ∙ in_time_more (controller s) es front.0 (none_behind (controller s) es whole front controlled)
 
   -- a thread that has made the calls of one block more, at the block's time, is on time
   block_on_time : (past : List Block) (b : Block) (k : ℕ) → IsAtTime (sender_count s) b.time es → (let labels = labels_on q (lines_of k s.blocks) in
@@ -97,10 +95,10 @@ pub heard_entries : (s : Script) (st st' : Stage) → IsStage s st → IsStage s
 heard_entries s st st' is is' heard q d lt =
     controller_entries s st' is' q d (subst (λ (n : ℕ). q < n) (sym heard.long) lt) ∙ (heard.each q d lt).called ∙ sym (controller_entries s st is q d lt)
 
--- a block that the threads have run at its time
-pub block_timely : (s : Script) (st st' : Stage) (b : Block) (past : List Block) → IsStage s st → IsStage s st' → HaveRun s past st.threads.items → HaveRun s (past ++ b ∷ []) st'.threads.items
+-- a block that the threads have run at its time, where the controller has only moved the time so far
+pub block_timely : (s : Script) (st st' : Stage) (b : Block) (past : List Block) → IsMoving s st.controller → IsStage s st → IsStage s st' → HaveRun s past st.threads.items → HaveRun s (past ++ b ∷ []) st'.threads.items
     → HaveHeard st.controller.kit.posters.items st'.controller.kit.posters.items → HaveSeenTheSame st' → AreAtTime s b.time st → AreTimelyUpTo s past st → AreTimelyUpTo s (past ++ b ∷ []) st'
-block_timely s st st' b past is is' run run' heard same' at timely = record {
+block_timely s st st' b past moving is is' run run' heard same' at timely = record {
   same = same';
   timely = λ q d lt' sound'.
       let lt : q < length st.controller.kit.posters.items = subst (λ (n : ℕ). q < n) heard.long lt' in
@@ -110,7 +108,10 @@ block_timely s st st' b past is is' run run' heard same' at timely = record {
       let controlled = heard_entries s st st' is is' heard q d lt in
       let sound = sound_front s q es whole front sound' in
       let was = timely.timely q d lt sound in record {
-        advances = advanced_behind s q es whole front sound' controlled ∙ was.advances;
+        controls = in_time_behind s q es whole front sound' controlled ∙ was.controls;
+        before_quit = subst (λ (l : List Entry). are_before_quit s.threads (controller s) l ≡ true) front.1
+            (before_quit_block s.threads (controller s) es front.0 (none_behind (controller s) es whole front controlled)
+            (moves_quit_not s.end (controller s) es (ap (are_advances s.end) (controller_entries s st is q d lt) ∙ moving q d lt)) was.before_quit);
         threads = λ k few.
             let in_st : k < length st.threads.items = subst (λ (n : ℕ). k < n) (sym is.threads.0) few in
             let in_st' : k < length st'.threads.items = subst (λ (n : ℕ). k < n) (sym is'.threads.0) few in
@@ -129,21 +130,26 @@ block_timely s st st' b past is is' run run' heard same' at timely = record {
 
 -- ---- turns of the controller that move no time
 
--- a history stays timely by one entry of the controller that is no Advance
-timely_other : (s : Script) (past : List Block) (q : ℕ) (es : List Entry) (e : Entry) → MovesNot e → e.sender ≡ controller s → IsTimelyUpTo s past q es → IsTimelyUpTo s past q (es ++ e ∷ [])
-timely_other s past q es e moves_not sender timely = record {
-  advances = advanced_other es e moves_not timely.advances;
+-- a history stays timely by one entry of the controller that is in time
+timely_other : (s : Script) (past : List Block) (q : ℕ) (es : List Entry) (e : Entry) → is_in_time es e.call e.reply ≡ true → e.sender ≡ controller s → IsTimelyUpTo s past q es → IsTimelyUpTo s past q (es ++ e ∷ [])
+timely_other s past q es e in_time sender timely = record {
+  controls = in_time_one (controller s) es e in_time timely.controls;
+  before_quit = before_quit_one s.threads (controller s) es e (controls_above s e sender) timely.before_quit;
   threads = λ k lt. timely_others k _ es (e ∷ []) (entries_by-others k (e ∷ []) (ne_eqb e.sender k (λ at. absurd (omega (arith, at, sender, lt))), tt)) (timely.threads k lt);
 }
 
--- a history stays timely by a turn of the controller that moves no time
-timely_turned : (s : Script) (past : List Block) (q : ℕ) (es whole : List Entry) → IsSoundOn s q whole → (whole ≡ es) ⊎ ((e : Entry) × (whole ≡ es ++ e ∷ []) × MovesNot e × (e.sender ≡ controller s))
-    → (IsSoundOn s q es → IsTimelyUpTo s past q es) → IsTimelyUpTo s past q whole
-timely_turned s past q es whole sound (inl same) timely = subst (IsTimelyUpTo s past q) (sym same) (timely (subst (IsSoundOn s q) same sound))
-timely_turned s past q es whole sound (inr t) timely =
+-- what the controller's turn left is in time
+abbrev pub IsInTimeBy : (Entry → Type 0) → Script → ℕ → List Entry → Type 0
+IsInTimeBy P s q es = (e : Entry) → IsSoundOn s q (es ++ e ∷ []) → P e → is_in_time es e.call e.reply ≡ true
+
+-- a history stays timely by a turn of the controller that is in time
+timely_turned : (P : Entry → Type 0) (s : Script) (past : List Block) (q : ℕ) (es whole : List Entry) → IsInTimeBy P s q es → IsSoundOn s q whole
+    → (whole ≡ es) ⊎ ((e : Entry) × (whole ≡ es ++ e ∷ []) × P e × (e.sender ≡ controller s)) → (IsSoundOn s q es → IsTimelyUpTo s past q es) → IsTimelyUpTo s past q whole
+timely_turned P s past q es whole in_time sound (inl same) timely = subst (IsTimelyUpTo s past q) (sym same) (timely (subst (IsSoundOn s q) same sound))
+timely_turned P s past q es whole in_time sound (inr t) timely =
     let e : Entry = t.0 in
     let before = sound_front s q es whole (e ∷ [], sym t.1) sound in
-    subst (IsTimelyUpTo s past q) (sym t.1) (timely_other s past q es e t.2 t.3 (timely before))
+    subst (IsTimelyUpTo s past q) (sym t.1) (timely_other s past q es e (in_time e (subst (IsSoundOn s q) t.1 sound) t.2) t.3 (timely before))
 
 -- a controller that has taken no turn
 pub turns_none : (P : Entry → Type 0) (c : Controller) → EachTurnsOn P c c
@@ -175,19 +181,28 @@ turns_more P first now after n turns kept long here elsewhere = (
 -- from a stage, over the controller's turns, to one in which all have seen the same again, and nobody else called anything
 module _ (s : Script) (st : Stage) (c : Controller) (st' : Stage) (is : IsStage s st) (is' : IsStage s st') (same : HaveSeenTheSame st) (same' : HaveSeenTheSame st')
     (threads : AtEach (ThreadKeeps HaveHeard) st.threads.items st'.threads.items) (loopers : AtEach (LooperKeeps HaveHeard) st.loopers.items st'.loopers.items)
-    (heard : HaveHeard c.kit.posters.items st'.controller.kit.posters.items) (turns : EachTurnsOn MovesNot st.controller c) where
-  -- the histories stay timely
-  pub turned_timely : (past : List Block) → AreTimelyUpTo s past st → AreTimelyUpTo s past st'
-  turned_timely past timely = record {
+    (heard : HaveHeard c.kit.posters.items st'.controller.kit.posters.items) (P : Entry → Type 0) (turns : EachTurnsOn P st.controller c) where
+  -- the histories stay timely, where on each queue no turn was taken, or what it left is in time
+  pub turned_timely : (past : List Block) → ((q : ℕ) (d : Sender) → q < length st.controller.kit.posters.items → (slice_index_or c.kit.posters.items q d ≡ slice_index_or st.controller.kit.posters.items q d) ⊎ IsInTimeBy P s q (whole_on st.controller q d))
+      → AreTimelyUpTo s past st → AreTimelyUpTo s past st'
+  turned_timely past in_time timely = record {
     same = same';
     timely = λ q d lt' sound.
         let lt : q < length st.controller.kit.posters.items = subst (λ (n : ℕ). q < n) (heard.long ∙ turns.long) lt' in
-        timely_turned s past q (whole_on st.controller q d) (whole_on st'.controller q d) sound (turned_on s st c st' is is' same same' threads loopers heard MovesNot turns q d lt sound.numbered) (timely.timely q d lt);
+        let es = whole_on st.controller q d in
+        let whole = whole_on st'.controller q d in
+        let before = timely.timely q d lt in
+        elim (in_time q d lt) [
+          | inl kept ↦
+              let stays : whole ≡ es = turned_left s st c st' is is' same same' threads loopers heard P turns q d lt sound.numbered ∙ ap (λ (p : Sender). p.view.seen) kept in
+              subst (IsTimelyUpTo s past q) (sym stays) (before (subst (IsSoundOn s q) stays sound))
+          | inr one ↦ timely_turned P s past q es whole one sound (turned_on s st c st' is is' same same' threads loopers heard P turns q d lt sound.numbered) before
+        ];
   }
 
   -- where the controller halted main, main's history ends with the halt
   pub halted_stays : ((d : Sender) → ends_halted (whole_on c 0 d) ≡ true) → HasHaltedLast s st'
-  halted_stays halted d lt sound = ap ends_halted (turned_left s st c st' is is' same same' threads loopers heard MovesNot turns 0 d (subst (λ (n : ℕ). 0 < n) (heard.long ∙ turns.long) lt) sound.numbered) ∙ halted d
+  halted_stays halted d lt sound = ap ends_halted (turned_left s st c st' is is' same same' threads loopers heard P turns 0 d (subst (λ (n : ℕ). 0 < n) (heard.long ∙ turns.long) lt) sound.numbered) ∙ halted d
 
 -- ---- what stays while others are heard
 

@@ -31,7 +31,7 @@ use Rattle.dash_stage.proofs.Badges.{alike_length, alike_at}
 use Rattle.dash_stage.proofs.Controlling.{poster_count}
 use Rattle.dash_stage.proofs.HallEnds.{some_of}
 use Rattle.dash_stage.proofs.LooperShares.{looper_within, looper_posters}
-use Rattle.dash_stage.proofs.Timely.{none_of, advanced_more, timely_others}
+use Rattle.dash_stage.proofs.Timely.{none_of, in_time_more, before_quit_more, timely_others}
 
 abbrev seen : Sender → List Entry
 seen p = p.view.seen
@@ -112,9 +112,9 @@ none_behind k es whole front same = none_of k es front.0 (ap (entries_by k) fron
 pub timely_stays : (s : Script) (past : List Block) (q : ℕ) (es whole : List Entry) → IsPrefix es whole → IsSoundOn s q whole → entries_by (controller s) whole ≡ entries_by (controller s) es
     → ((k : ℕ) → k < s.threads → entries_by k whole ≡ entries_by k es) → IsTimelyUpTo s past q es → IsTimelyUpTo s past q whole
 timely_stays s past q es whole front sound controlled threads timely =
-    let numbered = subst (AreNumbered (setting_for s q) (empty_base (sender_count s))) (sym front.1) sound.numbered in
     subst (IsTimelyUpTo s past q) front.1 (record {
-      advances = advanced_more (setting_for s q) (controller s) refl es front.0 numbered (none_behind (controller s) es whole front controlled) ∙ timely.advances;
+      controls = in_time_more (controller s) es front.0 (none_behind (controller s) es whole front controlled) ∙ timely.controls;
+      before_quit = before_quit_more s.threads (controller s) es front.0 (λ k lt. none_behind k es whole front (threads k lt)) timely.before_quit;
       threads = λ k lt. timely_others k _ es front.0 (none_behind k es whole front (threads k lt)) (timely.threads k lt);
     })
 

@@ -1,9 +1,10 @@
 -- From what all senders of a queue in lockstep have seen of its history to what they have seen a while later.
-use Rattle.std.proofs.Common.{◌≡◌, ℕ, ◌<◌, ◌+◌, suc, Bool, true, false, List, [], ◌∷◌, ◌++◌, map, length, refl, sym, ap, ◌∙◌, subst, arith, inl, inr, append_assoc}
-use Rattle.std.specs.Prelude.{◌==◌, ◌&&◌, ◌||◌, not, if◌then◌else◌}
+use Rattle.std.proofs.Common.{◌≡◌, ℕ, ◌<◌, ◌≤◌, ◌+◌, suc, Bool, true, false, List, [], ◌∷◌, ◌++◌, map, length, refl, sym, ap, ◌∙◌, subst, arith, inl, inr, append_assoc}
+use Rattle.std.specs.Prelude.{◌==◌, ◌&&◌, ◌||◌, not, nat_lt, filter, if◌then◌else◌}
 use Rattle.std.specs.List.{AllByRecursion}
-use Rattle.std.proofs.Math.Bool.{and-true, and_assoc}
-use Rattle.std.proofs.lemmas.Bool.{and_parts, and_from, or_left, or_right, false_from_ne_true, eq-eqb}
+use Rattle.std.proofs.Math.Bool.{and-true}
+use Rattle.std.proofs.lemmas.Bool.{and_parts, and_from, or_from, or_left, or_right, false_from_ne_true, eq-eqb, le-leb, ltb-true}
+use Rattle.std.proofs.lemmas.List.Folds.{list_any-append}
 use Rattle.std.proofs.lemmas.List.{append-nil, append_cancel_left, map-append}
 use mathlib.Core.List.{IsPrefix}
 use Rattle.dash_script.specs.declared.script.Script.{Script}
@@ -12,23 +13,23 @@ use Rattle.loop_model.specs.declared.call.Call.TheVariants.{Post, Barrier, Unbar
 use Rattle.loop_model.specs.declared.reply.Reply.TheVariants.{Halted}
 use Rattle.loop_model.specs.declared.base.Base.{Base}
 use Rattle.loop_model.specs.declared.entry.Entry.{Entry}
-use Rattle.loop_model.specs.Entries.{moment_of, is_halted}
+use Rattle.loop_model.specs.Entries.{is_halted}
 use Rattle.loop_model.specs.Base.{empty_base}
-use Rattle.loop_model.specs.Pick.{first_eligible}
 use Rattle.loop_model.specs.Answers.{Setting, clock, has_disposed}
-use Rattle.loop_model.specs.Legal.{IsLegal, AreNumbered, IsNextOfSender, is_control}
+use Rattle.loop_model.specs.Legal.{IsLegal, AreNumbered, IsNextOfSender}
 use Rattle.loop_model.proofs.AfterLaws.{disposed_stays}
+use Rattle.loop_model.proofs.Growing.{entry_by_entry}
 use Rattle.loop_model.proofs.LegalLaws.{IsLegal-front}
 use Rattle.loop_model.proofs.NumberLaws.{AreNumbered-front, AreNumbered-last}
 use Rattle.loop_model.proofs.Sorting.{AllByRecursion-filter}
 use Rattle.run_model.specs.Asks.{entries_by}
 use Rattle.run_model.specs.Planned.{Timed, lines_on}
-use Rattle.run_model.specs.Control.{is_advance, is_none_before, are_advances_due, is_advanced_in_time, ends_halted, Before, before, befores, befores_after, Timing, At, is_on_time, are_on_time}
-use Rattle.run_model.proofs.ControlLaws.{goes_past_none, is_advanced_in_time-snoc}
+use Rattle.run_model.specs.Control.{is_advance, is_quit, is_in_time, each_behind, comes_in_time, is_called_in_time, has_quit_by, comes_before_quit, are_before_quit, ends_halted, Before, before, befores, befores_from, befores_after, Timing, At, is_on_time, are_on_time}
+use Rattle.run_model.proofs.ControlLaws.{each_behind-snoc, each_behind-append}
 use Rattle.run_model.proofs.RunLaws.{AreOfOthers, entries_by-append, entries_by-others, entries_by-unchanged, befores_after-append, befores-others, lines_on-append}
 use Rattle.dash_stage.specs.Timeliness.{IsAtTime}
-use Rattle.dash_stage.specs.Controllers.{time_in}
-use Rattle.dash_stage.proofs.Controls.{time_by_controller}
+use Rattle.dash_stage.specs.Controllers.{are_advances, time_in}
+use Rattle.dash_stage.proofs.Controls.{own_advances, time_by_controller}
 
 -- what a sender has made more in a longer history is its entries in the rest
 pub more_of : (k : ℕ) (es more made : List Entry) → entries_by k (es ++ more) ≡ entries_by k es ++ made → entries_by k more ≡ made
@@ -44,7 +45,7 @@ none_front [] ys none = refl
 none_front (x ∷ xs) ys none = absurd (cc none)
 
 -- a sender that has no entry has not made the first one
-own_of_none : (k : ℕ) (e : Entry) (es : List Entry) → (e.sender == k) ≡ true → entries_by k (e ∷ es) ≡ [] → ⊥
+pub own_of_none : (k : ℕ) (e : Entry) (es : List Entry) → (e.sender == k) ≡ true → entries_by k (e ∷ es) ≡ [] → ⊥
 own_of_none k e es own none = absurd (let wrong : e ∷ entries_by k es ≡ [] = ap (λ (b : Bool). if b then e ∷ entries_by k es else entries_by k es) (sym own) ∙ none in cc wrong)
 
 -- the entries of a history in which a sender has none are of others
@@ -56,7 +57,7 @@ of_others k (e ∷ es) none =
 
 module _ (set : Setting) (b : Base) where
   -- the first entry of the rest is the next of its sender, and the rest goes on behind it
-  numbered_next : (es more : List Entry) (e : Entry) → AreNumbered set b (es ++ e ∷ more) → IsNextOfSender set b es e × AreNumbered set b ((es ++ e ∷ []) ++ more)
+  pub numbered_next : (es more : List Entry) (e : Entry) → AreNumbered set b (es ++ e ∷ more) → IsNextOfSender set b es e × AreNumbered set b ((es ++ e ∷ []) ++ more)
   numbered_next es more e numbered =
       let on = subst (AreNumbered set b) (sym (append_assoc es (e ∷ []) more)) numbered in
       (AreNumbered-last set b es e (AreNumbered-front set b (es ++ e ∷ []) more on), on)
@@ -100,10 +101,14 @@ counted_first : (t : Bool) (b : Before) (e : Entry) (bs : List Before) (es : Lis
 counted_first true b e bs es h = ap suc h
 counted_first false b e bs es h = h
 
--- for each entry of the sender there is what stood before it
+-- for each entry that passes the test there is what stood before it
+pub befores_from-count : (test : Entry → Bool) (past es : List Entry) → length (befores_from test past es) ≡ length (filter test es)
+befores_from-count test past [] = refl
+befores_from-count test past (e ∷ es) = counted_first (test e) (before past) e (befores_from test (past ++ e ∷ []) es) (filter test es) (befores_from-count test (past ++ e ∷ []) es)
+
+-- and for each entry of the sender
 pub befores_count : (k : ℕ) (es more : List Entry) → length (befores_after k es more) ≡ length (entries_by k more)
-befores_count k es [] = refl
-befores_count k es (e ∷ more) = counted_first (e.sender == k) (before es) e (befores_after k (es ++ e ∷ []) more) (entries_by k more) (befores_count k (es ++ e ∷ []) more)
+befores_count k es more = befores_from-count (λ e. e.sender == k) es more
 
 -- calls that are on time, and more of them
 pub on_time_more : (ts us : List Timing) (bs cs : List Before) → are_on_time ts bs ≡ true → are_on_time us cs ≡ true → are_on_time (ts ++ us) (bs ++ cs) ≡ true
@@ -127,39 +132,91 @@ on_time_at time (l ∷ lines) [] at all long = absurd (omega (arith, long))
 on_time_at time (l ∷ lines) (b ∷ bs) at all long =
     and_from _ _ (ap (λ t. is_on_time (At t) b) at.0 ∙ all.0) (on_time_at time lines bs at.1 all.1 (omega (arith, long)))
 
--- one more Advance, past no eligible message
-pub advanced_one : (es : List Entry) (e : Entry) (now : ℕ) → e.call ≡ Advance now → is_none_before now (first_eligible (empty_base 0) es) ≡ true → is_advanced_in_time es ≡ true
-    → is_advanced_in_time (es ++ e ∷ []) ≡ true
-advanced_one es e now is none h =
-    is_advanced_in_time-snoc es e h (ap (λ c. not (is_advance c) || is_none_before (moment_of c) (first_eligible (empty_base 0) es)) is ∙ none)
+-- ---- the controller's calls
 
--- one more entry that is no Advance
-pub advanced_other : (es : List Entry) (e : Entry) → is_advance e.call ≡ false → is_advanced_in_time es ≡ true → is_advanced_in_time (es ++ e ∷ []) ≡ true
-advanced_other es e isnt h = is_advanced_in_time-snoc es e h (ap (λ t. not t || is_none_before (moment_of e.call) (first_eligible (empty_base 0) es)) isnt)
+-- one more entry that is in time
+pub in_time_one : (n : ℕ) (es : List Entry) (e : Entry) → is_in_time es e.call e.reply ≡ true → is_called_in_time n es ≡ true → is_called_in_time n (es ++ e ∷ []) ≡ true
+unfolding is_called_in_time
+in_time_one n es e one h = each_behind-snoc (comes_in_time n) [] es e h (or_right _ _ one)
 
--- an Advance is the controller's
-advance_is_control : (c : Call) → is_control c ≡ false → is_advance c ≡ false
-advance_is_control (Advance now) h = absurd cc
-advance_is_control (Post p) h = refl
-advance_is_control (Barrier now) h = refl
-advance_is_control (Unbarrier t) h = refl
-advance_is_control (Remove f) h = refl
-advance_is_control (Quit safe now) h = refl
-advance_is_control (Next now) h = refl
-advance_is_control (Halt now) h = refl
+-- entries of others
+in_time_others : (n : ℕ) (past es : List Entry) → AreOfOthers n es → each_behind (comes_in_time n) past es ≡ true
+in_time_others n past [] others = refl
+in_time_others n past (e ∷ es) others = and_from _ _ (ap (λ t. not t || is_in_time past e.call e.reply) others.0) (in_time_others n (past ++ e ∷ []) es others.1)
 
--- Advances past no message, and more of them
-are_advances_due-append : (past xs ys : List Entry) → are_advances_due past (xs ++ ys) ≡ (are_advances_due past xs && are_advances_due (past ++ xs) ys)
-are_advances_due-append past [] ys = ap (λ l. are_advances_due l ys) (sym (append-nil past))
-are_advances_due-append past (x ∷ xs) ys =
-    ap (λ t. goes_past_none past x && t) (are_advances_due-append (past ++ x ∷ []) xs ys ∙ ap (λ l. are_advances_due (past ++ x ∷ []) xs && are_advances_due l ys) (append_assoc past (x ∷ []) xs))
-    ∙ sym (and_assoc (goes_past_none past x) (are_advances_due (past ++ x ∷ []) xs) (are_advances_due (past ++ x ∷ xs) ys))
+-- change nothing of it
+pub in_time_more : (n : ℕ) (es more : List Entry) → entries_by n more ≡ [] → is_called_in_time n (es ++ more) ≡ is_called_in_time n es
+unfolding is_called_in_time
+in_time_more n es more none =
+    each_behind-append (comes_in_time n) [] es more ∙ ap (λ t. each_behind (comes_in_time n) [] es && t) (in_time_others n es more (of_others n more none)) ∙ and-true (each_behind (comes_in_time n) [] es)
 
--- calls that are not the controller's are no Advances
-are_advances_due-none : (past es : List Entry) → AllByRecursion (λ e. is_control e.call ≡ false) es → are_advances_due past es ≡ true
-are_advances_due-none past [] free = refl
-are_advances_due-none past (e ∷ es) free =
-    and_from _ _ (ap (λ t. not t || is_none_before (moment_of e.call) (first_eligible (empty_base 0) past)) (advance_is_control e.call free.0)) (are_advances_due-none (past ++ e ∷ []) es free.1)
+-- ---- the threads' calls come before the controller's quit
+
+-- one more entry, which is no thread's
+pub before_quit_one : (threads n : ℕ) (es : List Entry) (e : Entry) → threads ≤ e.sender → are_before_quit threads n es ≡ true → are_before_quit threads n (es ++ e ∷ []) ≡ true
+unfolding are_before_quit
+before_quit_one threads n es e above h = each_behind-snoc (comes_before_quit threads n) [] es e h (ap (λ t. not t || not (has_quit_by n es)) (not_below e.sender threads above))
+  where
+    not_below : (k m : ℕ) → m ≤ k → nat_lt k m ≡ false
+    not_below k m le = false_from_ne_true (nat_lt k m) (λ lt. let less = ltb-true k m lt in absurd (omega (arith, less, le)))
+
+-- entries of which no thread has one
+pub no_threads : (threads : ℕ) (es : List Entry) → ((k : ℕ) → k < threads → entries_by k es ≡ []) → AllByRecursion (λ e. nat_lt e.sender threads ≡ false) es
+no_threads threads [] none = tt
+no_threads threads (e ∷ es) none = (
+  false_from_ne_true (nat_lt e.sender threads) (λ lt. own_of_none e.sender e es (eq-eqb e.sender e.sender refl) (none e.sender (ltb-true e.sender threads lt))),
+  no_threads threads es (λ k lt. entries_by-others k es (of_others k (e ∷ es) (none k lt)).1),
+)
+
+before_quit_others : (threads n : ℕ) (past es : List Entry) → AllByRecursion (λ e. nat_lt e.sender threads ≡ false) es → each_behind (comes_before_quit threads n) past es ≡ true
+before_quit_others threads n past [] others = refl
+before_quit_others threads n past (e ∷ es) others = and_from _ _ (ap (λ t. not t || not (has_quit_by n past)) others.0) (before_quit_others threads n (past ++ e ∷ []) es others.1)
+
+-- change nothing of it
+pub before_quit_more : (threads n : ℕ) (es more : List Entry) → ((k : ℕ) → k < threads → entries_by k more ≡ []) → are_before_quit threads n es ≡ true → are_before_quit threads n (es ++ more) ≡ true
+unfolding are_before_quit
+before_quit_more threads n es more none h =
+    each_behind-append (comes_before_quit threads n) [] es more ∙ and_from _ _ h (before_quit_others threads n es more (no_threads threads more none))
+
+-- where the controller has not quit, it has not quit behind entries of others either
+none_quits_more : (n : ℕ) (es : List Entry) (e : Entry) → (e.sender == n) ≡ false → has_quit_by n es ≡ false → has_quit_by n (es ++ e ∷ []) ≡ false
+none_quits_more n es e other none = list_any-append (λ e. e.sender == n && is_quit e.call) es (e ∷ []) ∙ or_from _ _ none (ap (λ t. t && is_quit e.call || false) other)
+
+before_quit_while : (threads n : ℕ) (past es : List Entry) → AreOfOthers n es → has_quit_by n past ≡ false → each_behind (comes_before_quit threads n) past es ≡ true
+before_quit_while threads n past [] others none = refl
+before_quit_while threads n past (e ∷ es) others none =
+    and_from _ _ (or_right _ _ (ap not none)) (before_quit_while threads n (past ++ e ∷ []) es others.1 (none_quits_more n past e others.0 none))
+
+-- so calls that come while the controller has not quit come before its quit
+pub before_quit_block : (threads n : ℕ) (es more : List Entry) → entries_by n more ≡ [] → has_quit_by n es ≡ false → are_before_quit threads n es ≡ true → are_before_quit threads n (es ++ more) ≡ true
+unfolding are_before_quit
+before_quit_block threads n es more none quit h =
+    each_behind-append (comes_before_quit threads n) [] es more ∙ and_from _ _ h (before_quit_while threads n es more (of_others n more none) quit)
+
+-- an Advance is no quit
+advance_quits_not : (c : Call) → is_advance c ≡ true → is_quit c ≡ false
+advance_quits_not (Advance now) h = refl
+advance_quits_not (Post p) h = absurd cc
+advance_quits_not (Barrier now) h = absurd cc
+advance_quits_not (Unbarrier t) h = absurd cc
+advance_quits_not (Remove f) h = absurd cc
+advance_quits_not (Quit safe now) h = absurd cc
+advance_quits_not (Next now) h = absurd cc
+advance_quits_not (Halt now) h = absurd cc
+
+quits_not : (own quits : Bool) → (own ≡ true → quits ≡ false) → (own && quits || false) ≡ false
+quits_not true quits h = ap (λ t. t || false) (h refl)
+quits_not false quits h = refl
+
+-- a controller that has only moved the time has not quit
+pub moves_quit_not : (end n : ℕ) (es : List Entry) → are_advances end (entries_by n es) ≡ true → has_quit_by n es ≡ false
+moves_quit_not end n = entry_by_entry (λ es. are_advances end (entries_by n es) ≡ true → has_quit_by n es ≡ false)
+    (λ h. refl)
+    (λ es e before h.
+    let moved = own_advances end n es e h in
+    list_any-append (λ e. e.sender == n && is_quit e.call) es (e ∷ []) ∙ or_from _ _ (before moved.0) (quits_not (e.sender == n) (is_quit e.call) (λ own. advance_quits_not e.call (moved.1 own))))
+
+-- ---- the time of a call
 
 -- the number of senders changes nothing of the time
 pub clock_same : (m : ℕ) (es : List Entry) → clock (empty_base m) es ≡ clock (empty_base 0) es
@@ -171,10 +228,11 @@ pub has_disposed_same : (m : ℕ) (es : List Entry) → has_disposed (empty_base
 unfolding has_disposed
 has_disposed_same m es = refl
 
--- a call that comes at the time, or after the disposal, is on time
+-- a call that comes at the time, or after the disposal by then, is on time
 on_time_now : (senders time : ℕ) (es : List Entry) → IsAtTime senders time es → is_on_time (At time) (before es) ≡ true
 on_time_now senders time es (inl now) = or_left _ _ (eq-eqb (clock (empty_base 0) es) time (sym (clock_same senders es) ∙ now))
-on_time_now senders time es (inr gone) = or_right _ _ (sym (has_disposed_same senders es) ∙ gone)
+on_time_now senders time es (inr (gone, by)) =
+    or_right _ _ (and_from _ _ (sym (has_disposed_same senders es) ∙ gone) (le-leb (clock (empty_base 0) es) time (subst (λ n. n ≤ time) (clock_same senders es) by)))
 
 -- what is on time for the first entry, where it is the sender's, and for the rest
 on_time_first : (time : ℕ) (t : Bool) (b : Before) (bs : List Before) → is_on_time (At time) b ≡ true → AllByRecursion (λ b. is_on_time (At time) b ≡ true) bs
@@ -183,25 +241,6 @@ on_time_first time true b bs one all = (one, all)
 on_time_first time false b bs one all = all
 
 module _ (set : Setting) (n : ℕ) (last : n + 1 ≡ set.senders) where
-  -- the controller's own calls are not among entries of others
-  no_controls : (es more : List Entry) → AreNumbered set (empty_base set.senders) (es ++ more) → entries_by n more ≡ [] → AllByRecursion (λ e. is_control e.call ≡ false) more
-  no_controls es [] numbered none = tt
-  no_controls es (e ∷ more) numbered none =
-      let others = of_others n (e ∷ more) none in
-      let next = numbered_next set (empty_base set.senders) es more e numbered in
-      let free = false_from_ne_true (is_control e.call) (λ c.
-      let same = next.0.controller c in
-      let own : (e.sender == n) ≡ true = eq-eqb e.sender n (omega (arith, same, last)) in
-      let other = others.0 in
-      absurd cc) in
-      (free, no_controls (es ++ e ∷ []) more next.1 (entries_by-others n more others.1))
-
-  -- entries of others are no Advances
-  pub advanced_more : (es more : List Entry) → AreNumbered set (empty_base set.senders) (es ++ more) → entries_by n more ≡ [] → is_advanced_in_time (es ++ more) ≡ is_advanced_in_time es
-  unfolding is_advanced_in_time
-  advanced_more es more numbered none =
-      are_advances_due-append [] es more ∙ ap (λ t. are_advances_due [] es && t) (are_advances_due-none es more (no_controls es more numbered none)) ∙ and-true (are_advances_due [] es)
-
   module _ (lockstep : set.lockstep ≡ true) where
     -- the time stands still where the controller has made nothing more
     pub clock_stays : (es more : List Entry) → IsLegal set (empty_base set.senders) (es ++ more) → AreNumbered set (empty_base set.senders) (es ++ more) → entries_by n more ≡ []
@@ -224,7 +263,7 @@ module _ (set : Setting) (n : ℕ) (last : n + 1 ≡ set.senders) where
     pub stays_at : (time : ℕ) (es more : List Entry) → IsLegal set (empty_base set.senders) (es ++ more) → AreNumbered set (empty_base set.senders) (es ++ more) → entries_by n more ≡ []
         → IsAtTime set.senders time es → IsAtTime set.senders time (es ++ more)
     stays_at time es more legal numbered none (inl now) = inl (clock_stays es more legal numbered none ∙ now)
-    stays_at time es more legal numbered none (inr gone) = inr (disposed_stays (empty_base set.senders) es more gone)
+    stays_at time es more legal numbered none (inr (gone, by)) = inr (disposed_stays (empty_base set.senders) es more gone, subst (λ n. n ≤ time) (sym (clock_stays es more legal numbered none)) by)
 
     -- each call that came more is on time for the time at which they began
     pub befores_at : (k time : ℕ) (es more : List Entry) → IsLegal set (empty_base set.senders) (es ++ more) → AreNumbered set (empty_base set.senders) (es ++ more) → entries_by n more ≡ [] → IsAtTime set.senders time es

@@ -15,7 +15,7 @@ use Rattle.run_model.specs.Asks.{entries_by}
 use Rattle.run_model.specs.Moments.{in_lockstep}
 use Rattle.run_model.specs.Planned.{lines_of, labels_on, lines_on}
 use Rattle.run_model.specs.Senders.{controller, sender_count}
-use Rattle.run_model.specs.Control.{is_advanced_in_time, ends_halted, befores, At, are_on_time}
+use Rattle.run_model.specs.Control.{is_called_in_time, are_before_quit, ends_halted, befores, At, are_on_time}
 use Rattle.run_model.specs.Run.{IsHistory, IsTimely, all_entries, setting_of, main_ends_halted}
 use Rattle.dash_hall.specs.declared.hall.Hall.{Hall}
 use Rattle.dash_hall.specs.declared.kit.Kit.{Kit}
@@ -28,6 +28,7 @@ use Rattle.dash_stage.specs.Records.{AreQueueRecords, HaveAll}
 use Rattle.dash_hall.specs.Hearing.{seen_by, HaveSeenAll}
 use Rattle.dash_stage.specs.Sharing.{OfThreads, OfLoopers, OfKits}
 use Rattle.dash_stage.specs.Timeliness.{whole_on, IsTimelyUpTo}
+use Rattle.dash_stage.specs.Blocks.{come_first, AreBlocksFirst}
 use Rattle.dash_stage.specs.Playing.{AreSound}
 use Rattle.dash_stage.proofs.Badges.{alike_length, queue_count, poster_at}
 use Rattle.dash_stage.proofs.Casting.{first_more}
@@ -86,7 +87,8 @@ setting_is s q r is number =
 -- what is so of the history is so of the record
 timely_record : (s : Script) (q : ℕ) (r : QueueRecord) (es : List Entry) → r.looper ≡ q → r.entries ≡ es → IsTimelyUpTo s s.blocks q es → IsTimely s r
 timely_record s q r es number same h = record {
-  advances = ap is_advanced_in_time same ∙ h.advances;
+  controls = ap (is_called_in_time (controller s)) same ∙ h.controls;
+  before_quit = ap (are_before_quit s.threads (controller s)) same ∙ h.before_quit;
   threads = λ thread below. subst (λ (l : ℕ). are_on_time (map (λ x. At x.time) (lines_on s (labels_on l (lines_of thread s.blocks)) l (lines_of thread s.blocks))) (befores thread r.entries) ≡ true) (sym number)
       (subst (λ (l : List Entry). are_on_time (map (λ x. At x.time) (lines_on s (labels_on q (lines_of thread s.blocks)) q (lines_of thread s.blocks))) (befores thread l) ≡ true) (sym same) (h.threads thread below));
 }
@@ -175,6 +177,12 @@ module _ (s : Script) (hall : Hall) (kits : List Kit) (records : List QueueRecor
   timely_of_records timely = All_recursive (IsTimely s) records (λ q r lt.
       let d = some_of c.kit.posters.items q (within q lt) in
       timely_record s q (slice_index_or records q r) (whole_on c q d) (number q r lt) (is_seen q d r lt) (timely q d (within q lt) (is_sound q d r lt)))
+
+  -- in each record the threads' calls come first at their time
+  pub first_of_records : (AreSound s c → (q : ℕ) (d : Sender) → q < length c.kit.posters.items → come_first s.threads (whole_on c q d) ≡ true) → AreBlocksFirst s records
+  first_of_records first = All_recursive (λ (r : QueueRecord). come_first s.threads r.entries ≡ true) records (λ q r lt.
+      let d = some_of c.kit.posters.items q (within q lt) in
+      ap (come_first s.threads) (is_seen q d r lt) ∙ first all_sound q d (within q lt))
 
   -- main's record ends with its halt
   pub halted_of_records : 0 < s.loopers → ((d : Sender) → 0 < length c.kit.posters.items → IsSoundOn s 0 (whole_on c 0 d) → ends_halted (whole_on c 0 d) ≡ true) → main_ends_halted records ≡ true

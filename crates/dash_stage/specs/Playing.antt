@@ -1,14 +1,14 @@
 -- How far the loopers of a run have come, told by what all senders have seen of each queue.
-use Rattle.std.specs.Prelude.{◌≡◌, ◌≢◌, ◌<◌, ◌≤◌, ◌⊎◌, ◌++◌, ◌==◌, ◌&&◌, ℕ, Bool, true, not, is_some, false, List, [], ◌∷◌, map, length, slice_index_or, if◌then◌else◌}
+use Rattle.std.specs.Prelude.{◌≡◌, ◌≢◌, ◌<◌, ◌≤◌, ◌⊎◌, ◌==◌, ◌&&◌, ℕ, true, not, is_some, false, List, [], map, length, slice_index_or}
 use Rattle.loop_model.specs.declared.entry.Entry.{Entry}
 use Rattle.loop_model.specs.Base.{empty_base}
 use Rattle.loop_model.specs.Pick.{pick}
-use Rattle.loop_model.specs.Answers.{clock, has_disposed, is_over}
+use Rattle.loop_model.specs.Answers.{clock, is_over}
 use Rattle.dash_script.specs.declared.script.Script.{Script}
 use Rattle.looper_run.specs.Holding.{Sender}
 use Rattle.looper_run.specs.Round.{is_ended}
 use Rattle.run_model.specs.Senders.{looper_sender, sender_count}
-use Rattle.run_model.specs.Control.{Before, before, befores, Timing, At, NotBefore, are_on_time}
+use Rattle.run_model.specs.Control.{Before, befores, befores_from, Timing, At, NotBefore, are_on_time}
 use Rattle.run_model.specs.Loopers.{Looper, first_looper}
 use Rattle.run_model.specs.Acts.{sent_on}
 use Rattle.dash_loopers.specs.declared.looper.StageLooper.{StageLooper}
@@ -16,17 +16,13 @@ use Rattle.dash_loopers.specs.Loopers.{IsSoundOn, HasRun}
 use Rattle.dash_loopers.specs.Played.{is_disposal, HasCome, HasPlayed}
 use Rattle.dash_stage.specs.declared.control.Controller.{Controller}
 use Rattle.dash_stage.specs.declared.stage.Stage.{Stage}
+use Rattle.dash_stage.specs.Blocks.{come_first, IsFresh}
 use Rattle.dash_stage.specs.Sharing.{HaveSeenTheSame}
-use Rattle.dash_stage.specs.Timeliness.{whole_on}
+use Rattle.dash_stage.specs.Timeliness.{whole_on, WasDisposedBy}
 
 -- each queue's history is one that it may have
 abbrev pub AreSound : Script → Controller → Type 0
 AreSound s c = (q : ℕ) (d : Sender) → q < length c.kit.posters.items → IsSoundOn s q (whole_on c q d)
-
--- what stood before each entry that passes, after these entries
-abbrev pub befores_from : (Entry → Bool) → List Entry → List Entry → List Before
-befores_from test past [] = []
-befores_from test past (e ∷ es) = (if test e then before past ∷ [] else []) ++ befores_from test (past ++ e ∷ []) es
 
 -- what stood before each call of a sender, but the looks that disposed of the queue
 unfoldable pub befores_called : ℕ → List Entry → List Before
@@ -56,19 +52,32 @@ ArePlayed s st = AreSound s st.controller → (k : ℕ) (d : StageLooper) → k 
 abbrev pub HaveBegun : Script → List StageLooper → Type 0
 HaveBegun s ls = (k : ℕ) (d : StageLooper) → k < length ls → HasCome s (slice_index_or ls k d) (first_looper s)
 
--- the queue's clock shows this time, or its looper has ended and the queue was disposed of
+-- the queue's clock shows this time, or its looper has ended and the queue was disposed of by then
 abbrev pub IsInTime : Script → ℕ → StageLooper → List Entry → Type 0
-IsInTime s time l es = (clock (empty_base (sender_count s)) es ≡ time) ⊎ ((is_ended l.last ≡ true) × (has_disposed (empty_base (sender_count s)) es ≡ true))
+IsInTime s time l es = (clock (empty_base (sender_count s)) es ≡ time) ⊎ ((is_ended l.last ≡ true) × WasDisposedBy (sender_count s) time es)
 
 -- so it is with each queue at the stage's time
 abbrev pub AreInTime : Script → Stage → Type 0
 AreInTime s st = (q : ℕ) (l : StageLooper) (d : Sender) → q < length st.loopers.items → IsInTime s st.time (slice_index_or st.loopers.items q l) (whole_on st.controller q d)
 
--- all have seen the same, and where each queue's history is one that it may have, the queues are at the stage's time and each looper stands at a state whose calls came at their times
+-- where each queue's history is one that it may have, the threads' calls on each came first at their time
+abbrev pub HaveComeFirst : Script → Stage → Type 0
+HaveComeFirst s st = AreSound s st.controller → (q : ℕ) (d : Sender) → q < length st.controller.kit.posters.items → come_first s.threads (whole_on st.controller q d) ≡ true
+
+-- each queue was disposed of, or since its time was last moved only threads have called
+abbrev pub AreFresh : Script → Stage → Type 0
+AreFresh s st = (q : ℕ) (d : Sender) → q < length st.controller.kit.posters.items → IsFresh s.threads (whole_on st.controller q d)
+
+-- this time is later than the stage's; or it is 0, and on each queue only threads have called so far, or it was disposed of
+abbrev pub LiesAhead : Script → ℕ → Stage → Type 0
+LiesAhead s time st = (st.time < time) ⊎ ((time ≡ 0) × AreFresh s st)
+
+-- all have seen the same, and where each queue's history is one that it may have, the queues are at the stage's time, each looper stands at a state whose calls came at their times, and the threads' calls came first
 pub record IsInStep (s : Script) (st : Stage) : Type 0 where
   pub same : HaveSeenTheSame st
   pub in_time : AreSound s st.controller → AreInTime s st
   pub played : ArePlayed s st
+  pub first : HaveComeFirst s st
 
 -- the looper is as it was, or ran a round at this moment and played on
 abbrev pub PlaysOn : Script → ℕ → StageLooper → StageLooper → Type 0

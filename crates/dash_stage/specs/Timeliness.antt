@@ -7,30 +7,31 @@ use Rattle.loop_model.specs.declared.call.Call.TheVariants.{Advance}
 use Rattle.loop_model.specs.Base.{empty_base}
 use Rattle.loop_model.specs.Items.{when_of}
 use Rattle.loop_model.specs.Pick.{first_eligible}
-use Rattle.loop_model.specs.Answers.{clock, has_disposed, is_over}
+use Rattle.loop_model.specs.Answers.{clock, has_disposed, is_over, quit_place}
 use Rattle.dash_script.specs.declared.script.Block.{Block}
 use Rattle.dash_script.specs.declared.script.Script.{Script}
 use Rattle.looper_run.specs.Holding.{Sender}
 use Rattle.looper_run.specs.Round.{is_ended}
 use Rattle.run_model.specs.Asks.{entries_by}
 use Rattle.run_model.specs.Planned.{lines_of, labels_on, lines_on}
-use Rattle.run_model.specs.Senders.{sender_count}
-use Rattle.run_model.specs.Control.{is_advance, is_advanced_in_time, is_none_before, befores, At, are_on_time, ends_halted}
+use Rattle.run_model.specs.Senders.{controller, sender_count}
+use Rattle.run_model.specs.Control.{is_advance, is_halt, is_called_in_time, are_before_quit, is_none_before, befores, At, are_on_time, ends_halted}
 use Rattle.dash_loopers.specs.declared.looper.StageLooper.{StageLooper}
 use Rattle.dash_stage.specs.declared.control.Controller.{Controller}
 use Rattle.dash_stage.specs.declared.stage.Stage.{Stage}
 use Rattle.dash_hall.specs.Growth.{own}
 use Rattle.dash_stage.specs.Controllers.{are_advances, time_in, calls_on}
-use Rattle.dash_loopers.specs.Loopers.{IsSoundOn, until_of, WaitsForNothing}
+use Rattle.dash_loopers.specs.Loopers.{IsSoundOn, until_of, WaitsForNothing, HasNoneDue}
 use Rattle.dash_stage.specs.Sharing.{HaveSeenTheSame}
 
 -- what the controller has seen of this queue, and all others where they have seen the same
 abbrev pub whole_on : Controller → ℕ → Sender → List Entry
 whole_on c q d = (slice_index_or c.kit.posters.items q d).view.seen
 
--- no Advance went past an eligible message, and each thread's calls for its lines of these blocks came at their times
+-- the controller's calls were in time, and each thread's calls for its lines of these blocks came at their times and before the controller's quit
 pub record IsTimelyUpTo (s : Script) (past : List Block) (q : ℕ) (es : List Entry) : Type 0 where
-  pub advances : is_advanced_in_time es ≡ true
+  pub controls : is_called_in_time (controller s) es ≡ true
+  pub before_quit : are_before_quit s.threads (controller s) es ≡ true
   pub threads : (thread : ℕ) → thread < s.threads → are_on_time (map (λ l. At l.time) (lines_on s (labels_on q (lines_of thread s.blocks)) q (lines_of thread past))) (befores thread es) ≡ true
 
 -- all senders have seen the same, and so it is on each queue
@@ -38,9 +39,13 @@ pub record AreTimelyUpTo (s : Script) (past : List Block) (st : Stage) : Type 0 
   pub same : HaveSeenTheSame st
   pub timely : (q : ℕ) (d : Sender) → q < length st.controller.kit.posters.items → IsSoundOn s q (whole_on st.controller q d) → IsTimelyUpTo s past q (whole_on st.controller q d)
 
--- the queue's time is this one, or the queue was disposed of
+-- the queue was disposed of, at this time or before
+abbrev pub WasDisposedBy : ℕ → ℕ → List Entry → Type 0
+WasDisposedBy senders time es = (has_disposed (empty_base senders) es ≡ true) × (clock (empty_base senders) es ≤ time)
+
+-- the queue's time is this one, or the queue was disposed of by then
 abbrev pub IsAtTime : ℕ → ℕ → List Entry → Type 0
-IsAtTime senders time es = (clock (empty_base senders) es ≡ time) ⊎ (has_disposed (empty_base senders) es ≡ true)
+IsAtTime senders time es = (clock (empty_base senders) es ≡ time) ⊎ WasDisposedBy senders time es
 
 abbrev pub AreAtTime : Script → ℕ → Stage → Type 0
 AreAtTime s time st = (q : ℕ) (d : Sender) → q < length st.controller.kit.posters.items → IsSoundOn s q (whole_on st.controller q d) → IsAtTime (sender_count s) time (whole_on st.controller q d)
@@ -53,19 +58,23 @@ AreBy time c = (q : ℕ) (d : Sender) → q < length c.kit.posters.items → are
 abbrev pub WaitForNothing : List StageLooper → Type 0
 WaitForNothing ls = (k : ℕ) (d : StageLooper) → k < length ls → WaitsForNothing (slice_index_or ls k d).last
 
--- a looper that has not ended waits for the first message that no barrier holds back, of a queue that is not over, and one that has ended has seen its queue over
+-- a looper that has not ended waits for the first message that no barrier holds back, of a queue that is neither over nor quitting, where no such message is due yet, and one that has ended has seen its queue over
 pub record IsRested (s : Script) (l : StageLooper) (es : List Entry) : Type 0 where
-  pub going : is_ended l.last ≡ false → is_over (empty_base (sender_count s)) es ≡ false
+  pub quiet : is_ended l.last ≡ false → HasNoneDue (empty_base (sender_count s)) es (clock (empty_base (sender_count s)) es)
   pub waits : is_ended l.last ≡ false → until_of l.last ≡ option_map when_of (first_eligible (empty_base (sender_count s)) es)
   pub ended : is_ended l.last ≡ true → is_over (empty_base (sender_count s)) es ≡ true
 
 abbrev pub AreRested : Script → Stage → Type 0
 AreRested s st = (q : ℕ) (l : StageLooper) (d : Sender) → q < length st.loopers.items → IsRested s (slice_index_or st.loopers.items q l) (whole_on st.controller q d)
 
--- on each queue there is no eligible message before this time, or the queue is over
+-- no message that may be dispatched is due before this time, on a queue that isn't quitting
+abbrev pub HasNoneBefore : ℕ → ℕ → List Entry → Type 0
+HasNoneBefore senders time es = (is_none_before time (first_eligible (empty_base senders) es) ≡ true) × (quit_place (empty_base senders) es ≡ None)
+
+-- so it is with each queue, or the queue is over
 abbrev pub AreDue : Script → ℕ → Stage → Type 0
 AreDue s time st = (q : ℕ) (d : Sender) → q < length st.loopers.items
-    → (is_over (empty_base (sender_count s)) (whole_on st.controller q d) ≡ true) ⊎ (is_none_before time (first_eligible (empty_base (sender_count s)) (whole_on st.controller q d)) ≡ true)
+    → (is_over (empty_base (sender_count s)) (whole_on st.controller q d) ≡ true) ⊎ HasNoneBefore (sender_count s) time (whole_on st.controller q d)
 
 -- the time is not later than this one, where there is one
 abbrev pub NotLater : ℕ → Option ℕ → Type 0
@@ -92,6 +101,10 @@ MovesTo now e = e.call ≡ Advance now
 -- the entry doesn't move the time
 abbrev pub MovesNot : Entry → Type 0
 MovesNot e = is_advance e.call ≡ false
+
+-- the entry halts the queue
+abbrev pub Halts : Entry → Type 0
+Halts e = is_halt e.call ≡ true
 
 -- there is no such entry
 abbrev pub IsNone : Entry → Type 0

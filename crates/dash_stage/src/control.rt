@@ -10,7 +10,7 @@ ghost use Rattle.looper_run.specs.Holding.{Sender};
 ghost use Rattle.run_model.specs.Control.{ends_halted};
 ghost use Rattle.run_model.specs.Senders.{sender_count};
 ghost use Rattle.dash_hall.specs.Hearing.{seen_by};
-ghost use Rattle.dash_stage.specs.Timeliness.{AreBy, TurnsOn, EachTurnsOn, MovesTo, MovesNot, IsNone, HaveCome, whole_on};
+ghost use Rattle.dash_stage.specs.Timeliness.{AreBy, TurnsOn, EachTurnsOn, MovesTo, MovesNot, Halts, IsNone, HaveCome, whole_on};
 ghost use Rattle.dash_stage.specs.Playing.{IsStuck, AreStuck};
 
 use dash_hall::{Hall, Kit, quit};
@@ -197,7 +197,7 @@ impl Controller {
         ensures controller { IsController script.now hall.now self.new }
         ensures closing { result ≡ false → IsClosing script.now self.new }
         ensures closed { result ≡ true → HasClosed script.now self.new }
-        ensures turns { EachTurnsOn MovesNot self.old self.new }
+        ensures turns { EachTurnsOn Halts self.old self.new }
         ensures halted { result ≡ true → (d : Sender) → ends_halted (whole_on self.new 0 d) ≡ true }
     {
         match self.kit.posters[0].halt(rt, &hall.queues[0], script.end) {

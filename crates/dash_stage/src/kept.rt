@@ -10,13 +10,13 @@ ghost use Rattle.dash_stage.specs.Timeliness.{AreTimelyUpTo, HasHaltedLast};
 ghost use Rattle.dash_hall.specs.Kits.{IsHall, OthersAreOver};
 ghost use Rattle.dash_stage.specs.Records.{AreQueueRecords, AreFrameRecords, AreJournals};
 ghost use Rattle.dash_loopers.specs.Loopers.{HaveTold};
+ghost use Rattle.dash_stage.specs.Blocks.{AreBlocksFirst};
 ghost use Rattle.dash_stage.specs.Staged.{Stages};
 ghost use Rattle.dash_stage.specs.Leaving.{HaveGiven};
-ghost use Rattle.dash_stage.specs.Playing.{ArePlayed};
 ghost use Rattle.dash_stage.specs.Runs.{HaveRunAll};
 ghost use Rattle.dash_hall.specs.Hearing.{HaveSeenAll};
 ghost use Rattle.dash_stage.specs.Sharing.{OfThreads, OfLoopers, OfKits};
-ghost use Rattle.dash_stage.specs.Playing.{ArePlayed};
+ghost use Rattle.dash_stage.specs.Playing.{ArePlayed, HaveComeFirst};
 ghost use Rattle.dash_stage.specs.Stages.{IsStage, IsPlayable, HaveRun, AreThreads, AreLoopers, AreThreadKits, AreSenderKits, OthersHaveEnded, LoopersGoOn};
 
 use crate::records::records;
@@ -43,6 +43,7 @@ pub(crate) fn report(alloc: Global, script: Script, stage: Stage) -> Ran
     requires timely { AreTimelyUpTo script script.blocks stage }
     requires halted { HasHaltedLast script stage }
     requires played { ArePlayed script stage }
+    requires first { HaveComeFirst script stage }
     ensures { Stages script result }
 {
     match kept(alloc, &script, stage) {
@@ -73,6 +74,7 @@ fn kept(
     requires timely { AreTimelyUpTo script.now script.now.blocks stage }
     requires halted { HasHaltedLast script.now stage }
     requires played { ArePlayed script.now stage }
+    requires first { HaveComeFirst script.now stage }
     ensures queues { IfOk result (λ r. AreQueueRecords script.now r.0.items) }
     ensures planned { IfOk result (λ r. AllByRecursion (IsAsPlanned in_lockstep script.now) r.0.items) }
     ensures halted { IfOk result (λ r. main_ends_halted r.0.items ≡ true) }
@@ -82,6 +84,7 @@ fn kept(
     ensures journals { IfOk result (λ r. AreJournals script.now r.1.items) }
     ensures frames { IfOk result (λ r. AreFrameRecords script.now r.2.items) }
     ensures run { IfOk result (λ r. AllByRecursion (IsFrameRun script.now) r.2.items) }
+    ensures first { IfOk result (λ r. AreBlocksFirst script.now r.0.items) }
 {
     let Stage {
         hall,

@@ -12,7 +12,7 @@ ghost use Rattle.dash_stage.specs.Timeliness.{AreTimelyUpTo, AreAtTime, AreBy, A
 ghost use Rattle.dash_script.specs.Reading.{HasText};
 ghost use Rattle.dash_hall.specs.Kits.{IsHall};
 ghost use Rattle.dash_stage.specs.Controllers.{IsMoving, HasReached, IsClosing, HasClosed, CallsNone};
-ghost use Rattle.dash_stage.specs.Playing.{ArePlayed, IsInStep};
+ghost use Rattle.dash_stage.specs.Playing.{ArePlayed, AreFresh, AreSound, HaveComeFirst, IsInStep, LiesAhead};
 ghost use Rattle.dash_stage.specs.Stages.{IsStage, HaveRun, RunOn, OthersHaveEnded, LoopersGoOn};
 
 use crate::control::Controller;
@@ -60,6 +60,7 @@ impl Stage {
         requires rested { AreRested script.now self.old }
         requires zero { self.old.time ≡ 0 }
         requires step { IsInStep script.now self.old }
+        requires fresh { AreFresh script.now self.old }
         ensures stage { IsStage script.now self.new }
         ensures run { OnOk result (HaveRun script.now script.now.blocks self.new.threads.items) }
         ensures closed { OnOk result (HasClosed script.now self.new.controller) }
@@ -68,6 +69,7 @@ impl Stage {
         ensures timely { OnOk result (AreTimelyUpTo script.now script.now.blocks self.new) }
         ensures halted { OnOk result (HasHaltedLast script.now self.new) }
         ensures played { OnOk result (ArePlayed script.now self.new) }
+        ensures first { OnOk result (HaveComeFirst script.now self.new) }
     {
         for block in script.blocks.as_slice() {
             self.go_to(rt, alloc, script, gate, block.time)?;
@@ -105,6 +107,7 @@ impl Stage {
         ensures timely { (past : List BlockData) → AreTimelyUpTo script.now past self.old → AreRested script.now self.old → OnOk result (AreTimelyUpTo script.now past self.new) }
         ensures at { OnOk result (AreAtTime script.now time self.new) }
         ensures step { IsInStep script.now self.old → AreRested script.now self.old → OnOk result (IsInStep script.now self.new) }
+        ensures fresh { IsInStep script.now self.old → AreRested script.now self.old → LiesAhead script.now time self.old → OnOk result (AreSound script.now self.new.controller → AreFresh script.now self.new) }
     {
         for _ in rt.forever() {
             let next = at_most(self.next_due(rt, script), time);
@@ -170,6 +173,8 @@ impl Stage {
         ensures timely { (past : List BlockData) → AreTimelyUpTo script.now past self.old → AreDue script.now time self.old → OnOk result (AreTimelyUpTo script.now past self.new) }
         ensures at { IfOk result (λ moved. moved ≡ true → self.old.time ≤ time → AreAtTime script.now time self.new) }
         ensures step { IsInStep script.now self.old → AreRested script.now self.old → AreDue script.now time self.old → OnOk result (IsInStep script.now self.new) }
+        ensures moved { IsInStep script.now self.old → AreRested script.now self.old → AreDue script.now time self.old → IfOk result (λ moved. AreSound script.now self.new.controller → (moved ≡ true) × AreSound script.now self.old.controller) }
+        ensures fresh { IsInStep script.now self.old → AreRested script.now self.old → AreDue script.now time self.old → LiesAhead script.now time self.old → OnOk result (AreSound script.now self.new.controller → AreFresh script.now self.new) }
     {
         self.time = self.time.max(time);
         let moved = self.controller.advance(rt, &self.hall, script, time)?;
@@ -192,8 +197,8 @@ impl Stage {
         ensures run { OnOk result (RunOn script.now block.now self.old.threads.items self.new.threads.items) }
         ensures none { CallsNone self.old.controller self.new.controller }
         ensures time { self.new.time ≡ self.old.time }
-        ensures timely { (past rest : List BlockData) → past ++ block.now ∷ rest ≡ script.now.blocks → HaveRun script.now past self.old.threads.items → AreAtTime script.now block.now.time self.old → AreTimelyUpTo script.now past self.old → OnOk result (AreTimelyUpTo script.now (past ++ block.now ∷ []) self.new) }
-        ensures step { IsInStep script.now self.old → OnOk result (IsInStep script.now self.new) }
+        ensures timely { (past rest : List BlockData) → past ++ block.now ∷ rest ≡ script.now.blocks → IsMoving script.now self.old.controller → HaveRun script.now past self.old.threads.items → AreAtTime script.now block.now.time self.old → AreTimelyUpTo script.now past self.old → OnOk result (AreTimelyUpTo script.now (past ++ block.now ∷ []) self.new) }
+        ensures step { IsInStep script.now self.old → (AreSound script.now self.old.controller → AreFresh script.now self.old) → OnOk result (IsInStep script.now self.new) }
     {
         run_threads(
             rt,
@@ -228,6 +233,7 @@ impl Stage {
         ensures timely { (past : List BlockData) → AreTimelyUpTo script.now past self.old → OnOk result (AreTimelyUpTo script.now past self.new) }
         ensures same { OnOk result (HaveSeenTheSame self.new) }
         ensures rested { turn ≡ All → HaveSeenTheSame self.old → OnOk result (AreRested script.now self.new) }
+        ensures sound { OnOk result (AreSound script.now self.new.controller → AreSound script.now self.old.controller) }
         ensures step { IsInStep script.now self.old → OnOk result (IsInStep script.now self.new) }
     {
         for _ in rt.forever() {
@@ -259,6 +265,7 @@ impl Stage {
         ensures time { self.new.time ≡ self.old.time }
         ensures timely { (past : List BlockData) → AreTimelyUpTo script.now past self.old → OnOk result (AreTimelyUpTo script.now past self.new) }
         ensures same { OnOk result (HaveSeenTheSame self.new) }
+        ensures sound { OnOk result (AreSound script.now self.new.controller → AreSound script.now self.old.controller) }
         ensures grown { OnOk result (AtEach IsPrefix (seen_by self.old.controller.kit.posters.items) (seen_by self.new.controller.kit.posters.items)) }
         ensures rested { turn ≡ All → HaveSeenTheSame self.old → OnOk result (seen_by self.new.controller.kit.posters.items ≡ seen_by self.old.controller.kit.posters.items → AreRested script.now self.new) }
         ensures step { IsInStep script.now self.old → OnOk result (IsInStep script.now self.new) }
@@ -296,7 +303,7 @@ impl Stage {
         ensures closed { OnOk result (HasClosed script.now self.new.controller) }
         ensures ended { OnOk result (OthersHaveEnded self.new.loopers.items) }
         ensures on { OnOk result (LoopersGoOn self.new.loopers.items) }
-        ensures timely { (past : List BlockData) → AreTimelyUpTo script.now past self.old → OnOk result (AreTimelyUpTo script.now past self.new) }
+        ensures timely { (past : List BlockData) → AreTimelyUpTo script.now past self.old → AreRested script.now self.old → OnOk result (AreTimelyUpTo script.now past self.new) }
         ensures halted { OnOk result (HasHaltedLast script.now self.new) }
         ensures step { IsInStep script.now self.old → OnOk result (IsInStep script.now self.new) }
     {
@@ -326,7 +333,7 @@ impl Stage {
         ensures stage { IsStage script.now self.new }
         ensures run { (past : List BlockData) → HaveRun script.now past self.old.threads.items → HaveRun script.now past self.new.threads.items }
         ensures closing { OnOk result (IsClosing script.now self.new.controller) }
-        ensures timely { (past : List BlockData) → AreTimelyUpTo script.now past self.old → OnOk result (AreTimelyUpTo script.now past self.new) }
+        ensures timely { (past : List BlockData) → AreTimelyUpTo script.now past self.old → AreRested script.now self.old → OnOk result (AreTimelyUpTo script.now past self.new) }
         ensures same { OnOk result (HaveSeenTheSame self.new) }
         ensures step { IsInStep script.now self.old → OnOk result (IsInStep script.now self.new) }
     {
@@ -344,8 +351,8 @@ impl Stage {
         requires stage { IsStage script.now self.now }
         ensures { result ≡ true → OthersHaveEnded self.now.loopers.items }
     {
-        for looper in 1..script.loopers {
-            if !self.loopers[looper as usize].has_ended() {
+        for place in 1..script.loopers {
+            if !self.loopers[place as usize].has_ended() {
                 return false;
             }
         }

@@ -5,6 +5,7 @@ use Rattle.loop_model.specs.declared.record.QueueRecord.{QueueRecord}
 use Rattle.frame_phases.specs.declared.entry.FrameRecord.{FrameRecord}
 use Rattle.run_model.specs.Moments.{in_lockstep}
 use Rattle.run_model.specs.Run.{IsAsPlanned, IsControlled, IsFrameRun, IsLooperRun, IsTimely, EachLooper, main_ends_halted}
+use Rattle.dash_stage.specs.Blocks.{AreBlocksFirst}
 use Rattle.dash_stage.specs.Records.{AreQueueRecords, AreJournals, AreFrameRecords}
 use Rattle.dash_stage.proofs.kept.report.Goals as goal
 
@@ -22,12 +23,16 @@ returns-in-Ok c =
     (subst (λ (l : List Journal). EachLooper (IsLooperRun in_lockstep s c.in-Ok.queues.items) c.in-Ok.queues.items l c.from_vec-in-Ok-2.result) (sym c.from_vec-in-Ok.ensures)
     (subst (λ (l : List FrameRecord). EachLooper (IsLooperRun in_lockstep s c.in-Ok.queues.items) c.in-Ok.queues.items c.in-Ok.journals.items l) (sym c.from_vec-in-Ok-2.ensures) c.in-Ok.ensures.loopers)) in
     let runs = subst (λ (l : List FrameRecord). AllByRecursion (IsFrameRun s) l) (sym c.from_vec-in-Ok-2.ensures) c.in-Ok.ensures.run in
-    let frames = subst (λ (l : List FrameRecord). AreFrameRecords s l) (sym c.from_vec-in-Ok-2.ensures) c.in-Ok.ensures.frames in record {
-      report = record { script = refl; queues = queues.loopers; journals = journals; frames = frames.loopers };
-      records = record { mode = refl; start = refl; histories = queues.histories };
-      planned = planned;
-      controls = controls;
-      loopers = loopers;
-      frames = runs;
-      timely = record { halted = halted; histories = timely };
+    let frames = subst (λ (l : List FrameRecord). AreFrameRecords s l) (sym c.from_vec-in-Ok-2.ensures) c.in-Ok.ensures.frames in
+    let blocks = subst (λ (l : List QueueRecord). AreBlocksFirst s l) (sym c.from_vec.ensures) c.in-Ok.ensures.first in record {
+      blocks = blocks;
+      run = record {
+        report = record { script = refl; queues = queues.loopers; journals = journals; frames = frames.loopers };
+        records = record { mode = refl; start = refl; histories = queues.histories };
+        planned = planned;
+        controls = controls;
+        loopers = loopers;
+        frames = runs;
+        timely = record { halted = halted; histories = timely };
+      };
     }

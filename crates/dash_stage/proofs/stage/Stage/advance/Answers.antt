@@ -1,7 +1,7 @@
 use Rattle.std.proofs.Common.{ℕ, ◌∙◌, sym, subst, arith}
 use Rattle.dash_stage.specs.Timeliness.{AreBy}
 use Rattle.dash_stage.proofs.StageMoves.{by_later, by_kept, advanced_timely, come_at_time}
-use Rattle.dash_stage.proofs.PlayedTurns.{advanced_in_step}
+use Rattle.dash_stage.proofs.PlayedTurns.{advanced_in_step, advanced_sound, advanced_fresh}
 use Rattle.dash_stage.proofs.stage.Stage.advance.Goals as goal
 
 pub returns-in_err-moved-clause-by : goal.returns-in_err-moved-clause-by
@@ -35,3 +35,21 @@ returns-clause-step g c step rested due =
     let by = c.advance.ensures.by c.share.new.self.time (omega (arith, now)) (by_later c.args.self.now.time c.share.new.self.time c.args.self.now.controller (omega (arith, now)) c.requires.by) in
     advanced_in_step c.args.script.now c.args.self.now c.advance.new.self c.share.new.self c.requires.stage c.share.ensures.stage c.share.ensures.shared kept.threads kept.loopers kept.controller.posters step
     c.args.time c.in_ok-moved.ensures.turns now by rested due _ c.in_ok-moved.ensures.come c.in_ok-moved.ensures.stuck
+
+pub returns-clause-moved : goal.returns-clause-moved
+returns-clause-moved g c step rested due =
+    let kept = c.share.ensures.kept in
+    let m = c.max-self.ensures in
+    let now = kept.time ∙ m in
+    let by = c.advance.ensures.by c.share.new.self.time (omega (arith, now)) (by_later c.args.self.now.time c.share.new.self.time c.args.self.now.controller (omega (arith, now)) c.requires.by) in
+    advanced_sound c.args.script.now c.args.self.now c.advance.new.self c.share.new.self c.requires.stage c.share.ensures.stage c.share.ensures.shared kept.threads kept.loopers kept.controller.posters step
+    c.args.time c.in_ok-moved.ensures.turns now by rested due _ c.in_ok-moved.ensures.come c.in_ok-moved.ensures.stuck
+
+pub returns-clause-fresh : goal.returns-clause-fresh
+returns-clause-fresh g c step rested due ahead =
+    let kept = c.share.ensures.kept in
+    let m = c.max-self.ensures in
+    let now = kept.time ∙ m in
+    let by = c.advance.ensures.by c.share.new.self.time (omega (arith, now)) (by_later c.args.self.now.time c.share.new.self.time c.args.self.now.controller (omega (arith, now)) c.requires.by) in
+    advanced_fresh c.args.script.now c.args.self.now c.advance.new.self c.share.new.self c.requires.stage c.share.ensures.stage c.share.ensures.shared kept.threads kept.loopers kept.controller.posters step
+    c.args.time c.in_ok-moved.ensures.turns now by rested due _ c.in_ok-moved.ensures.come c.in_ok-moved.ensures.stuck ahead

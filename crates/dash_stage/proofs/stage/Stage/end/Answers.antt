@@ -1,6 +1,8 @@
 use Rattle.dash_hall.specs.Hearing.{HaveHeard}
 use Rattle.dash_stage.proofs.ControlKept.{closing_kept, closed_kept}
-use Rattle.dash_stage.proofs.StageTurns.{turned_timely, halted_stays, go_on_kept}
+use Rattle.dash_stage.specs.Timeliness.{Halts}
+use Rattle.dash_stage.proofs.StageTurns.{halted_stays, go_on_kept}
+use Rattle.dash_stage.proofs.StageQuits.{halts_move_not, halted_timely}
 use Rattle.dash_stage.proofs.PlayedTurns.{turned_in_step}
 use Rattle.dash_stage.proofs.stage.Stage.end.Goals as goal
 
@@ -13,7 +15,7 @@ loop-preserved g c =
       c.run_round.ensures.stage,
       λ past run. c.run_round.ensures.run past (at.invariant.1 past run),
       closing_kept c.args.script.now at.self.controller c.run_round.new.self.controller c.run_round.ensures.none at.invariant.2,
-      λ past timely. c.in_ok-run_round.ensures.timely past (at.invariant.3 past timely),
+      λ past timely rested. c.in_ok-run_round.ensures.timely past (at.invariant.3 past timely rested),
       λ step. c.in_ok-run_round.ensures.step (at.invariant.4 step),
     )
 
@@ -40,22 +42,22 @@ pub returns-then-halted-clause-on : goal.returns-then-halted-clause-on
 returns-then-halted-clause-on g c = go_on_kept HaveHeard c.run_rounds.new.self.loopers.items c.share.new.self.loopers.items c.share.ensures.kept.loopers c.in_ok-run_rounds.ensures.on
 
 pub returns-then-halted-clause-timely : goal.returns-then-halted-clause-timely
-returns-then-halted-clause-timely g c past timely =
+returns-then-halted-clause-timely g c past timely rested =
     let kept = c.share.ensures.kept in
-    turned_timely c.args.script.now c.run_rounds.new.self c.halt-halted.new.self c.share.new.self c.run_rounds.ensures.stage c.share.ensures.stage c.in_ok-run_rounds.ensures.same c.share.ensures.shared
-    kept.threads kept.loopers kept.controller.posters c.halt-halted.ensures.turns past (c.in_ok-run_rounds.ensures.timely past (c.loop-2.invariant.3 past timely))
+    halted_timely c.args.script.now c.run_rounds.new.self c.halt-halted.new.self c.share.new.self c.run_rounds.ensures.stage c.share.ensures.stage c.in_ok-run_rounds.ensures.same c.share.ensures.shared
+    kept.threads kept.loopers kept.controller.posters c.halt-halted.ensures.turns past (c.in_ok-run_rounds.ensures.timely past (c.loop-2.invariant.3 past timely rested))
 
 pub returns-then-halted-clause-halted : goal.returns-then-halted-clause-halted
 returns-then-halted-clause-halted g c =
     let kept = c.share.ensures.kept in
     halted_stays c.args.script.now c.run_rounds.new.self c.halt-halted.new.self c.share.new.self c.run_rounds.ensures.stage c.share.ensures.stage c.in_ok-run_rounds.ensures.same c.share.ensures.shared
-    kept.threads kept.loopers kept.controller.posters c.halt-halted.ensures.turns (c.halt-halted.ensures.halted c.if-halted.true)
+    kept.threads kept.loopers kept.controller.posters Halts c.halt-halted.ensures.turns (c.halt-halted.ensures.halted c.if-halted.true)
 
 pub returns-then-halted-clause-step : goal.returns-then-halted-clause-step
 returns-then-halted-clause-step g c step =
     let kept = c.share.ensures.kept in
     turned_in_step c.args.script.now c.run_rounds.new.self c.halt-halted.new.self c.share.new.self c.run_rounds.ensures.stage c.share.ensures.stage c.share.ensures.shared
-    kept.threads kept.loopers kept.controller.posters (c.in_ok-run_rounds.ensures.step (c.loop-2.invariant.5 step)) c.halt-halted.ensures.turns kept.time
+    kept.threads kept.loopers kept.controller.posters (c.in_ok-run_rounds.ensures.step (c.loop-2.invariant.5 step)) (halts_move_not _ _ c.halt-halted.ensures.turns) kept.time
 
 pub loop-2-preserved : goal.loop-2-preserved
 loop-2-preserved g c =
@@ -65,9 +67,9 @@ loop-2-preserved g c =
       c.share.ensures.stage,
       λ past run. c.share.ensures.run past (c.run_rounds.ensures.run past (at.1 past run)),
       closing_kept s c.halt-halted.new.self c.share.new.self.controller c.share.ensures.none (c.halt-halted.ensures.closing c.if-halted.false),
-      λ past timely. turned_timely s c.run_rounds.new.self c.halt-halted.new.self c.share.new.self c.run_rounds.ensures.stage c.share.ensures.stage c.in_ok-run_rounds.ensures.same c.share.ensures.shared
-          kept.threads kept.loopers kept.controller.posters c.halt-halted.ensures.turns past (c.in_ok-run_rounds.ensures.timely past (at.3 past timely)),
+      λ past timely rested. halted_timely s c.run_rounds.new.self c.halt-halted.new.self c.share.new.self c.run_rounds.ensures.stage c.share.ensures.stage c.in_ok-run_rounds.ensures.same c.share.ensures.shared
+          kept.threads kept.loopers kept.controller.posters c.halt-halted.ensures.turns past (c.in_ok-run_rounds.ensures.timely past (at.3 past timely rested)),
       c.share.ensures.ended (c.run_rounds.ensures.ended at.4),
       λ step. turned_in_step s c.run_rounds.new.self c.halt-halted.new.self c.share.new.self c.run_rounds.ensures.stage c.share.ensures.stage c.share.ensures.shared
-          kept.threads kept.loopers kept.controller.posters (c.in_ok-run_rounds.ensures.step (at.5 step)) c.halt-halted.ensures.turns kept.time,
+          kept.threads kept.loopers kept.controller.posters (c.in_ok-run_rounds.ensures.step (at.5 step)) (halts_move_not _ _ c.halt-halted.ensures.turns) kept.time,
     )

@@ -1,11 +1,13 @@
-use Rattle.std.proofs.Common.{ℕ, refl, sym, subst, arith}
+use Rattle.std.proofs.Common.{ℕ, max, true≢false, refl, sym, ap, ◌∙◌, subst, arith}
 use Rattle.dash_stage.specs.Stages.{HaveRun}
 use Rattle.dash_stage.specs.Timeliness.{AreBy}
 use Rattle.dash_stage.proofs.ControlKept.{moving_kept}
 use Rattle.dash_stage.proofs.StageMoves.{by_kept}
 use Rattle.dash_stage.proofs.StageDue.{timely_same, rested_same}
-use Rattle.dash_stage.proofs.PlayedTurns.{step_same}
+use Rattle.dash_stage.proofs.PlayedTurns.{step_same, sound_same, ahead_same, ahead_on}
+use Rattle.dash_stage.specs.Playing.{LiesAhead}
 use Rattle.dash_stage.proofs.stage.Stage.go_to.Goals as goal
+use Rattle.dash_stage.proofs.stage.Stage.go_to.Goals.{else-moved-via-then-moved+else-next-time, else-moved-via-else-moved}
 
 pub returns-in_err-moved-clause-run : goal.returns-in_err-moved-clause-run
 returns-in_err-moved-clause-run g c past run = c.advance.ensures.run past (subst (HaveRun c.args.script.now past) (sym c.next_due.ensures.threads) (c.loop.invariant.1 past run))
@@ -27,6 +29,20 @@ returns-then-next-time-clause-step g c step rest =
     let due = c.next_due.ensures in
     c.in_ok-moved.ensures.step (step_same s c.loop.self c.next_due.new.self c.loop.invariant.0 due.stage due.threads due.loopers due.posters due.time before.0)
     (rested_same s c.loop.self c.next_due.new.self due.loopers due.posters before.1) (due.due c.at_most-next.result before.1 c.at_most-next.ensures.early)
+
+pub returns-then-next-time-clause-fresh : goal.returns-then-next-time-clause-fresh
+returns-then-next-time-clause-fresh g c step rest ahead sound =
+    let s = c.args.script.now in
+    let before = c.loop.invariant.6 step rest in
+    let due = c.next_due.ensures in
+    let moved = c.in_ok-moved.ensures in
+    let still = step_same s c.loop.self c.next_due.new.self c.loop.invariant.0 due.stage due.threads due.loopers due.posters due.time before.0 in
+    let rested = rested_same s c.loop.self c.next_due.new.self due.loopers due.posters before.1 in
+    let none = due.due c.at_most-next.result before.1 c.at_most-next.ensures.early in
+    let drained = moved.moved still rested none sound in
+    let was = c.loop.invariant.7 step rest ahead (sound_same s c.loop.self.controller c.next_due.new.self.controller due.posters drained.1) in
+    let here = subst (λ (t : ℕ). LiesAhead s t c.loop.self) (sym c.if-next-time.true) was in
+    moved.fresh still rested none (ahead_same s c.at_most-next.result c.loop.self c.next_due.new.self due.posters due.time here) sound
 
 pub loop-preserved : goal.loop-preserved
 loop-preserved g c =
@@ -50,6 +66,17 @@ loop-preserved g c =
           let still = step_same s c.loop.self c.next_due.new.self at.0 due.stage due.threads due.loopers due.posters due.time before.0 in
           let went = moved.step still (rested_same s c.loop.self c.next_due.new.self due.loopers due.posters before.1) (due.due c.at_most-next.result before.1 c.at_most-next.ensures.early) in
           (ran.step went, ran.rested refl went.same),
+      λ step rest ahead sound.
+          let before = at.6 step rest in
+          let still = step_same s c.loop.self c.next_due.new.self at.0 due.stage due.threads due.loopers due.posters due.time before.0 in
+          let drained = moved.moved still (rested_same s c.loop.self c.next_due.new.self due.loopers due.posters before.1) (due.due c.at_most-next.result before.1 c.at_most-next.ensures.early) (ran.sound sound) in
+          let was = at.7 step rest ahead (sound_same s c.loop.self.controller c.next_due.new.self.controller due.posters drained.1) in
+          elim c.else-moved.branch [
+            | else-moved-via-then-moved+else-next-time w ↦ (let apart = w.if-next-time.false in
+                let within = c.at_most-next.ensures.within in
+                ahead_on s c.args.time c.at_most-next.result c.loop.self c.run_rounds.new.self (omega (arith, apart, within)) (ran.time ∙ (moved.time ∙ ap (λ (t : ℕ). max t c.at_most-next.result) due.time)) was)
+            | else-moved-via-else-moved w ↦ absurd (true≢false (sym drained.0 ∙ w.if-moved.false))
+          ],
     )
 
 pub returns-in_err-run_rounds-clause-run : goal.returns-in_err-run_rounds-clause-run

@@ -4,5 +4,5 @@ use Rattle.dash_loopers.specs.declared.looper.StageLooper.{StageLooper}
 use Rattle.dash_stage.proofs.stage.Stage.others_have_ended.Given as goal
 
 -- those below have ended
-abbrev pub invariant-loop-looper : goal.invariant-loop-looper
-invariant-loop-looper l = (k : ℕ) (d : StageLooper) → 0 < k → k < l.looper → is_ended (slice_index_or l.self.loopers.items k d).last ≡ true
+abbrev pub invariant-loop-place : goal.invariant-loop-place
+invariant-loop-place l = (k : ℕ) (d : StageLooper) → 0 < k → k < l.place → is_ended (slice_index_or l.self.loopers.items k d).last ≡ true

@@ -1,10 +1,12 @@
-use Rattle.std.proofs.Common.{◌≡◌, ◌<◌, ◌≤◌, ◌+◌, ◌∙◌, ℕ, List, refl, sym, subst, length, take, drop, arith}
+use Rattle.std.proofs.Common.{◌≡◌, inl, ◌<◌, ◌≤◌, ◌+◌, ◌∙◌, ℕ, List, refl, sym, subst, length, take, drop, arith}
 use Rattle.std.specs.Prelude.{slice_index_or}
 use Rattle.std.proofs.lemmas.List.{take_all}
 use Rattle.dash_script.specs.declared.script.Block.{Block}
 use Rattle.dash_stage.specs.declared.stage.Stage.{Stage}
 use Rattle.dash_stage.specs.Stages.{HaveRun}
 use Rattle.dash_stage.specs.Timeliness.{AreBy, AreTimelyUpTo}
+use Rattle.dash_stage.specs.Playing.{LiesAhead}
+use Rattle.dash_stage.proofs.PlayedTurns.{ahead_of_zero}
 use Rattle.dash_stage.proofs.Blocks.{blocks_next, blocks_past, run_one_more}
 use Rattle.dash_stage.proofs.Limits.{before_end, before_next}
 use Rattle.dash_stage.proofs.ControlKept.{none_after, moving_kept, reached_kept}
@@ -13,8 +15,18 @@ use Rattle.dash_stage.proofs.stage.Stage.play.Goals as goal
 
 pub loop-block-init : goal.loop-block-init
 loop-block-init g c =
-    let zero_time = c.requires.zero in
-    (c.requires.stage, c.requires.begun, c.requires.moving, c.requires.by, c.requires.begun_timely, c.requires.rested, omega (arith, zero_time), λ d some. omega (arith, zero_time), c.requires.step)
+    let zero_time = c.requires.zero in (
+      c.requires.stage,
+      c.requires.begun,
+      c.requires.moving,
+      c.requires.by,
+      c.requires.begun_timely,
+      c.requires.rested,
+      omega (arith, zero_time),
+      λ d some. omega (arith, zero_time),
+      c.requires.step,
+      λ d some. ahead_of_zero c.args.script.now _ c.args.self.now zero_time c.requires.fresh,
+    )
 
 pub go_to-requires-clause-end : goal.go_to-requires-clause-end
 go_to-requires-clause-end g c κs within =
@@ -49,13 +61,14 @@ loop-block-preserved g c =
     let next = blocks_next bs i b lt is in
     let grown = blocks_past bs i b lt is in
     let run = c.go_to.ensures.run (take i bs) at.1 in
-    let timely = c.in_ok-run_block.ensures.timely (take i bs) (drop (i + 1) bs) next run c.in_ok-go_to.ensures.at (c.in_ok-go_to.ensures.timely (take i bs) at.4 at.5) in
+    let timely = c.in_ok-run_block.ensures.timely (take i bs) (drop (i + 1) bs) next c.go_to.ensures.moving run c.in_ok-go_to.ensures.at (c.in_ok-go_to.ensures.timely (take i bs) at.4 at.5) in
     let more = subst (λ (l : List Block). HaveRun s l blocked.threads.items) grown
     (run_one_more s (take i bs) (drop (i + 1) bs) b next gone.threads.items blocked.threads.items (λ k d within. (c.go_to.ensures.stage.threads.1 k d within).1)
     (c.run_block.ensures.stage.threads.0 ∙ sym c.go_to.ensures.stage.threads.0) c.in_ok-run_block.ensures.run run) in
     let none = none_after gone.controller blocked.controller after.controller c.run_block.ensures.none c.run_rounds.ensures.none in
     let same_time : after.time ≡ gone.time = c.run_rounds.ensures.time ∙ c.run_block.ensures.time in
-    let time : after.time ≡ b.time = same_time ∙ c.in_ok-go_to.ensures.time in (
+    let time : after.time ≡ b.time = same_time ∙ c.in_ok-go_to.ensures.time in
+    let ahead = subst (λ (z : Block). LiesAhead s z.time c.loop-block.self) (sym is) (at.9 b lt) in (
       c.run_rounds.ensures.stage,
       c.run_rounds.ensures.run (take (i + 1) bs) more,
       moving_kept s gone.controller after.controller none c.go_to.ensures.moving,
@@ -63,8 +76,9 @@ loop-block-preserved g c =
       c.in_ok-run_rounds.ensures.timely (take (i + 1) bs) (subst (λ (l : List Block). AreTimelyUpTo s l blocked) grown timely),
       c.in_ok-run_rounds.ensures.rested refl timely.same,
       subst (λ (t : ℕ). t ≤ s.end) (sym time) (before_end s i b c.requires.text lt is),
-      λ d some. subst (λ (t : ℕ). t ≤ (slice_index_or bs (i + 1) d).time) (sym time) (before_next s i b d c.requires.text is some),
-      c.in_ok-run_rounds.ensures.step (c.in_ok-run_block.ensures.step (c.in_ok-go_to.ensures.step at.8 at.5)),
+      λ d some. (let later = before_next s i b d c.requires.text is some in omega (arith, later, time)),
+      c.in_ok-run_rounds.ensures.step (c.in_ok-run_block.ensures.step (c.in_ok-go_to.ensures.step at.8 at.5) (c.in_ok-go_to.ensures.fresh at.8 at.5 ahead)),
+      λ d some. inl (subst (λ (t : ℕ). t < (slice_index_or bs (i + 1) d).time) (sym time) (before_next s i b d c.requires.text is some)),
     )
 
 pub end-requires-clause-moving : goal.end-requires-clause-moving
@@ -87,9 +101,15 @@ returns-clause-timely g c =
     let i = c.loop-block.block-index in
     let all = subst (λ (l : List Block). length l ≤ i) c.as_slice-block-items.ensures c.loop-block-test.false in
     let before = subst (λ (l : List Block). AreTimelyUpTo s l c.loop-block.self) (take_all i s.blocks all) c.loop-block.invariant.4 in
-    c.in_ok-end.ensures.timely s.blocks (c.in_ok-run_rounds-2.ensures.timely s.blocks (c.in_ok-go_to-2.ensures.timely s.blocks before c.loop-block.invariant.5))
+    let gone = c.in_ok-go_to-2.ensures.timely s.blocks before c.loop-block.invariant.5 in
+    c.in_ok-end.ensures.timely s.blocks (c.in_ok-run_rounds-2.ensures.timely s.blocks gone) (c.in_ok-run_rounds-2.ensures.rested refl gone.same)
 
 pub returns-clause-played : goal.returns-clause-played
 returns-clause-played g c =
     let at = c.loop-block.invariant in
     (c.in_ok-end.ensures.step (c.in_ok-run_rounds-2.ensures.step (c.in_ok-go_to-2.ensures.step at.8 at.5))).played
+
+pub returns-clause-first : goal.returns-clause-first
+returns-clause-first g c =
+    let at = c.loop-block.invariant in
+    (c.in_ok-end.ensures.step (c.in_ok-run_rounds-2.ensures.step (c.in_ok-go_to-2.ensures.step at.8 at.5))).first

@@ -1,4 +1,5 @@
-use Rattle.std.proofs.Common.{◌≡◌, ◌<◌, ◌+◌, ◌∙◌, List, refl, sym, subst, arith, length}
+use Rattle.std.proofs.Common.{◌≡◌, ◌<◌, ◌+◌, ◌∙◌, List, false, refl, sym, subst, arith, length}
+use Rattle.std.specs.Prelude.{slice_index_or}
 use Rattle.dash_threads.specs.declared.thread.PostingThread.{PostingThread}
 use Rattle.dash_loopers.specs.declared.looper.StageLooper.{StageLooper}
 use Rattle.dash_stage.specs.declared.control.Controller.{Controller}
@@ -12,14 +13,16 @@ use Rattle.dash_stage.specs.Timeliness.{EachTurnsOn, MovesNot}
 use Rattle.dash_stage.proofs.Controlling.{poster_count}
 use Rattle.dash_stage.proofs.ControlKept.{quitting_starts, quitting_skips, closing_kept}
 use Rattle.dash_stage.proofs.StageControls.{quitting_ends}
-use Rattle.dash_stage.proofs.StageTurns.{AreKeptFrom, turns_none, turns_more, turned_timely}
+use Rattle.looper_run.specs.Round.{is_ended}
+use Rattle.dash_stage.proofs.StageTurns.{AreKeptFrom, turns_none, turns_more}
+use Rattle.dash_stage.proofs.StageQuits.{AreKeptWhereEnded, kept_where_ended, quit_timely}
 use Rattle.dash_stage.proofs.PlayedTurns.{turned_in_step}
 use Rattle.dash_stage.proofs.stage.Stage.quit_others.Goals as goal
 use Rattle.dash_stage.proofs.stage.Stage.quit_others.Goals.{then-not-has_ended+in_ok-quit, else-not-has_ended}
 
 pub loop-looper-init : goal.loop-looper-init
 loop-looper-init g c =
-    (c.requires.stage, refl, refl, omega arith, quitting_starts c.args.script.now c.args.self.now.controller c.requires.moving c.requires.reached, turns_none MovesNot c.args.self.now.controller, λ q d le. refl, refl)
+    (c.requires.stage, refl, refl, omega arith, quitting_starts c.args.script.now c.args.self.now.controller c.requires.moving c.requires.reached, turns_none MovesNot c.args.self.now.controller, λ q d le. refl, refl, λ q d why. refl)
 
 pub loop-looper-preserved : goal.loop-looper-preserved
 loop-looper-preserved g c =
@@ -27,10 +30,14 @@ loop-looper-preserved g c =
     let at = c.loop-looper in
     let first = c.args.self.now in
     let kept = λ (st : Stage). IsStage s st × (st.threads.items ≡ first.threads.items) × (st.loopers.items ≡ first.loopers.items) × (0 < at.looper + 1) × IsQuitting s (at.looper + 1) st.controller
-    × EachTurnsOn MovesNot first.controller st.controller × AreKeptFrom (at.looper + 1) first.controller st.controller × (st.time ≡ first.time) in
+    × EachTurnsOn MovesNot first.controller st.controller × AreKeptFrom (at.looper + 1) first.controller st.controller × (st.time ≡ first.time) × AreKeptWhereEnded first.loopers.items first.controller st.controller in
     elim c.if-not-has_ended.branch [
       | then-not-has_ended+in_ok-quit w ↦
           let stage = at.invariant.0 in
+          let l : StageLooper = c.index.result.now in
+          let is : l ≡ slice_index_or at.self.loopers.items at.looper l = c.index.ensures in
+          let found : is_ended l.last ≡ false = sym c.has_ended.ensures ∙ w.if-not-has_ended.true in
+          let going : is_ended (slice_index_or first.loopers.items at.looper l).last ≡ false = subst (λ (ls : List StageLooper). is_ended (slice_index_or ls at.looper l).last ≡ false) at.invariant.2 (subst (λ (z : StageLooper). is_ended z.last ≡ false) is found) in
           let quit : Controller = w.quit.new.self in
           let long : length quit.kit.posters.items ≡ length at.self.controller.kit.posters.items =
           poster_count s at.self.hall quit stage.hall w.quit.ensures.controller ∙ sym (poster_count s at.self.hall at.self.controller stage.hall stage.controller) in
@@ -44,9 +51,10 @@ loop-looper-preserved g c =
             more.0,
             more.1,
             at.invariant.7,
+            kept_where_ended first.loopers.items first.controller at.self.controller quit at.looper l at.invariant.3 going at.invariant.8 w.quit.ensures.elsewhere,
           )
       | else-not-has_ended w ↦
-          subst kept (sym w.self-is) (at.invariant.0, at.invariant.1, at.invariant.2, omega arith, quitting_skips s at.self.controller at.looper at.invariant.3 at.invariant.4, at.invariant.5, λ q d le. at.invariant.6 q d (omega (arith, le)), at.invariant.7)
+          subst kept (sym w.self-is) (at.invariant.0, at.invariant.1, at.invariant.2, omega arith, quitting_skips s at.self.controller at.looper at.invariant.3 at.invariant.4, at.invariant.5, λ q d le. at.invariant.6 q d (omega (arith, le)), at.invariant.7, at.invariant.8)
     ]
 
 pub returns-in_err-quit-clause-run : goal.returns-in_err-quit-clause-run
@@ -60,14 +68,14 @@ returns-clause-closing g c =
     closing_kept c.args.script.now c.loop-looper.self.controller c.share.new.self.controller c.share.ensures.none (quitting_ends c.args.script.now c.loop-looper.looper c.loop-looper.self.controller c.loop-looper.invariant.4)
 
 pub returns-clause-timely : goal.returns-clause-timely
-returns-clause-timely g c past timely =
+returns-clause-timely g c past timely rested =
     let at = c.loop-looper in
     let st = c.args.self.now in
     let st' = c.share.new.self in
     let kept = c.share.ensures.kept in
     let threads = subst (λ (l : List PostingThread). AtEach (ThreadKeeps HaveHeard) l st'.threads.items) at.invariant.1 kept.threads in
     let loopers = subst (λ (l : List StageLooper). AtEach (LooperKeeps HaveHeard) l st'.loopers.items) at.invariant.2 kept.loopers in
-    turned_timely c.args.script.now st at.self.controller st' c.requires.stage c.share.ensures.stage timely.same c.share.ensures.shared threads loopers kept.controller.posters at.invariant.5 past timely
+    quit_timely c.args.script.now st at.self.controller st' c.requires.stage c.share.ensures.stage timely.same c.share.ensures.shared threads loopers kept.controller.posters at.invariant.5 at.invariant.8 rested past timely
 
 pub returns-clause-step : goal.returns-clause-step
 returns-clause-step g c step =

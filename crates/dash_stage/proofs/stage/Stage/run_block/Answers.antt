@@ -7,7 +7,7 @@ use Rattle.dash_stage.specs.Stages.{HaveRun, RunOn}
 use Rattle.dash_stage.proofs.ControlKept.{none_same}
 use Rattle.dash_stage.proofs.Blocks.{run_one_more}
 use Rattle.dash_stage.proofs.StageTurns.{block_timely, continues_kept}
-use Rattle.dash_stage.proofs.PlayedTurns.{block_in_step}
+use Rattle.dash_stage.proofs.PlayedTurns.{block_first, block_in_step}
 use Rattle.dash_stage.proofs.stage.Stage.run_block.Goals as goal
 
 pub returns-in_err-run_threads-clause-none : goal.returns-in_err-run_threads-clause-none
@@ -29,7 +29,7 @@ pub returns-clause-time : goal.returns-clause-time
 returns-clause-time g c = c.share.ensures.kept.time
 
 pub returns-clause-timely : goal.returns-clause-timely
-returns-clause-timely g c past rest whole run at timely =
+returns-clause-timely g c past rest whole moving run at timely =
     let s = c.args.script.now in
     let b = c.args.block.now in
     let st = c.args.self.now in
@@ -39,10 +39,11 @@ returns-clause-timely g c past rest whole run at timely =
     let written = with_items_is st.threads ran (omega (arith, many, st.threads.ok.0)) in
     let on = subst (λ (l : List PostingThread). RunOn s b l ran) c.as_mut_slice.ensures.value c.in_ok-run_threads.ensures.run in
     let more = run_one_more s past rest b whole st.threads.items ran (λ k d lt. (stage.threads.1 k d lt).1) many on run in
-    block_timely s st c.share.new.self b past stage c.share.ensures.stage run (c.share.ensures.run (past ++ b ∷ []) (subst (HaveRun s (past ++ b ∷ [])) (sym written) more))
+    block_timely s st c.share.new.self b past moving stage c.share.ensures.stage run (c.share.ensures.run (past ++ b ∷ []) (subst (HaveRun s (past ++ b ∷ [])) (sym written) more))
     c.share.ensures.kept.controller.posters c.share.ensures.shared at timely
 
 pub returns-clause-step : goal.returns-clause-step
-returns-clause-step g c step =
+returns-clause-step g c step fresh =
     let kept = c.share.ensures.kept in
     block_in_step c.args.script.now c.args.self.now c.share.new.self c.requires.stage c.share.ensures.stage c.share.ensures.shared kept.time kept.loopers kept.controller.posters step
+    (block_first c.args.script.now c.args.self.now c.share.new.self c.requires.stage c.share.ensures.stage c.share.ensures.shared kept.loopers kept.controller.posters step fresh)

@@ -5,6 +5,7 @@ use Rattle.dash_hall.specs.Hearing.{AtEach, HaveHeard}
 use Rattle.dash_loopers.specs.Loopers.{LooperKeeps, HasRun, ComesToWait}
 use Rattle.dash_stage.specs.Playing.{PlaysOn}
 use Rattle.dash_stage.proofs.PlayedRounds.{round_in_step}
+use Rattle.dash_stage.proofs.PlayedTurns.{sound_heard}
 use Rattle.dash_stage.proofs.StageWhole.{threads_heard, kept_timely}
 use Rattle.dash_stage.proofs.StageDue.{heard_grown, come_to_rest}
 use Rattle.dash_stage.proofs.stage.Stage.run_round.Goals as goal
@@ -14,6 +15,9 @@ returns-clause-timely g c past timely =
     let kept = c.share.ensures.kept in
     kept_timely c.args.script.now c.args.self.now c.share.new.self c.requires.stage c.share.ensures.stage timely.same c.share.ensures.shared past
     (threads_heard c.args.self.now.threads.items c.share.new.self.threads.items kept.threads) kept.controller.posters timely
+
+pub returns-clause-sound : goal.returns-clause-sound
+returns-clause-sound g c = sound_heard c.args.script.now c.args.self.now.controller c.share.new.self.controller c.share.ensures.kept.controller.posters
 
 pub returns-clause-grown : goal.returns-clause-grown
 returns-clause-grown g c = heard_grown c.args.self.now.controller.kit.posters.items c.share.new.self.controller.kit.posters.items c.share.ensures.kept.controller.posters
@@ -31,7 +35,7 @@ returns-clause-rested g c all same still =
     let kept =
     subst (λ (xs : List StageLooper). AtEach (LooperKeeps HaveHeard) xs c.share.new.self.loopers.items) (with_items_is c.args.self.now.loopers ran (omega (arith, long, many, c.args.self.now.loopers.ok.0)))
     c.share.ensures.kept.loopers in
-    come_to_rest s c.args.self.now ran c.share.new.self c.requires.stage c.share.ensures.stage same c.share.ensures.shared c.run_loopers.ensures.loopers c.in_ok-run_loopers.ensures.on c.args.self.now.time rounds waits
+    come_to_rest s c.args.self.now ran c.share.new.self c.requires.stage c.share.ensures.stage same c.share.ensures.shared c.run_loopers.ensures.loopers c.in_ok-run_loopers.ensures.on waits
     kept still
 
 pub returns-clause-step : goal.returns-clause-step
@@ -46,4 +50,4 @@ returns-clause-step g c step =
     subst (λ (xs : List StageLooper). AtEach (LooperKeeps HaveHeard) xs c.share.new.self.loopers.items) (with_items_is c.args.self.now.loopers ran (omega (arith, long, many, c.args.self.now.loopers.ok.0)))
     c.share.ensures.kept.loopers in
     round_in_step s c.requires.text c.args.self.now ran c.share.new.self c.requires.stage c.share.ensures.stage c.share.ensures.shared c.share.ensures.kept.time c.run_loopers.ensures.loopers c.in_ok-run_loopers.ensures.on plays
-    kept c.share.ensures.kept.controller.posters step
+    c.share.ensures.kept.threads kept c.share.ensures.kept.controller.posters step

@@ -16,6 +16,7 @@ loop-preserved g c =
       λ past timely. done.timely past (at.invariant.5 past timely),
       λ same. done.same,
       λ step. done.step (at.invariant.7 step),
+      λ sound. at.invariant.8 (done.sound sound),
     )
 
 pub returns-in_err-run_round-clause-run : goal.returns-in_err-run_round-clause-run
@@ -42,3 +43,6 @@ returns-then-entries_seen-before-clause-step g c step = c.in_ok-run_round.ensure
 
 pub returns-then-entries_seen-before-clause-ended : goal.returns-then-entries_seen-before-clause-ended
 returns-then-entries_seen-before-clause-ended g c ended = c.run_round.ensures.ended (c.loop.invariant.3 ended)
+
+pub returns-then-entries_seen-before-clause-sound : goal.returns-then-entries_seen-before-clause-sound
+returns-then-entries_seen-before-clause-sound g c sound = c.loop.invariant.8 (c.in_ok-run_round.ensures.sound sound)

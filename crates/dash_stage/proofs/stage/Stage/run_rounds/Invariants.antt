@@ -4,7 +4,7 @@ use Rattle.dash_stage.specs.Controllers.{CallsNone}
 use Rattle.dash_stage.specs.Stages.{IsStage, HaveRun, OthersHaveEnded}
 use Rattle.dash_stage.specs.Sharing.{HaveSeenTheSame}
 use Rattle.dash_stage.specs.Timeliness.{AreTimelyUpTo}
-use Rattle.dash_stage.specs.Playing.{IsInStep}
+use Rattle.dash_stage.specs.Playing.{AreSound, IsInStep}
 use Rattle.dash_stage.proofs.stage.Stage.run_rounds.Given as goal
 
 abbrev pub invariant-loop : goal.invariant-loop
@@ -16,3 +16,4 @@ invariant-loop g l = IsStage l.script l.self
     × ((past : List Block) → AreTimelyUpTo l.script past l.initial.self → AreTimelyUpTo l.script past l.self)
     × (HaveSeenTheSame l.initial.self → HaveSeenTheSame l.self)
     × (IsInStep l.script l.initial.self → IsInStep l.script l.self)
+    × (AreSound l.script l.self.controller → AreSound l.script l.initial.self.controller)

@@ -1,0 +1,33 @@
+-- The threads' calls come first at their time: before the loopers run a round.
+use Rattle.std.specs.Prelude.{◌≡◌, ◌⊎◌, ◌||◌, ◌&&◌, ℕ, Bool, true, not, nat_lt, List, []}
+use Rattle.std.specs.List.{AllByRecursion, fold}
+use Rattle.loop_model.specs.declared.entry.Entry.{Entry}
+use Rattle.loop_model.specs.declared.record.QueueRecord.{QueueRecord}
+use Rattle.loop_model.specs.Base.{empty_base}
+use Rattle.loop_model.specs.Answers.{has_disposed}
+use Rattle.dash_script.specs.declared.script.Script.{Script}
+use Rattle.run_model.specs.Control.{is_advance, each_behind}
+
+-- the entry moves the time; or it was fresh before, and the entry is a thread's (a sender below this number)
+abbrev pub fresh_behind : ℕ → Bool → Entry → Bool
+fresh_behind threads fresh e = is_advance e.call || (fresh && nat_lt e.sender threads)
+
+-- since the time was last moved, or from the start, only threads have called
+unfoldable pub is_fresh : ℕ → List Entry → Bool
+is_fresh threads es = fold (fresh_behind threads) true es
+
+-- no thread's entry; or one behind a disposal; or one before which only threads have called since the time was last moved
+abbrev pub comes_first : ℕ → List Entry → Entry → Bool
+comes_first threads past e = not (nat_lt e.sender threads) || (has_disposed (empty_base 0) past || is_fresh threads past)
+
+-- so it is with each entry and what stood before it
+unfoldable pub come_first : ℕ → List Entry → Bool
+come_first threads es = each_behind (comes_first threads) [] es
+
+-- on each queue each thread's call comes where only threads have called since the time was last moved, or behind the queue's disposal
+abbrev pub AreBlocksFirst : Script → List QueueRecord → Type 0
+AreBlocksFirst s queues = AllByRecursion (λ (q : QueueRecord). come_first s.threads q.entries ≡ true) queues
+
+-- the queue was disposed of, or since its time was last moved only threads have called
+abbrev pub IsFresh : ℕ → List Entry → Type 0
+IsFresh threads es = (has_disposed (empty_base 0) es ≡ true) ⊎ (is_fresh threads es ≡ true)
