@@ -1,6 +1,6 @@
 -- A ledger that follows a history has its fates.
 use Rattle.std.proofs.Common.{◌≡◌, ◌<◌, ◌≤◌, ◌⊎◌, inl, inr, ℕ, zero, suc, Bool, true, false, cond, List, [], ◌∷◌, ◌++◌, length, Option, Some, None, refl, sym, ap, ◌∙◌, subst, arith, length-append, append_assoc}
-use Rattle.std.specs.Prelude.{◌==◌, ◌&&◌, ◌||◌, filter, fold, map, slice_get}
+use Rattle.std.specs.Prelude.{◌==◌, ◌&&◌, ◌||◌, filter, fold, slice_get}
 use Rattle.std.specs.List.{list_any, AllByRecursion}
 use Rattle.std.specs.Option.{option_map}
 use Rattle.std.proofs.lemmas.List.{append-nil, length-map, map-append}
@@ -25,12 +25,10 @@ use Rattle.loop_model.specs.Order.{Placed}
 use Rattle.loop_model.specs.Fates.{fate_by, fate_in, fates, is_queued}
 use Rattle.loop_model.specs.Posts.{accepted_by}
 use Rattle.loop_model.proofs.Sorting.{AllByRecursion-weaker, AllByRecursion-filter, AllByRecursion-append}
+use Rattle.loop_model.proofs.ListedLaws.{items_of}
 use Rattle.fate_ledger.specs.Steps.{Kept, empty_kept, next_kept, is_open, is_open_number, end_messages, number_in, dispatched_by, may_end, stays_open, ended_fates, ended_open, posted_fates, posted_open}
 use Rattle.fate_ledger.proofs.Marks.{mark, quiet, end_number-at, end_messages-at}
 use Rattle.fate_ledger.proofs.Messages.{messages_of, fates_are, messages_counted, message_number, numbered_is_message, fates_past, fates_past-at, posted_message, messages_of-snoc, fates-snoc}
-
-abbrev items_of : List Placed → List Item
-items_of xs = map (λ x. x.item) xs
 
 -- the item is the message of its number
 abbrev IsAmong : List Item → Item → Type 0

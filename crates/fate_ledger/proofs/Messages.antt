@@ -1,6 +1,6 @@
 -- The messages of a history, by number, and their fates after one more entry.
 use Rattle.std.proofs.Common.{◌≡◌, ◌+◌, ◌<◌, ℕ, zero, suc, Bool, true, false, List, [], ◌∷◌, ◌++◌, length, Option, Some, None, refl, sym, ap, ◌∙◌, subst, arith}
-use Rattle.std.specs.Prelude.{not, find, map, filter, sum_by, slice_get, if◌then◌else◌}
+use Rattle.std.specs.Prelude.{find, map, filter, sum_by, slice_get, if◌then◌else◌}
 use Rattle.std.specs.List.{AllByRecursion}
 use Rattle.std.specs.Option.{option_map}
 use Rattle.std.proofs.Math.Seq.{drop-append-add}
@@ -25,12 +25,9 @@ use Rattle.loop_model.specs.Fates.{fate_of, fate_in, fates}
 use Rattle.loop_model.specs.Posts.{accepted_by}
 use Rattle.loop_model.proofs.Sorting.{AllByRecursion-filter}
 use Rattle.loop_model.proofs.Growing.{IsPast, all_items_past, made_items-snoc, later_entries-snoc}
-use Rattle.loop_model.proofs.FateLaws.{fates_counted, fates_by_number}
+use Rattle.loop_model.proofs.FateLaws.{is_message, fates_counted, fates_by_number}
 use Rattle.fate_ledger.specs.Steps.{posted_fates}
 use Rattle.fate_ledger.proofs.Marks.{mark, fate_of-more}
-
-abbrev pub is_message : Placed → Bool
-is_message x = not (is_barrier x.item)
 
 -- the messages of a history, by number
 abbrev pub messages_of : List Entry → List Placed

@@ -1,9 +1,10 @@
 -- Each frame takes each phase once.
-use Rattle.std.proofs.Common.{◌≡◌, ℕ, suc, ◌+◌, ◌-◌, ◌<◌, Bool, true, false, true≢false, Option, Some, None, List, [], ◌∷◌, ◌++◌, reverse, refl, sym, ap, ◌∙◌, subst, append_assoc, arith}
+use Rattle.std.proofs.Common.{◌≡◌, ℕ, suc, ◌+◌, ◌-◌, ◌<◌, Bool, true, false, Option, Some, None, List, [], ◌∷◌, ◌++◌, reverse, refl, sym, ap, ◌∙◌, subst, append_assoc, arith}
 use Rattle.std.specs.Prelude.{◌==◌, ◌&&◌, nat_le, is_none, if◌then◌else◌}
 use Rattle.std.specs.List.{range_with_len}
 use Rattle.std.proofs.lemmas.Bool.{and_parts, cond_both, eqb-true, eqb-false}
 use Rattle.loop_model.specs.Items.{is_just}
+use Rattle.loop_model.proofs.Options.{none_is}
 use Rattle.frame_phases.specs.declared.entry.FrameEntry.{FrameEntry}
 use Rattle.frame_phases.specs.declared.entry.FrameEntry.TheVariants.{Posted, Removed, Begin, Take, Ran}
 use Rattle.frame_phases.specs.Frames.{all_allowed, is_allowed, is_settled, next_phase, take_time, frame_time, last_time}
@@ -49,10 +50,6 @@ to_take_following phases phase l =
     (λ e.
     let more : suc (phases - (phase + 1)) ≡ phases - phase = omega arith in
     ap (range_with_len phase) more)
-
-none_is : (o : Option ℕ) → is_none o ≡ true → o ≡ None
-none_is None h = refl
-none_is (Some m) h = absurd (true≢false (sym h))
 
 module _ (interval phases : ℕ) where
   next_of_begin : (seen : List FrameEntry) (v s t : ℕ) → is_allowed interval phases (reverse seen) (Begin v s t) ≡ true → next_phase phases (reverse seen) ≡ None

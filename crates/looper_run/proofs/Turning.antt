@@ -57,7 +57,8 @@ found p q x y t =
     let none : made_in p.sender more ≡ 0 = omega (arith, count, same) in
     record { others = more; entries = sym whole; all = all_others p.sender more none }
 
-no_looks : (sender : ℕ) (more : List Entry) → All (IsOther sender) more → All (IsNoLookOf sender) more
+-- others make no looks of this sender
+pub no_looks : (sender : ℕ) (more : List Entry) → All (IsOther sender) more → All (IsNoLookOf sender) more
 no_looks sender more others = λ k d near. λ own. absurd (others k d near own)
 
 -- a test that stays true where others make entries

@@ -1,5 +1,5 @@
 -- The seats of all posters are made one.
-use Rattle.std.proofs.Common.{◌≡◌, ℕ, ◌<◌, List, [], ◌∷◌, ◌++◌, length, refl, sym, ap, ◌∙◌, subst, arith, append_assoc}
+use Rattle.std.proofs.Common.{◌≡◌, ℕ, ◌<◌, List, [], ◌∷◌, ◌++◌, length, sym, ap, ◌∙◌, subst, arith, append_assoc}
 use Rattle.std.specs.Prelude.{All, ◌+◌, ◌-◌, drop}
 use Rattle.std.proofs.Common.{get_or, length-append, suc}
 use Rattle.std.proofs.Math.ListN.{get_or-append}
@@ -37,10 +37,6 @@ gathers {H} {K} q posters p s n g rests t = (
   t.0 ∙ (ap (λ l. l ++ number_of p ∷ []) g.1 ∙ sym (map-append number_of posters (p ∷ []))),
   All-push (λ (x : Known H K). IsPrefix x.view.seen n.0.seen) posters p (All-weaker (λ (x : Known H K). IsPrefix x.view.seen s.0.seen) (λ (x : Known H K). IsPrefix x.view.seen n.0.seen) (λ x h. prefix_trans x.view.seen s.0.seen n.0.seen h t.1) posters g.2) t.2,
 )
-
-pub nothing_left : {X : Type 0} (l : List X) → length l ≡ 0 → l ≡ []
-nothing_left [] h = refl
-nothing_left (x ∷ xs) h = absurd (omega arith)
 
 -- a new poster of that number
 abbrev IsNewAt : {H K : Type 0} → Shared H → ℕ → Known H K → Type 0

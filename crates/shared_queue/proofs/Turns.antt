@@ -19,9 +19,9 @@ use Rattle.shared_queue.specs.Constants.{Constants, made_in, IsStateOf}
 use Rattle.queue_state.specs.Queue.{Queue}
 use Rattle.shared_queue.specs.declared.view.View.{View}
 use Rattle.shared_queue.specs.Turn.{IsFirst, Board, turn_of, holds, Counts, Fits, AtHome, Turn, new_senders, opening_view, counted, taking, giving, fresh, dealt, keeping, joined, gone}
-use Rattle.shared_queue.proofs.Untold.{set_at, has_first, untold_before, untold_front, told_one}
+use Rattle.shared_queue.proofs.Untold.{untold_before, untold_front, told_one}
 use Rattle.shared_queue.specs.Plays.{Sat, bare, sat, took, gave, MayGive, learned, rang, listened}
-use Rattle.loop_model.proofs.Sums.{total-append, total-set, term_le, terms_le}
+use Rattle.loop_model.proofs.Sums.{set_at, has_first, total-append, total-set, total-none, term_le, terms_le}
 use Rattle.loop_model.proofs.Prefixes.{prefix_self, prefix_front, prefix_trans, longer_begins}
 use Rattle.shared_queue.proofs.Prefixes.{made_in_push, one_of-no, made_in_between}
 
@@ -461,13 +461,9 @@ module _ {H K : Type 0} (key : Constants H) where
           (λ is. let one : cond {A = ℕ} (eqb from n) 1 0 ≡ 1 = ap (λ b. cond {A = ℕ} b 1 0) (eq-eqb from n is) in ((λ a b. omega (arith, next.1 (omega arith))), λ a. absurd (omega arith)))
           (λ apart. let no : cond {A = ℕ} (eqb from n) 1 0 ≡ 0 = ap (λ b. cond {A = ℕ} b 1 0) (ne_eqb from n apart) in ((λ a b. omega (arith, next.0 (omega arith) (omega arith))), λ a. omega (arith, next.1 (omega arith))))
 
-  all_zero : (f : View (Queue H K) H → ℕ) (views : List (View (Queue H K) H)) → ((j : ℕ) (u : View (Queue H K) H) → get_elem? views j ≡ some u → f u ≡ 0) → total f views ≡ 0
-  all_zero f [] none_of = refl
-  all_zero f (u ∷ us) none_of = omega (arith, none_of 0 u refl, all_zero f us (λ j x e. none_of (suc j) x e))
-
   -- where one seat without the turn has all sender numbers, no seat has the turn
   pub all_rest : (s : Board H K) (r : Turn key s) (id : ℕ) (v : View (Queue H K) H) → get_elem? s.views id ≡ some v → v.has_turn ≡ false → ((n : ℕ) → n < key.setting.senders → 0 < holds n v) → AtHome key r.whole s
-  all_rest s r id v at no_turn has_all = r.free (sym r.turns ∙ all_zero turn_of s.views none_of)
+  all_rest s r id v at no_turn has_all = r.free (sym r.turns ∙ total-none turn_of s.views none_of)
     where
       rests : (j : ℕ) (u : View (Queue H K) H) → get_elem? s.views j ≡ some u → j ≢ id → u.has_turn ≡ true → ⊥
       rests j u there apart has =

@@ -1,9 +1,10 @@
 use Rattle.std.proofs.Common.{rules, ◌≡◌, [], ◌∷◌, length, refl, ap, sym, ◌∙◌, subst, append-nil, arith}
 use Rattle.std.specs.Vec.Iter.{into_iter_items}
+use Rattle.std.proofs.lemmas.List.{nil_from_length}
 use Rattle.shared_queue.specs.Turn.{opening_view}
 use Rattle.shared_queue.specs.Ends.{Gathered}
 use Rattle.shared_queue.proofs.Turns.{sits}
-use Rattle.shared_queue.proofs.Gathers.{gathers, nothing_left, regrouped}
+use Rattle.shared_queue.proofs.Gathers.{gathers, regrouped}
 use Rattle.shared_queue.proofs.queue.SharedQueue.gather.Goals as goal
 
 pub load_new_seat-requires : goal.load_new_seat-requires
@@ -24,6 +25,6 @@ pub returns : goal.returns
 returns g c =
     let at = c.loop-poster in
     let none = c.in-None.ensures.steps in
-    let empty : into_iter_items at.poster-iterator ≡ [] = nothing_left _ (sym at.invariant.1 ∙ none.0) in
+    let empty : into_iter_items at.poster-iterator ≡ [] = nil_from_length _ (sym at.invariant.1 ∙ none.0) in
     let all = sym (append-nil at.yielded) ∙ rw empty at at.invariant.0 ∙ c.into_iter-poster-iterator.ensures.into_iter_gives.0 in
     (at.invariant.2, subst (λ l. Gathered c.args.self.now l at.seat.me) all at.invariant.3)
