@@ -1,23 +1,14 @@
 -- Views that were told nothing.
-use Rattle.std.proofs.Common.{◌≡◌, ℕ, zero, suc, List, [], ◌∷◌, ◌++◌, set, refl, sym, ap, ◌∙◌}
+use Rattle.std.proofs.Common.{◌≡◌, ℕ, List, [], ◌∷◌, ◌++◌, set, sym, ap, ◌∙◌}
 use mathlib.Core.Logic.{dite}
-use mathlib.Core.Option.{some, some-ne-none, some-injective}
+use mathlib.Core.Option.{some, some-injective}
 use native.Mathlib.Decide.{ℕ_discrete}
 use lib.ListN.{get_elem?}
 use Rattle.atomic_table.proofs.Lists.{set_else, at_longer}
+use Rattle.loop_model.proofs.Sums.{set_at, has_first}
 use Rattle.frame_phases.specs.declared.entry.FrameEntry.{FrameEntry}
 use Rattle.choreographer.specs.declared.view.View.{View}
 use Rattle.choreographer.specs.Turn.{AreUntold}
-
--- what was put in the place of another stands there
-pub set_at : {A : Type 0} (l : List A) (i : ℕ) (a b : A) → get_elem? l i ≡ some a → get_elem? (set l i b) i ≡ some b
-set_at [] i a b e = absurd (some-ne-none a (sym e))
-set_at (x ∷ xs) zero a b e = refl
-set_at (x ∷ xs) (suc i) a b e = set_at xs i a b e
-
--- a list with a first one is not empty
-pub has_first : {A : Type 0} (x : A) (xs : List A) → x ∷ xs ≡ [] → ⊥
-has_first x xs e = cc (e)
 
 -- where one view changed and none was told anything since, none was before
 pub untold_before : (views : List View) (id : ℕ) (v w : View) → get_elem? views id ≡ some v → (w.told ≡ [] → v.told ≡ []) → AreUntold (set views id w) → AreUntold views
