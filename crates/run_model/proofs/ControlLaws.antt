@@ -1,31 +1,17 @@
 -- How the controller's part of a run, and its end, are put together.
-use Rattle.std.proofs.Common.{◌≡◌, ℕ, Bool, true, false, List, [], ◌∷◌, ◌++◌, refl, sym, ap, ◌∙◌, subst, arith, append_assoc}
-use Rattle.std.specs.Prelude.{◌==◌, ◌&&◌, nat_le, if◌then◌else◌}
+use Rattle.std.proofs.Common.{◌≡◌, ℕ, Bool, true, false, List, [], ◌∷◌, ◌++◌, refl, sym, ap, ◌∙◌, subst, append_assoc}
+use Rattle.std.specs.Prelude.{◌&&◌, nat_le, if◌then◌else◌}
 use Rattle.std.proofs.lemmas.List.{append-nil}
 use Rattle.std.proofs.Math.Bool.{and_assoc}
 use Rattle.std.proofs.lemmas.Bool.{and_parts, and_from}
-use Rattle.std.proofs.lemmas.Bool.Decides.{nat_tests}
 use Rattle.loop_model.specs.declared.entry.Entry.{Entry}
 use Rattle.loop_model.specs.Entries.{moment_of}
 use Rattle.run_model.specs.Control.{is_advance, is_closing, are_controls, each_behind}
-use Rattle.run_model.specs.Loopers.{Looper}
-use Rattle.run_model.specs.Acts.{sent_on, closing}
-use Rattle.run_model.specs.Run.{caused_on}
-use Rattle.run_model.specs.SoFar.{disposals}
-use Rattle.run_model.proofs.RunLaws.{sent_on-append}
 
 -- Advances in lockstep, up to the end
 abbrev pub are_advances : Bool → ℕ → List Entry → Bool
 are_advances lockstep end [] = true
 are_advances lockstep end (e ∷ es) = is_advance e.call && ((lockstep && nat_le (moment_of e.call) end) && are_advances lockstep end es)
-
-pub are_advances-snoc : (lockstep : Bool) (end : ℕ) (es : List Entry) (e : Entry) → are_advances lockstep end es ≡ true → are_advances lockstep end (e ∷ []) ≡ true
-    → are_advances lockstep end (es ++ e ∷ []) ≡ true
-are_advances-snoc lockstep end [] e h one = one
-are_advances-snoc lockstep end (f ∷ es) e h one =
-    let parts = and_parts (is_advance f.call) _ h in
-    let rest = and_parts (lockstep && nat_le (moment_of f.call) end) (are_advances lockstep end es) parts.1 in
-    and_from _ _ parts.0 (and_from _ _ rest.0 (are_advances-snoc lockstep end es e rest.1 one))
 
 one_advance : (a : Bool) (b c d : Bool) → a ≡ true → (b && c) ≡ true → (if a then b && c else d) ≡ true
 one_advance a b c d h g = rw h g
@@ -60,21 +46,3 @@ each_behind-append test past [] ys = ap (λ l. each_behind test l ys) (sym (appe
 each_behind-append test past (x ∷ xs) ys =
     ap (λ t. test past x && t) (each_behind-append test (past ++ x ∷ []) xs ys ∙ ap (λ l. each_behind test (past ++ x ∷ []) xs && each_behind test l ys) (append_assoc past (x ∷ []) xs))
     ∙ sym (and_assoc (test past x) (each_behind test (past ++ x ∷ []) xs) (each_behind test (past ++ x ∷ xs) ys))
-
--- what is caused on a looper's own queue, and on another one
-pub caused_on-own : (final : Looper) (q now : ℕ) → caused_on q final q now ≡ sent_on q final.sent ++ disposals q (if q == 0 then [] else now ∷ [])
-caused_on-own final q now = sent_on-append q final.sent (closing q now) ∙ ap (λ l. sent_on q final.sent ++ l) (go (q == 0))
-  where
-    same : (q == q) ≡ true
-    same = grind (arith, nat_tests)
-
-    go : (b : Bool) → sent_on q (if b then [] else disposals q (now ∷ [])) ≡ disposals q (if b then [] else now ∷ [])
-    go true = refl
-    go false = rw same refl
-
-pub caused_on-other : (final : Looper) (o q now : ℕ) → (q == o) ≡ false → caused_on o final q now ≡ sent_on o final.sent
-caused_on-other final o q now h = sent_on-append o final.sent (closing q now) ∙ (ap (λ l. sent_on o final.sent ++ l) (go (q == 0)) ∙ append-nil (sent_on o final.sent))
-  where
-    go : (b : Bool) → sent_on o (if b then [] else disposals q (now ∷ [])) ≡ []
-    go true = refl
-    go false = rw h refl

@@ -22,7 +22,7 @@ use Rattle.run_model.specs.Moments.{Mode, in_free_mode, AreOfClock}
 use Rattle.run_model.specs.Planned.{AreAsPlanned}
 use Rattle.run_model.specs.Acts.{after_act}
 use Rattle.run_model.specs.Loopers.{first_looper}
-use Rattle.run_model.specs.Run.{IsRun, IsHistory, IsControlled, IsFrameRun, HasFramePosts, HasFrameRemovals, IsLooperRun, all_entries, setting_of}
+use Rattle.run_model.specs.Run.{IsRun, IsHistory, IsControlled, IsFrameRun, IsLooperRun, all_entries, setting_of}
 use Rattle.run_model.specs.Text.{text, lines}
 use Rattle.run_model.proofs.Below.{each_below}
 use Rattle.run_model.proofs.Examples.{entry, message, journal, frames, led, page}
@@ -80,8 +80,6 @@ frame_run = record {
   interval = refl;
   phases = refl;
   lawful = refl;
-  posted = each_below 1 (λ thread. HasFramePosts script (frames 0 []) thread) (tt, λ phase id. omega arith);
-  removed = each_below 1 (λ thread. HasFrameRemovals script (frames 0 []) thread) (tt, λ phase id. omega arith);
 }
 
 looper_run : IsLooperRun mode script report.queues queue_0 journal_0 (frames 0 [])
@@ -93,8 +91,9 @@ looper_run = record {
   dispatches = refl;
   disposed_at = 0;
   calls = ((record { call = refl; reply = refl }, (record { call = refl; reply = refl }, tt)), tt);
-  posted = λ phase id. omega arith;
+  asked = λ test. omega arith;
   on_time = tt;
+  moments = tt;
 }
 
 pub is_run : IsRun mode script report

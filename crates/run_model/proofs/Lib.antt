@@ -19,7 +19,6 @@ pub mod FilterByCallback
 pub mod RemovesAll
 pub mod FreeRun
 pub mod Growth
-pub mod SoFarLaws
 pub mod Stranded
 pub mod IdleOnce
 pub mod EventOnce

@@ -1,5 +1,5 @@
 -- Reports that are no runs of their script: each has one fault.
-use Rattle.std.proofs.Common.{◌≡◌, ℕ, true, false, List, [], ◌∷◌, Option, Some, None, sym, ap, subst, length, arith, lit<}
+use Rattle.std.proofs.Common.{◌≡◌, ℕ, zero, suc, refl, true, false, List, [], ◌∷◌, Option, Some, None, sym, ap, subst, length, arith, lit<}
 use Rattle.loop_model.specs.declared.call.Call.{Call}
 use Rattle.loop_model.specs.declared.call.Call.TheVariants as call
 use Rattle.loop_model.specs.declared.reply.Reply.{Reply}
@@ -14,22 +14,36 @@ use Rattle.dash_script.specs.declared.script.Command.TheVariants as command
 use Rattle.dash_script.specs.declared.script.Script.{Script}
 use Rattle.run_model.specs.declared.report.Report.{Report}
 use Rattle.run_model.specs.Control.{is_called_in_time, are_before_quit, befores}
-use Rattle.run_model.specs.Run.{IsRun, caused_on}
+use Rattle.run_model.specs.Run.{IsRun, caused_on, asked_of}
 use Rattle.loop_model.specs.declared.journal.Act.{Act}
 use Rattle.loop_model.specs.declared.journal.Act.TheVariants as act
 use Rattle.loop_model.specs.declared.journal.Route.TheVariants as route
 use Rattle.run_model.specs.Asks.{AreFor, entries_by}
-use Rattle.run_model.specs.Loopers.{Looper}
-use Rattle.run_model.specs.Acts.{IsSent, after_act}
-use Rattle.run_model.proofs.Examples.{entry, handler_on, block, by, plain_script, message, queue, journal, frames}
+use Rattle.run_model.specs.Loopers.{Looper, first_looper}
+use Rattle.run_model.specs.Acts.{IsSent, after_act, Lead}
+use Rattle.run_model.proofs.Examples.{entry, handler_on, block, by, plain_script, message, frame_message, queue, journal, frames, callback, led}
+use Rattle.dash_script.specs.declared.script.Block.{Block}
+use Rattle.dash_script.specs.declared.script.Line.{Line}
+use Rattle.frame_phases.specs.declared.entry.FrameEntry.{FrameEntry}
+use Rattle.frame_phases.specs.declared.entry.FrameEntry.TheVariants as frame
+use Rattle.run_model.specs.FrameAsks.{FrameAsk, Posts, as_told}
+use Rattle.run_model.specs.FrameRuns.{are_run_then, is_begin, is_frame_from}
+use Rattle.std.specs.Prelude.{◌==◌, Bool, map, count_by, drop, nat_le, slice_get}
+use Rattle.std.proofs.lemmas.Bool.{and_parts}
+use Rattle.std.specs.List.{AllByRecursion}
+use Rattle.std.specs.Option.{option_map_or}
 use Rattle.run_model.specs.Moments.{in_lockstep}
 use Rattle.run_model.proofs.TwoPosts as two_posts
 use Rattle.run_model.proofs.TwoPosts.{script}
 use Rattle.run_model.proofs.QuitTwice as quit_twice
 
--- the report of the run, with another history
-abbrev with_entries : List Entry → Report
-with_entries es = record two_posts.report { queues = queue 0 true 3 es ∷ [] }
+-- the report of the run, with another history and other acts
+abbrev with_entries : List Entry → List Act → Report
+with_entries es acts = record two_posts.report { queues = queue 0 true 3 es ∷ []; journals = journal 0 acts ∷ [] }
+
+-- the act of a dispatch
+abbrev dispatch : ℕ → ℕ → Act
+dispatch number now = act.Dispatch number now route.Handled
 
 abbrev advance : ℕ → ℕ → Entry
 advance seq now = entry 2 seq (call.Advance now) reply.Advanced
@@ -56,28 +70,28 @@ number_in (Some (reply.Dispatched n)) = n
 number_in _ = 0
 
 -- a thread that makes a call twice
-pub doubled : IsRun in_lockstep script (with_entries (advance 0 10 ∷ first_post 0 0 ∷ first_post 1 1 ∷ second_post 2 2 ∷ look 0 10 2 ∷ advance 1 15 ∷ look 1 15 0 ∷ look 2 15 1 ∷ advance 2 20 ∷ halt 3 ∷ [])) → ⊥
+pub doubled : IsRun in_lockstep script (with_entries (advance 0 10 ∷ first_post 0 0 ∷ first_post 1 1 ∷ second_post 2 2 ∷ look 0 10 2 ∷ advance 1 15 ∷ look 1 15 0 ∷ look 2 15 1 ∷ advance 2 20 ∷ halt 3 ∷ []) (dispatch 2 10 ∷ dispatch 0 15 ∷ dispatch 1 15 ∷ [])) → ⊥
 doubled r = (r.planned.0 0 (lit< tt)).1.1
 
 -- a thread that leaves a call out
-pub missing : IsRun in_lockstep script (with_entries (advance 0 10 ∷ second_post 0 0 ∷ look 0 10 0 ∷ advance 1 20 ∷ halt 2 ∷ [])) → ⊥
+pub missing : IsRun in_lockstep script (with_entries (advance 0 10 ∷ second_post 0 0 ∷ look 0 10 0 ∷ advance 1 20 ∷ halt 2 ∷ []) (dispatch 0 10 ∷ [])) → ⊥
 missing r = (r.planned.0 0 (lit< tt)).1
 
 -- a thread that makes its calls in another order
-pub out_of_order : IsRun in_lockstep script (with_entries (advance 0 10 ∷ second_post 0 0 ∷ first_post 1 1 ∷ look 0 10 0 ∷ advance 1 15 ∷ look 1 15 1 ∷ advance 2 20 ∷ halt 3 ∷ [])) → ⊥
+pub out_of_order : IsRun in_lockstep script (with_entries (advance 0 10 ∷ second_post 0 0 ∷ first_post 1 1 ∷ look 0 10 0 ∷ advance 1 15 ∷ look 1 15 1 ∷ advance 2 20 ∷ halt 3 ∷ []) (dispatch 0 10 ∷ dispatch 1 15 ∷ [])) → ⊥
 out_of_order r =
     let what : 7 ≡ 8 = ap what_in (r.planned.0 0 (lit< tt)).0.call in
     omega (arith, what)
 
 -- a dispatch of the message that is not due
-pub wrong_number : IsRun in_lockstep script (with_entries (advance 0 10 ∷ first_post 0 0 ∷ second_post 1 1 ∷ look 0 10 0 ∷ advance 1 15 ∷ look 1 15 1 ∷ advance 2 20 ∷ halt 3 ∷ [])) → ⊥
+pub wrong_number : IsRun in_lockstep script (with_entries (advance 0 10 ∷ first_post 0 0 ∷ second_post 1 1 ∷ look 0 10 0 ∷ look 1 10 1 ∷ advance 1 20 ∷ halt 2 ∷ []) (dispatch 0 10 ∷ dispatch 1 10 ∷ [])) → ⊥
 unfolding IsLegal answer clock accepted_count barrier_count quit_place has_disposed has_halted live first_eligible pick
 wrong_number r =
     let number : 1 ≡ 0 = ap number_in r.records.histories.0.legal.1.1.1.0.reply in
     omega (arith, number)
 
 -- the controller advances past the messages, which then come late
-pub late : IsRun in_lockstep script (with_entries (advance 0 10 ∷ first_post 0 0 ∷ second_post 1 1 ∷ advance 1 20 ∷ look 0 20 1 ∷ look 1 20 0 ∷ halt 2 ∷ [])) → ⊥
+pub late : IsRun in_lockstep script (with_entries (advance 0 10 ∷ first_post 0 0 ∷ second_post 1 1 ∷ advance 1 20 ∷ look 0 20 1 ∷ look 1 20 0 ∷ halt 2 ∷ []) (dispatch 1 20 ∷ dispatch 0 20 ∷ [])) → ⊥
 unfolding is_called_in_time quit_place first_eligible pick live
 late r = let on_time : false ≡ true = r.timely.histories.0.controls in cc
 
@@ -132,11 +146,156 @@ pub quits_before_a_block : IsRun in_lockstep (side_script 10 (command.Post 1 7 0
 unfolding are_before_quit
 quits_before_a_block r = let before : false ≡ true = r.timely.histories.1.0.before_quit in cc
 
+-- thread 1 quits the side looper
+abbrev quits_side : Line
+quits_side = by 1 (command.Quit 1)
+
+-- thread 0 posts to it
+abbrev posts_side : Line
+posts_side = by 0 (command.Post 1 7 0)
+
+-- the report of a script with two threads and these blocks, with this history of the side looper
+abbrev quit_report : List Block → List Entry → Report
+quit_report blocks es = record {
+  script = plain_script 2 2 (handler_on 0 ∷ handler_on 1 ∷ []) blocks 10;
+  queues = queue 0 true 5 (entry 4 0 (call.Advance 10) reply.Advanced ∷ entry 4 1 (call.Halt 10) reply.Halted ∷ []) ∷ queue 1 false 5 es ∷ [];
+  journals = journal 0 [] ∷ journal 1 [] ∷ [];
+  frames = frames 0 [] ∷ frames 1 [] ∷ [];
+  start = 0;
+}
+
+-- the side looper's queue is moved to the end, quit there by thread 1, and disposed of; then thread 0 posts at this time
+abbrev quit_then_post : ℕ → List Entry
+quit_then_post when =
+    entry 4 0 (call.Advance 10) reply.Advanced ∷ entry 1 0 (call.Quit false 10) reply.QuitDone ∷ entry 3 0 (call.Next 10) reply.Disposed
+    ∷ entry 0 0 (call.Post (message 1 7 when None)) (reply.Refused 1) ∷ []
+
 -- the side looper is driven to the end and disposed of before a thread's earlier call
-pub ends_before_a_call : IsRun in_lockstep (side_script 5 (command.Post 1 7 0)) (side_report 5 (command.Post 1 7 0) (
-    side_advance 0 10 ∷ side_quit 1 reply.QuitDone ∷ disposal 0 10 ∷ side_post 5 (reply.Refused 1) ∷ []) []) → ⊥
+abbrev two_blocks : List Block
+two_blocks = block 5 (posts_side ∷ []) ∷ block 10 (quits_side ∷ []) ∷ []
+
+pub ends_before_a_call : IsRun in_lockstep (quit_report two_blocks []).script (quit_report two_blocks (quit_then_post 5)) → ⊥
 unfolding befores clock has_disposed
 ends_before_a_call r = let on_time : false ≡ true = r.timely.histories.1.0.threads 0 (lit< tt) in cc
+
+-- a thread's call comes behind the disposal at its own time: the looper ran a round before the block was through
+abbrev one_block : List Block
+one_block = block 10 (quits_side ∷ posts_side ∷ []) ∷ []
+
+pub ends_within_a_block : IsRun in_lockstep (quit_report one_block []).script (quit_report one_block (quit_then_post 10)) → ⊥
+unfolding befores clock has_disposed
+ends_within_a_block r = let on_time : false ≡ true = r.timely.histories.1.0.threads 0 (lit< tt) in cc
+
+-- a script whose gauge moves to its target in one frame
+abbrev gauge_script : Script
+gauge_script = record (plain_script 1 1 (handler_on 0 ∷ []) (block 0 (by 0 (command.Set 0 7) ∷ []) ∷ []) 20) { gauges = record { handler = 0; step = 7 } ∷ [] }
+
+abbrev gauge_entries : List Entry
+gauge_entries =
+    entry 0 0 (call.Post (record (message 0 1 0 None) { arg = 7; obj = Some 0 })) (reply.Accepted 0)
+    ∷ entry 1 0 (call.Next 0) (reply.Dispatched 0)
+    ∷ entry 1 1 (call.Barrier 0) (reply.Token 0)
+    ∷ advance 0 17
+    ∷ entry 1 2 (call.Post (frame_message 0 16 None)) (reply.Accepted 1)
+    ∷ entry 1 3 (call.Next 17) (reply.Dispatched 1)
+    ∷ entry 1 4 (call.Unbarrier 0) reply.Unbarriered
+    ∷ advance 1 20
+    ∷ halt 2
+    ∷ []
+
+abbrev gauge_acts : List Act
+gauge_acts = act.Dispatch 0 0 route.Intercepted ∷ act.Vsync 16666667 ∷ act.Paint 0 7 ∷ act.Dispatch 1 17 route.Intercepted ∷ []
+
+-- its frame starts half a millisecond behind its dispatch
+abbrev late_frames : List FrameEntry
+late_frames =
+    frame.Posted (callback 0 1 0 1000000) ∷ frame.Posted (callback 1 2 0 1000016) ∷ frame.Begin 16666667 17500000 16666667 ∷ frame.Take 0 17000000 16666667
+    ∷ frame.Take 1 17000000 16666667 ∷ frame.Ran 0 ∷ frame.Take 2 17000000 16666667 ∷ frame.Ran 1 ∷ frame.Take 3 17000000 16666667 ∷ []
+
+abbrev late_report : Report
+late_report = record {
+  script = gauge_script;
+  queues = queue 0 true 3 gauge_entries ∷ [];
+  journals = journal 0 gauge_acts ∷ [];
+  frames = frames 0 late_frames ∷ [];
+  start = 0;
+}
+
+no_frame : (fs : List FrameEntry) → AllByRecursion (λ e. is_begin e ≡ false) fs → (place : ℕ) → option_map_or is_begin (slice_get fs place) false ≡ false
+no_frame [] none place = refl
+no_frame (e ∷ fs) none zero = none.0
+no_frame (e ∷ fs) none (suc place) = no_frame fs none.1 place
+
+-- its frame begins at place 2
+one_frame : (place : ℕ) → is_frame_from late_frames 0 (Some place) ≡ true → place ≡ 2
+one_frame zero h = cc
+one_frame (suc zero) h = cc
+one_frame (suc (suc zero)) h = refl
+one_frame (suc (suc (suc place))) h =
+    let none = no_frame (drop 3 late_frames) (refl, (refl, (refl, (refl, (refl, (refl, tt)))))) place in
+    let begins : option_map_or is_begin (slice_get (drop 3 late_frames) place) false ≡ true = (and_parts (nat_le 0 (suc (suc (suc place)))) _ h).1 in
+    cc
+
+-- the looper as its frame's message comes
+abbrev before_frame : Looper
+before_frame = led gauge_script 0 gauge_entries late_frames (first_looper gauge_script) (None ∷ None ∷ None ∷ []) gauge_acts
+
+-- a frame starts at another time than its dispatch
+pub starts_late : IsRun in_lockstep gauge_script late_report → ⊥
+unfolding after_act
+starts_late r = of_acts r.loopers.0.final r.loopers.0.acts r.loopers.0.moments
+  where
+    of_acts : (b : Looper) → Lead gauge_script 0 gauge_entries late_frames (first_looper gauge_script) gauge_acts b → are_run_then late_frames b.frames ≡ true → ⊥
+    of_acts b (Some p, (may, rest)) moments = let starts : false ≡ true = may.starts in cc
+    of_acts b (None, (may, (v, (pulse, (g, (paint, (None, (frame, is)))))))) moments =
+        let painted : 0 ≡ 1 = ap length frame.painted in
+        omega (arith, painted)
+    of_acts b (None, (may, (v, (pulse, (g, (paint, (Some p, (frame, is)))))))) moments =
+        let now : after_act gauge_script 0 gauge_entries late_frames (Some 2) before_frame (act.Dispatch 1 17 route.Intercepted) ≡ b =
+        subst (λ n. after_act gauge_script 0 gauge_entries late_frames (Some n) before_frame (act.Dispatch 1 17 route.Intercepted) ≡ b) (one_frame p frame.place) is in
+        let late : false ≡ true = subst (λ (c : Looper). are_run_then late_frames c.frames ≡ true) (sym now) moments in
+        cc
+
+-- a script with one frame line
+abbrev frame_script : Script
+frame_script = plain_script 1 1 (handler_on 0 ∷ []) (block 10 (by 0 (command.Frame 0 3 8 0) ∷ []) ∷ []) 20
+
+-- its report, with this frame record
+abbrev frame_report : List FrameEntry → Report
+frame_report fs = record {
+  script = frame_script;
+  queues = queue 0 true 3 (advance 0 10 ∷ advance 1 20 ∷ halt 2 ∷ []) ∷ [];
+  journals = journal 0 [] ∷ [];
+  frames = frames 0 fs ∷ [];
+  start = 0;
+}
+
+-- how many of the asks pass a test, where the looper's acts cause nothing
+abbrev asked : (FrameAsk → Bool) → Looper → ℕ
+asked test b = count_by test (map (as_told true) (asked_of frame_script 0 b))
+
+-- the line's callback is posted twice
+pub posts_frame_twice : IsRun in_lockstep frame_script (frame_report (frame.Posted (callback 0 3 10 8) ∷ frame.Posted (callback 1 3 10 8) ∷ [])) → ⊥
+posts_frame_twice r =
+    let counts : 2 ≡ 1 = subst (λ b. 2 ≡ asked (λ x. true) b) (sym r.loopers.0.acts) (r.loopers.0.asked (λ x. true)) in
+    omega (arith, counts)
+
+-- the callback is due at 10
+abbrev is_due_at_10 : FrameAsk → Bool
+is_due_at_10 (Posts phase due id token) = due == 10
+is_due_at_10 _ = false
+
+-- the line's callback is posted for a later time
+pub posts_frame_late : IsRun in_lockstep frame_script (frame_report (frame.Posted (callback 0 3 11 8) ∷ [])) → ⊥
+posts_frame_late r =
+    let counts : 0 ≡ 1 = subst (λ b. 0 ≡ asked is_due_at_10 b) (sym r.loopers.0.acts) (r.loopers.0.asked is_due_at_10) in
+    omega (arith, counts)
+
+-- a frame that no dispatch runs
+pub frame_of_nothing : IsRun in_lockstep frame_script (frame_report (frame.Posted (callback 0 3 10 8) ∷ frame.Begin 0 10000000 0 ∷ frame.Take 0 10000000 0 ∷ frame.Take 1 10000000 0 ∷ frame.Take 2 10000000 0 ∷ frame.Take 3 10000000 0 ∷ frame.Ran 0 ∷ [])) → ⊥
+frame_of_nothing r =
+    let counts : 2 ≡ 1 = subst (λ b. 2 ≡ asked (λ x. true) b) (sym r.loopers.0.acts) (r.loopers.0.asked (λ x. true)) in
+    omega (arith, counts)
 
 -- a journal that leaves a dispatch out
 pub act_missing : IsRun in_lockstep script (record two_posts.report { journals = journal 0 (act.Dispatch 1 10 route.Handled ∷ []) ∷ [] }) → ⊥

@@ -1,20 +1,17 @@
 -- How a run grows, entry by entry, block by block and act by act.
-use Rattle.std.proofs.Common.{◌≡◌, ℕ, Bool, true, false, List, [], ◌∷◌, ◌++◌, Option, refl, sym, ap, ◌∙◌, subst, arith, append_assoc}
+use Rattle.std.proofs.Common.{◌≡◌, ℕ, Bool, true, false, List, [], ◌∷◌, ◌++◌, Option, None, refl, sym, ap, ◌∙◌, subst, arith, append_assoc}
 use Rattle.std.specs.Prelude.{◌==◌, if◌then◌else◌}
 use Rattle.std.specs.List.{AllByRecursion}
 use Rattle.std.proofs.lemmas.List.{append-nil}
 use Rattle.std.proofs.lemmas.List.Elements.{filter-append}
 use Rattle.loop_model.specs.declared.entry.Entry.{Entry}
 use Rattle.frame_phases.specs.declared.entry.FrameEntry.{FrameEntry}
-use Rattle.dash_script.specs.declared.script.Block.{Block}
 use Rattle.dash_script.specs.declared.script.Script.{Script}
 use Rattle.loop_model.specs.declared.journal.Act.{Act}
+use Rattle.loop_model.specs.declared.journal.Act.TheVariants.{Dispatch, Idle, Event, Vsync, Paint}
 use Rattle.run_model.specs.Asks.{token_in, tokens_in, entries_by, AreFor}
-use Rattle.run_model.specs.Moments.{Mode, IsOfClock, AreOfClockAfter}
-use Rattle.loop_model.specs.Base.{empty_base}
-use Rattle.loop_model.specs.Answers.{clock}
-use Rattle.std.specs.Prelude.{MatchBool}
-use Rattle.run_model.specs.Planned.{Timed, lines_in, lines_of, lines_on, IsPlanned, MakeCalls}
+use Rattle.run_model.specs.Moments.{Mode}
+use Rattle.run_model.specs.Planned.{Timed, lines_on, IsPlanned, MakeCalls}
 use Rattle.run_model.specs.Loopers.{Looper, Sent}
 use Rattle.run_model.specs.Acts.{after_act, MayCome, Lead, sent_on}
 use Rattle.run_model.specs.Control.{Before, Timing, before, befores, befores_from, befores_after, are_on_time}
@@ -53,22 +50,8 @@ pub AreFor-snoc : {X : Type 0} (IsFor : List ℕ → X → Entry → Type 0) (xs
     → AreFor IsFor [] xs es → IsFor (tokens_in es) x e → AreFor IsFor [] (xs ++ x ∷ []) (es ++ e ∷ [])
 AreFor-snoc IsFor xs x es e h one = AreFor-append IsFor [] xs (x ∷ []) es (e ∷ []) h (one, tt)
 
--- a thread's lines in more blocks
-pub lines_of-append : (thread : ℕ) (bs cs : List Block) → lines_of thread (bs ++ cs) ≡ lines_of thread bs ++ lines_of thread cs
-lines_of-append thread [] cs = refl
-lines_of-append thread (b ∷ bs) cs =
-    ap (λ l. lines_in thread b ++ l) (lines_of-append thread bs cs) ∙ sym (append_assoc (lines_in thread b) (lines_of thread bs) (lines_of thread cs))
-
 pub lines_on-append : (s : Script) (labels : List ℕ) (q : ℕ) (ls ms : List Timed) → lines_on s labels q (ls ++ ms) ≡ lines_on s labels q ls ++ lines_on s labels q ms
 lines_on-append s labels q ls ms = filter-append _ ls ms
-
--- the calls of the blocks so far, and those of the next block
-pub MakeCalls-block : (m : Mode) (s : Script) (labels : List ℕ) (q thread : ℕ) (bs : List Block) (b : Block) (es fs : List Entry)
-    → MakeCalls m s labels q (lines_of thread bs) es → AreFor (IsPlanned m s labels q) (tokens_in es) (lines_on s labels q (lines_in thread b)) fs
-    → MakeCalls m s labels q (lines_of thread (bs ++ b ∷ [])) (es ++ fs)
-MakeCalls-block m s labels q thread bs b es fs h next =
-    let lines : lines_of thread (bs ++ b ∷ []) ≡ lines_of thread bs ++ lines_in thread b = lines_of-append thread bs (b ∷ []) ∙ ap (λ l. lines_of thread bs ++ l) (append-nil (lines_in thread b)) in
-    subst (λ ls. AreFor (IsPlanned m s labels q) [] ls (es ++ fs)) (sym (ap (lines_on s labels q) lines ∙ lines_on-append s labels q (lines_of thread bs) (lines_in thread b))) (AreFor-append (IsPlanned m s labels q) [] (lines_on s labels q (lines_of thread bs)) (lines_on s labels q (lines_in thread b)) es fs h next)
 
 -- the calls of the lines so far, and that of the next line
 pub MakeCalls-line : (m : Mode) (s : Script) (labels : List ℕ) (q : ℕ) (ls : List Timed) (l : Timed) (es : List Entry) (e : Entry)
@@ -109,10 +92,6 @@ pub befores_after-others : (k : ℕ) (past es : List Entry) → AreOfOthers k es
 befores_after-others k past [] h = refl
 befores_after-others k past (e ∷ es) h = let rest = befores_after-others k (past ++ e ∷ []) es h.1 in let first = h.0 in rw (first, rest) refl
 
-pub befores-own : (k : ℕ) (xs : List Entry) (e : Entry) → (e.sender == k) ≡ true → befores k (xs ++ e ∷ []) ≡ befores k xs ++ before xs ∷ []
-unfolding befores
-befores-own k xs e h = befores_after-append k [] xs (e ∷ []) ∙ rw h refl
-
 pub befores-others : (k : ℕ) (xs ys : List Entry) → AreOfOthers k ys → befores k (xs ++ ys) ≡ befores k xs
 unfolding befores
 befores-others k xs ys h = befores_after-append k [] xs ys ∙ (ap (λ l. befores_after k [] xs ++ l) (befores_after-others k xs ys h) ∙ append-nil (befores_after k [] xs))
@@ -123,10 +102,19 @@ are_on_time-snoc [] t (c ∷ bs) b h one = cc
 are_on_time-snoc (u ∷ ts) t [] b h one = cc
 are_on_time-snoc (u ∷ ts) t (c ∷ bs) b h one = let rest = are_on_time-snoc ts t bs b in grind (arith, rest)
 
--- one more entry with a moment of the clock
-pub AreOfClockAfter-snoc : (m : Mode) (test : Entry → Bool) (past es : List Entry) (e : Entry) → AreOfClockAfter m test past es
-    → MatchBool (test e) (IsOfClock m (clock (empty_base 0) (past ++ es)) e.call) (Unit {0}) → AreOfClockAfter m test past (es ++ e ∷ [])
-AreOfClockAfter-snoc m test past [] e h one =
-    (subst (λ l. MatchBool (test e) (IsOfClock m (clock (empty_base 0) l) e.call) (Unit {0})) (append-nil past) one, tt)
-AreOfClockAfter-snoc m test past (x ∷ es) e h one =
-    (h.0, AreOfClockAfter-snoc m test (past ++ x ∷ []) es e h.1 (subst (λ l. MatchBool (test e) (IsOfClock m (clock (empty_base 0) l) e.call) (Unit {0})) (sym (append_assoc past (x ∷ []) es)) one))
+-- paints and no other acts
+abbrev pub ArePaints : List Act → Type 0
+ArePaints [] = Unit {0}
+ArePaints (Paint g v ∷ xs) = ArePaints xs
+ArePaints (x ∷ xs) = ⊥
+
+pub Lead-paints : (s : Script) (q : ℕ) (es : List Entry) (fs : List FrameEntry) (a : Looper) (xs : List Act) (b : Looper) (ps : List Act)
+    → ArePaints ps → Lead s q es fs a xs b → Lead s q es fs a (xs ++ ps) (record b { painted = b.painted ++ ps })
+unfolding after_act
+Lead-paints s q es fs a xs b [] h lead = subst (λ l. Lead s q es fs a l (record b { painted = b.painted ++ [] })) (sym (append-nil xs)) (subst (λ l. Lead s q es fs a xs (record b { painted = l })) (sym (append-nil b.painted)) lead)
+Lead-paints s q es fs a xs b (Paint g v ∷ ps) h lead =
+    subst (λ l. Lead s q es fs a l (record b { painted = b.painted ++ Paint g v ∷ ps })) (append_assoc xs (Paint g v ∷ []) ps) (subst (λ l. Lead s q es fs a ((xs ++ Paint g v ∷ []) ++ ps) (record b { painted = l })) (append_assoc b.painted (Paint g v ∷ []) ps) (Lead-paints s q es fs a (xs ++ Paint g v ∷ []) (record b { painted = b.painted ++ Paint g v ∷ [] }) ps h (Lead-snoc s q es fs None a xs b (Paint g v) lead refl)))
+Lead-paints s q es fs a xs b (Dispatch n now route ∷ ps) h lead = absurd h
+Lead-paints s q es fs a xs b (Idle i k ∷ ps) h lead = absurd h
+Lead-paints s q es fs a xs b (Event f e m ∷ ps) h lead = absurd h
+Lead-paints s q es fs a xs b (Vsync v ∷ ps) h lead = absurd h

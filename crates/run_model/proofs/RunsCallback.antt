@@ -25,7 +25,7 @@ use Rattle.run_model.specs.Moments.{in_lockstep}
 use Rattle.run_model.specs.Planned.{AreAsPlanned}
 use Rattle.run_model.specs.Acts.{after_act}
 use Rattle.run_model.specs.Loopers.{first_looper, Looper}
-use Rattle.run_model.specs.Run.{IsRun, IsHistory, IsControlled, IsFrameRun, IsLooperRun, IsTimely, IsThreadOnTime, HasFramePosts, HasFrameRemovals, all_entries, setting_of}
+use Rattle.run_model.specs.Run.{IsRun, IsHistory, IsControlled, IsFrameRun, IsLooperRun, IsTimely, IsThreadOnTime, all_entries, setting_of}
 use Rattle.run_model.specs.Text.{text, lines}
 use Rattle.run_model.proofs.Below.{each_below}
 use Rattle.run_model.proofs.Examples.{entry, message, callback_message, handler_on, block, by, plain_script, queue, journal, frames, led, page}
@@ -91,8 +91,6 @@ frame_run_0 = record {
   interval = refl;
   phases = refl;
   lawful = refl;
-  posted = each_below 1 (λ thread. HasFramePosts script (frames 0 frames_0) thread) (tt, λ phase id. omega arith);
-  removed = each_below 1 (λ thread. HasFrameRemovals script (frames 0 frames_0) thread) (tt, λ phase id. omega arith);
 }
 
 abbrev pub final_0 : Looper
@@ -109,8 +107,9 @@ looper_run_0 = record {
   disposed_at = 0;
   calls =
       ((record { call = refl; reply = refl }, (record { call = refl; reply = refl }, (record { call = refl; reply = refl }, tt))), tt);
-  posted = λ phase id. omega arith;
+  asked = λ test. omega arith;
   on_time = (refl, tt);
+  moments = refl;
 }
 
 pub timely_0 : IsTimely script record_0

@@ -14,17 +14,21 @@ use Rattle.run_model.specs.Asks.{Makes, plain, call_of}
 use Rattle.run_model.specs.Planned.{frame_message}
 use Rattle.run_model.specs.Control.{NotBefore}
 use Rattle.run_model.specs.Loopers.{Sent, Looper, starts_frame, delivered, and_takes}
-use Rattle.run_model.specs.FrameRuns.{frame_ids, is_frame_from, place_after}
+use Rattle.run_model.specs.FrameRuns.{frame_ids, is_frame_from, place_after, frames_after}
 
 -- a time in nanoseconds in whole milliseconds, rounded up
 abbrev pub millis_up : ℕ → ℕ
 millis_up nanos = (nanos + 999999) / 1000000
 
+-- a dispatch at this time runs the frame that begins at this place, or none
+abbrev pub running : Option ℕ → ℕ → Looper → Looper
+running frame now a = record a { painted = []; place = place_after a.place frame; frames = frames_after a.frames frame now }
+
 -- a dispatch, by its message
 abbrev pub dispatched : Script → ℕ → List FrameEntry → Option ℕ → ℕ → ℕ → Looper → Option PostData → Looper
 dispatched s q fs frame n now a None = a
 dispatched s q fs frame n now a (Some m) =
-    delivered s q now (frame_ids fs frame) m (and_takes q n now (record a { painted = []; place = place_after a.place frame }))
+    delivered s q now (frame_ids fs frame) m (and_takes q n now (running frame now a))
 
 -- what looper q has come to after an act, by its queue's history and its frame record; a dispatch runs the frame that
 -- begins at this place, or none

@@ -129,11 +129,14 @@ befores sender es = befores_after sender [] es
 pub data Timing : Type 0 where
   -- at this time, or after the queue was disposed of by then
   At : (time : ℕ) → Timing
+  -- at this time and before the queue is disposed of, or after it was disposed of at an earlier time
+  InBlock : (time : ℕ) → Timing
   -- at this time or later
   NotBefore : (time : ℕ) → Timing
 
 abbrev pub is_on_time : Timing → Before → Bool
 is_on_time (At time) b = b.clock == time || b.disposed && nat_le b.clock time
+is_on_time (InBlock time) b = if b.disposed then nat_lt b.clock time else b.clock == time
 is_on_time (NotBefore time) b = nat_le time b.clock
 
 -- each is on time, one for one

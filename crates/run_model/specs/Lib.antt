@@ -3,10 +3,10 @@ pub mod Asks
 pub mod Senders
 pub mod Moments
 pub mod Planned
+pub mod FrameAsks
 pub mod Control
 pub mod Loopers
 pub mod FrameRuns
 pub mod Acts
 pub mod Run
 pub mod Text
-pub mod SoFar

@@ -13,8 +13,10 @@ use Rattle.loop_model.specs.declared.journal.Act.{Act}
 use Rattle.loop_model.specs.declared.journal.Act.TheVariants.{Paint}
 use Rattle.run_model.specs.Asks.{Ask, Makes, Unbars}
 use Rattle.run_model.specs.Senders.{looper_of, gauge_line, gauge_looper, frame_handler, animation_id, animation_phase, traversal_id, traversal_phase}
-use Rattle.run_model.specs.Planned.{sent_by}
+use Rattle.run_model.specs.Planned.{sent_by, frame_due}
+use Rattle.run_model.specs.FrameAsks.{FrameAsk, Posts}
 use Rattle.run_model.specs.Control.{Timing, At}
+use Rattle.run_model.specs.FrameRuns.{FrameAt}
 
 pub record Gauge : Type 0 where
   pub value : ℕ
@@ -29,11 +31,6 @@ pub record Sent : Type 0 where
   pub reply : Option Reply
   pub timing : Timing
 
--- a frame callback that a looper posts
-pub record FramePost : Type 0 where
-  pub phase : ℕ
-  pub id : ℕ
-
 -- what a looper has come to
 pub record Looper : Type 0 where
   -- all gauges of the script; only its own ever change
@@ -46,11 +43,13 @@ pub record Looper : Type 0 where
   pub fired : List ℕ
   -- the calls and the frame callbacks that it was to make so far, in order
   pub sent : List Sent
-  pub posted : List FramePost
+  pub posted : List FrameAsk
   -- what it has painted since its last act of another kind
   pub painted : List Act
   -- the place in its frame record from which on its next frame may begin
   pub place : ℕ
+  -- the frames that its dispatches ran so far, in order
+  pub frames : List FrameAt
 
 -- before the first act
 abbrev pub first_looper : Script → Looper
@@ -63,14 +62,16 @@ first_looper s = record {
   posted = [];
   painted = [];
   place = 0;
+  frames = [];
 }
 
 -- one call more, at a moment
 abbrev pub and_sends : ℕ → ℕ → Ask → Looper → Looper
 and_sends queue now ask a = record a { sent = a.sent ++ record { queue = queue; ask = ask; reply = None; timing = At now } ∷ [] }
 
-abbrev pub and_posts_frame : ℕ → ℕ → Looper → Looper
-and_posts_frame phase id a = record a { posted = a.posted ++ record { phase = phase; id = id } ∷ [] }
+-- one frame callback more, due at once
+abbrev pub and_posts_frame : ℕ → ℕ → ℕ → Looper → Looper
+and_posts_frame now phase id a = record a { posted = a.posted ++ Posts phase (frame_due now 0) id None ∷ [] }
 
 abbrev pub with_gauge : ℕ → Gauge → Looper → Looper
 with_gauge g x a = record a { gauges = slice_set a.gauges g x }
@@ -79,13 +80,13 @@ with_gauge g x a = record a { gauges = slice_set a.gauges g x }
 abbrev pub traversal_requested : Script → ℕ → ℕ → Looper → Looper
 traversal_requested s q now a =
     if is_some a.barrier then a
-    else and_posts_frame (traversal_phase s) traversal_id (and_sends q now (Makes (Barrier 0)) (record a { barrier = Some a.barriers; barriers = a.barriers + 1 }))
+    else and_posts_frame now (traversal_phase s) traversal_id (and_sends q now (Makes (Barrier 0)) (record a { barrier = Some a.barriers; barriers = a.barriers + 1 }))
 
 -- a message sets the target of gauge g, which begins to animate where it stands still elsewhere
 abbrev pub target_set : Script → ℕ → ℕ → ℕ → ℕ → Gauge → Looper → Looper
 target_set s q now g target x a =
     if x.animating || x.value == target then with_gauge g (record x { target = target }) a
-    else traversal_requested s q now (and_posts_frame animation_phase (animation_id g) (with_gauge g (record { value = x.value; target = target; animating = true }) a))
+    else traversal_requested s q now (and_posts_frame now animation_phase (animation_id g) (with_gauge g (record { value = x.value; target = target; animating = true }) a))
 
 -- a message with an object: nothing where that is no gauge of the looper
 abbrev pub object_set : Script → ℕ → ℕ → ℕ → ℕ → Looper → Looper
@@ -101,7 +102,7 @@ abbrev pub gauge_moved : Script → ℕ → ℕ → ℕ → Gauge → Looper →
 gauge_moved s q now g x a =
     let value = moved (gauge_line s g).step x.target x.value in
     if value == x.target then traversal_requested s q now (with_gauge g (record { value = value; target = x.target; animating = false }) a)
-    else and_posts_frame animation_phase (animation_id g) (traversal_requested s q now (with_gauge g (record x { value = value }) a))
+    else and_posts_frame now animation_phase (animation_id g) (traversal_requested s q now (with_gauge g (record x { value = value }) a))
 
 abbrev pub animation_ran : Script → ℕ → ℕ → ℕ → Gauge → Looper → Looper
 animation_ran s q now g x a = if x.animating then gauge_moved s q now g x a else a
@@ -155,7 +156,3 @@ delivered s q now ids m a =
 -- the looper takes a message
 abbrev pub and_takes : ℕ → ℕ → ℕ → Looper → Looper
 and_takes q n now a = record a { sent = a.sent ++ record { queue = q; ask = Makes (Next now); reply = Some (Dispatched n); timing = At now } ∷ [] }
-
--- a frame callback of this phase and identity is posted
-abbrev pub is_frame_post : ℕ → ℕ → FramePost → Bool
-is_frame_post phase id x = x.phase == phase && x.id == id

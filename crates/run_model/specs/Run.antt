@@ -1,5 +1,5 @@
 -- When a report is a run of a script.
-use Rattle.std.specs.Prelude.{◌≡◌, ◌<◌, ◌≤◌, ℕ, ◌==◌, Bool, true, false, ◌&&◌, List, [], ◌∷◌, ◌++◌, map, count_by}
+use Rattle.std.specs.Prelude.{◌≡◌, ◌<◌, ℕ, ◌==◌, Bool, true, false, List, [], ◌∷◌, ◌++◌, map}
 use Rattle.std.specs.List.{AllByRecursion, filter_map, range_with_len}
 use Rattle.loop_model.specs.declared.entry.Entry.{Entry}
 use Rattle.loop_model.specs.Base.{empty_base}
@@ -8,8 +8,6 @@ use Rattle.loop_model.specs.Legal.{IsLegal, AreNumbered}
 use Rattle.loop_model.specs.Dispatches.{act_dispatch, call_dispatch}
 use Rattle.frame_phases.specs.declared.entry.FrameRecord.{FrameRecord}
 use Rattle.frame_phases.specs.Frames.{lawful}
-use Rattle.dash_script.specs.declared.script.Command.{Command}
-use Rattle.dash_script.specs.declared.script.Command.TheVariants.{Frame, Unframe}
 use Rattle.dash_script.specs.declared.script.Script.{Script}
 use Rattle.dash_script.specs.Causes.{phase_count}
 use Rattle.loop_model.specs.declared.journal.Journal.{Journal}
@@ -19,11 +17,12 @@ use Rattle.run_model.specs.Histories.{history_of}
 use Rattle.run_model.specs.Asks.{AreFor, entries_by}
 use Rattle.run_model.specs.Senders.{looper_sender, controller, sender_count}
 use Rattle.run_model.specs.Moments.{Mode, IfLockstep, IsStart, AreOfClock}
-use Rattle.run_model.specs.Planned.{Timed, lines_of, labels_on, lines_on, AreAsPlanned}
-use Rattle.run_model.specs.Control.{is_controlled, ends_halted, is_called_in_time, are_before_quit, befores, At, are_on_time}
-use Rattle.run_model.specs.Loopers.{Looper, Sent, first_looper, is_frame_post}
+use Rattle.run_model.specs.Planned.{lines_of, labels_on, lines_on, AreAsPlanned}
+use Rattle.run_model.specs.Control.{is_controlled, ends_halted, is_called_in_time, are_before_quit, befores, InBlock, are_on_time}
+use Rattle.run_model.specs.Loopers.{Looper, Sent, first_looper}
 use Rattle.run_model.specs.Acts.{Lead, sent_on, closing, IsSent}
-use Rattle.run_model.specs.FrameRuns.{posts_frame, removes_frame}
+use Rattle.run_model.specs.FrameRuns.{nanos_of, are_run_then}
+use Rattle.run_model.specs.FrameAsks.{FrameAsk, Runs, as_told, asks_in, lines_ask, all_lines, AreAsOften}
 
 abbrev pub setting_of : QueueRecord → Setting
 setting_of r = record { main = r.main; lockstep = r.lockstep; senders = r.senders }
@@ -71,37 +70,11 @@ AreControlsOf s r = AllByRecursion (IsControlled s) r.queues
 abbrev pub all_entries : Entry → Bool
 all_entries e = true
 
--- the line posts, or removes, this frame callback at the looper
-abbrev pub is_frame_line : ℕ → ℕ → ℕ → Timed → Bool
-is_frame_line looper phase id l = is_frame l.command
-  where
-    is_frame : Command → Bool
-    is_frame (Frame lp p i d) = lp == looper && p == phase && i == id
-    is_frame _ = false
-
-abbrev pub is_unframe_line : ℕ → ℕ → ℕ → Timed → Bool
-is_unframe_line looper phase id l = is_unframe l.command
-  where
-    is_unframe : Command → Bool
-    is_unframe (Unframe lp p i) = lp == looper && p == phase && i == id
-    is_unframe _ = false
-
--- the record has an entry for each of the thread's lines that post, and that remove, a callback of this looper
-abbrev pub HasFramePosts : Script → FrameRecord → ℕ → Type 0
-HasFramePosts s f thread =
-    (phase id : ℕ) → count_by (is_frame_line f.looper phase id) (lines_of thread s.blocks) ≤ count_by (posts_frame phase id) f.entries
-
-abbrev pub HasFrameRemovals : Script → FrameRecord → ℕ → Type 0
-HasFrameRemovals s f thread =
-    (phase id : ℕ) → count_by (is_unframe_line f.looper phase id) (lines_of thread s.blocks) ≤ count_by (removes_frame phase id) f.entries
-
--- a choreographer's record is lawful, and has the entries of the threads' lines
+-- a choreographer's record is lawful
 pub record IsFrameRun (s : Script) (f : FrameRecord) : Type 0 where
   pub interval : f.interval ≡ s.period
   pub phases : f.phases ≡ phase_count s.edition
   pub lawful : lawful f.interval f.phases f.entries ≡ true
-  pub posted : (thread : ℕ) → thread < s.threads → HasFramePosts s f thread
-  pub removed : (thread : ℕ) → thread < s.threads → HasFrameRemovals s f thread
 
 -- part 4 of a run: the choreographers' records
 abbrev pub AreFramesOf : Script → Report → Type 0
@@ -111,8 +84,12 @@ AreFramesOf s r = AllByRecursion (IsFrameRun s) r.frames
 abbrev pub caused_on : ℕ → Looper → ℕ → ℕ → List Sent
 caused_on queue final looper disposed_at = sent_on queue (final.sent ++ closing looper disposed_at)
 
--- a looper's calls on each queue are those that its acts cause, its frame record has at least as many posts of each callback,
--- and its Dispatch acts are, one for one and in order, its entries answered Dispatched. In lockstep each call is on time
+-- all that is asked of a looper's choreographer: by the threads' lines, and by the looper's acts, whose dispatches run its frames
+abbrev pub asked_of : Script → ℕ → Looper → List FrameAsk
+asked_of s q final = lines_ask q (all_lines s) ++ final.posted ++ map (λ x. Runs (nanos_of x.now)) final.frames
+
+-- a looper's calls on each queue are those that its acts cause, its frame record has the posts, removals and frames that are asked
+-- for, each as often, and its Dispatch acts are, one for one and in order, its entries answered Dispatched. In lockstep each call is on time, and each frame starts and takes its phases at the time of its dispatch
 pub record IsLooperRun (m : Mode) (s : Script) (queues : List QueueRecord) (q : QueueRecord) (j : Journal) (f : FrameRecord) : Type 0 where
   pub final : Looper
   pub acts : Lead s q.looper (history_of q) f.entries (first_looper s) j.acts final
@@ -120,8 +97,9 @@ pub record IsLooperRun (m : Mode) (s : Script) (queues : List QueueRecord) (q : 
   pub dispatches : filter_map act_dispatch j.acts ≡ filter_map (λ e. call_dispatch e.call e.reply) (entries_by (looper_sender s q.looper) (history_of q))
   pub disposed_at : ℕ
   pub calls : AllByRecursion (λ (r : QueueRecord). AreFor IsSent [] (caused_on r.looper final q.looper disposed_at) (entries_by (looper_sender s q.looper) (history_of r))) queues
-  pub posted : (phase id : ℕ) → count_by (is_frame_post phase id) final.posted ≤ count_by (posts_frame phase id) f.entries
+  pub asked : AreAsOften (map (as_told m.lockstep) (asks_in f.entries)) (map (as_told m.lockstep) (asked_of s q.looper final))
   pub on_time : IfLockstep m (AllByRecursion (λ (r : QueueRecord). are_on_time (map (λ x. x.timing) (caused_on r.looper final q.looper disposed_at)) (befores (looper_sender s q.looper) (history_of r)) ≡ true) queues)
+  pub moments : IfLockstep m (are_run_then f.entries final.frames ≡ true)
 
 -- each looper's queue, journal and frame record, and no others
 abbrev pub EachLooper : (QueueRecord → Journal → FrameRecord → Type 0) → List QueueRecord → List Journal → List FrameRecord → Type 0
@@ -136,7 +114,7 @@ AreLoopersOf m s r = EachLooper (IsLooperRun m s r.queues) r.queues r.journals r
 -- each call of the thread is on time
 abbrev pub IsThreadOnTime : Script → QueueRecord → ℕ → Type 0
 IsThreadOnTime s r thread =
-    are_on_time (map (λ l. At l.time) (lines_on s (labels_on r.looper (lines_of thread s.blocks)) r.looper (lines_of thread s.blocks))) (befores thread (history_of r)) ≡ true
+    are_on_time (map (λ l. InBlock l.time) (lines_on s (labels_on r.looper (lines_of thread s.blocks)) r.looper (lines_of thread s.blocks))) (befores thread (history_of r)) ≡ true
 
 -- the controller's calls are in time, and the threads' calls are on time and come before its quit
 pub record IsTimely (s : Script) (r : QueueRecord) : Type 0 where
