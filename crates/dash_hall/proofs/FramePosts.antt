@@ -1,12 +1,11 @@
 -- The frame callbacks that a sender posts.
-use Rattle.std.proofs.Common.{◌≡◌, ℕ, zero, suc, ◌+◌, ◌-◌, ◌*◌, ◌/◌, ◌^◌, ◌<◌, ◌≤◌, ◌==◌, min, Bool, true, false, cond, List, [], ◌∷◌, ◌++◌, map, Option, Some, None, refl, sym, ap, ◌∙◌, subst, arith, ne_eqb}
-use Rattle.std.specs.Prelude.{◌&&◌, nat_lt, is_none, MatchBool, count_by, if◌then◌else◌}
+use Rattle.std.proofs.Common.{◌≡◌, ℕ, zero, suc, ◌+◌, ◌-◌, ◌*◌, ◌/◌, ◌^◌, ◌<◌, ◌==◌, min, Bool, true, false, List, [], ◌∷◌, ◌++◌, map, Option, Some, None, refl, sym, ap, ◌∙◌, subst, arith, ne_eqb}
+use Rattle.std.specs.Prelude.{◌&&◌, nat_lt, is_none, MatchBool, if◌then◌else◌}
 use mathlib.Core.Logic.{dite}
 use native.Mathlib.Decide.{dec_lt}
 use Rattle.std.proofs.lemmas.Bool.{eqb-true, lt-ltb, ltb-true, and_parts}
-use Rattle.std.proofs.lemmas.List.Elements.{filter-append}
+use Rattle.std.proofs.lemmas.List.Elements.{filter-append, filter_map-append}
 use Rattle.std.proofs.lemmas.List.{append-nil}
-use Rattle.std.proofs.lemmas.List.Sums.{sum_by-append, sum_by_push}
 use Rattle.std.proofs.Math.Nat.{mul-div_cancel}
 use Rattle.loop_model.specs.declared.post.Post.{Post as PostData}
 use Rattle.loop_model.specs.declared.call.Call.{Call}
@@ -16,7 +15,6 @@ use Rattle.loop_model.specs.declared.reply.Reply.TheVariants.{Accepted, Refused,
 use Rattle.loop_model.specs.declared.entry.Entry.{Entry}
 use Rattle.message_pool.specs.Passes.{Tally}
 use Rattle.frame_phases.specs.declared.entry.Callback.{Callback}
-use Rattle.frame_phases.specs.declared.entry.FrameEntry.{FrameEntry}
 use Rattle.frame_phases.specs.declared.entry.FrameEntry.TheVariants as frame
 use Rattle.frame_phases.specs.declared.entry.Scheduling.{Scheduling}
 use Rattle.frame_phases.specs.declared.entry.Scheduling.TheVariants as sched
@@ -30,21 +28,16 @@ use Rattle.choreographer.specs.declared.host.HostSent.TheVariants as host
 use Rattle.choreographer.specs.declared.hosted.Placed.TheVariants as placed
 use Rattle.choreographer.specs.Known.{Known as Pass, IsTurn}
 use Rattle.choreographer.specs.Calls.{due_at, with_post}
+use Rattle.choreographer.proofs.Recorded.{turn_records}
 use Rattle.run_model.specs.Asks.{plain, token_in, entries_by}
-use Rattle.loop_model.specs.Posts.{moment_after}
-use Rattle.run_model.specs.FrameRuns.{posts_frame, removes_frame}
+use Rattle.run_model.specs.Planned.{frame_due}
+use Rattle.run_model.specs.FrameRuns.{nanos_of}
+use Rattle.run_model.specs.FrameAsks.{Posts, asked_in, asks_in}
+use Rattle.loop_model.proofs.Options.{none_is}
 use Rattle.dash_hall.specs.Growth.{own, GoesOn, Makes}
-use Rattle.dash_hall.specs.Hosts.{nanos_of, is_sending, not_sent, sent_as, told_by, sends_by, PlacesBy, PostsFrame, CountsOn}
+use Rattle.dash_hall.specs.Hosts.{is_sending, not_sent, sent_as, told_by, sends_by, AsksFor, PlacesBy, PostsFrame}
 
--- ---- what a pass has seen
-
-pub grew : (P : FrameEntry → Bool) (f g : Pass) (x y : Kept) (e : FrameEntry) → IsTurn f g x y → y.frames.entries ≡ x.frames.entries ++ e ∷ [] → count_by P f.view.seen + cond (P e) 1 0 ≤ count_by P g.view.seen
-grew P f g x y e t left =
-    let more = t.begins.0.0 in
-    let whole : f.view.seen ++ more ≡ x.frames.entries = t.begins.0.1 in
-    let before : count_by P x.frames.entries ≡ count_by P f.view.seen + count_by P more = ap (count_by P) (sym whole) ∙ sum_by-append (λ (z : FrameEntry). cond (P z) 1 0) f.view.seen more in
-    let after : count_by P g.view.seen ≡ count_by P x.frames.entries + cond (P e) 1 0 = ap (count_by P) (t.seen ∙ left) ∙ sum_by_push (λ (z : FrameEntry). cond (P z) 1 0) x.frames.entries e in
-    omega (arith, before, after)
+-- ---- what a posting records
 
 entries_if : (t : Frames) (a b : Bool) (o : Option ℕ) → (if a then t else (if b then t else record t { scheduled = true; asked = o })).entries ≡ t.entries
 entries_if t true b o = refl
@@ -53,15 +46,6 @@ entries_if t false false o = refl
 
 posted_entries : (s : Frames) (c : Callback) (now : ℕ) → (posted s c now).entries ≡ s.entries ++ frame.Posted c ∷ []
 posted_entries s c now = entries_if (with_entry s (frame.Posted c)) (nat_lt (now / 1000000) c.due) s.scheduled (Some (pulse s.interval now))
-
-counts_posted : (f g : Pass) (x y : Kept) (phase due id now : ℕ) → IsTurn f g x y → y ≡ with_post x phase due id None now → CountsOn phase id f g
-counts_posted f g x y phase due id now t is =
-    let c = next_callback x.frames phase due id None in
-    let left : y.frames.entries ≡ x.frames.entries ++ frame.Posted c ∷ [] = ap (λ (z : Kept). z.frames.entries) is ∙ posted_entries x.frames c now in
-    record {
-      posts = λ p i. grew (posts_frame p i) f g x y (frame.Posted c) t left;
-      removes = λ p i. (let more = grew (removes_frame p i) f g x y (frame.Posted c) t left in omega (arith, more));
-    }
 
 -- ---- moments
 
@@ -124,10 +108,6 @@ one_more f (x ∷ xs) ys b is = one_more f xs ys b (cc is)
 
 pub own_more : (p q : Sender) (a b : Tally) (g : GoesOn p q a b) → own q ≡ own p ++ entries_by p.sender g.more
 own_more p q a b g = (λ i. entries_by (g.sender i) (g.seen i)) ∙ filter-append (λ (e : Entry). e.sender == p.sender) p.view.seen g.more
-
-none_is : {A : Type 0} (o : Option A) → is_none o ≡ true → o ≡ None
-none_is None is = refl
-none_is (Some x) is = absurd cc
 
 -- a message that was told of as this send
 record IsSent (h what arg when : ℕ) (c : Call) (r : Reply) : Type 0 where
@@ -198,8 +178,24 @@ told_none h p q a b g is =
 
 -- ---- a frame callback is posted
 
-due_is : (u delay now : ℕ) → now ≡ nanos_of u → due_at now delay ≡ moment_after (min u 18446744073709) delay
+pub due_is : (u delay now : ℕ) → now ≡ nanos_of u → due_at now delay ≡ frame_due u delay
 due_is u delay now is = ap (λ (n : ℕ). min (n + delay) (2 ^ 64 - 1)) (ap (λ (n : ℕ). n / 1000000) is ∙ millis_of u)
+
+asks_posted : (u phase id delay now : ℕ) (f g : Pass) (x y : Kept) → IsTurn f g x y → (now == nanos_of u) ≡ true → y ≡ with_post x phase (due_at now delay) id None now → AsksFor (Posts phase (frame_due u delay) id None) f g
+asks_posted u phase id delay now f g x y t moment post =
+    let c = next_callback x.frames phase (due_at now delay) id None in
+    let left : x.frames.entries ++ frame.Posted c ∷ [] ≡ y.frames.entries = sym (ap (λ (z : Kept). z.frames.entries) post ∙ posted_entries x.frames c now) in
+    let asks : AsksFor (Posts phase (due_at now delay) id None) f g =
+    ap asks_in (turn_records f g x y (frame.Posted c ∷ []) t left) ∙ filter_map-append asked_in f.view.own (frame.Posted c ∷ []) in
+    subst (λ (d : ℕ). AsksFor (Posts phase d id None) f g) (due_is u delay now (eqb-true now (nanos_of u) moment)) asks
+
+-- however a callback was placed, the pass asked for it
+pub placed_asks : (u phase id delay : ℕ) (f g : Pass) (a b : List Sending) → PlacesBy f g u a b phase id delay → AsksFor (Posts phase (frame_due u delay) id None) f g
+placed_asks u phase id delay f g a b (placed.Asked, is, (x, y, now, t, moment, (sch, post, same))) = asks_posted u phase id delay now f g x y t moment post
+placed_asks u phase id delay f g a b (placed.Already, is, (x, y, now, t, moment, (sch, post, same))) = asks_posted u phase id delay now f g x y t moment post
+placed_asks u phase id delay f g a b (placed.Sent, is, (x, y, now, t, moment, (sch, post, sent))) = asks_posted u phase id delay now f g x y t moment post
+placed_asks u phase id delay f g a b (placed.Refused, is, (x, y, now, t, moment, (sch, post, sent))) = asks_posted u phase id delay now f g x y t moment post
+placed_asks u phase id delay f g a b (placed.NoMemory, is, more) = absurd is
 
 abbrev Message : ℕ → ℕ → ℕ → Call
 Message h phase when = Post (record { handler = h; what = 2; arg = phase; obj = None; callback = None; when = when; asynchronous = true; slot = None })
@@ -209,8 +205,9 @@ at_once : (h u phase id delay : ℕ) (p q : Sender) (a b : Tally) (f g : Pass) (
 at_once h u phase id delay p q a b f g x y now goes t is post soon same =
     let zero = no_delay u delay (due_at now delay) now (eqb-true now (nanos_of u) is) refl soon in
     record {
-      calls = subst (λ (z : Bool). MatchBool z (own q ≡ own p) (Makes p q (Message h phase (moment_after (min u 18446744073709) delay)) [])) (sym zero) (told_none h p q a b goes same);
-      counts = counts_posted f g x y phase (due_at now delay) id now t post;
+      calls = subst (λ (z : Bool). MatchBool z (own q ≡ own p) (Makes p q (Message h phase (frame_due u delay)) [])) (sym zero) (told_none h p q a b goes same);
+      asks = asks_posted u phase id delay now f g x y t is post;
+      turn = t.turns;
     }
 
 for_later : (h u phase id delay : ℕ) (p q : Sender) (a b : Tally) (f g : Pass) (x y : Kept) (now : ℕ) (answer : HostSent) → GoesOn p q a b → IsTurn f g x y → (now == nanos_of u) ≡ true → y ≡ with_post x phase (due_at now delay) id None now
@@ -220,9 +217,10 @@ for_later h u phase id delay p q a b f g x y now answer goes t is post later_on 
     let some = some_delay u delay (due_at now delay) now moment refl later_on in
     let made : Makes p q (Message h phase (due_at now delay)) [] = told_one h 2 phase (due_at now delay) answer p q a b goes taken sent in
     record {
-      calls = subst (λ (z : Bool). MatchBool z (own q ≡ own p) (Makes p q (Message h phase (moment_after (min u 18446744073709) delay)) [])) (sym some)
+      calls = subst (λ (z : Bool). MatchBool z (own q ≡ own p) (Makes p q (Message h phase (frame_due u delay)) [])) (sym some)
           (subst (λ (w : ℕ). Makes p q (Message h phase w) []) (due_is u delay now moment) made);
-      counts = counts_posted f g x y phase (due_at now delay) id now t post;
+      asks = asks_posted u phase id delay now f g x y t is post;
+      turn = t.turns;
     }
 
 pub posts_frame_by : (h u phase id delay : ℕ) (p q : Sender) (a b : Tally) (f g : Pass) → GoesOn p q a b → PlacesBy f g u (sends_by h p) (sends_by h q) phase id delay → PostsFrame h u phase id delay p q f g

@@ -12,7 +12,7 @@ use Rattle.shared_queue.specs.Known.{IsTurn}
 use Rattle.looper_run.specs.Holding.{Sender, State}
 use Rattle.looper_run.specs.Acts.{IsNoLookOf}
 use Rattle.looper_run.proofs.Working.{first_all}
-use Rattle.looper_run.proofs.Turning.{IsOther, found, all_first}
+use Rattle.looper_run.proofs.Turning.{IsOther, found, all_first, no_looks}
 use Rattle.run_model.specs.Asks.{plain, token_in, entries_by}
 use Rattle.handler_post.specs.Ways.{MadeNone}
 use Rattle.dash_hall.specs.Growth.{own, GoesOn, Makes}
@@ -30,9 +30,6 @@ own_of_others s (e ∷ es) others =
 
 pub own_of_one : (s : ℕ) (e : Entry) → e.sender ≡ s → entries_by s (e ∷ []) ≡ e ∷ []
 own_of_one s e is = ap (λ (b : Bool). cond b (e ∷ []) []) (eq-eqb e.sender s is)
-
-none_looks : (s : ℕ) (es : List Entry) → All (IsOther s) es → All (IsNoLookOf s) es
-none_looks s es others = λ k d near. λ mine. absurd (others k d near mine)
 
 -- nothing happened but at the pass
 pub stays : (p : Sender) (a b : Tally) → Keeps a b → GoesOn p p a b
@@ -93,7 +90,7 @@ module _ (p q : Sender) (x y : State) (tail : List Entry) (t : IsTurn p q x y) (
         turns = omega (arith, t.turns);
         more = more;
         seen = seen_is;
-        no_looks = All-append (IsNoLookOf p.sender) f.others tail (none_looks p.sender f.others f.all) quiet;
+        no_looks = All-append (IsNoLookOf p.sender) f.others tail (no_looks p.sender f.others f.all) quiet;
         home = k.home;
         back = k.back;
       }

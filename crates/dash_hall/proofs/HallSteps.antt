@@ -86,7 +86,7 @@ new_pass passes yielded rest p number c parts is new =
     let within = within_parts yielded rest passes p number parts is in
     let of_frames : IsOfFrames p c × (p.number ≡ number) = subst (λ (x : Pass). IsOfFrames x c × (x.number ≡ number)) at (new.0 number p within) in
     let unused : IsNewPass p = subst (λ (x : Pass). IsNewPass x) at (new.1 number p within) in
-    ((unused.seen, unused.turns), λ i. record { table = of_frames.0.0 i; constants = of_frames.0.1 i; number = of_frames.1 i })
+    ((unused.seen, unused.turns, unused.own), λ i. record { table = of_frames.0.0 i; constants = of_frames.0.1 i; number = of_frames.1 i })
 
 given_next : (s : Script) (looper number k : ℕ) (c : Frames) (p : Pass) → frame_badge_of p ≡ frame_badge_for number c → given s looper c k 0 number ++ only (holder_of s looper number) (frame_badge_of p ∷ []) k ≡ given s looper c k 0 (number + 1)
 given_next s looper number k c p is =

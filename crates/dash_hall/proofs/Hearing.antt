@@ -1,6 +1,6 @@
 -- Posters that hear each other.
 use Rattle.std.proofs.Common.{◌≡◌, ℕ, ◌+◌, ◌<◌, ◌≤◌, ◌≢◌, ◌==◌, List, [], ◌∷◌, ◌++◌, map, length, set, get_or, suc, refl, sym, ap, ap₂, ◌∙◌, subst, arith}
-use Rattle.std.proofs.lemmas.List.{append-nil, length-append, get_or-set_same, get_or-set_other, get_or_default, length-set, set-get_or}
+use Rattle.std.proofs.lemmas.List.{nil_from_length, append-nil, length-append, get_or-set_same, get_or-set_other, get_or_default, length-set, set-get_or}
 use Rattle.std.proofs.lemmas.List.Elements.{filter-append}
 use Rattle.std.proofs.lemmas.List.Sums.{length-filter}
 use mathlib.Core.List.{IsPrefix}
@@ -13,7 +13,6 @@ use Rattle.loop_model.specs.Lists.{longer}
 use Rattle.shared_queue.specs.Known.{Shared, IsOf, IsSame}
 use Rattle.loop_model.proofs.Prefixes.{prefix_self, prefix_trans, longer_first, longer_second}
 use Rattle.shared_queue.proofs.Prefixes.{made_in-append}
-use Rattle.shared_queue.proofs.Gathers.{nothing_left}
 use Rattle.run_model.specs.Asks.{entries_by}
 use Rattle.looper_run.specs.Holding.{Sender}
 use Rattle.dash_hall.specs.Kits.{badge_of}
@@ -28,7 +27,7 @@ own_goes_on s xs ys p same =
     let sum : made_in s (xs ++ more) ≡ made_in s xs + made_in s more = made_in-append s xs more in
     let as_many : made_in s (xs ++ more) ≡ made_in s xs = ap (made_in s) whole ∙ same in
     let none : made_in s more ≡ 0 = omega (arith, sum, as_many) in
-    let no_more : entries_by s more ≡ [] = nothing_left (entries_by s more) (length-filter (λ (e : Entry). e.sender == s) more ∙ none) in
+    let no_more : entries_by s more ≡ [] = nil_from_length (entries_by s more) (length-filter (λ (e : Entry). e.sender == s) more ∙ none) in
     ap (entries_by s) (sym whole) ∙ (filter-append (λ (e : Entry). e.sender == s) xs more ∙ (ap (λ (l : List Entry). entries_by s xs ++ l) no_more ∙ append-nil (entries_by s xs)))
 
 -- a poster that is the same and has seen more has heard others
@@ -77,7 +76,7 @@ heard_badge p q h = λ i. record { table = h.same.table i; constants = h.same.co
 pub prefix_whole : (xs ys : List Entry) → IsPrefix xs ys → length ys ≤ length xs → xs ≡ ys
 prefix_whole xs ys p le =
     let long = ap length p.1 in
-    let none : p.0 ≡ [] = nothing_left p.0 (omega (arith, long, length-append xs p.0, le)) in
+    let none : p.0 ≡ [] = nil_from_length p.0 (omega (arith, long, length-append xs p.0, le)) in
     sym (append-nil xs) ∙ (ap (λ (l : List Entry). xs ++ l) (sym none) ∙ p.1)
 
 -- the longer of a list and its beginning is the list

@@ -1,4 +1,5 @@
 pub mod Sharing
+pub mod Badges
 pub mod Growing
 pub mod Calling
 pub mod HallGets

@@ -62,6 +62,6 @@ BringsDroppedBack (quitting.AlreadyQuit place) pass pass' = pass' ≡ pass
 BringsDroppedBack quitting.NotAllowed pass pass' = pass' ≡ pass
 BringsDroppedBack quitting.NoMemory pass pass' = pass' ≡ pass
 
--- the same turn, and what it dropped is back in the pool
+-- such a turn by a way, and what it dropped is back in the pool
 abbrev pub WayQuits : Way → Way → Bool → ℕ → Type 0
 WayQuits before after safe now = (answer : Quitting Claimed TableId) × (answer ≢ quitting.NoMemory) × QuitBy before.poster.now after.poster.now safe now answer × BringsDroppedBack answer before.pass.now after.pass.now

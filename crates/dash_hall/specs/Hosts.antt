@@ -1,5 +1,5 @@
 -- The looper on which a choreographer runs, as the choreographer sees it.
-use Rattle.std.specs.Prelude.{◌≡◌, ◌-◌, ◌*◌, ◌^◌, ◌==◌, ◌&&◌, min, ◌+◌, ◌≤◌, ℕ, Bool, List, [], map, is_none, None, count_by, MatchBool, true, if◌then◌else◌}
+use Rattle.std.specs.Prelude.{◌≡◌, ◌==◌, ◌&&◌, ◌+◌, ℕ, Bool, List, [], ◌∷◌, ◌++◌, map, is_none, None, MatchBool, true, if◌then◌else◌}
 use Rattle.atomic_table.specs.Seated.{TableId}
 use Rattle.loop_model.specs.declared.post.Post.{Post as PostData}
 use Rattle.loop_model.specs.declared.call.Call.{Call}
@@ -16,8 +16,9 @@ use Rattle.choreographer.specs.declared.hosted.Placed.{Placed}
 use Rattle.choreographer.specs.declared.hosted.Placed.TheVariants as placed
 use Rattle.choreographer.specs.Known.{Known as Pass}
 use Rattle.choreographer.specs.Calls.{PostedBy as CallbackPostedBy}
-use Rattle.loop_model.specs.Posts.{moment_after}
-use Rattle.run_model.specs.FrameRuns.{posts_frame, removes_frame}
+use Rattle.run_model.specs.Planned.{frame_due}
+use Rattle.run_model.specs.FrameRuns.{nanos_of}
+use Rattle.run_model.specs.FrameAsks.{FrameAsk, Posts, asks_in}
 use Rattle.dash_hall.specs.Growth.{own, GoesOn, Makes}
 
 -- what a host keeps through all its calls: its queue and pool, its poster and its pass by their references, what these were when it was made, and its handler's number and moment
@@ -37,10 +38,6 @@ pub record IsHost (o : Origin) (poster : Sender) (pass : Tally) : Type 0 where
   pub of_pool : pass.home ≡ o.pool
   pub home : o.queue.constants.home ≡ o.pool
   pub on : GoesOn o.poster poster o.pass pass
-
--- a time in milliseconds in nanoseconds, at most the greatest number of 64 bits
-abbrev pub nanos_of : ℕ → ℕ
-nanos_of millis = min (millis * 1000000) (2 ^ 64 - 1)
 
 -- a message that the handler sends for a choreographer: asynchronous, with no object and no callback
 abbrev pub is_sending : ℕ → PostData → Bool
@@ -94,18 +91,17 @@ PlacesBy before after u sends sends' phase id delay = (r : Placed) × IsPlaced r
 abbrev pub PlacesNot : Pass → Pass → ℕ → List Sending → List Sending → ℕ → ℕ → ℕ → Type 0
 PlacesNot before after u sends sends' phase id delay = (r : Placed) × IsUnplaced r × CallbackPostedBy before after (λ n. n == nanos_of u) sends sends' phase id None delay r
 
--- the pass has seen one posting more of this phase and identity, and no fewer of others
-pub record CountsOn (phase id : ℕ) (before after : Pass) : Type 0 where
-  pub posts : (p i : ℕ) → count_by (posts_frame p i) before.view.seen + (if phase == p && id == i then 1 else 0) ≤ count_by (posts_frame p i) after.view.seen
-  pub removes : (p i : ℕ) → count_by (removes_frame p i) before.view.seen ≤ count_by (removes_frame p i) after.view.seen
+-- what the turns of a pass asked its choreographer for, in order
+abbrev pub asks_of : Pass → List FrameAsk
+asks_of p = asks_in p.view.own
 
--- the pass has seen one removal more of this phase and identity, and no fewer of others
-pub record RemovesFrame (phase id : ℕ) (before after : Pass) : Type 0 where
-  pub removes : (p i : ℕ) → count_by (removes_frame p i) before.view.seen + (if phase == p && id == i then 1 else 0) ≤ count_by (removes_frame p i) after.view.seen
-  pub posts : (p i : ℕ) → count_by (posts_frame p i) before.view.seen ≤ count_by (posts_frame p i) after.view.seen
+-- the pass asked for this too, and for nothing else
+abbrev pub AsksFor : FrameAsk → Pass → Pass → Type 0
+AsksFor ask before after = asks_of after ≡ asks_of before ++ ask ∷ []
 
--- a frame callback was posted by this handler, at an uptime with a delay: with a delay the sender posted the message for its due time, and else it made no call
-pub record PostsFrame (handler u phase id delay : ℕ) (before after : Sender) (seen seen' : Pass) : Type 0 where
+-- a frame callback was posted by this handler in one turn, at an uptime with a delay: with a delay the sender posted the message for its due time, and else it made no call
+pub record PostsFrame (handler u phase id delay : ℕ) (before after : Sender) (pass pass' : Pass) : Type 0 where
   pub calls : MatchBool (delay == 0) (own after ≡ own before)
-      (Makes before after (Post (record { handler = handler; what = 2; arg = phase; obj = None; callback = None; when = moment_after (min u 18446744073709) delay; asynchronous = true; slot = None })) [])
-  pub counts : CountsOn phase id seen seen'
+      (Makes before after (Post (record { handler = handler; what = 2; arg = phase; obj = None; callback = None; when = frame_due u delay; asynchronous = true; slot = None })) [])
+  pub asks : AsksFor (Posts phase (frame_due u delay) id None) pass pass'
+  pub turn : pass'.view.turns ≡ pass.view.turns + 1

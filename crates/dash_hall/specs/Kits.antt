@@ -110,11 +110,12 @@ OthersAreOver s kits = (looper : ℕ) (d : Kit) → 0 < looper → looper < s.lo
 abbrev pub AreUnseen : List Sender → Type 0
 AreUnseen ps = (q : ℕ) (p : Sender) → q < length ps → (slice_index_or ps q p).view.seen ≡ []
 
--- the kit's posters have seen no call, and its passes have seen no frame callback and taken no turn
+-- the kit's posters have seen no call, and its passes have seen no frame callback, taken no turn and recorded nothing
 pub record IsUnusedKit (kit : Kit) : Type 0 where
   pub posters : AreUnseen kit.posters.items
   pub frames : (q : ℕ) (p : Pass) → q < length kit.frames.items → (slice_index_or kit.frames.items q p).view.seen ≡ []
   pub turns : (q : ℕ) (p : Pass) → q < length kit.frames.items → (slice_index_or kit.frames.items q p).view.turns ≡ 0
+  pub own : (q : ℕ) (p : Pass) → q < length kit.frames.items → (slice_index_or kit.frames.items q p).view.own ≡ []
 
 abbrev pub AreUnusedKits : List Kit → Type 0
 AreUnusedKits kits = (k : ℕ) (d : Kit) → k < length kits → IsUnusedKit (slice_index_or kits k d)

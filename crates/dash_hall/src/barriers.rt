@@ -4,7 +4,7 @@ ghost use Rattle.loop_model.specs.declared.call.Call.TheVariants.{Barrier, Unbar
 ghost use Rattle.message_pool.specs.Obtain.{IsNodeOf};
 ghost use Rattle.handler_post.specs.Supply.{BringsBack};
 ghost use Rattle.handler_post.specs.Ways.{IsReady, IsSameWay};
-ghost use Rattle.dash_hall.specs.Growth.{own, WayGoesOn, WayMakes, BarsOf, QuitsOf, WayQuits};
+ghost use Rattle.dash_hall.specs.Growth.{own, WayGoesOn, WayMakes, BarsOf, WayQuits};
 
 use handler_post::Way;
 use loop_model::NoMemory;
@@ -72,8 +72,7 @@ pub fn quit<R: Wait>(rt: &R, way: &mut Way, safe: bool, now: u64) -> Result<(), 
     ensures same { IsSameWay way.old way.new }
     ensures on { WayGoesOn way.old way.new }
     ensures made { OnOk result (WayMakes way.old way.new (Quit safe 0) []) }
-    ensures turn { OnOk result (QuitsOf way.old.poster.now way.new.poster.now safe now) }
-    ensures recycled { OnOk result (WayQuits way.old way.new safe now) }
+    ensures quits { OnOk result (WayQuits way.old way.new safe now) }
     ensures none { OnErr result (own way.new.poster.now ≡ own way.old.poster.now) }
 {
     match way.poster.quit(rt, way.queue, safe, now) {

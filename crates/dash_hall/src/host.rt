@@ -6,7 +6,8 @@ ghost use Rattle.choreographer.specs.Known.{IsOf as IsFrameOf};
 ghost use Rattle.choreographer.specs.Calls.{PulsedBy, DueBy};
 ghost use Rattle.dash_hall.specs.Growth.{own, GoesOn, Makes, BarsOf};
 ghost use Rattle.dash_hall.specs.Kits.{frame_badge_of};
-ghost use Rattle.dash_hall.specs.Hosts.{Origin, origin_of, IsHost, nanos_of, sends_by, IsPlaced, IsUnplaced, PlacesBy, PlacesNot};
+ghost use Rattle.run_model.specs.FrameRuns.{nanos_of};
+ghost use Rattle.dash_hall.specs.Hosts.{Origin, origin_of, IsHost, sends_by, IsPlaced, IsUnplaced, PlacesBy, PlacesNot};
 
 use crate::barriers::{post_barrier, remove_barrier};
 use choreographer::{Choreographer, FrameHost, FramePass, HostSent, Placed, Pulse};

@@ -6,5 +6,4 @@ pub mod ThreadLabels
 pub mod ThreadRuns
 pub mod ThreadBlocks
 pub mod ThreadFrames
-pub mod ThreadFraming
 pub mod ThreadFrameRuns

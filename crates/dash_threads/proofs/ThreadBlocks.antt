@@ -8,9 +8,7 @@ use Rattle.dash_script.specs.declared.script.Script.{Script}
 use Rattle.run_model.specs.Planned.{Timed, lines_of}
 use Rattle.dash_threads.specs.declared.thread.PostingThread.{PostingThread}
 use Rattle.dash_threads.specs.Threads.{IsUpTo, Takes, HasRun, timed_in}
-
-abbrev pub at_time : ℕ → Line → Timed
-at_time time l = record { time = time; command = l.command }
+use Rattle.dash_threads.proofs.ThreadLabels.{at_time}
 
 timed_append : (n time : ℕ) (xs ys : List Line) → timed_in n time (xs ++ ys) ≡ timed_in n time xs ++ timed_in n time ys
 timed_append n time xs ys =

@@ -1,5 +1,6 @@
 -- The frame callbacks that a thread posts and removes.
-use Rattle.std.proofs.Common.{◌≡◌, ℕ, [], ◌∷◌, ◌++◌, None, sym, ap, subst, arith}
+use Rattle.std.proofs.Common.{◌≡◌, ℕ, [], ◌∷◌, ◌++◌, None, sym, ap, ◌∙◌, subst}
+use Rattle.std.proofs.lemmas.List.Elements.{filter_map-append}
 use Rattle.std.specs.Prelude.{Result, Ok, Err, OnOk}
 use Rattle.message_pool.specs.Passes.{Tally}
 use Rattle.frame_phases.specs.declared.entry.FrameEntry.TheVariants as frame
@@ -8,10 +9,11 @@ use Rattle.frame_phases.specs.Frames.{removed_count}
 use Rattle.looper_run.specs.Holding.{Sender}
 use Rattle.choreographer.specs.declared.kept.Kept.{Kept}
 use Rattle.choreographer.specs.Known.{Known as Pass, IsTurn}
-use Rattle.run_model.specs.FrameRuns.{posts_frame, removes_frame}
+use Rattle.choreographer.proofs.Recorded.{turn_records}
+use Rattle.run_model.specs.FrameAsks.{Removes, asked_in, asks_in}
 use Rattle.dash_hall.specs.Growth.{GoesOn}
-use Rattle.dash_hall.specs.Hosts.{Origin, IsHost, sends_by, PlacesBy, PostsFrame, RemovesFrame}
-use Rattle.dash_hall.proofs.FramePosts.{grew, posts_frame_by}
+use Rattle.dash_hall.specs.Hosts.{Origin, IsHost, sends_by, PlacesBy, PostsFrame, AsksFor}
+use Rattle.dash_hall.proofs.FramePosts.{posts_frame_by}
 
 -- a frame callback was posted by a host that was made of this poster
 pub frame_made : {A E : Type 0} (r : Result A E) (o o' : Origin) (p q q' : Sender) (b : Tally) (f g : Pass) (u phase id delay : ℕ) → o' ≡ o → IsHost o' q b → o.poster ≡ p → q' ≡ q
@@ -24,11 +26,8 @@ frame_made (Err e) o o' p q q' b f g u phase id delay same is began ends turn = 
 
 -- ---- a frame callback is removed
 
-pub removes_frame_by : (phase id : ℕ) (f g : Pass) (x y : Kept) → IsTurn f g x y → y ≡ record x { frames = removed x.frames phase id None } → RemovesFrame phase id f g
-removes_frame_by phase id f g x y t is =
+pub removal_asks : (phase id : ℕ) (f g : Pass) (x y : Kept) → IsTurn f g x y → y ≡ record x { frames = removed x.frames phase id None } → AsksFor (Removes phase id None) f g
+removal_asks phase id f g x y t is =
     let e = frame.Removed phase id None (removed_count (past x.frames) phase id None) in
-    let left : y.frames.entries ≡ x.frames.entries ++ e ∷ [] = ap (λ (z : Kept). z.frames.entries) is in
-    record {
-      removes = λ p i. grew (removes_frame p i) f g x y e t left;
-      posts = λ p i. (let more = grew (posts_frame p i) f g x y e t left in omega (arith, more));
-    }
+    let left : x.frames.entries ++ e ∷ [] ≡ y.frames.entries = sym (ap (λ (z : Kept). z.frames.entries) is) in
+    ap asks_in (turn_records f g x y (e ∷ []) t left) ∙ filter_map-append asked_in f.view.own (e ∷ [])

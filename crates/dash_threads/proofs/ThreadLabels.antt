@@ -3,7 +3,7 @@ use Rattle.std.proofs.Common.{◌≡◌, ◌≢◌, ℕ, suc, ◌+◌, ◌≤◌
 use Rattle.std.specs.Prelude.{◌&&◌, ◌||◌, filter, if◌then◌else◌, slice_index, position}
 use Rattle.std.specs.List.{list_any, flat_map, cons_option, find, position_from}
 use Rattle.std.specs.Option.{option_map}
-use Rattle.std.proofs.lemmas.Bool.{and_parts, eqb-true}
+use Rattle.std.proofs.lemmas.Bool.{and_parts, or_left, or_right, eqb-true}
 use Rattle.std.proofs.lemmas.List.{append-nil, map-append}
 use Rattle.std.proofs.lemmas.List.Elements.{filter-append, filter_map-append}
 use Rattle.std.proofs.lemmas.List.Folds.{list_any-append}
@@ -98,7 +98,8 @@ they_fit thread before (l ∷ ls) all =
 pub its_commands : List Timed → List Command
 its_commands ts = map (λ t. t.command) ts
 
-abbrev at_time : ℕ → Line → Timed
+-- a line of a block, at its time
+abbrev pub at_time : ℕ → Line → Timed
 at_time time l = record { time = time; command = l.command }
 
 timed_commands : (time : ℕ) (ls : List Line) → map (λ (t : Timed). t.command) (map (at_time time) ls) ≡ map (λ l. l.command) ls
@@ -157,20 +158,13 @@ is_new before b (Event l f m) is fit = absurd cc
 is_new before b (Frame l p i d) is fit = absurd cc
 is_new before b (Unframe l p i) is fit = absurd cc
 
-or_true : (a b : Bool) → b ≡ true → (a || b) ≡ true
-or_true true b is = refl
-or_true false b is = is
-
-or_true_left : (a b : Bool) → a ≡ true → (a || b) ≡ true
-or_true_left a b is = ap (λ (t : Bool). t || b) is
-
 not_both : (a : Bool) → a ≡ true → not a ≡ true → ⊥
 not_both true is isnt = absurd cc
 not_both false is isnt = absurd cc
 
 no_more_uses : (b : ℕ) (before cs : List Command) → fits before cs ≡ true → has_label b before ≡ true → uses b cs ≡ 0
 no_more_uses b before [] fit has = refl
-no_more_uses b before (c ∷ cs) fit has = by_label (is_label b c) refl (no_more_uses b (before ++ c ∷ []) cs parts.1 (list_any-append (is_label b) before (c ∷ []) ∙ or_true_left (has_label b before) (has_label b (c ∷ [])) has))
+no_more_uses b before (c ∷ cs) fit has = by_label (is_label b c) refl (no_more_uses b (before ++ c ∷ []) cs parts.1 (list_any-append (is_label b) before (c ∷ []) ∙ or_left (has_label b before) (has_label b (c ∷ [])) has))
   where
     parts : (fits_one before c ≡ true) × (fits (before ++ c ∷ []) cs ≡ true)
     parts = and_parts (fits_one before c) (fits (before ++ c ∷ []) cs) fit
@@ -188,7 +182,7 @@ once b before (c ∷ cs) fit = by_label (is_label b c) refl (once b (before ++ c
 
     by_label : (t : Bool) → is_label b c ≡ t → uses b cs ≤ 1 → cond t 1 0 + uses b cs ≤ 1
     by_label true is rest =
-        let has : has_label b (before ++ c ∷ []) ≡ true = list_any-append (is_label b) before (c ∷ []) ∙ or_true (has_label b before) (has_label b (c ∷ [])) (or_true_left (is_label b c) false is) in
+        let has : has_label b (before ++ c ∷ []) ≡ true = list_any-append (is_label b) before (c ∷ []) ∙ or_right (has_label b before) (has_label b (c ∷ [])) (or_left (is_label b c) false is) in
         let none : uses b cs ≡ 0 = no_more_uses b (before ++ c ∷ []) cs parts.1 has in
         omega (arith, none)
     by_label false is rest = omega (arith, rest)
@@ -331,10 +325,10 @@ on_its_own b (Frame l p i d) is = absurd cc
 on_its_own b (Unframe l p i) is = absurd cc
 
 in_first : (b q : ℕ) (t : Timed) (ts : List Timed) → is_one (label_on q t.command) b ≡ true → is_in b (labels_on q (t ∷ ts)) ≡ true
-in_first b q t ts is = in_option b (label_on q t.command) (labels_on q ts) ∙ or_true_left (is_one (label_on q t.command) b) (is_in b (labels_on q ts)) is
+in_first b q t ts is = in_option b (label_on q t.command) (labels_on q ts) ∙ or_left (is_one (label_on q t.command) b) (is_in b (labels_on q ts)) is
 
 in_later : (b q : ℕ) (t : Timed) (ts : List Timed) → is_in b (labels_on q ts) ≡ true → is_in b (labels_on q (t ∷ ts)) ≡ true
-in_later b q t ts is = in_option b (label_on q t.command) (labels_on q ts) ∙ or_true (is_one (label_on q t.command) b) (is_in b (labels_on q ts)) is
+in_later b q t ts is = in_option b (label_on q t.command) (labels_on q ts) ∙ or_right (is_one (label_on q t.command) b) (is_in b (labels_on q ts)) is
 
 on_some : (b : ℕ) (ts : List Timed) → has_label b (its_commands ts) ≡ true → (q : ℕ) × (is_in b (labels_on q ts) ≡ true)
 unfolding its_commands
@@ -397,7 +391,7 @@ module _ (s : Script) (thread : ℕ) (text : HasText s) (past rest : List Timed)
           let most : uses b cs ≤ 1 = once b [] cs (all_fit s thread text) in
           let both : uses_on q b cs + uses_on x.looper b cs ≤ uses b cs = uses_apart q x.looper b cs apart in
           let mine : is_in b (labels_on x.looper (lines_of thread s.blocks)) ≡ true =
-          ap (is_in b) (all_labels x.looper) ∙ (list_any-append (λ n. n == b) (labels_kept x.looper bs) (labels_on x.looper (l ∷ rest)) ∙ or_true_left _ _ (position_in b 0 (0 + kept.0) (labels_kept x.looper bs) [] kept.1).1) in
+          ap (is_in b) (all_labels x.looper) ∙ (list_any-append (λ n. n == b) (labels_kept x.looper bs) (labels_on x.looper (l ∷ rest)) ∙ or_left _ _ (position_in b 0 (0 + kept.0) (labels_kept x.looper bs) [] kept.1).1) in
           let used : 1 ≤ uses_on x.looper b cs = in_if_used x.looper b (lines_of thread s.blocks) mine in
           let none : uses_on q b cs ≡ 0 = omega (arith, most, both, used) in
           let out : is_in b all ≡ false = used_not_in q b (lines_of thread s.blocks) (is_in b all) refl none in

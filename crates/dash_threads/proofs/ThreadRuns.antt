@@ -1,13 +1,12 @@
 -- A thread that runs one line more.
-use Rattle.std.proofs.Common.{◌≡◌, ◌≢◌, ℕ, ◌+◌, ◌<◌, ◌==◌, Bool, true, false, cond, List, [], ◌∷◌, ◌++◌, length, get_or, Option, Some, None, refl, sym, ap, ◌∙◌, subst, arith, inl, inr, eq-eqb}
-use Rattle.std.specs.Prelude.{is_some, count_by, if◌then◌else◌}
+use Rattle.std.proofs.Common.{◌≡◌, ◌≢◌, ℕ, ◌<◌, ◌==◌, Bool, true, false, List, [], ◌∷◌, ◌++◌, length, get_or, Option, Some, None, refl, sym, ap, ◌∙◌, subst, arith, inl, inr, eq-eqb}
+use Rattle.std.specs.Prelude.{is_some, if◌then◌else◌}
 use Rattle.std.specs.List.{cons_option}
 use Rattle.std.specs.Option.{option_map}
 use Rattle.std.proofs.lemmas.Bool.{and_parts, eqb-true, ltb-true}
 use Rattle.std.proofs.lemmas.List.{append-nil}
 use Rattle.std.proofs.lemmas.List.Concat.{flat_map-append}
 use Rattle.std.proofs.lemmas.List.Elements.{filter_map-append}
-use Rattle.std.proofs.lemmas.List.Sums.{sum_by_push}
 use Rattle.loop_model.specs.declared.entry.Entry.{Entry}
 use Rattle.dash_script.specs.declared.script.Command.{Command}
 use Rattle.dash_script.specs.declared.script.Command.TheVariants.{Post, PostAsync, Front, Callback, Set, Remove, RemoveCallback, RemoveAll, Barrier, Unbarrier, Quit, QuitSafely, Idle, Watch, Event, Frame, Unframe}
@@ -18,7 +17,7 @@ use Rattle.looper_run.specs.Holding.{Sender}
 use Rattle.choreographer.specs.Known.{Known as Pass}
 use Rattle.run_model.specs.Asks.{call_of, token_in, tokens_in}
 use Rattle.run_model.specs.Planned.{Timed, planned, label_on, labels_on, lines_of}
-use Rattle.run_model.specs.Run.{is_frame_line, is_unframe_line}
+use Rattle.run_model.specs.FrameAsks.{FrameAsk, line_asks, lines_ask}
 use Rattle.dash_threads.specs.declared.labels.Labelled.{Labelled}
 use Rattle.dash_threads.specs.declared.planned.PlannedCall.{PlannedCall}
 use Rattle.dash_hall.specs.declared.calls.QueueCall.TheVariants as on_queue
@@ -26,13 +25,14 @@ use Rattle.dash_threads.specs.declared.thread.PostingThread.{PostingThread}
 use Rattle.dash_hall.specs.Growth.{own, Makes}
 use Rattle.dash_hall.specs.Requests.{call_made, tokens_of, posts_barrier}
 use Rattle.dash_threads.specs.Planning.{removal_of}
-use Rattle.dash_threads.specs.Threads.{HasCalled, HasPosted, HasRemoved, labels_kept, tokens_kept, KeepsBarriers, IsUpTo, Takes, CallsAt, with_barrier, Called, CalledIf, MakesPlanned}
+use Rattle.dash_threads.specs.Threads.{HasCalled, HasAsked, HasTurned, labels_kept, tokens_kept, KeepsBarriers, IsUpTo, Takes, CallsAt, with_barrier, Called, CalledIf, MakesPlanned}
 use Rattle.dash_threads.proofs.ThreadText.{line_passes}
 use Rattle.dash_threads.proofs.ThreadPlans.{call_at, as_planned}
 use Rattle.dash_threads.proofs.ThreadSteps.{StepOn, step_calls}
 use Rattle.dash_threads.proofs.ThreadLabels.{is_kept, unbarrier_plan}
 
-abbrev line : ℕ → Command → Timed
+-- a line at this time
+abbrev pub line : ℕ → Command → Timed
 line u c = record { time = u; command = c }
 
 map_none : {A B : Type 0} (f : A → B) (o : Option A) → option_map f o ≡ None → o ≡ None
@@ -124,34 +124,32 @@ kept_more past u lo b k bs ps ps' p here calls kept = record {
       ∙ sym (tokens_after ps ps' p (Some k) q d calls near (p.looper == q) refl))));
 }
 
-pub count_no : (P : Timed → Bool) (past : List Timed) (l : Timed) → P l ≡ false → count_by P (past ++ l ∷ []) ≡ count_by P past
-count_no P past l isnt =
-    let push : count_by P (past ++ l ∷ []) ≡ count_by P past + cond (P l) 1 0 = sum_by_push (λ (x : Timed). cond (P x) 1 0) past l in
-    let nothing : ◌≡◌ {A = ℕ} (cond (P l) 1 0) 0 = ap (λ (b : Bool). cond b 1 0) isnt in
-    omega (arith, push, nothing)
+pub asks_more : (q : ℕ) (past : List Timed) (l : Timed) → lines_ask q (past ++ l ∷ []) ≡ lines_ask q past ++ cons_option (line_asks q l) []
+asks_more q past l = filter_map-append (line_asks q) past (l ∷ [])
 
-posted_same : (past : List Timed) (l : Timed) (fr fr' : List Pass) → fr' ≡ fr → HasPosted past fr → ((q phase id : ℕ) → is_frame_line q phase id l ≡ false) → HasPosted (past ++ l ∷ []) fr'
-posted_same past l fr fr' same has none = subst (HasPosted (past ++ l ∷ [])) (sym same)
-    (λ q d near phase id. (let as_before = count_no (is_frame_line q phase id) past l (none q phase id) in let old = has q d near phase id in omega (arith, as_before, old)))
+asks_none : (q : ℕ) (past : List Timed) (l : Timed) → line_asks q l ≡ None → lines_ask q (past ++ l ∷ []) ≡ lines_ask q past
+asks_none q past l none = asks_more q past l ∙ (ap (λ (o : Option FrameAsk). lines_ask q past ++ cons_option o []) none ∙ append-nil (lines_ask q past))
 
-removed_same : (past : List Timed) (l : Timed) (fr fr' : List Pass) → fr' ≡ fr → HasRemoved past fr → ((q phase id : ℕ) → is_unframe_line q phase id l ≡ false) → HasRemoved (past ++ l ∷ []) fr'
-removed_same past l fr fr' same has none = subst (HasRemoved (past ++ l ∷ [])) (sym same)
-    (λ q d near phase id. (let as_before = count_no (is_unframe_line q phase id) past l (none q phase id) in let old = has q d near phase id in omega (arith, as_before, old)))
+asked_same : (past : List Timed) (l : Timed) (fr fr' : List Pass) → fr' ≡ fr → HasAsked past fr → ((q : ℕ) → line_asks q l ≡ None) → HasAsked (past ++ l ∷ []) fr'
+asked_same past l fr fr' same has none = subst (HasAsked (past ++ l ∷ [])) (sym same) (λ q d near. has q d near ∙ sym (asks_none q past l (none q)))
+
+turned_same : (past : List Timed) (l : Timed) (fr fr' : List Pass) → fr' ≡ fr → HasTurned past fr → ((q : ℕ) → line_asks q l ≡ None) → HasTurned (past ++ l ∷ []) fr'
+turned_same past l fr fr' same has none = subst (HasTurned (past ++ l ∷ [])) (sym same) (λ q d near. has q d near ∙ sym (ap length (asks_none q past l (none q))))
 
 -- ---- by the command
 
 plain_call : (s : Script) (u : ℕ) (c : Command) (t t' : PostingThread) (p : PlannedCall) (past : List Timed) → t'.number ≡ t.number → (call : Called c p t t') → IsUpTo s past t
     → ((q : ℕ) (d : Sender) → q < length t.kit.posters.items → option_map (call_of (tokens_in (own (get_or t.kit.posters.items q d)))) (planned s (labels_on q (lines_of t.number s.blocks)) q u c) ≡ call_at p q)
     → ((q : ℕ) → label_on q c ≡ None) → with_barrier t.barriers.items c call.token ≡ t.barriers.items → posts_barrier p.call ≡ false
-    → ((q phase id : ℕ) → is_frame_line q phase id (line u c) ≡ false) → ((q phase id : ℕ) → is_unframe_line q phase id (line u c) ≡ false)
+    → ((q : ℕ) → line_asks q (line u c) ≡ None)
     → IsUpTo s (past ++ line u c ∷ []) t'
-plain_call s u c t t' p past number call up plan no_label same no_token frame unframe =
+plain_call s u c t t' p past number call up plan no_label same no_token no_ask =
     let frames : t'.kit.frames.items ≡ t.kit.frames.items = ap (λ v. v.items) call.frames in
     record {
       called = called_more s past (line u c) t.number t'.number t.kit.posters.items t'.kit.posters.items p call.token number call.calls up.called plan;
       barriers = kept_same past (line u c) t.barriers.items t'.barriers.items t.kit.posters.items t'.kit.posters.items p call.token call.calls up.barriers (call.barriers ∙ same) no_label (λ near. call.answered near ∙ no_token);
-      posted = posted_same past (line u c) t.kit.frames.items t'.kit.frames.items frames up.posted frame;
-      removed = removed_same past (line u c) t.kit.frames.items t'.kit.frames.items frames up.removed unframe;
+      asked = asked_same past (line u c) t.kit.frames.items t'.kit.frames.items frames up.asked no_ask;
+      turned = turned_same past (line u c) t.kit.frames.items t'.kit.frames.items frames up.turned no_ask;
     }
 
 some_of : (o : Option ℕ) → is_some o ≡ true → (k : ℕ) × (o ≡ Some k)
@@ -180,21 +178,21 @@ barrier_call s u lo b t t' past rest text long number call are up =
           (λ q d near. as_planned s t.barriers.items (labels_on q (lines_of t.number s.blocks)) (tokens_in (own (get_or t.kit.posters.items q d))) q u (Barrier lo b) p refl refl);
       barriers = subst (λ (bs : List Labelled). KeepsBarriers (past ++ line u (Barrier lo b) ∷ []) bs t'.kit.posters.items) (sym barriers)
           (kept_more past u lo b found.0 t.barriers.items t.kit.posters.items t'.kit.posters.items p refl calls up.barriers);
-      posted = posted_same past (line u (Barrier lo b)) t.kit.frames.items t'.kit.frames.items frames up.posted (λ q phase id. refl);
-      removed = removed_same past (line u (Barrier lo b)) t.kit.frames.items t'.kit.frames.items frames up.removed (λ q phase id. refl);
+      asked = asked_same past (line u (Barrier lo b)) t.kit.frames.items t'.kit.frames.items frames up.asked (λ q. refl);
+      turned = turned_same past (line u (Barrier lo b)) t.kit.frames.items t'.kit.frames.items frames up.turned (λ q. refl);
     }
 
 -- a line that makes no call and posts and removes no frame callback
 nothing_more : (s : Script) (u : ℕ) (c : Command) (t : PostingThread) (past : List Timed) → IsUpTo s past t → ((q : ℕ) (labels : List ℕ) → planned s labels q u c ≡ None) → ((q : ℕ) → label_on q c ≡ None)
-    → ((q phase id : ℕ) → is_frame_line q phase id (line u c) ≡ false) → ((q phase id : ℕ) → is_unframe_line q phase id (line u c) ≡ false) → IsUpTo s (past ++ line u c ∷ []) t
-nothing_more s u c t past up none no_label frame unframe = record {
+    → ((q : ℕ) → line_asks q (line u c) ≡ None) → IsUpTo s (past ++ line u c ∷ []) t
+nothing_more s u c t past up none no_label no_ask = record {
   called = λ q d near. step_calls s (labels_on q (lines_of t.number s.blocks)) q past (line u c) (own (get_or t.kit.posters.items q d)) (own (get_or t.kit.posters.items q d)) (up.called q d near) (inl (none q (labels_on q (lines_of t.number s.blocks)), refl));
   barriers = record {
     labels = λ q. up.barriers.labels q ∙ sym (labels_more q past (line u c) ∙ (ap (λ (o : Option ℕ). labels_on q past ++ cons_option o []) (no_label q) ∙ append-nil (labels_on q past)));
     tokens = up.barriers.tokens;
   };
-  posted = posted_same past (line u c) t.kit.frames.items t.kit.frames.items refl up.posted frame;
-  removed = removed_same past (line u c) t.kit.frames.items t.kit.frames.items refl up.removed unframe;
+  asked = asked_same past (line u c) t.kit.frames.items t.kit.frames.items refl up.asked no_ask;
+  turned = turned_same past (line u c) t.kit.frames.items t.kit.frames.items refl up.turned no_ask;
 }
 
 unbarrier_call : (s : Script) (u b : ℕ) (t t' : PostingThread) (past rest : List Timed) → HasText s → t'.number ≡ t.number → MakesPlanned s u (Unbarrier b) t t'
@@ -204,34 +202,34 @@ unbarrier_call s u b t t' past rest text number made are up =
     let call : Called (Unbarrier b) (removal_of kept.0) t t' = subst (λ (o : Option Labelled). CalledIf (Unbarrier b) (option_map removal_of o) t t') kept.1 made in
     plain_call s u (Unbarrier b) t t' (removal_of kept.0) past number call up
     (λ q d near. unbarrier_plan s t.number text past rest (line u (Unbarrier b)) b are refl t.barriers.items up.barriers.labels kept.0 q u (tokens_in (own (get_or t.kit.posters.items q d))) kept.1 (sym (up.barriers.tokens q d near)))
-    (λ q. refl) refl refl (λ q phase id. refl) (λ q phase id. refl)
+    (λ q. refl) refl refl (λ q. refl)
 
 -- what a command planned was made: the thread has run its line
 pub made_takes : (s : Script) (u : ℕ) (c : Command) (t t' : PostingThread) → HasText s → length t.kit.posters.items ≡ s.loopers → t'.number ≡ t.number
     → ((l p i d : ℕ) → c ≡ Frame l p i d → ⊥) → ((l p i : ℕ) → c ≡ Unframe l p i → ⊥) → MakesPlanned s u c t t' → Takes s (line u c) t t'
-made_takes s u (Post h w d) t t' text long number frame unframe call = λ past rest are up. plain_call s u (Post h w d) t t' _ past number call up (λ q z near. as_planned s t.barriers.items (labels_on q (lines_of t.number s.blocks)) (tokens_in (own (get_or t.kit.posters.items q z))) q u (Post h w d) _ refl refl) (λ q. refl) refl refl (λ q phase id. refl) (λ q phase id. refl)
-made_takes s u (PostAsync h w d) t t' text long number frame unframe call = λ past rest are up. plain_call s u (PostAsync h w d) t t' _ past number call up (λ q z near. as_planned s t.barriers.items (labels_on q (lines_of t.number s.blocks)) (tokens_in (own (get_or t.kit.posters.items q z))) q u (PostAsync h w d) _ refl refl) (λ q. refl) refl refl (λ q phase id. refl) (λ q phase id. refl)
-made_takes s u (Front h w) t t' text long number frame unframe call = λ past rest are up. plain_call s u (Front h w) t t' _ past number call up (λ q z near. as_planned s t.barriers.items (labels_on q (lines_of t.number s.blocks)) (tokens_in (own (get_or t.kit.posters.items q z))) q u (Front h w) _ refl refl) (λ q. refl) refl refl (λ q phase id. refl) (λ q phase id. refl)
-made_takes s u (Callback h i d) t t' text long number frame unframe call = λ past rest are up. plain_call s u (Callback h i d) t t' _ past number call up (λ q z near. as_planned s t.barriers.items (labels_on q (lines_of t.number s.blocks)) (tokens_in (own (get_or t.kit.posters.items q z))) q u (Callback h i d) _ refl refl) (λ q. refl) refl refl (λ q phase id. refl) (λ q phase id. refl)
-made_takes s u (Set g v) t t' text long number frame unframe call = λ past rest are up. plain_call s u (Set g v) t t' _ past number call up (λ q z near. as_planned s t.barriers.items (labels_on q (lines_of t.number s.blocks)) (tokens_in (own (get_or t.kit.posters.items q z))) q u (Set g v) _ refl refl) (λ q. refl) refl refl (λ q phase id. refl) (λ q phase id. refl)
-made_takes s u (Remove h w) t t' text long number frame unframe call = λ past rest are up. plain_call s u (Remove h w) t t' _ past number call up (λ q z near. as_planned s t.barriers.items (labels_on q (lines_of t.number s.blocks)) (tokens_in (own (get_or t.kit.posters.items q z))) q u (Remove h w) _ refl refl) (λ q. refl) refl refl (λ q phase id. refl) (λ q phase id. refl)
-made_takes s u (RemoveCallback h i) t t' text long number frame unframe call = λ past rest are up. plain_call s u (RemoveCallback h i) t t' _ past number call up (λ q z near. as_planned s t.barriers.items (labels_on q (lines_of t.number s.blocks)) (tokens_in (own (get_or t.kit.posters.items q z))) q u (RemoveCallback h i) _ refl refl) (λ q. refl) refl refl (λ q phase id. refl) (λ q phase id. refl)
-made_takes s u (RemoveAll h) t t' text long number frame unframe call = λ past rest are up. plain_call s u (RemoveAll h) t t' _ past number call up (λ q z near. as_planned s t.barriers.items (labels_on q (lines_of t.number s.blocks)) (tokens_in (own (get_or t.kit.posters.items q z))) q u (RemoveAll h) _ refl refl) (λ q. refl) refl refl (λ q phase id. refl) (λ q phase id. refl)
-made_takes s u (Quit l) t t' text long number frame unframe call = λ past rest are up. plain_call s u (Quit l) t t' _ past number call up (λ q z near. as_planned s t.barriers.items (labels_on q (lines_of t.number s.blocks)) (tokens_in (own (get_or t.kit.posters.items q z))) q u (Quit l) _ refl refl) (λ q. refl) refl refl (λ q phase id. refl) (λ q phase id. refl)
-made_takes s u (QuitSafely l) t t' text long number frame unframe call = λ past rest are up. plain_call s u (QuitSafely l) t t' _ past number call up (λ q z near. as_planned s t.barriers.items (labels_on q (lines_of t.number s.blocks)) (tokens_in (own (get_or t.kit.posters.items q z))) q u (QuitSafely l) _ refl refl) (λ q. refl) refl refl (λ q phase id. refl) (λ q phase id. refl)
+made_takes s u (Post h w d) t t' text long number frame unframe call = λ past rest are up. plain_call s u (Post h w d) t t' _ past number call up (λ q z near. as_planned s t.barriers.items (labels_on q (lines_of t.number s.blocks)) (tokens_in (own (get_or t.kit.posters.items q z))) q u (Post h w d) _ refl refl) (λ q. refl) refl refl (λ q. refl)
+made_takes s u (PostAsync h w d) t t' text long number frame unframe call = λ past rest are up. plain_call s u (PostAsync h w d) t t' _ past number call up (λ q z near. as_planned s t.barriers.items (labels_on q (lines_of t.number s.blocks)) (tokens_in (own (get_or t.kit.posters.items q z))) q u (PostAsync h w d) _ refl refl) (λ q. refl) refl refl (λ q. refl)
+made_takes s u (Front h w) t t' text long number frame unframe call = λ past rest are up. plain_call s u (Front h w) t t' _ past number call up (λ q z near. as_planned s t.barriers.items (labels_on q (lines_of t.number s.blocks)) (tokens_in (own (get_or t.kit.posters.items q z))) q u (Front h w) _ refl refl) (λ q. refl) refl refl (λ q. refl)
+made_takes s u (Callback h i d) t t' text long number frame unframe call = λ past rest are up. plain_call s u (Callback h i d) t t' _ past number call up (λ q z near. as_planned s t.barriers.items (labels_on q (lines_of t.number s.blocks)) (tokens_in (own (get_or t.kit.posters.items q z))) q u (Callback h i d) _ refl refl) (λ q. refl) refl refl (λ q. refl)
+made_takes s u (Set g v) t t' text long number frame unframe call = λ past rest are up. plain_call s u (Set g v) t t' _ past number call up (λ q z near. as_planned s t.barriers.items (labels_on q (lines_of t.number s.blocks)) (tokens_in (own (get_or t.kit.posters.items q z))) q u (Set g v) _ refl refl) (λ q. refl) refl refl (λ q. refl)
+made_takes s u (Remove h w) t t' text long number frame unframe call = λ past rest are up. plain_call s u (Remove h w) t t' _ past number call up (λ q z near. as_planned s t.barriers.items (labels_on q (lines_of t.number s.blocks)) (tokens_in (own (get_or t.kit.posters.items q z))) q u (Remove h w) _ refl refl) (λ q. refl) refl refl (λ q. refl)
+made_takes s u (RemoveCallback h i) t t' text long number frame unframe call = λ past rest are up. plain_call s u (RemoveCallback h i) t t' _ past number call up (λ q z near. as_planned s t.barriers.items (labels_on q (lines_of t.number s.blocks)) (tokens_in (own (get_or t.kit.posters.items q z))) q u (RemoveCallback h i) _ refl refl) (λ q. refl) refl refl (λ q. refl)
+made_takes s u (RemoveAll h) t t' text long number frame unframe call = λ past rest are up. plain_call s u (RemoveAll h) t t' _ past number call up (λ q z near. as_planned s t.barriers.items (labels_on q (lines_of t.number s.blocks)) (tokens_in (own (get_or t.kit.posters.items q z))) q u (RemoveAll h) _ refl refl) (λ q. refl) refl refl (λ q. refl)
+made_takes s u (Quit l) t t' text long number frame unframe call = λ past rest are up. plain_call s u (Quit l) t t' _ past number call up (λ q z near. as_planned s t.barriers.items (labels_on q (lines_of t.number s.blocks)) (tokens_in (own (get_or t.kit.posters.items q z))) q u (Quit l) _ refl refl) (λ q. refl) refl refl (λ q. refl)
+made_takes s u (QuitSafely l) t t' text long number frame unframe call = λ past rest are up. plain_call s u (QuitSafely l) t t' _ past number call up (λ q z near. as_planned s t.barriers.items (labels_on q (lines_of t.number s.blocks)) (tokens_in (own (get_or t.kit.posters.items q z))) q u (QuitSafely l) _ refl refl) (λ q. refl) refl refl (λ q. refl)
 made_takes s u (Barrier l b) t t' text long number frame unframe call = λ past rest are up. barrier_call s u l b t t' past rest text long number call are up
 made_takes s u (Unbarrier b) t t' text long number frame unframe call = λ past rest are up. unbarrier_call s u b t t' past rest text number call are up
-made_takes s u (Idle l i k) t t' text long number frame unframe same = subst (Takes s (line u (Idle l i k)) t) (sym same) (λ past rest are up. nothing_more s u (Idle l i k) t past up (λ q labels. refl) (λ q. refl) (λ q phase id. refl) (λ q phase id. refl))
-made_takes s u (Watch l f m a) t t' text long number frame unframe same = subst (Takes s (line u (Watch l f m a)) t) (sym same) (λ past rest are up. nothing_more s u (Watch l f m a) t past up (λ q labels. refl) (λ q. refl) (λ q phase id. refl) (λ q phase id. refl))
-made_takes s u (Event l f m) t t' text long number frame unframe same = subst (Takes s (line u (Event l f m)) t) (sym same) (λ past rest are up. nothing_more s u (Event l f m) t past up (λ q labels. refl) (λ q. refl) (λ q phase id. refl) (λ q phase id. refl))
+made_takes s u (Idle l i k) t t' text long number frame unframe same = subst (Takes s (line u (Idle l i k)) t) (sym same) (λ past rest are up. nothing_more s u (Idle l i k) t past up (λ q labels. refl) (λ q. refl) (λ q. refl))
+made_takes s u (Watch l f m a) t t' text long number frame unframe same = subst (Takes s (line u (Watch l f m a)) t) (sym same) (λ past rest are up. nothing_more s u (Watch l f m a) t past up (λ q labels. refl) (λ q. refl) (λ q. refl))
+made_takes s u (Event l f m) t t' text long number frame unframe same = subst (Takes s (line u (Event l f m)) t) (sym same) (λ past rest are up. nothing_more s u (Event l f m) t past up (λ q labels. refl) (λ q. refl) (λ q. refl))
 made_takes s u (Frame l p i d) t t' text long number frame unframe same = absurd (frame l p i d refl)
 made_takes s u (Unframe l p i) t t' text long number frame unframe same = absurd (unframe l p i refl)
 
 pub idle_takes : (s : Script) (u : ℕ) (c : Command) (t : PostingThread) (l i : ℕ) (k : Bool) → c ≡ Idle l i k → Takes s (line u c) t t
-idle_takes s u c t l i k is = subst (λ (z : Command). Takes s (line u z) t t) (sym is) (λ past rest are up. nothing_more s u (Idle l i k) t past up (λ q labels. refl) (λ q. refl) (λ q phase id. refl) (λ q phase id. refl))
+idle_takes s u c t l i k is = subst (λ (z : Command). Takes s (line u z) t t) (sym is) (λ past rest are up. nothing_more s u (Idle l i k) t past up (λ q labels. refl) (λ q. refl) (λ q. refl))
 
 pub watch_takes : (s : Script) (u : ℕ) (c : Command) (t : PostingThread) (l f m a : ℕ) → c ≡ Watch l f m a → Takes s (line u c) t t
-watch_takes s u c t l f m a is = subst (λ (z : Command). Takes s (line u z) t t) (sym is) (λ past rest are up. nothing_more s u (Watch l f m a) t past up (λ q labels. refl) (λ q. refl) (λ q phase id. refl) (λ q phase id. refl))
+watch_takes s u c t l f m a is = subst (λ (z : Command). Takes s (line u z) t t) (sym is) (λ past rest are up. nothing_more s u (Watch l f m a) t past up (λ q labels. refl) (λ q. refl) (λ q. refl))
 
 pub event_takes : (s : Script) (u : ℕ) (c : Command) (t : PostingThread) (l f m : ℕ) → c ≡ Event l f m → Takes s (line u c) t t
-event_takes s u c t l f m is = subst (λ (z : Command). Takes s (line u z) t t) (sym is) (λ past rest are up. nothing_more s u (Event l f m) t past up (λ q labels. refl) (λ q. refl) (λ q phase id. refl) (λ q phase id. refl))
+event_takes s u c t l f m is = subst (λ (z : Command). Takes s (line u z) t t) (sym is) (λ past rest are up. nothing_more s u (Event l f m) t past up (λ q labels. refl) (λ q. refl) (λ q. refl))

@@ -1,6 +1,6 @@
 -- A thread's own entries, one line further.
 use Rattle.std.proofs.Common.{◌≡◌, ℕ, ◌<◌, ◌≤◌, Bool, true, false, cond, List, [], ◌∷◌, ◌++◌, set, length, get_or, Some, None, refl, sym, ap, ◌∙◌, subst, arith, inl, inr}
-use Rattle.std.specs.Prelude.{is_some, IfOk, OnOk, Result, Ok, Err, ◌⊎◌}
+use Rattle.std.specs.Prelude.{is_some, OnOk, Result, Ok, Err, ◌⊎◌}
 use Rattle.std.specs.Option.{option_map}
 use Rattle.std.proofs.lemmas.List.{get_or_read, get_or-set_same, get_or-set_other, length-set}
 use Rattle.loop_model.specs.declared.call.Call.{Call}
@@ -14,10 +14,6 @@ use Rattle.run_model.proofs.RunLaws.{MakeCalls-line, MakeCalls-skip}
 use Rattle.dash_hall.specs.Growth.{Makes}
 use Rattle.dash_threads.specs.Threads.{CallsAt}
 use Rattle.dash_threads.proofs.ThreadPlans.{at_each_uptime, is_some_mapped, no_earlier}
-
-pub if_ok : {A E : Type 0} (r : Result A E) (P Q : A → Type 0) → ((x : A) → P x → Q x) → IfOk r P → IfOk r Q
-if_ok (Ok x) P Q f h = f x h
-if_ok (Err e) P Q f h = tt
 
 pub on_ok : {A E : Type 0} (r : Result A E) (P Q : Type 0) → (P → Q) → OnOk r P → OnOk r Q
 on_ok (Ok x) P Q f h = f h

@@ -1,3 +1,2 @@
 pub mod Planning
 pub mod Threads
-pub mod Framing

@@ -1,5 +1,5 @@
 -- A thread of a script, and how far it has come.
-use Rattle.std.specs.Prelude.{◌≡◌, ◌≢◌, ◌<◌, ◌≤◌, ℕ, ◌==◌, List, [], ◌∷◌, ◌++◌, length, slice_index_or, count_by, Option, Some, None, is_some, map, filter, if◌then◌else◌}
+use Rattle.std.specs.Prelude.{◌≡◌, ◌≢◌, ◌<◌, ℕ, ◌==◌, List, [], ◌∷◌, ◌++◌, length, slice_index_or, Option, Some, None, is_some, map, filter, if◌then◌else◌}
 use Rattle.std.specs.List.{filter_map}
 use Rattle.dash_script.specs.declared.script.Block.{Block}
 use Rattle.dash_script.specs.declared.script.Line.{Line}
@@ -8,8 +8,7 @@ use Rattle.looper_run.specs.Holding.{Sender}
 use Rattle.choreographer.specs.Known.{Known as Pass}
 use Rattle.run_model.specs.Moments.{in_lockstep}
 use Rattle.run_model.specs.Planned.{Timed, lines_in, lines_of, labels_on, MakeCalls}
-use Rattle.run_model.specs.Run.{is_frame_line, is_unframe_line}
-use Rattle.run_model.specs.FrameRuns.{posts_frame, removes_frame}
+use Rattle.run_model.specs.FrameAsks.{lines_ask}
 use Rattle.dash_hall.specs.declared.hall.Hall.{Hall}
 use Rattle.dash_threads.specs.declared.thread.PostingThread.{PostingThread}
 use Rattle.loop_model.specs.declared.call.Call.{Call}
@@ -19,6 +18,7 @@ use Rattle.dash_script.specs.declared.script.Command.TheVariants.{Barrier}
 use Rattle.dash_threads.specs.declared.labels.Labelled.{Labelled}
 use Rattle.dash_threads.specs.declared.planned.PlannedCall.{PlannedCall}
 use Rattle.dash_hall.specs.Growth.{own, Makes}
+use Rattle.dash_hall.specs.Hosts.{asks_of}
 use Rattle.dash_hall.specs.Requests.{call_made, tokens_of, posts_barrier}
 use Rattle.dash_threads.specs.Planning.{call_planned}
 use Rattle.dash_hall.specs.Kits.{ArePostersOf, ArePassesOf}
@@ -35,14 +35,13 @@ abbrev pub HasCalled : Script → List Timed → ℕ → List Sender → Type 0
 HasCalled s past thread posters = (q : ℕ) (d : Sender) → q < length posters
     → MakeCalls in_lockstep s (labels_on q (lines_of thread s.blocks)) q past (own (slice_index_or posters q d))
 
--- at each choreographer it has seen as many callbacks posted, and removed, as these lines post and remove
-abbrev pub HasPosted : List Timed → List Pass → Type 0
-HasPosted past frames = (q : ℕ) (d : Pass) → q < length frames → (phase id : ℕ)
-    → count_by (is_frame_line q phase id) past ≤ count_by (posts_frame phase id) (slice_index_or frames q d).view.seen
+-- it has asked each choreographer for the posts and removals of frame callbacks that these lines ask for, in order, and for no others
+abbrev pub HasAsked : List Timed → List Pass → Type 0
+HasAsked past frames = (q : ℕ) (d : Pass) → q < length frames → asks_of (slice_index_or frames q d) ≡ lines_ask q past
 
-abbrev pub HasRemoved : List Timed → List Pass → Type 0
-HasRemoved past frames = (q : ℕ) (d : Pass) → q < length frames → (phase id : ℕ)
-    → count_by (is_unframe_line q phase id) past ≤ count_by (removes_frame phase id) (slice_index_or frames q d).view.seen
+-- it has taken a turn there for each of these, and no other
+abbrev pub HasTurned : List Timed → List Pass → Type 0
+HasTurned past frames = (q : ℕ) (d : Pass) → q < length frames → (slice_index_or frames q d).view.turns ≡ length (lines_ask q past)
 
 -- the barriers that a thread keeps, on one queue: their labels and their tokens, in order
 abbrev pub labels_kept : ℕ → List Labelled → List ℕ
@@ -60,8 +59,8 @@ pub record KeepsBarriers (past : List Timed) (barriers : List Labelled) (posters
 pub record Progress (s : Script) (past : List Timed) (n : ℕ) (bs : List Labelled) (ps : List Sender) (fs : List Pass) : Type 0 where
   pub called : HasCalled s past n ps
   pub barriers : KeepsBarriers past bs ps
-  pub posted : HasPosted past fs
-  pub removed : HasRemoved past fs
+  pub asked : HasAsked past fs
+  pub turned : HasTurned past fs
 
 abbrev pub IsUpTo : Script → List Timed → PostingThread → Type 0
 IsUpTo s past t = Progress s past t.number t.barriers.items t.kit.posters.items t.kit.frames.items
@@ -112,10 +111,6 @@ CalledIf command (Some p) before after = Called command p before after
 -- a command's call was made, where it plans one
 abbrev pub MakesPlanned : Script → ℕ → Command → PostingThread → PostingThread → Type 0
 MakesPlanned s u command before after = CalledIf command (call_planned s before.barriers.items u command) before after
-
--- the sender has made no call
-abbrev pub HasMadeNone : List Sender → Type 0
-HasMadeNone posters = (q : ℕ) (d : Sender) → q < length posters → own (slice_index_or posters q d) ≡ []
 
 -- a thread that has run nothing yet
 abbrev pub HasBegun : Script → PostingThread → Type 0

@@ -6,11 +6,10 @@ ghost use Rattle.dash_script.specs.Reading.{HasText};
 ghost use Rattle.shared_queue.specs.Known.{IsOf};
 ghost use Rattle.choreographer.specs.Known.{IsOf as IsFrameOf};
 ghost use Rattle.dash_hall.specs.Growth.{GoesOn};
-ghost use Rattle.dash_hall.specs.Kits.{IsHall, frame_badge_of};
+ghost use Rattle.dash_hall.specs.Kits.{IsHall, IsUnusedKit, frame_badge_of};
 ghost use Rattle.dash_hall.specs.Hosts.{PostsFrame};
 ghost use Rattle.dash_hall.specs.Requests.{call_made, tokens_of, posts_barrier};
-ghost use Rattle.dash_threads.specs.Framing.{PostsOnce, TakesFrames, ContinuesFrames};
-ghost use Rattle.dash_threads.specs.Threads.{IsThread, CallsAt, with_barrier, MakesPlanned, Takes, Continues, HasMadeNone, HasBegun};
+ghost use Rattle.dash_threads.specs.Threads.{IsThread, CallsAt, with_barrier, MakesPlanned, Takes, Continues, HasBegun};
 
 use crate::labels::Labelled;
 use crate::planned::call_for;
@@ -45,7 +44,7 @@ impl PostingThread {
         ensures number { result.number ≡ number }
         ensures kit { result.kit ≡ kit }
         ensures goes { result.gave_up ≡ false }
-        ensures begun { (s : TheScript) → HasMadeNone kit.posters.items → HasBegun s result }
+        ensures begun { (s : TheScript) → IsUnusedKit kit → HasBegun s result }
     {
         PostingThread {
             number,
@@ -89,7 +88,6 @@ impl PostingThread {
         ensures goes { self.new.gave_up ≡ false → self.old.gave_up ≡ false }
         ensures stays { self.old.gave_up ≡ true → self.new ≡ self.old }
         ensures made { self.new.gave_up ≡ false → Continues script.now block.now self.old self.new }
-        ensures frames { self.new.gave_up ≡ false → ContinuesFrames script.now block.now self.old self.new }
     {
         for line in block.lines.as_slice() {
             if line.thread == self.number {
@@ -116,7 +114,6 @@ impl PostingThread {
         ensures number { self.new.number ≡ self.old.number }
         ensures stays { self.old.gave_up ≡ true → self.new ≡ self.old }
         ensures made { self.new.gave_up ≡ false → (self.old.gave_up ≡ false) × Takes script.now (record { time = now; command = command }) self.old self.new }
-        ensures frames { self.new.gave_up ≡ false → TakesFrames script.now (record { time = now; command = command }) self.old self.new }
     {
         if self.gave_up {
             return;
@@ -143,7 +140,6 @@ impl PostingThread {
         ensures thread { IsThread script.now hall.now self.new }
         ensures number { self.new.number ≡ self.old.number }
         ensures made { OnOk result (Takes script.now (record { time = now; command = command }) self.old self.new) }
-        ensures frames { OnOk result (TakesFrames script.now (record { time = now; command = command }) self.old self.new) }
     {
         match command {
             Command::Frame {
@@ -258,7 +254,6 @@ impl PostingThread {
         ensures thread { IsThread script.now hall.now self.new }
         ensures number { self.new.number ≡ self.old.number }
         ensures made { OnOk result (Takes script.now (record { time = now; command = Frame looper phase id delay }) self.old self.new) }
-        ensures frames { OnOk result (TakesFrames script.now (record { time = now; command = Frame looper phase id delay }) self.old self.new) }
     {
         let place = looper as usize;
         if place < self.kit.posters.len()
@@ -303,7 +298,6 @@ impl PostingThread {
         ensures thread { IsThread script.now hall.now self.new }
         ensures number { self.new.number ≡ self.old.number }
         ensures made { OnOk result (Takes script.now (record { time = now; command = Unframe looper phase id }) self.old self.new) }
-        ensures frames { OnOk result (TakesFrames script.now (record { time = now; command = Unframe looper phase id }) self.old self.new) }
     {
         let place = looper as usize;
         if place < self.kit.frames.len() && place < hall.choreographers.len() && phase < PHASES {
@@ -342,7 +336,6 @@ fn post_frame<R: Wait>(
     ensures on { GoesOn poster.old poster.new pass.old pass.new }
     ensures frames { frame_badge_of frames.new ≡ frame_badge_of frames.old }
     ensures made { OnOk result (PostsFrame handler.id now phase id delay poster.old poster.new frames.old frames.new) }
-    ensures once { OnOk result (PostsOnce now phase id delay frames.old frames.new) }
 {
     let began = Snapshot::of(poster);
     let pass_began = Snapshot::of(pass);

@@ -1,7 +1,7 @@
 use Rattle.std.proofs.Common.{◌≡◌, ◌+◌, ◌<◌, [], ◌∷◌, ◌++◌, length, refl, ap, sym, ◌∙◌, subst, append-nil, length-append, arith}
 use Rattle.std.specs.Vec.Iter.{into_iter_items}
-use Rattle.std.proofs.lemmas.List.{length-set}
-use Rattle.shared_queue.proofs.Gathers.{nothing_left, regrouped}
+use Rattle.std.proofs.lemmas.List.{nil_from_length, length-set}
+use Rattle.shared_queue.proofs.Gathers.{regrouped}
 use Rattle.dash_hall.specs.declared.kit.Kit.{Kit}
 use Rattle.dash_hall.specs.Kits.{frame_badge_of}
 use Rattle.dash_hall.specs.Dealing.{Gets, IsUnusedPass, DealsPasses}
@@ -36,7 +36,7 @@ pub returns : goal.returns
 returns c =
     let at = c.loop-pass in
     let none = c.in-None.ensures.steps in
-    let empty : into_iter_items at.pass-iterator ≡ [] = nothing_left _ (sym at.invariant.long ∙ none.0) in
+    let empty : into_iter_items at.pass-iterator ≡ [] = nil_from_length _ (sym at.invariant.long ∙ none.0) in
     let all : at.yielded ≡ c.args.passes.items = sym (append-nil at.yielded) ∙ (ap (λ l. at.yielded ++ l) (sym empty) ∙ (at.invariant.parts ∙ c.into_iter-pass-iterator.ensures.into_iter_gives.0)) in
     let number = at.invariant.number ∙ (ap length all ∙ c.requires.passes) in
     subst (λ l. DealsPasses c.args.script.now c.args.looper l c.args.kits.now.items at.kits.items) c.into_iter-pass-iterator.ensures.into_iter_gives.0

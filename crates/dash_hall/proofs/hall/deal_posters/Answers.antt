@@ -1,7 +1,7 @@
 use Rattle.std.proofs.Common.{◌≡◌, ◌<◌, [], ◌∷◌, ◌++◌, length, refl, ap, sym, ◌∙◌, subst, append-nil, length-append, arith}
 use Rattle.std.specs.Vec.Iter.{into_iter_items}
-use Rattle.std.proofs.lemmas.List.{length-set}
-use Rattle.shared_queue.proofs.Gathers.{nothing_left, regrouped}
+use Rattle.std.proofs.lemmas.List.{nil_from_length, length-set}
+use Rattle.shared_queue.proofs.Gathers.{regrouped}
 use Rattle.dash_hall.specs.declared.kit.Kit.{Kit}
 use Rattle.dash_hall.specs.Kits.{badge_of}
 use Rattle.dash_hall.specs.Dealing.{Gets, IsUnusedPoster, DealsPosters}
@@ -36,7 +36,7 @@ pub returns : goal.returns
 returns c =
     let at = c.loop-poster in
     let none = c.in-None.ensures.steps in
-    let empty : into_iter_items at.poster-iterator ≡ [] = nothing_left _ (sym at.invariant.long ∙ none.0) in
+    let empty : into_iter_items at.poster-iterator ≡ [] = nil_from_length _ (sym at.invariant.long ∙ none.0) in
     let all : at.yielded ≡ c.args.posters.items = sym (append-nil at.yielded) ∙ (ap (λ l. at.yielded ++ l) (sym empty) ∙ (at.invariant.parts ∙ c.into_iter-poster-iterator.ensures.into_iter_gives.0)) in
     let place : at.place ≡ length c.args.kits.now.items = at.invariant.place ∙ (ap length all ∙ c.requires) in
     subst (λ l. DealsPosters l c.args.kits.now.items at.kits.items) c.into_iter-poster-iterator.ensures.into_iter_gives.0

@@ -1,13 +1,8 @@
 use Rattle.std.proofs.Common.{rules}
 use Rattle.dash_threads.proofs.ThreadFrames.{frame_made}
-use Rattle.dash_threads.proofs.ThreadFraming.{posts_once}
-use Rattle.dash_threads.proofs.ThreadSteps.{on_ok}
 use Rattle.dash_threads.proofs.thread.post_frame.Goals as goal
 
 pub returns-clause-made : goal.returns-clause-made
 returns-clause-made g c =
     frame_made c.post_callback.result _ _ c.args.poster.now c.post_callback.new.self.poster.now _ _ _ _ c.args.now c.args.phase c.args.id c.args.delay
     c.post_callback.ensures.origin c.post_callback.ensures.ready c.of-began.ensures (search rules) c.post_callback.ensures.turn
-
-pub returns-clause-once : goal.returns-clause-once
-returns-clause-once g c = on_ok c.post_callback.result _ _ (λ turn. posts_once c.args.now c.args.phase c.args.id c.args.delay _ _ _ _ turn) c.post_callback.ensures.turn

@@ -1,11 +1,13 @@
-use Rattle.std.proofs.Common.{◌≡◌, ◌<◌, ◌∙◌, length, set, [], arith}
+use Rattle.std.proofs.Common.{◌≡◌, ◌<◌, ◌∙◌, length, set, [], arith, ap}
+use Rattle.std.proofs.lemmas.Result.{IfOk-weaker}
 use Rattle.dash_hall.specs.Growth.{Makes}
 use Rattle.dash_hall.specs.Requests.{call_made, tokens_of, posts_barrier}
 use Rattle.std.specs.Prelude.{is_some}
 use Rattle.dash_threads.specs.Threads.{CallsAt}
-use Rattle.dash_threads.proofs.ThreadSteps.{if_ok, calls_at_set, calls_nowhere}
+use Rattle.dash_threads.proofs.ThreadSteps.{calls_at_set, calls_nowhere}
 use Rattle.dash_hall.specs.Kits.{badge_of, badge_for}
-use Rattle.dash_threads.proofs.ThreadPlaces.{its_poster, its_home, posters_kept, badge_on, as_long}
+use Rattle.dash_hall.proofs.Badges.{alike_length, posters_kept, gone_badge}
+use Rattle.dash_threads.proofs.ThreadPlaces.{its_poster, its_home}
 use Rattle.dash_threads.proofs.thread.PostingThread.call.Goals as goal
 use Rattle.dash_threads.proofs.thread.PostingThread.call.Goals.{else-place-len-via-then-place-len+else-place-len-2, else-place-len-via-else-place-len}
 
@@ -16,7 +18,7 @@ perform_by-requires g c =
     let near : c.args.looper < length t.kit.posters.items = omega (arith, c.len.ensures, c.if-place-len.true) in
     let near' : c.args.looper < length hall.queues.items = omega (arith, c.len-then-place-len.ensures, c.if-place-len-2.true) in
     record {
-      queue = its_poster c.args.script.now hall t c.requires.hall c.requires.thread c.args.looper c.index.result.now c.index_mut.result.now c.index.ensures c.index_mut.ensures.value near near';
+      queue = its_poster c.args.script.now hall t c.requires.hall c.requires.thread c.args.looper c.index.result.now c.index_mut.result.now c.index.ensures c.index_mut.ensures.value near;
       pass = c.requires.thread.pass;
       home = its_home c.args.script.now hall t c.requires.hall c.requires.thread c.args.looper c.index.result.now c.index.ensures near';
     }
@@ -26,7 +28,7 @@ returns-then-place-len-2-clause-thread g c =
     let t = c.args.self.now in
     record {
       number = c.requires.thread.number;
-      posters = posters_kept t.number c.args.hall.now.queues.items t.kit.posters.items c.args.looper c.index_mut.result.now c.perform_by.new.poster c.requires.thread.posters c.index_mut.ensures.value (badge_on _ _ _ _ c.perform_by.ensures.on);
+      posters = posters_kept t.number c.args.hall.now.queues.items t.kit.posters.items c.requires.thread.posters c.args.looper c.perform_by.new.poster c.index_mut.result.now (gone_badge _ _ _ _ c.perform_by.ensures.on ∙ ap badge_of c.index_mut.ensures.value);
       frames = c.requires.thread.frames;
       pass = c.perform_by.ensures.on.home ∙ c.requires.thread.pass;
     }
@@ -35,7 +37,7 @@ pub returns-then-place-len-2-clause-made : goal.returns-then-place-len-2-clause-
 returns-then-place-len-2-clause-made g c =
     let posters = c.args.self.now.kit.posters.items in
     let near : c.args.looper < length posters = omega (arith, c.len.ensures, c.if-place-len.true) in
-    if_ok c.perform_by.result
+    IfOk-weaker c.perform_by.result
     (λ token. Makes c.index_mut.result.now c.perform_by.new.poster (call_made c.args.call) (tokens_of token))
     (λ token. CallsAt c.args.looper (call_made c.args.call) (tokens_of token) posters (set posters c.args.looper c.perform_by.new.poster))
     (λ token made. calls_at_set posters c.args.looper c.index_mut.result.now c.perform_by.new.poster (call_made c.args.call) (tokens_of token) c.index_mut.ensures.value near made)
@@ -44,7 +46,7 @@ returns-then-place-len-2-clause-made g c =
 pub returns-clause-made : goal.returns-clause-made
 returns-clause-made g c =
     let posters = c.args.self.now.kit.posters.items in
-    let long = as_long badge_of (badge_for c.args.self.now.number) posters c.args.hall.now.queues.items c.requires.thread.posters in
+    let long = alike_length badge_of (badge_for c.args.self.now.number) posters c.args.hall.now.queues.items c.requires.thread.posters in
     elim c.else-place-len.branch [
       | else-place-len-via-then-place-len+else-place-len-2 w ↦ calls_nowhere posters c.args.looper (call_made c.args.call) [] (omega (arith, long, w.len-then-place-len.ensures, w.if-place-len-2.false))
       | else-place-len-via-else-place-len w ↦ calls_nowhere posters c.args.looper (call_made c.args.call) [] (omega (arith, c.len.ensures, w.if-place-len.false))
@@ -53,12 +55,12 @@ returns-clause-made g c =
 pub returns-then-place-len-2-clause-token : goal.returns-then-place-len-2-clause-token
 returns-then-place-len-2-clause-token g c =
     let posters = c.args.self.now.kit.posters.items in
-    if_ok c.perform_by.result (λ token. is_some token ≡ posts_barrier c.args.call) (λ token. c.args.looper < length posters → is_some token ≡ posts_barrier c.args.call) (λ token is. λ near. is) c.perform_by.ensures.token
+    IfOk-weaker c.perform_by.result (λ token. is_some token ≡ posts_barrier c.args.call) (λ token. c.args.looper < length posters → is_some token ≡ posts_barrier c.args.call) (λ token is. λ near. is) c.perform_by.ensures.token
 
 pub returns-clause-token : goal.returns-clause-token
 returns-clause-token g c =
     let posters = c.args.self.now.kit.posters.items in
-    let long = as_long badge_of (badge_for c.args.self.now.number) posters c.args.hall.now.queues.items c.requires.thread.posters in
+    let long = alike_length badge_of (badge_for c.args.self.now.number) posters c.args.hall.now.queues.items c.requires.thread.posters in
     elim c.else-place-len.branch [
       | else-place-len-via-then-place-len+else-place-len-2 w ↦ (λ near. absurd (omega (arith, near, long, w.len-then-place-len.ensures, w.if-place-len-2.false)))
       | else-place-len-via-else-place-len w ↦ (λ near. absurd (omega (arith, near, c.len.ensures, w.if-place-len.false)))

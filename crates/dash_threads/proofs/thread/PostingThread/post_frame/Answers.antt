@@ -1,20 +1,19 @@
-use Rattle.std.proofs.Common.{◌<◌, ◌+◌, ◌∙◌, ℕ, subst, length, arith}
+use Rattle.std.proofs.Common.{◌<◌, ◌+◌, ◌∙◌, ℕ, subst, length, arith, ap}
 use Rattle.dash_hall.specs.Kits.{badge_of, badge_for, frame_badge_of, frame_badge_for}
 use Rattle.dash_threads.proofs.ThreadSteps.{on_ok}
 use Rattle.dash_threads.proofs.ThreadFrameRuns.{frame_progress, frame_within}
-use Rattle.dash_threads.proofs.ThreadFraming.{one_goes_on}
 use Rattle.dash_threads.proofs.ThreadText.{few_loopers}
-use Rattle.dash_threads.proofs.ThreadPlaces.{its_poster, its_home, its_pass, its_phases, queues_long, posters_kept, passes_kept, badge_on, as_long, choreographers_long}
+use Rattle.dash_hall.proofs.Badges.{alike_length, posters_kept, gone_badge, passes_kept, queue_count, choreographer_count}
+use Rattle.dash_threads.proofs.ThreadPlaces.{its_poster, its_home, its_pass, its_phases}
 use Rattle.dash_threads.proofs.thread.PostingThread.post_frame.Goals as goal
 use Rattle.dash_threads.proofs.thread.PostingThread.post_frame.Goals.{else-place-len-via-then-place-len+then-place-len-2+then-place-len-3+then-place-len-4+else-phase-lt-PHASES, else-place-len-via-then-place-len+then-place-len-2+then-place-len-3+else-place-len-4, else-place-len-via-then-place-len+then-place-len-2+else-place-len-3, else-place-len-via-then-place-len+else-place-len-2, else-place-len-via-else-place-len}
 use Rattle.handler_post.specs.declared.handler.Handler.{Handler}
 use Rattle.dash_hall.specs.Hosts.{PostsFrame}
-use Rattle.dash_threads.specs.Framing.{PostsOnce}
 
 pub frame_handler-requires : goal.frame_handler-requires
 frame_handler-requires g c =
     let few = few_loopers c.args.script.now c.requires.text in
-    let long = queues_long c.args.script.now c.args.hall.now c.requires.hall in
+    let long = queue_count c.args.script.now c.args.hall.now.pool c.args.hall.now.queues.items c.requires.hall.queues in
     omega (arith, few, long, c.len-then-place-len.ensures, c.if-place-len-2.true)
 
 pub post_frame-requires-clause-queue : goal.post_frame-requires-clause-queue
@@ -22,8 +21,7 @@ post_frame-requires-clause-queue g c =
     let t = c.args.self.now in
     let hall = c.args.hall.now in
     let near : c.args.looper < length t.kit.posters.items = omega (arith, c.len.ensures, c.if-place-len.true) in
-    let near' : c.args.looper < length hall.queues.items = omega (arith, c.len-then-place-len.ensures, c.if-place-len-2.true) in
-    its_poster c.args.script.now hall t c.requires.hall c.requires.thread c.args.looper c.index.result.now c.index_mut.result.now c.index.ensures c.index_mut.ensures.value near near'
+    its_poster c.args.script.now hall t c.requires.hall c.requires.thread c.args.looper c.index.result.now c.index_mut.result.now c.index.ensures c.index_mut.ensures.value near
 
 pub post_frame-requires-clause-home : goal.post_frame-requires-clause-home
 post_frame-requires-clause-home g c =
@@ -39,15 +37,15 @@ post_frame-requires-clause-frames g c =
     let near : c.args.looper < length t.kit.frames.items = omega (arith, c.len-then-place-len-2.ensures, c.if-place-len-3.true) in
     let near' : c.args.looper < length hall.choreographers.items = omega (arith, c.len-then-place-len-3.ensures, c.if-place-len-4.true) in
     let phases = its_phases c.args.script.now hall t c.requires.hall c.requires.thread c.args.looper q c.index-then-phase-lt-PHASES.ensures near' in
-    (its_pass c.args.script.now hall t c.requires.hall c.requires.thread c.args.looper q c.index_mut-then-phase-lt-PHASES.result.now c.index-then-phase-lt-PHASES.ensures c.index_mut-then-phase-lt-PHASES.ensures.value near near', omega (arith, phases, c.if-phase-lt-PHASES.true))
+    (its_pass c.args.script.now hall t c.requires.hall c.requires.thread c.args.looper q c.index_mut-then-phase-lt-PHASES.result.now c.index-then-phase-lt-PHASES.ensures c.index_mut-then-phase-lt-PHASES.ensures.value near, omega (arith, phases, c.if-phase-lt-PHASES.true))
 
 pub returns-then-phase-lt-PHASES-clause-thread : goal.returns-then-phase-lt-PHASES-clause-thread
 returns-then-phase-lt-PHASES-clause-thread g c =
     let t = c.args.self.now in
     record {
       number = c.requires.thread.number;
-      posters = posters_kept t.number c.args.hall.now.queues.items t.kit.posters.items c.args.looper c.index_mut.result.now c.post_frame.new.poster c.requires.thread.posters c.index_mut.ensures.value (badge_on _ _ _ _ c.post_frame.ensures.on);
-      frames = passes_kept t.number c.args.hall.now.choreographers.items t.kit.frames.items c.args.looper c.index_mut-then-phase-lt-PHASES.result.now c.post_frame.new.frames c.requires.thread.frames c.index_mut-then-phase-lt-PHASES.ensures.value c.post_frame.ensures.frames;
+      posters = posters_kept t.number c.args.hall.now.queues.items t.kit.posters.items c.requires.thread.posters c.args.looper c.post_frame.new.poster c.index_mut.result.now (gone_badge _ _ _ _ c.post_frame.ensures.on ∙ ap badge_of c.index_mut.ensures.value);
+      frames = passes_kept t.number c.args.hall.now.choreographers.items t.kit.frames.items c.requires.thread.frames c.args.looper c.post_frame.new.frames c.index_mut-then-phase-lt-PHASES.result.now (c.post_frame.ensures.frames ∙ ap frame_badge_of c.index_mut-then-phase-lt-PHASES.ensures.value);
       pass = c.post_frame.ensures.on.home ∙ c.requires.thread.pass;
     }
 
@@ -67,17 +65,6 @@ returns-then-phase-lt-PHASES-clause-made g c =
     (subst (λ (x : Handler). PostsFrame x.id c.args.now c.args.phase c.from.result c.args.delay p q f h) c.frame_handler.ensures made)) up)
     c.post_frame.ensures.made
 
-pub returns-then-phase-lt-PHASES-clause-frames : goal.returns-then-phase-lt-PHASES-clause-frames
-returns-then-phase-lt-PHASES-clause-frames g c =
-    let passes = c.args.self.now.kit.frames.items in
-    let f = c.index_mut-then-phase-lt-PHASES.result.now in
-    let h = c.post_frame.new.frames in
-    let near : c.args.looper < length passes = omega (arith, c.len-then-place-len-2.ensures, c.if-place-len-3.true) in
-    on_ok c.post_frame.result _ _
-    (λ once. λ past rest are. one_goes_on passes c.args.looper f h (PostsOnce c.args.now c.args.phase c.args.id c.args.delay) c.index_mut-then-phase-lt-PHASES.ensures.value near
-    (subst (λ (i : ℕ). PostsOnce c.args.now c.args.phase i c.args.delay f h) c.from.ensures once))
-    c.post_frame.ensures.once
-
 pub returns-clause-made : goal.returns-clause-made
 returns-clause-made g c = λ past rest are up. (
     let t = c.args.self.now in
@@ -86,30 +73,10 @@ returns-clause-made g c = λ past rest are up. (
     let within = frame_within s t.number c.args.now c.args.looper c.args.phase c.args.id c.args.delay past rest c.requires.text are in
     let lt = within.0 in
     let ph = within.1 in
-    let queues = queues_long s hall c.requires.hall in
-    let posters = as_long badge_of (badge_for t.number) t.kit.posters.items hall.queues.items c.requires.thread.posters in
-    let cs = choreographers_long s hall c.requires.hall in
-    let frames = as_long frame_badge_of (frame_badge_for t.number) t.kit.frames.items hall.choreographers.items c.requires.thread.frames in
-    elim c.else-place-len.branch [
-      | else-place-len-via-then-place-len+then-place-len-2+then-place-len-3+then-place-len-4+else-phase-lt-PHASES w ↦ absurd (omega (arith, ph, w.if-phase-lt-PHASES.false))
-      | else-place-len-via-then-place-len+then-place-len-2+then-place-len-3+else-place-len-4 w ↦ absurd (omega (arith, lt, cs, w.len-then-place-len-3.ensures, w.if-place-len-4.false))
-      | else-place-len-via-then-place-len+then-place-len-2+else-place-len-3 w ↦ absurd (omega (arith, lt, cs, frames, w.len-then-place-len-2.ensures, w.if-place-len-3.false))
-      | else-place-len-via-then-place-len+else-place-len-2 w ↦ absurd (omega (arith, lt, queues, w.len-then-place-len.ensures, w.if-place-len-2.false))
-      | else-place-len-via-else-place-len w ↦ absurd (omega (arith, lt, queues, posters, c.len.ensures, w.if-place-len.false))
-    ])
-
-pub returns-clause-frames : goal.returns-clause-frames
-returns-clause-frames g c = λ past rest are. (
-    let t = c.args.self.now in
-    let s = c.args.script.now in
-    let hall = c.args.hall.now in
-    let within = frame_within s t.number c.args.now c.args.looper c.args.phase c.args.id c.args.delay past rest c.requires.text are in
-    let lt = within.0 in
-    let ph = within.1 in
-    let queues = queues_long s hall c.requires.hall in
-    let posters = as_long badge_of (badge_for t.number) t.kit.posters.items hall.queues.items c.requires.thread.posters in
-    let cs = choreographers_long s hall c.requires.hall in
-    let frames = as_long frame_badge_of (frame_badge_for t.number) t.kit.frames.items hall.choreographers.items c.requires.thread.frames in
+    let queues = queue_count s hall.pool hall.queues.items c.requires.hall.queues in
+    let posters = alike_length badge_of (badge_for t.number) t.kit.posters.items hall.queues.items c.requires.thread.posters in
+    let cs = choreographer_count s hall.choreographers.items c.requires.hall.choreographers in
+    let frames = alike_length frame_badge_of (frame_badge_for t.number) t.kit.frames.items hall.choreographers.items c.requires.thread.frames in
     elim c.else-place-len.branch [
       | else-place-len-via-then-place-len+then-place-len-2+then-place-len-3+then-place-len-4+else-phase-lt-PHASES w ↦ absurd (omega (arith, ph, w.if-phase-lt-PHASES.false))
       | else-place-len-via-then-place-len+then-place-len-2+then-place-len-3+else-place-len-4 w ↦ absurd (omega (arith, lt, cs, w.len-then-place-len-3.ensures, w.if-place-len-4.false))

@@ -1,12 +1,12 @@
-use Rattle.std.proofs.Common.{◌<◌, ℕ, subst, length, arith}
-use Rattle.dash_threads.proofs.ThreadFrames.{removes_frame_by}
+use Rattle.std.proofs.Common.{None, ◌<◌, ℕ, subst, length, arith, ◌∙◌, ap}
+use Rattle.dash_threads.proofs.ThreadFrames.{removal_asks}
 use Rattle.dash_threads.proofs.ThreadFrameRuns.{unframe_progress, unframe_within}
-use Rattle.dash_threads.proofs.ThreadFraming.{one_goes_on}
-use Rattle.dash_threads.proofs.ThreadPlaces.{its_pass, its_phases, passes_kept, frame_badge_on, as_long, choreographers_long}
+use Rattle.dash_threads.proofs.ThreadPlaces.{its_pass, its_phases}
+use Rattle.dash_hall.proofs.Badges.{alike_length, passes_kept, frame_turn_badge, choreographer_count}
 use Rattle.dash_threads.proofs.thread.PostingThread.remove_frame.Goals as goal
 use Rattle.dash_threads.proofs.thread.PostingThread.remove_frame.Goals.{else-place-len-via-then-place-len+then-place-len-2+else-phase-lt-PHASES, else-place-len-via-then-place-len+else-place-len-2, else-place-len-via-else-place-len}
-use Rattle.dash_hall.specs.Hosts.{RemovesFrame}
-use Rattle.dash_threads.specs.Framing.{RemovesOnce}
+use Rattle.run_model.specs.FrameAsks.{Removes}
+use Rattle.dash_hall.specs.Hosts.{AsksFor}
 use Rattle.dash_hall.specs.Kits.{frame_badge_of, frame_badge_for}
 
 pub remove_callbacks-requires : goal.remove_callbacks-requires
@@ -16,7 +16,7 @@ remove_callbacks-requires g c =
     let near : c.args.looper < length t.kit.frames.items = omega (arith, c.len.ensures, c.if-place-len.true) in
     let near' : c.args.looper < length hall.choreographers.items = omega (arith, c.len-then-place-len.ensures, c.if-place-len-2.true) in
     let phases = its_phases c.args.script.now hall t c.requires.hall c.requires.thread c.args.looper c.index.result.now c.index.ensures near' in
-    (its_pass c.args.script.now hall t c.requires.hall c.requires.thread c.args.looper c.index.result.now c.index_mut.result.now c.index.ensures c.index_mut.ensures.value near near', omega (arith, phases, c.if-phase-lt-PHASES.true))
+    (its_pass c.args.script.now hall t c.requires.hall c.requires.thread c.args.looper c.index.result.now c.index_mut.result.now c.index.ensures c.index_mut.ensures.value near, omega (arith, phases, c.if-phase-lt-PHASES.true))
 
 pub returns-in_err-remove_callbacks-clause-thread : goal.returns-in_err-remove_callbacks-clause-thread
 returns-in_err-remove_callbacks-clause-thread g c =
@@ -24,7 +24,7 @@ returns-in_err-remove_callbacks-clause-thread g c =
     record {
       number = c.requires.thread.number;
       posters = c.requires.thread.posters;
-      frames = passes_kept t.number c.args.hall.now.choreographers.items t.kit.frames.items c.args.looper c.index_mut.result.now c.remove_callbacks.new.pass c.requires.thread.frames c.index_mut.ensures.value (frame_badge_on _ _ _ _ c.remove_callbacks.ensures.2);
+      frames = passes_kept t.number c.args.hall.now.choreographers.items t.kit.frames.items c.requires.thread.frames c.args.looper c.remove_callbacks.new.pass c.index_mut.result.now (frame_turn_badge _ _ _ _ c.remove_callbacks.ensures.2 ∙ ap frame_badge_of c.index_mut.ensures.value);
       pass = c.requires.thread.pass;
     }
 
@@ -34,7 +34,7 @@ returns-in_ok-remove_callbacks-clause-thread g c =
     record {
       number = c.requires.thread.number;
       posters = c.requires.thread.posters;
-      frames = passes_kept t.number c.args.hall.now.choreographers.items t.kit.frames.items c.args.looper c.index_mut.result.now c.remove_callbacks.new.pass c.requires.thread.frames c.index_mut.ensures.value (frame_badge_on _ _ _ _ c.remove_callbacks.ensures.2);
+      frames = passes_kept t.number c.args.hall.now.choreographers.items t.kit.frames.items c.requires.thread.frames c.args.looper c.remove_callbacks.new.pass c.index_mut.result.now (frame_turn_badge _ _ _ _ c.remove_callbacks.ensures.2 ∙ ap frame_badge_of c.index_mut.ensures.value);
       pass = c.requires.thread.pass;
     }
 
@@ -46,17 +46,7 @@ returns-in_ok-remove_callbacks-clause-made g c = λ past rest are up. (
     let turn = c.in_ok-remove_callbacks.ensures in
     let near : c.args.looper < length t.kit.frames.items = omega (arith, c.len.ensures, c.if-place-len.true) in
     unframe_progress c.args.script.now c.args.now c.args.looper c.args.phase c.args.id t.number t.barriers.items t.kit.posters.items t.kit.frames.items f h past c.index_mut.ensures.value near
-    (subst (λ (i : ℕ). RemovesFrame c.args.phase i f h) c.from.ensures (removes_frame_by c.args.phase c.from.result f h turn.0 turn.1 turn.2 turn.4)) up)
-
-pub returns-in_ok-remove_callbacks-clause-frames : goal.returns-in_ok-remove_callbacks-clause-frames
-returns-in_ok-remove_callbacks-clause-frames g c = λ past rest are. (
-    let passes = c.args.self.now.kit.frames.items in
-    let f = c.index_mut.result.now in
-    let h = c.remove_callbacks.new.pass in
-    let turn = c.in_ok-remove_callbacks.ensures in
-    let near : c.args.looper < length passes = omega (arith, c.len.ensures, c.if-place-len.true) in
-    one_goes_on passes c.args.looper f h (RemovesOnce c.args.phase c.args.id) c.index_mut.ensures.value near
-    (subst (λ (i : ℕ). RemovesOnce c.args.phase i f h) c.from.ensures (turn.0, turn.1, turn.2, turn.4)))
+    (subst (λ (i : ℕ). AsksFor (Removes c.args.phase i None) f h) c.from.ensures (removal_asks c.args.phase c.from.result f h turn.0 turn.1 turn.2 turn.4)) turn.2.turns up)
 
 pub returns-else-place-len-clause-made : goal.returns-else-place-len-clause-made
 returns-else-place-len-clause-made g c = λ past rest are up. (
@@ -66,24 +56,8 @@ returns-else-place-len-clause-made g c = λ past rest are up. (
     let within = unframe_within s t.number c.args.now c.args.looper c.args.phase c.args.id past rest c.requires.text are in
     let lt = within.0 in
     let ph = within.1 in
-    let cs = choreographers_long s hall c.requires.hall in
-    let frames = as_long frame_badge_of (frame_badge_for t.number) t.kit.frames.items hall.choreographers.items c.requires.thread.frames in
-    elim c.else-place-len.branch [
-      | else-place-len-via-then-place-len+then-place-len-2+else-phase-lt-PHASES w ↦ absurd (omega (arith, ph, w.if-phase-lt-PHASES.false))
-      | else-place-len-via-then-place-len+else-place-len-2 w ↦ absurd (omega (arith, lt, cs, w.len-then-place-len.ensures, w.if-place-len-2.false))
-      | else-place-len-via-else-place-len w ↦ absurd (omega (arith, lt, cs, frames, c.len.ensures, w.if-place-len.false))
-    ])
-
-pub returns-else-place-len-clause-frames : goal.returns-else-place-len-clause-frames
-returns-else-place-len-clause-frames g c = λ past rest are. (
-    let t = c.args.self.now in
-    let s = c.args.script.now in
-    let hall = c.args.hall.now in
-    let within = unframe_within s t.number c.args.now c.args.looper c.args.phase c.args.id past rest c.requires.text are in
-    let lt = within.0 in
-    let ph = within.1 in
-    let cs = choreographers_long s hall c.requires.hall in
-    let frames = as_long frame_badge_of (frame_badge_for t.number) t.kit.frames.items hall.choreographers.items c.requires.thread.frames in
+    let cs = choreographer_count s hall.choreographers.items c.requires.hall.choreographers in
+    let frames = alike_length frame_badge_of (frame_badge_for t.number) t.kit.frames.items hall.choreographers.items c.requires.thread.frames in
     elim c.else-place-len.branch [
       | else-place-len-via-then-place-len+then-place-len-2+else-phase-lt-PHASES w ↦ absurd (omega (arith, ph, w.if-phase-lt-PHASES.false))
       | else-place-len-via-then-place-len+else-place-len-2 w ↦ absurd (omega (arith, lt, cs, w.len-then-place-len.ensures, w.if-place-len-2.false))

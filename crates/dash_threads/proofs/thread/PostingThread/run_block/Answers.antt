@@ -4,9 +4,7 @@ use Rattle.dash_script.specs.declared.script.Line.{Line}
 use Rattle.dash_script.specs.declared.script.Command.TheVariants.{Post}
 use Rattle.dash_threads.specs.declared.thread.PostingThread.{PostingThread}
 use Rattle.dash_threads.specs.Threads.{IsThread, IsUpTo, HasRun, timed_in}
-use Rattle.dash_threads.specs.Framing.{DoFrames, HasRunFrames}
 use Rattle.dash_threads.proofs.ThreadBlocks.{goes_on, goes_by}
-use Rattle.dash_threads.proofs.ThreadFraming.{frames_on, frames_by}
 use Rattle.dash_threads.proofs.thread.PostingThread.run_block.Goals as goal
 use Rattle.dash_threads.proofs.thread.PostingThread.run_block.Goals.{then-line-self, else-line-self}
 
@@ -24,21 +22,19 @@ loop-line-preserved g c =
     let is : l ≡ get_or b.lines i no_line = ap (λ (ls : List Line). get_or ls i no_line) c.as_slice-line-items.ensures in
     let near : i < length b.lines = omega (arith, ap (λ (ls : List Line). length ls) c.as_slice-line-items.ensures, c.loop-line-test.true) in
     elim c.if-line-self.branch [
-      | then-line-self w ↦ subst (λ (z : PostingThread). record { thread : IsThread s hall z; number : z.number ≡ t.number; goes : z.gave_up ≡ false → t.gave_up ≡ false; stays : t.gave_up ≡ true → z ≡ t; made : z.gave_up ≡ false → HasRun s b.time b.lines (take (i + 1) b.lines) t z; frames : z.gave_up ≡ false → HasRunFrames s b.time b.lines (take (i + 1) b.lines) t z }) (sym w.self-is) (record {
+      | then-line-self w ↦ subst (λ (z : PostingThread). record { thread : IsThread s hall z; number : z.number ≡ t.number; goes : z.gave_up ≡ false → t.gave_up ≡ false; stays : t.gave_up ≡ true → z ≡ t; made : z.gave_up ≡ false → HasRun s b.time b.lines (take (i + 1) b.lines) t z }) (sym w.self-is) (record {
         thread = w.run_line.ensures.thread;
         number = w.run_line.ensures.number ∙ c.loop-line.invariant.number;
         goes = λ going. c.loop-line.invariant.goes (w.run_line.ensures.made going).0;
         stays = λ gone. (let same = c.loop-line.invariant.stays gone in w.run_line.ensures.stays (ap (λ (z : PostingThread). z.gave_up) same ∙ gone) ∙ same);
         made = λ going. (let k = w.run_line.ensures.made going in goes_on s b.time b.lines i no_line l t c.loop-line.self w.run_line.new.self near is (w.if-line-self.true ∙ c.loop-line.invariant.number) c.loop-line.invariant.number (c.loop-line.invariant.made k.0) k.1);
-        frames = λ going. (let k = w.run_line.ensures.made going in frames_on s b.time b.lines i no_line l t c.loop-line.self w.run_line.new.self near is (w.if-line-self.true ∙ c.loop-line.invariant.number) c.loop-line.invariant.number (c.loop-line.invariant.frames k.0) (w.run_line.ensures.frames going));
       })
-      | else-line-self w ↦ subst (λ (z : PostingThread). record { thread : IsThread s hall z; number : z.number ≡ t.number; goes : z.gave_up ≡ false → t.gave_up ≡ false; stays : t.gave_up ≡ true → z ≡ t; made : z.gave_up ≡ false → HasRun s b.time b.lines (take (i + 1) b.lines) t z; frames : z.gave_up ≡ false → HasRunFrames s b.time b.lines (take (i + 1) b.lines) t z }) (sym w.self-is) (record {
+      | else-line-self w ↦ subst (λ (z : PostingThread). record { thread : IsThread s hall z; number : z.number ≡ t.number; goes : z.gave_up ≡ false → t.gave_up ≡ false; stays : t.gave_up ≡ true → z ≡ t; made : z.gave_up ≡ false → HasRun s b.time b.lines (take (i + 1) b.lines) t z }) (sym w.self-is) (record {
         thread = c.loop-line.invariant.thread;
         number = c.loop-line.invariant.number;
         goes = c.loop-line.invariant.goes;
         stays = c.loop-line.invariant.stays;
         made = λ going. goes_by s b.time b.lines i no_line l t c.loop-line.self near is (λ own. w.if-line-self.false (own ∙ sym c.loop-line.invariant.number)) (c.loop-line.invariant.made going);
-        frames = λ going. frames_by s b.time b.lines i no_line l t c.loop-line.self near is (λ own. w.if-line-self.false (own ∙ sym c.loop-line.invariant.number)) (c.loop-line.invariant.frames going);
       })
     ]
 
@@ -48,10 +44,3 @@ returns-clause-made g c = λ going past rest are up. (
     let b = c.args.block.now in
     let far : length b.lines ≤ c.loop-line.line-index = omega (arith, ap (λ (ls : List Line). length ls) c.as_slice-line-items.ensures, c.loop-line-test.false) in
     subst (λ (ls : List Line). IsUpTo c.args.script.now (past ++ timed_in t.number b.time ls) c.loop-line.self) (take_all c.loop-line.line-index b.lines far) (c.loop-line.invariant.made going past rest are up))
-
-pub returns-clause-frames : goal.returns-clause-frames
-returns-clause-frames g c = λ going past rest are. (
-    let t = c.args.self.now in
-    let b = c.args.block.now in
-    let far : length b.lines ≤ c.loop-line.line-index = omega (arith, ap (λ (ls : List Line). length ls) c.as_slice-line-items.ensures, c.loop-line-test.false) in
-    subst (λ (ls : List Line). DoFrames (timed_in t.number b.time ls) t.kit.frames.items c.loop-line.self.kit.frames.items) (take_all c.loop-line.line-index b.lines far) (c.loop-line.invariant.frames going past rest are))

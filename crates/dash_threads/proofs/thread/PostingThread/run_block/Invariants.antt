@@ -1,6 +1,5 @@
 use Rattle.std.proofs.Common.{◌≡◌, true, false, take}
 use Rattle.dash_threads.specs.Threads.{IsThread, HasRun}
-use Rattle.dash_threads.specs.Framing.{HasRunFrames}
 use Rattle.dash_threads.proofs.thread.PostingThread.run_block.Given as goal
 
 abbrev pub invariant-loop-line : goal.invariant-loop-line
@@ -10,5 +9,4 @@ invariant-loop-line g l = record {
   goes : l.self.gave_up ≡ false → l.fn.self.gave_up ≡ false;
   stays : l.fn.self.gave_up ≡ true → l.self ≡ l.fn.self;
   made : l.self.gave_up ≡ false → HasRun l.script l.block.time l.block.lines (take l.line-index l.block.lines) l.fn.self l.self;
-  frames : l.self.gave_up ≡ false → HasRunFrames l.script l.block.time l.block.lines (take l.line-index l.block.lines) l.fn.self l.self;
 }
