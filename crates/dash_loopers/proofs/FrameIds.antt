@@ -1,7 +1,7 @@
--- Which callbacks a frame runs, in the frame record and as its client tells them.
-use Rattle.std.proofs.Common.{◌≡◌, ◌+◌, ◌/◌, ◌<◌, ◌≤◌, ℕ, Bool, true, false, List, [], ◌∷◌, ◌++◌, length, drop, reverse, Option, Some, None, refl, sym, ap, ◌∙◌, subst, arith, append_assoc}
+-- Which callbacks a frame runs, and at which moments, in the frame record and as its client tells them.
+use Rattle.std.proofs.Common.{◌≡◌, ◌+◌, ◌/◌, ◌<◌, ◌≤◌, ℕ, Bool, true, false, List, [], ◌∷◌, ◌++◌, length, take, drop, reverse, Option, Some, None, refl, sym, ap, ◌∙◌, subst, arith, append_assoc}
 use Rattle.std.specs.Prelude.{◌==◌, map, slice_get, nat_le}
-use Rattle.std.specs.List.{filter_map, cons_option, before_first, AllByRecursion}
+use Rattle.std.specs.List.{filter_map, cons_option, before_first, list_all, AllByRecursion}
 use Rattle.std.specs.Option.{option_map_or}
 use Rattle.std.proofs.lemmas.List.{append-nil, map-append, reverse-append, reverse-reverse, length-reverse, length-append}
 use Rattle.std.proofs.lemmas.List.Elements.{filter_map-append}
@@ -15,22 +15,28 @@ use Rattle.frame_phases.specs.declared.entry.FrameEntry.TheVariants.{Posted, Rem
 use Rattle.loop_model.specs.Items.{is_just}
 use Rattle.frame_phases.specs.Frames.{lawful, all_allowed, is_allowed, is_settled, owed, posted_count, next_phase, live, taken, number_of, is_due, is_undue, is_unmatched}
 use Rattle.frame_phases.proofs.EndsOfFrames.{allowed_before}
-use Rattle.frame_phases.specs.State.{past as past_of}
+use Rattle.frame_phases.specs.State.{Frames, past as past_of}
 use Rattle.choreographer.specs.declared.kept.Kept.{Kept}
 use Rattle.choreographer.specs.declared.frame.Framed.{Framed}
 use Rattle.choreographer.specs.declared.frame.Framed.TheVariants.{Done, Elsewhere, Unscheduled, Backwards, NoMemory}
 use Rattle.choreographer.specs.Known.{Known as Pass, IsTurn}
 use Rattle.choreographer.specs.Client.{Run}
 use Rattle.choreographer.specs.Frame.{Batch, begin_place, ran_since, batches_since}
-use Rattle.choreographer.specs.Done.{runs, runs_of, numbers_of, FramedBy, UnlessNoMemory}
+use Rattle.choreographer.specs.Done.{runs, runs_of, numbers_of, AreBatches, AddsFrame, FramedBy, RecordsBy, UnlessNoMemory}
+use Rattle.choreographer.proofs.Recorded.{frame_tells}
 use Rattle.loop_model.proofs.Prefixes.{prefix_trans, prefix_length}
-use Rattle.dash_script.specs.declared.script.Script.{Script}
-use Rattle.run_model.specs.FrameRuns.{frame_ids, is_frame_from, is_begin, posted_id, ran_id}
-use Rattle.run_model.proofs.FrameKeeping.{all-reverse, all-in_due_order, posted_in, posted-reverse, before_first-step, KeepsFrames-lawful}
+use Rattle.run_model.specs.FrameRuns.{nanos_of, frame_ids, is_frame_from, is_begin, posted_id, ran_id, moment_in, frame_moments, frames_after, are_run_then}
+use Rattle.run_model.proofs.FrameKeeping.{all-reverse, all-in_due_order, posted_in, posted-reverse, before_first-step, told_before, KeepsFrames-lawful}
+use Rattle.run_model.specs.FrameAsks.{Runs, asked_in, asks_in}
+use Rattle.dash_hall.specs.Hosts.{asks_of}
 use Rattle.dash_loopers.specs.Played.{RanFrame, ids_of}
 use Rattle.dash_loopers.proofs.LooperLists.{at_seam}
 
 -- ---- where the latest frame began
+
+-- the moment at which a phase was taken
+abbrev now_of : Batch → ℕ
+now_of b = b.now
 
 -- the latest Begin of a past, with what stands before and behind it
 record IsBegun (past : List FrameEntry) : Type 0 where
@@ -42,11 +48,13 @@ record IsBegun (past : List FrameEntry) : Type 0 where
   place : begin_place past ≡ length older
   none : AllByRecursion (λ e. is_begin e ≡ false) newer
   ran : (ids : List ℕ) → filter_map (ran_id ids) (reverse newer) ≡ filter_map (λ n. slice_get ids n) (ran_since past)
+  moments : filter_map moment_in (reverse newer) ≡ map now_of (batches_since past)
 
 -- an entry behind it that is no Begin
 begun_more : (e : FrameEntry) (past : List FrameEntry) → is_begin e ≡ false → begin_place (e ∷ past) ≡ begin_place past
-    → ((ids : List ℕ) → filter_map (λ n. slice_get ids n) (ran_since (e ∷ past)) ≡ filter_map (λ n. slice_get ids n) (ran_since past) ++ cons_option (ran_id ids e) []) → IsBegun past → IsBegun (e ∷ past)
-begun_more e past isnt same one b = record {
+    → ((ids : List ℕ) → filter_map (λ n. slice_get ids n) (ran_since (e ∷ past)) ≡ filter_map (λ n. slice_get ids n) (ran_since past) ++ cons_option (ran_id ids e) [])
+    → map now_of (batches_since (e ∷ past)) ≡ map now_of (batches_since past) ++ cons_option (moment_in e) [] → IsBegun past → IsBegun (e ∷ past)
+begun_more e past isnt same one moment b = record {
   newer = e ∷ b.newer;
   older = b.older;
   begin = b.begin;
@@ -56,6 +64,8 @@ begun_more e past isnt same one b = record {
   none = (isnt, b.none);
   ran = λ ids. ap (filter_map (ran_id ids)) (reverse-append (e ∷ []) b.newer) ∙ (filter_map-append (ran_id ids) (reverse b.newer) (e ∷ [])
       ∙ (ap (λ l. l ++ cons_option (ran_id ids e) []) (b.ran ids) ∙ sym (one ids)));
+  moments = ap (filter_map moment_in) (reverse-append (e ∷ []) b.newer) ∙ (filter_map-append moment_in (reverse b.newer) (e ∷ [])
+      ∙ (ap (λ l. l ++ cons_option (moment_in e) []) b.moments ∙ sym moment));
 }
 
 -- 1 where a phase is next
@@ -71,15 +81,15 @@ next_is (Some m) n h = refl
 begun : (interval phases : ℕ) (past : List FrameEntry) → all_allowed interval phases past ≡ true → 0 < length (batches_since past) + has_next (next_phase phases past) → IsBegun past
 unfolding all_allowed is_allowed next_phase batches_since begin_place ran_since
 begun i p [] h some = absurd (omega (arith, some))
-begun i p (Posted c ∷ past) h some = begun_more (Posted c) past refl refl (λ ids. sym (append-nil _)) (begun i p past (and_parts _ _ h).0 some)
-begun i p (Removed phase id token n ∷ past) h some = begun_more (Removed phase id token n) past refl refl (λ ids. sym (append-nil _)) (begun i p past (and_parts _ _ h).0 some)
-begun i p (Begin v s t ∷ past) h some = record { newer = []; older = past; begin = Begin v s t; begins = refl; is = refl; place = refl; none = tt; ran = λ ids. refl }
+begun i p (Posted c ∷ past) h some = begun_more (Posted c) past refl refl (λ ids. sym (append-nil _)) (sym (append-nil _)) (begun i p past (and_parts _ _ h).0 some)
+begun i p (Removed phase id token n ∷ past) h some = begun_more (Removed phase id token n) past refl refl (λ ids. sym (append-nil _)) (sym (append-nil _)) (begun i p past (and_parts _ _ h).0 some)
+begun i p (Begin v s t ∷ past) h some = record { newer = []; older = past; begin = Begin v s t; begins = refl; is = refl; place = refl; none = tt; ran = λ ids. refl; moments = refl }
 begun i p (Take phase now t ∷ past) h some =
     let parts = and_parts _ _ h in
     let number = next_is (next_phase p past) phase (and_parts _ _ (and_parts _ _ parts.1).0).1 in
-    begun_more (Take phase now t) past refl refl (λ ids. sym (append-nil _)) (begun i p past parts.0 (omega (arith, number)))
+    begun_more (Take phase now t) past refl refl (λ ids. sym (append-nil _)) (map-append now_of (batches_since past) _) (begun i p past parts.0 (omega (arith, number)))
 begun i p (Ran n ∷ past) h some =
-    begun_more (Ran n) past refl refl (λ ids. filter_map-append (λ m. slice_get ids m) (ran_since past) (n ∷ [])) (begun i p past (and_parts _ _ h).0 some)
+    begun_more (Ran n) past refl refl (λ ids. filter_map-append (λ m. slice_get ids m) (ran_since past) (n ∷ [])) (sym (append-nil _)) (begun i p past (and_parts _ _ h).0 some)
 
 -- ---- the identities of callbacks
 
@@ -166,10 +176,14 @@ module _ (interval phases : ℕ) (fs : List FrameEntry) (allowed : all_allowed i
   place_within : begin_place (reverse fs) < length fs
   place_within = let long = ap length fs_are ∙ length-append (reverse it.older ++ it.begin ∷ []) (reverse it.newer) in let w = within in omega (arith, long, w)
 
+  grown : (gs : List FrameEntry) → fs ++ gs ≡ reverse it.older ++ it.begin ∷ (reverse it.newer ++ gs)
+  grown gs = ap (λ l. l ++ gs) fs_are ∙ (append_assoc (reverse it.older ++ it.begin ∷ []) (reverse it.newer) gs ∙ append_assoc (reverse it.older) (it.begin ∷ []) (reverse it.newer ++ gs))
+
+  begin_at : (gs : List FrameEntry) → slice_get (fs ++ gs) (begin_place (reverse fs)) ≡ Some it.begin
+  begin_at gs = (λ i. slice_get (grown gs i) (sym front i)) ∙ at_seam (reverse it.older) it.begin (reverse it.newer ++ gs)
+
   stands : (gs : List FrameEntry) → option_map_or is_begin (slice_get (fs ++ gs) (begin_place (reverse fs))) false ≡ true
-  stands gs =
-      let all = ap (λ l. l ++ gs) fs_are ∙ (append_assoc (reverse it.older ++ it.begin ∷ []) (reverse it.newer) gs ∙ append_assoc (reverse it.older) (it.begin ∷ []) (reverse it.newer ++ gs)) in
-      ap (λ o. option_map_or is_begin o false) ((λ i. slice_get (all i) (sym front i)) ∙ at_seam (reverse it.older) it.begin (reverse it.newer ++ gs)) ∙ it.begins
+  stands gs = ap (λ o. option_map_or is_begin o false) (begin_at gs) ∙ it.begins
 
   behind : drop (begin_place (reverse fs) + 1) fs ≡ reverse it.newer
   behind = (λ i. drop (within i) (fs_are i)) ∙ drop-append_seam (reverse it.older ++ it.begin ∷ []) (reverse it.newer)
@@ -182,8 +196,16 @@ module _ (interval phases : ℕ) (fs : List FrameEntry) (allowed : all_allowed i
       ap (λ l. filter_map (ran_id ids) (before_first is_begin l)) behind ∙ (ap (filter_map (ran_id ids)) (before_none is_begin (reverse it.newer) none)
       ∙ (it.ran ids ∙ (ap (filter_map (λ n. slice_get ids n)) (sym same) ∙ ids_of_batches interval phases ids (batches_since (reverse fs)) (batches_posted interval phases ids (reverse fs) [] ids_are allowed))))
 
-no_script : Script
-no_script = record { edition = 0; loopers = 0; threads = 0; handlers = []; gauges = []; period = 0; rules = []; blocks = []; end = 0 }
+  begin_alone : (gs : List FrameEntry) (e : FrameEntry) → slice_get (fs ++ gs) (begin_place (reverse fs)) ≡ Some e → take 1 (drop (begin_place (reverse fs)) (fs ++ gs)) ≡ e ∷ []
+  begin_alone gs e at =
+      let both : Some it.begin ≡ Some e = sym (begin_at gs) ∙ at in
+      let same : it.begin ≡ e = cc in
+      (λ i. take 1 (drop (sym front i) (grown gs i))) ∙ (ap (take 1) (drop-append_seam (reverse it.older) (it.begin ∷ (reverse it.newer ++ gs))) ∙ ap (λ b. b ∷ []) same)
+
+  took : filter_map moment_in (before_first is_begin (drop (begin_place (reverse fs) + 1) fs)) ≡ map now_of (batches_since (reverse fs))
+  took =
+      let none = all-reverse (λ (e : FrameEntry). is_begin e ≡ false) it.newer it.none in
+      ap (λ l. filter_map moment_in (before_first is_begin l)) behind ∙ (ap (filter_map moment_in) (before_none is_begin (reverse it.newer) none) ∙ it.moments)
 
 -- however the record grows, the frame that has just ended is one that began there, and runs what its client told
 pub frame_ran : (interval phases first : ℕ) (fs gs : List FrameEntry) → lawful interval phases (fs ++ gs) ≡ true → next_phase phases (reverse fs) ≡ None → owed (reverse fs) ≡ [] → 0 < length (batches_since (reverse fs))
@@ -194,38 +216,76 @@ frame_ran interval phases first fs gs whole none settled some same near =
     let allowed = allowed_before interval phases fs gs (and_parts _ _ whole).0 in
     let ended : is_settled (reverse fs) ≡ true = ap (λ (l : List ℕ). length l == 0) settled in (
       and_from (nat_le first (begin_place (reverse fs))) _ (le-leb first (begin_place (reverse fs)) near) (stands interval phases fs allowed some gs),
-      KeepsFrames-lawful no_script 0 [] interval phases fs gs (and_from _ _ allowed ended) none whole (begin_place (reverse fs)) (place_within interval phases fs allowed some) ∙ ran_ids interval phases fs allowed some same,
+      KeepsFrames-lawful interval phases fs gs (and_from _ _ allowed ended) none whole (begin_place (reverse fs)) (place_within interval phases fs allowed some) ∙ ran_ids interval phases fs allowed some same,
     )
+
+-- its moments are its start and those at which it took its phases
+frame_then : (interval phases vsync start time : ℕ) (fs gs : List FrameEntry) → lawful interval phases (fs ++ gs) ≡ true → next_phase phases (reverse fs) ≡ None → owed (reverse fs) ≡ [] → 0 < length (batches_since (reverse fs))
+    → slice_get (fs ++ gs) (begin_place (reverse fs)) ≡ Some (Begin vsync start time) → frame_moments (fs ++ gs) (begin_place (reverse fs)) ≡ start ∷ map now_of (batches_since (reverse fs))
+unfolding lawful
+frame_then interval phases vsync start time fs gs whole none settled some at =
+    let allowed = allowed_before interval phases fs gs (and_parts _ _ whole).0 in
+    let ended : is_settled (reverse fs) ≡ true = ap (λ (l : List ℕ). length l == 0) settled in
+    let place : ℕ = begin_place (reverse fs) in
+    let later = told_before interval phases moment_in fs gs (λ c. refl, λ phase id token n. refl) (and_from _ _ allowed ended) none whole place (place_within interval phases fs allowed some) ∙ took interval phases fs allowed some in
+    let first = begin_alone interval phases fs allowed some gs (Begin vsync start time) at in
+    filter_map-append moment_in (take 1 (drop place (fs ++ gs))) (before_first is_begin (drop (place + 1) (fs ++ gs))) ∙ (λ i. filter_map moment_in (first i) ++ later i)
+
+-- each batch was taken at a moment of the host
+taken_then : (is_moment : ℕ → Bool) (phase : ℕ) (bs : List Batch) → AreBatches is_moment phase bs → list_all is_moment (map now_of bs) ≡ true
+taken_then is_moment phase [] h = refl
+taken_then is_moment phase (b ∷ bs) h = and_from (is_moment b.now) _ h.0.0 (taken_then is_moment (phase + 1) bs h.1)
+
+-- the entry that was added last stands at the place of the last one
+added_at : (xs ys zs more : List FrameEntry) (e : FrameEntry) (place : ℕ) → ys ≡ xs ++ e ∷ [] → length ys ≡ place + 1 → ys ++ more ≡ zs → slice_get zs place ≡ Some e
+added_at xs ys zs more e place is long whole =
+    let at : place ≡ length xs = (let l = ap length is ∙ length-append xs (e ∷ []) in omega (arith, long, l)) in
+    let zs_are : zs ≡ xs ++ e ∷ more = sym whole ∙ (ap (λ l. l ++ more) is ∙ append_assoc xs (e ∷ []) more) in
+    (λ i. slice_get (zs_are i) (at i)) ∙ at_seam xs e more
 
 -- a turn's pass has seen what it had seen, and more
 pub turn_grew : (f g : Pass) (x y : Kept) → IsTurn f g x y → IsPrefix f.view.seen g.view.seen
 turn_grew f g x y t = prefix_trans f.view.seen x.frames.entries g.view.seen t.begins.0 (subst (IsPrefix x.frames.entries) (sym t.seen) t.grows)
 
-pub no_frame : (interval phases : ℕ) (before after : Pass) (told : List Run) → told ≡ [] → IsPrefix before.view.seen after.view.seen → RanFrame interval phases before after (ids_of told)
-no_frame interval phases before after told none grew = record { frame = None; framed = λ fs begins is. (refl, ap ids_of (sym none)); within = omega arith; grew = grew }
+pub no_frame : (interval phases now : ℕ) (before after : Pass) (told : List Run) → told ≡ [] → IsPrefix before.view.seen after.view.seen → after.view.own ≡ before.view.own → RanFrame interval phases now before after (ids_of told)
+no_frame interval phases now before after told none grew own = record { frame = None; framed = λ fs begins is. (refl, ap ids_of (sym none), refl); within = omega arith; grew = grew; asks = ap asks_in own ∙ sym (append-nil (asks_of before)) }
 
--- a frame ran the callbacks that its client tells
-pub framed_ran : (interval phases : ℕ) (before after : Pass) (is_moment : ℕ → Bool) (told : List Run) (r : Framed) → 0 < phases → FramedBy phases before after is_moment (Some []) (Some told) r → UnlessNoMemory r (RanFrame interval phases before after (ids_of told))
-framed_ran interval phases before after is_moment told Done some (start, time, middle, moment, turn, (batches, told_is, long, are, (y, left, numbers, batches_are, at, near, none, settled, seen_is), turns, grew)) =
+-- a frame that was run was asked for by its start
+frame_asks : (now : ℕ) (before after : Pass) → AddsFrame (λ n. n == nanos_of now) before after → asks_of after ≡ asks_of before ++ Runs (nanos_of now) ∷ []
+frame_asks now before after adds =
+    frame_tells asked_in (λ p n t. refl) (λ n. refl) (λ n. n == nanos_of now) before after adds ∙ ap (λ (n : ℕ). asks_of before ++ Runs n ∷ []) (eqb-true adds.1 (nanos_of now) adds.4)
+
+-- a frame ran the callbacks that its client tells, at the host's time
+pub framed_ran : (interval phases now : ℕ) (before after : Pass) (told : List Run) (r : Framed) → 0 < phases → FramedBy phases before after (λ n. n == nanos_of now) (Some []) (Some told) r → RecordsBy (λ n. n == nanos_of now) before after r → UnlessNoMemory r (RanFrame interval phases now before after (ids_of told))
+framed_ran interval phases now before after told Done some (start, time, middle, moment, turn, (batches, told_is, long, are, (y, left, numbers, batches_are, at, near, none, settled, seen_is), turns, grew)) records =
     let same : told ≡ runs_of batches = cc (told_is) in
     let many : length batches ≡ length (batches_since (past_of y.frames)) = ap length batches_are in
     let few : 0 < length (batches_since (past_of y.frames)) = omega (arith, some, long, many) in
     let place : ℕ = begin_place (past_of y.frames) in
     let first : ℕ = length before.view.seen in
     let ids : ids_of (runs_of (batches_since (past_of y.frames))) ≡ ids_of told = ap (λ (bs : List Batch). ids_of (runs_of bs)) (sym batches_are) ∙ ap ids_of (sym same) in
+    let x : Kept = turn.0 in
+    let began : middle.view.seen ≡ x.frames.entries ++ Begin x.stamp start time ∷ [] = turn.2.seen ∙ ap (λ (f : Frames). f.entries) turn.3.4 in
+    let taken : list_all (λ n. n == nanos_of now) (map now_of (batches_since (past_of y.frames))) ≡ true = ap (λ (bs : List Batch). list_all (λ n. n == nanos_of now) (map now_of bs)) (sym batches_are) ∙ taken_then (λ n. n == nanos_of now) 0 batches are in
     record {
       frame = Some place;
       framed = λ fs begins is. (
           let whole : y.frames.entries ++ begins.0 ≡ fs = ap (λ l. l ++ begins.0) seen_is ∙ begins.1 in
-          let ran = frame_ran interval phases first y.frames.entries begins.0 (subst (λ (l : List FrameEntry). lawful interval phases l ≡ true) (sym whole) is) none settled few (ap numbers_of (sym batches_are) ∙ numbers) near in
-          subst (λ (l : List FrameEntry). (is_frame_from l first (Some place) ≡ true) × (frame_ids l (Some place) ≡ ids_of told)) whole (ran.0, ran.1 ∙ ids));
+          let law = subst (λ (l : List FrameEntry). lawful interval phases l ≡ true) (sym whole) is in
+          let ran = frame_ran interval phases first y.frames.entries begins.0 law none settled few (ap numbers_of (sym batches_are) ∙ numbers) near in
+          let stood = added_at x.frames.entries middle.view.seen (y.frames.entries ++ begins.0) (grew.0 ++ begins.0) (Begin x.stamp start time) place began at
+          (sym (append_assoc middle.view.seen grew.0 begins.0) ∙ ap (λ l. l ++ begins.0) (grew.1 ∙ sym seen_is)) in
+          let moments = frame_then interval phases x.stamp start time y.frames.entries begins.0 law none settled few stood in
+          let all = ap (list_all (λ n. n == nanos_of now)) moments ∙ and_from (start == nanos_of now) _ moment taken in
+          subst (λ (l : List FrameEntry). (is_frame_from l first (Some place) ≡ true) × (frame_ids l (Some place) ≡ ids_of told) × (are_run_then l (frames_after [] (Some place) now) ≡ true)) whole (ran.0, ran.1 ∙ ids, and_from _ true all refl));
       within = omega (arith, at, prefix_length middle.view.seen after.view.seen grew);
       grew = prefix_trans before.view.seen middle.view.seen after.view.seen (turn_grew before middle turn.0 turn.1 turn.2) grew;
+      asks = frame_asks now before after records;
     }
-framed_ran interval phases before after is_moment told (Elsewhere next) some (start, moment, turn, told_is) = no_frame interval phases before after told (let same : told ≡ [] = cc (told_is) in same) (turn_grew before after turn.0 turn.1 turn.2)
-framed_ran interval phases before after is_moment told Unscheduled some (start, moment, turn, told_is) = no_frame interval phases before after told (let same : told ≡ [] = cc (told_is) in same) (turn_grew before after turn.0 turn.1 turn.2)
-framed_ran interval phases before after is_moment told (Backwards last) some (start, moment, turn, told_is) = no_frame interval phases before after told (let same : told ≡ [] = cc (told_is) in same) (turn_grew before after turn.0 turn.1 turn.2)
-framed_ran interval phases before after is_moment told NoMemory some t = tt
+framed_ran interval phases now before after told (Elsewhere next) some (start, moment, turn, told_is) own = no_frame interval phases now before after told (let same : told ≡ [] = cc (told_is) in same) (turn_grew before after turn.0 turn.1 turn.2) own
+framed_ran interval phases now before after told Unscheduled some (start, moment, turn, told_is) own = no_frame interval phases now before after told (let same : told ≡ [] = cc (told_is) in same) (turn_grew before after turn.0 turn.1 turn.2) own
+framed_ran interval phases now before after told (Backwards last) some (start, moment, turn, told_is) own = no_frame interval phases now before after told (let same : told ≡ [] = cc (told_is) in same) (turn_grew before after turn.0 turn.1 turn.2) own
+framed_ran interval phases now before after told NoMemory some t records = tt
 
 -- what holds where memory was not wanting
 pub not_wanting : (r : Framed) (P : Type 0) → (r ≡ NoMemory → ⊥) → UnlessNoMemory r P → P

@@ -1,6 +1,6 @@
 -- What the steps of a frame show, one after another.
-use Rattle.std.proofs.Common.{◌≡◌, ℕ, ◌<◌, Bool, List, [], ◌∷◌, ◌++◌, Some, Result, Ok, Err, OnOk, sym, ap, ◌∙◌, subst}
-use Rattle.std.specs.Prelude.{fold}
+use Rattle.std.proofs.Common.{◌≡◌, ℕ, ◌<◌, List, [], ◌∷◌, ◌++◌, Some, Result, Ok, Err, OnOk, sym, ap, ◌∙◌, subst}
+use Rattle.std.specs.Prelude.{◌==◌, fold}
 use Rattle.std.proofs.lemmas.List.{map-append}
 use Rattle.std.proofs.lemmas.List.Sums.{fold-append}
 use Rattle.frame_phases.specs.declared.entry.Callback.{Callback}
@@ -9,9 +9,10 @@ use Rattle.choreographer.specs.declared.frame.Framed.{Framed}
 use Rattle.choreographer.specs.declared.frame.Framed.TheVariants.{NoMemory}
 use Rattle.choreographer.specs.Known.{Known as Pass}
 use Rattle.choreographer.specs.Client.{Run}
-use Rattle.choreographer.specs.Done.{FramedBy, UnlessNoMemory}
+use Rattle.choreographer.specs.Done.{FramedBy, RecordsBy, UnlessNoMemory}
 use Rattle.dash_script.specs.declared.script.Script.{Script}
 use Rattle.run_model.specs.Loopers.{Looper, callback_ran}
+use Rattle.run_model.specs.FrameRuns.{nanos_of}
 use Rattle.dash_loopers.specs.declared.view_root.ViewRoot.{ViewRoot}
 use Rattle.dash_loopers.specs.Played.{RanFrame, calls_of, ids_of, IsShown, Shows}
 use Rattle.dash_loopers.proofs.FrameIds.{framed_ran, not_wanting}
@@ -19,34 +20,34 @@ use Rattle.dash_loopers.proofs.FrameIds.{framed_ran, not_wanting}
 -- no callback ran yet
 pub none_ran : (s : Script) (q now : ℕ) (p p' : Sender) (root root' : ViewRoot) (ran : List Run) → p ≡ p' → root ≡ root' → ran ≡ []
     → Shows s q (λ a. fold (callback_ran s q now) a (ids_of ran)) (calls_of p) root (calls_of p') root'
-none_ran s q now p p' root root' ran is_p is_root none text first a is =
-    subst (λ (l : List Run). IsShown s q first (calls_of p') root' (fold (callback_ran s q now) a (ids_of l))) (sym none)
-    (subst (λ (z : Sender). IsShown s q first (calls_of z) root' a) is_p (subst (λ (z : ViewRoot). IsShown s q first (calls_of p) z a) is_root is))
+none_ran s q now p p' root root' ran is_p is_root none text a is =
+    subst (λ (l : List Run). IsShown s q (calls_of p') root' (fold (callback_ran s q now) a (ids_of l))) (sym none)
+    (subst (λ (z : Sender). IsShown s q (calls_of z) root' a) is_p (subst (λ (z : ViewRoot). IsShown s q (calls_of p) z a) is_root is))
 
 -- one callback more ran
 pub ran_more : (s : Script) (q now now' : ℕ) (began : Sender) (root0 : ViewRoot) (p p' : Sender) (root root' : ViewRoot) (ran ran' : List Run) (c : Callback) (time : ℕ) → now' ≡ now → ran' ≡ ran ++ (c, time) ∷ []
     → Shows s q (λ a. fold (callback_ran s q now) a (ids_of ran)) (calls_of began) root0 (calls_of p) root → Shows s q (λ a. callback_ran s q now a c.id) (calls_of p) root (calls_of p') root'
     → Shows s q (λ a. fold (callback_ran s q now') a (ids_of ran')) (calls_of began) root0 (calls_of p') root'
-ran_more s q now now' began root0 p p' root root' ran ran' c time same grew before here text first a is =
+ran_more s q now now' began root0 p p' root root' ran ran' c time same grew before here text a is =
     let ids : ids_of ran' ≡ ids_of ran ++ c.id ∷ [] = ap ids_of grew ∙ map-append (λ (r : Run). r.0.id) ran ((c, time) ∷ []) in
     let steps : fold (callback_ran s q now') a (ids_of ran') ≡ callback_ran s q now (fold (callback_ran s q now) a (ids_of ran)) c.id = (λ i. fold (callback_ran s q (same i)) a (ids i)) ∙ fold-append (callback_ran s q now) a (ids_of ran) (c.id ∷ []) in
-    subst (λ (b : Looper). IsShown s q first (calls_of p') root' b) (sym steps) (here text first (fold (callback_ran s q now) a (ids_of ran)) (before text first a is))
+    subst (λ (b : Looper). IsShown s q (calls_of p') root' b) (sym steps) (here text (fold (callback_ran s q now) a (ids_of ran)) (before text a is))
 
 -- what the callbacks of a frame show, from this root and this poster to those
 abbrev pub FrameShows : ℕ → List ℕ → Sender → ViewRoot → Sender → ViewRoot → Type 0
 FrameShows now ids p root p' root' = (s : Script) (q : ℕ) → Shows s q (λ a. fold (callback_ran s q now) a ids) (calls_of p) root (calls_of p') root'
 
 -- a frame's callbacks ran, and show what they do
-pub frame_shown : {E : Type 0} (r : Result Unit E) (how : Framed) (interval phases now now' : ℕ) (before after : Pass) (is_moment : ℕ → Bool) (first told : List Run) (p began p' : Sender) (root began_root root' given : ViewRoot)
-    → OnOk r (how ≡ NoMemory → ⊥) → 0 < phases → first ≡ [] → FramedBy phases before after is_moment (Some first) (Some told) how → UnlessNoMemory how (FrameShows now' (ids_of told) began began_root p' root')
+pub frame_shown : {E : Type 0} (r : Result Unit E) (how : Framed) (interval phases now now' : ℕ) (before after : Pass) (first told : List Run) (p began p' : Sender) (root began_root root' given : ViewRoot)
+    → OnOk r (how ≡ NoMemory → ⊥) → 0 < phases → first ≡ [] → FramedBy phases before after (λ n. n == nanos_of now) (Some first) (Some told) how → RecordsBy (λ n. n == nanos_of now) before after how → UnlessNoMemory how (FrameShows now' (ids_of told) began began_root p' root')
     → now' ≡ now → began ≡ p → began_root ≡ root → given ≡ root'
-    → OnOk r ((ids : List ℕ) × RanFrame interval phases before after ids × FrameShows now ids p root p' given)
-frame_shown (Ok u) how interval phases now now' before after is_moment first told p began p' root began_root root' given had some none framed shows e f g h =
-    let ran = not_wanting how (RanFrame interval phases before after (ids_of told)) had (framed_ran interval phases before after is_moment told how some (subst (λ (l : List Run). FramedBy phases before after is_moment (Some l) (Some told) how) none framed)) in
+    → OnOk r ((ids : List ℕ) × RanFrame interval phases now before after ids × FrameShows now ids p root p' given)
+frame_shown (Ok u) how interval phases now now' before after first told p began p' root began_root root' given had some none framed records shows e f g h =
+    let ran = not_wanting how (RanFrame interval phases now before after (ids_of told)) had (framed_ran interval phases now before after told how some (subst (λ (l : List Run). FramedBy phases before after (λ n. n == nanos_of now) (Some l) (Some told) how) none framed) records) in
     let shown = not_wanting how (FrameShows now' (ids_of told) began began_root p' root') had shows in (
       ids_of told,
       ran,
       subst (λ (v : ViewRoot). FrameShows now (ids_of told) p root p' v) (sym h)
           (subst (λ (v : ViewRoot). FrameShows now (ids_of told) p v p' root') g (subst (λ (z : Sender). FrameShows now (ids_of told) z began_root p' root') f (subst (λ (n : ℕ). FrameShows n (ids_of told) began began_root p' root') e shown))),
     )
-frame_shown (Err x) how interval phases now now' before after is_moment first told p began p' root began_root root' given had some none framed shows e f g h = tt
+frame_shown (Err x) how interval phases now now' before after first told p began p' root began_root root' given had some none framed records shows e f g h = tt

@@ -18,8 +18,8 @@ use Rattle.looper_run.specs.Tests.{IsLent, Unless, Intercepts}
 use Rattle.looper_run.proofs.Working.{behind}
 use Rattle.dash_hall.specs.declared.hall.Hall.{Hall}
 use Rattle.dash_hall.specs.Growth.{GoesOn}
+use Rattle.dash_hall.proofs.Growing.{stays}
 use Rattle.dash_hall.specs.Hosts.{Origin, IsHost}
-use Rattle.dash_hall.specs.Kits.{badge_of}
 use Rattle.dash_loopers.specs.Loopers.{IsPlaceOf, IsLooperOf}
 use Rattle.dash_loopers.proofs.LooperPlaces.{queue_home}
 
@@ -28,19 +28,7 @@ holding p t j = record { poster = p; pass = t; journal = j }
 
 -- a poster and a pass that nothing was done with
 pub goes_nowhere : (p : Sender) (t : Tally) → GoesOn p p t t
-goes_nowhere p t = record {
-  table = refl;
-  sender = refl;
-  constants = refl;
-  heard = refl;
-  rung = refl;
-  turns = omega arith;
-  more = [];
-  seen = sym (append-nil p.view.seen);
-  no_looks = λ k d near. absurd (omega (arith, near));
-  home = refl;
-  back = omega arith;
-}
+goes_nowhere p t = stays p t t (record { home = refl; back = omega arith })
 
 -- a poster and a pass that went on, beside the journal as it was
 pub lent_on : (p q : Sender) (t u : Tally) (j : Journal) → GoesOn p q t u → IsLent (holding p t j) (holding q u j)
@@ -119,10 +107,6 @@ pub intercepts_known : (r : Did) (P Q : Type 0) → P → (r ≡ No → Q) → I
 intercepts_known Yes P Q x y = x
 intercepts_known No P Q x y = y refl
 intercepts_known NoMemory P Q x y = tt
-
--- a poster that went on keeps its badge
-pub badge_on : (p q : Sender) (t u : Tally) → GoesOn p q t u → badge_of q ≡ badge_of p
-badge_on p q t u g = λ i. record { table = g.table i; constants = g.constants i; sender = g.sender i }
 
 pub own_then : (a b c : Own) → IsSameOwn a b → IsSameOwn b c → IsSameOwn a c
 own_then a b c p q = record { poster = q.poster ∙ p.poster; pass = q.pass ∙ p.pass; journal = q.journal ∙ p.journal }

@@ -75,7 +75,7 @@ none_due_by_look now p q idle until c is n =
     subst (λ (es : List Entry). HasNoneDue (empty_base c.setting.senders) es (moment_of c.setting now (clock (empty_base c.setting.senders) es))) (sym seen)
     (subst (λ (b : Base). HasNoneDue b x.entries (moment_of c.setting now (clock b x.entries))) own.start
     (subst (λ (s : Setting). HasNoneDue x.start x.entries (moment_of s now (clock x.start x.entries))) own.setting
-    (record { going = n.3.0.0; kept_on = n.3.0.2; none = n.3.0.1 })))
+    (record { going = n.3.0.0; not_quitting = n.3.0.2; none = n.3.0.1 })))
 
 -- what a round that ended with a wait tells: it forgot nothing, it knows when the first message is due, and none is due by then
 abbrev pub WaitsBy : Setting → ℕ → Round → List Entry → List Entry → Type 0

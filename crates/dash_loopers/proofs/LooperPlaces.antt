@@ -1,10 +1,9 @@
 -- A looper's place in its hall, and its parts.
-use Rattle.std.proofs.Common.{◌≡◌, ℕ, ◌+◌, ◌<◌, List, map, length, get_or, set, Some, refl, sym, ap, ◌∙◌, subst, arith}
-use Rattle.std.specs.List.{range_with_len, slice_get}
+use Rattle.std.proofs.Common.{◌≡◌, ℕ, ◌+◌, ◌<◌, map, length, set, Some, refl, sym, ap, ◌∙◌, subst, arith}
+use Rattle.std.specs.List.{slice_get}
 use Rattle.std.specs.Option.{option_map}
 use Rattle.std.proofs.lemmas.List.{length-map}
-use Rattle.std.proofs.lemmas.List.FromFn.{length-range_with_len, get_or-range_with_len}
-use Rattle.std.proofs.lemmas.Option.{slice_get-get_or, slice_get-map, slice_get_within}
+use Rattle.std.proofs.lemmas.Option.{slice_get-map, slice_get_within, get_or_from_slice_get}
 use Rattle.atomic_table.specs.Seated.{TableId}
 use Rattle.dash_script.specs.declared.script.Script.{Script}
 use Rattle.shared_queue.specs.Known.{Shared, IsOf}
@@ -14,14 +13,11 @@ use Rattle.looper_run.proofs.Steps.{workplace_same}
 use Rattle.choreographer.specs.Known.{Shared as Frames, Known as Pass, IsOf as IsFrameOf}
 use Rattle.dash_hall.specs.declared.hall.Hall.{Hall}
 use Rattle.dash_loopers.specs.declared.player.Parts.{Parts}
-use Rattle.dash_hall.specs.Kits.{Badge, FrameBadge, badge_of, badge_for, frame_badge_of, frame_badge_for, queue_key, queue_constants, frame_key, frame_constants}
+use Rattle.dash_hall.specs.Kits.{Badge, FrameBadge, badge_of, badge_for, frame_badge_of, frame_badge_for, queue_constants, frame_constants}
+use Rattle.dash_hall.proofs.Badges.{queue_count as queues_counted, queue_is as queue_read, choreographer_count, choreographer_at}
 use Rattle.dash_loopers.specs.Loopers.{ArePartsOf, IsLooperOf}
 use Rattle.dash_loopers.specs.Players.{ServesAt, AreSameParts, PlaceWithout}
-use Rattle.dash_loopers.proofs.LooperLists.{at_same, at_removed, within_removed, map_set_same}
-
--- a pass keeps its choreographer where it keeps its badge
-pub frame_of_then : (p q : Pass) (c : Frames) → frame_badge_of q ≡ frame_badge_of p → IsFrameOf p c → IsFrameOf q c
-frame_of_then p q c e h = (ap (λ (b : FrameBadge). b.table) e ∙ h.0, ap (λ (b : FrameBadge). b.constants) e ∙ h.1)
+use Rattle.dash_loopers.proofs.LooperLists.{at_removed, within_removed, map_set_same}
 
 pub frame_of_badge : (n : ℕ) (p : Pass) (c : Frames) → frame_badge_of p ≡ frame_badge_for n c → IsFrameOf p c
 frame_of_badge n p c e = (ap (λ (b : FrameBadge). b.table) e, ap (λ (b : FrameBadge). b.constants) e)
@@ -29,41 +25,31 @@ frame_of_badge n p c e = (ap (λ (b : FrameBadge). b.table) e, ap (λ (b : Frame
 pub of_badge : (k : ℕ) (p : Sender) (q : Shared TableId) → badge_of p ≡ badge_for k q → IsOf p q
 of_badge k p q e = (ap (λ (b : Badge). b.table) e, ap (λ (b : Badge). b.constants) e)
 
--- how many there are of what a range is mapped to
-count_of : {X Y : Type 0} (f : X → Y) (g : ℕ → Y) (xs : List X) (n : ℕ) → map f xs ≡ map g (range_with_len 0 n) → length xs ≡ n
-count_of f g xs n e = sym (length-map xs f) ∙ (ap length e ∙ (length-map (range_with_len 0 n) g ∙ length-range_with_len 0 n))
-
--- which number stands at a place of a range
-at_range : (n i : ℕ) → i < n → slice_get (range_with_len 0 n) i ≡ Some i
-at_range n i lt =
-    let within : i < length (range_with_len 0 n) = omega (arith, length-range_with_len 0 n) in
-    let is : get_or (range_with_len 0 n) i 0 ≡ i = omega (arith, get_or-range_with_len 0 n i 0 lt) in
-    slice_get-get_or (range_with_len 0 n) i 0 within ∙ ap Some is
-
 module _ (s : Script) (hall : Hall) (n : ℕ) (l : IsLooperOf s hall n) where
   pub queue_count : length hall.queues.items ≡ s.loopers
-  queue_count = count_of queue_key (queue_constants s hall.pool) hall.queues.items s.loopers l.is_hall.queues
+  queue_count = queues_counted s hall.pool hall.queues.items l.is_hall.queues
 
   pub frames_count : length hall.choreographers.items ≡ s.loopers
-  frames_count = count_of frame_key (frame_constants s) hall.choreographers.items s.loopers l.is_hall.choreographers
+  frames_count = choreographer_count s hall.choreographers.items l.is_hall.choreographers
 
   pub queue_is : (i : ℕ) (q : Shared TableId) → slice_get hall.queues.items i ≡ Some q → q.constants ≡ queue_constants s hall.pool i
   queue_is i q at =
       let lt : i < s.loopers = omega (arith, slice_get_within hall.queues.items i q at, queue_count) in
-      at_same queue_key (queue_constants s hall.pool) hall.queues.items (range_with_len 0 s.loopers) i q i l.is_hall.queues at (at_range s.loopers i lt)
+      queue_read s hall.pool hall.queues.items l.is_hall.queues i q lt (sym (get_or_from_slice_get hall.queues.items i q q at))
 
   pub queue_home : (i : ℕ) (q : Shared TableId) → slice_get hall.queues.items i ≡ Some q → q.constants.home ≡ hall.pool
   queue_home i q at = ap (λ c. c.home) (queue_is i q at)
 
+  frame_constants_are : (c : Frames) → slice_get hall.choreographers.items n ≡ Some c → c.constants ≡ frame_constants s n
+  frame_constants_are c at =
+      ap (λ (z : Frames). z.constants) (sym (get_or_from_slice_get hall.choreographers.items n c c at))
+      ∙ choreographer_at s hall.choreographers.items l.is_hall.choreographers n c l.one
+
   pub four_phases : (c : Frames) → slice_get hall.choreographers.items n ≡ Some c → c.constants.phases ≡ 4
-  four_phases c at =
-      let e = at_same frame_key (frame_constants s) hall.choreographers.items (range_with_len 0 s.loopers) n c n l.is_hall.choreographers at (at_range s.loopers n l.one) in
-      ap (λ k. k.phases) e
+  four_phases c at = ap (λ k. k.phases) (frame_constants_are c at)
 
   pub its_period : (c : Frames) → slice_get hall.choreographers.items n ≡ Some c → c.constants.interval ≡ s.period
-  its_period c at =
-      let e = at_same frame_key (frame_constants s) hall.choreographers.items (range_with_len 0 s.loopers) n c n l.is_hall.choreographers at (at_range s.loopers n l.one) in
-      ap (λ k. k.interval) e
+  its_period c at = ap (λ k. k.interval) (frame_constants_are c at)
 
 pub parts_self : (a : Parts) → AreSameParts a a
 parts_self a = record { others = refl; frames = refl; client = refl }

@@ -1,6 +1,6 @@
 -- Where a looper stands as it begins, as a round of it begins and ends, and at its end.
 use Rattle.std.proofs.Common.{◌≡◌, ℕ, ◌<◌, ◌≤◌, ◌⊎◌, inl, inr, false, List, [], ◌∷◌, ◌+◌, map, length, get_or, replicate, Option, Some, None, refl, sym, ap, ◌∙◌, subst, arith}
-use Rattle.std.specs.Prelude.{slice_index_or, count_by}
+use Rattle.std.specs.Prelude.{slice_index_or}
 use Rattle.std.specs.List.{insert, remove}
 use Rattle.std.specs.Option.{IsSomeAnd}
 use Rattle.std.proofs.lemmas.List.{length-replicate}
@@ -18,13 +18,14 @@ use Rattle.looper_run.specs.Round.{UnlessWanting}
 use Rattle.looper_run.specs.Tests.{Passes, IsSameLooper}
 use Rattle.choreographer.specs.Known.{Known as Pass}
 use Rattle.run_model.specs.Asks.{entries_by, AreFor}
-use Rattle.run_model.specs.Loopers.{Looper, first_looper, is_frame_post}
+use Rattle.run_model.specs.Loopers.{Looper, first_looper}
 use Rattle.run_model.specs.Acts.{Lead, sent_on, IsSent}
-use Rattle.run_model.specs.FrameRuns.{posts_frame}
 use Rattle.dash_hall.specs.declared.hall.Hall.{Hall}
 use Rattle.dash_hall.specs.declared.kit.Kit.{Kit}
 use Rattle.dash_hall.specs.Kits.{IsHall, AreUnseen}
 use Rattle.dash_hall.specs.Growth.{own}
+use Rattle.dash_hall.specs.Hosts.{asks_of}
+use Rattle.run_model.specs.FrameAsks.{asks_in}
 use Rattle.dash_loopers.specs.declared.player.Parts.{Parts}
 use Rattle.dash_loopers.specs.declared.looper.StageLooper.{StageLooper}
 use Rattle.dash_loopers.specs.Players.{Owner}
@@ -45,17 +46,19 @@ unseen_without xs n within unseen = λ j d near. by_order j d near (cases_lt j n
 -- a looper that has done nothing stands at the first state
 pub stands_first : (s : Script) (q k : ℕ) (seen : List Entry) (acts : List Act) (parts : Parts) → seen ≡ [] → acts ≡ []
     → map standing parts.root.gauges.items ≡ replicate (length s.gauges) (record { value = 0; target = 0; animating = false }) → map fixed parts.root.gauges.items ≡ map (fixed_by s q) s.gauges
-    → parts.root.barrier ≡ None → parts.root.painted.items ≡ [] → AreUnseen parts.others.items → parts.fired.items ≡ replicate (length s.rules) 0 → parts.root.pass.view.turns ≡ 0
+    → parts.root.barrier ≡ None → parts.root.painted.items ≡ [] → AreUnseen parts.others.items → parts.fired.items ≡ replicate (length s.rules) 0 → parts.root.pass.view.own ≡ [] → parts.root.pass.view.turns ≡ 0 → parts.frames.view.own ≡ []
     → Stands s q k seen acts parts (first_looper s)
-stands_first s q k seen acts parts none still gauges lines barrier painted unseen fired untaken = record {
+stands_first s q k seen acts parts none still gauges lines barrier painted unseen fired unasked untaken unrun = record {
   led = λ fs begins law. subst (λ (xs : List Act). Lead s q seen fs (first_looper s) xs (first_looper s)) (sym still) refl;
   place = omega arith;
+  moments = λ fs begins law. refl;
+  ran = ap asks_in unrun;
   settled = refl;
-  played = subst (λ (es : List Entry). IsPlayed s q 0 (calls_in k es) parts (first_looper s)) (sym none) (record {
+  played = subst (λ (es : List Entry). IsPlayed s q (calls_in k es) parts (first_looper s)) (sym none) (record {
     shown = record {
       calls = tt;
-      posted = λ phase id. omega arith;
-      turns = omega (arith, untaken);
+      asked = ap asks_in unasked;
+      turns = untaken;
       stands = record {
         gauges = gauges;
         lines = lines;
@@ -100,6 +103,7 @@ left_by s hall l parts j kit is_hall is e posters frames journal a come = record
       subst (λ (x : Sender). Lead s l.number x.view.seen fs (first_looper s) j.acts a) (sym (mine d))
       (subst (λ (x : Journal). Lead s l.number l.looper.held.poster.view.seen fs (first_looper s) x.acts a) (sym journal)
       (st.led fs (subst (λ (ps : List Pass). IsPrefix (slice_index_or ps 0 p).view.seen fs) frames begins) law));
+  moments = λ p fs begins law. st.moments fs (subst (λ (ps : List Pass). IsPrefix (slice_index_or ps 0 p).view.seen fs) frames begins) law;
   settled = st.settled;
   calls = λ d. subst (λ (x : Sender). AreFor IsSent [] (sent_on l.number a.sent) (calls_of x)) (sym (mine d))
       (subst (λ (k : ℕ). AreFor IsSent [] (sent_on l.number a.sent) (calls_in k l.looper.held.poster.view.seen)) (sym is.own) st.played.shown.calls);
@@ -108,8 +112,9 @@ left_by s hall l parts j kit is_hall is e posters frames journal a come = record
       let within : k < length (insert parts.others.items l.number l.looper.held.poster) = subst (λ (ps : List Sender). k < length ps) posters near in
       subst (λ (x : Sender). AreFor IsSent [] (sent_on k a.sent) (own x)) (sym (ap (λ (ps : List Sender). get_or ps k d) posters ∙ at_other parts.others.items l.number many l.looper.held.poster d k w.0 w.1))
       (st.played.elsewhere k w.0 d w.1 (within_others parts.others.items l.number many l.looper.held.poster k w.0 w.1 within));
-  posted = λ phase id p. subst (λ (ps : List Pass). count_by (is_frame_post phase id) a.posted ≤ count_by (posts_frame phase id) (slice_index_or ps 1 p).view.seen) (sym frames) (st.played.shown.posted phase id);
-  turns = λ p. subst (λ (ps : List Pass). (slice_index_or ps 1 p).view.turns ≡ length a.posted) (sym frames) (let taken = st.played.shown.turns in omega (arith, taken));
+  asked = λ p. ap (λ (ps : List Pass). asks_of (slice_index_or ps 1 p)) frames ∙ st.played.shown.asked;
+  turns = λ p. ap (λ (ps : List Pass). (slice_index_or ps 1 p).view.turns) frames ∙ st.played.shown.turns;
+  ran = λ p. ap (λ (ps : List Pass). asks_of (slice_index_or ps 0 p)) frames ∙ st.ran;
 }
   where
     st : Stands s l.number l.sender l.looper.held.poster.view.seen l.looper.held.journal.acts parts a

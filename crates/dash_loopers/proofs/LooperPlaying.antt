@@ -23,6 +23,7 @@ use Rattle.looper_run.specs.declared.dispatcher.Did.TheVariants.{Yes, No, NoMemo
 use Rattle.loop_model.proofs.Prefixes.{prefix_self}
 use Rattle.run_model.specs.Control.{At}
 use Rattle.run_model.specs.Loopers.{Looper, Sent, delivered}
+use Rattle.dash_hall.specs.Hosts.{asks_of}
 use Rattle.dash_loopers.specs.declared.player.Parts.{Parts}
 use Rattle.dash_loopers.specs.declared.looper.StageLooper.{StageLooper}
 use Rattle.dash_loopers.specs.Played.{calls_in, calls_of, IsPlayed, Delivers, pulsed, Pulses, pulse_time, Stands, IsTimedBy, GoesOnTo, IsPlaying}
@@ -91,9 +92,9 @@ module _ (s : Script) (q now : ℕ) (began : StageLooper) where
   pub delivers_none : (time : ℕ) (m : PostData) (id : ℕ) (made : List Entry) (parts : Parts) (acts : List Act) → m.callback ≡ Some id → Delivers s q time m made made parts parts acts acts
   delivers_none time m id made parts acts callback = record {
     ids = [];
-    ran = record { frame = None; framed = λ fs begins law. (refl, refl); within = omega arith; grew = prefix_self parts.frames.view.seen };
+    ran = record { frame = None; framed = λ fs begins law. (refl, refl, refl); within = omega arith; grew = prefix_self parts.frames.view.seen; asks = sym (append-nil (asks_of parts.frames)) };
     starts = refl;
-    plays = λ text first a settled played. (subst (IsPlayed s q first made parts) (sym (same a settled)) played, sym (ap (λ (l : List Act). acts ++ l) (ap (λ (b : Looper). b.painted) (nothing a) ∙ settled) ∙ append-nil acts));
+    plays = λ text a settled played. (subst (IsPlayed s q made parts) (sym (same a settled)) played, sym (ap (λ (l : List Act). acts ++ l) (ap (λ (b : Looper). b.painted) (nothing a) ∙ settled) ∙ append-nil acts));
   }
     where
       nothing : (a : Looper) → delivered s q time [] m a ≡ a

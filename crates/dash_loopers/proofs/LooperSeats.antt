@@ -23,7 +23,7 @@ its_place n place not = by_order (cases_lt place n) where
   by_order (inr le) = dite (ℕ_discrete place n) (λ e. absurd (not e)) (λ apart. (place - 1, inr (omega arith, omega arith)))
 
 -- two places have two places without the one at n
-places_apart : (n a b i j : ℕ) → PlaceWithout n a i → PlaceWithout n b j → a ≢ b → i ≢ j
+pub places_apart : (n a b i j : ℕ) → PlaceWithout n a i → PlaceWithout n b j → a ≢ b → i ≢ j
 places_apart n a b i j (inl p) (inl q) not = λ e. not (sym p.1 ∙ (e ∙ q.1))
 places_apart n a b i j (inl p) (inr q) not = λ e. (let lt : a < n = p.0 in let x : i ≡ a = p.1 in let gt : n < b = q.0 in let y : b ≡ j + 1 = q.1 in omega (arith, e))
 places_apart n a b i j (inr p) (inl q) not = λ e. (let gt : n < a = p.0 in let x : a ≡ i + 1 = p.1 in let lt : b < n = q.0 in let y : j ≡ b = q.1 in omega (arith, e))

@@ -1,12 +1,13 @@
 -- Where a looper stands, as entries and acts are added: entries of others, its look that ends the queue, acts that cause
 -- nothing, a pulse, and a dispatch.
-use Rattle.std.proofs.Common.{◌≡◌, ℕ, ◌≤◌, Bool, true, false, List, [], ◌∷◌, ◌++◌, length, Option, Some, None, refl, sym, ap, ◌∙◌, subst, arith, append_assoc, eq-eqb}
-use Rattle.std.specs.Prelude.{◌==◌, ◌&&◌, ◌||◌, not, is_some, nat_le, slice_index_or}
+use Rattle.std.proofs.Common.{◌≡◌, ℕ, ◌≤◌, true, false, List, [], ◌∷◌, ◌++◌, length, Option, Some, None, refl, sym, ap, ◌∙◌, subst, arith, append_assoc, eq-eqb}
+use Rattle.std.specs.Prelude.{◌==◌, ◌||◌, not, is_some, nat_le, slice_index_or}
 use Rattle.std.specs.List.{AllByRecursion}
 use Rattle.std.specs.Option.{option_map_or}
-use Rattle.std.proofs.lemmas.List.{append-nil}
+use Rattle.std.proofs.lemmas.List.{append-nil, map-append}
 use Rattle.std.proofs.lemmas.Bool.Decides.{nat_tests}
-use Rattle.std.proofs.lemmas.Bool.{and_parts}
+use Rattle.std.proofs.lemmas.Bool.{and_parts, and_from}
+use Rattle.std.proofs.lemmas.List.Folds.{list_all-append}
 use Rattle.loop_model.specs.declared.post.Post.{Post as PostData}
 use Rattle.loop_model.specs.declared.call.Call.TheVariants.{Next}
 use Rattle.loop_model.specs.declared.reply.Reply.TheVariants.{Dispatched}
@@ -23,15 +24,15 @@ use Rattle.loop_model.specs.Posts.{post_at}
 use Rattle.run_model.specs.Control.{At}
 use Rattle.run_model.specs.Asks.{Makes, plain, token_in, tokens_in, AreFor}
 use Rattle.run_model.specs.Loopers.{Looper, Sent, first_looper, starts_frame, delivered, and_takes}
-use Rattle.run_model.specs.Acts.{dispatched, after_act, MayDispatch, Lead, sent_on, IsSent}
-use Rattle.run_model.specs.FrameRuns.{frame_ids, is_frame_from, place_after}
-use Rattle.run_model.proofs.RunLaws.{AreFor-snoc, Lead-snoc}
+use Rattle.run_model.specs.Acts.{running, dispatched, after_act, MayDispatch, Lead, sent_on, IsSent}
+use Rattle.run_model.specs.FrameRuns.{FrameAt, nanos_of, frame_ids, is_frame_from, place_after, frames_after, is_run_then, are_run_then}
+use Rattle.run_model.specs.FrameAsks.{Runs}
+use Rattle.run_model.proofs.RunLaws.{AreFor-snoc, Lead-snoc, ArePaints, Lead-paints}
 use Rattle.run_model.proofs.Growth.{Lead-entries, post_at-grows}
-use Rattle.run_model.proofs.SoFarLaws.{ArePaints, Lead-paints}
 use Rattle.dash_loopers.specs.declared.player.Parts.{Parts}
 use Rattle.dash_hall.specs.Growth.{own}
 use Rattle.dash_loopers.specs.Players.{PlaceWithout}
-use Rattle.dash_loopers.specs.Played.{IsRootOf, calls_in, IsPlayed, Delivers, pulse_acts, pulsed, Pulses, Stands}
+use Rattle.dash_loopers.specs.Played.{IsRootOf, calls_in, IsPlayed, Delivers, pulse_acts, pulsed, Pulses, Stands, asks_to_run}
 use Rattle.dash_loopers.specs.PlayingLaws.{calls_more}
 use Rattle.dash_loopers.proofs.LooperSteps.{AddsAt, delivers}
 use Rattle.dash_loopers.proofs.MoreCalls.{tokens_more, sent_here, sent_else, without_self}
@@ -60,13 +61,19 @@ module _ (s : Script) (q k : ℕ) where
         subst (λ l. Lead s q (es ++ more) fs (first_looper s) l (pulsed q p.stamp a)) (sym p.told)
         (by_stamp fs p.stamp (Lead-entries s q es fs more (first_looper s) acts a (st.led fs (prefix_trans parts.frames.view.seen parts'.frames.view.seen fs p.grew begins) law)));
     place = (let at : (pulsed q p.stamp a).place ≡ a.place = placed p.stamp in let le = st.place in let longer = prefix_length parts.frames.view.seen parts'.frames.view.seen p.grew in omega (arith, at, le, longer));
+    moments = λ fs begins law. ap (are_run_then fs) (ran p.stamp) ∙ st.moments fs (prefix_trans parts.frames.view.seen parts'.frames.view.seen fs p.grew begins) law;
+    ran = p.asks ∙ (st.ran ∙ ap asks_to_run (sym (ran p.stamp)));
     settled = painted p.stamp;
-    played = p.plays text 0 a st.played;
+    played = p.plays text a st.played;
   }
     where
       placed : (o : Option ℕ) → (pulsed q o a).place ≡ a.place
       placed None = refl
       placed (Some stamp) = refl
+
+      ran : (o : Option ℕ) → (pulsed q o a).frames ≡ a.frames
+      ran None = refl
+      ran (Some stamp) = refl
 
       painted : (o : Option ℕ) → (pulsed q o a).painted ≡ []
       painted None = st.settled
@@ -80,17 +87,19 @@ module _ (s : Script) (q k : ℕ) where
 
 -- the state once the message is taken, before what it causes
 abbrev pub taken : ℕ → ℕ → ℕ → Option ℕ → Looper → Looper
-taken q n now frame a = and_takes q n now (record a { painted = []; place = place_after a.place frame })
+taken q n now frame a = and_takes q n now (running frame now a)
+
+-- the frames so far and this one ran at the times of their dispatches
+one_more : (fs : List FrameEntry) (xs : List FrameAt) (frame : Option ℕ) (now : ℕ) → are_run_then fs xs ≡ true → are_run_then fs (frames_after [] frame now) ≡ true → are_run_then fs (frames_after xs frame now) ≡ true
+one_more fs xs None now before this = before
+one_more fs xs (Some place) now before this = list_all-append (is_run_then fs) xs (frames_after [] (Some place) now) ∙ and_from _ _ before this
 
 sooner : (fs : List FrameEntry) (first later : ℕ) (frame : Option ℕ) → first ≤ later → is_frame_from fs later frame ≡ true → is_frame_from fs first frame ≡ true
 sooner fs first later None le h = refl
-sooner fs first later (Some place) le h = both (nat_le first place) _ (no_later first later place le (and_parts (nat_le later place) _ h).0) (and_parts (nat_le later place) _ h).1
+sooner fs first later (Some place) le h = and_from (nat_le first place) _ (no_later first later place le (and_parts (nat_le later place) _ h).0) (and_parts (nat_le later place) _ h).1
   where
     no_later : (a b p : ℕ) → a ≤ b → nat_le b p ≡ true → nat_le a p ≡ true
     no_later a b p le h = grind (arith, nat_tests)
-
-    both : (a b : Bool) → a ≡ true → b ≡ true → (a && b) ≡ true
-    both a b f g = rw (f, g) refl
 
 -- the acts lead on by a dispatch, with the paints that it makes before it
 leads_dispatch : (s : Script) (q : ℕ) (es : List Entry) (fs : List FrameEntry) (acts ps : List Act) (a : Looper) (ids : List ℕ) (frame : Option ℕ) (n now : ℕ) (route : Route) (m : PostData)
@@ -120,11 +129,11 @@ leads_dispatch s q es fs acts ps a ids frame n now route m settled lead post sta
 
 module _ (s : Script) (q k n now : ℕ) (es : List Entry) (e : Entry) (take : IsTake k now n e) (parts : Parts) (a : Looper) (settled : a.painted ≡ []) where
   -- the look that took the message is made
-  played_taken : (first : ℕ) (frame : Option ℕ) → IsPlayed s q first (calls_in k es) parts a → IsPlayed s q first (calls_in k (es ++ e ∷ [])) parts (taken q n now frame a)
-  played_taken first frame p = subst (λ l. IsPlayed s q first l parts (taken q n now frame a)) (sym (calls_taken k n now es e take)) (record {
+  played_taken : (frame : Option ℕ) → IsPlayed s q (calls_in k es) parts a → IsPlayed s q (calls_in k (es ++ e ∷ [])) parts (taken q n now frame a)
+  played_taken frame p = subst (λ l. IsPlayed s q l parts (taken q n now frame a)) (sym (calls_taken k n now es e take)) (record {
     shown = record {
       calls = subst (λ l. AreFor IsSent [] l (calls_in k es ++ e ∷ [])) (sym there) (AreFor-snoc IsSent (sent_on q a.sent) look (calls_in k es) e p.shown.calls is_look);
-      posted = p.shown.posted;
+      asked = p.shown.asked;
       turns = p.shown.turns;
       stands = subst (λ l. IsRootOf s q l (taken q n now frame a) parts.root) (sym (tokens_more (calls_in k es) e [] (ap token_in take.reply) ∙ append-nil (tokens_in (calls_in k es)))) (record {
         gauges = p.shown.stands.gauges;
@@ -176,12 +185,20 @@ module _ (s : Script) (q k n now : ℕ) (m : PostData) (es more : List Entry) (e
         (Lead-entries s q (es ++ e ∷ []) fs more (first_looper s) acts a (Lead-entries s q es fs (e ∷ []) (first_looper s) acts a (st.led fs (prefix_trans parts.frames.view.seen parts'.frames.view.seen fs d.ran.grew begins) law)))
         posts d.starts (sooner fs a.place (length parts.frames.view.seen) d.ran.frame st.place framed.0) framed.1 (adds.paints tt) refl);
     place = (let at = adds.place in let le = st.place in let longer = prefix_length parts.frames.view.seen parts'.frames.view.seen d.ran.grew in placed d.ran.frame by_dispatch.place at le longer d.ran.within);
+    moments = λ fs begins law.
+        ap (are_run_then fs) adds.frames
+        ∙ one_more fs a.frames d.ran.frame now (st.moments fs (prefix_trans parts.frames.view.seen parts'.frames.view.seen fs d.ran.grew begins) law) (d.ran.framed fs begins law).2;
+    ran = d.ran.asks ∙ ((λ i. st.ran i ++ asks_to_run (frames_after [] d.ran.frame now)) ∙ (runs_more a.frames d.ran.frame ∙ ap asks_to_run (sym adds.frames)));
     settled = refl;
     played = done.0;
   }
     where
-      done : IsPlayed s q 0 (calls_in k ((es ++ e ∷ []) ++ more)) parts' by_dispatch × (acts' ≡ acts ++ (delivered s q now d.ids m (taken q n now d.ran.frame a)).painted)
-      done = d.plays text 0 (taken q n now d.ran.frame a) refl (played_taken s q k n now es e take parts a st.settled 0 d.ran.frame st.played)
+      done : IsPlayed s q (calls_in k ((es ++ e ∷ []) ++ more)) parts' by_dispatch × (acts' ≡ acts ++ (delivered s q now d.ids m (taken q n now d.ran.frame a)).painted)
+      done = d.plays text (taken q n now d.ran.frame a) refl (played_taken s q k n now es e take parts a st.settled d.ran.frame st.played)
+
+      runs_more : (xs : List FrameAt) (frame : Option ℕ) → asks_to_run xs ++ asks_to_run (frames_after [] frame now) ≡ asks_to_run (frames_after xs frame now)
+      runs_more xs None = append-nil (asks_to_run xs)
+      runs_more xs (Some place) = sym (map-append (λ (x : FrameAt). Runs (nanos_of x.now)) xs (record { place = place; now = now } ∷ []))
 
       found : post_at es n ≡ Some m
       found = post

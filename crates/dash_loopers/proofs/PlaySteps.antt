@@ -1,7 +1,8 @@
 -- What a looper has come to after a pulse, a frame and a message.
 use Rattle.std.proofs.Common.{◌≡◌, ◌≢◌, ℕ, ◌+◌, ◌-◌, ◌*◌, ◌/◌, ◌<◌, ◌≤◌, ◌==◌, Bool, true, false, not, List, [], ◌∷◌, ◌++◌, map, length, get_or, take, Option, Some, None, Result, Ok, Err, OnOk, refl, sym, ap, ◌∙◌, subst, arith, append_assoc, eq-eqb, ne_eqb}
-use Rattle.std.specs.Prelude.{◌&&◌, ◌||◌, fold, count_by, is_some, is_ok, nat_le, slice_get, slice_index_or, if◌then◌else◌}
+use Rattle.std.specs.Prelude.{◌&&◌, ◌||◌, fold, is_some, is_ok, nat_le, slice_get, slice_index_or, if◌then◌else◌}
 use Rattle.std.specs.Option.{option_map_or}
+use Rattle.std.proofs.Math.Bool.{or-true}
 use Rattle.std.proofs.lemmas.Bool.{eqb-true, leb-true}
 use Rattle.std.proofs.lemmas.List.{append-nil, map-append, take_more}
 use Rattle.std.proofs.Math.Nat.{div-mul-le_self}
@@ -29,11 +30,13 @@ use Rattle.run_model.specs.Asks.{Makes as Asks, Unbars, AreFor, tokens_in}
 use Rattle.run_model.specs.Control.{At, NotBefore}
 use Rattle.run_model.specs.Senders.{frame_handler, gauge_line, gauge_looper, animation_id, animation_phase, traversal_id}
 use Rattle.run_model.specs.Planned.{frame_message}
-use Rattle.run_model.specs.Loopers.{Looper, Gauge, Sent, is_frame_post, and_sends, and_posts_frame, with_gauge, moved, paints, starts_frame, delivered, reacted, object_set, target_set, traversal_requested, traversal_ran, animation_ran, gauge_moved, callback_ran}
+use Rattle.run_model.specs.Loopers.{Looper, Gauge, Sent, and_sends, and_posts_frame, with_gauge, moved, paints, starts_frame, delivered, reacted, object_set, target_set, traversal_requested, traversal_ran, animation_ran, gauge_moved, callback_ran}
 use Rattle.run_model.specs.Acts.{sent_on, IsSent, millis_up}
-use Rattle.run_model.specs.FrameRuns.{place_after, posts_frame}
+use Rattle.run_model.specs.FrameRuns.{nanos_of, place_after}
 use Rattle.dash_hall.specs.Growth.{own, GoesOn, Makes}
-use Rattle.dash_hall.specs.Hosts.{Origin, IsHost, nanos_of, sends_by}
+use Rattle.dash_hall.specs.Hosts.{Origin, IsHost, sends_by, asks_of}
+use Rattle.run_model.specs.FrameAsks.{asks_in}
+use Rattle.choreographer.proofs.Recorded.{pulse_records}
 use Rattle.dash_loopers.specs.declared.view_root.Painted.{Painted}
 use Rattle.dash_loopers.specs.declared.view_root.ViewRoot.{ViewRoot}
 use Rattle.dash_loopers.specs.declared.player.Parts.{Parts}
@@ -50,9 +53,9 @@ pub calls_untold : (h : ℕ) (p q : Sender) (a b : Tally) → GoesOn p q a b →
 calls_untold h p q a b goes same = calls_same p q (told_none h p q a b goes same)
 
 -- other parts with the same view root, posters and counts
-pub played_with : (s : Script) (q first : ℕ) (made made' : List Entry) (parts parts' : Parts) (a : Looper) → made' ≡ made → parts'.root ≡ parts.root → parts'.others ≡ parts.others → parts'.fired ≡ parts.fired → IsPlayed s q first made parts a → IsPlayed s q first made' parts' a
-played_with s q first made made' parts parts' a calls root others fired is = record {
-  shown = subst (λ (v : ViewRoot). IsShown s q first made' v a) (sym root) (subst (λ (l : List Entry). IsShown s q first l parts.root a) (sym calls) is.shown);
+pub played_with : (s : Script) (q : ℕ) (made made' : List Entry) (parts parts' : Parts) (a : Looper) → made' ≡ made → parts'.root ≡ parts.root → parts'.others ≡ parts.others → parts'.fired ≡ parts.fired → IsPlayed s q made parts a → IsPlayed s q made' parts' a
+played_with s q made made' parts parts' a calls root others fired is = record {
+  shown = subst (λ (v : ViewRoot). IsShown s q made' v a) (sym root) (subst (λ (l : List Entry). IsShown s q l parts.root a) (sym calls) is.shown);
   elsewhere = λ k j d place near. subst (λ (l : List Sender). AreFor IsSent [] (sent_on k a.sent) (own (slice_index_or l j d))) (sym (ap (λ v. v.items) others)) (is.elsewhere k j d place (subst (λ (l : List Sender). j < length l) (ap (λ v. v.items) others) near));
   fired = ap (λ v. v.items) fired ∙ is.fired;
   counts = ap (λ v. length v.items) fired ∙ is.counts;
@@ -88,14 +91,16 @@ pub pulse_delivered : (s : Script) (q now : ℕ) (p p' : Sender) (a b : Tally) (
     → DeliversPulse s q now (calls_of p) (calls_of p') parts parts' r
 pulse_delivered s q now p p' a b parts parts' None goes (x, y, n, t, moment, (none, left, sends)) root others fired = (
   turn_grew parts.frames parts'.frames x y t,
-  λ text first l is. played_with s q first (calls_of p) (calls_of p') parts parts' l (calls_untold (frame_handler q) p p' a b goes sends) root others fired is,
+  ap asks_in (pulse_records parts.frames parts'.frames (λ n. n == nanos_of now) (sends_by (frame_handler q) p) (sends_by (frame_handler q) p') None (x, y, n, t, moment, (none, left, sends))),
+  λ text l is. played_with s q (calls_of p) (calls_of p') parts parts' l (calls_untold (frame_handler q) p p' a b goes sends) root others fired is,
 )
 pulse_delivered s q now p p' a b parts parts' (Some pulse) goes (x, y, n, t, moment, (some, left, sends)) root others fired = λ isnt.
     (let near : pulse.stamp ≤ nanos_of now = subst (λ (m : ℕ). pulse.stamp ≤ m) (eqb-true n (nanos_of now) moment) (pulse_near x.frames.asked n pulse.stamp some) in
     let made = frame_sent (frame_handler q) (pulse.stamp / 1000000) pulse.sent p p' a b goes isnt sends in (
       turn_grew parts.frames parts'.frames x y t,
+      ap asks_in (pulse_records parts.frames parts'.frames (λ n. n == nanos_of now) (sends_by (frame_handler q) p) (sends_by (frame_handler q) p') (Some pulse) (x, y, n, t, moment, (some, left, sends))),
       millis_near pulse.stamp now near,
-      λ text first l is. played_with s q first (calls_of p') (calls_of p') parts parts' (pulsed q (Some pulse.stamp) l) refl root others fired (played_call s q (Post (frame_message q 0 0 (pulse.stamp / 1000000))) (NotBefore (millis_up pulse.stamp)) p p' parts refl made first l is),
+      λ text l is. played_with s q (calls_of p') (calls_of p') parts parts' (pulsed q (Some pulse.stamp) l) refl root others fired (played_call s q (Post (frame_message q 0 0 (pulse.stamp / 1000000))) (NotBefore (millis_up pulse.stamp)) p p' parts refl made l is),
     ))
 
 -- ---- by a host that was made of the looper's poster
@@ -126,7 +131,7 @@ pub pulse_told : (s : Script) (q now : ℕ) (made made' : List Entry) (parts par
     → acts' ≡ acts0 ++ Vsync pulse.stamp ∷ [] → Pulses s q now made made' parts parts' acts acts'
 pulse_told s q now made made' parts parts' acts acts0 acts' pulse delivers isnt same told =
     let done = delivers isnt in
-    record { stamp = Some pulse.stamp; due = done.1; told = told ∙ ap (λ (l : List Act). l ++ Vsync pulse.stamp ∷ []) same; grew = done.0; plays = done.2 }
+    record { stamp = Some pulse.stamp; due = done.2; told = told ∙ ap (λ (l : List Act). l ++ Vsync pulse.stamp ∷ []) same; grew = done.0; asks = done.1; plays = done.3 }
 
 -- such a host's calls that told of nothing
 pub untold_hosted : (o o' : Origin) (p p0 p' : Sender) (b : Tally) → o' ≡ o → IsHost o' p' b → o.poster ≡ p → p0 ≡ p → sends_by o'.handler p' ≡ sends_by o.handler p0 → calls_of p' ≡ calls_of p
@@ -164,7 +169,7 @@ module _ (s : Script) (q now : ℕ) where
 
   stays_target : (g target : ℕ) (x : Gauge) (a : Looper) → StaysElsewhere q a (target_set s q now g target x a)
   stays_target g target x a =
-      let moving : Looper = and_posts_frame animation_phase (animation_id g) (with_gauge g (record { value = x.value; target = target; animating = true }) a) in
+      let moving : Looper = and_posts_frame now animation_phase (animation_id g) (with_gauge g (record { value = x.value; target = target; animating = true }) a) in
       stays_if q (x.animating || x.value == target) a _ (traversal_requested s q now moving) (record { elsewhere = λ k isnt. refl; fired = refl })
       (stays_then q a moving (traversal_requested s q now moving) (record { elsewhere = λ k isnt. refl; fired = refl }) (stays_requested moving))
 
@@ -176,7 +181,7 @@ module _ (s : Script) (q now : ℕ) where
       let value : ℕ = moved (gauge_line s g).step x.target x.value in
       let there : Looper = with_gauge g (record { value = value; target = x.target; animating = false }) a in
       let on : Looper = with_gauge g (record x { value = value }) a in
-      stays_if q (value == x.target) a (traversal_requested s q now there) (and_posts_frame animation_phase (animation_id g) (traversal_requested s q now on))
+      stays_if q (value == x.target) a (traversal_requested s q now there) (and_posts_frame now animation_phase (animation_id g) (traversal_requested s q now on))
       (stays_then q a there (traversal_requested s q now there) (record { elsewhere = λ k isnt. refl; fired = refl }) (stays_requested there))
       (let on_its_way = stays_requested on in record { elsewhere = λ k isnt. on_its_way.elsewhere k isnt; fired = on_its_way.fired })
 
@@ -211,7 +216,7 @@ requested_painted s q now a = painted_if (is_some a.barrier) a _ a.painted refl 
 
 target_painted : (s : Script) (q now g target : ℕ) (x : Gauge) (a : Looper) → (target_set s q now g target x a).painted ≡ a.painted
 target_painted s q now g target x a =
-    let moving : Looper = and_posts_frame animation_phase (animation_id g) (with_gauge g (record { value = x.value; target = target; animating = true }) a) in
+    let moving : Looper = and_posts_frame now animation_phase (animation_id g) (with_gauge g (record { value = x.value; target = target; animating = true }) a) in
     painted_if (x.animating || x.value == target) _ (traversal_requested s q now moving) a.painted refl (requested_painted s q now moving)
 
 pub object_painted : (s : Script) (q now g target : ℕ) (a : Looper) → (object_set s q now g target a).painted ≡ a.painted
@@ -221,10 +226,10 @@ object_painted s q now g target a =
 -- a step of the view root is one of all that the looper has
 pub played_shown : (s : Script) (q : ℕ) (step : Looper → Looper) (made made' : List Entry) (parts parts' : Parts) → Shows s q step made parts.root made' parts'.root → ((a : Looper) → StaysElsewhere q a (step a)) → parts'.others ≡ parts.others
     → parts'.fired ≡ parts.fired → Plays s q step made parts made' parts'
-played_shown s q step made made' parts parts' shows stays others fired text first a is =
+played_shown s q step made made' parts parts' shows stays others fired text a is =
     let still = stays a in
     record {
-      shown = shows text first a is.shown;
+      shown = shows text a is.shown;
       elsewhere = λ k j d place near. subst (λ (l : List Sent). AreFor IsSent [] l (own (slice_index_or parts'.others.items j d))) (sym (still.elsewhere k (λ e. without_self q k j place (sym e))))
           (subst (λ (l : List Sender). AreFor IsSent [] (sent_on k a.sent) (own (slice_index_or l j d))) (sym (ap (λ v. v.items) others)) (is.elsewhere k j d place (subst (λ (l : List Sender). j < length l) (ap (λ v. v.items) others) near)));
       fired = ap (λ v. v.items) fired ∙ (is.fired ∙ sym still.fired);
@@ -242,11 +247,11 @@ set_hosted (Err e) s q now now' g target p p0 made' parts parts' shows at same o
 
 -- a frame ran by such a host
 pub frame_hosted : {E : Type 0} (r : Result Unit E) (s : Script) (q now now' interval phases : ℕ) (p p0 p' : Sender) (parts parts' : Parts)
-    → OnOk r ((ids : List ℕ) × RanFrame interval phases parts.frames parts'.frames ids × FrameShows now' ids p0 parts.root p' parts'.root) → interval ≡ s.period → phases ≡ 4 → now' ≡ now → p0 ≡ p → parts'.others ≡ parts.others → parts'.fired ≡ parts.fired
-    → OnOk r ((ids : List ℕ) × RanFrame s.period 4 parts.frames parts'.frames ids × Plays s q (λ a. fold (callback_ran s q now) a ids) (calls_of p) parts (calls_of p') parts')
+    → OnOk r ((ids : List ℕ) × RanFrame interval phases now' parts.frames parts'.frames ids × FrameShows now' ids p0 parts.root p' parts'.root) → interval ≡ s.period → phases ≡ 4 → now' ≡ now → p0 ≡ p → parts'.others ≡ parts.others → parts'.fired ≡ parts.fired
+    → OnOk r ((ids : List ℕ) × RanFrame s.period 4 now parts.frames parts'.frames ids × Plays s q (λ a. fold (callback_ran s q now) a ids) (calls_of p) parts (calls_of p') parts')
 frame_hosted (Ok u) s q now now' interval phases p p0 p' parts parts' (ids, ran, shows) period four at same others fired = (
   ids,
-  subst (λ (n : ℕ). RanFrame s.period n parts.frames parts'.frames ids) four (subst (λ (n : ℕ). RanFrame n phases parts.frames parts'.frames ids) period ran),
+  subst (λ (n : ℕ). RanFrame s.period 4 n parts.frames parts'.frames ids) at (subst (λ (n : ℕ). RanFrame s.period n now' parts.frames parts'.frames ids) four (subst (λ (n : ℕ). RanFrame n phases now' parts.frames parts'.frames ids) period ran)),
   played_shown s q (λ a. fold (callback_ran s q now) a ids) (calls_of p) (calls_of p') parts parts'
       (subst (λ (n : ℕ). Shows s q (λ a. fold (callback_ran s q n) a ids) (calls_of p) parts.root (calls_of p') parts'.root) at (subst (λ (z : Sender). Shows s q (λ a. fold (callback_ran s q now') a ids) (calls_of z) parts.root (calls_of p') parts'.root) same (shows s q)))
       (stays_ran s q now ids) others fired,
@@ -254,10 +259,6 @@ frame_hosted (Ok u) s q now now' interval phases p p0 p' parts parts' (ids, ran,
 frame_hosted (Err e) s q now now' interval phases p p0 p' parts parts' h period four at same others fired = tt
 
 -- ---- a message was delivered
-
-or_true : (t : Bool) → (t || true) ≡ true
-or_true true = refl
-or_true false = refl
 
 if_starts : (c h w : Bool) (x y z : Looper) → (not c && h && w) ≡ true → (if c then x else if h then (if w then y else x) else z) ≡ y
 if_starts true h w x y z is = absurd cc
@@ -295,27 +296,28 @@ delivered_plain s q now m a none other nothing =
     if_other (is_some m.callback) (m.handler == frame_handler q) a _ _ (ap is_some none) (ne_eqb m.handler (frame_handler q) other) ∙ ap (λ (o : Option ℕ). option_map_or (λ g. object_set s q now g m.arg a) o (reacted s now m a)) nothing
 
 -- what a frame painted was told, and is painted no more
-pub frame_delivered : (s : Script) (q now : ℕ) (m : PostData) (made made' : List Entry) (parts mid parts' : Parts) (acts acts0 acts' : List Act) (ids : List ℕ) → starts_frame q m ≡ true → RanFrame s.period 4 parts.frames mid.frames ids
+pub frame_delivered : (s : Script) (q now : ℕ) (m : PostData) (made made' : List Entry) (parts mid parts' : Parts) (acts acts0 acts' : List Act) (ids : List ℕ) → starts_frame q m ≡ true → RanFrame s.period 4 now parts.frames mid.frames ids
     → Plays s q (λ a. fold (callback_ran s q now) a ids) made parts made' mid → acts0 ≡ acts → acts' ≡ acts0 ++ map paint_of mid.root.painted.items → parts'.frames ≡ mid.frames → parts'.others ≡ mid.others → parts'.fired ≡ mid.fired
     → parts'.root.gauges ≡ mid.root.gauges → parts'.root.barrier ≡ mid.root.barrier → parts'.root.pass ≡ mid.root.pass → parts'.root.painted.items ≡ [] → Delivers s q now m made made' parts parts' acts acts'
 frame_delivered s q now m made made' parts mid parts' acts acts0 acts' ids starts ran plays same told frames others fired gauges barrier pass none = record {
   ids = ids;
   ran = record {
     frame = ran.frame;
-    framed = subst (λ (f : Pass). IsFrameBy s.period 4 parts.frames f ran.frame ids) (sym frames) ran.framed;
+    framed = subst (λ (f : Pass). IsFrameBy s.period 4 now parts.frames f ran.frame ids) (sym frames) ran.framed;
     within = subst (λ (f : Pass). place_after 0 ran.frame ≤ length f.view.seen) (sym frames) ran.within;
     grew = subst (λ (f : Pass). IsPrefix parts.frames.view.seen f.view.seen) (sym frames) ran.grew;
+    asks = ap asks_of frames ∙ ran.asks;
   };
-  starts = ap (λ (t : Bool). not (is_some ran.frame) || t) starts ∙ or_true (not (is_some ran.frame));
-  plays = λ text first a unpainted is. (
+  starts = ap (λ (t : Bool). not (is_some ran.frame) || t) starts ∙ or-true (not (is_some ran.frame));
+  plays = λ text a unpainted is. (
       let b : Looper = fold (callback_ran s q now) a ids in
-      let done : IsPlayed s q first made' mid b = plays text first a is in
+      let done : IsPlayed s q made' mid b = plays text a is in
       let root = done.shown.stands in
-      subst (λ (z : Looper). IsPlayed s q first made' parts' (record z { painted = [] }) × (acts' ≡ acts ++ z.painted)) (sym (delivered_frame s q now ids m a starts)) (
+      subst (λ (z : Looper). IsPlayed s q made' parts' (record z { painted = [] }) × (acts' ≡ acts ++ z.painted)) (sym (delivered_frame s q now ids m a starts)) (
         record {
           shown = record {
             calls = done.shown.calls;
-            posted = λ phase id. subst (λ (f : Pass). count_by (is_frame_post phase id) b.posted ≤ count_by (posts_frame phase id) f.view.seen) (sym pass) (done.shown.posted phase id);
+            asked = ap asks_of pass ∙ done.shown.asked;
             turns = ap (λ (f : Pass). f.view.turns) pass ∙ done.shown.turns;
             stands = record {
               gauges = ap (λ v. map standing v.items) gauges ∙ root.gauges;
@@ -334,17 +336,17 @@ frame_delivered s q now m made made' parts mid parts' acts acts0 acts' ids start
 }
 
 -- a message that begins no frame and paints nothing
-pub step_delivered : (s : Script) (q now : ℕ) (m : PostData) (made made' : List Entry) (parts parts' : Parts) (acts acts' : List Act) (step : Looper → Looper) → IsPrefix parts.frames.view.seen parts'.frames.view.seen
+pub step_delivered : (s : Script) (q now : ℕ) (m : PostData) (made made' : List Entry) (parts parts' : Parts) (acts acts' : List Act) (step : Looper → Looper) → IsPrefix parts.frames.view.seen parts'.frames.view.seen → asks_of parts'.frames ≡ asks_of parts.frames
     → ((a : Looper) → delivered s q now [] m a ≡ step a) → ((a : Looper) → (step a).painted ≡ a.painted) → Plays s q step made parts made' parts' → acts' ≡ acts → Delivers s q now m made made' parts parts' acts acts'
-step_delivered s q now m made made' parts parts' acts acts' step grew is_step still plays same = record {
+step_delivered s q now m made made' parts parts' acts acts' step grew asks is_step still plays same = record {
   ids = [];
-  ran = record { frame = None; framed = λ fs begins is. (refl, refl); within = omega arith; grew = grew };
+  ran = record { frame = None; framed = λ fs begins is. (refl, refl, refl); within = omega arith; grew = grew; asks = asks ∙ sym (append-nil (asks_of parts.frames)) };
   starts = refl;
-  plays = λ text first a unpainted is. (
+  plays = λ text a unpainted is. (
       let b : Looper = step a in
       let nothing : b.painted ≡ [] = still a ∙ unpainted in
-      subst (λ (z : Looper). IsPlayed s q first made' parts' (record z { painted = [] }) × (acts' ≡ acts ++ z.painted)) (sym (is_step a)) (
-        subst (λ (l : List Act). IsPlayed s q first made' parts' (record b { painted = l })) nothing (plays text first a is),
+      subst (λ (z : Looper). IsPlayed s q made' parts' (record z { painted = [] }) × (acts' ≡ acts ++ z.painted)) (sym (is_step a)) (
+        subst (λ (l : List Act). IsPlayed s q made' parts' (record b { painted = l })) nothing (plays text a is),
         same ∙ (sym (append-nil acts) ∙ ap (λ (l : List Act). acts ++ l) (sym nothing)),
       ));
 }
@@ -353,7 +355,7 @@ step_delivered s q now m made made' parts parts' acts acts' step grew is_step st
 pub still_delivered : (s : Script) (q now : ℕ) (m : PostData) (made made' : List Entry) (parts parts' : Parts) (acts acts' : List Act) (step : Looper → Looper) → parts'.frames ≡ parts.frames
     → ((a : Looper) → delivered s q now [] m a ≡ step a) → ((a : Looper) → (step a).painted ≡ a.painted) → Plays s q step made parts made' parts' → acts' ≡ acts → Delivers s q now m made made' parts parts' acts acts'
 still_delivered s q now m made made' parts parts' acts acts' step frames is_step still plays same =
-    step_delivered s q now m made made' parts parts' acts acts' step (subst (λ (f : Pass). IsPrefix parts.frames.view.seen f.view.seen) (sym frames) (prefix_self parts.frames.view.seen)) is_step still plays same
+    step_delivered s q now m made made' parts parts' acts acts' step (subst (λ (f : Pass). IsPrefix parts.frames.view.seen f.view.seen) (sym frames) (prefix_self parts.frames.view.seen)) (ap asks_of frames) is_step still plays same
 
 -- one paint more was told
 pub painted_more : (acts0 acts : List Act) (ps : List Painted) (i : ℕ) (d : Painted) → i < length ps → acts ≡ acts0 ++ map paint_of (take i ps) → acts ++ paint_of (get_or ps i d) ∷ [] ≡ acts0 ++ map paint_of (take (i + 1) ps)

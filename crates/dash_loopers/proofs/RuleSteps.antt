@@ -5,6 +5,7 @@ use Rattle.std.specs.List.{zip, filter_map, cons_option}
 use Rattle.std.specs.Option.{option_map_or}
 use mathlib.Core.Logic.{dite}
 use native.Mathlib.Decide.{ℕ_discrete}
+use Rattle.std.proofs.Math.Bool.{and-false}
 use Rattle.std.proofs.lemmas.Bool.{lt-ltb, le-ltb}
 use Rattle.std.proofs.lemmas.List.{append-nil, get_or-set_same, get_or-set_other, length-set, length-append, set_at, take_more, length-take-le, take_all}
 use Rattle.std.proofs.lemmas.Option.{slice_get-get_or, slice_get_within, get_or_from_slice_get}
@@ -32,6 +33,7 @@ use Rattle.dash_loopers.specs.declared.player.Parts.{Parts}
 use Rattle.dash_loopers.specs.Players.{PlaceWithout}
 use Rattle.dash_loopers.specs.Played.{calls_of, IsRootOf, IsShown, AreMadeElsewhere, IsPlayed, Plays, AreAllButCounts, FiresAt, with_call, rule_met}
 use Rattle.dash_loopers.proofs.LooperLists.{at_seam}
+use Rattle.dash_loopers.proofs.LooperSeats.{places_apart}
 use Rattle.dash_loopers.proofs.MoreCalls.{sent_here, sent_else, without_self, played_call}
 
 -- ---- a call that a handler makes is no look
@@ -68,7 +70,7 @@ root_sent s q tokens a xs root h = record { gauges = h.gauges; lines = h.lines; 
 -- a call on the own queue
 pub called_here : (s : Script) (q : ℕ) (h : Handler) (r : Request) (timing : Timing) (p p' : Sender) (parts : Parts) → Makes p p' (call_by h r) []
     → Plays s q (with_call q (call_by h r) timing) (calls_of p) parts (calls_of p') parts
-called_here s q h r timing p p' parts m text first a is = played_call s q (call_by h r) timing p p' parts (no_look_by h r) m first a is
+called_here s q h r timing p p' parts m text a is = played_call s q (call_by h r) timing p p' parts (no_look_by h r) m a is
 
 -- which queue stands at which place
 same_place : (q k k' j j' : ℕ) → PlaceWithout q k j → PlaceWithout q k' j' → k ≡ k' → j' ≡ j
@@ -77,15 +79,9 @@ same_place q k k' j j' (inl p) (inr p') is = (let a : k < q = p.0 in let b : q <
 same_place q k k' j j' (inr p) (inl p') is = (let a : q < k = p.0 in let b : k' < q = p'.0 in absurd (omega (arith, is)))
 same_place q k k' j j' (inr p) (inr p') is = (let a : k ≡ j + 1 = p.1 in let b : k' ≡ j' + 1 = p'.1 in omega (arith, is))
 
-other_place : (q k k' j j' : ℕ) → PlaceWithout q k j → PlaceWithout q k' j' → k ≢ k' → j ≢ j'
-other_place q k k' j j' (inl p) (inl p') apart is = apart (sym p.1 ∙ (is ∙ p'.1))
-other_place q k k' j j' (inl p) (inr p') apart is = (let a : k < q = p.0 in let b : j ≡ k = p.1 in let c : q < k' = p'.0 in let d : k' ≡ j' + 1 = p'.1 in absurd (omega (arith, is)))
-other_place q k k' j j' (inr p) (inl p') apart is = (let a : q < k = p.0 in let b : k ≡ j + 1 = p.1 in let c : k' < q = p'.0 in let d : j' ≡ k' = p'.1 in absurd (omega (arith, is)))
-other_place q k k' j j' (inr p) (inr p') apart is = (let a : k ≡ j + 1 = p.1 in let b : k' ≡ j' + 1 = p'.1 in apart (omega (arith, is)))
-
 -- a call on another queue, by its poster at place j among the others
 module _ (s : Script) (q k j : ℕ) (h : Handler) (r : Request) (timing : Timing) (p p' : Sender) (made : List Entry) (parts parts' : Parts) (place : PlaceWithout q k j) (at : slice_get parts.others.items j ≡ Some p) (m : Makes p p' (call_by h r) [])
-    (others : parts'.others.items ≡ set parts.others.items j p') (root : parts'.root ≡ parts.root) (fired : parts'.fired.items ≡ parts.fired.items) (first : ℕ) (a : Looper) (is : IsPlayed s q first made parts a) where
+    (others : parts'.others.items ≡ set parts.others.items j p') (root : parts'.root ≡ parts.root) (fired : parts'.fired.items ≡ parts.fired.items) (a : Looper) (is : IsPlayed s q made parts a) where
   -- what is sent with this call more
   sent_more : List Sent
   sent_more = a.sent ++ record { queue = k; ask = Asks (call_by h r); reply = None; timing = timing } ∷ []
@@ -101,19 +97,19 @@ module _ (s : Script) (q k j : ℕ) (h : Handler) (r : Request) (timing : Timing
       let after : AreFor IsSent [] (sent_on k sent_more) (own p') = subst (λ (l : List Entry). AreFor IsSent [] (sent_on k sent_more) l) (sym m.made) (one_for k a.sent (call_by h r) timing (own p) m.entry m.makes before) in
       subst (λ (n : ℕ). AreFor IsSent [] (sent_on n sent_more) (own (get_or (set items j p') j' d))) same (subst (λ (z : Sender). AreFor IsSent [] (sent_on k sent_more) (own z)) (sym here) after)) in
       let miss : k ≢ k' → AreFor IsSent [] (sent_on k' sent_more) (own (slice_index_or (set items j p') j' d)) = λ apart.
-      (let there : get_or (set items j p') j' d ≡ get_or items j' d = get_or-set_other items j j' p' d (λ e. other_place q k k' j j' place place' apart (sym e)) in
+      (let there : get_or (set items j p') j' d ≡ get_or items j' d = get_or-set_other items j j' p' d (λ e. places_apart q k k' j j' place place' apart (sym e)) in
       subst (λ (z : Sender). AreFor IsSent [] (sent_on k' sent_more) (own z)) (sym there) (none_for k' k a.sent (call_by h r) timing (own (get_or items j' d)) apart (is.elsewhere k' j' d place' near))) in
       dite (ℕ_discrete k k') hit miss
 
-  pub called_there : IsPlayed s q first made parts' (with_call k (call_by h r) timing a)
+  pub called_there : IsPlayed s q made parts' (with_call k (call_by h r) timing a)
   unfolding sent_more
   called_there =
       let items = parts.others.items in
       let as_many : length parts'.others.items ≡ length items = ap length others ∙ length-set items j p' in
       record {
-        shown = subst (λ (v : ViewRoot). IsShown s q first made v (with_call k (call_by h r) timing a)) (sym root) (record {
+        shown = subst (λ (v : ViewRoot). IsShown s q made v (with_call k (call_by h r) timing a)) (sym root) (record {
           calls = none_for q k a.sent (call_by h r) timing made (λ e. without_self q k j place (sym e)) is.shown.calls;
-          posted = is.shown.posted;
+          asked = is.shown.asked;
           turns = is.shown.turns;
           stands = root_sent s q (tokens_in made) a sent_more parts.root is.shown.stands;
         });
@@ -127,10 +123,6 @@ module _ (s : Script) (q k j : ℕ) (h : Handler) (r : Request) (timing : Timing
 -- what a rule's firing says of its count
 fires_below : (m : PostData) (r : Rule) (n : ℕ) → (m.handler == r.handler) ≡ true → (m.what == r.what) ≡ true → n < r.times → fires m r n ≡ true
 fires_below m r n h w lt = rw (h, w) (lt-ltb n r.times lt)
-
-and-false : (b : Bool) → (b && false) ≡ false
-and-false true = refl
-and-false false = refl
 
 -- a rule of another message, or whose count is at its limit
 fires_not : (m : PostData) (r : Rule) (n : ℕ) → ((m.handler ≢ r.handler) ⊎ (m.what ≢ r.what)) ⊎ (r.times ≤ n) → fires m r n ≡ false
@@ -243,16 +235,16 @@ pub request_is : (s : Script) (now : ℕ) (r : Rule) (looper : ℕ) (handler : H
 request_is s now r looper handler when a is_looper is_handler is_when = λ i. with_call (is_looper i) (call_by (is_handler i) (request.Send r.to_what 0 None (is_when i))) (At now) a
 
 -- a step of the same state in other words
-pub played_as : (s : Script) (q first : ℕ) (made : List Entry) (parts : Parts) (a b : Looper) → a ≡ b → IsPlayed s q first made parts a → IsPlayed s q first made parts b
-played_as s q first made parts a b same is = subst (IsPlayed s q first made parts) same is
+pub played_as : (s : Script) (q : ℕ) (made : List Entry) (parts : Parts) (a b : Looper) → a ≡ b → IsPlayed s q made parts a → IsPlayed s q made parts b
+played_as s q made parts a b same is = subst (IsPlayed s q made parts) same is
 
 -- the rule is counted
-counted : (s : Script) (q first place n : ℕ) (made : List Entry) (parts parts' : Parts) (a : Looper) → parts'.fired.items ≡ slice_set parts.fired.items place (n + 1) → AreAllButCounts parts parts' → IsPlayed s q first made parts a
-    → IsPlayed s q first made parts' (record a { fired = slice_set a.fired place (n + 1) })
-counted s q first place n made parts parts' a fired same is = record {
-  shown = subst (λ (v : ViewRoot). IsShown s q first made v (record a { fired = slice_set a.fired place (n + 1) })) (sym same.2) (record {
+counted : (s : Script) (q place n : ℕ) (made : List Entry) (parts parts' : Parts) (a : Looper) → parts'.fired.items ≡ slice_set parts.fired.items place (n + 1) → AreAllButCounts parts parts' → IsPlayed s q made parts a
+    → IsPlayed s q made parts' (record a { fired = slice_set a.fired place (n + 1) })
+counted s q place n made parts parts' a fired same is = record {
+  shown = subst (λ (v : ViewRoot). IsShown s q made v (record a { fired = slice_set a.fired place (n + 1) })) (sym same.2) (record {
     calls = is.shown.calls;
-    posted = is.shown.posted;
+    asked = is.shown.asked;
     turns = is.shown.turns;
     stands = record { gauges = is.shown.stands.gauges; lines = is.shown.stands.lines; barrier = is.shown.stands.barrier; barriers = is.shown.stands.barriers; painted = is.shown.stands.painted };
   });
@@ -264,27 +256,27 @@ counted s q first place n made parts parts' a fired same is = record {
 -- a rule of the message whose count is below its limit is counted, and its message is sent
 pub plays_fired : (s : Script) (q now : ℕ) (m : PostData) (place : ℕ) (r : Rule) (made made' : List Entry) (parts parts' parts'' : Parts) → (m.handler == r.handler) ≡ true → (m.what == r.what) ≡ true → FiresAt place r.times parts parts' true
     → Plays s q (λ a. record a { sent = a.sent ++ reaction s now r ∷ [] }) made parts' made' parts'' → Plays s q (rule_met s now m place r) made parts made' parts''
-plays_fired s q now m place r made made' parts parts' parts'' h w (n, at, lt, fired, same) sends text first a is =
+plays_fired s q now m place r made made' parts parts' parts'' h w (n, at, lt, fired, same) sends text a is =
     let at_a : slice_get a.fired place ≡ Some n = ap (λ (l : List ℕ). slice_get l place) (sym is.fired) ∙ at in
-    played_as s q first made' parts'' _ _ (sym (rule_fired s now m place r a n at_a (fires_below m r n h w lt))) (sends text first (record a { fired = slice_set a.fired place (n + 1) }) (counted s q first place n made parts parts' a fired same is))
+    played_as s q made' parts'' _ _ (sym (rule_fired s now m place r a n at_a (fires_below m r n h w lt))) (sends text (record a { fired = slice_set a.fired place (n + 1) }) (counted s q place n made parts parts' a fired same is))
 
 -- one whose count is at its limit does nothing
 pub plays_used_up : (s : Script) (q now : ℕ) (m : PostData) (place : ℕ) (r : Rule) (made : List Entry) (parts parts' : Parts) → FiresAt place r.times parts parts' false → Plays s q (rule_met s now m place r) made parts made parts'
-plays_used_up s q now m place r made parts parts' (same, used_up) text first a is =
+plays_used_up s q now m place r made parts parts' (same, used_up) text a is =
     let never : (n : ℕ) → slice_get a.fired place ≡ Some n → fires m r n ≡ false = λ n at.
     (let many = used_up n (ap (λ (l : List ℕ). slice_get l place) is.fired ∙ at) in fires_not m r n (inr many)) in
-    subst (λ (z : Parts). IsPlayed s q first made z (rule_met s now m place r a)) (sym same) (played_as s q first made parts _ _ (sym (rule_missed s now m place r a never)) is)
+    subst (λ (z : Parts). IsPlayed s q made z (rule_met s now m place r a)) (sym same) (played_as s q made parts _ _ (sym (rule_missed s now m place r a never)) is)
 
 -- one of another message does nothing
 pub plays_other : (s : Script) (q now : ℕ) (m : PostData) (place : ℕ) (r : Rule) (made : List Entry) (parts : Parts) → (m.handler ≢ r.handler) ⊎ (m.what ≢ r.what) → Plays s q (rule_met s now m place r) made parts made parts
-plays_other s q now m place r made parts other text first a is =
-    played_as s q first made parts _ _ (sym (rule_missed s now m place r a (λ n at. fires_not m r n (inl other)))) is
+plays_other s q now m place r made parts other text a is =
+    played_as s q made parts _ _ (sym (rule_missed s now m place r a (λ n at. fires_not m r n (inl other)))) is
 
 -- the request of a rule is its message
 pub plays_sent : (s : Script) (q now : ℕ) (r : Rule) (looper : ℕ) (handler : Handler) (when : ℕ) (made made' : List Entry) (parts parts' : Parts) → looper ≡ looper_of s r.to_handler → handler ≡ record { id = r.to_handler; asynchronous = (handler_line s r.to_handler).asynchronous } → when ≡ moment_after now r.delay
     → Plays s q (with_call looper (call_by handler (request.Send r.to_what 0 None when)) (At now)) made parts made' parts' → Plays s q (λ a. record a { sent = a.sent ++ reaction s now r ∷ [] }) made parts made' parts'
-plays_sent s q now r looper handler when made made' parts parts' is_looper is_handler is_when plays text first a is =
-    played_as s q first made' parts' _ _ (request_is s now r looper handler when a is_looper is_handler is_when) (plays text first a is)
+plays_sent s q now r looper handler when made made' parts parts' is_looper is_handler is_when plays text a is =
+    played_as s q made' parts' _ _ (request_is s now r looper handler when a is_looper is_handler is_when) (plays text a is)
 
 -- the rule at a place of the same list
 pub rule_at : (xs ys : List Rule) (place : ℕ) (d : Rule) → ys ≡ xs → place < length ys → slice_get xs place ≡ Some (get_or ys place d)
@@ -293,12 +285,12 @@ rule_at xs ys place d same near = ap (λ (l : List Rule). slice_get l place) (sy
 -- one rule more
 pub plays_next : (s : Script) (q now : ℕ) (m : PostData) (place : ℕ) (r : Rule) (made made' made'' : List Entry) (parts parts' parts'' : Parts) → slice_get s.rules place ≡ Some r → Plays s q (rules_met s now m 0 (take place s.rules)) made parts made' parts'
     → Plays s q (rule_met s now m place r) made' parts' made'' parts'' → Plays s q (rules_met s now m 0 (take (place + 1) s.rules)) made parts made'' parts''
-plays_next s q now m place r made made' made'' parts parts' parts'' at before next text first a is =
-    played_as s q first made'' parts'' _ _ (rules_next s now m place r a at) (next text first (rules_met s now m 0 (take place s.rules) a) (before text first a is))
+plays_next s q now m place r made made' made'' parts parts' parts'' at before next text a is =
+    played_as s q made'' parts'' _ _ (rules_next s now m place r a at) (next text (rules_met s now m 0 (take place s.rules) a) (before text a is))
 
 -- all rules of the message have been met
 pub plays_all : (s : Script) (q now : ℕ) (m : PostData) (place : ℕ) (made made' : List Entry) (parts parts' : Parts) → length s.rules ≤ place → Plays s q (rules_met s now m 0 (take place s.rules)) made parts made' parts' → Plays s q (reacted s now m) made parts made' parts'
-plays_all s q now m place made made' parts parts' all plays text first a is =
+plays_all s q now m place made made' parts parts' all plays text a is =
     let taken : take place s.rules ≡ s.rules = take_all place s.rules all in
     let many : length a.fired ≡ length s.rules = sym (ap length is.fired) ∙ is.counts in
-    played_as s q first made' parts' _ _ (ap (λ (l : List Rule). rules_met s now m 0 l a) taken ∙ rules_are s now m a many) (plays text first a is)
+    played_as s q made' parts' _ _ (ap (λ (l : List Rule). rules_met s now m 0 l a) taken ∙ rules_are s now m a many) (plays text a is)

@@ -1,10 +1,9 @@
 -- How a view root stands after each of its steps.
-use Rattle.std.proofs.Common.{◌≡◌, ◌≢◌, ℕ, suc, ◌+◌, ◌-◌, ◌^◌, ◌<◌, ◌≤◌, ◌==◌, min, Bool, true, false, cond, not, List, [], ◌∷◌, ◌++◌, map, length, Option, Some, None, is_some, refl, sym, ap, ◌∙◌, subst, arith, eq-eqb, ne_eqb, Vec, Global}
-use Rattle.std.specs.Prelude.{◌&&◌, ◌||◌, count_by, replicate, slice_get, slice_index, slice_index_or, slice_set, take, Result, Ok, Err, OnOk, nat_le, if◌then◌else◌}
+use Rattle.std.proofs.Common.{◌≡◌, ◌≢◌, ℕ, suc, ◌+◌, ◌-◌, ◌^◌, ◌<◌, ◌≤◌, ◌==◌, min, Bool, true, false, not, List, [], ◌∷◌, ◌++◌, map, length, Option, Some, None, is_some, refl, sym, ap, ◌∙◌, subst, arith, eq-eqb, ne_eqb, Vec, Global}
+use Rattle.std.specs.Prelude.{◌||◌, replicate, slice_get, slice_index, slice_index_or, slice_set, take, Result, Ok, Err, OnOk, nat_le, if◌then◌else◌}
 use Rattle.std.specs.List.{flat_map, filter_map, cons_option, enumerate_from}
 use Rattle.std.specs.Option.{option_map, option_map_or}
 use Rattle.std.proofs.lemmas.List.{append-nil, map-set, length-append, length-map, length-take-le, take_more, flat_map_more, get_or_default}
-use Rattle.std.proofs.lemmas.List.Sums.{sum_by_push}
 use Rattle.std.proofs.lemmas.Option.{slice_get-map, get_or_from_slice_get, slice_get_within}
 use Rattle.std.proofs.Math.Seq.{map-set_same}
 use Rattle.std.proofs.lemmas.Bool.{le-leb}
@@ -20,13 +19,14 @@ use Rattle.choreographer.specs.Known.{Known as Pass}
 use Rattle.run_model.specs.Asks.{Ask, Makes as Asks, Unbars, plain, call_of, tokens_in, AreFor}
 use Rattle.run_model.specs.Control.{At}
 use Rattle.run_model.specs.Senders.{looper_of, gauge_line, gauge_looper, animation_id, animation_phase, traversal_id, traversal_phase}
-use Rattle.run_model.specs.Loopers.{Looper, Gauge, Sent, FramePost, is_frame_post, and_sends, and_posts_frame, with_gauge, traversal_requested, target_set, object_set, gauge_moved, animation_ran, moved, paints, traversal_ran, callback_ran}
+use Rattle.run_model.specs.Loopers.{Looper, Gauge, Sent, and_sends, and_posts_frame, with_gauge, traversal_requested, target_set, object_set, gauge_moved, animation_ran, moved, paints, traversal_ran, callback_ran}
 use Rattle.run_model.specs.Acts.{sent_on, IsSent}
-use Rattle.run_model.specs.FrameRuns.{posts_frame}
 use Rattle.run_model.proofs.RunLaws.{AreFor-snoc}
 use Rattle.message_pool.specs.Passes.{Tally}
 use Rattle.dash_hall.specs.Growth.{Makes, GoesOn}
-use Rattle.dash_hall.specs.Hosts.{PostsFrame, PlacesBy, sends_by}
+use Rattle.dash_hall.specs.Hosts.{PostsFrame, PlacesBy, sends_by, asks_of}
+use Rattle.run_model.specs.FrameAsks.{FrameAsk, Posts}
+use Rattle.run_model.specs.Planned.{frame_due}
 use Rattle.dash_hall.proofs.FramePosts.{posts_frame_by}
 use Rattle.dash_loopers.specs.declared.view_root.Gauge.{Gauge as ViewGauge}
 use Rattle.dash_loopers.specs.declared.view_root.Painted.{Painted}
@@ -61,9 +61,9 @@ barrier_alike tokens None (Some t) h = absurd h
 barrier_alike tokens (Some k) None h = absurd h
 
 -- a barrier was posted
-pub barrier_posted : (s : Script) (q first now : ℕ) (p p' : Sender) (token : ℕ) (root : ViewRoot) (a : Looper) → Makes p p' (Barrier 0) (token ∷ []) → IsShown s q first (calls_of p) root a
-    → IsShown s q first (calls_of p') (record root { barrier = Some token }) (and_sends q now (Asks (Barrier 0)) (record a { barrier = Some a.barriers; barriers = a.barriers + 1 }))
-barrier_posted s q first now p p' token root a m h =
+pub barrier_posted : (s : Script) (q now : ℕ) (p p' : Sender) (token : ℕ) (root : ViewRoot) (a : Looper) → Makes p p' (Barrier 0) (token ∷ []) → IsShown s q (calls_of p) root a
+    → IsShown s q (calls_of p') (record root { barrier = Some token }) (and_sends q now (Asks (Barrier 0)) (record a { barrier = Some a.barriers; barriers = a.barriers + 1 }))
+barrier_posted s q now p p' token root a m h =
     let b = record a { barrier = Some a.barriers; barriers = a.barriers + 1 } in
     let made = calls_of p in
     let before = tokens_in made in
@@ -71,50 +71,45 @@ barrier_posted s q first now p p' token root a m h =
     let count : a.barriers ≡ length before = h.stands.barriers in
     let more : a.barriers + 1 ≡ length (tokens_in (made ++ m.entry ∷ [])) = length_more before token a.barriers count ∙ ap length (sym tokens) in
     let got : slice_get (tokens_in (made ++ m.entry ∷ [])) a.barriers ≡ Some token = (λ i. slice_get (tokens i) (count i)) ∙ at_seam before token [] in
-    subst (λ (l : List Entry). IsShown s q first l (record root { barrier = Some token }) (and_sends q now (Asks (Barrier 0)) b)) (sym (calls_more p p' (Barrier 0) (token ∷ []) refl m)) (record {
+    subst (λ (l : List Entry). IsShown s q l (record root { barrier = Some token }) (and_sends q now (Asks (Barrier 0)) b)) (sym (calls_more p p' (Barrier 0) (token ∷ []) refl m)) (record {
       calls = sent_more q now (Asks (Barrier 0)) b made m.entry h.calls m.makes;
-      posted = h.posted;
+      asked = h.asked;
       turns = h.turns;
       stands = record { gauges = h.stands.gauges; lines = h.stands.lines; barrier = got; barriers = more; painted = h.stands.painted };
     })
 
 -- a frame callback was posted for now
-pub frame_posted : (s : Script) (q first h u phase id : ℕ) (p p' : Sender) (root : ViewRoot) (pass : Pass) (a : Looper) → PostsFrame h u phase id 0 p p' root.pass pass → pass.view.turns ≡ root.pass.view.turns + 1 → IsShown s q first (calls_of p) root a
-    → IsShown s q first (calls_of p') (record root { pass = pass }) (and_posts_frame phase id a)
-frame_posted s q first h u phase id p p' root pass a posts turn shown =
-    let x : FramePost = record { phase = phase; id = id } in
-    subst (λ (l : List Entry). IsShown s q first l (record root { pass = pass }) (and_posts_frame phase id a)) (sym (calls_same p p' posts.calls)) (record {
+pub frame_posted : (s : Script) (q h u phase id : ℕ) (p p' : Sender) (root : ViewRoot) (pass : Pass) (a : Looper) → PostsFrame h u phase id 0 p p' root.pass pass → IsShown s q (calls_of p) root a
+    → IsShown s q (calls_of p') (record root { pass = pass }) (and_posts_frame u phase id a)
+frame_posted s q h u phase id p p' root pass a posts shown =
+    subst (λ (l : List Entry). IsShown s q l (record root { pass = pass }) (and_posts_frame u phase id a)) (sym (calls_same p p' posts.calls)) (record {
       calls = shown.calls;
-      posted = λ k i. (
-          let had = shown.posted k i in
-          let has = posts.counts.posts k i in
-          let more : count_by (is_frame_post k i) (a.posted ++ x ∷ []) ≡ count_by (is_frame_post k i) a.posted + cond (phase == k && id == i) 1 0 = sum_by_push (λ (z : FramePost). cond (is_frame_post k i z) 1 0) a.posted x in
-          omega (arith, had, has, more));
+      asked = posts.asks ∙ ap (λ (l : List FrameAsk). l ++ Posts phase (frame_due u 0) id None ∷ []) shown.asked;
       turns = (
           let had = shown.turns in
-          let more = length-append a.posted (x ∷ []) in
-          omega (arith, had, more, turn));
+          let one = posts.turn in
+          omega (arith, had, one, length-append a.posted (Posts phase (frame_due u 0) id None ∷ [])));
       stands = record { gauges = shown.stands.gauges; lines = shown.stands.lines; barrier = shown.stands.barrier; barriers = shown.stands.barriers; painted = shown.stands.painted };
     })
 
 -- the same by what a host's posting answers
 pub frame_placed : (s : Script) (q h h' u phase id : ℕ) (p p' : Sender) (t t' : Tally) (root : ViewRoot) (pass : Pass) → h' ≡ h → GoesOn p p' t t' → PlacesBy root.pass pass u (sends_by h p) (sends_by h' p') phase id 0
-    → Shows s q (and_posts_frame phase id) (calls_of p) root (calls_of p') (record root { pass = pass })
-frame_placed s q h h' u phase id p p' t t' root pass same on placed text first a shown =
+    → Shows s q (and_posts_frame u phase id) (calls_of p) root (calls_of p') (record root { pass = pass })
+frame_placed s q h h' u phase id p p' t t' root pass same on placed text a shown =
     let by : PlacesBy root.pass pass u (sends_by h p) (sends_by h p') phase id 0 = subst (λ (n : ℕ). PlacesBy root.pass pass u (sends_by h p) (sends_by n p') phase id 0) same placed in
-    frame_posted s q first h u phase id p p' root pass a (posts_frame_by h u phase id 0 p p' t t' root.pass pass on by) by.2.3.turns shown
+    frame_posted s q h u phase id p p' root pass a (posts_frame_by h u phase id 0 p p' t t' root.pass pass on by) shown
 
 phase_is : (s : Script) → s.edition ≡ 1 → traversal_phase s ≡ 2
 phase_is s is = ap (λ (n : ℕ). if n == 2 then 3 else 2) is
 
 -- a traversal is requested while none is under way
-pub requested_anew : (s : Script) (q now : ℕ) (p p' : Sender) (token : ℕ) (root : ViewRoot) (made : List Entry) (root' : ViewRoot) → is_some root.barrier ≡ false → Makes p p' (Barrier 0) (token ∷ [])
-    → Shows s q (and_posts_frame 2 1000016) (calls_of p') (record root { barrier = Some token }) made root' → Shows s q (traversal_requested s q now) (calls_of p) root made root'
-requested_anew s q now p p' token root made root' none m rest text first a h =
+pub requested_anew : (s : Script) (q now now' : ℕ) (p p' : Sender) (token : ℕ) (root : ViewRoot) (made : List Entry) (root' : ViewRoot) → is_some root.barrier ≡ false → Makes p p' (Barrier 0) (token ∷ []) → now' ≡ now
+    → Shows s q (and_posts_frame now' 2 1000016) (calls_of p') (record root { barrier = Some token }) made root' → Shows s q (traversal_requested s q now) (calls_of p) root made root'
+requested_anew s q now now' p p' token root made root' none m same rest text a h =
     let b = and_sends q now (Asks (Barrier 0)) (record a { barrier = Some a.barriers; barriers = a.barriers + 1 }) in
     let still : is_some a.barrier ≡ false = barrier_alike (tokens_in (calls_of p)) a.barrier root.barrier h.stands.barrier ∙ none in
-    subst (λ (t : Bool). IsShown s q first made root' (if t then a else and_posts_frame (traversal_phase s) traversal_id b)) (sym still)
-    (subst (λ (n : ℕ). IsShown s q first made root' (and_posts_frame n traversal_id b)) (sym (phase_is s text.edition)) (rest text first b (barrier_posted s q first now p p' token root a m h)))
+    subst (λ (t : Bool). IsShown s q made root' (if t then a else and_posts_frame now (traversal_phase s) traversal_id b)) (sym still)
+    (subst (λ (n : ℕ). IsShown s q made root' (and_posts_frame now n traversal_id b)) (sym (phase_is s text.edition)) (subst (λ (n : ℕ). IsShown s q made root' (and_posts_frame n 2 traversal_id b)) same (rest text b (barrier_posted s q now p p' token root a m h))))
 
 -- ---- gauges
 
@@ -148,11 +143,11 @@ pub record IsPut (g : ℕ) (w : ViewGauge) (root root' : ViewRoot) : Type 0 wher
   pub gauges : root'.gauges.items ≡ slice_set root.gauges.items g w
   pub same : (root'.barrier ≡ root.barrier) × (root'.pass ≡ root.pass) × (root'.painted ≡ root.painted)
 
-pub gauge_put : (s : Script) (q first g : ℕ) (v w : ViewGauge) (made : List Entry) (root root' : ViewRoot) (a : Looper) → IsPut g w root root' → slice_get root.gauges.items g ≡ Some v → fixed w ≡ fixed v
-    → IsShown s q first made root a → IsShown s q first made root' (with_gauge g (standing w) a)
-gauge_put s q first g v w made root root' a put at alike h = record {
+pub gauge_put : (s : Script) (q g : ℕ) (v w : ViewGauge) (made : List Entry) (root root' : ViewRoot) (a : Looper) → IsPut g w root root' → slice_get root.gauges.items g ≡ Some v → fixed w ≡ fixed v
+    → IsShown s q made root a → IsShown s q made root' (with_gauge g (standing w) a)
+gauge_put s q g v w made root root' a put at alike h = record {
   calls = h.calls;
-  posted = λ k i. subst (λ (f : Pass). count_by (is_frame_post k i) a.posted ≤ count_by (posts_frame k i) f.view.seen) (sym put.same.1) (h.posted k i);
+  asked = ap asks_of put.same.1 ∙ h.asked;
   turns = ap (λ (f : Pass). f.view.turns) put.same.1 ∙ h.turns;
   stands = record {
     gauges = ap (map standing) put.gauges ∙ (map-set standing root.gauges.items g w ∙ ap (λ (l : List Gauge). slice_set l g (standing w)) h.stands.gauges);
@@ -167,16 +162,16 @@ gauge_put s q first g v w made root root' a put at alike h = record {
 
 -- the gauge is another looper's
 pub sets_no_other : (s : Script) (q now g target : ℕ) (v : ViewGauge) (made : List Entry) (root : ViewRoot) → slice_get root.gauges.items g ≡ Some v → v.own ≡ false → Shows s q (object_set s q now g target) made root made root
-sets_no_other s q now g target v made root at other text first a h =
+sets_no_other s q now g target v made root at other text a h =
     let is = gauge_of s q g (tokens_in made) v root a at h.stands in
     let same : object_set s q now g target a ≡ a =
     ap (λ (b : Bool). if b then option_map_or (λ x. target_set s q now g target x a) (slice_get a.gauges g) a else a) (sym is.own ∙ other) in
-    subst (IsShown s q first made root) (sym same) h
+    subst (IsShown s q made root) (sym same) h
 
 -- the state's step is that of the gauge
-sets_own : (s : Script) (q first now g target : ℕ) (v : ViewGauge) (made : List Entry) (root : ViewRoot) (a : Looper) → slice_get root.gauges.items g ≡ Some v → v.own ≡ true → IsShown s q first made root a
+sets_own : (s : Script) (q now g target : ℕ) (v : ViewGauge) (made : List Entry) (root : ViewRoot) (a : Looper) → slice_get root.gauges.items g ≡ Some v → v.own ≡ true → IsShown s q made root a
     → object_set s q now g target a ≡ target_set s q now g target (standing v) a
-sets_own s q first now g target v made root a at mine h =
+sets_own s q now g target v made root a at mine h =
     let is = gauge_of s q g (tokens_in made) v root a at h.stands in
     ap (λ (b : Bool). if b then option_map_or (λ x. target_set s q now g target x a) (slice_get a.gauges g) a else a) (sym is.own ∙ mine)
     ∙ ap (λ (o : Option Gauge). option_map_or (λ x. target_set s q now g target x a) o a) is.stands
@@ -196,14 +191,14 @@ starts_so false c is = ap not is
 -- the gauge moves already, or stands at the target
 pub sets_target : (s : Script) (q now g target : ℕ) (v : ViewGauge) (made : List Entry) (root root' : ViewRoot) → slice_get root.gauges.items g ≡ Some v → v.own ≡ true → (v.animating || (v.value == target)) ≡ true
     → IsPut g (with_target target v) root root' → Shows s q (object_set s q now g target) made root made root'
-sets_target s q now g target v made root root' at mine rests put text first a h =
+sets_target s q now g target v made root root' at mine rests put text a h =
     let x = standing v in
     let step : object_set s q now g target a ≡ with_gauge g (record x { target = target }) a =
-    sets_own s q first now g target v made root a at mine h
-    ∙ ap (λ (b : Bool). if b then with_gauge g (record x { target = target }) a else traversal_requested s q now (and_posts_frame animation_phase (animation_id g) (with_gauge g (record { value = x.value; target = target; animating = true }) a))) rests in
+    sets_own s q now g target v made root a at mine h
+    ∙ ap (λ (b : Bool). if b then with_gauge g (record x { target = target }) a else traversal_requested s q now (and_posts_frame now animation_phase (animation_id g) (with_gauge g (record { value = x.value; target = target; animating = true }) a))) rests in
     let put_is : with_gauge g (standing (with_target target v)) a ≡ with_gauge g (record x { target = target }) a =
     ap (λ (b : Bool). with_gauge g (record { value = v.value; target = target; animating = b }) a) (rests_so v.animating (v.value == target) rests) in
-    subst (IsShown s q first made root') (put_is ∙ sym step) (gauge_put s q first g v (with_target target v) made root root' a put at refl h)
+    subst (IsShown s q made root') (put_is ∙ sym step) (gauge_put s q g v (with_target target v) made root root' a put at refl h)
 
 -- the callback of a gauge's animation, by its number
 abbrev pub capped : ℕ → ℕ
@@ -214,89 +209,89 @@ few g n id lt most is = omega (arith, lt, most, is)
 
 -- the gauge begins to move
 pub sets_off : (s : Script) (q now now' g target id : ℕ) (v : ViewGauge) (made made1 made2 : List Entry) (root root1 root2 root3 : ViewRoot) → slice_get root.gauges.items g ≡ Some v → v.own ≡ true → (v.animating || (v.value == target)) ≡ false
-    → IsPut g (with_target target v) root root1 → id ≡ capped g → now' ≡ now → Shows s q (and_posts_frame 1 id) made root1 made1 root2 → Shows s q (traversal_requested s q now') made1 root2 made2 root3
+    → IsPut g (with_target target v) root root1 → id ≡ capped g → now' ≡ now → Shows s q (and_posts_frame now 1 id) made root1 made1 root2 → Shows s q (traversal_requested s q now') made1 root2 made2 root3
     → Shows s q (object_set s q now g target) made root made2 root3
-sets_off s q now now' g target id v made made1 made2 root root1 root2 root3 at mine starts put is_id same posts requests text first a h =
+sets_off s q now now' g target id v made made1 made2 root root1 root2 root3 at mine starts put is_id same posts requests text a h =
     let x = standing v in
     let is = gauge_of s q g (tokens_in made) v root a at h.stands in
     let b = with_gauge g (record { value = v.value; target = target; animating = true }) a in
-    let step : object_set s q now g target a ≡ traversal_requested s q now (and_posts_frame 1 (animation_id g) b) =
-    sets_own s q first now g target v made root a at mine h
-    ∙ ap (λ (t : Bool). if t then with_gauge g (record x { target = target }) a else traversal_requested s q now (and_posts_frame 1 (animation_id g) b)) starts in
-    let placed : IsShown s q first made root1 b = subst (λ (t : Bool). IsShown s q first made root1 (with_gauge g (record { value = v.value; target = target; animating = t }) a)) (starts_so v.animating (v.value == target) starts) (gauge_put s q first g v (with_target target v) made root root1 a put at refl h) in
-    let posted : IsShown s q first made1 root2 (and_posts_frame 1 (animation_id g) b) = subst (λ (n : ℕ). IsShown s q first made1 root2 (and_posts_frame 1 n b)) (few g (length s.gauges) id is.within text.gauges is_id) (posts text first b placed) in
-    subst (IsShown s q first made2 root3) (sym step) (subst (λ (n : ℕ). IsShown s q first made2 root3 (traversal_requested s q n (and_posts_frame 1 (animation_id g) b))) same (requests text first (and_posts_frame 1 (animation_id g) b) posted))
+    let step : object_set s q now g target a ≡ traversal_requested s q now (and_posts_frame now 1 (animation_id g) b) =
+    sets_own s q now g target v made root a at mine h
+    ∙ ap (λ (t : Bool). if t then with_gauge g (record x { target = target }) a else traversal_requested s q now (and_posts_frame now 1 (animation_id g) b)) starts in
+    let placed : IsShown s q made root1 b = subst (λ (t : Bool). IsShown s q made root1 (with_gauge g (record { value = v.value; target = target; animating = t }) a)) (starts_so v.animating (v.value == target) starts) (gauge_put s q g v (with_target target v) made root root1 a put at refl h) in
+    let posted : IsShown s q made1 root2 (and_posts_frame now 1 (animation_id g) b) = subst (λ (n : ℕ). IsShown s q made1 root2 (and_posts_frame now 1 n b)) (few g (length s.gauges) id is.within text.gauges is_id) (posts text b placed) in
+    subst (IsShown s q made2 root3) (sym step) (subst (λ (n : ℕ). IsShown s q made2 root3 (traversal_requested s q n (and_posts_frame now 1 (animation_id g) b))) same (requests text (and_posts_frame now 1 (animation_id g) b) posted))
 
 -- ---- an animation
 
 abbrev pub animated : Script → ℕ → ℕ → ℕ → Looper → Looper
 animated s q now g a = option_map_or (λ x. animation_ran s q now g x a) (slice_get a.gauges g) a
 
-animates : (s : Script) (q first now g : ℕ) (v : ViewGauge) (made : List Entry) (root : ViewRoot) (a : Looper) → slice_get root.gauges.items g ≡ Some v → IsShown s q first made root a → animated s q now g a ≡ animation_ran s q now g (standing v) a
-animates s q first now g v made root a at h =
+animates : (s : Script) (q now g : ℕ) (v : ViewGauge) (made : List Entry) (root : ViewRoot) (a : Looper) → slice_get root.gauges.items g ≡ Some v → IsShown s q made root a → animated s q now g a ≡ animation_ran s q now g (standing v) a
+animates s q now g v made root a at h =
     ap (λ (o : Option Gauge). option_map_or (λ x. animation_ran s q now g x a) o a) (gauge_of s q g (tokens_in made) v root a at h.stands).stands
 
 -- the gauge stands still
 pub animates_none : (s : Script) (q now g : ℕ) (v : ViewGauge) (made : List Entry) (root : ViewRoot) → slice_get root.gauges.items g ≡ Some v → v.animating ≡ false → Shows s q (animated s q now g) made root made root
-animates_none s q now g v made root at still text first a h =
-    let step : animated s q now g a ≡ a = animates s q first now g v made root a at h ∙ ap (λ (b : Bool). if b then gauge_moved s q now g (standing v) a else a) still in
-    subst (IsShown s q first made root) (sym step) h
+animates_none s q now g v made root at still text a h =
+    let step : animated s q now g a ≡ a = animates s q now g v made root a at h ∙ ap (λ (b : Bool). if b then gauge_moved s q now g (standing v) a else a) still in
+    subst (IsShown s q made root) (sym step) h
 
 -- the gauge with another value, as it is put
 abbrev pub with_move : ℕ → ViewGauge → ViewGauge
 with_move n v = record v { value = n; animating = not (n == v.target) }
 
 -- the state's step is that of the gauge, as it moves
-moves : (s : Script) (q first now g n : ℕ) (v : ViewGauge) (made : List Entry) (root : ViewRoot) (a : Looper) → slice_get root.gauges.items g ≡ Some v → v.animating ≡ true → n ≡ moved v.step v.target v.value → IsShown s q first made root a
+moves : (s : Script) (q now g n : ℕ) (v : ViewGauge) (made : List Entry) (root : ViewRoot) (a : Looper) → slice_get root.gauges.items g ≡ Some v → v.animating ≡ true → n ≡ moved v.step v.target v.value → IsShown s q made root a
     → animated s q now g a ≡ (if n == v.target then traversal_requested s q now (with_gauge g (record { value = n; target = v.target; animating = false }) a)
-    else and_posts_frame 1 (animation_id g) (traversal_requested s q now (with_gauge g (record { value = n; target = v.target; animating = v.animating }) a)))
-moves s q first now g n v made root a at on to h =
+    else and_posts_frame now 1 (animation_id g) (traversal_requested s q now (with_gauge g (record { value = n; target = v.target; animating = v.animating }) a)))
+moves s q now g n v made root a at on to h =
     let is = gauge_of s q g (tokens_in made) v root a at h.stands in
     let value : moved (gauge_line s g).step v.target v.value ≡ n = ap (λ (k : ℕ). moved k v.target v.value) (sym is.step) ∙ sym to in
-    animates s q first now g v made root a at h
+    animates s q now g v made root a at h
     ∙ (ap (λ (b : Bool). if b then gauge_moved s q now g (standing v) a else a) on
     ∙ ap (λ (k : ℕ). if k == v.target then traversal_requested s q now (with_gauge g (record { value = k; target = v.target; animating = false }) a)
-    else and_posts_frame 1 (animation_id g) (traversal_requested s q now (with_gauge g (record { value = k; target = v.target; animating = v.animating }) a))) value)
+    else and_posts_frame now 1 (animation_id g) (traversal_requested s q now (with_gauge g (record { value = k; target = v.target; animating = v.animating }) a))) value)
 
 -- the gauge comes to its target
 pub animates_last : (s : Script) (q now g n : ℕ) (v : ViewGauge) (made made' : List Entry) (root root1 root' : ViewRoot) → slice_get root.gauges.items g ≡ Some v → v.animating ≡ true → n ≡ moved v.step v.target v.value → n ≡ v.target
     → IsPut g (with_move n v) root root1 → Shows s q (traversal_requested s q now) made root1 made' root' → Shows s q (animated s q now g) made root made' root'
-animates_last s q now g n v made made' root root1 root' at on to there put requests text first a h =
+animates_last s q now g n v made made' root root1 root' at on to there put requests text a h =
     let b = with_gauge g (record { value = n; target = v.target; animating = false }) a in
     let is : (n == v.target) ≡ true = eq-eqb n v.target there in
     let step : animated s q now g a ≡ traversal_requested s q now b =
-    moves s q first now g n v made root a at on to h
-    ∙ ap (λ (t : Bool). if t then traversal_requested s q now b else and_posts_frame 1 (animation_id g) (traversal_requested s q now (with_gauge g (record { value = n; target = v.target; animating = v.animating }) a))) is in
-    let placed : IsShown s q first made root1 b = subst (λ (t : Bool). IsShown s q first made root1 (with_gauge g (record { value = n; target = v.target; animating = not t }) a)) is (gauge_put s q first g v (with_move n v) made root root1 a put at refl h) in
-    subst (IsShown s q first made' root') (sym step) (requests text first b placed)
+    moves s q now g n v made root a at on to h
+    ∙ ap (λ (t : Bool). if t then traversal_requested s q now b else and_posts_frame now 1 (animation_id g) (traversal_requested s q now (with_gauge g (record { value = n; target = v.target; animating = v.animating }) a))) is in
+    let placed : IsShown s q made root1 b = subst (λ (t : Bool). IsShown s q made root1 (with_gauge g (record { value = n; target = v.target; animating = not t }) a)) is (gauge_put s q g v (with_move n v) made root root1 a put at refl h) in
+    subst (IsShown s q made' root') (sym step) (requests text b placed)
 
 -- the gauge goes on
-pub animates_on : (s : Script) (q now g n id : ℕ) (v : ViewGauge) (made made1 made2 : List Entry) (root root1 root2 root3 : ViewRoot) → slice_get root.gauges.items g ≡ Some v → v.animating ≡ true → n ≡ moved v.step v.target v.value → n ≢ v.target
-    → IsPut g (with_move n v) root root1 → id ≡ capped g → Shows s q (traversal_requested s q now) made root1 made1 root2 → Shows s q (and_posts_frame 1 id) made1 root2 made2 root3
+pub animates_on : (s : Script) (q now now' g n id : ℕ) (v : ViewGauge) (made made1 made2 : List Entry) (root root1 root2 root3 : ViewRoot) → slice_get root.gauges.items g ≡ Some v → v.animating ≡ true → n ≡ moved v.step v.target v.value → n ≢ v.target
+    → IsPut g (with_move n v) root root1 → id ≡ capped g → now' ≡ now → Shows s q (traversal_requested s q now) made root1 made1 root2 → Shows s q (and_posts_frame now' 1 id) made1 root2 made2 root3
     → Shows s q (animated s q now g) made root made2 root3
-animates_on s q now g n id v made made1 made2 root root1 root2 root3 at on to far put is_id requests posts text first a h =
+animates_on s q now now' g n id v made made1 made2 root root1 root2 root3 at on to far put is_id same requests posts text a h =
     let is = gauge_of s q g (tokens_in made) v root a at h.stands in
     let b = with_gauge g (record { value = n; target = v.target; animating = v.animating }) a in
     let isnt : (n == v.target) ≡ false = ne_eqb n v.target far in
-    let step : animated s q now g a ≡ and_posts_frame 1 (animation_id g) (traversal_requested s q now b) =
-    moves s q first now g n v made root a at on to h
-    ∙ ap (λ (t : Bool). if t then traversal_requested s q now (with_gauge g (record { value = n; target = v.target; animating = false }) a) else and_posts_frame 1 (animation_id g) (traversal_requested s q now b)) isnt in
-    let placed : IsShown s q first made root1 b = subst (λ (t : Bool). IsShown s q first made root1 (with_gauge g (record { value = n; target = v.target; animating = t }) a)) (ap not isnt ∙ sym on) (gauge_put s q first g v (with_move n v) made root root1 a put at refl h) in
-    subst (IsShown s q first made2 root3) (sym step)
-    (subst (λ (k : ℕ). IsShown s q first made2 root3 (and_posts_frame 1 k (traversal_requested s q now b))) (few g (length s.gauges) id is.within text.gauges is_id) (posts text first (traversal_requested s q now b) (requests text first b placed)))
+    let step : animated s q now g a ≡ and_posts_frame now 1 (animation_id g) (traversal_requested s q now b) =
+    moves s q now g n v made root a at on to h
+    ∙ ap (λ (t : Bool). if t then traversal_requested s q now (with_gauge g (record { value = n; target = v.target; animating = false }) a) else and_posts_frame now 1 (animation_id g) (traversal_requested s q now b)) isnt in
+    let placed : IsShown s q made root1 b = subst (λ (t : Bool). IsShown s q made root1 (with_gauge g (record { value = n; target = v.target; animating = t }) a)) (ap not isnt ∙ sym on) (gauge_put s q g v (with_move n v) made root root1 a put at refl h) in
+    subst (IsShown s q made2 root3) (sym step)
+    (subst (λ (k : ℕ). IsShown s q made2 root3 (and_posts_frame now 1 k (traversal_requested s q now b))) (few g (length s.gauges) id is.within text.gauges is_id) (subst (λ (k : ℕ). IsShown s q made2 root3 (and_posts_frame k 1 id (traversal_requested s q now b))) same (posts text (traversal_requested s q now b) (requests text b placed))))
 
 -- ---- a callback
 
 -- the callback of a traversal
 pub runs_traversal : (s : Script) (q now id : ℕ) (made made' : List Entry) (root root' : ViewRoot) → id ≡ 1000016 → Shows s q (traversal_ran s q now) made root made' root' → Shows s q (λ a. callback_ran s q now a id) made root made' root'
-runs_traversal s q now id made made' root root' is shows text first a h =
-    subst (λ (b : Bool). IsShown s q first made' root' (if b then traversal_ran s q now a else if nat_le 1000000 id then animated s q now (id - 1000000) a else a)) (sym (eq-eqb id 1000016 is)) (shows text first a h)
+runs_traversal s q now id made made' root root' is shows text a h =
+    subst (λ (b : Bool). IsShown s q made' root' (if b then traversal_ran s q now a else if nat_le 1000000 id then animated s q now (id - 1000000) a else a)) (sym (eq-eqb id 1000016 is)) (shows text a h)
 
 -- the callback of a gauge
 pub runs_animation : (s : Script) (q now id : ℕ) (made made' : List Entry) (root root' : ViewRoot) → id ≢ 1000016 → 1000000 ≤ id → Shows s q (animated s q now (id - 1000000)) made root made' root' → Shows s q (λ a. callback_ran s q now a id) made root made' root'
-runs_animation s q now id made made' root root' isnt least shows text first a h =
-    subst (λ (b : Bool). IsShown s q first made' root' (if b then traversal_ran s q now a else if nat_le 1000000 id then animated s q now (id - 1000000) a else a)) (sym (ne_eqb id 1000016 isnt))
-    (subst (λ (b : Bool). IsShown s q first made' root' (if b then animated s q now (id - 1000000) a else a)) (sym (le-leb 1000000 id least)) (shows text first a h))
+runs_animation s q now id made made' root root' isnt least shows text a h =
+    subst (λ (b : Bool). IsShown s q made' root' (if b then traversal_ran s q now a else if nat_le 1000000 id then animated s q now (id - 1000000) a else a)) (sym (ne_eqb id 1000016 isnt))
+    (subst (λ (b : Bool). IsShown s q made' root' (if b then animated s q now (id - 1000000) a else a)) (sym (le-leb 1000000 id least)) (shows text a h))
 
 -- a gauge of a line, before it moves
 abbrev pub unmoved : Script → ℕ → GaugeLine → ViewGauge
@@ -369,7 +364,7 @@ pub record HasPainted (root root' : ViewRoot) : Type 0 where
 pub traverses : (s : Script) (q now : ℕ) (p p' : Sender) (token : ℕ) (root root' : ViewRoot) → root.barrier ≡ Some token → Makes p p' (Unbarrier token) [] → HasPainted root root'
     → (HasText s → map fixed root.gauges.items ≡ map (fixed_by s q) s.gauges → map paint_of root'.painted.items ≡ map paint_of root.painted.items ++ paints s q (map standing root.gauges.items))
     → Shows s q (traversal_ran s q now) (calls_of p) root (calls_of p') root'
-traverses s q now p p' token root root' has m left told text first a h =
+traverses s q now p p' token root root' has m left told text a h =
     let made = calls_of p in
     let before = tokens_in made in
     let under = barrier_of before a.barrier token (subst (IsBarrierOf before a.barrier) has h.stands.barrier) in
@@ -380,9 +375,9 @@ traverses s q now p p' token root root' has m left told text first a h =
     let made_is : calls_of p' ≡ made ++ m.entry ∷ [] = calls_more p p' (Unbarrier token) [] refl m in
     let step : traversal_ran s q now a ≡ and_sends q now (Unbars k) b = ap (λ (o : Option ℕ). option_map_or (λ j. and_sends q now (Unbars j) b) o a) under.1 in
     let painted : map paint_of root'.painted.items ≡ a.painted ++ paints s q a.gauges = told text h.stands.lines ∙ (λ i. h.stands.painted i ++ paints s q (h.stands.gauges i)) in
-    let shown : IsShown s q first (made ++ m.entry ∷ []) root' (and_sends q now (Unbars k) b) = record {
+    let shown : IsShown s q (made ++ m.entry ∷ []) root' (and_sends q now (Unbars k) b) = record {
       calls = sent_more q now (Unbars k) b made m.entry h.calls call;
-      posted = λ j i. subst (λ (f : Pass). count_by (is_frame_post j i) a.posted ≤ count_by (posts_frame j i) f.view.seen) (sym left.pass) (h.posted j i);
+      asked = ap asks_of left.pass ∙ h.asked;
       turns = ap (λ (f : Pass). f.view.turns) left.pass ∙ h.turns;
       stands = record {
         gauges = ap (λ (x : Vec ViewGauge Global). map standing x.items) left.gauges ∙ h.stands.gauges;
@@ -392,4 +387,4 @@ traverses s q now p p' token root root' has m left told text first a h =
         painted = painted;
       };
     } in
-    subst (λ (l : List Entry). IsShown s q first l root' (traversal_ran s q now a)) (sym made_is) (subst (IsShown s q first (made ++ m.entry ∷ []) root') (sym step) shown)
+    subst (λ (l : List Entry). IsShown s q l root' (traversal_ran s q now a)) (sym made_is) (subst (IsShown s q (made ++ m.entry ∷ []) root') (sym step) shown)

@@ -165,7 +165,7 @@ WaitsForNothing r = (is_ended r ≡ false) × (until_of r ≡ None)
 -- the queue of this history is neither over nor quitting, and no message that may be dispatched is due at this moment
 pub record HasNoneDue (b : Base) (es : List Entry) (now : ℕ) : Type 0 where
   pub going : is_over b es ≡ false
-  pub kept_on : quit_place b es ≡ None
+  pub not_quitting : quit_place b es ≡ None
   pub none : pick b es now ≡ None
 
 -- unless it ended or gave up, the looper has come to wait for the first message that no barrier holds back of all that it has seen, on a queue that isn't quitting, and no such message is due

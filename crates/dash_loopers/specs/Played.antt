@@ -1,6 +1,6 @@
 -- What a looper has come to, told by what it works with: the calls and the frame callbacks that its acts cause are made, and
 -- its gauges, its barrier and its rule counts stand as its acts lead to.
-use Rattle.std.specs.Prelude.{◌≡◌, ◌≢◌, ◌<◌, ◌≤◌, ◌==◌, ◌||◌, ℕ, Bool, true, false, not, All, List, [], ◌∷◌, ◌++◌, map, length, slice_get, slice_set, slice_index_or, count_by, Option, Some, None, is_some, IsSomeAnd, if◌then◌else◌, ◌+◌, ◌/◌}
+use Rattle.std.specs.Prelude.{◌≡◌, ◌≢◌, ◌<◌, ◌≤◌, ◌==◌, ◌||◌, ℕ, Bool, true, false, not, All, List, [], ◌∷◌, ◌++◌, map, length, slice_get, slice_set, slice_index_or, Option, Some, None, is_some, IsSomeAnd, if◌then◌else◌, ◌+◌, ◌/◌}
 use Rattle.std.specs.List.{Contains}
 use Rattle.std.specs.Option.{option_map_or}
 use mathlib.Core.List.{IsPrefix}
@@ -25,10 +25,11 @@ use Rattle.choreographer.specs.Client.{Run}
 use Rattle.run_model.specs.Asks.{Makes, AreFor, tokens_in, entries_by}
 use Rattle.run_model.specs.Senders.{looper_of}
 use Rattle.run_model.specs.Planned.{frame_message}
-use Rattle.run_model.specs.Control.{Timing, At, NotBefore}
-use Rattle.run_model.specs.Loopers.{Looper, Gauge, Sent, first_looper, is_frame_post, starts_frame, delivered, fires, reaction}
+use Rattle.run_model.specs.Control.{Timing, At, InBlock, NotBefore}
+use Rattle.run_model.specs.Loopers.{Looper, Gauge, Sent, first_looper, starts_frame, delivered, fires, reaction}
 use Rattle.run_model.specs.Acts.{Lead, sent_on, IsSent, millis_up}
-use Rattle.run_model.specs.FrameRuns.{frame_ids, is_frame_from, place_after, posts_frame}
+use Rattle.run_model.specs.FrameRuns.{FrameAt, nanos_of, frame_ids, is_frame_from, place_after, frames_after, are_run_then}
+use Rattle.run_model.specs.FrameAsks.{FrameAsk, Runs}
 use Rattle.dash_hall.specs.declared.kit.Kit.{Kit}
 use Rattle.dash_loopers.specs.declared.view_root.Gauge.{Gauge as ViewGauge}
 use Rattle.dash_loopers.specs.declared.view_root.Painted.{Painted}
@@ -36,6 +37,7 @@ use Rattle.dash_loopers.specs.declared.view_root.ViewRoot.{ViewRoot}
 use Rattle.dash_loopers.specs.declared.player.Parts.{Parts}
 use Rattle.dash_loopers.specs.declared.looper.StageLooper.{StageLooper}
 use Rattle.dash_hall.specs.Growth.{own}
+use Rattle.dash_hall.specs.Hosts.{asks_of}
 use Rattle.dash_loopers.specs.Players.{PlaceWithout}
 use Rattle.dash_loopers.specs.Loopers.{is_given_up, calls_among}
 pub use Rattle.dash_loopers.specs.Loopers.{is_disposal}
@@ -86,11 +88,11 @@ calls_in sender es = calls_among (entries_by sender es)
 abbrev pub calls_of : Sender → List Entry
 calls_of p = calls_in p.sender p.view.seen
 
--- the looper made these entries on its own queue, its pass has seen the frame callbacks that the state posts and took one turn for each of them after the first turns, and its view root stands as the state says
-pub record IsShown (s : Script) (q first : ℕ) (made : List Entry) (root : ViewRoot) (a : Looper) : Type 0 where
+-- the looper made these entries on its own queue, its view root's pass asked for the frame callbacks that the state posts, in order and for nothing else, by one turn for each and no other, and its view root stands as the state says
+pub record IsShown (s : Script) (q : ℕ) (made : List Entry) (root : ViewRoot) (a : Looper) : Type 0 where
   pub calls : AreFor IsSent [] (sent_on q a.sent) made
-  pub posted : (phase id : ℕ) → count_by (is_frame_post phase id) a.posted ≤ count_by (posts_frame phase id) root.pass.view.seen
-  pub turns : root.pass.view.turns ≡ first + length a.posted
+  pub asked : asks_of root.pass ≡ a.posted
+  pub turns : root.pass.view.turns ≡ length a.posted
   pub stands : IsRootOf s q (tokens_in made) a root
 
 -- on each other queue the calls that the state tells were made; the posters of the others stand in order
@@ -98,19 +100,19 @@ abbrev pub AreMadeElsewhere : ℕ → List Sender → Looper → Type 0
 AreMadeElsewhere q others a = (k j : ℕ) (d : Sender) → PlaceWithout q k j → j < length others → AreFor IsSent [] (sent_on k a.sent) (own (slice_index_or others j d))
 
 -- all that the state says is so, of the looper's own queue, of the others, and of its rule counts, of which there are as many as rules
-pub record IsPlayed (s : Script) (q first : ℕ) (made : List Entry) (parts : Parts) (a : Looper) : Type 0 where
-  pub shown : IsShown s q first made parts.root a
+pub record IsPlayed (s : Script) (q : ℕ) (made : List Entry) (parts : Parts) (a : Looper) : Type 0 where
+  pub shown : IsShown s q made parts.root a
   pub elsewhere : AreMadeElsewhere q parts.others.items a
   pub fired : parts.fired.items ≡ a.fired
   pub counts : length parts.fired.items ≡ length s.rules
 
 -- a step of the view root: whatever state it stood at, it stands now at what the step makes of that
 abbrev pub Shows : Script → ℕ → (Looper → Looper) → List Entry → ViewRoot → List Entry → ViewRoot → Type 0
-Shows s q step made root made' root' = HasText s → (first : ℕ) (a : Looper) → IsShown s q first made root a → IsShown s q first made' root' (step a)
+Shows s q step made root made' root' = HasText s → (a : Looper) → IsShown s q made root a → IsShown s q made' root' (step a)
 
 -- the same of all that a looper has
 abbrev pub Plays : Script → ℕ → (Looper → Looper) → List Entry → Parts → List Entry → Parts → Type 0
-Plays s q step made parts made' parts' = HasText s → (first : ℕ) (a : Looper) → IsPlayed s q first made parts a → IsPlayed s q first made' parts' (step a)
+Plays s q step made parts made' parts' = HasText s → (a : Looper) → IsPlayed s q made parts a → IsPlayed s q made' parts' (step a)
 
 -- all but the rule counts is as before
 abbrev pub AreAllButCounts : Parts → Parts → Type 0
@@ -136,25 +138,30 @@ abbrev pub rule_met : Script → ℕ → PostData → ℕ → Rule → Looper �
 rule_met s now m place r a =
     option_map_or (λ n. if fires m r n then record a { fired = slice_set a.fired place (n + 1); sent = a.sent ++ reaction s now r ∷ [] } else a) (slice_get a.fired place) a
 
--- by whatever the frame record comes to, a frame began behind all that the pass had seen before and ran callbacks of these identities, or none began and none ran
-abbrev pub IsFrameBy : ℕ → ℕ → Pass → Pass → Option ℕ → List ℕ → Type 0
-IsFrameBy interval phases before after frame ids = (fs : List FrameEntry) → IsPrefix after.view.seen fs → lawful interval phases fs ≡ true
-    → (is_frame_from fs (length before.view.seen) frame ≡ true) × (frame_ids fs frame ≡ ids)
+-- by whatever the frame record comes to, a frame began behind all that the pass had seen before, started and took each phase at this time, and ran callbacks of these identities, or none began and none ran
+abbrev pub IsFrameBy : ℕ → ℕ → ℕ → Pass → Pass → Option ℕ → List ℕ → Type 0
+IsFrameBy interval phases now before after frame ids = (fs : List FrameEntry) → IsPrefix after.view.seen fs → lawful interval phases fs ≡ true
+    → (is_frame_from fs (length before.view.seen) frame ≡ true) × (frame_ids fs frame ≡ ids) × (are_run_then fs (frames_after [] frame now) ≡ true)
 
--- callbacks of these identities ran, of a frame whose beginning the pass has seen, or of none
-pub record RanFrame (interval phases : ℕ) (before after : Pass) (ids : List ℕ) : Type 0 where
+-- what asks for these frames, in order: for each to start at the time of its dispatch
+abbrev pub asks_to_run : List FrameAt → List FrameAsk
+asks_to_run xs = map (λ x. Runs (nanos_of x.now)) xs
+
+-- callbacks of these identities ran at this time, of a frame whose beginning the pass has seen, or of none, and the pass asked for that frame and for nothing else
+pub record RanFrame (interval phases now : ℕ) (before after : Pass) (ids : List ℕ) : Type 0 where
   pub frame : Option ℕ
-  pub framed : IsFrameBy interval phases before after frame ids
+  pub framed : IsFrameBy interval phases now before after frame ids
   pub within : place_after 0 frame ≤ length after.view.seen
   pub grew : IsPrefix before.view.seen after.view.seen
+  pub asks : asks_of after ≡ asks_of before ++ asks_to_run (frames_after [] frame now)
 
 -- a message was delivered: its frame, where it began one, ran, and what was painted is told
 pub record Delivers (s : Script) (q now : ℕ) (m : PostData) (made made' : List Entry) (parts parts' : Parts) (acts acts' : List Act) : Type 0 where
   pub ids : List ℕ
-  pub ran : RanFrame s.period 4 parts.frames parts'.frames ids
+  pub ran : RanFrame s.period 4 now parts.frames parts'.frames ids
   pub starts : (not (is_some ran.frame) || starts_frame q m) ≡ true
-  pub plays : HasText s → (first : ℕ) (a : Looper) → a.painted ≡ [] → IsPlayed s q first made parts a
-      → IsPlayed s q first made' parts' (record (delivered s q now ids m a) { painted = [] }) × (acts' ≡ acts ++ (delivered s q now ids m a).painted)
+  pub plays : HasText s → (a : Looper) → a.painted ≡ [] → IsPlayed s q made parts a
+      → IsPlayed s q made' parts' (record (delivered s q now ids m a) { painted = [] }) × (acts' ≡ acts ++ (delivered s q now ids m a).painted)
 
 -- the act of a pulse that came, or none
 abbrev pub pulse_acts : Option ℕ → List Act
@@ -171,32 +178,36 @@ abbrev pub pulse_time : Option ℕ → ℕ
 pulse_time None = 0
 pulse_time (Some stamp) = millis_up stamp
 
--- what came of a pulse: the frame message was sent, unless memory was wanting, or no pulse came
+-- what came of a pulse: the frame message was sent, unless memory was wanting, or no pulse came; the looper's own pass asked for nothing
 abbrev pub DeliversPulse : Script → ℕ → ℕ → List Entry → List Entry → Parts → Parts → Option Pulse → Type 0
-DeliversPulse s q now made made' parts parts' None = IsPrefix parts.frames.view.seen parts'.frames.view.seen × Plays s q (pulsed q None) made parts made' parts'
+DeliversPulse s q now made made' parts parts' None = IsPrefix parts.frames.view.seen parts'.frames.view.seen × (asks_of parts'.frames ≡ asks_of parts.frames) × Plays s q (pulsed q None) made parts made' parts'
 DeliversPulse s q now made made' parts parts' (Some pulse) =
-    (pulse.sent ≢ host.NoMemory → IsPrefix parts.frames.view.seen parts'.frames.view.seen × (millis_up pulse.stamp ≤ now) × Plays s q (pulsed q (Some pulse.stamp)) made parts made' parts')
+    (pulse.sent ≢ host.NoMemory → IsPrefix parts.frames.view.seen parts'.frames.view.seen × (asks_of parts'.frames ≡ asks_of parts.frames) × (millis_up pulse.stamp ≤ now) × Plays s q (pulsed q (Some pulse.stamp)) made parts made' parts')
 
--- a pulse was delivered and told, or none came
+-- a pulse was delivered and told, or none came, and the looper's own pass asked for nothing
 pub record Pulses (s : Script) (q now : ℕ) (made made' : List Entry) (parts parts' : Parts) (acts acts' : List Act) : Type 0 where
   pub stamp : Option ℕ
   pub due : pulse_time stamp ≤ now
   pub told : acts' ≡ acts ++ pulse_acts stamp
   pub grew : IsPrefix parts.frames.view.seen parts'.frames.view.seen
+  pub asks : asks_of parts'.frames ≡ asks_of parts.frames
   pub plays : Plays s q (pulsed q stamp) made parts made' parts'
 
 -- ---- between two acts
 
--- the looper's acts lead to this state, by whatever its frame record comes to, and all that it says is so: the view root's pass has taken one turn for each frame callback that the state posts, and no other
+-- the looper's acts lead to this state, by whatever its frame record comes to, each frame that they ran started and took its phases at the time of its dispatch, its own pass asked for these frames, in order and for nothing else, and all that the state says is so
 pub record Stands (s : Script) (q sender : ℕ) (es : List Entry) (acts : List Act) (parts : Parts) (a : Looper) : Type 0 where
   pub led : (fs : List FrameEntry) → IsPrefix parts.frames.view.seen fs → lawful s.period 4 fs ≡ true → Lead s q es fs (first_looper s) acts a
   pub place : a.place ≤ length parts.frames.view.seen
+  pub moments : (fs : List FrameEntry) → IsPrefix parts.frames.view.seen fs → lawful s.period 4 fs ≡ true → are_run_then fs a.frames ≡ true
+  pub ran : asks_of parts.frames ≡ asks_to_run a.frames
   pub settled : a.painted ≡ []
-  pub played : IsPlayed s q 0 (calls_in sender es) parts a
+  pub played : IsPlayed s q (calls_in sender es) parts a
 
--- a call is timed by a look of the sender among these entries, or it is one on the looper's own queue that may come no later than at this moment
+-- a call is timed by a look of the sender among these entries, or it is one on the looper's own queue that may come no later than at this moment; a looper makes no call in a block
 abbrev pub IsTimedBy : ℕ → ℕ → List Entry → ℕ → ℕ → Timing → Type 0
 IsTimedBy q sender looks now queue (At time) = (e : Entry) × Contains looks e × (e.sender ≡ sender) × (e.call ≡ Next time)
+IsTimedBy q sender looks now queue (InBlock time) = ⊥
 IsTimedBy q sender looks now queue (NotBefore time) = (time ≤ now) × (queue ≡ q)
 
 -- the second state has these calls more, each timed so
@@ -232,8 +243,10 @@ HasPlayed s now before after = is_given_up after.last ≡ false → HasText s �
 pub record HasLeft (s : Script) (q : ℕ) (j : Journal) (kit : Kit) (a : Looper) : Type 0 where
   pub led : (d : Sender) (p : Pass) (fs : List FrameEntry) → IsPrefix (slice_index_or kit.frames.items 0 p).view.seen fs → lawful s.period 4 fs ≡ true
       → Lead s q (slice_index_or kit.posters.items q d).view.seen fs (first_looper s) j.acts a
+  pub moments : (p : Pass) (fs : List FrameEntry) → IsPrefix (slice_index_or kit.frames.items 0 p).view.seen fs → lawful s.period 4 fs ≡ true → are_run_then fs a.frames ≡ true
   pub settled : a.painted ≡ []
   pub calls : (d : Sender) → AreFor IsSent [] (sent_on q a.sent) (calls_of (slice_index_or kit.posters.items q d))
   pub elsewhere : (k : ℕ) (d : Sender) → k ≢ q → k < length kit.posters.items → AreFor IsSent [] (sent_on k a.sent) (own (slice_index_or kit.posters.items k d))
-  pub posted : (phase id : ℕ) (p : Pass) → count_by (is_frame_post phase id) a.posted ≤ count_by (posts_frame phase id) (slice_index_or kit.frames.items 1 p).view.seen
+  pub asked : (p : Pass) → asks_of (slice_index_or kit.frames.items 1 p) ≡ a.posted
   pub turns : (p : Pass) → (slice_index_or kit.frames.items 1 p).view.turns ≡ length a.posted
+  pub ran : (p : Pass) → asks_of (slice_index_or kit.frames.items 0 p) ≡ asks_to_run a.frames

@@ -12,7 +12,7 @@ use Rattle.loop_model.specs.declared.journal.Act.TheVariants.{Dispatch, Idle, Ev
 use Rattle.dash_script.specs.declared.script.Script.{Script}
 use Rattle.looper_run.specs.Acts.{IsQuiet}
 use Rattle.run_model.specs.Asks.{entries_by}
-use Rattle.run_model.specs.Control.{Timing, At, NotBefore}
+use Rattle.run_model.specs.Control.{Timing, At, InBlock, NotBefore}
 use Rattle.run_model.specs.Loopers.{Looper, first_looper}
 use Rattle.run_model.specs.Acts.{after_act}
 use Rattle.run_model.proofs.RunLaws.{Lead-snoc}
@@ -50,8 +50,10 @@ module _ (s : Script) (q k : ℕ) where
   stands_beside es more acts parts a same st = record {
     led = λ fs begins is. Lead-entries s q es fs more (first_looper s) acts a (st.led fs begins is);
     place = st.place;
+    moments = st.moments;
+    ran = st.ran;
     settled = st.settled;
-    played = subst (λ l. IsPlayed s q 0 l parts a) (sym same) st.played;
+    played = subst (λ l. IsPlayed s q l parts a) (sym same) st.played;
   }
 
   -- an act of an idle handler or an event
@@ -60,12 +62,16 @@ module _ (s : Script) (q k : ℕ) where
   stands_quiet es (Idle i t) acts parts a is st = record {
     led = λ fs begins law. Lead-snoc s q es fs None (first_looper s) acts a (Idle i t) (st.led fs begins law) (refl, st.settled);
     place = st.place;
+    moments = st.moments;
+    ran = st.ran;
     settled = st.settled;
     played = st.played;
   }
   stands_quiet es (Event f e m) acts parts a is st = record {
     led = λ fs begins law. Lead-snoc s q es fs None (first_looper s) acts a (Event f e m) (st.led fs begins law) (refl, st.settled);
     place = st.place;
+    moments = st.moments;
+    ran = st.ran;
     settled = st.settled;
     played = st.played;
   }
@@ -78,10 +84,12 @@ module _ (s : Script) (q k : ℕ) where
 -- a call that was timed by some looks is timed by more
 pub timed_left : (q k : ℕ) (looks more : List Entry) (now queue : ℕ) (t : Timing) → IsTimedBy q k looks now queue t → IsTimedBy q k (looks ++ more) now queue t
 timed_left q k looks more now queue (At time) h = (h.0, Contains-append_left looks more h.0 h.1, h.2, h.3)
+timed_left q k looks more now queue (InBlock time) h = absurd h
 timed_left q k looks more now queue (NotBefore time) h = h
 
 pub timed_right : (q k : ℕ) (looks more : List Entry) (now queue : ℕ) (t : Timing) → IsTimedBy q k more now queue t → IsTimedBy q k (looks ++ more) now queue t
 timed_right q k looks more now queue (At time) h = (h.0, Contains-append_right looks more h.0 h.1, h.2, h.3)
+timed_right q k looks more now queue (InBlock time) h = absurd h
 timed_right q k looks more now queue (NotBefore time) h = h
 
 pub goes_then : (q k : ℕ) (looks more : List Entry) (now : ℕ) (a b c : Looper) → GoesOnTo q k looks now a b → GoesOnTo q k more now b c → GoesOnTo q k (looks ++ more) now a c

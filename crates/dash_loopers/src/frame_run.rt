@@ -76,7 +76,7 @@ impl ViewRoot {
         ensures origin { origin_of host.new.queue.now host.new.pool.now host.new.poster.ghost_name host.new.pass.ghost_name host.new.began.now.value host.new.pass_began.now.value host.new.handler.id host.new.now ≡ origin_of host.old.queue.now host.old.pool.now host.old.poster.ghost_name host.old.pass.ghost_name host.old.began.now.value host.old.pass_began.now.value host.old.handler.id host.old.now }
         ensures pass { frame_badge_of pass.new ≡ frame_badge_of pass.old }
         ensures root { frame_badge_of self.new.pass ≡ frame_badge_of self.old.pass }
-        ensures ran { OnOk result ((ids : List ℕ) × RanFrame c.now.constants.interval c.now.constants.phases pass.old pass.new ids
+        ensures ran { OnOk result ((ids : List ℕ) × RanFrame c.now.constants.interval c.now.constants.phases host.old.now pass.old pass.new ids
             × ((s : ScriptData) (q : ℕ) → Shows s q (λ a. fold (callback_ran s q host.old.now) a ids) (calls_of host.old.poster.now) self.old (calls_of host.new.poster.now) self.new)) }
     {
         let began = Snapshot::of(&*self);

@@ -10,7 +10,7 @@ ghost use Rattle.looper_run.specs.declared.dispatcher.Did.TheVariants.{No};
 ghost use Rattle.looper_run.specs.Holding.{workplace, held, IsSameOwn};
 ghost use Rattle.looper_run.specs.Acts.{IsOfDispatcher, GrowsBy};
 ghost use Rattle.looper_run.specs.Tests.{IsLent};
-ghost use Rattle.dash_hall.specs.Hosts.{origin_of, IsHost};
+ghost use Rattle.dash_hall.specs.Hosts.{origin_of, IsHost, asks_of};
 ghost use Rattle.dash_hall.specs.Kits.{badge_of};
 ghost use Rattle.dash_loopers.specs.Loopers.{ArePartsOf, IsPlaceOf, IsLooperOf};
 ghost use Rattle.dash_loopers.specs.Players.{Owner, ServesAt, AreSameParts, PlaceWithout};
@@ -229,7 +229,7 @@ impl<'a, R: Wait> Place<'a, R> {
         ensures own { IsSameOwn own.old own.new }
         ensures lent { IsLent (held own.old) (held own.new) }
         ensures rung { own.new.poster.now.view.rung ≡ own.old.poster.now.view.rung }
-        ensures ran { OnOk result ((ids : List ℕ) × RanFrame self.now.script.now.period 4 parts.old.frames parts.new.frames ids
+        ensures ran { OnOk result ((ids : List ℕ) × RanFrame self.now.script.now.period 4 now parts.old.frames parts.new.frames ids
             × Plays self.now.script.now self.now.looper (λ a. fold (callback_ran self.now.script.now self.now.looper now) a ids) (calls_of own.old.poster.now) parts.old (calls_of own.new.poster.now) parts.new) }
         ensures acts { own.new.journal.now.acts ≡ own.old.journal.now.acts }
     {
@@ -266,6 +266,7 @@ impl<'a, R: Wait> Place<'a, R> {
         ensures plays { Plays self.now.script.now self.now.looper (λ a. a) (calls_of own.old.poster.now) parts.old (calls_of own.new.poster.now) parts.new }
         ensures acts { own.new.journal.now.acts ≡ own.old.journal.now.acts }
         ensures seen { IsPrefix parts.old.frames.view.seen parts.new.frames.view.seen }
+        ensures asks { asks_of parts.new.frames ≡ asks_of parts.old.frames }
         ensures calls { calls_of own.new.poster.now ≡ calls_of own.old.poster.now }
     {
         if phase >= PHASES {

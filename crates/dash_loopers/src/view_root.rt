@@ -238,7 +238,7 @@ impl ViewRoot {
         ensures ready { IsHost (origin_of host.new.queue.now host.new.pool.now host.new.poster.ghost_name host.new.pass.ghost_name host.new.began.now.value host.new.pass_began.now.value host.new.handler.id host.new.now) host.new.poster.now host.new.pass.now }
         ensures origin { origin_of host.new.queue.now host.new.pool.now host.new.poster.ghost_name host.new.pass.ghost_name host.new.began.now.value host.new.pass_began.now.value host.new.handler.id host.new.now ≡ origin_of host.old.queue.now host.old.pool.now host.old.poster.ghost_name host.old.pass.ghost_name host.old.began.now.value host.old.pass_began.now.value host.old.handler.id host.old.now }
         ensures pass { frame_badge_of self.new.pass ≡ frame_badge_of self.old.pass }
-        ensures shows { (s : ScriptData) (q : ℕ) → OnOk result (Shows s q (and_posts_frame phase id) (calls_of host.old.poster.now) self.old (calls_of host.new.poster.now) self.new) }
+        ensures shows { (s : ScriptData) (q : ℕ) → OnOk result (Shows s q (and_posts_frame host.old.now phase id) (calls_of host.old.poster.now) self.old (calls_of host.new.poster.now) self.new) }
     {
         host.post_callback(c, &mut self.pass, phase, id, 0)
     }

@@ -1,4 +1,8 @@
-use Rattle.std.proofs.Common.{refl, arith}
+use Rattle.std.proofs.Common.{refl, ap, arith}
+use Rattle.std.specs.Prelude.{◌==◌}
+use Rattle.choreographer.proofs.Recorded.{due_records}
+use Rattle.run_model.specs.FrameAsks.{asks_in}
+use Rattle.run_model.specs.FrameRuns.{nanos_of}
 use Rattle.loop_model.proofs.Prefixes.{prefix_self}
 use Rattle.dash_hall.specs.Hosts.{origin_of}
 use Rattle.dash_loopers.specs.Played.{calls_of}
@@ -22,13 +26,13 @@ pub returns-then-phase-ge-PHASES-clause-seen : goal.returns-then-phase-ge-PHASES
 returns-then-phase-ge-PHASES-clause-seen g c = prefix_self c.args.parts.now.frames.view.seen
 
 pub returns-clause-plays : goal.returns-clause-plays
-returns-clause-plays g c = λ text first a is.
+returns-clause-plays g c = λ text a is.
     (let h = c.host-host.result in
     let k = c.on_due.new.self in
     let o = origin_of h.queue.now h.pool.now h.poster.ghost_name h.pass.ghost_name h.began.now.value h.pass_began.now.value h.handler.id h.now in
     let o' = origin_of k.queue.now k.pool.now k.poster.ghost_name k.pass.ghost_name k.began.now.value k.pass_began.now.value k.handler.id k.now in
     let calls = untold_hosted o o' c.args.own.now.poster.now h.poster.now k.poster.now k.pass.now c.on_due.ensures.origin c.on_due.ensures.ready c.host-host.ensures.began.0 c.host-host.ensures.poster.1 c.on_due.ensures.sends in
-    played_with c.args.self.now.script.now c.args.self.now.looper first (calls_of c.args.own.now.poster.now) (calls_of k.poster.now) c.args.parts.now _ a calls refl refl refl is)
+    played_with c.args.self.now.script.now c.args.self.now.looper (calls_of c.args.own.now.poster.now) (calls_of k.poster.now) c.args.parts.now _ a calls refl refl refl is)
 
 pub returns-clause-calls : goal.returns-clause-calls
 returns-clause-calls g c =
@@ -37,3 +41,6 @@ returns-clause-calls g c =
     let o = origin_of h.queue.now h.pool.now h.poster.ghost_name h.pass.ghost_name h.began.now.value h.pass_began.now.value h.handler.id h.now in
     let o' = origin_of k.queue.now k.pool.now k.poster.ghost_name k.pass.ghost_name k.began.now.value k.pass_began.now.value k.handler.id k.now in
     untold_hosted o o' c.args.own.now.poster.now h.poster.now k.poster.now k.pass.now c.on_due.ensures.origin c.on_due.ensures.ready c.host-host.ensures.began.0 c.host-host.ensures.poster.1 c.on_due.ensures.sends
+
+pub returns-clause-asks : goal.returns-clause-asks
+returns-clause-asks g c = ap asks_in (due_records c.args.parts.now.frames c.on_due.new.pass (λ n. n == nanos_of c.host-host.result.now) c.args.phase c.on_due.result c.on_due.ensures.due)

@@ -12,7 +12,7 @@ loop-place-init g c = record {
   own = record { poster = refl; pass = refl; journal = refl };
   lent = lent_self (held c.args.own.now);
   rung = refl;
-  plays = λ text first a is. is;
+  plays = λ text a is. is;
   acts = refl;
   frames = refl;
   root = refl;

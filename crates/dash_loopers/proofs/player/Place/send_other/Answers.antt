@@ -61,7 +61,7 @@ returns-clause-plays g c = λ timing.
     let others = c.args.parts.now.others in
     let near : c.args.looper < length hall.queues.items = omega (arith, hall.queues.ok.0) in
     let within : c.place_without.result < length others.items = other_within place.script.now hall place.looper c.args.looper c.place_without.result c.args.parts.now c.requires.serves.looper c.requires.serves.are_parts near c.place_without.ensures in
-    on_ok c.send_by.result _ _ c.send_by.ensures.made (λ m text first a is.
+    on_ok c.send_by.result _ _ c.send_by.ensures.made (λ m text a is.
     called_there place.script.now place.looper c.args.looper c.place_without.result c.args.handler c.args.request timing c.index_mut-poster.result.now c.send_by.new.poster _ c.args.parts.now _ c.place_without.ensures
     (slice_get_read others.items others.len c.place_without.result c.index_mut-poster.result.now (omega (arith, others.ok.0)) (omega (arith, within, others.ok.0)) c.index_mut-poster.ensures.value)
-    m refl refl refl first a (subst (λ (p : Sender). IsPlayed place.script.now place.looper first (calls_of p) c.args.parts.now a) (sym c.send_by.ensures.seen) is))
+    m refl refl refl a (subst (λ (p : Sender). IsPlayed place.script.now place.looper (calls_of p) c.args.parts.now a) (sym c.send_by.ensures.seen) is))
