@@ -1,10 +1,8 @@
 -- What the threads have run is carried from their kits at the start to the records at the end.
-use Rattle.std.proofs.Common.{◌≡◌, ◌<◌, ◌≤◌, ◌+◌, ◌==◌, ℕ, zero, suc, List, [], ◌∷◌, ◌++◌, map, length, refl, sym, ap, ◌∙◌, subst, arith, slice_index_or, cond, Bool, if◌then◌else◌}
-use Rattle.std.specs.Prelude.{count_by}
+use Rattle.std.proofs.Common.{◌≡◌, ◌<◌, ◌≤◌, ◌+◌, ◌==◌, ℕ, suc, List, [], ◌∷◌, ◌++◌, map, length, sym, ap, ◌∙◌, subst, arith, slice_index_or, if◌then◌else◌}
 use Rattle.std.specs.List.{remove, AllByRecursion, range_with_len}
 use Rattle.std.proofs.lemmas.List.{get_or-map, length-append, length-map}
-use Rattle.std.proofs.lemmas.List.Sums.{sum_by-append}
-use mathlib.Core.List.{IsPrefix}
+use Rattle.std.proofs.lemmas.List.FromFn.{length-range_with_len, get_or-range_with_len}
 use Rattle.loop_model.specs.declared.entry.Entry.{Entry}
 use Rattle.loop_model.specs.declared.record.QueueRecord.{QueueRecord}
 use Rattle.loop_model.proofs.WellFormedLaws.{All_recursive, All_indexed}
@@ -14,28 +12,27 @@ use Rattle.dash_script.specs.Reading.{HasText}
 use Rattle.run_model.specs.Moments.{in_lockstep}
 use Rattle.run_model.specs.Asks.{entries_by}
 use Rattle.run_model.specs.Planned.{lines_of, labels_on, MakeCalls}
-use Rattle.run_model.specs.FrameRuns.{posts_frame, removes_frame}
-use Rattle.run_model.specs.Run.{IsAsPlanned, IsFrameRun, is_frame_line, is_unframe_line}
+use Rattle.run_model.specs.FrameAsks.{lines_ask}
+use Rattle.run_model.specs.Run.{IsAsPlanned, IsFrameRun}
 use Rattle.dash_hall.specs.declared.hall.Hall.{Hall}
 use Rattle.dash_hall.specs.declared.kit.Kit.{Kit}
+use Rattle.dash_hall.specs.Hosts.{asks_of}
+use Rattle.choreographer.specs.Known.{Known as Pass}
 use Rattle.dash_threads.specs.declared.thread.PostingThread.{PostingThread}
-use Rattle.dash_hall.specs.Kits.{badge_of, badge_for, frame_badge_of, frame_badge_for, IsHall, IsKitOf, AreKitsOf, IsUnusedKit, AreUnusedKits}
-use Rattle.dash_threads.specs.Threads.{IsThread, IsUpTo, HasMadeNone, HasCalled}
+use Rattle.dash_hall.specs.Kits.{badge_of, badge_for, frame_badge_of, frame_badge_for, IsHall, IsKitOf, AreKitsOf, AreUnusedKits}
+use Rattle.dash_threads.specs.Threads.{IsThread, IsUpTo, HasCalled}
 use Rattle.dash_stage.specs.Staged.{IsFrameRecord}
-use Rattle.dash_stage.specs.Records.{AreQueueRecords, AreFrameRecords, HaveAll, HaveSeen}
+use Rattle.dash_stage.specs.Records.{AreQueueRecords, AreFrameRecords, HaveAll}
 use Rattle.dash_hall.specs.Dealing.{AreUsedNowhere}
 use Rattle.dash_stage.specs.Runs.{HasRunAll, HaveRunAll, HaveRunFrom}
 use Rattle.dash_stage.specs.Stages.{AreThreadsFrom, AreFirstKits, AreFirstThreads, AreKitsFrom, HaveRun}
-use Rattle.dash_stage.proofs.Badges.{alike_length, queue_count, choreographer_count}
+use Rattle.dash_hall.proofs.Badges.{alike_length, queue_count, choreographer_count}
+use Rattle.dash_stage.proofs.HallEnds.{some_of}
 use Rattle.dash_stage.proofs.Casting.{first_more, first_thread, other_threads, kit_of_thread, other_kits, frames_of_thread}
 
 -- kits that were used nowhere
 pub unused_kits : (kits : List Kit) → AreUsedNowhere kits → AreUnusedKits kits
-unused_kits kits h = λ k d lt. record { posters = λ q p below. (h k q d lt).0 p below; frames = λ q p below. ((h k q d lt).1 p below).0; turns = λ q p below. ((h k q d lt).1 p below).1 }
-
--- a kit that was not used has made no call
-pub unused_calls : (kit : Kit) → IsUnusedKit kit → HasMadeNone kit.posters.items
-unused_calls kit unused = λ q p lt. ap (entries_by (slice_index_or kit.posters.items q p).sender) (unused.posters q p lt)
+unused_kits kits h = λ k d lt. record { posters = λ q p below. (h k q d lt).0 p below; frames = λ q p below. ((h k q d lt).1 p below).0; turns = λ q p below. ((h k q d lt).1 p below).1; own = λ q p below. ((h k q d lt).1 p below).2 }
 
 pub other_unused : (kits : List Kit) → AreUnusedKits kits → 0 < length kits → AreUnusedKits (remove kits 0)
 other_unused [] h some = absurd (omega (arith, some))
@@ -74,8 +71,7 @@ module _ (s : Script) (hall : Hall) where
   kit_has_run : (n : ℕ) (t : PostingThread) → t.number ≡ n → IsUpTo s (lines_of n s.blocks) t → HasRunAll s n t.kit
   kit_has_run n t number up = record {
     called = subst (λ m. HasCalled s (lines_of n s.blocks) m t.kit.posters.items) number up.called;
-    posted = up.posted;
-    removed = up.removed;
+    asked = up.asked;
   }
 
   -- one thread more has given its kit back
@@ -107,35 +103,25 @@ module _ (s : Script) (hall : Hall) where
   run_kept kits kits' kit all grown ran =
       subst (HaveRunAll s) (sym grown) (first_more (λ k (z : Kit). k < s.threads → HasRunAll s k z) kits kit ran (λ lt. absurd (omega (arith, lt, all))))
 
-any_of : {X : Type 0} (xs : List X) (k : ℕ) → k < length xs → X
-any_of [] k lt = absurd (omega (arith, lt))
-any_of (x ∷ xs) k lt = x
-
-length-numbers : (k n : ℕ) → length (range_with_len k n) ≡ n
-length-numbers k zero = refl
-length-numbers k (suc n) = ap suc (length-numbers (k + 1) n)
-
-numbers_at : (k n i d : ℕ) → i < n → slice_index_or (range_with_len k n) i d ≡ k + i
-numbers_at k zero i d lt = absurd (omega (arith, lt))
-numbers_at k (suc n) zero d lt = let same : k ≡ k + 0 = omega arith in same
-numbers_at k (suc n) (suc i) d lt = numbers_at (k + 1) n i d (omega (arith, lt)) ∙ (let same : k + 1 + i ≡ k + suc i = omega arith in same)
-
 module _ {X : Type 0} (f : X → ℕ) (n : ℕ) (xs : List X) (are : map f xs ≡ range_with_len 0 n) where
   -- there is one for each number
   pub numbered_count : length xs ≡ n
-  numbered_count = sym (length-map xs f) ∙ ap length are ∙ length-numbers 0 n
+  numbered_count = sym (length-map xs f) ∙ ap length are ∙ length-range_with_len 0 n
 
   -- its number is its place
   pub numbered_at : (i : ℕ) (x : X) → i < length xs → f (slice_index_or xs i x) ≡ i
   numbered_at i x lt =
-      sym (get_or-map f xs i x (f x) lt) ∙ ap (λ l. slice_index_or l i (f x)) are ∙ numbers_at 0 n i (f x) (subst (λ m. i < m) numbered_count lt)
+      sym (get_or-map f xs i x (f x) lt) ∙ ap (λ l. slice_index_or l i (f x)) are ∙ get_or-range_with_len 0 n i (f x) (subst (λ m. i < m) numbered_count lt)
       ∙ (let same : 0 + i ≡ i = omega arith in same)
 
--- a longer history has no fewer such entries
-pub count_prefix : {X : Type 0} (p : X → Bool) (xs ys : List X) → IsPrefix xs ys → count_by p xs ≤ count_by p ys
-count_prefix p xs ys h =
-    let sum : count_by p (xs ++ h.0) ≡ count_by p xs + count_by p h.0 = sum_by-append (λ x. cond (p x) 1 0) xs h.0 in
-    subst (λ l. count_by p xs ≤ count_by p l) h.1 (omega (arith, sum))
+-- each frame record is a run's
+pub frame_runs : (s : Script) (frames : List FrameRecord) → HasText s → AreFrameRecords s frames → AllByRecursion (IsFrameRun s) frames
+frame_runs s frames text recs = All_recursive (IsFrameRun s) frames (λ q f lt.
+    let is = All_indexed (IsFrameRecord s) frames recs.lawful q f lt in record {
+      interval = is.interval;
+      phases = is.phases ∙ ap (λ e. if e == 2 then 5 else 4) (sym text.edition);
+      lawful = is.lawful;
+    })
 
 module _ (s : Script) (hall : Hall) (h : IsHall s hall) (kits : List Kit) (are : AreKitsOf s hall kits) (run : HaveRunAll s kits) where
   -- each thread's entries in the records are as its lines plan them
@@ -143,50 +129,26 @@ module _ (s : Script) (hall : Hall) (h : IsHall s hall) (kits : List Kit) (are :
   planned_records records recs all = All_recursive (IsAsPlanned in_lockstep s) records (λ q r lt thread below.
       let count = are.count in
       let in_kits : thread < length kits = omega (arith, below, count) in
-      let d = any_of kits thread in_kits in
+      let d = some_of kits thread in_kits in
       let kit = slice_index_or kits thread d in
       let lines = lines_of thread s.blocks in
       let few = numbered_count (λ (z : QueueRecord). z.looper) s.loopers records recs.loopers in
       let long = alike_length badge_of (badge_for thread) kit.posters.items hall.queues.items (are.each thread d in_kits).posters ∙ queue_count s hall.pool hall.queues.items h.queues in
       let in_posters : q < length kit.posters.items = omega (arith, lt, few, long) in
-      let p = any_of kit.posters.items q in_posters in
+      let p = some_of kit.posters.items q in_posters in
       let is_q = numbered_at (λ (z : QueueRecord). z.looper) s.loopers records recs.loopers q r lt in
       let made = (run thread d in_kits below).called q p in_posters in
       let same = (all thread q d p r in_kits lt).0 in
       subst (λ l. MakeCalls in_lockstep s (labels_on l lines) l lines (entries_by thread (slice_index_or records q r).entries)) (sym is_q)
       (subst (λ (es : List Entry). MakeCalls in_lockstep s (labels_on q lines) q lines es) (sym same) made))
 
-  -- each frame record has the entries of the threads' lines
-  pub frame_runs : (frames : List FrameRecord) → HasText s → AreFrameRecords s frames → HaveSeen s.threads kits frames → AllByRecursion (IsFrameRun s) frames
-  frame_runs frames text recs seen = All_recursive (IsFrameRun s) frames (λ q f lt.
-      let is = All_indexed (IsFrameRecord s) frames recs.lawful q f lt in
-      let is_q = numbered_at (λ (z : FrameRecord). z.looper) s.loopers frames recs.loopers q f lt in
-      let few = numbered_count (λ (z : FrameRecord). z.looper) s.loopers frames recs.loopers in
+  -- each thread's pass asked the looper's choreographer for what the thread's lines ask for
+  pub threads_asked : (q thread : ℕ) (d : Kit) (p : Pass) → q < s.loopers → thread < s.threads
+      → asks_of (slice_index_or (slice_index_or kits thread d).frames.items q p) ≡ lines_ask q (lines_of thread s.blocks)
+  threads_asked q thread d p lt below =
       let count = are.count in
-      let g = slice_index_or frames q f in record {
-        interval = is.interval;
-        phases = is.phases ∙ ap (λ e. if e == 2 then 5 else 4) (sym text.edition);
-        lawful = is.lawful;
-        posted = λ thread below phase id.
-            let in_kits : thread < length kits = omega (arith, below, count) in
-            let d = any_of kits thread in_kits in
-            let kit = slice_index_or kits thread d in
-            let marks = (are.each thread d in_kits).frames ∙ frames_of_thread s hall.choreographers.items thread below in
-            let long = alike_length frame_badge_of (frame_badge_for thread) kit.frames.items hall.choreographers.items marks ∙ choreographer_count s hall.choreographers.items h.choreographers in
-            let in_frames : q < length kit.frames.items = omega (arith, lt, few, long) in
-            let p = any_of kit.frames.items q in_frames in
-            let had = (run thread d in_kits below).posted q p in_frames phase id in
-            let grown = count_prefix (posts_frame phase id) (slice_index_or kit.frames.items q p).view.seen g.entries (seen thread q d p f below lt) in
-            subst (λ l. count_by (is_frame_line l phase id) (lines_of thread s.blocks) ≤ count_by (posts_frame phase id) g.entries) (sym is_q) (omega (arith, had, grown));
-        removed = λ thread below phase id.
-            let in_kits : thread < length kits = omega (arith, below, count) in
-            let d = any_of kits thread in_kits in
-            let kit = slice_index_or kits thread d in
-            let marks = (are.each thread d in_kits).frames ∙ frames_of_thread s hall.choreographers.items thread below in
-            let long = alike_length frame_badge_of (frame_badge_for thread) kit.frames.items hall.choreographers.items marks ∙ choreographer_count s hall.choreographers.items h.choreographers in
-            let in_frames : q < length kit.frames.items = omega (arith, lt, few, long) in
-            let p = any_of kit.frames.items q in_frames in
-            let had = (run thread d in_kits below).removed q p in_frames phase id in
-            let grown = count_prefix (removes_frame phase id) (slice_index_or kit.frames.items q p).view.seen g.entries (seen thread q d p f below lt) in
-            subst (λ l. count_by (is_unframe_line l phase id) (lines_of thread s.blocks) ≤ count_by (removes_frame phase id) g.entries) (sym is_q) (omega (arith, had, grown));
-      })
+      let in_kits : thread < length kits = omega (arith, below, count) in
+      let kit = slice_index_or kits thread d in
+      let marks = (are.each thread d in_kits).frames ∙ frames_of_thread s hall.choreographers.items thread below in
+      let long = alike_length frame_badge_of (frame_badge_for thread) kit.frames.items hall.choreographers.items marks ∙ choreographer_count s hall.choreographers.items h.choreographers in
+      (run thread d in_kits below).asked q p (omega (arith, lt, long))

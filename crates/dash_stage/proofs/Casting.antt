@@ -12,7 +12,7 @@ use Rattle.dash_hall.specs.declared.kit.Kit.{Kit}
 use Rattle.dash_threads.specs.declared.thread.PostingThread.{PostingThread}
 use Rattle.dash_loopers.specs.declared.looper.StageLooper.{StageLooper}
 use Rattle.dash_stage.specs.declared.control.Controller.{Controller}
-use Rattle.dash_hall.specs.Kits.{frame_badge_of, frame_badge_for, frames_for, looper_frames, ArePostersOf, IsKitOf, AreKitsOf}
+use Rattle.dash_hall.specs.Kits.{frame_badge_of, frame_badge_for, frames_for, looper_frames, ArePostersOf, IsKitOf, AreKitsOf, IsUnusedKit}
 use Rattle.dash_threads.specs.Threads.{IsThread}
 use Rattle.dash_loopers.specs.Loopers.{IsLooper}
 use Rattle.dash_stage.specs.Controllers.{IsController}
@@ -50,8 +50,8 @@ module _ (s : Script) (hall : Hall) where
       }
 
   -- the controller with the last kit
-  pub controller_of : (kit : Kit) → IsKitOf s hall (controller s) kit → IsController s hall (record { kit = kit })
-  controller_of kit is = record { posters = is.posters; frames = is.frames ∙ frames_of_controller s hall.choreographers.items; pass = is.pass }
+  pub controller_of : (kit : Kit) → IsKitOf s hall (controller s) kit → IsUnusedKit kit → IsController s hall (record { kit = kit })
+  controller_of kit is unused = record { posters = is.posters; frames = is.frames ∙ frames_of_controller s hall.choreographers.items; pass = is.pass; idle = unused.own }
 
   pub kit_of_controller : (c : Controller) → IsController s hall c → IsKitOf s hall (controller s) c.kit
   kit_of_controller c is = record { posters = is.posters; frames = is.frames ∙ sym (frames_of_controller s hall.choreographers.items); pass = is.pass }

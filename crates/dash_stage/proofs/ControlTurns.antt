@@ -38,7 +38,7 @@ use Rattle.dash_hall.specs.Kits.{IsHall, queue_constants}
 use Rattle.dash_stage.specs.Controllers.{IsController, are_advances, time_in, calls_on, OnlyMoves, HasReached, IsQuitting, IsClosing, HasClosed, CallsNone}
 use Rattle.dash_stage.specs.Timeliness.{AreBy, whole_on}
 use Rattle.dash_stage.specs.Playing.{IsStuck}
-use Rattle.dash_stage.proofs.Badges.{queue_is}
+use Rattle.dash_hall.proofs.Badges.{queue_is}
 use Rattle.dash_stage.proofs.HallEnds.{own_entries}
 use Rattle.dash_hall.proofs.Growing.{turn_makes, own_of_one}
 use Rattle.dash_stage.proofs.Controlling.{own_poster, has_poster}

@@ -1,5 +1,9 @@
 -- The controller's posters and passes, and what its calls leave of them.
-use Rattle.std.proofs.Common.{◌≡◌, ◌<◌, ◌+◌, ℕ, length, sym, ap, ◌∙◌, subst, true}
+use Rattle.std.proofs.Common.{◌≡◌, ◌<◌, ◌+◌, ℕ, [], ◌++◌, length, drop, set, get_or, append-nil, sym, ap, ◌∙◌, subst, arith, true}
+use Rattle.std.proofs.lemmas.List.{get_or-set_same, get_or-set_other, length-set}
+use mathlib.Core.Logic.{dite}
+use native.Mathlib.Decide.{ℕ_discrete}
+use Rattle.choreographer.proofs.Counting.{drop_prefix}
 use Rattle.std.specs.Prelude.{slice_index_or}
 use Rattle.std.specs.Vec.{vec_len, with_item}
 use Rattle.atomic_table.specs.Seated.{TableId}
@@ -16,7 +20,7 @@ use Rattle.dash_hall.specs.declared.hall.Hall.{Hall}
 use Rattle.dash_stage.specs.declared.control.Controller.{Controller}
 use Rattle.dash_hall.specs.Kits.{badge_of, badge_for, frame_badge_of, frame_badge_for, IsHall}
 use Rattle.dash_stage.specs.Controllers.{IsController}
-use Rattle.dash_stage.proofs.Badges.{alike_length, queue_count, choreographer_count, poster_is, pass_is, queue_is, posters_kept, passes_kept, turn_badge, gone_badge, frame_turn_badge}
+use Rattle.dash_hall.proofs.Badges.{alike_length, queue_count, choreographer_count, poster_is, pass_is, queue_is, posters_kept, passes_kept, turn_badge, gone_badge, frame_turn_badge}
 
 -- the controller has a poster for each looper
 pub poster_count : (s : Script) (hall : Hall) (c : Controller) → IsHall s hall → IsController s hall c → length c.kit.posters.items ≡ s.loopers
@@ -34,7 +38,7 @@ module _ (s : Script) (hall : Hall) (h : IsHall s hall) (i : ℕ) (lt : i < s.lo
     pub has_poster : i < length c.kit.posters.items
     has_poster = subst (λ n. i < n) (sym (poster_count s hall c h k)) lt
 
-    pass_count : length c.kit.frames.items ≡ s.loopers
+    pub pass_count : length c.kit.frames.items ≡ s.loopers
     pass_count = alike_length frame_badge_of (frame_badge_for (s.threads + 2)) c.kit.frames.items hall.choreographers.items k.frames ∙ choreographer_count s hall.choreographers.items h.choreographers
 
     -- it has a poster and a pass for each looper
@@ -71,6 +75,7 @@ module _ (s : Script) (hall : Hall) (h : IsHall s hall) (i : ℕ) (lt : i < s.lo
       posters = posters_kept (controller s) hall.queues.items c.kit.posters.items k.posters i p' p (gone_badge p p' c.kit.pass pass' on ∙ ap badge_of is_p);
       frames = k.frames;
       pass = on.home ∙ k.pass;
+      idle = k.idle;
     }
 
     -- a turn of one of its posters leaves it the controller
@@ -80,13 +85,27 @@ module _ (s : Script) (hall : Hall) (h : IsHall s hall) (i : ℕ) (lt : i < s.lo
       posters = posters_kept (controller s) hall.queues.items c.kit.posters.items k.posters i p' p (turn_badge p p' x y t ∙ ap badge_of is_p);
       frames = k.frames;
       pass = k.pass;
+      idle = k.idle;
     }
 
-    -- and so does a turn of one of its passes
-    pub after_frame_turn : (p p' : Pass) (x y : Kept) → p ≡ slice_index_or c.kit.frames.items i p → IsFrameTurn p p' x y
+    -- and so does a turn of one of its passes that changes nothing
+    pub after_frame_turn : (p p' : Pass) (x : Kept) → p ≡ slice_index_or c.kit.frames.items i p → IsFrameTurn p p' x x
         → IsController s hall (record { kit = record { posters = c.kit.posters; pass = c.kit.pass; frames = with_item c.kit.frames i p' } })
-    after_frame_turn p p' x y is_p t = record {
+    after_frame_turn p p' x is_p t = record {
       posters = k.posters;
-      frames = passes_kept (s.threads + 2) hall.choreographers.items c.kit.frames.items k.frames i p' p (frame_turn_badge p p' x y t ∙ ap frame_badge_of is_p);
+      frames = passes_kept (s.threads + 2) hall.choreographers.items c.kit.frames.items k.frames i p' p (frame_turn_badge p p' x x t ∙ ap frame_badge_of is_p);
       pass = k.pass;
+      idle = λ q d below. dite (ℕ_discrete q i)
+          (λ here. ap (λ m. (get_or (set c.kit.frames.items i p') m d).view.own) here ∙ (ap (λ (z : Pass). z.view.own) (get_or-set_same c.kit.frames.items i p' d has_pass) ∙ still))
+          (λ there. ap (λ (z : Pass). z.view.own) (get_or-set_other c.kit.frames.items i q p' d there)
+          ∙ k.idle q d (let same = length-set c.kit.frames.items i p' in omega (arith, below, same)));
     }
+      where
+        has_pass : i < length c.kit.frames.items
+        has_pass = subst (λ n. i < n) (sym pass_count) lt
+
+        still : p'.view.own ≡ []
+        still =
+            let es = x.frames.entries in
+            let none : drop (length es) es ≡ [] = drop_prefix es [] es (append-nil es) in
+            t.own ∙ (ap (λ l. p.view.own ++ l) none ∙ (append-nil p.view.own ∙ (ap (λ (z : Pass). z.view.own) is_p ∙ k.idle i p has_pass)))

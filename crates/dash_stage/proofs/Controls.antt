@@ -36,7 +36,7 @@ use Rattle.run_model.specs.Asks.{entries_by}
 use Rattle.run_model.specs.Moments.{in_lockstep}
 use Rattle.run_model.specs.Senders.{controller, sender_count}
 use Rattle.run_model.specs.Run.{IsHistory, IsControlled, all_entries, setting_of}
-use Rattle.run_model.specs.Control.{is_advance, is_halt, is_safe_quit, is_empty, is_closing, are_controls, is_quit_by_others, disposed_count, is_controlled}
+use Rattle.run_model.specs.Control.{is_advance, is_halt, is_quit, is_safe_quit, is_empty, is_closing, are_controls, is_quit_by_others, disposed_count, is_controlled}
 use Rattle.run_model.proofs.RunLaws.{entries_by-append, entries_by-own, entries_by-unchanged}
 use Rattle.run_model.proofs.ControlLaws.{are_advances as are_advances_in, are_controls-last, are_controls-quit}
 use Rattle.dash_hall.specs.declared.hall.Hall.{Hall}
@@ -46,7 +46,7 @@ use Rattle.dash_hall.specs.Growth.{own}
 use Rattle.dash_hall.specs.Kits.{badge_of, badge_for, ArePostersOf, IsHall, AreKitsOf, OthersAreOver}
 use Rattle.dash_stage.specs.Controllers.{are_advances, time_in, calls_on, HasClosed}
 use Rattle.dash_stage.specs.Records.{AreQueueRecords, HaveAll}
-use Rattle.dash_stage.proofs.Badges.{alike_length, queue_count}
+use Rattle.dash_hall.proofs.Badges.{alike_length, queue_count}
 use Rattle.dash_stage.proofs.HallEnds.{some_of}
 use Rattle.dash_stage.proofs.Carried.{numbered_count, numbered_at}
 
@@ -111,11 +111,6 @@ halts_at_end end es e h reached is halted =
     let time : time_in es ≡ end = omega (arith, within, reached) in
     are_controls-last true true end false es e (advances_in_lockstep end es h) (ap is_advance is)
     (and_from _ _ (and_from _ _ (ap is_halt is) (ap is_halted halted)) (eq-eqb (moment_of e.call) end (ap moment_of is ∙ time)))
-
--- a call that quits a queue
-abbrev is_quit : Call → Bool
-is_quit (Quit safe now) = true
-is_quit _ = false
 
 -- an Advance neither halts nor quits
 advance_alone : (call : Call) → is_advance call ≡ true → (is_halt call ≡ false) × (is_quit call ≡ false)

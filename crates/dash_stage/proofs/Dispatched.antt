@@ -16,7 +16,7 @@ use Rattle.dash_hall.specs.Growth.{own}
 use Rattle.dash_hall.specs.Kits.{badge_of, badge_for, IsHall, AreKitsOf}
 use Rattle.dash_loopers.specs.Loopers.{HaveTold}
 use Rattle.dash_stage.specs.Records.{AreQueueRecords, AreJournals, HaveAll}
-use Rattle.dash_stage.proofs.Badges.{alike_length, queue_count, poster_at}
+use Rattle.dash_hall.proofs.Badges.{alike_length, queue_count, poster_at}
 use Rattle.dash_stage.proofs.HallEnds.{some_of}
 use Rattle.dash_stage.proofs.Carried.{numbered_count}
 use Rattle.dash_loopers.proofs.LooperTold.{taken_own}

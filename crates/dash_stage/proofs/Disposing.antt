@@ -1,8 +1,9 @@
 -- Who disposes of a queue, and what stood before a looper's calls but that one.
 use Rattle.std.proofs.Common.{◌≡◌, ◌<◌, ◌+◌, ℕ, Bool, true, false, List, [], ◌∷◌, ◌++◌, Option, Some, None, refl, sym, ap, ◌∙◌, cond}
-use Rattle.std.specs.Prelude.{◌==◌, ◌&&◌, not, nat_le, position, if◌then◌else◌}
+use Rattle.std.specs.Prelude.{◌==◌, ◌&&◌, nat_le, position, if◌then◌else◌}
 use Rattle.std.specs.List.{AllByRecursion, list_any}
 use Rattle.std.specs.Option.{option_map}
+use Rattle.std.proofs.Math.Bool.{and-false}
 use Rattle.std.proofs.lemmas.Bool.{and_parts, eq-eqb, false_from_ne_true, or_parts}
 use Rattle.std.proofs.lemmas.List.Sums.{sum_by-cons}
 use Rattle.loop_model.specs.declared.call.Call.{Call}
@@ -21,6 +22,7 @@ use Rattle.run_model.specs.Control.{is_advance, is_halt, is_safe_quit, is_empty,
 use Rattle.run_model.specs.Acts.{IsSent}
 use Rattle.dash_loopers.specs.Loopers.{is_disposal, calls_among}
 use Rattle.dash_stage.specs.Playing.{befores_called}
+use Rattle.dash_stage.proofs.RoundTimes.{is_call_of}
 use Rattle.dash_stage.proofs.OwnLooks.{NoneDisposes, asks_look, no_look_made}
 
 -- what is asked, where anything is, is a look for a message
@@ -65,7 +67,8 @@ planned_no_look s labels q u (line.Watch l f m a) = refl
 planned_no_look s labels q u (line.Event l f m) = refl
 planned_no_look s labels q u (line.Unframe l p i) = refl
 
-lines_dispose_nothing : (m : Mode) (s : Script) (labels : List ℕ) (q : ℕ) (tokens : List ℕ) (ls : List Timed) (es : List Entry) → AreFor (IsPlanned m s labels q) tokens ls es → NoneDisposes es
+-- no entry for a line disposes of a queue
+pub lines_dispose_nothing : (m : Mode) (s : Script) (labels : List ℕ) (q : ℕ) (tokens : List ℕ) (ls : List Timed) (es : List Entry) → AreFor (IsPlanned m s labels q) tokens ls es → NoneDisposes es
 lines_dispose_nothing m s labels q tokens [] [] h = tt
 lines_dispose_nothing m s labels q tokens [] (e ∷ es) h = absurd h
 lines_dispose_nothing m s labels q tokens (l ∷ ls) [] h = absurd h
@@ -140,13 +143,21 @@ none_by k (e ∷ es) h = go (none_by k es h.1) (e.sender == k) refl
     go rest true own = rw own (h.0, rest)
     go rest false other = rw other rest
 
--- where looks alone dispose, and none did, none is counted
+-- where looks alone dispose, an entry that is no look that did was not answered so
+not_disposed : (e : Entry) → (is_disposed e.reply ≡ true → is_next e.call ≡ true) → is_disposal e ≡ false → is_disposed e.reply ≡ false
+not_disposed e looks none = false_from_ne_true (is_disposed e.reply) (λ d. absurd (let look = looks d in let wrong : true ≡ false = (λ i. sym look i && sym d i) ∙ none in cc))
+
+-- so none was, where none did
+pub none_answered : (es : List Entry) → AllByRecursion (λ e. is_disposed e.reply ≡ true → is_next e.call ≡ true) es → NoneDisposes es → AllByRecursion (λ e. is_disposed e.reply ≡ false) es
+none_answered [] looks none = tt
+none_answered (e ∷ es) looks none = (not_disposed e looks.0 none.0, none_answered es looks.1 none.1)
+
+-- and none is counted
 pub none_counted : (es : List Entry) → AllByRecursion (λ e. is_disposed e.reply ≡ true → is_next e.call ≡ true) es → NoneDisposes es → disposed_count es ≡ 0
 none_counted [] looks none = refl
 none_counted (e ∷ es) looks none =
     let rest : disposed_count es ≡ 0 = none_counted es looks.1 none.1 in
-    let off : is_disposed e.reply ≡ false = false_from_ne_true (is_disposed e.reply) (λ d. absurd (let look = looks.0 d in let wrong : true ≡ false = (λ i. sym look i && sym d i) ∙ none.0 in cc)) in
-    let first : cond (is_disposed e.reply) 1 0 ≡ 0 = ap (λ (t : Bool). cond t 1 0) off in
+    let first : cond (is_disposed e.reply) 1 0 ≡ 0 = ap (λ (t : Bool). cond t 1 0) (not_disposed e looks.0 none.0) in
     sum_by-cons (λ (f : Entry). cond (is_disposed f.reply) 1 0) e es ∙ (λ i. first i + rest i)
 
 -- where the queue was not disposed of, no entry did
@@ -154,12 +165,8 @@ pub none_disposed : (es : List Entry) → list_any (λ (e : Entry). is_disposed 
 none_disposed [] h = tt
 none_disposed (e ∷ es) h = let parts = or_parts (is_disposed e.reply) (list_any (λ f. is_disposed f.reply) es) h in (no_reply e parts.0, none_disposed es parts.1)
   where
-    and_off : (t : Bool) → (t && false) ≡ false
-    and_off true = refl
-    and_off false = refl
-
     no_reply : (e : Entry) → is_disposed e.reply ≡ false → is_disposal e ≡ false
-    no_reply e off = ap (λ t. is_next e.call && t) off ∙ and_off (is_next e.call)
+    no_reply e off = ap (λ t. is_next e.call && t) off ∙ and-false (is_next e.call)
 
 -- the calls but the disposals dispose of nothing
 pub calls_dispose_nothing : (es : List Entry) → NoneDisposes (calls_among es)
@@ -211,41 +218,37 @@ closing_sent q tokens e is =
 
 -- ---- what stood before a sender's calls
 
--- a call of the sender that did not dispose of the queue
-abbrev is_called : ℕ → Entry → Bool
-is_called k e = e.sender == k && not (is_disposal e)
-
 module _ (k : ℕ) where
-  same_befores : (past es : List Entry) → NoneDisposes (entries_by k es) → befores_after k past es ≡ befores_from (is_called k) past es
+  same_befores : (past es : List Entry) → NoneDisposes (entries_by k es) → befores_after k past es ≡ befores_from (is_call_of k) past es
   same_befores past [] none = refl
   same_befores past (e ∷ es) none =
       let parts = none_first k e es none in
       first parts.0 (e.sender == k) refl (same_befores (past ++ e ∷ []) es parts.1)
     where
-      first : ((e.sender == k) ≡ true → is_disposal e ≡ false) → (t : Bool) → (e.sender == k) ≡ t → befores_after k (past ++ e ∷ []) es ≡ befores_from (is_called k) (past ++ e ∷ []) es
-          → befores_after k past (e ∷ es) ≡ befores_from (is_called k) past (e ∷ es)
+      first : ((e.sender == k) ≡ true → is_disposal e ≡ false) → (t : Bool) → (e.sender == k) ≡ t → befores_after k (past ++ e ∷ []) es ≡ befores_from (is_call_of k) (past ++ e ∷ []) es
+          → befores_after k past (e ∷ es) ≡ befores_from (is_call_of k) past (e ∷ es)
       first free true own rest = let mine = free own in rw (own, mine) (ap (λ l. before past ∷ l) rest)
       first free false other rest = rw other rest
 
-  no_befores : (past es : List Entry) → entries_by k es ≡ [] → (befores_after k past es ≡ []) × (befores_from (is_called k) past es ≡ [])
+  no_befores : (past es : List Entry) → entries_by k es ≡ [] → (befores_after k past es ≡ []) × (befores_from (is_call_of k) past es ≡ [])
   no_befores past [] none = (refl, refl)
   no_befores past (e ∷ es) none = go (e.sender == k) refl none (λ h. no_befores (past ++ e ∷ []) es h)
     where
-      go : (t : Bool) → (e.sender == k) ≡ t → (if t then e ∷ entries_by k es else entries_by k es) ≡ [] → (entries_by k es ≡ [] → (befores_after k (past ++ e ∷ []) es ≡ []) × (befores_from (is_called k) (past ++ e ∷ []) es ≡ []))
-          → (befores_after k past (e ∷ es) ≡ []) × (befores_from (is_called k) past (e ∷ es) ≡ [])
+      go : (t : Bool) → (e.sender == k) ≡ t → (if t then e ∷ entries_by k es else entries_by k es) ≡ [] → (entries_by k es ≡ [] → (befores_after k (past ++ e ∷ []) es ≡ []) × (befores_from (is_call_of k) (past ++ e ∷ []) es ≡ []))
+          → (befores_after k past (e ∷ es) ≡ []) × (befores_from (is_call_of k) past (e ∷ es) ≡ [])
       go true own none rest = absurd cc
       go false other none rest = let both = rest none in (rw other both.0, rw other both.1)
 
   -- one more stood before the last entry, which disposed of the queue
   last_before : (past es cs : List Entry) (e : Entry) → entries_by k es ≡ cs ++ e ∷ [] → NoneDisposes cs → is_disposal e ≡ true
-      → (b : Before) × (befores_after k past es ≡ befores_from (is_called k) past es ++ b ∷ [])
+      → (b : Before) × (befores_after k past es ≡ befores_from (is_call_of k) past es ++ b ∷ [])
   last_before past [] [] e whole none is = absurd cc
   last_before past [] (c ∷ cs) e whole none is = absurd cc
   last_before past (x ∷ es) cs e whole none is = go (x.sender == k) refl cs whole none (λ ds w n. last_before (past ++ x ∷ []) es ds e w n is)
     where
       go : (t : Bool) → (x.sender == k) ≡ t → (cs : List Entry) → (if t then x ∷ entries_by k es else entries_by k es) ≡ cs ++ e ∷ [] → NoneDisposes cs
-          → ((ds : List Entry) → entries_by k es ≡ ds ++ e ∷ [] → NoneDisposes ds → (b : Before) × (befores_after k (past ++ x ∷ []) es ≡ befores_from (is_called k) (past ++ x ∷ []) es ++ b ∷ []))
-          → (b : Before) × (befores_after k past (x ∷ es) ≡ befores_from (is_called k) past (x ∷ es) ++ b ∷ [])
+          → ((ds : List Entry) → entries_by k es ≡ ds ++ e ∷ [] → NoneDisposes ds → (b : Before) × (befores_after k (past ++ x ∷ []) es ≡ befores_from (is_call_of k) (past ++ x ∷ []) es ++ b ∷ []))
+          → (b : Before) × (befores_after k past (x ∷ es) ≡ befores_from (is_call_of k) past (x ∷ es) ++ b ∷ [])
       go true own [] whole none rest = (
           let same : x ≡ e = cc in
           let over : entries_by k es ≡ [] = cc in

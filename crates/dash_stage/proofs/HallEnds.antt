@@ -4,7 +4,7 @@ use Rattle.std.specs.Prelude.{◌==◌}
 use Rattle.std.specs.List.{AllByRecursion}
 use Rattle.std.proofs.Math.ListN.{get_or-append}
 use Rattle.std.proofs.Math.Seq.{get_or-append_seam}
-use Rattle.std.proofs.lemmas.List.{get_or-map, get_or-set_same, get_or-set_other, get_or_default, get_or-drop, length-set, length-drop, length-map, drop-drop}
+use Rattle.std.proofs.lemmas.List.{nil_from_length, get_or-map, get_or-set_same, get_or-set_other, get_or_default, get_or-drop, length-set, length-drop, length-map, drop-drop}
 use Rattle.std.proofs.lemmas.List.FromFn.{get_or-map-range_with_len, length-map-range_with_len}
 use Rattle.std.proofs.lemmas.List.Sums.{length-filter}
 use mathlib.Core.Logic.{dite}
@@ -93,11 +93,7 @@ own_entries p k entries is begins made =
     ap (λ (n : ℕ). entries_by n entries) (sym is)
     ∙ (ap (entries_by p.sender) (sym begins.1)
     ∙ (entries_by-append p.sender p.view.seen begins.0
-    ∙ (ap (λ l. own p ++ l) (nobody _ (length-filter (λ (e : Entry). e.sender == p.sender) begins.0 ∙ none)) ∙ append-nil _)))
-  where
-    nobody : (l : List Entry) → length l ≡ 0 → l ≡ []
-    nobody [] h = refl
-    nobody (x ∷ xs) h = absurd (omega (arith, h))
+    ∙ (ap (λ l. own p ++ l) (nil_from_length _ (length-filter (λ (e : Entry). e.sender == p.sender) begins.0 ∙ none)) ∙ append-nil _)))
 
 pub next_have : (q : Shared TableId) (kits : List Kit) → AreNext q kits → HavePosters kits
 next_have q kits next k d lt = (next.each k d lt).some

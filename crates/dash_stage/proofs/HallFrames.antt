@@ -3,7 +3,7 @@ use Rattle.std.proofs.Common.{◌≡◌, ℕ, zero, suc, ◌+◌, ◌-◌, ◌<�
 use Rattle.std.specs.List.{AllByRecursion, range_with_len}
 use Rattle.std.proofs.Math.ListN.{get_or-append}
 use Rattle.std.proofs.Math.Seq.{get_or-append_seam, drop-append_seam}
-use Rattle.std.proofs.lemmas.List.{get_or-map, get_or-set_same, get_or-set_other, get_or_default, get_or-drop, length-set, length-map, drop-drop, drop-map}
+use Rattle.std.proofs.lemmas.List.{get_or-map, get_or-set_same, get_or-set_other, get_or_default, get_or-drop, get_or-append_right, ext_get_or, length-set, length-map, drop-drop, drop-map}
 use Rattle.std.proofs.lemmas.List.FromFn.{get_or-map-range_with_len, length-map-range_with_len}
 use mathlib.Core.Logic.{dite}
 use mathlib.Core.List.{map-append, IsPrefix}
@@ -13,14 +13,14 @@ use Rattle.frame_phases.specs.declared.entry.FrameEntry.{FrameEntry}
 use Rattle.frame_phases.specs.declared.entry.FrameRecord.{FrameRecord}
 use Rattle.dash_script.specs.declared.script.Script.{Script}
 use Rattle.choreographer.specs.Known.{Shared as Frames, Known as Pass, IsOf as IsOfFrames}
-use Rattle.choreographer.specs.Ends.{AreInOrder, BeginWithSeen}
+use Rattle.choreographer.specs.Ends.{AreInOrder, BeginWithSeen, AreTheirs}
 use Rattle.dash_hall.specs.declared.kit.Kit.{Kit}
 use Rattle.dash_hall.specs.Kits.{FrameBadge, frame_badge_of, frame_badge_for, AreChoreographersOf, frame_key, frame_constants}
 use Rattle.dash_hall.specs.Dealing.{GivesPass, holder_of, given, given_of}
-use Rattle.dash_stage.specs.Records.{HaveSeen, HaveSeenOwn, AreFrameRecords}
+use Rattle.dash_stage.specs.Records.{passes_at, AreAllTheirs, HaveSeenOwn, AreFrameRecords}
 use Rattle.dash_stage.specs.Staged.{IsFrameRecord}
-use Rattle.dash_stage.specs.Ending.{BeginWithPasses, HaveAllPasses, HasFramesLeft, HaveFramesLeft, BeginWithNext, BeginWithOwn, AreOfPool}
-use Rattle.dash_hall.proofs.HallPasses.{given_one, given_more, given_parts, given_none, is_given, not_given, given_all, of_thread, of_other, thread_holds, looper_holds}
+use Rattle.dash_stage.specs.Ending.{BeginWithPasses, HaveAllPasses, HasFramesLeft, HaveFramesLeft, AreOfNext, BeginWithOwn, AreOfPool, KeepFrames}
+use Rattle.dash_hall.proofs.HallPasses.{given_one, given_more, given_parts, given_none, is_given, not_given, given_all, of_thread, of_other, of_controller, thread_holds, looper_holds, controller_holds}
 use Rattle.dash_hall.proofs.HallSteps.{within_parts, at_parts}
 use Rattle.dash_stage.proofs.HallEnds.{numbers_more}
 
@@ -36,18 +36,29 @@ given_mine s looper c k (suc zero) is small =
     ∙ (λ i. given_none s looper c k s.threads (omega arith) (omega (arith, is)) i ++ (ap (given_one s looper c k) zeroth ∙ one) i))
 given_mine s looper c k (suc (suc i)) is small = absurd (omega (arith, small))
 
--- the passes with the first numbers were taken from the kits
+-- and none comes before the controller's
+given_final : (s : Script) (looper : ℕ) (c : Frames) → looper < s.loopers → length (given s looper c (s.threads + s.loopers) 0 (s.threads + 2)) ≡ 0
+given_final s looper c few =
+    let k : ℕ = s.threads + s.loopers in
+    let both : s.threads + 2 ≡ s.threads + 1 + 1 = omega arith in
+    let zeroth : 0 + s.threads ≡ s.threads = omega arith in
+    let first : 0 + (s.threads + 1) ≡ s.threads + 1 = omega arith in
+    let a = not_given s looper c k s.threads (s.threads + looper) (looper_holds s looper s.threads (omega arith) (omega arith)) (λ e. absurd (omega (arith, e, few))) in
+    let b = not_given s looper c k (s.threads + 1) (s.threads + looper) (looper_holds s looper (s.threads + 1) (omega arith) (omega arith)) (λ e. absurd (omega (arith, e, few))) in
+    let one : given s looper c k 0 (s.threads + 1) ≡ [] =
+    given_more s looper c k 0 s.threads ∙ (λ i. given_none s looper c k s.threads (omega arith) (omega arith) i ++ (ap (given_one s looper c k) zeroth ∙ a) i) in
+    ap length (ap (given s looper c k 0) both ∙ (given_more s looper c k 0 (s.threads + 1) ∙ (λ i. one i ++ (ap (given_one s looper c k) first ∙ b) i)))
+
+-- the passes with the first numbers were taken from the kits, each from its holder's
 pub record AreTaken (s : Script) (looper : ℕ) (c : Frames) (number : ℕ) (orig : List Kit) (passes : List Pass) (kits : List Kit) : Type 0 where
   pub order : AreInOrder c passes
-  pub firsts : (k : ℕ) (d : Kit) (p : Pass) → k < number → k < s.threads → get_or passes k p ≡ get_or (get_or orig k d).frames.items 0 p
-  pub mine : (i : ℕ) (d : Kit) (p : Pass) → i < 2 → s.threads + i < number → get_or passes (s.threads + i) p ≡ get_or (get_or orig (s.threads + looper) d).frames.items i p
+  pub placed : (k : ℕ) (d : Kit) (p : Pass) → k < number → get_or passes k p ≡ get_or (get_or orig (holder_of s looper k) d).frames.items (length (given s looper c (holder_of s looper k) 0 k)) p
   pub left : HaveFramesLeft (λ k. length (given s looper c k 0 number)) orig kits
 
 pub taken_none : (s : Script) (looper : ℕ) (c : Frames) (kits : List Kit) → AreTaken s looper c 0 kits [] kits
 taken_none s looper c kits = record {
   order = λ k d lt. absurd (omega (arith, lt));
-  firsts = λ k d p lt thread. absurd (omega (arith, lt));
-  mine = λ i d p small lt. absurd (omega (arith, lt));
+  placed = λ k d p lt. absurd (omega (arith, lt));
   left = record { count = refl; each = λ k d lt. record { frames = refl; pass = refl } };
 }
 
@@ -98,30 +109,21 @@ takes_more s looper c number orig passes passes' p kits kits' h e kit lt held wi
           let last : k ≡ length passes = omega (arith, late, below, all) in
           subst (λ (x : Pass). IsOfFrames x c × (x.number ≡ k)) (sym (ap (λ j. get_or (passes ++ p ∷ []) j d) last ∙ get_or-append_seam passes p [] d))
           ((ap (λ (b : FrameBadge). b.table) badge, ap (λ (b : FrameBadge). b.constants) badge), ap (λ (b : FrameBadge). b.number) badge ∙ sym (last ∙ count)));
-      firsts = λ k d x below thread. dite (dec_lt k number)
-          (λ early. get_or-append passes (p ∷ []) x k (omega (arith, early, count)) ∙ taken.firsts k d x early thread)
+      placed = λ k d x below. dite (dec_lt k number)
+          (λ early. get_or-append passes (p ∷ []) x k (omega (arith, early, count)) ∙ taken.placed k d x early)
           (λ late.
           let last : k ≡ number = omega (arith, late, below) in
-          let mine : h ≡ k = held ∙ (ap (holder_of s looper) (sym last) ∙ thread_holds s looper k thread) in
-          let none : given s looper c h 0 number ≡ [] = given_none s looper c h number (omega (arith, thread, last)) (omega (arith, mine, last)) in
-          let first : p ∷ kit.frames.items ≡ (get_or orig h d).frames.items = sym gives.frames ∙ (ap (λ (y : Kit). y.frames.items) (get_or_default kits h e d inside) ∙ ((taken.left.each h d within).frames ∙ ap (λ l. drop (length l) (get_or orig h d).frames.items) none)) in
-          ap (λ j. get_or (passes ++ p ∷ []) j x) (last ∙ sym count)
-          ∙ (get_or-append_seam passes p [] x
-          ∙ (ap (λ l. get_or l 0 x) first ∙ ap (λ j. get_or (get_or orig j d).frames.items 0 x) mine)));
-      mine = λ i d x small below. dite (dec_lt (s.threads + i) number)
-          (λ early. get_or-append passes (p ∷ []) x (s.threads + i) (omega (arith, early, count)) ∙ taken.mine i d x small early)
-          (λ late.
-          let last : s.threads + i ≡ number = omega (arith, late, below) in
-          let here : h ≡ s.threads + looper = held ∙ (ap (holder_of s looper) (sym last) ∙ looper_holds s looper (s.threads + i) (omega arith) (omega (arith, small))) in
-          let gone : length (given s looper c h 0 number) ≡ i = ap (λ m. length (given s looper c h 0 m)) (sym last) ∙ given_mine s looper c h i here small in
-          let place : i + 0 ≡ i = omega arith in
-          let next : p ∷ kit.frames.items ≡ drop i (get_or orig h d).frames.items =
-          sym gives.frames ∙ (ap (λ (y : Kit). y.frames.items) (get_or_default kits h e d inside) ∙ ((taken.left.each h d within).frames ∙ ap (λ m. drop m (get_or orig h d).frames.items) gone)) in
+          let here : h ≡ holder_of s looper k = held ∙ ap (holder_of s looper) (sym last) in
+          let gone : ℕ = length (given s looper c h 0 number) in
+          let next : p ∷ kit.frames.items ≡ drop gone (get_or orig h d).frames.items =
+          sym gives.frames ∙ (ap (λ (y : Kit). y.frames.items) (get_or_default kits h e d inside) ∙ (taken.left.each h d within).frames) in
           ap (λ j. get_or (passes ++ p ∷ []) j x) (last ∙ sym count)
           ∙ (get_or-append_seam passes p [] x
           ∙ (ap (λ l. get_or l 0 x) next
-          ∙ (get_or-drop i (get_or orig h d).frames.items 0 x
-          ∙ (ap (λ m. get_or (get_or orig h d).frames.items m x) place ∙ ap (λ j. get_or (get_or orig j d).frames.items i x) here)))));
+          ∙ (get_or-drop gone (get_or orig h d).frames.items 0 x
+          ∙ (ap (λ m. get_or (get_or orig h d).frames.items m x) (nothing_more gone)
+          ∙ (ap (λ n. get_or (get_or orig h d).frames.items (length (given s looper c h 0 n)) x) (sym last)
+          ∙ ap (λ j. get_or (get_or orig j d).frames.items (length (given s looper c j 0 k)) x) here))))));
       left = record {
         count = length-set kits h kit ∙ taken.left.count;
         each = λ k d below. dite (ℕ_discrete k h)
@@ -159,30 +161,80 @@ takes_more s looper c number orig passes passes' p kits kits' h e kit lt held wi
         ap length (given_more s looper c k 0 number ∙ ap (λ m. given s looper c k 0 number ++ given_one s looper c k m) zeroth)
         ∙ length-append (given s looper c k 0 number) (given_one s looper c k number)
 
--- all passes of the choreographer: what was seen by the first pass of each thread begins the entries
-pub taken_all : (s : Script) (looper : ℕ) (c : Frames) (number : ℕ) (orig : List Kit) (passes : List Pass) (kits : List Kit) (entries : List FrameEntry)
-    → length passes ≡ number → number ≡ s.threads + 3 → AreTaken s looper c number orig passes kits → BeginWithSeen entries passes
-    → BeginWithNext s.threads orig entries × HaveFramesLeft (λ k. length (given_of s looper c k)) orig kits
-taken_all s looper c number orig passes kits entries count all taken seen = (
-  λ k d p lt. subst (λ (x : Pass). IsPrefix x.view.seen entries) (taken.firsts k d p (omega (arith, lt, all)) lt) (seen k p (omega (arith, lt, all, count))),
-  subst (λ m. HaveFramesLeft (λ k. length (given s looper c k 0 m)) orig kits) all taken.left,
-)
+module _ (s : Script) (looper : ℕ) (c : Frames) (number : ℕ) (orig : List Kit) (passes : List Pass) (kits : List Kit) (entries : List FrameEntry) (count : length passes ≡ number) (all : number ≡ s.threads + 3) (taken : AreTaken s looper c number orig passes kits) where
+  -- where each thread's pass stood, where the looper's two stood, and where the controller's stood
+  firsts_taken : (k : ℕ) (d : Kit) (p : Pass) → k < s.threads → get_or passes k p ≡ get_or (get_or orig k d).frames.items 0 p
+  firsts_taken k d p lt =
+      taken.placed k d p (omega (arith, lt, all))
+      ∙ (ap (λ j. get_or (get_or orig j d).frames.items (length (given s looper c j 0 k)) p) (thread_holds s looper k lt)
+      ∙ ap (λ (l : List FrameBadge). get_or (get_or orig k d).frames.items (length l) p) (given_none s looper c k k (omega (arith, lt)) (omega arith)))
 
--- what was seen by the looper's two passes begins them too
-pub taken_own : (s : Script) (looper : ℕ) (c : Frames) (number : ℕ) (orig : List Kit) (passes : List Pass) (kits : List Kit) (entries : List FrameEntry)
-    → length passes ≡ number → number ≡ s.threads + 3 → AreTaken s looper c number orig passes kits → BeginWithSeen entries passes → BeginWithOwn (s.threads + looper) orig entries
-taken_own s looper c number orig passes kits entries count all taken seen =
-    λ i d p small. subst (λ (x : Pass). IsPrefix x.view.seen entries) (taken.mine i d p small (omega (arith, small, all))) (seen (s.threads + i) p (omega (arith, small, all, count)))
+  mine_taken : (i : ℕ) (d : Kit) (p : Pass) → i < 2 → get_or passes (s.threads + i) p ≡ get_or (get_or orig (s.threads + looper) d).frames.items i p
+  mine_taken i d p small =
+      taken.placed (s.threads + i) d p (omega (arith, small, all))
+      ∙ (ap (λ j. get_or (get_or orig j d).frames.items (length (given s looper c j 0 (s.threads + i))) p) (looper_holds s looper (s.threads + i) (omega arith) (omega (arith, small)))
+      ∙ ap (λ m. get_or (get_or orig (s.threads + looper) d).frames.items m p) (given_mine s looper c (s.threads + looper) i refl small))
+
+  last_taken : (d : Kit) (p : Pass) → looper < s.loopers → get_or passes (s.threads + 2) p ≡ get_or (get_or orig (s.threads + s.loopers) d).frames.items 0 p
+  last_taken d p few =
+      taken.placed (s.threads + 2) d p (omega (arith, all))
+      ∙ (ap (λ j. get_or (get_or orig j d).frames.items (length (given s looper c j 0 (s.threads + 2))) p) (controller_holds s looper (s.threads + 2) (omega arith))
+      ∙ ap (λ m. get_or (get_or orig (s.threads + s.loopers) d).frames.items m p) (given_final s looper c few))
+
+  -- what was seen by the looper's two passes begins the entries
+  pub taken_own : BeginWithSeen entries passes → BeginWithOwn (s.threads + looper) orig entries
+  taken_own seen = λ i d p small. subst (λ (x : Pass). IsPrefix x.view.seen entries) (mine_taken i d p small) (seen (s.threads + i) p (omega (arith, small, all, count)))
+
+  module _ (few : looper < s.loopers) (d : Kit) (p : Pass) where
+    first : ℕ → Pass
+    first k = get_or (get_or orig k d).frames.items 0 p
+
+    rest : List Pass
+    rest =
+        get_or (get_or orig (s.threads + looper) d).frames.items 0 p ∷ get_or (get_or orig (s.threads + looper) d).frames.items 1 p ∷ get_or (get_or orig (s.threads + s.loopers) d).frames.items 0 p ∷ []
+
+    others : (j : ℕ) → j < 3 → get_or passes (s.threads + j) p ≡ get_or rest j p
+    unfolding rest
+    others zero lt = mine_taken 0 d p (omega arith)
+    others (suc zero) lt = mine_taken 1 d p (omega arith)
+    others (suc (suc zero)) lt = last_taken d p few
+    others (suc (suc (suc j))) lt = absurd (omega (arith, lt))
+
+    -- all passes, in order
+    all_taken : passes ≡ passes_at s looper 0 orig d p
+    unfolding first rest
+    all_taken =
+        let these : List Pass = map first (range_with_len 0 s.threads) in
+        let long : length these ≡ s.threads = length-map-range_with_len first 0 s.threads in
+        let both : length (these ++ rest) ≡ length these + 3 = length-append these rest in
+        ext_get_or p passes (these ++ rest) (omega (arith, count, all, both, long)) (λ i lt. dite (dec_lt i s.threads)
+        (λ thread. firsts_taken i d p thread
+        ∙ sym (get_or-append these rest p i (omega (arith, thread, long)) ∙ get_or-map-range_with_len first 0 s.threads i i p thread (omega arith)))
+        (λ not.
+        let j : ℕ = i - s.threads in
+        let at : i ≡ s.threads + j = omega (arith, not) in
+        let near : j < 3 = omega (arith, lt, count, all) in
+        ap (λ m. get_or passes m p) at ∙ (others j near ∙ sym (get_or-append_right these rest s.threads i p long (omega (arith, not))))))
+
+  -- the entries are those that the next passes recorded
+  pub taken_theirs : looper < s.loopers → AreTheirs entries passes → AreOfNext s looper orig entries
+  taken_theirs few theirs d p = subst (AreTheirs entries) (all_taken few d p) theirs
+
+-- what is the same of each number of a range
+map_same : (f g : ℕ → Pass) (a n : ℕ) → ((i : ℕ) → i < a + n → f i ≡ g i) → map f (range_with_len a n) ≡ map g (range_with_len a n)
+map_same f g a zero same = refl
+map_same f g a (suc n) same = λ i. same a (omega arith) i ∷ map_same f g (a + 1) n (λ j lt. same j (omega (arith, lt))) i
 
 -- what is known where the choreographers of the first loopers have ended, and these have not
 pub record HaveEnded (s : Script) (looper : ℕ) (rest : List Frames) (orig : List Kit) (records : List FrameRecord) (kits : List Kit) : Type 0 where
   pub loopers : map (λ (f : FrameRecord). f.looper) records ≡ range_with_len 0 looper
   pub lawful : AllByRecursion (IsFrameRecord s) records
-  pub seen : HaveSeen s.threads orig records
+  pub theirs : AreAllTheirs s orig records
   pub count : length kits ≡ length orig
   pub marks : HaveAllPasses (given_all s looper rest) kits
   pub threads : (k : ℕ) (d : Kit) → k < s.threads → (get_or kits k d).frames.items ≡ drop looper (get_or orig k d).frames.items
   pub own : HaveSeenOwn s.threads orig records
+  pub controller : (d : Kit) → (get_or kits (s.threads + s.loopers) d).frames.items ≡ drop looper (get_or orig (s.threads + s.loopers) d).frames.items
   pub later : (j : ℕ) (d : Kit) → looper ≤ j → j < s.loopers → (get_or kits (s.threads + j) d).frames.items ≡ (get_or orig (s.threads + j) d).frames.items
   pub pool : (k : ℕ) (d : Kit) → k < length orig → (get_or kits k d).pass.home ≡ (get_or orig k d).pass.home
 
@@ -190,10 +242,11 @@ pub ended_none : (s : Script) (cs : List Frames) (kits : List Kit) → HaveAllPa
 ended_none s cs kits marks = record {
   loopers = refl;
   lawful = tt;
-  seen = λ k q d p r lt none. absurd (omega (arith, none));
+  theirs = λ q d p r none. absurd (omega (arith, none));
   count = refl;
   marks = marks;
   threads = λ k d lt. refl;
+  controller = λ d. refl;
   own = λ q i d p r small none. absurd (omega (arith, none));
   later = λ j d from lt. refl;
   pool = λ k d lt. refl;
@@ -216,20 +269,19 @@ next_constants s cs yielded rest c n parts is keys =
 
 -- one choreographer more has ended
 pub ends_more : (s : Script) (looper : ℕ) (c : Frames) (rest : List Frames) (orig kits kits' : List Kit) (records records' : List FrameRecord) (r : FrameRecord)
-    → length records ≡ looper → looper < s.loopers → s.threads + s.loopers ≤ length orig → IsFrameRecord s r → r.looper ≡ looper → BeginWithNext s.threads kits r.entries → BeginWithOwn (s.threads + looper) kits r.entries → HaveFramesLeft (λ k. length (given_of s looper c k)) kits kits'
+    → length records ≡ looper → looper < s.loopers → s.threads + s.loopers < length orig → IsFrameRecord s r → r.looper ≡ looper → AreOfNext s looper kits r.entries → BeginWithOwn (s.threads + looper) kits r.entries → HaveFramesLeft (λ k. length (given_of s looper c k)) kits kits'
     → records' ≡ records ++ r ∷ [] → HaveEnded s looper (c ∷ rest) orig records kits → HaveEnded s (looper + 1) rest orig records' kits'
-ends_more s looper c rest orig kits kits' records records' r long few enough lawful number begins begins_own left more before = subst (λ l. HaveEnded s (looper + 1) rest orig l kits') (sym more) (record {
+ends_more s looper c rest orig kits kits' records records' r long few enough lawful number theirs begins_own left more before = subst (λ l. HaveEnded s (looper + 1) rest orig l kits') (sym more) (record {
   loopers = map-append (λ (f : FrameRecord). f.looper) records (r ∷ []) ∙ ((λ i. before.loopers i ++ (number ∙ zeroth) i ∷ []) ∙ sym (numbers_more 0 looper));
   lawful = all_push records before.lawful;
-  seen = λ k q d p x lt below. dite (dec_lt q (length records))
-      (λ early. subst (λ (y : FrameRecord). IsPrefix (get_or (get_or orig k d).frames.items q p).view.seen y.entries) (sym (get_or-append records (r ∷ []) x q early)) (before.seen k q d p x lt early))
+  theirs = λ q d p x below. dite (dec_lt q (length records))
+      (λ early. subst (λ (y : FrameRecord). AreTheirs y.entries (passes_at s q q orig d p)) (sym (get_or-append records (r ∷ []) x q early)) (before.theirs q d p x early))
       (λ late.
       let all = length-append records (r ∷ []) in
       let last : q ≡ length records = omega (arith, late, below, all) in
-      let place : looper + 0 ≡ q = omega (arith, last, long) in
-      let first : get_or (get_or kits k d).frames.items 0 p ≡ get_or (get_or orig k d).frames.items q p = ap (λ l. get_or l 0 p) (before.threads k d lt) ∙ (get_or-drop looper (get_or orig k d).frames.items 0 p ∙ ap (λ m. get_or (get_or orig k d).frames.items m p) place) in
-      subst (λ (y : FrameRecord). IsPrefix (get_or (get_or orig k d).frames.items q p).view.seen y.entries) (sym (ap (λ m. get_or (records ++ r ∷ []) m x) last ∙ get_or-append_seam records r [] x))
-      (subst (λ (y : Pass). IsPrefix y.view.seen r.entries) first (begins k d p lt)));
+      let place : looper ≡ q = omega (arith, last, long) in
+      subst (λ (y : FrameRecord). AreTheirs y.entries (passes_at s q q orig d p)) (sym (ap (λ m. get_or (records ++ r ∷ []) m x) last ∙ get_or-append_seam records r [] x))
+      (subst (λ (m : ℕ). AreTheirs r.entries (passes_at s m m orig d p)) place (subst (AreTheirs r.entries) (next_are d p) (theirs d p))));
   count = left.count ∙ before.count;
   marks = λ k d lt.
       let same = left.count in
@@ -244,6 +296,12 @@ ends_more s looper c rest orig kits kits' records records' r long few enough law
       (left.each k d (omega (arith, lt, enough, same))).frames
       ∙ (ap (λ m. drop m (get_or kits k d).frames.items) one
       ∙ (ap (drop 1) (before.threads k d lt) ∙ drop-drop 1 looper (get_or orig k d).frames.items));
+  controller = λ d.
+      let one : length (given_of s looper c (s.threads + s.loopers)) ≡ 1 = ap length (of_controller s looper c (s.threads + s.loopers) refl few) in
+      let same = before.count in
+      (left.each (s.threads + s.loopers) d (omega (arith, enough, same))).frames
+      ∙ (ap (λ m. drop m (get_or kits (s.threads + s.loopers) d).frames.items) one
+      ∙ (ap (drop 1) (before.controller d) ∙ drop-drop 1 looper (get_or orig (s.threads + s.loopers) d).frames.items));
   own = λ q i d p x small below. dite (dec_lt q (length records))
       (λ early. subst (λ (y : FrameRecord). IsPrefix (get_or (get_or orig (s.threads + q) d).frames.items i p).view.seen y.entries) (sym (get_or-append records (r ∷ []) x q early)) (before.own q i d p x small early))
       (λ late.
@@ -266,14 +324,39 @@ ends_more s looper c rest orig kits kits' records records' r long few enough law
     zeroth : looper ≡ 0 + looper
     zeroth = omega arith
 
+    -- the next pass of a kit that has given up as many as there are records
+    next_is : (k : ℕ) (d : Kit) (p : Pass) → (get_or kits k d).frames.items ≡ drop looper (get_or orig k d).frames.items
+        → get_or (get_or kits k d).frames.items 0 p ≡ get_or (get_or orig k d).frames.items looper p
+    next_is k d p is =
+        let place : looper + 0 ≡ looper = omega arith in
+        ap (λ l. get_or l 0 p) is ∙ (get_or-drop looper (get_or orig k d).frames.items 0 p ∙ ap (λ m. get_or (get_or orig k d).frames.items m p) place)
+
+    next_are : (d : Kit) (p : Pass) → passes_at s looper 0 kits d p ≡ passes_at s looper looper orig d p
+    next_are d p =
+        let threads = map_same (λ k. get_or (get_or kits k d).frames.items 0 p) (λ k. get_or (get_or orig k d).frames.items looper p) 0 s.threads (λ k lt. next_is k d p (before.threads k d (omega (arith, lt)))) in
+        let mine : (get_or kits (s.threads + looper) d).frames.items ≡ (get_or orig (s.threads + looper) d).frames.items = before.later looper d (omega arith) few in
+        let last = next_is (s.threads + s.loopers) d p (before.controller d) in
+        λ i. threads i ++ get_or (mine i) 0 p ∷ get_or (mine i) 1 p ∷ last i ∷ []
+
     all_push : (l : List FrameRecord) → AllByRecursion (IsFrameRecord s) l → AllByRecursion (IsFrameRecord s) (l ++ r ∷ [])
     all_push [] h = (lawful, tt)
     all_push (x ∷ xs) h = (h.0, all_push xs h.1)
 
 pub ended_all : (s : Script) (looper : ℕ) (rest : List Frames) (orig kits : List Kit) (records : List FrameRecord) → looper ≡ s.loopers → HaveEnded s looper rest orig records kits
-    → AreFrameRecords s records × HaveSeen s.threads orig records × ((pool : TableId) → AreOfPool pool orig → AreOfPool pool kits)
+    → AreFrameRecords s records × AreAllTheirs s orig records × ((pool : TableId) → AreOfPool pool orig → AreOfPool pool kits)
 ended_all s looper rest orig kits records all h = (
   record { loopers = h.loopers ∙ ap (range_with_len 0) all; lawful = h.lawful },
-  h.seen,
+  h.theirs,
   λ pool own k d lt. let same = h.count in h.pool k d (omega (arith, lt, same)) ∙ own k d (omega (arith, lt, same)),
 )
+
+-- kits whose frames are as before have the same passes
+pub frames_kept : (s : Script) (before after : List Kit) (records : List FrameRecord) → length before ≡ s.threads + s.loopers + 1 → length records ≡ s.loopers → KeepFrames before after
+    → AreAllTheirs s after records → AreAllTheirs s before records
+frames_kept s before after records count few kept theirs q d p r lt =
+    let frames_of : (k : ℕ) → k < length before → (get_or after k d).frames.items ≡ (get_or before k d).frames.items = λ k below. (kept.each k d below).frames in
+    let threads = map_same (λ k. get_or (get_or after k d).frames.items q p) (λ k. get_or (get_or before k d).frames.items q p) 0 s.threads (λ k below. ap (λ l. get_or l q p) (frames_of k (omega (arith, below, count)))) in
+    let mine = frames_of (s.threads + q) (omega (arith, lt, few, count)) in
+    let last = frames_of (s.threads + s.loopers) (omega (arith, count)) in
+    let same : passes_at s q q after d p ≡ passes_at s q q before d p = λ i. threads i ++ get_or (mine i) 0 p ∷ get_or (mine i) 1 p ∷ get_or (last i) q p ∷ [] in
+    subst (AreTheirs (get_or records q r).entries) same (theirs q d p r lt)

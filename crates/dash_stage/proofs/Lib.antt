@@ -1,4 +1,3 @@
-pub mod Badges
 pub mod Controlling
 pub mod Controls
 pub mod ControlKept
@@ -15,6 +14,7 @@ pub mod HallFrames
 pub mod Casting
 pub mod Limits
 pub mod Carried
+pub mod Asked
 pub mod Dispatched
 pub mod StageControls
 pub mod KitsTold

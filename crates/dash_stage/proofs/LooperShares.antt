@@ -13,8 +13,9 @@ use native.Mathlib.Decide.{dec_lt}
 use Rattle.loop_model.specs.declared.base.Base.{Base}
 use Rattle.loop_model.specs.declared.entry.Entry.{Entry}
 use Rattle.loop_model.specs.Base.{empty_base}
-use Rattle.loop_model.specs.Entries.{is_disposed, is_halted}
+use Rattle.loop_model.specs.Entries.{is_halted}
 use Rattle.loop_model.specs.Answers.{is_over, has_disposed, has_halted}
+use Rattle.loop_model.proofs.AfterLaws.{disposed_stays}
 use Rattle.dash_script.specs.declared.script.Script.{Script}
 use Rattle.run_model.specs.Senders.{sender_count}
 use Rattle.looper_run.specs.Holding.{Sender}
@@ -97,13 +98,6 @@ or_either true b x y f g h = ap (λ (t : Bool). t || y) (f refl)
 or_either false b true y f g h = ap (λ (t : Bool). b || t) (g refl) ∙ or-true b
 or_either false b false y f g h = absurd cc
 
--- a queue that was disposed of stays so
-disposed_more : (b : Base) (xs more : List Entry) → has_disposed b xs ≡ true → has_disposed b (xs ++ more) ≡ true
-unfolding has_disposed
-disposed_more b xs more h =
-    let p : Entry → Bool = λ e. is_disposed e.reply in
-    ap (λ (t : Bool). b.disposed || t) (list_any-append p xs more) ∙ or_more b.disposed (list_any p xs) (list_any p more) h
-
 -- a queue that was halted stays so
 halted_more : (b : Base) (xs more : List Entry) → has_halted b xs ≡ true → has_halted b (xs ++ more) ≡ true
 unfolding has_halted
@@ -115,7 +109,7 @@ halted_more b xs more h =
 over_more : (b : Base) (xs ys : List Entry) → IsPrefix xs ys → is_over b xs ≡ true → is_over b ys ≡ true
 over_more b xs ys p h =
     subst (λ (l : List Entry). is_over b l ≡ true) p.1
-    (or_either (has_disposed b xs) (has_disposed b (xs ++ p.0)) (has_halted b xs) (has_halted b (xs ++ p.0)) (disposed_more b xs p.0) (halted_more b xs p.0) h)
+    (or_either (has_disposed b xs) (has_disposed b (xs ++ p.0)) (has_halted b xs) (has_halted b (xs ++ p.0)) (disposed_stays b xs p.0) (halted_more b xs p.0) h)
 
 -- one is inserted, wherever
 pub insert_long : {X : Type 0} (xs : List X) (i : ℕ) (x : X) → length (insert xs i x) ≡ length xs + 1

@@ -22,8 +22,8 @@ use Rattle.run_model.specs.Planned.{frame_message}
 use Rattle.run_model.specs.Control.{At, NotBefore}
 use Rattle.loop_model.specs.Posts.{post_at}
 use Rattle.run_model.specs.Loopers.{Looper, Sent, Gauge, and_sends, moved, paints, traversal_requested, target_set, object_set, gauge_moved, animation_ran, traversal_ran, callback_ran, fires, reaction, reacted, delivered, and_takes, and_posts_frame, with_gauge}
-use Rattle.run_model.specs.Acts.{millis_up, dispatched, after_act, Lead, sent_on, IsSent}
-use Rattle.run_model.specs.FrameRuns.{frame_ids, place_after}
+use Rattle.run_model.specs.Acts.{millis_up, running, dispatched, after_act, Lead, sent_on, IsSent}
+use Rattle.run_model.specs.FrameRuns.{frame_ids}
 use Rattle.dash_loopers.specs.Loopers.{is_disposal}
 
 -- what is asked is a look for a message
@@ -79,11 +79,11 @@ module _ (s : Script) (q : ℕ) where
     requested : (a : Looper) → LooksAtOwn a → LooksAtOwn (traversal_requested s q now a)
     requested a h =
         let b : Looper = record a { barrier = Some a.barriers; barriers = a.barriers + 1 } in
-        if_kept (is_some a.barrier) a (and_posts_frame (traversal_phase s) traversal_id (and_sends q now (Makes (Barrier 0)) b)) h (sends_kept q now (Makes (Barrier 0)) b refl h)
+        if_kept (is_some a.barrier) a (and_posts_frame now (traversal_phase s) traversal_id (and_sends q now (Makes (Barrier 0)) b)) h (sends_kept q now (Makes (Barrier 0)) b refl h)
 
     target_kept : (g target : ℕ) (x : Gauge) (a : Looper) → LooksAtOwn a → LooksAtOwn (target_set s q now g target x a)
     target_kept g target x a h =
-        let b : Looper = and_posts_frame animation_phase (animation_id g) (with_gauge g (record { value = x.value; target = target; animating = true }) a) in
+        let b : Looper = and_posts_frame now animation_phase (animation_id g) (with_gauge g (record { value = x.value; target = target; animating = true }) a) in
         if_kept (x.animating || x.value == target) (with_gauge g (record x { target = target }) a) (traversal_requested s q now b) h (requested b h)
 
     object_kept : (g target : ℕ) (a : Looper) → LooksAtOwn a → LooksAtOwn (object_set s q now g target a)
@@ -96,7 +96,7 @@ module _ (s : Script) (q : ℕ) where
         let value = moved (gauge_line s g).step x.target x.value in
         let b : Looper = with_gauge g (record { value = value; target = x.target; animating = false }) a in
         let c : Looper = with_gauge g (record x { value = value }) a in
-        if_kept (value == x.target) (traversal_requested s q now b) (and_posts_frame animation_phase (animation_id g) (traversal_requested s q now c)) (requested b h) (requested c h)
+        if_kept (value == x.target) (traversal_requested s q now b) (and_posts_frame now animation_phase (animation_id g) (traversal_requested s q now c)) (requested b h) (requested c h)
 
     animation_kept : (g : ℕ) (x : Gauge) (a : Looper) → LooksAtOwn a → LooksAtOwn (animation_ran s q now g x a)
     animation_kept g x a h = if_kept x.animating (gauge_moved s q now g x a) a (moved_kept g x a h) h
@@ -154,7 +154,7 @@ module _ (s : Script) (q : ℕ) where
     dispatched_kept : (frame : Option ℕ) (n now : ℕ) (a : Looper) (o : Option PostData) → LooksAtOwn a → LooksAtOwn (dispatched s q fs frame n now a o)
     dispatched_kept frame n now a None h = h
     dispatched_kept frame n now a (Some m) h =
-        delivered_kept now (frame_ids fs frame) m (and_takes q n now (record a { painted = []; place = place_after a.place frame })) (takes_kept now n (record a { painted = []; place = place_after a.place frame }) h)
+        delivered_kept now (frame_ids fs frame) m (and_takes q n now (running frame now a)) (takes_kept now n (running frame now a) h)
 
     act_kept : (frame : Option ℕ) (a : Looper) (x : Act) → LooksAtOwn a → LooksAtOwn (after_act s q es fs frame a x)
     unfolding after_act

@@ -29,8 +29,8 @@ use Rattle.run_model.specs.Senders.{looper_sender, controller, sender_count}
 use Rattle.run_model.specs.Control.{NotBefore, Timing, befores, are_on_time, are_controls, is_quit_by_others, is_controlled, disposed_count}
 use Rattle.run_model.specs.Loopers.{Looper, Sent, first_looper}
 use Rattle.run_model.specs.Acts.{Lead, sent_on, closing, IsSent}
-use Rattle.run_model.specs.FrameRuns.{posts_frame}
-use Rattle.run_model.specs.Run.{IsAsPlanned, IsControlled, IsLooperRun, EachLooper, setting_of, caused_on}
+use Rattle.run_model.specs.FrameAsks.{as_told, asks_in, AreAsOften}
+use Rattle.run_model.specs.Run.{IsAsPlanned, IsControlled, IsLooperRun, EachLooper, setting_of, caused_on, asked_of}
 use Rattle.run_model.proofs.RunLaws.{AreFor-snoc, sent_on-append, are_on_time-snoc}
 use Rattle.run_model.proofs.Growth.{Lead-entries}
 use Rattle.dash_hall.specs.declared.hall.Hall.{Hall}
@@ -41,17 +41,22 @@ use Rattle.dash_hall.specs.Kits.{badge_of, badge_for, IsHall, AreKitsOf}
 use Rattle.dash_loopers.specs.declared.looper.StageLooper.{StageLooper}
 use Rattle.dash_loopers.specs.Loopers.{is_disposal, calls_among, DisposesLast, HaveTold}
 use Rattle.dash_loopers.specs.Played.{HasLeft}
+use Rattle.dash_stage.specs.Timeliness.{AreSound}
 use Rattle.dash_stage.specs.declared.control.Controller.{Controller}
 use Rattle.dash_stage.specs.Leaving.{HaveGiven}
-use Rattle.dash_stage.specs.Playing.{befores_called, AreSound, AreCallsOnTime, IsTimelyLooper}
-use Rattle.dash_stage.specs.Records.{AreQueueRecords, AreFrameRecords, AreJournals, HaveAll, HaveSeenOwn}
+use Rattle.dash_stage.specs.Playing.{befores_called, AreCallsOnTime, IsTimelyLooper}
+use Rattle.dash_stage.specs.Records.{AreQueueRecords, AreFrameRecords, AreJournals, AreAllTheirs, HaveAll, HaveSeenOwn}
 use Rattle.dash_stage.specs.Sharing.{OfKits}
 use Rattle.dash_stage.specs.Staged.{IsFrameRecord}
 use Rattle.dash_stage.specs.Stages.{LoopersGoOn}
 use Rattle.dash_loopers.specs.Loopers.{IsLooperOf}
 use Rattle.dash_loopers.proofs.LooperKits.{kit_two}
-use Rattle.dash_stage.proofs.Badges.{alike_length, poster_at, queue_count}
-use Rattle.dash_stage.proofs.Carried.{count_prefix, numbered_count}
+use Rattle.dash_hall.proofs.Badges.{alike_length, poster_at, queue_count}
+use Rattle.dash_stage.specs.Controllers.{IsController}
+use Rattle.dash_stage.specs.Runs.{HaveRunAll}
+use Rattle.dash_stage.proofs.Asked.{asked_as_often}
+use Rattle.dash_stage.proofs.Carried.{numbered_count, threads_asked}
+use Rattle.dash_stage.proofs.Controlling.{pass_count}
 use Rattle.dash_stage.proofs.Controls.{main_is_not_disposed, looks_dispose}
 use Rattle.dash_stage.proofs.Dispatched.{each_looper, dispatches_of_records}
 use Rattle.dash_stage.proofs.Disposing.{thread_disposes_nothing, controls_dispose_nothing, none_of_all, none_by, none_counted, none_disposed, calls_dispose_nothing, calls_are_all, closing_sent, befores_are, befores_end}
@@ -108,6 +113,7 @@ record Known (s : Script) (queues : List QueueRecord) (k : ℕ) (j : Journal) (f
   frames : (i : ℕ) → i < 2 → IsPrefix (slice_index_or kit.frames.items i pass).view.seen f.entries
   lawful_ : IsFrameRecord s f
   told : (x : QueueRecord) → filter_map act_dispatch j.acts ≡ filter_map (λ e. call_dispatch e.call e.reply) (entries_by (looper_sender s k) (slice_index_or queues k x).entries)
+  asked : AreAsOften (map (as_told true) (asks_in f.entries)) (map (as_told true) (asked_of s k a))
   timely : (x : QueueRecord) → are_on_time (timings (sent_on k a.sent)) (befores_called (looper_sender s k) (slice_index_or queues k x).entries) ≡ true
   timely_elsewhere : (r : ℕ) (x : QueueRecord) → r < length queues → r ≢ k → are_on_time (timings (sent_on r a.sent)) (befores (looper_sender s k) (slice_index_or queues r x).entries) ≡ true
 
@@ -164,8 +170,9 @@ module _ (s : Script) (queues : List QueueRecord) (k : ℕ) (j : Journal) (f : F
         dispatches = h.told x ∙ ap (λ (m : ℕ). filter_map (λ (e : Entry). call_dispatch e.call e.reply) (entries_by (looper_sender s m) q.entries)) (sym is);
         disposed_at = at;
         calls = subst (λ (m : ℕ). AllByRecursion (λ (r : QueueRecord). AreFor IsSent [] (caused_on r.looper a m at) (entries_by (looper_sender s m) r.entries)) queues) (sym is) each_calls;
-        posted = λ phase id. (let some = h.left.posted phase id h.pass in let more = count_prefix (posts_frame phase id) (slice_index_or kit.frames.items 1 h.pass).view.seen f.entries (h.frames 1 (omega arith)) in omega (arith, some, more));
+        asked = subst (λ (m : ℕ). AreAsOften (map (as_told true) (asks_in f.entries)) (map (as_told true) (asked_of s m a))) (sym is) h.asked;
         on_time = subst (λ (m : ℕ). AllByRecursion (λ (r : QueueRecord). are_on_time (timings (caused_on r.looper a m at)) (befores (looper_sender s m) r.entries) ≡ true) queues) (sym is) each_time;
+        moments = h.left.moments h.pass f.entries (h.frames 0 (omega arith)) is_lawful;
       }
     where
       same : (r : ℕ) (y : QueueRecord) → r ≡ k → r < length queues → (slice_index_or queues k x).entries ≡ (slice_index_or queues r y).entries
@@ -229,7 +236,8 @@ module _ (s : Script) (hall : Hall) (kits : List Kit) (queues : List QueueRecord
     (js : List Journal) (fs : List FrameRecord) (ls : List StageLooper) (are_js : AreJournals s js) (are_fs : AreFrameRecords s fs) (own_seen : HaveSeenOwn s.threads kits fs) (told : HaveTold s js kits)
     (given : HaveGiven s ls js kits) (going : LoopersGoOn ls) (many : length ls ≡ s.loopers) (places : (k : ℕ) (d : StageLooper) → k < length ls → (slice_index_or ls k d).number ≡ k)
     (played : AreSound s c → (k : ℕ) (d : StageLooper) → k < length ls → IsTimelyLooper s c (slice_index_or ls k d))
-    (planned : AllByRecursion (IsAsPlanned in_lockstep s) queues) (controls : AllByRecursion (IsControlled s) queues) where
+    (planned : AllByRecursion (IsAsPlanned in_lockstep s) queues) (controls : AllByRecursion (IsControlled s) queues)
+    (is_controller : IsController s hall c) (run : HaveRunAll s kits) (theirs : AreAllTheirs s kits fs) where
   count : length queues ≡ s.loopers
   count = few s hall kits queues h are c held recs all seen
 
@@ -259,6 +267,19 @@ module _ (s : Script) (hall : Hall) (kits : List Kit) (queues : List QueueRecord
   unfolding stood
   on_time_at k lt = subst (λ (m : ℕ). AreCallsOnTime s c m (stood k lt).state) (places k (some_of ls k (in_loopers k lt)) (in_loopers k lt)) (stood k lt).on_time
 
+  -- its frame record was asked for what the run asks for
+  asked : (k : ℕ) (j : Journal) (f : FrameRecord) (p : Pass) (lt : k < length queues)
+      → AreAsOften (map (as_told true) (asks_in (slice_index_or fs k f).entries)) (map (as_told true) (asked_of s k (stood k lt).state))
+  unfolding stood
+  asked k j f p lt =
+      let short = count in
+      let one : k < s.loopers = omega (arith, lt, short) in
+      let left = (given k (some_of ls k (in_loopers k lt)) j c.kit (in_journals k lt)).left (stood k lt).state (stood k lt).come in
+      let passes = pass_count s hall h k one c is_controller in
+      asked_as_often s k kits c.kit p (slice_index_or fs k f).entries (stood k lt).state (theirs k c.kit p f (in_frames k lt))
+      (λ thread below. threads_asked s hall h kits are run k thread c.kit p one below) (left.ran p) (left.asked p)
+      (ap (λ (z : Kit). (slice_index_or z.frames.items k p).view.own) (held c.kit) ∙ is_controller.idle k p (omega (arith, one, passes)))
+
   -- what is known of each looper
   known : (k : ℕ) (j : Journal) (f : FrameRecord) (lt : k < length queues) → Known s queues k (slice_index_or js k j) (slice_index_or fs k f) (kit_at k) (stood k lt).state
   unfolding kit_at stood
@@ -282,6 +303,7 @@ module _ (s : Script) (hall : Hall) (kits : List Kit) (queues : List QueueRecord
         frames = λ i below. own_seen k i c.kit (some_of kit.frames.items 0 (omega (arith, two))) f below (in_frames k lt);
         lawful_ = All_indexed (IsFrameRecord s) fs are_fs.lawful k f (in_frames k lt);
         told = λ x. dispatches_of_records s hall h kits are queues js recs all are_js told k x j lt;
+        asked = asked k j f (some_of kit.frames.items 0 (omega (arith, two))) lt;
         timely = λ x.
             let there = within s hall kits queues h are c held recs all seen k lt in
             let d = some_of c.kit.posters.items k there in

@@ -19,7 +19,7 @@ use Rattle.looper_run.specs.Holding.{Sender}
 use Rattle.looper_run.specs.Round.{is_ended}
 use Rattle.run_model.specs.Senders.{controller, looper_sender, sender_count}
 use Rattle.run_model.specs.Asks.{entries_by}
-use Rattle.run_model.specs.Control.{Before, Timing, At, NotBefore, is_on_time, are_on_time, befores, befores_after}
+use Rattle.run_model.specs.Control.{Before, Timing, At, InBlock, NotBefore, is_on_time, are_on_time, befores, befores_after}
 use Rattle.run_model.specs.Loopers.{Looper, Sent}
 use Rattle.run_model.specs.Acts.{sent_on}
 use Rattle.run_model.proofs.RunLaws.{sent_on-append}
@@ -32,9 +32,9 @@ use Rattle.dash_loopers.specs.Played.{calls_in, Stands, IsTimedBy, GoesOnTo, Has
 use Rattle.dash_stage.specs.declared.stage.Stage.{Stage}
 use Rattle.dash_stage.specs.Stages.{IsStage, AreLoopers, LoopersGoOn}
 use Rattle.dash_stage.specs.Sharing.{HaveSeenTheSame}
-use Rattle.dash_stage.specs.Timeliness.{whole_on, IsAtTime}
+use Rattle.dash_stage.specs.Timeliness.{whole_on, AreSound, IsAtTime}
 use Rattle.dash_stage.specs.Blocks.{come_first}
-use Rattle.dash_stage.specs.Playing.{AreSound, HaveComeFirst, befores_called, IsMet, AreCallsOnTime, IsTimelyLooper, IsInTime, AreInTime, IsInStep, PlaysOn}
+use Rattle.dash_stage.specs.Playing.{HaveComeFirst, befores_called, IsMet, AreCallsOnTime, IsTimelyLooper, IsInTime, AreInTime, IsInStep, PlaysOn}
 use Rattle.dash_stage.proofs.BlocksFirst.{first_more}
 use Rattle.dash_stage.proofs.LooperShares.{looper_parts, own_kept}
 use Rattle.loop_model.proofs.AfterLaws.{disposed_stays}
@@ -111,6 +111,7 @@ module _ (s : Script) (q time : ℕ) where
     -- on another queue than its own, a call is timed by a look
     at_one : (r queue : ℕ) (u : Timing) → r ≢ q → IsTimedBy q k looks time queue u → queue ≡ r → u ≡ At time
     at_one r queue (At t) apart h on = ap At (met_one queue (At t) h)
+    at_one r queue (InBlock t) apart h on = absurd h
     at_one r queue (NotBefore t) apart h on = absurd (apart (sym on ∙ h.1))
 
     module _ (a b : Looper) (g : GoesOnTo q k looks time a b) where

@@ -29,15 +29,16 @@ use Rattle.dash_loopers.specs.declared.view_root.ViewRoot.{ViewRoot}
 use Rattle.dash_loopers.specs.declared.looper.StageLooper.{StageLooper}
 use Rattle.dash_loopers.specs.Players.{PlaceWithout}
 use Rattle.dash_loopers.specs.Loopers.{IsLooper, Rest, LooperKeeps, posters_of, others_in, rest_in}
-use Rattle.dash_loopers.specs.Played.{is_disposal, calls_in, IsShown, IsPlayed, Stands, HasCome}
+use Rattle.dash_loopers.specs.Played.{is_disposal, calls_in, asks_to_run, IsShown, IsPlayed, Stands, HasCome}
+use Rattle.dash_hall.specs.Hosts.{asks_of}
 use Rattle.dash_stage.specs.declared.stage.Stage.{Stage}
 use Rattle.dash_stage.specs.Stages.{IsStage}
 use Rattle.dash_stage.specs.Sharing.{HaveSeenTheSame}
-use Rattle.dash_stage.specs.Timeliness.{whole_on}
-use Rattle.dash_stage.specs.Playing.{AreSound, befores_called, AreCallsOnTime, ArePlayed, PlaysOn}
+use Rattle.dash_stage.specs.Timeliness.{whole_on, AreSound}
+use Rattle.dash_stage.specs.Playing.{befores_called, AreCallsOnTime, ArePlayed, PlaysOn}
 use Rattle.dash_stage.proofs.LooperShares.{looper_parts, looper_within, own_kept, after_within, with_rest}
 use Rattle.dash_stage.proofs.StageTurns.{for_count}
-use Rattle.dash_stage.proofs.StageWhole.{as_many, looper_entries, looper_sees, looper_made_none, sound_front, none_behind}
+use Rattle.dash_stage.proofs.StageWhole.{as_many, looper_entries, looper_sees, looper_made_none, sound_grown, none_behind}
 use Rattle.dash_stage.proofs.Timely.{timely_others}
 use Rattle.dash_stage.proofs.RoundTimes.{befores_called_of_others}
 
@@ -76,9 +77,11 @@ stands_heard s q k es es' acts parts parts' a more calls frames root fired long 
       subst (λ l. Lead s q l fs (first_looper s) acts a) more.1
       (Lead-entries s q es fs more.0 (first_looper s) acts a (st.led fs (subst (λ (p : Pass). IsPrefix p.view.seen fs) frames begins) law));
   place = subst (λ (p : Pass). a.place ≤ length p.view.seen) (sym frames) st.place;
+  moments = λ fs begins law. st.moments fs (subst (λ (p : Pass). IsPrefix p.view.seen fs) frames begins) law;
+  ran = subst (λ (p : Pass). asks_of p ≡ asks_to_run a.frames) (sym frames) st.ran;
   settled = st.settled;
   played = record {
-    shown = subst (λ (r : ViewRoot). IsShown s q 0 (calls_in k es') r a) (sym root) (subst (λ l. IsShown s q 0 l parts.root a) (sym calls) st.played.shown);
+    shown = subst (λ (r : ViewRoot). IsShown s q (calls_in k es') r a) (sym root) (subst (λ l. IsShown s q l parts.root a) (sym calls) st.played.shown);
     elsewhere = λ r j d at lt.
         let was : j < length parts.others.items = subst (λ (n : ℕ). j < n) long lt in
         subst (λ l. AreFor IsSent [] (sent_on r a.sent) l) (sym (called j d was)) (st.played.elsewhere r j d at was);
@@ -121,15 +124,15 @@ module _ (s : Script) (st : Stage) (is : IsStage s st) (same : HaveSeenTheSame s
   looper = slice_index_or st.loopers.items k l
 
   -- with the looper's parts, told by its number
-  come_parts : (parts : Parts) × (looper.parts ≡ Some parts) × IsPlayed s k 0 (calls_in (looper_sender s k) looper.looper.held.poster.view.seen) parts a
+  come_parts : (parts : Parts) × (looper.parts ≡ Some parts) × IsPlayed s k (calls_in (looper_sender s k) looper.looper.held.poster.view.seen) parts a
   come_parts =
       let one = is.loopers.1 k l lt in
       let p = looper_parts s st.hall is.hall looper one.0 in
       let stands = subst (λ (o : Option Parts). IsSomeAnd o (λ parts. Stands s looper.number looper.sender looper.looper.held.poster.view.seen looper.looper.held.journal.acts parts a)) p.1 come in (
         p.0,
         p.1,
-        subst (λ (m : ℕ). IsPlayed s m 0 (calls_in (looper_sender s m) looper.looper.held.poster.view.seen) p.0 a) one.1
-            (subst (λ (m : ℕ). IsPlayed s looper.number 0 (calls_in m looper.looper.held.poster.view.seen) p.0 a) one.0.sender stands.played),
+        subst (λ (m : ℕ). IsPlayed s m (calls_in (looper_sender s m) looper.looper.held.poster.view.seen) p.0 a) one.1
+            (subst (λ (m : ℕ). IsPlayed s looper.number (calls_in m looper.looper.held.poster.view.seen) p.0 a) one.0.sender stands.played),
       )
 
   pub own_count : (d : Sender) → length (sent_on k a.sent) ≡ length (calls_in (looper_sender s k) (whole_on st.controller k d))
@@ -190,7 +193,7 @@ module _ (s : Script) (st st' : Stage) (is : IsStage s st) (is' : IsStage s st')
     (grown : (q : ℕ) (d : Sender) → q < length st.controller.kit.posters.items → IsPrefix (whole_on st.controller q d) (whole_on st'.controller q d)) where
   -- the histories were such as they may be
   pub sound_before : AreSound s st'.controller → AreSound s st.controller
-  sound_before sound q d lt = sound_front s q (whole_on st.controller q d) (whole_on st'.controller q d) (grown q d lt) (sound q d (subst (λ (n : ℕ). q < n) (sym long) lt))
+  sound_before = sound_grown s st.controller st'.controller long grown
 
   -- each looper has played as far
   pub played_kept : ArePlayed s st → ArePlayed s st'

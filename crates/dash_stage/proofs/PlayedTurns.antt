@@ -1,11 +1,11 @@
 -- A stage stays in step where the threads run a block, and where the controller takes its turns.
-use Rattle.std.proofs.Common.{◌≡◌, ◌<◌, ◌≤◌, ◌+◌, ◌-◌, ◌⊎◌, inl, inr, ℕ, Bool, true, false, true≢false, max, List, [], ◌∷◌, ◌++◌, length, Option, Some, None, refl, sym, ap, ◌∙◌, subst, arith}
+use Rattle.std.proofs.Common.{◌≡◌, ◌<◌, ◌≤◌, ◌⊎◌, inl, inr, ℕ, Bool, true, false, true≢false, max, List, [], ◌∷◌, ◌++◌, length, Option, Some, None, refl, sym, ap, ◌∙◌, subst, arith}
 use Rattle.std.specs.Prelude.{slice_index_or, is_some, nat_le}
 use Rattle.std.specs.Option.{option_and_then}
 use Rattle.std.proofs.lemmas.Bool.{cases_Bool, leb-true}
 use mathlib.Core.List.{IsPrefix}
 use mathlib.Core.Logic.{dite}
-use native.Mathlib.Decide.{ℕ_discrete, dec_lt}
+use native.Mathlib.Decide.{dec_lt}
 use Rattle.loop_model.specs.declared.call.Call.{Call}
 use Rattle.loop_model.specs.declared.call.Call.TheVariants.{Post, Barrier, Unbarrier, Remove, Quit, Next, Advance, Halt}
 use Rattle.loop_model.specs.declared.base.Base.{Base}
@@ -19,7 +19,6 @@ use Rattle.loop_model.specs.Answers.{clock, has_disposed, is_over}
 use Rattle.loop_model.specs.Legal.{IsLegal, AreNumbered, IsTimely}
 use Rattle.loop_model.proofs.AfterLaws.{clock-snoc, disposed_stays}
 use Rattle.loop_model.proofs.LegalLaws.{IsLegal-last}
-use Rattle.loop_model.proofs.Prefixes.{prefix_trans}
 use Rattle.dash_script.specs.declared.script.Script.{Script}
 use Rattle.looper_run.specs.Holding.{Sender}
 use Rattle.looper_run.specs.Round.{is_ended}
@@ -30,21 +29,22 @@ use Rattle.dash_threads.specs.Threads.{ThreadKeeps}
 use Rattle.dash_loopers.specs.declared.looper.StageLooper.{StageLooper}
 use Rattle.dash_loopers.specs.Loopers.{IsSoundOn, setting_for, LooperKeeps}
 use Rattle.dash_hall.specs.Hearing.{AtEach, HaveHeard}
+use Rattle.dash_hall.specs.Kits.{AreUnseen}
 use Rattle.dash_stage.specs.declared.control.Controller.{Controller}
 use Rattle.dash_stage.specs.declared.stage.Stage.{Stage}
 use Rattle.dash_stage.specs.Controllers.{are_advances, time_in, calls_on}
 use Rattle.dash_stage.specs.Stages.{IsStage}
 use Rattle.dash_stage.specs.Sharing.{HaveSeenTheSame}
-use Rattle.dash_stage.specs.Timeliness.{whole_on, AreBy, AreRested, HasNoneBefore, AreDue, EachTurnsOn, MovesTo, MovesNot, HaveCome}
-use Rattle.dash_stage.specs.Blocks.{is_fresh, come_first, IsFresh}
-use Rattle.dash_stage.specs.Playing.{AreSound, AreFresh, LiesAhead, HaveComeFirst, IsInTime, AreInTime, IsInStep, IsStuck, AreStuck}
+use Rattle.dash_stage.specs.Timeliness.{whole_on, AreSound, AreBy, AreRested, HasNoneBefore, AreDue, EachTurnsOn, MovesTo, MovesNot, HaveCome}
+use Rattle.dash_stage.specs.Blocks.{come_first, IsAtBlock}
+use Rattle.dash_stage.specs.Playing.{AreAtBlock, LiesAhead, HaveComeFirst, IsInTime, AreInTime, IsInStep, IsStuck, AreStuck}
 use Rattle.dash_stage.proofs.Controls.{time_by_controller}
-use Rattle.dash_stage.proofs.Timely.{clock_stays, has_disposed_same}
-use Rattle.dash_stage.proofs.BlocksFirst.{fresh_moved, first_block, first_one, all_threads}
+use Rattle.dash_stage.proofs.Timely.{clock_stays, has_disposed_same, on_time_open, on_time_gone}
+use Rattle.dash_stage.proofs.BlocksFirst.{nothing_fresh, fresh_moved, first_block, first_one, all_threads}
 use Rattle.dash_stage.proofs.HallEnds.{some_of}
-use Rattle.dash_stage.proofs.StageWhole.{queues_count, controller_entries, looper_made_none, sound_front, none_behind}
-use Rattle.dash_stage.proofs.StageMoves.{controls_above, step_on, turned_on, turned_left, over_is_disposed}
-use Rattle.dash_stage.proofs.StageTurns.{heard_entries}
+use Rattle.dash_stage.proofs.StageWhole.{queues_count, controller_entries, sound_grown, none_behind}
+use Rattle.dash_stage.proofs.StageMoves.{controls_above, moved_is_open, turned_on, turned_left, grown_by_turns, sound_by_turns, over_is_disposed}
+use Rattle.dash_stage.proofs.StageTurns.{heard_entries, only_threads}
 use Rattle.dash_stage.proofs.StageDue.{seen_same}
 use Rattle.dash_stage.proofs.LooperShares.{looper_self}
 use Rattle.dash_hall.proofs.Hearing.{have_heard_self}
@@ -95,8 +95,7 @@ in_time_on s time now l l' es whole same front ends still (inr (ended, (gone, by
 
 -- what posters have seen that heard others may be only if what they had seen before may be
 pub sound_heard : (s : Script) (c c' : Controller) → HaveHeard c.kit.posters.items c'.kit.posters.items → AreSound s c' → AreSound s c
-sound_heard s c c' heard sound q d lt =
-    sound_front s q (whole_on c q d) (whole_on c' q d) (heard.each q d lt).more (sound q d (subst (λ (n : ℕ). q < n) (sym heard.long) lt))
+sound_heard s c c' heard = sound_grown s c c' heard.long (λ q d lt. (heard.each q d lt).more)
 
 -- the posters tell the same, as long as they don't change
 abbrev SoundBy : Script → List Sender → Type 0
@@ -105,31 +104,56 @@ SoundBy s ps = (q : ℕ) (d : Sender) → q < length ps → IsSoundOn s q (slice
 abbrev FirstBy : Script → List Sender → Type 0
 FirstBy s ps = SoundBy s ps → (q : ℕ) (d : Sender) → q < length ps → come_first s.threads (slice_index_or ps q d).view.seen ≡ true
 
-abbrev FreshBy : Script → List Sender → Type 0
-FreshBy s ps = (q : ℕ) (d : Sender) → q < length ps → IsFresh s.threads (slice_index_or ps q d).view.seen
-
 pub sound_same : (s : Script) (c c' : Controller) → c'.kit.posters ≡ c.kit.posters → AreSound s c' → AreSound s c
 sound_same s c c' posters sound = subst (λ z. SoundBy s z.items) posters sound
 
-pub ahead_same : (s : Script) (time : ℕ) (st st' : Stage) → st'.controller.kit.posters ≡ st.controller.kit.posters → st'.time ≡ st.time → LiesAhead s time st → LiesAhead s time st'
-ahead_same s time st st' posters now (inl later) = inl (omega (arith, now, later))
-ahead_same s time st st' posters now (inr (zero, fresh)) = inr (zero, subst (λ z. FreshBy s z.items) (sym posters) fresh)
+pub ahead_same : (time : ℕ) (st st' : Stage) → st'.controller.kit.posters ≡ st.controller.kit.posters → st'.time ≡ st.time → LiesAhead time st → LiesAhead time st'
+ahead_same time st st' posters now (inl later) = inl (omega (arith, now, later))
+ahead_same time st st' posters now (inr (zero, unseen)) = inr (zero, subst (λ z. AreUnseen z.items) (sym posters) unseen)
 
 -- at the start each time lies ahead
-pub ahead_of_zero : (s : Script) (time : ℕ) (st : Stage) → st.time ≡ 0 → AreFresh s st → LiesAhead s time st
-ahead_of_zero s time st start fresh = dite (dec_lt 0 time)
+pub ahead_of_zero : (time : ℕ) (st : Stage) → st.time ≡ 0 → AreUnseen st.controller.kit.posters.items → LiesAhead time st
+ahead_of_zero time st start unseen = dite (dec_lt 0 time)
     (λ later. inl (omega (arith, start, later)))
-    (λ none. inr (omega (arith, none), fresh))
+    (λ none. inr (omega (arith, none), unseen))
 
 -- a time lies ahead still where the stage came to an earlier one
-pub ahead_on : (s : Script) (time next : ℕ) (st st' : Stage) → next < time → st'.time ≡ max st.time next → LiesAhead s time st → LiesAhead s time st'
-ahead_on s time next st st' earlier now (inl later) = inl (omega (arith, earlier, now, later))
-ahead_on s time next st st' earlier now (inr (zero, fresh)) = absurd (omega (arith, earlier, zero))
+pub ahead_on : (time next : ℕ) (st st' : Stage) → next < time → st'.time ≡ max st.time next → LiesAhead time st → LiesAhead time st'
+ahead_on time next st st' earlier now (inl later) = inl (omega (arith, earlier, now, later))
+ahead_on time next st st' earlier now (inr (zero, unseen)) = absurd (omega (arith, earlier, zero))
+
+-- ---- the start of a block
+
+-- nobody has called, and the time is 0
+nothing_called : (threads time : ℕ) → time ≡ 0 → IsAtBlock threads time []
+unfolding clock has_disposed
+nothing_called threads time zero = record {
+  on_time = on_time_open 0 time [] refl (sym zero);
+  fresh = inr (nothing_fresh threads);
+}
+
+-- the queue was disposed of earlier
+gone_before : (senders threads time : ℕ) (es : List Entry) → has_disposed (empty_base senders) es ≡ true → clock (empty_base senders) es < time → IsAtBlock threads time es
+gone_before senders threads time es gone earlier = record {
+  on_time = on_time_gone senders time es gone earlier;
+  fresh = inl (sym (has_disposed_same senders es) ∙ gone);
+}
+
+-- the time was moved last
+moved_now : (s : Script) (q time : ℕ) (es : List Entry) (e : Entry) → MovesTo time e → IsSoundOn s q (es ++ e ∷ []) → IsAtBlock s.threads time (es ++ e ∷ [])
+moved_now s q time es e is sound =
+    let base = empty_base (sender_count s) in
+    let le = subst (IsTimely true (clock base es)) is (IsLegal-last (setting_for s q) base es e sound.legal).timely in
+    let at = clock_moved base es e time is in
+    record {
+      on_time = on_time_open (sender_count s) time (es ++ e ∷ []) (moved_is_open (setting_for s q) (sender_count s) es e time is sound.legal) (omega (arith, at, le));
+      fresh = inr (fresh_moved s.threads es e (ap is_advance is));
+    }
 
 -- the threads ran a block, which came first
 pub block_first : (s : Script) (st st' : Stage) → IsStage s st → IsStage s st' → HaveSeenTheSame st' → AtEach (LooperKeeps HaveHeard) st.loopers.items st'.loopers.items
-    → HaveHeard st.controller.kit.posters.items st'.controller.kit.posters.items → IsInStep s st → (AreSound s st.controller → AreFresh s st) → HaveComeFirst s st'
-block_first s st st' is is' same' kept heard step fresh sound q d lt' =
+    → HaveHeard st.controller.kit.posters.items st'.controller.kit.posters.items → IsInStep s st → (time : ℕ) → (AreSound s st.controller → AreAtBlock s time st) → HaveComeFirst s st'
+block_first s st st' is is' same' kept heard step time at sound q d lt' =
     let lt : q < length st.controller.kit.posters.items = subst (λ (n : ℕ). q < n) heard.long lt' in
     let set = setting_for s q in
     let base = empty_base (sender_count s) in
@@ -137,14 +161,9 @@ block_first s st st' is is' same' kept heard step fresh sound q d lt' =
     let whole = whole_on st'.controller q d in
     let front : IsPrefix es whole = (heard.each q d lt).more in
     let was = sound_heard s st.controller st'.controller heard sound in
-    let none : (k : ℕ) → k < sender_count s → s.threads ≤ k → entries_by k whole ≡ entries_by k es = λ k known above. dite (ℕ_discrete k (controller s))
-    (λ at. subst (λ (m : ℕ). entries_by m whole ≡ entries_by m es) (sym at) (heard_entries s st st' is is' heard q d lt))
-    (λ apart.
-    let at : s.threads + (k - s.threads) ≡ k = omega (arith, above) in
-    let looper : k - s.threads < s.loopers = omega (arith, above, known, apart) in
-    subst (λ (m : ℕ). entries_by m whole ≡ entries_by m es) at (looper_made_none s st st' is is' step.same same' kept heard.long q (k - s.threads) d lt looper)) in
+    let none = only_threads s st st' is is' step.same same' kept heard q d lt in
     let theirs = all_threads set base s.threads es front.0 (subst (AreNumbered set base) (sym front.1) (sound q d lt').numbered) (λ k known above. none_behind k es whole front (none k known above)) in
-    subst (λ w. come_first s.threads w ≡ true) front.1 (first_block s.threads es front.0 theirs (fresh was q d lt) (step.first was q d lt))
+    subst (λ w. come_first s.threads w ≡ true) front.1 (first_block s.threads es front.0 theirs (at was q d lt).fresh (step.first was q d lt))
 
 -- the controller made one entry, or none
 one_first : (s : Script) (P : Entry → Type 0) (es whole : List Entry) → come_first s.threads es ≡ true → (whole ≡ es) ⊎ ((e : Entry) × (whole ≡ es ++ e ∷ []) × P e × (e.sender ≡ controller s)) → come_first s.threads whole ≡ true
@@ -195,13 +214,10 @@ module _ (s : Script) (st : Stage) (c : Controller) (st' : Stage) (is : IsStage 
     within_turned q lt = subst (λ (m : ℕ). q < m) (sym turns.long) lt
 
     turned_grown : (q : ℕ) (d : Sender) → q < length st.controller.kit.posters.items → IsPrefix (whole_on st.controller q d) (whole_on st'.controller q d)
-    turned_grown q d lt =
-        let t = turns.each q d lt in
-        prefix_trans (whole_on st.controller q d) t.found (whole_on st'.controller q d) t.begins
-        (prefix_trans t.found (whole_on c q d) (whole_on st'.controller q d) (step_on P _ t.found (whole_on c q d) t.step) (heard.each q d (within_turned q lt)).more)
+    turned_grown = grown_by_turns s st c st' is is' step.same same' threads loopers heard P turns
 
     turned_sound : AreSound s st'.controller → AreSound s st.controller
-    turned_sound = sound_before s st st' is is' step.same same' loopers longer turned_grown
+    turned_sound = sound_by_turns s st c st' is is' step.same same' threads loopers heard P turns
 
     in_turned : (q : ℕ) → q < length st'.loopers.items → (q < length st.loopers.items) × (q < length st.controller.kit.posters.items)
     in_turned q lt' =
@@ -245,7 +261,7 @@ module _ (s : Script) (st : Stage) (c : Controller) (st' : Stage) (is : IsStage 
     none_stuck : (es whole left : List Entry) → whole ≡ left → IsStuck s time left → (is_over (empty_base (sender_count s)) es ≡ true) ⊎ HasNoneBefore (sender_count s) time es
         → (whole ≡ es) ⊎ ((e : Entry) × (whole ≡ es ++ e ∷ []) × MovesTo time e × (e.sender ≡ controller s)) → ⊥
     none_stuck es whole left is_left h (inl over) (inl stays) = true≢false (sym over ∙ subst (λ w. is_over (empty_base (sender_count s)) w ≡ false) (sym is_left ∙ stays) h.going)
-    none_stuck es whole left is_left h (inr (none, kept_on)) (inl stays) =
+    none_stuck es whole left is_left h (inr (none, not_quitting)) (inl stays) =
         let base = empty_base (sender_count s) in
         let here : IsStuck s time es = subst (IsStuck s time) (sym is_left ∙ stays) h in
         true≢false (sym here.due ∙ none_picked base es (clock base es) time none here.early)
@@ -331,36 +347,39 @@ module _ (s : Script) (st : Stage) (c : Controller) (st' : Stage) (is : IsStage 
           let base = empty_base (sender_count s) in
           inl (ap (clock base) t.1 ∙ (clock_moved base es t.0 time t.2 ∙ (ap (λ (n : ℕ). max n time) at ∙ sym now)))
 
-      -- a queue that was not moved to a time ahead was disposed of, unless the time is 0
-      still_fresh : LiesAhead s time st → whole ≡ es → IsInTime s st.time (slice_index_or st.loopers.items q l) es
-          → (time ≤ time_in (calls_on c q d)) ⊎ (is_over (empty_base (sender_count s)) (whole_on c q d) ≡ true) → IsFresh s.threads whole
-      still_fresh (inr (zero, fresh)) stays at where_to = subst (IsFresh s.threads) (sym stays) (fresh q d within)
-      still_fresh (inl later) stays (inr (ended, (gone, by_then))) where_to =
-          inl (sym (has_disposed_same (sender_count s) whole) ∙ (ap (has_disposed (empty_base (sender_count s))) stays ∙ gone))
-      still_fresh (inl later) stays (inl at) (inl le) =
+      -- a queue that was not moved to a time ahead was disposed of before, unless the time is 0
+      stays_at_block : LiesAhead time st → whole ≡ es → IsInTime s st.time (slice_index_or st.loopers.items q l) es
+          → (time ≤ time_in (calls_on c q d)) ⊎ (is_over (empty_base (sender_count s)) (whole_on c q d) ≡ true) → IsAtBlock s.threads time whole
+      stays_at_block (inr (zero, unseen)) stays at where_to = subst (IsAtBlock s.threads time) (sym (stays ∙ unseen q d within)) (nothing_called s.threads time zero)
+      stays_at_block (inl later) stays (inr (ended, (gone, by_then))) where_to =
+          let base = empty_base (sender_count s) in
+          let clock_is : clock base whole ≡ clock base es = ap (clock base) stays in
+          gone_before (sender_count s) s.threads time whole (ap (has_disposed base) stays ∙ gone) (omega (arith, clock_is, by_then, later))
+      stays_at_block (inl later) stays (inl at) (inl le) =
           let base = empty_base (sender_count s) in
           let clock_is : clock base whole ≡ time_in (calls_on c q d) = time_by_controller (setting_for s q) (controller s) refl refl whole here.legal here.numbered ∙ ap time_in (sym its_calls) in
           let was : clock base whole ≡ st.time = ap (clock base) stays ∙ at in
           absurd (omega (arith, clock_is, was, le, later))
-      still_fresh (inl later) stays (inl at) (inr over) =
+      stays_at_block (inl later) stays (inl at) (inr over) =
           let base = empty_base (sender_count s) in
           let gone : is_over base whole ≡ true = ap (is_over base) (turned_left s st c st' is is' step.same same' threads loopers heard (MovesTo time) turns q d within here.numbered) ∙ over in
-          inl (sym (has_disposed_same (sender_count s) whole)
-          ∙ over_is_disposed s q st'.time whole here (subst (λ (z : List Entry). are_advances st'.time z ≡ true) its_calls (by q d (within_turned (MovesTo time) turns q within))) gone)
+          let was : clock base whole ≡ st.time = ap (clock base) stays ∙ at in
+          gone_before (sender_count s) s.threads time whole
+          (over_is_disposed s q st'.time whole here (subst (λ (z : List Entry). are_advances st'.time z ≡ true) its_calls (by q d (within_turned (MovesTo time) turns q within))) gone) (omega (arith, was, later))
 
       -- and one that was moved has no call behind the move
-      queue_fresh : LiesAhead s time st → IsInTime s st.time (slice_index_or st.loopers.items q l) es
-          → (whole ≡ es) ⊎ ((e : Entry) × (whole ≡ es ++ e ∷ []) × MovesTo time e × (e.sender ≡ controller s)) → IsFresh s.threads whole
-      queue_fresh ahead at (inl stays) = still_fresh ahead stays at (all_come sound q d (within_turned (MovesTo time) turns q within))
-      queue_fresh ahead at (inr t) = inr (ap (is_fresh s.threads) t.1 ∙ fresh_moved s.threads es t.0 (ap is_advance t.2))
+      queue_at_block : LiesAhead time st → IsInTime s st.time (slice_index_or st.loopers.items q l) es
+          → (whole ≡ es) ⊎ ((e : Entry) × (whole ≡ es ++ e ∷ []) × MovesTo time e × (e.sender ≡ controller s)) → IsAtBlock s.threads time whole
+      queue_at_block ahead at (inl stays) = stays_at_block ahead stays at (all_come sound q d (within_turned (MovesTo time) turns q within))
+      queue_at_block ahead at (inr t) = subst (IsAtBlock s.threads time) (sym t.1) (moved_now s q time es t.0 t.2 (subst (IsSoundOn s q) t.1 here))
 
     -- so it is with each queue
-    pub advanced_fresh : LiesAhead s time st → AreSound s st'.controller → AreFresh s st'
-    advanced_fresh ahead sound q d near =
+    pub advanced_at_block : LiesAhead time st → AreSound s st'.controller → AreAtBlock s time st'
+    advanced_at_block ahead sound q d near =
         let lt' : q < length st'.loopers.items = subst (λ (n : ℕ). q < n) (queues_count s st' is') near in
         let lt = in_turned (MovesTo time) turns q lt' in
         let l = some_of st.loopers.items q lt.0 in
-        queue_fresh sound q l d lt' ahead (step.in_time (turned_sound (MovesTo time) turns sound) q l d lt.0)
+        queue_at_block sound q l d lt' ahead (step.in_time (turned_sound (MovesTo time) turns sound) q l d lt.0)
         (turned_on s st c st' is is' step.same same' threads loopers heard (MovesTo time) turns q d lt.1 (sound_at (MovesTo time) turns sound q d lt.1).numbered)
 
     advanced_in_time : AreSound s st'.controller → AreInTime s st'

@@ -16,7 +16,7 @@ use Rattle.loop_model.proofs.NumberLaws.{AreNumbered-front}
 use Rattle.dash_script.specs.declared.script.Script.{Script}
 use Rattle.run_model.specs.Asks.{entries_by}
 use Rattle.run_model.specs.Senders.{controller, sender_count}
-use Rattle.run_model.specs.Control.{Before, before, befores_from, Timing, At, NotBefore, is_on_time, are_on_time}
+use Rattle.run_model.specs.Control.{Before, before, befores_from, Timing, At, InBlock, NotBefore, is_on_time, are_on_time}
 use Rattle.run_model.proofs.RunLaws.{entries_by-others, befores_from-append}
 use Rattle.dash_loopers.specs.Loopers.{IsSoundOn, setting_for}
 use Rattle.dash_loopers.specs.Played.{is_disposal, calls_in, IsTimedBy}
@@ -68,6 +68,7 @@ StoodAt time at b = (b.clock ≡ at) × ((at ≡ time) ⊎ ((b.disposed ≡ true
 met_one : (time at : ℕ) (u : Timing) (b : Before) → IsMet time at u → StoodAt time at b → is_on_time u b ≡ true
 met_one time at (At t) b met (clock_is, inl now) = or_left _ _ (eq-eqb b.clock t (clock_is ∙ now ∙ sym met))
 met_one time at (At t) b met (clock_is, inr (gone, by)) = or_right _ _ (and_from _ _ gone (le-leb b.clock t (omega (arith, clock_is, by, met))))
+met_one time at (InBlock t) b met either = absurd met
 met_one time at (NotBefore t) b met (clock_is, either) = le-leb t b.clock (subst (λ n. t ≤ n) (sym clock_is) met)
 
 all_met : (time at : ℕ) (us : List Timing) (bs : List Before) → length us ≡ length bs → AllByRecursion (IsMet time at) us → AllByRecursion (StoodAt time at) bs → are_on_time us bs ≡ true
@@ -150,4 +151,5 @@ module _ (s : Script) (q time : ℕ) where
       → IsTimedBy q sender looks now queue timing → IsMet time clock_was timing
   looks_at es looks sender now clock_was queue (At t) sound none at le (e, (k, lt, is), own, call) =
       looks_after es looks (IsLegalAfter-back set (empty_base (sender_count s)) [] es looks (legal_whole (es ++ looks) sound)) sound none at k t e lt (ap (λ x. x.call) is ∙ call)
+  looks_at es looks sender now clock_was queue (InBlock t) sound none at le h = absurd h
   looks_at es looks sender now clock_was queue (NotBefore t) sound none at le early = (let soon = early.0 in omega (arith, le, soon))

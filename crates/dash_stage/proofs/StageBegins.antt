@@ -1,5 +1,5 @@
 -- A stage whose senders have seen nothing.
-use Rattle.std.proofs.Common.{◌≡◌, ◌<◌, inl, inr, ℕ, suc, false, true, List, [], ◌∷◌, length, None, refl, sym, ap, ap₂, ◌∙◌, subst, arith}
+use Rattle.std.proofs.Common.{◌≡◌, ◌<◌, inl, ℕ, suc, false, true, List, [], ◌∷◌, length, None, refl, sym, ap, ap₂, ◌∙◌, subst, arith}
 use Rattle.std.specs.Prelude.{slice_index_or}
 use Rattle.std.specs.Option.{option_map}
 use Rattle.atomic_table.specs.Seated.{TableId}
@@ -22,11 +22,11 @@ use Rattle.dash_loopers.specs.Loopers.{posters_of, HasNoneDue}
 use Rattle.dash_stage.specs.Sharing.{OfThreads, OfLoopers}
 use Rattle.dash_stage.specs.Stages.{AreThreads, AreLoopers}
 use Rattle.dash_stage.specs.Timeliness.{IsTimelyUpTo, AreTimelyUpTo, AreRested, WaitForNothing}
-use Rattle.dash_stage.specs.Blocks.{come_first, IsFresh}
-use Rattle.dash_stage.specs.Playing.{befores_called, HaveBegun, AreFresh, IsInStep}
-use Rattle.dash_stage.proofs.Badges.{alike_length, queue_count}
+use Rattle.dash_stage.specs.Blocks.{come_first}
+use Rattle.dash_stage.specs.Playing.{befores_called, HaveBegun, IsInStep}
+use Rattle.dash_hall.proofs.Badges.{alike_length, queue_count}
 use Rattle.dash_stage.proofs.LooperShares.{looper_posters}
-use Rattle.dash_stage.proofs.BlocksFirst.{nothing_fresh, nothing_first}
+use Rattle.dash_stage.proofs.BlocksFirst.{nothing_first}
 
 -- posters that have seen nothing have seen the same
 unseen_same : (ps cs : List Sender) → length ps ≡ length cs → AreUnseen ps → AreUnseen cs → seen_by ps ≡ seen_by cs
@@ -54,7 +54,7 @@ nothing_eligible n = refl
 -- and the queue is neither over nor quitting, and has none due
 nothing_due : (n : ℕ) → HasNoneDue (empty_base n) [] (clock (empty_base n) [])
 unfolding has_disposed has_halted quit_place pick first_eligible live clock
-nothing_due n = record { going = refl; kept_on = refl; none = refl }
+nothing_due n = record { going = refl; not_quitting = refl; none = refl }
 
 -- and its clock shows 0
 nothing_timed : (n : ℕ) → clock (empty_base n) [] ≡ 0
@@ -82,7 +82,7 @@ module _ (s : Script) (st : Stage) (k : ℕ) (is_hall : IsHall s st.hall) where
           (as_long _ k st.hall.queues.items (posters_of (slice_index_or st.loopers.items n d)) st.controller.kit.posters.items (looper_posters s st.hall is_hall (slice_index_or st.loopers.items n d) (loopers.1 n d lt).0) controller) (of_loopers n d lt) unseen;
       controller = refl;
     };
-    timely = λ q d lt sound. subst (IsTimelyUpTo s [] q) (sym (unseen q d lt)) (nothing_timely s q);
+    timely = λ sound q d lt. subst (IsTimelyUpTo s [] q) (sym (unseen q d lt)) (nothing_timely s q);
   }
 
   -- the loopers wait for nothing
@@ -114,7 +114,3 @@ module _ (s : Script) (st : Stage) (k : ℕ) (is_hall : IsHall s st.hall) where
       };
     };
   }
-
--- no queue has a call
-pub begins_fresh : (s : Script) (st : Stage) → AreUnseen st.controller.kit.posters.items → AreFresh s st
-begins_fresh s st unseen q d lt = subst (IsFresh s.threads) (sym (unseen q d lt)) (inr (nothing_fresh s.threads))

@@ -32,10 +32,7 @@ use Rattle.dash_stage.specs.Sharing.{HaveSeenTheSame, OfThreads, OfLoopers}
 use Rattle.dash_stage.specs.Timeliness.{whole_on, IsTimelyUpTo, AreTimelyUpTo, IsRested, AreRested, AreDue, NotLater}
 use Rattle.dash_stage.proofs.HallEnds.{some_of}
 use Rattle.dash_hall.proofs.Hearing.{prefix_whole}
-use Rattle.dash_stage.proofs.StageWhole.{as_many, seen_at, own_among, queues_count, looper_sees}
-
-abbrev seen : Sender → List Entry
-seen p = p.view.seen
+use Rattle.dash_stage.proofs.StageWhole.{seen, as_many, seen_at, own_among, queues_count, looper_sees}
 
 -- a time that is not later than another, where there is one, has nothing eligible before it
 none_early : (t : ℕ) (o : Option Item) → NotLater t (option_map when_of o) → is_none_before t o ≡ true
@@ -51,7 +48,7 @@ due_of_rest s t st rest h q d lt =
     let base = empty_base (sender_count s) in
     elim (cases_Bool (is_ended (slice_index_or st.loopers.items q l).last)) [
       | inl ended ↦ inl (one.ended ended)
-      | inr waits ↦ inr (none_early t (first_eligible base (whole_on st.controller q d)) (subst (NotLater t) (one.waits waits) (h q l lt waits)), (one.quiet waits).kept_on)
+      | inr waits ↦ inr (none_early t (first_eligible base (whole_on st.controller q d)) (subst (NotLater t) (one.waits waits) (h q l lt waits)), (one.quiet waits).not_quitting)
     ]
 
 -- the posters tell the same, as long as neither they nor the loopers change
@@ -67,7 +64,7 @@ abbrev SameBy : List PostingThread → List StageLooper → List Sender → Type
 SameBy ts ls ps = OfThreads (HaveSeenAll (seen_by ps)) ts × OfLoopers (HaveSeenAll (seen_by ps)) ls
 
 abbrev TimelyBy : Script → List Block → List Sender → Type 0
-TimelyBy s past ps = (q : ℕ) (d : Sender) → q < length ps → IsSoundOn s q (slice_index_or ps q d).view.seen → IsTimelyUpTo s past q (slice_index_or ps q d).view.seen
+TimelyBy s past ps = ((q : ℕ) (d : Sender) → q < length ps → IsSoundOn s q (slice_index_or ps q d).view.seen) → (q : ℕ) (d : Sender) → q < length ps → IsTimelyUpTo s past q (slice_index_or ps q d).view.seen
 
 -- all have still seen the same where no poster changed
 pub seen_same : (st st' : Stage) → st'.threads.items ≡ st.threads.items → st'.loopers ≡ st.loopers → st'.controller.kit.posters ≡ st.controller.kit.posters → HaveSeenTheSame st → HaveSeenTheSame st'

@@ -2,7 +2,7 @@
 use Rattle.std.proofs.Common.{◌≡◌, ◌≢◌, ◌<◌, ◌≤◌, ◌+◌, ◌-◌, ◌⊎◌, inl, inr, ℕ, zero, suc, Bool, true, false, true≢false, List, [], ◌∷◌, ◌++◌, length, Some, None, refl, sym, ap, ◌∙◌, subst, arith, append_assoc}
 use Rattle.std.specs.Prelude.{slice_index_or, nat_le, is_some, not, ◌||◌, ◌&&◌, ◌==◌, if◌then◌else◌}
 use Rattle.std.proofs.Math.Bool.{or-false}
-use Rattle.std.proofs.lemmas.Bool.{and_parts, and_from, ne_eqb, le-leb, leb-true}
+use Rattle.std.proofs.lemmas.Bool.{and_parts, and_from, or_parts, or_from, false_from_ne_true, ne_eqb, le-leb, leb-true}
 use Rattle.std.proofs.lemmas.List.{append-nil}
 use mathlib.Core.List.{IsPrefix}
 use mathlib.Core.Logic.{dite}
@@ -13,10 +13,10 @@ use Rattle.loop_model.specs.declared.call.Call.{Call}
 use Rattle.loop_model.specs.declared.call.Call.TheVariants.{Advance}
 use Rattle.loop_model.specs.declared.reply.Reply.TheVariants.{Advanced}
 use Rattle.loop_model.specs.Base.{empty_base}
-use Rattle.loop_model.specs.Entries.{moment_of}
+use Rattle.loop_model.specs.Entries.{moment_of, is_next, is_disposed}
 use Rattle.loop_model.specs.Live.{live}
 use Rattle.loop_model.specs.Pick.{first_eligible, pick}
-use Rattle.loop_model.specs.Answers.{Setting, clock, answer, is_over, has_disposed, quit_place}
+use Rattle.loop_model.specs.Answers.{Setting, clock, answer, is_over, has_disposed, has_halted, quit_place}
 use Rattle.loop_model.specs.Legal.{IsLegal, AreNumbered}
 use Rattle.loop_model.proofs.LegalLaws.{IsLegal-last}
 use Rattle.loop_model.proofs.NumberLaws.{AreNumbered-front}
@@ -30,18 +30,17 @@ use Rattle.run_model.specs.Control.{is_advance, is_none_before, is_in_time}
 use Rattle.run_model.proofs.RunLaws.{entries_by-append, entries_by-unchanged, entries_by-others}
 use Rattle.dash_stage.specs.declared.control.Controller.{Controller}
 use Rattle.dash_stage.specs.declared.stage.Stage.{Stage}
-use Rattle.dash_stage.specs.Controllers.{are_advances, time_in, calls_on, CallsNone}
+use Rattle.dash_stage.specs.Controllers.{are_advances, calls_on}
 use Rattle.dash_loopers.specs.Loopers.{IsSoundOn, setting_for, LooperKeeps}
 use Rattle.dash_stage.specs.Stages.{IsStage}
 use Rattle.dash_hall.specs.Hearing.{AtEach, HaveHeard}
 use Rattle.dash_threads.specs.Threads.{ThreadKeeps}
 use Rattle.dash_stage.specs.Sharing.{HaveSeenTheSame}
-use Rattle.dash_stage.specs.Timeliness.{whole_on, IsTimelyUpTo, AreTimelyUpTo, IsAtTime, AreAtTime, AreBy, HasNoneBefore, AreDue, EachTurnsOn, MovesTo, HaveCome}
-use Rattle.dash_stage.proofs.Controls.{time_by_controller, time_of_advances, main_is_not_over, side_is_not_halted}
-use Rattle.dash_stage.proofs.ControlKept.{calls_kept}
-use Rattle.dash_stage.proofs.Timely.{none_of, none_front, of_others, is_whole, in_time_one, before_quit_one, timely_others}
-use Rattle.loop_model.proofs.AfterLaws.{disposed_stays}
-use Rattle.dash_stage.proofs.StageWhole.{sender_at, queues_count, controller_entries, sound_front, threads_heard, thread_made_none, looper_made_none}
+use Rattle.dash_stage.specs.Timeliness.{whole_on, AreSound, IsTimelyUpTo, AreTimelyUpTo, AreBy, HasNoneBefore, AreDue, EachTurnsOn, MovesTo}
+use Rattle.dash_stage.proofs.Controls.{main_is_not_over, side_is_not_halted, looks_dispose}
+use Rattle.dash_stage.proofs.Timely.{back_all, none_of, none_front, of_others, is_whole, in_time_one, before_quit_one, timely_others}
+use Rattle.loop_model.proofs.AfterLaws.{has_disposed-snoc}
+use Rattle.dash_stage.proofs.StageWhole.{sender_at, queues_count, controller_entries, sound_front, sound_grown, threads_heard, thread_made_none, looper_made_none}
 
 -- a sender that has made nothing from one history to the last has made nothing in between
 pub none_between : (k : ℕ) (xs ys zs : List Entry) → IsPrefix xs ys → IsPrefix ys zs → entries_by k zs ≡ entries_by k xs → entries_by k ys ≡ entries_by k xs
@@ -112,6 +111,16 @@ none_before set m es e now is legal (inl over) =
     let wrong : None ≡ Some e.reply = sym (over_moves_none set b es now over) ∙ reply in
     absurd cc
 none_before set m es e now is legal (inr none) = none
+
+-- nor is one disposed of that it moved
+pub moved_is_open : (set : Setting) (m : ℕ) (es : List Entry) (e : Entry) (now : ℕ) → e.call ≡ Advance now → IsLegal set (empty_base m) (es ++ e ∷ []) → has_disposed (empty_base m) (es ++ e ∷ []) ≡ false
+moved_is_open set m es e now is legal =
+    let b = empty_base m in
+    let reply : answer set b es (Advance now) ≡ Some e.reply = subst (λ (c : Call). answer set b es c ≡ Some e.reply) is (IsLegal-last set b es e legal).reply in
+    let going : is_over b es ≡ false = false_from_ne_true (is_over b es) (λ over. let wrong : None ≡ Some e.reply = sym (over_moves_none set b es now over) ∙ reply in absurd cc) in
+    let looks = back_all (λ f. is_disposed f.reply ≡ true → is_next f.call ≡ true) es (e ∷ []) (looks_dispose set m (es ++ e ∷ []) legal) in
+    let keeps : is_disposed e.reply ≡ false = false_from_ne_true (is_disposed e.reply) (λ d. absurd (let wrong : false ≡ true = sym (ap is_next is) ∙ looks.0 d in cc)) in
+    has_disposed-snoc b es e ∙ or_from _ _ (or_parts (has_disposed b es) (has_halted b es) going).0 keeps
 
 module _ (s : Script) (past : List Block) (q now : ℕ) (es whole : List Entry) (sound : IsSoundOn s q whole) where
   -- a history stays timely by an Advance past no message
@@ -187,14 +196,26 @@ module _ (s : Script) (st : Stage) (c : Controller) (st' : Stage) (is : IsStage 
       let none = others_none (heard.long ∙ turns.long) q d lt k known apart in
       none ∙ sym (none_between k es left whole begins h.more none)))
 
+  -- each history went on
+  pub grown_by_turns : (P : Entry → Type 0) → EachTurnsOn P st.controller c → (q : ℕ) (d : Sender) → q < length st.controller.kit.posters.items → IsPrefix (whole_on st.controller q d) (whole_on st'.controller q d)
+  grown_by_turns P turns q d lt =
+      let t = turns.each q d lt in
+      let within : q < length c.kit.posters.items = subst (λ (m : ℕ). q < m) (sym turns.long) lt in
+      prefix_trans (whole_on st.controller q d) t.found (whole_on st'.controller q d) t.begins
+      (prefix_trans t.found (whole_on c q d) (whole_on st'.controller q d) (step_on P _ t.found (whole_on c q d) t.step) (heard.each q d within).more)
+
+  -- and may be one only if what it was may be
+  pub sound_by_turns : (P : Entry → Type 0) → EachTurnsOn P st.controller c → AreSound s st'.controller → AreSound s st.controller
+  sound_by_turns P turns = sound_grown s st.controller st'.controller (heard.long ∙ turns.long) (grown_by_turns P turns)
+
   -- moved on to a time before which no message was due, each history stays timely
   pub advanced_timely : (now : ℕ) (past : List Block) → EachTurnsOn (MovesTo now) st.controller c → AreDue s now st → AreTimelyUpTo s past st → AreTimelyUpTo s past st'
   advanced_timely now past turns due timely = record {
     same = same';
-    timely = λ q d lt' sound.
+    timely = λ sound q d lt'.
         let lt : q < length st.controller.kit.posters.items = subst (λ (m : ℕ). q < m) (heard.long ∙ turns.long) lt' in
-        timely_advanced s past q now (whole_on st.controller q d) (whole_on st'.controller q d) sound (due q d (subst (λ (m : ℕ). q < m) (queues_count s st is) lt))
-        (turned_on (MovesTo now) turns q d lt sound.numbered) (timely.timely q d lt);
+        timely_advanced s past q now (whole_on st.controller q d) (whole_on st'.controller q d) (sound q d lt') (due q d (subst (λ (m : ℕ). q < m) (queues_count s st is) lt))
+        (turned_on (MovesTo now) turns q d lt (sound q d lt').numbered) (λ was. timely.timely (sound_by_turns (MovesTo now) turns sound) q d lt);
   }
 
 -- moves of the time, none past a moment, nor past a later one
@@ -210,10 +231,6 @@ are_advances_later t u le (e ∷ es) h =
 pub by_later : (t u : ℕ) (c : Controller) → t ≤ u → AreBy t c → AreBy u c
 by_later t u c le by q d lt = are_advances_later t u le (calls_on c q d) (by q d lt)
 
--- and so it is while it calls nothing
-pub by_kept : (t : ℕ) (c c' : Controller) → CallsNone c c' → AreBy t c → AreBy t c'
-by_kept t c c' none by q = calls_kept c c' none.long q (none.calls q) (λ l. are_advances t l ≡ true) (by q)
-
 -- a queue that is over, where the controller has only moved the time, was disposed of
 pub over_is_disposed : (s : Script) (q time : ℕ) (es : List Entry) → IsSoundOn s q es → are_advances time (entries_by (controller s) es) ≡ true → is_over (empty_base (sender_count s)) es ≡ true
     → has_disposed (empty_base (sender_count s)) es ≡ true
@@ -223,28 +240,3 @@ over_is_disposed s (suc q) time es sound moves over =
     let base = empty_base (sender_count s) in
     let not_halted = side_is_not_halted (setting_for s (suc q)) (sender_count s) (ne_eqb (suc q) 0 (λ e. absurd (omega (arith, e)))) es sound.legal in
     sym (or-false (has_disposed base es)) ∙ ap (λ (t : Bool). has_disposed base es || t) (sym not_halted) ∙ over
-
--- a history to which the controller has come at a time, and moved it no further
-at_time_on : (s : Script) (q time : ℕ) (es whole : List Entry) → IsPrefix es whole → IsSoundOn s q whole → entries_by (controller s) whole ≡ entries_by (controller s) es
-    → are_advances time (entries_by (controller s) es) ≡ true → (time ≤ time_in (entries_by (controller s) es)) ⊎ (is_over (empty_base (sender_count s)) es ≡ true) → IsAtTime (sender_count s) time whole
-at_time_on s q time es whole front sound same moves (inl le) =
-    let is : clock (empty_base (sender_count s)) whole ≡ time_in (entries_by (controller s) es) = time_by_controller (setting_for s q) (controller s) refl refl whole sound.legal sound.numbered ∙ ap time_in same in
-    let within = time_of_advances time (entries_by (controller s) es) moves in
-    inl (omega (arith, is, within, le))
-at_time_on s q time es whole front sound same moves (inr over) =
-    let base = empty_base (sender_count s) in
-    let is : clock base whole ≡ time_in (entries_by (controller s) es) = time_by_controller (setting_for s q) (controller s) refl refl whole sound.legal sound.numbered ∙ ap time_in same in
-    let within = time_of_advances time (entries_by (controller s) es) moves in
-    inr (subst (λ (l : List Entry). has_disposed base l ≡ true) front.1 (disposed_stays base es front.0 (over_is_disposed s q time es (sound_front s q es whole front sound) moves over)), omega (arith, is, within))
-
--- where each queue's time has come to a moment and no further, or the queue is over, each is at that time
-pub come_at_time : (s : Script) (time : ℕ) (c : Controller) (st' : Stage) (is' : IsStage s st') → HaveHeard c.kit.posters.items st'.controller.kit.posters.items → AreBy time c → HaveCome s time c → AreAtTime s time st'
-come_at_time s time c st' is' heard by come q d lt' sound =
-    let lt : q < length c.kit.posters.items = subst (λ (m : ℕ). q < m) heard.long lt' in
-    let h = heard.each q d lt in
-    let es = whole_on c q d in
-    let n : (slice_index_or c.kit.posters.items q d).sender ≡ controller s = sym h.same.sender ∙ sender_at (controller s) st'.hall.queues.items st'.controller.kit.posters.items is'.controller.posters q d lt' in
-    let mine : calls_on c q d ≡ entries_by (controller s) es = ap (λ (m : ℕ). entries_by m es) n in
-    at_time_on s q time es (whole_on st'.controller q d) h.more sound (controller_entries s st' is' q d lt' ∙ h.called ∙ mine)
-    (subst (λ (l : List Entry). are_advances time l ≡ true) mine (by q d lt))
-    (subst (λ (l : List Entry). (time ≤ time_in l) ⊎ (is_over (empty_base (sender_count s)) es ≡ true)) mine (come q d lt))

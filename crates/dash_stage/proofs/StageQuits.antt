@@ -84,7 +84,7 @@ module _ (set : Setting) (m : ℕ) (es : List Entry) (side : set.main ≡ false)
   unfolding answer
   quit_done safe now r is =
       let said : Some (if set.main then NotAllowed else quit_reply (quit_place (empty_base m) es)) ≡ Some QuitDone =
-      ap (λ (b : Bool). Some (if b then NotAllowed else quit_reply (quit_place (empty_base m) es))) side ∙ ap (λ (o : Option ℕ). Some (quit_reply o)) quiet.kept_on in
+      ap (λ (b : Bool). Some (if b then NotAllowed else quit_reply (quit_place (empty_base m) es))) side ∙ ap (λ (o : Option ℕ). Some (quit_reply o)) quiet.not_quitting in
       let same : Some QuitDone ≡ Some r = sym said ∙ is in
       let reply : QuitDone ≡ r = cc in
       ap is_quit_done (sym reply)

@@ -1,5 +1,5 @@
 -- A stage whose senders hear each other, queue after queue.
-use Rattle.std.proofs.Common.{◌≡◌, ℕ, ◌+◌, ◌<◌, ◌≤◌, List, map, length, get_or, refl, sym, ap, ◌∙◌, subst, arith}
+use Rattle.std.proofs.Common.{◌≡◌, ℕ, ◌+◌, ◌<◌, ◌≤◌, List, [], map, length, get_or, refl, sym, ap, ◌∙◌, subst, arith}
 use Rattle.std.proofs.lemmas.List.{get_or_past}
 use mathlib.Core.Logic.{dite}
 use native.Mathlib.Decide.{ℕ_discrete, dec_lt}
@@ -10,6 +10,7 @@ use Rattle.dash_script.specs.declared.script.Block.{Block}
 use Rattle.shared_queue.specs.Known.{Shared, IsOf}
 use Rattle.looper_run.specs.Holding.{Sender}
 use Rattle.looper_run.specs.Round.{is_ended}
+use Rattle.choreographer.specs.Known.{Known as Pass}
 use Rattle.run_model.specs.Senders.{controller}
 use Rattle.run_model.specs.Planned.{lines_of}
 use Rattle.dash_hall.specs.declared.hall.Hall.{Hall}
@@ -25,7 +26,7 @@ use Rattle.dash_hall.specs.Hearing.{HaveHeard, HaveHeardAt, AtEach, AreReady, Ha
 use Rattle.dash_stage.specs.Sharing.{HaveSeenTheSame, ControllerKeeps, StageKeeps, OfThreads, OfLoopers, OfSenders, AreWithin, SharesAt}
 use Rattle.dash_threads.specs.Threads.{ThreadKeeps}
 use Rattle.dash_loopers.specs.Loopers.{LooperKeeps, posters_of}
-use Rattle.dash_stage.proofs.Badges.{alike_length, poster_at, queue_count}
+use Rattle.dash_hall.proofs.Badges.{alike_length, poster_at, queue_count}
 use Rattle.dash_hall.proofs.Hearing.{have_heard, have_heard_then, have_heard_self, heard_badges, seen_here, seen_elsewhere, seen_same}
 use Rattle.dash_hall.proofs.Sharing.{each_weaker, each_self, each_then}
 use Rattle.dash_stage.proofs.ThreadShares.{thread_self, thread_weaker, thread_then, thread_kept, up_to_kept, of_threads_then}
@@ -37,6 +38,7 @@ controller_kept s hall a b k is = record {
   posters = heard_badges a.kit.posters.items b.kit.posters.items k.posters ∙ is.posters;
   frames = ap (λ v. map frame_badge_of v.items) k.frames ∙ is.frames;
   pass = ap (λ t. t.home) k.pass ∙ is.pass;
+  idle = subst (λ (fs : List Pass). (q : ℕ) (p : Pass) → q < length fs → (get_or fs q p).view.own ≡ []) (sym (ap (λ v. v.items) k.frames)) is.idle;
 }
 
 -- it has called nothing

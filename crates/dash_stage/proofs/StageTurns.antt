@@ -1,15 +1,17 @@
 -- What a block of the threads, and the controller's turns that move no time, make of what all senders have seen of each queue.
-use Rattle.std.proofs.Common.{◌≡◌, ◌≢◌, ◌<◌, ◌≤◌, ◌+◌, ◌==◌, ◌⊎◌, inl, inr, ℕ, suc, true, List, [], ◌∷◌, ◌++◌, map, length, filter, refl, sym, ap, ◌∙◌, subst, arith}
+use Rattle.std.proofs.Common.{◌≡◌, ◌≢◌, ◌<◌, ◌≤◌, ◌+◌, ◌==◌, ◌⊎◌, inl, inr, ℕ, suc, true, ◌-◌, false, List, [], ◌∷◌, ◌++◌, map, length, filter, refl, sym, ap, ◌∙◌, subst, arith}
 use Rattle.std.specs.Prelude.{slice_index_or}
 use Rattle.std.specs.List.{AllByRecursion}
 use Rattle.std.proofs.lemmas.Bool.{ne_eqb}
-use Rattle.std.proofs.lemmas.List.{length-append}
+use Rattle.std.proofs.lemmas.List.{length-append, length-replicate}
 use mathlib.Core.List.{IsPrefix}
 use mathlib.Core.Logic.{dite}
-use native.Mathlib.Decide.{ℕ_discrete}
+use native.Mathlib.Decide.{ℕ_discrete, dec_lt}
 use Rattle.loop_model.specs.declared.entry.Entry.{Entry}
 use Rattle.loop_model.specs.Base.{empty_base}
+use Rattle.loop_model.specs.Entries.{is_next, is_disposed}
 use Rattle.loop_model.specs.Legal.{IsLegal, AreNumbered}
+use Rattle.loop_model.proofs.NumberLaws.{AreNumbered-known}
 use Rattle.loop_model.proofs.Prefixes.{prefix_self}
 use Rattle.dash_script.specs.declared.script.Block.{Block}
 use Rattle.dash_script.specs.declared.script.Line.{Line}
@@ -17,8 +19,9 @@ use Rattle.dash_script.specs.declared.script.Script.{Script}
 use Rattle.looper_run.specs.Holding.{Sender}
 use Rattle.run_model.specs.Senders.{controller, sender_count}
 use Rattle.run_model.specs.Asks.{AreFor, entries_by, token_in}
+use Rattle.run_model.specs.Moments.{in_lockstep}
 use Rattle.run_model.specs.Planned.{Timed, lines_in, lines_of, labels_on, lines_on}
-use Rattle.run_model.specs.Control.{is_in_time, is_called_in_time, are_before_quit, ends_halted, befores, At, are_on_time}
+use Rattle.run_model.specs.Control.{is_in_time, is_called_in_time, are_before_quit, ends_halted, befores, before, InBlock, is_on_time, are_on_time}
 use Rattle.run_model.proofs.RunLaws.{entries_by-append, entries_by-others, lines_on-append}
 use Rattle.dash_threads.specs.declared.thread.PostingThread.{PostingThread}
 use Rattle.dash_loopers.specs.declared.looper.StageLooper.{StageLooper}
@@ -27,17 +30,21 @@ use Rattle.dash_stage.specs.declared.stage.Stage.{Stage}
 use Rattle.dash_hall.specs.Growth.{own}
 use Rattle.dash_stage.specs.Controllers.{are_advances, IsMoving}
 use Rattle.dash_threads.specs.Threads.{IsUpTo, HasCalled, ThreadKeeps}
-use Rattle.dash_loopers.specs.Loopers.{IsSoundOn, setting_for, is_given_up, LooperKeeps}
+use Rattle.dash_loopers.specs.Loopers.{IsSoundOn, is_disposal, setting_for, is_given_up, LooperKeeps}
 use Rattle.dash_stage.specs.Stages.{IsStage, HaveRun, RunOn, LoopersGoOn}
 use Rattle.dash_hall.specs.Hearing.{AtEach, HaveHeard}
 use Rattle.dash_stage.specs.Sharing.{HaveSeenTheSame}
-use Rattle.dash_stage.specs.Timeliness.{whole_on, IsTimelyUpTo, AreTimelyUpTo, IsAtTime, AreAtTime, TurnsOn, EachTurnsOn, HasHaltedLast}
+use Rattle.dash_stage.specs.Timeliness.{whole_on, AreSound, IsTimelyUpTo, AreTimelyUpTo, TurnsOn, EachTurnsOn, HasHaltedLast}
+use Rattle.dash_stage.specs.Playing.{AreAtBlock}
+use Rattle.dash_stage.proofs.OwnLooks.{NoneDisposes}
+use Rattle.dash_stage.proofs.Disposing.{lines_dispose_nothing, none_of_all, none_answered}
+use Rattle.dash_stage.proofs.Controls.{looks_dispose}
 use Rattle.dash_stage.proofs.Blocks.{lines_more}
-use Rattle.dash_stage.proofs.Timely.{in_time_one, in_time_more, before_quit_one, before_quit_block, moves_quit_not, timely_others, timely_block}
+use Rattle.dash_stage.proofs.Timely.{back_all, in_time_one, in_time_more, before_quit_one, before_quit_block, moves_quit_not, timely_others, timely_block}
 use Rattle.dash_stage.proofs.HallEnds.{some_of}
 use Rattle.dash_stage.proofs.ThreadShares.{up_to_kept}
-use Rattle.dash_stage.proofs.StageWhole.{as_many, controller_entries, thread_entries, sound_front, none_behind}
-use Rattle.dash_stage.proofs.StageMoves.{controls_above, turned_on, turned_left}
+use Rattle.dash_stage.proofs.StageWhole.{as_many, controller_entries, thread_entries, looper_made_none, sound_front, sound_grown, none_behind}
+use Rattle.dash_stage.proofs.StageMoves.{controls_above, turned_on, turned_left, sound_by_turns}
 
 -- ---- lists and histories
 
@@ -63,17 +70,37 @@ called_count : (s : Script) (bs : List Block) (k : ℕ) (t : PostingThread) → 
     → length (lines_on s (labels_on q (lines_of k s.blocks)) q (lines_of k bs)) ≡ length (own (slice_index_or t.kit.posters.items q d))
 called_count s bs k t number up q d lt = for_count _ [] _ _ (subst (λ n. HasCalled s (lines_of k bs) n t.kit.posters.items) number up.called q d lt)
 
+-- and it has disposed of nothing there
+called_none : (s : Script) (bs : List Block) (k : ℕ) (t : PostingThread) → t.number ≡ k → IsUpTo s (lines_of k bs) t → (q : ℕ) (d : Sender) → q < length t.kit.posters.items
+    → NoneDisposes (own (slice_index_or t.kit.posters.items q d))
+called_none s bs k t number up q d lt =
+    lines_dispose_nothing in_lockstep s (labels_on q (lines_of k s.blocks)) q [] _ _ (subst (λ n. HasCalled s (lines_of k bs) n t.kit.posters.items) number up.called q d lt)
+
 module _ (s : Script) (q : ℕ) (es whole : List Entry) (front : IsPrefix es whole) (sound : IsSoundOn s q whole) (controlled : entries_by (controller s) whole ≡ entries_by (controller s) es) where
   -- the controller called nothing
   in_time_behind : is_called_in_time (controller s) whole ≡ is_called_in_time (controller s) es
   in_time_behind = ap (is_called_in_time (controller s)) (sym front.1) ∙ in_time_more (controller s) es front.0 (none_behind (controller s) es whole front controlled)
 
-  -- a thread that has made the calls of one block more, at the block's time, is on time
-  block_on_time : (past : List Block) (b : Block) (k : ℕ) → IsAtTime (sender_count s) b.time es → (let labels = labels_on q (lines_of k s.blocks) in
+  -- nothing disposed of the queue where only threads called, and none of them did
+  none_disposed_on : ((k : ℕ) → k < s.threads → NoneDisposes (entries_by k whole)) → ((k : ℕ) → k < sender_count s → s.threads ≤ k → entries_by k whole ≡ entries_by k es) → AllByRecursion (λ e. is_disposed e.reply ≡ false) front.0
+  none_disposed_on theirs none =
+      let set = setting_for s q in
+      let base = empty_base (sender_count s) in
+      let legal = subst (IsLegal set base) (sym front.1) sound.legal in
+      let numbered = subst (AreNumbered set base) (sym front.1) sound.numbered in
+      let known : AllByRecursion (λ (e : Entry). e.sender < sender_count s) front.0 =
+      back_all (λ e. e.sender < sender_count s) es front.0 (subst (λ n. AllByRecursion (λ (e : Entry). e.sender < n) (es ++ front.0)) (length-replicate (sender_count s) 0) (AreNumbered-known set base (es ++ front.0) (length-replicate (sender_count s) 0) numbered)) in
+      let by_each : (k : ℕ) → k < sender_count s → NoneDisposes (entries_by k front.0) = λ k below. dite (dec_lt k s.threads)
+      (λ thread. back_all (λ e. is_disposal e ≡ false) (entries_by k es) (entries_by k front.0) (subst NoneDisposes (sym (ap (entries_by k) front.1) ∙ entries_by-append k es front.0) (theirs k thread)))
+      (λ other. subst NoneDisposes (sym (none_behind k es whole front (none k below (omega (arith, other))))) tt) in
+      none_answered front.0 (back_all (λ e. is_disposed e.reply ≡ true → is_next e.call ≡ true) es front.0 (looks_dispose set (sender_count s) (es ++ front.0) legal)) (none_of_all (sender_count s) front.0 known by_each)
+
+  -- a thread that has made the calls of one block more, while nothing disposed of the queue, is on time
+  block_on_time : (past : List Block) (b : Block) (k : ℕ) → AllByRecursion (λ e. is_disposed e.reply ≡ false) front.0 → is_on_time (InBlock b.time) (before es) ≡ true → (let labels = labels_on q (lines_of k s.blocks) in
       length (lines_on s labels q (lines_of k past)) ≡ length (entries_by k es) → length (lines_on s labels q (lines_of k (past ++ b ∷ []))) ≡ length (entries_by k whole)
-      → are_on_time (map (λ l. At l.time) (lines_on s labels q (lines_of k past))) (befores k es) ≡ true
-      → are_on_time (map (λ l. At l.time) (lines_on s labels q (lines_of k (past ++ b ∷ [])))) (befores k whole) ≡ true)
-  block_on_time past b k at before after h =
+      → are_on_time (map (λ l. InBlock l.time) (lines_on s labels q (lines_of k past))) (befores k es) ≡ true
+      → are_on_time (map (λ l. InBlock l.time) (lines_on s labels q (lines_of k (past ++ b ∷ [])))) (befores k whole) ≡ true)
+  block_on_time past b k keeps at were are h =
       let set = setting_for s q in
       let base = empty_base (sender_count s) in
       let labels = labels_on q (lines_of k s.blocks) in
@@ -84,10 +111,10 @@ module _ (s : Script) (q : ℕ) (es whole : List Entry) (front : IsPrefix es who
       ap (λ l. length (lines_on s labels q l)) (sym more) ∙ ap length (lines_on-append s labels q (lines_of k past) (lines_in k b)) ∙ length-append (lines_on s labels q (lines_of k past)) (lines_on s labels q (lines_in k b)) in
       let entries : length (entries_by k whole) ≡ length (entries_by k es) + length (entries_by k front.0) =
       ap (λ l. length (entries_by k l)) (sym front.1) ∙ ap length (entries_by-append k es front.0) ∙ length-append (entries_by k es) (entries_by k front.0) in
-      let long : length (entries_by k front.0) ≡ length (lines_on s labels q (lines_in k b)) = omega (arith, before, after, lines, entries) in
-      subst (λ (ls : List Timed). are_on_time (map (λ l. At l.time) (lines_on s labels q ls)) (befores k whole) ≡ true) more
-      (subst (λ (l : List Entry). are_on_time (map (λ l. At l.time) (lines_on s labels q (lines_of k past ++ lines_in k b))) (befores k l) ≡ true) front.1
-      (timely_block set (controller s) refl refl s labels q k b.time (lines_of k past) (lines_in k b) es front.0 legal numbered (none_behind (controller s) es whole front controlled) at (lines_at k b) long h))
+      let long : length (entries_by k front.0) ≡ length (lines_on s labels q (lines_in k b)) = omega (arith, were, are, lines, entries) in
+      subst (λ (ls : List Timed). are_on_time (map (λ l. InBlock l.time) (lines_on s labels q ls)) (befores k whole) ≡ true) more
+      (subst (λ (l : List Entry). are_on_time (map (λ l. InBlock l.time) (lines_on s labels q (lines_of k past ++ lines_in k b))) (befores k l) ≡ true) front.1
+      (timely_block set (controller s) refl refl s labels q k b.time (lines_of k past) (lines_in k b) es front.0 legal numbered (none_behind (controller s) es whole front controlled) keeps at (lines_at k b) long h))
 
 -- the controller's posters, which have heard others, have its entries as before
 pub heard_entries : (s : Script) (st st' : Stage) → IsStage s st → IsStage s st' → HaveHeard st.controller.kit.posters.items st'.controller.kit.posters.items → (q : ℕ) (d : Sender) → q < length st.controller.kit.posters.items
@@ -95,19 +122,39 @@ pub heard_entries : (s : Script) (st st' : Stage) → IsStage s st → IsStage s
 heard_entries s st st' is is' heard q d lt =
     controller_entries s st' is' q d (subst (λ (n : ℕ). q < n) (sym heard.long) lt) ∙ (heard.each q d lt).called ∙ sym (controller_entries s st is q d lt)
 
+-- where the loopers only heard others, no sender but the threads has made anything
+pub only_threads : (s : Script) (st st' : Stage) → IsStage s st → IsStage s st' → HaveSeenTheSame st → HaveSeenTheSame st' → AtEach (LooperKeeps HaveHeard) st.loopers.items st'.loopers.items
+    → HaveHeard st.controller.kit.posters.items st'.controller.kit.posters.items → (q : ℕ) (d : Sender) → q < length st.controller.kit.posters.items
+    → (k : ℕ) → k < sender_count s → s.threads ≤ k → entries_by k (whole_on st'.controller q d) ≡ entries_by k (whole_on st.controller q d)
+only_threads s st st' is is' same same' kept heard q d lt k known above = dite (ℕ_discrete k (controller s))
+    (λ at. subst (λ (m : ℕ). entries_by m (whole_on st'.controller q d) ≡ entries_by m (whole_on st.controller q d)) (sym at) (heard_entries s st st' is is' heard q d lt))
+    (λ apart.
+    let at : s.threads + (k - s.threads) ≡ k = omega (arith, above) in
+    let looper : k - s.threads < s.loopers = omega (arith, above, known, apart) in
+    subst (λ (m : ℕ). entries_by m (whole_on st'.controller q d) ≡ entries_by m (whole_on st.controller q d)) at (looper_made_none s st st' is is' same same' kept heard.long q (k - s.threads) d lt looper))
+
 -- a block that the threads have run at its time, where the controller has only moved the time so far
 pub block_timely : (s : Script) (st st' : Stage) (b : Block) (past : List Block) → IsMoving s st.controller → IsStage s st → IsStage s st' → HaveRun s past st.threads.items → HaveRun s (past ++ b ∷ []) st'.threads.items
-    → HaveHeard st.controller.kit.posters.items st'.controller.kit.posters.items → HaveSeenTheSame st' → AreAtTime s b.time st → AreTimelyUpTo s past st → AreTimelyUpTo s (past ++ b ∷ []) st'
-block_timely s st st' b past moving is is' run run' heard same' at timely = record {
+    → AtEach (LooperKeeps HaveHeard) st.loopers.items st'.loopers.items → HaveHeard st.controller.kit.posters.items st'.controller.kit.posters.items → HaveSeenTheSame st' → (AreSound s st.controller → AreAtBlock s b.time st)
+    → AreTimelyUpTo s past st → AreTimelyUpTo s (past ++ b ∷ []) st'
+block_timely s st st' b past moving is is' run run' kept heard same' at timely = record {
   same = same';
-  timely = λ q d lt' sound'.
+  timely = λ sounds q d lt'.
+      let sound' = sounds q d lt' in
+      let sounds_before = sound_grown s st.controller st'.controller heard.long (λ r e here. (heard.each r e here).more) sounds in
       let lt : q < length st.controller.kit.posters.items = subst (λ (n : ℕ). q < n) heard.long lt' in
       let es = whole_on st.controller q d in
       let whole = whole_on st'.controller q d in
       let front : IsPrefix es whole = (heard.each q d lt).more in
       let controlled = heard_entries s st st' is is' heard q d lt in
-      let sound = sound_front s q es whole front sound' in
-      let was = timely.timely q d lt sound in record {
+      let was = timely.timely sounds_before q d lt in
+      let theirs : (k : ℕ) → k < s.threads → NoneDisposes (entries_by k whole) = λ k few.
+      let in_st' : k < length st'.threads.items = subst (λ (n : ℕ). k < n) (sym is'.threads.0) few in
+      let z' = some_of st'.threads.items k in_st' in
+      let t' : PostingThread = slice_index_or st'.threads.items k z' in
+      let here' : q < length t'.kit.posters.items = subst (λ (n : ℕ). q < n) (sym (as_many t'.kit.posters.items st'.controller.kit.posters.items (same'.threads k z' in_st'))) lt' in
+      subst NoneDisposes (sym (thread_entries s st' is' same' k q z' d d in_st' lt')) (called_none s (past ++ b ∷ []) k t' (is'.threads.1 k z' in_st').1 (run' k z' in_st') q d here') in
+      let keeps = none_disposed_on s q es whole front sound' controlled theirs (only_threads s st st' is is' timely.same same' kept heard q d lt) in record {
         controls = in_time_behind s q es whole front sound' controlled ∙ was.controls;
         before_quit = subst (λ (l : List Entry). are_before_quit s.threads (controller s) l ≡ true) front.1
             (before_quit_block s.threads (controller s) es front.0 (none_behind (controller s) es whole front controlled)
@@ -121,7 +168,7 @@ block_timely s st st' b past moving is is' run run' heard same' at timely = reco
             let z' = some_of st'.threads.items k in_st' in
             let here : q < length t.kit.posters.items = subst (λ (n : ℕ). q < n) (sym (as_many t.kit.posters.items st.controller.kit.posters.items (timely.same.threads k z in_st))) lt in
             let here' : q < length t'.kit.posters.items = subst (λ (n : ℕ). q < n) (sym (as_many t'.kit.posters.items st'.controller.kit.posters.items (same'.threads k z' in_st'))) lt' in
-            block_on_time s q es whole front sound' controlled past b k (at q d lt sound)
+            block_on_time s q es whole front sound' controlled past b k keeps (at sounds_before q d lt).on_time
             (called_count s past k t (is.threads.1 k z in_st).1 (run k z in_st) q d here ∙ ap length (sym (thread_entries s st is timely.same k q z d d in_st lt)))
             (called_count s (past ++ b ∷ []) k t' (is'.threads.1 k z' in_st').1 (run' k z' in_st') q d here' ∙ ap length (sym (thread_entries s st' is' same' k q z' d d in_st' lt')))
             (was.threads k few);
@@ -187,16 +234,17 @@ module _ (s : Script) (st : Stage) (c : Controller) (st' : Stage) (is : IsStage 
       → AreTimelyUpTo s past st → AreTimelyUpTo s past st'
   turned_timely past in_time timely = record {
     same = same';
-    timely = λ q d lt' sound.
+    timely = λ sounds q d lt'.
+        let sound = sounds q d lt' in
         let lt : q < length st.controller.kit.posters.items = subst (λ (n : ℕ). q < n) (heard.long ∙ turns.long) lt' in
         let es = whole_on st.controller q d in
         let whole = whole_on st'.controller q d in
-        let before = timely.timely q d lt in
+        let was = timely.timely (sound_by_turns s st c st' is is' same same' threads loopers heard P turns sounds) q d lt in
         elim (in_time q d lt) [
           | inl kept ↦
               let stays : whole ≡ es = turned_left s st c st' is is' same same' threads loopers heard P turns q d lt sound.numbered ∙ ap (λ (p : Sender). p.view.seen) kept in
-              subst (IsTimelyUpTo s past q) (sym stays) (before (subst (IsSoundOn s q) stays sound))
-          | inr one ↦ timely_turned P s past q es whole one sound (turned_on s st c st' is is' same same' threads loopers heard P turns q d lt sound.numbered) before
+              subst (IsTimelyUpTo s past q) (sym stays) was
+          | inr one ↦ timely_turned P s past q es whole one sound (turned_on s st c st' is is' same same' threads loopers heard P turns q d lt sound.numbered) (λ so. was)
         ];
   }
 

@@ -18,6 +18,7 @@ use Rattle.run_model.specs.Asks.{entries_by}
 use Rattle.dash_hall.specs.declared.hall.Hall.{Hall}
 use Rattle.dash_threads.specs.declared.thread.PostingThread.{PostingThread}
 use Rattle.dash_loopers.specs.declared.looper.StageLooper.{StageLooper}
+use Rattle.dash_stage.specs.declared.control.Controller.{Controller}
 use Rattle.dash_stage.specs.declared.stage.Stage.{Stage}
 use Rattle.dash_hall.specs.Growth.{own}
 use Rattle.dash_hall.specs.Kits.{Badge, badge_of, badge_for, ArePostersOf, IsHall}
@@ -26,14 +27,14 @@ use Rattle.dash_stage.specs.Stages.{IsStage}
 use Rattle.dash_hall.specs.Hearing.{seen_by, AtEach, HaveHeard}
 use Rattle.dash_threads.specs.Threads.{ThreadKeeps}
 use Rattle.dash_stage.specs.Sharing.{HaveSeenTheSame}
-use Rattle.dash_stage.specs.Timeliness.{whole_on, IsTimelyUpTo, AreTimelyUpTo}
-use Rattle.dash_stage.proofs.Badges.{alike_length, alike_at}
+use Rattle.dash_stage.specs.Timeliness.{whole_on, AreSound, IsTimelyUpTo, AreTimelyUpTo}
+use Rattle.dash_hall.proofs.Badges.{alike_length, alike_at}
 use Rattle.dash_stage.proofs.Controlling.{poster_count}
 use Rattle.dash_stage.proofs.HallEnds.{some_of}
 use Rattle.dash_stage.proofs.LooperShares.{looper_within, looper_posters}
 use Rattle.dash_stage.proofs.Timely.{none_of, in_time_more, before_quit_more, timely_others}
 
-abbrev seen : Sender → List Entry
+abbrev pub seen : Sender → List Entry
 seen p = p.view.seen
 
 -- a looper's own poster stands among all at its number
@@ -104,6 +105,11 @@ sound_front s q es whole front sound =
       numbered = AreNumbered-front (setting_for s q) base es front.0 (subst (AreNumbered (setting_for s q) base) (sym front.1) sound.numbered);
     }
 
+-- so it is with each queue
+pub sound_grown : (s : Script) (c c' : Controller) → length c'.kit.posters.items ≡ length c.kit.posters.items
+    → ((q : ℕ) (d : Sender) → q < length c.kit.posters.items → IsPrefix (whole_on c q d) (whole_on c' q d)) → AreSound s c' → AreSound s c
+sound_grown s c c' long grown sound q d lt = sound_front s q (whole_on c q d) (whole_on c' q d) (grown q d lt) (sound q d (subst (λ (n : ℕ). q < n) (sym long) lt))
+
 -- a sender that has made nothing more in a longer history has no entry in the rest
 pub none_behind : (k : ℕ) (es whole : List Entry) (front : IsPrefix es whole) → entries_by k whole ≡ entries_by k es → entries_by k front.0 ≡ []
 none_behind k es whole front same = none_of k es front.0 (ap (entries_by k) front.1 ∙ same)
@@ -160,11 +166,11 @@ module _ (s : Script) (st st' : Stage) (is : IsStage s st) (is' : IsStage s st')
       → AreTimelyUpTo s past st → AreTimelyUpTo s past st'
   kept_timely past none heard timely = record {
     same = same';
-    timely = λ q d lt sound.
+    timely = λ sound q d lt.
         let within : q < length st.controller.kit.posters.items = subst (λ (n : ℕ). q < n) heard.long lt in
         let one = heard.each q d within in
-        timely_stays s past q (whole_on st.controller q d) (whole_on st'.controller q d) one.more sound
+        timely_stays s past q (whole_on st.controller q d) (whole_on st'.controller q d) one.more (sound q d lt)
         (controller_entries s st' is' q d lt ∙ one.called ∙ sym (controller_entries s st is q d within))
         (λ k few. thread_made_none none heard.long q k d within few)
-        (timely.timely q d within (sound_front s q (whole_on st.controller q d) (whole_on st'.controller q d) one.more sound));
+        (timely.timely (sound_grown s st.controller st'.controller heard.long (λ r e here. (heard.each r e here).more) sound) q d within);
   }

@@ -5,7 +5,7 @@ use Rattle.loop_model.specs.declared.entry.Entry.{Entry}
 use Rattle.looper_run.specs.Holding.{Sender}
 use Rattle.dash_threads.specs.declared.thread.PostingThread.{PostingThread}
 use Rattle.dash_hall.specs.Hearing.{HaveHeard, AtEach, AreKept, AreKnown}
-use Rattle.dash_threads.specs.Threads.{ThreadKeeps, IsThread, IsUpTo, labels_kept, tokens_kept, HasPosted, HasRemoved}
+use Rattle.dash_threads.specs.Threads.{ThreadKeeps, IsThread, IsUpTo, labels_kept, tokens_kept, HasAsked, HasTurned}
 use Rattle.dash_stage.specs.Sharing.{OfThreads}
 use Rattle.dash_script.specs.declared.script.Script.{Script}
 use Rattle.choreographer.specs.Known.{Known as Pass}
@@ -92,6 +92,6 @@ up_to_kept s past a b k up =
             let near : q < length a.kit.posters.items = omega (arith, lt) in
             ap (tokens_kept q) barriers ∙ (up.barriers.tokens q d near ∙ ap tokens_in (sym (k.posters.each q d near).called));
       };
-      posted = subst (λ (fs : List Pass). HasPosted past fs) (sym frames) up.posted;
-      removed = subst (λ (fs : List Pass). HasRemoved past fs) (sym frames) up.removed;
+      asked = subst (λ (fs : List Pass). HasAsked past fs) (sym frames) up.asked;
+      turned = subst (λ (fs : List Pass). HasTurned past fs) (sym frames) up.turned;
     }

@@ -2,8 +2,8 @@
 use Rattle.std.proofs.Common.{◌≡◌, ℕ, ◌<◌, ◌≤◌, ◌+◌, suc, Bool, true, false, List, [], ◌∷◌, ◌++◌, map, length, refl, sym, ap, ◌∙◌, subst, arith, inl, inr, append_assoc}
 use Rattle.std.specs.Prelude.{◌==◌, ◌&&◌, ◌||◌, not, nat_lt, filter, if◌then◌else◌}
 use Rattle.std.specs.List.{AllByRecursion}
-use Rattle.std.proofs.Math.Bool.{and-true}
-use Rattle.std.proofs.lemmas.Bool.{and_parts, and_from, or_from, or_left, or_right, false_from_ne_true, eq-eqb, le-leb, ltb-true}
+use Rattle.std.proofs.Math.Bool.{and-true, or-false}
+use Rattle.std.proofs.lemmas.Bool.{and_parts, and_from, or_from, or_left, or_right, false_from_ne_true, eq-eqb, le-leb, lt-ltb, ltb-true}
 use Rattle.std.proofs.lemmas.List.Folds.{list_any-append}
 use Rattle.std.proofs.lemmas.List.{append-nil, append_cancel_left, map-append}
 use mathlib.Core.List.{IsPrefix}
@@ -13,23 +13,28 @@ use Rattle.loop_model.specs.declared.call.Call.TheVariants.{Post, Barrier, Unbar
 use Rattle.loop_model.specs.declared.reply.Reply.TheVariants.{Halted}
 use Rattle.loop_model.specs.declared.base.Base.{Base}
 use Rattle.loop_model.specs.declared.entry.Entry.{Entry}
-use Rattle.loop_model.specs.Entries.{is_halted}
+use Rattle.loop_model.specs.Entries.{is_halted, is_disposed}
 use Rattle.loop_model.specs.Base.{empty_base}
 use Rattle.loop_model.specs.Answers.{Setting, clock, has_disposed}
 use Rattle.loop_model.specs.Legal.{IsLegal, AreNumbered, IsNextOfSender}
-use Rattle.loop_model.proofs.AfterLaws.{disposed_stays}
+use Rattle.loop_model.proofs.AfterLaws.{has_disposed-snoc, disposed_stays}
 use Rattle.loop_model.proofs.Growing.{entry_by_entry}
 use Rattle.loop_model.proofs.LegalLaws.{IsLegal-front}
 use Rattle.loop_model.proofs.NumberLaws.{AreNumbered-front, AreNumbered-last}
-use Rattle.loop_model.proofs.Sorting.{AllByRecursion-filter}
+use Rattle.loop_model.proofs.Sorting.{AllByRecursion-filter, AllByRecursion-weaker}
 use Rattle.run_model.specs.Asks.{entries_by}
 use Rattle.run_model.specs.Planned.{Timed, lines_on}
-use Rattle.run_model.specs.Control.{is_advance, is_quit, is_in_time, each_behind, comes_in_time, is_called_in_time, has_quit_by, comes_before_quit, are_before_quit, ends_halted, Before, before, befores, befores_from, befores_after, Timing, At, is_on_time, are_on_time}
+use Rattle.run_model.specs.Control.{is_advance, is_quit, is_in_time, each_behind, comes_in_time, is_called_in_time, has_quit_by, comes_before_quit, are_before_quit, ends_halted, Before, before, befores, befores_from, befores_after, Timing, At, InBlock, is_on_time, are_on_time}
 use Rattle.run_model.proofs.ControlLaws.{each_behind-snoc, each_behind-append}
 use Rattle.run_model.proofs.RunLaws.{AreOfOthers, entries_by-append, entries_by-others, entries_by-unchanged, befores_after-append, befores-others, lines_on-append}
 use Rattle.dash_stage.specs.Timeliness.{IsAtTime}
 use Rattle.dash_stage.specs.Controllers.{are_advances, time_in}
 use Rattle.dash_stage.proofs.Controls.{own_advances, time_by_controller}
+
+-- what holds of all members of a list holds of those behind
+pub back_all : {X : Type 0} (P : X → Type 0) (xs ys : List X) → AllByRecursion P (xs ++ ys) → AllByRecursion P ys
+back_all P [] ys h = h
+back_all P (x ∷ xs) ys h = back_all P xs ys h.1
 
 -- what a sender has made more in a longer history is its entries in the rest
 pub more_of : (k : ℕ) (es more made : List Entry) → entries_by k (es ++ more) ≡ entries_by k es ++ made → entries_by k more ≡ made
@@ -123,14 +128,14 @@ on_time_more (t ∷ ts) us (b ∷ bs) cs first more =
 pub timely_others : (k : ℕ) (ts : List Timing) (es more : List Entry) → entries_by k more ≡ [] → are_on_time ts (befores k es) ≡ true → are_on_time ts (befores k (es ++ more)) ≡ true
 timely_others k ts es more none h = ap (are_on_time ts) (befores_of_others k es more none) ∙ h
 
--- lines of one time are on time where what stood before each call is
-pub on_time_at : (time : ℕ) (lines : List Timed) (bs : List Before) → AllByRecursion (λ l. l.time ≡ time) lines → AllByRecursion (λ b. is_on_time (At time) b ≡ true) bs → length lines ≡ length bs
-    → are_on_time (map (λ l. At l.time) lines) bs ≡ true
+-- lines of one block are on time where what stood before each call is
+pub on_time_at : (time : ℕ) (lines : List Timed) (bs : List Before) → AllByRecursion (λ l. l.time ≡ time) lines → AllByRecursion (λ b. is_on_time (InBlock time) b ≡ true) bs → length lines ≡ length bs
+    → are_on_time (map (λ l. InBlock l.time) lines) bs ≡ true
 on_time_at time [] [] at all long = refl
 on_time_at time [] (b ∷ bs) at all long = absurd (omega (arith, long))
 on_time_at time (l ∷ lines) [] at all long = absurd (omega (arith, long))
 on_time_at time (l ∷ lines) (b ∷ bs) at all long =
-    and_from _ _ (ap (λ t. is_on_time (At t) b) at.0 ∙ all.0) (on_time_at time lines bs at.1 all.1 (omega (arith, long)))
+    and_from _ _ (ap (λ t. is_on_time (InBlock t) b) at.0 ∙ all.0) (on_time_at time lines bs at.1 all.1 (omega (arith, long)))
 
 -- ---- the controller's calls
 
@@ -234,11 +239,29 @@ on_time_now senders time es (inl now) = or_left _ _ (eq-eqb (clock (empty_base 0
 on_time_now senders time es (inr (gone, by)) =
     or_right _ _ (and_from _ _ (sym (has_disposed_same senders es) ∙ gone) (le-leb (clock (empty_base 0) es) time (subst (λ n. n ≤ time) (clock_same senders es) by)))
 
--- what is on time for the first entry, where it is the sender's, and for the rest
-on_time_first : (time : ℕ) (t : Bool) (b : Before) (bs : List Before) → is_on_time (At time) b ≡ true → AllByRecursion (λ b. is_on_time (At time) b ≡ true) bs
-    → AllByRecursion (λ b. is_on_time (At time) b ≡ true) ((if t then b ∷ [] else []) ++ bs)
-on_time_first time true b bs one all = (one, all)
-on_time_first time false b bs one all = all
+-- a thread's call is on time on a queue that isn't disposed of, at its time
+pub on_time_open : (senders time : ℕ) (es : List Entry) → has_disposed (empty_base senders) es ≡ false → clock (empty_base senders) es ≡ time → is_on_time (InBlock time) (before es) ≡ true
+on_time_open senders time es none now =
+    ap (λ (t : Bool). if t then nat_lt (clock (empty_base 0) es) time else clock (empty_base 0) es == time) (sym (has_disposed_same senders es) ∙ none)
+    ∙ eq-eqb (clock (empty_base 0) es) time (sym (clock_same senders es) ∙ now)
+
+-- and on one that was disposed of earlier
+pub on_time_gone : (senders time : ℕ) (es : List Entry) → has_disposed (empty_base senders) es ≡ true → clock (empty_base senders) es < time → is_on_time (InBlock time) (before es) ≡ true
+on_time_gone senders time es gone earlier =
+    ap (λ (t : Bool). if t then nat_lt (clock (empty_base 0) es) time else clock (empty_base 0) es == time) (sym (has_disposed_same senders es) ∙ gone)
+    ∙ lt-ltb (clock (empty_base 0) es) time (subst (λ n. n < time) (clock_same senders es) earlier)
+
+-- what is so before the first entry, where it is the sender's, and before the rest
+stood_first : (P : Before → Type 0) (t : Bool) (b : Before) (bs : List Before) → P b → AllByRecursion P bs → AllByRecursion P ((if t then b ∷ [] else []) ++ bs)
+stood_first P true b bs one all = (one, all)
+stood_first P false b bs one all = all
+
+-- an entry that neither moves the time nor disposes of the queue
+before_same : (es : List Entry) (e : Entry) → clock (empty_base 0) (es ++ e ∷ []) ≡ clock (empty_base 0) es → is_disposed e.reply ≡ false → before (es ++ e ∷ []) ≡ before es
+before_same es e still keeps =
+    let as_it_was : has_disposed (empty_base 0) (es ++ e ∷ []) ≡ has_disposed (empty_base 0) es =
+    has_disposed-snoc (empty_base 0) es e ∙ ap (λ t. has_disposed (empty_base 0) es || t) keeps ∙ or-false (has_disposed (empty_base 0) es) in
+    λ i. record { clock = still i; disposed = as_it_was i }
 
 module _ (set : Setting) (n : ℕ) (last : n + 1 ≡ set.senders) where
   module _ (lockstep : set.lockstep ≡ true) where
@@ -276,17 +299,33 @@ module _ (set : Setting) (n : ℕ) (last : n + 1 ≡ set.senders) where
         let numbered_on = subst (AreNumbered set base) whole numbered in
         let others = of_others n (e ∷ more) none in
         let then_at = stays_at time es (e ∷ []) (IsLegal-front set base (es ++ e ∷ []) more legal_on) (AreNumbered-front set base (es ++ e ∷ []) more numbered_on) (entries_by-others n (e ∷ []) (others.0, tt)) at in
-        on_time_first time (e.sender == k) (before es) _ (on_time_now set.senders time es at) (befores_at k time (es ++ e ∷ []) more legal_on numbered_on (entries_by-others n more others.1) then_at)
+        stood_first (λ b. is_on_time (At time) b ≡ true) (e.sender == k) (before es) _ (on_time_now set.senders time es at) (befores_at k time (es ++ e ∷ []) more legal_on numbered_on (entries_by-others n more others.1) then_at)
 
-    -- a thread that has made the calls of one block more, at the block's time, is on time as before
+    -- while the time stands still and nothing disposes of the queue, the same stands before each call
+    befores_same : (k : ℕ) (es more : List Entry) → IsLegal set (empty_base set.senders) (es ++ more) → AreNumbered set (empty_base set.senders) (es ++ more) → entries_by n more ≡ []
+        → AllByRecursion (λ e. is_disposed e.reply ≡ false) more → AllByRecursion (λ b. b ≡ before es) (befores_after k es more)
+    befores_same k es [] legal numbered none keeps = tt
+    befores_same k es (e ∷ more) legal numbered none keeps =
+        let base = empty_base set.senders in
+        let whole = sym (append_assoc es (e ∷ []) more) in
+        let legal_on = subst (IsLegal set base) whole legal in
+        let numbered_on = subst (AreNumbered set base) whole numbered in
+        let others = of_others n (e ∷ more) none in
+        let still = clock_stays es (e ∷ []) (IsLegal-front set base (es ++ e ∷ []) more legal_on) (AreNumbered-front set base (es ++ e ∷ []) more numbered_on) (entries_by-others n (e ∷ []) (others.0, tt)) in
+        let same : before (es ++ e ∷ []) ≡ before es = before_same es e (sym (clock_same set.senders (es ++ e ∷ [])) ∙ (still ∙ clock_same set.senders es)) keeps.0 in
+        stood_first (λ b. b ≡ before es) (e.sender == k) (before es) _ refl
+        (subst (λ x. AllByRecursion (λ b. b ≡ x) (befores_after k (es ++ e ∷ []) more)) same (befores_same k (es ++ e ∷ []) more legal_on numbered_on (entries_by-others n more others.1) keeps.1))
+
+    -- a thread that has made the calls of one block more, while nothing disposed of the queue, is on time as before
     pub timely_block : (s : Script) (labels : List ℕ) (q k time : ℕ) (past lines : List Timed) (es more : List Entry) → IsLegal set (empty_base set.senders) (es ++ more)
-        → AreNumbered set (empty_base set.senders) (es ++ more) → entries_by n more ≡ [] → IsAtTime set.senders time es → AllByRecursion (λ l. l.time ≡ time) lines
-        → length (entries_by k more) ≡ length (lines_on s labels q lines) → are_on_time (map (λ l. At l.time) (lines_on s labels q past)) (befores k es) ≡ true
-        → are_on_time (map (λ l. At l.time) (lines_on s labels q (past ++ lines))) (befores k (es ++ more)) ≡ true
-    timely_block s labels q k time past lines es more legal numbered none at same long h =
-        let timing : Timed → Timing = λ l. At l.time in
+        → AreNumbered set (empty_base set.senders) (es ++ more) → entries_by n more ≡ [] → AllByRecursion (λ e. is_disposed e.reply ≡ false) more → is_on_time (InBlock time) (before es) ≡ true
+        → AllByRecursion (λ l. l.time ≡ time) lines → length (entries_by k more) ≡ length (lines_on s labels q lines) → are_on_time (map (λ l. InBlock l.time) (lines_on s labels q past)) (befores k es) ≡ true
+        → are_on_time (map (λ l. InBlock l.time) (lines_on s labels q (past ++ lines))) (befores k (es ++ more)) ≡ true
+    timely_block s labels q k time past lines es more legal numbered none keeps at same long h =
+        let timing : Timed → Timing = λ l. InBlock l.time in
         let before_them = map timing (lines_on s labels q past) in
         let theirs = map timing (lines_on s labels q lines) in
         let split : map timing (lines_on s labels q (past ++ lines)) ≡ before_them ++ theirs = ap (map timing) (lines_on-append s labels q past lines) ∙ map-append timing (lines_on s labels q past) (lines_on s labels q lines) in
-        let each = on_time_at time (lines_on s labels q lines) (befores_after k es more) (AllByRecursion-filter (λ l. l.time ≡ time) _ lines same) (befores_at k time es more legal numbered none at) (sym (befores_count k es more ∙ long)) in
+        let stood = AllByRecursion-weaker (λ b. b ≡ before es) (λ b. is_on_time (InBlock time) b ≡ true) (λ b is. ap (is_on_time (InBlock time)) is ∙ at) (befores_after k es more) (befores_same k es more legal numbered none keeps) in
+        let each = on_time_at time (lines_on s labels q lines) (befores_after k es more) (AllByRecursion-filter (λ l. l.time ≡ time) _ lines same) stood (sym (befores_count k es more ∙ long)) in
         ap (λ ts. are_on_time ts (befores k (es ++ more))) split ∙ ap (are_on_time (before_them ++ theirs)) (befores-append k es more) ∙ on_time_more before_them theirs (befores k es) (befores_after k es more) h each

@@ -15,7 +15,7 @@ use Rattle.run_model.specs.Asks.{entries_by}
 use Rattle.run_model.specs.Moments.{in_lockstep}
 use Rattle.run_model.specs.Planned.{lines_of, labels_on, lines_on}
 use Rattle.run_model.specs.Senders.{controller, sender_count}
-use Rattle.run_model.specs.Control.{is_called_in_time, are_before_quit, ends_halted, befores, At, are_on_time}
+use Rattle.run_model.specs.Control.{is_called_in_time, are_before_quit, ends_halted, befores, InBlock, are_on_time}
 use Rattle.run_model.specs.Run.{IsHistory, IsTimely, all_entries, setting_of, main_ends_halted}
 use Rattle.dash_hall.specs.declared.hall.Hall.{Hall}
 use Rattle.dash_hall.specs.declared.kit.Kit.{Kit}
@@ -27,10 +27,9 @@ use Rattle.dash_loopers.specs.Loopers.{IsSoundOn, setting_for, posters_of}
 use Rattle.dash_stage.specs.Records.{AreQueueRecords, HaveAll}
 use Rattle.dash_hall.specs.Hearing.{seen_by, HaveSeenAll}
 use Rattle.dash_stage.specs.Sharing.{OfThreads, OfLoopers, OfKits}
-use Rattle.dash_stage.specs.Timeliness.{whole_on, IsTimelyUpTo}
+use Rattle.dash_stage.specs.Timeliness.{whole_on, AreSound, IsTimelyUpTo}
 use Rattle.dash_stage.specs.Blocks.{come_first, AreBlocksFirst}
-use Rattle.dash_stage.specs.Playing.{AreSound}
-use Rattle.dash_stage.proofs.Badges.{alike_length, queue_count, poster_at}
+use Rattle.dash_hall.proofs.Badges.{alike_length, queue_count, poster_at}
 use Rattle.dash_stage.proofs.Casting.{first_more}
 use Rattle.dash_stage.proofs.HallEnds.{some_of}
 use Rattle.dash_stage.proofs.Carried.{numbered_count, numbered_at}
@@ -89,8 +88,8 @@ timely_record : (s : Script) (q : ℕ) (r : QueueRecord) (es : List Entry) → r
 timely_record s q r es number same h = record {
   controls = ap (is_called_in_time (controller s)) same ∙ h.controls;
   before_quit = ap (are_before_quit s.threads (controller s)) same ∙ h.before_quit;
-  threads = λ thread below. subst (λ (l : ℕ). are_on_time (map (λ x. At x.time) (lines_on s (labels_on l (lines_of thread s.blocks)) l (lines_of thread s.blocks))) (befores thread r.entries) ≡ true) (sym number)
-      (subst (λ (l : List Entry). are_on_time (map (λ x. At x.time) (lines_on s (labels_on q (lines_of thread s.blocks)) q (lines_of thread s.blocks))) (befores thread l) ≡ true) (sym same) (h.threads thread below));
+  threads = λ thread below. subst (λ (l : ℕ). are_on_time (map (λ x. InBlock x.time) (lines_on s (labels_on l (lines_of thread s.blocks)) l (lines_of thread s.blocks))) (befores thread r.entries) ≡ true) (sym number)
+      (subst (λ (l : List Entry). are_on_time (map (λ x. InBlock x.time) (lines_on s (labels_on q (lines_of thread s.blocks)) q (lines_of thread s.blocks))) (befores thread l) ≡ true) (sym same) (h.threads thread below));
 }
 
 -- main's record is the first one
@@ -173,10 +172,10 @@ module _ (s : Script) (hall : Hall) (kits : List Kit) (records : List QueueRecor
   all_sound q d lt = let below = known q lt in is_sound q d (some_of records q below) below
 
   -- each record is timely
-  pub timely_of_records : ((q : ℕ) (d : Sender) → q < length c.kit.posters.items → IsSoundOn s q (whole_on c q d) → IsTimelyUpTo s s.blocks q (whole_on c q d)) → AllByRecursion (IsTimely s) records
+  pub timely_of_records : (AreSound s c → (q : ℕ) (d : Sender) → q < length c.kit.posters.items → IsTimelyUpTo s s.blocks q (whole_on c q d)) → AllByRecursion (IsTimely s) records
   timely_of_records timely = All_recursive (IsTimely s) records (λ q r lt.
       let d = some_of c.kit.posters.items q (within q lt) in
-      timely_record s q (slice_index_or records q r) (whole_on c q d) (number q r lt) (is_seen q d r lt) (timely q d (within q lt) (is_sound q d r lt)))
+      timely_record s q (slice_index_or records q r) (whole_on c q d) (number q r lt) (is_seen q d r lt) (timely all_sound q d (within q lt)))
 
   -- in each record the threads' calls come first at their time
   pub first_of_records : (AreSound s c → (q : ℕ) (d : Sender) → q < length c.kit.posters.items → come_first s.threads (whole_on c q d) ≡ true) → AreBlocksFirst s records

@@ -1,4 +1,5 @@
--- The threads' calls come first at their time: before the loopers run a round.
+-- The threads' calls come first at their time: before the loopers run a round, on a queue that isn't disposed of. Behind a disposal each
+-- comes at a later time than the disposal's, which is said by its timing (`InBlock`).
 use Rattle.std.specs.Prelude.{◌≡◌, ◌⊎◌, ◌||◌, ◌&&◌, ℕ, Bool, true, not, nat_lt, List, []}
 use Rattle.std.specs.List.{AllByRecursion, fold}
 use Rattle.loop_model.specs.declared.entry.Entry.{Entry}
@@ -6,7 +7,7 @@ use Rattle.loop_model.specs.declared.record.QueueRecord.{QueueRecord}
 use Rattle.loop_model.specs.Base.{empty_base}
 use Rattle.loop_model.specs.Answers.{has_disposed}
 use Rattle.dash_script.specs.declared.script.Script.{Script}
-use Rattle.run_model.specs.Control.{is_advance, each_behind}
+use Rattle.run_model.specs.Control.{is_advance, each_behind, before, InBlock, is_on_time}
 
 -- the entry moves the time; or it was fresh before, and the entry is a thread's (a sender below this number)
 abbrev pub fresh_behind : ℕ → Bool → Entry → Bool
@@ -31,3 +32,8 @@ AreBlocksFirst s queues = AllByRecursion (λ (q : QueueRecord). come_first s.thr
 -- the queue was disposed of, or since its time was last moved only threads have called
 abbrev pub IsFresh : ℕ → List Entry → Type 0
 IsFresh threads es = (has_disposed (empty_base 0) es ≡ true) ⊎ (is_fresh threads es ≡ true)
+
+-- as at the start of a block at this time: a thread's call is on time, and comes first
+pub record IsAtBlock (threads time : ℕ) (es : List Entry) : Type 0 where
+  pub on_time : is_on_time (InBlock time) (before es) ≡ true
+  pub fresh : IsFresh threads es

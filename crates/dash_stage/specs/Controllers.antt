@@ -6,6 +6,7 @@ use Rattle.loop_model.specs.Entries.{moment_of}
 use Rattle.loop_model.specs.Answers.{clock}
 use Rattle.dash_script.specs.declared.script.Script.{Script}
 use Rattle.looper_run.specs.Holding.{Sender}
+use Rattle.choreographer.specs.Known.{Known as Pass}
 use Rattle.run_model.specs.Senders.{controller}
 use Rattle.run_model.specs.Control.{is_advance, are_controls}
 use Rattle.dash_hall.specs.declared.hall.Hall.{Hall}
@@ -13,11 +14,12 @@ use Rattle.dash_stage.specs.declared.control.Controller.{Controller}
 use Rattle.dash_hall.specs.Growth.{own}
 use Rattle.dash_hall.specs.Kits.{ArePostersOf, ArePassesOf}
 
--- the controller of the script, with what it needs in the hall
+-- the controller of the script, with what it needs in the hall; it asks no choreographer for anything
 pub record IsController (s : Script) (hall : Hall) (c : Controller) : Type 0 where
   pub posters : ArePostersOf (controller s) hall.queues.items c.kit.posters.items
   pub frames : ArePassesOf (s.threads + 2) hall.choreographers.items c.kit.frames.items
   pub pass : c.kit.pass.home ≡ hall.pool
+  pub idle : (q : ℕ) (p : Pass) → q < length c.kit.frames.items → (slice_index_or c.kit.frames.items q p).view.own ≡ []
 
 -- moves of the time alone, none past the end
 abbrev pub are_advances : ℕ → List Entry → Bool

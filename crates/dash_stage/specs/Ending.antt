@@ -12,11 +12,12 @@ use Rattle.shared_queue.specs.Known.{Shared}
 use Rattle.shared_queue.specs.Constants.{Constants}
 use Rattle.looper_run.specs.Holding.{Sender}
 use Rattle.choreographer.specs.Known.{Shared as Frames, Known as Pass}
+use Rattle.choreographer.specs.Ends.{AreTheirs}
 use Rattle.run_model.specs.Run.{setting_of}
 use Rattle.dash_hall.specs.declared.kit.Kit.{Kit}
 use Rattle.dash_hall.specs.Kits.{ArePostersOf, badge_of, badge_for, FrameBadge, frame_badge_of}
 use Rattle.dash_hall.specs.Dealing.{given_of}
-use Rattle.dash_stage.specs.Records.{HasAllOf}
+use Rattle.dash_stage.specs.Records.{HasAllOf, passes_at}
 
 -- each kit has a poster
 abbrev pub HavePosters : List Kit → Type 0
@@ -91,10 +92,9 @@ pub record HaveFramesLeft (given_up : ℕ → ℕ) (before after : List Kit) : T
   pub count : length after ≡ length before
   pub each : (k : ℕ) (d : Kit) → k < length before → HasFramesLeft (given_up k) (slice_index_or before k d) (slice_index_or after k d)
 
--- the entries begin with what each thread's next pass has seen
-abbrev pub BeginWithNext : ℕ → List Kit → List FrameEntry → Type 0
-BeginWithNext threads kits entries = (k : ℕ) (d : Kit) (p : Pass) → k < threads
-    → IsPrefix (slice_index_or (slice_index_or kits k d).frames.items 0 p).view.seen entries
+-- the entries are, counted by any test, those that the next passes of this looper's choreographer recorded
+abbrev pub AreOfNext : Script → ℕ → List Kit → List FrameEntry → Type 0
+AreOfNext s looper kits entries = (d : Kit) (p : Pass) → AreTheirs entries (passes_at s looper 0 kits d p)
 
 -- the entries begin with what each of this sender's next two passes has seen
 abbrev pub BeginWithOwn : ℕ → List Kit → List FrameEntry → Type 0

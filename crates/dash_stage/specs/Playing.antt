@@ -8,29 +8,27 @@ use Rattle.dash_script.specs.declared.script.Script.{Script}
 use Rattle.looper_run.specs.Holding.{Sender}
 use Rattle.looper_run.specs.Round.{is_ended}
 use Rattle.run_model.specs.Senders.{looper_sender, sender_count}
-use Rattle.run_model.specs.Control.{Before, befores, befores_from, Timing, At, NotBefore, are_on_time}
+use Rattle.run_model.specs.Control.{Before, befores, befores_from, Timing, At, InBlock, NotBefore, are_on_time}
 use Rattle.run_model.specs.Loopers.{Looper, first_looper}
 use Rattle.run_model.specs.Acts.{sent_on}
 use Rattle.dash_loopers.specs.declared.looper.StageLooper.{StageLooper}
-use Rattle.dash_loopers.specs.Loopers.{IsSoundOn, HasRun}
+use Rattle.dash_loopers.specs.Loopers.{HasRun}
 use Rattle.dash_loopers.specs.Played.{is_disposal, HasCome, HasPlayed}
+use Rattle.dash_hall.specs.Kits.{AreUnseen}
 use Rattle.dash_stage.specs.declared.control.Controller.{Controller}
 use Rattle.dash_stage.specs.declared.stage.Stage.{Stage}
-use Rattle.dash_stage.specs.Blocks.{come_first, IsFresh}
+use Rattle.dash_stage.specs.Blocks.{come_first, IsAtBlock}
 use Rattle.dash_stage.specs.Sharing.{HaveSeenTheSame}
-use Rattle.dash_stage.specs.Timeliness.{whole_on, WasDisposedBy}
-
--- each queue's history is one that it may have
-abbrev pub AreSound : Script → Controller → Type 0
-AreSound s c = (q : ℕ) (d : Sender) → q < length c.kit.posters.items → IsSoundOn s q (whole_on c q d)
+use Rattle.dash_stage.specs.Timeliness.{whole_on, AreSound, WasDisposedBy}
 
 -- what stood before each call of a sender, but the looks that disposed of the queue
 unfoldable pub befores_called : ℕ → List Entry → List Before
 befores_called sender es = befores_from (λ e. e.sender == sender && not (is_disposal e)) [] es
 
--- a call of this timing is on time where it comes at this time, on a queue whose clock is this
+-- a looper's call of this timing is on time where it comes at this time, on a queue whose clock is this
 abbrev pub IsMet : ℕ → ℕ → Timing → Type 0
 IsMet time clock (At t) = t ≡ time
+IsMet time clock (InBlock t) = ⊥
 IsMet time clock (NotBefore t) = t ≤ clock
 
 -- the calls of looper q that the state tells came at their times: on its own queue all but the looks that disposed of it, and on each other queue all
@@ -64,13 +62,13 @@ AreInTime s st = (q : ℕ) (l : StageLooper) (d : Sender) → q < length st.loop
 abbrev pub HaveComeFirst : Script → Stage → Type 0
 HaveComeFirst s st = AreSound s st.controller → (q : ℕ) (d : Sender) → q < length st.controller.kit.posters.items → come_first s.threads (whole_on st.controller q d) ≡ true
 
--- each queue was disposed of, or since its time was last moved only threads have called
-abbrev pub AreFresh : Script → Stage → Type 0
-AreFresh s st = (q : ℕ) (d : Sender) → q < length st.controller.kit.posters.items → IsFresh s.threads (whole_on st.controller q d)
+-- each queue is as at the start of a block at this time
+abbrev pub AreAtBlock : Script → ℕ → Stage → Type 0
+AreAtBlock s time st = (q : ℕ) (d : Sender) → q < length st.controller.kit.posters.items → IsAtBlock s.threads time (whole_on st.controller q d)
 
--- this time is later than the stage's; or it is 0, and on each queue only threads have called so far, or it was disposed of
-abbrev pub LiesAhead : Script → ℕ → Stage → Type 0
-LiesAhead s time st = (st.time < time) ⊎ ((time ≡ 0) × AreFresh s st)
+-- this time is later than the stage's; or it is 0, and nobody has called so far
+abbrev pub LiesAhead : ℕ → Stage → Type 0
+LiesAhead time st = (st.time < time) ⊎ ((time ≡ 0) × AreUnseen st.controller.kit.posters.items)
 
 -- all have seen the same, and where each queue's history is one that it may have, the queues are at the stage's time, each looper stands at a state whose calls came at their times, and the threads' calls came first
 pub record IsInStep (s : Script) (st : Stage) : Type 0 where

@@ -1,5 +1,5 @@
 -- What is kept of the queues and the choreographers of a run.
-use Rattle.std.specs.Prelude.{◌≡◌, ◌<◌, ◌+◌, ℕ, List, map, length, slice_index_or}
+use Rattle.std.specs.Prelude.{◌≡◌, ◌<◌, ◌+◌, ◌++◌, ℕ, List, [], ◌∷◌, map, length, slice_index_or}
 use Rattle.std.specs.List.{AllByRecursion}
 use mathlib.Core.List.{IsPrefix}
 use Rattle.dash_script.specs.declared.script.Script.{Script}
@@ -9,6 +9,7 @@ use Rattle.loop_model.specs.declared.record.QueueRecord.{QueueRecord}
 use Rattle.frame_phases.specs.declared.entry.FrameRecord.{FrameRecord}
 use Rattle.looper_run.specs.Holding.{Sender}
 use Rattle.choreographer.specs.Known.{Known as Pass}
+use Rattle.choreographer.specs.Ends.{AreTheirs}
 use Rattle.run_model.specs.Moments.{in_lockstep}
 use Rattle.std.specs.List.{range_with_len}
 use Rattle.run_model.specs.Asks.{entries_by}
@@ -36,10 +37,19 @@ abbrev pub HaveAll : List Kit → List QueueRecord → Type 0
 HaveAll kits records = (k q : ℕ) (d : Kit) (p : Sender) (r : QueueRecord) → k < length kits → q < length records
     → HasAllOf k (slice_index_or (slice_index_or kits k d).posters.items q p) (slice_index_or records q r).entries
 
--- each frame record begins with what each thread's pass has seen
-abbrev pub HaveSeen : ℕ → List Kit → List FrameRecord → Type 0
-HaveSeen threads kits records = (k q : ℕ) (d : Kit) (p : Pass) (r : FrameRecord) → k < threads → q < length records
-    → IsPrefix (slice_index_or (slice_index_or kits k d).frames.items q p).view.seen (slice_index_or records q r).entries
+-- all passes of a looper's choreographer: each thread's, at this place in its kit, the looper's two, and the controller's, at this place in its kit
+abbrev pub passes_at : Script → ℕ → ℕ → List Kit → Kit → Pass → List Pass
+passes_at s looper place kits d p =
+    map (λ thread. slice_index_or (slice_index_or kits thread d).frames.items place p) (range_with_len 0 s.threads)
+    ++ slice_index_or (slice_index_or kits (s.threads + looper) d).frames.items 0 p
+    ∷ slice_index_or (slice_index_or kits (s.threads + looper) d).frames.items 1 p
+    ∷ slice_index_or (slice_index_or kits (s.threads + s.loopers) d).frames.items place p
+    ∷ []
+
+-- each frame record has, counted by any test, the entries that the passes of its choreographer recorded
+abbrev pub AreAllTheirs : Script → List Kit → List FrameRecord → Type 0
+AreAllTheirs s kits records = (q : ℕ) (d : Kit) (p : Pass) (r : FrameRecord) → q < length records
+    → AreTheirs (slice_index_or records q r).entries (passes_at s q q kits d p)
 
 -- each looper's frame record begins with what each of its two passes has seen
 abbrev pub HaveSeenOwn : ℕ → List Kit → List FrameRecord → Type 0

@@ -4,13 +4,12 @@ use Rattle.dash_script.specs.declared.script.Script.{Script}
 use Rattle.run_model.specs.Planned.{lines_of}
 use Rattle.dash_hall.specs.declared.kit.Kit.{Kit}
 use Rattle.dash_threads.specs.declared.thread.PostingThread.{PostingThread}
-use Rattle.dash_threads.specs.Threads.{HasCalled, HasPosted, HasRemoved, IsUpTo}
+use Rattle.dash_threads.specs.Threads.{HasCalled, HasAsked, IsUpTo}
 
--- on each queue the calls of all the thread's lines were made, and at each choreographer as many callbacks posted and removed
+-- on each queue the calls of all the thread's lines were made, and each choreographer was asked for the posts and removals of callbacks that they ask for
 pub record HasRunAll (s : Script) (thread : ℕ) (kit : Kit) : Type 0 where
   pub called : HasCalled s (lines_of thread s.blocks) thread kit.posters.items
-  pub posted : HasPosted (lines_of thread s.blocks) kit.frames.items
-  pub removed : HasRemoved (lines_of thread s.blocks) kit.frames.items
+  pub asked : HasAsked (lines_of thread s.blocks) kit.frames.items
 
 -- each thread's kit tells so
 abbrev pub HaveRunAll : Script → List Kit → Type 0

@@ -15,7 +15,7 @@ use Rattle.looper_run.specs.Round.{is_ended}
 use Rattle.run_model.specs.Asks.{entries_by}
 use Rattle.run_model.specs.Planned.{lines_of, labels_on, lines_on}
 use Rattle.run_model.specs.Senders.{controller, sender_count}
-use Rattle.run_model.specs.Control.{is_advance, is_halt, is_called_in_time, are_before_quit, is_none_before, befores, At, are_on_time, ends_halted}
+use Rattle.run_model.specs.Control.{is_advance, is_halt, is_called_in_time, are_before_quit, is_none_before, befores, InBlock, are_on_time, ends_halted}
 use Rattle.dash_loopers.specs.declared.looper.StageLooper.{StageLooper}
 use Rattle.dash_stage.specs.declared.control.Controller.{Controller}
 use Rattle.dash_stage.specs.declared.stage.Stage.{Stage}
@@ -28,16 +28,20 @@ use Rattle.dash_stage.specs.Sharing.{HaveSeenTheSame}
 abbrev pub whole_on : Controller → ℕ → Sender → List Entry
 whole_on c q d = (slice_index_or c.kit.posters.items q d).view.seen
 
--- the controller's calls were in time, and each thread's calls for its lines of these blocks came at their times and before the controller's quit
+-- the controller's calls were in time, and each thread's calls for its lines of these blocks came in their blocks and before the controller's quit
 pub record IsTimelyUpTo (s : Script) (past : List Block) (q : ℕ) (es : List Entry) : Type 0 where
   pub controls : is_called_in_time (controller s) es ≡ true
   pub before_quit : are_before_quit s.threads (controller s) es ≡ true
-  pub threads : (thread : ℕ) → thread < s.threads → are_on_time (map (λ l. At l.time) (lines_on s (labels_on q (lines_of thread s.blocks)) q (lines_of thread past))) (befores thread es) ≡ true
+  pub threads : (thread : ℕ) → thread < s.threads → are_on_time (map (λ l. InBlock l.time) (lines_on s (labels_on q (lines_of thread s.blocks)) q (lines_of thread past))) (befores thread es) ≡ true
 
--- all senders have seen the same, and so it is on each queue
+-- each queue's history is one that it may have
+abbrev pub AreSound : Script → Controller → Type 0
+AreSound s c = (q : ℕ) (d : Sender) → q < length c.kit.posters.items → IsSoundOn s q (whole_on c q d)
+
+-- all senders have seen the same, and where each queue's history is one that it may have, so it is on each queue
 pub record AreTimelyUpTo (s : Script) (past : List Block) (st : Stage) : Type 0 where
   pub same : HaveSeenTheSame st
-  pub timely : (q : ℕ) (d : Sender) → q < length st.controller.kit.posters.items → IsSoundOn s q (whole_on st.controller q d) → IsTimelyUpTo s past q (whole_on st.controller q d)
+  pub timely : AreSound s st.controller → (q : ℕ) (d : Sender) → q < length st.controller.kit.posters.items → IsTimelyUpTo s past q (whole_on st.controller q d)
 
 -- the queue was disposed of, at this time or before
 abbrev pub WasDisposedBy : ℕ → ℕ → List Entry → Type 0
@@ -46,9 +50,6 @@ WasDisposedBy senders time es = (has_disposed (empty_base senders) es ≡ true) 
 -- the queue's time is this one, or the queue was disposed of by then
 abbrev pub IsAtTime : ℕ → ℕ → List Entry → Type 0
 IsAtTime senders time es = (clock (empty_base senders) es ≡ time) ⊎ WasDisposedBy senders time es
-
-abbrev pub AreAtTime : Script → ℕ → Stage → Type 0
-AreAtTime s time st = (q : ℕ) (d : Sender) → q < length st.controller.kit.posters.items → IsSoundOn s q (whole_on st.controller q d) → IsAtTime (sender_count s) time (whole_on st.controller q d)
 
 -- the controller has moved no queue past this time
 abbrev pub AreBy : ℕ → Controller → Type 0

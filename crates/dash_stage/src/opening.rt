@@ -4,7 +4,7 @@ ghost use Rattle.dash_stage.specs.Controllers.{IsMoving};
 ghost use Rattle.dash_stage.specs.Timeliness.{AreBy, AreTimelyUpTo, AreRested, WaitForNothing};
 ghost use Rattle.dash_hall.specs.Kits.{IsHall, AreUnseen, AreUnusedKits};
 ghost use Rattle.dash_stage.specs.Sharing.{OfThreads, OfLoopers};
-ghost use Rattle.dash_stage.specs.Playing.{AreFresh, HaveBegun, IsInStep};
+ghost use Rattle.dash_stage.specs.Playing.{HaveBegun, IsInStep};
 ghost use Rattle.dash_stage.specs.Stages.{IsStage, IsPlayable, HaveRun, AreKitsFrom, AreThreads, AreLoopers};
 
 use crate::control::Controller;
@@ -26,7 +26,7 @@ pub(crate) fn set_up(alloc: Global, script: &Script) -> Result<Stage, NoMemory>
     ensures timely { IfOk result (λ st. AreTimelyUpTo script.now [] st) }
     ensures rested { IfOk result (λ st. AreRested script.now st) }
     ensures step { IfOk result (λ st. IsInStep script.now st) }
-    ensures fresh { IfOk result (λ st. AreFresh script.now st) }
+    ensures unseen { IfOk result (λ st. AreUnseen st.controller.kit.posters.items) }
 {
     let (hall, mut kits, pass) = open(alloc, script)?;
     let threads = threads(alloc, script, &hall, &mut kits)?;

@@ -4,8 +4,8 @@ ghost use Rattle.atomic_table.specs.Seated.{TableId};
 ghost use Rattle.run_model.specs.Senders.{sender_count};
 ghost use Rattle.dash_hall.specs.Kits.{IsHall, AreKitsOf, AreQueuesOf, AreChoreographersOf, frame_constants, frames_for};
 ghost use Rattle.dash_hall.specs.Dealing.{EachGivesPoster, given_of};
-ghost use Rattle.dash_stage.specs.Ending.{HavePosters, AreNext, HaveAllPosters, IsKeptOf, EachEndsPoster, KeepFrames, BeginWithPasses, HaveAllPasses, HaveFramesLeft, BeginWithNext, BeginWithOwn, AreOfPool};
-ghost use Rattle.dash_stage.specs.Records.{AreQueueRecords, AreFrameRecords, HaveAll, HaveSeen, HaveSeenOwn};
+ghost use Rattle.dash_stage.specs.Ending.{HavePosters, AreNext, HaveAllPosters, IsKeptOf, EachEndsPoster, KeepFrames, BeginWithPasses, HaveAllPasses, HaveFramesLeft, AreOfNext, BeginWithOwn, AreOfPool};
+ghost use Rattle.dash_stage.specs.Records.{AreQueueRecords, AreFrameRecords, AreAllTheirs, HaveAll, HaveSeenOwn};
 ghost use Rattle.dash_stage.specs.Staged.{IsFrameRecord};
 
 use choreographer::{Choreographer, FramePass};
@@ -33,7 +33,7 @@ pub(crate) fn records(
     ensures queues { IfOk result (λ r. AreQueueRecords script.now r.0.items) }
     ensures frames { IfOk result (λ r. AreFrameRecords script.now r.1.items) }
     ensures all { IfOk result (λ r. HaveAll kits.items r.0.items) }
-    ensures seen { IfOk result (λ r. HaveSeen script.now.threads kits.items r.1.items) }
+    ensures theirs { IfOk result (λ r. AreAllTheirs script.now kits.items r.1.items) }
     ensures own { IfOk result (λ r. HaveSeenOwn script.now.threads kits.items r.1.items) }
 {
     let Hall {
@@ -119,7 +119,7 @@ fn frame_records(
     requires count { length kits.old.items ≡ sender_count script.now }
     requires kits { HaveAllPasses (frames_for script.now choreographers.items) kits.old.items }
     ensures records { IfOk result (λ v. AreFrameRecords script.now v.items) }
-    ensures seen { IfOk result (λ v. HaveSeen script.now.threads kits.old.items v.items) }
+    ensures theirs { IfOk result (λ v. AreAllTheirs script.now kits.old.items v.items) }
     ensures own { IfOk result (λ v. HaveSeenOwn script.now.threads kits.old.items v.items) }
     ensures pool { (pool : TableId) → AreOfPool pool kits.old.items → OnOk result (AreOfPool pool kits.new.items) }
 {
@@ -147,7 +147,7 @@ fn frame_record(
     requires count { length kits.old.items ≡ sender_count script.now }
     requires kits { BeginWithPasses script.now looper choreographer kits.old.items }
     ensures record { IfOk result (λ r. IsFrameRecord script.now r × (r.looper ≡ looper)) }
-    ensures seen { IfOk result (λ r. BeginWithNext script.now.threads kits.old.items r.entries) }
+    ensures theirs { IfOk result (λ r. AreOfNext script.now looper kits.old.items r.entries) }
     ensures own { IfOk result (λ r. BeginWithOwn (script.now.threads + looper) kits.old.items r.entries) }
     ensures kits { OnOk result (HaveFramesLeft (λ k. length (given_of script.now looper choreographer k)) kits.old.items kits.new.items) }
 {

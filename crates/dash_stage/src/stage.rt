@@ -8,11 +8,11 @@ ghost use Rattle.dash_stage.specs.declared.side.Turn.TheVariants.{All};
 ghost use Rattle.dash_loopers.specs.Loopers.{until_of};
 ghost use Rattle.dash_stage.specs.Sharing.{HaveSeenTheSame};
 ghost use Rattle.dash_hall.specs.Hearing.{AtEach, seen_by};
-ghost use Rattle.dash_stage.specs.Timeliness.{AreTimelyUpTo, AreAtTime, AreBy, AreRested, AreDue, NotLater, HasHaltedLast};
+ghost use Rattle.dash_stage.specs.Timeliness.{AreTimelyUpTo, AreSound, AreBy, AreRested, AreDue, NotLater, HasHaltedLast};
 ghost use Rattle.dash_script.specs.Reading.{HasText};
-ghost use Rattle.dash_hall.specs.Kits.{IsHall};
+ghost use Rattle.dash_hall.specs.Kits.{IsHall, AreUnseen};
 ghost use Rattle.dash_stage.specs.Controllers.{IsMoving, HasReached, IsClosing, HasClosed, CallsNone};
-ghost use Rattle.dash_stage.specs.Playing.{ArePlayed, AreFresh, AreSound, HaveComeFirst, IsInStep, LiesAhead};
+ghost use Rattle.dash_stage.specs.Playing.{ArePlayed, AreAtBlock, HaveComeFirst, IsInStep, LiesAhead};
 ghost use Rattle.dash_stage.specs.Stages.{IsStage, HaveRun, RunOn, OthersHaveEnded, LoopersGoOn};
 
 use crate::control::Controller;
@@ -60,7 +60,7 @@ impl Stage {
         requires rested { AreRested script.now self.old }
         requires zero { self.old.time ≡ 0 }
         requires step { IsInStep script.now self.old }
-        requires fresh { AreFresh script.now self.old }
+        requires unseen { AreUnseen self.old.controller.kit.posters.items }
         ensures stage { IsStage script.now self.new }
         ensures run { OnOk result (HaveRun script.now script.now.blocks self.new.threads.items) }
         ensures closed { OnOk result (HasClosed script.now self.new.controller) }
@@ -105,9 +105,8 @@ impl Stage {
         ensures by { AreBy self.new.time self.new.controller }
         ensures time { OnOk result (self.new.time ≡ time) }
         ensures timely { (past : List BlockData) → AreTimelyUpTo script.now past self.old → AreRested script.now self.old → OnOk result (AreTimelyUpTo script.now past self.new) }
-        ensures at { OnOk result (AreAtTime script.now time self.new) }
         ensures step { IsInStep script.now self.old → AreRested script.now self.old → OnOk result (IsInStep script.now self.new) }
-        ensures fresh { IsInStep script.now self.old → AreRested script.now self.old → LiesAhead script.now time self.old → OnOk result (AreSound script.now self.new.controller → AreFresh script.now self.new) }
+        ensures at { IsInStep script.now self.old → AreRested script.now self.old → LiesAhead time self.old → OnOk result (AreSound script.now self.new.controller → AreAtBlock script.now time self.new) }
     {
         for _ in rt.forever() {
             let next = at_most(self.next_due(rt, script), time);
@@ -171,10 +170,9 @@ impl Stage {
         ensures by { AreBy self.new.time self.new.controller }
         ensures time { self.new.time ≡ max self.old.time time }
         ensures timely { (past : List BlockData) → AreTimelyUpTo script.now past self.old → AreDue script.now time self.old → OnOk result (AreTimelyUpTo script.now past self.new) }
-        ensures at { IfOk result (λ moved. moved ≡ true → self.old.time ≤ time → AreAtTime script.now time self.new) }
         ensures step { IsInStep script.now self.old → AreRested script.now self.old → AreDue script.now time self.old → OnOk result (IsInStep script.now self.new) }
         ensures moved { IsInStep script.now self.old → AreRested script.now self.old → AreDue script.now time self.old → IfOk result (λ moved. AreSound script.now self.new.controller → (moved ≡ true) × AreSound script.now self.old.controller) }
-        ensures fresh { IsInStep script.now self.old → AreRested script.now self.old → AreDue script.now time self.old → LiesAhead script.now time self.old → OnOk result (AreSound script.now self.new.controller → AreFresh script.now self.new) }
+        ensures at { IsInStep script.now self.old → AreRested script.now self.old → AreDue script.now time self.old → LiesAhead time self.old → OnOk result (AreSound script.now self.new.controller → AreAtBlock script.now time self.new) }
     {
         self.time = self.time.max(time);
         let moved = self.controller.advance(rt, &self.hall, script, time)?;
@@ -197,8 +195,8 @@ impl Stage {
         ensures run { OnOk result (RunOn script.now block.now self.old.threads.items self.new.threads.items) }
         ensures none { CallsNone self.old.controller self.new.controller }
         ensures time { self.new.time ≡ self.old.time }
-        ensures timely { (past rest : List BlockData) → past ++ block.now ∷ rest ≡ script.now.blocks → IsMoving script.now self.old.controller → HaveRun script.now past self.old.threads.items → AreAtTime script.now block.now.time self.old → AreTimelyUpTo script.now past self.old → OnOk result (AreTimelyUpTo script.now (past ++ block.now ∷ []) self.new) }
-        ensures step { IsInStep script.now self.old → (AreSound script.now self.old.controller → AreFresh script.now self.old) → OnOk result (IsInStep script.now self.new) }
+        ensures timely { (past rest : List BlockData) → past ++ block.now ∷ rest ≡ script.now.blocks → IsMoving script.now self.old.controller → HaveRun script.now past self.old.threads.items → (AreSound script.now self.old.controller → AreAtBlock script.now block.now.time self.old) → AreTimelyUpTo script.now past self.old → OnOk result (AreTimelyUpTo script.now (past ++ block.now ∷ []) self.new) }
+        ensures step { IsInStep script.now self.old → (AreSound script.now self.old.controller → AreAtBlock script.now block.now.time self.old) → OnOk result (IsInStep script.now self.new) }
     {
         run_threads(
             rt,

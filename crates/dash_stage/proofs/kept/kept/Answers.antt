@@ -26,15 +26,7 @@ returns-clause-planned c =
 
 pub returns-clause-run : goal.returns-clause-run
 returns-clause-run c =
-    let s = c.args.script.now in
-    let hall = c.args.stage.hall in
-    let kits = c.looper_kits.new.kits.items in
-    let kits' = c.push.new.self.items in
-    let grown = c.in_ok-push.ensures.items in
-    let count = c.in_ok-journals.ensures.kits.0 in
-    let all : s.threads ≤ length kits = omega (arith, count) in
-    frame_runs s hall c.requires.stage.hall kits' (all_kits s hall kits kits' c.args.stage.controller c.in_ok-journals.ensures.kits c.requires.stage.controller grown)
-    (run_kept s hall kits kits' c.args.stage.controller.kit all grown (c.in_ok-journals.ensures.run c.in_ok-kits.ensures.run)) c.in_ok-queues.frames.items c.requires.text c.in_ok-queues.ensures.frames c.in_ok-queues.ensures.seen
+    frame_runs c.args.script.now c.in_ok-queues.frames.items c.requires.text c.in_ok-queues.ensures.frames
 
 pub returns-clause-controls : goal.returns-clause-controls
 returns-clause-controls c =
@@ -70,7 +62,8 @@ returns-clause-loopers c =
     journals c.in_ok-queues.frames.items ls c.in_ok-journals.ensures.journals c.in_ok-queues.ensures.frames c.in_ok-queues.ensures.own
     (told_kept s journals kits kits' mine place grown (c.in_ok-journals.ensures.told c.requires.on))
     (given_kept s ls journals kits kits' mine place grown c.in_ok-journals.ensures.left) c.requires.on c.requires.stage.loopers.0 (λ k d lt. (c.requires.stage.loopers.1 k d lt).1) c.requires.played
-    (returns-clause-planned c) (returns-clause-controls c)
+    (returns-clause-planned c) (returns-clause-controls c) c.requires.stage.controller
+    (run_kept s hall kits kits' mine (omega (arith, count)) grown (c.in_ok-journals.ensures.run c.in_ok-kits.ensures.run)) c.in_ok-queues.ensures.theirs
 
 pub returns-clause-timely : goal.returns-clause-timely
 returns-clause-timely c =

@@ -2,12 +2,29 @@ use Rattle.std.proofs.Common.{◌<◌, length, refl, sym, subst, arith}
 use Rattle.dash_stage.specs.declared.stage.Stage.{Stage}
 use Rattle.dash_hall.specs.Kits.{IsKitOf, IsUnusedKit}
 use Rattle.dash_stage.proofs.Carried.{unused_kits}
+use Rattle.run_model.specs.Senders.{controller}
+use Rattle.dash_stage.proofs.Casting.{controller_of, first_kit}
 use Rattle.dash_stage.proofs.StageControls.{unused_by, unused_moves}
-use Rattle.dash_stage.proofs.StageBegins.{begins_timely, begins_rested, begins_in_step, begins_fresh}
+use Rattle.dash_stage.proofs.StageBegins.{begins_timely, begins_rested, begins_in_step}
 use Rattle.dash_stage.proofs.opening.set_up.Goals as goal
 
 pub threads-requires-clause-unused : goal.threads-requires-clause-unused
 threads-requires-clause-unused c = unused_kits c.in_ok-hall.kits.items c.in_ok-hall.ensures.new
+
+pub returns-clause-stage : goal.returns-clause-stage
+returns-clause-stage c =
+    let s = c.args.script.now in
+    let hall = c.in_ok-hall.hall in
+    let count = c.in_ok-loopers.ensures.kits.count in
+    let some : 0 < length c.loopers.new.kits.items = omega (arith, count) in
+    let unused = subst IsUnusedKit (sym c.remove.ensures.value) (c.in_ok-loopers.ensures.unused 0 c.remove.result some) in
+    let is = subst (IsKitOf s hall (controller s)) (sym c.remove.ensures.value) (first_kit s hall (controller s) c.loopers.new.kits.items c.remove.result c.in_ok-loopers.ensures.kits some) in record {
+      hall = c.in_ok-hall.ensures.hall;
+      threads = c.in_ok-threads.ensures.threads;
+      loopers = c.in_ok-loopers.ensures.loopers;
+      controller = controller_of s hall c.remove.result is unused;
+      pass = c.in_ok-hall.ensures.pass;
+    }
 
 pub returns-clause-moving : goal.returns-clause-moving
 returns-clause-moving c =
@@ -52,11 +69,9 @@ returns-clause-step c =
     (begins_timely s st _ c.in_ok-hall.ensures.hall c.in_ok-threads.ensures.threads c.in_ok-loopers.ensures.loopers is.posters c.in_ok-threads.ensures.unseen c.in_ok-loopers.ensures.unseen unused.posters)
     c.in_ok-loopers.ensures.loopers is.posters unused.posters refl c.in_ok-loopers.ensures.begun
 
-pub returns-clause-fresh : goal.returns-clause-fresh
-returns-clause-fresh c =
-    let s = c.args.script.now in
+pub returns-clause-unseen : goal.returns-clause-unseen
+returns-clause-unseen c =
     let count = c.in_ok-loopers.ensures.kits.count in
     let some : 0 < length c.loopers.new.kits.items = omega (arith, count) in
     let unused = subst IsUnusedKit (sym c.remove.ensures.value) (c.in_ok-loopers.ensures.unused 0 c.remove.result some) in
-    let st : Stage = record { hall = c.in_ok-hall.hall; threads = c.in_ok-threads.threads; loopers = c.in_ok-loopers.loopers; controller = record { kit = c.remove.result }; pass = c.in_ok-hall.pass; time = 0 } in
-    begins_fresh s st unused.posters
+    unused.posters

@@ -2,7 +2,7 @@ use Rattle.std.proofs.Common.{◌≡◌, ◌+◌, ◌<◌, [], ◌∷◌, ◌++�
 use Rattle.dash_hall.specs.declared.kit.Kit.{Kit}
 use Rattle.dash_hall.specs.Dealing.{GivesPass}
 use Rattle.dash_hall.proofs.HallSteps.{holder_within}
-use Rattle.dash_stage.proofs.HallFrames.{has_pass, takes_more, taken_all, taken_own}
+use Rattle.dash_stage.proofs.HallFrames.{has_pass, takes_more, taken_own, taken_theirs}
 use Rattle.dash_stage.proofs.records.frame_record.Goals as goal
 
 pub next_pass-requires : goal.next_pass-requires
@@ -31,14 +31,14 @@ loop-number-preserved c =
           (subst (λ (x : Kit). GivesPass x p c.next_pass.new.self) c.index_mut.ensures.value c.next_pass.ensures) at.invariant.taken;
     }
 
-pub returns-clause-seen : goal.returns-clause-seen
-returns-clause-seen c =
+pub returns-clause-theirs : goal.returns-clause-theirs
+returns-clause-theirs c =
     let at = c.loop-number in
     let s = c.args.script.now in
     let over = c.loop-number-test.false in
     let most = at.auto.number-end in
     let all : at.number ≡ s.threads + 3 = omega (arith, over, most) in
-    (taken_all s c.args.looper c.args.choreographer at.number c.args.kits.now.items at.passes.items at.kits.items c.into_kept.result.entries at.invariant.count all at.invariant.taken c.into_kept.ensures.passes).0
+    taken_theirs s c.args.looper c.args.choreographer at.number c.args.kits.now.items at.passes.items at.kits.items c.into_kept.result.entries at.invariant.count all at.invariant.taken c.requires.looper c.into_kept.ensures.theirs
 
 pub returns-clause-own : goal.returns-clause-own
 returns-clause-own c =

@@ -1,10 +1,10 @@
 use Rattle.std.proofs.Common.{rules, ◌≡◌, ◌+◌, ◌<◌, List, [], ◌∷◌, ◌++◌, length, refl, ap, sym, ◌∙◌, subst, append-nil, length-append, arith}
 use Rattle.std.specs.Vec.Iter.{into_iter_items}
-use Rattle.std.proofs.lemmas.List.{length-map}
+use Rattle.std.proofs.lemmas.List.{nil_from_length, length-map}
 use Rattle.std.proofs.lemmas.List.FromFn.{length-map-range_with_len}
 use Rattle.choreographer.specs.Known.{Shared as Frames}
 use Rattle.frame_phases.specs.declared.entry.FrameRecord.{FrameRecord}
-use Rattle.shared_queue.proofs.Gathers.{nothing_left, regrouped}
+use Rattle.shared_queue.proofs.Gathers.{regrouped}
 use Rattle.dash_hall.specs.Kits.{frame_key, frame_constants}
 use Rattle.dash_stage.specs.Ending.{HaveAllPasses}
 use Rattle.dash_hall.proofs.HallPasses.{given_all, given_are}
@@ -83,7 +83,7 @@ loop-choreographer-preserved c =
       long = let was = at.invariant.long in let gone = c.in-Some.ensures.steps.1 in let short = ap length steps in omega arith;
       looper = let done = length-append at.yielded (x ∷ []) in omega (arith, done, looper);
       count = let more = length-append at.records.items (r ∷ []) in let now = ap length items in omega (arith, now, more, count);
-      ended = ends_more s at.looper x rest c.args.kits.now.items at.kits.items c.frame_record.new.kits.items at.records.items _ r count few (omega (arith, senders)) c.in_ok-record.ensures.record.0 c.in_ok-record.ensures.record.1 c.in_ok-record.ensures.seen c.in_ok-record.ensures.own c.in_ok-record.ensures.kits items
+      ended = ends_more s at.looper x rest c.args.kits.now.items at.kits.items c.frame_record.new.kits.items at.records.items _ r count few (omega (arith, senders)) c.in_ok-record.ensures.record.0 c.in_ok-record.ensures.record.1 c.in_ok-record.ensures.theirs c.in_ok-record.ensures.own c.in_ok-record.ensures.kits items
           (subst (λ (l : List Frames). HaveEnded s at.looper l c.args.kits.now.items at.records.items at.kits.items) steps at.invariant.ended);
     }
 
@@ -93,7 +93,7 @@ returns-clause-records c =
     let s = c.args.script.now in
     let cs = c.args.choreographers.items in
     let none = c.in-None.ensures.steps in
-    let empty : into_iter_items at.choreographer-iterator ≡ [] = nothing_left _ (sym at.invariant.long ∙ none.0) in
+    let empty : into_iter_items at.choreographer-iterator ≡ [] = nil_from_length _ (sym at.invariant.long ∙ none.0) in
     let all : at.yielded ≡ cs = sym (append-nil at.yielded) ∙ (ap (λ l. at.yielded ++ l) (sym empty) ∙ (at.invariant.parts ∙ c.into_iter-choreographer-iterator.ensures.into_iter_gives.0)) in
     let loopers : length cs ≡ s.loopers = sym (length-map cs frame_key) ∙ (ap length c.requires.choreographers ∙ length-map-range_with_len (frame_constants s) 0 s.loopers) in
     (ended_all s at.looper _ c.args.kits.now.items at.kits.items at.records.items (at.invariant.looper ∙ (ap length all ∙ loopers)) at.invariant.ended).0

@@ -1,10 +1,10 @@
 use Rattle.std.proofs.Common.{◌≡◌, [], ◌∷◌, ◌++◌, length, ap, sym, ◌∙◌, append-nil, length-append, arith}
 use Rattle.std.specs.Vec.Iter.{into_iter_items}
-use Rattle.std.proofs.lemmas.List.{length-map}
+use Rattle.std.proofs.lemmas.List.{nil_from_length, length-map}
 use Rattle.std.proofs.lemmas.List.FromFn.{length-map-range_with_len}
 use Rattle.atomic_table.specs.Seated.{TableId}
 use Rattle.shared_queue.specs.Constants.{Constants}
-use Rattle.shared_queue.proofs.Gathers.{nothing_left, regrouped}
+use Rattle.shared_queue.proofs.Gathers.{regrouped}
 use Rattle.dash_hall.specs.Kits.{queue_key, queue_constants}
 use Rattle.dash_stage.proofs.HallEnds.{next_queue, retires_more, retired_all}
 use Rattle.dash_stage.proofs.records.queue_records.Goals as goal
@@ -52,7 +52,7 @@ returns-clause-records c =
     let at = c.loop-queue in
     let s = c.args.script.now in
     let none = c.in-None.ensures.steps in
-    let empty : into_iter_items at.queue-iterator ≡ [] = nothing_left _ (sym at.invariant.long ∙ none.0) in
+    let empty : into_iter_items at.queue-iterator ≡ [] = nil_from_length _ (sym at.invariant.long ∙ none.0) in
     let all : at.yielded ≡ c.args.queues.items = sym (append-nil at.yielded) ∙ (ap (λ l. at.yielded ++ l) (sym empty) ∙ (at.invariant.parts ∙ c.into_iter-queue-iterator.ensures.into_iter_gives.0)) in
     let loopers : length c.args.queues.items ≡ s.loopers = sym (length-map c.args.queues.items queue_key) ∙ (ap length c.requires.queues ∙ length-map-range_with_len (queue_constants s c.args.pool.now) 0 s.loopers) in
     (retired_all s c.args.kits.now.items at.kits.items at.records.items (at.invariant.count ∙ (ap length all ∙ loopers)) at.invariant.retired).0

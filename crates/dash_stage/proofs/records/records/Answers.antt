@@ -3,6 +3,7 @@ use mathlib.Core.List.{IsPrefix}
 use Rattle.choreographer.specs.Known.{Known as Pass}
 use Rattle.frame_phases.specs.declared.entry.FrameRecord.{FrameRecord}
 use Rattle.dash_stage.proofs.Carried.{numbered_count}
+use Rattle.dash_stage.proofs.HallFrames.{frames_kept}
 use Rattle.dash_stage.proofs.records.records.Goals as goal
 
 pub close-requires-clause-kits : goal.close-requires-clause-kits
@@ -13,13 +14,13 @@ close-requires-clause-kits c =
     let within : k < length c.args.kits.items = omega (arith, lt, same) in
     (kept.each k d within).pass ∙ (c.requires.kits.each k d within).pass)
 
-pub returns-clause-seen : goal.returns-clause-seen
-returns-clause-seen c k q d p r lt below =
+pub returns-clause-theirs : goal.returns-clause-theirs
+returns-clause-theirs c =
     let kept = c.in_ok-queues.ensures.kits in
     let s = c.args.script.now in
     let senders : length c.args.kits.items ≡ s.threads + s.loopers + 1 = c.requires.kits.count in
-    let within : k < length c.args.kits.items = omega (arith, lt, senders) in
-    subst (λ (l : List Pass). IsPrefix (get_or l q p).view.seen (get_or c.in_ok-frames.frames.items q r).entries) (kept.each k d within).frames (c.in_ok-frames.ensures.seen k q d p r lt below)
+    let few : length c.in_ok-frames.frames.items ≡ s.loopers = numbered_count (λ (z : FrameRecord). z.looper) s.loopers c.in_ok-frames.frames.items c.in_ok-frames.ensures.records.loopers in
+    frames_kept s c.args.kits.items c.queue_records.new.kits.items c.in_ok-frames.frames.items senders few kept c.in_ok-frames.ensures.theirs
 
 pub returns-clause-own : goal.returns-clause-own
 returns-clause-own c q i d p r small below =

@@ -14,14 +14,14 @@ asked-requires g c =
 
 pub returns-in_err-stamp : goal.returns-in_err-stamp
 returns-in_err-stamp g c = record {
-  controller = after_frame_turn c.args.script.now c.args.hall.now c.requires.hall c.args.looper c.requires.looper c.args.self.now c.requires.controller c.index_mut.result.now c.asked.new.pass _ _ c.index_mut.ensures.value c.asked.ensures.1;
+  controller = after_frame_turn c.args.script.now c.args.hall.now c.requires.hall c.args.looper c.requires.looper c.args.self.now c.requires.controller c.index_mut.result.now c.asked.new.pass _ c.index_mut.ensures.value c.asked.ensures.1;
   none = record { long = refl; calls = λ q d. refl };
   posters = refl;
 }
 
 pub returns : goal.returns
 returns g c = record {
-  controller = after_frame_turn c.args.script.now c.args.hall.now c.requires.hall c.args.looper c.requires.looper c.args.self.now c.requires.controller c.index_mut.result.now c.asked.new.pass _ _ c.index_mut.ensures.value c.asked.ensures.1;
+  controller = after_frame_turn c.args.script.now c.args.hall.now c.requires.hall c.args.looper c.requires.looper c.args.self.now c.requires.controller c.index_mut.result.now c.asked.new.pass _ c.index_mut.ensures.value c.asked.ensures.1;
   none = record { long = refl; calls = λ q d. refl };
   posters = refl;
 }

@@ -1,7 +1,8 @@
 use Rattle.std.proofs.Common.{ℕ, ◌∙◌, sym, subst, arith}
 use Rattle.dash_stage.specs.Timeliness.{AreBy}
-use Rattle.dash_stage.proofs.StageMoves.{by_later, by_kept, advanced_timely, come_at_time}
-use Rattle.dash_stage.proofs.PlayedTurns.{advanced_in_step, advanced_sound, advanced_fresh}
+use Rattle.dash_stage.proofs.StageMoves.{by_later, advanced_timely}
+use Rattle.dash_stage.proofs.PlayedTurns.{advanced_in_step, advanced_sound, advanced_at_block}
+use Rattle.dash_stage.proofs.ControlKept.{by_kept}
 use Rattle.dash_stage.proofs.stage.Stage.advance.Goals as goal
 
 pub returns-in_err-moved-clause-by : goal.returns-in_err-moved-clause-by
@@ -13,19 +14,13 @@ pub returns-clause-by : goal.returns-clause-by
 returns-clause-by g c =
     let m = c.max-self.ensures in
     let moved = c.advance.ensures.by c.max-self.result (omega (arith, m)) (by_later c.args.self.now.time c.max-self.result c.args.self.now.controller (omega (arith, m)) c.requires.by) in
-    subst (λ (t : ℕ). AreBy t c.share.new.self.controller) (sym c.share.ensures.kept.time) (by_kept c.max-self.result c.advance.new.self c.share.new.self.controller c.share.ensures.none moved)
+    subst (λ (t : ℕ). AreBy t c.share.new.self.controller) (sym c.share.ensures.kept.time) (by_kept c.advance.new.self c.share.new.self.controller c.share.ensures.none c.max-self.result moved)
 
 pub returns-clause-timely : goal.returns-clause-timely
 returns-clause-timely g c past timely due =
     let kept = c.share.ensures.kept in
     advanced_timely c.args.script.now c.args.self.now c.advance.new.self c.share.new.self c.requires.stage c.share.ensures.stage timely.same c.share.ensures.shared kept.threads kept.loopers kept.controller.posters
     c.args.time past c.in_ok-moved.ensures.turns due timely
-
-pub returns-clause-at : goal.returns-clause-at
-returns-clause-at g c moved later =
-    come_at_time c.args.script.now c.args.time c.advance.new.self c.share.new.self c.share.ensures.stage c.share.ensures.kept.controller.posters
-    (c.advance.ensures.by c.args.time (omega arith) (by_later c.args.self.now.time c.args.time c.args.self.now.controller later c.requires.by))
-    (c.in_ok-moved.ensures.come moved)
 
 pub returns-clause-step : goal.returns-clause-step
 returns-clause-step g c step rested due =
@@ -45,11 +40,11 @@ returns-clause-moved g c step rested due =
     advanced_sound c.args.script.now c.args.self.now c.advance.new.self c.share.new.self c.requires.stage c.share.ensures.stage c.share.ensures.shared kept.threads kept.loopers kept.controller.posters step
     c.args.time c.in_ok-moved.ensures.turns now by rested due _ c.in_ok-moved.ensures.come c.in_ok-moved.ensures.stuck
 
-pub returns-clause-fresh : goal.returns-clause-fresh
-returns-clause-fresh g c step rested due ahead =
+pub returns-clause-at : goal.returns-clause-at
+returns-clause-at g c step rested due ahead =
     let kept = c.share.ensures.kept in
     let m = c.max-self.ensures in
     let now = kept.time ∙ m in
     let by = c.advance.ensures.by c.share.new.self.time (omega (arith, now)) (by_later c.args.self.now.time c.share.new.self.time c.args.self.now.controller (omega (arith, now)) c.requires.by) in
-    advanced_fresh c.args.script.now c.args.self.now c.advance.new.self c.share.new.self c.requires.stage c.share.ensures.stage c.share.ensures.shared kept.threads kept.loopers kept.controller.posters step
+    advanced_at_block c.args.script.now c.args.self.now c.advance.new.self c.share.new.self c.requires.stage c.share.ensures.stage c.share.ensures.shared kept.threads kept.loopers kept.controller.posters step
     c.args.time c.in_ok-moved.ensures.turns now by rested due _ c.in_ok-moved.ensures.come c.in_ok-moved.ensures.stuck ahead

@@ -2,10 +2,10 @@ use Rattle.std.proofs.Common.{ℕ, max, true≢false, refl, sym, ap, ◌∙◌, 
 use Rattle.dash_stage.specs.Stages.{HaveRun}
 use Rattle.dash_stage.specs.Timeliness.{AreBy}
 use Rattle.dash_stage.proofs.ControlKept.{moving_kept}
-use Rattle.dash_stage.proofs.StageMoves.{by_kept}
+use Rattle.dash_stage.proofs.ControlKept.{by_kept}
 use Rattle.dash_stage.proofs.StageDue.{timely_same, rested_same}
 use Rattle.dash_stage.proofs.PlayedTurns.{step_same, sound_same, ahead_same, ahead_on}
-use Rattle.dash_stage.specs.Playing.{LiesAhead}
+use Rattle.dash_stage.specs.Playing.{AreAtBlock, LiesAhead}
 use Rattle.dash_stage.proofs.stage.Stage.go_to.Goals as goal
 use Rattle.dash_stage.proofs.stage.Stage.go_to.Goals.{else-moved-via-then-moved+else-next-time, else-moved-via-else-moved}
 
@@ -30,8 +30,8 @@ returns-then-next-time-clause-step g c step rest =
     c.in_ok-moved.ensures.step (step_same s c.loop.self c.next_due.new.self c.loop.invariant.0 due.stage due.threads due.loopers due.posters due.time before.0)
     (rested_same s c.loop.self c.next_due.new.self due.loopers due.posters before.1) (due.due c.at_most-next.result before.1 c.at_most-next.ensures.early)
 
-pub returns-then-next-time-clause-fresh : goal.returns-then-next-time-clause-fresh
-returns-then-next-time-clause-fresh g c step rest ahead sound =
+pub returns-then-next-time-clause-at : goal.returns-then-next-time-clause-at
+returns-then-next-time-clause-at g c step rest ahead sound =
     let s = c.args.script.now in
     let before = c.loop.invariant.6 step rest in
     let due = c.next_due.ensures in
@@ -41,8 +41,8 @@ returns-then-next-time-clause-fresh g c step rest ahead sound =
     let none = due.due c.at_most-next.result before.1 c.at_most-next.ensures.early in
     let drained = moved.moved still rested none sound in
     let was = c.loop.invariant.7 step rest ahead (sound_same s c.loop.self.controller c.next_due.new.self.controller due.posters drained.1) in
-    let here = subst (λ (t : ℕ). LiesAhead s t c.loop.self) (sym c.if-next-time.true) was in
-    moved.fresh still rested none (ahead_same s c.at_most-next.result c.loop.self c.next_due.new.self due.posters due.time here) sound
+    let here = subst (λ (t : ℕ). LiesAhead t c.loop.self) (sym c.if-next-time.true) was in
+    subst (λ (t : ℕ). AreAtBlock s t c.advance.new.self) c.if-next-time.true (moved.at still rested none (ahead_same c.at_most-next.result c.loop.self c.next_due.new.self due.posters due.time here) sound)
 
 pub loop-preserved : goal.loop-preserved
 loop-preserved g c =
@@ -54,7 +54,7 @@ loop-preserved g c =
       ran.stage,
       λ past run. ran.run past (moved.run past (subst (HaveRun s past) (sym due.threads) (at.1 past run))),
       moving_kept s c.advance.new.self.controller c.run_rounds.new.self.controller ran.none moved.moving,
-      subst (λ (t : ℕ). AreBy t c.run_rounds.new.self.controller) (sym ran.time) (by_kept c.advance.new.self.time c.advance.new.self.controller c.run_rounds.new.self.controller ran.none moved.by),
+      subst (λ (t : ℕ). AreBy t c.run_rounds.new.self.controller) (sym ran.time) (by_kept c.advance.new.self.controller c.run_rounds.new.self.controller ran.none c.advance.new.self.time moved.by),
       (let a = at.4 in let b = due.time in let d = moved.time in let e = ran.time in let w = c.at_most-next.ensures.within in omega (arith, a, b, d, e, w)),
       λ past timely rest.
           let before = at.5 past timely rest in
@@ -74,7 +74,7 @@ loop-preserved g c =
           elim c.else-moved.branch [
             | else-moved-via-then-moved+else-next-time w ↦ (let apart = w.if-next-time.false in
                 let within = c.at_most-next.ensures.within in
-                ahead_on s c.args.time c.at_most-next.result c.loop.self c.run_rounds.new.self (omega (arith, apart, within)) (ran.time ∙ (moved.time ∙ ap (λ (t : ℕ). max t c.at_most-next.result) due.time)) was)
+                ahead_on c.args.time c.at_most-next.result c.loop.self c.run_rounds.new.self (omega (arith, apart, within)) (ran.time ∙ (moved.time ∙ ap (λ (t : ℕ). max t c.at_most-next.result) due.time)) was)
             | else-moved-via-else-moved w ↦ absurd (true≢false (sym drained.0 ∙ w.if-moved.false))
           ],
     )

@@ -2,8 +2,8 @@ use Rattle.std.proofs.Common.{◌≤◌, List}
 use Rattle.dash_script.specs.declared.script.Block.{Block}
 use Rattle.dash_stage.specs.Controllers.{IsMoving}
 use Rattle.dash_stage.specs.Stages.{IsStage, HaveRun}
-use Rattle.dash_stage.specs.Timeliness.{AreTimelyUpTo, AreBy, AreRested}
-use Rattle.dash_stage.specs.Playing.{AreSound, IsInStep, LiesAhead}
+use Rattle.dash_stage.specs.Timeliness.{AreSound, AreTimelyUpTo, AreBy, AreRested}
+use Rattle.dash_stage.specs.Playing.{IsInStep, LiesAhead}
 use Rattle.dash_stage.proofs.stage.Stage.go_to.Given as goal
 
 abbrev pub invariant-loop : goal.invariant-loop
@@ -14,4 +14,4 @@ invariant-loop g l = IsStage l.script l.self
     × (l.self.time ≤ l.time)
     × ((past : List Block) → AreTimelyUpTo l.script past l.initial.self → AreRested l.script l.initial.self → AreTimelyUpTo l.script past l.self × AreRested l.script l.self)
     × (IsInStep l.script l.initial.self → AreRested l.script l.initial.self → IsInStep l.script l.self × AreRested l.script l.self)
-    × (IsInStep l.script l.initial.self → AreRested l.script l.initial.self → LiesAhead l.script l.time l.initial.self → AreSound l.script l.self.controller → LiesAhead l.script l.time l.self)
+    × (IsInStep l.script l.initial.self → AreRested l.script l.initial.self → LiesAhead l.time l.initial.self → AreSound l.script l.self.controller → LiesAhead l.time l.self)

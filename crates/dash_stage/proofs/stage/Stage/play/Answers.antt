@@ -10,7 +10,7 @@ use Rattle.dash_stage.proofs.PlayedTurns.{ahead_of_zero}
 use Rattle.dash_stage.proofs.Blocks.{blocks_next, blocks_past, run_one_more}
 use Rattle.dash_stage.proofs.Limits.{before_end, before_next}
 use Rattle.dash_stage.proofs.ControlKept.{none_after, moving_kept, reached_kept}
-use Rattle.dash_stage.proofs.StageMoves.{by_kept}
+use Rattle.dash_stage.proofs.ControlKept.{by_kept}
 use Rattle.dash_stage.proofs.stage.Stage.play.Goals as goal
 
 pub loop-block-init : goal.loop-block-init
@@ -25,7 +25,7 @@ loop-block-init g c =
       omega (arith, zero_time),
       λ d some. omega (arith, zero_time),
       c.requires.step,
-      λ d some. ahead_of_zero c.args.script.now _ c.args.self.now zero_time c.requires.fresh,
+      λ d some. ahead_of_zero _ c.args.self.now zero_time c.requires.unseen,
     )
 
 pub go_to-requires-clause-end : goal.go_to-requires-clause-end
@@ -61,23 +61,24 @@ loop-block-preserved g c =
     let next = blocks_next bs i b lt is in
     let grown = blocks_past bs i b lt is in
     let run = c.go_to.ensures.run (take i bs) at.1 in
-    let timely = c.in_ok-run_block.ensures.timely (take i bs) (drop (i + 1) bs) next c.go_to.ensures.moving run c.in_ok-go_to.ensures.at (c.in_ok-go_to.ensures.timely (take i bs) at.4 at.5) in
+    let ahead = subst (λ (z : Block). LiesAhead z.time c.loop-block.self) (sym is) (at.9 b lt) in
+    let begins = c.in_ok-go_to.ensures.at at.8 at.5 ahead in
+    let timely = c.in_ok-run_block.ensures.timely (take i bs) (drop (i + 1) bs) next c.go_to.ensures.moving run begins (c.in_ok-go_to.ensures.timely (take i bs) at.4 at.5) in
     let more = subst (λ (l : List Block). HaveRun s l blocked.threads.items) grown
     (run_one_more s (take i bs) (drop (i + 1) bs) b next gone.threads.items blocked.threads.items (λ k d within. (c.go_to.ensures.stage.threads.1 k d within).1)
     (c.run_block.ensures.stage.threads.0 ∙ sym c.go_to.ensures.stage.threads.0) c.in_ok-run_block.ensures.run run) in
     let none = none_after gone.controller blocked.controller after.controller c.run_block.ensures.none c.run_rounds.ensures.none in
     let same_time : after.time ≡ gone.time = c.run_rounds.ensures.time ∙ c.run_block.ensures.time in
-    let time : after.time ≡ b.time = same_time ∙ c.in_ok-go_to.ensures.time in
-    let ahead = subst (λ (z : Block). LiesAhead s z.time c.loop-block.self) (sym is) (at.9 b lt) in (
+    let time : after.time ≡ b.time = same_time ∙ c.in_ok-go_to.ensures.time in (
       c.run_rounds.ensures.stage,
       c.run_rounds.ensures.run (take (i + 1) bs) more,
       moving_kept s gone.controller after.controller none c.go_to.ensures.moving,
-      subst (λ (t : ℕ). AreBy t after.controller) (sym same_time) (by_kept gone.time gone.controller after.controller none c.go_to.ensures.by),
+      subst (λ (t : ℕ). AreBy t after.controller) (sym same_time) (by_kept gone.controller after.controller none gone.time c.go_to.ensures.by),
       c.in_ok-run_rounds.ensures.timely (take (i + 1) bs) (subst (λ (l : List Block). AreTimelyUpTo s l blocked) grown timely),
       c.in_ok-run_rounds.ensures.rested refl timely.same,
       subst (λ (t : ℕ). t ≤ s.end) (sym time) (before_end s i b c.requires.text lt is),
       λ d some. (let later = before_next s i b d c.requires.text is some in omega (arith, later, time)),
-      c.in_ok-run_rounds.ensures.step (c.in_ok-run_block.ensures.step (c.in_ok-go_to.ensures.step at.8 at.5) (c.in_ok-go_to.ensures.fresh at.8 at.5 ahead)),
+      c.in_ok-run_rounds.ensures.step (c.in_ok-run_block.ensures.step (c.in_ok-go_to.ensures.step at.8 at.5) begins),
       λ d some. inl (subst (λ (t : ℕ). t < (slice_index_or bs (i + 1) d).time) (sym time) (before_next s i b d c.requires.text is some)),
     )
 

@@ -12,4 +12,4 @@ invariant-loop-block g l = IsStage l.script l.self × HaveRun l.script (take l.b
     × AreBy l.self.time l.self.controller × AreTimelyUpTo l.script (take l.block-index l.script.blocks) l.self × AreRested l.script l.self
     × (l.self.time ≤ l.script.end) × ((d : Block) → l.block-index < length l.script.blocks → l.self.time ≤ (slice_index_or l.script.blocks l.block-index d).time)
     × IsInStep l.script l.self
-    × ((d : Block) → l.block-index < length l.script.blocks → LiesAhead l.script (slice_index_or l.script.blocks l.block-index d).time l.self)
+    × ((d : Block) → l.block-index < length l.script.blocks → LiesAhead (slice_index_or l.script.blocks l.block-index d).time l.self)

@@ -40,10 +40,10 @@ returns-clause-timely g c past rest whole moving run at timely =
     let on = subst (λ (l : List PostingThread). RunOn s b l ran) c.as_mut_slice.ensures.value c.in_ok-run_threads.ensures.run in
     let more = run_one_more s past rest b whole st.threads.items ran (λ k d lt. (stage.threads.1 k d lt).1) many on run in
     block_timely s st c.share.new.self b past moving stage c.share.ensures.stage run (c.share.ensures.run (past ++ b ∷ []) (subst (HaveRun s (past ++ b ∷ [])) (sym written) more))
-    c.share.ensures.kept.controller.posters c.share.ensures.shared at timely
+    c.share.ensures.kept.loopers c.share.ensures.kept.controller.posters c.share.ensures.shared at timely
 
 pub returns-clause-step : goal.returns-clause-step
-returns-clause-step g c step fresh =
+returns-clause-step g c step at =
     let kept = c.share.ensures.kept in
     block_in_step c.args.script.now c.args.self.now c.share.new.self c.requires.stage c.share.ensures.stage c.share.ensures.shared kept.time kept.loopers kept.controller.posters step
-    (block_first c.args.script.now c.args.self.now c.share.new.self c.requires.stage c.share.ensures.stage c.share.ensures.shared kept.loopers kept.controller.posters step fresh)
+    (block_first c.args.script.now c.args.self.now c.share.new.self c.requires.stage c.share.ensures.stage c.share.ensures.shared kept.loopers kept.controller.posters step c.args.block.now.time at)

@@ -3,8 +3,8 @@ use Rattle.dash_script.specs.declared.script.Block.{Block}
 use Rattle.dash_stage.specs.Controllers.{CallsNone}
 use Rattle.dash_stage.specs.Stages.{IsStage, HaveRun, OthersHaveEnded}
 use Rattle.dash_stage.specs.Sharing.{HaveSeenTheSame}
-use Rattle.dash_stage.specs.Timeliness.{AreTimelyUpTo}
-use Rattle.dash_stage.specs.Playing.{AreSound, IsInStep}
+use Rattle.dash_stage.specs.Timeliness.{AreSound, AreTimelyUpTo}
+use Rattle.dash_stage.specs.Playing.{IsInStep}
 use Rattle.dash_stage.proofs.stage.Stage.run_rounds.Given as goal
 
 abbrev pub invariant-loop : goal.invariant-loop
