@@ -93,6 +93,7 @@ looper_run = record {
   calls = ((record { call = refl; reply = refl }, (record { call = refl; reply = refl }, tt)), tt);
   asked = λ test. omega arith;
   on_time = tt;
+  whole = refl;
   moments = tt;
 }
 
@@ -104,7 +105,7 @@ is_run = record {
   controls = (controlled, tt);
   frames = (frame_run, tt);
   loopers = (looper_run, tt);
-  timely = record { halted = refl; histories = tt };
+  timely = record { halted = refl; histories = tt; moves = tt };
 }
 
 pub printed : text report ≡ page (codes "report 1" ∷ codes "looper 0" ∷ codes "25 dispatch 0 0 7" ∷ codes "30 dispatch 1 0 8" ∷ codes "fates accepted 2 dispatched 2 removed 0 dropped 0 stranded 0 queued 0" ∷ codes "end" ∷ [])

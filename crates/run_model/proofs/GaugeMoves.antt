@@ -1,6 +1,6 @@
 -- A gauge that moves to its target in three frames, and an empty frame.
-use Rattle.std.proofs.Common.{◌≡◌, ◌<◌, ℕ, true, List, [], ◌∷◌, Some, None, refl, arith, lit<, lit≤}
-use Rattle.std.specs.Prelude.{codes}
+use Rattle.std.proofs.Common.{◌≡◌, ◌<◌, ℕ, true, List, [], ◌∷◌, Some, None, refl, arith, lit<, lit≤, inl, inr}
+use Rattle.std.specs.Prelude.{codes, map}
 use Rattle.std.specs.Fmt.{digits}
 use Rattle.loop_model.specs.declared.call.Call.TheVariants as call
 use Rattle.loop_model.specs.declared.reply.Reply.TheVariants as reply
@@ -26,10 +26,13 @@ use Rattle.run_model.specs.Moments.{in_lockstep}
 use Rattle.run_model.specs.Planned.{AreAsPlanned}
 use Rattle.run_model.specs.Acts.{after_act}
 use Rattle.run_model.specs.Loopers.{first_looper, Looper}
-use Rattle.run_model.specs.Run.{IsRun, IsHistory, IsControlled, IsFrameRun, IsLooperRun, IsTimely, IsThreadOnTime, all_entries, setting_of}
+use Rattle.run_model.specs.Run.{IsRun, IsHistory, IsControlled, IsFrameRun, IsLooperRun, IsTimely, IsThreadOnTime, all_entries, setting_of, are_in_order}
 use Rattle.run_model.specs.Text.{text, lines}
 use Rattle.run_model.proofs.Below.{each_below}
 use Rattle.run_model.proofs.Examples.{entry, message, frame_message, handler_on, block, by, plain_script, queue, journal, frames, callback, led, page}
+use Rattle.run_model.specs.Moves.{moves, AreMovedTogether}
+use Rattle.run_model.specs.Histories.{history_of}
+use Rattle.run_model.specs.Senders.{controller}
 
 abbrev pub script : Script
 script =
@@ -116,7 +119,7 @@ unfolding after_act befores clock has_disposed
 looper_run_0 = record {
   final = final_0;
   acts =
-      (None, (record { accepted = refl; starts = refl; place = refl; painted = refl }, (None, ((refl, refl), (None, (refl, (Some 2, (record { accepted = refl; starts = refl; place = refl; painted = refl }, (None, ((refl, refl), (None, (refl, (Some 10, (record { accepted = refl; starts = refl; place = refl; painted = refl }, (None, ((refl, refl), (None, (refl, (Some 19, (record { accepted = refl; starts = refl; place = refl; painted = refl }, (None, ((refl, refl), (Some 27, (record { accepted = refl; starts = refl; place = refl; painted = refl }, refl))))))))))))))))))))))));
+      (None, (record { accepted = refl; starts = refl; place = refl; painted = refl }, (None, ((refl, refl, refl), (None, (refl, (Some 2, (record { accepted = refl; starts = refl; place = refl; painted = refl }, (None, ((refl, refl, refl), (None, (refl, (Some 10, (record { accepted = refl; starts = refl; place = refl; painted = refl }, (None, ((refl, refl, refl), (None, (refl, (Some 19, (record { accepted = refl; starts = refl; place = refl; painted = refl }, (None, ((refl, refl, refl), (Some 27, (record { accepted = refl; starts = refl; place = refl; painted = refl }, refl))))))))))))))))))))))));
   settled = refl;
   dispatches = refl;
   disposed_at = 0;
@@ -124,16 +127,22 @@ looper_run_0 = record {
       ((record { call = refl; reply = refl }, (record { call = refl; reply = tt }, (record { call = refl; reply = tt }, (record { call = refl; reply = refl }, (record { call = refl; reply = tt }, (record { call = refl; reply = tt }, (record { call = refl; reply = refl }, (record { call = refl; reply = tt }, (record { call = refl; reply = tt }, (record { call = refl; reply = tt }, (record { call = refl; reply = refl }, (record { call = refl; reply = tt }, (record { call = refl; reply = tt }, (record { call = refl; reply = tt }, (record { call = refl; reply = refl }, tt))))))))))))))), tt);
   asked = λ test. omega arith;
   on_time = (refl, tt);
+  whole = refl;
   moments = refl;
 }
 
 pub timely_0 : IsTimely script record_0
-unfolding is_called_in_time are_before_quit befores clock has_disposed quit_place first_eligible pick live
+unfolding is_called_in_time are_before_quit are_in_order befores clock has_disposed quit_place first_eligible pick live
 timely_0 = record {
   controls = refl;
   before_quit = refl;
   threads = each_below 1 (λ thread. IsThreadOnTime script record_0 thread) (tt, refl);
+  in_order = refl;
 }
+
+pub moved : AreMovedTogether script (map (λ q. moves (controller script) (history_of q)) report.queues)
+unfolding moves first_eligible live
+moved = record { due = (inr (record { stamp = 16666667; pulse = refl; rounded = refl }), (inr (record { stamp = 33333334; pulse = refl; rounded = refl }), (inr (record { stamp = 50000001; pulse = refl; rounded = refl }), (inr (record { stamp = 66666668; pulse = refl; rounded = refl }), (inl refl, tt))))); together = ((_, refl), tt) }
 
 pub is_run : IsRun in_lockstep script report
 is_run = record {
@@ -143,7 +152,7 @@ is_run = record {
   controls = (controlled_0, tt);
   frames = (frame_run_0, tt);
   loopers = (looper_run_0, tt);
-  timely = record { halted = refl; histories = (timely_0, tt) };
+  timely = record { halted = refl; histories = (timely_0, tt); moves = moved };
 }
 
 pub printed : text report ≡ page (codes "report 1" ∷ codes "looper 0" ∷ codes "0 dispatch 0 0 1" ∷ codes "17 dispatch 1 64 0" ∷ codes "34 dispatch 2 64 0" ∷ codes "51 dispatch 3 64 0" ∷ codes "67 dispatch 4 64 0" ∷ codes "fates accepted 5 dispatched 5 removed 0 dropped 0 stranded 0 queued 0" ∷ codes "paint 0 3" ∷ codes "paint 0 6" ∷ codes "paint 0 7" ∷ codes "frame 16666667" ∷ codes "run 1 1000000" ∷ codes "run 2 1000016" ∷ codes "frame 33333334" ∷ codes "run 1 1000000" ∷ codes "run 2 1000016" ∷ codes "frame 50000001" ∷ codes "run 1 1000000" ∷ codes "run 2 1000016" ∷ codes "frame 66666668" ∷ codes "end" ∷ [])

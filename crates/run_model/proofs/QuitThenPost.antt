@@ -1,6 +1,6 @@
 -- A post after a quit is refused.
-use Rattle.std.proofs.Common.{◌≡◌, ◌<◌, ℕ, true, false, List, [], ◌∷◌, None, refl, arith, lit<, lit≤}
-use Rattle.std.specs.Prelude.{codes}
+use Rattle.std.proofs.Common.{◌≡◌, ◌<◌, ℕ, true, false, List, [], ◌∷◌, None, refl, arith, lit<, lit≤, inl}
+use Rattle.std.specs.Prelude.{codes, map}
 use Rattle.std.specs.Fmt.{digits}
 use Rattle.loop_model.specs.declared.call.Call.TheVariants as call
 use Rattle.loop_model.specs.declared.reply.Reply.TheVariants as reply
@@ -23,10 +23,13 @@ use Rattle.run_model.specs.Moments.{in_lockstep}
 use Rattle.run_model.specs.Planned.{AreAsPlanned}
 use Rattle.run_model.specs.Acts.{after_act}
 use Rattle.run_model.specs.Loopers.{first_looper, Looper}
-use Rattle.run_model.specs.Run.{IsRun, IsHistory, IsControlled, IsFrameRun, IsLooperRun, IsTimely, IsThreadOnTime, all_entries, setting_of}
+use Rattle.run_model.specs.Run.{IsRun, IsHistory, IsControlled, IsFrameRun, IsLooperRun, IsTimely, IsThreadOnTime, all_entries, setting_of, are_in_order}
 use Rattle.run_model.specs.Text.{text, lines}
 use Rattle.run_model.proofs.Below.{each_below}
 use Rattle.run_model.proofs.Examples.{entry, message, handler_on, block, by, plain_script, queue, journal, frames, led, page}
+use Rattle.run_model.specs.Moves.{moves, AreMovedTogether}
+use Rattle.run_model.specs.Histories.{history_of}
+use Rattle.run_model.specs.Senders.{controller}
 
 abbrev pub script : Script
 script =
@@ -119,15 +122,17 @@ looper_run_0 = record {
       (tt, (tt, tt));
   asked = λ test. omega arith;
   on_time = (refl, (refl, tt));
+  whole = refl;
   moments = refl;
 }
 
 pub timely_0 : IsTimely script record_0
-unfolding is_called_in_time are_before_quit befores clock has_disposed quit_place first_eligible pick live
+unfolding is_called_in_time are_before_quit are_in_order befores clock has_disposed quit_place first_eligible pick live
 timely_0 = record {
   controls = refl;
   before_quit = refl;
   threads = each_below 1 (λ thread. IsThreadOnTime script record_0 thread) (tt, refl);
+  in_order = refl;
 }
 
 pub legal_1 : IsLegal (setting_of record_1) (empty_base 4) entries_1
@@ -174,16 +179,22 @@ looper_run_1 = record {
       (tt, ((record { call = refl; reply = refl }, tt), tt));
   asked = λ test. omega arith;
   on_time = (refl, (refl, tt));
+  whole = refl;
   moments = refl;
 }
 
 pub timely_1 : IsTimely script record_1
-unfolding is_called_in_time are_before_quit befores clock has_disposed quit_place first_eligible pick live
+unfolding is_called_in_time are_before_quit are_in_order befores clock has_disposed quit_place first_eligible pick live
 timely_1 = record {
   controls = refl;
   before_quit = refl;
   threads = each_below 1 (λ thread. IsThreadOnTime script record_1 thread) (tt, refl);
+  in_order = refl;
 }
+
+pub moved : AreMovedTogether script (map (λ q. moves (controller script) (history_of q)) report.queues)
+unfolding moves first_eligible live
+moved = record { due = (inl refl, tt); together = ((_, refl), ((_, refl), tt)) }
 
 pub is_run : IsRun in_lockstep script report
 is_run = record {
@@ -193,7 +204,7 @@ is_run = record {
   controls = (controlled_0, (controlled_1, tt));
   frames = (frame_run_0, (frame_run_1, tt));
   loopers = (looper_run_0, (looper_run_1, tt));
-  timely = record { halted = refl; histories = (timely_0, (timely_1, tt)) };
+  timely = record { halted = refl; histories = (timely_0, (timely_1, tt)); moves = moved };
 }
 
 pub printed : text report ≡ page (codes "report 1" ∷ codes "looper 0" ∷ codes "fates accepted 0 dispatched 0 removed 0 dropped 0 stranded 0 queued 0" ∷ codes "looper 1" ∷ codes "refused 1 5 quit 1" ∷ codes "fates accepted 0 dispatched 0 removed 0 dropped 0 stranded 0 queued 0" ∷ codes "end" ∷ [])

@@ -1,6 +1,6 @@
 -- A posted callback runs, and the messages behind it.
-use Rattle.std.proofs.Common.{◌≡◌, ◌<◌, ℕ, true, List, [], ◌∷◌, None, refl, arith, lit<, lit≤}
-use Rattle.std.specs.Prelude.{codes}
+use Rattle.std.proofs.Common.{◌≡◌, ◌<◌, ℕ, true, List, [], ◌∷◌, None, refl, arith, lit<, lit≤, inl}
+use Rattle.std.specs.Prelude.{codes, map}
 use Rattle.std.specs.Fmt.{digits}
 use Rattle.loop_model.specs.declared.call.Call.TheVariants as call
 use Rattle.loop_model.specs.declared.reply.Reply.TheVariants as reply
@@ -25,10 +25,13 @@ use Rattle.run_model.specs.Moments.{in_lockstep}
 use Rattle.run_model.specs.Planned.{AreAsPlanned}
 use Rattle.run_model.specs.Acts.{after_act}
 use Rattle.run_model.specs.Loopers.{first_looper, Looper}
-use Rattle.run_model.specs.Run.{IsRun, IsHistory, IsControlled, IsFrameRun, IsLooperRun, IsTimely, IsThreadOnTime, all_entries, setting_of}
+use Rattle.run_model.specs.Run.{IsRun, IsHistory, IsControlled, IsFrameRun, IsLooperRun, IsTimely, IsThreadOnTime, all_entries, setting_of, are_in_order}
 use Rattle.run_model.specs.Text.{text, lines}
 use Rattle.run_model.proofs.Below.{each_below}
 use Rattle.run_model.proofs.Examples.{entry, message, callback_message, handler_on, block, by, plain_script, queue, journal, frames, led, page}
+use Rattle.run_model.specs.Moves.{moves, AreMovedTogether}
+use Rattle.run_model.specs.Histories.{history_of}
+use Rattle.run_model.specs.Senders.{controller}
 
 abbrev pub script : Script
 script =
@@ -109,16 +112,22 @@ looper_run_0 = record {
       ((record { call = refl; reply = refl }, (record { call = refl; reply = refl }, (record { call = refl; reply = refl }, tt))), tt);
   asked = λ test. omega arith;
   on_time = (refl, tt);
+  whole = refl;
   moments = refl;
 }
 
 pub timely_0 : IsTimely script record_0
-unfolding is_called_in_time are_before_quit befores clock has_disposed quit_place first_eligible pick live
+unfolding is_called_in_time are_before_quit are_in_order befores clock has_disposed quit_place first_eligible pick live
 timely_0 = record {
   controls = refl;
   before_quit = refl;
   threads = each_below 1 (λ thread. IsThreadOnTime script record_0 thread) (tt, refl);
+  in_order = refl;
 }
+
+pub moved : AreMovedTogether script (map (λ q. moves (controller script) (history_of q)) report.queues)
+unfolding moves first_eligible live
+moved = record { due = (inl refl, tt); together = ((_, refl), tt) }
 
 pub is_run : IsRun in_lockstep script report
 is_run = record {
@@ -128,7 +137,7 @@ is_run = record {
   controls = (controlled_0, tt);
   frames = (frame_run_0, tt);
   loopers = (looper_run_0, tt);
-  timely = record { halted = refl; histories = (timely_0, tt) };
+  timely = record { halted = refl; histories = (timely_0, tt); moves = moved };
 }
 
 pub printed : text report ≡ page (codes "report 1" ∷ codes "looper 0" ∷ codes "10 dispatch 0 0 callback 9" ∷ codes "10 dispatch 1 0 0" ∷ codes "10 dispatch 2 0 1" ∷ codes "fates accepted 3 dispatched 3 removed 0 dropped 0 stranded 0 queued 0" ∷ codes "end" ∷ [])

@@ -8,5 +8,6 @@ pub mod Control
 pub mod Loopers
 pub mod FrameRuns
 pub mod Acts
+pub mod Moves
 pub mod Run
 pub mod Text

@@ -1,6 +1,7 @@
 -- When a report is a run of a script.
-use Rattle.std.specs.Prelude.{◌≡◌, ◌<◌, ℕ, ◌==◌, Bool, true, false, List, [], ◌∷◌, ◌++◌, map}
-use Rattle.std.specs.List.{AllByRecursion, filter_map, range_with_len}
+use Rattle.std.specs.Prelude.{◌≡◌, ◌<◌, ℕ, ◌==◌, Bool, true, false, ◌||◌, not, nat_lt, nat_le, List, [], ◌∷◌, ◌++◌, map, length, count_by, slice_get}
+use Rattle.std.specs.List.{AllByRecursion, filter_map, list_all, range_with_len}
+use Rattle.std.specs.Option.{option_map_or}
 use Rattle.loop_model.specs.declared.entry.Entry.{Entry}
 use Rattle.loop_model.specs.Base.{empty_base}
 use Rattle.loop_model.specs.Answers.{Setting}
@@ -17,11 +18,12 @@ use Rattle.run_model.specs.Histories.{history_of}
 use Rattle.run_model.specs.Asks.{AreFor, entries_by}
 use Rattle.run_model.specs.Senders.{looper_sender, controller, sender_count}
 use Rattle.run_model.specs.Moments.{Mode, IfLockstep, IsStart, AreOfClock}
-use Rattle.run_model.specs.Planned.{lines_of, labels_on, lines_on, AreAsPlanned}
-use Rattle.run_model.specs.Control.{is_controlled, ends_halted, is_called_in_time, are_before_quit, befores, InBlock, are_on_time}
+use Rattle.run_model.specs.Planned.{lines_of, labels_on, lines_on, times_on, AreAsPlanned}
+use Rattle.run_model.specs.Control.{is_controlled, ends_halted, is_called_in_time, are_before_quit, befores, InBlock, are_on_time, each_behind}
 use Rattle.run_model.specs.Loopers.{Looper, Sent, first_looper}
 use Rattle.run_model.specs.Acts.{Lead, sent_on, closing, IsSent}
-use Rattle.run_model.specs.FrameRuns.{nanos_of, are_run_then}
+use Rattle.run_model.specs.Moves.{moves, AreMovedTogether}
+use Rattle.run_model.specs.FrameRuns.{nanos_of, are_run_then, are_whole}
 use Rattle.run_model.specs.FrameAsks.{FrameAsk, Runs, as_told, asks_in, lines_ask, all_lines, AreAsOften}
 
 abbrev pub setting_of : QueueRecord → Setting
@@ -89,7 +91,7 @@ abbrev pub asked_of : Script → ℕ → Looper → List FrameAsk
 asked_of s q final = lines_ask q (all_lines s) ++ final.posted ++ map (λ x. Runs (nanos_of x.now)) final.frames
 
 -- a looper's calls on each queue are those that its acts cause, its frame record has the posts, removals and frames that are asked
--- for, each as often, and its Dispatch acts are, one for one and in order, its entries answered Dispatched. In lockstep each call is on time, and each frame starts and takes its phases at the time of its dispatch
+-- for, each as often, and the frames are whole, and its Dispatch acts are, one for one and in order, its entries answered Dispatched. In lockstep each call is on time, and each frame starts and takes its phases at the time of its dispatch
 pub record IsLooperRun (m : Mode) (s : Script) (queues : List QueueRecord) (q : QueueRecord) (j : Journal) (f : FrameRecord) : Type 0 where
   pub final : Looper
   pub acts : Lead s q.looper (history_of q) f.entries (first_looper s) j.acts final
@@ -98,6 +100,7 @@ pub record IsLooperRun (m : Mode) (s : Script) (queues : List QueueRecord) (q : 
   pub disposed_at : ℕ
   pub calls : AllByRecursion (λ (r : QueueRecord). AreFor IsSent [] (caused_on r.looper final q.looper disposed_at) (entries_by (looper_sender s q.looper) (history_of r))) queues
   pub asked : AreAsOften (map (as_told m.lockstep) (asks_in f.entries)) (map (as_told m.lockstep) (asked_of s q.looper final))
+  pub whole : are_whole f.phases f.entries final.frames ≡ true
   pub on_time : IfLockstep m (AllByRecursion (λ (r : QueueRecord). are_on_time (map (λ x. x.timing) (caused_on r.looper final q.looper disposed_at)) (befores (looper_sender s q.looper) (history_of r)) ≡ true) queues)
   pub moments : IfLockstep m (are_run_then f.entries final.frames ≡ true)
 
@@ -116,21 +119,37 @@ abbrev pub IsThreadOnTime : Script → QueueRecord → ℕ → Type 0
 IsThreadOnTime s r thread =
     are_on_time (map (λ l. InBlock l.time) (lines_on s (labels_on r.looper (lines_of thread s.blocks)) r.looper (lines_of thread s.blocks))) (befores thread (history_of r)) ≡ true
 
--- the controller's calls are in time, and the threads' calls are on time and come before its quit
+-- a thread has made its calls on the queue for all blocks before this time
+abbrev pub has_called_before : Script → ℕ → ℕ → List Entry → ℕ → Bool
+has_called_before s q time past thread = nat_le (count_by (λ t. nat_lt t time) (times_on s q thread)) (length (entries_by thread past))
+
+-- no thread's entry, or one before which all threads have made their calls for earlier blocks
+abbrev pub comes_in_order : Script → ℕ → List Entry → Entry → Bool
+comes_in_order s q past e =
+    not (nat_lt e.sender s.threads)
+    || option_map_or (λ time. list_all (has_called_before s q time past) (range_with_len 0 s.threads)) (slice_get (times_on s q e.sender) (length (entries_by e.sender past))) false
+
+-- the threads' calls on the queue come in the order of their blocks
+unfoldable pub are_in_order : Script → ℕ → List Entry → Bool
+are_in_order s q es = each_behind (comes_in_order s q) [] es
+
+-- the controller's calls are in time, and the threads' calls are on time, come in the order of their blocks, and before the controller's quit
 pub record IsTimely (s : Script) (r : QueueRecord) : Type 0 where
   pub controls : is_called_in_time (controller s) (history_of r) ≡ true
   pub before_quit : are_before_quit s.threads (controller s) (history_of r) ≡ true
   pub threads : (thread : ℕ) → thread < s.threads → IsThreadOnTime s r thread
+  pub in_order : are_in_order s r.looper (history_of r) ≡ true
 
 -- main's history ends with its Halt
 abbrev pub main_ends_halted : List QueueRecord → Bool
 main_ends_halted [] = false
 main_ends_halted (q ∷ qs) = ends_halted (history_of q)
 
--- part 6 of a run: main ends with its Halt, and in lockstep each history is timely
+-- part 6 of a run: main ends with its Halt, and in lockstep each history is timely and all queues' times are moved together
 pub record AreTimelyOf (m : Mode) (s : Script) (r : Report) : Type 0 where
   pub halted : main_ends_halted r.queues ≡ true
   pub histories : IfLockstep m (AllByRecursion (IsTimely s) r.queues)
+  pub moves : IfLockstep m (AreMovedTogether s (map (λ q. moves (controller s) (history_of q)) r.queues))
 
 -- the report is a run of the script; each part can be claimed by itself
 pub record IsRun (m : Mode) (s : Script) (r : Report) : Type 0 where
