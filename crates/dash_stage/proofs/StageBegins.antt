@@ -15,6 +15,7 @@ use Rattle.looper_run.specs.Holding.{Sender}
 use Rattle.run_model.specs.Senders.{looper_sender, sender_count}
 use Rattle.run_model.specs.Control.{is_called_in_time, are_before_quit, befores, are_on_time}
 use Rattle.run_model.specs.Loopers.{first_looper}
+use Rattle.run_model.specs.Run.{are_in_order}
 use Rattle.dash_stage.specs.declared.stage.Stage.{Stage}
 use Rattle.dash_hall.specs.Kits.{badge_of, badge_for, ArePostersOf, IsHall, AreUnseen}
 use Rattle.dash_hall.specs.Hearing.{seen_by}
@@ -43,8 +44,8 @@ as_long k n qs ps cs a b = alike_length badge_of (badge_for k) ps qs a ∙ sym (
 
 -- with no call seen and no block run each history is timely
 nothing_timely : (s : Script) (q : ℕ) → IsTimelyUpTo s [] q []
-unfolding is_called_in_time are_before_quit befores
-nothing_timely s q = record { controls = refl; before_quit = refl; threads = λ k lt. refl }
+unfolding is_called_in_time are_before_quit befores are_in_order
+nothing_timely s q = record { controls = refl; before_quit = refl; threads = λ k lt. refl; in_order = refl }
 
 -- there is no message before the first call
 nothing_eligible : (n : ℕ) → option_map when_of (first_eligible (empty_base n) []) ≡ None

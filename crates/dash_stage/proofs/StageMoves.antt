@@ -38,6 +38,7 @@ use Rattle.dash_threads.specs.Threads.{ThreadKeeps}
 use Rattle.dash_stage.specs.Sharing.{HaveSeenTheSame}
 use Rattle.dash_stage.specs.Timeliness.{whole_on, AreSound, IsTimelyUpTo, AreTimelyUpTo, AreBy, HasNoneBefore, AreDue, EachTurnsOn, MovesTo}
 use Rattle.dash_stage.proofs.Controls.{main_is_not_over, side_is_not_halted, looks_dispose}
+use Rattle.dash_stage.proofs.BlockOrder.{in_order_one}
 use Rattle.dash_stage.proofs.Timely.{back_all, none_of, none_front, of_others, is_whole, in_time_one, before_quit_one, timely_others}
 use Rattle.loop_model.proofs.AfterLaws.{has_disposed-snoc}
 use Rattle.dash_stage.proofs.StageWhole.{sender_at, queues_count, controller_entries, sound_front, sound_grown, threads_heard, thread_made_none, looper_made_none}
@@ -137,6 +138,7 @@ module _ (s : Script) (past : List Block) (q now : ℕ) (es whole : List Entry) 
         controls = in_time_one (controller s) es e (ap (λ c. is_in_time es c e.reply) t.2 ∙ moves) before.controls;
         before_quit = before_quit_one s.threads (controller s) es e (controls_above s e t.3) before.before_quit;
         threads = λ k lt. timely_others k _ es (e ∷ []) (entries_by-others k (e ∷ []) (other_entry k (controller s) e t.3 (λ at. absurd (omega (arith, at, lt))), tt)) (before.threads k lt);
+        in_order = in_order_one s q es e (controls_above s e t.3) before.in_order;
       })
 
 -- a turn leaves what it found, and maybe more

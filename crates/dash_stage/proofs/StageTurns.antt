@@ -1,6 +1,6 @@
 -- What a block of the threads, and the controller's turns that move no time, make of what all senders have seen of each queue.
 use Rattle.std.proofs.Common.{◌≡◌, ◌≢◌, ◌<◌, ◌≤◌, ◌+◌, ◌==◌, ◌⊎◌, inl, inr, ℕ, suc, true, ◌-◌, false, List, [], ◌∷◌, ◌++◌, map, length, filter, refl, sym, ap, ◌∙◌, subst, arith}
-use Rattle.std.specs.Prelude.{slice_index_or}
+use Rattle.std.specs.Prelude.{slice_index_or, IsTrue}
 use Rattle.std.specs.List.{AllByRecursion}
 use Rattle.std.proofs.lemmas.Bool.{ne_eqb}
 use Rattle.std.proofs.lemmas.List.{length-append, length-replicate}
@@ -16,12 +16,14 @@ use Rattle.loop_model.proofs.Prefixes.{prefix_self}
 use Rattle.dash_script.specs.declared.script.Block.{Block}
 use Rattle.dash_script.specs.declared.script.Line.{Line}
 use Rattle.dash_script.specs.declared.script.Script.{Script}
+use Rattle.dash_script.specs.Reading.{rise}
 use Rattle.looper_run.specs.Holding.{Sender}
 use Rattle.run_model.specs.Senders.{controller, sender_count}
 use Rattle.run_model.specs.Asks.{AreFor, entries_by, token_in}
 use Rattle.run_model.specs.Moments.{in_lockstep}
 use Rattle.run_model.specs.Planned.{Timed, lines_in, lines_of, labels_on, lines_on}
 use Rattle.run_model.specs.Control.{is_in_time, is_called_in_time, are_before_quit, ends_halted, befores, before, InBlock, is_on_time, are_on_time}
+use Rattle.run_model.specs.Run.{are_in_order}
 use Rattle.run_model.proofs.RunLaws.{entries_by-append, entries_by-others, lines_on-append}
 use Rattle.dash_threads.specs.declared.thread.PostingThread.{PostingThread}
 use Rattle.dash_loopers.specs.declared.looper.StageLooper.{StageLooper}
@@ -40,6 +42,7 @@ use Rattle.dash_stage.proofs.OwnLooks.{NoneDisposes}
 use Rattle.dash_stage.proofs.Disposing.{lines_dispose_nothing, none_of_all, none_answered}
 use Rattle.dash_stage.proofs.Controls.{looks_dispose}
 use Rattle.dash_stage.proofs.Blocks.{lines_more}
+use Rattle.dash_stage.proofs.BlockOrder.{called_in, in_order_block, in_order_one}
 use Rattle.dash_stage.proofs.Timely.{back_all, in_time_one, in_time_more, before_quit_one, before_quit_block, moves_quit_not, timely_others, timely_block}
 use Rattle.dash_stage.proofs.HallEnds.{some_of}
 use Rattle.dash_stage.proofs.ThreadShares.{up_to_kept}
@@ -133,11 +136,11 @@ only_threads s st st' is is' same same' kept heard q d lt k known above = dite (
     let looper : k - s.threads < s.loopers = omega (arith, above, known, apart) in
     subst (λ (m : ℕ). entries_by m (whole_on st'.controller q d) ≡ entries_by m (whole_on st.controller q d)) at (looper_made_none s st st' is is' same same' kept heard.long q (k - s.threads) d lt looper))
 
--- a block that the threads have run at its time, where the controller has only moved the time so far
-pub block_timely : (s : Script) (st st' : Stage) (b : Block) (past : List Block) → IsMoving s st.controller → IsStage s st → IsStage s st' → HaveRun s past st.threads.items → HaveRun s (past ++ b ∷ []) st'.threads.items
+-- the next block, which the threads have run at its time, where the controller has only moved the time so far
+pub block_timely : (s : Script) (st st' : Stage) (b : Block) (past rest : List Block) → past ++ b ∷ rest ≡ s.blocks → IsTrue (rise s.blocks) → IsMoving s st.controller → IsStage s st → IsStage s st' → HaveRun s past st.threads.items → HaveRun s (past ++ b ∷ []) st'.threads.items
     → AtEach (LooperKeeps HaveHeard) st.loopers.items st'.loopers.items → HaveHeard st.controller.kit.posters.items st'.controller.kit.posters.items → HaveSeenTheSame st' → (AreSound s st.controller → AreAtBlock s b.time st)
     → AreTimelyUpTo s past st → AreTimelyUpTo s (past ++ b ∷ []) st'
-block_timely s st st' b past moving is is' run run' kept heard same' at timely = record {
+block_timely s st st' b past rest next rising moving is is' run run' kept heard same' at timely = record {
   same = same';
   timely = λ sounds q d lt'.
       let sound' = sounds q d lt' in
@@ -154,24 +157,26 @@ block_timely s st st' b past moving is is' run run' kept heard same' at timely =
       let t' : PostingThread = slice_index_or st'.threads.items k z' in
       let here' : q < length t'.kit.posters.items = subst (λ (n : ℕ). q < n) (sym (as_many t'.kit.posters.items st'.controller.kit.posters.items (same'.threads k z' in_st'))) lt' in
       subst NoneDisposes (sym (thread_entries s st' is' same' k q z' d d in_st' lt')) (called_none s (past ++ b ∷ []) k t' (is'.threads.1 k z' in_st').1 (run' k z' in_st') q d here') in
+      let were : (k : ℕ) → k < s.threads → called_in s q k past ≡ length (entries_by k es) = λ k few.
+      let in_st : k < length st.threads.items = subst (λ (n : ℕ). k < n) (sym is.threads.0) few in
+      let z = some_of st.threads.items k in_st in
+      let t : PostingThread = slice_index_or st.threads.items k z in
+      let here : q < length t.kit.posters.items = subst (λ (n : ℕ). q < n) (sym (as_many t.kit.posters.items st.controller.kit.posters.items (timely.same.threads k z in_st))) lt in
+      called_count s past k t (is.threads.1 k z in_st).1 (run k z in_st) q d here ∙ ap length (sym (thread_entries s st is timely.same k q z d d in_st lt)) in
+      let are : (k : ℕ) → k < s.threads → called_in s q k (past ++ b ∷ []) ≡ length (entries_by k whole) = λ k few.
+      let in_st' : k < length st'.threads.items = subst (λ (n : ℕ). k < n) (sym is'.threads.0) few in
+      let z' = some_of st'.threads.items k in_st' in
+      let t' : PostingThread = slice_index_or st'.threads.items k z' in
+      let here' : q < length t'.kit.posters.items = subst (λ (n : ℕ). q < n) (sym (as_many t'.kit.posters.items st'.controller.kit.posters.items (same'.threads k z' in_st'))) lt' in
+      called_count s (past ++ b ∷ []) k t' (is'.threads.1 k z' in_st').1 (run' k z' in_st') q d here' ∙ ap length (sym (thread_entries s st' is' same' k q z' d d in_st' lt')) in
       let keeps = none_disposed_on s q es whole front sound' controlled theirs (only_threads s st st' is is' timely.same same' kept heard q d lt) in record {
         controls = in_time_behind s q es whole front sound' controlled ∙ was.controls;
         before_quit = subst (λ (l : List Entry). are_before_quit s.threads (controller s) l ≡ true) front.1
             (before_quit_block s.threads (controller s) es front.0 (none_behind (controller s) es whole front controlled)
             (moves_quit_not s.end (controller s) es (ap (are_advances s.end) (controller_entries s st is q d lt) ∙ moving q d lt)) was.before_quit);
-        threads = λ k few.
-            let in_st : k < length st.threads.items = subst (λ (n : ℕ). k < n) (sym is.threads.0) few in
-            let in_st' : k < length st'.threads.items = subst (λ (n : ℕ). k < n) (sym is'.threads.0) few in
-            let t : PostingThread = slice_index_or st.threads.items k (some_of st.threads.items k in_st) in
-            let t' : PostingThread = slice_index_or st'.threads.items k (some_of st'.threads.items k in_st') in
-            let z = some_of st.threads.items k in_st in
-            let z' = some_of st'.threads.items k in_st' in
-            let here : q < length t.kit.posters.items = subst (λ (n : ℕ). q < n) (sym (as_many t.kit.posters.items st.controller.kit.posters.items (timely.same.threads k z in_st))) lt in
-            let here' : q < length t'.kit.posters.items = subst (λ (n : ℕ). q < n) (sym (as_many t'.kit.posters.items st'.controller.kit.posters.items (same'.threads k z' in_st'))) lt' in
-            block_on_time s q es whole front sound' controlled past b k keeps (at sounds_before q d lt).on_time
-            (called_count s past k t (is.threads.1 k z in_st).1 (run k z in_st) q d here ∙ ap length (sym (thread_entries s st is timely.same k q z d d in_st lt)))
-            (called_count s (past ++ b ∷ []) k t' (is'.threads.1 k z' in_st').1 (run' k z' in_st') q d here' ∙ ap length (sym (thread_entries s st' is' same' k q z' d d in_st' lt')))
-            (was.threads k few);
+        threads = λ k few. block_on_time s q es whole front sound' controlled past b k keeps (at sounds_before q d lt).on_time (were k few) (are k few) (was.threads k few);
+        in_order = subst (λ (l : List Entry). are_in_order s q l ≡ true) front.1
+            (in_order_block s q past rest b next rising es front.0 were (λ k few. are k few ∙ ap (λ (l : List Entry). length (entries_by k l)) (sym front.1)) was.in_order);
       };
 }
 
@@ -183,6 +188,7 @@ timely_other s past q es e in_time sender timely = record {
   controls = in_time_one (controller s) es e in_time timely.controls;
   before_quit = before_quit_one s.threads (controller s) es e (controls_above s e sender) timely.before_quit;
   threads = λ k lt. timely_others k _ es (e ∷ []) (entries_by-others k (e ∷ []) (ne_eqb e.sender k (λ at. absurd (omega (arith, at, sender, lt))), tt)) (timely.threads k lt);
+  in_order = in_order_one s q es e (controls_above s e sender) timely.in_order;
 }
 
 -- what the controller's turn left is in time

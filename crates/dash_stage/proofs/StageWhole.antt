@@ -32,7 +32,8 @@ use Rattle.dash_hall.proofs.Badges.{alike_length, alike_at}
 use Rattle.dash_stage.proofs.Controlling.{poster_count}
 use Rattle.dash_stage.proofs.HallEnds.{some_of}
 use Rattle.dash_stage.proofs.LooperShares.{looper_within, looper_posters}
-use Rattle.dash_stage.proofs.Timely.{none_of, in_time_more, before_quit_more, timely_others}
+use Rattle.dash_stage.proofs.BlockOrder.{in_order_others}
+use Rattle.dash_stage.proofs.Timely.{none_of, in_time_more, no_threads, before_quit_more, timely_others}
 
 abbrev pub seen : Sender → List Entry
 seen p = p.view.seen
@@ -122,6 +123,7 @@ timely_stays s past q es whole front sound controlled threads timely =
       controls = in_time_more (controller s) es front.0 (none_behind (controller s) es whole front controlled) ∙ timely.controls;
       before_quit = before_quit_more s.threads (controller s) es front.0 (λ k lt. none_behind k es whole front (threads k lt)) timely.before_quit;
       threads = λ k lt. timely_others k _ es front.0 (none_behind k es whole front (threads k lt)) (timely.threads k lt);
+      in_order = in_order_others s q es front.0 (no_threads s.threads front.0 (λ k lt. none_behind k es whole front (threads k lt))) timely.in_order;
     })
 
 -- a thread has made no entry more, nor has another

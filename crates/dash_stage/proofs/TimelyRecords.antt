@@ -16,7 +16,7 @@ use Rattle.run_model.specs.Moments.{in_lockstep}
 use Rattle.run_model.specs.Planned.{lines_of, labels_on, lines_on}
 use Rattle.run_model.specs.Senders.{controller, sender_count}
 use Rattle.run_model.specs.Control.{is_called_in_time, are_before_quit, ends_halted, befores, InBlock, are_on_time}
-use Rattle.run_model.specs.Run.{IsHistory, IsTimely, all_entries, setting_of, main_ends_halted}
+use Rattle.run_model.specs.Run.{IsHistory, IsTimely, all_entries, setting_of, main_ends_halted, are_in_order}
 use Rattle.dash_hall.specs.declared.hall.Hall.{Hall}
 use Rattle.dash_hall.specs.declared.kit.Kit.{Kit}
 use Rattle.dash_threads.specs.declared.thread.PostingThread.{PostingThread}
@@ -90,6 +90,7 @@ timely_record s q r es number same h = record {
   before_quit = ap (are_before_quit s.threads (controller s)) same ∙ h.before_quit;
   threads = λ thread below. subst (λ (l : ℕ). are_on_time (map (λ x. InBlock x.time) (lines_on s (labels_on l (lines_of thread s.blocks)) l (lines_of thread s.blocks))) (befores thread r.entries) ≡ true) (sym number)
       (subst (λ (l : List Entry). are_on_time (map (λ x. InBlock x.time) (lines_on s (labels_on q (lines_of thread s.blocks)) q (lines_of thread s.blocks))) (befores thread l) ≡ true) (sym same) (h.threads thread below));
+  in_order = subst (λ (l : ℕ). are_in_order s l r.entries ≡ true) (sym number) (ap (are_in_order s q) same ∙ h.in_order);
 }
 
 -- main's record is the first one

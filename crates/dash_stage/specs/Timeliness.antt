@@ -15,6 +15,7 @@ use Rattle.looper_run.specs.Round.{is_ended}
 use Rattle.run_model.specs.Asks.{entries_by}
 use Rattle.run_model.specs.Planned.{lines_of, labels_on, lines_on}
 use Rattle.run_model.specs.Senders.{controller, sender_count}
+use Rattle.run_model.specs.Run.{are_in_order}
 use Rattle.run_model.specs.Control.{is_advance, is_halt, is_called_in_time, are_before_quit, is_none_before, befores, InBlock, are_on_time, ends_halted}
 use Rattle.dash_loopers.specs.declared.looper.StageLooper.{StageLooper}
 use Rattle.dash_stage.specs.declared.control.Controller.{Controller}
@@ -28,11 +29,12 @@ use Rattle.dash_stage.specs.Sharing.{HaveSeenTheSame}
 abbrev pub whole_on : Controller → ℕ → Sender → List Entry
 whole_on c q d = (slice_index_or c.kit.posters.items q d).view.seen
 
--- the controller's calls were in time, and each thread's calls for its lines of these blocks came in their blocks and before the controller's quit
+-- the controller's calls were in time, and each thread's calls for its lines of these blocks came in their blocks, in the order of these, and before the controller's quit
 pub record IsTimelyUpTo (s : Script) (past : List Block) (q : ℕ) (es : List Entry) : Type 0 where
   pub controls : is_called_in_time (controller s) es ≡ true
   pub before_quit : are_before_quit s.threads (controller s) es ≡ true
   pub threads : (thread : ℕ) → thread < s.threads → are_on_time (map (λ l. InBlock l.time) (lines_on s (labels_on q (lines_of thread s.blocks)) q (lines_of thread past))) (befores thread es) ≡ true
+  pub in_order : are_in_order s q es ≡ true
 
 -- each queue's history is one that it may have
 abbrev pub AreSound : Script → Controller → Type 0

@@ -39,7 +39,7 @@ returns-clause-timely g c past rest whole moving run at timely =
     let written = with_items_is st.threads ran (omega (arith, many, st.threads.ok.0)) in
     let on = subst (λ (l : List PostingThread). RunOn s b l ran) c.as_mut_slice.ensures.value c.in_ok-run_threads.ensures.run in
     let more = run_one_more s past rest b whole st.threads.items ran (λ k d lt. (stage.threads.1 k d lt).1) many on run in
-    block_timely s st c.share.new.self b past moving stage c.share.ensures.stage run (c.share.ensures.run (past ++ b ∷ []) (subst (HaveRun s (past ++ b ∷ [])) (sym written) more))
+    block_timely s st c.share.new.self b past rest whole c.requires.text.times moving stage c.share.ensures.stage run (c.share.ensures.run (past ++ b ∷ []) (subst (HaveRun s (past ++ b ∷ [])) (sym written) more))
     c.share.ensures.kept.loopers c.share.ensures.kept.controller.posters c.share.ensures.shared at timely
 
 pub returns-clause-step : goal.returns-clause-step
