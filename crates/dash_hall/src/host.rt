@@ -1,9 +1,10 @@
 //! The looper on which a choreographer runs, as the choreographer sees it.
-ghost use Rattle.std.specs.Prelude.{◌≡◌, ◌<◌, ℕ, ◌==◌, [], ◌∷◌, IfOk, OnOk, OnErr};
+ghost use Rattle.std.specs.Prelude.{◌≡◌, ◌<◌, ℕ, ◌==◌, [], ◌∷◌, IfOk, OnOk, OnErr, IsTrue};
 ghost use mathlib.Core.List.{IsPrefix};
 ghost use Rattle.loop_model.specs.declared.call.Call.TheVariants.{Barrier, Unbarrier};
+ghost use Rattle.frame_phases.specs.Frames.{is_pulse_if_any};
 ghost use Rattle.choreographer.specs.Known.{IsOf as IsFrameOf};
-ghost use Rattle.choreographer.specs.Calls.{PulsedBy, DueBy};
+ghost use Rattle.choreographer.specs.Calls.{PulsedBy, DueBy, stamp_in};
 ghost use Rattle.dash_hall.specs.Growth.{own, GoesOn, Makes, BarsOf};
 ghost use Rattle.dash_hall.specs.Kits.{frame_badge_of};
 ghost use Rattle.run_model.specs.FrameRuns.{nanos_of};
@@ -116,6 +117,7 @@ impl<'a, R: Wait> Host<'a, R> {
         ensures ready { IsHost (origin_of self.new.queue.now self.new.pool.now self.new.poster.ghost_name self.new.pass.ghost_name self.new.began.now.value self.new.pass_began.now.value self.new.handler.id self.new.now) self.new.poster.now self.new.pass.now }
         ensures origin { origin_of self.new.queue.now self.new.pool.now self.new.poster.ghost_name self.new.pass.ghost_name self.new.began.now.value self.new.pass_began.now.value self.new.handler.id self.new.now ≡ origin_of self.old.queue.now self.old.pool.now self.old.poster.ghost_name self.old.pass.ghost_name self.old.began.now.value self.old.pass_began.now.value self.old.handler.id self.old.now }
         ensures pass { frame_badge_of pass.new ≡ frame_badge_of pass.old }
+        ensures is_pulse { IsTrue (is_pulse_if_any c.now.constants.interval (stamp_in result)) }
         ensures pulse { PulsedBy pass.old pass.new (λ n. n == nanos_of self.old.now) (sends_by self.old.handler.id self.old.poster.now) (sends_by self.new.handler.id self.new.poster.now) result }
     {
         c.on_vsync(self.rt, pass, self)
