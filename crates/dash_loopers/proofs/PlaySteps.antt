@@ -23,7 +23,8 @@ use Rattle.choreographer.specs.declared.host.HostSent.TheVariants as host
 use Rattle.choreographer.specs.declared.hosted.Pulse.{Pulse}
 use Rattle.choreographer.specs.Host.{sent_by}
 use Rattle.choreographer.specs.Known.{Known as Pass}
-use Rattle.choreographer.specs.Calls.{PulsedBy}
+use Rattle.choreographer.specs.Calls.{PulsedBy, stamp_in}
+use Rattle.frame_phases.specs.Frames.{is_pulse_if_any}
 use Rattle.loop_model.proofs.Prefixes.{prefix_self}
 use Rattle.frame_phases.specs.State.{delivered as delivered_at}
 use Rattle.run_model.specs.Asks.{Makes as Asks, Unbars, AreFor, tokens_in}
@@ -127,11 +128,11 @@ unless_made No done P Q isnt is h f = absurd (isnt refl)
 unless_made NoMemory done P Q isnt is h f = tt
 
 -- a pulse was told
-pub pulse_told : (s : Script) (q now : ℕ) (made made' : List Entry) (parts parts' : Parts) (acts acts0 acts' : List Act) (pulse : Pulse) → DeliversPulse s q now made made' parts parts' (Some pulse) → pulse.sent ≢ host.NoMemory → acts0 ≡ acts
-    → acts' ≡ acts0 ++ Vsync pulse.stamp ∷ [] → Pulses s q now made made' parts parts' acts acts'
-pulse_told s q now made made' parts parts' acts acts0 acts' pulse delivers isnt same told =
+pub pulse_told : (s : Script) (q now : ℕ) (made made' : List Entry) (parts parts' : Parts) (acts acts0 acts' : List Act) (pulse : Pulse) → is_pulse_if_any s.period (stamp_in (Some pulse)) ≡ true → DeliversPulse s q now made made' parts parts' (Some pulse) → pulse.sent ≢ host.NoMemory
+    → acts0 ≡ acts → acts' ≡ acts0 ++ Vsync pulse.stamp ∷ [] → Pulses s q now made made' parts parts' acts acts'
+pulse_told s q now made made' parts parts' acts acts0 acts' pulse is_one delivers isnt same told =
     let done = delivers isnt in
-    record { stamp = Some pulse.stamp; due = done.2; told = told ∙ ap (λ (l : List Act). l ++ Vsync pulse.stamp ∷ []) same; grew = done.0; asks = done.1; plays = done.3 }
+    record { stamp = Some pulse.stamp; is_pulse = is_one; due = done.2; told = told ∙ ap (λ (l : List Act). l ++ Vsync pulse.stamp ∷ []) same; grew = done.0; asks = done.1; plays = done.3 }
 
 -- such a host's calls that told of nothing
 pub untold_hosted : (o o' : Origin) (p p0 p' : Sender) (b : Tally) → o' ≡ o → IsHost o' p' b → o.poster ≡ p → p0 ≡ p → sends_by o'.handler p' ≡ sends_by o.handler p0 → calls_of p' ≡ calls_of p

@@ -12,7 +12,7 @@ use Rattle.loop_model.specs.declared.journal.Act.{Act}
 use Rattle.loop_model.specs.declared.journal.Act.TheVariants.{Vsync, Paint}
 use Rattle.loop_model.specs.declared.journal.Journal.{Journal}
 use Rattle.frame_phases.specs.declared.entry.FrameEntry.{FrameEntry}
-use Rattle.frame_phases.specs.Frames.{lawful}
+use Rattle.frame_phases.specs.Frames.{lawful, is_pulse_if_any}
 use Rattle.dash_script.specs.declared.script.GaugeLine.{GaugeLine}
 use Rattle.dash_script.specs.declared.script.Rule.{Rule}
 use Rattle.dash_script.specs.declared.script.Script.{Script}
@@ -184,9 +184,10 @@ DeliversPulse s q now made made' parts parts' None = IsPrefix parts.frames.view.
 DeliversPulse s q now made made' parts parts' (Some pulse) =
     (pulse.sent ≢ host.NoMemory → IsPrefix parts.frames.view.seen parts'.frames.view.seen × (asks_of parts'.frames ≡ asks_of parts.frames) × (millis_up pulse.stamp ≤ now) × Plays s q (pulsed q (Some pulse.stamp)) made parts made' parts')
 
--- a pulse was delivered and told, or none came, and the looper's own pass asked for nothing
+-- a pulse of the script's period was delivered and told, or none came, and the looper's own pass asked for nothing
 pub record Pulses (s : Script) (q now : ℕ) (made made' : List Entry) (parts parts' : Parts) (acts acts' : List Act) : Type 0 where
   pub stamp : Option ℕ
+  pub is_pulse : is_pulse_if_any s.period stamp ≡ true
   pub due : pulse_time stamp ≤ now
   pub told : acts' ≡ acts ++ pulse_acts stamp
   pub grew : IsPrefix parts.frames.view.seen parts'.frames.view.seen

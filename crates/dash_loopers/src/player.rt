@@ -3,6 +3,7 @@ ghost use Rattle.std.specs.Prelude.{◌≡◌, ◌<◌, ℕ, List, [], ◌∷◌
 ghost use Rattle.std.specs.Option.{option_map_or};
 ghost use Rattle.message_slot.specs.Fields.{handler_of, obj_of};
 ghost use mathlib.Core.List.{IsPrefix};
+ghost use Rattle.frame_phases.specs.Frames.{is_pulse_if_any};
 ghost use Rattle.loop_model.specs.declared.journal.Act.{Act};
 ghost use Rattle.loop_model.specs.declared.entry.Entry.{Entry};
 ghost use Rattle.shared_queue.specs.Known.{IsOf};
@@ -27,6 +28,7 @@ ghost use Rattle.looper_run.specs.Tests.{Unless};
 ghost use Rattle.looper_run.specs.declared.dispatcher.Did.TheVariants.{Yes};
 ghost use Rattle.dash_loopers.specs.PlayingLaws.{playing_others, playing_disposed, playing_quiet};
 ghost use Rattle.choreographer.specs.declared.host.HostSent.TheVariants.{NoMemory as NoRoom};
+ghost use Rattle.choreographer.specs.Calls.{stamp_in};
 
 use crate::looper::StageLooper;
 use crate::view_root::{Painted, ViewRoot};
@@ -193,6 +195,7 @@ impl<'a, R: Wait> Place<'a, R> {
         ensures own { IsSameOwn own.old own.new }
         ensures lent { IsLent (held own.old) (held own.new) }
         ensures rung { own.new.poster.now.view.rung ≡ own.old.poster.now.view.rung }
+        ensures is_pulse { IsTrue (is_pulse_if_any self.now.script.now.period (stamp_in result)) }
         ensures pulses { DeliversPulse self.now.script.now self.now.looper now (calls_of own.old.poster.now) (calls_of own.new.poster.now) parts.old parts.new result }
         ensures acts { own.new.journal.now.acts ≡ own.old.journal.now.acts }
     {

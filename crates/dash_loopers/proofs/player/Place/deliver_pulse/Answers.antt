@@ -1,5 +1,8 @@
-use Rattle.std.proofs.Common.{refl}
+use Rattle.std.proofs.Common.{◌≡◌, ℕ, true, subst, refl}
 use Rattle.dash_hall.specs.Hosts.{origin_of}
+use Rattle.frame_phases.specs.Frames.{is_pulse_if_any}
+use Rattle.choreographer.specs.Calls.{stamp_in}
+use Rattle.dash_loopers.proofs.LooperPlaces.{its_period}
 use Rattle.dash_loopers.proofs.PlaySteps.{pulse_hosted}
 use Rattle.dash_loopers.proofs.player.Place.deliver_pulse.Goals as goal
 
@@ -11,3 +14,9 @@ returns-clause-pulses g c =
     let o' = origin_of k.queue.now k.pool.now k.poster.ghost_name k.pass.ghost_name k.began.now.value k.pass_began.now.value k.handler.id k.now in
     pulse_hosted c.args.self.now.script.now c.args.self.now.looper c.args.now o o' c.args.own.now.poster.now h.poster.now k.poster.now k.pass.now c.args.parts.now _ c.deliver.result
     c.deliver.ensures.origin c.deliver.ensures.ready c.host-host.ensures.began.0 c.host-host.ensures.poster.1 c.host-host.ensures.moment.0 c.host-host.ensures.moment.1 c.deliver.ensures.pulse refl refl refl
+
+pub returns-clause-is_pulse : goal.returns-clause-is_pulse
+returns-clause-is_pulse g c =
+    let place = c.args.self.now in
+    let period = its_period place.script.now place.hall.now place.looper c.requires.serves.looper c.choreographer.result.now c.choreographer.ensures in
+    subst (λ (n : ℕ). is_pulse_if_any n (stamp_in c.deliver.result) ≡ true) period c.deliver.ensures.is_pulse
