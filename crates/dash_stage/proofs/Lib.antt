@@ -35,3 +35,4 @@ pub mod RoundTimes
 pub mod PlayedStage
 pub mod PlayedRounds
 pub mod PlayedTurns
+pub mod PulseTimes

@@ -1,5 +1,5 @@
 //! The controller of a run.
-ghost use Rattle.std.specs.Prelude.{◌≡◌, ◌≢◌, ◌<◌, ◌≤◌, ◌+◌, ◌⊎◌, ℕ, true, false, length, slice_index_or, sum_by, IfOk, OnOk};
+ghost use Rattle.std.specs.Prelude.{◌≡◌, ◌≢◌, ◌<◌, ◌≤◌, ◌+◌, ◌⊎◌, ℕ, true, false, length, slice_index_or, sum_by, Some, IfOk, OnOk};
 ghost use Rattle.shared_queue.specs.Known.{IsOf};
 ghost use Rattle.dash_hall.specs.Growth.{GoesOn, QuitsOf};
 ghost use Rattle.dash_hall.specs.Kits.{IsHall};
@@ -8,6 +8,7 @@ ghost use Rattle.loop_model.specs.Base.{empty_base};
 ghost use Rattle.loop_model.specs.Answers.{is_over};
 ghost use Rattle.looper_run.specs.Holding.{Sender};
 ghost use Rattle.run_model.specs.Control.{ends_halted};
+ghost use Rattle.run_model.specs.Moves.{IsPulseTime};
 ghost use Rattle.run_model.specs.Senders.{sender_count};
 ghost use Rattle.dash_hall.specs.Hearing.{seen_by};
 ghost use Rattle.dash_stage.specs.Timeliness.{AreBy, TurnsOn, EachTurnsOn, MovesTo, MovesNot, Halts, IsNone, HaveCome, whole_on};
@@ -115,6 +116,7 @@ impl Controller {
         ensures controller { IsController script.now hall.now self.new }
         ensures none { CallsNone self.old self.new }
         ensures posters { self.new.kit.posters ≡ self.old.kit.posters }
+        ensures pulse { (time : ℕ) → result ≡ Some time → IsPulseTime script.now.period time }
     {
         let place = looper as usize;
         let stamp = hall.choreographers[place].asked(rt, &mut self.kit.frames[place])?;

@@ -1,5 +1,6 @@
 use Rattle.std.proofs.Common.{refl}
 use Rattle.dash_stage.proofs.Controlling.{in_choreographers, in_passes, own_pass, after_frame_turn}
+use Rattle.dash_stage.proofs.PulseTimes.{asked_comes}
 use Rattle.dash_stage.proofs.control.Controller.asked.Goals as goal
 
 pub index-requires : goal.index-requires
@@ -14,14 +15,16 @@ asked-requires g c =
 
 pub returns-in_err-stamp : goal.returns-in_err-stamp
 returns-in_err-stamp g c = record {
-  controller = after_frame_turn c.args.script.now c.args.hall.now c.requires.hall c.args.looper c.requires.looper c.args.self.now c.requires.controller c.index_mut.result.now c.asked.new.pass _ c.index_mut.ensures.value c.asked.ensures.1;
+  controller = after_frame_turn c.args.script.now c.args.hall.now c.requires.hall c.args.looper c.requires.looper c.args.self.now c.requires.controller c.index_mut.result.now c.asked.new.pass _ c.index_mut.ensures.value c.asked.ensures.turn.1;
   none = record { long = refl; calls = λ q d. refl };
   posters = refl;
+  pulse = λ time is. absurd cc;
 }
 
 pub returns : goal.returns
 returns g c = record {
-  controller = after_frame_turn c.args.script.now c.args.hall.now c.requires.hall c.args.looper c.requires.looper c.args.self.now c.requires.controller c.index_mut.result.now c.asked.new.pass _ c.index_mut.ensures.value c.asked.ensures.1;
+  controller = after_frame_turn c.args.script.now c.args.hall.now c.requires.hall c.args.looper c.requires.looper c.args.self.now c.requires.controller c.index_mut.result.now c.asked.new.pass _ c.index_mut.ensures.value c.asked.ensures.turn.1;
   none = record { long = refl; calls = λ q d. refl };
   posters = refl;
+  pulse = λ time is. asked_comes c.args.script.now c.args.hall.now c.requires.hall c.args.looper c.requires.looper c.index.result.now c.index.ensures c.in_ok-stamp.stamp c.div_ceil.result time c.in_ok-stamp.ensures.is_pulse c.div_ceil.ensures is;
 }
