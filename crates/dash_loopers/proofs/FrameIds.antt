@@ -1,9 +1,9 @@
 -- Which callbacks a frame runs, and at which moments, in the frame record and as its client tells them.
-use Rattle.std.proofs.Common.{◌≡◌, ◌+◌, ◌/◌, ◌<◌, ◌≤◌, ℕ, Bool, true, false, List, [], ◌∷◌, ◌++◌, length, take, drop, reverse, Option, Some, None, refl, sym, ap, ◌∙◌, subst, arith, append_assoc}
+use Rattle.std.proofs.Common.{◌≡◌, ◌+◌, ◌/◌, ◌<◌, ◌≤◌, ℕ, Bool, true, false, List, [], ◌∷◌, ◌++◌, length, take, drop, reverse, Option, Some, None, refl, sym, ap, ◌∙◌, subst, arith, append_assoc, eq-eqb}
 use Rattle.std.specs.Prelude.{◌==◌, map, slice_get, nat_le}
 use Rattle.std.specs.List.{filter_map, cons_option, before_first, list_all, AllByRecursion}
 use Rattle.std.specs.Option.{option_map_or}
-use Rattle.std.proofs.lemmas.List.{append-nil, map-append, reverse-append, reverse-reverse, length-reverse, length-append}
+use Rattle.std.proofs.lemmas.List.{append-nil, map-append, reverse-append, reverse-reverse, length-reverse, length-append, length-map}
 use Rattle.std.proofs.lemmas.List.Elements.{filter_map-append}
 use Rattle.std.proofs.lemmas.Bool.{and_parts, and_from, eqb-true, le-leb}
 use Rattle.std.proofs.Math.Seq.{drop-append_seam}
@@ -25,7 +25,7 @@ use Rattle.choreographer.specs.Frame.{Batch, begin_place, ran_since, batches_sin
 use Rattle.choreographer.specs.Done.{runs, runs_of, numbers_of, AreBatches, AddsFrame, FramedBy, RecordsBy, UnlessNoMemory}
 use Rattle.choreographer.proofs.Recorded.{frame_tells}
 use Rattle.loop_model.proofs.Prefixes.{prefix_trans, prefix_length}
-use Rattle.run_model.specs.FrameRuns.{nanos_of, frame_ids, is_frame_from, is_begin, posted_id, ran_id, moment_in, frame_moments, frames_after, are_run_then}
+use Rattle.run_model.specs.FrameRuns.{nanos_of, frame_ids, is_frame_from, is_begin, posted_id, ran_id, moment_in, frame_moments, frames_after, are_run_then, are_whole}
 use Rattle.run_model.proofs.FrameKeeping.{all-reverse, all-in_due_order, posted_in, posted-reverse, before_first-step, told_before, KeepsFrames-lawful}
 use Rattle.run_model.specs.FrameAsks.{Runs, asked_in, asks_in}
 use Rattle.dash_hall.specs.Hosts.{asks_of}
@@ -231,6 +231,10 @@ frame_then interval phases vsync start time fs gs whole none settled some at =
     let first = begin_alone interval phases fs allowed some gs (Begin vsync start time) at in
     filter_map-append moment_in (take 1 (drop place (fs ++ gs))) (before_first is_begin (drop (place + 1) (fs ++ gs))) ∙ (λ i. filter_map moment_in (first i) ++ later i)
 
+-- with its start, a frame that took a batch in each phase has one moment more than there are phases
+moments_count : (phases start : ℕ) (batches bs : List Batch) → length batches ≡ phases → batches ≡ bs → length (start ∷ map now_of bs) ≡ phases + 1
+moments_count phases start batches bs long same = let many = ap length same in let told = length-map bs now_of in omega (arith, long, many, told)
+
 -- each batch was taken at a moment of the host
 taken_then : (is_moment : ℕ → Bool) (phase : ℕ) (bs : List Batch) → AreBatches is_moment phase bs → list_all is_moment (map now_of bs) ≡ true
 taken_then is_moment phase [] h = refl
@@ -248,7 +252,7 @@ pub turn_grew : (f g : Pass) (x y : Kept) → IsTurn f g x y → IsPrefix f.view
 turn_grew f g x y t = prefix_trans f.view.seen x.frames.entries g.view.seen t.begins.0 (subst (IsPrefix x.frames.entries) (sym t.seen) t.grows)
 
 pub no_frame : (interval phases now : ℕ) (before after : Pass) (told : List Run) → told ≡ [] → IsPrefix before.view.seen after.view.seen → after.view.own ≡ before.view.own → RanFrame interval phases now before after (ids_of told)
-no_frame interval phases now before after told none grew own = record { frame = None; framed = λ fs begins is. (refl, ap ids_of (sym none), refl); within = omega arith; grew = grew; asks = ap asks_in own ∙ sym (append-nil (asks_of before)) }
+no_frame interval phases now before after told none grew own = record { frame = None; framed = λ fs begins is. (refl, ap ids_of (sym none), refl, refl); within = omega arith; grew = grew; asks = ap asks_in own ∙ sym (append-nil (asks_of before)) }
 
 -- a frame that was run was asked for by its start
 frame_asks : (now : ℕ) (before after : Pass) → AddsFrame (λ n. n == nanos_of now) before after → asks_of after ≡ asks_of before ++ Runs (nanos_of now) ∷ []
@@ -277,7 +281,10 @@ framed_ran interval phases now before after told Done some (start, time, middle,
           (sym (append_assoc middle.view.seen grew.0 begins.0) ∙ ap (λ l. l ++ begins.0) (grew.1 ∙ sym seen_is)) in
           let moments = frame_then interval phases x.stamp start time y.frames.entries begins.0 law none settled few stood in
           let all = ap (list_all (λ n. n == nanos_of now)) moments ∙ and_from (start == nanos_of now) _ moment taken in
-          subst (λ (l : List FrameEntry). (is_frame_from l first (Some place) ≡ true) × (frame_ids l (Some place) ≡ ids_of told) × (are_run_then l (frames_after [] (Some place) now) ≡ true)) whole (ran.0, ran.1 ∙ ids, and_from _ true all refl));
+          let as_many = ap length moments ∙ moments_count phases start batches (batches_since (past_of y.frames)) long batches_are in
+          subst (λ (l : List FrameEntry).
+          (is_frame_from l first (Some place) ≡ true) × (frame_ids l (Some place) ≡ ids_of told) × (are_run_then l (frames_after [] (Some place) now) ≡ true) × (are_whole phases l (frames_after [] (Some place) now) ≡ true)) whole
+          (ran.0, ran.1 ∙ ids, and_from _ true all refl, and_from _ true (eq-eqb _ (phases + 1) as_many) refl));
       within = omega (arith, at, prefix_length middle.view.seen after.view.seen grew);
       grew = prefix_trans before.view.seen middle.view.seen after.view.seen (turn_grew before middle turn.0 turn.1 turn.2) grew;
       asks = frame_asks now before after records;

@@ -52,6 +52,7 @@ stands_first s q k seen acts parts none still gauges lines barrier painted unsee
   led = λ fs begins law. subst (λ (xs : List Act). Lead s q seen fs (first_looper s) xs (first_looper s)) (sym still) refl;
   place = omega arith;
   moments = λ fs begins law. refl;
+  whole = λ fs begins law. refl;
   ran = ap asks_in unrun;
   settled = refl;
   played = subst (λ (es : List Entry). IsPlayed s q (calls_in k es) parts (first_looper s)) (sym none) (record {
@@ -104,6 +105,7 @@ left_by s hall l parts j kit is_hall is e posters frames journal a come = record
       (subst (λ (x : Journal). Lead s l.number l.looper.held.poster.view.seen fs (first_looper s) x.acts a) (sym journal)
       (st.led fs (subst (λ (ps : List Pass). IsPrefix (slice_index_or ps 0 p).view.seen fs) frames begins) law));
   moments = λ p fs begins law. st.moments fs (subst (λ (ps : List Pass). IsPrefix (slice_index_or ps 0 p).view.seen fs) frames begins) law;
+  whole = λ p fs begins law. st.whole fs (subst (λ (ps : List Pass). IsPrefix (slice_index_or ps 0 p).view.seen fs) frames begins) law;
   settled = st.settled;
   calls = λ d. subst (λ (x : Sender). AreFor IsSent [] (sent_on l.number a.sent) (calls_of x)) (sym (mine d))
       (subst (λ (k : ℕ). AreFor IsSent [] (sent_on l.number a.sent) (calls_in k l.looper.held.poster.view.seen)) (sym is.own) st.played.shown.calls);

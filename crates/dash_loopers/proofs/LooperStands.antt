@@ -1,8 +1,8 @@
 -- Where a looper stands, as entries and acts are added: entries of others, its look that ends the queue, acts that cause
 -- nothing, a pulse, and a dispatch.
-use Rattle.std.proofs.Common.{◌≡◌, ℕ, ◌≤◌, true, false, List, [], ◌∷◌, ◌++◌, length, Option, Some, None, refl, sym, ap, ◌∙◌, subst, arith, append_assoc, eq-eqb}
+use Rattle.std.proofs.Common.{◌≡◌, ℕ, ◌≤◌, Bool, true, false, List, [], ◌∷◌, ◌++◌, length, Option, Some, None, refl, sym, ap, ◌∙◌, subst, arith, append_assoc, eq-eqb}
 use Rattle.std.specs.Prelude.{◌==◌, ◌||◌, not, is_some, nat_le, slice_index_or}
-use Rattle.std.specs.List.{AllByRecursion}
+use Rattle.std.specs.List.{AllByRecursion, list_all}
 use Rattle.std.specs.Option.{option_map_or}
 use Rattle.std.proofs.lemmas.List.{append-nil, map-append}
 use Rattle.std.proofs.lemmas.Bool.Decides.{nat_tests}
@@ -26,7 +26,7 @@ use Rattle.run_model.specs.Control.{At}
 use Rattle.run_model.specs.Asks.{Makes, plain, token_in, tokens_in, AreFor}
 use Rattle.run_model.specs.Loopers.{Looper, Sent, first_looper, starts_frame, delivered, and_takes}
 use Rattle.run_model.specs.Acts.{running, dispatched, after_act, MayDispatch, Lead, sent_on, IsSent}
-use Rattle.run_model.specs.FrameRuns.{FrameAt, nanos_of, frame_ids, is_frame_from, place_after, frames_after, is_run_then, are_run_then}
+use Rattle.run_model.specs.FrameRuns.{FrameAt, nanos_of, frame_ids, is_frame_from, place_after, frames_after, is_run_then, are_run_then, is_whole, are_whole}
 use Rattle.run_model.specs.FrameAsks.{Runs}
 use Rattle.run_model.proofs.RunLaws.{AreFor-snoc, Lead-snoc, ArePaints, Lead-paints}
 use Rattle.run_model.proofs.Growth.{Lead-entries, post_at-grows}
@@ -63,6 +63,7 @@ module _ (s : Script) (q k : ℕ) where
         (by_stamp fs p.stamp p.is_pulse (Lead-entries s q es fs more (first_looper s) acts a (st.led fs (prefix_trans parts.frames.view.seen parts'.frames.view.seen fs p.grew begins) law)));
     place = (let at : (pulsed q p.stamp a).place ≡ a.place = placed p.stamp in let le = st.place in let longer = prefix_length parts.frames.view.seen parts'.frames.view.seen p.grew in omega (arith, at, le, longer));
     moments = λ fs begins law. ap (are_run_then fs) (ran p.stamp) ∙ st.moments fs (prefix_trans parts.frames.view.seen parts'.frames.view.seen fs p.grew begins) law;
+    whole = λ fs begins law. ap (are_whole 4 fs) (ran p.stamp) ∙ st.whole fs (prefix_trans parts.frames.view.seen parts'.frames.view.seen fs p.grew begins) law;
     ran = p.asks ∙ (st.ran ∙ ap asks_to_run (sym (ran p.stamp)));
     settled = painted p.stamp;
     played = p.plays text a st.played;
@@ -90,10 +91,10 @@ module _ (s : Script) (q k : ℕ) where
 abbrev pub taken : ℕ → ℕ → ℕ → Option ℕ → Looper → Looper
 taken q n now frame a = and_takes q n now (running frame now a)
 
--- the frames so far and this one ran at the times of their dispatches
-one_more : (fs : List FrameEntry) (xs : List FrameAt) (frame : Option ℕ) (now : ℕ) → are_run_then fs xs ≡ true → are_run_then fs (frames_after [] frame now) ≡ true → are_run_then fs (frames_after xs frame now) ≡ true
-one_more fs xs None now before this = before
-one_more fs xs (Some place) now before this = list_all-append (is_run_then fs) xs (frames_after [] (Some place) now) ∙ and_from _ _ before this
+-- the frames so far pass a test, and so does this one, or there is none
+one_more : (test : FrameAt → Bool) (xs : List FrameAt) (frame : Option ℕ) (now : ℕ) → list_all test xs ≡ true → list_all test (frames_after [] frame now) ≡ true → list_all test (frames_after xs frame now) ≡ true
+one_more test xs None now before this = before
+one_more test xs (Some place) now before this = list_all-append test xs (frames_after [] (Some place) now) ∙ and_from _ _ before this
 
 sooner : (fs : List FrameEntry) (first later : ℕ) (frame : Option ℕ) → first ≤ later → is_frame_from fs later frame ≡ true → is_frame_from fs first frame ≡ true
 sooner fs first later None le h = refl
@@ -188,7 +189,10 @@ module _ (s : Script) (q k n now : ℕ) (m : PostData) (es more : List Entry) (e
     place = (let at = adds.place in let le = st.place in let longer = prefix_length parts.frames.view.seen parts'.frames.view.seen d.ran.grew in placed d.ran.frame by_dispatch.place at le longer d.ran.within);
     moments = λ fs begins law.
         ap (are_run_then fs) adds.frames
-        ∙ one_more fs a.frames d.ran.frame now (st.moments fs (prefix_trans parts.frames.view.seen parts'.frames.view.seen fs d.ran.grew begins) law) (d.ran.framed fs begins law).2;
+        ∙ one_more (is_run_then fs) a.frames d.ran.frame now (st.moments fs (prefix_trans parts.frames.view.seen parts'.frames.view.seen fs d.ran.grew begins) law) (d.ran.framed fs begins law).2;
+    whole = λ fs begins law.
+        ap (are_whole 4 fs) adds.frames
+        ∙ one_more (is_whole 4 fs) a.frames d.ran.frame now (st.whole fs (prefix_trans parts.frames.view.seen parts'.frames.view.seen fs d.ran.grew begins) law) (d.ran.framed fs begins law).3;
     ran = d.ran.asks ∙ ((λ i. st.ran i ++ asks_to_run (frames_after [] d.ran.frame now)) ∙ (runs_more a.frames d.ran.frame ∙ ap asks_to_run (sym adds.frames)));
     settled = refl;
     played = done.0;

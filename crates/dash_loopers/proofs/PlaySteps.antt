@@ -341,7 +341,7 @@ pub step_delivered : (s : Script) (q now : ℕ) (m : PostData) (made made' : Lis
     → ((a : Looper) → delivered s q now [] m a ≡ step a) → ((a : Looper) → (step a).painted ≡ a.painted) → Plays s q step made parts made' parts' → acts' ≡ acts → Delivers s q now m made made' parts parts' acts acts'
 step_delivered s q now m made made' parts parts' acts acts' step grew asks is_step still plays same = record {
   ids = [];
-  ran = record { frame = None; framed = λ fs begins is. (refl, refl, refl); within = omega arith; grew = grew; asks = asks ∙ sym (append-nil (asks_of parts.frames)) };
+  ran = record { frame = None; framed = λ fs begins is. (refl, refl, refl, refl); within = omega arith; grew = grew; asks = asks ∙ sym (append-nil (asks_of parts.frames)) };
   starts = refl;
   plays = λ text a unpainted is. (
       let b : Looper = step a in

@@ -28,7 +28,7 @@ use Rattle.run_model.specs.Planned.{frame_message}
 use Rattle.run_model.specs.Control.{Timing, At, InBlock, NotBefore}
 use Rattle.run_model.specs.Loopers.{Looper, Gauge, Sent, first_looper, starts_frame, delivered, fires, reaction}
 use Rattle.run_model.specs.Acts.{Lead, sent_on, IsSent, millis_up}
-use Rattle.run_model.specs.FrameRuns.{FrameAt, nanos_of, frame_ids, is_frame_from, place_after, frames_after, are_run_then}
+use Rattle.run_model.specs.FrameRuns.{FrameAt, nanos_of, frame_ids, is_frame_from, place_after, frames_after, are_run_then, are_whole}
 use Rattle.run_model.specs.FrameAsks.{FrameAsk, Runs}
 use Rattle.dash_hall.specs.declared.kit.Kit.{Kit}
 use Rattle.dash_loopers.specs.declared.view_root.Gauge.{Gauge as ViewGauge}
@@ -138,10 +138,11 @@ abbrev pub rule_met : Script → ℕ → PostData → ℕ → Rule → Looper �
 rule_met s now m place r a =
     option_map_or (λ n. if fires m r n then record a { fired = slice_set a.fired place (n + 1); sent = a.sent ++ reaction s now r ∷ [] } else a) (slice_get a.fired place) a
 
--- by whatever the frame record comes to, a frame began behind all that the pass had seen before, started and took each phase at this time, and ran callbacks of these identities, or none began and none ran
+-- by whatever the frame record comes to, a frame began behind all that the pass had seen before, started at this time and took all phases then, and ran callbacks of these identities, or none began and none ran
 abbrev pub IsFrameBy : ℕ → ℕ → ℕ → Pass → Pass → Option ℕ → List ℕ → Type 0
 IsFrameBy interval phases now before after frame ids = (fs : List FrameEntry) → IsPrefix after.view.seen fs → lawful interval phases fs ≡ true
     → (is_frame_from fs (length before.view.seen) frame ≡ true) × (frame_ids fs frame ≡ ids) × (are_run_then fs (frames_after [] frame now) ≡ true)
+    × (are_whole phases fs (frames_after [] frame now) ≡ true)
 
 -- what asks for these frames, in order: for each to start at the time of its dispatch
 abbrev pub asks_to_run : List FrameAt → List FrameAsk
@@ -196,11 +197,12 @@ pub record Pulses (s : Script) (q now : ℕ) (made made' : List Entry) (parts pa
 
 -- ---- between two acts
 
--- the looper's acts lead to this state, by whatever its frame record comes to, each frame that they ran started and took its phases at the time of its dispatch, its own pass asked for these frames, in order and for nothing else, and all that the state says is so
+-- the looper's acts lead to this state, by whatever its frame record comes to, each frame that they ran started at the time of its dispatch and took all phases then, its own pass asked for these frames, in order and for nothing else, and all that the state says is so
 pub record Stands (s : Script) (q sender : ℕ) (es : List Entry) (acts : List Act) (parts : Parts) (a : Looper) : Type 0 where
   pub led : (fs : List FrameEntry) → IsPrefix parts.frames.view.seen fs → lawful s.period 4 fs ≡ true → Lead s q es fs (first_looper s) acts a
   pub place : a.place ≤ length parts.frames.view.seen
   pub moments : (fs : List FrameEntry) → IsPrefix parts.frames.view.seen fs → lawful s.period 4 fs ≡ true → are_run_then fs a.frames ≡ true
+  pub whole : (fs : List FrameEntry) → IsPrefix parts.frames.view.seen fs → lawful s.period 4 fs ≡ true → are_whole 4 fs a.frames ≡ true
   pub ran : asks_of parts.frames ≡ asks_to_run a.frames
   pub settled : a.painted ≡ []
   pub played : IsPlayed s q (calls_in sender es) parts a
@@ -245,6 +247,7 @@ pub record HasLeft (s : Script) (q : ℕ) (j : Journal) (kit : Kit) (a : Looper)
   pub led : (d : Sender) (p : Pass) (fs : List FrameEntry) → IsPrefix (slice_index_or kit.frames.items 0 p).view.seen fs → lawful s.period 4 fs ≡ true
       → Lead s q (slice_index_or kit.posters.items q d).view.seen fs (first_looper s) j.acts a
   pub moments : (p : Pass) (fs : List FrameEntry) → IsPrefix (slice_index_or kit.frames.items 0 p).view.seen fs → lawful s.period 4 fs ≡ true → are_run_then fs a.frames ≡ true
+  pub whole : (p : Pass) (fs : List FrameEntry) → IsPrefix (slice_index_or kit.frames.items 0 p).view.seen fs → lawful s.period 4 fs ≡ true → are_whole 4 fs a.frames ≡ true
   pub settled : a.painted ≡ []
   pub calls : (d : Sender) → AreFor IsSent [] (sent_on q a.sent) (calls_of (slice_index_or kit.posters.items q d))
   pub elsewhere : (k : ℕ) (d : Sender) → k ≢ q → k < length kit.posters.items → AreFor IsSent [] (sent_on k a.sent) (own (slice_index_or kit.posters.items k d))

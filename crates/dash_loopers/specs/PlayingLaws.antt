@@ -51,6 +51,7 @@ module _ (s : Script) (q k : ℕ) where
     led = λ fs begins is. Lead-entries s q es fs more (first_looper s) acts a (st.led fs begins is);
     place = st.place;
     moments = st.moments;
+    whole = st.whole;
     ran = st.ran;
     settled = st.settled;
     played = subst (λ l. IsPlayed s q l parts a) (sym same) st.played;
@@ -63,6 +64,7 @@ module _ (s : Script) (q k : ℕ) where
     led = λ fs begins law. Lead-snoc s q es fs None (first_looper s) acts a (Idle i t) (st.led fs begins law) (refl, st.settled);
     place = st.place;
     moments = st.moments;
+    whole = st.whole;
     ran = st.ran;
     settled = st.settled;
     played = st.played;
@@ -71,6 +73,7 @@ module _ (s : Script) (q k : ℕ) where
     led = λ fs begins law. Lead-snoc s q es fs None (first_looper s) acts a (Event f e m) (st.led fs begins law) (refl, st.settled);
     place = st.place;
     moments = st.moments;
+    whole = st.whole;
     ran = st.ran;
     settled = st.settled;
     played = st.played;
