@@ -29,6 +29,7 @@ use Rattle.run_model.specs.Senders.{looper_sender, controller, sender_count}
 use Rattle.run_model.specs.Control.{NotBefore, Timing, befores, are_on_time, are_controls, is_quit_by_others, is_controlled, disposed_count}
 use Rattle.run_model.specs.Loopers.{Looper, Sent, first_looper}
 use Rattle.run_model.specs.Acts.{Lead, sent_on, closing, IsSent}
+use Rattle.run_model.specs.FrameRuns.{are_whole}
 use Rattle.run_model.specs.FrameAsks.{as_told, asks_in, AreAsOften}
 use Rattle.run_model.specs.Run.{IsAsPlanned, IsControlled, IsLooperRun, EachLooper, setting_of, caused_on, asked_of}
 use Rattle.run_model.proofs.RunLaws.{AreFor-snoc, sent_on-append, are_on_time-snoc}
@@ -171,6 +172,7 @@ module _ (s : Script) (queues : List QueueRecord) (k : ℕ) (j : Journal) (f : F
         disposed_at = at;
         calls = subst (λ (m : ℕ). AllByRecursion (λ (r : QueueRecord). AreFor IsSent [] (caused_on r.looper a m at) (entries_by (looper_sender s m) r.entries)) queues) (sym is) each_calls;
         asked = subst (λ (m : ℕ). AreAsOften (map (as_told true) (asks_in f.entries)) (map (as_told true) (asked_of s m a))) (sym is) h.asked;
+        whole = subst (λ (n : ℕ). are_whole n f.entries a.frames ≡ true) (sym h.lawful_.phases) (h.left.whole h.pass f.entries (h.frames 0 (omega arith)) is_lawful);
         on_time = subst (λ (m : ℕ). AllByRecursion (λ (r : QueueRecord). are_on_time (timings (caused_on r.looper a m at)) (befores (looper_sender s m) r.entries) ≡ true) queues) (sym is) each_time;
         moments = h.left.moments h.pass f.entries (h.frames 0 (omega arith)) is_lawful;
       }

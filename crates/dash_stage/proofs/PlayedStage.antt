@@ -78,6 +78,7 @@ stands_heard s q k es es' acts parts parts' a more calls frames root fired long 
       (Lead-entries s q es fs more.0 (first_looper s) acts a (st.led fs (subst (λ (p : Pass). IsPrefix p.view.seen fs) frames begins) law));
   place = subst (λ (p : Pass). a.place ≤ length p.view.seen) (sym frames) st.place;
   moments = λ fs begins law. st.moments fs (subst (λ (p : Pass). IsPrefix p.view.seen fs) frames begins) law;
+  whole = λ fs begins law. st.whole fs (subst (λ (p : Pass). IsPrefix p.view.seen fs) frames begins) law;
   ran = subst (λ (p : Pass). asks_of p ≡ asks_to_run a.frames) (sym frames) st.ran;
   settled = st.settled;
   played = record {
