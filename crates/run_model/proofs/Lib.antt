@@ -1,5 +1,6 @@
 pub mod Below
 pub mod Examples
+pub mod RunBut
 pub mod TwoPosts
 pub mod BarrierHolds
 pub mod RemovesZero
@@ -11,6 +12,7 @@ pub mod MainMayNotQuit
 pub mod QuitTwice
 pub mod GaugeMoves
 pub mod NotRuns
+pub mod NotRunsTimes
 pub mod RunLaws
 pub mod FrameComesDue
 pub mod FrameRemoved

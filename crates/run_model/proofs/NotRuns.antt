@@ -38,34 +38,34 @@ use Rattle.run_model.proofs.TwoPosts.{script}
 use Rattle.run_model.proofs.QuitTwice as quit_twice
 
 -- the report of the run, with another history and other acts
-abbrev with_entries : List Entry → List Act → Report
+abbrev pub with_entries : List Entry → List Act → Report
 with_entries es acts = record two_posts.report { queues = queue 0 true 3 es ∷ []; journals = journal 0 acts ∷ [] }
 
 -- the act of a dispatch
-abbrev dispatch : ℕ → ℕ → Act
+abbrev pub dispatch : ℕ → ℕ → Act
 dispatch number now = act.Dispatch number now route.Handled
 
-abbrev advance : ℕ → ℕ → Entry
+abbrev pub advance : ℕ → ℕ → Entry
 advance seq now = entry 2 seq (call.Advance now) reply.Advanced
 
-abbrev first_post : ℕ → ℕ → Entry
+abbrev pub first_post : ℕ → ℕ → Entry
 first_post seq number = entry 0 seq (call.Post (message 0 7 15 None)) (reply.Accepted number)
 
-abbrev second_post : ℕ → ℕ → Entry
+abbrev pub second_post : ℕ → ℕ → Entry
 second_post seq number = entry 0 seq (call.Post (message 0 8 10 None)) (reply.Accepted number)
 
-abbrev look : ℕ → ℕ → ℕ → Entry
+abbrev pub look : ℕ → ℕ → ℕ → Entry
 look seq now number = entry 1 seq (call.Next now) (reply.Dispatched number)
 
-abbrev halt : ℕ → Entry
+abbrev pub halt : ℕ → Entry
 halt seq = entry 2 seq (call.Halt 20) reply.Halted
 
 -- the number of a message's post, and of a dispatch
-abbrev what_in : Option Call → ℕ
+abbrev pub what_in : Option Call → ℕ
 what_in (Some (call.Post p)) = p.what
 what_in _ = 0
 
-abbrev number_in : Option Reply → ℕ
+abbrev pub number_in : Option Reply → ℕ
 number_in (Some (reply.Dispatched n)) = n
 number_in _ = 0
 
@@ -96,11 +96,11 @@ unfolding is_called_in_time quit_place first_eligible pick live
 late r = let on_time : false ≡ true = r.timely.histories.0.controls in cc
 
 -- a script whose thread does this to the side looper at this time, and ends at 10
-abbrev side_script : ℕ → Command → Script
+abbrev pub side_script : ℕ → Command → Script
 side_script time command = plain_script 2 1 (handler_on 0 ∷ handler_on 1 ∷ []) (block time (by 0 command ∷ []) ∷ []) 10
 
 -- its report, with this history and these acts of the side looper
-abbrev side_report : ℕ → Command → List Entry → List Act → Report
+abbrev pub side_report : ℕ → Command → List Entry → List Act → Report
 side_report time command es acts = record {
   script = side_script time command;
   queues = quit_twice.record_0 ∷ queue 1 false 4 es ∷ [];
@@ -109,16 +109,16 @@ side_report time command es acts = record {
   start = 0;
 }
 
-abbrev side_advance : ℕ → ℕ → Entry
+abbrev pub side_advance : ℕ → ℕ → Entry
 side_advance seq now = entry 3 seq (call.Advance now) reply.Advanced
 
-abbrev side_quit : ℕ → Reply → Entry
+abbrev pub side_quit : ℕ → Reply → Entry
 side_quit seq r = entry 3 seq (call.Quit true 10) r
 
-abbrev side_post : ℕ → Reply → Entry
+abbrev pub side_post : ℕ → Reply → Entry
 side_post when r = entry 0 0 (call.Post (message 1 7 when None)) r
 
-abbrev disposal : ℕ → ℕ → Entry
+abbrev pub disposal : ℕ → ℕ → Entry
 disposal seq now = entry 2 seq (call.Next now) reply.Disposed
 
 -- the controller quits a looper that has ended
@@ -147,15 +147,15 @@ unfolding are_before_quit
 quits_before_a_block r = let before : false ≡ true = r.timely.histories.1.0.before_quit in cc
 
 -- thread 1 quits the side looper
-abbrev quits_side : Line
+abbrev pub quits_side : Line
 quits_side = by 1 (command.Quit 1)
 
 -- thread 0 posts to it
-abbrev posts_side : Line
+abbrev pub posts_side : Line
 posts_side = by 0 (command.Post 1 7 0)
 
 -- the report of a script with two threads and these blocks, with this history of the side looper
-abbrev quit_report : List Block → List Entry → Report
+abbrev pub quit_report : List Block → List Entry → Report
 quit_report blocks es = record {
   script = plain_script 2 2 (handler_on 0 ∷ handler_on 1 ∷ []) blocks 10;
   queues = queue 0 true 5 (entry 4 0 (call.Advance 10) reply.Advanced ∷ entry 4 1 (call.Halt 10) reply.Halted ∷ []) ∷ queue 1 false 5 es ∷ [];
@@ -165,13 +165,13 @@ quit_report blocks es = record {
 }
 
 -- the side looper's queue is moved to the end, quit there by thread 1, and disposed of; then thread 0 posts at this time
-abbrev quit_then_post : ℕ → List Entry
+abbrev pub quit_then_post : ℕ → List Entry
 quit_then_post when =
     entry 4 0 (call.Advance 10) reply.Advanced ∷ entry 1 0 (call.Quit false 10) reply.QuitDone ∷ entry 3 0 (call.Next 10) reply.Disposed
     ∷ entry 0 0 (call.Post (message 1 7 when None)) (reply.Refused 1) ∷ []
 
 -- the side looper is driven to the end and disposed of before a thread's earlier call
-abbrev two_blocks : List Block
+abbrev pub two_blocks : List Block
 two_blocks = block 5 (posts_side ∷ []) ∷ block 10 (quits_side ∷ []) ∷ []
 
 pub ends_before_a_call : IsRun in_lockstep (quit_report two_blocks []).script (quit_report two_blocks (quit_then_post 5)) → ⊥
@@ -179,7 +179,7 @@ unfolding befores clock has_disposed
 ends_before_a_call r = let on_time : false ≡ true = r.timely.histories.1.0.threads 0 (lit< tt) in cc
 
 -- a thread's call comes behind the disposal at its own time: the looper ran a round before the block was through
-abbrev one_block : List Block
+abbrev pub one_block : List Block
 one_block = block 10 (quits_side ∷ posts_side ∷ []) ∷ []
 
 pub ends_within_a_block : IsRun in_lockstep (quit_report one_block []).script (quit_report one_block (quit_then_post 10)) → ⊥
@@ -187,10 +187,10 @@ unfolding befores clock has_disposed
 ends_within_a_block r = let on_time : false ≡ true = r.timely.histories.1.0.threads 0 (lit< tt) in cc
 
 -- a script whose gauge moves to its target in one frame
-abbrev gauge_script : Script
+abbrev pub gauge_script : Script
 gauge_script = record (plain_script 1 1 (handler_on 0 ∷ []) (block 0 (by 0 (command.Set 0 7) ∷ []) ∷ []) 20) { gauges = record { handler = 0; step = 7 } ∷ [] }
 
-abbrev gauge_entries : List Entry
+abbrev pub gauge_entries : List Entry
 gauge_entries =
     entry 0 0 (call.Post (record (message 0 1 0 None) { arg = 7; obj = Some 0 })) (reply.Accepted 0)
     ∷ entry 1 0 (call.Next 0) (reply.Dispatched 0)
@@ -203,16 +203,16 @@ gauge_entries =
     ∷ halt 2
     ∷ []
 
-abbrev gauge_acts : List Act
+abbrev pub gauge_acts : List Act
 gauge_acts = act.Dispatch 0 0 route.Intercepted ∷ act.Vsync 16666667 ∷ act.Paint 0 7 ∷ act.Dispatch 1 17 route.Intercepted ∷ []
 
 -- its frame starts half a millisecond behind its dispatch
-abbrev late_frames : List FrameEntry
+abbrev pub late_frames : List FrameEntry
 late_frames =
     frame.Posted (callback 0 1 0 1000000) ∷ frame.Posted (callback 1 2 0 1000016) ∷ frame.Begin 16666667 17500000 16666667 ∷ frame.Take 0 17000000 16666667
     ∷ frame.Take 1 17000000 16666667 ∷ frame.Ran 0 ∷ frame.Take 2 17000000 16666667 ∷ frame.Ran 1 ∷ frame.Take 3 17000000 16666667 ∷ []
 
-abbrev late_report : Report
+abbrev pub late_report : Report
 late_report = record {
   script = gauge_script;
   queues = queue 0 true 3 gauge_entries ∷ [];
@@ -237,7 +237,7 @@ one_frame (suc (suc (suc place))) h =
     cc
 
 -- the looper as its frame's message comes
-abbrev before_frame : Looper
+abbrev pub before_frame : Looper
 before_frame = led gauge_script 0 gauge_entries late_frames (first_looper gauge_script) (None ∷ None ∷ None ∷ []) gauge_acts
 
 -- a frame starts at another time than its dispatch
@@ -257,11 +257,11 @@ starts_late r = of_acts r.loopers.0.final r.loopers.0.acts r.loopers.0.moments
         cc
 
 -- a script with one frame line
-abbrev frame_script : Script
+abbrev pub frame_script : Script
 frame_script = plain_script 1 1 (handler_on 0 ∷ []) (block 10 (by 0 (command.Frame 0 3 8 0) ∷ []) ∷ []) 20
 
 -- its report, with this frame record
-abbrev frame_report : List FrameEntry → Report
+abbrev pub frame_report : List FrameEntry → Report
 frame_report fs = record {
   script = frame_script;
   queues = queue 0 true 3 (advance 0 10 ∷ advance 1 20 ∷ halt 2 ∷ []) ∷ [];
@@ -271,7 +271,7 @@ frame_report fs = record {
 }
 
 -- how many of the asks pass a test, where the looper's acts cause nothing
-abbrev asked : (FrameAsk → Bool) → Looper → ℕ
+abbrev pub asked : (FrameAsk → Bool) → Looper → ℕ
 asked test b = count_by test (map (as_told true) (asked_of frame_script 0 b))
 
 -- the line's callback is posted twice
@@ -281,7 +281,7 @@ posts_frame_twice r =
     omega (arith, counts)
 
 -- the callback is due at 10
-abbrev is_due_at_10 : FrameAsk → Bool
+abbrev pub is_due_at_10 : FrameAsk → Bool
 is_due_at_10 (Posts phase due id token) = due == 10
 is_due_at_10 _ = false
 

@@ -1,0 +1,498 @@
+-- Reports that are no runs of their script: calls that come too early or too late, and times that are moved wrong.
+use Rattle.std.proofs.Common.{◌≡◌, ◌<◌, ℕ, refl, true, false, List, [], ◌∷◌, ◌⊎◌, inl, inr, Option, Some, None, sym, ap, subst, arith, lit<, lit≤}
+use Rattle.std.specs.Prelude.{◌+◌, ◌-◌, ◌/◌, ◌%◌, ◌^◌, ◌==◌, nat_lt, map, slice_index}
+use Rattle.std.proofs.lemmas.Bool.{and_parts, or_cases}
+use Rattle.std.proofs.lemmas.Bool.Decides.{nat_tests}
+use Rattle.loop_model.specs.declared.call.Call.TheVariants as call
+use Rattle.loop_model.specs.declared.reply.Reply.TheVariants as reply
+use Rattle.loop_model.specs.declared.entry.Entry.{Entry}
+use Rattle.loop_model.specs.declared.journal.Act.{Act}
+use Rattle.loop_model.specs.Legal.{IsLegal, AreNumbered, made_count}
+use Rattle.loop_model.specs.Answers.{answer, clock, accepted_count, barrier_count, quit_place, has_disposed, has_halted}
+use Rattle.loop_model.specs.Live.{live}
+use Rattle.loop_model.specs.Pick.{first_eligible, pick}
+use Rattle.frame_phases.specs.Frames.{lawful, all_allowed, is_allowed, owed, next_phase, last_time, in_due_order, before_later, live as live_callbacks, posted_count}
+use Rattle.dash_script.specs.declared.script.Command.TheVariants as command
+use Rattle.dash_script.specs.declared.script.Block.{Block}
+use Rattle.dash_script.specs.declared.script.Script.{Script}
+use Rattle.run_model.specs.declared.report.Report.{Report}
+use Rattle.run_model.specs.Moments.{in_lockstep}
+use Rattle.run_model.specs.Planned.{AreAsPlanned}
+use Rattle.run_model.specs.Control.{is_controlled, is_called_in_time, are_before_quit, befores, are_on_time}
+use Rattle.run_model.specs.Loopers.{Looper, first_looper}
+use Rattle.run_model.specs.Acts.{after_act, Lead}
+use Rattle.run_model.specs.Moves.{moves, IsPulseTime}
+use Rattle.run_model.specs.Run.{IsRun, caused_on, IsThreadOnTime, are_in_order}
+use Rattle.run_model.proofs.Below.{each_below}
+use Rattle.run_model.proofs.Examples.{entry, handler_on, block, by, plain_script, message, queue, journal, frames, led}
+use Rattle.run_model.proofs.RunBut.{IsRunBut}
+use Rattle.run_model.proofs.RunBut as but
+use Rattle.run_model.proofs.TwoPosts.{script}
+use Rattle.run_model.proofs.QuitTwice as quit_twice
+use Rattle.run_model.proofs.NotRuns.{dispatch, advance, look, first_post, second_post, side_report, side_advance, side_quit, disposal, quits_side, posts_side, quit_report}
+
+-- the report of a script with one looper, with this history and these acts
+abbrev main_report : Script → List Entry → List Act → Report
+main_report s es acts = record { script = s; queues = queue 0 true 3 es ∷ []; journals = journal 0 acts ∷ []; frames = frames 0 [] ∷ []; start = 0 }
+
+-- at 10 a thread posts a message with this delay, and the run ends at this time
+abbrev post_script : ℕ → ℕ → Script
+post_script delay end = plain_script 1 1 (handler_on 0 ∷ []) (block 10 (by 0 (command.Post 0 7 delay) ∷ []) ∷ []) end
+
+abbrev post : ℕ → Entry
+post when = entry 0 0 (call.Post (message 0 7 when None)) (reply.Accepted 0)
+
+abbrev halt : ℕ → ℕ → Entry
+halt seq now = entry 2 seq (call.Halt now) reply.Halted
+
+-- a thread's call comes before the time of its block
+abbrev early_entries : List Entry
+early_entries = post 10 ∷ advance 0 10 ∷ look 0 10 0 ∷ halt 1 10 ∷ []
+
+abbrev early_report : Report
+early_report = main_report (post_script 0 10) early_entries (dispatch 0 10 ∷ [])
+
+pub calls_early : IsRun in_lockstep (post_script 0 10) early_report → ⊥
+unfolding befores clock has_disposed
+calls_early r = let on_time : false ≡ true = r.timely.histories.0.threads 0 (lit< tt) in cc
+
+pub calls_early_else : IsRunBut but.Threads (post_script 0 10) early_report
+unfolding IsLegal AreNumbered made_count answer clock accepted_count barrier_count quit_place has_disposed has_halted live first_eligible pick is_controlled lawful all_allowed is_allowed owed next_phase last_time in_due_order before_later live_callbacks posted_count after_act befores is_called_in_time are_before_quit are_in_order moves
+calls_early_else = record {
+  report = record { script = refl; queues = refl; journals = refl; frames = refl };
+  records = record { mode = refl; start = refl; histories = (record {
+    main = refl;
+    lockstep = refl;
+    senders = refl;
+    legal =
+        (record { reply = refl; timely = tt }, (record { reply = refl; timely = lit≤ tt }, (record { reply = refl; timely = refl },
+        (record { reply = refl; timely = refl }, tt))));
+    numbered =
+        (record { known = lit< tt; counted = refl; controller = λ h. cc }, (record { known = lit< tt; counted = refl; controller = λ h. refl },
+        (record { known = lit< tt; counted = refl; controller = λ h. cc }, (record { known = lit< tt; counted = refl; controller = λ h. refl }, tt))));
+    clocked = tt;
+  }, tt) };
+  planned = (each_below 1 (λ thread. AreAsPlanned in_lockstep (post_script 0 10) thread 0 early_entries) (tt, (record { uptime = 10; allowed = refl; call = refl; no_earlier = tt }, tt)), tt);
+  controls = (refl, tt);
+  frames = (record { interval = refl; phases = refl; lawful = refl }, tt);
+  loopers = (record {
+    final = led (post_script 0 10) 0 early_entries [] (first_looper (post_script 0 10)) (None ∷ []) (dispatch 0 10 ∷ []);
+    acts =
+        (None, (record { accepted = refl; starts = refl; place = refl; painted = refl }, refl));
+    settled = refl;
+    dispatches = refl;
+    disposed_at = 0;
+    calls = ((record { call = refl; reply = refl }, tt), tt);
+    asked = λ test. omega arith;
+    whole = refl;
+    on_time = (refl, tt);
+    moments = refl;
+  }, tt);
+  halted = refl;
+  histories = (record { controls = refl; before_quit = refl; threads = tt; in_order = refl }, tt);
+  moved = record { due = (inl refl, tt); together = ((_, refl), tt) };
+}
+
+-- a thread's call comes behind the next move of the time
+abbrev late_entries : List Entry
+late_entries = advance 0 10 ∷ advance 1 15 ∷ post 15 ∷ look 0 15 0 ∷ halt 2 15 ∷ []
+
+abbrev late_report : Report
+late_report = main_report (post_script 5 15) late_entries (dispatch 0 15 ∷ [])
+
+pub calls_late : IsRun in_lockstep (post_script 5 15) late_report → ⊥
+unfolding befores clock has_disposed
+calls_late r = let on_time : false ≡ true = r.timely.histories.0.threads 0 (lit< tt) in cc
+
+pub calls_late_else : IsRunBut but.Threads (post_script 5 15) late_report
+unfolding IsLegal AreNumbered made_count answer clock accepted_count barrier_count quit_place has_disposed has_halted live first_eligible pick is_controlled lawful all_allowed is_allowed owed next_phase last_time in_due_order before_later live_callbacks posted_count after_act befores is_called_in_time are_before_quit are_in_order moves
+calls_late_else = record {
+  report = record { script = refl; queues = refl; journals = refl; frames = refl };
+  records = record { mode = refl; start = refl; histories = (record {
+    main = refl;
+    lockstep = refl;
+    senders = refl;
+    legal =
+        (record { reply = refl; timely = lit≤ tt }, (record { reply = refl; timely = lit≤ tt }, (record { reply = refl; timely = tt },
+        (record { reply = refl; timely = refl }, (record { reply = refl; timely = refl }, tt)))));
+    numbered =
+        (record { known = lit< tt; counted = refl; controller = λ h. refl }, (record { known = lit< tt; counted = refl; controller = λ h. refl },
+        (record { known = lit< tt; counted = refl; controller = λ h. cc }, (record { known = lit< tt; counted = refl; controller = λ h. cc },
+        (record { known = lit< tt; counted = refl; controller = λ h. refl }, tt)))));
+    clocked = tt;
+  }, tt) };
+  planned = (each_below 1 (λ thread. AreAsPlanned in_lockstep (post_script 5 15) thread 0 late_entries) (tt, (record { uptime = 10; allowed = refl; call = refl; no_earlier = tt }, tt)), tt);
+  controls = (refl, tt);
+  frames = (record { interval = refl; phases = refl; lawful = refl }, tt);
+  loopers = (record {
+    final = led (post_script 5 15) 0 late_entries [] (first_looper (post_script 5 15)) (None ∷ []) (dispatch 0 15 ∷ []);
+    acts =
+        (None, (record { accepted = refl; starts = refl; place = refl; painted = refl }, refl));
+    settled = refl;
+    dispatches = refl;
+    disposed_at = 0;
+    calls = ((record { call = refl; reply = refl }, tt), tt);
+    asked = λ test. omega arith;
+    whole = refl;
+    on_time = (refl, tt);
+    moments = refl;
+  }, tt);
+  halted = refl;
+  histories = (record { controls = refl; before_quit = refl; threads = tt; in_order = refl }, tt);
+  moved = record { due = (inl refl, (inl refl, tt)); together = ((_, refl), tt) };
+}
+
+-- a message is dispatched at a later time than the journal tells
+abbrev taken_entries : List Entry
+taken_entries = advance 0 10 ∷ post 15 ∷ advance 1 15 ∷ look 0 15 0 ∷ halt 2 15 ∷ []
+
+abbrev taken_report : Report
+taken_report = main_report (post_script 5 15) taken_entries (dispatch 0 10 ∷ [])
+
+abbrev moment_first : List (ℕ × ℕ) → ℕ
+moment_first ((number, now) ∷ xs) = now
+moment_first [] = 0
+
+pub takes_late : IsRun in_lockstep (post_script 5 15) taken_report → ⊥
+takes_late r =
+    let now : 10 ≡ 15 = ap moment_first r.loopers.0.dispatches in
+    omega (arith, now)
+
+pub takes_late_else : IsRunBut but.Takes (post_script 5 15) taken_report
+unfolding IsLegal AreNumbered made_count answer clock accepted_count barrier_count quit_place has_disposed has_halted live first_eligible pick is_controlled lawful all_allowed is_allowed owed next_phase last_time in_due_order before_later live_callbacks posted_count after_act befores is_called_in_time are_before_quit are_in_order moves
+takes_late_else = record {
+  report = record { script = refl; queues = refl; journals = refl; frames = refl };
+  records = record { mode = refl; start = refl; histories = (record {
+    main = refl;
+    lockstep = refl;
+    senders = refl;
+    legal =
+        (record { reply = refl; timely = lit≤ tt }, (record { reply = refl; timely = tt }, (record { reply = refl; timely = lit≤ tt },
+        (record { reply = refl; timely = refl }, (record { reply = refl; timely = refl }, tt)))));
+    numbered =
+        (record { known = lit< tt; counted = refl; controller = λ h. refl }, (record { known = lit< tt; counted = refl; controller = λ h. cc },
+        (record { known = lit< tt; counted = refl; controller = λ h. refl }, (record { known = lit< tt; counted = refl; controller = λ h. cc },
+        (record { known = lit< tt; counted = refl; controller = λ h. refl }, tt)))));
+    clocked = tt;
+  }, tt) };
+  planned = (each_below 1 (λ thread. AreAsPlanned in_lockstep (post_script 5 15) thread 0 taken_entries) (tt, (record { uptime = 10; allowed = refl; call = refl; no_earlier = tt }, tt)), tt);
+  controls = (refl, tt);
+  frames = (record { interval = refl; phases = refl; lawful = refl }, tt);
+  loopers = (record {
+    final = led (post_script 5 15) 0 taken_entries [] (first_looper (post_script 5 15)) (None ∷ []) (dispatch 0 10 ∷ []);
+    acts =
+        (None, (record { accepted = refl; starts = refl; place = refl; painted = refl }, refl));
+    settled = refl;
+    dispatches = tt;
+    disposed_at = 0;
+    calls = tt;
+    asked = λ test. omega arith;
+    whole = refl;
+    on_time = tt;
+    moments = refl;
+  }, tt);
+  halted = refl;
+  histories = (record { controls = refl; before_quit = refl; threads = each_below 1 (λ thread. IsThreadOnTime (post_script 5 15) (queue 0 true 3 taken_entries) thread) (tt, refl); in_order = refl }, tt);
+  moved = record { due = (inl refl, (inl refl, tt)); together = ((_, refl), tt) };
+}
+
+-- a script whose rule sends another message, due 5 later
+abbrev rule_script : Script
+rule_script = record (post_script 0 15) { rules = record { handler = 0; what = 7; times = 1; to_handler = 0; to_what = 8; delay = 5 } ∷ [] }
+
+-- a rule's message is sent when the time was moved on
+abbrev reacted_entries : List Entry
+reacted_entries =
+    advance 0 10 ∷ post 10 ∷ look 0 10 0 ∷ advance 1 15 ∷ entry 1 1 (call.Post (message 0 8 15 None)) (reply.Accepted 1) ∷ look 2 15 1 ∷ halt 2 15 ∷ []
+
+abbrev reacted_acts : List Act
+reacted_acts = dispatch 0 10 ∷ dispatch 1 15 ∷ []
+
+abbrev reacted_report : Report
+reacted_report = main_report rule_script reacted_entries reacted_acts
+
+-- when this looper's calls are to come, and what stood before them
+abbrev AreItsOnTime : Looper → Type 0
+AreItsOnTime b = are_on_time (map (λ x. x.timing) (caused_on 0 b 0 0)) (befores 1 reacted_entries) ≡ true
+
+pub reacts_late : IsRun in_lockstep rule_script reacted_report → ⊥
+unfolding after_act befores clock has_disposed
+reacts_late r = of_acts r.loopers.0.final r.loopers.0.acts r.loopers.0.on_time.0
+  where
+    of_acts : (b : Looper) → Lead rule_script 0 reacted_entries [] (first_looper rule_script) reacted_acts b → AreItsOnTime b → ⊥
+    of_acts b (Some p, (may, rest)) on_time = let starts : false ≡ true = may.starts in cc
+    of_acts b (None, (first, (Some p, (may, is)))) on_time = let starts : false ≡ true = may.starts in cc
+    of_acts b (None, (first, (None, (may, is)))) on_time = let late : false ≡ true = subst AreItsOnTime (sym is) on_time in cc
+
+pub reacts_late_else : IsRunBut but.OnTime rule_script reacted_report
+unfolding IsLegal AreNumbered made_count answer clock accepted_count barrier_count quit_place has_disposed has_halted live first_eligible pick is_controlled lawful all_allowed is_allowed owed next_phase last_time in_due_order before_later live_callbacks posted_count after_act befores is_called_in_time are_before_quit are_in_order moves
+reacts_late_else = record {
+  report = record { script = refl; queues = refl; journals = refl; frames = refl };
+  records = record { mode = refl; start = refl; histories = (record {
+    main = refl;
+    lockstep = refl;
+    senders = refl;
+    legal =
+        (record { reply = refl; timely = lit≤ tt }, (record { reply = refl; timely = tt }, (record { reply = refl; timely = refl },
+        (record { reply = refl; timely = lit≤ tt }, (record { reply = refl; timely = tt }, (record { reply = refl; timely = refl },
+        (record { reply = refl; timely = refl }, tt)))))));
+    numbered =
+        (record { known = lit< tt; counted = refl; controller = λ h. refl }, (record { known = lit< tt; counted = refl; controller = λ h. cc },
+        (record { known = lit< tt; counted = refl; controller = λ h. cc }, (record { known = lit< tt; counted = refl; controller = λ h. refl },
+        (record { known = lit< tt; counted = refl; controller = λ h. cc }, (record { known = lit< tt; counted = refl; controller = λ h. cc },
+        (record { known = lit< tt; counted = refl; controller = λ h. refl }, tt)))))));
+    clocked = tt;
+  }, tt) };
+  planned = (each_below 1 (λ thread. AreAsPlanned in_lockstep rule_script thread 0 reacted_entries) (tt, (record { uptime = 10; allowed = refl; call = refl; no_earlier = tt }, tt)), tt);
+  controls = (refl, tt);
+  frames = (record { interval = refl; phases = refl; lawful = refl }, tt);
+  loopers = (record {
+    final = led rule_script 0 reacted_entries [] (first_looper rule_script) (None ∷ None ∷ []) reacted_acts;
+    acts =
+        (None, (record { accepted = refl; starts = refl; place = refl; painted = refl }, (None,
+        (record { accepted = refl; starts = refl; place = refl; painted = refl }, refl))));
+    settled = refl;
+    dispatches = refl;
+    disposed_at = 0;
+    calls = ((record { call = refl; reply = refl }, (record { call = refl; reply = tt }, (record { call = refl; reply = refl }, tt))), tt);
+    asked = λ test. omega arith;
+    whole = refl;
+    on_time = tt;
+    moments = refl;
+  }, tt);
+  halted = refl;
+  histories = (record { controls = refl; before_quit = refl; threads = each_below 1 (λ thread. IsThreadOnTime rule_script (queue 0 true 3 reacted_entries) thread) (tt, refl); in_order = refl }, tt);
+  moved = record { due = (inl refl, (inl refl, tt)); together = ((_, refl), tt) };
+}
+
+-- the script's two blocks, and the quit of the side looper before them
+abbrev order_blocks : List Block
+order_blocks = block 5 (quits_side ∷ []) ∷ block 8 (by 1 (command.Post 1 7 0) ∷ []) ∷ block 10 (posts_side ∷ []) ∷ []
+
+-- behind the disposal the post of the block at 10 comes before that of the block at 8
+abbrev order_entries : List Entry
+order_entries =
+    entry 4 0 (call.Advance 5) reply.Advanced ∷ entry 1 0 (call.Quit false 5) reply.QuitDone ∷ entry 3 0 (call.Next 5) reply.Disposed
+    ∷ entry 0 0 (call.Post (message 1 7 10 None)) (reply.Refused 1) ∷ entry 1 1 (call.Post (message 1 7 8 None)) (reply.Refused 1) ∷ []
+
+abbrev order_main : List Entry
+order_main =
+    entry 4 0 (call.Advance 5) reply.Advanced ∷ entry 4 1 (call.Advance 8) reply.Advanced ∷ entry 4 2 (call.Advance 10) reply.Advanced
+    ∷ entry 4 3 (call.Halt 10) reply.Halted ∷ []
+
+abbrev order_report : Report
+order_report = record (quit_report order_blocks order_entries) { queues = queue 0 true 5 order_main ∷ queue 1 false 5 order_entries ∷ [] }
+
+pub calls_out_of_order : IsRun in_lockstep order_report.script order_report → ⊥
+unfolding are_in_order
+calls_out_of_order r = let in_order : false ≡ true = r.timely.histories.1.0.in_order in cc
+
+pub calls_out_of_order_else : IsRunBut but.Order order_report.script order_report
+unfolding IsLegal AreNumbered made_count answer clock accepted_count barrier_count quit_place has_disposed has_halted live first_eligible pick is_controlled lawful all_allowed is_allowed owed next_phase last_time in_due_order before_later live_callbacks posted_count after_act befores is_called_in_time are_before_quit are_in_order moves
+calls_out_of_order_else = record {
+  report = record { script = refl; queues = refl; journals = refl; frames = refl };
+  records = record { mode = refl; start = refl; histories = (record {
+    main = refl;
+    lockstep = refl;
+    senders = refl;
+    legal =
+        (record { reply = refl; timely = lit≤ tt }, (record { reply = refl; timely = lit≤ tt }, (record { reply = refl; timely = lit≤ tt },
+        (record { reply = refl; timely = refl }, tt))));
+    numbered =
+        (record { known = lit< tt; counted = refl; controller = λ h. refl }, (record { known = lit< tt; counted = refl; controller = λ h. refl },
+        (record { known = lit< tt; counted = refl; controller = λ h. refl }, (record { known = lit< tt; counted = refl; controller = λ h. refl },
+        tt))));
+    clocked = tt;
+  }, (record {
+    main = refl;
+    lockstep = refl;
+    senders = refl;
+    legal =
+        (record { reply = refl; timely = lit≤ tt }, (record { reply = refl; timely = refl }, (record { reply = refl; timely = refl },
+        (record { reply = refl; timely = tt }, (record { reply = refl; timely = tt }, tt)))));
+    numbered =
+        (record { known = lit< tt; counted = refl; controller = λ h. refl }, (record { known = lit< tt; counted = refl; controller = λ h. cc },
+        (record { known = lit< tt; counted = refl; controller = λ h. cc }, (record { known = lit< tt; counted = refl; controller = λ h. cc },
+        (record { known = lit< tt; counted = refl; controller = λ h. cc }, tt)))));
+    clocked = tt;
+  }, tt)) };
+  planned = (each_below 2 (λ thread. AreAsPlanned in_lockstep order_report.script thread 0 order_main) ((tt, tt), tt), (each_below 2 (λ thread. AreAsPlanned in_lockstep order_report.script thread 1 order_entries) ((tt, (record { uptime = 10; allowed = refl; call = refl; no_earlier = tt }, tt)), (record { uptime = 5; allowed = refl; call = refl; no_earlier = tt }, (record { uptime = 8; allowed = refl; call = refl; no_earlier = tt }, tt))), tt));
+  controls = (refl, (refl, tt));
+  frames = (record { interval = refl; phases = refl; lawful = refl }, (record { interval = refl; phases = refl; lawful = refl }, tt));
+  loopers = (record {
+    final = first_looper order_report.script;
+    acts =
+        refl;
+    settled = refl;
+    dispatches = refl;
+    disposed_at = 0;
+    calls = (tt, (tt, tt));
+    asked = λ test. omega arith;
+    whole = refl;
+    on_time = (refl, (refl, tt));
+    moments = refl;
+  }, (record {
+    final = first_looper order_report.script;
+    acts =
+        refl;
+    settled = refl;
+    dispatches = refl;
+    disposed_at = 5;
+    calls = (tt, ((record { call = refl; reply = refl }, tt), tt));
+    asked = λ test. omega arith;
+    whole = refl;
+    on_time = (refl, (refl, tt));
+    moments = refl;
+  }, tt));
+  halted = refl;
+  histories = (record { controls = refl; before_quit = refl; threads = each_below 2 (λ thread. IsThreadOnTime order_report.script (queue 0 true 5 order_main) thread) ((tt, refl), refl); in_order = tt }, (record { controls = refl; before_quit = refl; threads = each_below 2 (λ thread. IsThreadOnTime order_report.script (queue 1 false 5 order_entries) thread) ((tt, refl), refl); in_order = tt }, tt));
+  moved = record { due = (inl refl, (inl refl, (inl refl, tt))); together = ((_, refl), ((_, refl), tt)) };
+}
+
+-- time is moved to 12, when nothing comes
+abbrev needless_entries : List Entry
+needless_entries =
+    advance 0 10 ∷ first_post 0 0 ∷ second_post 1 1 ∷ look 0 10 1 ∷ advance 1 12 ∷ advance 2 15 ∷ look 1 15 0 ∷ advance 3 20 ∷ halt 4 20 ∷ []
+
+abbrev needless_acts : List Act
+needless_acts = dispatch 1 10 ∷ dispatch 0 15 ∷ []
+
+-- no multiple of the period rounds to 12 milliseconds, and neither does the greatest number
+no_pulse : IsPulseTime 16666667 12 → ⊥
+no_pulse p = by_test (and_parts (nat_lt 0 p.stamp) _ p.pulse).0 (or_cases (p.stamp % 16666667 == 0) _ (and_parts (nat_lt 0 p.stamp) _ p.pulse).1)
+  where
+    by_test : nat_lt 0 p.stamp ≡ true → ((p.stamp % 16666667 == 0) ≡ true) ⊎ ((p.stamp == 2 ^ 64 - 1) ≡ true) → ⊥
+    by_test some (inl multiple) =
+        let positive : 0 < p.stamp = grind (arith, nat_tests) in
+        let rest : p.stamp % 16666667 ≡ 0 = grind (arith, nat_tests) in
+        let rounded : (p.stamp + 999999) / 1000000 ≡ 12 = p.rounded in
+        omega (arith, positive, rest, rounded)
+    by_test some (inr greatest) =
+        let same : p.stamp ≡ 2 ^ 64 - 1 = grind (arith, nat_tests) in
+        let rounded : (p.stamp + 999999) / 1000000 ≡ 12 = p.rounded in
+        omega (arith, same, rounded)
+
+pub moves_where_nothing_comes : IsRun in_lockstep script (main_report script needless_entries needless_acts) → ⊥
+unfolding moves first_eligible live
+moves_where_nothing_comes r = of_move r.timely.moves.due.1.0
+  where
+    of_move : (false ≡ true) ⊎ IsPulseTime 16666667 12 → ⊥
+    of_move (inl planned) = cc
+    of_move (inr pulse) = no_pulse pulse
+
+pub moves_where_nothing_comes_else : IsRunBut but.Due script (main_report script needless_entries needless_acts)
+unfolding IsLegal AreNumbered made_count answer clock accepted_count barrier_count quit_place has_disposed has_halted live first_eligible pick is_controlled lawful all_allowed is_allowed owed next_phase last_time in_due_order before_later live_callbacks posted_count after_act befores is_called_in_time are_before_quit are_in_order moves
+moves_where_nothing_comes_else = record {
+  report = record { script = refl; queues = refl; journals = refl; frames = refl };
+  records = record { mode = refl; start = refl; histories = (record {
+    main = refl;
+    lockstep = refl;
+    senders = refl;
+    legal =
+        (record { reply = refl; timely = lit≤ tt }, (record { reply = refl; timely = tt }, (record { reply = refl; timely = tt },
+        (record { reply = refl; timely = refl }, (record { reply = refl; timely = lit≤ tt }, (record { reply = refl; timely = lit≤ tt },
+        (record { reply = refl; timely = refl }, (record { reply = refl; timely = lit≤ tt }, (record { reply = refl; timely = refl }, tt)))))))));
+    numbered =
+        (record { known = lit< tt; counted = refl; controller = λ h. refl }, (record { known = lit< tt; counted = refl; controller = λ h. cc },
+        (record { known = lit< tt; counted = refl; controller = λ h. cc }, (record { known = lit< tt; counted = refl; controller = λ h. cc },
+        (record { known = lit< tt; counted = refl; controller = λ h. refl }, (record { known = lit< tt; counted = refl; controller = λ h. refl },
+        (record { known = lit< tt; counted = refl; controller = λ h. cc }, (record { known = lit< tt; counted = refl; controller = λ h. refl },
+        (record { known = lit< tt; counted = refl; controller = λ h. refl }, tt)))))))));
+    clocked = tt;
+  }, tt) };
+  planned = (each_below 1 (λ thread. AreAsPlanned in_lockstep script thread 0 needless_entries) (tt, (record { uptime = 10; allowed = refl; call = refl; no_earlier = tt }, (record { uptime = 10; allowed = refl; call = refl; no_earlier = tt }, tt))), tt);
+  controls = (refl, tt);
+  frames = (record { interval = refl; phases = refl; lawful = refl }, tt);
+  loopers = (record {
+    final = led script 0 needless_entries [] (first_looper script) (None ∷ None ∷ []) needless_acts;
+    acts =
+        (None, (record { accepted = refl; starts = refl; place = refl; painted = refl }, (None,
+        (record { accepted = refl; starts = refl; place = refl; painted = refl }, refl))));
+    settled = refl;
+    dispatches = refl;
+    disposed_at = 0;
+    calls = ((record { call = refl; reply = refl }, (record { call = refl; reply = refl }, tt)), tt);
+    asked = λ test. omega arith;
+    whole = refl;
+    on_time = (refl, tt);
+    moments = refl;
+  }, tt);
+  halted = refl;
+  histories = (record { controls = refl; before_quit = refl; threads = each_below 1 (λ thread. IsThreadOnTime script (queue 0 true 3 needless_entries) thread) (tt, refl); in_order = refl }, tt);
+  moved = record { due = tt; together = ((_, refl), tt) };
+}
+
+-- a script in which nothing happens, with a side looper
+abbrev quiet_script : Script
+quiet_script = plain_script 2 1 (handler_on 0 ∷ handler_on 1 ∷ []) [] 10
+
+-- the side looper's queue is moved to 5, and main isn't
+abbrev alone_entries : List Entry
+alone_entries = side_advance 0 5 ∷ side_advance 1 10 ∷ side_quit 2 reply.QuitDone ∷ disposal 0 10 ∷ []
+
+abbrev alone_report : Report
+alone_report = record (side_report 10 (command.Quit 1) alone_entries []) { script = quiet_script }
+
+pub moves_one_queue_alone : IsRun in_lockstep quiet_script alone_report → ⊥
+unfolding moves first_eligible live
+moves_one_queue_alone r =
+    let times : 5 ≡ 10 = ap (λ ts. slice_index ts 0) r.timely.moves.together.1.0.1 in
+    omega (arith, times)
+
+pub moves_one_queue_alone_else : IsRunBut but.Together quiet_script alone_report
+unfolding IsLegal AreNumbered made_count answer clock accepted_count barrier_count quit_place has_disposed has_halted live first_eligible pick is_controlled lawful all_allowed is_allowed owed next_phase last_time in_due_order before_later live_callbacks posted_count after_act befores is_called_in_time are_before_quit are_in_order moves
+moves_one_queue_alone_else = record {
+  report = record { script = refl; queues = refl; journals = refl; frames = refl };
+  records = record { mode = refl; start = refl; histories = (record {
+    main = refl;
+    lockstep = refl;
+    senders = refl;
+    legal =
+        (record { reply = refl; timely = lit≤ tt }, (record { reply = refl; timely = refl }, tt));
+    numbered =
+        (record { known = lit< tt; counted = refl; controller = λ h. refl }, (record { known = lit< tt; counted = refl; controller = λ h. refl }, tt));
+    clocked = tt;
+  }, (record {
+    main = refl;
+    lockstep = refl;
+    senders = refl;
+    legal =
+        (record { reply = refl; timely = lit≤ tt }, (record { reply = refl; timely = lit≤ tt }, (record { reply = refl; timely = refl },
+        (record { reply = refl; timely = refl }, tt))));
+    numbered =
+        (record { known = lit< tt; counted = refl; controller = λ h. refl }, (record { known = lit< tt; counted = refl; controller = λ h. refl },
+        (record { known = lit< tt; counted = refl; controller = λ h. refl }, (record { known = lit< tt; counted = refl; controller = λ h. cc }, tt))));
+    clocked = tt;
+  }, tt)) };
+  planned = (each_below 1 (λ thread. AreAsPlanned in_lockstep quiet_script thread 0 quit_twice.entries_0) (tt, tt), (each_below 1 (λ thread. AreAsPlanned in_lockstep quiet_script thread 1 alone_entries) (tt, tt), tt));
+  controls = (refl, (refl, tt));
+  frames = (record { interval = refl; phases = refl; lawful = refl }, (record { interval = refl; phases = refl; lawful = refl }, tt));
+  loopers = (record {
+    final = first_looper quiet_script;
+    acts =
+        refl;
+    settled = refl;
+    dispatches = refl;
+    disposed_at = 0;
+    calls = (tt, (tt, tt));
+    asked = λ test. omega arith;
+    whole = refl;
+    on_time = (refl, (refl, tt));
+    moments = refl;
+  }, (record {
+    final = first_looper quiet_script;
+    acts =
+        refl;
+    settled = refl;
+    dispatches = refl;
+    disposed_at = 10;
+    calls = (tt, ((record { call = refl; reply = refl }, tt), tt));
+    asked = λ test. omega arith;
+    whole = refl;
+    on_time = (refl, (refl, tt));
+    moments = refl;
+  }, tt));
+  halted = refl;
+  histories = (record { controls = refl; before_quit = refl; threads = each_below 1 (λ thread. IsThreadOnTime quiet_script (queue 0 true 4 quit_twice.entries_0) thread) (tt, refl); in_order = refl }, (record { controls = refl; before_quit = refl; threads = each_below 1 (λ thread. IsThreadOnTime quiet_script (queue 1 false 4 alone_entries) thread) (tt, refl); in_order = refl }, tt));
+  moved = record { due = (inl refl, tt); together = tt };
+}

@@ -1,0 +1,133 @@
+-- Runs of a script in lockstep but for one clause: what is shown of a report that has one fault.
+use Rattle.std.proofs.Common.{◌≡◌, ◌<◌, ℕ, true, List, [], ◌∷◌, refl}
+use Rattle.std.specs.Prelude.{◌==◌, map, MatchBool}
+use Rattle.std.specs.List.{AllByRecursion, filter_map, enumerate_from}
+use mathlib.Core.List.{IsPrefix}
+use Rattle.loop_model.specs.declared.entry.Entry.{Entry}
+use Rattle.loop_model.specs.declared.journal.Journal.{Journal}
+use Rattle.loop_model.specs.declared.record.QueueRecord.{QueueRecord}
+use Rattle.loop_model.specs.Dispatches.{act_dispatch, call_dispatch}
+use Rattle.loop_model.proofs.Sorting.{AllByRecursion-weaker}
+use Rattle.frame_phases.specs.declared.entry.FrameRecord.{FrameRecord}
+use Rattle.dash_script.specs.declared.script.Script.{Script}
+use Rattle.run_model.specs.declared.report.Report.{Report}
+use Rattle.run_model.specs.Histories.{history_of}
+use Rattle.run_model.specs.Asks.{AreFor, entries_by}
+use Rattle.run_model.specs.Senders.{looper_sender, controller}
+use Rattle.run_model.specs.Moments.{in_lockstep}
+use Rattle.run_model.specs.Control.{is_called_in_time, are_before_quit, befores, are_on_time}
+use Rattle.run_model.specs.Loopers.{Looper, first_looper}
+use Rattle.run_model.specs.Acts.{Lead, IsSent}
+use Rattle.run_model.specs.Moves.{Move, moves, move_times, main_moves, MayMoveTo, AreMovedTogether}
+use Rattle.run_model.specs.FrameRuns.{are_run_then, are_whole}
+use Rattle.run_model.specs.FrameAsks.{as_told, asks_in, AreAsOften}
+use Rattle.run_model.specs.Run.{IsReportOf, AreRecordsOf, all_entries, ArePlannedOf, AreControlsOf, AreFramesOf, caused_on, asked_of, IsLooperRun, EachLooper, IsThreadOnTime, are_in_order, IsTimely, main_ends_halted, IsRun}
+
+-- a clause of the definition, left out or kept
+pub data Clause : Type 0 where
+  -- no clause
+  Nothing : Clause
+  -- what is asked of a choreographer stands in its record
+  Asked : Clause
+  -- frames are whole
+  Whole : Clause
+  -- a looper's calls are on time
+  OnTime : Clause
+  -- a looper takes its messages when its journal tells: the dispatches, the calls, and that they are on time
+  Takes : Clause
+  -- the threads' calls are on time
+  Threads : Clause
+  -- they come in the order of their blocks
+  Order : Clause
+  -- time is moved to when something may come
+  Due : Clause
+  -- all queues' times are moved together
+  Together : Clause
+
+abbrev pub number_of : Clause → ℕ
+number_of Nothing = 0
+number_of Asked = 1
+number_of Whole = 2
+number_of OnTime = 3
+number_of Takes = 4
+number_of Threads = 5
+number_of Order = 6
+number_of Due = 7
+number_of Together = 8
+
+-- this is so, unless it is the clause that is left out
+abbrev pub Unless : Clause → Clause → Type 0 → Type 0
+Unless out clause P = MatchBool (number_of out == number_of clause) (Unit {0}) P
+
+-- a looper's run, but for the clause that is left out
+pub record IsLooperRunBut (out : Clause) (s : Script) (queues : List QueueRecord) (q : QueueRecord) (j : Journal) (f : FrameRecord) : Type 0 where
+  pub final : Looper
+  pub acts : Lead s q.looper (history_of q) f.entries (first_looper s) j.acts final
+  pub settled : final.painted ≡ []
+  pub dispatches : Unless out Takes (filter_map act_dispatch j.acts ≡ filter_map (λ e. call_dispatch e.call e.reply) (entries_by (looper_sender s q.looper) (history_of q)))
+  pub disposed_at : ℕ
+  pub calls : Unless out Takes (AllByRecursion (λ (r : QueueRecord). AreFor IsSent [] (caused_on r.looper final q.looper disposed_at) (entries_by (looper_sender s q.looper) (history_of r))) queues)
+  pub asked : Unless out Asked (AreAsOften (map (as_told true) (asks_in f.entries)) (map (as_told true) (asked_of s q.looper final)))
+  pub whole : Unless out Whole (are_whole f.phases f.entries final.frames ≡ true)
+  pub on_time : Unless out OnTime (Unless out Takes (AllByRecursion (λ (r : QueueRecord). are_on_time (map (λ x. x.timing) (caused_on r.looper final q.looper disposed_at)) (befores (looper_sender s q.looper) (history_of r)) ≡ true) queues))
+  pub moments : are_run_then f.entries final.frames ≡ true
+
+-- a timely history, but for the clause that is left out
+pub record IsTimelyBut (out : Clause) (s : Script) (r : QueueRecord) : Type 0 where
+  pub controls : is_called_in_time (controller s) (history_of r) ≡ true
+  pub before_quit : are_before_quit s.threads (controller s) (history_of r) ≡ true
+  pub threads : Unless out Threads ((thread : ℕ) → thread < s.threads → IsThreadOnTime s r thread)
+  pub in_order : Unless out Order (are_in_order s r.looper (history_of r) ≡ true)
+
+-- the moves of all queues, but for the clause that is left out
+pub record AreMovedBut (out : Clause) (s : Script) (all : List (List Move)) : Type 0 where
+  pub due : Unless out Due (AllByRecursion (λ (number, t). MayMoveTo s all number t) (enumerate_from 0 (move_times (main_moves all))))
+  pub together : Unless out Together (AllByRecursion (λ (ms : List Move). IsPrefix (move_times ms) (move_times (main_moves all))) all)
+
+-- a run of the script, but for the clause that is left out
+pub record IsRunBut (out : Clause) (s : Script) (r : Report) : Type 0 where
+  pub report : IsReportOf s r
+  pub records : AreRecordsOf in_lockstep all_entries s r
+  pub planned : ArePlannedOf in_lockstep s r
+  pub controls : AreControlsOf s r
+  pub frames : AreFramesOf s r
+  pub loopers : EachLooper (IsLooperRunBut out s r.queues) r.queues r.journals r.frames
+  pub halted : main_ends_halted r.queues ≡ true
+  pub histories : AllByRecursion (IsTimelyBut out s) r.queues
+  pub moved : AreMovedBut out s (map (λ q. moves (controller s) (history_of q)) r.queues)
+
+each_looper : (P Q : QueueRecord → Journal → FrameRecord → Type 0) → ((q : QueueRecord) (j : Journal) (f : FrameRecord) → P q j f → Q q j f)
+    → (qs : List QueueRecord) (js : List Journal) (fs : List FrameRecord) → EachLooper P qs js fs → EachLooper Q qs js fs
+each_looper P Q weaker [] [] [] all = tt
+each_looper P Q weaker [] [] (f ∷ fs) all = absurd all
+each_looper P Q weaker [] (j ∷ js) fs all = absurd all
+each_looper P Q weaker (q ∷ qs) [] fs all = absurd all
+each_looper P Q weaker (q ∷ qs) (j ∷ js) [] all = absurd all
+each_looper P Q weaker (q ∷ qs) (j ∷ js) (f ∷ fs) all = (weaker q j f all.0, each_looper P Q weaker qs js fs all.1)
+
+-- where no clause is left out, it is a run
+pub is_run : (s : Script) (r : Report) → IsRunBut Nothing s r → IsRun in_lockstep s r
+is_run s r h = record {
+  report = h.report;
+  records = h.records;
+  planned = h.planned;
+  controls = h.controls;
+  frames = h.frames;
+  loopers = each_looper (IsLooperRunBut Nothing s r.queues) (IsLooperRun in_lockstep s r.queues) (λ q j f x. record {
+    final = x.final;
+    acts = x.acts;
+    settled = x.settled;
+    dispatches = x.dispatches;
+    disposed_at = x.disposed_at;
+    calls = x.calls;
+    asked = x.asked;
+    whole = x.whole;
+    on_time = x.on_time;
+    moments = x.moments;
+  }) r.queues r.journals r.frames h.loopers;
+  timely = record {
+    halted = h.halted;
+    histories = AllByRecursion-weaker (IsTimelyBut Nothing s) (IsTimely s) (λ q x. record { controls = x.controls; before_quit = x.before_quit; threads = x.threads; in_order = x.in_order }) r.queues h.histories;
+    moves = record { due = h.moved.due; together = h.moved.together };
+  };
+}
