@@ -12,6 +12,8 @@ pub mod MainMayNotQuit
 pub mod QuitTwice
 pub mod GaugeMoves
 pub mod NotRuns
+pub mod NotRunsGauges
+pub mod NotRunsFrames
 pub mod NotRunsTimes
 pub mod RunLaws
 pub mod FrameComesDue

@@ -61,32 +61,22 @@ unfolding IsLegal AreNumbered made_count answer clock accepted_count barrier_cou
 calls_early_else = record {
   report = record { script = refl; queues = refl; journals = refl; frames = refl };
   records = record { mode = refl; start = refl; histories = (record {
-    main = refl;
-    lockstep = refl;
-    senders = refl;
+    main = refl; lockstep = refl; senders = refl; clocked = tt;
     legal =
         (record { reply = refl; timely = tt }, (record { reply = refl; timely = lit≤ tt }, (record { reply = refl; timely = refl },
         (record { reply = refl; timely = refl }, tt))));
     numbered =
         (record { known = lit< tt; counted = refl; controller = λ h. cc }, (record { known = lit< tt; counted = refl; controller = λ h. refl },
         (record { known = lit< tt; counted = refl; controller = λ h. cc }, (record { known = lit< tt; counted = refl; controller = λ h. refl }, tt))));
-    clocked = tt;
   }, tt) };
   planned = (each_below 1 (λ thread. AreAsPlanned in_lockstep (post_script 0 10) thread 0 early_entries) (tt, (record { uptime = 10; allowed = refl; call = refl; no_earlier = tt }, tt)), tt);
   controls = (refl, tt);
   frames = (record { interval = refl; phases = refl; lawful = refl }, tt);
   loopers = (record {
     final = led (post_script 0 10) 0 early_entries [] (first_looper (post_script 0 10)) (None ∷ []) (dispatch 0 10 ∷ []);
-    acts =
-        (None, (record { accepted = refl; starts = refl; place = refl; painted = refl }, refl));
-    settled = refl;
-    dispatches = refl;
-    disposed_at = 0;
+    acts = (None, (record { accepted = refl; starts = refl; place = refl; painted = refl }, refl));
+    settled = refl; dispatches = refl; disposed_at = 0; whole = refl; on_time = (refl, tt); moments = refl; asked = λ test. omega arith;
     calls = ((record { call = refl; reply = refl }, tt), tt);
-    asked = λ test. omega arith;
-    whole = refl;
-    on_time = (refl, tt);
-    moments = refl;
   }, tt);
   halted = refl;
   histories = (record { controls = refl; before_quit = refl; threads = tt; in_order = refl }, tt);
@@ -109,9 +99,7 @@ unfolding IsLegal AreNumbered made_count answer clock accepted_count barrier_cou
 calls_late_else = record {
   report = record { script = refl; queues = refl; journals = refl; frames = refl };
   records = record { mode = refl; start = refl; histories = (record {
-    main = refl;
-    lockstep = refl;
-    senders = refl;
+    main = refl; lockstep = refl; senders = refl; clocked = tt;
     legal =
         (record { reply = refl; timely = lit≤ tt }, (record { reply = refl; timely = lit≤ tt }, (record { reply = refl; timely = tt },
         (record { reply = refl; timely = refl }, (record { reply = refl; timely = refl }, tt)))));
@@ -119,23 +107,15 @@ calls_late_else = record {
         (record { known = lit< tt; counted = refl; controller = λ h. refl }, (record { known = lit< tt; counted = refl; controller = λ h. refl },
         (record { known = lit< tt; counted = refl; controller = λ h. cc }, (record { known = lit< tt; counted = refl; controller = λ h. cc },
         (record { known = lit< tt; counted = refl; controller = λ h. refl }, tt)))));
-    clocked = tt;
   }, tt) };
   planned = (each_below 1 (λ thread. AreAsPlanned in_lockstep (post_script 5 15) thread 0 late_entries) (tt, (record { uptime = 10; allowed = refl; call = refl; no_earlier = tt }, tt)), tt);
   controls = (refl, tt);
   frames = (record { interval = refl; phases = refl; lawful = refl }, tt);
   loopers = (record {
     final = led (post_script 5 15) 0 late_entries [] (first_looper (post_script 5 15)) (None ∷ []) (dispatch 0 15 ∷ []);
-    acts =
-        (None, (record { accepted = refl; starts = refl; place = refl; painted = refl }, refl));
-    settled = refl;
-    dispatches = refl;
-    disposed_at = 0;
+    acts = (None, (record { accepted = refl; starts = refl; place = refl; painted = refl }, refl));
+    settled = refl; dispatches = refl; disposed_at = 0; whole = refl; on_time = (refl, tt); moments = refl; asked = λ test. omega arith;
     calls = ((record { call = refl; reply = refl }, tt), tt);
-    asked = λ test. omega arith;
-    whole = refl;
-    on_time = (refl, tt);
-    moments = refl;
   }, tt);
   halted = refl;
   histories = (record { controls = refl; before_quit = refl; threads = tt; in_order = refl }, tt);
@@ -163,9 +143,7 @@ unfolding IsLegal AreNumbered made_count answer clock accepted_count barrier_cou
 takes_late_else = record {
   report = record { script = refl; queues = refl; journals = refl; frames = refl };
   records = record { mode = refl; start = refl; histories = (record {
-    main = refl;
-    lockstep = refl;
-    senders = refl;
+    main = refl; lockstep = refl; senders = refl; clocked = tt;
     legal =
         (record { reply = refl; timely = lit≤ tt }, (record { reply = refl; timely = tt }, (record { reply = refl; timely = lit≤ tt },
         (record { reply = refl; timely = refl }, (record { reply = refl; timely = refl }, tt)))));
@@ -173,23 +151,15 @@ takes_late_else = record {
         (record { known = lit< tt; counted = refl; controller = λ h. refl }, (record { known = lit< tt; counted = refl; controller = λ h. cc },
         (record { known = lit< tt; counted = refl; controller = λ h. refl }, (record { known = lit< tt; counted = refl; controller = λ h. cc },
         (record { known = lit< tt; counted = refl; controller = λ h. refl }, tt)))));
-    clocked = tt;
   }, tt) };
   planned = (each_below 1 (λ thread. AreAsPlanned in_lockstep (post_script 5 15) thread 0 taken_entries) (tt, (record { uptime = 10; allowed = refl; call = refl; no_earlier = tt }, tt)), tt);
   controls = (refl, tt);
   frames = (record { interval = refl; phases = refl; lawful = refl }, tt);
   loopers = (record {
     final = led (post_script 5 15) 0 taken_entries [] (first_looper (post_script 5 15)) (None ∷ []) (dispatch 0 10 ∷ []);
-    acts =
-        (None, (record { accepted = refl; starts = refl; place = refl; painted = refl }, refl));
-    settled = refl;
-    dispatches = tt;
-    disposed_at = 0;
+    acts = (None, (record { accepted = refl; starts = refl; place = refl; painted = refl }, refl));
+    settled = refl; dispatches = tt; disposed_at = 0; whole = refl; on_time = tt; moments = refl; asked = λ test. omega arith;
     calls = tt;
-    asked = λ test. omega arith;
-    whole = refl;
-    on_time = tt;
-    moments = refl;
   }, tt);
   halted = refl;
   histories = (record { controls = refl; before_quit = refl; threads = each_below 1 (λ thread. IsThreadOnTime (post_script 5 15) (queue 0 true 3 taken_entries) thread) (tt, refl); in_order = refl }, tt);
@@ -229,9 +199,7 @@ unfolding IsLegal AreNumbered made_count answer clock accepted_count barrier_cou
 reacts_late_else = record {
   report = record { script = refl; queues = refl; journals = refl; frames = refl };
   records = record { mode = refl; start = refl; histories = (record {
-    main = refl;
-    lockstep = refl;
-    senders = refl;
+    main = refl; lockstep = refl; senders = refl; clocked = tt;
     legal =
         (record { reply = refl; timely = lit≤ tt }, (record { reply = refl; timely = tt }, (record { reply = refl; timely = refl },
         (record { reply = refl; timely = lit≤ tt }, (record { reply = refl; timely = tt }, (record { reply = refl; timely = refl },
@@ -241,24 +209,16 @@ reacts_late_else = record {
         (record { known = lit< tt; counted = refl; controller = λ h. cc }, (record { known = lit< tt; counted = refl; controller = λ h. refl },
         (record { known = lit< tt; counted = refl; controller = λ h. cc }, (record { known = lit< tt; counted = refl; controller = λ h. cc },
         (record { known = lit< tt; counted = refl; controller = λ h. refl }, tt)))))));
-    clocked = tt;
   }, tt) };
   planned = (each_below 1 (λ thread. AreAsPlanned in_lockstep rule_script thread 0 reacted_entries) (tt, (record { uptime = 10; allowed = refl; call = refl; no_earlier = tt }, tt)), tt);
   controls = (refl, tt);
   frames = (record { interval = refl; phases = refl; lawful = refl }, tt);
   loopers = (record {
     final = led rule_script 0 reacted_entries [] (first_looper rule_script) (None ∷ None ∷ []) reacted_acts;
-    acts =
-        (None, (record { accepted = refl; starts = refl; place = refl; painted = refl }, (None,
+    acts = (None, (record { accepted = refl; starts = refl; place = refl; painted = refl }, (None,
         (record { accepted = refl; starts = refl; place = refl; painted = refl }, refl))));
-    settled = refl;
-    dispatches = refl;
-    disposed_at = 0;
+    settled = refl; dispatches = refl; disposed_at = 0; whole = refl; on_time = tt; moments = refl; asked = λ test. omega arith;
     calls = ((record { call = refl; reply = refl }, (record { call = refl; reply = tt }, (record { call = refl; reply = refl }, tt))), tt);
-    asked = λ test. omega arith;
-    whole = refl;
-    on_time = tt;
-    moments = refl;
   }, tt);
   halted = refl;
   histories = (record { controls = refl; before_quit = refl; threads = each_below 1 (λ thread. IsThreadOnTime rule_script (queue 0 true 3 reacted_entries) thread) (tt, refl); in_order = refl }, tt);
@@ -292,9 +252,7 @@ unfolding IsLegal AreNumbered made_count answer clock accepted_count barrier_cou
 calls_out_of_order_else = record {
   report = record { script = refl; queues = refl; journals = refl; frames = refl };
   records = record { mode = refl; start = refl; histories = (record {
-    main = refl;
-    lockstep = refl;
-    senders = refl;
+    main = refl; lockstep = refl; senders = refl; clocked = tt;
     legal =
         (record { reply = refl; timely = lit≤ tt }, (record { reply = refl; timely = lit≤ tt }, (record { reply = refl; timely = lit≤ tt },
         (record { reply = refl; timely = refl }, tt))));
@@ -302,11 +260,8 @@ calls_out_of_order_else = record {
         (record { known = lit< tt; counted = refl; controller = λ h. refl }, (record { known = lit< tt; counted = refl; controller = λ h. refl },
         (record { known = lit< tt; counted = refl; controller = λ h. refl }, (record { known = lit< tt; counted = refl; controller = λ h. refl },
         tt))));
-    clocked = tt;
   }, (record {
-    main = refl;
-    lockstep = refl;
-    senders = refl;
+    main = refl; lockstep = refl; senders = refl; clocked = tt;
     legal =
         (record { reply = refl; timely = lit≤ tt }, (record { reply = refl; timely = refl }, (record { reply = refl; timely = refl },
         (record { reply = refl; timely = tt }, (record { reply = refl; timely = tt }, tt)))));
@@ -314,35 +269,20 @@ calls_out_of_order_else = record {
         (record { known = lit< tt; counted = refl; controller = λ h. refl }, (record { known = lit< tt; counted = refl; controller = λ h. cc },
         (record { known = lit< tt; counted = refl; controller = λ h. cc }, (record { known = lit< tt; counted = refl; controller = λ h. cc },
         (record { known = lit< tt; counted = refl; controller = λ h. cc }, tt)))));
-    clocked = tt;
   }, tt)) };
   planned = (each_below 2 (λ thread. AreAsPlanned in_lockstep order_report.script thread 0 order_main) ((tt, tt), tt), (each_below 2 (λ thread. AreAsPlanned in_lockstep order_report.script thread 1 order_entries) ((tt, (record { uptime = 10; allowed = refl; call = refl; no_earlier = tt }, tt)), (record { uptime = 5; allowed = refl; call = refl; no_earlier = tt }, (record { uptime = 8; allowed = refl; call = refl; no_earlier = tt }, tt))), tt));
   controls = (refl, (refl, tt));
   frames = (record { interval = refl; phases = refl; lawful = refl }, (record { interval = refl; phases = refl; lawful = refl }, tt));
   loopers = (record {
     final = first_looper order_report.script;
-    acts =
-        refl;
-    settled = refl;
-    dispatches = refl;
-    disposed_at = 0;
+    acts = refl;
+    settled = refl; dispatches = refl; disposed_at = 0; whole = refl; on_time = (refl, (refl, tt)); moments = refl; asked = λ test. omega arith;
     calls = (tt, (tt, tt));
-    asked = λ test. omega arith;
-    whole = refl;
-    on_time = (refl, (refl, tt));
-    moments = refl;
   }, (record {
     final = first_looper order_report.script;
-    acts =
-        refl;
-    settled = refl;
-    dispatches = refl;
-    disposed_at = 5;
+    acts = refl;
+    settled = refl; dispatches = refl; disposed_at = 5; whole = refl; on_time = (refl, (refl, tt)); moments = refl; asked = λ test. omega arith;
     calls = (tt, ((record { call = refl; reply = refl }, tt), tt));
-    asked = λ test. omega arith;
-    whole = refl;
-    on_time = (refl, (refl, tt));
-    moments = refl;
   }, tt));
   halted = refl;
   histories = (record { controls = refl; before_quit = refl; threads = each_below 2 (λ thread. IsThreadOnTime order_report.script (queue 0 true 5 order_main) thread) ((tt, refl), refl); in_order = tt }, (record { controls = refl; before_quit = refl; threads = each_below 2 (λ thread. IsThreadOnTime order_report.script (queue 1 false 5 order_entries) thread) ((tt, refl), refl); in_order = tt }, tt));
@@ -385,9 +325,7 @@ unfolding IsLegal AreNumbered made_count answer clock accepted_count barrier_cou
 moves_where_nothing_comes_else = record {
   report = record { script = refl; queues = refl; journals = refl; frames = refl };
   records = record { mode = refl; start = refl; histories = (record {
-    main = refl;
-    lockstep = refl;
-    senders = refl;
+    main = refl; lockstep = refl; senders = refl; clocked = tt;
     legal =
         (record { reply = refl; timely = lit≤ tt }, (record { reply = refl; timely = tt }, (record { reply = refl; timely = tt },
         (record { reply = refl; timely = refl }, (record { reply = refl; timely = lit≤ tt }, (record { reply = refl; timely = lit≤ tt },
@@ -398,24 +336,16 @@ moves_where_nothing_comes_else = record {
         (record { known = lit< tt; counted = refl; controller = λ h. refl }, (record { known = lit< tt; counted = refl; controller = λ h. refl },
         (record { known = lit< tt; counted = refl; controller = λ h. cc }, (record { known = lit< tt; counted = refl; controller = λ h. refl },
         (record { known = lit< tt; counted = refl; controller = λ h. refl }, tt)))))))));
-    clocked = tt;
   }, tt) };
   planned = (each_below 1 (λ thread. AreAsPlanned in_lockstep script thread 0 needless_entries) (tt, (record { uptime = 10; allowed = refl; call = refl; no_earlier = tt }, (record { uptime = 10; allowed = refl; call = refl; no_earlier = tt }, tt))), tt);
   controls = (refl, tt);
   frames = (record { interval = refl; phases = refl; lawful = refl }, tt);
   loopers = (record {
     final = led script 0 needless_entries [] (first_looper script) (None ∷ None ∷ []) needless_acts;
-    acts =
-        (None, (record { accepted = refl; starts = refl; place = refl; painted = refl }, (None,
+    acts = (None, (record { accepted = refl; starts = refl; place = refl; painted = refl }, (None,
         (record { accepted = refl; starts = refl; place = refl; painted = refl }, refl))));
-    settled = refl;
-    dispatches = refl;
-    disposed_at = 0;
+    settled = refl; dispatches = refl; disposed_at = 0; whole = refl; on_time = (refl, tt); moments = refl; asked = λ test. omega arith;
     calls = ((record { call = refl; reply = refl }, (record { call = refl; reply = refl }, tt)), tt);
-    asked = λ test. omega arith;
-    whole = refl;
-    on_time = (refl, tt);
-    moments = refl;
   }, tt);
   halted = refl;
   histories = (record { controls = refl; before_quit = refl; threads = each_below 1 (λ thread. IsThreadOnTime script (queue 0 true 3 needless_entries) thread) (tt, refl); in_order = refl }, tt);
@@ -444,53 +374,33 @@ unfolding IsLegal AreNumbered made_count answer clock accepted_count barrier_cou
 moves_one_queue_alone_else = record {
   report = record { script = refl; queues = refl; journals = refl; frames = refl };
   records = record { mode = refl; start = refl; histories = (record {
-    main = refl;
-    lockstep = refl;
-    senders = refl;
+    main = refl; lockstep = refl; senders = refl; clocked = tt;
     legal =
         (record { reply = refl; timely = lit≤ tt }, (record { reply = refl; timely = refl }, tt));
     numbered =
         (record { known = lit< tt; counted = refl; controller = λ h. refl }, (record { known = lit< tt; counted = refl; controller = λ h. refl }, tt));
-    clocked = tt;
   }, (record {
-    main = refl;
-    lockstep = refl;
-    senders = refl;
+    main = refl; lockstep = refl; senders = refl; clocked = tt;
     legal =
         (record { reply = refl; timely = lit≤ tt }, (record { reply = refl; timely = lit≤ tt }, (record { reply = refl; timely = refl },
         (record { reply = refl; timely = refl }, tt))));
     numbered =
         (record { known = lit< tt; counted = refl; controller = λ h. refl }, (record { known = lit< tt; counted = refl; controller = λ h. refl },
         (record { known = lit< tt; counted = refl; controller = λ h. refl }, (record { known = lit< tt; counted = refl; controller = λ h. cc }, tt))));
-    clocked = tt;
   }, tt)) };
   planned = (each_below 1 (λ thread. AreAsPlanned in_lockstep quiet_script thread 0 quit_twice.entries_0) (tt, tt), (each_below 1 (λ thread. AreAsPlanned in_lockstep quiet_script thread 1 alone_entries) (tt, tt), tt));
   controls = (refl, (refl, tt));
   frames = (record { interval = refl; phases = refl; lawful = refl }, (record { interval = refl; phases = refl; lawful = refl }, tt));
   loopers = (record {
     final = first_looper quiet_script;
-    acts =
-        refl;
-    settled = refl;
-    dispatches = refl;
-    disposed_at = 0;
+    acts = refl;
+    settled = refl; dispatches = refl; disposed_at = 0; whole = refl; on_time = (refl, (refl, tt)); moments = refl; asked = λ test. omega arith;
     calls = (tt, (tt, tt));
-    asked = λ test. omega arith;
-    whole = refl;
-    on_time = (refl, (refl, tt));
-    moments = refl;
   }, (record {
     final = first_looper quiet_script;
-    acts =
-        refl;
-    settled = refl;
-    dispatches = refl;
-    disposed_at = 10;
+    acts = refl;
+    settled = refl; dispatches = refl; disposed_at = 10; whole = refl; on_time = (refl, (refl, tt)); moments = refl; asked = λ test. omega arith;
     calls = (tt, ((record { call = refl; reply = refl }, tt), tt));
-    asked = λ test. omega arith;
-    whole = refl;
-    on_time = (refl, (refl, tt));
-    moments = refl;
   }, tt));
   halted = refl;
   histories = (record { controls = refl; before_quit = refl; threads = each_below 1 (λ thread. IsThreadOnTime quiet_script (queue 0 true 4 quit_twice.entries_0) thread) (tt, refl); in_order = refl }, (record { controls = refl; before_quit = refl; threads = each_below 1 (λ thread. IsThreadOnTime quiet_script (queue 1 false 4 alone_entries) thread) (tt, refl); in_order = refl }, tt));

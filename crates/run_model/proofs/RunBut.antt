@@ -31,6 +31,12 @@ pub data Clause : Type 0 where
   Asked : Clause
   -- frames are whole
   Whole : Clause
+  -- frames start and take their phases at the times of their dispatches
+  Moments : Clause
+  -- the same, and their starts are as asked
+  Starts : Clause
+  -- pulses come at multiples of the period
+  Pulses : Clause
   -- a looper's calls are on time
   OnTime : Clause
   -- a looper takes its messages when its journal tells: the dispatches, the calls, and that they are on time
@@ -48,29 +54,37 @@ abbrev pub number_of : Clause → ℕ
 number_of Nothing = 0
 number_of Asked = 1
 number_of Whole = 2
-number_of OnTime = 3
-number_of Takes = 4
-number_of Threads = 5
-number_of Order = 6
-number_of Due = 7
-number_of Together = 8
+number_of Moments = 3
+number_of Starts = 4
+number_of Pulses = 5
+number_of OnTime = 6
+number_of Takes = 7
+number_of Threads = 8
+number_of Order = 9
+number_of Due = 10
+number_of Together = 11
 
 -- this is so, unless it is the clause that is left out
 abbrev pub Unless : Clause → Clause → Type 0 → Type 0
 Unless out clause P = MatchBool (number_of out == number_of clause) (Unit {0}) P
 
+-- where the pulses are left out, one comes at each moment but 0: the period is a nanosecond
+abbrev pub with_pulses : Clause → Script → Script
+with_pulses Pulses s = record s { period = 1 }
+with_pulses _ s = s
+
 -- a looper's run, but for the clause that is left out
 pub record IsLooperRunBut (out : Clause) (s : Script) (queues : List QueueRecord) (q : QueueRecord) (j : Journal) (f : FrameRecord) : Type 0 where
   pub final : Looper
-  pub acts : Lead s q.looper (history_of q) f.entries (first_looper s) j.acts final
+  pub acts : Lead (with_pulses out s) q.looper (history_of q) f.entries (first_looper s) j.acts final
   pub settled : final.painted ≡ []
   pub dispatches : Unless out Takes (filter_map act_dispatch j.acts ≡ filter_map (λ e. call_dispatch e.call e.reply) (entries_by (looper_sender s q.looper) (history_of q)))
   pub disposed_at : ℕ
   pub calls : Unless out Takes (AllByRecursion (λ (r : QueueRecord). AreFor IsSent [] (caused_on r.looper final q.looper disposed_at) (entries_by (looper_sender s q.looper) (history_of r))) queues)
-  pub asked : Unless out Asked (AreAsOften (map (as_told true) (asks_in f.entries)) (map (as_told true) (asked_of s q.looper final)))
+  pub asked : Unless out Asked (Unless out Starts (AreAsOften (map (as_told true) (asks_in f.entries)) (map (as_told true) (asked_of s q.looper final))))
   pub whole : Unless out Whole (are_whole f.phases f.entries final.frames ≡ true)
   pub on_time : Unless out OnTime (Unless out Takes (AllByRecursion (λ (r : QueueRecord). are_on_time (map (λ x. x.timing) (caused_on r.looper final q.looper disposed_at)) (befores (looper_sender s q.looper) (history_of r)) ≡ true) queues))
-  pub moments : are_run_then f.entries final.frames ≡ true
+  pub moments : Unless out Moments (Unless out Starts (are_run_then f.entries final.frames ≡ true))
 
 -- a timely history, but for the clause that is left out
 pub record IsTimelyBut (out : Clause) (s : Script) (r : QueueRecord) : Type 0 where

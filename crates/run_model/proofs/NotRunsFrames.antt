@@ -1,0 +1,220 @@
+-- Reports that are no runs of their script: what is asked of a choreographer by a line, and its record has a fault.
+use Rattle.std.proofs.Common.{◌≡◌, ◌<◌, ℕ, zero, suc, refl, true, false, List, [], ◌∷◌, ◌++◌, inl, inr, Option, Some, None, sym, ap, subst, length, arith, lit<, lit≤}
+use Rattle.std.specs.Prelude.{◌==◌, Bool, map, count_by, drop, nat_le, slice_get}
+use Rattle.std.specs.List.{AllByRecursion}
+use Rattle.std.specs.Option.{option_map_or}
+use Rattle.std.proofs.lemmas.Bool.{and_parts}
+use Rattle.loop_model.specs.declared.call.Call.TheVariants as call
+use Rattle.loop_model.specs.declared.reply.Reply.TheVariants as reply
+use Rattle.loop_model.specs.declared.entry.Entry.{Entry}
+use Rattle.loop_model.specs.declared.journal.Act.{Act}
+use Rattle.loop_model.specs.declared.journal.Act.TheVariants as act
+use Rattle.loop_model.specs.Legal.{IsLegal, AreNumbered, made_count}
+use Rattle.loop_model.specs.Answers.{answer, clock, accepted_count, barrier_count, quit_place, has_disposed, has_halted}
+use Rattle.loop_model.specs.Live.{live}
+use Rattle.loop_model.specs.Pick.{first_eligible, pick}
+use Rattle.frame_phases.specs.declared.entry.Callback.{Callback}
+use Rattle.frame_phases.specs.declared.entry.FrameEntry.{FrameEntry}
+use Rattle.frame_phases.specs.declared.entry.FrameEntry.TheVariants as frame
+use Rattle.frame_phases.specs.Frames.{lawful, all_allowed, is_allowed, owed, next_phase, last_time, in_due_order, before_later, live as live_callbacks, posted_count}
+use Rattle.dash_script.specs.declared.script.Command.{Command}
+use Rattle.dash_script.specs.declared.script.Command.TheVariants as command
+use Rattle.dash_script.specs.declared.script.Script.{Script}
+use Rattle.run_model.specs.declared.report.Report.{Report}
+use Rattle.run_model.specs.Moments.{in_lockstep}
+use Rattle.run_model.specs.Planned.{AreAsPlanned}
+use Rattle.run_model.specs.Control.{is_controlled, is_called_in_time, are_before_quit, befores}
+use Rattle.run_model.specs.Loopers.{Looper, first_looper}
+use Rattle.run_model.specs.FrameAsks.{FrameAsk, Posts, as_told, asks_in}
+use Rattle.run_model.specs.FrameRuns.{are_run_then, are_whole, is_begin, is_frame_from}
+use Rattle.run_model.specs.Acts.{after_act, Lead}
+use Rattle.run_model.specs.Moves.{moves}
+use Rattle.run_model.specs.Run.{IsRun, asked_of, IsThreadOnTime, are_in_order}
+use Rattle.run_model.proofs.Below.{each_below}
+use Rattle.run_model.proofs.Examples.{entry, handler_on, block, by, plain_script, message, frame_message, queue, journal, callback, led}
+use Rattle.run_model.proofs.RunBut.{IsRunBut}
+use Rattle.run_model.proofs.RunBut as but
+use Rattle.run_model.proofs.NotRuns.{dispatch, advance, look, halt}
+use Rattle.run_model.proofs.NotRunsGauges.{main_report, asked}
+
+-- a script with one line at its end, and its report, with this frame record
+abbrev line_script : Command → Script
+line_script c = plain_script 1 1 (handler_on 0 ∷ []) (block 10 (by 0 c ∷ []) ∷ []) 10
+
+abbrev line_entries : List Entry
+line_entries = advance 0 10 ∷ entry 2 1 (call.Halt 10) reply.Halted ∷ []
+
+abbrev line_report : Command → List FrameEntry → Report
+line_report c fs = main_report (line_script c) line_entries [] fs
+
+-- how many of what the line asks pass a test, where the looper's acts cause nothing
+line_asked : (c : Command) (fs : List FrameEntry) → IsRun in_lockstep (line_script c) (line_report c fs) → (test : FrameAsk → Bool)
+    → count_by test (map (as_told true) (asks_in fs)) ≡ asked (line_script c) test (first_looper (line_script c))
+line_asked c fs r test = subst (λ b. count_by test (map (as_told true) (asks_in fs)) ≡ asked (line_script c) test b) (sym r.loopers.0.acts) (r.loopers.0.asked test)
+
+-- a frame line
+abbrev posts_frame : Command
+posts_frame = command.Frame 0 3 8 0
+
+-- an unframe line
+abbrev removes_frame : Command
+removes_frame = command.Unframe 0 3 8
+
+-- a frame line's report is a run but for what is asked, with each lawful record
+frame_else : (fs : List FrameEntry) → lawful 16666667 4 fs ≡ true → IsRunBut but.Asked (line_script posts_frame) (line_report posts_frame fs)
+unfolding IsLegal AreNumbered made_count answer clock accepted_count barrier_count quit_place has_disposed has_halted live first_eligible pick is_controlled befores is_called_in_time are_before_quit are_in_order moves
+frame_else fs law = record {
+  report = record { script = refl; queues = refl; journals = refl; frames = refl };
+  records = record { mode = refl; start = refl; histories = (record {
+    main = refl; lockstep = refl; senders = refl; clocked = tt;
+    legal =
+        (record { reply = refl; timely = lit≤ tt }, (record { reply = refl; timely = refl }, tt));
+    numbered =
+        (record { known = lit< tt; counted = refl; controller = λ h. refl }, (record { known = lit< tt; counted = refl; controller = λ h. refl }, tt));
+  }, tt) };
+  planned = (each_below 1 (λ thread. AreAsPlanned in_lockstep (line_script posts_frame) thread 0 line_entries) (tt, tt), tt);
+  controls = (refl, tt);
+  frames = (record { interval = refl; phases = refl; lawful = law }, tt);
+  loopers = (record {
+    final = first_looper (line_script posts_frame);
+    acts = refl;
+    settled = refl; dispatches = refl; disposed_at = 0; whole = refl; on_time = (refl, tt); moments = refl; asked = tt;
+    calls = (tt, tt);
+  }, tt);
+  halted = refl;
+  histories = (record { controls = refl; before_quit = refl; threads = each_below 1 (λ thread. IsThreadOnTime (line_script posts_frame) (queue 0 true 3 line_entries) thread) (tt, refl); in_order = refl }, tt);
+  moved = record { due = (inl refl, tt); together = ((_, refl), tt) };
+}
+
+-- and so is an unframe line's
+unframe_else : (fs : List FrameEntry) → lawful 16666667 4 fs ≡ true → IsRunBut but.Asked (line_script removes_frame) (line_report removes_frame fs)
+unfolding IsLegal AreNumbered made_count answer clock accepted_count barrier_count quit_place has_disposed has_halted live first_eligible pick is_controlled befores is_called_in_time are_before_quit are_in_order moves
+unframe_else fs law = record {
+  report = record { script = refl; queues = refl; journals = refl; frames = refl };
+  records = record { mode = refl; start = refl; histories = (record {
+    main = refl; lockstep = refl; senders = refl; clocked = tt;
+    legal =
+        (record { reply = refl; timely = lit≤ tt }, (record { reply = refl; timely = refl }, tt));
+    numbered =
+        (record { known = lit< tt; counted = refl; controller = λ h. refl }, (record { known = lit< tt; counted = refl; controller = λ h. refl }, tt));
+  }, tt) };
+  planned = (each_below 1 (λ thread. AreAsPlanned in_lockstep (line_script removes_frame) thread 0 line_entries) (tt, tt), tt);
+  controls = (refl, tt);
+  frames = (record { interval = refl; phases = refl; lawful = law }, tt);
+  loopers = (record {
+    final = first_looper (line_script removes_frame);
+    acts = refl;
+    settled = refl; dispatches = refl; disposed_at = 0; whole = refl; on_time = (refl, tt); moments = refl; asked = tt;
+    calls = (tt, tt);
+  }, tt);
+  halted = refl;
+  histories = (record { controls = refl; before_quit = refl; threads = each_below 1 (λ thread. IsThreadOnTime (line_script removes_frame) (queue 0 true 3 line_entries) thread) (tt, refl); in_order = refl }, tt);
+  moved = record { due = (inl refl, tt); together = ((_, refl), tt) };
+}
+
+-- the ask is to post a callback that is due at 10
+abbrev is_due_at_10 : FrameAsk → Bool
+is_due_at_10 (Posts phase due id token) = due == 10
+is_due_at_10 _ = false
+
+-- in phase 3
+abbrev is_in_phase_3 : FrameAsk → Bool
+is_in_phase_3 (Posts phase due id token) = phase == 3
+is_in_phase_3 _ = false
+
+-- without a token
+abbrev has_no_token : FrameAsk → Bool
+has_no_token (Posts phase due id None) = true
+has_no_token _ = false
+
+-- the line's callback is posted twice
+abbrev posts_frame_twice_frames : List FrameEntry
+posts_frame_twice_frames = frame.Posted (callback 0 3 10 8) ∷ frame.Posted (callback 1 3 10 8) ∷ []
+
+pub posts_frame_twice : IsRun in_lockstep (line_script posts_frame) (line_report posts_frame posts_frame_twice_frames) → ⊥
+posts_frame_twice r =
+    let counts : 2 ≡ 1 = line_asked posts_frame posts_frame_twice_frames r (λ x. true) in
+    omega (arith, counts)
+
+pub posts_frame_twice_else : IsRunBut but.Asked (line_script posts_frame) (line_report posts_frame posts_frame_twice_frames)
+unfolding lawful all_allowed is_allowed owed next_phase last_time in_due_order before_later live_callbacks posted_count
+posts_frame_twice_else = frame_else posts_frame_twice_frames refl
+
+-- the line's callback is posted for a later time
+abbrev posts_frame_late_frames : List FrameEntry
+posts_frame_late_frames = frame.Posted (callback 0 3 11 8) ∷ []
+
+pub posts_frame_late : IsRun in_lockstep (line_script posts_frame) (line_report posts_frame posts_frame_late_frames) → ⊥
+posts_frame_late r =
+    let counts : 0 ≡ 1 = line_asked posts_frame posts_frame_late_frames r is_due_at_10 in
+    omega (arith, counts)
+
+pub posts_frame_late_else : IsRunBut but.Asked (line_script posts_frame) (line_report posts_frame posts_frame_late_frames)
+unfolding lawful all_allowed is_allowed owed next_phase last_time in_due_order before_later live_callbacks posted_count
+posts_frame_late_else = frame_else posts_frame_late_frames refl
+
+-- the line's callback is posted in another phase
+abbrev posts_frame_elsewhere_frames : List FrameEntry
+posts_frame_elsewhere_frames = frame.Posted (callback 0 2 10 8) ∷ []
+
+pub posts_frame_elsewhere : IsRun in_lockstep (line_script posts_frame) (line_report posts_frame posts_frame_elsewhere_frames) → ⊥
+posts_frame_elsewhere r =
+    let counts : 0 ≡ 1 = line_asked posts_frame posts_frame_elsewhere_frames r is_in_phase_3 in
+    omega (arith, counts)
+
+pub posts_frame_elsewhere_else : IsRunBut but.Asked (line_script posts_frame) (line_report posts_frame posts_frame_elsewhere_frames)
+unfolding lawful all_allowed is_allowed owed next_phase last_time in_due_order before_later live_callbacks posted_count
+posts_frame_elsewhere_else = frame_else posts_frame_elsewhere_frames refl
+
+-- the line's callback is posted with a token
+abbrev posts_frame_with_token_frames : List FrameEntry
+posts_frame_with_token_frames = frame.Posted (record (callback 0 3 10 8) { token = Some 1 }) ∷ []
+
+pub posts_frame_with_token : IsRun in_lockstep (line_script posts_frame) (line_report posts_frame posts_frame_with_token_frames) → ⊥
+posts_frame_with_token r =
+    let counts : 0 ≡ 1 = line_asked posts_frame posts_frame_with_token_frames r has_no_token in
+    omega (arith, counts)
+
+pub posts_frame_with_token_else : IsRunBut but.Asked (line_script posts_frame) (line_report posts_frame posts_frame_with_token_frames)
+unfolding lawful all_allowed is_allowed owed next_phase last_time in_due_order before_later live_callbacks posted_count
+posts_frame_with_token_else = frame_else posts_frame_with_token_frames refl
+
+-- the line's callback is removed, and no line asks for it
+abbrev removes_unasked_frames : List FrameEntry
+removes_unasked_frames = frame.Posted (callback 0 3 10 8) ∷ frame.Removed 3 8 None 1 ∷ []
+
+pub removes_unasked : IsRun in_lockstep (line_script posts_frame) (line_report posts_frame removes_unasked_frames) → ⊥
+removes_unasked r =
+    let counts : 2 ≡ 1 = line_asked posts_frame removes_unasked_frames r (λ x. true) in
+    omega (arith, counts)
+
+pub removes_unasked_else : IsRunBut but.Asked (line_script posts_frame) (line_report posts_frame removes_unasked_frames)
+unfolding lawful all_allowed is_allowed owed next_phase last_time in_due_order before_later live_callbacks posted_count
+removes_unasked_else = frame_else removes_unasked_frames refl
+
+-- a frame that no dispatch runs
+abbrev frame_of_nothing_frames : List FrameEntry
+frame_of_nothing_frames = frame.Posted (callback 0 3 10 8) ∷ frame.Begin 0 10000000 0 ∷ frame.Take 0 10000000 0 ∷ frame.Take 1 10000000 0 ∷ frame.Take 2 10000000 0
+    ∷ frame.Take 3 10000000 0 ∷ frame.Ran 0 ∷ []
+
+pub frame_of_nothing : IsRun in_lockstep (line_script posts_frame) (line_report posts_frame frame_of_nothing_frames) → ⊥
+frame_of_nothing r =
+    let counts : 2 ≡ 1 = line_asked posts_frame frame_of_nothing_frames r (λ x. true) in
+    omega (arith, counts)
+
+pub frame_of_nothing_else : IsRunBut but.Asked (line_script posts_frame) (line_report posts_frame frame_of_nothing_frames)
+unfolding lawful all_allowed is_allowed owed next_phase last_time in_due_order before_later live_callbacks posted_count
+frame_of_nothing_else = frame_else frame_of_nothing_frames refl
+
+-- an unframe line removes nothing
+abbrev removes_nothing_frames : List FrameEntry
+removes_nothing_frames = []
+
+pub removes_nothing : IsRun in_lockstep (line_script removes_frame) (line_report removes_frame removes_nothing_frames) → ⊥
+removes_nothing r =
+    let counts : 0 ≡ 1 = line_asked removes_frame removes_nothing_frames r (λ x. true) in
+    omega (arith, counts)
+
+pub removes_nothing_else : IsRunBut but.Asked (line_script removes_frame) (line_report removes_frame removes_nothing_frames)
+unfolding lawful all_allowed is_allowed owed next_phase last_time in_due_order before_later live_callbacks posted_count
+removes_nothing_else = unframe_else removes_nothing_frames refl
