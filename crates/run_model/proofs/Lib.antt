@@ -1,6 +1,7 @@
 pub mod Below
 pub mod Examples
 pub mod RunBut
+pub mod ByTests
 pub mod TwoPosts
 pub mod BarrierHolds
 pub mod RemovesZero

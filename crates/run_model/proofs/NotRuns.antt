@@ -1,5 +1,5 @@
 -- Reports that are no runs of their script: each has one fault.
-use Rattle.std.proofs.Common.{◌≡◌, ℕ, zero, suc, refl, true, false, List, [], ◌∷◌, Option, Some, None, sym, ap, subst, length, arith, lit<}
+use Rattle.std.proofs.Common.{◌≡◌, ℕ, true, false, List, [], ◌∷◌, Option, Some, None, sym, ap, subst, length, arith, lit<}
 use Rattle.loop_model.specs.declared.call.Call.{Call}
 use Rattle.loop_model.specs.declared.call.Call.TheVariants as call
 use Rattle.loop_model.specs.declared.reply.Reply.{Reply}
@@ -14,24 +14,16 @@ use Rattle.dash_script.specs.declared.script.Command.TheVariants as command
 use Rattle.dash_script.specs.declared.script.Script.{Script}
 use Rattle.run_model.specs.declared.report.Report.{Report}
 use Rattle.run_model.specs.Control.{is_called_in_time, are_before_quit, befores}
-use Rattle.run_model.specs.Run.{IsRun, caused_on, asked_of}
+use Rattle.run_model.specs.Run.{IsRun, caused_on}
 use Rattle.loop_model.specs.declared.journal.Act.{Act}
 use Rattle.loop_model.specs.declared.journal.Act.TheVariants as act
 use Rattle.loop_model.specs.declared.journal.Route.TheVariants as route
 use Rattle.run_model.specs.Asks.{AreFor, entries_by}
-use Rattle.run_model.specs.Loopers.{Looper, first_looper}
-use Rattle.run_model.specs.Acts.{IsSent, after_act, Lead}
-use Rattle.run_model.proofs.Examples.{entry, handler_on, block, by, plain_script, message, frame_message, queue, journal, frames, callback, led}
+use Rattle.run_model.specs.Loopers.{Looper}
+use Rattle.run_model.specs.Acts.{IsSent, after_act}
+use Rattle.run_model.proofs.Examples.{entry, handler_on, block, by, plain_script, message, queue, journal, frames}
 use Rattle.dash_script.specs.declared.script.Block.{Block}
 use Rattle.dash_script.specs.declared.script.Line.{Line}
-use Rattle.frame_phases.specs.declared.entry.FrameEntry.{FrameEntry}
-use Rattle.frame_phases.specs.declared.entry.FrameEntry.TheVariants as frame
-use Rattle.run_model.specs.FrameAsks.{FrameAsk, Posts, as_told}
-use Rattle.run_model.specs.FrameRuns.{are_run_then, is_begin, is_frame_from}
-use Rattle.std.specs.Prelude.{◌==◌, Bool, map, count_by, drop, nat_le, slice_get}
-use Rattle.std.proofs.lemmas.Bool.{and_parts}
-use Rattle.std.specs.List.{AllByRecursion}
-use Rattle.std.specs.Option.{option_map_or}
 use Rattle.run_model.specs.Moments.{in_lockstep}
 use Rattle.run_model.proofs.TwoPosts as two_posts
 use Rattle.run_model.proofs.TwoPosts.{script}

@@ -1,19 +1,13 @@
 -- Reports that are no runs of their script: what is asked of a choreographer by a line, and its record has a fault.
-use Rattle.std.proofs.Common.{◌≡◌, ◌<◌, ℕ, zero, suc, refl, true, false, List, [], ◌∷◌, ◌++◌, inl, inr, Option, Some, None, sym, ap, subst, length, arith, lit<, lit≤}
-use Rattle.std.specs.Prelude.{◌==◌, Bool, map, count_by, drop, nat_le, slice_get}
-use Rattle.std.specs.List.{AllByRecursion}
-use Rattle.std.specs.Option.{option_map_or}
-use Rattle.std.proofs.lemmas.Bool.{and_parts}
+use Rattle.std.proofs.Common.{◌≡◌, refl, true, false, List, [], ◌∷◌, inl, Some, None, sym, subst, arith}
+use Rattle.std.specs.Prelude.{◌==◌, Bool, map, count_by}
 use Rattle.loop_model.specs.declared.call.Call.TheVariants as call
 use Rattle.loop_model.specs.declared.reply.Reply.TheVariants as reply
 use Rattle.loop_model.specs.declared.entry.Entry.{Entry}
-use Rattle.loop_model.specs.declared.journal.Act.{Act}
-use Rattle.loop_model.specs.declared.journal.Act.TheVariants as act
-use Rattle.loop_model.specs.Legal.{IsLegal, AreNumbered, made_count}
+use Rattle.loop_model.specs.Legal.{made_count}
 use Rattle.loop_model.specs.Answers.{answer, clock, accepted_count, barrier_count, quit_place, has_disposed, has_halted}
 use Rattle.loop_model.specs.Live.{live}
 use Rattle.loop_model.specs.Pick.{first_eligible, pick}
-use Rattle.frame_phases.specs.declared.entry.Callback.{Callback}
 use Rattle.frame_phases.specs.declared.entry.FrameEntry.{FrameEntry}
 use Rattle.frame_phases.specs.declared.entry.FrameEntry.TheVariants as frame
 use Rattle.frame_phases.specs.Frames.{lawful, all_allowed, is_allowed, owed, next_phase, last_time, in_due_order, before_later, live as live_callbacks, posted_count}
@@ -22,19 +16,16 @@ use Rattle.dash_script.specs.declared.script.Command.TheVariants as command
 use Rattle.dash_script.specs.declared.script.Script.{Script}
 use Rattle.run_model.specs.declared.report.Report.{Report}
 use Rattle.run_model.specs.Moments.{in_lockstep}
-use Rattle.run_model.specs.Planned.{AreAsPlanned}
 use Rattle.run_model.specs.Control.{is_controlled, is_called_in_time, are_before_quit, befores}
-use Rattle.run_model.specs.Loopers.{Looper, first_looper}
+use Rattle.run_model.specs.Loopers.{first_looper}
 use Rattle.run_model.specs.FrameAsks.{FrameAsk, Posts, as_told, asks_in}
-use Rattle.run_model.specs.FrameRuns.{are_run_then, are_whole, is_begin, is_frame_from}
-use Rattle.run_model.specs.Acts.{after_act, Lead}
 use Rattle.run_model.specs.Moves.{moves}
-use Rattle.run_model.specs.Run.{IsRun, asked_of, IsThreadOnTime, are_in_order}
-use Rattle.run_model.proofs.Below.{each_below}
-use Rattle.run_model.proofs.Examples.{entry, handler_on, block, by, plain_script, message, frame_message, queue, journal, callback, led}
+use Rattle.run_model.specs.Run.{IsRun, are_in_order}
+use Rattle.run_model.proofs.ByTests.{history_by, planned_by, on_time_by}
+use Rattle.run_model.proofs.Examples.{entry, handler_on, block, by, plain_script, queue, callback}
 use Rattle.run_model.proofs.RunBut.{IsRunBut}
 use Rattle.run_model.proofs.RunBut as but
-use Rattle.run_model.proofs.NotRuns.{dispatch, advance, look, halt}
+use Rattle.run_model.proofs.NotRuns.{advance}
 use Rattle.run_model.proofs.NotRunsGauges.{main_report, asked}
 
 -- a script with one line at its end, and its report, with this frame record
@@ -62,53 +53,59 @@ removes_frame = command.Unframe 0 3 8
 
 -- a frame line's report is a run but for what is asked, with each lawful record
 frame_else : (fs : List FrameEntry) → lawful 16666667 4 fs ≡ true → IsRunBut but.Asked (line_script posts_frame) (line_report posts_frame fs)
-unfolding IsLegal AreNumbered made_count answer clock accepted_count barrier_count quit_place has_disposed has_halted live first_eligible pick is_controlled befores is_called_in_time are_before_quit are_in_order moves
+unfolding made_count answer clock accepted_count barrier_count quit_place has_disposed has_halted live first_eligible pick is_controlled befores is_called_in_time are_before_quit are_in_order moves
 frame_else fs law = record {
   report = record { script = refl; queues = refl; journals = refl; frames = refl };
-  records = record { mode = refl; start = refl; histories = (record {
-    main = refl; lockstep = refl; senders = refl; clocked = tt;
-    legal =
-        (record { reply = refl; timely = lit≤ tt }, (record { reply = refl; timely = refl }, tt));
-    numbered =
-        (record { known = lit< tt; counted = refl; controller = λ h. refl }, (record { known = lit< tt; counted = refl; controller = λ h. refl }, tt));
-  }, tt) };
-  planned = (each_below 1 (λ thread. AreAsPlanned in_lockstep (line_script posts_frame) thread 0 line_entries) (tt, tt), tt);
+  records = record { mode = refl; start = refl; histories = (history_by (line_script posts_frame) (queue 0 true 3 line_entries) refl refl refl refl refl refl, tt) };
+  planned = (planned_by (line_script posts_frame) (queue 0 true 3 line_entries) (tt, refl), tt);
   controls = (refl, tt);
   frames = (record { interval = refl; phases = refl; lawful = law }, tt);
-  loopers = (record {
-    final = first_looper (line_script posts_frame);
-    acts = refl;
-    settled = refl; dispatches = refl; disposed_at = 0; whole = refl; on_time = (refl, tt); moments = refl; asked = tt;
-    calls = (tt, tt);
-  }, tt);
+  loopers = (
+    record {
+      final = first_looper (line_script posts_frame);
+      acts = refl;
+      settled = refl;
+      dispatches = refl;
+      disposed_at = 0;
+      calls = (tt, tt);
+      asked = tt;
+      whole = refl;
+      on_time = (refl, tt);
+      moments = refl;
+    },
+    tt,
+  );
   halted = refl;
-  histories = (record { controls = refl; before_quit = refl; threads = each_below 1 (λ thread. IsThreadOnTime (line_script posts_frame) (queue 0 true 3 line_entries) thread) (tt, refl); in_order = refl }, tt);
+  histories = (record { controls = refl; before_quit = refl; threads = on_time_by (line_script posts_frame) (queue 0 true 3 line_entries) (tt, refl); in_order = refl }, tt);
   moved = record { due = (inl refl, tt); together = ((_, refl), tt) };
 }
 
 -- and so is an unframe line's
 unframe_else : (fs : List FrameEntry) → lawful 16666667 4 fs ≡ true → IsRunBut but.Asked (line_script removes_frame) (line_report removes_frame fs)
-unfolding IsLegal AreNumbered made_count answer clock accepted_count barrier_count quit_place has_disposed has_halted live first_eligible pick is_controlled befores is_called_in_time are_before_quit are_in_order moves
+unfolding made_count answer clock accepted_count barrier_count quit_place has_disposed has_halted live first_eligible pick is_controlled befores is_called_in_time are_before_quit are_in_order moves
 unframe_else fs law = record {
   report = record { script = refl; queues = refl; journals = refl; frames = refl };
-  records = record { mode = refl; start = refl; histories = (record {
-    main = refl; lockstep = refl; senders = refl; clocked = tt;
-    legal =
-        (record { reply = refl; timely = lit≤ tt }, (record { reply = refl; timely = refl }, tt));
-    numbered =
-        (record { known = lit< tt; counted = refl; controller = λ h. refl }, (record { known = lit< tt; counted = refl; controller = λ h. refl }, tt));
-  }, tt) };
-  planned = (each_below 1 (λ thread. AreAsPlanned in_lockstep (line_script removes_frame) thread 0 line_entries) (tt, tt), tt);
+  records = record { mode = refl; start = refl; histories = (history_by (line_script removes_frame) (queue 0 true 3 line_entries) refl refl refl refl refl refl, tt) };
+  planned = (planned_by (line_script removes_frame) (queue 0 true 3 line_entries) (tt, refl), tt);
   controls = (refl, tt);
   frames = (record { interval = refl; phases = refl; lawful = law }, tt);
-  loopers = (record {
-    final = first_looper (line_script removes_frame);
-    acts = refl;
-    settled = refl; dispatches = refl; disposed_at = 0; whole = refl; on_time = (refl, tt); moments = refl; asked = tt;
-    calls = (tt, tt);
-  }, tt);
+  loopers = (
+    record {
+      final = first_looper (line_script removes_frame);
+      acts = refl;
+      settled = refl;
+      dispatches = refl;
+      disposed_at = 0;
+      calls = (tt, tt);
+      asked = tt;
+      whole = refl;
+      on_time = (refl, tt);
+      moments = refl;
+    },
+    tt,
+  );
   halted = refl;
-  histories = (record { controls = refl; before_quit = refl; threads = each_below 1 (λ thread. IsThreadOnTime (line_script removes_frame) (queue 0 true 3 line_entries) thread) (tt, refl); in_order = refl }, tt);
+  histories = (record { controls = refl; before_quit = refl; threads = on_time_by (line_script removes_frame) (queue 0 true 3 line_entries) (tt, refl); in_order = refl }, tt);
   moved = record { due = (inl refl, tt); together = ((_, refl), tt) };
 }
 

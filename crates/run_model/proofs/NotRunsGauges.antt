@@ -1,6 +1,6 @@
 -- Reports that are no runs of their script: the frames, pulses and callbacks of a gauge, with one fault.
-use Rattle.std.proofs.Common.{◌≡◌, ◌<◌, ℕ, zero, suc, refl, true, false, List, [], ◌∷◌, ◌++◌, inl, inr, Option, Some, None, sym, ap, subst, length, arith, lit<, lit≤}
-use Rattle.std.specs.Prelude.{◌==◌, Bool, map, count_by, drop, nat_le, slice_get}
+use Rattle.std.proofs.Common.{◌≡◌, ℕ, zero, suc, refl, true, false, List, [], ◌∷◌, ◌++◌, inl, inr, Some, None, sym, ap, subst, length, arith}
+use Rattle.std.specs.Prelude.{Bool, map, count_by, drop, nat_le, slice_get}
 use Rattle.std.specs.List.{AllByRecursion}
 use Rattle.std.specs.Option.{option_map_or}
 use Rattle.std.proofs.lemmas.Bool.{and_parts}
@@ -9,7 +9,7 @@ use Rattle.loop_model.specs.declared.reply.Reply.TheVariants as reply
 use Rattle.loop_model.specs.declared.entry.Entry.{Entry}
 use Rattle.loop_model.specs.declared.journal.Act.{Act}
 use Rattle.loop_model.specs.declared.journal.Act.TheVariants as act
-use Rattle.loop_model.specs.Legal.{IsLegal, AreNumbered, made_count}
+use Rattle.loop_model.specs.Legal.{made_count}
 use Rattle.loop_model.specs.Answers.{answer, clock, accepted_count, barrier_count, quit_place, has_disposed, has_halted}
 use Rattle.loop_model.specs.Live.{live}
 use Rattle.loop_model.specs.Pick.{first_eligible, pick}
@@ -17,20 +17,18 @@ use Rattle.frame_phases.specs.declared.entry.Callback.{Callback}
 use Rattle.frame_phases.specs.declared.entry.FrameEntry.{FrameEntry}
 use Rattle.frame_phases.specs.declared.entry.FrameEntry.TheVariants as frame
 use Rattle.frame_phases.specs.Frames.{lawful, all_allowed, is_allowed, owed, next_phase, last_time, in_due_order, before_later, live as live_callbacks, posted_count}
-use Rattle.dash_script.specs.declared.script.Command.{Command}
 use Rattle.dash_script.specs.declared.script.Command.TheVariants as command
 use Rattle.dash_script.specs.declared.script.Script.{Script}
 use Rattle.run_model.specs.declared.report.Report.{Report}
 use Rattle.run_model.specs.Moments.{in_lockstep}
-use Rattle.run_model.specs.Planned.{AreAsPlanned}
 use Rattle.run_model.specs.Control.{is_controlled, is_called_in_time, are_before_quit, befores}
 use Rattle.run_model.specs.Loopers.{Looper, first_looper}
-use Rattle.run_model.specs.FrameAsks.{FrameAsk, Posts, as_told, asks_in}
+use Rattle.run_model.specs.FrameAsks.{FrameAsk, as_told}
 use Rattle.run_model.specs.FrameRuns.{are_run_then, are_whole, is_begin, is_frame_from}
 use Rattle.run_model.specs.Acts.{after_act, Lead}
 use Rattle.run_model.specs.Moves.{moves}
-use Rattle.run_model.specs.Run.{IsRun, asked_of, IsThreadOnTime, are_in_order}
-use Rattle.run_model.proofs.Below.{each_below}
+use Rattle.run_model.specs.Run.{IsRun, asked_of, are_in_order}
+use Rattle.run_model.proofs.ByTests.{history_by, planned_by, on_time_by}
 use Rattle.run_model.proofs.Examples.{entry, handler_on, block, by, plain_script, message, frame_message, queue, journal, callback, led}
 use Rattle.run_model.proofs.RunBut.{IsRunBut}
 use Rattle.run_model.proofs.RunBut as but
@@ -132,34 +130,30 @@ starts_late r =
     cc
 
 pub starts_late_else : IsRunBut but.Starts (gauge_script 20) (gauge_report starts_late_frames)
-unfolding IsLegal AreNumbered made_count answer clock accepted_count barrier_count quit_place has_disposed has_halted live first_eligible pick is_controlled lawful all_allowed is_allowed owed next_phase last_time in_due_order before_later live_callbacks posted_count after_act befores is_called_in_time are_before_quit are_in_order moves
+unfolding made_count answer clock accepted_count barrier_count quit_place has_disposed has_halted live first_eligible pick is_controlled lawful all_allowed is_allowed owed next_phase last_time in_due_order before_later live_callbacks posted_count after_act befores is_called_in_time are_before_quit are_in_order moves
 starts_late_else = record {
   report = record { script = refl; queues = refl; journals = refl; frames = refl };
-  records = record { mode = refl; start = refl; histories = (record {
-    main = refl; lockstep = refl; senders = refl; clocked = tt;
-    legal =
-        (record { reply = refl; timely = tt }, (record { reply = refl; timely = refl }, (record { reply = refl; timely = refl },
-        (record { reply = refl; timely = lit≤ tt }, (record { reply = refl; timely = tt }, (record { reply = refl; timely = refl },
-        (record { reply = refl; timely = tt }, (record { reply = refl; timely = lit≤ tt }, (record { reply = refl; timely = refl }, tt)))))))));
-    numbered =
-        (record { known = lit< tt; counted = refl; controller = λ h. cc }, (record { known = lit< tt; counted = refl; controller = λ h. cc },
-        (record { known = lit< tt; counted = refl; controller = λ h. cc }, (record { known = lit< tt; counted = refl; controller = λ h. refl },
-        (record { known = lit< tt; counted = refl; controller = λ h. cc }, (record { known = lit< tt; counted = refl; controller = λ h. cc },
-        (record { known = lit< tt; counted = refl; controller = λ h. cc }, (record { known = lit< tt; counted = refl; controller = λ h. refl },
-        (record { known = lit< tt; counted = refl; controller = λ h. refl }, tt)))))))));
-  }, tt) };
-  planned = (each_below 1 (λ thread. AreAsPlanned in_lockstep (gauge_script 20) thread 0 gauge_entries) (tt, (record { uptime = 0; allowed = refl; call = refl; no_earlier = tt }, tt)), tt);
+  records = record { mode = refl; start = refl; histories = (history_by (gauge_script 20) (queue 0 true 3 gauge_entries) refl refl refl refl refl refl, tt) };
+  planned = (planned_by (gauge_script 20) (queue 0 true 3 gauge_entries) (tt, refl), tt);
   controls = (refl, tt);
   frames = (record { interval = refl; phases = refl; lawful = refl }, tt);
-  loopers = (record {
-    final = led (gauge_script 20) 0 gauge_entries starts_late_frames (first_looper (gauge_script 20)) (None ∷ None ∷ None ∷ Some 2 ∷ []) gauge_acts;
-    acts = (None, (record { accepted = refl; starts = refl; place = refl; painted = refl }, (None, ((refl, refl, refl), (None, (refl, (Some 2,
-        (record { accepted = refl; starts = refl; place = refl; painted = refl }, refl))))))));
-    settled = refl; dispatches = refl; disposed_at = 0; whole = refl; on_time = (refl, tt); moments = tt; asked = tt;
-    calls = ((record { call = refl; reply = refl }, (record { call = refl; reply = tt }, (record { call = refl; reply = tt }, (record { call = refl; reply = refl }, (record { call = refl; reply = tt }, tt))))), tt);
-  }, tt);
+  loopers = (
+    record {
+      final = led (gauge_script 20) 0 gauge_entries starts_late_frames (first_looper (gauge_script 20)) (None ∷ None ∷ None ∷ Some 2 ∷ []) gauge_acts;
+      acts = (None, (record { accepted = refl; starts = refl; place = refl; painted = refl }, (None, ((refl, refl, refl), (None, (refl, (Some 2, (record { accepted = refl; starts = refl; place = refl; painted = refl }, refl))))))));
+      settled = refl;
+      dispatches = refl;
+      disposed_at = 0;
+      calls = ((record { call = refl; reply = refl }, (record { call = refl; reply = tt }, (record { call = refl; reply = tt }, (record { call = refl; reply = refl }, (record { call = refl; reply = tt }, tt))))), tt);
+      asked = tt;
+      whole = refl;
+      on_time = (refl, tt);
+      moments = tt;
+    },
+    tt,
+  );
   halted = refl;
-  histories = (record { controls = refl; before_quit = refl; threads = each_below 1 (λ thread. IsThreadOnTime (gauge_script 20) (queue 0 true 3 gauge_entries) thread) (tt, refl); in_order = refl }, tt);
+  histories = (record { controls = refl; before_quit = refl; threads = on_time_by (gauge_script 20) (queue 0 true 3 gauge_entries) (tt, refl); in_order = refl }, tt);
   moved = record { due = (inr (record { stamp = 16666667; pulse = refl; rounded = refl }), (inl refl, tt)); together = ((_, refl), tt) };
 }
 
@@ -175,34 +169,30 @@ takes_phase_late r =
     cc
 
 pub takes_phase_late_else : IsRunBut but.Moments (gauge_script 20) (gauge_report takes_phase_late_frames)
-unfolding IsLegal AreNumbered made_count answer clock accepted_count barrier_count quit_place has_disposed has_halted live first_eligible pick is_controlled lawful all_allowed is_allowed owed next_phase last_time in_due_order before_later live_callbacks posted_count after_act befores is_called_in_time are_before_quit are_in_order moves
+unfolding made_count answer clock accepted_count barrier_count quit_place has_disposed has_halted live first_eligible pick is_controlled lawful all_allowed is_allowed owed next_phase last_time in_due_order before_later live_callbacks posted_count after_act befores is_called_in_time are_before_quit are_in_order moves
 takes_phase_late_else = record {
   report = record { script = refl; queues = refl; journals = refl; frames = refl };
-  records = record { mode = refl; start = refl; histories = (record {
-    main = refl; lockstep = refl; senders = refl; clocked = tt;
-    legal =
-        (record { reply = refl; timely = tt }, (record { reply = refl; timely = refl }, (record { reply = refl; timely = refl },
-        (record { reply = refl; timely = lit≤ tt }, (record { reply = refl; timely = tt }, (record { reply = refl; timely = refl },
-        (record { reply = refl; timely = tt }, (record { reply = refl; timely = lit≤ tt }, (record { reply = refl; timely = refl }, tt)))))))));
-    numbered =
-        (record { known = lit< tt; counted = refl; controller = λ h. cc }, (record { known = lit< tt; counted = refl; controller = λ h. cc },
-        (record { known = lit< tt; counted = refl; controller = λ h. cc }, (record { known = lit< tt; counted = refl; controller = λ h. refl },
-        (record { known = lit< tt; counted = refl; controller = λ h. cc }, (record { known = lit< tt; counted = refl; controller = λ h. cc },
-        (record { known = lit< tt; counted = refl; controller = λ h. cc }, (record { known = lit< tt; counted = refl; controller = λ h. refl },
-        (record { known = lit< tt; counted = refl; controller = λ h. refl }, tt)))))))));
-  }, tt) };
-  planned = (each_below 1 (λ thread. AreAsPlanned in_lockstep (gauge_script 20) thread 0 gauge_entries) (tt, (record { uptime = 0; allowed = refl; call = refl; no_earlier = tt }, tt)), tt);
+  records = record { mode = refl; start = refl; histories = (history_by (gauge_script 20) (queue 0 true 3 gauge_entries) refl refl refl refl refl refl, tt) };
+  planned = (planned_by (gauge_script 20) (queue 0 true 3 gauge_entries) (tt, refl), tt);
   controls = (refl, tt);
   frames = (record { interval = refl; phases = refl; lawful = refl }, tt);
-  loopers = (record {
-    final = led (gauge_script 20) 0 gauge_entries takes_phase_late_frames (first_looper (gauge_script 20)) (None ∷ None ∷ None ∷ Some 2 ∷ []) gauge_acts;
-    acts = (None, (record { accepted = refl; starts = refl; place = refl; painted = refl }, (None, ((refl, refl, refl), (None, (refl, (Some 2,
-        (record { accepted = refl; starts = refl; place = refl; painted = refl }, refl))))))));
-    settled = refl; dispatches = refl; disposed_at = 0; whole = refl; on_time = (refl, tt); moments = tt; asked = λ test. omega arith;
-    calls = ((record { call = refl; reply = refl }, (record { call = refl; reply = tt }, (record { call = refl; reply = tt }, (record { call = refl; reply = refl }, (record { call = refl; reply = tt }, tt))))), tt);
-  }, tt);
+  loopers = (
+    record {
+      final = led (gauge_script 20) 0 gauge_entries takes_phase_late_frames (first_looper (gauge_script 20)) (None ∷ None ∷ None ∷ Some 2 ∷ []) gauge_acts;
+      acts = (None, (record { accepted = refl; starts = refl; place = refl; painted = refl }, (None, ((refl, refl, refl), (None, (refl, (Some 2, (record { accepted = refl; starts = refl; place = refl; painted = refl }, refl))))))));
+      settled = refl;
+      dispatches = refl;
+      disposed_at = 0;
+      calls = ((record { call = refl; reply = refl }, (record { call = refl; reply = tt }, (record { call = refl; reply = tt }, (record { call = refl; reply = refl }, (record { call = refl; reply = tt }, tt))))), tt);
+      asked = λ test. omega arith;
+      whole = refl;
+      on_time = (refl, tt);
+      moments = tt;
+    },
+    tt,
+  );
   halted = refl;
-  histories = (record { controls = refl; before_quit = refl; threads = each_below 1 (λ thread. IsThreadOnTime (gauge_script 20) (queue 0 true 3 gauge_entries) thread) (tt, refl); in_order = refl }, tt);
+  histories = (record { controls = refl; before_quit = refl; threads = on_time_by (gauge_script 20) (queue 0 true 3 gauge_entries) (tt, refl); in_order = refl }, tt);
   moved = record { due = (inr (record { stamp = 16666667; pulse = refl; rounded = refl }), (inl refl, tt)); together = ((_, refl), tt) };
 }
 
@@ -218,34 +208,30 @@ leaves_a_phase_out r =
     cc
 
 pub leaves_a_phase_out_else : IsRunBut but.Whole (gauge_script 20) (gauge_report leaves_a_phase_out_frames)
-unfolding IsLegal AreNumbered made_count answer clock accepted_count barrier_count quit_place has_disposed has_halted live first_eligible pick is_controlled lawful all_allowed is_allowed owed next_phase last_time in_due_order before_later live_callbacks posted_count after_act befores is_called_in_time are_before_quit are_in_order moves
+unfolding made_count answer clock accepted_count barrier_count quit_place has_disposed has_halted live first_eligible pick is_controlled lawful all_allowed is_allowed owed next_phase last_time in_due_order before_later live_callbacks posted_count after_act befores is_called_in_time are_before_quit are_in_order moves
 leaves_a_phase_out_else = record {
   report = record { script = refl; queues = refl; journals = refl; frames = refl };
-  records = record { mode = refl; start = refl; histories = (record {
-    main = refl; lockstep = refl; senders = refl; clocked = tt;
-    legal =
-        (record { reply = refl; timely = tt }, (record { reply = refl; timely = refl }, (record { reply = refl; timely = refl },
-        (record { reply = refl; timely = lit≤ tt }, (record { reply = refl; timely = tt }, (record { reply = refl; timely = refl },
-        (record { reply = refl; timely = tt }, (record { reply = refl; timely = lit≤ tt }, (record { reply = refl; timely = refl }, tt)))))))));
-    numbered =
-        (record { known = lit< tt; counted = refl; controller = λ h. cc }, (record { known = lit< tt; counted = refl; controller = λ h. cc },
-        (record { known = lit< tt; counted = refl; controller = λ h. cc }, (record { known = lit< tt; counted = refl; controller = λ h. refl },
-        (record { known = lit< tt; counted = refl; controller = λ h. cc }, (record { known = lit< tt; counted = refl; controller = λ h. cc },
-        (record { known = lit< tt; counted = refl; controller = λ h. cc }, (record { known = lit< tt; counted = refl; controller = λ h. refl },
-        (record { known = lit< tt; counted = refl; controller = λ h. refl }, tt)))))))));
-  }, tt) };
-  planned = (each_below 1 (λ thread. AreAsPlanned in_lockstep (gauge_script 20) thread 0 gauge_entries) (tt, (record { uptime = 0; allowed = refl; call = refl; no_earlier = tt }, tt)), tt);
+  records = record { mode = refl; start = refl; histories = (history_by (gauge_script 20) (queue 0 true 3 gauge_entries) refl refl refl refl refl refl, tt) };
+  planned = (planned_by (gauge_script 20) (queue 0 true 3 gauge_entries) (tt, refl), tt);
   controls = (refl, tt);
   frames = (record { interval = refl; phases = refl; lawful = refl }, tt);
-  loopers = (record {
-    final = led (gauge_script 20) 0 gauge_entries leaves_a_phase_out_frames (first_looper (gauge_script 20)) (None ∷ None ∷ None ∷ Some 2 ∷ []) gauge_acts;
-    acts = (None, (record { accepted = refl; starts = refl; place = refl; painted = refl }, (None, ((refl, refl, refl), (None, (refl, (Some 2,
-        (record { accepted = refl; starts = refl; place = refl; painted = refl }, refl))))))));
-    settled = refl; dispatches = refl; disposed_at = 0; whole = tt; on_time = (refl, tt); moments = refl; asked = λ test. omega arith;
-    calls = ((record { call = refl; reply = refl }, (record { call = refl; reply = tt }, (record { call = refl; reply = tt }, (record { call = refl; reply = refl }, (record { call = refl; reply = tt }, tt))))), tt);
-  }, tt);
+  loopers = (
+    record {
+      final = led (gauge_script 20) 0 gauge_entries leaves_a_phase_out_frames (first_looper (gauge_script 20)) (None ∷ None ∷ None ∷ Some 2 ∷ []) gauge_acts;
+      acts = (None, (record { accepted = refl; starts = refl; place = refl; painted = refl }, (None, ((refl, refl, refl), (None, (refl, (Some 2, (record { accepted = refl; starts = refl; place = refl; painted = refl }, refl))))))));
+      settled = refl;
+      dispatches = refl;
+      disposed_at = 0;
+      calls = ((record { call = refl; reply = refl }, (record { call = refl; reply = tt }, (record { call = refl; reply = tt }, (record { call = refl; reply = refl }, (record { call = refl; reply = tt }, tt))))), tt);
+      asked = λ test. omega arith;
+      whole = tt;
+      on_time = (refl, tt);
+      moments = refl;
+    },
+    tt,
+  );
   halted = refl;
-  histories = (record { controls = refl; before_quit = refl; threads = each_below 1 (λ thread. IsThreadOnTime (gauge_script 20) (queue 0 true 3 gauge_entries) thread) (tt, refl); in_order = refl }, tt);
+  histories = (record { controls = refl; before_quit = refl; threads = on_time_by (gauge_script 20) (queue 0 true 3 gauge_entries) (tt, refl); in_order = refl }, tt);
   moved = record { due = (inr (record { stamp = 16666667; pulse = refl; rounded = refl }), (inl refl, tt)); together = ((_, refl), tt) };
 }
 
@@ -263,34 +249,30 @@ unfolding after_act
 pulse_between r = let pulse : false ≡ true = r.loopers.0.acts.1.1.1.0.2 in cc
 
 pub pulse_between_else : IsRunBut but.Pulses (gauge_script 16) (main_report (gauge_script 16) pulse_entries (moves_gauge 16000000 16) pulse_frames)
-unfolding IsLegal AreNumbered made_count answer clock accepted_count barrier_count quit_place has_disposed has_halted live first_eligible pick is_controlled lawful all_allowed is_allowed owed next_phase last_time in_due_order before_later live_callbacks posted_count after_act befores is_called_in_time are_before_quit are_in_order moves
+unfolding made_count answer clock accepted_count barrier_count quit_place has_disposed has_halted live first_eligible pick is_controlled lawful all_allowed is_allowed owed next_phase last_time in_due_order before_later live_callbacks posted_count after_act befores is_called_in_time are_before_quit are_in_order moves
 pulse_between_else = record {
   report = record { script = refl; queues = refl; journals = refl; frames = refl };
-  records = record { mode = refl; start = refl; histories = (record {
-    main = refl; lockstep = refl; senders = refl; clocked = tt;
-    legal =
-        (record { reply = refl; timely = tt }, (record { reply = refl; timely = refl }, (record { reply = refl; timely = refl },
-        (record { reply = refl; timely = lit≤ tt }, (record { reply = refl; timely = tt }, (record { reply = refl; timely = refl },
-        (record { reply = refl; timely = tt }, (record { reply = refl; timely = refl }, tt))))))));
-    numbered =
-        (record { known = lit< tt; counted = refl; controller = λ h. cc }, (record { known = lit< tt; counted = refl; controller = λ h. cc },
-        (record { known = lit< tt; counted = refl; controller = λ h. cc }, (record { known = lit< tt; counted = refl; controller = λ h. refl },
-        (record { known = lit< tt; counted = refl; controller = λ h. cc }, (record { known = lit< tt; counted = refl; controller = λ h. cc },
-        (record { known = lit< tt; counted = refl; controller = λ h. cc }, (record { known = lit< tt; counted = refl; controller = λ h. refl },
-        tt))))))));
-  }, tt) };
-  planned = (each_below 1 (λ thread. AreAsPlanned in_lockstep (gauge_script 16) thread 0 pulse_entries) (tt, (record { uptime = 0; allowed = refl; call = refl; no_earlier = tt }, tt)), tt);
+  records = record { mode = refl; start = refl; histories = (history_by (gauge_script 16) (queue 0 true 3 pulse_entries) refl refl refl refl refl refl, tt) };
+  planned = (planned_by (gauge_script 16) (queue 0 true 3 pulse_entries) (tt, refl), tt);
   controls = (refl, tt);
   frames = (record { interval = refl; phases = refl; lawful = refl }, tt);
-  loopers = (record {
-    final = led (gauge_script 16) 0 pulse_entries pulse_frames (first_looper (gauge_script 16)) (None ∷ None ∷ None ∷ Some 2 ∷ []) (moves_gauge 16000000 16);
-    acts = (None, (record { accepted = refl; starts = refl; place = refl; painted = refl }, (None, ((refl, refl, refl), (None, (refl, (Some 2,
-        (record { accepted = refl; starts = refl; place = refl; painted = refl }, refl))))))));
-    settled = refl; dispatches = refl; disposed_at = 0; whole = refl; on_time = (refl, tt); moments = refl; asked = λ test. omega arith;
-    calls = ((record { call = refl; reply = refl }, (record { call = refl; reply = tt }, (record { call = refl; reply = tt }, (record { call = refl; reply = refl }, (record { call = refl; reply = tt }, tt))))), tt);
-  }, tt);
+  loopers = (
+    record {
+      final = led (gauge_script 16) 0 pulse_entries pulse_frames (first_looper (gauge_script 16)) (None ∷ None ∷ None ∷ Some 2 ∷ []) (moves_gauge 16000000 16);
+      acts = (None, (record { accepted = refl; starts = refl; place = refl; painted = refl }, (None, ((refl, refl, refl), (None, (refl, (Some 2, (record { accepted = refl; starts = refl; place = refl; painted = refl }, refl))))))));
+      settled = refl;
+      dispatches = refl;
+      disposed_at = 0;
+      calls = ((record { call = refl; reply = refl }, (record { call = refl; reply = tt }, (record { call = refl; reply = tt }, (record { call = refl; reply = refl }, (record { call = refl; reply = tt }, tt))))), tt);
+      asked = λ test. omega arith;
+      whole = refl;
+      on_time = (refl, tt);
+      moments = refl;
+    },
+    tt,
+  );
   halted = refl;
-  histories = (record { controls = refl; before_quit = refl; threads = each_below 1 (λ thread. IsThreadOnTime (gauge_script 16) (queue 0 true 3 pulse_entries) thread) (tt, refl); in_order = refl }, tt);
+  histories = (record { controls = refl; before_quit = refl; threads = on_time_by (gauge_script 16) (queue 0 true 3 pulse_entries) (tt, refl); in_order = refl }, tt);
   moved = record { due = (inl refl, tt); together = ((_, refl), tt) };
 }
 
@@ -320,29 +302,29 @@ posts_no_frame r = of_acts r.loopers.0.final r.loopers.0.acts (r.loopers.0.asked
         omega (arith, two)
 
 pub posts_no_frame_else : IsRunBut but.Asked (gauge_script 10) (main_report (gauge_script 10) short_entries short_acts short_frames)
-unfolding IsLegal AreNumbered made_count answer clock accepted_count barrier_count quit_place has_disposed has_halted live first_eligible pick is_controlled lawful all_allowed is_allowed owed next_phase last_time in_due_order before_later live_callbacks posted_count after_act befores is_called_in_time are_before_quit are_in_order moves
+unfolding made_count answer clock accepted_count barrier_count quit_place has_disposed has_halted live first_eligible pick is_controlled lawful all_allowed is_allowed owed next_phase last_time in_due_order before_later live_callbacks posted_count after_act befores is_called_in_time are_before_quit are_in_order moves
 posts_no_frame_else = record {
   report = record { script = refl; queues = refl; journals = refl; frames = refl };
-  records = record { mode = refl; start = refl; histories = (record {
-    main = refl; lockstep = refl; senders = refl; clocked = tt;
-    legal =
-        (record { reply = refl; timely = tt }, (record { reply = refl; timely = refl }, (record { reply = refl; timely = refl },
-        (record { reply = refl; timely = lit≤ tt }, (record { reply = refl; timely = refl }, tt)))));
-    numbered =
-        (record { known = lit< tt; counted = refl; controller = λ h. cc }, (record { known = lit< tt; counted = refl; controller = λ h. cc },
-        (record { known = lit< tt; counted = refl; controller = λ h. cc }, (record { known = lit< tt; counted = refl; controller = λ h. refl },
-        (record { known = lit< tt; counted = refl; controller = λ h. refl }, tt)))));
-  }, tt) };
-  planned = (each_below 1 (λ thread. AreAsPlanned in_lockstep (gauge_script 10) thread 0 short_entries) (tt, (record { uptime = 0; allowed = refl; call = refl; no_earlier = tt }, tt)), tt);
+  records = record { mode = refl; start = refl; histories = (history_by (gauge_script 10) (queue 0 true 3 short_entries) refl refl refl refl refl refl, tt) };
+  planned = (planned_by (gauge_script 10) (queue 0 true 3 short_entries) (tt, refl), tt);
   controls = (refl, tt);
   frames = (record { interval = refl; phases = refl; lawful = refl }, tt);
-  loopers = (record {
-    final = led (gauge_script 10) 0 short_entries short_frames (first_looper (gauge_script 10)) (None ∷ []) short_acts;
-    acts = (None, (record { accepted = refl; starts = refl; place = refl; painted = refl }, refl));
-    settled = refl; dispatches = refl; disposed_at = 0; whole = refl; on_time = (refl, tt); moments = refl; asked = tt;
-    calls = ((record { call = refl; reply = refl }, (record { call = refl; reply = tt }, tt)), tt);
-  }, tt);
+  loopers = (
+    record {
+      final = led (gauge_script 10) 0 short_entries short_frames (first_looper (gauge_script 10)) (None ∷ []) short_acts;
+      acts = (None, (record { accepted = refl; starts = refl; place = refl; painted = refl }, refl));
+      settled = refl;
+      dispatches = refl;
+      disposed_at = 0;
+      calls = ((record { call = refl; reply = refl }, (record { call = refl; reply = tt }, tt)), tt);
+      asked = tt;
+      whole = refl;
+      on_time = (refl, tt);
+      moments = refl;
+    },
+    tt,
+  );
   halted = refl;
-  histories = (record { controls = refl; before_quit = refl; threads = each_below 1 (λ thread. IsThreadOnTime (gauge_script 10) (queue 0 true 3 short_entries) thread) (tt, refl); in_order = refl }, tt);
+  histories = (record { controls = refl; before_quit = refl; threads = on_time_by (gauge_script 10) (queue 0 true 3 short_entries) (tt, refl); in_order = refl }, tt);
   moved = record { due = (inl refl, tt); together = ((_, refl), tt) };
 }

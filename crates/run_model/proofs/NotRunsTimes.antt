@@ -1,5 +1,5 @@
 -- Reports that are no runs of their script: calls that come too early or too late, and times that are moved wrong.
-use Rattle.std.proofs.Common.{◌≡◌, ◌<◌, ℕ, refl, true, false, List, [], ◌∷◌, ◌⊎◌, inl, inr, Option, Some, None, sym, ap, subst, arith, lit<, lit≤}
+use Rattle.std.proofs.Common.{◌≡◌, ◌<◌, ℕ, refl, true, false, List, [], ◌∷◌, ◌⊎◌, inl, inr, Some, None, sym, ap, subst, arith, lit<}
 use Rattle.std.specs.Prelude.{◌+◌, ◌-◌, ◌/◌, ◌%◌, ◌^◌, ◌==◌, nat_lt, map, slice_index}
 use Rattle.std.proofs.lemmas.Bool.{and_parts, or_cases}
 use Rattle.std.proofs.lemmas.Bool.Decides.{nat_tests}
@@ -7,7 +7,7 @@ use Rattle.loop_model.specs.declared.call.Call.TheVariants as call
 use Rattle.loop_model.specs.declared.reply.Reply.TheVariants as reply
 use Rattle.loop_model.specs.declared.entry.Entry.{Entry}
 use Rattle.loop_model.specs.declared.journal.Act.{Act}
-use Rattle.loop_model.specs.Legal.{IsLegal, AreNumbered, made_count}
+use Rattle.loop_model.specs.Legal.{made_count}
 use Rattle.loop_model.specs.Answers.{answer, clock, accepted_count, barrier_count, quit_place, has_disposed, has_halted}
 use Rattle.loop_model.specs.Live.{live}
 use Rattle.loop_model.specs.Pick.{first_eligible, pick}
@@ -17,13 +17,12 @@ use Rattle.dash_script.specs.declared.script.Block.{Block}
 use Rattle.dash_script.specs.declared.script.Script.{Script}
 use Rattle.run_model.specs.declared.report.Report.{Report}
 use Rattle.run_model.specs.Moments.{in_lockstep}
-use Rattle.run_model.specs.Planned.{AreAsPlanned}
 use Rattle.run_model.specs.Control.{is_controlled, is_called_in_time, are_before_quit, befores, are_on_time}
 use Rattle.run_model.specs.Loopers.{Looper, first_looper}
 use Rattle.run_model.specs.Acts.{after_act, Lead}
 use Rattle.run_model.specs.Moves.{moves, IsPulseTime}
-use Rattle.run_model.specs.Run.{IsRun, caused_on, IsThreadOnTime, are_in_order}
-use Rattle.run_model.proofs.Below.{each_below}
+use Rattle.run_model.specs.Run.{IsRun, caused_on, are_in_order}
+use Rattle.run_model.proofs.ByTests.{history_by, planned_by, on_time_by}
 use Rattle.run_model.proofs.Examples.{entry, handler_on, block, by, plain_script, message, queue, journal, frames, led}
 use Rattle.run_model.proofs.RunBut.{IsRunBut}
 use Rattle.run_model.proofs.RunBut as but
@@ -57,27 +56,28 @@ unfolding befores clock has_disposed
 calls_early r = let on_time : false ≡ true = r.timely.histories.0.threads 0 (lit< tt) in cc
 
 pub calls_early_else : IsRunBut but.Threads (post_script 0 10) early_report
-unfolding IsLegal AreNumbered made_count answer clock accepted_count barrier_count quit_place has_disposed has_halted live first_eligible pick is_controlled lawful all_allowed is_allowed owed next_phase last_time in_due_order before_later live_callbacks posted_count after_act befores is_called_in_time are_before_quit are_in_order moves
+unfolding made_count answer clock accepted_count barrier_count quit_place has_disposed has_halted live first_eligible pick is_controlled lawful all_allowed is_allowed owed next_phase last_time in_due_order before_later live_callbacks posted_count after_act befores is_called_in_time are_before_quit are_in_order moves
 calls_early_else = record {
   report = record { script = refl; queues = refl; journals = refl; frames = refl };
-  records = record { mode = refl; start = refl; histories = (record {
-    main = refl; lockstep = refl; senders = refl; clocked = tt;
-    legal =
-        (record { reply = refl; timely = tt }, (record { reply = refl; timely = lit≤ tt }, (record { reply = refl; timely = refl },
-        (record { reply = refl; timely = refl }, tt))));
-    numbered =
-        (record { known = lit< tt; counted = refl; controller = λ h. cc }, (record { known = lit< tt; counted = refl; controller = λ h. refl },
-        (record { known = lit< tt; counted = refl; controller = λ h. cc }, (record { known = lit< tt; counted = refl; controller = λ h. refl }, tt))));
-  }, tt) };
-  planned = (each_below 1 (λ thread. AreAsPlanned in_lockstep (post_script 0 10) thread 0 early_entries) (tt, (record { uptime = 10; allowed = refl; call = refl; no_earlier = tt }, tt)), tt);
+  records = record { mode = refl; start = refl; histories = (history_by (post_script 0 10) (queue 0 true 3 early_entries) refl refl refl refl refl refl, tt) };
+  planned = (planned_by (post_script 0 10) (queue 0 true 3 early_entries) (tt, refl), tt);
   controls = (refl, tt);
   frames = (record { interval = refl; phases = refl; lawful = refl }, tt);
-  loopers = (record {
-    final = led (post_script 0 10) 0 early_entries [] (first_looper (post_script 0 10)) (None ∷ []) (dispatch 0 10 ∷ []);
-    acts = (None, (record { accepted = refl; starts = refl; place = refl; painted = refl }, refl));
-    settled = refl; dispatches = refl; disposed_at = 0; whole = refl; on_time = (refl, tt); moments = refl; asked = λ test. omega arith;
-    calls = ((record { call = refl; reply = refl }, tt), tt);
-  }, tt);
+  loopers = (
+    record {
+      final = led (post_script 0 10) 0 early_entries [] (first_looper (post_script 0 10)) (None ∷ []) (dispatch 0 10 ∷ []);
+      acts = (None, (record { accepted = refl; starts = refl; place = refl; painted = refl }, refl));
+      settled = refl;
+      dispatches = refl;
+      disposed_at = 0;
+      calls = ((record { call = refl; reply = refl }, tt), tt);
+      asked = λ test. omega arith;
+      whole = refl;
+      on_time = (refl, tt);
+      moments = refl;
+    },
+    tt,
+  );
   halted = refl;
   histories = (record { controls = refl; before_quit = refl; threads = tt; in_order = refl }, tt);
   moved = record { due = (inl refl, tt); together = ((_, refl), tt) };
@@ -95,28 +95,28 @@ unfolding befores clock has_disposed
 calls_late r = let on_time : false ≡ true = r.timely.histories.0.threads 0 (lit< tt) in cc
 
 pub calls_late_else : IsRunBut but.Threads (post_script 5 15) late_report
-unfolding IsLegal AreNumbered made_count answer clock accepted_count barrier_count quit_place has_disposed has_halted live first_eligible pick is_controlled lawful all_allowed is_allowed owed next_phase last_time in_due_order before_later live_callbacks posted_count after_act befores is_called_in_time are_before_quit are_in_order moves
+unfolding made_count answer clock accepted_count barrier_count quit_place has_disposed has_halted live first_eligible pick is_controlled lawful all_allowed is_allowed owed next_phase last_time in_due_order before_later live_callbacks posted_count after_act befores is_called_in_time are_before_quit are_in_order moves
 calls_late_else = record {
   report = record { script = refl; queues = refl; journals = refl; frames = refl };
-  records = record { mode = refl; start = refl; histories = (record {
-    main = refl; lockstep = refl; senders = refl; clocked = tt;
-    legal =
-        (record { reply = refl; timely = lit≤ tt }, (record { reply = refl; timely = lit≤ tt }, (record { reply = refl; timely = tt },
-        (record { reply = refl; timely = refl }, (record { reply = refl; timely = refl }, tt)))));
-    numbered =
-        (record { known = lit< tt; counted = refl; controller = λ h. refl }, (record { known = lit< tt; counted = refl; controller = λ h. refl },
-        (record { known = lit< tt; counted = refl; controller = λ h. cc }, (record { known = lit< tt; counted = refl; controller = λ h. cc },
-        (record { known = lit< tt; counted = refl; controller = λ h. refl }, tt)))));
-  }, tt) };
-  planned = (each_below 1 (λ thread. AreAsPlanned in_lockstep (post_script 5 15) thread 0 late_entries) (tt, (record { uptime = 10; allowed = refl; call = refl; no_earlier = tt }, tt)), tt);
+  records = record { mode = refl; start = refl; histories = (history_by (post_script 5 15) (queue 0 true 3 late_entries) refl refl refl refl refl refl, tt) };
+  planned = (planned_by (post_script 5 15) (queue 0 true 3 late_entries) (tt, refl), tt);
   controls = (refl, tt);
   frames = (record { interval = refl; phases = refl; lawful = refl }, tt);
-  loopers = (record {
-    final = led (post_script 5 15) 0 late_entries [] (first_looper (post_script 5 15)) (None ∷ []) (dispatch 0 15 ∷ []);
-    acts = (None, (record { accepted = refl; starts = refl; place = refl; painted = refl }, refl));
-    settled = refl; dispatches = refl; disposed_at = 0; whole = refl; on_time = (refl, tt); moments = refl; asked = λ test. omega arith;
-    calls = ((record { call = refl; reply = refl }, tt), tt);
-  }, tt);
+  loopers = (
+    record {
+      final = led (post_script 5 15) 0 late_entries [] (first_looper (post_script 5 15)) (None ∷ []) (dispatch 0 15 ∷ []);
+      acts = (None, (record { accepted = refl; starts = refl; place = refl; painted = refl }, refl));
+      settled = refl;
+      dispatches = refl;
+      disposed_at = 0;
+      calls = ((record { call = refl; reply = refl }, tt), tt);
+      asked = λ test. omega arith;
+      whole = refl;
+      on_time = (refl, tt);
+      moments = refl;
+    },
+    tt,
+  );
   halted = refl;
   histories = (record { controls = refl; before_quit = refl; threads = tt; in_order = refl }, tt);
   moved = record { due = (inl refl, (inl refl, tt)); together = ((_, refl), tt) };
@@ -139,30 +139,30 @@ takes_late r =
     omega (arith, now)
 
 pub takes_late_else : IsRunBut but.Takes (post_script 5 15) taken_report
-unfolding IsLegal AreNumbered made_count answer clock accepted_count barrier_count quit_place has_disposed has_halted live first_eligible pick is_controlled lawful all_allowed is_allowed owed next_phase last_time in_due_order before_later live_callbacks posted_count after_act befores is_called_in_time are_before_quit are_in_order moves
+unfolding made_count answer clock accepted_count barrier_count quit_place has_disposed has_halted live first_eligible pick is_controlled lawful all_allowed is_allowed owed next_phase last_time in_due_order before_later live_callbacks posted_count after_act befores is_called_in_time are_before_quit are_in_order moves
 takes_late_else = record {
   report = record { script = refl; queues = refl; journals = refl; frames = refl };
-  records = record { mode = refl; start = refl; histories = (record {
-    main = refl; lockstep = refl; senders = refl; clocked = tt;
-    legal =
-        (record { reply = refl; timely = lit≤ tt }, (record { reply = refl; timely = tt }, (record { reply = refl; timely = lit≤ tt },
-        (record { reply = refl; timely = refl }, (record { reply = refl; timely = refl }, tt)))));
-    numbered =
-        (record { known = lit< tt; counted = refl; controller = λ h. refl }, (record { known = lit< tt; counted = refl; controller = λ h. cc },
-        (record { known = lit< tt; counted = refl; controller = λ h. refl }, (record { known = lit< tt; counted = refl; controller = λ h. cc },
-        (record { known = lit< tt; counted = refl; controller = λ h. refl }, tt)))));
-  }, tt) };
-  planned = (each_below 1 (λ thread. AreAsPlanned in_lockstep (post_script 5 15) thread 0 taken_entries) (tt, (record { uptime = 10; allowed = refl; call = refl; no_earlier = tt }, tt)), tt);
+  records = record { mode = refl; start = refl; histories = (history_by (post_script 5 15) (queue 0 true 3 taken_entries) refl refl refl refl refl refl, tt) };
+  planned = (planned_by (post_script 5 15) (queue 0 true 3 taken_entries) (tt, refl), tt);
   controls = (refl, tt);
   frames = (record { interval = refl; phases = refl; lawful = refl }, tt);
-  loopers = (record {
-    final = led (post_script 5 15) 0 taken_entries [] (first_looper (post_script 5 15)) (None ∷ []) (dispatch 0 10 ∷ []);
-    acts = (None, (record { accepted = refl; starts = refl; place = refl; painted = refl }, refl));
-    settled = refl; dispatches = tt; disposed_at = 0; whole = refl; on_time = tt; moments = refl; asked = λ test. omega arith;
-    calls = tt;
-  }, tt);
+  loopers = (
+    record {
+      final = led (post_script 5 15) 0 taken_entries [] (first_looper (post_script 5 15)) (None ∷ []) (dispatch 0 10 ∷ []);
+      acts = (None, (record { accepted = refl; starts = refl; place = refl; painted = refl }, refl));
+      settled = refl;
+      dispatches = tt;
+      disposed_at = 0;
+      calls = tt;
+      asked = λ test. omega arith;
+      whole = refl;
+      on_time = tt;
+      moments = refl;
+    },
+    tt,
+  );
   halted = refl;
-  histories = (record { controls = refl; before_quit = refl; threads = each_below 1 (λ thread. IsThreadOnTime (post_script 5 15) (queue 0 true 3 taken_entries) thread) (tt, refl); in_order = refl }, tt);
+  histories = (record { controls = refl; before_quit = refl; threads = on_time_by (post_script 5 15) (queue 0 true 3 taken_entries) (tt, refl); in_order = refl }, tt);
   moved = record { due = (inl refl, (inl refl, tt)); together = ((_, refl), tt) };
 }
 
@@ -195,33 +195,30 @@ reacts_late r = of_acts r.loopers.0.final r.loopers.0.acts r.loopers.0.on_time.0
     of_acts b (None, (first, (None, (may, is)))) on_time = let late : false ≡ true = subst AreItsOnTime (sym is) on_time in cc
 
 pub reacts_late_else : IsRunBut but.OnTime rule_script reacted_report
-unfolding IsLegal AreNumbered made_count answer clock accepted_count barrier_count quit_place has_disposed has_halted live first_eligible pick is_controlled lawful all_allowed is_allowed owed next_phase last_time in_due_order before_later live_callbacks posted_count after_act befores is_called_in_time are_before_quit are_in_order moves
+unfolding made_count answer clock accepted_count barrier_count quit_place has_disposed has_halted live first_eligible pick is_controlled lawful all_allowed is_allowed owed next_phase last_time in_due_order before_later live_callbacks posted_count after_act befores is_called_in_time are_before_quit are_in_order moves
 reacts_late_else = record {
   report = record { script = refl; queues = refl; journals = refl; frames = refl };
-  records = record { mode = refl; start = refl; histories = (record {
-    main = refl; lockstep = refl; senders = refl; clocked = tt;
-    legal =
-        (record { reply = refl; timely = lit≤ tt }, (record { reply = refl; timely = tt }, (record { reply = refl; timely = refl },
-        (record { reply = refl; timely = lit≤ tt }, (record { reply = refl; timely = tt }, (record { reply = refl; timely = refl },
-        (record { reply = refl; timely = refl }, tt)))))));
-    numbered =
-        (record { known = lit< tt; counted = refl; controller = λ h. refl }, (record { known = lit< tt; counted = refl; controller = λ h. cc },
-        (record { known = lit< tt; counted = refl; controller = λ h. cc }, (record { known = lit< tt; counted = refl; controller = λ h. refl },
-        (record { known = lit< tt; counted = refl; controller = λ h. cc }, (record { known = lit< tt; counted = refl; controller = λ h. cc },
-        (record { known = lit< tt; counted = refl; controller = λ h. refl }, tt)))))));
-  }, tt) };
-  planned = (each_below 1 (λ thread. AreAsPlanned in_lockstep rule_script thread 0 reacted_entries) (tt, (record { uptime = 10; allowed = refl; call = refl; no_earlier = tt }, tt)), tt);
+  records = record { mode = refl; start = refl; histories = (history_by rule_script (queue 0 true 3 reacted_entries) refl refl refl refl refl refl, tt) };
+  planned = (planned_by rule_script (queue 0 true 3 reacted_entries) (tt, refl), tt);
   controls = (refl, tt);
   frames = (record { interval = refl; phases = refl; lawful = refl }, tt);
-  loopers = (record {
-    final = led rule_script 0 reacted_entries [] (first_looper rule_script) (None ∷ None ∷ []) reacted_acts;
-    acts = (None, (record { accepted = refl; starts = refl; place = refl; painted = refl }, (None,
-        (record { accepted = refl; starts = refl; place = refl; painted = refl }, refl))));
-    settled = refl; dispatches = refl; disposed_at = 0; whole = refl; on_time = tt; moments = refl; asked = λ test. omega arith;
-    calls = ((record { call = refl; reply = refl }, (record { call = refl; reply = tt }, (record { call = refl; reply = refl }, tt))), tt);
-  }, tt);
+  loopers = (
+    record {
+      final = led rule_script 0 reacted_entries [] (first_looper rule_script) (None ∷ None ∷ []) reacted_acts;
+      acts = (None, (record { accepted = refl; starts = refl; place = refl; painted = refl }, (None, (record { accepted = refl; starts = refl; place = refl; painted = refl }, refl))));
+      settled = refl;
+      dispatches = refl;
+      disposed_at = 0;
+      calls = ((record { call = refl; reply = refl }, (record { call = refl; reply = tt }, (record { call = refl; reply = refl }, tt))), tt);
+      asked = λ test. omega arith;
+      whole = refl;
+      on_time = tt;
+      moments = refl;
+    },
+    tt,
+  );
   halted = refl;
-  histories = (record { controls = refl; before_quit = refl; threads = each_below 1 (λ thread. IsThreadOnTime rule_script (queue 0 true 3 reacted_entries) thread) (tt, refl); in_order = refl }, tt);
+  histories = (record { controls = refl; before_quit = refl; threads = on_time_by rule_script (queue 0 true 3 reacted_entries) (tt, refl); in_order = refl }, tt);
   moved = record { due = (inl refl, (inl refl, tt)); together = ((_, refl), tt) };
 }
 
@@ -248,44 +245,44 @@ unfolding are_in_order
 calls_out_of_order r = let in_order : false ≡ true = r.timely.histories.1.0.in_order in cc
 
 pub calls_out_of_order_else : IsRunBut but.Order order_report.script order_report
-unfolding IsLegal AreNumbered made_count answer clock accepted_count barrier_count quit_place has_disposed has_halted live first_eligible pick is_controlled lawful all_allowed is_allowed owed next_phase last_time in_due_order before_later live_callbacks posted_count after_act befores is_called_in_time are_before_quit are_in_order moves
+unfolding made_count answer clock accepted_count barrier_count quit_place has_disposed has_halted live first_eligible pick is_controlled lawful all_allowed is_allowed owed next_phase last_time in_due_order before_later live_callbacks posted_count after_act befores is_called_in_time are_before_quit are_in_order moves
 calls_out_of_order_else = record {
   report = record { script = refl; queues = refl; journals = refl; frames = refl };
-  records = record { mode = refl; start = refl; histories = (record {
-    main = refl; lockstep = refl; senders = refl; clocked = tt;
-    legal =
-        (record { reply = refl; timely = lit≤ tt }, (record { reply = refl; timely = lit≤ tt }, (record { reply = refl; timely = lit≤ tt },
-        (record { reply = refl; timely = refl }, tt))));
-    numbered =
-        (record { known = lit< tt; counted = refl; controller = λ h. refl }, (record { known = lit< tt; counted = refl; controller = λ h. refl },
-        (record { known = lit< tt; counted = refl; controller = λ h. refl }, (record { known = lit< tt; counted = refl; controller = λ h. refl },
-        tt))));
-  }, (record {
-    main = refl; lockstep = refl; senders = refl; clocked = tt;
-    legal =
-        (record { reply = refl; timely = lit≤ tt }, (record { reply = refl; timely = refl }, (record { reply = refl; timely = refl },
-        (record { reply = refl; timely = tt }, (record { reply = refl; timely = tt }, tt)))));
-    numbered =
-        (record { known = lit< tt; counted = refl; controller = λ h. refl }, (record { known = lit< tt; counted = refl; controller = λ h. cc },
-        (record { known = lit< tt; counted = refl; controller = λ h. cc }, (record { known = lit< tt; counted = refl; controller = λ h. cc },
-        (record { known = lit< tt; counted = refl; controller = λ h. cc }, tt)))));
-  }, tt)) };
-  planned = (each_below 2 (λ thread. AreAsPlanned in_lockstep order_report.script thread 0 order_main) ((tt, tt), tt), (each_below 2 (λ thread. AreAsPlanned in_lockstep order_report.script thread 1 order_entries) ((tt, (record { uptime = 10; allowed = refl; call = refl; no_earlier = tt }, tt)), (record { uptime = 5; allowed = refl; call = refl; no_earlier = tt }, (record { uptime = 8; allowed = refl; call = refl; no_earlier = tt }, tt))), tt));
+  records = record { mode = refl; start = refl; histories = (history_by order_report.script (queue 0 true 5 order_main) refl refl refl refl refl refl, (history_by order_report.script (queue 1 false 5 order_entries) refl refl refl refl refl refl, tt)) };
+  planned = (planned_by order_report.script (queue 0 true 5 order_main) ((tt, refl), refl), (planned_by order_report.script (queue 1 false 5 order_entries) ((tt, refl), refl), tt));
   controls = (refl, (refl, tt));
   frames = (record { interval = refl; phases = refl; lawful = refl }, (record { interval = refl; phases = refl; lawful = refl }, tt));
-  loopers = (record {
-    final = first_looper order_report.script;
-    acts = refl;
-    settled = refl; dispatches = refl; disposed_at = 0; whole = refl; on_time = (refl, (refl, tt)); moments = refl; asked = λ test. omega arith;
-    calls = (tt, (tt, tt));
-  }, (record {
-    final = first_looper order_report.script;
-    acts = refl;
-    settled = refl; dispatches = refl; disposed_at = 5; whole = refl; on_time = (refl, (refl, tt)); moments = refl; asked = λ test. omega arith;
-    calls = (tt, ((record { call = refl; reply = refl }, tt), tt));
-  }, tt));
+  loopers = (
+    record {
+      final = first_looper order_report.script;
+      acts = refl;
+      settled = refl;
+      dispatches = refl;
+      disposed_at = 0;
+      calls = (tt, (tt, tt));
+      asked = λ test. omega arith;
+      whole = refl;
+      on_time = (refl, (refl, tt));
+      moments = refl;
+    },
+    (
+      record {
+        final = first_looper order_report.script;
+        acts = refl;
+        settled = refl;
+        dispatches = refl;
+        disposed_at = 5;
+        calls = (tt, ((record { call = refl; reply = refl }, tt), tt));
+        asked = λ test. omega arith;
+        whole = refl;
+        on_time = (refl, (refl, tt));
+        moments = refl;
+      },
+      tt,
+    ),
+  );
   halted = refl;
-  histories = (record { controls = refl; before_quit = refl; threads = each_below 2 (λ thread. IsThreadOnTime order_report.script (queue 0 true 5 order_main) thread) ((tt, refl), refl); in_order = tt }, (record { controls = refl; before_quit = refl; threads = each_below 2 (λ thread. IsThreadOnTime order_report.script (queue 1 false 5 order_entries) thread) ((tt, refl), refl); in_order = tt }, tt));
+  histories = (record { controls = refl; before_quit = refl; threads = on_time_by order_report.script (queue 0 true 5 order_main) ((tt, refl), refl); in_order = tt }, (record { controls = refl; before_quit = refl; threads = on_time_by order_report.script (queue 1 false 5 order_entries) ((tt, refl), refl); in_order = tt }, tt));
   moved = record { due = (inl refl, (inl refl, (inl refl, tt))); together = ((_, refl), ((_, refl), tt)) };
 }
 
@@ -321,34 +318,30 @@ moves_where_nothing_comes r = of_move r.timely.moves.due.1.0
     of_move (inr pulse) = no_pulse pulse
 
 pub moves_where_nothing_comes_else : IsRunBut but.Due script (main_report script needless_entries needless_acts)
-unfolding IsLegal AreNumbered made_count answer clock accepted_count barrier_count quit_place has_disposed has_halted live first_eligible pick is_controlled lawful all_allowed is_allowed owed next_phase last_time in_due_order before_later live_callbacks posted_count after_act befores is_called_in_time are_before_quit are_in_order moves
+unfolding made_count answer clock accepted_count barrier_count quit_place has_disposed has_halted live first_eligible pick is_controlled lawful all_allowed is_allowed owed next_phase last_time in_due_order before_later live_callbacks posted_count after_act befores is_called_in_time are_before_quit are_in_order moves
 moves_where_nothing_comes_else = record {
   report = record { script = refl; queues = refl; journals = refl; frames = refl };
-  records = record { mode = refl; start = refl; histories = (record {
-    main = refl; lockstep = refl; senders = refl; clocked = tt;
-    legal =
-        (record { reply = refl; timely = lit≤ tt }, (record { reply = refl; timely = tt }, (record { reply = refl; timely = tt },
-        (record { reply = refl; timely = refl }, (record { reply = refl; timely = lit≤ tt }, (record { reply = refl; timely = lit≤ tt },
-        (record { reply = refl; timely = refl }, (record { reply = refl; timely = lit≤ tt }, (record { reply = refl; timely = refl }, tt)))))))));
-    numbered =
-        (record { known = lit< tt; counted = refl; controller = λ h. refl }, (record { known = lit< tt; counted = refl; controller = λ h. cc },
-        (record { known = lit< tt; counted = refl; controller = λ h. cc }, (record { known = lit< tt; counted = refl; controller = λ h. cc },
-        (record { known = lit< tt; counted = refl; controller = λ h. refl }, (record { known = lit< tt; counted = refl; controller = λ h. refl },
-        (record { known = lit< tt; counted = refl; controller = λ h. cc }, (record { known = lit< tt; counted = refl; controller = λ h. refl },
-        (record { known = lit< tt; counted = refl; controller = λ h. refl }, tt)))))))));
-  }, tt) };
-  planned = (each_below 1 (λ thread. AreAsPlanned in_lockstep script thread 0 needless_entries) (tt, (record { uptime = 10; allowed = refl; call = refl; no_earlier = tt }, (record { uptime = 10; allowed = refl; call = refl; no_earlier = tt }, tt))), tt);
+  records = record { mode = refl; start = refl; histories = (history_by script (queue 0 true 3 needless_entries) refl refl refl refl refl refl, tt) };
+  planned = (planned_by script (queue 0 true 3 needless_entries) (tt, refl), tt);
   controls = (refl, tt);
   frames = (record { interval = refl; phases = refl; lawful = refl }, tt);
-  loopers = (record {
-    final = led script 0 needless_entries [] (first_looper script) (None ∷ None ∷ []) needless_acts;
-    acts = (None, (record { accepted = refl; starts = refl; place = refl; painted = refl }, (None,
-        (record { accepted = refl; starts = refl; place = refl; painted = refl }, refl))));
-    settled = refl; dispatches = refl; disposed_at = 0; whole = refl; on_time = (refl, tt); moments = refl; asked = λ test. omega arith;
-    calls = ((record { call = refl; reply = refl }, (record { call = refl; reply = refl }, tt)), tt);
-  }, tt);
+  loopers = (
+    record {
+      final = led script 0 needless_entries [] (first_looper script) (None ∷ None ∷ []) needless_acts;
+      acts = (None, (record { accepted = refl; starts = refl; place = refl; painted = refl }, (None, (record { accepted = refl; starts = refl; place = refl; painted = refl }, refl))));
+      settled = refl;
+      dispatches = refl;
+      disposed_at = 0;
+      calls = ((record { call = refl; reply = refl }, (record { call = refl; reply = refl }, tt)), tt);
+      asked = λ test. omega arith;
+      whole = refl;
+      on_time = (refl, tt);
+      moments = refl;
+    },
+    tt,
+  );
   halted = refl;
-  histories = (record { controls = refl; before_quit = refl; threads = each_below 1 (λ thread. IsThreadOnTime script (queue 0 true 3 needless_entries) thread) (tt, refl); in_order = refl }, tt);
+  histories = (record { controls = refl; before_quit = refl; threads = on_time_by script (queue 0 true 3 needless_entries) (tt, refl); in_order = refl }, tt);
   moved = record { due = tt; together = ((_, refl), tt) };
 }
 
@@ -370,39 +363,43 @@ moves_one_queue_alone r =
     omega (arith, times)
 
 pub moves_one_queue_alone_else : IsRunBut but.Together quiet_script alone_report
-unfolding IsLegal AreNumbered made_count answer clock accepted_count barrier_count quit_place has_disposed has_halted live first_eligible pick is_controlled lawful all_allowed is_allowed owed next_phase last_time in_due_order before_later live_callbacks posted_count after_act befores is_called_in_time are_before_quit are_in_order moves
+unfolding made_count answer clock accepted_count barrier_count quit_place has_disposed has_halted live first_eligible pick is_controlled lawful all_allowed is_allowed owed next_phase last_time in_due_order before_later live_callbacks posted_count after_act befores is_called_in_time are_before_quit are_in_order moves
 moves_one_queue_alone_else = record {
   report = record { script = refl; queues = refl; journals = refl; frames = refl };
-  records = record { mode = refl; start = refl; histories = (record {
-    main = refl; lockstep = refl; senders = refl; clocked = tt;
-    legal =
-        (record { reply = refl; timely = lit≤ tt }, (record { reply = refl; timely = refl }, tt));
-    numbered =
-        (record { known = lit< tt; counted = refl; controller = λ h. refl }, (record { known = lit< tt; counted = refl; controller = λ h. refl }, tt));
-  }, (record {
-    main = refl; lockstep = refl; senders = refl; clocked = tt;
-    legal =
-        (record { reply = refl; timely = lit≤ tt }, (record { reply = refl; timely = lit≤ tt }, (record { reply = refl; timely = refl },
-        (record { reply = refl; timely = refl }, tt))));
-    numbered =
-        (record { known = lit< tt; counted = refl; controller = λ h. refl }, (record { known = lit< tt; counted = refl; controller = λ h. refl },
-        (record { known = lit< tt; counted = refl; controller = λ h. refl }, (record { known = lit< tt; counted = refl; controller = λ h. cc }, tt))));
-  }, tt)) };
-  planned = (each_below 1 (λ thread. AreAsPlanned in_lockstep quiet_script thread 0 quit_twice.entries_0) (tt, tt), (each_below 1 (λ thread. AreAsPlanned in_lockstep quiet_script thread 1 alone_entries) (tt, tt), tt));
+  records = record { mode = refl; start = refl; histories = (history_by quiet_script (queue 0 true 4 quit_twice.entries_0) refl refl refl refl refl refl, (history_by quiet_script (queue 1 false 4 alone_entries) refl refl refl refl refl refl, tt)) };
+  planned = (planned_by quiet_script (queue 0 true 4 quit_twice.entries_0) (tt, refl), (planned_by quiet_script (queue 1 false 4 alone_entries) (tt, refl), tt));
   controls = (refl, (refl, tt));
   frames = (record { interval = refl; phases = refl; lawful = refl }, (record { interval = refl; phases = refl; lawful = refl }, tt));
-  loopers = (record {
-    final = first_looper quiet_script;
-    acts = refl;
-    settled = refl; dispatches = refl; disposed_at = 0; whole = refl; on_time = (refl, (refl, tt)); moments = refl; asked = λ test. omega arith;
-    calls = (tt, (tt, tt));
-  }, (record {
-    final = first_looper quiet_script;
-    acts = refl;
-    settled = refl; dispatches = refl; disposed_at = 10; whole = refl; on_time = (refl, (refl, tt)); moments = refl; asked = λ test. omega arith;
-    calls = (tt, ((record { call = refl; reply = refl }, tt), tt));
-  }, tt));
+  loopers = (
+    record {
+      final = first_looper quiet_script;
+      acts = refl;
+      settled = refl;
+      dispatches = refl;
+      disposed_at = 0;
+      calls = (tt, (tt, tt));
+      asked = λ test. omega arith;
+      whole = refl;
+      on_time = (refl, (refl, tt));
+      moments = refl;
+    },
+    (
+      record {
+        final = first_looper quiet_script;
+        acts = refl;
+        settled = refl;
+        dispatches = refl;
+        disposed_at = 10;
+        calls = (tt, ((record { call = refl; reply = refl }, tt), tt));
+        asked = λ test. omega arith;
+        whole = refl;
+        on_time = (refl, (refl, tt));
+        moments = refl;
+      },
+      tt,
+    ),
+  );
   halted = refl;
-  histories = (record { controls = refl; before_quit = refl; threads = each_below 1 (λ thread. IsThreadOnTime quiet_script (queue 0 true 4 quit_twice.entries_0) thread) (tt, refl); in_order = refl }, (record { controls = refl; before_quit = refl; threads = each_below 1 (λ thread. IsThreadOnTime quiet_script (queue 1 false 4 alone_entries) thread) (tt, refl); in_order = refl }, tt));
+  histories = (record { controls = refl; before_quit = refl; threads = on_time_by quiet_script (queue 0 true 4 quit_twice.entries_0) (tt, refl); in_order = refl }, (record { controls = refl; before_quit = refl; threads = on_time_by quiet_script (queue 1 false 4 alone_entries) (tt, refl); in_order = refl }, tt));
   moved = record { due = (inl refl, tt); together = tt };
 }

@@ -1,9 +1,8 @@
 -- Runs of a script in lockstep but for one clause: what is shown of a report that has one fault.
-use Rattle.std.proofs.Common.{◌≡◌, ◌<◌, ℕ, true, List, [], ◌∷◌, refl}
+use Rattle.std.proofs.Common.{◌≡◌, ◌<◌, ℕ, true, List, [], ◌∷◌}
 use Rattle.std.specs.Prelude.{◌==◌, map, MatchBool}
 use Rattle.std.specs.List.{AllByRecursion, filter_map, enumerate_from}
 use mathlib.Core.List.{IsPrefix}
-use Rattle.loop_model.specs.declared.entry.Entry.{Entry}
 use Rattle.loop_model.specs.declared.journal.Journal.{Journal}
 use Rattle.loop_model.specs.declared.record.QueueRecord.{QueueRecord}
 use Rattle.loop_model.specs.Dispatches.{act_dispatch, call_dispatch}
@@ -18,7 +17,7 @@ use Rattle.run_model.specs.Moments.{in_lockstep}
 use Rattle.run_model.specs.Control.{is_called_in_time, are_before_quit, befores, are_on_time}
 use Rattle.run_model.specs.Loopers.{Looper, first_looper}
 use Rattle.run_model.specs.Acts.{Lead, IsSent}
-use Rattle.run_model.specs.Moves.{Move, moves, move_times, main_moves, MayMoveTo, AreMovedTogether}
+use Rattle.run_model.specs.Moves.{Move, moves, move_times, main_moves, MayMoveTo}
 use Rattle.run_model.specs.FrameRuns.{are_run_then, are_whole}
 use Rattle.run_model.specs.FrameAsks.{as_told, asks_in, AreAsOften}
 use Rattle.run_model.specs.Run.{IsReportOf, AreRecordsOf, all_entries, ArePlannedOf, AreControlsOf, AreFramesOf, caused_on, asked_of, IsLooperRun, EachLooper, IsThreadOnTime, are_in_order, IsTimely, main_ends_halted, IsRun}
