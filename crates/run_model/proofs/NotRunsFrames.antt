@@ -53,7 +53,8 @@ removes_frame = command.Unframe 0 3 8
 
 -- a frame line's report is a run but for what is asked, with each lawful record
 frame_else : (fs : List FrameEntry) → lawful 16666667 4 fs ≡ true → IsRunBut but.Asked (line_script posts_frame) (line_report posts_frame fs)
-unfolding made_count answer clock accepted_count barrier_count quit_place has_disposed has_halted live first_eligible pick is_controlled befores is_called_in_time are_before_quit are_in_order moves
+unfolding made_count answer clock accepted_count barrier_count quit_place has_disposed has_halted live first_eligible pick is_controlled
+    befores is_called_in_time are_before_quit are_in_order moves
 frame_else fs law = record {
   report = record { script = refl; queues = refl; journals = refl; frames = refl };
   records = record { mode = refl; start = refl; histories = (history_by (line_script posts_frame) (queue 0 true 3 line_entries) refl refl refl refl refl refl, tt) };
@@ -82,7 +83,8 @@ frame_else fs law = record {
 
 -- and so is an unframe line's
 unframe_else : (fs : List FrameEntry) → lawful 16666667 4 fs ≡ true → IsRunBut but.Asked (line_script removes_frame) (line_report removes_frame fs)
-unfolding made_count answer clock accepted_count barrier_count quit_place has_disposed has_halted live first_eligible pick is_controlled befores is_called_in_time are_before_quit are_in_order moves
+unfolding made_count answer clock accepted_count barrier_count quit_place has_disposed has_halted live first_eligible pick is_controlled
+    befores is_called_in_time are_before_quit are_in_order moves
 unframe_else fs law = record {
   report = record { script = refl; queues = refl; journals = refl; frames = refl };
   records = record { mode = refl; start = refl; histories = (history_by (line_script removes_frame) (queue 0 true 3 line_entries) refl refl refl refl refl refl, tt) };
@@ -124,94 +126,101 @@ abbrev has_no_token : FrameAsk → Bool
 has_no_token (Posts phase due id None) = true
 has_no_token _ = false
 
--- the line's callback is posted twice
 abbrev posts_frame_twice_frames : List FrameEntry
 posts_frame_twice_frames = frame.Posted (callback 0 3 10 8) ∷ frame.Posted (callback 1 3 10 8) ∷ []
 
+-- the line's callback is posted twice
 pub posts_frame_twice : IsRun in_lockstep (line_script posts_frame) (line_report posts_frame posts_frame_twice_frames) → ⊥
 posts_frame_twice r =
     let counts : 2 ≡ 1 = line_asked posts_frame posts_frame_twice_frames r (λ x. true) in
     omega (arith, counts)
 
+-- all else of it is right
 pub posts_frame_twice_else : IsRunBut but.Asked (line_script posts_frame) (line_report posts_frame posts_frame_twice_frames)
 unfolding lawful all_allowed is_allowed owed next_phase last_time in_due_order before_later live_callbacks posted_count
 posts_frame_twice_else = frame_else posts_frame_twice_frames refl
 
--- the line's callback is posted for a later time
 abbrev posts_frame_late_frames : List FrameEntry
 posts_frame_late_frames = frame.Posted (callback 0 3 11 8) ∷ []
 
+-- the line's callback is posted for a later time
 pub posts_frame_late : IsRun in_lockstep (line_script posts_frame) (line_report posts_frame posts_frame_late_frames) → ⊥
 posts_frame_late r =
     let counts : 0 ≡ 1 = line_asked posts_frame posts_frame_late_frames r is_due_at_10 in
     omega (arith, counts)
 
+-- all else of it is right
 pub posts_frame_late_else : IsRunBut but.Asked (line_script posts_frame) (line_report posts_frame posts_frame_late_frames)
 unfolding lawful all_allowed is_allowed owed next_phase last_time in_due_order before_later live_callbacks posted_count
 posts_frame_late_else = frame_else posts_frame_late_frames refl
 
--- the line's callback is posted in another phase
 abbrev posts_frame_elsewhere_frames : List FrameEntry
 posts_frame_elsewhere_frames = frame.Posted (callback 0 2 10 8) ∷ []
 
+-- the line's callback is posted in another phase
 pub posts_frame_elsewhere : IsRun in_lockstep (line_script posts_frame) (line_report posts_frame posts_frame_elsewhere_frames) → ⊥
 posts_frame_elsewhere r =
     let counts : 0 ≡ 1 = line_asked posts_frame posts_frame_elsewhere_frames r is_in_phase_3 in
     omega (arith, counts)
 
+-- all else of it is right
 pub posts_frame_elsewhere_else : IsRunBut but.Asked (line_script posts_frame) (line_report posts_frame posts_frame_elsewhere_frames)
 unfolding lawful all_allowed is_allowed owed next_phase last_time in_due_order before_later live_callbacks posted_count
 posts_frame_elsewhere_else = frame_else posts_frame_elsewhere_frames refl
 
--- the line's callback is posted with a token
 abbrev posts_frame_with_token_frames : List FrameEntry
 posts_frame_with_token_frames = frame.Posted (record (callback 0 3 10 8) { token = Some 1 }) ∷ []
 
+-- the line's callback is posted with a token
 pub posts_frame_with_token : IsRun in_lockstep (line_script posts_frame) (line_report posts_frame posts_frame_with_token_frames) → ⊥
 posts_frame_with_token r =
     let counts : 0 ≡ 1 = line_asked posts_frame posts_frame_with_token_frames r has_no_token in
     omega (arith, counts)
 
+-- all else of it is right
 pub posts_frame_with_token_else : IsRunBut but.Asked (line_script posts_frame) (line_report posts_frame posts_frame_with_token_frames)
 unfolding lawful all_allowed is_allowed owed next_phase last_time in_due_order before_later live_callbacks posted_count
 posts_frame_with_token_else = frame_else posts_frame_with_token_frames refl
 
--- the line's callback is removed, and no line asks for it
 abbrev removes_unasked_frames : List FrameEntry
 removes_unasked_frames = frame.Posted (callback 0 3 10 8) ∷ frame.Removed 3 8 None 1 ∷ []
 
+-- the line's callback is removed, and no line asks for it
 pub removes_unasked : IsRun in_lockstep (line_script posts_frame) (line_report posts_frame removes_unasked_frames) → ⊥
 removes_unasked r =
     let counts : 2 ≡ 1 = line_asked posts_frame removes_unasked_frames r (λ x. true) in
     omega (arith, counts)
 
+-- all else of it is right
 pub removes_unasked_else : IsRunBut but.Asked (line_script posts_frame) (line_report posts_frame removes_unasked_frames)
 unfolding lawful all_allowed is_allowed owed next_phase last_time in_due_order before_later live_callbacks posted_count
 removes_unasked_else = frame_else removes_unasked_frames refl
 
--- a frame that no dispatch runs
 abbrev frame_of_nothing_frames : List FrameEntry
 frame_of_nothing_frames = frame.Posted (callback 0 3 10 8) ∷ frame.Begin 0 10000000 0 ∷ frame.Take 0 10000000 0 ∷ frame.Take 1 10000000 0 ∷ frame.Take 2 10000000 0
     ∷ frame.Take 3 10000000 0 ∷ frame.Ran 0 ∷ []
 
+-- a frame that no dispatch runs
 pub frame_of_nothing : IsRun in_lockstep (line_script posts_frame) (line_report posts_frame frame_of_nothing_frames) → ⊥
 frame_of_nothing r =
     let counts : 2 ≡ 1 = line_asked posts_frame frame_of_nothing_frames r (λ x. true) in
     omega (arith, counts)
 
+-- all else of it is right
 pub frame_of_nothing_else : IsRunBut but.Asked (line_script posts_frame) (line_report posts_frame frame_of_nothing_frames)
 unfolding lawful all_allowed is_allowed owed next_phase last_time in_due_order before_later live_callbacks posted_count
 frame_of_nothing_else = frame_else frame_of_nothing_frames refl
 
--- an unframe line removes nothing
 abbrev removes_nothing_frames : List FrameEntry
 removes_nothing_frames = []
 
+-- an unframe line removes nothing
 pub removes_nothing : IsRun in_lockstep (line_script removes_frame) (line_report removes_frame removes_nothing_frames) → ⊥
 removes_nothing r =
     let counts : 0 ≡ 1 = line_asked removes_frame removes_nothing_frames r (λ x. true) in
     omega (arith, counts)
 
+-- all else of it is right
 pub removes_nothing_else : IsRunBut but.Asked (line_script removes_frame) (line_report removes_frame removes_nothing_frames)
 unfolding lawful all_allowed is_allowed owed next_phase last_time in_due_order before_later live_callbacks posted_count
 removes_nothing_else = unframe_else removes_nothing_frames refl

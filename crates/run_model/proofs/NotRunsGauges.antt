@@ -28,7 +28,7 @@ use Rattle.run_model.specs.FrameRuns.{are_run_then, are_whole, is_begin, is_fram
 use Rattle.run_model.specs.Acts.{after_act, Lead}
 use Rattle.run_model.specs.Moves.{moves}
 use Rattle.run_model.specs.Run.{IsRun, asked_of, are_in_order}
-use Rattle.run_model.proofs.ByTests.{history_by, planned_by, on_time_by}
+use Rattle.run_model.proofs.ByTests.{history_by, planned_by, on_time_by, may, makes, gets}
 use Rattle.run_model.proofs.Examples.{entry, handler_on, block, by, plain_script, message, frame_message, queue, journal, callback, led}
 use Rattle.run_model.proofs.RunBut.{IsRunBut}
 use Rattle.run_model.proofs.RunBut as but
@@ -98,11 +98,11 @@ gauge_led : (c d : Callback) (vsync start time : ℕ) (fs : List FrameEntry) →
     → Lead (gauge_script 20) 0 gauge_entries (frame.Posted c ∷ frame.Posted d ∷ frame.Begin vsync start time ∷ fs) (first_looper (gauge_script 20)) gauge_acts b
     → after_frame (frame.Posted c ∷ frame.Posted d ∷ frame.Begin vsync start time ∷ fs) 2 ≡ b
 unfolding after_act
-gauge_led c d vsync start time fs none b (Some p, (may, rest)) = let starts : false ≡ true = may.starts in cc
-gauge_led c d vsync start time fs none b (None, (may, (v, (pulse, (g, (paint, (None, (last, is)))))))) =
+gauge_led c d vsync start time fs none b (Some p, (comes, rest)) = let starts : false ≡ true = comes.starts in cc
+gauge_led c d vsync start time fs none b (None, (comes, (v, (pulse, (g, (paint, (None, (last, is)))))))) =
     let painted : 0 ≡ 1 = ap length last.painted in
     absurd (omega (arith, painted))
-gauge_led c d vsync start time fs none b (None, (may, (v, (pulse, (g, (paint, (Some p, (last, is)))))))) =
+gauge_led c d vsync start time fs none b (None, (comes, (v, (pulse, (g, (paint, (Some p, (last, is)))))))) =
     subst (λ n. after_frame (frame.Posted c ∷ frame.Posted d ∷ frame.Begin vsync start time ∷ fs) n ≡ b) (one_frame c d vsync start time fs none p last.place) is
 
 -- the record of the gauge's run, with these moments of the frame's start and first phase, and with this behind its third phase
@@ -118,10 +118,10 @@ last_phase = frame.Take 3 17000000 16666667 ∷ []
 abbrev gauge_report : List FrameEntry → Report
 gauge_report fs = main_report (gauge_script 20) gauge_entries gauge_acts fs
 
--- a frame starts half a millisecond behind its dispatch
 abbrev starts_late_frames : List FrameEntry
 starts_late_frames = gauge_frames 17500000 17000000 last_phase
 
+-- a frame starts half a millisecond behind its dispatch
 pub starts_late : IsRun in_lockstep (gauge_script 20) (gauge_report starts_late_frames) → ⊥
 unfolding after_act
 starts_late r =
@@ -129,8 +129,11 @@ starts_late r =
     let late : false ≡ true = subst (λ (b : Looper). are_run_then starts_late_frames b.frames ≡ true) (sym now) r.loopers.0.moments in
     cc
 
+-- all else of it is right
 pub starts_late_else : IsRunBut but.Starts (gauge_script 20) (gauge_report starts_late_frames)
-unfolding made_count answer clock accepted_count barrier_count quit_place has_disposed has_halted live first_eligible pick is_controlled lawful all_allowed is_allowed owed next_phase last_time in_due_order before_later live_callbacks posted_count after_act befores is_called_in_time are_before_quit are_in_order moves
+unfolding made_count answer clock accepted_count barrier_count quit_place has_disposed has_halted live first_eligible pick is_controlled
+    lawful all_allowed is_allowed owed next_phase last_time in_due_order before_later live_callbacks posted_count
+    after_act befores is_called_in_time are_before_quit are_in_order moves
 starts_late_else = record {
   report = record { script = refl; queues = refl; journals = refl; frames = refl };
   records = record { mode = refl; start = refl; histories = (history_by (gauge_script 20) (queue 0 true 3 gauge_entries) refl refl refl refl refl refl, tt) };
@@ -140,11 +143,11 @@ starts_late_else = record {
   loopers = (
     record {
       final = led (gauge_script 20) 0 gauge_entries starts_late_frames (first_looper (gauge_script 20)) (None ∷ None ∷ None ∷ Some 2 ∷ []) gauge_acts;
-      acts = (None, (record { accepted = refl; starts = refl; place = refl; painted = refl }, (None, ((refl, refl, refl), (None, (refl, (Some 2, (record { accepted = refl; starts = refl; place = refl; painted = refl }, refl))))))));
+      acts = (None, (may refl refl refl refl, (None, ((refl, refl, refl), (None, (refl, (Some 2, (may refl refl refl refl, refl))))))));
       settled = refl;
       dispatches = refl;
       disposed_at = 0;
-      calls = ((record { call = refl; reply = refl }, (record { call = refl; reply = tt }, (record { call = refl; reply = tt }, (record { call = refl; reply = refl }, (record { call = refl; reply = tt }, tt))))), tt);
+      calls = ((gets refl refl, (makes refl, (makes refl, (gets refl refl, (makes refl, tt))))), tt);
       asked = tt;
       whole = refl;
       on_time = (refl, tt);
@@ -157,10 +160,10 @@ starts_late_else = record {
   moved = record { due = (inr (record { stamp = 16666667; pulse = refl; rounded = refl }), (inl refl, tt)); together = ((_, refl), tt) };
 }
 
--- a frame takes its first phase half a millisecond behind its dispatch
 abbrev takes_phase_late_frames : List FrameEntry
 takes_phase_late_frames = gauge_frames 17000000 17500000 last_phase
 
+-- a frame takes its first phase half a millisecond behind its dispatch
 pub takes_phase_late : IsRun in_lockstep (gauge_script 20) (gauge_report takes_phase_late_frames) → ⊥
 unfolding after_act
 takes_phase_late r =
@@ -168,8 +171,11 @@ takes_phase_late r =
     let late : false ≡ true = subst (λ (b : Looper). are_run_then takes_phase_late_frames b.frames ≡ true) (sym now) r.loopers.0.moments in
     cc
 
+-- all else of it is right
 pub takes_phase_late_else : IsRunBut but.Moments (gauge_script 20) (gauge_report takes_phase_late_frames)
-unfolding made_count answer clock accepted_count barrier_count quit_place has_disposed has_halted live first_eligible pick is_controlled lawful all_allowed is_allowed owed next_phase last_time in_due_order before_later live_callbacks posted_count after_act befores is_called_in_time are_before_quit are_in_order moves
+unfolding made_count answer clock accepted_count barrier_count quit_place has_disposed has_halted live first_eligible pick is_controlled
+    lawful all_allowed is_allowed owed next_phase last_time in_due_order before_later live_callbacks posted_count
+    after_act befores is_called_in_time are_before_quit are_in_order moves
 takes_phase_late_else = record {
   report = record { script = refl; queues = refl; journals = refl; frames = refl };
   records = record { mode = refl; start = refl; histories = (history_by (gauge_script 20) (queue 0 true 3 gauge_entries) refl refl refl refl refl refl, tt) };
@@ -179,11 +185,11 @@ takes_phase_late_else = record {
   loopers = (
     record {
       final = led (gauge_script 20) 0 gauge_entries takes_phase_late_frames (first_looper (gauge_script 20)) (None ∷ None ∷ None ∷ Some 2 ∷ []) gauge_acts;
-      acts = (None, (record { accepted = refl; starts = refl; place = refl; painted = refl }, (None, ((refl, refl, refl), (None, (refl, (Some 2, (record { accepted = refl; starts = refl; place = refl; painted = refl }, refl))))))));
+      acts = (None, (may refl refl refl refl, (None, ((refl, refl, refl), (None, (refl, (Some 2, (may refl refl refl refl, refl))))))));
       settled = refl;
       dispatches = refl;
       disposed_at = 0;
-      calls = ((record { call = refl; reply = refl }, (record { call = refl; reply = tt }, (record { call = refl; reply = tt }, (record { call = refl; reply = refl }, (record { call = refl; reply = tt }, tt))))), tt);
+      calls = ((gets refl refl, (makes refl, (makes refl, (gets refl refl, (makes refl, tt))))), tt);
       asked = λ test. omega arith;
       whole = refl;
       on_time = (refl, tt);
@@ -196,10 +202,10 @@ takes_phase_late_else = record {
   moved = record { due = (inr (record { stamp = 16666667; pulse = refl; rounded = refl }), (inl refl, tt)); together = ((_, refl), tt) };
 }
 
--- the last frame ends behind its third phase of four
 abbrev leaves_a_phase_out_frames : List FrameEntry
 leaves_a_phase_out_frames = gauge_frames 17000000 17000000 []
 
+-- the last frame ends behind its third phase of four
 pub leaves_a_phase_out : IsRun in_lockstep (gauge_script 20) (gauge_report leaves_a_phase_out_frames) → ⊥
 unfolding after_act
 leaves_a_phase_out r =
@@ -207,8 +213,11 @@ leaves_a_phase_out r =
     let whole : false ≡ true = subst (λ (b : Looper). are_whole 4 leaves_a_phase_out_frames b.frames ≡ true) (sym now) r.loopers.0.whole in
     cc
 
+-- all else of it is right
 pub leaves_a_phase_out_else : IsRunBut but.Whole (gauge_script 20) (gauge_report leaves_a_phase_out_frames)
-unfolding made_count answer clock accepted_count barrier_count quit_place has_disposed has_halted live first_eligible pick is_controlled lawful all_allowed is_allowed owed next_phase last_time in_due_order before_later live_callbacks posted_count after_act befores is_called_in_time are_before_quit are_in_order moves
+unfolding made_count answer clock accepted_count barrier_count quit_place has_disposed has_halted live first_eligible pick is_controlled
+    lawful all_allowed is_allowed owed next_phase last_time in_due_order before_later live_callbacks posted_count
+    after_act befores is_called_in_time are_before_quit are_in_order moves
 leaves_a_phase_out_else = record {
   report = record { script = refl; queues = refl; journals = refl; frames = refl };
   records = record { mode = refl; start = refl; histories = (history_by (gauge_script 20) (queue 0 true 3 gauge_entries) refl refl refl refl refl refl, tt) };
@@ -218,11 +227,11 @@ leaves_a_phase_out_else = record {
   loopers = (
     record {
       final = led (gauge_script 20) 0 gauge_entries leaves_a_phase_out_frames (first_looper (gauge_script 20)) (None ∷ None ∷ None ∷ Some 2 ∷ []) gauge_acts;
-      acts = (None, (record { accepted = refl; starts = refl; place = refl; painted = refl }, (None, ((refl, refl, refl), (None, (refl, (Some 2, (record { accepted = refl; starts = refl; place = refl; painted = refl }, refl))))))));
+      acts = (None, (may refl refl refl refl, (None, ((refl, refl, refl), (None, (refl, (Some 2, (may refl refl refl refl, refl))))))));
       settled = refl;
       dispatches = refl;
       disposed_at = 0;
-      calls = ((record { call = refl; reply = refl }, (record { call = refl; reply = tt }, (record { call = refl; reply = tt }, (record { call = refl; reply = refl }, (record { call = refl; reply = tt }, tt))))), tt);
+      calls = ((gets refl refl, (makes refl, (makes refl, (gets refl refl, (makes refl, tt))))), tt);
       asked = λ test. omega arith;
       whole = tt;
       on_time = (refl, tt);
@@ -235,7 +244,6 @@ leaves_a_phase_out_else = record {
   moved = record { due = (inr (record { stamp = 16666667; pulse = refl; rounded = refl }), (inl refl, tt)); together = ((_, refl), tt) };
 }
 
--- the gauge's pulse comes at 16 milliseconds, and no multiple of the period is there
 abbrev pulse_entries : List Entry
 pulse_entries = gauge_start ++ gauge_frame 16 16 ++ entry 2 1 (call.Halt 16) reply.Halted ∷ []
 
@@ -244,12 +252,16 @@ pulse_frames =
     frame.Posted (callback 0 1 0 1000000) ∷ frame.Posted (callback 1 2 0 1000016) ∷ frame.Begin 16000000 16000000 16000000 ∷ frame.Take 0 16000000 16000000
     ∷ frame.Take 1 16000000 16000000 ∷ frame.Ran 0 ∷ frame.Take 2 16000000 16000000 ∷ frame.Ran 1 ∷ frame.Take 3 16000000 16000000 ∷ []
 
+-- a pulse comes at 16 milliseconds, where no multiple of the period is
 pub pulse_between : IsRun in_lockstep (gauge_script 16) (main_report (gauge_script 16) pulse_entries (moves_gauge 16000000 16) pulse_frames) → ⊥
 unfolding after_act
 pulse_between r = let pulse : false ≡ true = r.loopers.0.acts.1.1.1.0.2 in cc
 
+-- all else of it is right
 pub pulse_between_else : IsRunBut but.Pulses (gauge_script 16) (main_report (gauge_script 16) pulse_entries (moves_gauge 16000000 16) pulse_frames)
-unfolding made_count answer clock accepted_count barrier_count quit_place has_disposed has_halted live first_eligible pick is_controlled lawful all_allowed is_allowed owed next_phase last_time in_due_order before_later live_callbacks posted_count after_act befores is_called_in_time are_before_quit are_in_order moves
+unfolding made_count answer clock accepted_count barrier_count quit_place has_disposed has_halted live first_eligible pick is_controlled
+    lawful all_allowed is_allowed owed next_phase last_time in_due_order before_later live_callbacks posted_count
+    after_act befores is_called_in_time are_before_quit are_in_order moves
 pulse_between_else = record {
   report = record { script = refl; queues = refl; journals = refl; frames = refl };
   records = record { mode = refl; start = refl; histories = (history_by (gauge_script 16) (queue 0 true 3 pulse_entries) refl refl refl refl refl refl, tt) };
@@ -259,11 +271,11 @@ pulse_between_else = record {
   loopers = (
     record {
       final = led (gauge_script 16) 0 pulse_entries pulse_frames (first_looper (gauge_script 16)) (None ∷ None ∷ None ∷ Some 2 ∷ []) (moves_gauge 16000000 16);
-      acts = (None, (record { accepted = refl; starts = refl; place = refl; painted = refl }, (None, ((refl, refl, refl), (None, (refl, (Some 2, (record { accepted = refl; starts = refl; place = refl; painted = refl }, refl))))))));
+      acts = (None, (may refl refl refl refl, (None, ((refl, refl, refl), (None, (refl, (Some 2, (may refl refl refl refl, refl))))))));
       settled = refl;
       dispatches = refl;
       disposed_at = 0;
-      calls = ((record { call = refl; reply = refl }, (record { call = refl; reply = tt }, (record { call = refl; reply = tt }, (record { call = refl; reply = refl }, (record { call = refl; reply = tt }, tt))))), tt);
+      calls = ((gets refl refl, (makes refl, (makes refl, (gets refl refl, (makes refl, tt))))), tt);
       asked = λ test. omega arith;
       whole = refl;
       on_time = (refl, tt);
@@ -296,13 +308,16 @@ unfolding after_act
 posts_no_frame r = of_acts r.loopers.0.final r.loopers.0.acts (r.loopers.0.asked (λ x. true))
   where
     of_acts : (b : Looper) → Lead (gauge_script 10) 0 short_entries short_frames (first_looper (gauge_script 10)) short_acts b → 1 ≡ asked (gauge_script 10) (λ x. true) b → ⊥
-    of_acts b (Some p, (may, rest)) counts = let starts : false ≡ true = may.starts in cc
-    of_acts b (None, (may, is)) counts =
+    of_acts b (Some p, (comes, rest)) counts = let starts : false ≡ true = comes.starts in cc
+    of_acts b (None, (comes, is)) counts =
         let two : 1 ≡ 2 = subst (λ c. 1 ≡ asked (gauge_script 10) (λ x. true) c) (sym is) counts in
         omega (arith, two)
 
+-- all else of it is right
 pub posts_no_frame_else : IsRunBut but.Asked (gauge_script 10) (main_report (gauge_script 10) short_entries short_acts short_frames)
-unfolding made_count answer clock accepted_count barrier_count quit_place has_disposed has_halted live first_eligible pick is_controlled lawful all_allowed is_allowed owed next_phase last_time in_due_order before_later live_callbacks posted_count after_act befores is_called_in_time are_before_quit are_in_order moves
+unfolding made_count answer clock accepted_count barrier_count quit_place has_disposed has_halted live first_eligible pick is_controlled
+    lawful all_allowed is_allowed owed next_phase last_time in_due_order before_later live_callbacks posted_count
+    after_act befores is_called_in_time are_before_quit are_in_order moves
 posts_no_frame_else = record {
   report = record { script = refl; queues = refl; journals = refl; frames = refl };
   records = record { mode = refl; start = refl; histories = (history_by (gauge_script 10) (queue 0 true 3 short_entries) refl refl refl refl refl refl, tt) };
@@ -312,11 +327,11 @@ posts_no_frame_else = record {
   loopers = (
     record {
       final = led (gauge_script 10) 0 short_entries short_frames (first_looper (gauge_script 10)) (None ∷ []) short_acts;
-      acts = (None, (record { accepted = refl; starts = refl; place = refl; painted = refl }, refl));
+      acts = (None, (may refl refl refl refl, refl));
       settled = refl;
       dispatches = refl;
       disposed_at = 0;
-      calls = ((record { call = refl; reply = refl }, (record { call = refl; reply = tt }, tt)), tt);
+      calls = ((gets refl refl, (makes refl, tt)), tt);
       asked = tt;
       whole = refl;
       on_time = (refl, tt);

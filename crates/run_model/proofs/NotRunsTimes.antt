@@ -7,6 +7,7 @@ use Rattle.loop_model.specs.declared.call.Call.TheVariants as call
 use Rattle.loop_model.specs.declared.reply.Reply.TheVariants as reply
 use Rattle.loop_model.specs.declared.entry.Entry.{Entry}
 use Rattle.loop_model.specs.declared.journal.Act.{Act}
+use Rattle.loop_model.specs.declared.record.QueueRecord.{QueueRecord}
 use Rattle.loop_model.specs.Legal.{made_count}
 use Rattle.loop_model.specs.Answers.{answer, clock, accepted_count, barrier_count, quit_place, has_disposed, has_halted}
 use Rattle.loop_model.specs.Live.{live}
@@ -22,7 +23,7 @@ use Rattle.run_model.specs.Loopers.{Looper, first_looper}
 use Rattle.run_model.specs.Acts.{after_act, Lead}
 use Rattle.run_model.specs.Moves.{moves, IsPulseTime}
 use Rattle.run_model.specs.Run.{IsRun, caused_on, are_in_order}
-use Rattle.run_model.proofs.ByTests.{history_by, planned_by, on_time_by}
+use Rattle.run_model.proofs.ByTests.{history_by, planned_by, on_time_by, may, makes, gets}
 use Rattle.run_model.proofs.Examples.{entry, handler_on, block, by, plain_script, message, queue, journal, frames, led}
 use Rattle.run_model.proofs.RunBut.{IsRunBut}
 use Rattle.run_model.proofs.RunBut as but
@@ -44,19 +45,22 @@ post when = entry 0 0 (call.Post (message 0 7 when None)) (reply.Accepted 0)
 abbrev halt : ℕ → ℕ → Entry
 halt seq now = entry 2 seq (call.Halt now) reply.Halted
 
--- a thread's call comes before the time of its block
 abbrev early_entries : List Entry
 early_entries = post 10 ∷ advance 0 10 ∷ look 0 10 0 ∷ halt 1 10 ∷ []
 
 abbrev early_report : Report
 early_report = main_report (post_script 0 10) early_entries (dispatch 0 10 ∷ [])
 
+-- a thread's call comes before the time of its block
 pub calls_early : IsRun in_lockstep (post_script 0 10) early_report → ⊥
 unfolding befores clock has_disposed
 calls_early r = let on_time : false ≡ true = r.timely.histories.0.threads 0 (lit< tt) in cc
 
+-- all else of it is right
 pub calls_early_else : IsRunBut but.Threads (post_script 0 10) early_report
-unfolding made_count answer clock accepted_count barrier_count quit_place has_disposed has_halted live first_eligible pick is_controlled lawful all_allowed is_allowed owed next_phase last_time in_due_order before_later live_callbacks posted_count after_act befores is_called_in_time are_before_quit are_in_order moves
+unfolding made_count answer clock accepted_count barrier_count quit_place has_disposed has_halted live first_eligible pick is_controlled
+    lawful all_allowed is_allowed owed next_phase last_time in_due_order before_later live_callbacks posted_count
+    after_act befores is_called_in_time are_before_quit are_in_order moves
 calls_early_else = record {
   report = record { script = refl; queues = refl; journals = refl; frames = refl };
   records = record { mode = refl; start = refl; histories = (history_by (post_script 0 10) (queue 0 true 3 early_entries) refl refl refl refl refl refl, tt) };
@@ -66,11 +70,11 @@ calls_early_else = record {
   loopers = (
     record {
       final = led (post_script 0 10) 0 early_entries [] (first_looper (post_script 0 10)) (None ∷ []) (dispatch 0 10 ∷ []);
-      acts = (None, (record { accepted = refl; starts = refl; place = refl; painted = refl }, refl));
+      acts = (None, (may refl refl refl refl, refl));
       settled = refl;
       dispatches = refl;
       disposed_at = 0;
-      calls = ((record { call = refl; reply = refl }, tt), tt);
+      calls = ((gets refl refl, tt), tt);
       asked = λ test. omega arith;
       whole = refl;
       on_time = (refl, tt);
@@ -83,19 +87,22 @@ calls_early_else = record {
   moved = record { due = (inl refl, tt); together = ((_, refl), tt) };
 }
 
--- a thread's call comes behind the next move of the time
 abbrev late_entries : List Entry
 late_entries = advance 0 10 ∷ advance 1 15 ∷ post 15 ∷ look 0 15 0 ∷ halt 2 15 ∷ []
 
 abbrev late_report : Report
 late_report = main_report (post_script 5 15) late_entries (dispatch 0 15 ∷ [])
 
+-- a thread's call comes behind the next move of the time
 pub calls_late : IsRun in_lockstep (post_script 5 15) late_report → ⊥
 unfolding befores clock has_disposed
 calls_late r = let on_time : false ≡ true = r.timely.histories.0.threads 0 (lit< tt) in cc
 
+-- all else of it is right
 pub calls_late_else : IsRunBut but.Threads (post_script 5 15) late_report
-unfolding made_count answer clock accepted_count barrier_count quit_place has_disposed has_halted live first_eligible pick is_controlled lawful all_allowed is_allowed owed next_phase last_time in_due_order before_later live_callbacks posted_count after_act befores is_called_in_time are_before_quit are_in_order moves
+unfolding made_count answer clock accepted_count barrier_count quit_place has_disposed has_halted live first_eligible pick is_controlled
+    lawful all_allowed is_allowed owed next_phase last_time in_due_order before_later live_callbacks posted_count
+    after_act befores is_called_in_time are_before_quit are_in_order moves
 calls_late_else = record {
   report = record { script = refl; queues = refl; journals = refl; frames = refl };
   records = record { mode = refl; start = refl; histories = (history_by (post_script 5 15) (queue 0 true 3 late_entries) refl refl refl refl refl refl, tt) };
@@ -105,11 +112,11 @@ calls_late_else = record {
   loopers = (
     record {
       final = led (post_script 5 15) 0 late_entries [] (first_looper (post_script 5 15)) (None ∷ []) (dispatch 0 15 ∷ []);
-      acts = (None, (record { accepted = refl; starts = refl; place = refl; painted = refl }, refl));
+      acts = (None, (may refl refl refl refl, refl));
       settled = refl;
       dispatches = refl;
       disposed_at = 0;
-      calls = ((record { call = refl; reply = refl }, tt), tt);
+      calls = ((gets refl refl, tt), tt);
       asked = λ test. omega arith;
       whole = refl;
       on_time = (refl, tt);
@@ -122,7 +129,6 @@ calls_late_else = record {
   moved = record { due = (inl refl, (inl refl, tt)); together = ((_, refl), tt) };
 }
 
--- a message is dispatched at a later time than the journal tells
 abbrev taken_entries : List Entry
 taken_entries = advance 0 10 ∷ post 15 ∷ advance 1 15 ∷ look 0 15 0 ∷ halt 2 15 ∷ []
 
@@ -133,13 +139,17 @@ abbrev moment_first : List (ℕ × ℕ) → ℕ
 moment_first ((number, now) ∷ xs) = now
 moment_first [] = 0
 
+-- a message is dispatched at a later time than the journal tells
 pub takes_late : IsRun in_lockstep (post_script 5 15) taken_report → ⊥
 takes_late r =
     let now : 10 ≡ 15 = ap moment_first r.loopers.0.dispatches in
     omega (arith, now)
 
+-- all else of it is right
 pub takes_late_else : IsRunBut but.Takes (post_script 5 15) taken_report
-unfolding made_count answer clock accepted_count barrier_count quit_place has_disposed has_halted live first_eligible pick is_controlled lawful all_allowed is_allowed owed next_phase last_time in_due_order before_later live_callbacks posted_count after_act befores is_called_in_time are_before_quit are_in_order moves
+unfolding made_count answer clock accepted_count barrier_count quit_place has_disposed has_halted live first_eligible pick is_controlled
+    lawful all_allowed is_allowed owed next_phase last_time in_due_order before_later live_callbacks posted_count
+    after_act befores is_called_in_time are_before_quit are_in_order moves
 takes_late_else = record {
   report = record { script = refl; queues = refl; journals = refl; frames = refl };
   records = record { mode = refl; start = refl; histories = (history_by (post_script 5 15) (queue 0 true 3 taken_entries) refl refl refl refl refl refl, tt) };
@@ -149,7 +159,7 @@ takes_late_else = record {
   loopers = (
     record {
       final = led (post_script 5 15) 0 taken_entries [] (first_looper (post_script 5 15)) (None ∷ []) (dispatch 0 10 ∷ []);
-      acts = (None, (record { accepted = refl; starts = refl; place = refl; painted = refl }, refl));
+      acts = (None, (may refl refl refl refl, refl));
       settled = refl;
       dispatches = tt;
       disposed_at = 0;
@@ -170,7 +180,6 @@ takes_late_else = record {
 abbrev rule_script : Script
 rule_script = record (post_script 0 15) { rules = record { handler = 0; what = 7; times = 1; to_handler = 0; to_what = 8; delay = 5 } ∷ [] }
 
--- a rule's message is sent when the time was moved on
 abbrev reacted_entries : List Entry
 reacted_entries =
     advance 0 10 ∷ post 10 ∷ look 0 10 0 ∷ advance 1 15 ∷ entry 1 1 (call.Post (message 0 8 15 None)) (reply.Accepted 1) ∷ look 2 15 1 ∷ halt 2 15 ∷ []
@@ -185,17 +194,21 @@ reacted_report = main_report rule_script reacted_entries reacted_acts
 abbrev AreItsOnTime : Looper → Type 0
 AreItsOnTime b = are_on_time (map (λ x. x.timing) (caused_on 0 b 0 0)) (befores 1 reacted_entries) ≡ true
 
+-- a rule's message is sent when the time was moved on
 pub reacts_late : IsRun in_lockstep rule_script reacted_report → ⊥
 unfolding after_act befores clock has_disposed
 reacts_late r = of_acts r.loopers.0.final r.loopers.0.acts r.loopers.0.on_time.0
   where
     of_acts : (b : Looper) → Lead rule_script 0 reacted_entries [] (first_looper rule_script) reacted_acts b → AreItsOnTime b → ⊥
-    of_acts b (Some p, (may, rest)) on_time = let starts : false ≡ true = may.starts in cc
+    of_acts b (Some p, (comes, rest)) on_time = let starts : false ≡ true = comes.starts in cc
     of_acts b (None, (first, (Some p, (may, is)))) on_time = let starts : false ≡ true = may.starts in cc
     of_acts b (None, (first, (None, (may, is)))) on_time = let late : false ≡ true = subst AreItsOnTime (sym is) on_time in cc
 
+-- all else of it is right
 pub reacts_late_else : IsRunBut but.OnTime rule_script reacted_report
-unfolding made_count answer clock accepted_count barrier_count quit_place has_disposed has_halted live first_eligible pick is_controlled lawful all_allowed is_allowed owed next_phase last_time in_due_order before_later live_callbacks posted_count after_act befores is_called_in_time are_before_quit are_in_order moves
+unfolding made_count answer clock accepted_count barrier_count quit_place has_disposed has_halted live first_eligible pick is_controlled
+    lawful all_allowed is_allowed owed next_phase last_time in_due_order before_later live_callbacks posted_count
+    after_act befores is_called_in_time are_before_quit are_in_order moves
 reacts_late_else = record {
   report = record { script = refl; queues = refl; journals = refl; frames = refl };
   records = record { mode = refl; start = refl; histories = (history_by rule_script (queue 0 true 3 reacted_entries) refl refl refl refl refl refl, tt) };
@@ -205,11 +218,11 @@ reacts_late_else = record {
   loopers = (
     record {
       final = led rule_script 0 reacted_entries [] (first_looper rule_script) (None ∷ None ∷ []) reacted_acts;
-      acts = (None, (record { accepted = refl; starts = refl; place = refl; painted = refl }, (None, (record { accepted = refl; starts = refl; place = refl; painted = refl }, refl))));
+      acts = (None, (may refl refl refl refl, (None, (may refl refl refl refl, refl))));
       settled = refl;
       dispatches = refl;
       disposed_at = 0;
-      calls = ((record { call = refl; reply = refl }, (record { call = refl; reply = tt }, (record { call = refl; reply = refl }, tt))), tt);
+      calls = ((gets refl refl, (makes refl, (gets refl refl, tt))), tt);
       asked = λ test. omega arith;
       whole = refl;
       on_time = tt;
@@ -226,7 +239,6 @@ reacts_late_else = record {
 abbrev order_blocks : List Block
 order_blocks = block 5 (quits_side ∷ []) ∷ block 8 (by 1 (command.Post 1 7 0) ∷ []) ∷ block 10 (posts_side ∷ []) ∷ []
 
--- behind the disposal the post of the block at 10 comes before that of the block at 8
 abbrev order_entries : List Entry
 order_entries =
     entry 4 0 (call.Advance 5) reply.Advanced ∷ entry 1 0 (call.Quit false 5) reply.QuitDone ∷ entry 3 0 (call.Next 5) reply.Disposed
@@ -237,24 +249,37 @@ order_main =
     entry 4 0 (call.Advance 5) reply.Advanced ∷ entry 4 1 (call.Advance 8) reply.Advanced ∷ entry 4 2 (call.Advance 10) reply.Advanced
     ∷ entry 4 3 (call.Halt 10) reply.Halted ∷ []
 
-abbrev order_report : Report
-order_report = record (quit_report order_blocks order_entries) { queues = queue 0 true 5 order_main ∷ queue 1 false 5 order_entries ∷ [] }
+abbrev order_queue_0 : QueueRecord
+order_queue_0 = queue 0 true 5 order_main
 
-pub calls_out_of_order : IsRun in_lockstep order_report.script order_report → ⊥
+abbrev order_queue_1 : QueueRecord
+order_queue_1 = queue 1 false 5 order_entries
+
+abbrev order_script : Script
+order_script = (quit_report order_blocks []).script
+
+abbrev order_report : Report
+order_report = record (quit_report order_blocks order_entries) { queues = order_queue_0 ∷ order_queue_1 ∷ [] }
+
+-- behind the disposal a thread's post of the block at 10 comes before another's of the block at 8
+pub calls_out_of_order : IsRun in_lockstep order_script order_report → ⊥
 unfolding are_in_order
 calls_out_of_order r = let in_order : false ≡ true = r.timely.histories.1.0.in_order in cc
 
-pub calls_out_of_order_else : IsRunBut but.Order order_report.script order_report
-unfolding made_count answer clock accepted_count barrier_count quit_place has_disposed has_halted live first_eligible pick is_controlled lawful all_allowed is_allowed owed next_phase last_time in_due_order before_later live_callbacks posted_count after_act befores is_called_in_time are_before_quit are_in_order moves
+-- all else of it is right
+pub calls_out_of_order_else : IsRunBut but.Order order_script order_report
+unfolding made_count answer clock accepted_count barrier_count quit_place has_disposed has_halted live first_eligible pick is_controlled
+    lawful all_allowed is_allowed owed next_phase last_time in_due_order before_later live_callbacks posted_count
+    after_act befores is_called_in_time are_before_quit are_in_order moves
 calls_out_of_order_else = record {
   report = record { script = refl; queues = refl; journals = refl; frames = refl };
-  records = record { mode = refl; start = refl; histories = (history_by order_report.script (queue 0 true 5 order_main) refl refl refl refl refl refl, (history_by order_report.script (queue 1 false 5 order_entries) refl refl refl refl refl refl, tt)) };
-  planned = (planned_by order_report.script (queue 0 true 5 order_main) ((tt, refl), refl), (planned_by order_report.script (queue 1 false 5 order_entries) ((tt, refl), refl), tt));
+  records = record { mode = refl; start = refl; histories = (history_by order_script order_queue_0 refl refl refl refl refl refl, (history_by order_script order_queue_1 refl refl refl refl refl refl, tt)) };
+  planned = (planned_by order_script order_queue_0 ((tt, refl), refl), (planned_by order_script order_queue_1 ((tt, refl), refl), tt));
   controls = (refl, (refl, tt));
   frames = (record { interval = refl; phases = refl; lawful = refl }, (record { interval = refl; phases = refl; lawful = refl }, tt));
   loopers = (
     record {
-      final = first_looper order_report.script;
+      final = first_looper order_script;
       acts = refl;
       settled = refl;
       dispatches = refl;
@@ -267,12 +292,12 @@ calls_out_of_order_else = record {
     },
     (
       record {
-        final = first_looper order_report.script;
+        final = first_looper order_script;
         acts = refl;
         settled = refl;
         dispatches = refl;
         disposed_at = 5;
-        calls = (tt, ((record { call = refl; reply = refl }, tt), tt));
+        calls = (tt, ((gets refl refl, tt), tt));
         asked = λ test. omega arith;
         whole = refl;
         on_time = (refl, (refl, tt));
@@ -282,11 +307,10 @@ calls_out_of_order_else = record {
     ),
   );
   halted = refl;
-  histories = (record { controls = refl; before_quit = refl; threads = on_time_by order_report.script (queue 0 true 5 order_main) ((tt, refl), refl); in_order = tt }, (record { controls = refl; before_quit = refl; threads = on_time_by order_report.script (queue 1 false 5 order_entries) ((tt, refl), refl); in_order = tt }, tt));
+  histories = (record { controls = refl; before_quit = refl; threads = on_time_by order_script order_queue_0 ((tt, refl), refl); in_order = tt }, (record { controls = refl; before_quit = refl; threads = on_time_by order_script order_queue_1 ((tt, refl), refl); in_order = tt }, tt));
   moved = record { due = (inl refl, (inl refl, (inl refl, tt))); together = ((_, refl), ((_, refl), tt)) };
 }
 
--- time is moved to 12, when nothing comes
 abbrev needless_entries : List Entry
 needless_entries =
     advance 0 10 ∷ first_post 0 0 ∷ second_post 1 1 ∷ look 0 10 1 ∷ advance 1 12 ∷ advance 2 15 ∷ look 1 15 0 ∷ advance 3 20 ∷ halt 4 20 ∷ []
@@ -309,6 +333,7 @@ no_pulse p = by_test (and_parts (nat_lt 0 p.stamp) _ p.pulse).0 (or_cases (p.sta
         let rounded : (p.stamp + 999999) / 1000000 ≡ 12 = p.rounded in
         omega (arith, same, rounded)
 
+-- time is moved to 12, when nothing comes
 pub moves_where_nothing_comes : IsRun in_lockstep script (main_report script needless_entries needless_acts) → ⊥
 unfolding moves first_eligible live
 moves_where_nothing_comes r = of_move r.timely.moves.due.1.0
@@ -317,8 +342,11 @@ moves_where_nothing_comes r = of_move r.timely.moves.due.1.0
     of_move (inl planned) = cc
     of_move (inr pulse) = no_pulse pulse
 
+-- all else of it is right
 pub moves_where_nothing_comes_else : IsRunBut but.Due script (main_report script needless_entries needless_acts)
-unfolding made_count answer clock accepted_count barrier_count quit_place has_disposed has_halted live first_eligible pick is_controlled lawful all_allowed is_allowed owed next_phase last_time in_due_order before_later live_callbacks posted_count after_act befores is_called_in_time are_before_quit are_in_order moves
+unfolding made_count answer clock accepted_count barrier_count quit_place has_disposed has_halted live first_eligible pick is_controlled
+    lawful all_allowed is_allowed owed next_phase last_time in_due_order before_later live_callbacks posted_count
+    after_act befores is_called_in_time are_before_quit are_in_order moves
 moves_where_nothing_comes_else = record {
   report = record { script = refl; queues = refl; journals = refl; frames = refl };
   records = record { mode = refl; start = refl; histories = (history_by script (queue 0 true 3 needless_entries) refl refl refl refl refl refl, tt) };
@@ -328,11 +356,11 @@ moves_where_nothing_comes_else = record {
   loopers = (
     record {
       final = led script 0 needless_entries [] (first_looper script) (None ∷ None ∷ []) needless_acts;
-      acts = (None, (record { accepted = refl; starts = refl; place = refl; painted = refl }, (None, (record { accepted = refl; starts = refl; place = refl; painted = refl }, refl))));
+      acts = (None, (may refl refl refl refl, (None, (may refl refl refl refl, refl))));
       settled = refl;
       dispatches = refl;
       disposed_at = 0;
-      calls = ((record { call = refl; reply = refl }, (record { call = refl; reply = refl }, tt)), tt);
+      calls = ((gets refl refl, (gets refl refl, tt)), tt);
       asked = λ test. omega arith;
       whole = refl;
       on_time = (refl, tt);
@@ -349,25 +377,31 @@ moves_where_nothing_comes_else = record {
 abbrev quiet_script : Script
 quiet_script = plain_script 2 1 (handler_on 0 ∷ handler_on 1 ∷ []) [] 10
 
--- the side looper's queue is moved to 5, and main isn't
 abbrev alone_entries : List Entry
 alone_entries = side_advance 0 5 ∷ side_advance 1 10 ∷ side_quit 2 reply.QuitDone ∷ disposal 0 10 ∷ []
+
+abbrev alone_queue : QueueRecord
+alone_queue = queue 1 false 4 alone_entries
 
 abbrev alone_report : Report
 alone_report = record (side_report 10 (command.Quit 1) alone_entries []) { script = quiet_script }
 
+-- the side looper's queue is moved to 5, and main isn't
 pub moves_one_queue_alone : IsRun in_lockstep quiet_script alone_report → ⊥
 unfolding moves first_eligible live
 moves_one_queue_alone r =
     let times : 5 ≡ 10 = ap (λ ts. slice_index ts 0) r.timely.moves.together.1.0.1 in
     omega (arith, times)
 
+-- all else of it is right
 pub moves_one_queue_alone_else : IsRunBut but.Together quiet_script alone_report
-unfolding made_count answer clock accepted_count barrier_count quit_place has_disposed has_halted live first_eligible pick is_controlled lawful all_allowed is_allowed owed next_phase last_time in_due_order before_later live_callbacks posted_count after_act befores is_called_in_time are_before_quit are_in_order moves
+unfolding made_count answer clock accepted_count barrier_count quit_place has_disposed has_halted live first_eligible pick is_controlled
+    lawful all_allowed is_allowed owed next_phase last_time in_due_order before_later live_callbacks posted_count
+    after_act befores is_called_in_time are_before_quit are_in_order moves
 moves_one_queue_alone_else = record {
   report = record { script = refl; queues = refl; journals = refl; frames = refl };
-  records = record { mode = refl; start = refl; histories = (history_by quiet_script (queue 0 true 4 quit_twice.entries_0) refl refl refl refl refl refl, (history_by quiet_script (queue 1 false 4 alone_entries) refl refl refl refl refl refl, tt)) };
-  planned = (planned_by quiet_script (queue 0 true 4 quit_twice.entries_0) (tt, refl), (planned_by quiet_script (queue 1 false 4 alone_entries) (tt, refl), tt));
+  records = record { mode = refl; start = refl; histories = (history_by quiet_script quit_twice.record_0 refl refl refl refl refl refl, (history_by quiet_script alone_queue refl refl refl refl refl refl, tt)) };
+  planned = (planned_by quiet_script quit_twice.record_0 (tt, refl), (planned_by quiet_script alone_queue (tt, refl), tt));
   controls = (refl, (refl, tt));
   frames = (record { interval = refl; phases = refl; lawful = refl }, (record { interval = refl; phases = refl; lawful = refl }, tt));
   loopers = (
@@ -390,7 +424,7 @@ moves_one_queue_alone_else = record {
         settled = refl;
         dispatches = refl;
         disposed_at = 10;
-        calls = (tt, ((record { call = refl; reply = refl }, tt), tt));
+        calls = (tt, ((gets refl refl, tt), tt));
         asked = λ test. omega arith;
         whole = refl;
         on_time = (refl, (refl, tt));
@@ -400,6 +434,6 @@ moves_one_queue_alone_else = record {
     ),
   );
   halted = refl;
-  histories = (record { controls = refl; before_quit = refl; threads = on_time_by quiet_script (queue 0 true 4 quit_twice.entries_0) (tt, refl); in_order = refl }, (record { controls = refl; before_quit = refl; threads = on_time_by quiet_script (queue 1 false 4 alone_entries) (tt, refl); in_order = refl }, tt));
+  histories = (record { controls = refl; before_quit = refl; threads = on_time_by quiet_script quit_twice.record_0 (tt, refl); in_order = refl }, (record { controls = refl; before_quit = refl; threads = on_time_by quiet_script alone_queue (tt, refl); in_order = refl }, tt));
   moved = record { due = (inl refl, tt); together = tt };
 }
