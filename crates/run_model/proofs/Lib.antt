@@ -16,6 +16,7 @@ pub mod NotRuns
 pub mod NotRunsGauges
 pub mod NotRunsFrames
 pub mod NotRunsTimes
+pub mod NotRunsMoves
 pub mod RunLaws
 pub mod FrameComesDue
 pub mod FrameRemoved

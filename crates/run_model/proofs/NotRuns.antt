@@ -30,7 +30,7 @@ use Rattle.run_model.proofs.TwoPosts.{script}
 use Rattle.run_model.proofs.QuitTwice as quit_twice
 
 -- the report of the run, with another history and other acts
-abbrev pub with_entries : List Entry → List Act → Report
+abbrev with_entries : List Entry → List Act → Report
 with_entries es acts = record two_posts.report { queues = queue 0 true 3 es ∷ []; journals = journal 0 acts ∷ [] }
 
 -- the act of a dispatch
@@ -53,11 +53,11 @@ abbrev pub halt : ℕ → Entry
 halt seq = entry 2 seq (call.Halt 20) reply.Halted
 
 -- the number of a message's post, and of a dispatch
-abbrev pub what_in : Option Call → ℕ
+abbrev what_in : Option Call → ℕ
 what_in (Some (call.Post p)) = p.what
 what_in _ = 0
 
-abbrev pub number_in : Option Reply → ℕ
+abbrev number_in : Option Reply → ℕ
 number_in (Some (reply.Dispatched n)) = n
 number_in _ = 0
 
@@ -88,7 +88,7 @@ unfolding is_called_in_time quit_place first_eligible pick live
 late r = let on_time : false ≡ true = r.timely.histories.0.controls in cc
 
 -- a script whose thread does this to the side looper at this time, and ends at 10
-abbrev pub side_script : ℕ → Command → Script
+abbrev side_script : ℕ → Command → Script
 side_script time command = plain_script 2 1 (handler_on 0 ∷ handler_on 1 ∷ []) (block time (by 0 command ∷ []) ∷ []) 10
 
 -- its report, with this history and these acts of the side looper
@@ -107,7 +107,7 @@ side_advance seq now = entry 3 seq (call.Advance now) reply.Advanced
 abbrev pub side_quit : ℕ → Reply → Entry
 side_quit seq r = entry 3 seq (call.Quit true 10) r
 
-abbrev pub side_post : ℕ → Reply → Entry
+abbrev side_post : ℕ → Reply → Entry
 side_post when r = entry 0 0 (call.Post (message 1 7 when None)) r
 
 abbrev pub disposal : ℕ → ℕ → Entry
@@ -157,13 +157,13 @@ quit_report blocks es = record {
 }
 
 -- the side looper's queue is moved to the end, quit there by thread 1, and disposed of; then thread 0 posts at this time
-abbrev pub quit_then_post : ℕ → List Entry
+abbrev quit_then_post : ℕ → List Entry
 quit_then_post when =
     entry 4 0 (call.Advance 10) reply.Advanced ∷ entry 1 0 (call.Quit false 10) reply.QuitDone ∷ entry 3 0 (call.Next 10) reply.Disposed
     ∷ entry 0 0 (call.Post (message 1 7 when None)) (reply.Refused 1) ∷ []
 
 -- the side looper is driven to the end and disposed of before a thread's earlier call
-abbrev pub two_blocks : List Block
+abbrev two_blocks : List Block
 two_blocks = block 5 (posts_side ∷ []) ∷ block 10 (quits_side ∷ []) ∷ []
 
 pub ends_before_a_call : IsRun in_lockstep (quit_report two_blocks []).script (quit_report two_blocks (quit_then_post 5)) → ⊥
@@ -171,7 +171,7 @@ unfolding befores clock has_disposed
 ends_before_a_call r = let on_time : false ≡ true = r.timely.histories.1.0.threads 0 (lit< tt) in cc
 
 -- a thread's call comes behind the disposal at its own time: the looper ran a round before the block was through
-abbrev pub one_block : List Block
+abbrev one_block : List Block
 one_block = block 10 (quits_side ∷ posts_side ∷ []) ∷ []
 
 pub ends_within_a_block : IsRun in_lockstep (quit_report one_block []).script (quit_report one_block (quit_then_post 10)) → ⊥

@@ -4,6 +4,7 @@ use Rattle.std.specs.Prelude.{◌==◌, Bool, map, count_by}
 use Rattle.loop_model.specs.declared.call.Call.TheVariants as call
 use Rattle.loop_model.specs.declared.reply.Reply.TheVariants as reply
 use Rattle.loop_model.specs.declared.entry.Entry.{Entry}
+use Rattle.loop_model.specs.declared.record.QueueRecord.{QueueRecord}
 use Rattle.loop_model.specs.Legal.{made_count}
 use Rattle.loop_model.specs.Answers.{answer, clock, accepted_count, barrier_count, quit_place, has_disposed, has_halted}
 use Rattle.loop_model.specs.Live.{live}
@@ -35,6 +36,9 @@ line_script c = plain_script 1 1 (handler_on 0 ∷ []) (block 10 (by 0 c ∷ [])
 abbrev line_entries : List Entry
 line_entries = advance 0 10 ∷ entry 2 1 (call.Halt 10) reply.Halted ∷ []
 
+abbrev line_queue : QueueRecord
+line_queue = queue 0 true 3 line_entries
+
 abbrev line_report : Command → List FrameEntry → Report
 line_report c fs = main_report (line_script c) line_entries [] fs
 
@@ -57,8 +61,8 @@ unfolding made_count answer clock accepted_count barrier_count quit_place has_di
     befores is_called_in_time are_before_quit are_in_order moves
 frame_else fs law = record {
   report = record { script = refl; queues = refl; journals = refl; frames = refl };
-  records = record { mode = refl; start = refl; histories = (history_by (line_script posts_frame) (queue 0 true 3 line_entries) refl refl refl refl refl refl, tt) };
-  planned = (planned_by (line_script posts_frame) (queue 0 true 3 line_entries) (tt, refl), tt);
+  records = record { mode = refl; start = refl; histories = (history_by (line_script posts_frame) line_queue refl refl refl refl refl refl, tt) };
+  planned = (planned_by (line_script posts_frame) line_queue (tt, refl), tt);
   controls = (refl, tt);
   frames = (record { interval = refl; phases = refl; lawful = law }, tt);
   loopers = (
@@ -77,7 +81,7 @@ frame_else fs law = record {
     tt,
   );
   halted = refl;
-  histories = (record { controls = refl; before_quit = refl; threads = on_time_by (line_script posts_frame) (queue 0 true 3 line_entries) (tt, refl); in_order = refl }, tt);
+  histories = (record { controls = refl; before_quit = refl; threads = on_time_by (line_script posts_frame) line_queue (tt, refl); in_order = refl }, tt);
   moved = record { due = (inl refl, tt); together = ((_, refl), tt) };
 }
 
@@ -87,8 +91,8 @@ unfolding made_count answer clock accepted_count barrier_count quit_place has_di
     befores is_called_in_time are_before_quit are_in_order moves
 unframe_else fs law = record {
   report = record { script = refl; queues = refl; journals = refl; frames = refl };
-  records = record { mode = refl; start = refl; histories = (history_by (line_script removes_frame) (queue 0 true 3 line_entries) refl refl refl refl refl refl, tt) };
-  planned = (planned_by (line_script removes_frame) (queue 0 true 3 line_entries) (tt, refl), tt);
+  records = record { mode = refl; start = refl; histories = (history_by (line_script removes_frame) line_queue refl refl refl refl refl refl, tt) };
+  planned = (planned_by (line_script removes_frame) line_queue (tt, refl), tt);
   controls = (refl, tt);
   frames = (record { interval = refl; phases = refl; lawful = law }, tt);
   loopers = (
@@ -107,7 +111,7 @@ unframe_else fs law = record {
     tt,
   );
   halted = refl;
-  histories = (record { controls = refl; before_quit = refl; threads = on_time_by (line_script removes_frame) (queue 0 true 3 line_entries) (tt, refl); in_order = refl }, tt);
+  histories = (record { controls = refl; before_quit = refl; threads = on_time_by (line_script removes_frame) line_queue (tt, refl); in_order = refl }, tt);
   moved = record { due = (inl refl, tt); together = ((_, refl), tt) };
 }
 
@@ -197,7 +201,8 @@ unfolding lawful all_allowed is_allowed owed next_phase last_time in_due_order b
 removes_unasked_else = frame_else removes_unasked_frames refl
 
 abbrev frame_of_nothing_frames : List FrameEntry
-frame_of_nothing_frames = frame.Posted (callback 0 3 10 8) ∷ frame.Begin 0 10000000 0 ∷ frame.Take 0 10000000 0 ∷ frame.Take 1 10000000 0 ∷ frame.Take 2 10000000 0
+frame_of_nothing_frames =
+    frame.Posted (callback 0 3 10 8) ∷ frame.Begin 0 10000000 0 ∷ frame.Take 0 10000000 0 ∷ frame.Take 1 10000000 0 ∷ frame.Take 2 10000000 0
     ∷ frame.Take 3 10000000 0 ∷ frame.Ran 0 ∷ []
 
 -- a frame that no dispatch runs

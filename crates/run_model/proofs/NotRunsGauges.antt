@@ -9,6 +9,7 @@ use Rattle.loop_model.specs.declared.reply.Reply.TheVariants as reply
 use Rattle.loop_model.specs.declared.entry.Entry.{Entry}
 use Rattle.loop_model.specs.declared.journal.Act.{Act}
 use Rattle.loop_model.specs.declared.journal.Act.TheVariants as act
+use Rattle.loop_model.specs.declared.record.QueueRecord.{QueueRecord}
 use Rattle.loop_model.specs.Legal.{made_count}
 use Rattle.loop_model.specs.Answers.{answer, clock, accepted_count, barrier_count, quit_place, has_disposed, has_halted}
 use Rattle.loop_model.specs.Live.{live}
@@ -52,7 +53,8 @@ gauge_script end =
 -- the gauge's target is set
 abbrev gauge_start : List Entry
 gauge_start =
-    entry 0 0 (call.Post (record (message 0 1 0 None) { arg = 7; obj = Some 0 })) (reply.Accepted 0) ∷ look 0 0 0 ∷ entry 1 1 (call.Barrier 0) (reply.Token 0) ∷ []
+    entry 0 0 (call.Post (record (message 0 1 0 None) { arg = 7; obj = Some 0 })) (reply.Accepted 0) ∷ look 0 0 0
+    ∷ entry 1 1 (call.Barrier 0) (reply.Token 0) ∷ []
 
 -- its frame is run at this millisecond, with a message due at another
 abbrev gauge_frame : ℕ → ℕ → List Entry
@@ -61,6 +63,9 @@ gauge_frame now when =
 
 abbrev gauge_entries : List Entry
 gauge_entries = gauge_start ++ gauge_frame 17 16 ++ advance 1 20 ∷ halt 2 ∷ []
+
+abbrev gauge_queue : QueueRecord
+gauge_queue = queue 0 true 3 gauge_entries
 
 -- it is moved at this pulse, in the frame of this millisecond
 abbrev moves_gauge : ℕ → ℕ → List Act
@@ -136,8 +141,8 @@ unfolding made_count answer clock accepted_count barrier_count quit_place has_di
     after_act befores is_called_in_time are_before_quit are_in_order moves
 starts_late_else = record {
   report = record { script = refl; queues = refl; journals = refl; frames = refl };
-  records = record { mode = refl; start = refl; histories = (history_by (gauge_script 20) (queue 0 true 3 gauge_entries) refl refl refl refl refl refl, tt) };
-  planned = (planned_by (gauge_script 20) (queue 0 true 3 gauge_entries) (tt, refl), tt);
+  records = record { mode = refl; start = refl; histories = (history_by (gauge_script 20) gauge_queue refl refl refl refl refl refl, tt) };
+  planned = (planned_by (gauge_script 20) gauge_queue (tt, refl), tt);
   controls = (refl, tt);
   frames = (record { interval = refl; phases = refl; lawful = refl }, tt);
   loopers = (
@@ -156,7 +161,7 @@ starts_late_else = record {
     tt,
   );
   halted = refl;
-  histories = (record { controls = refl; before_quit = refl; threads = on_time_by (gauge_script 20) (queue 0 true 3 gauge_entries) (tt, refl); in_order = refl }, tt);
+  histories = (record { controls = refl; before_quit = refl; threads = on_time_by (gauge_script 20) gauge_queue (tt, refl); in_order = refl }, tt);
   moved = record { due = (inr (record { stamp = 16666667; pulse = refl; rounded = refl }), (inl refl, tt)); together = ((_, refl), tt) };
 }
 
@@ -178,8 +183,8 @@ unfolding made_count answer clock accepted_count barrier_count quit_place has_di
     after_act befores is_called_in_time are_before_quit are_in_order moves
 takes_phase_late_else = record {
   report = record { script = refl; queues = refl; journals = refl; frames = refl };
-  records = record { mode = refl; start = refl; histories = (history_by (gauge_script 20) (queue 0 true 3 gauge_entries) refl refl refl refl refl refl, tt) };
-  planned = (planned_by (gauge_script 20) (queue 0 true 3 gauge_entries) (tt, refl), tt);
+  records = record { mode = refl; start = refl; histories = (history_by (gauge_script 20) gauge_queue refl refl refl refl refl refl, tt) };
+  planned = (planned_by (gauge_script 20) gauge_queue (tt, refl), tt);
   controls = (refl, tt);
   frames = (record { interval = refl; phases = refl; lawful = refl }, tt);
   loopers = (
@@ -198,7 +203,7 @@ takes_phase_late_else = record {
     tt,
   );
   halted = refl;
-  histories = (record { controls = refl; before_quit = refl; threads = on_time_by (gauge_script 20) (queue 0 true 3 gauge_entries) (tt, refl); in_order = refl }, tt);
+  histories = (record { controls = refl; before_quit = refl; threads = on_time_by (gauge_script 20) gauge_queue (tt, refl); in_order = refl }, tt);
   moved = record { due = (inr (record { stamp = 16666667; pulse = refl; rounded = refl }), (inl refl, tt)); together = ((_, refl), tt) };
 }
 
@@ -220,8 +225,8 @@ unfolding made_count answer clock accepted_count barrier_count quit_place has_di
     after_act befores is_called_in_time are_before_quit are_in_order moves
 leaves_a_phase_out_else = record {
   report = record { script = refl; queues = refl; journals = refl; frames = refl };
-  records = record { mode = refl; start = refl; histories = (history_by (gauge_script 20) (queue 0 true 3 gauge_entries) refl refl refl refl refl refl, tt) };
-  planned = (planned_by (gauge_script 20) (queue 0 true 3 gauge_entries) (tt, refl), tt);
+  records = record { mode = refl; start = refl; histories = (history_by (gauge_script 20) gauge_queue refl refl refl refl refl refl, tt) };
+  planned = (planned_by (gauge_script 20) gauge_queue (tt, refl), tt);
   controls = (refl, tt);
   frames = (record { interval = refl; phases = refl; lawful = refl }, tt);
   loopers = (
@@ -240,12 +245,15 @@ leaves_a_phase_out_else = record {
     tt,
   );
   halted = refl;
-  histories = (record { controls = refl; before_quit = refl; threads = on_time_by (gauge_script 20) (queue 0 true 3 gauge_entries) (tt, refl); in_order = refl }, tt);
+  histories = (record { controls = refl; before_quit = refl; threads = on_time_by (gauge_script 20) gauge_queue (tt, refl); in_order = refl }, tt);
   moved = record { due = (inr (record { stamp = 16666667; pulse = refl; rounded = refl }), (inl refl, tt)); together = ((_, refl), tt) };
 }
 
 abbrev pulse_entries : List Entry
 pulse_entries = gauge_start ++ gauge_frame 16 16 ++ entry 2 1 (call.Halt 16) reply.Halted ∷ []
+
+abbrev pulse_queue : QueueRecord
+pulse_queue = queue 0 true 3 pulse_entries
 
 abbrev pulse_frames : List FrameEntry
 pulse_frames =
@@ -264,8 +272,8 @@ unfolding made_count answer clock accepted_count barrier_count quit_place has_di
     after_act befores is_called_in_time are_before_quit are_in_order moves
 pulse_between_else = record {
   report = record { script = refl; queues = refl; journals = refl; frames = refl };
-  records = record { mode = refl; start = refl; histories = (history_by (gauge_script 16) (queue 0 true 3 pulse_entries) refl refl refl refl refl refl, tt) };
-  planned = (planned_by (gauge_script 16) (queue 0 true 3 pulse_entries) (tt, refl), tt);
+  records = record { mode = refl; start = refl; histories = (history_by (gauge_script 16) pulse_queue refl refl refl refl refl refl, tt) };
+  planned = (planned_by (gauge_script 16) pulse_queue (tt, refl), tt);
   controls = (refl, tt);
   frames = (record { interval = refl; phases = refl; lawful = refl }, tt);
   loopers = (
@@ -284,7 +292,7 @@ pulse_between_else = record {
     tt,
   );
   halted = refl;
-  histories = (record { controls = refl; before_quit = refl; threads = on_time_by (gauge_script 16) (queue 0 true 3 pulse_entries) (tt, refl); in_order = refl }, tt);
+  histories = (record { controls = refl; before_quit = refl; threads = on_time_by (gauge_script 16) pulse_queue (tt, refl); in_order = refl }, tt);
   moved = record { due = (inl refl, tt); together = ((_, refl), tt) };
 }
 
@@ -295,6 +303,9 @@ asked s test b = count_by test (map (as_told true) (asked_of s 0 b))
 -- the run ends before the pulse, and of the gauge's two callbacks that of the traversal alone is posted
 abbrev short_entries : List Entry
 short_entries = gauge_start ++ advance 0 10 ∷ entry 2 1 (call.Halt 10) reply.Halted ∷ []
+
+abbrev short_queue : QueueRecord
+short_queue = queue 0 true 3 short_entries
 
 abbrev short_frames : List FrameEntry
 short_frames = frame.Posted (callback 0 2 0 1000016) ∷ []
@@ -320,8 +331,8 @@ unfolding made_count answer clock accepted_count barrier_count quit_place has_di
     after_act befores is_called_in_time are_before_quit are_in_order moves
 posts_no_frame_else = record {
   report = record { script = refl; queues = refl; journals = refl; frames = refl };
-  records = record { mode = refl; start = refl; histories = (history_by (gauge_script 10) (queue 0 true 3 short_entries) refl refl refl refl refl refl, tt) };
-  planned = (planned_by (gauge_script 10) (queue 0 true 3 short_entries) (tt, refl), tt);
+  records = record { mode = refl; start = refl; histories = (history_by (gauge_script 10) short_queue refl refl refl refl refl refl, tt) };
+  planned = (planned_by (gauge_script 10) short_queue (tt, refl), tt);
   controls = (refl, tt);
   frames = (record { interval = refl; phases = refl; lawful = refl }, tt);
   loopers = (
@@ -340,6 +351,6 @@ posts_no_frame_else = record {
     tt,
   );
   halted = refl;
-  histories = (record { controls = refl; before_quit = refl; threads = on_time_by (gauge_script 10) (queue 0 true 3 short_entries) (tt, refl); in_order = refl }, tt);
+  histories = (record { controls = refl; before_quit = refl; threads = on_time_by (gauge_script 10) short_queue (tt, refl); in_order = refl }, tt);
   moved = record { due = (inl refl, tt); together = ((_, refl), tt) };
 }

@@ -1,8 +1,6 @@
--- Reports that are no runs of their script: calls that come too early or too late, and times that are moved wrong.
-use Rattle.std.proofs.Common.{◌≡◌, ◌<◌, ℕ, refl, true, false, List, [], ◌∷◌, ◌⊎◌, inl, inr, Some, None, sym, ap, subst, arith, lit<}
-use Rattle.std.specs.Prelude.{◌+◌, ◌-◌, ◌/◌, ◌%◌, ◌^◌, ◌==◌, nat_lt, map, slice_index}
-use Rattle.std.proofs.lemmas.Bool.{and_parts, or_cases}
-use Rattle.std.proofs.lemmas.Bool.Decides.{nat_tests}
+-- Reports that are no runs of their script: calls that come too early, too late or in another order.
+use Rattle.std.proofs.Common.{◌≡◌, ℕ, refl, true, false, List, [], ◌∷◌, inl, Some, None, sym, ap, subst, arith, lit<}
+use Rattle.std.specs.Prelude.{map}
 use Rattle.loop_model.specs.declared.call.Call.TheVariants as call
 use Rattle.loop_model.specs.declared.reply.Reply.TheVariants as reply
 use Rattle.loop_model.specs.declared.entry.Entry.{Entry}
@@ -21,18 +19,16 @@ use Rattle.run_model.specs.Moments.{in_lockstep}
 use Rattle.run_model.specs.Control.{is_controlled, is_called_in_time, are_before_quit, befores, are_on_time}
 use Rattle.run_model.specs.Loopers.{Looper, first_looper}
 use Rattle.run_model.specs.Acts.{after_act, Lead}
-use Rattle.run_model.specs.Moves.{moves, IsPulseTime}
+use Rattle.run_model.specs.Moves.{moves}
 use Rattle.run_model.specs.Run.{IsRun, caused_on, are_in_order}
 use Rattle.run_model.proofs.ByTests.{history_by, planned_by, on_time_by, may, makes, gets}
 use Rattle.run_model.proofs.Examples.{entry, handler_on, block, by, plain_script, message, queue, journal, frames, led}
 use Rattle.run_model.proofs.RunBut.{IsRunBut}
 use Rattle.run_model.proofs.RunBut as but
-use Rattle.run_model.proofs.TwoPosts.{script}
-use Rattle.run_model.proofs.QuitTwice as quit_twice
-use Rattle.run_model.proofs.NotRuns.{dispatch, advance, look, first_post, second_post, side_report, side_advance, side_quit, disposal, quits_side, posts_side, quit_report}
+use Rattle.run_model.proofs.NotRuns.{dispatch, advance, look, quits_side, posts_side, quit_report}
 
 -- the report of a script with one looper, with this history and these acts
-abbrev main_report : Script → List Entry → List Act → Report
+abbrev pub main_report : Script → List Entry → List Act → Report
 main_report s es acts = record { script = s; queues = queue 0 true 3 es ∷ []; journals = journal 0 acts ∷ []; frames = frames 0 [] ∷ []; start = 0 }
 
 -- at 10 a thread posts a message with this delay, and the run ends at this time
@@ -184,6 +180,9 @@ abbrev reacted_entries : List Entry
 reacted_entries =
     advance 0 10 ∷ post 10 ∷ look 0 10 0 ∷ advance 1 15 ∷ entry 1 1 (call.Post (message 0 8 15 None)) (reply.Accepted 1) ∷ look 2 15 1 ∷ halt 2 15 ∷ []
 
+abbrev reacted_queue : QueueRecord
+reacted_queue = queue 0 true 3 reacted_entries
+
 abbrev reacted_acts : List Act
 reacted_acts = dispatch 0 10 ∷ dispatch 1 15 ∷ []
 
@@ -211,8 +210,8 @@ unfolding made_count answer clock accepted_count barrier_count quit_place has_di
     after_act befores is_called_in_time are_before_quit are_in_order moves
 reacts_late_else = record {
   report = record { script = refl; queues = refl; journals = refl; frames = refl };
-  records = record { mode = refl; start = refl; histories = (history_by rule_script (queue 0 true 3 reacted_entries) refl refl refl refl refl refl, tt) };
-  planned = (planned_by rule_script (queue 0 true 3 reacted_entries) (tt, refl), tt);
+  records = record { mode = refl; start = refl; histories = (history_by rule_script reacted_queue refl refl refl refl refl refl, tt) };
+  planned = (planned_by rule_script reacted_queue (tt, refl), tt);
   controls = (refl, tt);
   frames = (record { interval = refl; phases = refl; lawful = refl }, tt);
   loopers = (
@@ -231,11 +230,11 @@ reacts_late_else = record {
     tt,
   );
   halted = refl;
-  histories = (record { controls = refl; before_quit = refl; threads = on_time_by rule_script (queue 0 true 3 reacted_entries) (tt, refl); in_order = refl }, tt);
+  histories = (record { controls = refl; before_quit = refl; threads = on_time_by rule_script reacted_queue (tt, refl); in_order = refl }, tt);
   moved = record { due = (inl refl, (inl refl, tt)); together = ((_, refl), tt) };
 }
 
--- the script's two blocks, and the quit of the side looper before them
+-- thread 1 quits the side looper and then posts to it, and later thread 0 posts to it
 abbrev order_blocks : List Block
 order_blocks = block 5 (quits_side ∷ []) ∷ block 8 (by 1 (command.Post 1 7 0) ∷ []) ∷ block 10 (posts_side ∷ []) ∷ []
 
@@ -273,7 +272,17 @@ unfolding made_count answer clock accepted_count barrier_count quit_place has_di
     after_act befores is_called_in_time are_before_quit are_in_order moves
 calls_out_of_order_else = record {
   report = record { script = refl; queues = refl; journals = refl; frames = refl };
-  records = record { mode = refl; start = refl; histories = (history_by order_script order_queue_0 refl refl refl refl refl refl, (history_by order_script order_queue_1 refl refl refl refl refl refl, tt)) };
+  records = record {
+    mode = refl;
+    start = refl;
+    histories = (
+      history_by order_script order_queue_0 refl refl refl refl refl refl,
+      (
+        history_by order_script order_queue_1 refl refl refl refl refl refl,
+        tt,
+      ),
+    );
+  };
   planned = (planned_by order_script order_queue_0 ((tt, refl), refl), (planned_by order_script order_queue_1 ((tt, refl), refl), tt));
   controls = (refl, (refl, tt));
   frames = (record { interval = refl; phases = refl; lawful = refl }, (record { interval = refl; phases = refl; lawful = refl }, tt));
@@ -307,133 +316,12 @@ calls_out_of_order_else = record {
     ),
   );
   halted = refl;
-  histories = (record { controls = refl; before_quit = refl; threads = on_time_by order_script order_queue_0 ((tt, refl), refl); in_order = tt }, (record { controls = refl; before_quit = refl; threads = on_time_by order_script order_queue_1 ((tt, refl), refl); in_order = tt }, tt));
-  moved = record { due = (inl refl, (inl refl, (inl refl, tt))); together = ((_, refl), ((_, refl), tt)) };
-}
-
-abbrev needless_entries : List Entry
-needless_entries =
-    advance 0 10 ∷ first_post 0 0 ∷ second_post 1 1 ∷ look 0 10 1 ∷ advance 1 12 ∷ advance 2 15 ∷ look 1 15 0 ∷ advance 3 20 ∷ halt 4 20 ∷ []
-
-abbrev needless_acts : List Act
-needless_acts = dispatch 1 10 ∷ dispatch 0 15 ∷ []
-
--- no multiple of the period rounds to 12 milliseconds, and neither does the greatest number
-no_pulse : IsPulseTime 16666667 12 → ⊥
-no_pulse p = by_test (and_parts (nat_lt 0 p.stamp) _ p.pulse).0 (or_cases (p.stamp % 16666667 == 0) _ (and_parts (nat_lt 0 p.stamp) _ p.pulse).1)
-  where
-    by_test : nat_lt 0 p.stamp ≡ true → ((p.stamp % 16666667 == 0) ≡ true) ⊎ ((p.stamp == 2 ^ 64 - 1) ≡ true) → ⊥
-    by_test some (inl multiple) =
-        let positive : 0 < p.stamp = grind (arith, nat_tests) in
-        let rest : p.stamp % 16666667 ≡ 0 = grind (arith, nat_tests) in
-        let rounded : (p.stamp + 999999) / 1000000 ≡ 12 = p.rounded in
-        omega (arith, positive, rest, rounded)
-    by_test some (inr greatest) =
-        let same : p.stamp ≡ 2 ^ 64 - 1 = grind (arith, nat_tests) in
-        let rounded : (p.stamp + 999999) / 1000000 ≡ 12 = p.rounded in
-        omega (arith, same, rounded)
-
--- time is moved to 12, when nothing comes
-pub moves_where_nothing_comes : IsRun in_lockstep script (main_report script needless_entries needless_acts) → ⊥
-unfolding moves first_eligible live
-moves_where_nothing_comes r = of_move r.timely.moves.due.1.0
-  where
-    of_move : (false ≡ true) ⊎ IsPulseTime 16666667 12 → ⊥
-    of_move (inl planned) = cc
-    of_move (inr pulse) = no_pulse pulse
-
--- all else of it is right
-pub moves_where_nothing_comes_else : IsRunBut but.Due script (main_report script needless_entries needless_acts)
-unfolding made_count answer clock accepted_count barrier_count quit_place has_disposed has_halted live first_eligible pick is_controlled
-    lawful all_allowed is_allowed owed next_phase last_time in_due_order before_later live_callbacks posted_count
-    after_act befores is_called_in_time are_before_quit are_in_order moves
-moves_where_nothing_comes_else = record {
-  report = record { script = refl; queues = refl; journals = refl; frames = refl };
-  records = record { mode = refl; start = refl; histories = (history_by script (queue 0 true 3 needless_entries) refl refl refl refl refl refl, tt) };
-  planned = (planned_by script (queue 0 true 3 needless_entries) (tt, refl), tt);
-  controls = (refl, tt);
-  frames = (record { interval = refl; phases = refl; lawful = refl }, tt);
-  loopers = (
-    record {
-      final = led script 0 needless_entries [] (first_looper script) (None ∷ None ∷ []) needless_acts;
-      acts = (None, (may refl refl refl refl, (None, (may refl refl refl refl, refl))));
-      settled = refl;
-      dispatches = refl;
-      disposed_at = 0;
-      calls = ((gets refl refl, (gets refl refl, tt)), tt);
-      asked = λ test. omega arith;
-      whole = refl;
-      on_time = (refl, tt);
-      moments = refl;
-    },
-    tt,
-  );
-  halted = refl;
-  histories = (record { controls = refl; before_quit = refl; threads = on_time_by script (queue 0 true 3 needless_entries) (tt, refl); in_order = refl }, tt);
-  moved = record { due = tt; together = ((_, refl), tt) };
-}
-
--- a script in which nothing happens, with a side looper
-abbrev quiet_script : Script
-quiet_script = plain_script 2 1 (handler_on 0 ∷ handler_on 1 ∷ []) [] 10
-
-abbrev alone_entries : List Entry
-alone_entries = side_advance 0 5 ∷ side_advance 1 10 ∷ side_quit 2 reply.QuitDone ∷ disposal 0 10 ∷ []
-
-abbrev alone_queue : QueueRecord
-alone_queue = queue 1 false 4 alone_entries
-
-abbrev alone_report : Report
-alone_report = record (side_report 10 (command.Quit 1) alone_entries []) { script = quiet_script }
-
--- the side looper's queue is moved to 5, and main isn't
-pub moves_one_queue_alone : IsRun in_lockstep quiet_script alone_report → ⊥
-unfolding moves first_eligible live
-moves_one_queue_alone r =
-    let times : 5 ≡ 10 = ap (λ ts. slice_index ts 0) r.timely.moves.together.1.0.1 in
-    omega (arith, times)
-
--- all else of it is right
-pub moves_one_queue_alone_else : IsRunBut but.Together quiet_script alone_report
-unfolding made_count answer clock accepted_count barrier_count quit_place has_disposed has_halted live first_eligible pick is_controlled
-    lawful all_allowed is_allowed owed next_phase last_time in_due_order before_later live_callbacks posted_count
-    after_act befores is_called_in_time are_before_quit are_in_order moves
-moves_one_queue_alone_else = record {
-  report = record { script = refl; queues = refl; journals = refl; frames = refl };
-  records = record { mode = refl; start = refl; histories = (history_by quiet_script quit_twice.record_0 refl refl refl refl refl refl, (history_by quiet_script alone_queue refl refl refl refl refl refl, tt)) };
-  planned = (planned_by quiet_script quit_twice.record_0 (tt, refl), (planned_by quiet_script alone_queue (tt, refl), tt));
-  controls = (refl, (refl, tt));
-  frames = (record { interval = refl; phases = refl; lawful = refl }, (record { interval = refl; phases = refl; lawful = refl }, tt));
-  loopers = (
-    record {
-      final = first_looper quiet_script;
-      acts = refl;
-      settled = refl;
-      dispatches = refl;
-      disposed_at = 0;
-      calls = (tt, (tt, tt));
-      asked = λ test. omega arith;
-      whole = refl;
-      on_time = (refl, (refl, tt));
-      moments = refl;
-    },
+  histories = (
+    record { controls = refl; before_quit = refl; threads = on_time_by order_script order_queue_0 ((tt, refl), refl); in_order = tt },
     (
-      record {
-        final = first_looper quiet_script;
-        acts = refl;
-        settled = refl;
-        dispatches = refl;
-        disposed_at = 10;
-        calls = (tt, ((gets refl refl, tt), tt));
-        asked = λ test. omega arith;
-        whole = refl;
-        on_time = (refl, (refl, tt));
-        moments = refl;
-      },
+      record { controls = refl; before_quit = refl; threads = on_time_by order_script order_queue_1 ((tt, refl), refl); in_order = tt },
       tt,
     ),
   );
-  halted = refl;
-  histories = (record { controls = refl; before_quit = refl; threads = on_time_by quiet_script quit_twice.record_0 (tt, refl); in_order = refl }, (record { controls = refl; before_quit = refl; threads = on_time_by quiet_script alone_queue (tt, refl); in_order = refl }, tt));
-  moved = record { due = (inl refl, tt); together = tt };
+  moved = record { due = (inl refl, (inl refl, (inl refl, tt))); together = ((_, refl), ((_, refl), tt)) };
 }
