@@ -13,6 +13,8 @@ pub mod MainMayNotQuit
 pub mod QuitTwice
 pub mod GaugeMoves
 pub mod NotRuns
+pub mod NotRunsQuits
+pub mod NotRunsEnds
 pub mod NotRunsGauges
 pub mod NotRunsFrames
 pub mod NotRunsTimes

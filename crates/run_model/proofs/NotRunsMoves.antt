@@ -27,8 +27,8 @@ use Rattle.run_model.proofs.RunBut.{IsRunBut}
 use Rattle.run_model.proofs.RunBut as but
 use Rattle.run_model.proofs.TwoPosts.{script}
 use Rattle.run_model.proofs.QuitTwice as quit_twice
-use Rattle.run_model.proofs.NotRuns.{dispatch, advance, look, first_post, second_post, side_report, side_advance, side_quit, disposal}
-use Rattle.run_model.proofs.NotRuns.{halt}
+use Rattle.run_model.proofs.NotRuns.{dispatch, advance, look, first_post, second_post, halt}
+use Rattle.run_model.proofs.NotRunsQuits.{side_report, side_advance, side_quit, disposal}
 use Rattle.run_model.proofs.NotRunsTimes.{main_report}
 
 abbrev needless_entries : List Entry

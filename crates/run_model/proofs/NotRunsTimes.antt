@@ -25,7 +25,8 @@ use Rattle.run_model.proofs.ByTests.{history_by, planned_by, on_time_by, may, ma
 use Rattle.run_model.proofs.Examples.{entry, handler_on, block, by, plain_script, message, queue, journal, frames, led}
 use Rattle.run_model.proofs.RunBut.{IsRunBut}
 use Rattle.run_model.proofs.RunBut as but
-use Rattle.run_model.proofs.NotRuns.{dispatch, advance, look, quits_side, posts_side, quit_report}
+use Rattle.run_model.proofs.NotRuns.{dispatch, advance, look}
+use Rattle.run_model.proofs.NotRunsEnds.{quits_side, posts_side, quit_report}
 
 -- the report of a script with one looper, with this history and these acts
 abbrev pub main_report : Script → List Entry → List Act → Report

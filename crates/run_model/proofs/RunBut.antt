@@ -40,10 +40,16 @@ pub data Clause : Type 0 where
   OnTime : Clause
   -- a looper takes its messages when its journal tells: the dispatches, the calls, and that they are on time
   Takes : Clause
-  -- the threads' calls are on time
+  -- the controller's calls are in time
+  Controls : Clause
+  -- the threads' calls come before its quit
+  BeforeQuit : Clause
+  -- they are on time
   Threads : Clause
   -- they come in the order of their blocks
   Order : Clause
+  -- they are on time and in this order
+  Blocks : Clause
   -- time is moved to when something may come
   Due : Clause
   -- all queues' times are moved together
@@ -58,10 +64,13 @@ number_of Starts = 4
 number_of Pulses = 5
 number_of OnTime = 6
 number_of Takes = 7
-number_of Threads = 8
-number_of Order = 9
-number_of Due = 10
-number_of Together = 11
+number_of Controls = 8
+number_of BeforeQuit = 9
+number_of Threads = 10
+number_of Order = 11
+number_of Blocks = 12
+number_of Due = 13
+number_of Together = 14
 
 -- this is so, unless it is the clause that is left out
 abbrev pub Unless : Clause → Clause → Type 0 → Type 0
@@ -87,10 +96,10 @@ pub record IsLooperRunBut (out : Clause) (s : Script) (queues : List QueueRecord
 
 -- a timely history, but for the clause that is left out
 pub record IsTimelyBut (out : Clause) (s : Script) (r : QueueRecord) : Type 0 where
-  pub controls : is_called_in_time (controller s) (history_of r) ≡ true
-  pub before_quit : are_before_quit s.threads (controller s) (history_of r) ≡ true
-  pub threads : Unless out Threads ((thread : ℕ) → thread < s.threads → IsThreadOnTime s r thread)
-  pub in_order : Unless out Order (are_in_order s r.looper (history_of r) ≡ true)
+  pub controls : Unless out Controls (is_called_in_time (controller s) (history_of r) ≡ true)
+  pub before_quit : Unless out BeforeQuit (are_before_quit s.threads (controller s) (history_of r) ≡ true)
+  pub threads : Unless out Threads (Unless out Blocks ((thread : ℕ) → thread < s.threads → IsThreadOnTime s r thread))
+  pub in_order : Unless out Order (Unless out Blocks (are_in_order s r.looper (history_of r) ≡ true))
 
 -- the moves of all queues, but for the clause that is left out
 pub record AreMovedBut (out : Clause) (s : Script) (all : List (List Move)) : Type 0 where
