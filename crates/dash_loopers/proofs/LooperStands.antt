@@ -27,13 +27,13 @@ use Rattle.run_model.specs.Asks.{Makes, plain, token_in, tokens_in, AreFor}
 use Rattle.run_model.specs.Loopers.{Looper, Sent, first_looper, starts_frame, delivered, and_takes}
 use Rattle.run_model.specs.Acts.{running, dispatched, after_act, MayDispatch, Lead, sent_on, IsSent}
 use Rattle.run_model.specs.FrameRuns.{FrameAt, nanos_of, frame_ids, is_frame_from, place_after, frames_after, is_run_then, are_run_then, is_whole, are_whole}
-use Rattle.run_model.specs.FrameAsks.{Runs}
+use Rattle.run_model.specs.FrameAsks.{Runs, asks_to_run}
 use Rattle.run_model.proofs.RunLaws.{AreFor-snoc, Lead-snoc, ArePaints, Lead-paints}
 use Rattle.run_model.proofs.Growth.{Lead-entries, post_at-grows}
 use Rattle.dash_loopers.specs.declared.player.Parts.{Parts}
 use Rattle.dash_hall.specs.Growth.{own}
 use Rattle.dash_loopers.specs.Players.{PlaceWithout}
-use Rattle.dash_loopers.specs.Played.{IsRootOf, calls_in, IsPlayed, Delivers, pulse_acts, pulsed, Pulses, Stands, asks_to_run}
+use Rattle.dash_loopers.specs.Played.{IsRootOf, calls_in, IsPlayed, Delivers, pulse_acts, pulsed, Pulses, Stands}
 use Rattle.dash_loopers.specs.PlayingLaws.{calls_more}
 use Rattle.dash_loopers.proofs.LooperSteps.{AddsAt, delivers}
 use Rattle.dash_loopers.proofs.MoreCalls.{tokens_more, sent_here, sent_else, without_self}

@@ -28,8 +28,8 @@ use Rattle.run_model.specs.Planned.{frame_message}
 use Rattle.run_model.specs.Control.{Timing, At, InBlock, NotBefore}
 use Rattle.run_model.specs.Loopers.{Looper, Gauge, Sent, first_looper, starts_frame, delivered, fires, reaction}
 use Rattle.run_model.specs.Acts.{Lead, sent_on, IsSent, millis_up}
-use Rattle.run_model.specs.FrameRuns.{FrameAt, nanos_of, frame_ids, is_frame_from, place_after, frames_after, are_run_then, are_whole}
-use Rattle.run_model.specs.FrameAsks.{FrameAsk, Runs}
+use Rattle.run_model.specs.FrameRuns.{frame_ids, is_frame_from, place_after, frames_after, are_run_then, are_whole}
+use Rattle.run_model.specs.FrameAsks.{asks_to_run}
 use Rattle.dash_hall.specs.declared.kit.Kit.{Kit}
 use Rattle.dash_loopers.specs.declared.view_root.Gauge.{Gauge as ViewGauge}
 use Rattle.dash_loopers.specs.declared.view_root.Painted.{Painted}
@@ -143,10 +143,6 @@ abbrev pub IsFrameBy : ℕ → ℕ → ℕ → Pass → Pass → Option ℕ → 
 IsFrameBy interval phases now before after frame ids = (fs : List FrameEntry) → IsPrefix after.view.seen fs → lawful interval phases fs ≡ true
     → (is_frame_from fs (length before.view.seen) frame ≡ true) × (frame_ids fs frame ≡ ids) × (are_run_then fs (frames_after [] frame now) ≡ true)
     × (are_whole phases fs (frames_after [] frame now) ≡ true)
-
--- what asks for these frames, in order: for each to start at the time of its dispatch
-abbrev pub asks_to_run : List FrameAt → List FrameAsk
-asks_to_run xs = map (λ x. Runs (nanos_of x.now)) xs
 
 -- callbacks of these identities ran at this time, of a frame whose beginning the pass has seen, or of none, and the pass asked for that frame and for nothing else
 pub record RanFrame (interval phases now : ℕ) (before after : Pass) (ids : List ℕ) : Type 0 where

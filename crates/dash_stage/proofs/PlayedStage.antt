@@ -29,7 +29,7 @@ use Rattle.dash_loopers.specs.declared.view_root.ViewRoot.{ViewRoot}
 use Rattle.dash_loopers.specs.declared.looper.StageLooper.{StageLooper}
 use Rattle.dash_loopers.specs.Players.{PlaceWithout}
 use Rattle.dash_loopers.specs.Loopers.{IsLooper, Rest, LooperKeeps, posters_of, others_in, rest_in}
-use Rattle.dash_loopers.specs.Played.{is_disposal, calls_in, asks_to_run, IsShown, IsPlayed, Stands, HasCome}
+use Rattle.dash_loopers.specs.Played.{is_disposal, calls_in, IsShown, IsPlayed, Stands, HasCome}
 use Rattle.dash_hall.specs.Hosts.{asks_of}
 use Rattle.dash_stage.specs.declared.stage.Stage.{Stage}
 use Rattle.dash_stage.specs.Stages.{IsStage}
@@ -41,6 +41,7 @@ use Rattle.dash_stage.proofs.StageTurns.{for_count}
 use Rattle.dash_stage.proofs.StageWhole.{as_many, looper_entries, looper_sees, looper_made_none, sound_grown, none_behind}
 use Rattle.dash_stage.proofs.Timely.{timely_others}
 use Rattle.dash_stage.proofs.RoundTimes.{befores_called_of_others}
+use Rattle.run_model.specs.FrameAsks.{asks_to_run}
 
 -- ---- one looper
 

@@ -14,7 +14,7 @@ use Rattle.dash_stage.specs.declared.control.Controller.{Controller}
 use Rattle.dash_hall.specs.Growth.{own}
 use Rattle.dash_hall.specs.Kits.{ArePostersOf, ArePassesOf}
 
--- the controller of the script, with what it needs in the hall; it asks no choreographer for anything
+-- the controller of the script, with what it needs in the hall; its turns at the choreographers, which look for the pulse that is asked for, record nothing
 pub record IsController (s : Script) (hall : Hall) (c : Controller) : Type 0 where
   pub posters : ArePostersOf (controller s) hall.queues.items c.kit.posters.items
   pub frames : ArePassesOf (s.threads + 2) hall.choreographers.items c.kit.frames.items

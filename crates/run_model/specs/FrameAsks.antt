@@ -1,5 +1,5 @@
 -- What the senders of a run ask of a choreographer: frame callbacks to be posted and to be removed, and frames to be run.
-use Rattle.std.specs.Prelude.{◌≡◌, ℕ, ◌==◌, Bool, List, Option, Some, None, count_by, if◌then◌else◌}
+use Rattle.std.specs.Prelude.{◌≡◌, ℕ, ◌==◌, Bool, List, Option, Some, None, count_by, map, if◌then◌else◌}
 use Rattle.std.specs.List.{filter_map, flat_map, range_with_len}
 use Rattle.frame_phases.specs.declared.entry.FrameEntry.{FrameEntry}
 use Rattle.frame_phases.specs.declared.entry.FrameEntry.TheVariants.{Posted, Removed, Begin}
@@ -7,6 +7,7 @@ use Rattle.dash_script.specs.declared.script.Command.{Command}
 use Rattle.dash_script.specs.declared.script.Command.TheVariants.{Frame, Unframe}
 use Rattle.dash_script.specs.declared.script.Script.{Script}
 use Rattle.run_model.specs.Planned.{Timed, lines_of, frame_due}
+use Rattle.run_model.specs.FrameRuns.{FrameAt, nanos_of}
 
 pub data FrameAsk : Type 0 where
   -- to post a callback, due at this millisecond
@@ -43,6 +44,10 @@ lines_ask looper ls = filter_map (line_asks looper) ls
 -- all threads' lines
 abbrev pub all_lines : Script → List Timed
 all_lines s = flat_map (λ thread. lines_of thread s.blocks) (range_with_len 0 s.threads)
+
+-- what these frames are asked for by, in order: each is to start at the time of its dispatch
+abbrev pub asks_to_run : List FrameAt → List FrameAsk
+asks_to_run xs = map (λ x. Runs (nanos_of x.now)) xs
 
 -- what is told of it in a mode: in free mode a due time and a start are left open
 abbrev pub as_told : Bool → FrameAsk → FrameAsk

@@ -23,8 +23,8 @@ use Rattle.run_model.specs.Control.{is_controlled, ends_halted, is_called_in_tim
 use Rattle.run_model.specs.Loopers.{Looper, Sent, first_looper}
 use Rattle.run_model.specs.Acts.{Lead, sent_on, closing, IsSent}
 use Rattle.run_model.specs.Moves.{moves, AreMovedTogether}
-use Rattle.run_model.specs.FrameRuns.{nanos_of, are_run_then, are_whole}
-use Rattle.run_model.specs.FrameAsks.{FrameAsk, Runs, as_told, asks_in, lines_ask, all_lines, AreAsOften}
+use Rattle.run_model.specs.FrameRuns.{are_run_then, are_whole}
+use Rattle.run_model.specs.FrameAsks.{FrameAsk, as_told, asks_in, asks_to_run, lines_ask, all_lines, AreAsOften}
 
 abbrev pub setting_of : QueueRecord → Setting
 setting_of r = record { main = r.main; lockstep = r.lockstep; senders = r.senders }
@@ -88,7 +88,7 @@ caused_on queue final looper disposed_at = sent_on queue (final.sent ++ closing 
 
 -- all that is asked of a looper's choreographer: by the threads' lines, and by the looper's acts, whose dispatches run its frames
 abbrev pub asked_of : Script → ℕ → Looper → List FrameAsk
-asked_of s q final = lines_ask q (all_lines s) ++ final.posted ++ map (λ x. Runs (nanos_of x.now)) final.frames
+asked_of s q final = lines_ask q (all_lines s) ++ final.posted ++ asks_to_run final.frames
 
 -- a looper's calls on each queue are those that its acts cause, its frame record has the posts, removals and frames that are asked
 -- for, each as often, and the frames are whole, and its Dispatch acts are, one for one and in order, its entries answered Dispatched. In lockstep each call is on time, and each frame starts and takes its phases at the time of its dispatch
