@@ -36,3 +36,7 @@ pub mod PlayedStage
 pub mod PlayedRounds
 pub mod PlayedTurns
 pub mod PulseTimes
+pub mod MoveLaws
+pub mod MovesKept
+pub mod MovesDue
+pub mod MovesRecords

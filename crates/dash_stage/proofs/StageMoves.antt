@@ -85,7 +85,7 @@ module _ (set : Setting) (b : Base) (n : ℕ) (es whole : List Entry) (numbered 
       inr (e, turn_left left p called (λ k apart. ap (entries_by k) left_is ∙ entries_by-unchanged k es (e ∷ []) (other_entry k n e t.3 apart, tt)) ∙ left_is, t.2, t.3)
 
 -- the number of senders changes nothing of what is eligible
-eligible_same : (m : ℕ) (es : List Entry) → first_eligible (empty_base m) es ≡ first_eligible (empty_base 0) es
+pub eligible_same : (m : ℕ) (es : List Entry) → first_eligible (empty_base m) es ≡ first_eligible (empty_base 0) es
 unfolding first_eligible live
 eligible_same m es = refl
 
@@ -99,7 +99,7 @@ pub controls_above : (s : Script) (e : Entry) → e.sender ≡ controller s → 
 controls_above s e is = omega (arith, is)
 
 -- no Advance moves a queue that is over
-over_moves_none : (set : Setting) (b : Base) (es : List Entry) (now : ℕ) → is_over b es ≡ true → answer set b es (Advance now) ≡ None
+pub over_moves_none : (set : Setting) (b : Base) (es : List Entry) (now : ℕ) → is_over b es ≡ true → answer set b es (Advance now) ≡ None
 unfolding answer
 over_moves_none set b es now over = ap (λ (t : Bool). if t || nat_le now (clock b es) || not set.lockstep || is_some (pick b es (clock b es)) then None else Some Advanced) over
 

@@ -160,7 +160,7 @@ module _ (s : Script) (hall : Hall) (kits : List Kit) (records : List QueueRecor
       }
 
   -- the controller has no poster of another queue
-  known : (q : ℕ) → q < length c.kit.posters.items → q < length records
+  pub known : (q : ℕ) → q < length c.kit.posters.items → q < length records
   known q lt =
       let kit = slice_index_or kits (controller s) c.kit in
       let long = alike_length badge_of (badge_for (controller s)) kit.posters.items hall.queues.items (are.each (controller s) c.kit last).posters ∙ queue_count s hall.pool hall.queues.items h.queues in

@@ -9,3 +9,4 @@ pub mod Ending
 pub mod Timeliness
 pub mod Playing
 pub mod Leaving
+pub mod Moves

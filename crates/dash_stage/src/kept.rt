@@ -1,5 +1,5 @@
 //! The report of a run.
-ghost use Rattle.std.specs.Prelude.{◌≡◌, true, IfOk, OnOk, List};
+ghost use Rattle.std.specs.Prelude.{◌≡◌, true, map, IfOk, OnOk, List};
 ghost use Rattle.std.specs.List.{AllByRecursion};
 ghost use Rattle.dash_script.specs.Reading.{HasText};
 ghost use Rattle.loop_model.specs.declared.entry.Entry.{Entry};
@@ -16,6 +16,10 @@ ghost use Rattle.dash_stage.specs.Leaving.{HaveGiven};
 ghost use Rattle.dash_stage.specs.Runs.{HaveRunAll};
 ghost use Rattle.dash_hall.specs.Hearing.{HaveSeenAll};
 ghost use Rattle.dash_stage.specs.Sharing.{OfThreads, OfLoopers, OfKits};
+ghost use Rattle.run_model.specs.Senders.{controller};
+ghost use Rattle.run_model.specs.Histories.{history_of};
+ghost use Rattle.run_model.specs.Moves.{moves, AreMovedTogether};
+ghost use Rattle.dash_stage.specs.Moves.{AreMoved};
 ghost use Rattle.dash_stage.specs.Playing.{ArePlayed, HaveComeFirst};
 ghost use Rattle.dash_stage.specs.Stages.{IsStage, IsPlayable, HaveRun, AreThreads, AreLoopers, AreThreadKits, AreSenderKits, OthersHaveEnded, LoopersGoOn};
 
@@ -44,6 +48,7 @@ pub(crate) fn report(alloc: Global, script: Script, stage: Stage) -> Ran
     requires halted { HasHaltedLast script stage }
     requires played { ArePlayed script stage }
     requires first { HaveComeFirst script stage }
+    requires moves { AreMoved script stage.controller }
     ensures { Stages script result }
 {
     match kept(alloc, &script, stage) {
@@ -75,6 +80,7 @@ fn kept(
     requires halted { HasHaltedLast script.now stage }
     requires played { ArePlayed script.now stage }
     requires first { HaveComeFirst script.now stage }
+    requires moves { AreMoved script.now stage.controller }
     ensures queues { IfOk result (λ r. AreQueueRecords script.now r.0.items) }
     ensures planned { IfOk result (λ r. AllByRecursion (IsAsPlanned in_lockstep script.now) r.0.items) }
     ensures halted { IfOk result (λ r. main_ends_halted r.0.items ≡ true) }
@@ -85,6 +91,7 @@ fn kept(
     ensures frames { IfOk result (λ r. AreFrameRecords script.now r.2.items) }
     ensures run { IfOk result (λ r. AllByRecursion (IsFrameRun script.now) r.2.items) }
     ensures first { IfOk result (λ r. AreBlocksFirst script.now r.0.items) }
+    ensures moves { IfOk result (λ r. AreMovedTogether script.now (map (λ q. moves (controller script.now) (history_of q)) r.0.items)) }
 {
     let Stage {
         hall,

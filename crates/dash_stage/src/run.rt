@@ -4,6 +4,7 @@ ghost use Rattle.dash_script.specs.Reading.{HasText};
 ghost use Rattle.dash_stage.specs.Staged.{Stages};
 ghost use Rattle.dash_stage.specs.Controllers.{HasClosed};
 ghost use Rattle.dash_stage.specs.Timeliness.{AreTimelyUpTo, HasHaltedLast};
+ghost use Rattle.dash_stage.specs.Moves.{AreMoved};
 ghost use Rattle.dash_stage.specs.Playing.{ArePlayed, HaveComeFirst};
 ghost use Rattle.dash_stage.specs.Stages.{IsStage, HaveRun, OthersHaveEnded, LoopersGoOn};
 
@@ -66,6 +67,7 @@ fn played<R: Threads + Wait + Sync, G: Gate + Sync>(
     ensures halted { IfOk result (λ st. HasHaltedLast script.now st) }
     ensures played { IfOk result (λ st. ArePlayed script.now st) }
     ensures first { IfOk result (λ st. HaveComeFirst script.now st) }
+    ensures moves { IfOk result (λ st. AreMoved script.now st.controller) }
 {
     let mut stage = set_up(alloc, script)?;
     stage.play(rt, alloc, script, gate)?;

@@ -1,5 +1,5 @@
 //! The event times of a run, and what comes at each.
-ghost use Rattle.std.specs.Prelude.{◌≡◌, ◌<◌, ◌≤◌, ◌++◌, ◌∷◌, ℕ, max, true, false, List, [], slice_index_or, IfOk, OnOk};
+ghost use Rattle.std.specs.Prelude.{◌≡◌, ◌<◌, ◌≤◌, ◌⊎◌, ◌++◌, ◌∷◌, ℕ, max, true, false, List, [], slice_index_or, Some, IfOk, OnOk};
 ghost use mathlib.Core.List.{IsPrefix};
 ghost use Rattle.dash_script.specs.declared.script.Block.{Block as BlockData};
 ghost use Rattle.looper_run.specs.Round.{is_ended};
@@ -12,6 +12,8 @@ ghost use Rattle.dash_stage.specs.Timeliness.{AreTimelyUpTo, AreSound, AreBy, Ar
 ghost use Rattle.dash_script.specs.Reading.{HasText};
 ghost use Rattle.dash_hall.specs.Kits.{IsHall, AreUnseen};
 ghost use Rattle.dash_stage.specs.Controllers.{IsMoving, HasReached, IsClosing, HasClosed, CallsNone};
+ghost use Rattle.run_model.specs.Moves.{is_planned_time, IsPulseTime};
+ghost use Rattle.dash_stage.specs.Moves.{AreMoved, MayCome, WaitsUntil};
 ghost use Rattle.dash_stage.specs.Playing.{ArePlayed, AreAtBlock, HaveComeFirst, IsInStep, LiesAhead};
 ghost use Rattle.dash_stage.specs.Stages.{IsStage, HaveRun, RunOn, OthersHaveEnded, LoopersGoOn};
 
@@ -70,6 +72,7 @@ impl Stage {
         ensures halted { OnOk result (HasHaltedLast script.now self.new) }
         ensures played { OnOk result (ArePlayed script.now self.new) }
         ensures first { OnOk result (HaveComeFirst script.now self.new) }
+        ensures moves { OnOk result (AreMoved script.now self.new.controller) }
     {
         for block in script.blocks.as_slice() {
             self.go_to(rt, alloc, script, gate, block.time)?;
@@ -98,6 +101,7 @@ impl Stage {
         requires moving { IsMoving script.now self.old.controller }
         requires by { AreBy self.old.time self.old.controller }
         requires later { self.old.time ≤ time }
+        requires planned { is_planned_time script.now time ≡ true }
         ensures stage { IsStage script.now self.new }
         ensures run { (past : List BlockData) → HaveRun script.now past self.old.threads.items → HaveRun script.now past self.new.threads.items }
         ensures moving { IsMoving script.now self.new.controller }
@@ -107,6 +111,7 @@ impl Stage {
         ensures timely { (past : List BlockData) → AreTimelyUpTo script.now past self.old → AreRested script.now self.old → OnOk result (AreTimelyUpTo script.now past self.new) }
         ensures step { IsInStep script.now self.old → AreRested script.now self.old → OnOk result (IsInStep script.now self.new) }
         ensures at { IsInStep script.now self.old → AreRested script.now self.old → LiesAhead time self.old → OnOk result (AreSound script.now self.new.controller → AreAtBlock script.now time self.new) }
+        ensures moves { IsInStep script.now self.old → AreRested script.now self.old → AreMoved script.now self.old.controller → OnOk result (AreMoved script.now self.new.controller) }
     {
         for _ in rt.forever() {
             let next = at_most(self.next_due(rt, script), time);
@@ -129,6 +134,7 @@ impl Stage {
         ensures loopers { self.new.loopers ≡ self.old.loopers }
         ensures time { self.new.time ≡ self.old.time }
         ensures due { (t : ℕ) → AreRested script.now self.old → NotLater t result → AreDue script.now t self.new }
+        ensures reason { (t : ℕ) → AreRested script.now self.old → result ≡ Some t → MayCome script.now t self.old.controller }
     {
         let mut next = None;
         for looper in 0..script.loopers {
@@ -148,6 +154,7 @@ impl Stage {
         ensures loopers { self.new.loopers ≡ self.old.loopers }
         ensures time { self.new.time ≡ self.old.time }
         ensures due { (t : ℕ) (l : StageLooper) → NotLater t result → is_ended (slice_index_or self.old.loopers.items looper l).last ≡ false → NotLater t (until_of (slice_index_or self.old.loopers.items looper l).last) }
+        ensures reason { (t : ℕ) → result ≡ Some t → ((l : StageLooper) → WaitsUntil t (slice_index_or self.old.loopers.items looper l)) ⊎ IsPulseTime script.now.period t }
     {
         if self.loopers[looper as usize].has_ended() {
             return None;
@@ -173,6 +180,7 @@ impl Stage {
         ensures step { IsInStep script.now self.old → AreRested script.now self.old → AreDue script.now time self.old → OnOk result (IsInStep script.now self.new) }
         ensures moved { IsInStep script.now self.old → AreRested script.now self.old → AreDue script.now time self.old → IfOk result (λ moved. AreSound script.now self.new.controller → (moved ≡ true) × AreSound script.now self.old.controller) }
         ensures at { IsInStep script.now self.old → AreRested script.now self.old → AreDue script.now time self.old → LiesAhead time self.old → OnOk result (AreSound script.now self.new.controller → AreAtBlock script.now time self.new) }
+        ensures moves { IsInStep script.now self.old → AreRested script.now self.old → AreDue script.now time self.old → MayCome script.now time self.old.controller → AreMoved script.now self.old.controller → OnOk result (AreMoved script.now self.new.controller) }
     {
         self.time = self.time.max(time);
         let moved = self.controller.advance(rt, &self.hall, script, time)?;
@@ -197,6 +205,7 @@ impl Stage {
         ensures time { self.new.time ≡ self.old.time }
         ensures timely { (past rest : List BlockData) → past ++ block.now ∷ rest ≡ script.now.blocks → IsMoving script.now self.old.controller → HaveRun script.now past self.old.threads.items → (AreSound script.now self.old.controller → AreAtBlock script.now block.now.time self.old) → AreTimelyUpTo script.now past self.old → OnOk result (AreTimelyUpTo script.now (past ++ block.now ∷ []) self.new) }
         ensures step { IsInStep script.now self.old → (AreSound script.now self.old.controller → AreAtBlock script.now block.now.time self.old) → OnOk result (IsInStep script.now self.new) }
+        ensures moves { AreMoved script.now self.old.controller → OnOk result (AreMoved script.now self.new.controller) }
     {
         run_threads(
             rt,
@@ -233,6 +242,7 @@ impl Stage {
         ensures rested { turn ≡ All → HaveSeenTheSame self.old → OnOk result (AreRested script.now self.new) }
         ensures sound { OnOk result (AreSound script.now self.new.controller → AreSound script.now self.old.controller) }
         ensures step { IsInStep script.now self.old → OnOk result (IsInStep script.now self.new) }
+        ensures moves { AreMoved script.now self.old.controller → OnOk result (AreMoved script.now self.new.controller) }
     {
         for _ in rt.forever() {
             let before = self.controller.entries_seen();
@@ -267,6 +277,7 @@ impl Stage {
         ensures grown { OnOk result (AtEach IsPrefix (seen_by self.old.controller.kit.posters.items) (seen_by self.new.controller.kit.posters.items)) }
         ensures rested { turn ≡ All → HaveSeenTheSame self.old → OnOk result (seen_by self.new.controller.kit.posters.items ≡ seen_by self.old.controller.kit.posters.items → AreRested script.now self.new) }
         ensures step { IsInStep script.now self.old → OnOk result (IsInStep script.now self.new) }
+        ensures moves { AreMoved script.now self.old.controller → OnOk result (AreMoved script.now self.new.controller) }
     {
         run_loopers(
             rt,
@@ -304,6 +315,7 @@ impl Stage {
         ensures timely { (past : List BlockData) → AreTimelyUpTo script.now past self.old → AreRested script.now self.old → OnOk result (AreTimelyUpTo script.now past self.new) }
         ensures halted { OnOk result (HasHaltedLast script.now self.new) }
         ensures step { IsInStep script.now self.old → OnOk result (IsInStep script.now self.new) }
+        ensures moves { HaveSeenTheSame self.old → AreMoved script.now self.old.controller → OnOk result (AreMoved script.now self.new.controller) }
     {
         self.quit_others(rt, script)?;
         for _ in rt.forever() {
@@ -334,6 +346,7 @@ impl Stage {
         ensures timely { (past : List BlockData) → AreTimelyUpTo script.now past self.old → AreRested script.now self.old → OnOk result (AreTimelyUpTo script.now past self.new) }
         ensures same { OnOk result (HaveSeenTheSame self.new) }
         ensures step { IsInStep script.now self.old → OnOk result (IsInStep script.now self.new) }
+        ensures moves { HaveSeenTheSame self.old → AreMoved script.now self.old.controller → OnOk result (AreMoved script.now self.new.controller) }
     {
         for looper in 1..script.loopers {
             if !self.loopers[looper as usize].has_ended() {
@@ -362,6 +375,7 @@ impl Stage {
 fn at_most(time: Option<u64>, last: u64) -> u64
     ensures within { result ≤ last }
     ensures early { NotLater result time }
+    ensures one { (result ≡ last) ⊎ (time ≡ Some result) }
 {
     match time {
         Some(due) => due.min(last),
@@ -371,7 +385,8 @@ fn at_most(time: Option<u64>, last: u64) -> u64
 
 /// The earlier of two times.
 fn earlier(a: Option<u64>, b: Option<u64>) -> Option<u64>
-    ensures { (t : ℕ) → NotLater t result → NotLater t a × NotLater t b }
+    ensures early { (t : ℕ) → NotLater t result → NotLater t a × NotLater t b }
+    ensures one { (t : ℕ) → result ≡ Some t → (a ≡ Some t) ⊎ (b ≡ Some t) }
 {
     match (a, b) {
         (Some(x), Some(y)) => Some(x.min(y)),

@@ -1,10 +1,13 @@
-use Rattle.std.proofs.Common.{List, refl, sym, subst, ◌≡◌, true}
+use Rattle.std.proofs.Common.{List, refl, sym, subst, ◌≡◌, true, map}
 use Rattle.std.specs.List.{AllByRecursion}
 use Rattle.loop_model.specs.declared.journal.Journal.{Journal}
 use Rattle.loop_model.specs.declared.record.QueueRecord.{QueueRecord}
 use Rattle.frame_phases.specs.declared.entry.FrameRecord.{FrameRecord}
 use Rattle.run_model.specs.Moments.{in_lockstep}
 use Rattle.run_model.specs.Run.{IsAsPlanned, IsControlled, IsFrameRun, IsLooperRun, IsTimely, EachLooper, main_ends_halted}
+use Rattle.run_model.specs.Senders.{controller}
+use Rattle.run_model.specs.Histories.{history_of}
+use Rattle.run_model.specs.Moves.{moves, AreMovedTogether}
 use Rattle.dash_stage.specs.Blocks.{AreBlocksFirst}
 use Rattle.dash_stage.specs.Records.{AreQueueRecords, AreJournals, AreFrameRecords}
 use Rattle.dash_stage.proofs.kept.report.Goals as goal
@@ -24,6 +27,7 @@ returns-in-Ok c =
     (subst (λ (l : List FrameRecord). EachLooper (IsLooperRun in_lockstep s c.in-Ok.queues.items) c.in-Ok.queues.items c.in-Ok.journals.items l) (sym c.from_vec-in-Ok-2.ensures) c.in-Ok.ensures.loopers)) in
     let runs = subst (λ (l : List FrameRecord). AllByRecursion (IsFrameRun s) l) (sym c.from_vec-in-Ok-2.ensures) c.in-Ok.ensures.run in
     let frames = subst (λ (l : List FrameRecord). AreFrameRecords s l) (sym c.from_vec-in-Ok-2.ensures) c.in-Ok.ensures.frames in
+    let together = subst (λ (l : List QueueRecord). AreMovedTogether s (map (λ (q : QueueRecord). moves (controller s) (history_of q)) l)) (sym c.from_vec.ensures) c.in-Ok.ensures.moves in
     let blocks = subst (λ (l : List QueueRecord). AreBlocksFirst s l) (sym c.from_vec.ensures) c.in-Ok.ensures.first in record {
       blocks = blocks;
       run = record {
@@ -33,6 +37,6 @@ returns-in-Ok c =
         controls = controls;
         loopers = loopers;
         frames = runs;
-        timely = record { halted = halted; histories = timely };
+        timely = record { halted = halted; histories = timely; moves = together };
       };
     }

@@ -3,6 +3,7 @@ use Rattle.dash_stage.specs.Timeliness.{AreBy}
 use Rattle.dash_stage.proofs.StageMoves.{by_later, advanced_timely}
 use Rattle.dash_stage.proofs.PlayedTurns.{advanced_in_step, advanced_sound, advanced_at_block}
 use Rattle.dash_stage.proofs.ControlKept.{by_kept}
+use Rattle.dash_stage.proofs.MovesKept.{advanced_moves}
 use Rattle.dash_stage.proofs.stage.Stage.advance.Goals as goal
 
 pub returns-in_err-moved-clause-by : goal.returns-in_err-moved-clause-by
@@ -48,3 +49,12 @@ returns-clause-at g c step rested due ahead =
     let by = c.advance.ensures.by c.share.new.self.time (omega (arith, now)) (by_later c.args.self.now.time c.share.new.self.time c.args.self.now.controller (omega (arith, now)) c.requires.by) in
     advanced_at_block c.args.script.now c.args.self.now c.advance.new.self c.share.new.self c.requires.stage c.share.ensures.stage c.share.ensures.shared kept.threads kept.loopers kept.controller.posters step
     c.args.time c.in_ok-moved.ensures.turns now by rested due _ c.in_ok-moved.ensures.come c.in_ok-moved.ensures.stuck ahead
+
+pub returns-clause-moves : goal.returns-clause-moves
+returns-clause-moves g c step rested due may before =
+    let kept = c.share.ensures.kept in
+    let m = c.max-self.ensures in
+    let now = kept.time ∙ m in
+    let by = c.advance.ensures.by c.share.new.self.time (omega (arith, now)) (by_later c.args.self.now.time c.share.new.self.time c.args.self.now.controller (omega (arith, now)) c.requires.by) in
+    advanced_moves c.args.script.now c.args.self.now c.advance.new.self c.share.new.self c.requires.stage c.share.ensures.stage step.same c.share.ensures.shared kept.threads kept.loopers kept.controller.posters step
+    c.args.time c.in_ok-moved.ensures.turns now by rested due _ c.in_ok-moved.ensures.come c.in_ok-moved.ensures.stuck c.requires.some may before

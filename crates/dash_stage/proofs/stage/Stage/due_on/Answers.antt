@@ -1,8 +1,10 @@
-use Rattle.std.proofs.Common.{◌≡◌, ◌<◌, ℕ, length, slice_index_or, sym, ◌∙◌, subst}
+use Rattle.std.proofs.Common.{◌≡◌, ◌<◌, inl, inr, ℕ, false, length, slice_index_or, sym, ◌∙◌, subst}
 use Rattle.std.proofs.lemmas.List.{get_or_default}
+use Rattle.looper_run.specs.Round.{is_ended}
 use Rattle.dash_loopers.specs.declared.looper.StageLooper.{StageLooper}
 use Rattle.dash_loopers.specs.Loopers.{until_of}
 use Rattle.dash_stage.specs.Timeliness.{NotLater}
+use Rattle.dash_stage.specs.Moves.{WaitsUntil}
 use Rattle.dash_stage.proofs.stage.Stage.due_on.Goals as goal
 
 pub returns-clause-due : goal.returns-clause-due
@@ -11,4 +13,19 @@ returns-clause-due g c t l early going =
     let ls = c.args.self.now.loopers.items in
     let lt : c.args.looper < length ls = subst (λ (n : ℕ). c.args.looper < n) (sym c.requires.stage.loopers.0) c.requires.looper in
     let same : x ≡ slice_index_or ls c.args.looper l = c.index-2.ensures ∙ get_or_default ls c.args.looper x l lt in
-    subst (λ (z : StageLooper). NotLater t (until_of z.last)) same (subst (NotLater t) c.until-until.ensures (c.earlier.ensures t early).0)
+    subst (λ (z : StageLooper). NotLater t (until_of z.last)) same (subst (NotLater t) c.until-until.ensures (c.earlier.ensures.early t early).0)
+
+pub returns-clause-reason : goal.returns-clause-reason
+returns-clause-reason g c t is =
+    let x : StageLooper = c.index-2.result.now in
+    let ls = c.args.self.now.loopers.items in
+    let lt : c.args.looper < length ls = subst (λ (n : ℕ). c.args.looper < n) (sym c.requires.stage.loopers.0) c.requires.looper in
+    elim (c.earlier.ensures.one t is) [
+      | inl until ↦ inl (λ l.
+          let same : x ≡ slice_index_or ls c.args.looper l = c.index-2.ensures ∙ get_or_default ls c.args.looper x l lt in
+          let y : StageLooper = c.index.result.now in
+          let one : y ≡ x = c.index.ensures ∙ get_or_default ls c.args.looper y x lt ∙ sym c.index-2.ensures in
+          let going = subst (λ (z : StageLooper). is_ended z.last ≡ false) one (sym c.has_ended.ensures ∙ c.if-has_ended.false) in
+          subst (λ (z : StageLooper). WaitsUntil t z) same (going, sym c.until-until.ensures ∙ until))
+      | inr asked ↦ inr (c.asked.ensures.pulse t asked)
+    ]

@@ -4,10 +4,11 @@ use Rattle.dash_stage.specs.Timeliness.{Halts}
 use Rattle.dash_stage.proofs.StageTurns.{halted_stays, go_on_kept}
 use Rattle.dash_stage.proofs.StageQuits.{halts_move_not, halted_timely}
 use Rattle.dash_stage.proofs.PlayedTurns.{turned_in_step}
+use Rattle.dash_stage.proofs.MovesKept.{moved_turned}
 use Rattle.dash_stage.proofs.stage.Stage.end.Goals as goal
 
 pub loop-init : goal.loop-init
-loop-init g c = (c.quit_others.ensures.stage, c.quit_others.ensures.run, c.in_ok-quit_others.ensures.closing, c.in_ok-quit_others.ensures.timely, c.in_ok-quit_others.ensures.step)
+loop-init g c = (c.quit_others.ensures.stage, c.quit_others.ensures.run, c.in_ok-quit_others.ensures.closing, c.in_ok-quit_others.ensures.timely, c.in_ok-quit_others.ensures.step, c.in_ok-quit_others.ensures.moves)
 
 pub loop-preserved : goal.loop-preserved
 loop-preserved g c =
@@ -17,6 +18,7 @@ loop-preserved g c =
       closing_kept c.args.script.now at.self.controller c.run_round.new.self.controller c.run_round.ensures.none at.invariant.2,
       λ past timely rested. c.in_ok-run_round.ensures.timely past (at.invariant.3 past timely rested),
       λ step. c.in_ok-run_round.ensures.step (at.invariant.4 step),
+      λ same before. c.in_ok-run_round.ensures.moves (at.invariant.5 same before),
     )
 
 pub returns-in_err-run_round-clause-run : goal.returns-in_err-run_round-clause-run
@@ -59,6 +61,12 @@ returns-then-halted-clause-step g c step =
     turned_in_step c.args.script.now c.run_rounds.new.self c.halt-halted.new.self c.share.new.self c.run_rounds.ensures.stage c.share.ensures.stage c.share.ensures.shared
     kept.threads kept.loopers kept.controller.posters (c.in_ok-run_rounds.ensures.step (c.loop-2.invariant.5 step)) (halts_move_not _ _ c.halt-halted.ensures.turns) kept.time
 
+pub returns-then-halted-clause-moves : goal.returns-then-halted-clause-moves
+returns-then-halted-clause-moves g c same before =
+    let kept = c.share.ensures.kept in
+    moved_turned c.args.script.now c.run_rounds.new.self c.halt-halted.new.self c.share.new.self c.run_rounds.ensures.stage c.share.ensures.stage c.in_ok-run_rounds.ensures.same c.share.ensures.shared
+    kept.threads kept.loopers kept.controller.posters (halts_move_not _ _ c.halt-halted.ensures.turns) (c.in_ok-run_rounds.ensures.moves (c.loop-2.invariant.6 same before))
+
 pub loop-2-preserved : goal.loop-2-preserved
 loop-2-preserved g c =
     let s = c.args.script.now in
@@ -72,4 +80,6 @@ loop-2-preserved g c =
       c.share.ensures.ended (c.run_rounds.ensures.ended at.4),
       λ step. turned_in_step s c.run_rounds.new.self c.halt-halted.new.self c.share.new.self c.run_rounds.ensures.stage c.share.ensures.stage c.share.ensures.shared
           kept.threads kept.loopers kept.controller.posters (c.in_ok-run_rounds.ensures.step (at.5 step)) (halts_move_not _ _ c.halt-halted.ensures.turns) kept.time,
+      λ same before. moved_turned s c.run_rounds.new.self c.halt-halted.new.self c.share.new.self c.run_rounds.ensures.stage c.share.ensures.stage c.in_ok-run_rounds.ensures.same c.share.ensures.shared
+          kept.threads kept.loopers kept.controller.posters (halts_move_not _ _ c.halt-halted.ensures.turns) (c.in_ok-run_rounds.ensures.moves (at.6 same before)),
     )

@@ -4,6 +4,8 @@ use Rattle.dash_stage.specs.Timeliness.{AreBy}
 use Rattle.dash_stage.proofs.ControlKept.{moving_kept}
 use Rattle.dash_stage.proofs.ControlKept.{by_kept}
 use Rattle.dash_stage.proofs.StageDue.{timely_same, rested_same}
+use Rattle.dash_stage.proofs.MovesKept.{moved_same}
+use Rattle.dash_stage.proofs.MovesDue.{may_come_at, may_come_same}
 use Rattle.dash_stage.proofs.PlayedTurns.{step_same, sound_same, ahead_same, ahead_on}
 use Rattle.dash_stage.specs.Playing.{AreAtBlock, LiesAhead}
 use Rattle.dash_stage.proofs.stage.Stage.go_to.Goals as goal
@@ -77,8 +79,29 @@ loop-preserved g c =
                 ahead_on c.args.time c.at_most-next.result c.loop.self c.run_rounds.new.self (omega (arith, apart, within)) (ran.time ∙ (moved.time ∙ ap (λ (t : ℕ). max t c.at_most-next.result) due.time)) was)
             | else-moved-via-else-moved w ↦ absurd (true≢false (sym drained.0 ∙ w.if-moved.false))
           ],
+      λ step rest was.
+          let before = at.6 step rest in
+          let next = c.at_most-next.result in
+          let still = step_same s c.loop.self c.next_due.new.self at.0 due.stage due.threads due.loopers due.posters due.time before.0 in
+          let rested = rested_same s c.loop.self c.next_due.new.self due.loopers due.posters before.1 in
+          let may = may_come_at s next c.args.time c.next_due.result c.loop.self.controller c.requires.planned c.at_most-next.ensures.one (due.reason next before.1) in
+          ran.moves (moved.moves still rested (due.due next before.1 c.at_most-next.ensures.early)
+          (may_come_same s next c.loop.self.controller c.next_due.new.self.controller due.posters may) (moved_same s c.loop.self c.next_due.new.self at.0 due.stage due.posters (at.8 step rest was))),
     )
 
 pub returns-in_err-run_rounds-clause-run : goal.returns-in_err-run_rounds-clause-run
 returns-in_err-run_rounds-clause-run g c past run =
     c.run_rounds.ensures.run past (c.advance.ensures.run past (subst (HaveRun c.args.script.now past) (sym c.next_due.ensures.threads) (c.loop.invariant.1 past run)))
+
+pub returns-then-next-time-clause-moves : goal.returns-then-next-time-clause-moves
+returns-then-next-time-clause-moves g c step rest was =
+    let s = c.args.script.now in
+    let at = c.loop.invariant in
+    let before = at.6 step rest in
+    let due = c.next_due.ensures in
+    let next = c.at_most-next.result in
+    let still = step_same s c.loop.self c.next_due.new.self at.0 due.stage due.threads due.loopers due.posters due.time before.0 in
+    let rested = rested_same s c.loop.self c.next_due.new.self due.loopers due.posters before.1 in
+    let may = may_come_at s next c.args.time c.next_due.result c.loop.self.controller c.requires.planned c.at_most-next.ensures.one (due.reason next before.1) in
+    c.in_ok-moved.ensures.moves still rested (due.due next before.1 c.at_most-next.ensures.early)
+    (may_come_same s next c.loop.self.controller c.next_due.new.self.controller due.posters may) (moved_same s c.loop.self c.next_due.new.self at.0 due.stage due.posters (at.8 step rest was))

@@ -4,6 +4,7 @@ use Rattle.dash_loopers.specs.declared.looper.StageLooper.{StageLooper}
 use Rattle.dash_loopers.specs.Loopers.{until_of}
 use Rattle.dash_stage.specs.Timeliness.{NotLater}
 use Rattle.dash_stage.proofs.ControlKept.{none_after}
+use Rattle.dash_stage.proofs.MovesDue.{one_waits, may_come}
 use Rattle.dash_stage.proofs.StageDue.{one_waits_more, due_of_rest, rested_same}
 use Rattle.dash_stage.proofs.stage.Stage.next_due.Goals as goal
 
@@ -18,8 +19,10 @@ loop-looper-preserved g c =
       done.loopers ∙ at.invariant.4,
       done.time ∙ at.invariant.5,
       λ t early.
-          let both = c.earlier-next.ensures t early in
+          let both = c.earlier-next.ensures.early t early in
           one_waits_more t at.looper _ _ (ap (λ v. v.items) at.invariant.4) (at.invariant.6 t both.0) (λ l. done.due t l both.1),
+      λ t is. one_waits c.args.script.now t at.looper c.args.self.now.loopers.items at.self.loopers.items at.next c.due_on.result (omega (arith, c.loop-looper-test.true, c.requires.stage.loopers.0))
+          (ap (λ v. v.items) at.invariant.4) (at.invariant.7 t) (done.reason t) (c.earlier-next.ensures.one t is),
     )
 
 pub returns-clause-due : goal.returns-clause-due
@@ -31,3 +34,6 @@ returns-clause-due g c t rest early =
     due_of_rest s t at.self (rested_same s c.args.self.now at.self at.invariant.4 at.invariant.3 rest)
     (subst (λ (ls : List StageLooper). (k : ℕ) (l : StageLooper) → k < length ls → is_ended (slice_index_or ls k l).last ≡ false → NotLater t (until_of (slice_index_or ls k l).last)) (sym same)
     (λ k l lt going. at.invariant.6 t early k l (let past = c.loop-looper-test.false in omega (arith, past, lt, count)) going))
+
+pub returns-clause-reason : goal.returns-clause-reason
+returns-clause-reason g c t rest is = may_come c.args.script.now t c.args.self.now c.requires.stage rest (c.loop-looper.invariant.7 t is)

@@ -6,6 +6,8 @@ use Rattle.dash_stage.specs.declared.stage.Stage.{Stage}
 use Rattle.dash_stage.specs.Stages.{HaveRun}
 use Rattle.dash_stage.specs.Timeliness.{AreBy, AreTimelyUpTo}
 use Rattle.dash_stage.specs.Playing.{LiesAhead}
+use Rattle.dash_stage.proofs.MovesDue.{block_is_planned, end_is_planned}
+use Rattle.dash_stage.proofs.MovesRecords.{moved_at_start}
 use Rattle.dash_stage.proofs.PlayedTurns.{ahead_of_zero}
 use Rattle.dash_stage.proofs.Blocks.{blocks_next, blocks_past, run_one_more}
 use Rattle.dash_stage.proofs.Limits.{before_end, before_next}
@@ -26,6 +28,7 @@ loop-block-init g c =
       λ d some. omega (arith, zero_time),
       c.requires.step,
       λ d some. ahead_of_zero _ c.args.self.now zero_time c.requires.unseen,
+      moved_at_start c.args.script.now c.args.self.now.controller c.requires.unseen,
     )
 
 pub go_to-requires-clause-end : goal.go_to-requires-clause-end
@@ -44,6 +47,18 @@ go_to-requires-clause-later g c κs within =
     let lt = subst (λ (l : List Block). c.loop-block.block-index < length l) whole c.loop-block-test.true in
     let is = subst (λ (l : List Block). b ≡ slice_index_or l c.loop-block.block-index b) whole c.block-item.is in
     subst (λ (z : Block). c.loop-block.self.time ≤ z.time) (sym is) (c.loop-block.invariant.7 b lt)
+
+pub go_to-requires-clause-planned : goal.go_to-requires-clause-planned
+go_to-requires-clause-planned g c κs within =
+    let s = c.args.script.now in
+    let b = c.block-item.result in
+    let whole = c.as_slice-block-items.ensures in
+    let lt = subst (λ (l : List Block). c.loop-block.block-index < length l) whole c.loop-block-test.true in
+    let is = subst (λ (l : List Block). b ≡ slice_index_or l c.loop-block.block-index b) whole c.block-item.is in
+    block_is_planned s c.loop-block.block-index b lt is
+
+pub go_to-requires-2-clause-planned : goal.go_to-requires-2-clause-planned
+go_to-requires-2-clause-planned g c κs within = end_is_planned c.args.script.now
 
 pub loop-block-preserved : goal.loop-block-preserved
 loop-block-preserved g c =
@@ -80,6 +95,7 @@ loop-block-preserved g c =
       λ d some. (let later = before_next s i b d c.requires.text is some in omega (arith, later, time)),
       c.in_ok-run_rounds.ensures.step (c.in_ok-run_block.ensures.step (c.in_ok-go_to.ensures.step at.8 at.5) begins),
       λ d some. inl (subst (λ (t : ℕ). t < (slice_index_or bs (i + 1) d).time) (sym time) (before_next s i b d c.requires.text is some)),
+      c.in_ok-run_rounds.ensures.moves (c.in_ok-run_block.ensures.moves (c.in_ok-go_to.ensures.moves at.8 at.5 at.10)),
     )
 
 pub end-requires-clause-moving : goal.end-requires-clause-moving
@@ -114,3 +130,8 @@ pub returns-clause-first : goal.returns-clause-first
 returns-clause-first g c =
     let at = c.loop-block.invariant in
     (c.in_ok-end.ensures.step (c.in_ok-run_rounds-2.ensures.step (c.in_ok-go_to-2.ensures.step at.8 at.5))).first
+
+pub returns-clause-moves : goal.returns-clause-moves
+returns-clause-moves g c =
+    let at = c.loop-block.invariant in
+    c.in_ok-end.ensures.moves c.in_ok-run_rounds-2.ensures.same (c.in_ok-run_rounds-2.ensures.moves (c.in_ok-go_to-2.ensures.moves at.8 at.5 at.10))

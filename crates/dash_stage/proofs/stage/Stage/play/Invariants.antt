@@ -4,6 +4,7 @@ use Rattle.dash_script.specs.declared.script.Block.{Block}
 use Rattle.dash_stage.specs.Controllers.{IsMoving}
 use Rattle.dash_stage.specs.Stages.{IsStage, HaveRun}
 use Rattle.dash_stage.specs.Timeliness.{AreBy, AreTimelyUpTo, AreRested}
+use Rattle.dash_stage.specs.Moves.{AreMoved}
 use Rattle.dash_stage.specs.Playing.{IsInStep, LiesAhead}
 use Rattle.dash_stage.proofs.stage.Stage.play.Given as goal
 
@@ -13,3 +14,4 @@ invariant-loop-block g l = IsStage l.script l.self × HaveRun l.script (take l.b
     × (l.self.time ≤ l.script.end) × ((d : Block) → l.block-index < length l.script.blocks → l.self.time ≤ (slice_index_or l.script.blocks l.block-index d).time)
     × IsInStep l.script l.self
     × ((d : Block) → l.block-index < length l.script.blocks → LiesAhead (slice_index_or l.script.blocks l.block-index d).time l.self)
+    × AreMoved l.script l.self.controller

@@ -17,6 +17,7 @@ use Rattle.looper_run.specs.Round.{is_ended}
 use Rattle.dash_stage.proofs.StageTurns.{AreKeptFrom, turns_none, turns_more}
 use Rattle.dash_stage.proofs.StageQuits.{AreKeptWhereEnded, kept_where_ended, quit_timely}
 use Rattle.dash_stage.proofs.PlayedTurns.{turned_in_step}
+use Rattle.dash_stage.proofs.MovesKept.{moved_turned}
 use Rattle.dash_stage.proofs.stage.Stage.quit_others.Goals as goal
 use Rattle.dash_stage.proofs.stage.Stage.quit_others.Goals.{then-not-has_ended+in_ok-quit, else-not-has_ended}
 
@@ -86,3 +87,12 @@ returns-clause-step g c step =
     let threads = subst (λ (l : List PostingThread). AtEach (ThreadKeeps HaveHeard) l st'.threads.items) at.invariant.1 kept.threads in
     let loopers = subst (λ (l : List StageLooper). AtEach (LooperKeeps HaveHeard) l st'.loopers.items) at.invariant.2 kept.loopers in
     turned_in_step c.args.script.now st at.self.controller st' c.requires.stage c.share.ensures.stage c.share.ensures.shared threads loopers kept.controller.posters step at.invariant.5 (kept.time ∙ at.invariant.7)
+
+pub returns-clause-moves : goal.returns-clause-moves
+returns-clause-moves g c same before =
+    let at = c.loop-looper in
+    let st' = c.share.new.self in
+    let kept = c.share.ensures.kept in
+    let threads = subst (λ (l : List PostingThread). AtEach (ThreadKeeps HaveHeard) l st'.threads.items) at.invariant.1 kept.threads in
+    let loopers = subst (λ (l : List StageLooper). AtEach (LooperKeeps HaveHeard) l st'.loopers.items) at.invariant.2 kept.loopers in
+    moved_turned c.args.script.now c.args.self.now at.self.controller st' c.requires.stage c.share.ensures.stage same c.share.ensures.shared threads loopers kept.controller.posters at.invariant.5 before

@@ -6,6 +6,7 @@ use Rattle.dash_threads.specs.Threads.{ThreadKeeps}
 use Rattle.dash_stage.specs.Stages.{HaveRun, RunOn}
 use Rattle.dash_stage.proofs.ControlKept.{none_same}
 use Rattle.dash_stage.proofs.Blocks.{run_one_more}
+use Rattle.dash_stage.proofs.MovesKept.{moved_heard}
 use Rattle.dash_stage.proofs.StageTurns.{block_timely, continues_kept}
 use Rattle.dash_stage.proofs.PlayedTurns.{block_first, block_in_step}
 use Rattle.dash_stage.proofs.stage.Stage.run_block.Goals as goal
@@ -47,3 +48,6 @@ returns-clause-step g c step at =
     let kept = c.share.ensures.kept in
     block_in_step c.args.script.now c.args.self.now c.share.new.self c.requires.stage c.share.ensures.stage c.share.ensures.shared kept.time kept.loopers kept.controller.posters step
     (block_first c.args.script.now c.args.self.now c.share.new.self c.requires.stage c.share.ensures.stage c.share.ensures.shared kept.loopers kept.controller.posters step c.args.block.now.time at)
+
+pub returns-clause-moves : goal.returns-clause-moves
+returns-clause-moves g c = moved_heard c.args.script.now c.args.self.now c.share.new.self c.requires.stage c.share.ensures.stage c.share.ensures.kept.controller.posters

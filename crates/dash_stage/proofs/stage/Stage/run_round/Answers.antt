@@ -6,6 +6,7 @@ use Rattle.dash_loopers.specs.Loopers.{LooperKeeps, HasRun, ComesToWait}
 use Rattle.dash_stage.specs.Playing.{PlaysOn}
 use Rattle.dash_stage.proofs.PlayedRounds.{round_in_step}
 use Rattle.dash_stage.proofs.PlayedTurns.{sound_heard}
+use Rattle.dash_stage.proofs.MovesKept.{moved_heard}
 use Rattle.dash_stage.proofs.StageWhole.{threads_heard, kept_timely}
 use Rattle.dash_stage.proofs.StageDue.{heard_grown, come_to_rest}
 use Rattle.dash_stage.proofs.stage.Stage.run_round.Goals as goal
@@ -51,3 +52,6 @@ returns-clause-step g c step =
     c.share.ensures.kept.loopers in
     round_in_step s c.requires.text c.args.self.now ran c.share.new.self c.requires.stage c.share.ensures.stage c.share.ensures.shared c.share.ensures.kept.time c.run_loopers.ensures.loopers c.in_ok-run_loopers.ensures.on plays
     c.share.ensures.kept.threads kept c.share.ensures.kept.controller.posters step
+
+pub returns-clause-moves : goal.returns-clause-moves
+returns-clause-moves g c = moved_heard c.args.script.now c.args.self.now c.share.new.self c.requires.stage c.share.ensures.stage c.share.ensures.kept.controller.posters

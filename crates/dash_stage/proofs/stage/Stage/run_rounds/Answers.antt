@@ -17,6 +17,7 @@ loop-preserved g c =
       λ same. done.same,
       λ step. done.step (at.invariant.7 step),
       λ sound. at.invariant.8 (done.sound sound),
+      λ before. done.moves (at.invariant.9 before),
     )
 
 pub returns-in_err-run_round-clause-run : goal.returns-in_err-run_round-clause-run
@@ -46,3 +47,6 @@ returns-then-entries_seen-before-clause-ended g c ended = c.run_round.ensures.en
 
 pub returns-then-entries_seen-before-clause-sound : goal.returns-then-entries_seen-before-clause-sound
 returns-then-entries_seen-before-clause-sound g c sound = c.loop.invariant.8 (c.in_ok-run_round.ensures.sound sound)
+
+pub returns-then-entries_seen-before-clause-moves : goal.returns-then-entries_seen-before-clause-moves
+returns-then-entries_seen-before-clause-moves g c before = c.in_ok-run_round.ensures.moves (c.loop.invariant.9 before)

@@ -4,6 +4,7 @@ use Rattle.dash_stage.specs.Controllers.{CallsNone}
 use Rattle.dash_stage.specs.Stages.{IsStage, HaveRun, OthersHaveEnded}
 use Rattle.dash_stage.specs.Sharing.{HaveSeenTheSame}
 use Rattle.dash_stage.specs.Timeliness.{AreSound, AreTimelyUpTo}
+use Rattle.dash_stage.specs.Moves.{AreMoved}
 use Rattle.dash_stage.specs.Playing.{IsInStep}
 use Rattle.dash_stage.proofs.stage.Stage.run_rounds.Given as goal
 
@@ -17,3 +18,4 @@ invariant-loop g l = IsStage l.script l.self
     × (HaveSeenTheSame l.initial.self → HaveSeenTheSame l.self)
     × (IsInStep l.script l.initial.self → IsInStep l.script l.self)
     × (AreSound l.script l.self.controller → AreSound l.script l.initial.self.controller)
+    × (AreMoved l.script l.initial.self.controller → AreMoved l.script l.self.controller)
