@@ -18,13 +18,15 @@ greatest_is interval = rw (or-true ((2 ^ 64 - 1) % interval == 0)) refl
 -- the least positive multiple after any moment is a pulse
 pub next_is_pulse : (interval t : ℕ) → 0 < interval → is_pulse interval (pulse interval t) ≡ true
 next_is_pulse interval t above = by_size (cases_lt (2 ^ 64 - 1) m) where
-    m : ℕ
-    m = (t / interval + 1) * interval
-    far : 0 < m
-    far = omega (arith, add-mul (t / interval) 1 interval, above)
-    by_size : (2 ^ 64 - 1 < m) ⊎ (m ≤ 2 ^ 64 - 1) → is_pulse interval (min m (2 ^ 64 - 1)) ≡ true
-    by_size (inl l) = rw (min-eq_right {n = 2 ^ 64 - 1} {m = m} (omega (arith, l))) (greatest_is interval)
-    by_size (inr l) = rw (min-eq_left {n = m} {m = 2 ^ 64 - 1} l) (multiple_is interval m far (mul-mod_left (t / interval + 1) interval))
+  m : ℕ
+  m = (t / interval + 1) * interval
+
+  far : 0 < m
+  far = omega (arith, add-mul (t / interval) 1 interval, above)
+
+  by_size : (2 ^ 64 - 1 < m) ⊎ (m ≤ 2 ^ 64 - 1) → is_pulse interval (min m (2 ^ 64 - 1)) ≡ true
+  by_size (inl l) = rw (min-eq_right {n = 2 ^ 64 - 1} {m = m} (omega (arith, l))) (greatest_is interval)
+  by_size (inr l) = rw (min-eq_left {n = m} {m = 2 ^ 64 - 1} l) (multiple_is interval m far (mul-mod_left (t / interval + 1) interval))
 
 -- the same of the next pulse as it is computed
 pub computed_is_pulse : (interval t : ℕ) → 0 < interval → is_pulse interval (min (t - t % interval + interval) (2 ^ 64 - 1)) ≡ true

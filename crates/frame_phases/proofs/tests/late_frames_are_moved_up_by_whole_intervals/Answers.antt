@@ -7,9 +7,9 @@ use Rattle.frame_phases.proofs.tests.late_frames_are_moved_up_by_whole_intervals
 -- a frame that is scheduled leaves the number of phases
 same_phases : (s : Frames) (now : ℕ) → (scheduled_at s now).phases ≡ s.phases
 same_phases s now = either s.scheduled where
-    either : (t : Bool) → (if t then s else record s { scheduled = true; asked = Some (pulse s.interval now) }).phases ≡ s.phases
-    either true = refl
-    either false = refl
+  either : (t : Bool) → (if t then s else record s { scheduled = true; asked = Some (pulse s.interval now) }).phases ≡ s.phases
+  either true = refl
+  either false = refl
 
 scheduled_phases : (s t : Frames) (now : ℕ) → t ≡ scheduled_at s now → t.phases ≡ s.phases
 scheduled_phases s t now is = ap (λ (f : Frames). f.phases) is ∙ same_phases s now
