@@ -16,7 +16,7 @@ pub record IsFrameRecord (s : Script) (f : FrameRecord) : Type 0 where
   pub phases : f.phases ≡ 4
   pub lawful : lawful f.interval f.phases f.entries ≡ true
 
--- the report is a run of the script in lockstep: the history of each looper's queue is one that a queue of one thread has, each thread's calls there are those that its lines plan, one for one and in order, each looper's are those that the acts in its journal cause, the controller's move the time on, no further than the end, and close the queue there, each frame history is lawful and has the posts, the removals and the frames that the threads' lines and the looper's acts ask for, each as often, and each call comes at its time; and on each queue each thread's call comes where only threads have called since the queue's time was last moved, or behind its disposal
+-- the report is a run of the script in lockstep: the history of each looper's queue is one that a queue of one thread has, each thread's calls there are those that its lines plan, one for one and in order, each looper's are those that the acts in its journal cause, the controller's move all queues' times on together, to times at which something may come and no further than the end, and close the queue there, each frame history is lawful and has the posts, the removals and the frames that the threads' lines and the looper's acts ask for, each as often, each of these frames takes all phases, and each call comes at its time; and on each queue each thread's call comes where only threads have called since the queue's time was last moved, or behind its disposal
 pub record IsStaged (s : Script) (r : Report) : Type 0 where
   pub run : IsRun in_lockstep s r
   pub blocks : AreBlocksFirst s r.queues
