@@ -21,7 +21,7 @@ use Rattle.run_model.specs.FrameRuns.{frame_ids, is_frame_from, place_after, fra
 abbrev pub millis_up : ℕ → ℕ
 millis_up nanos = (nanos + 999999) / 1000000
 
--- a dispatch at this time runs the frame that begins at this place, or none
+-- a dispatch at this time runs the frame that begins at this place, or none; what was painted before is told by then
 abbrev pub running : Option ℕ → ℕ → Looper → Looper
 running frame now a = record a { painted = []; place = place_after a.place frame; frames = frames_after a.frames frame now }
 
@@ -42,7 +42,7 @@ after_act s q es fs frame a (Paint g v) = record a { painted = a.painted ++ Pain
 after_act s q es fs frame a (Idle i k) = a
 after_act s q es fs frame a (Event f e m) = a
 
--- a dispatch is of an accepted post, runs a frame only where its message starts one, and what was painted just before
+-- a dispatch is of an accepted post, runs a frame only where its message starts one and behind the frames before, and what was painted just before
 -- is what it paints
 pub record MayDispatch (s : Script) (q : ℕ) (es : List Entry) (fs : List FrameEntry) (frame : Option ℕ) (a : Looper) (n now : ℕ) : Type 0 where
   pub accepted : is_some (post_at es n) ≡ true
@@ -50,7 +50,7 @@ pub record MayDispatch (s : Script) (q : ℕ) (es : List Entry) (fs : List Frame
   pub place : is_frame_from fs a.place frame ≡ true
   pub painted : (dispatched s q fs frame n now a (post_at es n)).painted ≡ a.painted
 
--- the act may come next: paints stand nowhere but just before the dispatch that makes them, and a pulse comes at a multiple of the period
+-- the act may come next: paints stand nowhere but just before the dispatch that makes them, and a pulse comes at a positive multiple of the period, or at the greatest u64
 abbrev pub MayCome : Script → ℕ → List Entry → List FrameEntry → Option ℕ → Looper → Act → Type 0
 MayCome s q es fs frame a (Dispatch n now route) = MayDispatch s q es fs frame a n now
 MayCome s q es fs frame a (Paint g v) = frame ≡ None

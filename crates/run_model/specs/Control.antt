@@ -29,7 +29,7 @@ is_safe_quit _ = false
 abbrev pub is_at_end : Bool → ℕ → ℕ → Bool
 is_at_end lockstep end now = if lockstep then now == end else nat_le end now
 
--- the last call: on main a Halt that is answered Halted, and elsewhere a safe quit
+-- the last call, at the end: on main a Halt that is answered Halted, and elsewhere a safe quit
 abbrev pub is_closing : Bool → Bool → ℕ → Entry → Bool
 is_closing main lockstep end e =
     (if main then is_halt e.call && is_halted e.reply else is_safe_quit e.call) && is_at_end lockstep end (moment_of e.call)
@@ -104,7 +104,7 @@ comes_before_quit threads sender past e = not (nat_lt e.sender threads) || not (
 unfoldable pub are_before_quit : ℕ → ℕ → List Entry → Bool
 are_before_quit threads sender es = each_behind (comes_before_quit threads sender) [] es
 
--- what stood before an entry
+-- what stood before an entry: the queue's time, and whether the queue was disposed of
 pub record Before : Type 0 where
   pub clock : ℕ
   pub disposed : Bool

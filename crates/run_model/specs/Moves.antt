@@ -13,7 +13,7 @@ use Rattle.dash_script.specs.declared.script.Script.{Script}
 use Rattle.run_model.specs.Control.{is_advance}
 use Rattle.run_model.specs.Acts.{millis_up}
 
--- a move of a queue's time: to when, and when the first message that might be dispatched was due before it, if there was one
+-- a move of a queue's time: to when, and the due time of the first message that might be dispatched just before it, if there was one
 pub record Move : Type 0 where
   pub to : ℕ
   pub due : Option ℕ
@@ -37,17 +37,17 @@ move_times ms = map (λ m. m.to) ms
 abbrev pub is_planned_time : Script → ℕ → Bool
 is_planned_time s t = t == s.end || list_any (λ b. b.time == t) s.blocks
 
--- the first message was due at this time, just before the move of this number
+-- just before the move of this number the first message that might be dispatched was due at this time
 abbrev pub was_due_at : ℕ → ℕ → List Move → Bool
 was_due_at number t ms = option_map_or (λ m. option_map_or (λ d. d == t) m.due false) (slice_get ms number) false
 
--- a pulse comes at this time in milliseconds, rounded up
+-- a pulse may come at this time in milliseconds, rounded up
 pub record IsPulseTime (period t : ℕ) : Type 0 where
   pub stamp : ℕ
   pub pulse : is_pulse period stamp ≡ true
   pub rounded : millis_up stamp ≡ t
 
--- the move of this number may go to this time: a block's, the end, one at which the first message of a queue is due, or a pulse's
+-- the move of this number may go to this time: a block's, the end, one at which the first message that may be dispatched on a queue is due, or a pulse's
 abbrev pub MayMoveTo : Script → List (List Move) → ℕ → ℕ → Type 0
 MayMoveTo s all number t = (is_planned_time s t || list_any (was_due_at number t) all ≡ true) ⊎ IsPulseTime s.period t
 

@@ -37,7 +37,8 @@ pub record IsReportOf (s : Script) (r : Report) : Type 0 where
   pub frames : map (λ f. f.looper) r.frames ≡ range_with_len 0 s.loopers
 
 -- a queue's record: its constants are those of the run, and its entries have the replies that a queue of one thread gives
--- and the numbers of their senders; in free mode the moments of the entries that pass the test are the clock's
+-- and the numbers of their senders, the last of whom alone moves the time and halts; in free mode the moments of the entries that pass the test are
+-- the clock's, or the queue's time
 pub record IsHistory (m : Mode) (test : Entry → Bool) (s : Script) (r : QueueRecord) : Type 0 where
   pub main : r.main ≡ (r.looper == 0)
   pub lockstep : r.lockstep ≡ m.lockstep
@@ -60,7 +61,7 @@ IsAsPlanned m s r = (thread : ℕ) → thread < s.threads → AreAsPlanned m s t
 abbrev pub ArePlannedOf : Mode → Script → Report → Type 0
 ArePlannedOf m s r = AllByRecursion (IsAsPlanned m s) r.queues
 
--- the controller's entries on the queue are its own
+-- the controller's entries on the queue are its own, and the queue is disposed of once unless it is main
 abbrev pub IsControlled : Script → QueueRecord → Type 0
 IsControlled s r = is_controlled r.main r.lockstep (controller s) s.end (history_of r) ≡ true
 
@@ -72,7 +73,7 @@ AreControlsOf s r = AllByRecursion (IsControlled s) r.queues
 abbrev pub all_entries : Entry → Bool
 all_entries e = true
 
--- a choreographer's record is lawful
+-- a choreographer's record has the script's period and phases, and is lawful
 pub record IsFrameRun (s : Script) (f : FrameRecord) : Type 0 where
   pub interval : f.interval ≡ s.period
   pub phases : f.phases ≡ phase_count s.edition
@@ -91,7 +92,7 @@ abbrev pub asked_of : Script → ℕ → Looper → List FrameAsk
 asked_of s q final = lines_ask q (all_lines s) ++ final.posted ++ asks_to_run final.frames
 
 -- a looper's calls on each queue are those that its acts cause, its frame record has the posts, removals and frames that are asked
--- for, each as often, and the frames are whole, and its Dispatch acts are, one for one and in order, its entries answered Dispatched. In lockstep each call is on time, and each frame starts and takes its phases at the time of its dispatch
+-- for, each as often, and the frames are whole, and its Dispatch acts are, one for one and in order, its entries answered Dispatched. All that was painted is told. In lockstep each call is on time, and each frame starts and takes its phases at the time of its dispatch
 pub record IsLooperRun (m : Mode) (s : Script) (queues : List QueueRecord) (q : QueueRecord) (j : Journal) (f : FrameRecord) : Type 0 where
   pub final : Looper
   pub acts : Lead s q.looper (history_of q) f.entries (first_looper s) j.acts final
@@ -110,7 +111,7 @@ EachLooper P [] [] [] = Unit {0}
 EachLooper P (q ∷ qs) (j ∷ js) (f ∷ fs) = P q j f × EachLooper P qs js fs
 EachLooper P _ _ _ = ⊥
 
--- part 5 of a run: the loopers' calls and journals, and that in lockstep what a dispatch caused came at its time
+-- part 5 of a run: the loopers' calls, journals and frame records, and that in lockstep what a dispatch caused came at its time, or behind its queue's disposal
 abbrev pub AreLoopersOf : Mode → Script → Report → Type 0
 AreLoopersOf m s r = EachLooper (IsLooperRun m s r.queues) r.queues r.journals r.frames
 
@@ -123,7 +124,7 @@ IsThreadOnTime s r thread =
 abbrev pub has_called_before : Script → ℕ → ℕ → List Entry → ℕ → Bool
 has_called_before s q time past thread = nat_le (count_by (λ t. nat_lt t time) (times_on s q thread)) (length (entries_by thread past))
 
--- no thread's entry, or one before which all threads have made their calls for earlier blocks
+-- no thread's entry, or one of a planned call before which all threads have made their calls for earlier blocks
 abbrev pub comes_in_order : Script → ℕ → List Entry → Entry → Bool
 comes_in_order s q past e =
     not (nat_lt e.sender s.threads)
@@ -145,7 +146,7 @@ abbrev pub main_ends_halted : List QueueRecord → Bool
 main_ends_halted [] = false
 main_ends_halted (q ∷ qs) = ends_halted (history_of q)
 
--- part 6 of a run: main ends with its Halt, and in lockstep each history is timely and all queues' times are moved together
+-- part 6 of a run: main ends with its Halt, and in lockstep each history is timely and all queues' times are moved together, to times at which something may come
 pub record AreTimelyOf (m : Mode) (s : Script) (r : Report) : Type 0 where
   pub halted : main_ends_halted r.queues ≡ true
   pub histories : IfLockstep m (AllByRecursion (IsTimely s) r.queues)
