@@ -5,6 +5,7 @@ pub mod ControlTurns
 pub mod ControlWhole
 pub mod Blocks
 pub mod BlocksFirst
+pub mod BlocksReached
 pub mod BlockOrder
 pub mod KitsOver
 pub mod ThreadShares

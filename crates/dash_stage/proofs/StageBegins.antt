@@ -45,7 +45,7 @@ as_long k n qs ps cs a b = alike_length badge_of (badge_for k) ps qs a ∙ sym (
 -- with no call seen and no block run each history is timely
 nothing_timely : (s : Script) (q : ℕ) → IsTimelyUpTo s [] q []
 unfolding is_called_in_time are_before_quit befores are_in_order
-nothing_timely s q = record { controls = refl; before_quit = refl; threads = λ k lt. refl; in_order = refl }
+nothing_timely s q = record { controls = refl; before_quit = refl; threads = λ k lt. refl; in_order = refl; reached = λ main. tt }
 
 -- there is no message before the first call
 nothing_eligible : (n : ℕ) → option_map when_of (first_eligible (empty_base n) []) ≡ None

@@ -1,5 +1,5 @@
 -- What all senders have seen of the queues at the end is what the records keep, so that the records are timely.
-use Rattle.std.proofs.Common.{◌≡◌, ◌<◌, ◌==◌, ℕ, suc, true, List, [], ◌∷◌, ◌++◌, map, length, sym, ap, ◌∙◌, subst, arith, slice_index_or}
+use Rattle.std.proofs.Common.{◌≡◌, ◌<◌, ◌==◌, ℕ, suc, true, List, [], ◌∷◌, ◌++◌, map, length, refl, sym, ap, ◌∙◌, subst, arith, slice_index_or}
 use Rattle.std.specs.List.{remove, AllByRecursion}
 use Rattle.std.proofs.lemmas.List.{get_or-map}
 use mathlib.Core.List.{IsPrefix}
@@ -28,7 +28,7 @@ use Rattle.dash_stage.specs.Records.{AreQueueRecords, HaveAll}
 use Rattle.dash_hall.specs.Hearing.{seen_by, HaveSeenAll}
 use Rattle.dash_stage.specs.Sharing.{OfThreads, OfLoopers, OfKits}
 use Rattle.dash_stage.specs.Timeliness.{whole_on, AreSound, IsTimelyUpTo}
-use Rattle.dash_stage.specs.Blocks.{come_first, AreBlocksFirst}
+use Rattle.dash_stage.specs.Blocks.{come_first, AreBlocksFirst, AreReached, main_entries, AreBlocksReached}
 use Rattle.dash_hall.proofs.Badges.{alike_length, queue_count, poster_at}
 use Rattle.dash_stage.proofs.Casting.{first_more}
 use Rattle.dash_stage.proofs.HallEnds.{some_of}
@@ -97,6 +97,11 @@ timely_record s q r es number same h = record {
 main_is_first : (records : List QueueRecord) (r : QueueRecord) → 0 < length records → ends_halted (slice_index_or records 0 r).entries ≡ true → main_ends_halted records ≡ true
 main_is_first [] r some h = absurd (omega (arith, some))
 main_is_first (x ∷ records) r some h = h
+
+-- and its history is main's
+main_entries_at : (records : List QueueRecord) (r : QueueRecord) → 0 < length records → (slice_index_or records 0 r).entries ≡ main_entries records
+main_entries_at [] r some = absurd (omega (arith, some))
+main_entries_at (x ∷ records) r some = refl
 
 module _ (s : Script) (hall : Hall) (kits : List Kit) (records : List QueueRecord) (h : IsHall s hall) (are : AreKitsOf s hall kits) (c : Controller) (held : (d : Kit) → slice_index_or kits (controller s) d ≡ c.kit)
     (recs : AreQueueRecords s records) (all : HaveAll kits records) (seen : OfKits (HaveSeenAll (seen_by c.kit.posters.items)) kits) where
@@ -192,3 +197,13 @@ module _ (s : Script) (hall : Hall) (kits : List Kit) (records : List QueueRecor
       let d = some_of c.kit.posters.items 0 (within 0 lt) in
       let r = some_of records 0 lt in
       main_is_first records r lt (ap ends_halted (is_seen 0 d r lt) ∙ halted d (within 0 lt) (is_sound 0 d r lt))
+
+  -- in main's record the time was moved to each block's
+  pub reached_of_records : 0 < s.loopers → (AreSound s c → (q : ℕ) (d : Sender) → q < length c.kit.posters.items → IsTimelyUpTo s s.blocks q (whole_on c q d)) → AreBlocksReached s records
+  reached_of_records some timely =
+      let short = few in
+      let lt : 0 < length records = omega (arith, some, short) in
+      let d = some_of c.kit.posters.items 0 (within 0 lt) in
+      let r = some_of records 0 lt in
+      let same : whole_on c 0 d ≡ main_entries records = sym (is_seen 0 d r lt) ∙ main_entries_at records r lt in
+      subst (AreReached (controller s) s.blocks) same ((timely all_sound 0 d (within 0 lt)).reached refl)

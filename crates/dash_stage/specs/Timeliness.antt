@@ -23,18 +23,20 @@ use Rattle.dash_stage.specs.declared.stage.Stage.{Stage}
 use Rattle.dash_hall.specs.Growth.{own}
 use Rattle.dash_stage.specs.Controllers.{are_advances, time_in, calls_on}
 use Rattle.dash_loopers.specs.Loopers.{IsSoundOn, until_of, WaitsForNothing, HasNoneDue}
+use Rattle.dash_stage.specs.Blocks.{AreReached}
 use Rattle.dash_stage.specs.Sharing.{HaveSeenTheSame}
 
 -- what the controller has seen of this queue, and all others where they have seen the same
 abbrev pub whole_on : Controller → ℕ → Sender → List Entry
 whole_on c q d = (slice_index_or c.kit.posters.items q d).view.seen
 
--- the controller's calls were in time, and each thread's calls for its lines of these blocks came in their blocks, in the order of these, and before the controller's quit
+-- the controller's calls were in time, and each thread's calls for its lines of these blocks came in their blocks, in the order of these, and before the controller's quit; and main's time was moved to the time of each of these
 pub record IsTimelyUpTo (s : Script) (past : List Block) (q : ℕ) (es : List Entry) : Type 0 where
   pub controls : is_called_in_time (controller s) es ≡ true
   pub before_quit : are_before_quit s.threads (controller s) es ≡ true
   pub threads : (thread : ℕ) → thread < s.threads → are_on_time (map (λ l. InBlock l.time) (lines_on s (labels_on q (lines_of thread s.blocks)) q (lines_of thread past))) (befores thread es) ≡ true
   pub in_order : are_in_order s q es ≡ true
+  pub reached : q ≡ 0 → AreReached (controller s) past es
 
 -- each queue's history is one that it may have
 abbrev pub AreSound : Script → Controller → Type 0

@@ -10,7 +10,7 @@ ghost use Rattle.dash_stage.specs.Timeliness.{AreTimelyUpTo, HasHaltedLast};
 ghost use Rattle.dash_hall.specs.Kits.{IsHall, OthersAreOver};
 ghost use Rattle.dash_stage.specs.Records.{AreQueueRecords, AreFrameRecords, AreJournals};
 ghost use Rattle.dash_loopers.specs.Loopers.{HaveTold};
-ghost use Rattle.dash_stage.specs.Blocks.{AreBlocksFirst};
+ghost use Rattle.dash_stage.specs.Blocks.{AreBlocksFirst, AreBlocksReached};
 ghost use Rattle.dash_stage.specs.Staged.{Stages};
 ghost use Rattle.dash_stage.specs.Leaving.{HaveGiven};
 ghost use Rattle.dash_stage.specs.Runs.{HaveRunAll};
@@ -91,6 +91,7 @@ fn kept(
     ensures frames { IfOk result (λ r. AreFrameRecords script.now r.2.items) }
     ensures run { IfOk result (λ r. AllByRecursion (IsFrameRun script.now) r.2.items) }
     ensures first { IfOk result (λ r. AreBlocksFirst script.now r.0.items) }
+    ensures reached { IfOk result (λ r. AreBlocksReached script.now r.0.items) }
     ensures moves { IfOk result (λ r. AreMovedTogether script.now (map (λ q. moves (controller script.now) (history_of q)) r.0.items)) }
 {
     let Stage {

@@ -9,7 +9,7 @@ use Rattle.dash_stage.proofs.KitsTold.{told_kept}
 use Rattle.dash_stage.proofs.KitsOver.{over_kept, last_kit}
 use Rattle.dash_stage.proofs.Controls.{controls_of_records}
 use Rattle.dash_hall.specs.Hearing.{seen_by, HaveSeenAll}
-use Rattle.dash_stage.proofs.TimelyRecords.{kit_more, first_of_records, timely_of_records, halted_of_records}
+use Rattle.dash_stage.proofs.TimelyRecords.{kit_more, first_of_records, reached_of_records, timely_of_records, halted_of_records}
 use Rattle.dash_stage.proofs.MovesRecords.{moves_of_records}
 use Rattle.dash_stage.proofs.kept.kept.Goals as goal
 
@@ -107,6 +107,20 @@ returns-clause-first c =
     first_of_records s hall kits' c.in_ok-queues.queues.items c.requires.stage.hall (all_kits s hall kits kits' c.args.stage.controller c.in_ok-journals.ensures.kits c.requires.stage.controller grown)
     c.args.stage.controller (last_kit kits kits' mine (controller s) c.in_ok-journals.ensures.kits.0 grown) c.in_ok-queues.ensures.queues c.in_ok-queues.ensures.all
     (kit_more (HaveSeenAll whole) kits kits' mine grown refl (c.in_ok-journals.ensures.seen whole same.loopers (c.in_ok-kits.ensures.seen whole same.threads))) c.requires.first
+
+pub returns-clause-reached : goal.returns-clause-reached
+returns-clause-reached c =
+    let s = c.args.script.now in
+    let hall = c.args.stage.hall in
+    let kits = c.looper_kits.new.kits.items in
+    let kits' = c.push.new.self.items in
+    let grown = c.in_ok-push.ensures.items in
+    let mine = c.args.stage.controller.kit in
+    let whole = seen_by mine.posters.items in
+    let same = c.requires.timely.same in
+    reached_of_records s hall kits' c.in_ok-queues.queues.items c.requires.stage.hall (all_kits s hall kits kits' c.args.stage.controller c.in_ok-journals.ensures.kits c.requires.stage.controller grown)
+    c.args.stage.controller (last_kit kits kits' mine (controller s) c.in_ok-journals.ensures.kits.0 grown) c.in_ok-queues.ensures.queues c.in_ok-queues.ensures.all
+    (kit_more (HaveSeenAll whole) kits kits' mine grown refl (c.in_ok-journals.ensures.seen whole same.loopers (c.in_ok-kits.ensures.seen whole same.threads))) c.requires.playable.loopers c.requires.timely.timely
 
 pub returns-clause-moves : goal.returns-clause-moves
 returns-clause-moves c =

@@ -8,7 +8,7 @@ use Rattle.run_model.specs.Run.{IsAsPlanned, IsControlled, IsFrameRun, IsLooperR
 use Rattle.run_model.specs.Senders.{controller}
 use Rattle.run_model.specs.Histories.{history_of}
 use Rattle.run_model.specs.Moves.{moves, AreMovedTogether}
-use Rattle.dash_stage.specs.Blocks.{AreBlocksFirst}
+use Rattle.dash_stage.specs.Blocks.{AreBlocksFirst, AreBlocksReached}
 use Rattle.dash_stage.specs.Records.{AreQueueRecords, AreJournals, AreFrameRecords}
 use Rattle.dash_stage.proofs.kept.report.Goals as goal
 
@@ -28,8 +28,10 @@ returns-in-Ok c =
     let runs = subst (λ (l : List FrameRecord). AllByRecursion (IsFrameRun s) l) (sym c.from_vec-in-Ok-2.ensures) c.in-Ok.ensures.run in
     let frames = subst (λ (l : List FrameRecord). AreFrameRecords s l) (sym c.from_vec-in-Ok-2.ensures) c.in-Ok.ensures.frames in
     let together = subst (λ (l : List QueueRecord). AreMovedTogether s (map (λ (q : QueueRecord). moves (controller s) (history_of q)) l)) (sym c.from_vec.ensures) c.in-Ok.ensures.moves in
-    let blocks = subst (λ (l : List QueueRecord). AreBlocksFirst s l) (sym c.from_vec.ensures) c.in-Ok.ensures.first in record {
+    let blocks = subst (λ (l : List QueueRecord). AreBlocksFirst s l) (sym c.from_vec.ensures) c.in-Ok.ensures.first in
+    let reached = subst (λ (l : List QueueRecord). AreBlocksReached s l) (sym c.from_vec.ensures) c.in-Ok.ensures.reached in record {
       blocks = blocks;
+      reached = reached;
       run = record {
         report = record { script = refl; queues = queues.loopers; journals = journals; frames = frames.loopers };
         records = record { mode = refl; start = refl; histories = queues.histories };
