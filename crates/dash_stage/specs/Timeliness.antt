@@ -30,7 +30,7 @@ use Rattle.dash_stage.specs.Sharing.{HaveSeenTheSame}
 abbrev pub whole_on : Controller → ℕ → Sender → List Entry
 whole_on c q d = (slice_index_or c.kit.posters.items q d).view.seen
 
--- the controller's calls were in time, and each thread's calls for its lines of these blocks came in their blocks, in the order of these, and before the controller's quit; and main's time was moved to the time of each of these
+-- the controller's calls were in time, and each thread's calls for its lines of these blocks came in their blocks, in the order of these, and before the controller's quit; and main's time was moved to the time of each of these blocks, but for one at the start
 pub record IsTimelyUpTo (s : Script) (past : List Block) (q : ℕ) (es : List Entry) : Type 0 where
   pub controls : is_called_in_time (controller s) es ≡ true
   pub before_quit : are_before_quit s.threads (controller s) es ≡ true
