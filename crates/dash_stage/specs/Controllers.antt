@@ -1,5 +1,6 @@
 -- The controller of a run, and what it has called so far.
-use Rattle.std.specs.Prelude.{◌≡◌, ◌<◌, ◌≤◌, ◌+◌, ◌&&◌, nat_le, ℕ, Bool, true, false, List, [], ◌∷◌, length, slice_index_or}
+use Rattle.std.specs.Prelude.{◌≡◌, ◌<◌, ◌≤◌, ◌+◌, ◌&&◌, nat_le, ℕ, Bool, true, false, List, [], ◌∷◌, length, slice_index_or, Option}
+use Rattle.std.specs.Option.{option_map}
 use Rattle.loop_model.specs.declared.entry.Entry.{Entry}
 use Rattle.loop_model.specs.Base.{empty_base}
 use Rattle.loop_model.specs.Entries.{moment_of}
@@ -7,6 +8,8 @@ use Rattle.loop_model.specs.Answers.{clock}
 use Rattle.dash_script.specs.declared.script.Script.{Script}
 use Rattle.looper_run.specs.Holding.{Sender}
 use Rattle.choreographer.specs.Known.{Known as Pass}
+use Rattle.choreographer.specs.Calls.{AskedBy}
+use Rattle.run_model.specs.Acts.{millis_up}
 use Rattle.run_model.specs.Senders.{controller}
 use Rattle.run_model.specs.Control.{is_advance, are_controls}
 use Rattle.dash_hall.specs.declared.hall.Hall.{Hall}
@@ -76,3 +79,9 @@ pub record HasClosed (s : Script) (c : Controller) : Type 0 where
 pub record CallsNone (before after : Controller) : Type 0 where
   pub long : length after.kit.posters.items ≡ length before.kit.posters.items
   pub calls : (q : ℕ) (d : Sender) → calls_on after q d ≡ calls_on before q d
+
+-- the controller's pass found by one turn, at this looper's choreographer, the pulse that is asked for there, and the answer is its time in milliseconds, rounded up; or it found that none is, and answers none
+pub record LooksFor (looper : ℕ) (before after : Controller) (pulse : Option ℕ) : Type 0 where
+  pub stamp : Option ℕ
+  pub turn : (p : Pass) → AskedBy (slice_index_or before.kit.frames.items looper p) (slice_index_or after.kit.frames.items looper p) stamp
+  pub rounded : pulse ≡ option_map millis_up stamp

@@ -21,7 +21,7 @@ use Rattle.dash_loopers.specs.declared.looper.StageLooper.{StageLooper}
 use Rattle.dash_stage.specs.declared.control.Controller.{Controller}
 use Rattle.dash_stage.specs.declared.stage.Stage.{Stage}
 use Rattle.dash_hall.specs.Growth.{own}
-use Rattle.dash_stage.specs.Controllers.{are_advances, time_in, calls_on}
+use Rattle.dash_stage.specs.Controllers.{LooksFor, are_advances, time_in, calls_on}
 use Rattle.dash_loopers.specs.Loopers.{IsSoundOn, until_of, WaitsForNothing, HasNoneDue}
 use Rattle.dash_stage.specs.Blocks.{AreReached}
 use Rattle.dash_stage.specs.Sharing.{HaveSeenTheSame}
@@ -85,6 +85,12 @@ AreDue s time st = (q : ℕ) (d : Sender) → q < length st.loopers.items
 abbrev pub NotLater : ℕ → Option ℕ → Type 0
 NotLater time None = Unit {0}
 NotLater time (Some due) = time ≤ due
+
+-- the controller looked for this looper's pulse, and the answer is not later than the pulse that it found
+pub record NotLaterThanPulse (looper : ℕ) (before after : Controller) (next : Option ℕ) : Type 0 where
+  pub pulse : Option ℕ
+  pub look : LooksFor looper before after pulse
+  pub early : (t : ℕ) → NotLater t next → NotLater t pulse
 
 -- by some turns a poster found a history, and left it as it was or made one entry more, which is such
 pub record TurnsOn (P : Entry → Type 0) (before after : Sender) : Type 0 where

@@ -3,7 +3,7 @@ ghost use Rattle.std.specs.Prelude.{◌≡◌, ◌≢◌, ◌<◌, ◌≤◌, �
 ghost use Rattle.shared_queue.specs.Known.{IsOf};
 ghost use Rattle.dash_hall.specs.Growth.{GoesOn, QuitsOf};
 ghost use Rattle.dash_hall.specs.Kits.{IsHall};
-ghost use Rattle.dash_stage.specs.Controllers.{IsController, IsMoving, HasReached, IsQuitting, IsClosing, HasClosed, CallsNone, calls_on, time_in};
+ghost use Rattle.dash_stage.specs.Controllers.{IsController, IsMoving, HasReached, IsQuitting, IsClosing, HasClosed, CallsNone, LooksFor, calls_on, time_in};
 ghost use Rattle.loop_model.specs.Base.{empty_base};
 ghost use Rattle.loop_model.specs.Answers.{is_over};
 ghost use Rattle.looper_run.specs.Holding.{Sender};
@@ -117,6 +117,7 @@ impl Controller {
         ensures none { CallsNone self.old self.new }
         ensures posters { self.new.kit.posters ≡ self.old.kit.posters }
         ensures pulse { (time : ℕ) → result ≡ Some time → IsPulseTime script.now.period time }
+        ensures look { LooksFor looper self.old self.new result }
     {
         let place = looper as usize;
         let stamp = hall.choreographers[place].asked(rt, &mut self.kit.frames[place])?;

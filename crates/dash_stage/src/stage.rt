@@ -8,7 +8,7 @@ ghost use Rattle.dash_stage.specs.declared.side.Turn.TheVariants.{All};
 ghost use Rattle.dash_loopers.specs.Loopers.{until_of};
 ghost use Rattle.dash_stage.specs.Sharing.{HaveSeenTheSame};
 ghost use Rattle.dash_hall.specs.Hearing.{AtEach, seen_by};
-ghost use Rattle.dash_stage.specs.Timeliness.{AreTimelyUpTo, AreSound, AreBy, AreRested, AreDue, NotLater, HasHaltedLast};
+ghost use Rattle.dash_stage.specs.Timeliness.{AreTimelyUpTo, AreSound, AreBy, AreRested, AreDue, NotLater, NotLaterThanPulse, HasHaltedLast};
 ghost use Rattle.dash_script.specs.Reading.{HasText};
 ghost use Rattle.dash_hall.specs.Kits.{IsHall, AreUnseen};
 ghost use Rattle.dash_stage.specs.Controllers.{IsMoving, HasReached, IsClosing, HasClosed, CallsNone};
@@ -155,6 +155,7 @@ impl Stage {
         ensures time { self.new.time ≡ self.old.time }
         ensures due { (t : ℕ) (l : StageLooper) → NotLater t result → is_ended (slice_index_or self.old.loopers.items looper l).last ≡ false → NotLater t (until_of (slice_index_or self.old.loopers.items looper l).last) }
         ensures reason { (t : ℕ) → result ≡ Some t → ((l : StageLooper) → WaitsUntil t (slice_index_or self.old.loopers.items looper l)) ⊎ IsPulseTime script.now.period t }
+        ensures look { (l : StageLooper) → is_ended (slice_index_or self.old.loopers.items looper l).last ≡ false → NotLaterThanPulse looper self.old.controller self.new.controller result }
     {
         if self.loopers[looper as usize].has_ended() {
             return None;

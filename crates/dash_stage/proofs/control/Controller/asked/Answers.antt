@@ -1,6 +1,6 @@
 use Rattle.std.proofs.Common.{refl}
 use Rattle.dash_stage.proofs.Controlling.{in_choreographers, in_passes, own_pass, after_frame_turn}
-use Rattle.dash_stage.proofs.PulseTimes.{asked_comes}
+use Rattle.dash_stage.proofs.PulseTimes.{asked_comes, looked, none_rounded, some_rounded}
 use Rattle.dash_stage.proofs.control.Controller.asked.Goals as goal
 
 pub index-requires : goal.index-requires
@@ -19,6 +19,7 @@ returns-in_err-stamp g c = record {
   none = record { long = refl; calls = λ q d. refl };
   posters = refl;
   pulse = λ time is. absurd cc;
+  look = looked c.args.script.now c.args.hall.now c.requires.hall c.args.looper c.requires.looper c.args.self.now c.requires.controller c.index_mut.result.now c.asked.new.pass c.asked.result _ c.index_mut.ensures.value c.asked.ensures.turn (none_rounded _ _ c.in_err-stamp.was c.from_residual.ensures);
 }
 
 pub returns : goal.returns
@@ -27,4 +28,5 @@ returns g c = record {
   none = record { long = refl; calls = λ q d. refl };
   posters = refl;
   pulse = λ time is. asked_comes c.args.script.now c.args.hall.now c.requires.hall c.args.looper c.requires.looper c.index.result.now c.index.ensures c.in_ok-stamp.stamp c.div_ceil.result time c.in_ok-stamp.ensures.is_pulse c.div_ceil.ensures is;
+  look = looked c.args.script.now c.args.hall.now c.requires.hall c.args.looper c.requires.looper c.args.self.now c.requires.controller c.index_mut.result.now c.asked.new.pass c.asked.result _ c.index_mut.ensures.value c.asked.ensures.turn (some_rounded _ _ _ c.in_ok-stamp.was c.div_ceil.ensures);
 }

@@ -29,3 +29,6 @@ returns-clause-reason g c t is =
           subst (λ (z : StageLooper). WaitsUntil t z) same (going, sym c.until-until.ensures ∙ until))
       | inr asked ↦ inr (c.asked.ensures.pulse t asked)
     ]
+
+pub returns-clause-look : goal.returns-clause-look
+returns-clause-look g c l going = record { pulse = c.asked.result; look = c.asked.ensures.look; early = λ t early. (c.earlier.ensures.early t early).1 }
