@@ -26,6 +26,7 @@ pub mod StageWhole
 pub mod StageMoves
 pub mod StageDue
 pub mod StageTurns
+pub mod Turns
 pub mod StageQuits
 pub mod StageBegins
 pub mod OwnLooks

@@ -4,6 +4,7 @@ pub mod Staged
 pub mod Records
 pub mod Runs
 pub mod Stages
+pub mod Turns
 pub mod Sharing
 pub mod Ending
 pub mod Timeliness

@@ -6,9 +6,9 @@ ghost use Rattle.looper_run.specs.Round.{is_ended};
 ghost use Rattle.dash_hall.specs.Kits.{IsHall};
 ghost use Rattle.dash_threads.specs.Threads.{IsThread, Continues};
 ghost use Rattle.dash_loopers.specs.Loopers.{IsLooper, HasRun, ComesToWait};
-ghost use Rattle.dash_stage.specs.declared.side.Turn.TheVariants.{All};
 ghost use Rattle.dash_loopers.specs.declared.looper.StageLooper.{StageLooper};
 ghost use Rattle.dash_stage.specs.Stages.{AreThreads, AreLoopers, RunOn, GoOn, OthersHaveEnded, LoopersGoOn};
+ghost use Rattle.dash_stage.specs.Turns.{has_turn};
 ghost use Rattle.dash_stage.specs.Playing.{PlaysOn};
 
 use dash_hall::Hall;
@@ -31,7 +31,7 @@ pub(crate) enum Turn {
 
 impl Turn {
     fn has(self, looper: u32) -> bool
-        ensures { self ≡ All → result ≡ true }
+        ensures { result ≡ has_turn self looper }
     {
         match self {
             Turn::All => true,
@@ -101,8 +101,9 @@ pub(crate) fn run_loopers<R: Threads + Wait + Sync, G: Gate + Sync>(
     ensures loopers { AreLoopers script.now hall.now loopers.new }
     ensures ended { OthersHaveEnded loopers.old → OthersHaveEnded loopers.new }
     ensures on { OnOk result (LoopersGoOn loopers.new) }
-    ensures waits { turn ≡ All → (k : ℕ) (d : StageLooper) → k < length loopers.old → ComesToWait script.now (slice_index_or loopers.old k d) (slice_index_or loopers.new k d) }
-    ensures rounds { turn ≡ All → (k : ℕ) (d : StageLooper) → k < length loopers.old → HasRun script.now now (slice_index_or loopers.old k d) (slice_index_or loopers.new k d) }
+    ensures waits { (k : ℕ) (d : StageLooper) → k < length loopers.old → has_turn turn k ≡ true → ComesToWait script.now (slice_index_or loopers.old k d) (slice_index_or loopers.new k d) }
+    ensures rounds { (k : ℕ) (d : StageLooper) → k < length loopers.old → has_turn turn k ≡ true → HasRun script.now now (slice_index_or loopers.old k d) (slice_index_or loopers.new k d) }
+    ensures others { (k : ℕ) (d : StageLooper) → k < length loopers.old → has_turn turn k ≡ false → slice_index_or loopers.new k d ≡ slice_index_or loopers.old k d }
     ensures plays { (k : ℕ) (d : StageLooper) → k < length loopers.old → PlaysOn script.now now (slice_index_or loopers.old k d) (slice_index_or loopers.new k d) }
 {
     let count = loopers.len().max(1);
@@ -112,7 +113,7 @@ pub(crate) fn run_loopers<R: Threads + Wait + Sync, G: Gate + Sync>(
         count,
         &|_, looper: &mut StageLooper|
             requires { IsSync R.row × IsSync G.row × IsHall script.now hall.now × IsLooper script.now hall.now looper.old }
-            ensures { IsLooper script.entry.now hall.entry.now looper.new × (looper.new.number ≡ looper.old.number) × (is_ended looper.old.last ≡ true → is_ended looper.new.last ≡ true) × (turn ≡ All → ComesToWait script.entry.now looper.old looper.new) × (turn ≡ All → HasRun script.entry.now now looper.old looper.new) × PlaysOn script.entry.now now looper.old looper.new }
+            ensures { IsLooper script.entry.now hall.entry.now looper.new × (looper.new.number ≡ looper.old.number) × (is_ended looper.old.last ≡ true → is_ended looper.new.last ≡ true) × (has_turn turn looper.old.number ≡ true → ComesToWait script.entry.now looper.old looper.new) × (has_turn turn looper.old.number ≡ true → HasRun script.entry.now now looper.old looper.new) × (has_turn turn looper.old.number ≡ false → looper.new ≡ looper.old) × PlaysOn script.entry.now now looper.old looper.new }
         {
             if turn.has(looper.number) {
                 looper.run_round(rt, alloc, hall, script, gate, now)

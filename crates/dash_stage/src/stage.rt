@@ -15,6 +15,7 @@ ghost use Rattle.dash_stage.specs.Controllers.{IsMoving, HasReached, IsClosing, 
 ghost use Rattle.run_model.specs.Moves.{is_planned_time, IsPulseTime};
 ghost use Rattle.dash_stage.specs.Moves.{AreMoved, MayCome, WaitsUntil};
 ghost use Rattle.dash_stage.specs.Playing.{ArePlayed, AreAtBlock, HaveComeFirst, IsInStep, LiesAhead};
+ghost use Rattle.dash_stage.specs.Turns.{AwaitTheirTurn};
 ghost use Rattle.dash_stage.specs.Stages.{IsStage, HaveRun, RunOn, OthersHaveEnded, LoopersGoOn};
 
 use crate::control::Controller;
@@ -244,6 +245,7 @@ impl Stage {
         ensures sound { OnOk result (AreSound script.now self.new.controller → AreSound script.now self.old.controller) }
         ensures step { IsInStep script.now self.old → OnOk result (IsInStep script.now self.new) }
         ensures moves { AreMoved script.now self.old.controller → OnOk result (AreMoved script.now self.new.controller) }
+        ensures others { OnOk result (AwaitTheirTurn turn self.old.loopers.items self.new.loopers.items) }
     {
         for _ in rt.forever() {
             let before = self.controller.entries_seen();
@@ -279,6 +281,7 @@ impl Stage {
         ensures rested { turn ≡ All → HaveSeenTheSame self.old → OnOk result (seen_by self.new.controller.kit.posters.items ≡ seen_by self.old.controller.kit.posters.items → AreRested script.now self.new) }
         ensures step { IsInStep script.now self.old → OnOk result (IsInStep script.now self.new) }
         ensures moves { AreMoved script.now self.old.controller → OnOk result (AreMoved script.now self.new.controller) }
+        ensures others { OnOk result (AwaitTheirTurn turn self.old.loopers.items self.new.loopers.items) }
     {
         run_loopers(
             rt,

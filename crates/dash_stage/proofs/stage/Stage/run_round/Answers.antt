@@ -1,4 +1,4 @@
-use Rattle.std.proofs.Common.{◌<◌, ℕ, List, length, slice_index_or, subst, arith}
+use Rattle.std.proofs.Common.{◌≡◌, ◌<◌, ℕ, false, List, length, slice_index_or, sym, ◌∙◌, subst, arith}
 use Rattle.std.proofs.lemmas.List.{with_items_is}
 use Rattle.dash_loopers.specs.declared.looper.StageLooper.{StageLooper}
 use Rattle.dash_hall.specs.Hearing.{AtEach, HaveHeard}
@@ -9,6 +9,8 @@ use Rattle.dash_stage.proofs.PlayedTurns.{sound_heard}
 use Rattle.dash_stage.proofs.MovesKept.{moved_heard}
 use Rattle.dash_stage.proofs.StageWhole.{threads_heard, kept_timely}
 use Rattle.dash_stage.proofs.StageDue.{heard_grown, come_to_rest}
+use Rattle.dash_stage.specs.Turns.{has_turn}
+use Rattle.dash_stage.proofs.Turns.{all_have_turn, awaited_heard}
 use Rattle.dash_stage.proofs.stage.Stage.run_round.Goals as goal
 
 pub returns-clause-timely : goal.returns-clause-timely
@@ -28,9 +30,9 @@ returns-clause-rested g c all same still =
     let s = c.args.script.now in
     let ran = c.run_loopers.new.loopers in
     let waits =
-    subst (λ (xs : List StageLooper). (k : ℕ) (d : StageLooper) → k < length xs → ComesToWait s (slice_index_or xs k d) (slice_index_or ran k d)) c.as_mut_slice.ensures.value (c.run_loopers.ensures.waits all) in
+    subst (λ (xs : List StageLooper). (k : ℕ) (d : StageLooper) → k < length xs → ComesToWait s (slice_index_or xs k d) (slice_index_or ran k d)) c.as_mut_slice.ensures.value (λ k d lt. c.run_loopers.ensures.waits k d lt (all_have_turn c.args.turn k all)) in
     let rounds =
-    subst (λ (xs : List StageLooper). (k : ℕ) (d : StageLooper) → k < length xs → HasRun s c.args.self.now.time (slice_index_or xs k d) (slice_index_or ran k d)) c.as_mut_slice.ensures.value (c.run_loopers.ensures.rounds all) in
+    subst (λ (xs : List StageLooper). (k : ℕ) (d : StageLooper) → k < length xs → HasRun s c.args.self.now.time (slice_index_or xs k d) (slice_index_or ran k d)) c.as_mut_slice.ensures.value (λ k d lt. c.run_loopers.ensures.rounds k d lt (all_have_turn c.args.turn k all)) in
     let long = c.run_loopers.ensures.loopers.0 in
     let many = c.requires.stage.loopers.0 in
     let kept =
@@ -55,3 +57,15 @@ returns-clause-step g c step =
 
 pub returns-clause-moves : goal.returns-clause-moves
 returns-clause-moves g c = moved_heard c.args.script.now c.args.self.now c.share.new.self c.requires.stage c.share.ensures.stage c.share.ensures.kept.controller.posters
+
+pub returns-clause-others : goal.returns-clause-others
+returns-clause-others g c =
+    let ran = c.run_loopers.new.loopers in
+    let stay =
+    subst (λ (xs : List StageLooper). (k : ℕ) (d : StageLooper) → k < length xs → has_turn c.args.turn k ≡ false → slice_index_or ran k d ≡ slice_index_or xs k d) c.as_mut_slice.ensures.value c.run_loopers.ensures.others in
+    let long = c.run_loopers.ensures.loopers.0 in
+    let many = c.requires.stage.loopers.0 in
+    let kept =
+    subst (λ (xs : List StageLooper). AtEach (LooperKeeps HaveHeard) xs c.share.new.self.loopers.items) (with_items_is c.args.self.now.loopers ran (omega (arith, long, many, c.args.self.now.loopers.ok.0)))
+    c.share.ensures.kept.loopers in
+    awaited_heard c.args.turn c.args.self.now.loopers.items ran c.share.new.self.loopers.items (long ∙ sym many) stay kept

@@ -1,8 +1,14 @@
-use Rattle.std.proofs.Common.{sym, ◌∙◌}
+use Rattle.std.proofs.Common.{refl, sym, ◌∙◌}
 use Rattle.dash_hall.specs.Hearing.{seen_by}
-use Rattle.dash_stage.proofs.ControlKept.{none_after}
+use Rattle.dash_stage.proofs.ControlKept.{none_same, none_after}
 use Rattle.dash_stage.proofs.StageDue.{grown_none}
+use Rattle.dash_stage.proofs.Turns.{awaited_self, awaited_then}
 use Rattle.dash_stage.proofs.stage.Stage.run_rounds.Goals as goal
+
+pub loop-init : goal.loop-init
+loop-init g c =
+    (c.requires.stage, λ past run. run, none_same c.args.self.now.controller c.args.self.now.controller refl, λ ended. ended, refl, λ past timely. timely, λ same. same, λ step. step, λ sound. sound, λ before. before,
+    awaited_self c.args.turn c.args.self.now.loopers.items)
 
 pub loop-preserved : goal.loop-preserved
 loop-preserved g c =
@@ -18,6 +24,7 @@ loop-preserved g c =
       λ step. done.step (at.invariant.7 step),
       λ sound. at.invariant.8 (done.sound sound),
       λ before. done.moves (at.invariant.9 before),
+      awaited_then c.args.turn _ _ _ (at.invariant.0.loopers.0 ∙ sym c.requires.stage.loopers.0) at.invariant.10 done.others,
     )
 
 pub returns-in_err-run_round-clause-run : goal.returns-in_err-run_round-clause-run
@@ -50,3 +57,7 @@ returns-then-entries_seen-before-clause-sound g c sound = c.loop.invariant.8 (c.
 
 pub returns-then-entries_seen-before-clause-moves : goal.returns-then-entries_seen-before-clause-moves
 returns-then-entries_seen-before-clause-moves g c before = c.in_ok-run_round.ensures.moves (c.loop.invariant.9 before)
+
+pub returns-then-entries_seen-before-clause-others : goal.returns-then-entries_seen-before-clause-others
+returns-then-entries_seen-before-clause-others g c =
+    awaited_then c.args.turn _ _ _ (c.loop.invariant.0.loopers.0 ∙ sym c.requires.stage.loopers.0) c.loop.invariant.10 c.in_ok-run_round.ensures.others

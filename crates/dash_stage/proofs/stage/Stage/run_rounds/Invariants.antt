@@ -5,6 +5,7 @@ use Rattle.dash_stage.specs.Stages.{IsStage, HaveRun, OthersHaveEnded}
 use Rattle.dash_stage.specs.Sharing.{HaveSeenTheSame}
 use Rattle.dash_stage.specs.Timeliness.{AreSound, AreTimelyUpTo}
 use Rattle.dash_stage.specs.Moves.{AreMoved}
+use Rattle.dash_stage.specs.Turns.{AwaitTheirTurn}
 use Rattle.dash_stage.specs.Playing.{IsInStep}
 use Rattle.dash_stage.proofs.stage.Stage.run_rounds.Given as goal
 
@@ -19,3 +20,4 @@ invariant-loop g l = IsStage l.script l.self
     × (IsInStep l.script l.initial.self → IsInStep l.script l.self)
     × (AreSound l.script l.self.controller → AreSound l.script l.initial.self.controller)
     × (AreMoved l.script l.initial.self.controller → AreMoved l.script l.self.controller)
+    × AwaitTheirTurn l.turn l.initial.self.loopers.items l.self.loopers.items

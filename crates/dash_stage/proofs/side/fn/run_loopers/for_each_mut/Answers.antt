@@ -1,4 +1,4 @@
-use Rattle.std.proofs.Common.{inr, ap, ◌∙◌}
+use Rattle.std.proofs.Common.{◌≡◌, true, false, inr, sym, ap, ◌∙◌}
 use Rattle.std.proofs.lemmas.Bool.{or_left}
 use Rattle.dash_loopers.specs.declared.looper.StageLooper.{StageLooper}
 use Rattle.looper_run.specs.Round.{is_ended}
@@ -6,5 +6,12 @@ use Rattle.dash_stage.proofs.side.fn.run_loopers.for_each_mut.Goals as goal
 
 pub returns-then-has : goal.returns-then-has
 returns-then-has g c =
-    let ran = c.run_round.ensures in
-    (ran.looper, ran.number, λ ended. ap (λ (z : StageLooper). is_ended z.last) (ran.round.stopped (or_left _ _ ended)) ∙ ended, λ all. ran.waits, λ all. ran.round, inr (ran.round, ran.plays))
+    let ran = c.run_round.ensures in (
+      ran.looper,
+      ran.number,
+      λ ended. ap (λ (z : StageLooper). is_ended z.last) (ran.round.stopped (or_left _ _ ended)) ∙ ended,
+      λ turn. ran.waits,
+      λ turn. ran.round,
+      λ other. let wrong : true ≡ false = sym c.if-has.true ∙ (c.has.ensures ∙ other) in cc,
+      inr (ran.round, ran.plays),
+    )
