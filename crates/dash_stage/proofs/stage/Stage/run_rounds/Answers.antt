@@ -6,9 +6,19 @@ use Rattle.dash_stage.proofs.Turns.{awaited_self, awaited_then}
 use Rattle.dash_stage.proofs.stage.Stage.run_rounds.Goals as goal
 
 pub loop-init : goal.loop-init
-loop-init g c =
-    (c.requires.stage, λ past run. run, none_same c.args.self.now.controller c.args.self.now.controller refl, λ ended. ended, refl, λ past timely. timely, λ same. same, λ step. step, λ sound. sound, λ before. before,
-    awaited_self c.args.turn c.args.self.now.loopers.items)
+loop-init g c = (
+  c.requires.stage,
+  λ past run. run,
+  none_same c.args.self.now.controller c.args.self.now.controller refl,
+  λ ended. ended,
+  refl,
+  λ past timely. timely,
+  λ same. same,
+  λ step. step,
+  λ sound. sound,
+  λ before. before,
+  awaited_self c.args.turn c.args.self.now.loopers.items,
+)
 
 pub loop-preserved : goal.loop-preserved
 loop-preserved g c =
