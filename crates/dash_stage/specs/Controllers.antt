@@ -80,7 +80,7 @@ pub record CallsNone (before after : Controller) : Type 0 where
   pub long : length after.kit.posters.items ≡ length before.kit.posters.items
   pub calls : (q : ℕ) (d : Sender) → calls_on after q d ≡ calls_on before q d
 
--- the controller's pass found by one turn, at this looper's choreographer, the pulse that is asked for there, and the answer is its time in milliseconds, rounded up; or it found that none is, and answers none
+-- by one turn at this looper's choreographer the controller found this pulse, which is asked for there, in milliseconds rounded up, or that none is
 pub record LooksFor (looper : ℕ) (before after : Controller) (pulse : Option ℕ) : Type 0 where
   pub stamp : Option ℕ
   pub turn : (p : Pass) → AskedBy (slice_index_or before.kit.frames.items looper p) (slice_index_or after.kit.frames.items looper p) stamp

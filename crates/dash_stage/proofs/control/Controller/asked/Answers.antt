@@ -19,7 +19,8 @@ returns-in_err-stamp g c = record {
   none = record { long = refl; calls = λ q d. refl };
   posters = refl;
   pulse = λ time is. absurd cc;
-  look = looked c.args.script.now c.args.hall.now c.requires.hall c.args.looper c.requires.looper c.args.self.now c.requires.controller c.index_mut.result.now c.asked.new.pass c.asked.result _ c.index_mut.ensures.value c.asked.ensures.turn (none_rounded _ _ c.in_err-stamp.was c.from_residual.ensures);
+  look = looked c.args.script.now c.args.hall.now c.requires.hall c.args.looper c.requires.looper c.args.self.now c.requires.controller
+      c.index_mut.result.now c.asked.new.pass c.asked.result _ c.index_mut.ensures.value c.asked.ensures.turn (none_rounded _ _ c.in_err-stamp.was c.from_residual.ensures);
 }
 
 pub returns : goal.returns
@@ -28,5 +29,6 @@ returns g c = record {
   none = record { long = refl; calls = λ q d. refl };
   posters = refl;
   pulse = λ time is. asked_comes c.args.script.now c.args.hall.now c.requires.hall c.args.looper c.requires.looper c.index.result.now c.index.ensures c.in_ok-stamp.stamp c.div_ceil.result time c.in_ok-stamp.ensures.is_pulse c.div_ceil.ensures is;
-  look = looked c.args.script.now c.args.hall.now c.requires.hall c.args.looper c.requires.looper c.args.self.now c.requires.controller c.index_mut.result.now c.asked.new.pass c.asked.result _ c.index_mut.ensures.value c.asked.ensures.turn (some_rounded _ _ _ c.in_ok-stamp.was c.div_ceil.ensures);
+  look = looked c.args.script.now c.args.hall.now c.requires.hall c.args.looper c.requires.looper c.args.self.now c.requires.controller
+      c.index_mut.result.now c.asked.new.pass c.asked.result _ c.index_mut.ensures.value c.asked.ensures.turn (some_rounded _ _ _ c.in_ok-stamp.was c.div_ceil.ensures);
 }
