@@ -1,6 +1,7 @@
 //! The controller of a run.
 ghost use Rattle.std.specs.Prelude.{◌≡◌, ◌≢◌, ◌<◌, ◌≤◌, ◌+◌, ◌⊎◌, ℕ, true, false, length, slice_index_or, sum_by, Some, IfOk, OnOk};
 ghost use Rattle.shared_queue.specs.Known.{IsOf};
+ghost use Rattle.choreographer.specs.Known.{Known as Pass};
 ghost use Rattle.dash_hall.specs.Growth.{GoesOn, QuitsOf};
 ghost use Rattle.dash_hall.specs.Kits.{IsHall};
 ghost use Rattle.dash_stage.specs.Controllers.{IsController, IsMoving, HasReached, IsQuitting, IsClosing, HasClosed, CallsNone, LooksFor, calls_on, time_in};
@@ -118,6 +119,7 @@ impl Controller {
         ensures posters { self.new.kit.posters ≡ self.old.kit.posters }
         ensures pulse { (time : ℕ) → result ≡ Some time → IsPulseTime script.now.period time }
         ensures look { LooksFor looper self.old self.new result }
+        ensures elsewhere { (q : ℕ) (p : Pass) → q ≢ looper → slice_index_or self.new.kit.frames.items q p ≡ slice_index_or self.old.kit.frames.items q p }
     {
         let place = looper as usize;
         let stamp = hall.choreographers[place].asked(rt, &mut self.kit.frames[place])?;

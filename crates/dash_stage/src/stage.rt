@@ -1,5 +1,5 @@
 //! The event times of a run, and what comes at each.
-ghost use Rattle.std.specs.Prelude.{◌≡◌, ◌<◌, ◌≤◌, ◌⊎◌, ◌++◌, ◌∷◌, ℕ, max, true, false, List, [], slice_index_or, Some, IfOk, OnOk};
+ghost use Rattle.std.specs.Prelude.{◌≡◌, ◌≢◌, ◌<◌, ◌≤◌, ◌⊎◌, ◌++◌, ◌∷◌, ℕ, max, true, false, List, [], slice_index_or, Some, IfOk, OnOk};
 ghost use mathlib.Core.List.{IsPrefix};
 ghost use Rattle.dash_script.specs.declared.script.Block.{Block as BlockData};
 ghost use Rattle.looper_run.specs.Round.{is_ended};
@@ -10,6 +10,7 @@ ghost use Rattle.dash_stage.specs.Sharing.{HaveSeenTheSame};
 ghost use Rattle.dash_hall.specs.Hearing.{AtEach, seen_by};
 ghost use Rattle.dash_stage.specs.Timeliness.{AreTimelyUpTo, AreSound, AreBy, AreRested, AreDue, NotLater, NotLaterThanPulse, HasHaltedLast};
 ghost use Rattle.dash_script.specs.Reading.{HasText};
+ghost use Rattle.choreographer.specs.Known.{Known as Pass};
 ghost use Rattle.dash_hall.specs.Kits.{IsHall, AreUnseen};
 ghost use Rattle.dash_stage.specs.Controllers.{IsMoving, HasReached, IsClosing, HasClosed, CallsNone};
 ghost use Rattle.run_model.specs.Moves.{is_planned_time, IsPulseTime};
@@ -136,6 +137,7 @@ impl Stage {
         ensures time { self.new.time ≡ self.old.time }
         ensures due { (t : ℕ) → AreRested script.now self.old → NotLater t result → AreDue script.now t self.new }
         ensures reason { (t : ℕ) → AreRested script.now self.old → result ≡ Some t → MayCome script.now t self.old.controller }
+        ensures look { (k : ℕ) (l : StageLooper) → k < script.now.loopers → is_ended (slice_index_or self.old.loopers.items k l).last ≡ false → NotLaterThanPulse k self.old.controller self.new.controller result }
     {
         let mut next = None;
         for looper in 0..script.loopers {
@@ -157,6 +159,7 @@ impl Stage {
         ensures due { (t : ℕ) (l : StageLooper) → NotLater t result → is_ended (slice_index_or self.old.loopers.items looper l).last ≡ false → NotLater t (until_of (slice_index_or self.old.loopers.items looper l).last) }
         ensures reason { (t : ℕ) → result ≡ Some t → ((l : StageLooper) → WaitsUntil t (slice_index_or self.old.loopers.items looper l)) ⊎ IsPulseTime script.now.period t }
         ensures look { (l : StageLooper) → is_ended (slice_index_or self.old.loopers.items looper l).last ≡ false → NotLaterThanPulse looper self.old.controller self.new.controller result }
+        ensures elsewhere { (q : ℕ) (p : Pass) → q ≢ looper → slice_index_or self.new.controller.kit.frames.items q p ≡ slice_index_or self.old.controller.kit.frames.items q p }
     {
         if self.loopers[looper as usize].has_ended() {
             return None;

@@ -1,4 +1,5 @@
 use Rattle.std.proofs.Common.{refl}
+use Rattle.std.proofs.lemmas.List.{get_or-set_other}
 use Rattle.dash_stage.proofs.Controlling.{in_choreographers, in_passes, own_pass, after_frame_turn}
 use Rattle.dash_stage.proofs.PulseTimes.{asked_comes, looked, none_rounded, some_rounded}
 use Rattle.dash_stage.proofs.control.Controller.asked.Goals as goal
@@ -21,6 +22,7 @@ returns-in_err-stamp g c = record {
   pulse = λ time is. absurd cc;
   look = looked c.args.script.now c.args.hall.now c.requires.hall c.args.looper c.requires.looper c.args.self.now c.requires.controller
       c.index_mut.result.now c.asked.new.pass c.asked.result _ c.index_mut.ensures.value c.asked.ensures.turn (none_rounded _ _ c.in_err-stamp.was c.from_residual.ensures);
+  elsewhere = λ q p other. get_or-set_other c.args.self.now.kit.frames.items c.args.looper q c.asked.new.pass p other;
 }
 
 pub returns : goal.returns
@@ -31,4 +33,5 @@ returns g c = record {
   pulse = λ time is. asked_comes c.args.script.now c.args.hall.now c.requires.hall c.args.looper c.requires.looper c.index.result.now c.index.ensures c.in_ok-stamp.stamp c.div_ceil.result time c.in_ok-stamp.ensures.is_pulse c.div_ceil.ensures is;
   look = looked c.args.script.now c.args.hall.now c.requires.hall c.args.looper c.requires.looper c.args.self.now c.requires.controller
       c.index_mut.result.now c.asked.new.pass c.asked.result _ c.index_mut.ensures.value c.asked.ensures.turn (some_rounded _ _ _ c.in_ok-stamp.was c.div_ceil.ensures);
+  elsewhere = λ q p other. get_or-set_other c.args.self.now.kit.frames.items c.args.looper q c.asked.new.pass p other;
 }

@@ -5,6 +5,7 @@ use Rattle.dash_loopers.specs.Loopers.{until_of}
 use Rattle.dash_stage.specs.Timeliness.{NotLater}
 use Rattle.dash_stage.proofs.ControlKept.{none_after}
 use Rattle.dash_stage.proofs.MovesDue.{one_waits, may_come}
+use Rattle.dash_stage.proofs.PulseTimes.{one_look_more}
 use Rattle.dash_stage.proofs.StageDue.{one_waits_more, due_of_rest, rested_same}
 use Rattle.dash_stage.proofs.stage.Stage.next_due.Goals as goal
 
@@ -23,6 +24,7 @@ loop-looper-preserved g c =
           one_waits_more t at.looper _ _ (ap (λ v. v.items) at.invariant.4) (at.invariant.6 t both.0) (λ l. done.due t l both.1),
       λ t is. one_waits c.args.script.now t at.looper c.args.self.now.loopers.items at.self.loopers.items at.next c.due_on.result (omega (arith, c.loop-looper-test.true, c.requires.stage.loopers.0))
           (ap (λ v. v.items) at.invariant.4) (at.invariant.7 t) (done.reason t) (c.earlier-next.ensures.one t is),
+      one_look_more at.looper _ _ _ _ _ _ _ _ (ap (λ v. v.items) at.invariant.4) at.invariant.8 done.look done.elsewhere c.earlier-next.ensures.early,
     )
 
 pub returns-clause-due : goal.returns-clause-due
@@ -37,3 +39,6 @@ returns-clause-due g c t rest early =
 
 pub returns-clause-reason : goal.returns-clause-reason
 returns-clause-reason g c t rest is = may_come c.args.script.now t c.args.self.now c.requires.stage rest (c.loop-looper.invariant.7 t is)
+
+pub returns-clause-look : goal.returns-clause-look
+returns-clause-look g c k l lt going = c.loop-looper.invariant.8.looked k l (let past = c.loop-looper-test.false in omega (arith, past, lt)) going
