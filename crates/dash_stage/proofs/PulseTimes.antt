@@ -85,7 +85,7 @@ look_among k before from to after next next' first last early one = record {
   early = λ t e. one.early t (early t e);
 }
 
--- and where it has looked for one looper's more, it has looked for those of as many and one
+-- where it has looked for those of the first loopers, and then for that of the next, it has looked for those of one looper more
 pub one_look_more : (n : ℕ) (ls ls' : List StageLooper) (before mid after : Controller) (next due next' : Option ℕ) → ls' ≡ ls → HaveLooked n ls before mid next
     → ((l : StageLooper) → is_ended (slice_index_or ls' n l).last ≡ false → NotLaterThanPulse n mid after due)
     → ((k : ℕ) (p : Pass) → k ≢ n → pass_of after k p ≡ pass_of mid k p)
