@@ -35,7 +35,7 @@ use Rattle.dash_stage.specs.declared.stage.Stage.{Stage}
 use Rattle.dash_stage.specs.Stages.{IsStage}
 use Rattle.dash_stage.specs.Sharing.{HaveSeenTheSame}
 use Rattle.dash_stage.specs.Timeliness.{whole_on, AreSound}
-use Rattle.dash_stage.specs.Playing.{befores_called, AreCallsOnTime, ArePlayed, PlaysOn}
+use Rattle.dash_stage.specs.Playing.{befores_called, AreCallsOnTime, ArePlayed}
 use Rattle.dash_stage.proofs.LooperShares.{looper_parts, looper_within, own_kept, after_within, with_rest}
 use Rattle.dash_stage.proofs.StageTurns.{for_count}
 use Rattle.dash_stage.proofs.StageWhole.{as_many, looper_entries, looper_sees, looper_made_none, sound_grown, none_behind}
@@ -44,10 +44,6 @@ use Rattle.dash_stage.proofs.RoundTimes.{befores_called_of_others}
 use Rattle.run_model.specs.FrameAsks.{asks_to_run}
 
 -- ---- one looper
-
--- the same of the same loopers
-pub plays_at : (s : Script) (now : ℕ) (a b x y : StageLooper) → a ≡ x → b ≡ y → PlaysOn s now a b → PlaysOn s now x y
-plays_at s now a b x y before after h = subst (λ (z : StageLooper). PlaysOn s now z y) before (subst (PlaysOn s now a) after h)
 
 -- of the posters without the one at n, each made no entry more where each of all did
 others_called : (n : ℕ) (xs ys : List Sender) (p p' : Sender) → n ≤ length xs → n ≤ length ys → HaveHeard (insert xs n p) (insert ys n p')

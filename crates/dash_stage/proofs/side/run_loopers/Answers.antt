@@ -1,7 +1,7 @@
 use Rattle.std.specs.Prelude.{slice_index_or, true, false}
 use Rattle.std.proofs.Common.{sym, ◌∙◌}
 use Rattle.dash_loopers.specs.Loopers.{HasRun, ComesToWait}
-use Rattle.dash_stage.proofs.PlayedStage.{plays_at}
+use Rattle.dash_stage.specs.Playing.{PlaysOn}
 use Rattle.dash_stage.proofs.Turns.{of_same, turn_at}
 use Rattle.dash_stage.proofs.side.run_loopers.Goals as goal
 
@@ -28,7 +28,8 @@ returns-then-some_gave_up-clause-others g c k d lt other =
 pub returns-then-some_gave_up-clause-plays : goal.returns-then-some_gave_up-clause-plays
 returns-then-some_gave_up-clause-plays g c k d lt =
     let one = (c.for_each_mut.ensures k d lt).1 in
-    plays_at c.args.script.now c.args.now one.argument.now one.after_call.now (slice_index_or c.args.loopers.now k d) (slice_index_or c.for_each_mut.new.s k d) one.argument_is one.left one.call.6
+    let before = slice_index_or c.args.loopers.now k d in
+    of_same (PlaysOn c.args.script.now c.args.now) one.argument.now one.after_call.now before (slice_index_or c.for_each_mut.new.s k d) one.argument_is one.left one.call.6
 
 pub returns-clause-waits : goal.returns-clause-waits
 returns-clause-waits g c k d lt turn =
@@ -53,4 +54,5 @@ returns-clause-others g c k d lt other =
 pub returns-clause-plays : goal.returns-clause-plays
 returns-clause-plays g c k d lt =
     let one = (c.for_each_mut.ensures k d lt).1 in
-    plays_at c.args.script.now c.args.now one.argument.now one.after_call.now (slice_index_or c.args.loopers.now k d) (slice_index_or c.for_each_mut.new.s k d) one.argument_is one.left one.call.6
+    let before = slice_index_or c.args.loopers.now k d in
+    of_same (PlaysOn c.args.script.now c.args.now) one.argument.now one.after_call.now before (slice_index_or c.for_each_mut.new.s k d) one.argument_is one.left one.call.6
