@@ -1,11 +1,11 @@
 //! A message.
 ghost use Rattle.std.specs.Prelude.{◌≡◌, Some, None};
-ghost use Rattle.loop_model.specs.Items.{when_of};
+ghost use Rattle.loop_model.specs.Items.{when_of, is_barrier, is_just, matches, token_of as item_token};
 ghost use Rattle.message_slot.specs.Letter.{blank, cleared, posted, numbered, number_in, post_of, slot_by, with_slot};
 ghost use Rattle.message_slot.specs.Fields.{handler_of, what_of, arg_of, obj_of, callback_of, is_sent_asynchronous, token_of};
 
 use crate::claim::Claim;
-use loop_model::{Item, Post};
+use loop_model::{Filter, Item, Post};
 use std::marker::Model;
 
 /// A message (`android.os.Message`) is cleared, a post whose slot is that of its claim, or a barrier with its time and token.
@@ -103,9 +103,10 @@ impl<K: Claim> Message<K> {
     pub fn number(&self) -> u64
         ensures { result ≡ number_in self.now.item }
     {
-        match self.item() {
-            Item::Post { number, .. } => number,
-            Item::Barrier { .. } => 0,
+        match &self.item {
+            Some(Item::Post { number, .. }) => *number,
+            Some(Item::Barrier { .. }) => 0,
+            None => 0,
         }
     }
 
@@ -123,9 +124,10 @@ impl<K: Claim> Message<K> {
     pub fn handler(&self) -> Option<u32>
         ensures { result ≡ handler_of self.now.item }
     {
-        match self.item() {
-            Item::Post { post, .. } => Some(post.handler),
-            Item::Barrier { .. } => None,
+        match &self.item {
+            Some(Item::Post { post, .. }) => Some(post.handler),
+            Some(Item::Barrier { .. }) => None,
+            None => None,
         }
     }
 
@@ -133,51 +135,109 @@ impl<K: Claim> Message<K> {
     pub fn what(&self) -> u32
         ensures { result ≡ what_of self.now.item }
     {
-        self.as_post().what
+        match &self.item {
+            Some(Item::Post { post, .. }) => post.what,
+            Some(Item::Barrier { .. }) => 0,
+            None => 0,
+        }
     }
 
     /// The argument of a post (`arg1`), else 0.
     pub fn arg(&self) -> u32
         ensures { result ≡ arg_of self.now.item }
     {
-        self.as_post().arg
+        match &self.item {
+            Some(Item::Post { post, .. }) => post.arg,
+            Some(Item::Barrier { .. }) => 0,
+            None => 0,
+        }
     }
 
     /// The identity of a post's object (`obj`), where it has one.
     pub fn obj(&self) -> Option<u64>
         ensures { result ≡ obj_of self.now.item }
     {
-        self.as_post().obj
+        match &self.item {
+            Some(Item::Post { post, .. }) => post.obj,
+            Some(Item::Barrier { .. }) => None,
+            None => None,
+        }
     }
 
     /// The identity of a post's callback (`getCallback`), where it has one.
     pub fn callback(&self) -> Option<u64>
         ensures { result ≡ callback_of self.now.item }
     {
-        self.as_post().callback
+        match &self.item {
+            Some(Item::Post { post, .. }) => post.callback,
+            Some(Item::Barrier { .. }) => None,
+            None => None,
+        }
     }
 
     /// The time of a post or of a barrier in milliseconds (`getWhen`), else 0.
     pub fn when(&self) -> u64
         ensures { result ≡ when_of self.now.item }
     {
-        self.item().when()
+        match &self.item {
+            Some(Item::Post { post, .. }) => post.when,
+            Some(Item::Barrier { when, .. }) => *when,
+            None => 0,
+        }
     }
 
     /// Whether a barrier lets a post pass (`isAsynchronous`). False of a barrier and a cleared message.
     pub fn asynchronous(&self) -> bool
         ensures { result ≡ is_sent_asynchronous self.now.item }
     {
-        self.as_post().asynchronous
+        match &self.item {
+            Some(Item::Post { post, .. }) => post.asynchronous,
+            Some(Item::Barrier { .. }) => false,
+            None => false,
+        }
     }
 
     /// The token of a barrier (AOSP keeps it in `arg1`), else 0.
     pub fn token(&self) -> u64
         ensures { result ≡ token_of self.now.item }
     {
-        match self.item() {
-            Item::Post { .. } => 0,
-            Item::Barrier { token, .. } => token,
+        match &self.item {
+            Some(Item::Post { .. }) => 0,
+            Some(Item::Barrier { token, .. }) => *token,
+            None => 0,
+        }
+    }
+
+    /// Whether it is a barrier, as a cleared message is shown too.
+    pub fn is_barrier(&self) -> bool
+        ensures { result ≡ is_barrier self.now.item }
+    {
+        match &self.item {
+            Some(Item::Post { .. }) => false,
+            Some(Item::Barrier { .. }) => true,
+            None => true,
+        }
+    }
+
+    /// Whether it is the barrier of this token. A cleared message is shown as one with token 0.
+    pub fn has_token(&self, token: u64) -> bool
+        ensures { result ≡ is_just (item_token self.now.item) token }
+    {
+        match &self.item {
+            Some(Item::Post { .. }) => false,
+            Some(Item::Barrier { token: its, .. }) => *its == token,
+            None => token == 0,
+        }
+    }
+
+    /// Whether it is a post that the filter names.
+    pub fn is_named_by(&self, filter: &Filter) -> bool
+        ensures { result ≡ matches filter.now self.now.item }
+    {
+        match &self.item {
+            Some(Item::Post { post, .. }) => filter.matches(post),
+            Some(Item::Barrier { .. }) => false,
+            None => false,
         }
     }
 
