@@ -1,3 +1,4 @@
-pub mod Marks
-pub mod Messages
-pub mod LedgerLaws
+pub mod Quitting
+pub mod Firsts
+pub mod Passed
+pub mod Parts

@@ -1,9 +1,13 @@
 //! What became of each accepted post of a history.
 #![tactic(auto)]
 
+mod behind;
+mod cause;
 mod counted;
 mod history;
+mod keys;
 mod ledger;
+mod quits;
 
 pub use counted::Fates;
 pub use history::fates;

@@ -1,7 +1,9 @@
 // Worked histories: what became of each post, and how many there are of each fate.
 
 use crate::fates;
-use loop_model::{Call, Entry, Fate, Filter, Kind, NoMemory, Post, Reply, plain};
+use loop_model::{
+    Base, Call, Entry, Fate, Filter, Kind, NoMemory, Post, Reply, Segment, Sequence, plain,
+};
 use std::alloc::Global;
 use std::process::Abort;
 use std::test::Fail;
@@ -30,11 +32,25 @@ const fn callback(callback: u64, when: u64) -> Call {
     })
 }
 
+const fn with_object(obj: u64, post: Call) -> Call {
+    match post {
+        Call::Post(post) => Call::Post(Post {
+            obj: Some(obj),
+            ..post
+        }),
+        _ => post,
+    }
+}
+
 const fn remove(kind: Kind) -> Call {
+    remove_object(kind, None)
+}
+
+const fn remove_object(kind: Kind, obj: Option<u64>) -> Call {
     Call::Remove(Filter {
         handler: 0,
         kind,
-        obj: None,
+        obj,
     })
 }
 
@@ -74,6 +90,23 @@ fn history(alloc: Global, calls: &[(Call, Reply)]) -> Result<Vec<Entry>, NoMemor
     Ok(entries)
 }
 
+/// A part of a history. What it starts from says nothing of fates.
+fn part(alloc: Global, entries: &[Entry]) -> Result<Segment, NoMemory> {
+    Ok(Segment {
+        base: Base::empty(alloc, 1)?,
+        entries: Sequence::from_vec(Vec::from_slice(alloc, entries)?),
+    })
+}
+
+/// The history in two parts, the first of which has at most this many entries.
+fn parts(alloc: Global, entries: &[Entry], first: usize) -> Result<[Segment; 2], NoMemory> {
+    let first = first.min(entries.len());
+    Ok([
+        part(alloc, &entries[..first])?,
+        part(alloc, &entries[first..])?,
+    ])
+}
+
 /// The history has these fates, and so many that were dispatched, removed, dropped and stranded, and are queued.
 fn expect(
     rt: &impl Abort,
@@ -83,7 +116,7 @@ fn expect(
     counts: [u64; 5],
 ) -> Result<(), NoMemory> {
     let entries = history(alloc, calls)?;
-    let found = fates(alloc, &entries)?;
+    let found = fates(alloc, &parts(alloc, &entries, 3)?)?;
     assert!(rt; found.list.as_slice() == list);
     let got = [
         found.dispatched,
@@ -208,6 +241,91 @@ fn quits(rt: HostRuntime) -> Result<(), Fail> {
     Ok(())
 }
 
+#[test]
+fn removals_of_objects(rt: HostRuntime) -> Result<(), Fail> {
+    expect(
+        &rt,
+        rt.alloc(),
+        &[
+            (with_object(7, callback(9, 10)), accepted(0)),
+            (with_object(7, post(1, 10)), accepted(1)),
+            (with_object(8, post(1, 10)), accepted(2)),
+            (post(1, 10), accepted(3)),
+            (callback(9, 10), accepted(4)),
+            (remove_object(Kind::Callback(9), Some(7)), removed(1)),
+            (remove_object(Kind::What(1), Some(8)), removed(1)),
+            (remove_object(Kind::All, Some(7)), removed(1)),
+            (next(10), dispatched(3)),
+            (quit(true, 9), Reply::QuitDone),
+        ],
+        &[
+            Fate::Removed,
+            Fate::Removed,
+            Fate::Removed,
+            Fate::Dispatched,
+            Fate::Dropped,
+        ],
+        [1, 3, 1, 0, 0],
+    )?;
+    Ok(())
+}
+
+/// Several done quits, which no queue makes: the first that reaches the post counts.
+#[test]
+fn several_quits(rt: HostRuntime) -> Result<(), Fail> {
+    expect(
+        &rt,
+        rt.alloc(),
+        &[
+            (post(1, 15), accepted(0)),
+            (post(2, 25), accepted(1)),
+            (post(3, 35), accepted(2)),
+            (quit(true, 30), Reply::QuitDone),
+            (post(4, 35), accepted(3)),
+            (next(20), dispatched(1)),
+            (quit(true, 20), Reply::QuitDone),
+            (quit(true, 10), Reply::QuitDone),
+            (quit(true, 40), Reply::QuitDone),
+            (post(5, 45), accepted(4)),
+            (next(10), Reply::Disposed),
+        ],
+        &[
+            Fate::Dropped,
+            Fate::Dispatched,
+            Fate::Dropped,
+            Fate::Dropped,
+            Fate::Stranded,
+        ],
+        [1, 0, 3, 1, 0],
+    )?;
+    Ok(())
+}
+
+/// Ten thousand posts and as many removals that name none of them take no look at each post for each removal.
+#[test]
+fn many_removals(rt: HostRuntime) -> Result<(), Fail> {
+    let mut entries = Vec::new(rt.alloc());
+    for (call, many) in [(post(1, 9), 10_000), (remove(Kind::What(2)), 10_000)] {
+        for number in 0..many {
+            let reply = match call {
+                Call::Post(_) => accepted(number),
+                _ => removed(0),
+            };
+            entries.push(Entry {
+                sender: 0,
+                seq: 0,
+                call,
+                reply,
+            })?;
+        }
+    }
+    let found = fates(rt.alloc(), &parts(rt.alloc(), &entries, 10_000)?)?;
+    assert!(rt; found.removed == 0);
+    assert!(rt; found.queued == 10_000);
+    assert!(rt; found.list.len() == 10_000);
+    Ok(())
+}
+
 /// Twenty thousand posts, each dispatched, and one that stays queued, take no scan of what comes later.
 #[test]
 fn long_history(rt: HostRuntime) -> Result<(), Fail> {
@@ -226,7 +344,7 @@ fn long_history(rt: HostRuntime) -> Result<(), Fail> {
             })?;
         }
     }
-    let found = fates(rt.alloc(), &entries)?;
+    let found = fates(rt.alloc(), &parts(rt.alloc(), &entries, 10_000)?)?;
     assert!(rt; found.dispatched == 20_000);
     assert!(rt; found.queued == 1);
     assert!(rt; found.list.len() == 20_001);

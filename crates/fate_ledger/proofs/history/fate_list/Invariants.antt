@@ -1,8 +1,10 @@
--- the entries so far have been gone through
-use Rattle.std.proofs.Common.{◌≡◌, take}
-use Rattle.std.specs.Prelude.{fold}
-use Rattle.fate_ledger.specs.Steps.{empty_kept, next_kept, kept_in}
+-- the entries from the place on have been gone through
+use Rattle.std.proofs.Common.{◌≤◌, length}
+use Rattle.fate_ledger.specs.Ledgers.{Follows}
 use Rattle.fate_ledger.proofs.history.fate_list.Given as goal
 
-abbrev pub invariant-loop-entry : goal.invariant-loop-entry
-invariant-loop-entry l = kept_in l.ledger ≡ fold next_kept empty_kept (take l.entry-index l.entries)
+abbrev pub decreases-loop-place : goal.decreases-loop-place
+decreases-loop-place l = l.place
+
+abbrev pub invariant-loop-place : goal.invariant-loop-place
+invariant-loop-place l = Follows l.entries l.place l.ledger × (l.place ≤ length l.entries)

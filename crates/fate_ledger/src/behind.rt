@@ -1,0 +1,140 @@
+// What the entries behind a place of a history end.
+
+ghost use Rattle.std.specs.Prelude.{◌≡◌, ◌+◌, ℕ, List, [], ◌∷◌, OnOk, min};
+ghost use Rattle.fate_ledger.specs.Behind.{Tells, first_at, is_dispatch, ends_post, names, removes, removes_with};
+ghost use Rattle.fate_ledger.specs.Quits.{IsRising};
+ghost use Rattle.fate_ledger.specs.declared.cause.Cause.{Cause};
+
+use crate::cause::Cause;
+use crate::keys::{RemovalKey, key_of};
+use crate::quits::SafeQuits;
+use loop_model::{NoMemory, Post};
+use std::alloc::Global;
+use std::collections::BTreeMap;
+
+/// For each way to end a message the place of the first entry that ends messages so, among those behind a place of a
+/// history. `end` is the length of the history, and stands where there is no such entry.
+#[derive(Drop)]
+pub struct Behind {
+    pub removals: BTreeMap<RemovalKey, usize>,
+    pub dispatches: BTreeMap<u64, usize>,
+    pub everything: usize,
+    pub safe_quits: SafeQuits,
+    pub end: usize,
+}
+
+impl Behind {
+    /// Nothing stands behind the end.
+    pub(crate) fn new(alloc: Global, end: usize) -> Behind
+        ensures tells { Tells result end [] }
+        ensures rising { IsRising result.safe_quits.list.items }
+    {
+        Behind {
+            removals: BTreeMap::new(alloc),
+            dispatches: BTreeMap::new(alloc),
+            everything: end,
+            safe_quits: SafeQuits::new(alloc),
+            end,
+        }
+    }
+
+    /// Goes on to the entry in front, which stands at this place.
+    pub(crate) fn add(&mut self, place: usize, cause: Cause) -> Result<(), NoMemory>
+        requires { IsRising self.old.safe_quits.list.items }
+        ensures tells { (causes : List Cause) → Tells self.old (place + 1) causes → OnOk result (Tells self.new place (cause ∷ causes)) }
+        ensures rising { OnOk result (IsRising self.new.safe_quits.list.items) }
+    {
+        match cause {
+            Cause::Removal(filter) => {
+                let Ok(_) = self.removals.insert(key_of(&filter), place) else {
+                    return Err(NoMemory);
+                };
+            }
+            Cause::Dispatch(number) => {
+                let Ok(_) = self.dispatches.insert(number, place) else {
+                    return Err(NoMemory);
+                };
+            }
+            Cause::Everything => self.everything = place,
+            Cause::SafeQuit(now) => self.safe_quits.add(now, place)?,
+            Cause::Nothing => {}
+        }
+        Ok(())
+    }
+
+    /// The place of the first removal that names just this.
+    fn removal_of(&self, key: &RemovalKey) -> usize
+        ensures { (place : ℕ) (causes : List Cause) → Tells self.now place causes → result ≡ first_at (names key.now) place causes }
+    {
+        match self.removals.get(key) {
+            Some(place) => *place,
+            None => self.end,
+        }
+    }
+
+    /// The place of the first removal that takes the post and names just this object, or just no object.
+    fn removal_with(&self, post: &Post, obj: Option<u64>) -> usize
+        ensures { (place : ℕ) (causes : List Cause) → Tells self.now place causes → result ≡ first_at (removes_with obj post.now) place causes }
+    {
+        let all = RemovalKey {
+            handler: post.handler,
+            what: None,
+            callback: None,
+            obj,
+        };
+        let what = RemovalKey {
+            what: Some(post.what),
+            ..all
+        };
+        let first = earlier(self.removal_of(&all), self.removal_of(&what));
+        if post.callback.is_none() {
+            return first;
+        }
+        let callback = RemovalKey {
+            callback: post.callback,
+            ..all
+        };
+        earlier(first, self.removal_of(&callback))
+    }
+
+    /// The place of the first removal that takes the post.
+    fn removal(&self, post: &Post) -> usize
+        ensures { (place : ℕ) (causes : List Cause) → Tells self.now place causes → result ≡ first_at (removes post.now) place causes }
+    {
+        let any_object = self.removal_with(post, None);
+        if post.obj.is_none() {
+            return any_object;
+        }
+        earlier(any_object, self.removal_with(post, post.obj))
+    }
+
+    /// The place of the dispatch of this number.
+    fn dispatch(&self, number: u64) -> usize
+        ensures { (place : ℕ) (causes : List Cause) → Tells self.now place causes → result ≡ first_at (is_dispatch number) place causes }
+    {
+        match self.dispatches.get(&number) {
+            Some(place) => *place,
+            None => self.end,
+        }
+    }
+
+    /// The place of the first entry that ends the post of this number, or the end where none does.
+    pub(crate) fn first_end(&self, number: u64, post: &Post) -> usize
+        requires { IsRising self.now.safe_quits.list.items }
+        ensures { (place : ℕ) (causes : List Cause) → Tells self.now place causes → result ≡ first_at (ends_post number post.now) place causes }
+    {
+        let one = earlier(self.removal(post), self.dispatch(number));
+        let many = earlier(
+            self.everything,
+            self.safe_quits.first_before(post.when, self.end),
+        );
+        earlier(one, many)
+    }
+}
+
+/// The lesser of two places.
+fn earlier(one: usize, other: usize) -> usize
+    ensures { result ≡ min one other }
+{
+    if other < one { other } else { one }
+}
