@@ -1,6 +1,7 @@
 //! Handlers: the forms in which a thread sends messages to a queue, and removes them.
 //!
-//! Each form obtains its message from the pool before it takes the queue's turn, and makes one call on the queue.
+//! Each send obtains its message from the pool before it takes the queue's turn; the removals and the question obtain none. Each
+//! form makes one call on the queue.
 #![tactic(auto)]
 
 mod handler;

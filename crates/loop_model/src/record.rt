@@ -1,9 +1,10 @@
 //! What is kept of a queue.
 
-use crate::entry::Entry;
+use crate::segment::Segment;
 use crate::sequence::Sequence;
 
-/// The whole history of a looper's queue, with what stayed fixed for it (this project's profile).
+/// The whole history of a looper's queue, in the parts that were handed out, with what stayed fixed for it (this project's
+/// profile).
 #[derive(Debug, Drop)]
 pub struct QueueRecord {
     pub looper: u32,
@@ -13,5 +14,5 @@ pub struct QueueRecord {
     pub lockstep: bool,
     /// How many senders there are, the last of them the controller.
     pub senders: u32,
-    pub entries: Sequence<Entry>,
+    pub segments: Sequence<Segment>,
 }

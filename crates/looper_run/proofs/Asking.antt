@@ -10,7 +10,7 @@ use Rattle.looper_run.specs.declared.dispatcher.Did.TheVariants.{Yes, No, NoMemo
 use Rattle.looper_run.specs.Tests.{Unless}
 use Rattle.looper_run.specs.Asked.{Asked, Listen, Listening, with_asked, IsMask, event_act, TellsOf}
 
-with_none : (told : Option (List Asked)) → told ≡ with_asked told []
+pub with_none : (told : Option (List Asked)) → told ≡ with_asked told []
 with_none None = refl
 with_none (Some told) = ap Some (sym (append-nil told))
 

@@ -7,4 +7,7 @@ pub mod Asking
 pub mod Quiet
 pub mod Steps
 pub mod Looking
+pub mod Acting
 pub mod Rounds
+pub mod Sleeping
+pub mod Pausing

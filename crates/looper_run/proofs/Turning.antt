@@ -14,7 +14,8 @@ use Rattle.loop_model.specs.declared.entry.Entry.{Entry}
 use Rattle.loop_model.specs.Answers.{Setting, clock}
 use Rattle.queue_state.specs.Queue.{moment_at}
 use Rattle.shared_queue.specs.Constants.{Constants, made_in, IsStateOf}
-use Rattle.shared_queue.specs.Known.{IsTurn}
+use Rattle.loop_model.specs.declared.segment.Segment.{Segment}
+use Rattle.shared_queue.specs.Known.{IsTurnWith}
 use Rattle.shared_queue.proofs.Prefixes.{one_of, made_in-append, one_of-yes}
 use Rattle.looper_run.specs.Holding.{Sender, State, Holding}
 use Rattle.looper_run.specs.Acts.{entry_dispatch, taken_by, IsNoLookOf, IsQuiet, moment_on, IsLookAt, AreLooksAt}
@@ -48,7 +49,7 @@ pub record Found (p : Sender) (x : State) : Type 0 where
   pub entries : x.entries ≡ p.view.seen ++ others
   pub all : All (IsOther p.sender) others
 
-pub found : (p q : Sender) (x y : State) → IsTurn p q x y → Found p x
+pub found : {parts : List Segment} (p q : Sender) (x y : State) → IsTurnWith parts p q x y → Found p x
 found p q x y t =
     let more = t.begins.0 in
     let whole : p.view.seen ++ more ≡ x.entries = t.begins.1 in

@@ -5,3 +5,4 @@ pub mod Tests
 pub mod Told
 pub mod Looks
 pub mod Round
+pub mod Loops

@@ -1,7 +1,11 @@
 -- The looks for a message that a round makes, and what comes of each.
 use Rattle.std.specs.Prelude.{◌≡◌, ℕ, suc, ◌<◌, ◌^◌, ◌⊎◌, Bool, true, false, List, [], ◌∷◌, length, Option}
-use Rattle.message_pool.specs.Passes.{Node}
+use Rattle.atomic_table.specs.Seated.{TableId}
+use Rattle.message_pool.specs.Passes.{Node, Claimed}
+use Rattle.queue_state.specs.declared.answers.Nexted.{Nexted}
 use Rattle.queue_state.specs.declared.answers.Nexted.TheVariants as nexted
+use Rattle.queue_state.specs.Calls.{LooksAtHome}
+use Rattle.shared_queue.specs.Known.{Shared, IsOf}
 use Rattle.shared_queue.specs.Calls.{NextedBy}
 use Rattle.looper_run.specs.declared.looper.Round.{Round}
 use Rattle.looper_run.specs.declared.looper.Round.TheVariants as round
@@ -10,12 +14,29 @@ use Rattle.looper_run.specs.declared.step.Step.TheVariants as step
 use Rattle.looper_run.specs.Holding.{Sender, Holding, Looping}
 use Rattle.looper_run.specs.Acts.{IsIdle, GrowsBy}
 use Rattle.looper_run.specs.Asked.{Listening, TellsOf, any_heard}
-use Rattle.looper_run.specs.Tests.{IsLent}
+use Rattle.looper_run.specs.Tests.{IsLent, Test, Passes}
 use Rattle.looper_run.specs.Told.{Dispatches, GivesBack, AreRecycled}
 
 -- the same, with a poster that has looked for a message
 abbrev pub looked_by : Holding → Sender → Holding
 looked_by h p = record { poster = p; pass = h.pass; journal = h.journal }
+
+-- the same looper, with another poster
+abbrev pub by_poster : Looping → Sender → Looping
+by_poster l p = record { held = looked_by l.held p; idle_owed = l.idle_owed; ended = l.ended }
+
+-- what a look hands out is of the pool
+abbrev pub IsAnswerOf : TableId → Nexted Claimed TableId → Type 0
+IsAnswerOf pool answer = LooksAtHome (λ (c : Claimed). c.home) pool answer
+
+-- the looper's poster has just looked for a message and was answered so, and the test was true before
+pub record HasAnswer (M : Test) (l : Looping) (answer : Nexted Claimed TableId) : Type 0 where
+  pub queue : Shared TableId
+  pub poster : Sender
+  pub now : ℕ
+  pub of : IsOf poster queue
+  pub look : NextedBy poster l.held.poster now l.idle_owed answer
+  pub passes : Passes M (looked_by l.held poster)
 
 -- a look took a message; it was dispatched, told and recycled, and an idle turn is owed again
 pub record HasDispatched (now : ℕ) (before after : Looping) : Type 0 where

@@ -2,6 +2,7 @@
 //! and keeps a journal of what it did.
 #![tactic(auto)]
 
+mod by_clock;
 mod dispatch;
 mod dispatcher;
 mod looper;
@@ -11,6 +12,7 @@ mod step;
 #[cfg(test)]
 mod tests;
 
+pub use by_clock::Loop;
 pub use dispatcher::{Did, Dispatcher};
 pub use looper::{Looper, Round};
 pub use own::Own;

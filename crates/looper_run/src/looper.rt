@@ -142,7 +142,7 @@ impl Looper {
     }
 
     // The pulse, and the events that were handed in.
-    fn begin<R: Wait, D: Dispatcher>(
+    pub(crate) fn begin<R: Wait, D: Dispatcher>(
         &mut self,
         rt: &R,
         sources: &Mutex<Sources>,

@@ -1,10 +1,11 @@
 //! One look for a message, and what comes of it.
-ghost use Rattle.std.specs.Prelude.{◌≡◌, All, None};
+ghost use Rattle.std.specs.Prelude.{◌≡◌, ℕ, All, None};
 ghost use Rattle.message_pool.specs.Obtain.{IsNodeOf};
-ghost use Rattle.looper_run.specs.Holding.{Workplace, workplace, IsAt};
+ghost use Rattle.shared_queue.specs.Calls.{NextedBy};
+ghost use Rattle.looper_run.specs.Holding.{Sender, Workplace, workplace, IsAt};
 ghost use Rattle.looper_run.specs.Tests.{Passes, IsSameLooper, Rings};
 ghost use Rattle.looper_run.specs.Told.{AreRecycled};
-ghost use Rattle.looper_run.specs.Looks.{StepBy};
+ghost use Rattle.looper_run.specs.Looks.{StepBy, by_poster, IsAnswerOf, HasAnswer};
 ghost use Rattle.looper_run.specs.Round.{UnlessStopped};
 
 use crate::dispatch::dispatch;
@@ -70,7 +71,35 @@ impl Looper {
         ensures awaits { UnlessStopped result (D.Awaits d.new None) }
         ensures ended { self.new.ended ≡ self.old.ended }
     {
-        match self.poster.next(rt, queue, now, self.idle_owed) {
+        let answer = self.poster.next(rt, queue, now, self.idle_owed);
+        self.act(rt, pool, sources, d, answer)
+    }
+
+    // Does what a look for a message was answered: dispatches the message, or runs the idle handlers.
+    pub(crate) fn act<R: Wait, D: Dispatcher>(
+        &mut self,
+        rt: &R,
+        pool: &Pool,
+        sources: &Mutex<Sources>,
+        d: &mut D,
+        answer: Nexted<PoolClaim>,
+    ) -> Step
+        requires pool { self.old.held.pass.home ≡ pool.now }
+        requires home { IsAnswerOf pool.now answer }
+        requires look { HasAnswer (D.Meets d.old) self.old answer }
+        requires serves { D.Serves d.old (workplace self.old.held) }
+        requires awaits { D.Awaits d.old None }
+        ensures same { IsSameLooper self.old.held self.new.held }
+        ensures serves { (w : Workplace) → D.Serves d.old w → D.Serves d.new w }
+        ensures origin { D.origin d.new ≡ D.origin d.old }
+        ensures nudges { Rings self.old.held.poster self.new.held.poster (D.nudges d.old) (D.nudges d.new) }
+        ensures asked { D.asked d.new ≡ D.asked d.old }
+        ensures step { (p : Sender) (now : ℕ) → NextedBy p self.old.held.poster now self.old.idle_owed answer → StepBy now (by_poster self.old p) self.new result }
+        ensures meets { UnlessStopped result (Passes (D.Meets d.new) self.new.held) }
+        ensures awaits { UnlessStopped result (D.Awaits d.new None) }
+        ensures ended { self.new.ended ≡ self.old.ended }
+    {
+        match answer {
             Nexted::Taken { number, now, node } => {
                 self.idle_owed = true;
                 let mut own = Own {

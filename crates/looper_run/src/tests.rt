@@ -10,7 +10,8 @@ ghost use Rattle.looper_run.specs.Holding.{IsAt};
 ghost use Rattle.looper_run.specs.Asked.{Asked, Pulse, Listen};
 ghost use Rattle.looper_run.specs.Tests.{Unless};
 
-use crate::{Did, Dispatcher, Looper, Own, Round, Sources};
+use crate::{Did, Dispatcher, Loop, Looper, Own, Round, Sources};
+use loop_io::StepClock;
 use loop_model::{Act, NoMemory, Post, Route};
 use loop_sources::{FdTable, IdleSet};
 use message_list::new_node;
@@ -147,7 +148,7 @@ struct Opened {
 }
 
 fn set_up(alloc: Global) -> Result<Opened, NoMemory>
-    ensures { IfOk result (λ o. IsOf o.poster o.queue × IsAt o.queue o.pool o.looper.held × (o.looper.ended ≡ false)) }
+    ensures { IfOk result (λ o. IsOf o.poster o.queue × IsAt o.queue o.pool o.looper.held × (o.looper.ended ≡ false) × (o.queue.constants.setting.lockstep ≡ false)) }
 {
     let (pool, pass) = Pool::new(alloc)?;
     let (queue, mut posters) = SharedQueue::make(alloc, pool.home(), 0, false, false, 2)?;
@@ -408,5 +409,60 @@ fn a_quit_ends_the_looper(rt: HostRuntime) -> Result<(), Fail> {
         .looper
         .run_round(&rt, &o.queue, &o.pool, &sources, &mut d, 9);
     assert!(rt; round == Round::Ended { dispatched: 1 });
+    Ok(())
+}
+
+// Whether a message was handled at this moment or later.
+fn is_handled_from(call: Noted, from: u64) -> bool {
+    match call {
+        Noted::Handle { now, .. } => from <= now,
+        _ => false,
+    }
+}
+
+// How often one was.
+fn handled_from(calls: &[Noted], from: u64) -> usize {
+    calls
+        .iter()
+        .filter(|call| is_handled_from(**call, from))
+        .count()
+}
+
+#[test]
+fn a_loop_waits_by_a_clock(rt: HostRuntime) -> Result<(), Fail> {
+    let alloc = rt.alloc();
+    let mut o = set_up(alloc)?;
+    assert!(rt; post(&rt, alloc, &o.queue, &mut o.poster, 1, None, 5));
+    assert!(rt; post(&rt, alloc, &o.queue, &mut o.poster, 1, None, 8));
+    let sources = nothing_watched(alloc);
+    let clock = StepClock::new(1);
+    let mut d = Recorder {
+        calls: Vec::new(alloc),
+    };
+    let how = o.looper.run_loop(
+        &rt,
+        &o.queue,
+        &o.pool,
+        &sources,
+        &mut d,
+        &clock,
+        0,
+        Some(20),
+    );
+    assert!(rt; matches!(how, Loop::Cap { .. }));
+    assert!(rt; handled_from(d.calls.as_slice(), 5) == 2);
+    o.poster.nudge(&rt, &o.queue);
+    let how = o
+        .looper
+        .run_loop(&rt, &o.queue, &o.pool, &sources, &mut d, &clock, 0, None);
+    assert!(rt; how == Loop::Nudged);
+    let quit = o.poster.quit(&rt, &o.queue, true, 5);
+    assert!(rt; matches!(quit, Quitting::Done(_)));
+    let how = o
+        .looper
+        .run_loop(&rt, &o.queue, &o.pool, &sources, &mut d, &clock, 0, None);
+    assert!(rt; how == Loop::Ended);
+    let (_, _, journal) = o.looper.into_parts();
+    assert!(rt; journal.acts.len() == 2);
     Ok(())
 }

@@ -1,5 +1,5 @@
 -- A queue whose posters all came back.
-use Rattle.std.proofs.Common.{◌≡◌, ℕ, ◌<◌, List, length, get_or, sym, ap, ◌∙◌, subst, arith, Option, Some}
+use Rattle.std.proofs.Common.{◌≡◌, ℕ, suc, ◌+◌, ◌<◌, List, [], ◌∷◌, ◌++◌, length, get_or, refl, sym, ap, ◌∙◌, subst, arith, append-nil, Option, Some}
 use Rattle.std.proofs.lemmas.List.{get_or-map, length-map}
 use mathlib.Core.Option.{some}
 use mathlib.Core.List.{IsPrefix}
@@ -10,19 +10,46 @@ use Rattle.loop_model.specs.Answers.{Setting}
 use Rattle.loop_model.specs.Base.{empty_base}
 use Rattle.loop_model.specs.Legal.{IsLegal, AreNumbered}
 use Rattle.loop_model.specs.Live.{live_in_order}
-use Rattle.loop_model.specs.declared.base.Base.{Base}
+use Rattle.loop_model.specs.declared.segment.Segment.{Segment}
+use Rattle.loop_model.specs.Chain.{after, IsChainFrom, entries_of}
 use Rattle.when_queue.specs.Queue.{items_of}
 use Rattle.message_slot.specs.Letter.{Letter}
-use Rattle.shared_queue.specs.Constants.{Constants, made_in, IsStateOf}
-use Rattle.queue_state.specs.Queue.{Queue, IsSound}
+use Rattle.shared_queue.specs.Constants.{Constants, last_of, made_in, IsFor}
+use Rattle.shared_queue.specs.Whole.{whole_of, Leave}
+use Rattle.queue_state.specs.Queue.{Queue, IsSound, part_of}
 use Rattle.shared_queue.specs.Turn.{Counts, holds, Fits, AtHome, Turn}
 use Rattle.shared_queue.specs.Plays.{Sat}
-use Rattle.shared_queue.specs.Known.{Shared, Known}
-use Rattle.shared_queue.specs.Ends.{AreInOrder, HasCalls, number_of, Gathered, IsSoundEnd}
+use Rattle.shared_queue.specs.Known.{Shared, Known, KeepsNone, IsOf}
+use Rattle.shared_queue.specs.Ends.{AreInOrder, HasCalls, number_of, HaveSealed, sealed_by, Gathered, IsSoundEnd}
 use Rattle.loop_model.proofs.Prefixes.{prefix_trans}
+use Rattle.shared_queue.proofs.Courses.{entries_more, chain_more}
+use Rattle.shared_queue.proofs.Whole.{whole_sound}
 use Rattle.shared_queue.proofs.Turns.{holds_at, all_rest}
 
-module _ {H K : Type 0} (key : Constants H) (q : Shared H) (posters : List (Known H K)) (m : Sat H K) (all : length posters ≡ key.setting.senders) (order : AreInOrder q posters) (g : Gathered q posters m) where
+-- of posters in order, from this number on, the last alone handed anything out
+sealed_from : {H K : Type 0} (q : Shared H) (from : ℕ) (posters : List (Known H K)) (parts : List Segment)
+    → ((k : ℕ) (d : Known H K) → k < length posters → IsOf (get_or posters k d) q × ((get_or posters k d).sender ≡ from + k)) → ((k : ℕ) (d : Known H K) → k < length posters → KeepsNone (get_or posters k d))
+    → from + length posters ≡ q.constants.setting.senders → 0 < length posters → HaveSealed posters parts → sealed_by posters ≡ parts
+sealed_from q from [] parts order keeps all some_poster sealed = absurd (omega arith)
+sealed_from q from (p ∷ []) parts order keeps all some_poster sealed = append-nil p.view.sealed ∙ sealed 0 p refl
+sealed_from {H} {K} q from (p ∷ p' ∷ posters) parts order keeps all some_poster sealed =
+    let here = order 0 p (omega arith) in
+    let nothing : p.view.sealed ≡ [] = keeps 0 p (omega arith) q.constants here.0.1 (λ last. let number = here.1 in omega arith) in
+    let more = sealed_from q (from + 1) (p' ∷ posters) parts
+    (λ k d l. let next = order (suc k) d (omega arith) in (next.0, next.1 ∙ omega arith))
+    (λ k d l. keeps (suc k) d (omega arith)) (omega arith) (omega arith) (λ k d last. sealed (suc k) d (omega arith)) in
+    ap (λ l. l ++ sealed_by (p' ∷ posters)) nothing ∙ more
+
+-- a state whose base these parts have left, and whose whole history has these posters' calls
+pub record Closes {H K : Type 0} (key : Constants H) (posters : List (Known H K)) (parts : List Segment) (x : Queue H K) : Type 0 where
+  pub own : IsFor key x
+  pub start : x.start ≡ after (empty_base key.setting.senders) (entries_of parts)
+  pub chain : IsChainFrom (empty_base key.setting.senders) parts
+  pub legal : IsLegal key.setting (empty_base key.setting.senders) (entries_of parts)
+  pub numbered : AreNumbered key.setting (empty_base key.setting.senders) (entries_of parts)
+  pub calls : HasCalls (entries_of parts ++ x.entries) posters
+
+module _ {H K : Type 0} (key : Constants H) (q : Shared H) (posters : List (Known H K)) (m : Sat H K) (is_key : q.constants ≡ key) (some_sender : 0 < key.setting.senders) (all : length posters ≡ key.setting.senders) (order : AreInOrder q posters) (g : Gathered q posters m) where
   numbers : (k : ℕ) (d : Known H K) → k < length posters → get_or m.0.senders k (number_of d) ≡ number_of (get_or posters k d)
   numbers k d l = ap (λ (ps : List (ℕ × ℕ)). get_or ps k (number_of d)) g.1 ∙ get_or-map number_of posters k d (number_of d) l
 
@@ -32,41 +59,63 @@ module _ {H K : Type 0} (key : Constants H) (q : Shared H) (posters : List (Know
   has_all : (n : ℕ) (d : Known H K) → n < key.setting.senders → 0 < holds n m.0
   has_all n d below = holds_at n m.0.senders n (number_of d) (omega (arith, as_many)) (ap (λ (p : ℕ × ℕ). p.0) (numbers n d (omega arith)) ∙ (order n d (omega arith)).1)
 
-  pub closes : (id : ℕ) (words : List ℕ) (slots : List (Option (Queue H K))) → Final (Seen (Turn key) id m.0) words slots
-      → (x : Queue H K) × (get_elem? slots 0 ≡ some (Some x)) × IsStateOf key x × HasCalls x.entries posters
-  closes id words slots last =
+  pub closes : (id : ℕ) (words : List ℕ) (slots : List (Option (Queue H K))) (parts : List Segment) → HaveSealed posters parts → Final (Seen (Turn key) id m.0) words slots
+      → (x : Queue H K) × (get_elem? slots 0 ≡ some (Some x)) × Closes key posters parts x
+  closes id words slots parts sealed last =
       let d : Known H K = record { table = q.table; sender = 0; view = m.0 } in
       let s = last.0 in
       let r : Turn key s = last.1.0 in
       let at = last.1.1 in
-      let home : AtHome key r.whole s = all_rest key s r id m.0 at g.0.1 (λ n below. has_all n d below) in
-      let f : Fits key r.whole m.0 = r.each id m.0 at in
-      let x : Queue H K = home.0 in (
+      let home : AtHome key r.course s = all_rest key s r id m.0 at g.0.1 (λ n below. has_all n d below) in
+      let f : Fits key r.course m.0 = r.each id m.0 at in
+      let x : Queue H K = home.0 in
+      let long : 0 + length posters ≡ q.constants.setting.senders = omega (arith, all, ap (λ (c : Constants H). c.setting.senders) is_key) in
+      let gathered : m.0.sealed ≡ parts = g.3 ∙ sealed_from q 0 posters parts (λ k e l. let o = order k e l in (o.0, o.1 ∙ omega arith)) g.4 long (omega (arith, all, some_sender)) sealed in
+      let these : r.course.parts ≡ parts = sym (f.sealed (has_all (last_of key) d (omega (arith, some_sender)))) ∙ gathered in
+      let whole : whole_of r.course ≡ entries_of parts ++ x.entries = (λ i. entries_of (these i) ++ sym home.3.1 i) in (
         x,
         last.4 0 (Some x) home.1,
-        home.2,
-        λ k e l.
-            let p : Known H K = get_or posters k e in
-            let c : Counts r.whole m.0.seen (number_of p) = subst (Counts r.whole m.0.seen) (numbers k e l) (f.mine k (number_of e) (omega (arith, as_many))) in (
-              subst (IsPrefix p.view.seen) (sym home.3) (prefix_trans p.view.seen m.0.seen r.whole (g.2 k e l) f.seen),
-              ap (made_in p.sender) home.3 ∙ c.0,
-            ),
+        record {
+          own = home.2;
+          start = home.3.0 ∙ ap (λ (ps : List Segment). after (empty_base key.setting.senders) (entries_of ps)) these;
+          chain = subst (IsChainFrom (empty_base key.setting.senders)) these r.chain;
+          legal = subst (λ (ps : List Segment). IsLegal key.setting (empty_base key.setting.senders) (entries_of ps)) these r.legal;
+          numbered = subst (λ (ps : List Segment). AreNumbered key.setting (empty_base key.setting.senders) (entries_of ps)) these r.numbered;
+          calls = λ k e l.
+              let p : Known H K = get_or posters k e in
+              let c : Counts (whole_of r.course) m.0.seen (number_of p) = subst (Counts (whole_of r.course) m.0.seen) (numbers k e l) (f.mine k (number_of e) (omega (arith, as_many))) in (
+                subst (IsPrefix p.view.seen) whole (prefix_trans p.view.seen m.0.seen (whole_of r.course) (g.2 k e l) f.seen),
+                ap (made_in p.sender) (sym whole) ∙ c.0,
+              );
+        },
       )
 
   -- the state that is taken out of the slot is that one
-  pub closes_with : (id : ℕ) (words : List ℕ) (slots : List (Option (Queue H K))) (y : Queue H K) → Final (Seen (Turn key) id m.0) words slots → get_elem? slots 0 ≡ some (Some y) → IsStateOf key y × HasCalls y.entries posters
-  closes_with id words slots y last here =
-      let t = closes id words slots last in
+  pub closes_with : (id : ℕ) (words : List ℕ) (slots : List (Option (Queue H K))) (parts : List Segment) (y : Queue H K) → HaveSealed posters parts → Final (Seen (Turn key) id m.0) words slots → get_elem? slots 0 ≡ some (Some y) → Closes key posters parts y
+  closes_with id words slots parts y sealed last here =
+      let t = closes id words slots parts sealed last in
       let both : some (Some t.0) ≡ some (Some y) = sym t.1 ∙ here in
       let same : t.0 ≡ y = cc (both) in
-      subst (λ (z : Queue H K). IsStateOf key z × HasCalls z.entries posters) same (t.2, t.3)
+      subst (Closes key posters parts) same t.2
 
 -- a state of the queue that is sound ends soundly
-pub sound_end : {H K : Type 0} (key : Constants H) (x : Queue H K) (entries : List Entry) (left : List (Letter K)) → IsStateOf key x → IsSound x → entries ≡ x.entries → left ≡ x.messages → IsSoundEnd key.setting entries left
-sound_end {H} {K} key x entries left own sound same rest =
-    let start : x.start ≡ empty_base key.setting.senders = own.start in
-    record {
-      legal = subst (λ (z : Setting × Base × List Entry). IsLegal z.0 z.1 z.2) (λ i. (own.setting i, start i, sym same i)) sound.legal;
-      numbered = subst (λ (z : Setting × Base × List Entry). AreNumbered z.0 z.1 z.2) (λ i. (own.setting i, start i, sym same i)) sound.numbered;
-      live = ap items_of rest ∙ (sound.live ∙ (λ i. live_in_order (start i) (sym same i)));
-    }
+module _ {H K : Type 0} (key : Constants H) (posters : List (Known H K)) (parts segments : List Segment) (x : Queue H K) (c : Closes key posters parts x) (sound : IsSound x) (are : segments ≡ parts ++ part_of x ∷ []) where
+  all_entries : entries_of segments ≡ entries_of parts ++ x.entries
+  all_entries = ap entries_of are ∙ entries_more parts (part_of x)
+
+  pub ends_chain : IsChainFrom (empty_base key.setting.senders) segments
+  ends_chain = subst (IsChainFrom (empty_base key.setting.senders)) (sym are) (chain_more (empty_base key.setting.senders) parts (part_of x) tt c.chain c.start)
+
+  pub ends_calls : HasCalls (entries_of segments) posters
+  ends_calls = subst (λ l. HasCalls l posters) (sym all_entries) c.calls
+
+  pub ends_sound : (left : List (Letter K)) → left ≡ x.messages → IsSoundEnd key.setting (entries_of segments) left
+  ends_sound left same =
+      let before : List Entry = entries_of parts in
+      let leaves : Leave x.setting before x.start = subst (λ (s : Setting). Leave s before x.start) (sym c.own.setting) (record { legal = c.legal; numbered = c.numbered; left = c.start }) in
+      let whole = whole_sound before x leaves sound in
+      record {
+        legal = subst (IsLegal key.setting (empty_base key.setting.senders)) (sym all_entries) (subst (λ (s : Setting). IsLegal s (empty_base s.senders) (before ++ x.entries)) c.own.setting whole.legal);
+        numbered = subst (AreNumbered key.setting (empty_base key.setting.senders)) (sym all_entries) (subst (λ (s : Setting). AreNumbered s (empty_base s.senders) (before ++ x.entries)) c.own.setting whole.numbered);
+        live = ap items_of same ∙ (whole.live ∙ ((λ i. live_in_order (empty_base (c.own.setting i).senders) (before ++ x.entries)) ∙ ap (live_in_order (empty_base key.setting.senders)) (sym all_entries)));
+      }

@@ -1,5 +1,5 @@
 -- A desk hears of what another has seen.
-use Rattle.std.proofs.Common.{◌≡◌, ℕ, max, List, [], ◌∷◌, ◌++◌, length, sym, ap, ◌∙◌, subst, arith}
+use Rattle.std.proofs.Common.{◌≡◌, ℕ, max, List, [], ◌∷◌, ◌++◌, length, sym, ap, ◌∙◌, subst, arith, append-nil}
 use Rattle.std.specs.Prelude.{All}
 use mathlib.Core.List.{IsPrefix}
 use Rattle.queue_state.specs.Queue.{Queue}
@@ -11,7 +11,7 @@ use Rattle.shared_queue.specs.Turn.{fresh, joined}
 use Rattle.shared_queue.specs.Plays.{Sat}
 use Rattle.shared_queue.specs.Known.{IsSame}
 use Rattle.shared_queue.specs.Desk.{IsIdle}
-use Rattle.shared_queue.proofs.Desks.{only_sender}
+use Rattle.shared_queue.proofs.Desks.{only_sender, still_unsealed}
 use Rattle.shared_queue.proofs.Knows.{known}
 use Rattle.loop_model.proofs.Prefixes.{longer-length}
 
@@ -50,6 +50,7 @@ module _ {H K : Type 0} (d : Desk (Queue H K) H) (o : View (Queue H K) H) (m n :
           made = (λ i. made_in (sender i) (is_n i).0.seen) ∙ (heard_made ∙ sym made);
           seen = ap (λ (z : View (Queue H K) H). length z.seen) now ∙ (longer-length v.seen o.seen ∙ (ap (λ (k : ℕ). max k (length o.seen)) len ∙ sym seen));
           heard = ap (λ (z : View (Queue H K) H). z.heard) now ∙ (idle.2.heard ∙ sym heard);
+          unsealed = still_unsealed d e idle.2 sender (ap (λ (z : View (Queue H K) H). z.constants) now) (ap (λ (z : View (Queue H K) H). z.sealed) now ∙ append-nil v.sealed);
         },
       )
 
@@ -64,6 +65,7 @@ module _ {H K : Type 0} (d : Desk (Queue H K) H) (o : View (Queue H K) H) (m n :
           turns = ap (λ (z : View (Queue H K) H). z.turns) now ∙ omega arith;
           found = ap (λ (z : View (Queue H K) H). z.found) now;
           left = ap (λ (z : View (Queue H K) H). z.left) now;
+          sealed = ap (λ (z : View (Queue H K) H). z.sealed) now ∙ append-nil v.sealed;
           made = (λ i. made_in (sender i) (is_n i).0.seen) ∙ (heard_made ∙ sym idle.2.made);
         },
         ap (λ (z : View (Queue H K) H). z.rung) now ∙ omega arith,

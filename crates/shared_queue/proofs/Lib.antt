@@ -1,6 +1,10 @@
 pub mod Prefixes
+pub mod Whole
+pub mod Courses
 pub mod Untold
+pub mod Waits
 pub mod Turns
+pub mod Taken
 pub mod Desks
 pub mod Knows
 pub mod Steps

@@ -1,8 +1,8 @@
 -- Each step keeps the rule.
-use Rattle.std.proofs.Common.{◌≡◌, ℕ, zero, suc, ◌+◌, ◌%◌, ◌<◌, ◌≤◌, ◌≢◌, Bool, true, false, true≢false, cond, eqb, List, [], ◌∷◌, ◌++◌, length, get_or, set, take, drop, refl, sym, ap, ◌∙◌, subst, ⊎_elim, arith, Option, Some, None, length-append, length-set, get_or-set_other, get_or-set_same, eq-eqb, ne_eqb}
-use Rattle.std.specs.Prelude.{All}
+use Rattle.std.proofs.Common.{◌≡◌, ℕ, zero, suc, ◌+◌, ◌%◌, ◌<◌, ◌≤◌, ◌≢◌, Bool, true, false, true≢false, cond, eqb, List, [], ◌∷◌, ◌++◌, length, get_or, set, take, drop, refl, append_assoc, sym, ap, ◌∙◌, subst, ⊎_elim, inl, inr, arith, Option, Some, None, length-append, length-set, get_or-set_other, get_or-set_same, eq-eqb, ne_eqb}
+use Rattle.std.specs.Prelude.{All, ◌⊎◌}
 use Rattle.std.proofs.lemmas.List.Elements.{All-nil, All-cons, All-append, All-weaker, All-map, All-take, All-drop}
-use Rattle.std.proofs.lemmas.List.{take-append-drop, length-map}
+use Rattle.std.proofs.lemmas.List.{take-append-drop, length-map, append-nil}
 use mathlib.Core.Logic.{dite}
 use mathlib.Core.Option.{some, none, some-ne-none, some-injective}
 use mathlib.Core.List.{IsPrefix}
@@ -13,17 +13,25 @@ use prog.Atomic.{either}
 use Rattle.atomic_table.specs.Table.{Act, Valid, carried_after, step, keeps, takes, gives, rest, homes_after, stepped, Allows, Enters, Splits, Joins, opening}
 use Rattle.atomic_table.proofs.Lists.{at_set, set_here, set_else, at_snoc, exchanged}
 use Rattle.loop_model.specs.declared.entry.Entry.{Entry}
+use Rattle.loop_model.specs.declared.base.Base.{Base}
+use Rattle.loop_model.specs.declared.segment.Segment.{Segment}
+use Rattle.loop_model.specs.Base.{empty_base}
+use Rattle.loop_model.specs.Chain.{after, entries_of}
 use Rattle.loop_model.specs.Lists.{total, longer}
 use Rattle.loop_model.specs.Answers.{Setting}
-use Rattle.shared_queue.specs.Constants.{Constants, made_in, IsStateOf}
-use Rattle.queue_state.specs.Queue.{Queue}
+use Rattle.shared_queue.specs.Constants.{Constants, last_of, made_in, IsFor}
+use Rattle.shared_queue.specs.Whole.{Course, whole_of, Spans}
+use Rattle.queue_state.specs.Queue.{Queue, part_of, sealed}
 use Rattle.shared_queue.specs.declared.view.View.{View}
-use Rattle.shared_queue.specs.Turn.{IsFirst, Board, turn_of, holds, Counts, Fits, AtHome, Turn, new_senders, opening_view, counted, taking, giving, fresh, dealt, keeping, joined, gone}
+use Rattle.shared_queue.specs.Turn.{IsFirst, Board, turn_of, holds, Counts, IsPresent, Fits, AtHome, Turn, new_senders, opening_view, counted, taking, seen_with, giving, part_in, handing, fresh, dealt, keeping, joined, gone}
 use Rattle.shared_queue.proofs.Untold.{untold_before, untold_front, told_one}
-use Rattle.shared_queue.specs.Plays.{Sat, bare, sat, took, gave, MayGive, learned, rang, listened}
+use Rattle.shared_queue.specs.Plays.{Sat, bare, sat, took, gave, handed, MayGive, MayHand, learned, rang, listened}
 use Rattle.loop_model.proofs.Sums.{set_at, has_first, total-append, total-set, total-none, term_le, terms_le}
+use Rattle.loop_model.proofs.AfterLaws.{after-after, after-none}
+use Rattle.loop_model.proofs.LegalLaws.{IsLegal-none, AreNumbered-none}
 use Rattle.loop_model.proofs.Prefixes.{prefix_self, prefix_front, prefix_trans, longer_begins}
 use Rattle.shared_queue.proofs.Prefixes.{made_in_push, one_of-no, made_in_between}
+use Rattle.shared_queue.proofs.Courses.{with_since, empty_length, seen_is, sealed_seen, chain_more, entries_more, past_legal, past_numbered}
 
 abbrev shown_or : {H K : Type 0} → Queue H K → Option (Queue H K) → Queue H K
 shown_or d None = d
@@ -58,16 +66,22 @@ held_below key n (p ∷ ps) all held = dite (ℕ_discrete p.0 n)
     (λ e. subst (λ (m : ℕ). m < key.setting.senders) e (all 0 p (omega arith)))
     (λ apart. let none : cond {A = ℕ} (eqb p.0 n) 1 0 ≡ 0 = ap (λ b. cond {A = ℕ} b 1 0) (ne_eqb p.0 n apart) in held_below key n ps (λ k d l. all (suc k) d (omega arith)) (omega arith))
 
+-- one that is none of the queue's is not held
+none_held : {H : Type 0} (key : Constants H) (n : ℕ) (senders : List (ℕ × ℕ)) → All (IsBelow key) senders → (n < key.setting.senders → ⊥) → total (λ (p : ℕ × ℕ). cond (eqb p.0 n) 1 0) senders ≡ 0
+none_held key n senders all above = dite (dec_lt 0 (total (λ (p : ℕ × ℕ). cond (eqb p.0 n) 1 0) senders))
+    (λ held. absurd (above (held_below key n senders all held)))
+    (λ none. omega arith)
+
 -- the senders stay in the view
 holds-counted : (n : ℕ) (history : List Entry) (senders : List (ℕ × ℕ)) → total (λ (p : ℕ × ℕ). cond (eqb p.0 n) 1 0) (counted history senders) ≡ total (λ (p : ℕ × ℕ). cond (eqb p.0 n) 1 0) senders
 holds-counted n history [] = refl
 holds-counted n history (p ∷ ps) = ap (λ (k : ℕ). cond (eqb p.0 n) 1 0 + k) (holds-counted n history ps)
 
 module _ {H K : Type 0} (key : Constants H) where
-  abbrev Each : List Entry → List (View (Queue H K) H) → Type 0
+  abbrev Each : Course → List (View (Queue H K) H) → Type 0
   Each whole views = (j : ℕ) (v : View (Queue H K) H) → get_elem? views j ≡ some v → Fits key whole v
 
-  each_set : (whole : List Entry) (views : List (View (Queue H K) H)) (id : ℕ) (w : View (Queue H K) H) → Fits key whole w
+  each_set : (whole : Course) (views : List (View (Queue H K) H)) (id : ℕ) (w : View (Queue H K) H) → Fits key whole w
       → ((j : ℕ) (u : View (Queue H K) H) → j ≢ id → get_elem? views j ≡ some u → Fits key whole u) → Each whole (set views id w)
   each_set whole views id w mine others j u e = ⊎_elim
       (λ (t : (j ≡ id) × (w ≡ u)). subst (Fits key whole) t.1 mine)
@@ -76,34 +90,40 @@ module _ {H K : Type 0} (key : Constants H) where
 
   -- a step of one seat that changes no word, where the view keeps its part of the sums
   unmoved : (s : Board H K) (r : Turn key s) (i id : ℕ) (cs : List (ℕ × Option (Queue H K))) (v w : View (Queue H K) H) → get_elem? s.views id ≡ some v → turn_of w ≡ turn_of v → w.senders ≡ v.senders → w.rung ≡ v.rung → w.told ≡ v.told
-      → Fits key r.whole w → Turn key (stepped s i (get_or s.words i 0) id cs w keeps)
+      → Fits key r.course w → Turn key (stepped s i (get_or s.words i 0) id cs w keeps)
   unmoved s r i id cs v w at turns senders rung told mine =
       subst (λ (ws : List ℕ). Turn key (record { words = ws; homes = s.homes; views = set s.views id w })) (sym (set-get_or s.words i 0)) record {
-        whole = r.whole;
+        course = r.course;
+        chain = r.chain;
+        legal = r.legal;
+        numbered = r.numbered;
         wide = r.wide;
         deep = r.deep;
         turns = omega (arith, total-set turn_of s.views id v w at, r.turns, turns);
         once = r.once;
         free = r.free;
         first = λ untold. r.first (untold_before s.views id v w at (λ e. sym told ∙ e) untold);
-        each = each_set r.whole s.views id w mine (λ j u _ e. r.each j u e);
+        each = each_set r.course s.views id w mine (λ j u _ e. r.each j u e);
         placed = λ n below. omega (arith, total-set (holds n) s.views id v w at, r.placed n below, ap (total (λ (p : ℕ × ℕ). cond (eqb p.0 n) 1 0)) senders);
         bell = let same : total (λ (x : View (Queue H K) H). x.rung) (set s.views id w) ≡ total (λ (x : View (Queue H K) H). x.rung) s.views = omega (arith, total-set (λ (x : View (Queue H K) H). x.rung) s.views id v w at, rung) in
             r.bell ∙ ap (λ (n : ℕ). n % 18446744073709551616) (sym same);
       }
 
   -- the view of a seat that wins the turn
-  taken_fits : (whole : List Entry) (v : View (Queue H K) H) (x : Queue H K) → Fits key whole v → x.entries ≡ whole → 0 < length v.senders → Fits key whole (taking v x)
-  taken_fits whole v x f same some_sender = record {
-    constants = f.constants;
-    seen = subst (λ l. IsPrefix l whole) (sym same) (prefix_self whole);
-    told = All-cons (λ t. IsPrefix t x.entries) v.seen v.told (subst (IsPrefix v.seen) (sym same) f.seen)
-        (All-weaker (λ t. IsPrefix t v.seen) (λ t. IsPrefix t x.entries) (λ t p. prefix_trans t v.seen x.entries p (subst (IsPrefix v.seen) (sym same) f.seen)) v.told f.told);
-    below = f.below;
-    mine = All-weaker (Counts whole v.seen) (Counts whole x.entries) (λ p c. (c.0, ap (made_in p.0) same ∙ c.0)) v.senders f.mine;
-    turn = λ _. (same, some_sender);
-    quiet = f.quiet;
-  }
+  taken_fits : (course : Course) (v : View (Queue H K) H) (x : Queue H K) → Fits key course v → IsPresent key course x → 0 < length v.senders → Fits key course (taking v (whole_of course) x)
+  taken_fits course v x f present some_sender =
+      let whole : List Entry = whole_of course in
+      record {
+        constants = f.constants;
+        seen = prefix_self whole;
+        told = All-cons (λ t. IsPrefix t whole) v.seen v.told f.seen (All-weaker (λ t. IsPrefix t v.seen) (λ t. IsPrefix t whole) (λ t p. prefix_trans t v.seen whole p f.seen) v.told f.told);
+        below = f.below;
+        mine = All-weaker (Counts whole v.seen) (Counts whole whole) (λ p c. (c.0, c.0)) v.senders f.mine;
+        turn = λ _. (refl, some_sender, (x, refl, present));
+        quiet = f.quiet;
+        sealed = f.sealed;
+        unsealed = f.unsealed;
+      }
 
   abbrev Goes : Board H K → ℕ → ℕ → Sat H K → (ℕ → Sat H K → Type 0) → ℕ → Type 0
   Goes s i id m then k = (w : View (Queue H K) H) × (a : Act (Option (Queue H K))) × Valid s.homes m.1 a × Turn key (stepped s i k id m.1 w a) × then (get_or s.words i 0) (w, carried_after m.1 a)
@@ -115,8 +135,9 @@ module _ {H K : Type 0} (key : Constants H) where
       let home = r.free zero_word in
       let x : Queue H K = home.0 in
       let v : View (Queue H K) H = m.0 in
-      let w : View (Queue H K) H = taking v x in
-      let f : Fits key r.whole v = r.each id v at in
+      let whole : List Entry = whole_of r.course in
+      let w : View (Queue H K) H = taking v whole x in
+      let f : Fits key r.course v = r.each id v at in
       let nobody : turn_of v ≡ 0 = omega (arith, term_le turn_of s.views id v at, r.turns) in
       let wide = r.wide in
       let now : get_or (set s.words 0 1) 0 0 ≡ 1 = get_or-set_same s.words 0 1 0 (omega arith) in
@@ -126,28 +147,32 @@ module _ {H K : Type 0} (key : Constants H) where
         takes 0 (Some x),
         home.1,
         record {
-          whole = r.whole;
+          course = r.course;
+          chain = r.chain;
+          legal = r.legal;
+          numbered = r.numbered;
           wide = length-set s.words 0 1 ∙ r.wide;
           deep = length-set s.homes 0 none ∙ r.deep;
           turns = omega (arith, total-set turn_of s.views id v w at, r.turns, now);
           once = omega (arith, now);
           free = λ e. absurd (omega (arith, now, e));
           first = λ untold. absurd (told_one s.views id v w v.seen v.told at refl untold);
-          each = each_set r.whole s.views id w (taken_fits r.whole v x f home.3 some_sender) (λ j u _ e. r.each j u e);
+          each = each_set r.course s.views id w (taken_fits r.course v x f home.3 some_sender) (λ j u _ e. r.each j u e);
           placed = λ n below. omega (arith, total-set (holds n) s.views id v w at, r.placed n below);
           bell = apart ∙ (r.bell ∙ ap (λ (n : ℕ). n % 18446744073709551616) (sym rings));
         },
         (
           (λ _. (
             x,
+            whole,
             refl,
-            λ c e. subst (λ (k : Constants H). IsStateOf k x) (sym (f.constants c e)) home.2,
+            λ c e. subst (λ (k : Constants H). IsFor k x × Spans k.setting whole x) (sym (f.constants c e)) (
+              home.2,
+              (entries_of r.course.parts, ap (λ l. entries_of r.course.parts ++ l) (sym home.3.1), record { legal = r.legal; numbered = r.numbered; left = home.3.0 }),
+            ),
             (
-              subst (IsPrefix v.seen) (sym home.3) f.seen,
-              λ k d l. (
-                subst (λ (t : Setting). (get_or v.senders k d).0 < t.senders) (sym home.2.setting) (f.below k d l),
-                ap (made_in (get_or v.senders k d).0) home.3 ∙ (f.mine k d l).0,
-              ),
+              f.seen,
+              λ k d l. (subst (λ (t : Setting). (get_or v.senders k d).0 < t.senders) (sym home.2.setting) (f.below k d l), (f.mine k d l).0),
             ),
           )),
           λ held. absurd (held zero_word),
@@ -162,27 +187,35 @@ module _ {H K : Type 0} (key : Constants H) where
       (λ held. (m.0, keeps, tt, unmoved s r 0 id m.1 m.0 m.0 at refl refl refl refl (r.each id m.0 at), ((λ free. absurd (held free)), λ _. refl)))
 
   -- the view of a seat that gives the turn back, with the state x
-  given_fits : (v : View (Queue H K) H) (x : Queue H K) → ((c : Constants H) → v.constants ≡ Some c → c ≡ key) → IsPrefix v.seen x.entries → All (λ t. IsPrefix t v.seen) v.told → All (IsBelow key) v.senders → (0 < v.rung → 0 < length v.senders) → Fits key x.entries (giving v x)
-  given_fits v x constants more told below quiet = record {
-    constants = constants;
-    seen = prefix_self x.entries;
-    told = All-cons (λ t. IsPrefix t x.entries) v.seen v.told more (All-weaker (λ t. IsPrefix t v.seen) (λ t. IsPrefix t x.entries) (λ t p. prefix_trans t v.seen x.entries p more) v.told told);
-    below = All-map (IsBelow key) (λ (p : ℕ × ℕ). (p.0, made_in p.0 x.entries)) v.senders below;
-    mine = All-map (Counts x.entries x.entries) (λ (p : ℕ × ℕ). (p.0, made_in p.0 x.entries)) v.senders (λ k d l. (refl, refl));
-    turn = λ e. absurd (true≢false (sym e));
-    quiet = λ rings. subst (λ (n : ℕ). 0 < n) (sym (length-map v.senders (λ (p : ℕ × ℕ). (p.0, made_in p.0 x.entries)))) (quiet rings);
-  }
+  given_fits : (course : Course) (v : View (Queue H K) H) (x : Queue H K) (parts : List Segment) → seen_with v x ≡ whole_of course → ((c : Constants H) → v.constants ≡ Some c → c ≡ key) → IsPrefix v.seen (whole_of course) → All (λ t. IsPrefix t v.seen) v.told → All (IsBelow key) v.senders
+      → (0 < v.rung → 0 < length v.senders) → (0 < holds (last_of key) v → parts ≡ course.parts) → (holds (last_of key) v ≡ 0 → parts ≡ []) → Fits key course (record (giving v x) { sealed = parts })
+  given_fits course v x parts is constants more told below quiet sealed unsealed =
+      let now : List Entry = seen_with v x in
+      record {
+        constants = constants;
+        seen = subst (IsPrefix now) is (prefix_self now);
+        told = All-cons (λ t. IsPrefix t now) v.seen v.told (subst (IsPrefix v.seen) (sym is) more) (All-weaker (λ t. IsPrefix t v.seen) (λ t. IsPrefix t now) (λ t p. prefix_trans t v.seen now p (subst (IsPrefix v.seen) (sym is) more)) v.told told);
+        below = All-map (IsBelow key) (λ (p : ℕ × ℕ). (p.0, made_in p.0 now)) v.senders below;
+        mine = All-map (Counts (whole_of course) now) (λ (p : ℕ × ℕ). (p.0, made_in p.0 now)) v.senders (λ k d l. (ap (made_in (get_or v.senders k d).0) (sym is), refl));
+        turn = λ e. absurd (true≢false (sym e));
+        quiet = λ rings. subst (λ (n : ℕ). 0 < n) (sym (length-map v.senders (λ (p : ℕ × ℕ). (p.0, made_in p.0 now)))) (quiet rings);
+        sealed = λ held. sealed (let same = holds-counted (last_of key) now v.senders in omega (arith, same, held));
+        unsealed = λ none. unsealed (let same = holds-counted (last_of key) now v.senders in omega (arith, same, none));
+      }
 
   -- another view stays so where the history grows by no entry of a sender of it
-  others_fit : (whole longer : List Entry) (u : View (Queue H K) H) → Fits key whole u → u.has_turn ≡ false → IsPrefix whole longer → All (λ (p : ℕ × ℕ). made_in p.0 longer ≡ made_in p.0 whole) u.senders → Fits key longer u
-  others_fit whole longer u f no_turn more same = record {
+  others_fit : (course next : Course) (u : View (Queue H K) H) → Fits key course u → u.has_turn ≡ false → IsPrefix (whole_of course) (whole_of next) → All (λ (p : ℕ × ℕ). made_in p.0 (whole_of next) ≡ made_in p.0 (whole_of course)) u.senders
+      → (0 < holds (last_of key) u → next.parts ≡ course.parts) → Fits key next u
+  others_fit course next u f no_turn more same parts = record {
     constants = f.constants;
-    seen = prefix_trans u.seen whole longer f.seen more;
+    seen = prefix_trans u.seen (whole_of course) (whole_of next) f.seen more;
     told = f.told;
     below = f.below;
     mine = λ k d l. let c = f.mine k d l in (same k d l ∙ c.0, c.1);
     turn = λ e. absurd (true≢false (sym e ∙ no_turn));
     quiet = f.quiet;
+    sealed = λ held. f.sealed held ∙ sym (parts held);
+    unsealed = f.unsealed;
   }
 
   held_by : (v : View (Queue H K) H) → turn_of v ≡ 0 → v.has_turn ≡ false
@@ -192,19 +225,40 @@ module _ {H K : Type 0} (key : Constants H) where
       by_cases true e = absurd (omega arith)
       by_cases false e = refl
 
-  -- what a seat may give back begins with all that it has seen
-  gives_more : (v : View (Queue H K) H) (x : Queue H K) → MayGive v x → IsPrefix v.seen x.entries
-  gives_more v x may = ⊎_elim
-      (λ (e : x.entries ≡ v.seen). subst (IsPrefix v.seen) (sym e) (prefix_self v.seen))
-      (λ (t : (e : Entry) × (x.entries ≡ v.seen ++ e ∷ []) × (0 < holds e.sender v)). subst (IsPrefix v.seen) (sym t.1) (prefix_front v.seen (t.0 ∷ [])))
+  -- what a seat may give back goes on from what it found, which is the present state
+  goes_on : (course : Course) (v : View (Queue H K) H) (y : Queue H K) (f : Fits key course v) (has : v.has_turn ≡ true) (may : MayGive v y)
+      → IsPresent key (with_since course y.entries) y × (seen_with v y ≡ whole_of (with_since course y.entries))
+      × ((y.entries ≡ course.since) ⊎ ((e : Entry) × (y.entries ≡ course.since ++ e ∷ []) × (0 < holds e.sender v)))
+  goes_on course v y f has may =
+      let t = f.turn has in
+      let found = t.2 in
+      let same : found.0 ≡ may.0 = let both : Some found.0 ≡ Some may.0 = sym found.1 ∙ may.1 in cc (both) in
+      let base : y.start ≡ after (empty_base key.setting.senders) (entries_of course.parts) = may.2.0 ∙ (ap (λ (x : Queue H K). x.start) (sym same) ∙ found.2.0) in
+      let since : may.0.entries ≡ course.since = ap (λ (x : Queue H K). x.entries) (sym same) ∙ found.2.1 in
+      let long : y.start.length ≡ length (entries_of course.parts) = ap (λ (b : Base). b.length) base ∙ empty_length key.setting.senders (entries_of course.parts) in (
+        (base, refl),
+        seen_is y.start.length (entries_of course.parts) course.since v.seen y.entries long t.0,
+        ⊎_elim
+            (λ (e : y.entries ≡ may.0.entries). inl (e ∙ since))
+            (λ (g : (e : Entry) × (y.entries ≡ may.0.entries ++ e ∷ []) × (0 < holds e.sender v)). inr (g.0, g.1 ∙ ap (λ l. l ++ g.0 ∷ []) since, g.2))
+            may.2.1,
+      )
+
+  -- it begins with all that was there
+  gives_more : (course : Course) (v : View (Queue H K) H) (es : List Entry) → (es ≡ course.since) ⊎ ((e : Entry) × (es ≡ course.since ++ e ∷ []) × (0 < holds e.sender v)) → IsPrefix (whole_of course) (whole_of (with_since course es))
+  gives_more course v es may = ⊎_elim
+      (λ (e : es ≡ course.since). subst (λ l. IsPrefix (whole_of course) (entries_of course.parts ++ l)) (sym e) (prefix_self (whole_of course)))
+      (λ (t : (e : Entry) × (es ≡ course.since ++ e ∷ []) × (0 < holds e.sender v)).
+      let is : entries_of course.parts ++ es ≡ whole_of course ++ t.0 ∷ [] = ap (λ l. entries_of course.parts ++ l) t.1 ∙ sym (append_assoc (entries_of course.parts) course.since (t.0 ∷ [])) in
+      subst (IsPrefix (whole_of course)) (sym is) (prefix_front (whole_of course) (t.0 ∷ [])))
       may
 
   -- no other seat's sender gets an entry
-  others_stay : (s : Board H K) (r : Turn key s) (id j : ℕ) (v u : View (Queue H K) H) (x : Queue H K) → get_elem? s.views id ≡ some v → get_elem? s.views j ≡ some u → j ≢ id → v.seen ≡ r.whole → MayGive v x
-      → All (λ (p : ℕ × ℕ). made_in p.0 x.entries ≡ made_in p.0 r.whole) u.senders
-  others_stay s r id j v u x at there apart same may = ⊎_elim
-      (λ (e : x.entries ≡ v.seen). λ k d l. ap (made_in (get_or u.senders k d).0) (e ∙ same))
-      (λ (t : (e : Entry) × (x.entries ≡ v.seen ++ e ∷ []) × (0 < holds e.sender v)). λ k d l.
+  others_stay : (s : Board H K) (r : Turn key s) (id j : ℕ) (v u : View (Queue H K) H) (es : List Entry) → get_elem? s.views id ≡ some v → get_elem? s.views j ≡ some u → j ≢ id → (es ≡ r.course.since) ⊎ ((e : Entry) × (es ≡ r.course.since ++ e ∷ []) × (0 < holds e.sender v))
+      → All (λ (p : ℕ × ℕ). made_in p.0 (whole_of (with_since r.course es)) ≡ made_in p.0 (whole_of r.course)) u.senders
+  others_stay s r id j v u es at there apart may = ⊎_elim
+      (λ (e : es ≡ r.course.since). λ k d l. ap (λ z. made_in (get_or u.senders k d).0 (entries_of r.course.parts ++ z)) e)
+      (λ (t : (e : Entry) × (es ≡ r.course.since ++ e ∷ []) × (0 < holds e.sender v)). λ k d l.
       let n : ℕ = (get_or u.senders k d).0 in
       let e : Entry = t.0 in
       let other : e.sender ≢ n = λ is.
@@ -212,15 +266,18 @@ module _ {H K : Type 0} (key : Constants H) where
       let below : e.sender < key.setting.senders = held_below key e.sender v.senders (r.each id v at).below mine in
       let here : 0 < holds e.sender u = holds_at e.sender u.senders k d l (sym is) in
       omega (arith, terms_le (holds e.sender) s.views id j v u apart at there, r.placed e.sender below) in
-      ap (made_in n) t.1 ∙ (made_in_push n v.seen e ∙ (omega (arith, one_of-no n e other, ap (made_in n) same))))
+      let is : entries_of r.course.parts ++ es ≡ whole_of r.course ++ e ∷ [] = ap (λ z. entries_of r.course.parts ++ z) t.1 ∙ sym (append_assoc (entries_of r.course.parts) r.course.since (e ∷ [])) in
+      ap (made_in n) is ∙ (made_in_push n (whole_of r.course) e ∙ (omega (arith, one_of-no n e other))))
       may
 
-  pub gives_turn : (slots id : ℕ) (m : Sat H K) (x : Queue H K) → m.1 ≡ (0, Some x) ∷ [] → m.0.has_turn ≡ true → IsStateOf key x → MayGive m.0 x
+  pub gives_turn : (slots id : ℕ) (m : Sat H K) (x : Queue H K) → m.1 ≡ (0, Some x) ∷ [] → m.0.has_turn ≡ true → IsFor key x → MayGive m.0 x
       → Allows (Turn key) slots id m 0 (λ _. 0) (λ _. gave (step slots 0 0 0 none) m 0)
   gives_turn slots id m x carries has own may s r wide at small =
       let v : View (Queue H K) H = m.0 in
       let w : View (Queue H K) H = giving v x in
-      let f : Fits key r.whole v = r.each id v at in
+      let f : Fits key r.course v = r.each id v at in
+      let g = goes_on r.course v x f has may in
+      let next : Course = with_since r.course x.entries in
       let whole_seen = (f.turn has).0 in
       let one : turn_of v ≡ 1 = ap (λ b. cond b 1 0) has in
       let words_wide = r.wide in
@@ -229,42 +286,109 @@ module _ {H K : Type 0} (key : Constants H) where
       let now : get_or (set s.words 0 0) 0 0 ≡ 0 = get_or-set_same s.words 0 0 0 (omega arith) in
       let apart : get_or (set s.words 0 0) 1 0 ≡ get_or s.words 1 0 = get_or-set_other s.words 0 1 0 0 (λ e. omega arith) in
       let rings : total (λ (u : View (Queue H K) H). u.rung) (set s.views id w) ≡ total (λ (u : View (Queue H K) H). u.rung) s.views = omega (arith, total-set (λ (u : View (Queue H K) H). u.rung) s.views id v w at) in
-      let more : IsPrefix r.whole x.entries = subst (λ l. IsPrefix l x.entries) whole_seen (gives_more v x may) in (
+      let more : IsPrefix (whole_of r.course) (whole_of next) = gives_more r.course v x.entries g.2 in (
         w,
         gives,
         tt,
         subst (λ c. Turn key (record { words = set s.words 0 0; homes = homes_after s.homes c gives; views = set s.views id w })) (sym carries) record {
-          whole = x.entries;
+          course = next;
+          chain = r.chain;
+          legal = r.legal;
+          numbered = r.numbered;
           wide = length-set s.words 0 0 ∙ r.wide;
           deep = length-set s.homes 0 (some (Some x)) ∙ r.deep;
           turns = omega (arith, total-set turn_of s.views id v w at, r.turns, now);
           once = omega (arith, now);
-          free = λ _. (x, set_here s.homes 0 (some (Some x)) (omega arith), own, refl);
+          free = λ _. (x, set_here s.homes 0 (some (Some x)) (omega arith), own, g.0);
           first = λ untold. absurd (told_one s.views id v w v.seen v.told at refl untold);
-          each = each_set x.entries s.views id w (given_fits v x f.constants (gives_more v x may) f.told f.below f.quiet)
-              (λ j u other there. others_fit r.whole x.entries u (r.each j u there)
+          each = each_set next s.views id w (given_fits next v x v.sealed g.1 f.constants (subst (λ l. IsPrefix l (whole_of next)) (sym whole_seen) more) f.told f.below f.quiet f.sealed f.unsealed)
+              (λ j u other there. others_fit r.course next u (r.each j u there)
               (held_by u (omega (arith, terms_le turn_of s.views id j v u other at there, r.turns))) more
-              (others_stay s r id j v u x at there other whole_seen may));
-          placed = λ n below. omega (arith, total-set (holds n) s.views id v w at, r.placed n below, holds-counted n x.entries v.senders);
+              (others_stay s r id j v u x.entries at there other g.2) (λ _. refl));
+          placed = λ n below. omega (arith, total-set (holds n) s.views id v w at, r.placed n below, holds-counted n (seen_with v x) v.senders);
           bell = apart ∙ (r.bell ∙ ap (λ (n : ℕ). n % 18446744073709551616) (sym rings));
         },
         λ y carries'. let same : x ≡ y = ap (carried_or x) (sym carries ∙ carries') in (λ i. (giving v (same i), ap rest carries i)),
       )
 
+  -- the seat of the last sender gives the state back sealed
+  pub hands_over : (slots id : ℕ) (m : Sat H K) (y : Queue H K) → m.1 ≡ (0, Some y) ∷ [] → m.0.has_turn ≡ true → IsFor key y → 0 < holds (last_of key) m.0 → MayHand m.0 y
+      → Allows (Turn key) slots id m 0 (λ _. 0) (λ _. handed (step slots 0 0 0 none) m 0)
+  hands_over slots id m y carries has own last may s r wide at small =
+      let v : View (Queue H K) H = m.0 in
+      let w : View (Queue H K) H = handing v y in
+      let f : Fits key r.course v = r.each id v at in
+      let t = f.turn has in
+      let found = t.2 in
+      let x : Queue H K = may.0 in
+      let same : found.0 ≡ x = let both : Some found.0 ≡ Some x = sym found.1 ∙ may.1 in cc (both) in
+      let nothing : Base = empty_base key.setting.senders in
+      let before : List Entry = entries_of r.course.parts in
+      let base : x.start ≡ after nothing before = ap (λ (z : Queue H K). z.start) (sym same) ∙ found.2.0 in
+      let since : x.entries ≡ r.course.since = ap (λ (z : Queue H K). z.entries) (sym same) ∙ found.2.1 in
+      let setting : x.setting ≡ key.setting = ap (λ (z : Queue H K). z.setting) (sym may.2) ∙ own.setting in
+      let next : Course = record { parts = r.course.parts ++ part_of x ∷ []; since = [] } in
+      let all : entries_of next.parts ≡ before ++ x.entries = entries_more r.course.parts (part_of x) in
+      let whole : whole_of next ≡ whole_of r.course = append-nil (entries_of next.parts) ∙ (all ∙ ap (λ l. before ++ l) since) in
+      let seen : seen_with v y ≡ whole_of next = sealed_seen key.setting.senders before r.course.since v.seen x y may.2 base since t.0 ∙ (t.0 ∙ sym whole) in
+      let below : last_of key < key.setting.senders = held_below key (last_of key) v.senders f.below last in
+      let one : turn_of v ≡ 1 = ap (λ b. cond b 1 0) has in
+      let words_wide = r.wide in
+      let deep = r.deep in
+      let once = r.once in
+      let now : get_or (set s.words 0 0) 0 0 ≡ 0 = get_or-set_same s.words 0 0 0 (omega arith) in
+      let apart : get_or (set s.words 0 0) 1 0 ≡ get_or s.words 1 0 = get_or-set_other s.words 0 1 0 0 (λ e. omega arith) in
+      let rings : total (λ (u : View (Queue H K) H). u.rung) (set s.views id w) ≡ total (λ (u : View (Queue H K) H). u.rung) s.views = omega (arith, total-set (λ (u : View (Queue H K) H). u.rung) s.views id v w at) in
+      let parts : v.sealed ++ part_in v.found ≡ next.parts = ap (λ (o : Option (Queue H K)). v.sealed ++ part_in o) may.1 ∙ ap (λ l. l ++ part_of x ∷ []) (f.sealed last) in (
+        w,
+        gives,
+        tt,
+        subst (λ c. Turn key (record { words = set s.words 0 0; homes = homes_after s.homes c gives; views = set s.views id w })) (sym carries) record {
+          course = next;
+          chain = chain_more nothing r.course.parts (part_of x) tt r.chain base;
+          legal = past_legal key.setting r.course.parts x r.legal base setting may.3;
+          numbered = past_numbered key.setting r.course.parts x r.numbered base setting may.4;
+          wide = length-set s.words 0 0 ∙ r.wide;
+          deep = length-set s.homes 0 (some (Some y)) ∙ r.deep;
+          turns = omega (arith, total-set turn_of s.views id v w at, r.turns, now);
+          once = omega (arith, now);
+          free = λ _. (
+            y,
+            set_here s.homes 0 (some (Some y)) (omega arith),
+            own,
+            (ap (λ (z : Queue H K). z.start) may.2 ∙ (ap (λ (b : Base). after b x.entries) base ∙ (after-after nothing before x.entries ∙ ap (after nothing) (sym all))), ap (λ (z : Queue H K). z.entries) may.2),
+          );
+          first = λ untold. absurd (told_one s.views id v w v.seen v.told at refl untold);
+          each = each_set next s.views id w
+              (given_fits next v y (v.sealed ++ part_in v.found) seen f.constants (subst (IsPrefix v.seen) (sym whole) f.seen) f.told f.below f.quiet (λ _. parts) (λ none. absurd (omega (arith, none, last))))
+              (λ j u other there. others_fit r.course next u (r.each j u there)
+              (held_by u (omega (arith, terms_le turn_of s.views id j v u other at there, r.turns))) (subst (IsPrefix (whole_of r.course)) (sym whole) (prefix_self (whole_of r.course)))
+              (λ k d l. ap (made_in (get_or u.senders k d).0) whole)
+              (λ held. absurd (omega (arith, terms_le (holds (last_of key)) s.views id j v u other at there, r.placed (last_of key) below, held, last))));
+          placed = λ n below. omega (arith, total-set (holds n) s.views id v w at, r.placed n below, holds-counted n (seen_with v y) v.senders);
+          bell = apart ∙ (r.bell ∙ ap (λ (n : ℕ). n % 18446744073709551616) (sym rings));
+        },
+        λ z carries'. let same : y ≡ z = ap (carried_or y) (sym carries ∙ carries') in (λ i. (handing v (same i), ap rest carries i)),
+      )
+
   -- another view that has no turn and the same list
-  fits_with : (whole : List Entry) (v : View (Queue H K) H) (senders : List (ℕ × ℕ)) → Fits key whole v → (v.has_turn ≡ true → 0 < length senders) → (0 < v.rung → 0 < length senders) → All (IsBelow key) senders → All (Counts whole v.seen) senders → Fits key whole (keeping v senders)
-  fits_with whole v senders f some_sender quiet below mine = record {
+  fits_with : (whole : Course) (v : View (Queue H K) H) (senders : List (ℕ × ℕ)) → Fits key whole v → (v.has_turn ≡ true → 0 < length senders) → (0 < v.rung → 0 < length senders) → All (IsBelow key) senders → All (Counts (whole_of whole) v.seen) senders
+      → (0 < holds (last_of key) (keeping v senders) → 0 < holds (last_of key) v) → (holds (last_of key) (keeping v senders) ≡ 0 → v.sealed ≡ []) → Fits key whole (keeping v senders)
+  fits_with whole v senders f some_sender quiet below mine held no_part = record {
     constants = f.constants;
     seen = f.seen;
     told = f.told;
     below = below;
     mine = mine;
-    turn = λ has. ((f.turn has).0, some_sender has);
+    turn = λ has. let t = f.turn has in (t.0, some_sender has, t.2);
     quiet = quiet;
+    sealed = λ h. f.sealed (held h);
+    unsealed = no_part;
   }
 
-  fits_fresh : (whole : List Entry) (v : View (Queue H K) H) (had : ℕ) (senders : List (ℕ × ℕ)) → Fits key whole v → All (IsBelow key) senders → All (Counts whole v.seen) senders → Fits key whole (record (fresh v senders) { turns = had })
-  fits_fresh whole v had senders f below mine = record {
+  fits_fresh : (whole : Course) (v : View (Queue H K) H) (had : ℕ) (senders : List (ℕ × ℕ)) → Fits key whole v → All (IsBelow key) senders → All (Counts (whole_of whole) v.seen) senders
+      → (0 < holds (last_of key) (fresh v senders) → [] ≡ whole.parts) → Fits key whole (record (fresh v senders) { turns = had })
+  fits_fresh whole v had senders f below mine no_part = record {
     constants = f.constants;
     seen = f.seen;
     told = All-nil (λ t. IsPrefix t v.seen);
@@ -272,22 +396,31 @@ module _ {H K : Type 0} (key : Constants H) where
     mine = mine;
     turn = λ e. absurd (true≢false (sym e));
     quiet = λ (rings : 0 < 0). absurd (omega arith);
+    sealed = no_part;
+    unsealed = λ _. refl;
   }
 
   -- a new seat comes with some of the sender numbers
   pub splits_off : (id : ℕ) (v : View (Queue H K) H) (had : ℕ) (first second : List (ℕ × ℕ)) → (v.has_turn ≡ true → 0 < length second) → (0 < v.rung → 0 < length v.senders → 0 < length second)
       → ((P : ℕ × ℕ → Type 0) → All P v.senders → All P first × All P second) → ((g : ℕ × ℕ → ℕ) → total g v.senders ≡ total g first + total g second)
+      → (holds (last_of key) (keeping v second) ≡ 0 → holds (last_of key) v ≡ 0 ⊎ (v.sealed ≡ [])) → (0 < holds (last_of key) (fresh v first) → v.sealed ≡ [])
       → Splits (Turn key) id v (keeping v second) (record (fresh v first) { turns = had })
-  splits_off id v had first second some_sender quiet parts sums s r at =
+  splits_off id v had first second some_sender quiet parts sums none_left none_here s r at =
       let w : View (Queue H K) H = keeping v second in
       let u : View (Queue H K) H = record (fresh v first) { turns = had } in
-      let f : Fits key r.whole v = r.each id v at in
-      let mine = parts (Counts r.whole v.seen) f.mine in
+      let f : Fits key r.course v = r.each id v at in
+      let mine = parts (Counts (whole_of r.course) v.seen) f.mine in
       let below = parts (IsBelow key) f.below in
+      let last_sum : holds (last_of key) v ≡ holds (last_of key) (fresh v first) + holds (last_of key) w = sums (λ (p : ℕ × ℕ). cond (eqb p.0 (last_of key)) 1 0) in
+      let left_none : holds (last_of key) w ≡ 0 → v.sealed ≡ [] = λ none. ⊎_elim (λ (e : holds (last_of key) v ≡ 0). f.unsealed e) (λ (e : v.sealed ≡ []). e) (none_left none) in
+      let right_none : 0 < holds (last_of key) (fresh v first) → [] ≡ r.course.parts = λ held. sym (none_here held) ∙ f.sealed (omega (arith, last_sum, held)) in
       let rings : total (λ (x : View (Queue H K) H). x.rung) (set s.views id w ++ u ∷ []) ≡ total (λ (x : View (Queue H K) H). x.rung) s.views =
       omega (arith, total-append (λ (x : View (Queue H K) H). x.rung) (set s.views id w) (u ∷ []), total-set (λ (x : View (Queue H K) H). x.rung) s.views id v w at) in
       record {
-        whole = r.whole;
+        course = r.course;
+        chain = r.chain;
+        legal = r.legal;
+        numbered = r.numbered;
         wide = r.wide;
         deep = r.deep;
         turns = omega (arith, total-append turn_of (set s.views id w) (u ∷ []), total-set turn_of s.views id v w at, r.turns);
@@ -295,23 +428,25 @@ module _ {H K : Type 0} (key : Constants H) where
         free = r.free;
         first = λ untold. r.first (untold_before s.views id v w at (λ e. e) (untold_front (set s.views id w) (u ∷ []) untold));
         each = λ j x e. ⊎_elim
-            (λ (t : get_elem? (set s.views id w) j ≡ some x). each_set r.whole s.views id w (fits_with r.whole v second f some_sender (λ rings. quiet rings (f.quiet rings)) below.1 mine.1) (λ i y _ e'. r.each i y e') j x t)
-            (λ (t : u ≡ x). subst (Fits key r.whole) t (fits_fresh r.whole v had first f below.0 mine.0))
+            (λ (t : get_elem? (set s.views id w) j ≡ some x). each_set r.course s.views id w (fits_with r.course v second f some_sender (λ rings. quiet rings (f.quiet rings)) below.1 mine.1 (λ held. omega (arith, last_sum, held)) left_none) (λ i y _ e'. r.each i y e') j x t)
+            (λ (t : u ≡ x). subst (Fits key r.course) t (fits_fresh r.course v had first f below.0 mine.0 right_none))
             (at_snoc (set s.views id w) u x j e);
         placed = λ n below. omega (arith, total-append (holds n) (set s.views id w) (u ∷ []), total-set (holds n) s.views id v w at, r.placed n below, sums (λ (p : ℕ × ℕ). cond (eqb p.0 n) 1 0));
         bell = r.bell ∙ ap (λ (n : ℕ). n % 18446744073709551616) (sym rings);
       }
 
-  pub deals : (id : ℕ) (v : View (Queue H K) H) → v.has_turn ≡ false → v.rung ≡ 0 → Splits (Turn key) id v (keeping v (drop 1 v.senders)) (dealt v (take 1 v.senders))
-  deals id v no_turn no_rings = splits_off id v v.turns (take 1 v.senders) (drop 1 v.senders) (λ has. absurd (true≢false (sym has ∙ no_turn))) (λ rings some_sender. absurd (omega (arith, no_rings, rings)))
-      (λ P all. (All-take P 1 v.senders all, All-drop P 1 v.senders all)) (λ g. ap (total g) (sym (take-append-drop 1 v.senders)) ∙ total-append g (take 1 v.senders) (drop 1 v.senders))
+  pub deals : (id : ℕ) (v : View (Queue H K) H) → v.has_turn ≡ false → v.rung ≡ 0 → v.sealed ≡ [] → Splits (Turn key) id v (keeping v (drop 1 v.senders)) (dealt v (take 1 v.senders))
+  deals id v no_turn no_rings no_parts = splits_off id v v.turns (take 1 v.senders) (drop 1 v.senders) (λ has. absurd (true≢false (sym has ∙ no_turn))) (λ rings some_sender. absurd (omega (arith, no_rings, rings)))
+      (λ P all. (All-take P 1 v.senders all, All-drop P 1 v.senders all)) (λ g. ap (total g) (sym (take-append-drop 1 v.senders)) ∙ total-append g (take 1 v.senders) (drop 1 v.senders)) (λ _. inr no_parts) (λ _. no_parts)
 
   pub notes : (id : ℕ) (v : View (Queue H K) H) → v.has_turn ≡ false → Splits (Turn key) id v v (fresh v [])
-  notes id v no_turn = splits_off id v 0 [] v.senders (λ has. absurd (true≢false (sym has ∙ no_turn))) (λ rings some_sender. some_sender) (λ P all. (All-nil P, all)) (λ g. omega arith)
+  notes id v no_turn = splits_off id v 0 [] v.senders (λ has. absurd (true≢false (sym has ∙ no_turn))) (λ rings some_sender. some_sender) (λ P all. (All-nil P, all)) (λ g. omega arith) (λ none. inl none) (λ (held : 0 < 0). absurd (omega arith))
 
   -- a seat that takes in another has what both had
-  joined_fits : (whole : List Entry) (v w : View (Queue H K) H) → v.has_turn ≡ false → Fits key whole v → Fits key whole w → Fits key whole (joined v w)
-  joined_fits whole v w no_turn f h =
+  joined_fits : (course : Course) (v w : View (Queue H K) H) → v.has_turn ≡ false → Fits key course v → Fits key course w → holds (last_of key) v + holds (last_of key) w ≤ 1 → Fits key course (joined v w)
+  joined_fits course v w no_turn f h few =
+      let whole : List Entry = whole_of course in
+      let last_sum : holds (last_of key) (joined v w) ≡ holds (last_of key) v + holds (last_of key) w = total-append (λ (p : ℕ × ℕ). cond (eqb p.0 (last_of key)) 1 0) v.senders w.senders in
       let both = longer_begins v.seen w.seen whole f.seen h.seen in
       let all : List Entry = longer v.seen w.seen in
       record {
@@ -330,39 +465,58 @@ module _ {H K : Type 0} (key : Constants H) where
             (λ here. let mine = f.quiet here in omega (arith, long, mine))
             (λ apart. let there = h.quiet (omega (arith, rings, apart)) in omega (arith, long, there)) in
             some_sender;
+        sealed = λ held. dite (dec_lt 0 (holds (last_of key) v))
+            (λ here. ap (λ l. v.sealed ++ l) (h.unsealed (omega (arith, few, here))) ∙ (append-nil v.sealed ∙ f.sealed here))
+            (λ apart. ap (λ l. l ++ w.sealed) (f.unsealed (omega (arith, apart))) ∙ h.sealed (omega (arith, apart, last_sum, held)));
+        unsealed = λ none. ap (λ l. l ++ w.sealed) (f.unsealed (omega (arith, last_sum, none))) ∙ h.unsealed (omega (arith, last_sum, none));
       }
 
-  gone_fits : (whole : List Entry) → Fits {H = H} {K = K} key whole gone
+  gone_fits : (whole : Course) → Fits {H = H} {K = K} key whole gone
   gone_fits whole = record {
     constants = λ c e. absurd (cc (e));
-    seen = (whole, refl);
+    seen = (whole_of whole, refl);
     told = All-nil (λ t. IsPrefix t []);
     below = All-nil (IsBelow key);
-    mine = All-nil (Counts whole []);
+    mine = All-nil (Counts (whole_of whole) []);
     turn = λ e. absurd (true≢false (sym e));
     quiet = λ (rings : 0 < 0). absurd (omega arith);
+    sealed = λ (held : 0 < 0). absurd (omega arith);
+    unsealed = λ _. refl;
   }
+
+  -- two seats hold the last sender at most once
+  few_last : (s : Board H K) (r : Turn key s) (id j : ℕ) (v u : View (Queue H K) H) → j ≢ id → get_elem? s.views id ≡ some v → get_elem? s.views j ≡ some u → holds (last_of key) v + holds (last_of key) u ≤ 1
+  few_last s r id j v u apart at there = dite (dec_lt (last_of key) key.setting.senders)
+      (λ below. omega (arith, terms_le (holds (last_of key)) s.views id j v u apart at there, r.placed (last_of key) below))
+      (λ above.
+      let here : holds (last_of key) v ≡ 0 = none_held key (last_of key) v.senders (r.each id v at).below above in
+      let else_ : holds (last_of key) u ≡ 0 = none_held key (last_of key) u.senders (r.each j u there).below above in
+      omega arith)
 
   pub joins_in : (id : ℕ) (v : View (Queue H K) H) (other : ℕ) (w : View (Queue H K) H) → v.has_turn ≡ false → w.has_turn ≡ false → Joins (Turn key) id v other w (joined v w) gone
   joins_in id v other w no_turn no_turn' s r at apart there =
       let b : View (Queue H K) H = joined v w in
       let views : List (View (Queue H K) H) = set s.views id b in
-      let f : Fits key r.whole v = r.each id v at in
+      let f : Fits key r.course v = r.each id v at in
       let there' : get_elem? s.views other ≡ some w = sym (set_else s.views id other b apart) ∙ there in
-      let h : Fits key r.whole w = r.each other w there' in
+      let h : Fits key r.course w = r.each other w there' in
       let none_w : turn_of w ≡ 0 = ap (λ b. cond {A = ℕ} b 1 0) no_turn' in
+      let few : holds (last_of key) v + holds (last_of key) w ≤ 1 = few_last s r id other v w (λ e. apart e) at there' in
       let rings : total (λ (x : View (Queue H K) H). x.rung) (set views other gone) ≡ total (λ (x : View (Queue H K) H). x.rung) s.views =
       omega (arith, total-set (λ (x : View (Queue H K) H). x.rung) views other w gone there, total-set (λ (x : View (Queue H K) H). x.rung) s.views id v b at) in
       record {
-        whole = r.whole;
+        course = r.course;
+        chain = r.chain;
+        legal = r.legal;
+        numbered = r.numbered;
         wide = r.wide;
         deep = r.deep;
         turns = omega (arith, total-set turn_of views other w gone there, total-set turn_of s.views id v b at, r.turns, none_w);
         once = r.once;
         free = r.free;
         first = λ untold. absurd (has_first v.seen (w.seen ∷ v.told) (untold id b (set_else views other id gone (λ e. apart (sym e)) ∙ set_at s.views id v b at)));
-        each = each_set r.whole views other gone (gone_fits r.whole)
-            (λ j u _ e. each_set r.whole s.views id b (joined_fits r.whole v w no_turn f h) (λ i y _ e'. r.each i y e') j u e);
+        each = each_set r.course views other gone (gone_fits r.course)
+            (λ j u _ e. each_set r.course s.views id b (joined_fits r.course v w no_turn f h few) (λ i y _ e'. r.each i y e') j u e);
         placed = λ n below. omega (
           arith,
           total-set (holds n) views other w gone there,
@@ -375,18 +529,18 @@ module _ {H K : Type 0} (key : Constants H) where
 
   pub learns : (slots i id : ℕ) (m : Sat H K) → Allows (Turn key) slots id m i (λ n. n) (learned (step slots i 0 0 none) m)
   learns slots i id m s r wide at small =
-      let f : Fits key r.whole m.0 = r.each id m.0 at in
-      (m.0, keeps, tt, unmoved s r i id m.1 m.0 m.0 at refl refl refl refl f, (refl, f.told, All-weaker (Counts r.whole m.0.seen) (λ p. made_in p.0 m.0.seen ≡ p.1) (λ p c. c.1) m.0.senders f.mine))
+      let f : Fits key r.course m.0 = r.each id m.0 at in
+      (m.0, keeps, tt, unmoved s r i id m.1 m.0 m.0 at refl refl refl refl f, (refl, f.told, All-weaker (Counts (whole_of r.course) m.0.seen) (λ p. made_in p.0 m.0.seen ≡ p.1) (λ p c. c.1) m.0.senders f.mine))
 
   pub listens : (slots id : ℕ) (m : Sat H K) → Allows (Turn key) slots id m 1 (λ n. n) (listened (step slots 1 0 0 none) m)
   listens slots id m s r wide at small =
-      let f : Fits key r.whole m.0 = r.each id m.0 at in
+      let f : Fits key r.course m.0 = r.each id m.0 at in
       let w : View (Queue H K) H = record m.0 { heard = get_or s.words 1 0; listens = m.0.listens + 1 } in
-      (w, keeps, tt, unmoved s r 1 id m.1 m.0 w at refl refl refl refl (record { constants = f.constants; seen = f.seen; told = f.told; below = f.below; mine = f.mine; turn = f.turn; quiet = f.quiet }), (refl, refl))
+      (w, keeps, tt, unmoved s r 1 id m.1 m.0 w at refl refl refl refl (record { constants = f.constants; seen = f.seen; told = f.told; below = f.below; mine = f.mine; turn = f.turn; quiet = f.quiet; sealed = f.sealed; unsealed = f.unsealed }), (refl, refl))
 
   pub rings_it : (slots id : ℕ) (m : Sat H K) → 0 < length m.0.senders → Allows (Turn key) slots id m 1 (λ n. (n + 1) % 18446744073709551616) (rang (step slots 1 1 0 none) m)
   rings_it slots id m some_sender s r wide at small =
-      let f : Fits key r.whole m.0 = r.each id m.0 at in
+      let f : Fits key r.course m.0 = r.each id m.0 at in
       let w : View (Queue H K) H = record m.0 { rung = m.0.rung + 1 } in
       let words_wide = r.wide in
       let old : ℕ = get_or s.words 1 0 in
@@ -401,14 +555,17 @@ module _ {H K : Type 0} (key : Constants H) where
         keeps,
         tt,
         record {
-          whole = r.whole;
+          course = r.course;
+          chain = r.chain;
+          legal = r.legal;
+          numbered = r.numbered;
           wide = length-set s.words 1 new ∙ r.wide;
           deep = r.deep;
           turns = omega (arith, total-set turn_of s.views id m.0 w at, r.turns, apart);
           once = let o = r.once in omega (arith, apart);
           free = λ e. r.free (sym apart ∙ e);
           first = λ untold. r.first (untold_before s.views id m.0 w at (λ e. e) untold);
-          each = each_set r.whole s.views id w (record { constants = f.constants; seen = f.seen; told = f.told; below = f.below; mine = f.mine; turn = f.turn; quiet = λ _. some_sender }) (λ j u _ e. r.each j u e);
+          each = each_set r.course s.views id w (record { constants = f.constants; seen = f.seen; told = f.told; below = f.below; mine = f.mine; turn = f.turn; quiet = λ _. some_sender; sealed = f.sealed; unsealed = f.unsealed }) (λ j u _ e. r.each j u e);
           placed = λ n below. omega (arith, total-set (holds n) s.views id m.0 w at, r.placed n below);
           bell = here ∙ omega (arith, is, one_more);
         },
@@ -418,19 +575,22 @@ module _ {H K : Type 0} (key : Constants H) where
   -- the table as it is made
   pub opens : (x : Queue H K) → IsFirst key x → Turn key (opening (0 ∷ 0 ∷ []) (Some x ∷ []) (opening_view key))
   opens x is = record {
-    whole = [];
+    course = record { parts = []; since = [] };
+    chain = tt;
+    legal = IsLegal-none key.setting (empty_base key.setting.senders);
+    numbered = AreNumbered-none key.setting (empty_base key.setting.senders);
     wide = refl;
     deep = refl;
     turns = refl;
     once = omega arith;
-    free = λ _. (x, refl, is.own, is.entries);
+    free = λ _. (x, refl, record { home = is.own.home; setting = is.own.setting }, (is.own.start ∙ sym (after-none (empty_base key.setting.senders) tt), is.entries));
     first = λ _. (x, refl, is);
     each = first_only;
     placed = λ n below. let once = (placed_from n 0 key.setting.senders).0 (omega arith) (omega arith) in omega (arith, once);
     bell = refl;
   }
     where
-      fits : Fits {H = H} {K = K} key [] (opening_view key)
+      fits : Fits {H = H} {K = K} key (record { parts = []; since = [] }) (opening_view key)
       fits = record {
         constants = λ c e. cc (e);
         seen = prefix_self [];
@@ -439,6 +599,8 @@ module _ {H K : Type 0} (key : Constants H) where
         mine = no_calls 0 key.setting.senders;
         turn = λ e. absurd (true≢false (sym e));
         quiet = λ (rings : 0 < 0). absurd (omega arith);
+        sealed = λ _. refl;
+        unsealed = λ _. refl;
       }
         where
           all_below : (from count : ℕ) → from + count ≤ key.setting.senders → All (IsBelow key) (new_senders from count)
@@ -449,8 +611,8 @@ module _ {H K : Type 0} (key : Constants H) where
           no_calls from zero = All-nil (Counts [] [])
           no_calls from (suc count) = All-cons (Counts [] []) (from, 0) (new_senders (from + 1) count) (refl, refl) (no_calls (from + 1) count)
 
-      first_only : (j : ℕ) (v : View (Queue H K) H) → get_elem? (opening_view key ∷ []) j ≡ some v → Fits key [] v
-      first_only zero v e = subst (Fits key []) (some-injective (opening_view key) v e) fits
+      first_only : (j : ℕ) (v : View (Queue H K) H) → get_elem? (opening_view key ∷ []) j ≡ some v → Fits key (record { parts = []; since = [] }) v
+      first_only zero v e = subst (Fits key (record { parts = []; since = [] })) (some-injective (opening_view key) v e) fits
       first_only (suc j) v e = absurd (some-ne-none v (sym e))
 
       placed_from : (n from count : ℕ) → (from ≤ n → n < from + count → total (λ (p : ℕ × ℕ). cond (eqb p.0 n) 1 0) (new_senders from count) ≡ 1) × (n < from → total (λ (p : ℕ × ℕ). cond (eqb p.0 n) 1 0) (new_senders from count) ≡ 0)
@@ -462,12 +624,12 @@ module _ {H K : Type 0} (key : Constants H) where
           (λ apart. let no : cond {A = ℕ} (eqb from n) 1 0 ≡ 0 = ap (λ b. cond {A = ℕ} b 1 0) (ne_eqb from n apart) in ((λ a b. omega (arith, next.0 (omega arith) (omega arith))), λ a. omega (arith, next.1 (omega arith))))
 
   -- where one seat without the turn has all sender numbers, no seat has the turn
-  pub all_rest : (s : Board H K) (r : Turn key s) (id : ℕ) (v : View (Queue H K) H) → get_elem? s.views id ≡ some v → v.has_turn ≡ false → ((n : ℕ) → n < key.setting.senders → 0 < holds n v) → AtHome key r.whole s
+  pub all_rest : (s : Board H K) (r : Turn key s) (id : ℕ) (v : View (Queue H K) H) → get_elem? s.views id ≡ some v → v.has_turn ≡ false → ((n : ℕ) → n < key.setting.senders → 0 < holds n v) → AtHome key r.course s
   all_rest s r id v at no_turn has_all = r.free (sym r.turns ∙ total-none turn_of s.views none_of)
     where
       rests : (j : ℕ) (u : View (Queue H K) H) → get_elem? s.views j ≡ some u → j ≢ id → u.has_turn ≡ true → ⊥
       rests j u there apart has =
-          let f : Fits key r.whole u = r.each j u there in
+          let f : Fits key r.course u = r.each j u there in
           let some_sender = (f.turn has).1 in
           let n : ℕ = (get_or u.senders 0 (0, 0)).0 in
           let below : n < key.setting.senders = f.below 0 (0, 0) some_sender in
@@ -490,27 +652,32 @@ module _ {H K : Type 0} (key : Constants H) where
       let rings : total (λ (x : View (Queue H K) H). x.rung) (s.views ++ u ∷ []) ≡ total (λ (x : View (Queue H K) H). x.rung) s.views = omega (arith, total-append (λ (x : View (Queue H K) H). x.rung) s.views (u ∷ [])) in (
         u,
         record {
-          whole = r.whole;
+          course = r.course;
+          chain = r.chain;
+          legal = r.legal;
+          numbered = r.numbered;
           wide = r.wide;
           deep = r.deep;
           turns = omega (arith, total-append turn_of s.views (u ∷ []), r.turns);
           once = r.once;
           free = r.free;
           first = λ untold. r.first (untold_front s.views (u ∷ []) untold);
-          each = λ j x e. ⊎_elim (λ (t : get_elem? s.views j ≡ some x). r.each j x t) (λ (t : u ≡ x). subst (Fits key r.whole) t (bare_fits r.whole m.0 (ap (λ (v : View (Queue H K) H). v.constants) is))) (at_snoc s.views u x j e);
+          each = λ j x e. ⊎_elim (λ (t : get_elem? s.views j ≡ some x). r.each j x t) (λ (t : u ≡ x). subst (Fits key r.course) t (bare_fits r.course m.0 (ap (λ (v : View (Queue H K) H). v.constants) is))) (at_snoc s.views u x j e);
           placed = λ n below. omega (arith, total-append (holds n) s.views (u ∷ []), r.placed n below);
           bell = r.bell ∙ ap (λ (n : ℕ). n % 18446744073709551616) (sym rings);
         },
         refl,
       )
     where
-      bare_fits : (whole : List Entry) (v : View (Queue H K) H) → v.constants ≡ Some key → Fits key whole (bare v)
+      bare_fits : (whole : Course) (v : View (Queue H K) H) → v.constants ≡ Some key → Fits key whole (bare v)
       bare_fits whole v constants = record {
         constants = λ c e. cc (e, constants);
-        seen = (whole, refl);
+        seen = (whole_of whole, refl);
         told = All-nil (λ t. IsPrefix t []);
         below = All-nil (IsBelow key);
-        mine = All-nil (Counts whole []);
+        mine = All-nil (Counts (whole_of whole) []);
         turn = λ e. absurd (true≢false (sym e));
         quiet = λ (rings : 0 < 0). absurd (omega arith);
+        sealed = λ (held : 0 < 0). absurd (omega arith);
+        unsealed = λ _. refl;
       }

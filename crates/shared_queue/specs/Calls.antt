@@ -1,5 +1,9 @@
 -- What the calls of a poster answer: each is one turn, with the answer of the queue's state that it found.
-use Rattle.std.specs.Prelude.{◌≡◌, ℕ, Bool}
+use Rattle.std.specs.Prelude.{◌≡◌, ℕ, Bool, Some, [], ◌∷◌, take, drop, length, Result, MatchResult}
+use Rattle.loop_model.specs.declared.segment.Segment.{Segment}
+use Rattle.loop_model.specs.declared.memory.NoMemory.{NoMemory}
+use Rattle.loop_model.specs.Base.{empty_base}
+use Rattle.loop_model.specs.Chain.{after}
 use Rattle.loop_model.specs.declared.post.Filter.{Filter}
 use Rattle.message_slot.specs.Letter.{Letter}
 use Rattle.queue_state.specs.declared.answers.Posted.{Posted}
@@ -10,9 +14,9 @@ use Rattle.queue_state.specs.declared.answers.Taking.{Taking}
 use Rattle.queue_state.specs.declared.answers.Quitting.{Quitting}
 use Rattle.queue_state.specs.declared.answers.Advancing.{Advancing}
 use Rattle.queue_state.specs.declared.answers.Halting.{Halting}
-use Rattle.queue_state.specs.Queue.{Queue, time_of, has_match}
+use Rattle.queue_state.specs.Queue.{Queue, time_of, has_match, part_of, sealed}
 use Rattle.queue_state.specs.Calls.{Posts, PostsBarrier, Unbars, Takes, Quits, Looks, Advances, Halts}
-use Rattle.shared_queue.specs.Known.{Known, IsTurn}
+use Rattle.shared_queue.specs.Known.{Known, IsTurn, IsTurnWith}
 
 module _ {H K : Type 0} where
   abbrev pub PostedBy : Known H K → Known H K → Letter K → Posted K H → Type 0
@@ -45,3 +49,22 @@ module _ {H K : Type 0} where
 
   abbrev pub TimedBy : Known H K → Known H K → ℕ → Type 0
   TimedBy before after result = (x : Queue H K) × IsTurn before after x x × (result ≡ time_of x)
+
+  -- the number of the entries since the base of the state found
+  abbrev pub CountedBy : Known H K → Known H K → ℕ → Type 0
+  CountedBy before after result = (x : Queue H K) × IsTurn before after x x × ((state : Queue H K) × (after.view.found ≡ Some state) × (result ≡ length state.entries))
+
+  -- the part is the base of the state found with its entries, the end of the history behind what was handed out before
+  pub record IsPart (after_ : Known H K) (x : Queue H K) (part : Segment) : Type 0 where
+    pub state : Queue H K
+    pub found : after_.view.found ≡ Some state
+    pub left : after_.view.left ≡ Some (sealed state)
+    pub is : part ≡ part_of state
+    pub entries : part.entries ≡ drop part.base.length after_.view.seen
+    pub base : part.base ≡ after (empty_base x.setting.senders) (take part.base.length after_.view.seen)
+
+  -- a sealing leaves the whole history as it is, and hands out the part of it that was not handed out before
+  abbrev pub SealedBy : Known H K → Known H K → Result Segment NoMemory → Type 0
+  SealedBy before after result = (x : Queue H K) × MatchResult result
+      (λ part. IsTurnWith (part ∷ []) before after x x × IsPart after x part)
+      (λ _. IsTurn before after x x)

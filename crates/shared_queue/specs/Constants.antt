@@ -1,5 +1,5 @@
 -- What stays the same in a queue, and the counts of its history.
-use Rattle.std.specs.Prelude.{◌≡◌, ℕ, ◌==◌, List, count_by}
+use Rattle.std.specs.Prelude.{◌≡◌, ℕ, ◌-◌, ◌==◌, List, count_by}
 use Rattle.loop_model.specs.declared.entry.Entry.{Entry}
 use Rattle.loop_model.specs.Answers.{Setting}
 use Rattle.loop_model.specs.Base.{empty_base}
@@ -23,7 +23,16 @@ constants_of home t = record { home = home; looper = t.looper; setting = setting
 abbrev pub made_in : ℕ → List Entry → ℕ
 made_in sender entries = count_by (λ e. e.sender == sender) entries
 
--- the state is one of a queue with these constants, and has all entries since the queue was made
+-- the state is one of a queue with these constants
+pub record IsFor {H K : Type 0} (key : Constants H) (x : Queue H K) : Type 0 where
+  pub home : x.home ≡ key.home
+  pub setting : x.setting ≡ key.setting
+
+-- the number of the last sender, the controller
+abbrev pub last_of : {H : Type 0} → Constants H → ℕ
+last_of key = key.setting.senders - 1
+
+-- and has all entries since the queue was made
 pub record IsStateOf {H K : Type 0} (key : Constants H) (x : Queue H K) : Type 0 where
   pub home : x.home ≡ key.home
   pub setting : x.setting ≡ key.setting

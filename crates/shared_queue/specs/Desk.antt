@@ -1,11 +1,13 @@
 -- A desk between two calls, and during a turn.
-use Rattle.std.specs.Prelude.{◌≡◌, ◌+◌, ◌-◌, ◌<◌, true, false, [], ◌∷◌, length, Some, None}
+use Rattle.std.specs.Prelude.{◌≡◌, ◌≢◌, ◌+◌, ◌-◌, ◌<◌, ◌⊎◌, true, false, List, [], ◌∷◌, ◌++◌, length, Some, None}
 use mathlib.Core.List.{IsPrefix}
+use Rattle.loop_model.specs.declared.entry.Entry.{Entry}
 use Rattle.queue_state.specs.Queue.{Queue, IsSound}
 use Rattle.shared_queue.specs.declared.desk.Desk.{Desk}
-use Rattle.shared_queue.specs.Constants.{Constants, made_in, IsStateOf}
-use Rattle.shared_queue.specs.Turn.{taking, giving}
-use Rattle.shared_queue.specs.Plays.{MayGive}
+use Rattle.shared_queue.specs.Constants.{Constants, made_in, IsFor}
+use Rattle.shared_queue.specs.Whole.{Spans}
+use Rattle.shared_queue.specs.Turn.{holds, taking, giving, handing, seen_with}
+use Rattle.shared_queue.specs.Plays.{MayGive, MayHand}
 
 module _ {H K : Type 0} where
   -- the numbers are those of the view, whose one sender is the desk's
@@ -14,6 +16,8 @@ module _ {H K : Type 0} where
     pub made : made_in d.sender d.seat.me.0.seen ≡ d.made
     pub seen : length d.seat.me.0.seen ≡ d.seen
     pub heard : d.seat.me.0.heard ≡ d.heard
+    -- the last sender's desk alone hands parts of the history out
+    pub unsealed : (c : Constants H) → d.seat.me.0.constants ≡ Some c → d.sender + 1 ≢ c.setting.senders → d.seat.me.0.sealed ≡ []
 
   -- between two calls
   abbrev pub IsIdle : Desk (Queue H K) H → Type 0
@@ -23,16 +27,18 @@ module _ {H K : Type 0} where
   abbrev pub IsSameDesk : Desk (Queue H K) H → Desk (Queue H K) H → Type 0
   IsSameDesk d e = (e.seat.table_id ≡ d.seat.table_id) × (e.sender ≡ d.sender)
 
-  -- the desk has the turn and the state x
+  -- the desk has the turn and the state x, whose whole history this is
   pub record Began (key : Constants H) (d e : Desk (Queue H K) H) (x : Queue H K) : Type 0 where
+    pub whole : List Entry
     pub same : IsSameDesk d e
-    pub me : e.seat.me ≡ (taking d.seat.me.0 x, (0, None) ∷ [])
+    pub me : e.seat.me ≡ (taking d.seat.me.0 whole x, (0, None) ∷ [])
     pub live : d.seat.me.0.constants ≡ Some key
-    pub own : IsStateOf key x
+    pub own : IsFor key x
+    pub spans : Spans key.setting whole x
     pub sound : IsSound x
-    pub begins : IsPrefix d.seat.me.0.seen x.entries
+    pub begins : IsPrefix d.seat.me.0.seen whole
     pub below : d.sender < x.setting.senders
-    pub found_made : made_in d.sender x.entries ≡ d.made
+    pub found_made : made_in d.sender whole ≡ d.made
     pub counted : Counted e
     pub made : e.made ≡ d.made
 
@@ -42,8 +48,11 @@ module _ {H K : Type 0} where
     pub turn : d.seat.me.0.has_turn ≡ true
     pub slot : d.seat.me.1 ≡ (0, None) ∷ []
     pub counted : Counted d
-    pub own : IsStateOf key y
+    pub own : IsFor key y
     pub may : MayGive d.seat.me.0 y
+    -- its whole history is what was seen, or one entry more, of the desk's sender
+    pub long : length (seen_with d.seat.me.0 y) ≡ y.start.length + length y.entries
+    pub more : (seen_with d.seat.me.0 y ≡ d.seat.me.0.seen) ⊎ ((e : Entry) × (seen_with d.seat.me.0 y ≡ d.seat.me.0.seen ++ e ∷ []) × (0 < holds e.sender d.seat.me.0))
 
   -- the desk has left the state y
   pub record Ended (d e : Desk (Queue H K) H) (y : Queue H K) : Type 0 where
@@ -51,4 +60,24 @@ module _ {H K : Type 0} where
     pub me : e.seat.me ≡ (giving d.seat.me.0 y, [])
     pub sound : IsSound y
     pub idle : IsIdle e
-    pub made : e.made ≡ d.made + (length y.entries - d.seen)
+    pub made : e.made ≡ d.made + (length (seen_with d.seat.me.0 y) - d.seen)
+
+  -- the desk of the last sender has the turn, and may end it with the state y, which is the one that it found, sealed
+  pub record MayHandOver (key : Constants H) (d : Desk (Queue H K) H) (y : Queue H K) : Type 0 where
+    pub live : d.seat.me.0.constants ≡ Some key
+    pub turn : d.seat.me.0.has_turn ≡ true
+    pub slot : d.seat.me.1 ≡ (0, None) ∷ []
+    pub counted : Counted d
+    pub last : d.sender + 1 ≡ key.setting.senders
+    pub own : IsFor key y
+    pub may : MayHand d.seat.me.0 y
+    -- its whole history is what was seen
+    pub long : length (seen_with d.seat.me.0 y) ≡ y.start.length + length y.entries
+    pub same : seen_with d.seat.me.0 y ≡ d.seat.me.0.seen
+
+  pub record HandedOver (d e : Desk (Queue H K) H) (y : Queue H K) : Type 0 where
+    pub same : IsSameDesk d e
+    pub me : e.seat.me ≡ (handing d.seat.me.0 y, [])
+    pub sound : IsSound y
+    pub idle : IsIdle e
+    pub made : e.made ≡ d.made

@@ -1,8 +1,9 @@
 -- All posters of a queue, as it is made and as it ends.
-use Rattle.std.specs.Prelude.{◌≡◌, ℕ, ◌-◌, ◌<◌, List, [], ◌∷◌, ◌++◌, map, length, slice_index_or, Option}
+use Rattle.std.specs.Prelude.{◌≡◌, ℕ, ◌+◌, ◌-◌, ◌<◌, List, [], ◌∷◌, ◌++◌, map, length, slice_index_or, Option}
 use mathlib.Core.List.{IsPrefix}
 use Rattle.atomic_table.specs.Table.{Me}
 use Rattle.loop_model.specs.declared.entry.Entry.{Entry}
+use Rattle.loop_model.specs.declared.segment.Segment.{Segment}
 use Rattle.loop_model.specs.Base.{empty_base}
 use Rattle.loop_model.specs.Legal.{IsLegal, AreNumbered}
 use Rattle.loop_model.specs.Live.{live_in_order}
@@ -13,7 +14,7 @@ use Rattle.queue_state.specs.Queue.{Queue}
 use Rattle.shared_queue.specs.declared.view.View.{View}
 use Rattle.shared_queue.specs.Constants.{Constants, made_in}
 use Rattle.shared_queue.specs.Turn.{opening_view, new_senders, keeping}
-use Rattle.shared_queue.specs.Known.{Shared, Known, IsOf, Rests, made_by}
+use Rattle.shared_queue.specs.Known.{Shared, Known, KeepsNone, IsOf, Rests, made_by}
 
 module _ {K : Type 0} where
   -- a whole history, and the messages that it leaves
@@ -35,6 +36,7 @@ module _ {H K : Type 0} where
     pub rung : p.view.rung ≡ 0
     pub heard : p.view.heard ≡ 0
     pub listens : p.view.listens ≡ 0
+    pub sealed : p.view.sealed ≡ []
 
   abbrev pub AreNew : Shared H → List (Known H K) → Type 0
   AreNew q posters = AreInOrder q posters × ((k : ℕ) (d : Known H K) → k < length posters → IsNew (slice_index_or posters k d))
@@ -52,11 +54,22 @@ module _ {H K : Type 0} where
   abbrev pub number_of : Known H K → ℕ × ℕ
   number_of p = (p.sender, made_by p)
 
+  -- the last poster handed these parts out
+  abbrev pub HaveSealed : List (Known H K) → List Segment → Type 0
+  HaveSealed posters parts = (k : ℕ) (d : Known H K) → k + 1 ≡ length posters → (slice_index_or posters k d).view.sealed ≡ parts
+
+  -- what all these posters handed out
+  abbrev pub sealed_by : List (Known H K) → List Segment
+  sealed_by [] = []
+  sealed_by (p ∷ ps) = p.view.sealed ++ sealed_by ps
+
   -- the view has taken in what the poster had
   abbrev pub TakenIn : View (Queue H K) H → Known H K → View (Queue H K) H → Type 0
-  TakenIn v p w = (w.senders ≡ v.senders ++ number_of p ∷ []) × IsPrefix v.seen w.seen × IsPrefix p.view.seen w.seen
+  TakenIn v p w = (w.senders ≡ v.senders ++ number_of p ∷ []) × IsPrefix v.seen w.seen × IsPrefix p.view.seen w.seen × (w.sealed ≡ v.sealed ++ p.view.sealed) × KeepsNone p
 
   -- the seat has what all these posters had
   abbrev pub Gathered : Shared H → List (Known H K) → Me (Option (Queue H K)) (View (Queue H K) H) → Type 0
   Gathered q posters m = Rests q.constants m × (m.0.senders ≡ map number_of posters)
       × ((k : ℕ) (d : Known H K) → k < length posters → IsPrefix (slice_index_or posters k d).view.seen m.0.seen)
+      × (m.0.sealed ≡ sealed_by posters)
+      × ((k : ℕ) (d : Known H K) → k < length posters → KeepsNone (slice_index_or posters k d))

@@ -1,12 +1,17 @@
 -- What a clause sees of a queue and of a poster, and what a call does to it.
-use Rattle.std.specs.Prelude.{◌≡◌, ℕ, ◌+◌, ◌-◌, ◌⊎◌, false, [], ◌∷◌, ◌++◌, length, Option, Some}
+use Rattle.std.specs.Prelude.{◌≡◌, ◌≢◌, ℕ, ◌+◌, ◌-◌, ◌⊎◌, false, List, [], ◌∷◌, ◌++◌, length, Option, Some}
+use Rattle.std.specs.Option.{option_map}
 use mathlib.Core.List.{IsPrefix}
 use Rattle.atomic_table.specs.Table.{Me}
 use Rattle.atomic_table.specs.Seated.{TableId}
 use Rattle.loop_model.specs.declared.entry.Entry.{Entry}
+use Rattle.loop_model.specs.declared.base.Base.{Base}
+use Rattle.loop_model.specs.declared.segment.Segment.{Segment}
+use Rattle.loop_model.specs.Chain.{after}
 use Rattle.queue_state.specs.Queue.{Queue, IsSound}
 use Rattle.shared_queue.specs.declared.view.View.{View}
 use Rattle.shared_queue.specs.Constants.{Constants, made_in, IsStateOf}
+use Rattle.shared_queue.specs.Whole.{Shows}
 
 -- a queue: its table, and its constants
 pub record Shared (H : Type 0) : Type 0 where
@@ -19,10 +24,24 @@ pub record Known (H K : Type 0) : Type 0 where
   pub sender : ℕ
   pub view : View (Queue H K) H
 
+-- where the state left starts from: from where the state found did, or from what the part that was handed out has left
+abbrev pub next_start : List Segment → Option Base → Option Base
+next_start [] start = start
+next_start (p ∷ ps) start = next_start ps (Some (after p.base p.entries))
+
+-- what was handed out, with these parts behind it
+abbrev pub with_parts : List Segment → List Segment → List Segment
+with_parts kept [] = kept
+with_parts kept (p ∷ ps) = with_parts (kept ++ p ∷ []) ps
+
 module _ {H K : Type 0} where
   -- how many entries it has made
   abbrev pub made_by : Known H K → ℕ
   made_by p = made_in p.sender p.view.seen
+
+  -- no other poster than the last sender's handed anything out
+  abbrev pub KeepsNone : Known H K → Type 0
+  KeepsNone p = (c : Constants H) → p.view.constants ≡ Some c → p.sender + 1 ≢ c.setting.senders → p.view.sealed ≡ []
 
   -- the poster is one of this queue
   abbrev pub IsOf : Known H K → Shared H → Type 0
@@ -36,14 +55,18 @@ module _ {H K : Type 0} where
   abbrev pub StepsBy : ℕ → Queue H K → Queue H K → Type 0
   StepsBy s x y = (y.home ≡ x.home) × (y.setting ≡ x.setting) × (y.start ≡ x.start) × ((y.entries ≡ x.entries) ⊎ ((e : Entry) × (y.entries ≡ x.entries ++ e ∷ []) × (e.sender ≡ s)))
 
-  -- the call was one turn, which found x and left y, and the poster has seen the whole history
-  pub record IsTurn (before after : Known H K) (x y : Queue H K) : Type 0 where
+  -- the call was one turn, which found x and left y, both over their whole histories, and handed these parts out; and the poster
+  -- has seen the whole history
+  pub record IsTurnWith (parts : List Segment) (before after : Known H K) (x y : Queue H K) : Type 0 where
     pub table : after.table ≡ before.table
     pub sender : after.sender ≡ before.sender
     pub constants : after.view.constants ≡ before.view.constants
     pub turns : after.view.turns ≡ before.view.turns + 1
-    pub found : after.view.found ≡ Some x
-    pub left : after.view.left ≡ Some y
+    -- the very states, which start from what was handed out before
+    pub found : Shows after.view.found x
+    pub left : Shows after.view.left y
+    pub start : option_map (λ (z : Queue H K). z.start) after.view.left ≡ next_start parts (option_map (λ (z : Queue H K). z.start) after.view.found)
+    pub sealed : after.view.sealed ≡ with_parts before.view.sealed parts
     -- both are states of the poster's queue, and sound
     pub own : (c : Constants H) → before.view.constants ≡ Some c → IsStateOf c x × IsStateOf c y
     pub sound : IsSound x × IsSound y
@@ -58,6 +81,10 @@ module _ {H K : Type 0} where
     pub heard : after.view.heard ≡ before.view.heard
     pub listens : after.view.listens ≡ before.view.listens
 
+  -- the turn handed nothing out
+  abbrev pub IsTurn : Known H K → Known H K → Queue H K → Queue H K → Type 0
+  IsTurn before after x y = IsTurnWith [] before after x y
+
   -- a call that is no turn leaves all but what was seen, and the numbers of the bell
   pub record IsSame (before after : Known H K) : Type 0 where
     pub table : after.table ≡ before.table
@@ -66,4 +93,5 @@ module _ {H K : Type 0} where
     pub turns : after.view.turns ≡ before.view.turns
     pub found : after.view.found ≡ before.view.found
     pub left : after.view.left ≡ before.view.left
+    pub sealed : after.view.sealed ≡ before.view.sealed
     pub made : made_by after ≡ made_by before

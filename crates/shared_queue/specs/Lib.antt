@@ -1,8 +1,10 @@
 pub mod Constants
+pub mod Whole
 pub mod Turn
 pub mod Plays
 pub mod Known
 pub mod Seats
 pub mod Desk
 pub mod Calls
+pub mod Waiting
 pub mod Ends

@@ -1,12 +1,14 @@
 -- What each step tells: of the step, the seat before, the number found and the seat after.
 use Rattle.std.specs.Prelude.{◌≡◌, ◌≢◌, ℕ, ◌+◌, ◌<◌, ◌⊎◌, List, [], ◌∷◌, ◌++◌, All, Option, Some}
+use Rattle.loop_model.specs.Legal.{IsLegal, AreNumbered}
 use mathlib.Core.List.{IsPrefix}
 use Rattle.atomic_table.specs.Table.{Me, Step}
 use Rattle.loop_model.specs.declared.entry.Entry.{Entry}
-use Rattle.queue_state.specs.Queue.{Queue}
+use Rattle.queue_state.specs.Queue.{Queue, sealed}
 use Rattle.shared_queue.specs.declared.view.View.{View}
-use Rattle.shared_queue.specs.Constants.{Constants, made_in, IsStateOf}
-use Rattle.shared_queue.specs.Turn.{holds, taking, giving, fresh}
+use Rattle.shared_queue.specs.Constants.{Constants, made_in, IsFor}
+use Rattle.shared_queue.specs.Whole.{Spans}
+use Rattle.shared_queue.specs.Turn.{holds, taking, giving, handing, fresh}
 
 abbrev pub Sat : Type 0 → Type 0 → Type 0
 Sat H K = Me (Option (Queue H K)) (View (Queue H K) H)
@@ -26,17 +28,17 @@ module _ {H K : Type 0} where
   abbrev pub sat : Play H K
   sat st m r n = n.0 ≡ bare m.0
 
-  -- the state is one of the seat's queue
-  abbrev pub IsOwn : View (Queue H K) H → Queue H K → Type 0
-  IsOwn v x = (c : Constants H) → v.constants ≡ Some c → IsStateOf c x
+  -- the state is one of the seat's queue, and this is its whole history
+  abbrev pub IsOwn : View (Queue H K) H → List Entry → Queue H K → Type 0
+  IsOwn v whole x = (c : Constants H) → v.constants ≡ Some c → IsFor c x × Spans c.setting whole x
 
   -- the history begins with what was seen, and each sender of the view has as many entries in it as counted
-  abbrev pub Extends : View (Queue H K) H → Queue H K → Type 0
-  Extends v x = IsPrefix v.seen x.entries × All (IsCounted x.setting.senders x.entries) v.senders
+  abbrev pub Extends : View (Queue H K) H → List Entry → Queue H K → Type 0
+  Extends v whole x = IsPrefix v.seen whole × All (IsCounted x.setting.senders whole) v.senders
 
-  -- the seat won the turn and the state, which has its constants and a history that it has seen the beginning of
+  -- the seat won the turn and the state, which has its constants and a whole history that it has seen the beginning of
   abbrev pub Won : Sat H K → Sat H K → Type 0
-  Won m n = (x : Queue H K) × (n ≡ (taking m.0 x, (0, Some x) ∷ m.1)) × IsOwn m.0 x × Extends m.0 x
+  Won m n = (x : Queue H K) × (whole : List Entry) × (n ≡ (taking m.0 whole x, (0, Some x) ∷ m.1)) × IsOwn m.0 whole x × Extends m.0 whole x
 
   abbrev pub took : Play H K
   took st m r n = (r ≡ 0 → Won m n) × (r ≢ 0 → n ≡ m)
@@ -44,9 +46,19 @@ module _ {H K : Type 0} where
   abbrev pub gave : Play H K
   gave st m r n = (x : Queue H K) → m.1 ≡ (0, Some x) ∷ [] → n ≡ (giving m.0 x, [])
 
-  -- the state may be given back: its history is what the seat has seen, or one entry more, of a sender of the seat
+  -- the state x that was found is given back as y, with the same base, and with its entries or one more, of a sender of the seat
+  abbrev pub GoesOn : View (Queue H K) H → Queue H K → Queue H K → Type 0
+  GoesOn v x y = (y.start ≡ x.start) × ((y.entries ≡ x.entries) ⊎ ((e : Entry) × (y.entries ≡ x.entries ++ e ∷ []) × (0 < holds e.sender v)))
+
   abbrev pub MayGive : View (Queue H K) H → Queue H K → Type 0
-  MayGive v x = (x.entries ≡ v.seen) ⊎ ((e : Entry) × (x.entries ≡ v.seen ++ e ∷ []) × (0 < holds e.sender v))
+  MayGive v y = (x : Queue H K) × (v.found ≡ Some x) × GoesOn v x y
+
+  abbrev pub handed : Play H K
+  handed st m r n = (x : Queue H K) → m.1 ≡ (0, Some x) ∷ [] → n ≡ (handing m.0 x, [])
+
+  -- the state that was found may be given back sealed, where its entries are legal and numbered
+  abbrev pub MayHand : View (Queue H K) H → Queue H K → Type 0
+  MayHand v y = (x : Queue H K) × (v.found ≡ Some x) × (y ≡ sealed x) × IsLegal x.setting x.start x.entries × AreNumbered x.setting x.start x.entries
 
   -- each list that the seat was told begins its own, which has all entries of its senders
   abbrev pub learned : Play H K

@@ -1,15 +1,20 @@
 -- The rule of the turn over the state of a queue. Word 0 is 1 while a seat has the turn, and word 1 is the bell. The one slot is the state's home.
-use Rattle.std.specs.Prelude.{◌≡◌, ℕ, ◌+◌, ◌%◌, ◌^◌, ◌<◌, ◌==◌, true, false, cond, List, [], ◌∷◌, ◌++◌, map, length, slice_index, All, Option, Some, None}
+use Rattle.std.specs.Prelude.{◌≡◌, ℕ, ◌+◌, ◌%◌, ◌^◌, ◌<◌, ◌==◌, true, false, cond, List, [], ◌∷◌, ◌++◌, map, take, length, slice_index, All, Option, Some, None}
 use Rattle.std.specs.List.{range_with_len}
 use mathlib.Core.Option.{some}
 use mathlib.Core.List.{IsPrefix}
 use lib.ListN.{get_elem?}
 use Rattle.atomic_table.specs.Table.{State}
 use Rattle.loop_model.specs.declared.entry.Entry.{Entry}
+use Rattle.loop_model.specs.declared.segment.Segment.{Segment}
+use Rattle.loop_model.specs.Base.{empty_base}
+use Rattle.loop_model.specs.Legal.{IsLegal, AreNumbered}
+use Rattle.loop_model.specs.Chain.{after, IsChainFrom, entries_of}
 use Rattle.loop_model.specs.Lists.{total, longer}
-use Rattle.queue_state.specs.Queue.{Queue}
+use Rattle.queue_state.specs.Queue.{Queue, part_of}
 use Rattle.shared_queue.specs.declared.view.View.{View}
-use Rattle.shared_queue.specs.Constants.{Constants, made_in, IsStateOf}
+use Rattle.shared_queue.specs.Constants.{Constants, last_of, made_in, IsFor, IsStateOf}
+use Rattle.shared_queue.specs.Whole.{Course, whole_of}
 
 abbrev pub Board : Type 0 → Type 0 → Type 0
 Board H K = State (Option (Queue H K)) (View (Queue H K) H)
@@ -35,20 +40,31 @@ module _ {H K : Type 0} where
   abbrev pub holds : ℕ → View (Queue H K) H → ℕ
   holds n v = total (λ p. cond (p.0 == n) 1 0) v.senders
 
+  -- the state goes on from what the parts have left, and has the entries since
+  abbrev pub IsPresent : Constants H → Course → Queue H K → Type 0
+  IsPresent key c x = (x.start ≡ after (empty_base key.setting.senders) (entries_of c.parts)) × (x.entries ≡ c.since)
+
+  -- the present state was found
+  abbrev pub Finds : Constants H → Course → Option (Queue H K) → Type 0
+  Finds key c found = (x : Queue H K) × (found ≡ Some x) × IsPresent key c x
+
   -- what the rule says of one view
-  pub record Fits (key : Constants H) (whole : List Entry) (v : View (Queue H K) H) : Type 0 where
+  pub record Fits (key : Constants H) (course : Course) (v : View (Queue H K) H) : Type 0 where
     pub constants : (c : Constants H) → v.constants ≡ Some c → c ≡ key
-    pub seen : IsPrefix v.seen whole
+    pub seen : IsPrefix v.seen (whole_of course)
     pub told : All (λ t. IsPrefix t v.seen) v.told
     pub below : All (λ p. p.0 < key.setting.senders) v.senders
-    pub mine : All (Counts whole v.seen) v.senders
-    pub turn : v.has_turn ≡ true → (v.seen ≡ whole) × (0 < length v.senders)
+    pub mine : All (Counts (whole_of course) v.seen) v.senders
+    pub turn : v.has_turn ≡ true → (v.seen ≡ whole_of course) × (0 < length v.senders) × Finds key course v.found
     -- only a seat with a sender number rings the bell
     pub quiet : 0 < v.rung → 0 < length v.senders
+    -- the seat of the last sender keeps the parts that were handed out, and no other seat keeps any
+    pub sealed : 0 < holds (last_of key) v → v.sealed ≡ course.parts
+    pub unsealed : holds (last_of key) v ≡ 0 → v.sealed ≡ []
 
-  -- the state is at home, with these constants and this history
-  abbrev pub AtHome : Constants H → List Entry → Board H K → Type 0
-  AtHome key whole s = (x : Queue H K) × (get_elem? s.homes 0 ≡ some (some (Some x))) × IsStateOf key x × (x.entries ≡ whole)
+  -- the present state is at home, with these constants
+  abbrev pub AtHome : Constants H → Course → Board H K → Type 0
+  AtHome key course s = (x : Queue H K) × (get_elem? s.homes 0 ≡ some (some (Some x))) × IsFor key x × IsPresent key course x
 
   -- no view was told a list, so that no seat has had a turn
   abbrev pub AreUntold : List (View (Queue H K) H) → Type 0
@@ -64,17 +80,21 @@ module _ {H K : Type 0} where
     pub deadline : x.deadline ≡ None
 
   pub record Turn (key : Constants H) (s : Board H K) : Type 0 where
-    -- the whole history
-    pub whole : List Entry
+    -- the parts that were handed out, and the entries since
+    pub course : Course
+    -- these parts are a chain, whose history is legal and numbered
+    pub chain : IsChainFrom (empty_base key.setting.senders) course.parts
+    pub legal : IsLegal key.setting (empty_base key.setting.senders) (entries_of course.parts)
+    pub numbered : AreNumbered key.setting (empty_base key.setting.senders) (entries_of course.parts)
     pub wide : length s.words ≡ 2
     pub deep : length s.homes ≡ 1
     -- the turn word counts the views that have the turn, and at most one has it
     pub turns : total turn_of s.views ≡ slice_index s.words 0
     pub once : slice_index s.words 0 < 2
-    pub free : slice_index s.words 0 ≡ 0 → AtHome key whole s
+    pub free : slice_index s.words 0 ≡ 0 → AtHome key course s
     -- until the first turn nothing has happened to the state
     pub first : AreUntold s.views → (x : Queue H K) × (get_elem? s.homes 0 ≡ some (some (Some x))) × IsFirst key x
-    pub each : (j : ℕ) (v : View (Queue H K) H) → get_elem? s.views j ≡ some v → Fits key whole v
+    pub each : (j : ℕ) (v : View (Queue H K) H) → get_elem? s.views j ≡ some v → Fits key course v
     -- each sender number stands in one view, once
     pub placed : (n : ℕ) → n < key.setting.senders → total (holds n) s.views ≡ 1
     -- the bell counts the rings, wrapping
@@ -82,19 +102,32 @@ module _ {H K : Type 0} where
 
   -- the first seat: it has all sender numbers, and the history is empty
   abbrev pub opening_view : Constants H → View (Queue H K) H
-  opening_view key = record { constants = Some key; senders = new_senders 0 key.setting.senders; seen = []; told = []; has_turn = false; turns = 0; found = None; left = None; rung = 0; heard = 0; listens = 0 }
+  opening_view key = record { constants = Some key; senders = new_senders 0 key.setting.senders; seen = []; told = []; has_turn = false; turns = 0; found = None; left = None; sealed = []; rung = 0; heard = 0; listens = 0 }
 
-  -- a seat that wins the turn finds the state x
-  abbrev pub taking : View (Queue H K) H → Queue H K → View (Queue H K) H
-  taking v x = record v { seen = x.entries; told = v.seen ∷ v.told; has_turn = true; turns = v.turns + 1; found = Some x }
+  -- a seat that wins the turn finds the state x, with this whole history
+  abbrev pub taking : View (Queue H K) H → List Entry → Queue H K → View (Queue H K) H
+  taking v whole x = record v { seen = whole; told = v.seen ∷ v.told; has_turn = true; turns = v.turns + 1; found = Some x }
+
+  -- the whole history once the state x is left: what was seen, up to its base, and its entries
+  abbrev pub seen_with : View (Queue H K) H → Queue H K → List Entry
+  seen_with v x = take x.start.length v.seen ++ x.entries
 
   -- a seat that gives the turn back leaves the state x
   abbrev pub giving : View (Queue H K) H → Queue H K → View (Queue H K) H
-  giving v x = record v { senders = counted x.entries v.senders; seen = x.entries; told = v.seen ∷ v.told; has_turn = false; left = Some x }
+  giving v x = record v { senders = counted (seen_with v x) v.senders; seen = seen_with v x; told = v.seen ∷ v.told; has_turn = false; left = Some x }
+
+  -- the base of the state with the entries since
+  abbrev pub part_in : Option (Queue H K) → List Segment
+  part_in None = []
+  part_in (Some x) = part_of x ∷ []
+
+  -- a seat that gives the turn back with the state x, and keeps that it handed out what it had found
+  abbrev pub handing : View (Queue H K) H → Queue H K → View (Queue H K) H
+  handing v x = record (giving v x) { sealed = v.sealed ++ part_in v.found }
 
   -- a new seat with some of the sender numbers
   abbrev pub fresh : View (Queue H K) H → List (ℕ × ℕ) → View (Queue H K) H
-  fresh v senders = record v { senders = senders; told = []; has_turn = false; turns = 0; found = None; left = None; rung = 0; listens = 0 }
+  fresh v senders = record v { senders = senders; told = []; has_turn = false; turns = 0; found = None; left = None; sealed = []; rung = 0; listens = 0 }
 
   -- a new seat with some of them, which tells of as many turns
   abbrev pub dealt : View (Queue H K) H → List (ℕ × ℕ) → View (Queue H K) H
@@ -105,8 +138,8 @@ module _ {H K : Type 0} where
 
   -- a seat that takes in another
   abbrev pub joined : View (Queue H K) H → View (Queue H K) H → View (Queue H K) H
-  joined v w = record v { senders = v.senders ++ w.senders; seen = longer v.seen w.seen; told = v.seen ∷ w.seen ∷ v.told; turns = v.turns + w.turns; rung = v.rung + w.rung }
+  joined v w = record v { senders = v.senders ++ w.senders; seen = longer v.seen w.seen; told = v.seen ∷ w.seen ∷ v.told; turns = v.turns + w.turns; sealed = v.sealed ++ w.sealed; rung = v.rung + w.rung }
 
   -- what is left of that other
   abbrev pub gone : View (Queue H K) H
-  gone = record { constants = None; senders = []; seen = []; told = []; has_turn = false; turns = 0; found = None; left = None; rung = 0; heard = 0; listens = 0 }
+  gone = record { constants = None; senders = []; seen = []; told = []; has_turn = false; turns = 0; found = None; left = None; sealed = []; rung = 0; heard = 0; listens = 0 }

@@ -4,15 +4,36 @@ ghost use Rattle.loop_model.specs.Items.{is_barrier};
 ghost use Rattle.message_slot.specs.Letter.{IsAtHome};
 ghost use Rattle.queue_state.specs.Calls.{UnbarsAtHome, TakesAtHome, QuitsAtHome};
 ghost use Rattle.shared_queue.specs.Known.{IsOf};
-ghost use Rattle.shared_queue.specs.Calls.{PostedBy, BarrierPostedBy, BarrierGoneBy, RemovedBy, QuitBy, AdvancedBy, HaltedBy, HasBy, TimedBy};
+ghost use Rattle.shared_queue.specs.Calls.{PostedBy, BarrierPostedBy, BarrierGoneBy, RemovedBy, QuitBy, AdvancedBy, HaltedBy, HasBy, TimedBy, CountedBy, SealedBy};
 
 use crate::poster::Poster;
 use crate::queue::SharedQueue;
-use loop_model::Filter;
+use loop_model::{Filter, NoMemory, Segment};
 use message_slot::Claim;
 use queue_state::{Advancing, BarrierGone, BarrierPosted, Halting, Posted, Quitting, Taking};
 use std::sync::Wait;
 use when_queue::MsgNode;
+
+// Whether a waiting looper has to look again.
+fn post_wakes<K: Claim>(answer: &Posted<K>) -> bool {
+    match answer {
+        Posted::Accepted { number: _, wake } => *wake,
+        Posted::Refused { .. } => false,
+        Posted::NoMemory(_) => false,
+    }
+}
+
+fn removal_wakes<K: Claim>(answer: &BarrierGone<K>) -> bool {
+    match answer {
+        BarrierGone::Unbarriered { node: _, wake } => *wake,
+        BarrierGone::NotPosted => false,
+        BarrierGone::NoMemory => false,
+    }
+}
+
+fn quit_wakes<K: Claim>(answer: &Quitting<K>) -> bool {
+    matches!(answer, Quitting::Done(_))
+}
 
 impl<K: Claim> Poster<K> {
     /// Posts a message that has a target, for the time that stands in it, in milliseconds: its number among the posts, and
@@ -27,6 +48,7 @@ impl<K: Claim> Poster<K> {
         let mut state = self.desk.begin(rt, queue);
         let answer = state.post(self.desk.sender, node);
         self.desk.end(queue, state);
+        queue.rings.ring_if(rt, post_wakes(&answer));
         answer
     }
 
@@ -65,6 +87,7 @@ impl<K: Claim> Poster<K> {
         let mut state = self.desk.begin(rt, queue);
         let answer = state.remove_barrier(self.desk.sender, token);
         self.desk.end(queue, state);
+        queue.rings.ring_if(rt, removal_wakes(&answer));
         answer
     }
 
@@ -98,6 +121,7 @@ impl<K: Claim> Poster<K> {
         let mut state = self.desk.begin(rt, queue);
         let answer = state.quit(self.desk.sender, safe, now);
         self.desk.end(queue, state);
+        queue.rings.ring_if(rt, quit_wakes(&answer));
         answer
     }
 
@@ -152,5 +176,36 @@ impl<K: Claim> Poster<K> {
         let answer = state.time();
         self.desk.end(queue, state);
         answer
+    }
+
+    /// How many entries the history has since its base. It takes no memory (this project's profile).
+    pub fn since<R: Wait>(&mut self, rt: &R, queue: &SharedQueue<K>) -> u64
+        requires { IsOf self.old queue.now }
+        ensures { CountedBy self.old self.new result }
+    {
+        let state = self.desk.begin(rt, queue);
+        let answer = state.entries().len() as u64;
+        self.desk.end(queue, state);
+        answer
+    }
+
+    /// Hands out the base with the entries since, so that the queue keeps only what they have left. The last sender alone does. It
+    /// leaves the whole history as it is. At NoMemory nothing is handed out (this project's profile).
+    pub fn seal<R: Wait>(&mut self, rt: &R, queue: &SharedQueue<K>) -> Result<Segment, NoMemory>
+        requires queue { IsOf self.old queue.now }
+        requires last { self.old.sender + 1 ≡ queue.now.constants.setting.senders }
+        ensures { SealedBy self.old self.new result }
+    {
+        let mut state = self.desk.begin(rt, queue);
+        match state.seal() {
+            Ok(part) => {
+                self.desk.end_sealed(queue, state);
+                Ok(part)
+            }
+            Err(error) => {
+                self.desk.end(queue, state);
+                Err(error)
+            }
+        }
     }
 }

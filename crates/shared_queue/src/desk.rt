@@ -1,7 +1,7 @@
 // What a poster has, and the two ends of a turn.
-ghost use Rattle.std.specs.Prelude.{◌≡◌, Some};
-ghost use Rattle.queue_state.specs.Queue.{Queue};
-ghost use Rattle.shared_queue.specs.Desk.{IsIdle, Began, MayEnd, Ended};
+ghost use Rattle.std.specs.Prelude.{◌≡◌, ◌+◌, length, Some};
+ghost use Rattle.queue_state.specs.Queue.{Queue, IsSound};
+ghost use Rattle.shared_queue.specs.Desk.{IsIdle, Began, MayEnd, Ended, MayHandOver, HandedOver};
 
 use crate::queue::SharedQueue;
 use crate::view::View;
@@ -31,7 +31,7 @@ impl<K: Claim> Desk<QueueState<K>, K::Home> {
         ensures { Began queue.now.constants self.old self.new result }
     {
         let state = queue.take(rt, &mut self.seat);
-        self.seen = state.entries().len() as u64;
+        self.seen = length(&state);
         state
     }
 
@@ -41,9 +41,27 @@ impl<K: Claim> Desk<QueueState<K>, K::Home> {
         requires turn { MayEnd queue.now.constants self.old state }
         ensures { Ended self.old self.new state }
     {
-        let seen = state.entries().len() as u64;
+        let seen = length(&state);
         queue.give(&mut self.seat, state);
         self.made += seen - self.seen;
         self.seen = seen;
     }
+
+    // Gives the state back sealed, with no more entry.
+    pub(crate) fn end_sealed(&mut self, queue: &SharedQueue<K>, state: QueueState<K>)
+        requires table { self.old.seat.table_id ≡ queue.now.table }
+        requires turn { MayHandOver queue.now.constants self.old state }
+        ensures { HandedOver self.old self.new state }
+    {
+        self.seen = length(&state);
+        queue.hand(&mut self.seat, state);
+    }
+}
+
+// How long the whole history is.
+fn length<K: Claim>(state: &QueueState<K>) -> u64
+    ensures length { result ≡ state.now.start.length + length state.now.entries }
+    ensures sound { IsSound state.now }
+{
+    state.base().length + state.entries().len() as u64
 }

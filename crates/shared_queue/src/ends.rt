@@ -1,18 +1,21 @@
 // How a queue is made, and how it ends.
-ghost use Rattle.std.specs.Prelude.{◌≡◌, ◌+◌, ◌<◌, [], All, length, IfOk};
+ghost use Rattle.std.specs.Prelude.{◌≡◌, ◌+◌, ◌++◌, ◌<◌, [], ◌∷◌, All, length, IfOk};
 ghost use Rattle.message_slot.specs.Letter.{IsAtHome};
 ghost use Rattle.shared_queue.specs.Constants.{constants_of};
 ghost use Rattle.shared_queue.specs.Turn.{IsFirst, opening_view};
 ghost use Rattle.shared_queue.specs.Known.{Rests, IsOf};
-ghost use Rattle.shared_queue.specs.Ends.{undealt, IsNew, AreNew, AreInOrder, TakenIn, Gathered, HasCalls, IsSoundEnd};
+ghost use Rattle.loop_model.specs.Base.{empty_base};
+ghost use Rattle.loop_model.specs.Chain.{IsChainFrom, entries_of};
+ghost use Rattle.shared_queue.specs.Ends.{undealt, IsNew, AreNew, AreInOrder, TakenIn, Gathered, HasCalls, IsSoundEnd, HaveSealed};
 
 use crate::poster::Poster;
 use crate::queue::{Place, SharedQueue};
+use crate::rings::Rings;
 use crate::rule::{Both, Deal, Learn, Sit};
 use crate::traits::Traits;
 use crate::view::QueueKey;
 use atomic_table::{Refused, Table};
-use loop_model::{NoMemory, QueueRecord, Sequence};
+use loop_model::{NoMemory, QueueRecord, Segment, Sequence};
 use message_slot::Claim;
 use queue_state::QueueState;
 use std::alloc::Global;
@@ -92,7 +95,8 @@ impl<K: Claim> SharedQueue<K> {
         traits: Traits,
         state: QueueState<K>,
     ) -> Result<(SharedQueue<K>, Place<K>), NoMemory>
-        requires { IsFirst (constants_of home.value traits) state }
+        requires state { IsFirst (constants_of home.value traits) state }
+        requires senders { 0 < traits.senders }
         ensures { IfOk result (λ r. (r.0.constants ≡ constants_of home.value traits) × (r.1.table_id ≡ r.0.table) × (r.1.me ≡ (opening_view (constants_of home.value traits), []))) }
     {
         let key = QueueKey { home, traits };
@@ -101,33 +105,58 @@ impl<K: Claim> SharedQueue<K> {
         };
         slots.push_reserved(Some(state));
         match Table::new(alloc, &[0, 0], slots, &key) {
-            Ok((table, seat)) => Ok((SharedQueue { table, traits }, seat)),
+            Ok((table, seat)) => {
+                let rings = Rings::new();
+                Ok((
+                    SharedQueue {
+                        table,
+                        traits,
+                        rings,
+                    },
+                    seat,
+                ))
+            }
             Err(Refused { slots: _ }) => Err(NoMemory),
         }
     }
 
     /// Ends the sharing, and answers the whole history with what stayed the same, and the messages that still stood in the queue.
-    /// It takes all posters, in the order of their senders. It takes no memory. A rule of this project's profile.
-    pub fn retire(self, posters: Vec<Poster<K>>) -> Retired<K>
-        requires { (length posters.items ≡ self.constants.setting.senders) × AreInOrder self posters.items }
-        ensures looper { result.kept.looper ≡ self.constants.looper }
-        ensures setting { record { main = result.kept.main; lockstep = result.kept.lockstep; senders = result.kept.senders } ≡ self.constants.setting }
-        ensures sound { IsSoundEnd self.constants.setting result.kept.entries result.left }
-        ensures posters { HasCalls result.kept.entries posters.items }
-        ensures home { All (IsAtHome K.home self.constants.home) result.left }
+    /// It takes all posters, in the order of their senders, and the parts of the history that the last of them handed out. At
+    /// NoMemory, where the list of parts found none for the last, all that it takes is dropped. A rule of this project's profile.
+    pub fn retire(
+        self,
+        posters: Vec<Poster<K>>,
+        mut sealed: Vec<Segment>,
+    ) -> Result<Retired<K>, NoMemory>
+        requires posters { (length posters.items ≡ self.constants.setting.senders) × AreInOrder self posters.items }
+        requires sealed { HaveSealed posters.items sealed.items }
+        ensures looper { IfOk result (λ r. r.kept.looper ≡ self.constants.looper) }
+        ensures setting { IfOk result (λ r. record { main = r.kept.main; lockstep = r.kept.lockstep; senders = r.kept.senders } ≡ self.constants.setting) }
+        ensures parts { IfOk result (λ r. (last : Segment) × (r.kept.segments ≡ sealed.items ++ last ∷ [])) }
+        ensures chain { IfOk result (λ r. IsChainFrom (empty_base self.constants.setting.senders) r.kept.segments) }
+        ensures sound { IfOk result (λ r. IsSoundEnd self.constants.setting (entries_of r.kept.segments) r.left) }
+        ensures posters { IfOk result (λ r. HasCalls (entries_of r.kept.segments) posters.items) }
+        ensures home { IfOk result (λ r. All (IsAtHome K.home self.constants.home) r.left) }
     {
         let seat = self.gather(posters);
-        let SharedQueue { table, traits } = self;
+        let SharedQueue {
+            table,
+            traits,
+            rings: _,
+        } = self;
         let mut closed = table.close_with(seat);
         let Some(state) = closed.take(0) else {
             unreachable!()
         };
         closed.free();
-        let (entries, left) = state.into_parts();
-        Retired {
-            kept: traits.with_history(Sequence::from_vec(entries)),
+        let (last, left) = state.into_parts();
+        let Ok(()) = sealed.push(last) else {
+            return Err(NoMemory)
+        };
+        Ok(Retired {
+            kept: traits.with_history(Sequence::from_vec(sealed)),
             left,
-        }
+        })
     }
 
     // One seat that has what all posters had.

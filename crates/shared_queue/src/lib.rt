@@ -7,9 +7,11 @@ mod ends;
 mod looks;
 mod poster;
 mod queue;
+mod rings;
 mod rule;
 mod traits;
 mod view;
+mod waiting;
 
 pub use ends::Retired;
 pub use poster::Poster;
@@ -17,6 +19,7 @@ pub use queue::SharedQueue;
 pub use rule::OneTurn;
 pub use traits::Traits;
 pub use view::{QueueKey, View};
+pub use waiting::Waited;
 
 #[cfg(test)]
 mod tests;

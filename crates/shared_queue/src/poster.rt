@@ -3,7 +3,7 @@ ghost use Rattle.std.specs.Prelude.{◌≡◌, ◌+◌, false, [], ◌∷◌, le
 ghost use mathlib.Core.List.{IsPrefix};
 ghost use Rattle.loop_model.specs.Lists.{longer};
 ghost use Rattle.shared_queue.specs.Desk.{IsIdle};
-ghost use Rattle.shared_queue.specs.Known.{Known, IsOf, IsSame, made_by};
+ghost use Rattle.shared_queue.specs.Known.{Known, KeepsNone, IsOf, IsSame, made_by};
 
 use crate::desk::Desk;
 use crate::queue::{Place, SharedQueue};
@@ -11,6 +11,7 @@ use crate::rule::{Both, Learn, Listen, Note, Ring};
 use message_slot::Claim;
 use queue_state::QueueState;
 use std::marker::Model;
+use std::sync::Wait;
 
 /// A seat at the table of one queue, with one sender number.
 #[derive(Drop)]
@@ -30,7 +31,7 @@ impl<K: Claim> Poster<K> {
     // A poster that has done nothing.
     pub(crate) fn of(seat: Place<K>, sender: u32) -> Poster<K>
         requires rests { (seat.me.0.has_turn ≡ false) × (seat.me.1 ≡ []) }
-        requires new { (seat.me.0.senders ≡ (sender, 0) ∷ []) × (seat.me.0.seen ≡ []) × (seat.me.0.heard ≡ 0) }
+        requires new { (seat.me.0.senders ≡ (sender, 0) ∷ []) × (seat.me.0.seen ≡ []) × (seat.me.0.heard ≡ 0) × (seat.me.0.sealed ≡ []) }
         ensures { (result.table ≡ seat.table_id) × (result.sender ≡ sender) × (result.view ≡ seat.me.0) }
     {
         Poster {
@@ -45,7 +46,7 @@ impl<K: Claim> Poster<K> {
     }
 
     pub(crate) fn into_seat(self) -> Place<K>
-        ensures { (result.table_id ≡ self.table) × (result.me.0 ≡ self.view) × (result.me.0.has_turn ≡ false) × (result.me.1 ≡ []) × (result.me.0.senders ≡ (self.sender, made_by self) ∷ []) }
+        ensures { (result.table_id ≡ self.table) × (result.me.0 ≡ self.view) × (result.me.0.has_turn ≡ false) × (result.me.1 ≡ []) × (result.me.0.senders ≡ (self.sender, made_by self) ∷ []) × KeepsNone self }
     {
         let Poster { desk } = self;
         let Desk {
@@ -97,8 +98,9 @@ impl<K: Claim> Poster<K> {
         self.desk.seen = self.desk.seen.max(other.desk.seen);
     }
 
-    /// Rings the bell, for the looper of the queue (`nativeWake` of AOSP's `MessageQueue`). It takes no turn.
-    pub fn nudge(&mut self, queue: &SharedQueue<K>)
+    /// Rings the bell, for the looper of the queue, and wakes it where it waits (`nativeWake` of AOSP's `MessageQueue`). It
+    /// takes no turn.
+    pub fn nudge<R: Wait>(&mut self, rt: &R, queue: &SharedQueue<K>)
         requires { IsOf self.old queue.now }
         ensures rung { self.new.view.rung ≡ self.old.view.rung + 1 }
         ensures same { IsSame self.old self.new × (self.new.view.seen ≡ self.old.view.seen) × (self.new.view.heard ≡ self.old.view.heard) }
@@ -108,6 +110,14 @@ impl<K: Claim> Poster<K> {
             .table
             .shared
             .fetch_add::<Ring>(&mut self.desk.seat, 1, 1);
+        queue.rings.ring(rt);
+    }
+
+    // What it read last on the bell.
+    pub(crate) fn heard(&self) -> u64
+        ensures { result ≡ self.now.view.heard }
+    {
+        self.desk.heard
     }
 
     // Reads the bell.

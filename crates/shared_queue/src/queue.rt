@@ -1,13 +1,14 @@
 // The table of a queue, and the two steps of a turn.
 ghost use Rattle.std.specs.Prelude.{◌≡◌, ◌<◌, true, false, [], ◌∷◌, length, Option, Some, None, MatchOption};
 ghost use Rattle.queue_state.specs.Queue.{Queue};
-ghost use Rattle.shared_queue.specs.Constants.{Constants, IsStateOf, setting_of};
-ghost use Rattle.shared_queue.specs.Turn.{taking, giving};
-ghost use Rattle.shared_queue.specs.Plays.{MayGive};
+ghost use Rattle.shared_queue.specs.Constants.{Constants, IsFor, last_of, setting_of};
+ghost use Rattle.shared_queue.specs.Turn.{holds, giving, handing};
+ghost use Rattle.shared_queue.specs.Plays.{MayGive, MayHand};
 ghost use Rattle.shared_queue.specs.Known.{Shared, Rests};
 ghost use Rattle.shared_queue.specs.Seats.{HasTaken};
 
-use crate::rule::{Give, OneTurn, Take};
+use crate::rings::Rings;
+use crate::rule::{Give, Hand, OneTurn, Take};
 use crate::traits::Traits;
 use crate::view::{QueueKey, View};
 use atomic_table::{Seat, Table};
@@ -37,6 +38,7 @@ pub(crate) type Place<K> = Seat<Option<QueueState<K>>, View<QueueState<K>, <K as
 pub struct SharedQueue<K: Claim> {
     pub(crate) table: Board<K>,
     pub(crate) traits: Traits,
+    pub(crate) rings: Rings,
 }
 
 impl<K: Claim> Model for SharedQueue<K> {
@@ -44,7 +46,7 @@ impl<K: Claim> Model for SharedQueue<K> {
 
     ghost view = { λ s. record { table = s.table.shared.table_id; constants = s.table.shared.key } };
 
-    ghost invariant = { λ s. (s.table.shared.table_id.words ≡ 2) × (s.table.shared.table_id.slots ≡ 1) × (s.traits.looper ≡ s.table.shared.key.looper) × (setting_of s.traits ≡ s.table.shared.key.setting) };
+    ghost invariant = { λ s. (s.table.shared.table_id.words ≡ 2) × (s.table.shared.table_id.slots ≡ 1) × (s.traits.looper ≡ s.table.shared.key.looper) × (setting_of s.traits ≡ s.table.shared.key.setting) × (0 < s.traits.senders) };
 }
 
 impl<K: Claim> SharedQueue<K> {
@@ -84,10 +86,22 @@ impl<K: Claim> SharedQueue<K> {
     pub(crate) fn give(&self, seat: &mut Place<K>, state: QueueState<K>)
         requires table { seat.old.table_id ≡ self.now.table }
         requires turn { (seat.old.me.0.has_turn ≡ true) × (seat.old.me.1 ≡ (0, None) ∷ []) }
-        requires state { IsStateOf self.now.constants state × MayGive seat.old.me.0 state }
+        requires state { IsFor self.now.constants state × MayGive seat.old.me.0 state }
         ensures { (seat.new.table_id ≡ seat.old.table_id) × (seat.new.id ≡ seat.old.id) × (seat.new.me ≡ (giving seat.old.me.0 state, [])) }
     {
         drop(self.table.shared.exchange(seat, 0, Some(state)));
         self.table.shared.store::<Give>(seat, 0, 0);
+    }
+
+    // Puts the state back sealed, and gives the turn up.
+    pub(crate) fn hand(&self, seat: &mut Place<K>, state: QueueState<K>)
+        requires table { seat.old.table_id ≡ self.now.table }
+        requires turn { (seat.old.me.0.has_turn ≡ true) × (seat.old.me.1 ≡ (0, None) ∷ []) }
+        requires last { 0 < holds (last_of self.now.constants) seat.old.me.0 }
+        requires state { IsFor self.now.constants state × MayHand seat.old.me.0 state }
+        ensures { (seat.new.table_id ≡ seat.old.table_id) × (seat.new.id ≡ seat.old.id) × (seat.new.me ≡ (handing seat.old.me.0 state, [])) }
+    {
+        drop(self.table.shared.exchange(seat, 0, Some(state)));
+        self.table.shared.store::<Hand>(seat, 0, 0);
     }
 }

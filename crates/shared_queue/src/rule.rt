@@ -1,7 +1,7 @@
 // The rule of the table, and the names of its steps.
 ghost use Rattle.std.specs.Prelude.{[], take, drop};
 ghost use Rattle.shared_queue.specs.Turn.{Turn, opening_view, fresh, dealt, keeping, joined, gone};
-ghost use Rattle.shared_queue.specs.Plays.{sat, took, gave, learned, rang, listened};
+ghost use Rattle.shared_queue.specs.Plays.{sat, took, gave, handed, learned, rang, listened};
 
 use crate::view::{QueueKey, View};
 use atomic_table::{Join, Play, Split, TableRule};
@@ -35,6 +35,13 @@ pub(crate) struct Give;
 
 impl<K: Claim> Play<Option<QueueState<K>>, View<QueueState<K>, K::Home>> for Give {
     ghost then = { gave };
+}
+
+/// Gives the turn back, with what was found sealed.
+pub(crate) struct Hand;
+
+impl<K: Claim> Play<Option<QueueState<K>>, View<QueueState<K>, K::Home>> for Hand {
+    ghost then = { handed };
 }
 
 /// Tells that what the seat was told begins what it has seen.

@@ -1,11 +1,12 @@
-ghost use Rattle.std.specs.Prelude.{◌≡◌, ◌+◌, IfOk, None, true, false, length};
+ghost use Rattle.std.specs.Prelude.{◌≡◌, ◌+◌, [], IfOk, None, true, false, length};
 ghost use Rattle.std.specs.Thread.{IsSync};
 ghost use Rattle.loop_model.specs.Items.{is_barrier};
 ghost use Rattle.shared_queue.specs.Known.{IsOf};
-ghost use Rattle.shared_queue.specs.Ends.{AreInOrder};
+ghost use Rattle.shared_queue.specs.Ends.{AreInOrder, HaveSealed};
 
-use crate::{Poster, Retired, SharedQueue};
-use loop_model::{Entry, Filter, Kind, NoMemory, Post};
+use crate::{Poster, Retired, SharedQueue, Waited};
+use loop_io::StepClock;
+use loop_model::{Entry, Filter, Kind, NoMemory, Post, Segment};
 use message_list::new_node;
 use message_slot::{Message, NoClaim};
 use queue_state::{
@@ -56,7 +57,7 @@ fn send<R: Wait>(
     what: u32,
 ) -> bool
     requires { IsOf poster.old queue.now }
-    ensures { IsOf poster.new queue.now × (poster.new.sender ≡ poster.old.sender) }
+    ensures { IsOf poster.new queue.now × (poster.new.sender ≡ poster.old.sender) × (poster.new.view.sealed ≡ poster.old.view.sealed) }
 {
     let Ok(node) = message(alloc, what) else {
         return false
@@ -87,7 +88,7 @@ fn post_many<R: Wait>(
     poster: &mut Poster<NoClaim>,
 )
     requires { IsOf poster.old queue.now }
-    ensures { IsOf poster.new queue.now × (poster.new.sender ≡ poster.old.sender) }
+    ensures { IsOf poster.new queue.now × (poster.new.sender ≡ poster.old.sender) × (poster.new.view.sealed ≡ poster.old.view.sealed) }
 {
     for what in 0..POSTS {
         send(rt, alloc, queue, poster, what);
@@ -97,7 +98,7 @@ fn post_many<R: Wait>(
 // Looks until a message is there.
 fn take_one<R: Wait>(rt: &R, queue: &SharedQueue<NoClaim>, poster: &mut Poster<NoClaim>)
     requires { IsOf poster.old queue.now }
-    ensures { IsOf poster.new queue.now × (poster.new.sender ≡ poster.old.sender) }
+    ensures { IsOf poster.new queue.now × (poster.new.sender ≡ poster.old.sender) × (poster.new.view.sealed ≡ poster.old.view.sealed) }
 {
     for _ in rt.forever() {
         if matches!(poster.next(rt, queue, 10, false), Nexted::Taken { .. }) {
@@ -109,7 +110,7 @@ fn take_one<R: Wait>(rt: &R, queue: &SharedQueue<NoClaim>, poster: &mut Poster<N
 
 fn take_many<R: Wait>(rt: &R, queue: &SharedQueue<NoClaim>, poster: &mut Poster<NoClaim>)
     requires { IsOf poster.old queue.now }
-    ensures { IsOf poster.new queue.now × (poster.new.sender ≡ poster.old.sender) }
+    ensures { IsOf poster.new queue.now × (poster.new.sender ≡ poster.old.sender) × (poster.new.view.sealed ≡ poster.old.view.sealed) }
 {
     for _ in 0..2 * POSTS {
         take_one(rt, queue, poster);
@@ -125,7 +126,7 @@ fn work<R: Wait>(
     place: usize,
 )
     requires { IsOf poster.old queue.now }
-    ensures { IsOf poster.new queue.now × (poster.new.sender ≡ poster.old.sender) }
+    ensures { IsOf poster.new queue.now × (poster.new.sender ≡ poster.old.sender) × (poster.new.view.sealed ≡ poster.old.view.sealed) }
 {
     if place < 2 {
         post_many(rt, alloc, queue, poster);
@@ -142,7 +143,9 @@ fn side_by_side<R: Threads + Wait + Sync>(
     posters: &mut [Poster<NoClaim>],
 )
     requires { AreInOrder queue.now posters.old }
-    ensures { (length posters.new ≡ length posters.old) × AreInOrder queue.now posters.new }
+    ensures length { length posters.new ≡ length posters.old }
+    ensures order { AreInOrder queue.now posters.new }
+    ensures sealed { HaveSealed posters.old [] → HaveSealed posters.new [] }
 {
     thread::for_each_mut(
         rt,
@@ -150,7 +153,7 @@ fn side_by_side<R: Threads + Wait + Sync>(
         3,
         &|i, poster: &mut Poster<NoClaim>|
             requires { IsSync R.row × IsOf poster.old queue.now }
-            ensures { IsOf poster.new queue.entry.now × (poster.new.sender ≡ poster.old.sender) }
+            ensures { IsOf poster.new queue.entry.now × (poster.new.sender ≡ poster.old.sender) × (poster.new.view.sealed ≡ poster.old.view.sealed) }
         { work(rt, alloc, queue, poster, i) },
     );
 }
@@ -158,7 +161,7 @@ fn side_by_side<R: Threads + Wait + Sync>(
 fn worked<R: Threads + Wait + Sync>(rt: &R, alloc: Global) -> Result<Retired<NoClaim>, NoMemory> {
     let (queue, mut posters) = SharedQueue::<NoClaim>::make(alloc, (), 1, false, false, 3)?;
     side_by_side(rt, alloc, &queue, posters.as_mut_slice());
-    Ok(queue.retire(posters))
+    queue.retire(posters, Vec::new(alloc))
 }
 
 // Whether the entries of the sender are numbered in order.
@@ -180,7 +183,10 @@ fn count(entries: &[Entry], sender: u32) -> usize {
 #[test]
 fn two_threads_post_and_a_third_takes(rt: HostRuntime) -> Result<(), Fail> {
     let retired = worked(&rt, rt.alloc())?;
-    let entries = retired.kept.entries.as_slice();
+    let [part] = retired.kept.segments.as_slice() else {
+        panic!(rt; "nothing was handed out")
+    };
+    let entries = part.entries.as_slice();
     assert!(rt; entries.len() == 4000 && retired.left.len() == 0);
     assert!(rt;
         count(entries, 0) == 1000 && count(entries, 1) == 1000 && count(entries, 2) == 2000
@@ -223,7 +229,7 @@ fn a_removal_empties(rt: HostRuntime) -> Result<(), Fail> {
 #[test]
 fn a_barrier_comes_and_goes(rt: HostRuntime) -> Result<(), Fail> {
     let (queue, mut poster) = alone(rt.alloc(), false)?;
-    poster.nudge(&queue);
+    poster.nudge(&rt, &queue);
     let node = message(rt.alloc(), 0)?;
     assert!(rt;
         matches!(
@@ -238,5 +244,90 @@ fn a_barrier_comes_and_goes(rt: HostRuntime) -> Result<(), Fail> {
         )
     );
     assert!(rt; poster.made() == 2);
+    Ok(())
+}
+
+// Hands out what was posted, and then what was removed: the first part.
+fn hand_out<R: Wait>(
+    rt: &R,
+    alloc: Global,
+    queue: &SharedQueue<NoClaim>,
+    poster: &mut Poster<NoClaim>,
+) -> Result<Segment, NoMemory>
+    requires of { IsOf poster.old queue.now }
+    requires last { poster.old.sender + 1 ≡ queue.now.constants.setting.senders }
+    ensures { IsOf poster.new queue.now }
+{
+    send(rt, alloc, queue, poster, 7);
+    send(rt, alloc, queue, poster, 8);
+    poster.seal(rt, queue)
+}
+
+#[test]
+fn a_part_is_handed_out(rt: HostRuntime) -> Result<(), Fail> {
+    let (queue, mut poster) = alone(rt.alloc(), false)?;
+    let part = hand_out(&rt, rt.alloc(), &queue, &mut poster)?;
+    assert!(rt; part.base.length == 0 && part.entries.len() == 2);
+    assert!(rt; poster.since(&rt, &queue) == 0 && poster.seen() == 2);
+    assert!(rt; poster.has(&rt, &queue, &ALL));
+    assert!(rt; matches!(poster.remove(&rt, &queue, &ALL), Taking::Removed(_)));
+    assert!(rt; poster.since(&rt, &queue) == 1 && poster.seen() == 3 && poster.made() == 3);
+    Ok(())
+}
+
+// A queue in free mode with one poster, and a message in it that is due at 3.
+fn waiting<R: Wait>(
+    rt: &R,
+    alloc: Global,
+) -> Result<(SharedQueue<NoClaim>, Poster<NoClaim>), NoMemory>
+    ensures queue { IfOk result (λ r. r.0.constants.setting.lockstep ≡ false) }
+    ensures poster { IfOk result (λ r. IsOf r.1 r.0) }
+{
+    let (queue, mut posters) = SharedQueue::make(alloc, (), 0, true, false, 1)?;
+    let mut poster = posters.pop().unwrap();
+    let mut node = message(alloc, 1)?;
+    node.item_mut().set_post(&Post {
+        handler: 1,
+        what: 1,
+        arg: 0,
+        obj: None,
+        callback: None,
+        when: 3,
+        asynchronous: false,
+        slot: None,
+    });
+    match poster.post(rt, &queue, node) {
+        Posted::Accepted { .. } => Ok((queue, poster)),
+        Posted::Refused { .. } => Err(NoMemory),
+        Posted::NoMemory(_) => Err(NoMemory),
+    }
+}
+
+#[test]
+fn waits_by_a_clock(rt: HostRuntime) -> Result<(), Fail> {
+    let (queue, mut poster) = waiting(&rt, rt.alloc())?;
+    let clock = StepClock::new(1);
+    let Waited::Taken {
+        number,
+        now,
+        node: _,
+    } = poster.wait_next(&rt, &queue, &clock, 0, false, None)
+    else {
+        panic!(rt; "the message is due at 3")
+    };
+    assert!(rt; number == 0 && now >= 3);
+    poster.nudge(&rt, &queue);
+    assert!(rt;
+        matches!(
+            poster.wait_next(&rt, &queue, &clock, 0, false, None),
+            Waited::Nudged
+        )
+    );
+    assert!(rt;
+        matches!(
+            poster.wait_next(&rt, &queue, &clock, 0, false, Some(0)),
+            Waited::Cap { .. }
+        )
+    );
     Ok(())
 }

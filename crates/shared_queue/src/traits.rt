@@ -1,7 +1,7 @@
 // The numbers and marks of a queue.
 ghost use Rattle.std.specs.Prelude.{◌≡◌};
 
-use loop_model::{Entry, QueueRecord, Sequence};
+use loop_model::{QueueRecord, Segment, Sequence};
 
 /// The number of its looper, whether it is the main one's, whether it is in lockstep, and how many senders it has.
 #[derive(Debug, Clone, Copy)]
@@ -13,16 +13,16 @@ pub struct Traits {
 }
 
 impl Traits {
-    // What is kept of a queue with this history.
-    pub(crate) fn with_history(self, entries: Sequence<Entry>) -> QueueRecord
-        ensures { (result.looper ≡ self.looper) × (result.main ≡ self.main) × (result.lockstep ≡ self.lockstep) × (result.senders ≡ self.senders) × (result.entries ≡ entries) }
+    // What is kept of a queue with a history in these parts.
+    pub(crate) fn with_history(self, segments: Sequence<Segment>) -> QueueRecord
+        ensures { (result.looper ≡ self.looper) × (result.main ≡ self.main) × (result.lockstep ≡ self.lockstep) × (result.senders ≡ self.senders) × (result.segments ≡ segments) }
     {
         QueueRecord {
             looper: self.looper,
             main: self.main,
             lockstep: self.lockstep,
             senders: self.senders,
-            entries,
+            segments,
         }
     }
 }

@@ -1,6 +1,6 @@
 // What a seat at the table of a queue knows.
 use crate::traits::Traits;
-use loop_model::Entry;
+use loop_model::{Entry, Segment};
 use std::collections::LinkedList;
 use std::marker::Model;
 use std::snapshot::Snapshot;
@@ -37,6 +37,8 @@ pub struct View<S, H> {
     pub found: Option<S>,
     /// The state that its last turn left.
     pub left: Option<S>,
+    /// The parts of the history that it handed out.
+    pub sealed: LinkedList<Segment>,
     /// How often it rang the bell.
     pub rung: u64,
     /// What it read last on the bell.

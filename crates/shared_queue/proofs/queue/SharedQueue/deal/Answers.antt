@@ -10,7 +10,7 @@ pub split_seat-requires : goal.split_seat-requires
 split_seat-requires g c =
     let M : Type 0 = Sat g.row.K-Home.Denot g.row.K.Denot in
     let was = c.requires.2 in
-    (search rules, search rules, deals c.self.inside.table.shared.key _ _ (ap (λ (z : M). z.0.has_turn) was) (ap (λ (z : M). z.0.rung) was))
+    (search rules, search rules, deals c.self.inside.table.shared.key _ _ (ap (λ (z : M). z.0.has_turn) was) (ap (λ (z : M). z.0.rung) was) (ap (λ (z : M). z.0.sealed) was))
 
 pub returns-clause-seat : goal.returns-clause-seat
 returns-clause-seat g c =

@@ -11,4 +11,4 @@ new-requires g c =
     let key = constants_of c.args.home.value c.args.traits in
     let x : Queue g.row.K-Home.Denot g.row.K.Denot = c.args.state in
     let items : c.push_reserved.new.self.items ≡ Some x ∷ [] = c.push_reserved.ensures.items ∙ ap (λ l. l ++ Some x ∷ []) c.in-Ok.ensures.items in
-    subst (λ slots. Turn key (opening (0 ∷ 0 ∷ []) slots (opening_view key))) (sym items) (opens key x c.requires)
+    subst (λ slots. Turn key (opening (0 ∷ 0 ∷ []) slots (opening_view key))) (sym items) (opens key x c.requires.state)

@@ -1,0 +1,70 @@
+use Rattle.std.proofs.Common.{subst, sym, refl, true, inl}
+use Rattle.atomic_table.specs.Seated.{TableId}
+use Rattle.message_pool.specs.Passes.{Claimed}
+use Rattle.queue_state.specs.declared.answers.Nexted.{Nexted}
+use Rattle.shared_queue.specs.Calls.{NextedBy}
+use Rattle.looper_run.specs.Holding.{Looping, held}
+use Rattle.looper_run.specs.Acts.{IsIdle, GrowsBy}
+use Rattle.looper_run.specs.Told.{Dispatches, GivesBack}
+use Rattle.looper_run.specs.Tests.{Passes, HasTaken}
+use Rattle.looper_run.specs.Looks.{StepBy, HasDispatched, GivesUp, looked_by, by_poster}
+use Rattle.looper_run.specs.Round.{UnlessStopped}
+use Rattle.looper_run.specs.declared.step.Step.{Step}
+use Rattle.looper_run.proofs.Looking.{fits_dispatches}
+use Rattle.looper_run.proofs.Acting.{answer_taken, answer_number, answer_idle, answer_wait, answer_over, answer_end}
+use Rattle.looper_run.proofs.looper.Looper.act.Goals as goal
+use Rattle.looper_run.proofs.looper.Looper.act.Goals.{in-Ok, in-Err, in-Ok-run_idle, in-Err-run_idle}
+
+pub dispatch-requires-clause-taken : goal.dispatch-requires-clause-taken
+dispatch-requires-clause-taken g c =
+    let M = g.D.Dispatcher.Meets c.args.d.now in
+    subst (λ (l : Looping). HasTaken M l.held c.in-Taken.node c.in-Taken.now) (sym c.self.view_is)
+    (answer_taken M c.args.self.now c.args.answer c.requires.look c.in-Taken.number c.in-Taken.now c.in-Taken.node (g.met.D.Dispatcher.others c.args.d.now) c.in-Taken.is)
+
+pub dispatch-requires-clause-number : goal.dispatch-requires-clause-number
+dispatch-requires-clause-number g c =
+    answer_number (g.D.Dispatcher.Meets c.args.d.now) c.args.self.now c.args.answer c.requires.look c.in-Taken.number c.in-Taken.now c.in-Taken.node c.in-Taken.is
+
+pub returns-after-dispatch-clause-step : goal.returns-after-dispatch-clause-step
+returns-after-dispatch-clause-step g c p now look =
+    let l = c.args.self.now in
+    let before : Looping = by_poster l p in
+    let after : Looping = record { held = held c.dispatch.new.own; idle_owed = true; ended = c.self.inside.ended } in
+    let took = subst (λ (r : Nexted Claimed TableId). NextedBy p l.held.poster now l.idle_owed r) c.in-Taken.is look in
+    elim c.match-dispatch.branch [
+      | in-Ok w ↦
+          (let done = subst (λ (x : Looping). Dispatches x.held after.held c.in-Taken.node c.in-Taken.now) c.self.view_is w.in-Ok.ensures.done in
+          let did : HasDispatched now before after = record { looked = l.held.poster; number = c.in-Taken.number; moment = c.in-Taken.now; node = c.in-Taken.node; look = took; done = done; idle_owed = refl } in
+          let fits = fits_dispatches (looked_by before.held l.held.poster) after.held c.in-Taken.node c.in-Taken.now done in
+          subst (λ (r : Step). StepBy now before after r) (sym w.result-is) (did, fits))
+      | in-Err w ↦
+          (let back = subst (λ (x : Looping). GivesBack x.held after.held c.in-Taken.node) c.self.view_is w.in-Err.ensures.given_up in
+          let up : GivesUp now before after = inl (l.held.poster, c.in-Taken.number, c.in-Taken.now, c.in-Taken.node, took, back) in
+          subst (λ (r : Step). StepBy now before after r) (sym w.result-is) up)
+    ]
+
+pub returns-after-run_idle-clause-meets : goal.returns-after-run_idle-clause-meets
+returns-after-run_idle-clause-meets g c =
+    let M = g.D.Dispatcher.Meets c.args.d.now in
+    let l = c.args.self.now in
+    let ran = subst (λ (x : Looping). GrowsBy IsIdle x.held.journal.acts c.run_idle.new.journal.acts) c.self.view_is c.run_idle.ensures.told in
+    let still = subst (λ (x : Looping). M x.held.poster.sender x.held.poster.view.seen c.run_idle.new.journal.acts) (sym c.self.view_is)
+    (answer_idle M l c.args.answer c.requires.look (g.met.D.Dispatcher.others c.args.d.now) (g.met.D.Dispatcher.quiet c.args.d.now) c.run_idle.new.journal.acts c.in-Idle.is ran) in
+    elim c.match-run_idle.branch [
+      | in-Ok-run_idle w ↦ subst (λ (r : Step). UnlessStopped r (M c.self.inside.poster.sender c.self.inside.poster.view.seen c.run_idle.new.journal.acts)) (sym w.result-is) still
+      | in-Err-run_idle w ↦ subst (λ (r : Step). UnlessStopped r (M c.self.inside.poster.sender c.self.inside.poster.view.seen c.run_idle.new.journal.acts)) (sym w.result-is) tt
+    ]
+
+pub returns-in-Wait-clause-meets : goal.returns-in-Wait-clause-meets
+returns-in-Wait-clause-meets g c =
+    answer_wait (g.D.Dispatcher.Meets c.args.d.now) c.args.self.now c.args.answer c.requires.look (g.met.D.Dispatcher.others c.args.d.now) (g.met.D.Dispatcher.quiet c.args.d.now) c.in-Wait.until c.in-Wait.is
+
+pub returns-in-End-clause-meets : goal.returns-in-End-clause-meets
+returns-in-End-clause-meets g c =
+    let M = g.D.Dispatcher.Meets c.args.d.now in
+    subst (λ (x : Looping). Passes M x.held) (sym c.self.view_is)
+    (answer_end M c.args.self.now c.args.answer c.requires.look (g.met.D.Dispatcher.others c.args.d.now) (g.met.D.Dispatcher.disposal c.args.d.now) c.in-End.left c.in-End.is)
+
+pub returns-in-Over-clause-meets : goal.returns-in-Over-clause-meets
+returns-in-Over-clause-meets g c =
+    answer_over (g.D.Dispatcher.Meets c.args.d.now) c.args.self.now c.args.answer c.requires.look (g.met.D.Dispatcher.others c.args.d.now) (g.met.D.Dispatcher.quiet c.args.d.now) c.in-Over.is

@@ -1,0 +1,238 @@
+//! A looper that waits by a clock.
+ghost use Rattle.std.specs.Prelude.{◌≡◌, ℕ, ◌++◌, false, map, List, None, OnOk, IfOk, IfErr};
+ghost use Rattle.atomic_table.specs.Seated.{TableId};
+ghost use Rattle.looper_run.specs.Holding.{Workplace, workplace, IsAt};
+ghost use Rattle.looper_run.specs.Asked.{Listening, Listen, with_asked, asked_by_round};
+ghost use Rattle.looper_run.specs.Tests.{Passes, Rings};
+ghost use Rattle.looper_run.specs.Looks.{IsAnswerOf};
+ghost use Rattle.looper_run.specs.Loops.{IsStill, HasPaced, pace_of, UnlessHalted, IsClosed, StepsBy, IsLoop, LoopBy, is_over, UnlessLost, Answers, Pauses, loop_of};
+ghost use Rattle.shared_queue.specs.Waiting.{WaitsAtHome};
+
+use crate::dispatcher::Dispatcher;
+use crate::looper::Looper;
+use crate::sources::{Sources, take_events};
+use crate::step::Step;
+use loop_io::Clock;
+use loop_model::NoMemory;
+use message_pool::{Pool, PoolClaim};
+use queue_state::Nexted;
+use shared_queue::{SharedQueue, Waited};
+use std::sync::{Mutex, Wait};
+use std::time;
+
+/// How a loop by a clock ended.
+#[derive(Clone, Copy, Debug, PartialEq, Eq)]
+pub enum Loop {
+    /// The queue is over.
+    Ended,
+    /// Nothing was due at this moment in milliseconds, which is no earlier than the cap.
+    Cap { now: u64 },
+    /// Nothing was due, and the bell was rung.
+    Nudged,
+    NoMemory,
+}
+
+/// Why a looper looks no further.
+#[derive(Clone, Copy, Debug, PartialEq, Eq)]
+pub(crate) enum Pause {
+    Cap { now: u64 },
+    Nudged,
+}
+
+/// What came of a wait.
+#[derive(Clone, Copy, Debug, PartialEq, Eq)]
+pub(crate) enum Pace {
+    /// The looper looks again.
+    Goes,
+    /// The queue is over.
+    Ends,
+    NoMemory,
+    Pauses { pause: Pause },
+}
+
+// What a step comes to.
+fn paced(step: Step) -> Pace
+    ensures { result ≡ pace_of step }
+{
+    match step {
+        Step::Dispatched => Pace::Goes,
+        Step::Idled => Pace::Goes,
+        Step::Waits { until: _ } => Pace::Goes,
+        Step::Ends => Pace::Ends,
+        Step::NoMemory => Pace::NoMemory,
+    }
+}
+
+impl Pause {
+    fn as_loop(self) -> Loop
+        ensures { result ≡ loop_of self }
+    {
+        match self {
+            Pause::Cap { now } => Loop::Cap { now },
+            Pause::Nudged => Loop::Nudged,
+        }
+    }
+}
+
+// What a wait was answered: the answer of a look, or a pause.
+fn answer_of(waited: Waited<PoolClaim>) -> Result<Nexted<PoolClaim>, Pause>
+    ensures answer { IfOk result (Answers waited) }
+    ensures pause { IfErr result (Pauses waited) }
+    ensures home { (pool : TableId) → WaitsAtHome (λ c. c.home) pool waited → IfOk result (IsAnswerOf pool) }
+{
+    match waited {
+        Waited::Taken { number, now, node } => Ok(Nexted::Taken { number, now, node }),
+        Waited::Idle => Ok(Nexted::Idle),
+        Waited::End(left) => Ok(Nexted::End(left)),
+        Waited::Over => Ok(Nexted::Over),
+        Waited::Cap { now } => Err(Pause::Cap { now }),
+        Waited::Nudged => Err(Pause::Nudged),
+    }
+}
+
+impl Looper {
+    /// The loop by a clock: the dispatcher's pulse, the events that were handed in, and then waits for messages, each of which
+    /// is dispatched, until the queue is over, nothing is due at a moment that is no earlier than `cap`, or nothing is due and
+    /// the bell was rung; then the events that were handed in since. Idle handlers run as in a round. A moment is the clock's
+    /// reading less `start`, in milliseconds. As `loop` of AOSP's `Looper`; the cap and the nudge are this project's profile.
+    ///
+    /// After NoMemory the run is given up.
+    pub fn run_loop<R: Wait + time::Clock, D: Dispatcher, C: Clock>(
+        &mut self,
+        rt: &R,
+        queue: &SharedQueue<PoolClaim>,
+        pool: &Pool,
+        sources: &Mutex<Sources>,
+        d: &mut D,
+        clock: &C,
+        start: u64,
+        cap: Option<u64>,
+    ) -> Loop
+        requires going { self.old.ended ≡ false }
+        requires at { IsAt queue.now pool.now self.old.held }
+        requires free { queue.now.constants.setting.lockstep ≡ false }
+        requires serves { D.Serves d.old (workplace self.old.held) }
+        requires awaits { D.Awaits d.old None }
+        requires meets { Passes (D.Meets d.old) self.old.held }
+        ensures same { IsStill self.old.held self.new.held }
+        ensures serves { (w : Workplace) → D.Serves d.old w → D.Serves d.new w }
+        ensures origin { D.origin d.new ≡ D.origin d.old }
+        ensures nudges { Rings self.old.held.poster self.new.held.poster (D.nudges d.old) (D.nudges d.new) }
+        ensures loops { LoopBy (C.shows clock.now) start cap queue.now.constants.setting self.old.held self.new.held result }
+        ensures steps { IsLoop (λ now heard more. D.asked d.new ≡ with_asked (D.asked d.old) (asked_by_round now heard ++ map Listen more)) (C.shows clock.now) start cap self.old self.new result }
+        ensures meets { UnlessLost result (Passes (D.Meets d.new) self.new.held) }
+        ensures awaits { UnlessLost result (D.Awaits d.new None) }
+        ensures ended { self.new.ended ≡ is_over result }
+    {
+        let now = clock.uptime_millis().saturating_sub(start);
+        let Ok(()) = self.begin(rt, sources, d, now) else {
+            return Loop::NoMemory
+        };
+        self.go_on(rt, queue, pool, sources, d, clock, start, cap)
+    }
+
+    // Waits for messages until the queue is over or the looper is to pause.
+    fn go_on<R: Wait + time::Clock, D: Dispatcher, C: Clock>(
+        &mut self,
+        rt: &R,
+        queue: &SharedQueue<PoolClaim>,
+        pool: &Pool,
+        sources: &Mutex<Sources>,
+        d: &mut D,
+        clock: &C,
+        start: u64,
+        cap: Option<u64>,
+    ) -> Loop
+        requires going { self.old.ended ≡ false }
+        requires at { IsAt queue.now pool.now self.old.held }
+        requires free { queue.now.constants.setting.lockstep ≡ false }
+        requires serves { D.Serves d.old (workplace self.old.held) }
+        requires awaits { D.Awaits d.old None }
+        requires meets { Passes (D.Meets d.old) self.old.held }
+        ensures same { IsStill self.old.held self.new.held }
+        ensures serves { (w : Workplace) → D.Serves d.old w → D.Serves d.new w }
+        ensures origin { D.origin d.new ≡ D.origin d.old }
+        ensures nudges { Rings self.old.held.poster self.new.held.poster (D.nudges d.old) (D.nudges d.new) }
+        ensures loops { LoopBy (C.shows clock.now) start cap queue.now.constants.setting self.old.held self.new.held result }
+        ensures steps { StepsBy (λ more. D.asked d.new ≡ with_asked (D.asked d.old) (map Listen more)) (C.shows clock.now) start cap self.old self.new result }
+        ensures meets { UnlessLost result (Passes (D.Meets d.new) self.new.held) }
+        ensures awaits { UnlessLost result (D.Awaits d.new None) }
+        ensures ended { self.new.ended ≡ is_over result }
+    {
+        for _ in rt.forever() {
+            match self.pace(rt, queue, pool, sources, d, clock, start, cap) {
+                Pace::Goes => {}
+                Pace::Ends => {
+                    self.ended = true;
+                    return Loop::Ended;
+                }
+                Pace::NoMemory => return Loop::NoMemory,
+                Pace::Pauses { pause } => {
+                    let Ok(()) = self.close(rt, sources, d) else {
+                        return Loop::NoMemory
+                    };
+                    return pause.as_loop();
+                }
+            }
+        }
+        unreachable!()
+    }
+
+    // Waits for a message and dispatches it, or runs the idle handlers, unless the looper is to pause.
+    fn pace<R: Wait + time::Clock, D: Dispatcher, C: Clock>(
+        &mut self,
+        rt: &R,
+        queue: &SharedQueue<PoolClaim>,
+        pool: &Pool,
+        sources: &Mutex<Sources>,
+        d: &mut D,
+        clock: &C,
+        start: u64,
+        cap: Option<u64>,
+    ) -> Pace
+        requires at { IsAt queue.now pool.now self.old.held }
+        requires free { queue.now.constants.setting.lockstep ≡ false }
+        requires serves { D.Serves d.old (workplace self.old.held) }
+        requires awaits { D.Awaits d.old None }
+        requires meets { Passes (D.Meets d.old) self.old.held }
+        ensures same { IsStill self.old.held self.new.held }
+        ensures serves { (w : Workplace) → D.Serves d.old w → D.Serves d.new w }
+        ensures origin { D.origin d.new ≡ D.origin d.old }
+        ensures nudges { Rings self.old.held.poster self.new.held.poster (D.nudges d.old) (D.nudges d.new) }
+        ensures asked { D.asked d.new ≡ D.asked d.old }
+        ensures paced { HasPaced (C.shows clock.now) start cap self.old self.new result }
+        ensures meets { UnlessHalted result (Passes (D.Meets d.new) self.new.held) }
+        ensures awaits { UnlessHalted result (D.Awaits d.new None) }
+        ensures ended { self.new.ended ≡ self.old.ended }
+    {
+        let waited = self
+            .poster
+            .wait_next(rt, queue, clock, start, self.idle_owed, cap);
+        let answer = match answer_of(waited) {
+            Ok(answer) => answer,
+            Err(pause) => return Pace::Pauses { pause },
+        };
+        let step = self.act(rt, pool, sources, d, answer);
+        paced(step)
+    }
+
+    // The events that were handed in.
+    fn close<R: Wait, D: Dispatcher>(
+        &mut self,
+        rt: &R,
+        sources: &Mutex<Sources>,
+        d: &mut D,
+    ) -> Result<(), NoMemory>
+        requires awaits { D.Awaits d.old None }
+        requires meets { Passes (D.Meets d.old) self.old.held }
+        ensures serves { (w : Workplace) → D.Serves d.old w → D.Serves d.new w }
+        ensures origin { D.origin d.new ≡ D.origin d.old }
+        ensures nudges { D.nudges d.new ≡ D.nudges d.old }
+        ensures closed { IsClosed (λ more. OnOk result (D.asked d.new ≡ with_asked (D.asked d.old) (map Listen more))) self.old self.new }
+        ensures meets { OnOk result (Passes (D.Meets d.new) self.new.held) }
+        ensures awaits { OnOk result (D.Awaits d.new None) }
+        ensures ended { self.new.ended ≡ self.old.ended }
+    {
+        take_events(rt, sources, &mut self.journal, d)
+    }
+}

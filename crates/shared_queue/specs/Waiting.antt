@@ -1,0 +1,98 @@
+-- What a wait for a message does: looks that are answered to wait, and then the last one.
+use Rattle.std.specs.Prelude.{◌≡◌, ◌≢◌, ℕ, zero, suc, ◌+◌, ◌≤◌, ◌<◌, Bool, Option, Some, All}
+use Rattle.loop_io.specs.Moments.{IsMoment}
+use Rattle.message_slot.specs.Letter.{Letter, IsAtHome}
+use Rattle.queue_state.specs.declared.answers.Nexted.{Nexted}
+use Rattle.queue_state.specs.declared.answers.Nexted.TheVariants as nexted
+use Rattle.shared_queue.specs.declared.waiting.Waited.{Waited}
+use Rattle.shared_queue.specs.declared.waiting.Waited.TheVariants as waited
+use Rattle.shared_queue.specs.declared.waiting.Look.{Look}
+use Rattle.shared_queue.specs.declared.waiting.Look.TheVariants as look
+use Rattle.shared_queue.specs.Known.{Known, IsSame}
+use Rattle.shared_queue.specs.Calls.{NextedBy}
+
+-- the moment is no earlier than the cap
+abbrev pub IsCap : Option ℕ → ℕ → Type 0
+IsCap cap now = (at : ℕ) × (cap ≡ Some at) × (at ≤ now)
+
+module _ {H K : Type 0} where
+  -- the same poster of the same queue, which took turns and rang no bell
+  pub record HasStayed (before after : Known H K) : Type 0 where
+    pub table : after.table ≡ before.table
+    pub sender : after.sender ≡ before.sender
+    pub constants : after.view.constants ≡ before.view.constants
+    pub turns : before.view.turns < after.view.turns
+    pub rung : after.view.rung ≡ before.view.rung
+
+  -- the poster read the bell, and that is all
+  pub record HasListened (before after : Known H K) : Type 0 where
+    pub same : IsSame before after
+    pub seen : after.view.seen ≡ before.view.seen
+    pub rung : after.view.rung ≡ before.view.rung
+    pub listens : after.view.listens ≡ before.view.listens + 1
+
+  -- a look at this moment of the clock was answered so
+  pub record HasLooked (shows : ℕ → Bool) (start : ℕ) (idle : Bool) (now : ℕ) (answer : Nexted K H) (before after : Known H K) : Type 0 where
+    pub moment : IsMoment shows start now
+    pub look : NextedBy before after now idle answer
+
+  -- a look was answered to wait, and then the bell was as before
+  pub record HasSlept (shows : ℕ → Bool) (start : ℕ) (idle : Bool) (before after : Known H K) : Type 0 where
+    pub now : ℕ
+    pub until : Option ℕ
+    pub looked : Known H K
+    pub look : HasLooked shows start idle now (nexted.Wait until) before looked
+    pub listened : HasListened looked after
+    pub heard : after.view.heard ≡ before.view.heard
+
+  -- so many looks, one after another
+  abbrev pub Slept : (ℕ → Bool) → ℕ → Bool → ℕ → Known H K → Known H K → Type 0
+  Slept shows start idle zero before after = after ≡ before
+  Slept shows start idle (suc n) before after = (between : Known H K) × Slept shows start idle n before between × HasSlept shows start idle between after
+
+  -- the bell was rung since the last reading before: a look was answered to wait, and then the bell was another
+  pub record HasNudged (shows : ℕ → Bool) (start : ℕ) (idle : Bool) (before after : Known H K) : Type 0 where
+    pub now : ℕ
+    pub until : Option ℕ
+    pub looked : Known H K
+    pub look : HasLooked shows start idle now (nexted.Wait until) before looked
+    pub listened : HasListened looked after
+    pub heard : after.view.heard ≢ before.view.heard
+
+  -- the last look, by the answer of the wait
+  abbrev pub EndsBy : (ℕ → Bool) → ℕ → Bool → Option ℕ → Known H K → Known H K → Waited K H → Type 0
+  EndsBy shows start idle cap before after (waited.Taken number at node) = (now : ℕ) × HasLooked shows start idle now (nexted.Taken number at node) before after
+  EndsBy shows start idle cap before after waited.Idle = (now : ℕ) × HasLooked shows start idle now nexted.Idle before after
+  EndsBy shows start idle cap before after (waited.End list) = (now : ℕ) × HasLooked shows start idle now (nexted.End list) before after
+  EndsBy shows start idle cap before after waited.Over = (now : ℕ) × HasLooked shows start idle now nexted.Over before after
+  EndsBy shows start idle cap before after (waited.Cap now) = (until : Option ℕ) × HasLooked shows start idle now (nexted.Wait until) before after × IsCap cap now
+  EndsBy shows start idle cap before after waited.Nudged = HasNudged shows start idle before after
+
+  -- a wait: looks that were answered to wait, and then the last one, by its answer
+  abbrev pub WaitedBy : (ℕ → Bool) → ℕ → Bool → Option ℕ → Known H K → Known H K → Waited K H → Type 0
+  WaitedBy shows start idle cap before after result = (n : ℕ) × (between : Known H K) × Slept shows start idle n before between × EndsBy shows start idle cap between after result
+
+  -- one look, and what comes of it
+  abbrev pub LooksOnce : (ℕ → Bool) → ℕ → Bool → Option ℕ → Known H K → Known H K → Look K H → Type 0
+  LooksOnce shows start idle cap before after (look.Ends result) = EndsBy shows start idle cap before after result
+  LooksOnce shows start idle cap before after (look.Sleeps limit) = HasSlept shows start idle before after
+
+  -- what comes after a look that was answered to wait
+  abbrev pub Stays : Option ℕ → ℕ → Known H K → Known H K → Look K H → Type 0
+  Stays cap now before after (look.Ends (waited.Cap at)) = (at ≡ now) × IsCap cap now × (after ≡ before)
+  Stays cap now before after (look.Ends waited.Nudged) = HasListened before after × (after.view.heard ≢ before.view.heard)
+  Stays cap now before after (look.Sleeps limit) = HasListened before after × (after.view.heard ≡ before.view.heard)
+  Stays cap now before after _ = ⊥
+
+  -- what is handed out is of the home
+  abbrev pub WaitsAtHome : (K → H) → H → Waited K H → Type 0
+  WaitsAtHome of home (waited.Taken number at node) = IsAtHome of home node
+  WaitsAtHome of home waited.Idle = Unit {0}
+  WaitsAtHome of home (waited.End list) = All (IsAtHome of home) list
+  WaitsAtHome of home waited.Over = Unit {0}
+  WaitsAtHome of home (waited.Cap now) = Unit {0}
+  WaitsAtHome of home waited.Nudged = Unit {0}
+
+  abbrev pub LooksOnceAtHome : (K → H) → H → Look K H → Type 0
+  LooksOnceAtHome of home (look.Ends result) = WaitsAtHome of home result
+  LooksOnceAtHome of home (look.Sleeps limit) = Unit {0}
