@@ -6,7 +6,8 @@ use Rattle.std.proofs.lemmas.List.FromFn.{get_or-map-range_with_len, length-rang
 use Rattle.std.proofs.Math.Seq.{map-set_same}
 use Rattle.atomic_table.specs.Seated.{TableId}
 use Rattle.dash_script.specs.declared.script.Script.{Script}
-use Rattle.shared_queue.specs.Known.{Shared, IsOf, IsTurn}
+use Rattle.loop_model.specs.declared.segment.Segment.{Segment}
+use Rattle.shared_queue.specs.Known.{Shared, IsOf, IsTurnWith}
 use Rattle.looper_run.specs.Holding.{Sender, State}
 use Rattle.message_pool.specs.Passes.{Tally}
 use Rattle.choreographer.specs.declared.kept.Kept.{Kept}
@@ -36,7 +37,7 @@ pub posters_kept : (k : ℕ) (qs : List (Shared TableId)) (ps : List Sender) →
 posters_kept k qs ps h i p d same = map-set_same badge_of ps i p d same ∙ h
 
 -- a turn keeps the poster's badge
-pub turn_badge : (before after : Sender) (x y : State) → IsTurn before after x y → badge_of after ≡ badge_of before
+pub turn_badge : {parts : List Segment} (before after : Sender) (x y : State) → IsTurnWith parts before after x y → badge_of after ≡ badge_of before
 turn_badge before after x y t = λ i. record { table = t.table i; constants = t.constants i; sender = t.sender i }
 
 -- a poster that went on keeps its badge

@@ -8,7 +8,8 @@ use Rattle.loop_model.specs.declared.entry.Entry.{Entry}
 use Rattle.loop_model.specs.Entries.{is_next}
 use Rattle.message_pool.specs.Passes.{Tally}
 use Rattle.queue_state.specs.Queue.{entry_of}
-use Rattle.shared_queue.specs.Known.{IsTurn}
+use Rattle.loop_model.specs.declared.segment.Segment.{Segment}
+use Rattle.shared_queue.specs.Known.{IsTurn, IsTurnWith}
 use Rattle.looper_run.specs.Holding.{Sender, State}
 use Rattle.looper_run.specs.Acts.{IsNoLookOf}
 use Rattle.looper_run.proofs.Working.{first_all}
@@ -39,6 +40,7 @@ stays p a b k = record {
   constants = refl;
   heard = refl;
   rung = refl;
+  sealed = refl;
   turns = omega arith;
   more = [];
   seen = sym (append-nil p.view.seen);
@@ -58,6 +60,7 @@ goes_on_then p q r a b c f g =
       constants = g.constants ∙ f.constants;
       heard = g.heard ∙ f.heard;
       rung = g.rung ∙ f.rung;
+      sealed = g.sealed ∙ f.sealed;
       turns = turns;
       more = f.more ++ g.more;
       seen = g.seen ∙ (ap (λ (l : List Entry). l ++ g.more) f.seen ∙ append_assoc p.view.seen f.more g.more);
@@ -67,7 +70,7 @@ goes_on_then p q r a b c f g =
     }
 
 -- a turn by which the sender left these entries of its own, none of which is a look
-module _ (p q : Sender) (x y : State) (tail : List Entry) (t : IsTurn p q x y) (left : y.entries ≡ x.entries ++ tail) where
+module _ {parts : List Segment} (p q : Sender) (x y : State) (tail : List Entry) (t : IsTurnWith parts p q x y) (left : y.entries ≡ x.entries ++ tail) where
   more : List Entry
   more = (found p q x y t).others ++ tail
 
@@ -77,9 +80,9 @@ module _ (p q : Sender) (x y : State) (tail : List Entry) (t : IsTurn p q x y) (
       let f = found p q x y t in
       t.seen ∙ (left ∙ (ap (λ (l : List Entry). l ++ tail) f.entries ∙ append_assoc p.view.seen f.others tail))
 
-  pub turn_goes_on : (a b : Tally) → Keeps a b → All (IsNoLookOf p.sender) tail → GoesOn p q a b
+  pub turn_goes_on : (a b : Tally) → Keeps a b → q.view.sealed ≡ p.view.sealed → All (IsNoLookOf p.sender) tail → GoesOn p q a b
   unfolding more
-  turn_goes_on a b k quiet =
+  turn_goes_on a b k kept quiet =
       let f = found p q x y t in
       record {
         table = t.table;
@@ -87,6 +90,7 @@ module _ (p q : Sender) (x y : State) (tail : List Entry) (t : IsTurn p q x y) (
         constants = t.constants;
         heard = t.heard;
         rung = t.rung;
+        sealed = kept;
         turns = omega (arith, t.turns);
         more = more;
         seen = seen_is;
@@ -109,7 +113,7 @@ pub enters : (p q : Sender) (x y : State) (c : Call) (r : Reply) (a b : Tally) �
     → GoesOn p q a b × Makes p q (plain c) (token_in r)
 enters p q x y c r a b t left quiet k =
     let e = entry_of x p.sender c r in (
-      turn_goes_on p q x y (e ∷ []) t left a b k (all_first (IsNoLookOf p.sender) e [] (λ _. quiet) (λ n d near. absurd (omega (arith, near)))),
+      turn_goes_on p q x y (e ∷ []) t left a b k t.sealed (all_first (IsNoLookOf p.sender) e [] (λ _. quiet) (λ n d near. absurd (omega (arith, near)))),
       record { entry = e; made = turn_makes p q x y (e ∷ []) t left (own_of_one p.sender e refl); makes = refl; answered = refl },
     )
 
@@ -117,7 +121,7 @@ enters p q x y c r a b t left quiet k =
 pub leaves : (p q : Sender) (x y : State) (a b : Tally) → IsTurn p q x y → y ≡ x → Keeps a b → GoesOn p q a b × (own q ≡ own p)
 leaves p q x y a b t same k =
     let left : y.entries ≡ x.entries ++ [] = ap (λ (z : State). z.entries) same ∙ sym (append-nil x.entries) in (
-      turn_goes_on p q x y [] t left a b k (λ n d near. absurd (omega (arith, near))),
+      turn_goes_on p q x y [] t left a b k t.sealed (λ n d near. absurd (omega (arith, near))),
       turn_makes p q x y [] t left refl ∙ append-nil (own p),
     )
 

@@ -55,7 +55,7 @@ new_poster posters yielded rest p place q parts is new =
     let within = within_parts yielded rest posters p place parts is in
     let of_queue : IsOf p q × (p.sender ≡ place) = subst (λ (x : Sender). IsOf x q × (x.sender ≡ place)) at (new.0 place p within) in
     let unused : IsNew p = subst (λ (x : Sender). IsNew x) at (new.1 place p within) in
-    (unused.seen, λ i. record { table = of_queue.0.0 i; constants = of_queue.0.1 i; sender = of_queue.1 i })
+    ((unused.seen, unused.sealed), λ i. record { table = of_queue.0.0 i; constants = of_queue.0.1 i; sender = of_queue.1 i })
 
 pub posters_more : (place : ℕ) (posters yielded rest : List Sender) (p : Sender) (orig a b : List Kit) (e kit : Kit)
     → yielded ++ p ∷ rest ≡ posters → place ≡ length yielded → place < length a → b ≡ set a place kit

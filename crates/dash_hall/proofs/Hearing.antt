@@ -43,7 +43,7 @@ has_heard p q is more = record {
 -- a poster as it is
 pub heard_self : (p : Sender) → HasHeard p p
 heard_self p = record {
-  same = record { table = refl; sender = refl; constants = refl; turns = refl; found = refl; left = refl; made = refl };
+  same = record { table = refl; sender = refl; constants = refl; turns = refl; found = refl; left = refl; sealed = refl; made = refl };
   more = prefix_self p.view.seen;
   called = refl;
   rung = refl;
@@ -60,6 +60,7 @@ heard_then p q r f g = record {
     turns = g.same.turns ∙ f.same.turns;
     found = g.same.found ∙ f.same.found;
     left = g.same.left ∙ f.same.left;
+    sealed = g.same.sealed ∙ f.same.sealed;
     made = g.same.made ∙ f.same.made;
   };
   more = prefix_trans p.view.seen q.view.seen r.view.seen f.more g.more;
@@ -148,6 +149,10 @@ map_alike f [] [] long h = refl
 map_alike f [] (q ∷ qs) long h = absurd (omega (arith, long))
 map_alike f (p ∷ ps) [] long h = absurd (omega (arith, long))
 map_alike f (p ∷ ps) (q ∷ qs) long h = ap₂ (λ x xs. x ∷ xs) (h 0 p (omega arith)) (map_alike f ps qs (omega (arith, long)) (λ k d lt. h (suc k) d (omega (arith, lt))))
+
+-- the posters keep what they handed out
+pub heard_parts : (ps qs : List Sender) → HaveHeard ps qs → map (λ (p : Sender). p.view.sealed) qs ≡ map (λ (p : Sender). p.view.sealed) ps
+heard_parts ps qs h = sym (map_alike (λ (p : Sender). p.view.sealed) ps qs (sym h.long) (λ k d lt. sym (h.each k d lt).same.sealed))
 
 -- the posters keep their badges
 pub heard_badges : (ps qs : List Sender) → HaveHeard ps qs → map badge_of qs ≡ map badge_of ps

@@ -10,9 +10,9 @@ use Rattle.choreographer.specs.Ends.{AreNew as AreNewPasses}
 use Rattle.dash_hall.specs.declared.kit.Kit.{Kit}
 use Rattle.dash_hall.specs.Kits.{Badge, badge_of, badge_for, FrameBadge, frame_badge_of, frame_badge_for}
 
--- a poster that has seen nothing, and a pass that has seen nothing, taken no turn and recorded nothing
+-- a poster that has seen nothing and handed nothing out, and a pass that has seen nothing, taken no turn and recorded nothing
 abbrev pub IsUnusedPoster : Sender → Type 0
-IsUnusedPoster p = p.view.seen ≡ []
+IsUnusedPoster p = (p.view.seen ≡ []) × (p.view.sealed ≡ [])
 
 abbrev pub IsUnusedPass : Pass → Type 0
 IsUnusedPass p = (p.view.seen ≡ []) × (p.view.turns ≡ 0) × (p.view.own ≡ [])
@@ -88,8 +88,8 @@ pub record GivesPass (before : Kit) (pass : Pass) (after : Kit) : Type 0 where
   pub frames : before.frames.items ≡ pass ∷ after.frames.items
   pub home : after.pass.home ≡ before.pass.home
 
--- nobody has seen a call or a frame callback, and no pass has taken a turn or recorded anything
+-- nobody has seen a call or a frame callback, or handed entries out, and no pass has taken a turn or recorded anything
 abbrev pub AreUsedNowhere : List Kit → Type 0
 AreUsedNowhere kits = (k q : ℕ) (d : Kit) → k < length kits
-    → ((p : Sender) → q < length (slice_index_or kits k d).posters.items → (slice_index_or (slice_index_or kits k d).posters.items q p).view.seen ≡ [])
+    → ((p : Sender) → q < length (slice_index_or kits k d).posters.items → IsUnusedPoster (slice_index_or (slice_index_or kits k d).posters.items q p))
     × ((p : Pass) → q < length (slice_index_or kits k d).frames.items → IsUnusedPass (slice_index_or (slice_index_or kits k d).frames.items q p))

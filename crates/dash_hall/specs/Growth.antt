@@ -18,13 +18,14 @@ use Rattle.handler_post.specs.declared.way.Way.{Way}
 abbrev pub own : Sender → List Entry
 own p = entries_by p.sender p.view.seen
 
--- the same sender of the same queue, with the same pool, which has seen more; it made no look for a message, and no slot that it gave back is lost
+-- the same sender of the same queue, with the same pool, which has seen more; it made no look for a message, handed nothing out, and no slot that it gave back is lost
 pub record GoesOn (before after : Sender) (pass pass' : Tally) : Type 0 where
   pub table : after.table ≡ before.table
   pub sender : after.sender ≡ before.sender
   pub constants : after.view.constants ≡ before.view.constants
   pub heard : after.view.heard ≡ before.view.heard
   pub rung : after.view.rung ≡ before.view.rung
+  pub sealed : after.view.sealed ≡ before.view.sealed
   pub turns : before.view.turns ≤ after.view.turns
   pub more : List Entry
   pub seen : after.view.seen ≡ before.view.seen ++ more

@@ -110,9 +110,10 @@ OthersAreOver s kits = (looper : ℕ) (d : Kit) → 0 < looper → looper < s.lo
 abbrev pub AreUnseen : List Sender → Type 0
 AreUnseen ps = (q : ℕ) (p : Sender) → q < length ps → (slice_index_or ps q p).view.seen ≡ []
 
--- the kit's posters have seen no call, and its passes have seen no frame callback, taken no turn and recorded nothing
+-- the kit's posters have seen no call and handed nothing out, and its passes have seen no frame callback, taken no turn and recorded nothing
 pub record IsUnusedKit (kit : Kit) : Type 0 where
   pub posters : AreUnseen kit.posters.items
+  pub sealed : (q : ℕ) (p : Sender) → q < length kit.posters.items → (slice_index_or kit.posters.items q p).view.sealed ≡ []
   pub frames : (q : ℕ) (p : Pass) → q < length kit.frames.items → (slice_index_or kit.frames.items q p).view.seen ≡ []
   pub turns : (q : ℕ) (p : Pass) → q < length kit.frames.items → (slice_index_or kit.frames.items q p).view.turns ≡ 0
   pub own : (q : ℕ) (p : Pass) → q < length kit.frames.items → (slice_index_or kit.frames.items q p).view.own ≡ []

@@ -13,7 +13,7 @@ use Rattle.loop_model.specs.Fates.{fates, is_dispatched, is_removed, is_dropped,
 use Rattle.frame_phases.specs.declared.entry.FrameEntry.{FrameEntry}
 use Rattle.frame_phases.specs.declared.entry.FrameRecord.{FrameRecord}
 use Rattle.run_model.specs.Histories.{history_of}
-use Rattle.run_model.specs.Text.{history_lines, fates_line, act_lines, frame_lines, looper_lines, loopers_lines, line_text, accepted_in, dispatched_in, frames_in, paints_in, summary, summary_lines}
+use Rattle.run_model.specs.Text.{Words, history_lines, fates_line, act_lines, frame_lines, looper_lines, loopers_lines, line_text, accepted_in, dispatched_in, frames_in, paints_in, summary, summary_lines}
 use Rattle.run_model.specs.declared.report.Report.{Report}
 
 -- the line of the fates, by its numbers
@@ -24,6 +24,13 @@ fates_written fs a d r x s q ha hd hr hx hs hq = rw (ha, hd, hr, hx, hs, hq) ref
 
 regrouped : (a b c d e : List ℕ) → ((a ++ b) ++ (c ++ d)) ++ e ≡ a ++ (b ++ (c ++ (d ++ e)))
 regrouped a b c d e = append_assoc (a ++ b) (c ++ d) e ∙ (append_assoc a b ((c ++ d) ++ e) ∙ ap (λ l. a ++ (b ++ l)) (append_assoc c d e))
+
+-- what more entries have written
+pub entries_written : (f : Entry → List Words) (out : List ℕ) (es more : List Entry)
+    → (out ++ flat_map line_text (flat_map f es)) ++ flat_map line_text (flat_map f more) ≡ out ++ flat_map line_text (flat_map f (es ++ more))
+entries_written f out es more =
+    append_assoc out (flat_map line_text (flat_map f es)) (flat_map line_text (flat_map f more))
+    ∙ ap (λ l. out ++ l) (sym (flat_map-append line_text (flat_map f es) (flat_map f more)) ∙ ap (flat_map line_text) (sym (flat_map-append f es more)))
 
 -- a looper's lines, part by part
 looper_joined : (q : QueueRecord) (j : Journal) (f : FrameRecord)

@@ -1,10 +1,11 @@
 //! The lines of a queue's history.
 ghost use Rattle.std.specs.Prelude.{◌≡◌, ◌++◌, ◌∷◌, [], Some, IfOk, OnOk, slice_get, string_bytes};
 ghost use Rattle.std.specs.List.{join_with_byte, flat_map};
+ghost use Rattle.loop_model.specs.Chain.{entries_of};
 ghost use Rattle.loop_model.specs.Posts.{accepted_post, accepted_posts};
 ghost use Rattle.run_model.specs.Text.{subject, dispatch_words, call_lines, history_lines, line_text};
 
-use loop_model::{Call, Entry, NoMemory, Post, Reply};
+use loop_model::{Call, Entry, NoMemory, Post, Reply, Segment};
 use std::alloc::Global;
 use std::fmt;
 use std::fmt::Write;
@@ -35,11 +36,23 @@ fn accepted_post(entry: &Entry) -> Option<Post>
     }
 }
 
-/// The accepted posts of a history, by number.
-fn accepted_posts(alloc: Global, entries: &[Entry]) -> Result<Vec<Post>, NoMemory>
+/// The accepted posts of these entries, in order.
+fn posts_in(alloc: Global, entries: &[Entry]) -> Result<Vec<Post>, NoMemory>
     ensures { IfOk result (λ posts. posts.items ≡ accepted_posts entries.now) }
 {
     let posts = entries.iter().filter_map(accepted_post).collect(alloc)?;
+    Ok(posts)
+}
+
+/// The accepted posts of a history in these parts, by number.
+fn accepted_posts(alloc: Global, segments: &[Segment]) -> Result<Vec<Post>, NoMemory>
+    ensures { IfOk result (λ posts. posts.items ≡ accepted_posts (entries_of segments.now)) }
+{
+    let mut posts = Vec::new(alloc);
+    for segment in segments {
+        let mut more = posts_in(alloc, segment.entries.as_slice())?;
+        posts.append(&mut more)?;
+    }
     Ok(posts)
 }
 
@@ -82,15 +95,27 @@ fn write_entry(out: &mut String, posts: &[Post], entry: &Entry) -> Result<(), No
     Ok(())
 }
 
-/// Writes the lines of a history.
+/// Writes the lines of these entries, by the accepted posts of their history.
 #[tactic(auto, using(std::proofs::lemmas::List::append_assoc))]
-pub fn write_history(alloc: Global, out: &mut String, entries: &[Entry]) -> Result<(), NoMemory>
+fn write_entries(out: &mut String, posts: &[Post], entries: &[Entry]) -> Result<(), NoMemory>
     ensures { OnOk result (string_bytes out.new
-        ≡ string_bytes out.old ++ flat_map line_text (history_lines entries.now)) }
+        ≡ string_bytes out.old ++ flat_map line_text (flat_map (λ e. call_lines posts.now e.call e.reply) entries.now)) }
 {
-    let posts = accepted_posts(alloc, entries)?;
     for entry in entries {
-        write_entry(out, &posts, entry)?;
+        write_entry(out, posts, entry)?;
+    }
+    Ok(())
+}
+
+/// Writes the lines of a history in these parts.
+pub fn write_history(alloc: Global, out: &mut String, segments: &[Segment]) -> Result<(), NoMemory>
+    ensures { OnOk result (string_bytes out.new
+        ≡ string_bytes out.old ++ flat_map line_text (history_lines (entries_of segments.now))) }
+{
+    let accepted = accepted_posts(alloc, segments)?;
+    let posts = accepted.as_slice();
+    for segment in segments {
+        write_entries(out, posts, segment.entries.as_slice())?;
     }
     Ok(())
 }

@@ -24,10 +24,10 @@ fn write_looper(
     ensures { OnOk result (string_bytes out.new
         ≡ string_bytes out.old ++ flat_map line_text (looper_lines queue.now journal.now frames.now)) }
 {
-    let entries = queue.entries.as_slice();
+    let segments = queue.segments.as_slice();
     writeln!(out, "looper {}", queue.looper)?;
-    write_history(alloc, out, entries)?;
-    write_fates(alloc, out, entries)?;
+    write_history(alloc, out, segments)?;
+    write_fates(alloc, out, segments)?;
     write_acts(out, journal.acts.as_slice())?;
     write_frames(alloc, out, frames.entries.as_slice())?;
     Ok(())

@@ -34,7 +34,7 @@ fn count_posts(alloc: Global, queues: &[QueueRecord]) -> Result<PostCounts, NoMe
     let mut accepted = 0;
     let mut dispatched = 0;
     for queue in queues {
-        let fates = fates(alloc, queue.entries.as_slice())?;
+        let fates = fates(alloc, queue.segments.as_slice())?;
         accepted = sum(accepted, fates.list.len() as u64)?;
         dispatched = sum(dispatched, fates.dispatched)?;
     }

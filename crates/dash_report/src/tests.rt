@@ -2,7 +2,8 @@ use crate::{report_text, summary_text};
 use dash_script::Script;
 use frame_phases::{Callback, FrameEntry, FrameRecord};
 use loop_model::{
-    Act, Call, Entry, Filter, Journal, Kind, NoMemory, Post, QueueRecord, Reply, Route, Sequence,
+    Act, Base, Call, Entry, Filter, Journal, Kind, NoMemory, Post, QueueRecord, Reply, Route,
+    Segment, Sequence,
 };
 use run_model::Report;
 use std::alloc::Global;
@@ -174,14 +175,27 @@ fn script(alloc: Global) -> Script {
     }
 }
 
-fn queue(looper: u32, entries: Vec<Entry>) -> QueueRecord {
-    QueueRecord {
+/// A part of a history. What it starts from isn't printed.
+fn part(alloc: Global, entries: &[Entry]) -> Result<Segment, NoMemory> {
+    Ok(Segment {
+        base: Base::empty(alloc, 4)?,
+        entries: Sequence::from_vec(Vec::from_slice(alloc, entries)?),
+    })
+}
+
+/// The queue's history in two parts.
+fn queue(alloc: Global, looper: u32, entries: &[Entry]) -> Result<QueueRecord, NoMemory> {
+    let first = entries.len() / 2;
+    let mut segments = Sequence::new(alloc);
+    segments.push(part(alloc, &entries[..first])?)?;
+    segments.push(part(alloc, &entries[first..])?)?;
+    Ok(QueueRecord {
         looper,
         main: looper == 0,
         lockstep: true,
         senders: 4,
-        entries: Sequence::from_vec(entries),
-    }
+        segments,
+    })
 }
 
 fn journal(looper: u32, acts: Vec<Act>) -> Journal {
@@ -203,8 +217,8 @@ fn frames(looper: u32, entries: Vec<FrameEntry>) -> FrameRecord {
 /// A report whose records have an entry of each kind.
 fn report(alloc: Global) -> Result<Report, NoMemory> {
     let mut queues = Sequence::new(alloc);
-    queues.push(queue(0, main_entries(alloc)?))?;
-    queues.push(queue(1, side_entries(alloc)?))?;
+    queues.push(queue(alloc, 0, &main_entries(alloc)?)?)?;
+    queues.push(queue(alloc, 1, &side_entries(alloc)?)?)?;
     let mut journals = Sequence::new(alloc);
     journals.push(journal(0, main_acts(alloc)?))?;
     journals.push(journal(1, Vec::new(alloc)))?;

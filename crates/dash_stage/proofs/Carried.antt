@@ -3,6 +3,7 @@ use Rattle.std.proofs.Common.{◌≡◌, ◌<◌, ◌≤◌, ◌+◌, ◌==◌, 
 use Rattle.std.specs.List.{remove, AllByRecursion, range_with_len}
 use Rattle.std.proofs.lemmas.List.{get_or-map, length-append, length-map}
 use Rattle.std.proofs.lemmas.List.FromFn.{length-range_with_len, get_or-range_with_len}
+use Rattle.run_model.specs.Histories.{history_of}
 use Rattle.loop_model.specs.declared.entry.Entry.{Entry}
 use Rattle.loop_model.specs.declared.record.QueueRecord.{QueueRecord}
 use Rattle.loop_model.proofs.WellFormedLaws.{All_recursive, All_indexed}
@@ -32,7 +33,7 @@ use Rattle.dash_stage.proofs.Casting.{first_more, first_thread, other_threads, k
 
 -- kits that were used nowhere
 pub unused_kits : (kits : List Kit) → AreUsedNowhere kits → AreUnusedKits kits
-unused_kits kits h = λ k d lt. record { posters = λ q p below. (h k q d lt).0 p below; frames = λ q p below. ((h k q d lt).1 p below).0; turns = λ q p below. ((h k q d lt).1 p below).1; own = λ q p below. ((h k q d lt).1 p below).2 }
+unused_kits kits h = λ k d lt. record { posters = λ q p below. ((h k q d lt).0 p below).0; sealed = λ q p below. ((h k q d lt).0 p below).1; frames = λ q p below. ((h k q d lt).1 p below).0; turns = λ q p below. ((h k q d lt).1 p below).1; own = λ q p below. ((h k q d lt).1 p below).2 }
 
 pub other_unused : (kits : List Kit) → AreUnusedKits kits → 0 < length kits → AreUnusedKits (remove kits 0)
 other_unused [] h some = absurd (omega (arith, some))
@@ -139,7 +140,7 @@ module _ (s : Script) (hall : Hall) (h : IsHall s hall) (kits : List Kit) (are :
       let is_q = numbered_at (λ (z : QueueRecord). z.looper) s.loopers records recs.loopers q r lt in
       let made = (run thread d in_kits below).called q p in_posters in
       let same = (all thread q d p r in_kits lt).0 in
-      subst (λ l. MakeCalls in_lockstep s (labels_on l lines) l lines (entries_by thread (slice_index_or records q r).entries)) (sym is_q)
+      subst (λ l. MakeCalls in_lockstep s (labels_on l lines) l lines (entries_by thread (history_of (slice_index_or records q r)))) (sym is_q)
       (subst (λ (es : List Entry). MakeCalls in_lockstep s (labels_on q lines) q lines es) (sym same) made))
 
   -- each thread's pass asked the looper's choreographer for what the thread's lines ask for

@@ -1,9 +1,13 @@
 -- A sender's kit, and the sender that it makes.
-use Rattle.std.proofs.Common.{◌≡◌, ◌<◌, ◌+◌, ◌-◌, ℕ, zero, suc, List, [], ◌∷◌, ◌++◌, map, length, sym, ap, ◌∙◌, subst, arith, slice_index_or, if◌then◌else◌, nat_lt, Bool, slice_get}
+use Rattle.std.proofs.Common.{◌≡◌, ◌<◌, ◌+◌, ◌-◌, ℕ, zero, suc, List, [], ◌∷◌, ◌++◌, map, length, refl, sym, ap, ◌∙◌, subst, arith, slice_index_or, if◌then◌else◌, nat_lt, Bool, slice_get}
+use Rattle.std.specs.Global.{Vec}
+use Rattle.std.specs.Prelude.{replicate}
 use Rattle.std.specs.List.{remove, range_with_len}
 use Rattle.std.proofs.lemmas.Bool.{lt-ltb, le-ltb}
 use Rattle.std.proofs.lemmas.List.{length-append, map-append}
 use Rattle.loop_model.specs.declared.journal.Journal.{Journal}
+use Rattle.loop_model.specs.declared.segment.Segment.{Segment}
+use Rattle.looper_run.specs.Holding.{Sender}
 use Rattle.dash_script.specs.declared.script.Script.{Script}
 use Rattle.choreographer.specs.Known.{Shared as Frames}
 use Rattle.run_model.specs.Senders.{sender_count, controller}
@@ -12,11 +16,12 @@ use Rattle.dash_hall.specs.declared.kit.Kit.{Kit}
 use Rattle.dash_threads.specs.declared.thread.PostingThread.{PostingThread}
 use Rattle.dash_loopers.specs.declared.looper.StageLooper.{StageLooper}
 use Rattle.dash_stage.specs.declared.control.Controller.{Controller}
-use Rattle.dash_hall.specs.Kits.{frame_badge_of, frame_badge_for, frames_for, looper_frames, ArePostersOf, IsKitOf, AreKitsOf, IsUnusedKit}
+use Rattle.dash_hall.specs.Kits.{badge_of, badge_for, frame_badge_of, frame_badge_for, frames_for, looper_frames, ArePostersOf, IsHall, IsKitOf, AreKitsOf, IsUnusedKit}
 use Rattle.dash_threads.specs.Threads.{IsThread}
 use Rattle.dash_loopers.specs.Loopers.{IsLooper}
-use Rattle.dash_stage.specs.Controllers.{IsController}
+use Rattle.dash_stage.specs.Controllers.{IsController, handed_out, parts_in}
 use Rattle.dash_stage.specs.Stages.{AreKitsFrom, AreThreadsFrom, AreLoopersFrom, AreFirstKits, AreFirstLoopers, AreLoopers, AreSenderKits}
+use Rattle.dash_hall.proofs.Badges.{alike_length, queue_count}
 use Rattle.dash_stage.proofs.HallEnds.{numbers_more}
 
 -- a thread's passes
@@ -29,6 +34,21 @@ frames_of_controller : (s : Script) (cs : List Frames) → frames_for s cs (cont
 frames_of_controller s cs =
     ap (λ (b : Bool). if b then map (frame_badge_for (controller s)) cs else (if nat_lt (controller s) (s.threads + s.loopers) then looper_frames s.threads (slice_get cs (controller s - s.threads)) else map (frame_badge_for (s.threads + 2)) cs)) (le-ltb (controller s) s.threads (omega arith))
     ∙ ap (λ (b : Bool). if b then looper_frames s.threads (slice_get cs (controller s - s.threads)) else map (frame_badge_for (s.threads + 2)) cs) (le-ltb (controller s) (s.threads + s.loopers) (omega arith))
+
+-- posters that handed nothing out
+pub nothing_handed : (ps : List Sender) → ((q : ℕ) (p : Sender) → q < length ps → (slice_index_or ps q p).view.sealed ≡ []) → handed_out ps ≡ replicate (length ps) []
+nothing_handed [] none = refl
+nothing_handed (p ∷ ps) none = λ i. none 0 p (omega arith) i ∷ nothing_handed ps (λ q d lt. none (suc q) d (omega (arith, lt))) i
+
+-- one more of the same
+same_more : (n : ℕ) (e : List Segment) → replicate n e ++ e ∷ [] ≡ replicate (n + 1) e
+same_more zero e = refl
+same_more (suc n) e = ap (λ l. e ∷ l) (same_more n e) ∙ (let one : suc (n + 1) ≡ suc n + 1 = omega arith in ap (λ m. replicate m e) one)
+
+-- one empty list more
+pub nothing_more : (n : ℕ) (lists : List (Vec Segment)) (v : Vec Segment) → parts_in lists ≡ replicate n [] → v.items ≡ [] → parts_in (lists ++ v ∷ []) ≡ replicate (n + 1) []
+nothing_more n lists v none empty =
+    map-append (λ (z : Vec Segment). z.items) lists (v ∷ []) ∙ ((λ i. none i ++ empty i ∷ []) ∙ same_more n [])
 
 module _ (s : Script) (hall : Hall) where
   -- a thread with the kit of its number
@@ -50,8 +70,16 @@ module _ (s : Script) (hall : Hall) where
       }
 
   -- the controller with the last kit
-  pub controller_of : (kit : Kit) → IsKitOf s hall (controller s) kit → IsUnusedKit kit → IsController s hall (record { kit = kit })
-  controller_of kit is unused = record { posters = is.posters; frames = is.frames ∙ frames_of_controller s hall.choreographers.items; pass = is.pass; idle = unused.own }
+  pub controller_of : (kit : Kit) (lists : Vec (Vec Segment)) → IsHall s hall → IsKitOf s hall (controller s) kit → IsUnusedKit kit → parts_in lists.items ≡ replicate s.loopers [] → IsController s hall (record { kit = kit; sealed = lists })
+  controller_of kit lists h is unused none = record {
+    posters = is.posters;
+    frames = is.frames ∙ frames_of_controller s hall.choreographers.items;
+    pass = is.pass;
+    idle = unused.own;
+    sealed = nothing_handed kit.posters.items unused.sealed
+        ∙ (ap (λ n. replicate n []) (alike_length badge_of (badge_for (controller s)) kit.posters.items hall.queues.items is.posters ∙ queue_count s hall.pool hall.queues.items h.queues)
+        ∙ sym none);
+  }
 
   pub kit_of_controller : (c : Controller) → IsController s hall c → IsKitOf s hall (controller s) c.kit
   kit_of_controller c is = record { posters = is.posters; frames = is.frames ∙ sym (frames_of_controller s hall.choreographers.items); pass = is.pass }

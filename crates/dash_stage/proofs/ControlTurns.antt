@@ -26,7 +26,8 @@ use Rattle.queue_state.specs.declared.answers.Quitting.TheVariants as quitting
 use Rattle.queue_state.specs.Queue.{entry_of, entered, time_of, moment_at}
 use Rattle.queue_state.specs.Calls.{Quits}
 use Rattle.shared_queue.specs.Constants.{Constants, IsStateOf}
-use Rattle.shared_queue.specs.Known.{Shared, IsOf, IsTurn}
+use Rattle.loop_model.specs.declared.segment.Segment.{Segment}
+use Rattle.shared_queue.specs.Known.{Shared, IsOf, IsTurnWith}
 use Rattle.looper_run.specs.Holding.{Sender, State}
 use Rattle.run_model.specs.Senders.{controller, sender_count}
 use Rattle.run_model.specs.Asks.{entries_by}
@@ -57,7 +58,7 @@ reached_on c i p within is_p time first reached =
 
 -- the controller with another poster at one place, and another pass
 abbrev pub with_poster : Controller → ℕ → Sender → Tally → Controller
-with_poster c i p pass = record { kit = record { posters = with_item c.kit.posters i p; pass = pass; frames = c.kit.frames } }
+with_poster c i p pass = record { kit = record { posters = with_item c.kit.posters i p; pass = pass; frames = c.kit.frames }; sealed = c.sealed }
 
 module _ (c : Controller) (i : ℕ) (p p' : Sender) (pass : Tally) (within : i < length c.kit.posters.items) (is_p : p ≡ slice_index_or c.kit.posters.items i p) where
   same_count : length (with_poster c i p' pass).kit.posters.items ≡ length c.kit.posters.items
@@ -76,7 +77,7 @@ module _ (c : Controller) (i : ℕ) (p p' : Sender) (pass : Tally) (within : i <
   called_elsewhere j apart d = ap own (get_or-set_other c.kit.posters.items i j p' d apart)
 
   -- and on none where the poster made no entry
-  calls_none : own p' ≡ own p → CallsNone c (with_poster c i p' pass)
+  pub calls_none : own p' ≡ own p → CallsNone c (with_poster c i p' pass)
   calls_none same = record {
     long = same_count;
     calls = λ j d. dite (ℕ_discrete j i)
@@ -133,13 +134,13 @@ some_numbered None n h = absurd cc
 some_numbered (Some x) n h = refl
 
 -- one turn of a poster
-module _ (p p' : Sender) (x y : State) (t : IsTurn p p' x y) where
+module _ {parts : List Segment} (p p' : Sender) (x y : State) (t : IsTurnWith parts p p' x y) where
   -- it found of its sender's entries what the poster had made
   pub found_own : entries_by p.sender x.entries ≡ own p
   found_own = own_entries p p.sender x.entries refl t.begins t.found_made
 
   -- it made none
-  made_none : y ≡ x → own p' ≡ own p
+  pub made_none : y ≡ x → own p' ≡ own p
   made_none same = turn_makes p p' x y [] t (ap (λ (z : State). z.entries) same ∙ sym (append-nil x.entries)) refl ∙ append-nil (own p)
 
   -- it made one
@@ -147,8 +148,8 @@ module _ (p p' : Sender) (x y : State) (t : IsTurn p p' x y) where
   made_one c r left = turn_makes p p' x y (entry_of x p.sender c r ∷ []) t left (own_of_one p.sender (entry_of x p.sender c r) refl)
 
 -- a turn of the controller's poster on the queue of a looper
-module _ (s : Script) (hall : Hall) (h : IsHall s hall) (i : ℕ) (lt : i < s.loopers) (c : Controller) (k : IsController s hall c) (p p' : Sender) (q : Shared TableId)
-    (is_p : p ≡ slice_index_or c.kit.posters.items i p) (is_q : q ≡ slice_index_or hall.queues.items i q) (x y : State) (t : IsTurn p p' x y) where
+module _ {parts : List Segment} (s : Script) (hall : Hall) (h : IsHall s hall) (i : ℕ) (lt : i < s.loopers) (c : Controller) (k : IsController s hall c) (p p' : Sender) (q : Shared TableId)
+    (is_p : p ≡ slice_index_or c.kit.posters.items i p) (is_q : q ≡ slice_index_or hall.queues.items i q) (x y : State) (t : IsTurnWith parts p p' x y) where
   mine : IsOf p q × (p.sender ≡ controller s)
   mine = own_poster s hall h i lt c k p q is_p is_q
 

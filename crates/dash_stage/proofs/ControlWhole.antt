@@ -1,5 +1,5 @@
 -- By its turns a poster of the controller finds a history, and leaves it as it was or makes one entry more.
-use Rattle.std.proofs.Common.{◌≡◌, ◌≢◌, ◌<◌, ◌≤◌, ◌+◌, ◌⊎◌, ◌++◌, ℕ, Bool, true, false, arith, [], ◌∷◌, length, length-set, refl, sym, ap, ◌∙◌, subst, inl, inr}
+use Rattle.std.proofs.Common.{◌≡◌, ◌≢◌, ◌<◌, ◌≤◌, ◌+◌, ◌⊎◌, ◌++◌, ℕ, Bool, true, false, arith, List, [], ◌∷◌, length, length-set, refl, sym, ap, ◌∙◌, subst, inl, inr}
 use Rattle.std.specs.Prelude.{slice_index_or, ◌&&◌}
 use Rattle.std.proofs.lemmas.List.{get_or-set_other, get_or_default}
 use mathlib.Core.List.{IsPrefix}
@@ -19,7 +19,8 @@ use Rattle.queue_state.specs.declared.answers.Quitting.{Quitting}
 use Rattle.queue_state.specs.declared.answers.Quitting.TheVariants as quitting
 use Rattle.queue_state.specs.Queue.{entry_of, entered, moment_at}
 use Rattle.queue_state.specs.Calls.{Quits}
-use Rattle.shared_queue.specs.Known.{IsTurn}
+use Rattle.loop_model.specs.declared.segment.Segment.{Segment}
+use Rattle.shared_queue.specs.Known.{IsTurnWith}
 use Rattle.loop_model.proofs.Prefixes.{prefix_self, prefix_trans}
 use Rattle.looper_run.specs.Holding.{Sender, State}
 use Rattle.run_model.specs.Asks.{entries_by}
@@ -56,7 +57,7 @@ turns_behind a b c f g =
     }
 
 -- a turn of a poster
-module _ {P : Entry → Type 0} (p p' : Sender) (x y : State) (t : IsTurn p p' x y) where
+module _ {parts : List Segment} {P : Entry → Type 0} (p p' : Sender) (x y : State) (t : IsTurnWith parts p p' x y) where
   -- that left the queue as it was
   pub turns_none : y ≡ x → TurnsOn P p p'
   turns_none same = record { found = x.entries; begins = t.begins; made = found_own p p' x y t; sender = t.sender; step = inl (t.seen ∙ ap (λ (z : State). z.entries) same) }
@@ -97,7 +98,7 @@ module _ (c : Controller) (i : ℕ) (p p' : Sender) (pass : Tally) (within : i <
   }
 
   -- a halt ends the history that it has seen
-  pub ends_with : (x y : State) → IsTurn p p' x y → (now : ℕ) → y ≡ entered x p.sender (Halt now) Halted → (d : Sender) → ends_halted (whole_on (with_poster c i p' pass) i d) ≡ true
+  pub ends_with : {parts : List Segment} (x y : State) → IsTurnWith parts p p' x y → (now : ℕ) → y ≡ entered x p.sender (Halt now) Halted → (d : Sender) → ends_halted (whole_on (with_poster c i p' pass) i d) ≡ true
   ends_with x y t now is d =
       ap ends_halted (ap (λ (z : Sender). z.view.seen) (poster_here c i p p' pass within is_p d) ∙ (t.seen ∙ ap (λ (z : State). z.entries) is))
       ∙ ends_halted-snoc x.entries (entry_of x p.sender (Halt now) Halted)

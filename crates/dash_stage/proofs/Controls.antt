@@ -8,6 +8,7 @@ use Rattle.std.proofs.Math.Bool.{and_assoc, or-false}
 use Rattle.std.proofs.Math.Nat.{max-eq_left}
 use Rattle.std.proofs.lemmas.Bool.{and_parts, and_from, cases_Bool, or_parts, or_from, or_left, or_right, or_cases, false_from_ne_true, leb-true, le-leb, eq-eqb, ne_eqb}
 use mathlib.Core.List.{IsPrefix}
+use Rattle.run_model.specs.Histories.{history_of}
 use Rattle.loop_model.specs.declared.post.Post.{Post as PostData}
 use Rattle.loop_model.specs.declared.call.Call.{Call}
 use Rattle.loop_model.specs.declared.call.Call.TheVariants.{Post, Barrier, Unbarrier, Remove, Quit, Next, Advance, Halt}
@@ -414,19 +415,19 @@ main_is_controlled n end es calls = and_from _ _ (halted_with_quit end (is_quit_
 
 module _ (s : Script) (r : QueueRecord) (is : IsHistory in_lockstep all_entries s r) where
   -- the record of main
-  main_record : r.looper ≡ 0 → are_controls true true s.end false (entries_by (controller s) r.entries) ≡ true → IsControlled s r
+  main_record : r.looper ≡ 0 → are_controls true true s.end false (entries_by (controller s) (history_of r)) ≡ true → IsControlled s r
   main_record first calls =
-      subst (λ b. is_controlled b r.lockstep (controller s) s.end r.entries ≡ true) (sym (is.main ∙ ap (λ (l : ℕ). l == 0) first))
-      (subst (λ b. is_controlled true b (controller s) s.end r.entries ≡ true) (sym is.lockstep) (main_is_controlled (controller s) s.end r.entries calls))
+      subst (λ b. is_controlled b r.lockstep (controller s) s.end (history_of r) ≡ true) (sym (is.main ∙ ap (λ (l : ℕ). l == 0) first))
+      (subst (λ b. is_controlled true b (controller s) s.end (history_of r) ≡ true) (sym is.lockstep) (main_is_controlled (controller s) s.end (history_of r) calls))
 
   -- the record of another queue, which its looper has seen over
-  side_record : 0 < r.looper → (seen : List Entry) → IsPrefix seen r.entries → is_over (empty_base (sender_count s)) seen ≡ true
-      → are_controls false true s.end true (entries_by (controller s) r.entries) ≡ true → IsControlled s r
+  side_record : 0 < r.looper → (seen : List Entry) → IsPrefix seen (history_of r) → is_over (empty_base (sender_count s)) seen ≡ true
+      → are_controls false true s.end true (entries_by (controller s) (history_of r)) ≡ true → IsControlled s r
   side_record other seen begins over calls =
       let side : r.main ≡ false = is.main ∙ ne_eqb r.looper 0 (λ e. absurd (omega (arith, other, e))) in
-      subst (λ b. is_controlled b r.lockstep (controller s) s.end r.entries ≡ true) (sym side)
-      (subst (λ b. is_controlled false b (controller s) s.end r.entries ≡ true) (sym is.lockstep)
-      (side_is_controlled (setting_of r) (controller s) s.end seen r.entries side is.legal begins (subst (λ m. is_over (empty_base m) seen ≡ true) (sym is.senders) over) calls))
+      subst (λ b. is_controlled b r.lockstep (controller s) s.end (history_of r) ≡ true) (sym side)
+      (subst (λ b. is_controlled false b (controller s) s.end (history_of r) ≡ true) (sym is.lockstep)
+      (side_is_controlled (setting_of r) (controller s) s.end seen (history_of r) side is.legal begins (subst (λ m. is_over (empty_base m) seen ≡ true) (sym is.senders) over) calls))
 
 module _ (s : Script) (hall : Hall) (kits : List Kit) (records : List QueueRecord) (h : IsHall s hall) (are : AreKitsOf s hall kits) (c : Controller) (held : (d : Kit) → slice_index_or kits (controller s) d ≡ c.kit) where
   -- each record has what the controller called on its queue, which is lawful
@@ -449,7 +450,7 @@ module _ (s : Script) (hall : Hall) (kits : List Kit) (records : List QueueRecor
           let short = few in
           omega (arith, lt, long, short)
 
-      calls : (q : ℕ) (r : QueueRecord) (p : Sender) → q < length records → entries_by (controller s) (slice_index_or records q r).entries ≡ calls_on c q p
+      calls : (q : ℕ) (r : QueueRecord) (p : Sender) → q < length records → entries_by (controller s) (history_of (slice_index_or records q r)) ≡ calls_on c q p
       calls q r p lt = (all (controller s) q c.kit p r last lt).0 ∙ ap (λ (z : Kit). own (slice_index_or z.posters.items q p)) (held c.kit)
 
       each : (q : ℕ) (r : QueueRecord) (p : Sender) → q < length records → IsControlled s (slice_index_or records q r)

@@ -1,6 +1,7 @@
 -- The dispatches that the journals tell are those that the records' histories have.
 use Rattle.std.proofs.Common.{◌≡◌, ◌<◌, ◌+◌, ℕ, suc, List, [], ◌∷◌, length, sym, ap, ◌∙◌, arith, slice_index_or}
 use Rattle.std.specs.List.{filter_map}
+use Rattle.run_model.specs.Histories.{history_of}
 use Rattle.loop_model.specs.declared.entry.Entry.{Entry}
 use Rattle.loop_model.specs.declared.journal.Journal.{Journal}
 use Rattle.loop_model.specs.declared.record.QueueRecord.{QueueRecord}
@@ -35,7 +36,7 @@ module _ (s : Script) (hall : Hall) (h : IsHall s hall) (kits : List Kit) (are :
   -- each journal tells what its looper took from its queue
   pub dispatches_of_records : (queues : List QueueRecord) (js : List Journal) → AreQueueRecords s queues → HaveAll kits queues → AreJournals s js → HaveTold s js kits
       → (k : ℕ) (q : QueueRecord) (j : Journal) → k < length queues
-      → filter_map act_dispatch (slice_index_or js k j).acts ≡ filter_map (λ e. call_dispatch e.call e.reply) (entries_by (looper_sender s k) (slice_index_or queues k q).entries)
+      → filter_map act_dispatch (slice_index_or js k j).acts ≡ filter_map (λ e. call_dispatch e.call e.reply) (entries_by (looper_sender s k) (history_of (slice_index_or queues k q)))
   dispatches_of_records queues js recs all are_js told k q j lt =
       let few = numbered_count (λ (z : QueueRecord). z.looper) s.loopers queues recs.loopers in
       let few_js = numbered_count (λ (z : Journal). z.looper) s.loopers js are_js in
@@ -51,7 +52,7 @@ module _ (s : Script) (hall : Hall) (h : IsHall s hall) (kits : List Kit) (are :
       let poster = slice_index_or kit.posters.items k p in
       let in_queues : k < length hall.queues.items = omega (arith, lt, few, queue_count s hall.pool hall.queues.items h.queues) in
       let sender = (poster_at n hall.queues.items kit.posters.items badges k p (some_of hall.queues.items k in_queues) in_posters).1 in
-      let made : entries_by n (slice_index_or queues k q).entries ≡ own poster = (all n k d p q in_kits lt).0 in
+      let made : entries_by n (history_of (slice_index_or queues k q)) ≡ own poster = (all n k d p q in_kits lt).0 in
       let in_js : k < length js = omega (arith, lt, few, few_js) in
       told k j d in_js p
       ∙ (taken_own n poster.view.seen

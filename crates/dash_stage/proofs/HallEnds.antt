@@ -11,6 +11,8 @@ use mathlib.Core.Logic.{dite}
 use mathlib.Core.List.{map-append, IsPrefix}
 use native.Mathlib.Decide.{ℕ_discrete, dec_lt}
 use Rattle.atomic_table.specs.Seated.{TableId}
+use Rattle.run_model.specs.Histories.{history_of}
+use Rattle.loop_model.specs.Chain.{IsChainFrom}
 use Rattle.loop_model.specs.declared.entry.Entry.{Entry}
 use Rattle.loop_model.specs.declared.record.QueueRecord.{QueueRecord}
 use Rattle.loop_model.specs.Base.{empty_base}
@@ -147,8 +149,9 @@ kept_history s pool n c r is kept =
         main = ap (λ (x : Setting). x.main) setting ∙ ap (λ (m : ℕ). m == 0) (sym looper);
         lockstep = ap (λ (x : Setting). x.lockstep) setting;
         senders = ap (λ (x : Setting). x.senders) setting;
-        legal = subst (λ (x : Setting). IsLegal x (empty_base x.senders) r.entries) (sym kept.setting) kept.legal;
-        numbered = subst (λ (x : Setting). AreNumbered x (empty_base x.senders) r.entries) (sym kept.setting) kept.numbered;
+        chain = subst (λ (x : Setting). IsChainFrom (empty_base x.senders) r.segments) (sym kept.setting) kept.chain;
+        legal = subst (λ (x : Setting). IsLegal x (empty_base x.senders) (history_of r)) (sym kept.setting) kept.legal;
+        numbered = subst (λ (x : Setting). AreNumbered x (empty_base x.senders) (history_of r)) (sym kept.setting) kept.numbered;
         clocked = tt;
       },
       looper,
@@ -216,12 +219,12 @@ next_queue s pool queues yielded rest q n orig kits parts is keys senders have l
 
 -- one queue more has ended
 pub retires_more : (s : Script) (pool : TableId) (c : Constants TableId) (orig kits kits' : List Kit) (records records' : List QueueRecord) (r : QueueRecord)
-    → c ≡ queue_constants s pool (length records) → IsKeptOf c r → EachEndsPoster r.entries kits kits' → records' ≡ records ++ r ∷ [] → AreRetired s orig records kits → AreRetired s orig records' kits'
+    → c ≡ queue_constants s pool (length records) → IsKeptOf c r → EachEndsPoster (history_of r) kits kits' → records' ≡ records ++ r ∷ [] → AreRetired s orig records kits → AreRetired s orig records' kits'
 retires_more s pool c orig kits kits' records records' r is kept ends more before = subst (λ l. AreRetired s orig l kits') (sym more) (record {
   loopers = map-append (λ (q : QueueRecord). q.looper) records (r ∷ []) ∙ ((λ i. before.loopers i ++ (history.1 ∙ zeroth) i ∷ []) ∙ (sym (numbers_more 0 (length records)) ∙ ap (range_with_len 0) (sym one)));
   histories = all_push records before.histories;
   all = λ k q d p x lt below. dite (dec_lt q (length records))
-      (λ early. subst (λ (y : QueueRecord). HasAllOf k (get_or (get_or orig k d).posters.items q p) y.entries) (sym (get_or-append records (r ∷ []) x q early)) (before.all k q d p x lt early))
+      (λ early. subst (λ (y : QueueRecord). HasAllOf k (get_or (get_or orig k d).posters.items q p) (history_of y)) (sym (get_or-append records (r ∷ []) x q early)) (before.all k q d p x lt early))
       (λ late.
       let long = one in
       let last : q ≡ length records = omega (arith, late, below, long) in
@@ -230,7 +233,7 @@ retires_more s pool c orig kits kits' records records' r is kept ends more befor
       let here : r ≡ get_or (records ++ r ∷ []) q x = sym (ap (λ (m : ℕ). get_or (records ++ r ∷ []) m x) last ∙ get_or-append_seam records r [] x) in
       let gave : e.poster ≡ get_or (get_or orig k d).posters.items q p =
       ap (λ l. get_or l 0 p) (sym e.posters) ∙ (ap (λ l. get_or l 0 p) (before.left.each k d lt).posters ∙ (get_or-drop (length records) (get_or orig k d).posters.items 0 p ∙ ap (λ m. get_or (get_or orig k d).posters.items m p) (place ∙ sym last))) in
-      subst (λ (y : QueueRecord). HasAllOf k (get_or (get_or orig k d).posters.items q p) y.entries) here (subst (λ (y : Sender). HasAllOf k y r.entries) gave e.made));
+      subst (λ (y : QueueRecord). HasAllOf k (get_or (get_or orig k d).posters.items q p) (history_of y)) here (subst (λ (y : Sender). HasAllOf k y (history_of r)) gave e.made));
   left = record {
     count = ends.count ∙ before.left.count;
     each = λ k d lt.

@@ -42,3 +42,5 @@ pub mod MoveLaws
 pub mod MovesKept
 pub mod MovesDue
 pub mod MovesRecords
+pub mod Sealing
+pub mod SealedEnds

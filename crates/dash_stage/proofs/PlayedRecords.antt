@@ -7,6 +7,7 @@ use Rattle.std.proofs.lemmas.List.{map-append, get_or_default, length-replicate}
 use mathlib.Core.Logic.{dite}
 use mathlib.Core.List.{IsPrefix}
 use native.Mathlib.Decide.{ℕ_discrete, dec_lt}
+use Rattle.run_model.specs.Histories.{history_of}
 use Rattle.loop_model.specs.declared.call.Call.TheVariants.{Next}
 use Rattle.loop_model.specs.declared.entry.Entry.{Entry}
 use Rattle.loop_model.specs.Entries.{moment_of}
@@ -106,24 +107,24 @@ record Known (s : Script) (queues : List QueueRecord) (k : ℕ) (j : Journal) (f
   left : HasLeft s k j kit a
   one : k < length queues
   number : (r : ℕ) (x : QueueRecord) → r < length queues → (slice_index_or queues r x).looper ≡ r
-  made : (r : ℕ) (x : QueueRecord) (p : Sender) → r < length queues → entries_by (looper_sender s k) (slice_index_or queues r x).entries ≡ own (slice_index_or kit.posters.items r p)
+  made : (r : ℕ) (x : QueueRecord) (p : Sender) → r < length queues → entries_by (looper_sender s k) (history_of (slice_index_or queues r x)) ≡ own (slice_index_or kit.posters.items r p)
   posters : length queues ≤ length kit.posters.items
   poster : Sender
-  seen : (x : QueueRecord) → IsPrefix (slice_index_or kit.posters.items k poster).view.seen (slice_index_or queues k x).entries
+  seen : (x : QueueRecord) → IsPrefix (slice_index_or kit.posters.items k poster).view.seen (history_of (slice_index_or queues k x))
   pass : Pass
   frames : (i : ℕ) → i < 2 → IsPrefix (slice_index_or kit.frames.items i pass).view.seen f.entries
   lawful_ : IsFrameRecord s f
-  told : (x : QueueRecord) → filter_map act_dispatch j.acts ≡ filter_map (λ e. call_dispatch e.call e.reply) (entries_by (looper_sender s k) (slice_index_or queues k x).entries)
+  told : (x : QueueRecord) → filter_map act_dispatch j.acts ≡ filter_map (λ e. call_dispatch e.call e.reply) (entries_by (looper_sender s k) (history_of (slice_index_or queues k x)))
   asked : AreAsOften (map (as_told true) (asks_in f.entries)) (map (as_told true) (asked_of s k a))
-  timely : (x : QueueRecord) → are_on_time (timings (sent_on k a.sent)) (befores_called (looper_sender s k) (slice_index_or queues k x).entries) ≡ true
-  timely_elsewhere : (r : ℕ) (x : QueueRecord) → r < length queues → r ≢ k → are_on_time (timings (sent_on r a.sent)) (befores (looper_sender s k) (slice_index_or queues r x).entries) ≡ true
+  timely : (x : QueueRecord) → are_on_time (timings (sent_on k a.sent)) (befores_called (looper_sender s k) (history_of (slice_index_or queues k x))) ≡ true
+  timely_elsewhere : (r : ℕ) (x : QueueRecord) → r < length queues → r ≢ k → are_on_time (timings (sent_on r a.sent)) (befores (looper_sender s k) (history_of (slice_index_or queues r x))) ≡ true
 
 module _ (s : Script) (queues : List QueueRecord) (k : ℕ) (j : Journal) (f : FrameRecord) (kit : Kit) (a : Looper) (h : Known s queues k j f kit a) where
   -- its acts lead there
   is_lawful : lawful s.period 4 f.entries ≡ true
   is_lawful = (λ i. lawful (sym h.lawful_.interval i) (sym h.lawful_.phases i) f.entries) ∙ h.lawful_.lawful
 
-  led : (x : QueueRecord) → Lead s k (slice_index_or queues k x).entries f.entries (first_looper s) j.acts a
+  led : (x : QueueRecord) → Lead s k (history_of (slice_index_or queues k x)) f.entries (first_looper s) j.acts a
   led x =
       let begins = h.seen x in
       subst (λ (es : List Entry). Lead s k es f.entries (first_looper s) j.acts a) begins.1
@@ -131,20 +132,20 @@ module _ (s : Script) (queues : List QueueRecord) (k : ℕ) (j : Journal) (f : F
 
   -- it looks at its own queue alone
   looks_own : (x : QueueRecord) → LooksAtOwn s k a
-  looks_own x = looks_at_own s k (slice_index_or queues k x).entries f.entries j.acts (first_looper s) a (led x) tt
+  looks_own x = looks_at_own s k (history_of (slice_index_or queues k x)) f.entries j.acts (first_looper s) a (led x) tt
 
   -- its calls elsewhere
-  calls_elsewhere : (r : ℕ) (x : QueueRecord) → r < length queues → r ≢ k → AreFor IsSent [] (sent_on r a.sent) (entries_by (looper_sender s k) (slice_index_or queues r x).entries)
+  calls_elsewhere : (r : ℕ) (x : QueueRecord) → r < length queues → r ≢ k → AreFor IsSent [] (sent_on r a.sent) (entries_by (looper_sender s k) (history_of (slice_index_or queues r x)))
   calls_elsewhere r x lt apart =
       let long = h.posters in
       subst (λ (es : List Entry). AreFor IsSent [] (sent_on r a.sent) es) (sym (h.made r x h.poster lt)) (h.left.elsewhere r h.poster apart (omega (arith, lt, long)))
 
   -- dispose of nothing
-  nothing_elsewhere : (r : ℕ) (x : QueueRecord) → r < length queues → r ≢ k → NoneDisposes (entries_by (looper_sender s k) (slice_index_or queues r x).entries)
-  nothing_elsewhere r x lt apart = none_elsewhere s k r a (entries_by (looper_sender s k) (slice_index_or queues r x).entries) apart (looks_own x) (calls_elsewhere r x lt apart)
+  nothing_elsewhere : (r : ℕ) (x : QueueRecord) → r < length queues → r ≢ k → NoneDisposes (entries_by (looper_sender s k) (history_of (slice_index_or queues r x)))
+  nothing_elsewhere r x lt apart = none_elsewhere s k r a (entries_by (looper_sender s k) (history_of (slice_index_or queues r x))) apart (looks_own x) (calls_elsewhere r x lt apart)
 
   -- its calls on its own queue
-  calls_here : (x : QueueRecord) → AreFor IsSent [] (sent_on k a.sent) (calls_among (entries_by (looper_sender s k) (slice_index_or queues k x).entries))
+  calls_here : (x : QueueRecord) → AreFor IsSent [] (sent_on k a.sent) (calls_among (entries_by (looper_sender s k) (history_of (slice_index_or queues k x))))
   calls_here x = subst (λ (es : List Entry). AreFor IsSent [] (sent_on k a.sent) (calls_among es)) (sym (h.made k x h.poster h.one)) (h.left.calls h.poster)
 
   abbrev CallsAt : ℕ → ℕ → List Entry → Type 0
@@ -154,57 +155,57 @@ module _ (s : Script) (queues : List QueueRecord) (k : ℕ) (j : Journal) (f : F
   TimeAt at r es = are_on_time (timings (caused_on r a k at)) (befores (looper_sender s k) es) ≡ true
 
   -- what is so on its own queue and on the others makes its run
-  run_of : (at : ℕ) (x : QueueRecord) → CallsAt at k (slice_index_or queues k x).entries → TimeAt at k (slice_index_or queues k x).entries → IsLooperRun in_lockstep s queues (slice_index_or queues k x) j f
+  run_of : (at : ℕ) (x : QueueRecord) → CallsAt at k (history_of (slice_index_or queues k x)) → TimeAt at k (history_of (slice_index_or queues k x)) → IsLooperRun in_lockstep s queues (slice_index_or queues k x) j f
   run_of at x calls time =
       let q = slice_index_or queues k x in
       let is : q.looper ≡ k = h.number k x h.one in
-      let each_calls : AllByRecursion (λ (r : QueueRecord). CallsAt at r.looper r.entries) queues =
-      All_recursive (λ (r : QueueRecord). CallsAt at r.looper r.entries) queues (λ r y lt.
-      subst (λ (m : ℕ). CallsAt at m (slice_index_or queues r y).entries) (sym (h.number r y lt)) (calls_at r y lt)) in
-      let each_time : AllByRecursion (λ (r : QueueRecord). TimeAt at r.looper r.entries) queues =
-      All_recursive (λ (r : QueueRecord). TimeAt at r.looper r.entries) queues (λ r y lt.
-      subst (λ (m : ℕ). TimeAt at m (slice_index_or queues r y).entries) (sym (h.number r y lt)) (time_at r y lt)) in
+      let each_calls : AllByRecursion (λ (r : QueueRecord). CallsAt at r.looper (history_of r)) queues =
+      All_recursive (λ (r : QueueRecord). CallsAt at r.looper (history_of r)) queues (λ r y lt.
+      subst (λ (m : ℕ). CallsAt at m (history_of (slice_index_or queues r y))) (sym (h.number r y lt)) (calls_at r y lt)) in
+      let each_time : AllByRecursion (λ (r : QueueRecord). TimeAt at r.looper (history_of r)) queues =
+      All_recursive (λ (r : QueueRecord). TimeAt at r.looper (history_of r)) queues (λ r y lt.
+      subst (λ (m : ℕ). TimeAt at m (history_of (slice_index_or queues r y))) (sym (h.number r y lt)) (time_at r y lt)) in
       record {
         final = a;
-        acts = subst (λ (m : ℕ). Lead s m q.entries f.entries (first_looper s) j.acts a) (sym is) (led x);
+        acts = subst (λ (m : ℕ). Lead s m (history_of q) f.entries (first_looper s) j.acts a) (sym is) (led x);
         settled = h.left.settled;
-        dispatches = h.told x ∙ ap (λ (m : ℕ). filter_map (λ (e : Entry). call_dispatch e.call e.reply) (entries_by (looper_sender s m) q.entries)) (sym is);
+        dispatches = h.told x ∙ ap (λ (m : ℕ). filter_map (λ (e : Entry). call_dispatch e.call e.reply) (entries_by (looper_sender s m) (history_of q))) (sym is);
         disposed_at = at;
-        calls = subst (λ (m : ℕ). AllByRecursion (λ (r : QueueRecord). AreFor IsSent [] (caused_on r.looper a m at) (entries_by (looper_sender s m) r.entries)) queues) (sym is) each_calls;
+        calls = subst (λ (m : ℕ). AllByRecursion (λ (r : QueueRecord). AreFor IsSent [] (caused_on r.looper a m at) (entries_by (looper_sender s m) (history_of r))) queues) (sym is) each_calls;
         asked = subst (λ (m : ℕ). AreAsOften (map (as_told true) (asks_in f.entries)) (map (as_told true) (asked_of s m a))) (sym is) h.asked;
         whole = subst (λ (n : ℕ). are_whole n f.entries a.frames ≡ true) (sym h.lawful_.phases) (h.left.whole h.pass f.entries (h.frames 0 (omega arith)) is_lawful);
-        on_time = subst (λ (m : ℕ). AllByRecursion (λ (r : QueueRecord). are_on_time (timings (caused_on r.looper a m at)) (befores (looper_sender s m) r.entries) ≡ true) queues) (sym is) each_time;
+        on_time = subst (λ (m : ℕ). AllByRecursion (λ (r : QueueRecord). are_on_time (timings (caused_on r.looper a m at)) (befores (looper_sender s m) (history_of r)) ≡ true) queues) (sym is) each_time;
         moments = h.left.moments h.pass f.entries (h.frames 0 (omega arith)) is_lawful;
       }
     where
-      same : (r : ℕ) (y : QueueRecord) → r ≡ k → r < length queues → (slice_index_or queues k x).entries ≡ (slice_index_or queues r y).entries
-      same r y here lt = ap (λ (z : QueueRecord). z.entries) (get_or_default queues k x y h.one) ∙ ap (λ m. (slice_index_or queues m y).entries) (sym here)
+      same : (r : ℕ) (y : QueueRecord) → r ≡ k → r < length queues → (history_of (slice_index_or queues k x)) ≡ (history_of (slice_index_or queues r y))
+      same r y here lt = ap (λ (z : QueueRecord). history_of z) (get_or_default queues k x y h.one) ∙ ap (λ m. (history_of (slice_index_or queues m y))) (sym here)
 
-      calls_at : (r : ℕ) (y : QueueRecord) → r < length queues → CallsAt at r (slice_index_or queues r y).entries
+      calls_at : (r : ℕ) (y : QueueRecord) → r < length queues → CallsAt at r (history_of (slice_index_or queues r y))
       calls_at r y lt = dite (ℕ_discrete r k)
-          (λ here. subst (λ (m : ℕ). CallsAt at m (slice_index_or queues r y).entries) (sym here) (subst (CallsAt at k) (same r y here lt) calls))
-          (λ apart. subst (λ l. AreFor IsSent [] l (entries_by (looper_sender s k) (slice_index_or queues r y).entries)) (sym (caused_elsewhere r k at a apart)) (calls_elsewhere r y lt apart))
+          (λ here. subst (λ (m : ℕ). CallsAt at m (history_of (slice_index_or queues r y))) (sym here) (subst (CallsAt at k) (same r y here lt) calls))
+          (λ apart. subst (λ l. AreFor IsSent [] l (entries_by (looper_sender s k) (history_of (slice_index_or queues r y)))) (sym (caused_elsewhere r k at a apart)) (calls_elsewhere r y lt apart))
 
-      time_at : (r : ℕ) (y : QueueRecord) → r < length queues → TimeAt at r (slice_index_or queues r y).entries
+      time_at : (r : ℕ) (y : QueueRecord) → r < length queues → TimeAt at r (history_of (slice_index_or queues r y))
       time_at r y lt = dite (ℕ_discrete r k)
-          (λ here. subst (λ (m : ℕ). TimeAt at m (slice_index_or queues r y).entries) (sym here) (subst (TimeAt at k) (same r y here lt) time))
+          (λ here. subst (λ (m : ℕ). TimeAt at m (history_of (slice_index_or queues r y))) (sym here) (subst (TimeAt at k) (same r y here lt) time))
           (λ apart.
-          ap (λ l. are_on_time (timings l) (befores (looper_sender s k) (slice_index_or queues r y).entries)) (caused_elsewhere r k at a apart) ∙ h.timely_elsewhere r y lt apart)
+          ap (λ l. are_on_time (timings l) (befores (looper_sender s k) (history_of (slice_index_or queues r y)))) (caused_elsewhere r k at a apart) ∙ h.timely_elsewhere r y lt apart)
 
   -- main's
-  main_run : (x : QueueRecord) → k ≡ 0 → NoneDisposes (entries_by (looper_sender s k) (slice_index_or queues k x).entries) → IsLooperRun in_lockstep s queues (slice_index_or queues k x) j f
+  main_run : (x : QueueRecord) → k ≡ 0 → NoneDisposes (entries_by (looper_sender s k) (history_of (slice_index_or queues k x))) → IsLooperRun in_lockstep s queues (slice_index_or queues k x) j f
   main_run x main none =
-      let es = (slice_index_or queues k x).entries in
+      let es = (history_of (slice_index_or queues k x)) in
       let all = calls_are_all (entries_by (looper_sender s k) es) none in
       run_of 0 x
       (subst (λ l. AreFor IsSent [] l (entries_by (looper_sender s k) es)) (sym (caused_main k 0 a main)) (subst (λ (l : List Entry). AreFor IsSent [] (sent_on k a.sent) l) all (calls_here x)))
       ((λ i. are_on_time (timings (caused_main k 0 a main i)) (befores_are (looper_sender s k) es none i)) ∙ h.timely x)
 
   -- another's, which disposes of its queue by its last call
-  side_run : (x : QueueRecord) → 0 < k → (e : Entry) → entries_by (looper_sender s k) (slice_index_or queues k x).entries ≡ calls_among (entries_by (looper_sender s k) (slice_index_or queues k x).entries) ++ e ∷ [] → is_disposal e ≡ true
+  side_run : (x : QueueRecord) → 0 < k → (e : Entry) → entries_by (looper_sender s k) (history_of (slice_index_or queues k x)) ≡ calls_among (entries_by (looper_sender s k) (history_of (slice_index_or queues k x))) ++ e ∷ [] → is_disposal e ≡ true
       → IsLooperRun in_lockstep s queues (slice_index_or queues k x) j f
   side_run x side e whole is =
-      let es = (slice_index_or queues k x).entries in
+      let es = (history_of (slice_index_or queues k x)) in
       let cs = calls_among (entries_by (looper_sender s k) es) in
       let at = moment_of e.call in
       let look = last_look k at in
@@ -319,9 +320,9 @@ module _ (s : Script) (hall : Hall) (kits : List Kit) (queues : List QueueRecord
       }
 
   -- no other sender than its looper disposes of a queue
-  others_dispose_nothing : (r : ℕ) (x : QueueRecord) (j : Journal) (f : FrameRecord) → r < length queues → (m : ℕ) → m < sender_count s → m ≢ looper_sender s r → NoneDisposes (entries_by m (slice_index_or queues r x).entries)
+  others_dispose_nothing : (r : ℕ) (x : QueueRecord) (j : Journal) (f : FrameRecord) → r < length queues → (m : ℕ) → m < sender_count s → m ≢ looper_sender s r → NoneDisposes (entries_by m (history_of (slice_index_or queues r x)))
   others_dispose_nothing r x j f lt m below apart =
-      let es = (slice_index_or queues r x).entries in
+      let es = (history_of (slice_index_or queues r x)) in
       dite (dec_lt m s.threads)
       (λ thread. thread_disposes_nothing in_lockstep s m (slice_index_or queues r x).looper es (All_indexed (IsAsPlanned in_lockstep s) queues planned r x lt m thread))
       (λ no_thread. dite (ℕ_discrete m (controller s))
@@ -338,7 +339,7 @@ module _ (s : Script) (hall : Hall) (kits : List Kit) (queues : List QueueRecord
       subst (λ n. NoneDisposes (entries_by n es)) (sym is) (nothing_elsewhere s queues k (slice_index_or js k j) (slice_index_or fs k f) (kit_at k) (stood k one).state (known k j f one) r x lt elsewhere)))
 
   -- of its own calls there none disposed of it, or the last one alone did
-  own_disposes : (k : ℕ) (x : QueueRecord) (j : Journal) → k < length queues → DisposesLast (entries_by (looper_sender s k) (slice_index_or queues k x).entries)
+  own_disposes : (k : ℕ) (x : QueueRecord) (j : Journal) → k < length queues → DisposesLast (entries_by (looper_sender s k) (history_of (slice_index_or queues k x)))
   own_disposes k x j lt =
       let n : ℕ = s.threads + k in
       let l = some_of ls k (in_loopers k lt) in
@@ -360,23 +361,23 @@ module _ (s : Script) (hall : Hall) (kits : List Kit) (queues : List QueueRecord
       let is = history s hall kits queues h are c held recs all seen zero x lt in
       let main = is.main ∙ eq-eqb q.looper 0 (number s hall kits queues h are c held recs all seen zero x lt) in
       main_run s queues zero (slice_index_or js zero j) (slice_index_or fs zero f) (kit_at zero) (stood zero lt).state (known zero j f lt) x refl
-      (none_by (looper_sender s zero) q.entries (open_history q.senders q.entries (main_is_not_disposed (setting_of q) q.senders main q.entries is.legal)))
+      (none_by (looper_sender s zero) (history_of q) (open_history q.senders (history_of q) (main_is_not_disposed (setting_of q) q.senders main (history_of q) is.legal)))
   looper_run (suc k) x j f lt = by_last (own_disposes (suc k) x j lt)
     where
-      by_last : DisposesLast (entries_by (looper_sender s (suc k)) (slice_index_or queues (suc k) x).entries) → IsLooperRun in_lockstep s queues (slice_index_or queues (suc k) x) (slice_index_or js (suc k) j) (slice_index_or fs (suc k) f)
+      by_last : DisposesLast (entries_by (looper_sender s (suc k)) (history_of (slice_index_or queues (suc k) x))) → IsLooperRun in_lockstep s queues (slice_index_or queues (suc k) x) (slice_index_or js (suc k) j) (slice_index_or fs (suc k) f)
       by_last (inl none) = (
           let q = slice_index_or queues (suc k) x in
           let is = history s hall kits queues h are c held recs all seen (suc k) x lt in
           let side : q.main ≡ false = is.main ∙ ne_eqb q.looper 0 (λ e. absurd (let place = number s hall kits queues h are c held recs all seen (suc k) x lt in omega (arith, e, place))) in
-          let mine : NoneDisposes (entries_by (looper_sender s (suc k)) q.entries) = subst NoneDisposes none (calls_dispose_nothing (entries_by (looper_sender s (suc k)) q.entries)) in
+          let mine : NoneDisposes (entries_by (looper_sender s (suc k)) (history_of q)) = subst NoneDisposes none (calls_dispose_nothing (entries_by (looper_sender s (suc k)) (history_of q))) in
           let senders = is.senders in
-          let by_each : (m : ℕ) → m < q.senders → NoneDisposes (entries_by m q.entries) = λ m below. dite (ℕ_discrete m (looper_sender s (suc k)))
-          (λ same. subst (λ n. NoneDisposes (entries_by n q.entries)) (sym same) mine)
+          let by_each : (m : ℕ) → m < q.senders → NoneDisposes (entries_by m (history_of q)) = λ m below. dite (ℕ_discrete m (looper_sender s (suc k)))
+          (λ same. subst (λ n. NoneDisposes (entries_by n (history_of q))) (sym same) mine)
           (λ apart. others_dispose_nothing (suc k) x j f lt m (omega (arith, below, senders)) apart) in
-          let all_known = AreNumbered-known (setting_of q) (empty_base q.senders) q.entries (length-replicate q.senders 0) is.numbered in
-          let every = none_of_all q.senders q.entries (subst (λ n. AllByRecursion (λ (e : Entry). e.sender < n) q.entries) (length-replicate q.senders 0) all_known) by_each in
-          let zero_ : disposed_count q.entries ≡ 0 = none_counted q.entries (looks_dispose (setting_of q) q.senders q.entries is.legal) every in
-          let one_ : disposed_count q.entries ≡ 1 = side_count q.main (disposed_count q.entries) side (controlled_parts q.main q.lockstep (controller s) s.end q.entries (All_indexed (IsControlled s) queues controls (suc k) x lt)).1 in
+          let all_known = AreNumbered-known (setting_of q) (empty_base q.senders) (history_of q) (length-replicate q.senders 0) is.numbered in
+          let every = none_of_all q.senders (history_of q) (subst (λ n. AllByRecursion (λ (e : Entry). e.sender < n) (history_of q)) (length-replicate q.senders 0) all_known) by_each in
+          let zero_ : disposed_count (history_of q) ≡ 0 = none_counted (history_of q) (looks_dispose (setting_of q) q.senders (history_of q) is.legal) every in
+          let one_ : disposed_count (history_of q) ≡ 1 = side_count q.main (disposed_count (history_of q)) side (controlled_parts q.main q.lockstep (controller s) s.end (history_of q) (All_indexed (IsControlled s) queues controls (suc k) x lt)).1 in
           absurd (let wrong : ◌≡◌ {A = ℕ} 0 1 = sym zero_ ∙ one_ in omega (arith, wrong)))
       by_last (inr last) =
           side_run s queues (suc k) (slice_index_or js (suc k) j) (slice_index_or fs (suc k) f) (kit_at (suc k)) (stood (suc k) lt).state (known (suc k) j f lt) x (omega arith) last.0 last.1 last.2

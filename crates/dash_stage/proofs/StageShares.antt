@@ -20,14 +20,14 @@ use Rattle.dash_stage.specs.declared.control.Controller.{Controller}
 use Rattle.dash_stage.specs.declared.stage.Stage.{Stage}
 use Rattle.dash_hall.specs.Growth.{own}
 use Rattle.dash_hall.specs.Kits.{badge_of, badge_for, frame_badge_of, IsHall, ArePostersOf}
-use Rattle.dash_stage.specs.Controllers.{IsController, CallsNone}
+use Rattle.dash_stage.specs.Controllers.{IsController, CallsNone, handed_out, parts_in}
 use Rattle.dash_stage.specs.Stages.{AreThreads, AreLoopers, IsStage, HaveRun, OthersHaveEnded}
 use Rattle.dash_hall.specs.Hearing.{HaveHeard, HaveHeardAt, AtEach, AreReady, HaveSeenAt}
 use Rattle.dash_stage.specs.Sharing.{HaveSeenTheSame, ControllerKeeps, StageKeeps, OfThreads, OfLoopers, OfSenders, AreWithin, SharesAt}
 use Rattle.dash_threads.specs.Threads.{ThreadKeeps}
 use Rattle.dash_loopers.specs.Loopers.{LooperKeeps, posters_of}
 use Rattle.dash_hall.proofs.Badges.{alike_length, poster_at, queue_count}
-use Rattle.dash_hall.proofs.Hearing.{have_heard, have_heard_then, have_heard_self, heard_badges, seen_here, seen_elsewhere, seen_same}
+use Rattle.dash_hall.proofs.Hearing.{have_heard, have_heard_then, have_heard_self, heard_badges, heard_parts, seen_here, seen_elsewhere, seen_same}
 use Rattle.dash_hall.proofs.Sharing.{each_weaker, each_self, each_then}
 use Rattle.dash_stage.proofs.ThreadShares.{thread_self, thread_weaker, thread_then, thread_kept, up_to_kept, of_threads_then}
 use Rattle.dash_stage.proofs.LooperShares.{looper_self, looper_weaker, looper_then, looper_kept, looper_within, looper_posters, of_loopers_then}
@@ -38,6 +38,7 @@ controller_kept s hall a b k is = record {
   posters = heard_badges a.kit.posters.items b.kit.posters.items k.posters ∙ is.posters;
   frames = ap (λ v. map frame_badge_of v.items) k.frames ∙ is.frames;
   pass = ap (λ t. t.home) k.pass ∙ is.pass;
+  sealed = heard_parts a.kit.posters.items b.kit.posters.items k.posters ∙ (is.sealed ∙ ap (λ v. parts_in v.items) (sym k.sealed));
   idle = subst (λ (fs : List Pass). (q : ℕ) (p : Pass) → q < length fs → (get_or fs q p).view.own ≡ []) (sym (ap (λ v. v.items) k.frames)) is.idle;
 }
 
@@ -101,7 +102,7 @@ stage_self a = record {
   hall = refl;
   threads = each_self (ThreadKeeps HaveHeard) a.threads.items (thread_self HaveHeard have_heard_self);
   loopers = each_self (LooperKeeps HaveHeard) a.loopers.items (looper_self HaveHeard have_heard_self);
-  controller = record { posters = have_heard_self a.controller.kit.posters.items; pass = refl; frames = refl };
+  controller = record { posters = have_heard_self a.controller.kit.posters.items; pass = refl; frames = refl; sealed = refl };
   pass = refl;
   time = refl;
 }
@@ -114,7 +115,7 @@ stage_weaker place whole a b k =
       hall = k.hall;
       threads = each_weaker (ThreadKeeps (HaveHeardAt place whole)) (ThreadKeeps HaveHeard) a.threads.items b.threads.items (thread_weaker (HaveHeardAt place whole) HaveHeard h) k.threads;
       loopers = each_weaker (LooperKeeps (HaveHeardAt place whole)) (LooperKeeps HaveHeard) a.loopers.items b.loopers.items (looper_weaker (HaveHeardAt place whole) HaveHeard h) k.loopers;
-      controller = record { posters = h a.controller.kit.posters.items b.controller.kit.posters.items k.controller.posters; pass = k.controller.pass; frames = k.controller.frames };
+      controller = record { posters = h a.controller.kit.posters.items b.controller.kit.posters.items k.controller.posters; pass = k.controller.pass; frames = k.controller.frames; sealed = k.controller.sealed };
       pass = k.pass;
       time = k.time;
     }
@@ -131,6 +132,7 @@ stage_then a b c f g =
         posters = h a.controller.kit.posters.items b.controller.kit.posters.items c.controller.kit.posters.items f.controller.posters g.controller.posters;
         pass = g.controller.pass ∙ f.controller.pass;
         frames = g.controller.frames ∙ f.controller.frames;
+        sealed = g.controller.sealed ∙ f.controller.sealed;
       };
       pass = g.pass ∙ f.pass;
       time = g.time ∙ f.time;

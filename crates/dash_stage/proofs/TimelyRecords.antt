@@ -3,6 +3,7 @@ use Rattle.std.proofs.Common.{◌≡◌, ◌<◌, ◌==◌, ℕ, suc, true, List
 use Rattle.std.specs.List.{remove, AllByRecursion}
 use Rattle.std.proofs.lemmas.List.{get_or-map}
 use mathlib.Core.List.{IsPrefix}
+use Rattle.run_model.specs.Histories.{history_of}
 use Rattle.loop_model.specs.declared.entry.Entry.{Entry}
 use Rattle.loop_model.specs.declared.record.QueueRecord.{QueueRecord}
 use Rattle.loop_model.specs.Base.{empty_base}
@@ -84,22 +85,22 @@ setting_is s q r is number =
     λ i. record { main = main i; lockstep = lockstep i; senders = senders i }
 
 -- what is so of the history is so of the record
-timely_record : (s : Script) (q : ℕ) (r : QueueRecord) (es : List Entry) → r.looper ≡ q → r.entries ≡ es → IsTimelyUpTo s s.blocks q es → IsTimely s r
+timely_record : (s : Script) (q : ℕ) (r : QueueRecord) (es : List Entry) → r.looper ≡ q → (history_of r) ≡ es → IsTimelyUpTo s s.blocks q es → IsTimely s r
 timely_record s q r es number same h = record {
   controls = ap (is_called_in_time (controller s)) same ∙ h.controls;
   before_quit = ap (are_before_quit s.threads (controller s)) same ∙ h.before_quit;
-  threads = λ thread below. subst (λ (l : ℕ). are_on_time (map (λ x. InBlock x.time) (lines_on s (labels_on l (lines_of thread s.blocks)) l (lines_of thread s.blocks))) (befores thread r.entries) ≡ true) (sym number)
+  threads = λ thread below. subst (λ (l : ℕ). are_on_time (map (λ x. InBlock x.time) (lines_on s (labels_on l (lines_of thread s.blocks)) l (lines_of thread s.blocks))) (befores thread (history_of r)) ≡ true) (sym number)
       (subst (λ (l : List Entry). are_on_time (map (λ x. InBlock x.time) (lines_on s (labels_on q (lines_of thread s.blocks)) q (lines_of thread s.blocks))) (befores thread l) ≡ true) (sym same) (h.threads thread below));
-  in_order = subst (λ (l : ℕ). are_in_order s l r.entries ≡ true) (sym number) (ap (are_in_order s q) same ∙ h.in_order);
+  in_order = subst (λ (l : ℕ). are_in_order s l (history_of r) ≡ true) (sym number) (ap (are_in_order s q) same ∙ h.in_order);
 }
 
 -- main's record is the first one
-main_is_first : (records : List QueueRecord) (r : QueueRecord) → 0 < length records → ends_halted (slice_index_or records 0 r).entries ≡ true → main_ends_halted records ≡ true
+main_is_first : (records : List QueueRecord) (r : QueueRecord) → 0 < length records → ends_halted (history_of (slice_index_or records 0 r)) ≡ true → main_ends_halted records ≡ true
 main_is_first [] r some h = absurd (omega (arith, some))
 main_is_first (x ∷ records) r some h = h
 
 -- and its history is main's
-main_entries_at : (records : List QueueRecord) (r : QueueRecord) → 0 < length records → (slice_index_or records 0 r).entries ≡ main_entries records
+main_entries_at : (records : List QueueRecord) (r : QueueRecord) → 0 < length records → (history_of (slice_index_or records 0 r)) ≡ main_entries records
 main_entries_at [] r some = absurd (omega (arith, some))
 main_entries_at (x ∷ records) r some = refl
 
@@ -124,7 +125,7 @@ module _ (s : Script) (hall : Hall) (kits : List Kit) (records : List QueueRecor
   within q lt = subst (λ (z : Kit). q < length z.posters.items) (held c.kit) (in_posters (controller s) q c.kit last lt)
 
   -- each sender's entries in a record are those in what all senders have seen
-  made_by : (k q : ℕ) (d : Sender) (r : QueueRecord) → k < length kits → q < length records → entries_by k (slice_index_or records q r).entries ≡ entries_by k (whole_on c q d)
+  made_by : (k q : ℕ) (d : Sender) (r : QueueRecord) → k < length kits → q < length records → entries_by k (history_of (slice_index_or records q r)) ≡ entries_by k (whole_on c q d)
   made_by k q d r in_kits lt =
       let kit = slice_index_or kits k c.kit in
       let there = in_posters k q c.kit in_kits lt in
@@ -141,15 +142,15 @@ module _ (s : Script) (hall : Hall) (kits : List Kit) (records : List QueueRecor
   number q r lt = numbered_at (λ (z : QueueRecord). z.looper) s.loopers records recs.loopers q r lt
 
   -- a record keeps what all senders have seen
-  pub is_seen : (q : ℕ) (d : Sender) (r : QueueRecord) → q < length records → (slice_index_or records q r).entries ≡ whole_on c q d
+  pub is_seen : (q : ℕ) (d : Sender) (r : QueueRecord) → q < length records → (history_of (slice_index_or records q r)) ≡ whole_on c q d
   is_seen q d r lt =
       let mine = slice_index_or records q r in
       let is = history q r lt in
       let count = are.count in
       let senders = is.senders in
       let begins = (all (controller s) q c.kit d r last lt).1 in
-      is_whole (setting_of mine) (empty_base mine.senders) (whole_on c q d) mine.entries
-      (subst (λ (z : Kit). IsPrefix (slice_index_or z.posters.items q d).view.seen mine.entries) (held c.kit) begins) is.numbered
+      is_whole (setting_of mine) (empty_base mine.senders) (whole_on c q d) (history_of mine)
+      (subst (λ (z : Kit). IsPrefix (slice_index_or z.posters.items q d).view.seen (history_of mine)) (held c.kit) begins) is.numbered
       (λ k below. made_by k q d r (omega (arith, below, senders, count)) lt)
 
   -- and it is one that the queue may have
@@ -160,8 +161,8 @@ module _ (s : Script) (hall : Hall) (kits : List Kit) (records : List QueueRecor
       let set = setting_is s q mine is (number q r lt) in
       let same = is_seen q d r lt in
       record {
-        legal = subst (IsLegal (setting_for s q) (empty_base (sender_count s))) same (subst (λ (z : Setting). IsLegal z (empty_base z.senders) mine.entries) set is.legal);
-        numbered = subst (AreNumbered (setting_for s q) (empty_base (sender_count s))) same (subst (λ (z : Setting). AreNumbered z (empty_base z.senders) mine.entries) set is.numbered);
+        legal = subst (IsLegal (setting_for s q) (empty_base (sender_count s))) same (subst (λ (z : Setting). IsLegal z (empty_base z.senders) (history_of mine)) set is.legal);
+        numbered = subst (AreNumbered (setting_for s q) (empty_base (sender_count s))) same (subst (λ (z : Setting). AreNumbered z (empty_base z.senders) (history_of mine)) set is.numbered);
       }
 
   -- the controller has no poster of another queue
@@ -185,7 +186,7 @@ module _ (s : Script) (hall : Hall) (kits : List Kit) (records : List QueueRecor
 
   -- in each record the threads' calls come first at their time
   pub first_of_records : (AreSound s c → (q : ℕ) (d : Sender) → q < length c.kit.posters.items → come_first s.threads (whole_on c q d) ≡ true) → AreBlocksFirst s records
-  first_of_records first = All_recursive (λ (r : QueueRecord). come_first s.threads r.entries ≡ true) records (λ q r lt.
+  first_of_records first = All_recursive (λ (r : QueueRecord). come_first s.threads (history_of r) ≡ true) records (λ q r lt.
       let d = some_of c.kit.posters.items q (within q lt) in
       ap (come_first s.threads) (is_seen q d r lt) ∙ first all_sound q d (within q lt))
 

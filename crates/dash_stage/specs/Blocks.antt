@@ -2,6 +2,7 @@
 -- comes at a later time than the disposal's, which is said by its timing (`InBlock`). And no block is left out: main's time comes to each.
 use Rattle.std.specs.Prelude.{◌≡◌, ◌⊎◌, ◌==◌, ◌||◌, ◌&&◌, ℕ, Bool, true, not, nat_lt, List, [], ◌∷◌}
 use Rattle.std.specs.List.{AllByRecursion, fold, list_any}
+use Rattle.run_model.specs.Histories.{history_of}
 use Rattle.loop_model.specs.declared.entry.Entry.{Entry}
 use Rattle.loop_model.specs.declared.record.QueueRecord.{QueueRecord}
 use Rattle.loop_model.specs.Base.{empty_base}
@@ -30,7 +31,7 @@ come_first threads es = each_behind (comes_first threads) [] es
 
 -- on each queue each thread's call comes where only threads have called since the time was last moved, or behind the queue's disposal
 abbrev pub AreBlocksFirst : Script → List QueueRecord → Type 0
-AreBlocksFirst s queues = AllByRecursion (λ (q : QueueRecord). come_first s.threads q.entries ≡ true) queues
+AreBlocksFirst s queues = AllByRecursion (λ (q : QueueRecord). come_first s.threads (history_of q) ≡ true) queues
 
 -- the entry is this sender's, and moves the time to this one
 abbrev pub moves_to : ℕ → ℕ → Entry → Bool
@@ -47,7 +48,7 @@ AreReached sender blocks es = AllByRecursion (λ (b : Block). is_reached sender 
 -- the history of main, whose queue comes first
 abbrev pub main_entries : List QueueRecord → List Entry
 main_entries [] = []
-main_entries (q ∷ queues) = q.entries
+main_entries (q ∷ queues) = history_of q
 
 -- main's time was moved to the time of each block, but for one at the start
 abbrev pub AreBlocksReached : Script → List QueueRecord → Type 0

@@ -1,7 +1,9 @@
 -- The controller of a run, and what it has called so far.
-use Rattle.std.specs.Prelude.{◌≡◌, ◌<◌, ◌≤◌, ◌+◌, ◌&&◌, nat_le, ℕ, Bool, true, false, List, [], ◌∷◌, length, slice_index_or, Option}
+use Rattle.std.specs.Prelude.{◌≡◌, ◌<◌, ◌≤◌, ◌+◌, ◌&&◌, nat_le, ℕ, Bool, true, false, List, [], ◌∷◌, map, length, slice_index_or, Option}
+use Rattle.std.specs.Global.{Vec}
 use Rattle.std.specs.Option.{option_map}
 use Rattle.loop_model.specs.declared.entry.Entry.{Entry}
+use Rattle.loop_model.specs.declared.segment.Segment.{Segment}
 use Rattle.loop_model.specs.Base.{empty_base}
 use Rattle.loop_model.specs.Entries.{moment_of}
 use Rattle.loop_model.specs.Answers.{clock}
@@ -17,12 +19,21 @@ use Rattle.dash_stage.specs.declared.control.Controller.{Controller}
 use Rattle.dash_hall.specs.Growth.{own}
 use Rattle.dash_hall.specs.Kits.{ArePostersOf, ArePassesOf}
 
--- the controller of the script, with what it needs in the hall; its turns at the choreographers, which look for the pulse that is asked for, record nothing
+-- the parts that these posters handed out of their queues' histories, in order
+abbrev pub handed_out : List Sender → List (List Segment)
+handed_out posters = map (λ p. p.view.sealed) posters
+
+-- the parts that stand in these lists, in order
+abbrev pub parts_in : List (Vec Segment) → List (List Segment)
+parts_in lists = map (λ v. v.items) lists
+
+-- the controller of the script, with what it needs in the hall; it keeps the parts of the histories that it handed out; its turns at the choreographers, which look for the pulse that is asked for, record nothing
 pub record IsController (s : Script) (hall : Hall) (c : Controller) : Type 0 where
   pub posters : ArePostersOf (controller s) hall.queues.items c.kit.posters.items
   pub frames : ArePassesOf (s.threads + 2) hall.choreographers.items c.kit.frames.items
   pub pass : c.kit.pass.home ≡ hall.pool
   pub idle : (q : ℕ) (p : Pass) → q < length c.kit.frames.items → (slice_index_or c.kit.frames.items q p).view.own ≡ []
+  pub sealed : handed_out c.kit.posters.items ≡ parts_in c.sealed.items
 
 -- moves of the time alone, none past the end
 abbrev pub are_advances : ℕ → List Entry → Bool

@@ -1,12 +1,16 @@
 -- How the kits give their posters and passes back, queue after queue and choreographer after choreographer.
-use Rattle.std.specs.Prelude.{◌≡◌, ◌<◌, ℕ, List, ◌∷◌, map, length, slice_index_or, drop}
+use Rattle.std.specs.Prelude.{◌≡◌, ◌<◌, ◌+◌, ℕ, List, ◌∷◌, map, length, slice_index_or, drop}
+use Rattle.std.specs.Global.{Vec}
 use mathlib.Core.List.{IsPrefix}
 use Rattle.atomic_table.specs.Seated.{TableId}
 use Rattle.frame_phases.specs.declared.entry.FrameEntry.{FrameEntry}
 use Rattle.loop_model.specs.declared.entry.Entry.{Entry}
 use Rattle.loop_model.specs.declared.record.QueueRecord.{QueueRecord}
+use Rattle.loop_model.specs.declared.segment.Segment.{Segment}
 use Rattle.loop_model.specs.Base.{empty_base}
 use Rattle.loop_model.specs.Legal.{IsLegal, AreNumbered}
+use Rattle.loop_model.specs.Chain.{IsChainFrom}
+use Rattle.run_model.specs.Histories.{history_of}
 use Rattle.dash_script.specs.declared.script.Script.{Script}
 use Rattle.shared_queue.specs.Known.{Shared}
 use Rattle.shared_queue.specs.Constants.{Constants}
@@ -17,6 +21,7 @@ use Rattle.run_model.specs.Run.{setting_of}
 use Rattle.dash_hall.specs.declared.kit.Kit.{Kit}
 use Rattle.dash_hall.specs.Kits.{ArePostersOf, badge_of, badge_for, FrameBadge, frame_badge_of}
 use Rattle.dash_hall.specs.Dealing.{given_of}
+use Rattle.dash_stage.specs.Controllers.{handed_out, parts_in}
 use Rattle.dash_stage.specs.Records.{HasAllOf, passes_at}
 
 -- each kit has a poster
@@ -27,6 +32,14 @@ HavePosters kits = (k : ℕ) (d : Kit) → k < length kits → 0 < length (slice
 pub record IsNext (k : ℕ) (q : Shared TableId) (kit : Kit) : Type 0 where
   pub some : 0 < length kit.posters.items
   pub badge : (p : Sender) → badge_of (slice_index_or kit.posters.items 0 p) ≡ badge_for k q
+
+-- the last kit's posters, the controller's, handed out what stands in these lists, queue by queue
+abbrev pub AreSealed : List Kit → List (Vec Segment) → Type 0
+AreSealed kits lists = (k : ℕ) (d : Kit) → k + 1 ≡ length kits → handed_out (slice_index_or kits k d).posters.items ≡ parts_in lists
+
+-- the first of them handed these parts out
+abbrev pub HasSealedNext : List Kit → List Segment → Type 0
+HasSealedNext kits parts = (k : ℕ) (d : Kit) (p : Sender) → k + 1 ≡ length kits → (slice_index_or (slice_index_or kits k d).posters.items 0 p).view.sealed ≡ parts
 
 -- so it is with each kit, and there is one for each sender
 pub record AreNext (q : Shared TableId) (kits : List Kit) : Type 0 where
@@ -41,8 +54,9 @@ HaveAllPosters queues kits = (k : ℕ) (d : Kit) → k < length kits → ArePost
 pub record IsKeptOf (c : Constants TableId) (r : QueueRecord) : Type 0 where
   pub looper : r.looper ≡ c.looper
   pub setting : setting_of r ≡ c.setting
-  pub legal : IsLegal c.setting (empty_base c.setting.senders) r.entries
-  pub numbered : AreNumbered c.setting (empty_base c.setting.senders) r.entries
+  pub chain : IsChainFrom (empty_base c.setting.senders) r.segments
+  pub legal : IsLegal c.setting (empty_base c.setting.senders) (history_of r)
+  pub numbered : AreNumbered c.setting (empty_base c.setting.senders) (history_of r)
 
 -- sender k gave up its first poster, which made its entries in this history
 pub record EndsPoster (k : ℕ) (entries : List Entry) (before after : Kit) : Type 0 where

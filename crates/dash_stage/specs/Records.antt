@@ -3,6 +3,7 @@ use Rattle.std.specs.Prelude.{◌≡◌, ◌<◌, ◌+◌, ◌++◌, ℕ, List, 
 use Rattle.std.specs.List.{AllByRecursion}
 use mathlib.Core.List.{IsPrefix}
 use Rattle.dash_script.specs.declared.script.Script.{Script}
+use Rattle.run_model.specs.Histories.{history_of}
 use Rattle.loop_model.specs.declared.entry.Entry.{Entry}
 use Rattle.loop_model.specs.declared.journal.Journal.{Journal}
 use Rattle.loop_model.specs.declared.record.QueueRecord.{QueueRecord}
@@ -35,7 +36,7 @@ HasAllOf k p entries = (entries_by k entries ≡ own p) × IsPrefix p.view.seen 
 -- so it is with each record and each sender's poster
 abbrev pub HaveAll : List Kit → List QueueRecord → Type 0
 HaveAll kits records = (k q : ℕ) (d : Kit) (p : Sender) (r : QueueRecord) → k < length kits → q < length records
-    → HasAllOf k (slice_index_or (slice_index_or kits k d).posters.items q p) (slice_index_or records q r).entries
+    → HasAllOf k (slice_index_or (slice_index_or kits k d).posters.items q p) (history_of (slice_index_or records q r))
 
 -- all passes of a looper's choreographer: each thread's, at this place in its kit, the looper's two, and the controller's, at this place in its kit
 abbrev pub passes_at : Script → ℕ → ℕ → List Kit → Kit → Pass → List Pass

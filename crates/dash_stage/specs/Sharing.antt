@@ -16,6 +16,7 @@ pub record ControllerKeeps (R : List Sender → List Sender → Type 0) (before 
   pub posters : R before.kit.posters.items after.kit.posters.items
   pub pass : after.kit.pass ≡ before.kit.pass
   pub frames : after.kit.frames ≡ before.kit.frames
+  pub sealed : after.sealed ≡ before.sealed
 
 -- the posters of each sender before and after are so, and all else is as before
 pub record StageKeeps (R : List Sender → List Sender → Type 0) (before after : Stage) : Type 0 where

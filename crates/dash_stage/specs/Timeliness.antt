@@ -3,6 +3,7 @@ use Rattle.std.specs.Prelude.{◌≡◌, ◌<◌, ◌≤◌, ◌⊎◌, ◌++◌
 use Rattle.std.specs.Option.{option_map}
 use mathlib.Core.List.{IsPrefix}
 use Rattle.loop_model.specs.declared.entry.Entry.{Entry}
+use Rattle.loop_model.specs.declared.segment.Segment.{Segment}
 use Rattle.loop_model.specs.declared.call.Call.TheVariants.{Advance}
 use Rattle.loop_model.specs.Base.{empty_base}
 use Rattle.loop_model.specs.Items.{when_of}
@@ -120,6 +121,14 @@ Halts e = is_halt e.call ≡ true
 -- there is no such entry
 abbrev pub IsNone : Entry → Type 0
 IsNone e = ⊥
+
+-- by turns that made no entry a poster handed parts out, which stand behind those that it had handed out
+pub record HandsOut (before after : Sender) (had has : List Segment) : Type 0 where
+  pub table : after.table ≡ before.table
+  pub constants : after.view.constants ≡ before.view.constants
+  pub called : own after ≡ own before
+  pub turns : TurnsOn IsNone before after
+  pub parts : before.view.sealed ≡ had → after.view.sealed ≡ has
 
 -- each queue's time has come to this one, or the queue is over
 abbrev pub HaveCome : Script → ℕ → Controller → Type 0

@@ -12,13 +12,13 @@ ghost use Rattle.run_model.specs.Control.{ends_halted};
 ghost use Rattle.run_model.specs.Moves.{IsPulseTime};
 ghost use Rattle.run_model.specs.Senders.{sender_count};
 ghost use Rattle.dash_hall.specs.Hearing.{seen_by};
-ghost use Rattle.dash_stage.specs.Timeliness.{AreBy, TurnsOn, EachTurnsOn, MovesTo, MovesNot, Halts, IsNone, HaveCome, whole_on};
+ghost use Rattle.dash_stage.specs.Timeliness.{AreBy, TurnsOn, EachTurnsOn, MovesTo, MovesNot, Halts, IsNone, HandsOut, HaveCome, whole_on};
 ghost use Rattle.dash_stage.specs.Playing.{IsStuck, AreStuck};
 
 use dash_hall::{Hall, Kit, quit};
 use dash_script::Script;
 use handler_post::Way;
-use loop_model::NoMemory;
+use loop_model::{NoMemory, Segment};
 use message_pool::{Pool, PoolClaim, PoolPass};
 use queue_state::{Advancing, Halting};
 use shared_queue::{Poster, SharedQueue};
@@ -28,7 +28,12 @@ use std::sync::Wait;
 #[derive(Drop)]
 pub(crate) struct Controller {
     pub(crate) kit: Kit,
+    /// The parts of each queue's history that it handed out, by looper number.
+    pub(crate) sealed: Vec<Vec<Segment>>,
 }
+
+/// From so many entries on since its base, a queue hands them out (this project's profile).
+const MANY: u64 = 4096;
 
 impl Controller {
     /// Moves the time of each queue on to this one, in milliseconds. Answers false where a message is due on one of them.
@@ -90,6 +95,59 @@ impl Controller {
             Advancing::NotDrained { .. } => Ok(false),
             Advancing::NoMemory => Err(NoMemory),
         }
+    }
+
+    /// Whether some queue has many entries that it has not handed out, of those that the controller has seen.
+    pub(crate) fn has_many(&self) -> bool {
+        self.kit
+            .posters
+            .as_slice()
+            .iter()
+            .zip(self.sealed.as_slice().iter())
+            .any(|(poster, parts)| is_many(poster, parts))
+    }
+
+    /// Has each queue hand its entries out that has many of them, so that no queue keeps its whole history.
+    pub(crate) fn seal<R: Wait>(
+        &mut self,
+        rt: &R,
+        hall: &Hall,
+        script: &Script,
+    ) -> Result<(), NoMemory>
+        requires hall { IsHall script.now hall.now }
+        requires controller { IsController script.now hall.now self.old }
+        ensures controller { IsController script.now hall.now self.new }
+        ensures none { CallsNone self.old self.new }
+        ensures turns { OnOk result (EachTurnsOn IsNone self.old self.new) }
+    {
+        for place in 0..script.loopers {
+            self.seal_one(rt, hall, script, place as usize)?;
+        }
+        Ok(())
+    }
+
+    /// Has one queue hand its entries out, where it has many.
+    fn seal_one<R: Wait>(
+        &mut self,
+        rt: &R,
+        hall: &Hall,
+        script: &Script,
+        place: usize,
+    ) -> Result<(), NoMemory>
+        requires hall { IsHall script.now hall.now }
+        requires controller { IsController script.now hall.now self.old }
+        requires place { place < script.now.loopers }
+        ensures controller { IsController script.now hall.now self.new }
+        ensures none { CallsNone self.old self.new }
+        ensures here { (d : Sender) → TurnsOn IsNone (slice_index_or self.old.kit.posters.items place d) (slice_index_or self.new.kit.posters.items place d) }
+        ensures elsewhere { (q : ℕ) (d : Sender) → q ≢ place → slice_index_or self.new.kit.posters.items q d ≡ slice_index_or self.old.kit.posters.items q d }
+    {
+        hand_out(
+            rt,
+            &hall.queues[place],
+            &mut self.kit.posters[place],
+            &mut self.sealed[place],
+        )
     }
 
     /// How many entries of all histories together it has seen.
@@ -211,6 +269,35 @@ impl Controller {
             Halting::NotDrained { .. } => false,
         }
     }
+}
+
+/// Whether the queue has many entries that are not handed out, of those that the poster has seen; these are its parts so far.
+fn is_many(poster: &Poster<PoolClaim>, parts: &Vec<Segment>) -> bool {
+    let handed_out = match parts.last() {
+        Some(part) => part.base.length.saturating_add(part.entries.len() as u64),
+        None => 0,
+    };
+    poster.seen().saturating_sub(handed_out) >= MANY
+}
+
+/// Has a queue hand its entries out, where it has many. They stand behind its other parts.
+fn hand_out<R: Wait>(
+    rt: &R,
+    queue: &SharedQueue<PoolClaim>,
+    poster: &mut Poster<PoolClaim>,
+    parts: &mut Vec<Segment>,
+) -> Result<(), NoMemory>
+    requires poster { IsOf poster.old queue.now }
+    requires last { poster.old.sender + 1 ≡ queue.now.constants.setting.senders }
+    ensures { HandsOut poster.old poster.new parts.old.items parts.new.items }
+{
+    if poster.since(rt, queue) < MANY {
+        return Ok(());
+    }
+    parts.reserve(1)?;
+    let part = poster.seal(rt, queue)?;
+    parts.push_reserved(part);
+    Ok(())
 }
 
 /// Quits a queue safely, at this time in milliseconds.

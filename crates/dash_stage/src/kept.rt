@@ -105,7 +105,7 @@ fn kept(
     let mut kits = thread_kits(alloc, script, &hall, threads)?;
     let journals = looper_kits(alloc, script, &hall, loopers, &mut kits)?;
     kits.push(controller.kit)?;
-    let (queues, frames) = records(alloc, script, hall, kits, pass)?;
+    let (queues, frames) = records(alloc, script, hall, kits, pass, controller.sealed)?;
     Ok((queues, journals, frames))
 }
 

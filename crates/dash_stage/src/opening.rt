@@ -1,6 +1,6 @@
 //! A stage before the first event.
-ghost use Rattle.std.specs.Prelude.{◌≡◌, ◌<◌, ◌+◌, [], IfOk, OnOk, length};
-ghost use Rattle.dash_stage.specs.Controllers.{IsMoving};
+ghost use Rattle.std.specs.Prelude.{◌≡◌, ◌<◌, ◌+◌, [], IfOk, OnOk, length, replicate};
+ghost use Rattle.dash_stage.specs.Controllers.{IsMoving, parts_in};
 ghost use Rattle.dash_stage.specs.Timeliness.{AreBy, AreTimelyUpTo, AreRested, WaitForNothing};
 ghost use Rattle.dash_hall.specs.Kits.{IsHall, AreUnseen, AreUnusedKits};
 ghost use Rattle.dash_stage.specs.Sharing.{OfThreads, OfLoopers};
@@ -13,7 +13,7 @@ use dash_hall::{Hall, Kit, open};
 use dash_loopers::StageLooper;
 use dash_script::Script;
 use dash_threads::PostingThread;
-use loop_model::NoMemory;
+use loop_model::{NoMemory, Segment};
 use std::alloc::Global;
 
 /// The senders of a script, which have done nothing.
@@ -31,8 +31,10 @@ pub(crate) fn set_up(alloc: Global, script: &Script) -> Result<Stage, NoMemory>
     let (hall, mut kits, pass) = open(alloc, script)?;
     let threads = threads(alloc, script, &hall, &mut kits)?;
     let loopers = loopers(alloc, script, &hall, &mut kits)?;
+    let sealed = nothing_sealed(alloc, script.loopers)?;
     let controller = Controller {
         kit: kits.remove(0),
+        sealed,
     };
     Ok(Stage {
         hall,
@@ -42,6 +44,17 @@ pub(crate) fn set_up(alloc: Global, script: &Script) -> Result<Stage, NoMemory>
         pass,
         time: 0,
     })
+}
+
+/// No parts of any history, for so many queues.
+fn nothing_sealed(alloc: Global, loopers: u32) -> Result<Vec<Vec<Segment>>, NoMemory>
+    ensures { IfOk result (λ v. parts_in v.items ≡ replicate loopers []) }
+{
+    let mut sealed: Vec<Vec<Segment>> = Vec::new(alloc);
+    for looper in 0..loopers {
+        sealed.push(Vec::new(alloc))?;
+    }
+    Ok(sealed)
 }
 
 /// The threads, with the first kits.

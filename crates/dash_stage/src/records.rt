@@ -1,10 +1,11 @@
 //! The records of a run's queues and choreographers.
 ghost use Rattle.std.specs.Prelude.{◌≡◌, ◌<◌, ◌+◌, length, IfOk, OnOk};
 ghost use Rattle.atomic_table.specs.Seated.{TableId};
+ghost use Rattle.run_model.specs.Histories.{history_of};
 ghost use Rattle.run_model.specs.Senders.{sender_count};
 ghost use Rattle.dash_hall.specs.Kits.{IsHall, AreKitsOf, AreQueuesOf, AreChoreographersOf, frame_constants, frames_for};
 ghost use Rattle.dash_hall.specs.Dealing.{EachGivesPoster, given_of};
-ghost use Rattle.dash_stage.specs.Ending.{HavePosters, AreNext, HaveAllPosters, IsKeptOf, EachEndsPoster, KeepFrames, BeginWithPasses, HaveAllPasses, HaveFramesLeft, AreOfNext, BeginWithOwn, AreOfPool};
+ghost use Rattle.dash_stage.specs.Ending.{HavePosters, AreNext, AreSealed, HasSealedNext, HaveAllPosters, IsKeptOf, EachEndsPoster, KeepFrames, BeginWithPasses, HaveAllPasses, HaveFramesLeft, AreOfNext, BeginWithOwn, AreOfPool};
 ghost use Rattle.dash_stage.specs.Records.{AreQueueRecords, AreFrameRecords, AreAllTheirs, HaveAll, HaveSeenOwn};
 ghost use Rattle.dash_stage.specs.Staged.{IsFrameRecord};
 
@@ -12,9 +13,9 @@ use choreographer::{Choreographer, FramePass};
 use dash_hall::{Hall, Kit, holder, recycle_all};
 use dash_script::Script;
 use frame_phases::FrameRecord;
-use loop_model::{NoMemory, QueueRecord};
+use loop_model::{NoMemory, QueueRecord, Segment};
 use message_pool::{Pool, PoolClaim, PoolPass};
-use shared_queue::{Poster, Retired, SharedQueue};
+use shared_queue::{Poster, SharedQueue};
 use std::alloc::Global;
 
 /// Ends the sharing: the records of the queues and of the choreographers, by looper number. What is left in the queues is recycled,
@@ -25,10 +26,12 @@ pub(crate) fn records(
     hall: Hall,
     mut kits: Vec<Kit>,
     mut pass: PoolPass,
+    sealed: Vec<Vec<Segment>>,
 ) -> Result<(Vec<QueueRecord>, Vec<FrameRecord>), NoMemory>
     requires fits { script.now.threads + script.now.loopers < 100 }
     requires hall { IsHall script.now hall }
     requires kits { AreKitsOf script.now hall kits.items }
+    requires sealed { AreSealed kits.items sealed.items }
     requires pass { pass.home ≡ hall.pool }
     ensures queues { IfOk result (λ r. AreQueueRecords script.now r.0.items) }
     ensures frames { IfOk result (λ r. AreFrameRecords script.now r.1.items) }
@@ -42,7 +45,7 @@ pub(crate) fn records(
         choreographers,
         sources: _,
     } = hall;
-    let queues = queue_records(alloc, script, &pool, &mut pass, queues, &mut kits)?;
+    let queues = queue_records(alloc, script, &pool, &mut pass, queues, &mut kits, sealed)?;
     let frames = frame_records(alloc, script, choreographers, &mut kits)?;
     close(pool, pass, kits);
     Ok((queues, frames))
@@ -56,11 +59,13 @@ fn queue_records(
     pass: &mut PoolPass,
     queues: Vec<SharedQueue<PoolClaim>>,
     kits: &mut Vec<Kit>,
+    mut sealed: Vec<Vec<Segment>>,
 ) -> Result<Vec<QueueRecord>, NoMemory>
     requires pass { pass.old.home ≡ pool.now }
     requires queues { AreQueuesOf script.now pool.now queues.items }
     requires count { length kits.old.items ≡ sender_count script.now }
     requires kits { HaveAllPosters queues.items kits.old.items }
+    requires sealed { AreSealed kits.old.items sealed.items }
     ensures pass { OnOk result (pass.new.home ≡ pool.now) }
     ensures records { IfOk result (λ v. AreQueueRecords script.now v.items) }
     ensures all { IfOk result (λ v. HaveAll kits.old.items v.items) }
@@ -68,7 +73,8 @@ fn queue_records(
 {
     let mut records = Vec::new(alloc);
     for queue in queues {
-        let record = queue_record(alloc, pool, pass, queue, kits)?;
+        let parts = sealed.remove(0);
+        let record = queue_record(alloc, pool, pass, queue, kits, parts)?;
         records.push(record)?;
     }
     Ok(records)
@@ -81,18 +87,20 @@ fn queue_record(
     pass: &mut PoolPass,
     queue: SharedQueue<PoolClaim>,
     kits: &mut Vec<Kit>,
+    sealed: Vec<Segment>,
 ) -> Result<QueueRecord, NoMemory>
     requires pass { pass.old.home ≡ pool.now }
     requires home { queue.constants.home ≡ pool.now }
     requires next { AreNext queue kits.old.items }
+    requires sealed { HasSealedNext kits.old.items sealed.items }
     ensures pass { OnOk result (pass.new.home ≡ pool.now) }
     ensures kept { IfOk result (λ r. IsKeptOf queue.constants r) }
-    ensures kits { IfOk result (λ r. EachEndsPoster r.entries kits.old.items kits.new.items) }
+    ensures kits { IfOk result (λ r. EachEndsPoster (history_of r) kits.old.items kits.new.items) }
 {
     let posters = posters(alloc, kits)?;
-    let Retired { kept, left } = queue.retire(posters);
-    recycle_all(pool, pass, left);
-    Ok(kept)
+    let retired = queue.retire(posters, sealed)?;
+    recycle_all(pool, pass, retired.left);
+    Ok(retired.kept)
 }
 
 /// The next poster of each kit.

@@ -79,10 +79,10 @@ impl Stage {
         for block in script.blocks.as_slice() {
             self.go_to(rt, alloc, script, gate, block.time)?;
             self.run_block(rt, alloc, script, gate, block)?;
-            self.run_rounds(rt, alloc, script, gate, Turn::All)?;
+            self.settle(rt, alloc, script, gate)?;
         }
         self.go_to(rt, alloc, script, gate, script.end)?;
-        self.run_rounds(rt, alloc, script, gate, Turn::All)?;
+        self.settle(rt, alloc, script, gate)?;
         self.end(rt, alloc, script, gate)?;
         Ok(())
     }
@@ -121,9 +121,57 @@ impl Stage {
             if moved && next == time {
                 return Ok(());
             }
-            self.run_rounds(rt, alloc, script, gate, Turn::All)?;
+            self.settle(rt, alloc, script, gate)?;
         }
         unreachable!()
+    }
+
+    /// Rounds of all loopers, up to the first in which no history grows. Queues with many entries hand them out then, and the
+    /// loopers come to rest anew.
+    fn settle<R: Threads + Wait + Sync, G: Gate + Sync>(
+        &mut self,
+        rt: &R,
+        alloc: Global,
+        script: &Script,
+        gate: &G,
+    ) -> Result<(), NoMemory>
+        requires text { HasText script.now }
+        requires stage { IsStage script.now self.old }
+        ensures stage { IsStage script.now self.new }
+        ensures run { (past : List BlockData) → HaveRun script.now past self.old.threads.items → HaveRun script.now past self.new.threads.items }
+        ensures none { CallsNone self.old.controller self.new.controller }
+        ensures time { self.new.time ≡ self.old.time }
+        ensures timely { (past : List BlockData) → AreTimelyUpTo script.now past self.old → OnOk result (AreTimelyUpTo script.now past self.new) }
+        ensures same { OnOk result (HaveSeenTheSame self.new) }
+        ensures rested { HaveSeenTheSame self.old → OnOk result (AreRested script.now self.new) }
+        ensures sound { OnOk result (AreSound script.now self.new.controller → AreSound script.now self.old.controller) }
+        ensures step { IsInStep script.now self.old → OnOk result (IsInStep script.now self.new) }
+        ensures moves { AreMoved script.now self.old.controller → OnOk result (AreMoved script.now self.new.controller) }
+    {
+        self.run_rounds(rt, alloc, script, gate, Turn::All)?;
+        if self.controller.has_many() {
+            self.hand_out(rt, script)?;
+            self.run_rounds(rt, alloc, script, gate, Turn::All)?;
+        }
+        Ok(())
+    }
+
+    /// Queues with many entries hand them out, and all hear of it.
+    fn hand_out<R: Wait>(&mut self, rt: &R, script: &Script) -> Result<(), NoMemory>
+        requires stage { IsStage script.now self.old }
+        ensures stage { IsStage script.now self.new }
+        ensures run { (past : List BlockData) → HaveRun script.now past self.old.threads.items → HaveRun script.now past self.new.threads.items }
+        ensures none { CallsNone self.old.controller self.new.controller }
+        ensures time { self.new.time ≡ self.old.time }
+        ensures timely { (past : List BlockData) → AreTimelyUpTo script.now past self.old → OnOk result (AreTimelyUpTo script.now past self.new) }
+        ensures same { OnOk result (HaveSeenTheSame self.new) }
+        ensures sound { HaveSeenTheSame self.old → OnOk result (AreSound script.now self.new.controller → AreSound script.now self.old.controller) }
+        ensures step { IsInStep script.now self.old → OnOk result (IsInStep script.now self.new) }
+        ensures moves { HaveSeenTheSame self.old → AreMoved script.now self.old.controller → OnOk result (AreMoved script.now self.new.controller) }
+    {
+        self.controller.seal(rt, &self.hall, script)?;
+        self.share(script);
+        Ok(())
     }
 
     /// The least time at which a message is due or a pulse comes, in milliseconds.

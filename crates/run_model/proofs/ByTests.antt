@@ -11,9 +11,11 @@ use Rattle.loop_model.specs.declared.entry.Entry.{Entry}
 use Rattle.loop_model.specs.declared.base.Base.{Base}
 use Rattle.loop_model.specs.declared.record.QueueRecord.{QueueRecord}
 use Rattle.loop_model.specs.Base.{empty_base}
+use Rattle.loop_model.specs.Chain.{IsChainFrom}
 use Rattle.loop_model.specs.Answers.{Setting, clock, answer}
 use Rattle.loop_model.specs.Legal.{IsMoment, IsTimely, IsLegal, IsLegalAfter, made_count, is_control, AreNumbered, AreNumberedAfter}
 use Rattle.dash_script.specs.declared.script.Script.{Script}
+use Rattle.run_model.specs.Histories.{history_of}
 use Rattle.run_model.specs.Asks.{Ask, plain, call_of, token_in, entries_by, AreFor}
 use Rattle.run_model.specs.Senders.{sender_count}
 use Rattle.run_model.specs.Moments.{in_lockstep}
@@ -100,16 +102,17 @@ numbered_after s b past (e ∷ es) h =
     )
 
 -- a queue's record in lockstep
-pub history_by : (s : Script) (r : QueueRecord) → r.main ≡ (r.looper == 0) → r.lockstep ≡ true → r.senders ≡ sender_count s
-    → answers (setting_of r) (empty_base r.senders) [] r.entries ≡ replies r.entries → are_timely (setting_of r) (empty_base r.senders) [] r.entries ≡ true
-    → are_numbered (setting_of r) (empty_base r.senders) [] r.entries ≡ true → IsHistory in_lockstep all_entries s r
+pub history_by : (s : Script) (r : QueueRecord) → r.main ≡ (r.looper == 0) → r.lockstep ≡ true → r.senders ≡ sender_count s → IsChainFrom (empty_base r.senders) r.segments
+    → answers (setting_of r) (empty_base r.senders) [] (history_of r) ≡ replies (history_of r) → are_timely (setting_of r) (empty_base r.senders) [] (history_of r) ≡ true
+    → are_numbered (setting_of r) (empty_base r.senders) [] (history_of r) ≡ true → IsHistory in_lockstep all_entries s r
 unfolding IsLegal AreNumbered
-history_by s r main lockstep senders same timely numbered = record {
+history_by s r main lockstep senders chain same timely numbered = record {
   main = main;
   lockstep = lockstep;
   senders = senders;
-  legal = legal_after (setting_of r) (empty_base r.senders) [] r.entries same timely;
-  numbered = numbered_after (setting_of r) (empty_base r.senders) [] r.entries numbered;
+  chain = chain;
+  legal = legal_after (setting_of r) (empty_base r.senders) [] (history_of r) same timely;
+  numbered = numbered_after (setting_of r) (empty_base r.senders) [] (history_of r) numbered;
   clocked = tt;
 }
 
@@ -150,12 +153,12 @@ thread_lines s q thread = lines_on s (labels_on q (lines_of thread s.blocks)) q 
 -- the thread's entries there are those calls
 abbrev pub MakesThem : Script → QueueRecord → ℕ → Type 0
 MakesThem s r thread =
-    planned_calls s (labels_on r.looper (lines_of thread s.blocks)) r.looper [] (thread_lines s r.looper thread) (entries_by thread r.entries) ≡ made_calls (entries_by thread r.entries)
+    planned_calls s (labels_on r.looper (lines_of thread s.blocks)) r.looper [] (thread_lines s r.looper thread) (entries_by thread (history_of r)) ≡ made_calls (entries_by thread (history_of r))
 
 -- all threads' entries in lockstep
 pub planned_by : (s : Script) (r : QueueRecord) → EachBelow s.threads (MakesThem s r) → IsAsPlanned in_lockstep s r
 planned_by s r made thread below =
-    calls_by s (labels_on r.looper (lines_of thread s.blocks)) r.looper [] (thread_lines s r.looper thread) (entries_by thread r.entries) (each_below s.threads (MakesThem s r) made thread below)
+    calls_by s (labels_on r.looper (lines_of thread s.blocks)) r.looper [] (thread_lines s r.looper thread) (entries_by thread (history_of r)) (each_below s.threads (MakesThem s r) made thread below)
 
 -- all threads' calls are on time
 pub on_time_by : (s : Script) (r : QueueRecord) → EachBelow s.threads (IsThreadOnTime s r) → (thread : ℕ) → thread < s.threads → IsThreadOnTime s r thread

@@ -14,6 +14,7 @@ use Rattle.dash_script.specs.declared.script.Script.{Script}
 use Rattle.loop_model.specs.declared.journal.Act.{Act}
 use Rattle.loop_model.specs.declared.journal.Journal.{Journal}
 use Rattle.loop_model.specs.declared.record.QueueRecord.{QueueRecord}
+use Rattle.loop_model.specs.Base.{empty_base}
 use Rattle.run_model.specs.Loopers.{Looper}
 use Rattle.run_model.specs.Acts.{after_act}
 use Rattle.frame_phases.specs.declared.entry.Callback.{Callback}
@@ -69,7 +70,7 @@ plain_script loopers threads handlers blocks end =
 
 -- the queue of a looper in lockstep
 abbrev pub queue : ℕ → Bool → ℕ → List Entry → QueueRecord
-queue looper main senders entries = record { looper = looper; main = main; lockstep = true; senders = senders; entries = entries }
+queue looper main senders entries = record { looper = looper; main = main; lockstep = true; senders = senders; segments = record { base = empty_base senders; entries = entries } ∷ [] }
 
 abbrev pub journal : ℕ → List Act → Journal
 journal looper acts = record { looper = looper; acts = acts }

@@ -83,7 +83,7 @@ pub planned_0 : (thread : ℕ) → thread < 1 → AreAsPlanned in_lockstep scrip
 planned_0 = each_below 1 (λ thread. AreAsPlanned in_lockstep script thread 0 entries_0) (tt, (record { uptime = 10; allowed = refl; call = refl; no_earlier = tt }, (record { uptime = 10; allowed = refl; call = refl; no_earlier = tt }, (record { uptime = 10; allowed = refl; call = refl; no_earlier = tt }, (record { uptime = 10; allowed = refl; call = refl; no_earlier = tt }, tt)))))
 
 pub history_0 : IsHistory in_lockstep all_entries script record_0
-history_0 = record { main = refl; lockstep = refl; senders = refl; legal = legal_0; numbered = numbered_0; clocked = tt }
+history_0 = record { main = refl; lockstep = refl; senders = refl; chain = (refl, tt); legal = legal_0; numbered = numbered_0; clocked = tt }
 
 pub controlled_0 : IsControlled script record_0
 unfolding is_controlled

@@ -41,7 +41,7 @@ entries =
     ∷ []
 
 abbrev queue_0 : QueueRecord
-queue_0 = record { looper = 0; main = true; lockstep = false; senders = 3; entries = entries }
+queue_0 = record { looper = 0; main = true; lockstep = false; senders = 3; segments = record { base = empty_base 3; entries = entries } ∷ [] }
 
 abbrev journal_0 : Journal
 journal_0 = journal 0 (act.Dispatch 0 25 route.Handled ∷ act.Dispatch 1 30 route.Handled ∷ [])
@@ -68,7 +68,7 @@ planned =
     each_below 1 (λ thread. AreAsPlanned mode script thread 0 entries) (tt, (record { uptime = 10; allowed = (lit≤ tt, record { reading = 15; shown = refl; since = refl }); call = refl; no_earlier = tt }, (record { uptime = 20; allowed = (lit≤ tt, record { reading = 25; shown = refl; since = refl }); call = refl; no_earlier = tt }, tt)))
 
 history : IsHistory mode all_entries script queue_0
-history = record { main = refl; lockstep = refl; senders = refl; legal = legal; numbered = numbered; clocked = clocked }
+history = record { main = refl; lockstep = refl; senders = refl; chain = (refl, tt); legal = legal; numbered = numbered; clocked = clocked }
 
 controlled : IsControlled script queue_0
 unfolding is_controlled

@@ -77,9 +77,9 @@ ends_before_a_call_else = record {
     mode = refl;
     start = refl;
     histories = (
-      history_by two_script quit_main refl refl refl refl refl refl,
+      history_by two_script quit_main refl refl refl (refl, tt) refl refl refl,
       (
-        history_by two_script two_queue refl refl refl refl refl refl,
+        history_by two_script two_queue refl refl refl (refl, tt) refl refl refl,
         tt,
       ),
     );
@@ -152,9 +152,9 @@ ends_within_a_block_else = record {
     mode = refl;
     start = refl;
     histories = (
-      history_by one_script quit_main refl refl refl refl refl refl,
+      history_by one_script quit_main refl refl refl (refl, tt) refl refl refl,
       (
-        history_by one_script one_queue refl refl refl refl refl refl,
+        history_by one_script one_queue refl refl refl (refl, tt) refl refl refl,
         tt,
       ),
     );

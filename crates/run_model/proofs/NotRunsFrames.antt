@@ -61,7 +61,7 @@ unfolding made_count answer clock accepted_count barrier_count quit_place has_di
     befores is_called_in_time are_before_quit are_in_order moves
 frame_else fs law = record {
   report = record { script = refl; queues = refl; journals = refl; frames = refl };
-  records = record { mode = refl; start = refl; histories = (history_by (line_script posts_frame) line_queue refl refl refl refl refl refl, tt) };
+  records = record { mode = refl; start = refl; histories = (history_by (line_script posts_frame) line_queue refl refl refl (refl, tt) refl refl refl, tt) };
   planned = (planned_by (line_script posts_frame) line_queue (tt, refl), tt);
   controls = (refl, tt);
   frames = (record { interval = refl; phases = refl; lawful = law }, tt);
@@ -91,7 +91,7 @@ unfolding made_count answer clock accepted_count barrier_count quit_place has_di
     befores is_called_in_time are_before_quit are_in_order moves
 unframe_else fs law = record {
   report = record { script = refl; queues = refl; journals = refl; frames = refl };
-  records = record { mode = refl; start = refl; histories = (history_by (line_script removes_frame) line_queue refl refl refl refl refl refl, tt) };
+  records = record { mode = refl; start = refl; histories = (history_by (line_script removes_frame) line_queue refl refl refl (refl, tt) refl refl refl, tt) };
   planned = (planned_by (line_script removes_frame) line_queue (tt, refl), tt);
   controls = (refl, tt);
   frames = (record { interval = refl; phases = refl; lawful = law }, tt);

@@ -141,7 +141,7 @@ unfolding made_count answer clock accepted_count barrier_count quit_place has_di
     after_act befores is_called_in_time are_before_quit are_in_order moves
 starts_late_else = record {
   report = record { script = refl; queues = refl; journals = refl; frames = refl };
-  records = record { mode = refl; start = refl; histories = (history_by (gauge_script 20) gauge_queue refl refl refl refl refl refl, tt) };
+  records = record { mode = refl; start = refl; histories = (history_by (gauge_script 20) gauge_queue refl refl refl (refl, tt) refl refl refl, tt) };
   planned = (planned_by (gauge_script 20) gauge_queue (tt, refl), tt);
   controls = (refl, tt);
   frames = (record { interval = refl; phases = refl; lawful = refl }, tt);
@@ -183,7 +183,7 @@ unfolding made_count answer clock accepted_count barrier_count quit_place has_di
     after_act befores is_called_in_time are_before_quit are_in_order moves
 takes_phase_late_else = record {
   report = record { script = refl; queues = refl; journals = refl; frames = refl };
-  records = record { mode = refl; start = refl; histories = (history_by (gauge_script 20) gauge_queue refl refl refl refl refl refl, tt) };
+  records = record { mode = refl; start = refl; histories = (history_by (gauge_script 20) gauge_queue refl refl refl (refl, tt) refl refl refl, tt) };
   planned = (planned_by (gauge_script 20) gauge_queue (tt, refl), tt);
   controls = (refl, tt);
   frames = (record { interval = refl; phases = refl; lawful = refl }, tt);
@@ -225,7 +225,7 @@ unfolding made_count answer clock accepted_count barrier_count quit_place has_di
     after_act befores is_called_in_time are_before_quit are_in_order moves
 leaves_a_phase_out_else = record {
   report = record { script = refl; queues = refl; journals = refl; frames = refl };
-  records = record { mode = refl; start = refl; histories = (history_by (gauge_script 20) gauge_queue refl refl refl refl refl refl, tt) };
+  records = record { mode = refl; start = refl; histories = (history_by (gauge_script 20) gauge_queue refl refl refl (refl, tt) refl refl refl, tt) };
   planned = (planned_by (gauge_script 20) gauge_queue (tt, refl), tt);
   controls = (refl, tt);
   frames = (record { interval = refl; phases = refl; lawful = refl }, tt);
@@ -272,7 +272,7 @@ unfolding made_count answer clock accepted_count barrier_count quit_place has_di
     after_act befores is_called_in_time are_before_quit are_in_order moves
 pulse_between_else = record {
   report = record { script = refl; queues = refl; journals = refl; frames = refl };
-  records = record { mode = refl; start = refl; histories = (history_by (gauge_script 16) pulse_queue refl refl refl refl refl refl, tt) };
+  records = record { mode = refl; start = refl; histories = (history_by (gauge_script 16) pulse_queue refl refl refl (refl, tt) refl refl refl, tt) };
   planned = (planned_by (gauge_script 16) pulse_queue (tt, refl), tt);
   controls = (refl, tt);
   frames = (record { interval = refl; phases = refl; lawful = refl }, tt);
@@ -331,7 +331,7 @@ unfolding made_count answer clock accepted_count barrier_count quit_place has_di
     after_act befores is_called_in_time are_before_quit are_in_order moves
 posts_no_frame_else = record {
   report = record { script = refl; queues = refl; journals = refl; frames = refl };
-  records = record { mode = refl; start = refl; histories = (history_by (gauge_script 10) short_queue refl refl refl refl refl refl, tt) };
+  records = record { mode = refl; start = refl; histories = (history_by (gauge_script 10) short_queue refl refl refl (refl, tt) refl refl refl, tt) };
   planned = (planned_by (gauge_script 10) short_queue (tt, refl), tt);
   controls = (refl, tt);
   frames = (record { interval = refl; phases = refl; lawful = refl }, tt);

@@ -69,7 +69,7 @@ unfolding made_count answer clock accepted_count barrier_count quit_place has_di
     after_act befores is_called_in_time are_before_quit are_in_order moves
 moves_where_nothing_comes_else = record {
   report = record { script = refl; queues = refl; journals = refl; frames = refl };
-  records = record { mode = refl; start = refl; histories = (history_by script (queue 0 true 3 needless_entries) refl refl refl refl refl refl, tt) };
+  records = record { mode = refl; start = refl; histories = (history_by script (queue 0 true 3 needless_entries) refl refl refl (refl, tt) refl refl refl, tt) };
   planned = (planned_by script (queue 0 true 3 needless_entries) (tt, refl), tt);
   controls = (refl, tt);
   frames = (record { interval = refl; phases = refl; lawful = refl }, tt);
@@ -124,9 +124,9 @@ moves_one_queue_alone_else = record {
     mode = refl;
     start = refl;
     histories = (
-      history_by quiet_script quit_twice.record_0 refl refl refl refl refl refl,
+      history_by quiet_script quit_twice.record_0 refl refl refl (refl, tt) refl refl refl,
       (
-        history_by quiet_script alone_queue refl refl refl refl refl refl,
+        history_by quiet_script alone_queue refl refl refl (refl, tt) refl refl refl,
         tt,
       ),
     );

@@ -84,9 +84,9 @@ quits_ended_else = record {
     mode = refl;
     start = refl;
     histories = (
-      history_by ended_script quit_twice.record_0 refl refl refl refl refl refl,
+      history_by ended_script quit_twice.record_0 refl refl refl (refl, tt) refl refl refl,
       (
-        history_by ended_script ended_queue refl refl refl refl refl refl,
+        history_by ended_script ended_queue refl refl refl (refl, tt) refl refl refl,
         tt,
       ),
     );
@@ -163,9 +163,9 @@ quits_early_else = record {
     mode = refl;
     start = refl;
     histories = (
-      history_by early_script quit_twice.record_0 refl refl refl refl refl refl,
+      history_by early_script quit_twice.record_0 refl refl refl (refl, tt) refl refl refl,
       (
-        history_by early_script early_queue refl refl refl refl refl refl,
+        history_by early_script early_queue refl refl refl (refl, tt) refl refl refl,
         tt,
       ),
     );
@@ -245,9 +245,9 @@ moves_quitting_else = record {
     mode = refl;
     start = refl;
     histories = (
-      history_by quitting_script quitting_main refl refl refl refl refl refl,
+      history_by quitting_script quitting_main refl refl refl (refl, tt) refl refl refl,
       (
-        history_by quitting_script quitting_queue refl refl refl refl refl refl,
+        history_by quitting_script quitting_queue refl refl refl (refl, tt) refl refl refl,
         tt,
       ),
     );
@@ -324,9 +324,9 @@ quits_before_a_block_else = record {
     mode = refl;
     start = refl;
     histories = (
-      history_by before_script quit_twice.record_0 refl refl refl refl refl refl,
+      history_by before_script quit_twice.record_0 refl refl refl (refl, tt) refl refl refl,
       (
-        history_by before_script before_queue refl refl refl refl refl refl,
+        history_by before_script before_queue refl refl refl (refl, tt) refl refl refl,
         tt,
       ),
     );

@@ -60,7 +60,7 @@ unfolding made_count answer clock accepted_count barrier_count quit_place has_di
     after_act befores is_called_in_time are_before_quit are_in_order moves
 calls_early_else = record {
   report = record { script = refl; queues = refl; journals = refl; frames = refl };
-  records = record { mode = refl; start = refl; histories = (history_by (post_script 0 10) (queue 0 true 3 early_entries) refl refl refl refl refl refl, tt) };
+  records = record { mode = refl; start = refl; histories = (history_by (post_script 0 10) (queue 0 true 3 early_entries) refl refl refl (refl, tt) refl refl refl, tt) };
   planned = (planned_by (post_script 0 10) (queue 0 true 3 early_entries) (tt, refl), tt);
   controls = (refl, tt);
   frames = (record { interval = refl; phases = refl; lawful = refl }, tt);
@@ -102,7 +102,7 @@ unfolding made_count answer clock accepted_count barrier_count quit_place has_di
     after_act befores is_called_in_time are_before_quit are_in_order moves
 calls_late_else = record {
   report = record { script = refl; queues = refl; journals = refl; frames = refl };
-  records = record { mode = refl; start = refl; histories = (history_by (post_script 5 15) (queue 0 true 3 late_entries) refl refl refl refl refl refl, tt) };
+  records = record { mode = refl; start = refl; histories = (history_by (post_script 5 15) (queue 0 true 3 late_entries) refl refl refl (refl, tt) refl refl refl, tt) };
   planned = (planned_by (post_script 5 15) (queue 0 true 3 late_entries) (tt, refl), tt);
   controls = (refl, tt);
   frames = (record { interval = refl; phases = refl; lawful = refl }, tt);
@@ -149,7 +149,7 @@ unfolding made_count answer clock accepted_count barrier_count quit_place has_di
     after_act befores is_called_in_time are_before_quit are_in_order moves
 takes_late_else = record {
   report = record { script = refl; queues = refl; journals = refl; frames = refl };
-  records = record { mode = refl; start = refl; histories = (history_by (post_script 5 15) (queue 0 true 3 taken_entries) refl refl refl refl refl refl, tt) };
+  records = record { mode = refl; start = refl; histories = (history_by (post_script 5 15) (queue 0 true 3 taken_entries) refl refl refl (refl, tt) refl refl refl, tt) };
   planned = (planned_by (post_script 5 15) (queue 0 true 3 taken_entries) (tt, refl), tt);
   controls = (refl, tt);
   frames = (record { interval = refl; phases = refl; lawful = refl }, tt);
@@ -211,7 +211,7 @@ unfolding made_count answer clock accepted_count barrier_count quit_place has_di
     after_act befores is_called_in_time are_before_quit are_in_order moves
 reacts_late_else = record {
   report = record { script = refl; queues = refl; journals = refl; frames = refl };
-  records = record { mode = refl; start = refl; histories = (history_by rule_script reacted_queue refl refl refl refl refl refl, tt) };
+  records = record { mode = refl; start = refl; histories = (history_by rule_script reacted_queue refl refl refl (refl, tt) refl refl refl, tt) };
   planned = (planned_by rule_script reacted_queue (tt, refl), tt);
   controls = (refl, tt);
   frames = (record { interval = refl; phases = refl; lawful = refl }, tt);
@@ -277,9 +277,9 @@ calls_out_of_order_else = record {
     mode = refl;
     start = refl;
     histories = (
-      history_by order_script order_queue_0 refl refl refl refl refl refl,
+      history_by order_script order_queue_0 refl refl refl (refl, tt) refl refl refl,
       (
-        history_by order_script order_queue_1 refl refl refl refl refl refl,
+        history_by order_script order_queue_1 refl refl refl (refl, tt) refl refl refl,
         tt,
       ),
     );

@@ -6,6 +6,7 @@ use Rattle.loop_model.specs.declared.entry.Entry.{Entry}
 use Rattle.loop_model.specs.Base.{empty_base}
 use Rattle.loop_model.specs.Answers.{Setting}
 use Rattle.loop_model.specs.Legal.{IsLegal, AreNumbered}
+use Rattle.loop_model.specs.Chain.{IsChainFrom}
 use Rattle.loop_model.specs.Dispatches.{act_dispatch, call_dispatch}
 use Rattle.frame_phases.specs.declared.entry.FrameRecord.{FrameRecord}
 use Rattle.frame_phases.specs.Frames.{lawful}
@@ -36,13 +37,14 @@ pub record IsReportOf (s : Script) (r : Report) : Type 0 where
   pub journals : map (λ j. j.looper) r.journals ≡ range_with_len 0 s.loopers
   pub frames : map (λ f. f.looper) r.frames ≡ range_with_len 0 s.loopers
 
--- a queue's record: its constants are those of the run, and its entries have the replies that a queue of one thread gives
+-- a queue's record: its constants are those of the run, its parts are a chain, and its entries have the replies that a queue of one thread gives
 -- and the numbers of their senders, the last of whom alone moves the time and halts; in free mode the moments of the entries that pass the test are
 -- the clock's, or the queue's time
 pub record IsHistory (m : Mode) (test : Entry → Bool) (s : Script) (r : QueueRecord) : Type 0 where
   pub main : r.main ≡ (r.looper == 0)
   pub lockstep : r.lockstep ≡ m.lockstep
   pub senders : r.senders ≡ sender_count s
+  pub chain : IsChainFrom (empty_base r.senders) r.segments
   pub legal : IsLegal (setting_of r) (empty_base r.senders) (history_of r)
   pub numbered : AreNumbered (setting_of r) (empty_base r.senders) (history_of r)
   pub clocked : AreOfClock m test (history_of r)

@@ -11,7 +11,12 @@ use Rattle.dash_stage.proofs.Controls.{controls_of_records}
 use Rattle.dash_hall.specs.Hearing.{seen_by, HaveSeenAll}
 use Rattle.dash_stage.proofs.TimelyRecords.{kit_more, first_of_records, reached_of_records, timely_of_records, halted_of_records}
 use Rattle.dash_stage.proofs.MovesRecords.{moves_of_records}
+use Rattle.dash_stage.proofs.SealedEnds.{all_sealed}
 use Rattle.dash_stage.proofs.kept.kept.Goals as goal
+
+pub records-requires-clause-sealed : goal.records-requires-clause-sealed
+records-requires-clause-sealed c =
+    all_sealed c.looper_kits.new.kits.items c.push.new.self.items c.args.stage.controller c.in_ok-push.ensures.items c.requires.stage.controller.sealed
 
 pub returns-clause-planned : goal.returns-clause-planned
 returns-clause-planned c =

@@ -22,7 +22,7 @@ returns-clause-stage c =
       hall = c.in_ok-hall.ensures.hall;
       threads = c.in_ok-threads.ensures.threads;
       loopers = c.in_ok-loopers.ensures.loopers;
-      controller = controller_of s hall c.remove.result is unused;
+      controller = controller_of s hall c.remove.result c.in_ok-sealed.sealed c.in_ok-hall.ensures.hall is unused c.in_ok-sealed.ensures;
       pass = c.in_ok-hall.ensures.pass;
     }
 
@@ -30,13 +30,13 @@ pub returns-clause-moving : goal.returns-clause-moving
 returns-clause-moving c =
     let count = c.in_ok-loopers.ensures.kits.count in
     let some : 0 < length c.loopers.new.kits.items = omega (arith, count) in
-    unused_moves c.args.script.now (record { kit = c.remove.result }) (subst IsUnusedKit (sym c.remove.ensures.value) (c.in_ok-loopers.ensures.unused 0 c.remove.result some))
+    unused_moves c.args.script.now (record { kit = c.remove.result; sealed = c.in_ok-sealed.sealed }) (subst IsUnusedKit (sym c.remove.ensures.value) (c.in_ok-loopers.ensures.unused 0 c.remove.result some))
 
 pub returns-clause-by : goal.returns-clause-by
 returns-clause-by c =
     let count = c.in_ok-loopers.ensures.kits.count in
     let some : 0 < length c.loopers.new.kits.items = omega (arith, count) in
-    (unused_by 0 (record { kit = c.remove.result }) (subst IsUnusedKit (sym c.remove.ensures.value) (c.in_ok-loopers.ensures.unused 0 c.remove.result some)), refl)
+    (unused_by 0 (record { kit = c.remove.result; sealed = c.in_ok-sealed.sealed }) (subst IsUnusedKit (sym c.remove.ensures.value) (c.in_ok-loopers.ensures.unused 0 c.remove.result some)), refl)
 
 pub returns-clause-timely : goal.returns-clause-timely
 returns-clause-timely c =
@@ -54,7 +54,7 @@ returns-clause-rested c =
     let some : 0 < length c.loopers.new.kits.items = omega (arith, count) in
     let unused = subst IsUnusedKit (sym c.remove.ensures.value) (c.in_ok-loopers.ensures.unused 0 c.remove.result some) in
     let is = subst (IsKitOf s c.in_ok-hall.hall _) (sym c.remove.ensures.value) (c.in_ok-loopers.ensures.kits.each 0 c.remove.result some) in
-    let st : Stage = record { hall = c.in_ok-hall.hall; threads = c.in_ok-threads.threads; loopers = c.in_ok-loopers.loopers; controller = record { kit = c.remove.result }; pass = c.in_ok-hall.pass; time = 0 } in
+    let st : Stage = record { hall = c.in_ok-hall.hall; threads = c.in_ok-threads.threads; loopers = c.in_ok-loopers.loopers; controller = record { kit = c.remove.result; sealed = c.in_ok-sealed.sealed }; pass = c.in_ok-hall.pass; time = 0 } in
     begins_rested s st _ c.in_ok-hall.ensures.hall c.in_ok-loopers.ensures.loopers is.posters unused.posters c.in_ok-loopers.ensures.waits
 
 pub returns-clause-step : goal.returns-clause-step
@@ -64,7 +64,7 @@ returns-clause-step c =
     let some : 0 < length c.loopers.new.kits.items = omega (arith, count) in
     let unused = subst IsUnusedKit (sym c.remove.ensures.value) (c.in_ok-loopers.ensures.unused 0 c.remove.result some) in
     let is = subst (IsKitOf s c.in_ok-hall.hall _) (sym c.remove.ensures.value) (c.in_ok-loopers.ensures.kits.each 0 c.remove.result some) in
-    let st : Stage = record { hall = c.in_ok-hall.hall; threads = c.in_ok-threads.threads; loopers = c.in_ok-loopers.loopers; controller = record { kit = c.remove.result }; pass = c.in_ok-hall.pass; time = 0 } in
+    let st : Stage = record { hall = c.in_ok-hall.hall; threads = c.in_ok-threads.threads; loopers = c.in_ok-loopers.loopers; controller = record { kit = c.remove.result; sealed = c.in_ok-sealed.sealed }; pass = c.in_ok-hall.pass; time = 0 } in
     begins_in_step s st _ c.in_ok-hall.ensures.hall
     (begins_timely s st _ c.in_ok-hall.ensures.hall c.in_ok-threads.ensures.threads c.in_ok-loopers.ensures.loopers is.posters c.in_ok-threads.ensures.unseen c.in_ok-loopers.ensures.unseen unused.posters)
     c.in_ok-loopers.ensures.loopers is.posters unused.posters refl c.in_ok-loopers.ensures.begun

@@ -1,4 +1,4 @@
-use Rattle.std.proofs.Common.{◌≡◌, [], ◌∷◌, ◌++◌, length, ap, sym, ◌∙◌, append-nil, length-append, arith}
+use Rattle.std.proofs.Common.{◌≡◌, ◌<◌, [], ◌∷◌, ◌++◌, length, ap, sym, ◌∙◌, append-nil, length-append, subst, arith}
 use Rattle.std.specs.Vec.Iter.{into_iter_items}
 use Rattle.std.proofs.lemmas.List.{nil_from_length, length-map}
 use Rattle.std.proofs.lemmas.List.FromFn.{length-map-range_with_len}
@@ -6,7 +6,10 @@ use Rattle.atomic_table.specs.Seated.{TableId}
 use Rattle.shared_queue.specs.Constants.{Constants}
 use Rattle.shared_queue.proofs.Gathers.{regrouped}
 use Rattle.dash_hall.specs.Kits.{queue_key, queue_constants}
-use Rattle.dash_stage.proofs.HallEnds.{next_queue, retires_more, retired_all}
+use Rattle.run_model.specs.Histories.{history_of}
+use Rattle.dash_stage.specs.Ending.{AreSealed}
+use Rattle.dash_stage.proofs.HallEnds.{next_have, next_queue, retires_more, retired_all}
+use Rattle.dash_stage.proofs.SealedEnds.{has_list, sealed_next, sealed_rest}
 use Rattle.dash_stage.proofs.records.queue_records.Goals as goal
 
 pub queue_record-requires-clause-home : goal.queue_record-requires-clause-home
@@ -26,6 +29,27 @@ queue_record-requires-clause-next c =
     let parts : at.yielded ++ c.in-Some.queue ∷ into_iter_items c.next.new.self ≡ c.args.queues.items = ap (λ l. at.yielded ++ l) (sym steps) ∙ (at.invariant.parts ∙ all) in
     (next_queue c.args.script.now c.args.pool.now c.args.queues.items at.yielded _ c.in-Some.queue (length at.records.items) c.args.kits.now.items at.kits.items parts at.invariant.count c.requires.queues c.requires.count c.requires.kits at.invariant.retired.left).1
 
+pub remove-parts-requires : goal.remove-parts-requires
+remove-parts-requires c =
+    let at = c.loop-queue in
+    let all = c.into_iter-queue-iterator.ensures.into_iter_gives.0 in
+    let steps : into_iter_items at.queue-iterator ≡ c.in-Some.queue ∷ into_iter_items c.next.new.self = c.in-Some.ensures.steps.0 in
+    let parts : at.yielded ++ c.in-Some.queue ∷ into_iter_items c.next.new.self ≡ c.args.queues.items = ap (λ l. at.yielded ++ l) (sym steps) ∙ (at.invariant.parts ∙ all) in
+    let next = (next_queue c.args.script.now c.args.pool.now c.args.queues.items at.yielded _ c.in-Some.queue (length at.records.items) c.args.kits.now.items at.kits.items parts at.invariant.count c.requires.queues c.requires.count c.requires.kits at.invariant.retired.left).1 in
+    let many = at.invariant.retired.left.count in
+    let senders = c.requires.count in
+    let some : 0 < length at.kits.items = omega (arith, many, senders) in
+    subst (λ n. 0 < n) (sym at.sealed.ok.0) (has_list at.kits.items at.sealed.items at.invariant.sealed (next_have c.in-Some.queue at.kits.items next) some)
+
+pub queue_record-requires-clause-sealed : goal.queue_record-requires-clause-sealed
+queue_record-requires-clause-sealed c =
+    let at = c.loop-queue in
+    let all = c.into_iter-queue-iterator.ensures.into_iter_gives.0 in
+    let steps : into_iter_items at.queue-iterator ≡ c.in-Some.queue ∷ into_iter_items c.next.new.self = c.in-Some.ensures.steps.0 in
+    let parts : at.yielded ++ c.in-Some.queue ∷ into_iter_items c.next.new.self ≡ c.args.queues.items = ap (λ l. at.yielded ++ l) (sym steps) ∙ (at.invariant.parts ∙ all) in
+    let next = (next_queue c.args.script.now c.args.pool.now c.args.queues.items at.yielded _ c.in-Some.queue (length at.records.items) c.args.kits.now.items at.kits.items parts at.invariant.count c.requires.queues c.requires.count c.requires.kits at.invariant.retired.left).1 in
+    sealed_next at.kits.items at.sealed.items at.invariant.sealed (next_have c.in-Some.queue at.kits.items next) c.remove-parts.result c.remove-parts.ensures.value
+
 pub loop-queue-preserved : goal.loop-queue-preserved
 loop-queue-preserved c =
     let at = c.loop-queue in
@@ -39,11 +63,14 @@ loop-queue-preserved c =
     let count = at.invariant.count in
     let constants = (next_queue s c.args.pool.now c.args.queues.items at.yielded rest q (length at.records.items) c.args.kits.now.items at.kits.items parts count c.requires.queues c.requires.count c.requires.kits at.invariant.retired.left).0 in
     let items : c.push.new.self.items ≡ at.records.items ++ r ∷ [] = c.in_ok-push.ensures.items in
+    let next = (next_queue s c.args.pool.now c.args.queues.items at.yielded rest q (length at.records.items) c.args.kits.now.items at.kits.items parts count c.requires.queues c.requires.count c.requires.kits at.invariant.retired.left).1 in
+    let have = next_have q at.kits.items next in
     record {
       parts = regrouped at.yielded _ _ _ q steps at.invariant.parts;
       long = let was = at.invariant.long in let gone = c.in-Some.ensures.steps.1 in let short = ap length steps in omega arith;
       pass = c.in_ok-record.ensures.pass;
       count = let more = length-append at.records.items (r ∷ []) in let done = length-append at.yielded (q ∷ []) in let now = ap length items in omega (arith, now, more, done, count);
+      sealed = subst (AreSealed c.queue_record.new.kits.items) (sym c.remove-parts.ensures.items) (sealed_rest at.kits.items at.sealed.items at.invariant.sealed have (history_of r) c.queue_record.new.kits.items c.in_ok-record.ensures.kits);
       retired = retires_more s c.args.pool.now q.constants c.args.kits.now.items at.kits.items c.queue_record.new.kits.items at.records.items _ r constants c.in_ok-record.ensures.kept c.in_ok-record.ensures.kits items at.invariant.retired;
     }
 

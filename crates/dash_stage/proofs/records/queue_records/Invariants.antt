@@ -1,5 +1,6 @@
 use Rattle.std.proofs.Common.{◌≡◌, ◌++◌, length}
 use Rattle.std.specs.Vec.Iter.{into_iter_items, into_iter_len}
+use Rattle.dash_stage.specs.Ending.{AreSealed}
 use Rattle.dash_stage.proofs.HallEnds.{AreRetired}
 use Rattle.dash_stage.proofs.records.queue_records.Given as goal
 
@@ -9,5 +10,6 @@ invariant-loop-queue l = record {
   long : into_iter_len l.queue-iterator ≡ length (into_iter_items l.queue-iterator);
   pass : l.pass.home ≡ l.pool;
   count : length l.records.items ≡ length l.yielded;
+  sealed : AreSealed l.kits.items l.sealed.items;
   retired : AreRetired l.script l.initial.kits.items l.records.items l.kits.items;
 }

@@ -52,22 +52,22 @@ loop-preserved g c =
     let at = c.loop.invariant in
     let due = c.next_due.ensures in
     let moved = c.in_ok-moved.ensures in
-    let ran = c.in_ok-run_rounds.ensures in (
+    let ran = c.in_ok-settle.ensures in (
       ran.stage,
       λ past run. ran.run past (moved.run past (subst (HaveRun s past) (sym due.threads) (at.1 past run))),
-      moving_kept s c.advance.new.self.controller c.run_rounds.new.self.controller ran.none moved.moving,
-      subst (λ (t : ℕ). AreBy t c.run_rounds.new.self.controller) (sym ran.time) (by_kept c.advance.new.self.controller c.run_rounds.new.self.controller ran.none c.advance.new.self.time moved.by),
+      moving_kept s c.advance.new.self.controller c.settle.new.self.controller ran.none moved.moving,
+      subst (λ (t : ℕ). AreBy t c.settle.new.self.controller) (sym ran.time) (by_kept c.advance.new.self.controller c.settle.new.self.controller ran.none c.advance.new.self.time moved.by),
       (let a = at.4 in let b = due.time in let d = moved.time in let e = ran.time in let w = c.at_most-next.ensures.within in omega (arith, a, b, d, e, w)),
       λ past timely rest.
           let before = at.5 past timely rest in
           let still = timely_same s past c.loop.self c.next_due.new.self due.threads due.loopers due.posters before.0 in
           let went = moved.timely past still (due.due c.at_most-next.result before.1 c.at_most-next.ensures.early) in
-          (ran.timely past went, ran.rested refl went.same),
+          (ran.timely past went, ran.rested went.same),
       λ step rest.
           let before = at.6 step rest in
           let still = step_same s c.loop.self c.next_due.new.self at.0 due.stage due.threads due.loopers due.posters due.time before.0 in
           let went = moved.step still (rested_same s c.loop.self c.next_due.new.self due.loopers due.posters before.1) (due.due c.at_most-next.result before.1 c.at_most-next.ensures.early) in
-          (ran.step went, ran.rested refl went.same),
+          (ran.step went, ran.rested went.same),
       λ step rest ahead sound.
           let before = at.6 step rest in
           let still = step_same s c.loop.self c.next_due.new.self at.0 due.stage due.threads due.loopers due.posters due.time before.0 in
@@ -76,7 +76,7 @@ loop-preserved g c =
           elim c.else-moved.branch [
             | else-moved-via-then-moved+else-next-time w ↦ (let apart = w.if-next-time.false in
                 let within = c.at_most-next.ensures.within in
-                ahead_on c.args.time c.at_most-next.result c.loop.self c.run_rounds.new.self (omega (arith, apart, within)) (ran.time ∙ (moved.time ∙ ap (λ (t : ℕ). max t c.at_most-next.result) due.time)) was)
+                ahead_on c.args.time c.at_most-next.result c.loop.self c.settle.new.self (omega (arith, apart, within)) (ran.time ∙ (moved.time ∙ ap (λ (t : ℕ). max t c.at_most-next.result) due.time)) was)
             | else-moved-via-else-moved w ↦ absurd (true≢false (sym drained.0 ∙ w.if-moved.false))
           ],
       λ step rest was.
@@ -89,9 +89,9 @@ loop-preserved g c =
           (may_come_same s next c.loop.self.controller c.next_due.new.self.controller due.posters may) (moved_same s c.loop.self c.next_due.new.self at.0 due.stage due.posters (at.8 step rest was))),
     )
 
-pub returns-in_err-run_rounds-clause-run : goal.returns-in_err-run_rounds-clause-run
-returns-in_err-run_rounds-clause-run g c past run =
-    c.run_rounds.ensures.run past (c.advance.ensures.run past (subst (HaveRun c.args.script.now past) (sym c.next_due.ensures.threads) (c.loop.invariant.1 past run)))
+pub returns-in_err-settle-clause-run : goal.returns-in_err-settle-clause-run
+returns-in_err-settle-clause-run g c past run =
+    c.settle.ensures.run past (c.advance.ensures.run past (subst (HaveRun c.args.script.now past) (sym c.next_due.ensures.threads) (c.loop.invariant.1 past run)))
 
 pub returns-then-next-time-clause-moves : goal.returns-then-next-time-clause-moves
 returns-then-next-time-clause-moves g c step rest was =

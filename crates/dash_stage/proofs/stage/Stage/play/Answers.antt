@@ -72,7 +72,7 @@ loop-block-preserved g c =
     let is = subst (λ (l : List Block). b ≡ slice_index_or l i b) whole c.block-item.is in
     let gone : Stage = c.go_to.new.self in
     let blocked : Stage = c.run_block.new.self in
-    let after : Stage = c.run_rounds.new.self in
+    let after : Stage = c.settle.new.self in
     let next = blocks_next bs i b lt is in
     let grown = blocks_past bs i b lt is in
     let run = c.go_to.ensures.run (take i bs) at.1 in
@@ -82,35 +82,35 @@ loop-block-preserved g c =
     let more = subst (λ (l : List Block). HaveRun s l blocked.threads.items) grown
     (run_one_more s (take i bs) (drop (i + 1) bs) b next gone.threads.items blocked.threads.items (λ k d within. (c.go_to.ensures.stage.threads.1 k d within).1)
     (c.run_block.ensures.stage.threads.0 ∙ sym c.go_to.ensures.stage.threads.0) c.in_ok-run_block.ensures.run run) in
-    let none = none_after gone.controller blocked.controller after.controller c.run_block.ensures.none c.run_rounds.ensures.none in
-    let same_time : after.time ≡ gone.time = c.run_rounds.ensures.time ∙ c.run_block.ensures.time in
+    let none = none_after gone.controller blocked.controller after.controller c.run_block.ensures.none c.settle.ensures.none in
+    let same_time : after.time ≡ gone.time = c.settle.ensures.time ∙ c.run_block.ensures.time in
     let time : after.time ≡ b.time = same_time ∙ c.in_ok-go_to.ensures.time in (
-      c.run_rounds.ensures.stage,
-      c.run_rounds.ensures.run (take (i + 1) bs) more,
+      c.settle.ensures.stage,
+      c.settle.ensures.run (take (i + 1) bs) more,
       moving_kept s gone.controller after.controller none c.go_to.ensures.moving,
       subst (λ (t : ℕ). AreBy t after.controller) (sym same_time) (by_kept gone.controller after.controller none gone.time c.go_to.ensures.by),
-      c.in_ok-run_rounds.ensures.timely (take (i + 1) bs) (subst (λ (l : List Block). AreTimelyUpTo s l blocked) grown timely),
-      c.in_ok-run_rounds.ensures.rested refl timely.same,
+      c.in_ok-settle.ensures.timely (take (i + 1) bs) (subst (λ (l : List Block). AreTimelyUpTo s l blocked) grown timely),
+      c.in_ok-settle.ensures.rested timely.same,
       subst (λ (t : ℕ). t ≤ s.end) (sym time) (before_end s i b c.requires.text lt is),
       λ d some. (let later = before_next s i b d c.requires.text is some in omega (arith, later, time)),
-      c.in_ok-run_rounds.ensures.step (c.in_ok-run_block.ensures.step (c.in_ok-go_to.ensures.step at.8 at.5) begins),
+      c.in_ok-settle.ensures.step (c.in_ok-run_block.ensures.step (c.in_ok-go_to.ensures.step at.8 at.5) begins),
       λ d some. inl (subst (λ (t : ℕ). t < (slice_index_or bs (i + 1) d).time) (sym time) (before_next s i b d c.requires.text is some)),
-      c.in_ok-run_rounds.ensures.moves (c.in_ok-run_block.ensures.moves (c.in_ok-go_to.ensures.moves at.8 at.5 at.10)),
+      c.in_ok-settle.ensures.moves (c.in_ok-run_block.ensures.moves (c.in_ok-go_to.ensures.moves at.8 at.5 at.10)),
     )
 
 pub end-requires-clause-moving : goal.end-requires-clause-moving
-end-requires-clause-moving g c κs within = moving_kept c.args.script.now c.go_to-2.new.self.controller c.run_rounds-2.new.self.controller c.run_rounds-2.ensures.none c.go_to-2.ensures.moving
+end-requires-clause-moving g c κs within = moving_kept c.args.script.now c.go_to-2.new.self.controller c.settle-2.new.self.controller c.settle-2.ensures.none c.go_to-2.ensures.moving
 
 pub end-requires-clause-reached : goal.end-requires-clause-reached
 end-requires-clause-reached g c κs within =
-    reached_kept c.args.script.now c.go_to-2.new.self.controller c.run_rounds-2.new.self.controller c.run_rounds-2.ensures.none c.args.script.now.end c.in_ok-go_to-2.ensures.reached
+    reached_kept c.args.script.now c.go_to-2.new.self.controller c.settle-2.new.self.controller c.settle-2.ensures.none c.args.script.now.end c.in_ok-go_to-2.ensures.reached
 
 pub returns-clause-run : goal.returns-clause-run
 returns-clause-run g c =
     let s = c.args.script.now in
     let i = c.loop-block.block-index in
     let all = subst (λ (l : List Block). length l ≤ i) c.as_slice-block-items.ensures c.loop-block-test.false in
-    c.end.ensures.run s.blocks (c.run_rounds-2.ensures.run s.blocks (c.go_to-2.ensures.run s.blocks (subst (λ (l : List Block). HaveRun s l c.loop-block.self.threads.items) (take_all i s.blocks all) c.loop-block.invariant.1)))
+    c.end.ensures.run s.blocks (c.settle-2.ensures.run s.blocks (c.go_to-2.ensures.run s.blocks (subst (λ (l : List Block). HaveRun s l c.loop-block.self.threads.items) (take_all i s.blocks all) c.loop-block.invariant.1)))
 
 pub returns-clause-timely : goal.returns-clause-timely
 returns-clause-timely g c =
@@ -119,19 +119,19 @@ returns-clause-timely g c =
     let all = subst (λ (l : List Block). length l ≤ i) c.as_slice-block-items.ensures c.loop-block-test.false in
     let before = subst (λ (l : List Block). AreTimelyUpTo s l c.loop-block.self) (take_all i s.blocks all) c.loop-block.invariant.4 in
     let gone = c.in_ok-go_to-2.ensures.timely s.blocks before c.loop-block.invariant.5 in
-    c.in_ok-end.ensures.timely s.blocks (c.in_ok-run_rounds-2.ensures.timely s.blocks gone) (c.in_ok-run_rounds-2.ensures.rested refl gone.same)
+    c.in_ok-end.ensures.timely s.blocks (c.in_ok-settle-2.ensures.timely s.blocks gone) (c.in_ok-settle-2.ensures.rested gone.same)
 
 pub returns-clause-played : goal.returns-clause-played
 returns-clause-played g c =
     let at = c.loop-block.invariant in
-    (c.in_ok-end.ensures.step (c.in_ok-run_rounds-2.ensures.step (c.in_ok-go_to-2.ensures.step at.8 at.5))).played
+    (c.in_ok-end.ensures.step (c.in_ok-settle-2.ensures.step (c.in_ok-go_to-2.ensures.step at.8 at.5))).played
 
 pub returns-clause-first : goal.returns-clause-first
 returns-clause-first g c =
     let at = c.loop-block.invariant in
-    (c.in_ok-end.ensures.step (c.in_ok-run_rounds-2.ensures.step (c.in_ok-go_to-2.ensures.step at.8 at.5))).first
+    (c.in_ok-end.ensures.step (c.in_ok-settle-2.ensures.step (c.in_ok-go_to-2.ensures.step at.8 at.5))).first
 
 pub returns-clause-moves : goal.returns-clause-moves
 returns-clause-moves g c =
     let at = c.loop-block.invariant in
-    c.in_ok-end.ensures.moves c.in_ok-run_rounds-2.ensures.same (c.in_ok-run_rounds-2.ensures.moves (c.in_ok-go_to-2.ensures.moves at.8 at.5 at.10))
+    c.in_ok-end.ensures.moves c.in_ok-settle-2.ensures.same (c.in_ok-settle-2.ensures.moves (c.in_ok-go_to-2.ensures.moves at.8 at.5 at.10))

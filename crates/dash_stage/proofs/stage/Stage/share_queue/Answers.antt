@@ -57,6 +57,7 @@ returns c =
             posters = heard_at st.controller.kit.posters.items c.args.place c.index_mut.result.now c.share_by.new.poster whole near c.index_mut.ensures.value c.share_by.ensures.poster refl;
             pass = refl;
             frames = refl;
+            sealed = refl;
           };
           pass = refl;
           time = refl;
