@@ -1,0 +1,31 @@
+-- What a countdown tells at each frame.
+use Rattle.std.specs.Prelude.{◌≡◌, ℕ, ◌-◌, ◌/◌, Bool, true, nat_lt, if◌then◌else◌, List, [], ◌∷◌, ◌++◌, Option}
+use Rattle.countdown.specs.declared.timer.Ticked.{Ticked}
+use Rattle.countdown.specs.declared.timer.Ticked.TheVariants.{Tick, Quiet, Finished, Over}
+use Rattle.countdown.specs.Moments.{elapsed, has_ended, span_of}
+
+-- a countdown: its total and its interval in milliseconds, and the span of the times that it was given
+pub record Counting : Type 0 where
+  pub total : ℕ
+  pub interval : ℕ
+  pub span : Option (ℕ × ℕ)
+
+-- the countdown was given these times, in this order
+abbrev pub WasGiven : Counting → List ℕ → Type 0
+WasGiven c times = c.span ≡ span_of times
+
+-- a tick comes at the first time, and where more whole intervals have elapsed than at the time before
+abbrev pub ticks : ℕ → List ℕ → ℕ → Bool
+ticks interval [] now = true
+ticks interval (t ∷ ts) now = nat_lt (elapsed (t ∷ ts) / interval) (now / interval)
+
+-- what is told before the end
+abbrev pub told : ℕ → ℕ → List ℕ → ℕ → Ticked
+told total interval before now = if ticks interval before now then Tick (total - now) else Quiet
+
+-- what a countdown answers at a time, after the times before
+abbrev pub answer : ℕ → ℕ → List ℕ → ℕ → Ticked
+answer total interval before time =
+    if has_ended total before then Over
+    else (if has_ended total (before ++ time ∷ []) then Finished
+    else told total interval before (elapsed (before ++ time ∷ [])))

@@ -1,0 +1,4 @@
+pub mod Splitting
+pub mod NumberReading
+pub mod Spelling
+pub mod Joining

@@ -1,0 +1,28 @@
+-- What holds of every animator, and of every text of values.
+use Rattle.std.specs.Prelude.{◌≡◌, ◌↔◌, ℕ, List, ◌∷◌, ◌++◌, Ok}
+use Rattle.value_animator.specs.declared.animator.Valued.TheVariants.{End, Over}
+use Rattle.value_animator.specs.declared.plan.Plan.{Plan}
+use Rattle.value_animator.specs.declared.plan.Values.{Values}
+use Rattle.value_animator.specs.Plans.{AreValues}
+use Rattle.value_animator.specs.Reading.{IsText, read_values, values_text}
+use Rattle.value_animator.specs.Valuing.{answer, end_value}
+
+-- at one of the times the animator answered its end, with the value that stays
+pub record HasToldEnd (plan : Plan) (times : List ℕ) : Type 0 where
+  pub before : List ℕ
+  pub time : ℕ
+  pub after : List ℕ
+  pub are : times ≡ before ++ time ∷ after
+  pub told : answer plan before time ≡ End (end_value plan)
+
+-- an animator answers that it is over exactly where it has told its end at a time before, so it tells its end once
+abbrev pub EndsAreToldOnce : Type 0
+EndsAreToldOnce = (plan : Plan) (times : List ℕ) (time : ℕ) → (answer plan times time ≡ Over) ↔ HasToldEnd plan times
+
+-- a text is read as values exactly where it is their text
+abbrev pub ReadsTexts : Type 0
+ReadsTexts = (b : List ℕ) (v : Values) → (read_values b ≡ Ok v) ↔ IsText b v
+
+-- the text of values is the text of no others
+abbrev pub OneText : Type 0
+OneText = (v w : Values) → AreValues v → AreValues w → values_text v ≡ values_text w → v ≡ w

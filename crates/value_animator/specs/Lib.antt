@@ -1,0 +1,11 @@
+pub mod Plans
+pub mod Valuing
+pub mod Running
+pub mod Framing
+pub mod Run
+pub mod Rows
+pub mod Rules
+pub mod Drafts
+pub mod Reading
+pub mod Least
+pub mod Laws

@@ -1,0 +1,108 @@
+-- What is told over frames, and how it is printed.
+use Rattle.std.specs.Prelude.{ℕ, ◌+◌, ◌*◌, Bool, true, false, List, [], ◌∷◌, ◌++◌, map, Option, Some, None, codes, if◌then◌else◌}
+use Rattle.std.specs.List.{flat_map, join_with_byte, range_with_len, enumerate_from, list_all}
+use Rattle.std.specs.Fmt.{decimal}
+use Rattle.countdown.specs.Moments.{has_ended, span_of}
+use Rattle.countdown.specs.Ticking.{answer as ticking_answer}
+use Rattle.countdown.specs.declared.timer.Ticked.{Ticked}
+use Rattle.countdown.specs.declared.timer.Ticked.TheVariants as ticked
+use Rattle.value_animator.specs.declared.animator.Valued.{Valued}
+use Rattle.value_animator.specs.declared.animator.Valued.TheVariants as valued
+use Rattle.value_animator.specs.declared.plan.Thing.{Thing}
+use Rattle.value_animator.specs.declared.plan.Thing.TheVariants as thing_of
+use Rattle.value_animator.specs.declared.plan.Values.{Values}
+use Rattle.value_animator.specs.declared.runner.Telling.{Telling}
+use Rattle.value_animator.specs.declared.runner.Telling.TheVariants.{Tick, Finished, Value, End}
+use Rattle.value_animator.specs.declared.runner.Runner.{Runner}
+use Rattle.value_animator.specs.declared.runner.Runner.TheVariants as runner
+use Rattle.value_animator.specs.Valuing.{answer, end_of}
+
+-- ---- what a thing tells
+
+-- when a thing ends, in milliseconds from the first frame
+abbrev pub thing_end : Thing → ℕ
+thing_end (thing_of.Animator plan) = end_of plan
+thing_end (thing_of.Countdown total interval) = total
+
+-- what an animator's answer tells
+abbrev pub value_told : Valued → Option Telling
+value_told (valued.Value v) = Some (Value v)
+value_told (valued.End v) = Some (End v)
+value_told valued.Over = None
+
+-- what a countdown's answer tells
+abbrev pub tick_told : Ticked → Option Telling
+tick_told (ticked.Tick left) = Some (Tick left)
+tick_told ticked.Quiet = None
+tick_told ticked.Finished = Some Finished
+tick_told ticked.Over = None
+
+-- what a thing tells at a time, after the times before
+abbrev pub told : Thing → List ℕ → ℕ → Option Telling
+told (thing_of.Animator plan) before time = value_told (answer plan before time)
+told (thing_of.Countdown total interval) before time = tick_told (ticking_answer total interval before time)
+
+-- ---- the lines
+
+-- a line, as its words
+abbrev pub Words : Type 0
+Words = List (List ℕ)
+
+-- a line is its words with single spaces, and a line feed
+abbrev pub line_text : Words → List ℕ
+line_text ws = join_with_byte 32 ws ++ 10 ∷ []
+
+-- the words of what is told
+abbrev pub telling_words : Telling → Words
+telling_words (Tick left) = codes "tick" ∷ decimal left ∷ []
+telling_words Finished = codes "finished" ∷ []
+telling_words (Value v) = codes "value" ∷ decimal v ∷ []
+telling_words (End v) = codes "end" ∷ decimal v ∷ []
+
+-- the line of what the thing of this number tells at this time, or none
+abbrev pub telling_lines : ℕ → ℕ → Option Telling → List Words
+telling_lines time number None = []
+telling_lines time number (Some telling) = (decimal time ∷ decimal number ∷ telling_words telling) ∷ []
+
+-- the lines of a thing, with its number, at a time after the times before
+abbrev pub thing_lines : List ℕ → ℕ → ℕ × Thing → List Words
+thing_lines before time (number, thing) = telling_lines time number (told thing before time)
+
+-- the time of the frame that has so many frames before it
+abbrev pub frame_time : ℕ → ℕ → ℕ
+frame_time period k = (k + 1) * period
+
+-- the times of the first n frames
+abbrev pub frame_times : ℕ → ℕ → List ℕ
+frame_times period n = map (frame_time period) (range_with_len 0 n)
+
+-- the lines of a frame, by rising number of the things
+abbrev pub frame_lines : Values → ℕ → List Words
+frame_lines v k = flat_map (thing_lines (frame_times v.period k) (frame_time v.period k)) (enumerate_from 0 v.things)
+
+-- the lines of n frames
+abbrev pub frames_text : Values → ℕ → List ℕ
+frames_text v n = flat_map (λ k. flat_map line_text (frame_lines v k)) (range_with_len 0 n)
+
+-- the text of n frames
+abbrev pub text : Values → ℕ → List ℕ
+text v n = line_text (codes "values" ∷ codes "1" ∷ []) ++ frames_text v n ++ line_text (codes "end" ∷ [])
+
+-- all things have ended by these times
+abbrev pub all_ended : List Thing → List ℕ → Bool
+all_ended things times = list_all (λ t. has_ended (thing_end t) times) things
+
+-- ---- the state of what runs
+
+-- a thing that was given these times
+abbrev pub runner_at : Thing → List ℕ → Runner
+runner_at (thing_of.Animator plan) times =
+    if has_ended (end_of plan) times then runner.Ended else runner.Animator (record { plan = plan; span = span_of times })
+runner_at (thing_of.Countdown total interval) times =
+    if has_ended total times then runner.Ended
+    else runner.Countdown (record { total = total; interval = interval; span = span_of times })
+
+-- the thing has ended
+abbrev pub is_ended : Runner → Bool
+is_ended runner.Ended = true
+is_ended _ = false

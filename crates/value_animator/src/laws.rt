@@ -1,0 +1,18 @@
+//! What holds of every animator, and of every text of values.
+ghost use Rattle.value_animator.specs.Laws.{EndsAreToldOnce, OneText, ReadsTexts};
+
+/// Stands for the law that an animator answers `Over` exactly at the times after the one at which it answered `End`, and that
+/// there is only one such time.
+pub fn ends_are_told_once()
+    ensures { EndsAreToldOnce }
+{}
+
+/// Stands for the law that a text is read as values exactly where it is their text.
+pub fn texts_are_read()
+    ensures { ReadsTexts }
+{}
+
+/// Stands for the law that the text of values is the text of no others.
+pub fn values_have_one_text()
+    ensures { OneText }
+{}

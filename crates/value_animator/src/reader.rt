@@ -1,0 +1,85 @@
+//! The values of a text.
+ghost use Rattle.std.specs.Prelude.{◌≡◌};
+ghost use Rattle.value_animator.specs.Least.{NamesLeast};
+ghost use Rattle.value_animator.specs.Reading.{Refuses, RefusesAll, Finds, FindsAll, Reads, read_values};
+
+use crate::draft::Draft;
+use crate::plan::Values;
+use crate::refusal::ParsedValues;
+use crate::row::row_of;
+use dash_script::Cause;
+use line_words::split_first;
+use loop_model::NoMemory;
+use std::alloc::Global;
+
+/// Why reading stops.
+#[derive(Drop)]
+enum Stop {
+    /// This line is bad, for this cause.
+    Bad(u64, Cause),
+    Memory,
+}
+
+impl From<NoMemory> for Stop {
+    ghost use Rattle.std.specs.Prelude.{◌≡◌};
+    ghost use Rattle.value_animator.specs.declared.reader.Stop.TheVariants.{Memory};
+
+    ghost from_gives = { λ _ e. e ≡ Memory };
+
+    fn from(_e: NoMemory) -> Stop {
+        Stop::Memory
+    }
+}
+
+/// Reads line by line until the first bad one.
+fn read(alloc: Global, bytes: &[u8]) -> Result<Values, Stop>
+    ensures { Reads result (read_values bytes.now) }
+{
+    let mut draft = Draft::new(alloc);
+    let mut rest = bytes;
+    let mut line = 1;
+    while !rest.is_empty() {
+        let (text, after) = split_first(rest, b'\n');
+        let Some(after) = after else {
+            return Err(Stop::Bad(line, Cause::Form));
+        };
+        let Some(row) = row_of(text) else {
+            return Err(Stop::Bad(line, Cause::Form));
+        };
+        if let Some(cause) = draft.cause(&row) {
+            return Err(Stop::Bad(line, cause));
+        }
+        draft.add(alloc, &row)?;
+        rest = after;
+        line += 1;
+    }
+    if draft.is_ended() {
+        return Ok(draft.into_values());
+    }
+    Err(Stop::Bad(line, Cause::Missing))
+}
+
+/// The values that a text spells, or its least bad line and why it is bad.
+///
+/// A text is `animate 1`, `period NS`, at most 16 things and `end`, each on a line that ends with a line feed, with single spaces
+/// between words and numbers as decimals without a leading zero. A thing is `countdown TOTAL INTERVAL`, or `animator DELAY DURATION
+/// REPEATS restart` or the same with `reverse`, and behind it 2 to 16 lines `key AT VALUE`, the first at 0 and the last at 1000.
+/// The language is this project's own.
+///
+/// The line is counted from 1: the least that has no line feed, or with which the lines up to it begin the text of no values; where
+/// there is none, the one behind the last. Where several causes hold of it, the first one in this order is answered: the text has no such line
+/// and no `end` (`Missing`), its form (`Form`), a number or the end of all ways is outside its limits (`Range`), a key's place does
+/// not rise from 0 (`Order`), and one thing or key too many (`TooMany`). `NoMemory` where there was none.
+pub fn parse_values(alloc: Global, bytes: &[u8]) -> ParsedValues
+    ensures found { Finds result bytes.now }
+    ensures only { FindsAll result bytes.now }
+    ensures refused { Refuses result bytes.now }
+    ensures refused_so { RefusesAll result bytes.now }
+    ensures least { NamesLeast result bytes.now }
+{
+    match read(alloc, bytes) {
+        Ok(values) => ParsedValues::Ok(values),
+        Err(Stop::Bad(line, cause)) => ParsedValues::Bad { line, cause },
+        Err(Stop::Memory) => ParsedValues::NoMemory,
+    }
+}

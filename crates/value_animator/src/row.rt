@@ -1,0 +1,118 @@
+//! The lines of a plan of values: their forms, and what one says.
+ghost use Rattle.std.specs.Prelude.{◌≡◌, ◌≤◌, length};
+ghost use Rattle.line_words.specs.Words.{words};
+ghost use Rattle.value_animator.specs.Rows.{all_kinds, form, row_among, row_of};
+
+use dash_script::{Keyword, Numbers, Role, Slot, numbers_in};
+
+/// The kinds of line.
+#[derive(Clone, Copy, Debug, PartialEq, Eq)]
+pub enum RowKind {
+    Head,
+    Period,
+    Countdown,
+    Restart,
+    Reverse,
+    Key,
+    End,
+}
+
+/// What one line says.
+#[derive(Drop)]
+pub struct Row {
+    pub kind: RowKind,
+    pub numbers: Numbers,
+}
+
+const PERIOD: Slot = Slot::Number(Role::Within {
+    low: 1000000,
+    high: 1000000000,
+});
+
+const MILLIS: Slot = Slot::Number(Role::Within {
+    low: 0,
+    high: 60000,
+});
+
+const SOME_MILLIS: Slot = Slot::Number(Role::Within {
+    low: 1,
+    high: 60000,
+});
+
+const REPEATS: Slot = Slot::Number(Role::Within { low: 0, high: 99 });
+
+const PLACE: Slot = Slot::Number(Role::Within { low: 0, high: 1000 });
+
+const VALUE: Slot = Slot::Number(Role::Within {
+    low: 0,
+    high: 1000000,
+});
+
+const KINDS: [RowKind; 7] = [
+    RowKind::Head,
+    RowKind::Period,
+    RowKind::Countdown,
+    RowKind::Restart,
+    RowKind::Reverse,
+    RowKind::Key,
+    RowKind::End,
+];
+
+/// Every kind of line.
+fn kinds() -> &'static [RowKind]
+    ensures { result.now ≡ all_kinds }
+{
+    &KINDS
+}
+
+impl RowKind {
+    /// The words of such a line.
+    pub(crate) fn form(self) -> &'static [Slot]
+        ensures form { result.now ≡ form self }
+        ensures short { length result.now ≤ 9 }
+    {
+        match self {
+            RowKind::Head => &[Slot::Word(Keyword::Animate), Slot::Word(Keyword::One)],
+            RowKind::Period => &[Slot::Word(Keyword::Period), PERIOD],
+            RowKind::Countdown => &[Slot::Word(Keyword::Countdown), MILLIS, SOME_MILLIS],
+            RowKind::Restart => &[
+                Slot::Word(Keyword::Animator),
+                MILLIS,
+                SOME_MILLIS,
+                REPEATS,
+                Slot::Word(Keyword::Restart),
+            ],
+            RowKind::Reverse => &[
+                Slot::Word(Keyword::Animator),
+                MILLIS,
+                SOME_MILLIS,
+                REPEATS,
+                Slot::Word(Keyword::Reverse),
+            ],
+            RowKind::Key => &[Slot::Word(Keyword::Key), PLACE, VALUE],
+            RowKind::End => &[Slot::Word(Keyword::End)],
+        }
+    }
+}
+
+/// What a line of one of the kinds says.
+fn row_among(kinds: &[RowKind], line: &[u8]) -> Option<Row>
+    ensures { result ≡ row_among kinds.now (words line.now) }
+{
+    for kind in kinds {
+        if let Some(numbers) = numbers_in(kind.form(), line) {
+            return Some(Row {
+                kind: *kind,
+                numbers,
+            });
+        }
+    }
+    None
+}
+
+/// What a line says, where it has the form of some kind.
+pub(crate) fn row_of(line: &[u8]) -> Option<Row>
+    ensures { result ≡ row_of line.now }
+{
+    row_among(kinds(), line)
+}

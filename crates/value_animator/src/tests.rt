@@ -1,0 +1,286 @@
+//! Plans of values by hand.
+
+use crate::runner::Telling::{End, Finished, Tick, Value};
+use crate::runner::{Runner, Telling, runners};
+use crate::{ParsedValues, ValuesRan, parse_values, run_values};
+use dash_script::Cause;
+use std::alloc::Global;
+use std::process::Abort;
+
+const BOTH: &[u8] =
+    b"animate 1\nperiod 16666667\nanimator 0 50 1 reverse\nkey 0 0\nkey 1000 100\ncountdown 100 40\nend\n";
+
+const TOLD: &[u8] =
+    b"values 1\n16666667 0 value 0\n16666667 1 tick 100\n33333334 0 value 32\n50000001 0 value 66\n66666668 0 value 100\n66666668 1 tick 50\n83333335 0 value 68\n100000002 0 value 34\n100000002 1 tick 17\n116666669 0 end 0\n116666669 1 finished\nend\n";
+
+/// Texts with their bad line and its cause.
+const BAD: [(&[u8], u64, Cause); 22] = [
+    (b"", 1, Cause::Missing),
+    (b"animate 2\n", 1, Cause::Form),
+    (b"animate 1\nperiod 1000000\n", 3, Cause::Missing),
+    (b"animate 1\nperiod 999999\nend\n", 2, Cause::Range),
+    (b"animate 1\nperiod 1000000001\nend\n", 2, Cause::Range),
+    (
+        b"animate 1\nperiod 1000000\ncountdown 60001 10\nend\n",
+        3,
+        Cause::Range,
+    ),
+    (
+        b"animate 1\nperiod 1000000\ncountdown 60000 0\nend\n",
+        3,
+        Cause::Range,
+    ),
+    (
+        b"animate 1\nperiod 1000000\nanimator 1 30000 1 restart\n",
+        3,
+        Cause::Range,
+    ),
+    // 2^32 times 2^32 is 2^64, which is 0 in 64 bits.
+    (
+        b"animate 1\nperiod 1000000\nanimator 0 4294967296 4294967295 restart\n",
+        3,
+        Cause::Range,
+    ),
+    (
+        b"animate 1\nperiod 1000000\nanimator 18446744073709551615 1 0 restart\n",
+        3,
+        Cause::Range,
+    ),
+    (
+        b"animate 1\nperiod 1000000\nanimator 18446744073709551616 1 0 restart\n",
+        3,
+        Cause::Form,
+    ),
+    (
+        b"animate 1\nperiod 1000000\nanimator 0 1 0 restart\nend\n",
+        4,
+        Cause::Form,
+    ),
+    (
+        b"animate 1\nperiod 1000000\nanimator 0 1 0 restart\nkey 1 0\n",
+        4,
+        Cause::Order,
+    ),
+    (
+        b"animate 1\nperiod 1000000\nanimator 0 1 0 restart\nkey 0 0\nkey 0 1\n",
+        5,
+        Cause::Order,
+    ),
+    (
+        b"animate 1\nperiod 1000000\nanimator 0 1 0 restart\nkey 0 0\nkey 1001 1\n",
+        5,
+        Cause::Range,
+    ),
+    (
+        b"animate 1\nperiod 1000000\nanimator 0 1 0 restart\nkey 0 0\nkey 1000 1000001\n",
+        5,
+        Cause::Range,
+    ),
+    (
+        b"animate 1\nperiod 1000000\nanimator 0 1 0 restart\nkey 0 0\nkey 1 0\nkey 2 0\nkey 3 0\nkey 4 0\nkey 5 0\nkey 6 0\nkey 7 0\nkey 8 0\nkey 9 0\nkey 10 0\nkey 11 0\nkey 12 0\nkey 13 0\nkey 14 0\nkey 15 0\n",
+        19,
+        Cause::TooMany,
+    ),
+    (
+        b"animate 1\nperiod 1000000\ncountdown 0 1\ncountdown 0 1\ncountdown 0 1\ncountdown 0 1\ncountdown 0 1\ncountdown 0 1\ncountdown 0 1\ncountdown 0 1\ncountdown 0 1\ncountdown 0 1\ncountdown 0 1\ncountdown 0 1\ncountdown 0 1\ncountdown 0 1\ncountdown 0 1\ncountdown 0 1\ncountdown 0 1\n",
+        19,
+        Cause::TooMany,
+    ),
+    (b"animate 1\nperiod 1000000\nkey 0 0\n", 3, Cause::Form),
+    (b"animate 1\nperiod 1000000\nend", 3, Cause::Form),
+    (b"animate 1\nperiod 1000000\nend\nend\n", 4, Cause::Form),
+    (b"animate 1\nperiod 01000000\nend\n", 2, Cause::Form),
+];
+
+/// A plan with one thing, and frame times with what the thing tells at them.
+struct Row {
+    text: &'static [u8],
+    frames: &'static [(u64, Option<Telling>)],
+}
+
+const ROWS: [Row; 8] = [
+    // At keys, between them, and at the last one.
+    Row {
+        text: b"animate 1\nperiod 1000000\nanimator 0 1000 0 restart\nkey 0 10\nkey 500 0\nkey 1000 7\nend\n",
+        frames: &[
+            (0, Some(Value { value: 10 })),
+            (499_000_000, Some(Value { value: 1 })),
+            (500_000_000, Some(Value { value: 0 })),
+            (999_000_000, Some(Value { value: 6 })),
+            (1_000_000_000, Some(End { value: 7 })),
+            (1_000_000_000, None),
+        ],
+    },
+    // At the turns of a reversed repeat, and an end behind a way that goes forwards.
+    Row {
+        text: b"animate 1\nperiod 1000000\nanimator 0 50 2 reverse\nkey 0 0\nkey 1000 100\nend\n",
+        frames: &[
+            (0, Some(Value { value: 0 })),
+            (49_000_000, Some(Value { value: 98 })),
+            (50_000_000, Some(Value { value: 100 })),
+            (51_000_000, Some(Value { value: 98 })),
+            (99_000_000, Some(Value { value: 2 })),
+            (100_000_000, Some(Value { value: 0 })),
+            (101_000_000, Some(Value { value: 2 })),
+            (149_999_999, Some(Value { value: 98 })),
+            (150_000_000, Some(End { value: 100 })),
+        ],
+    },
+    // An end behind a way that goes backwards.
+    Row {
+        text: b"animate 1\nperiod 1000000\nanimator 0 50 1 reverse\nkey 0 3\nkey 1000 100\nend\n",
+        frames: &[
+            (0, Some(Value { value: 3 })),
+            (100_000_000, Some(End { value: 3 })),
+            (100_000_000, None),
+        ],
+    },
+    // At a delay, and at the start of a repeat that begins anew.
+    Row {
+        text: b"animate 1\nperiod 1000000\nanimator 5 10 1 restart\nkey 0 10\nkey 1000 20\nend\n",
+        frames: &[
+            (2_000_000, Some(Value { value: 10 })),
+            (6_999_999, Some(Value { value: 10 })),
+            (7_000_000, Some(Value { value: 10 })),
+            (8_000_000, Some(Value { value: 11 })),
+            (16_000_000, Some(Value { value: 19 })),
+            (17_000_000, Some(Value { value: 10 })),
+            (26_000_000, Some(Value { value: 19 })),
+            (27_000_000, Some(End { value: 20 })),
+        ],
+    },
+    // Times that go back change nothing.
+    Row {
+        text: b"animate 1\nperiod 1000000\nanimator 0 10 0 restart\nkey 0 0\nkey 1000 10\nend\n",
+        frames: &[
+            (7_000_000, Some(Value { value: 0 })),
+            (10_000_000, Some(Value { value: 3 })),
+            (8_000_000, Some(Value { value: 3 })),
+            (0, Some(Value { value: 3 })),
+            (16_999_999, Some(Value { value: 9 })),
+            (17_000_000, Some(End { value: 10 })),
+            (0, None),
+        ],
+    },
+    // The greatest time and the greatest products of the limits.
+    Row {
+        text: b"animate 1\nperiod 1000000000\nanimator 0 60000 0 restart\nkey 0 0\nkey 1000 1000000\nend\n",
+        frames: &[
+            (18_446_744_013_709_551_615, Some(Value { value: 0 })),
+            (18_446_744_073_708_551_615, Some(Value { value: 999_983 })),
+            (18_446_744_073_709_551_614, Some(Value { value: 999_983 })),
+            (18_446_744_073_709_551_615, Some(End { value: 1_000_000 })),
+        ],
+    },
+    Row {
+        text: b"animate 1\nperiod 1000000\nanimator 59999 1 0 reverse\nkey 0 1000000\nkey 999 1\nkey 1000 0\nend\n",
+        frames: &[
+            (0, Some(Value { value: 1_000_000 })),
+            (59_999_000_000, Some(Value { value: 1_000_000 })),
+            (60_000_000_000, Some(End { value: 0 })),
+        ],
+    },
+    Row {
+        text: b"animate 1\nperiod 1000000\ncountdown 60000 60000\nend\n",
+        frames: &[
+            (5, Some(Tick { left: 60_000 })),
+            (0, None),
+            (59_999_999_999, None),
+            (60_000_000_005, Some(Finished)),
+            (18_446_744_073_709_551_615, None),
+        ],
+    },
+];
+
+fn assert_told(rt: &impl Abort, thing: &mut Runner, frames: &[(u64, Option<Telling>)]) {
+    for (time, telling) in frames {
+        assert!(rt; thing.ask(*time) == *telling);
+    }
+}
+
+fn assert_row(rt: &impl Abort, alloc: Global, row: &Row) {
+    let ParsedValues::Ok(values) = parse_values(alloc, row.text) else {
+        panic!(rt; "not read")
+    };
+    match runners(alloc, values.things.as_slice()) {
+        Ok(mut things) => {
+            for thing in &mut things {
+                assert_told(rt, thing, row.frames);
+            }
+        }
+        Err(_) => panic!(rt; "no memory"),
+    }
+}
+
+#[test]
+fn things_tell_their_frames(rt: HostRuntime) {
+    for row in &ROWS {
+        assert_row(&rt, rt.alloc(), row);
+    }
+}
+
+fn assert_runs(rt: &impl Abort, alloc: Global, text: &[u8], told: &[u8], frames: usize) {
+    match parse_values(alloc, text) {
+        ParsedValues::Ok(values) => match run_values(alloc, &values) {
+            ValuesRan::Ok {
+                text,
+                frames: record,
+            } => {
+                assert!(rt; text.as_slice() == told);
+                assert_eq!(rt; record.entries.len(), frames);
+            }
+            ValuesRan::NoMemory => panic!(rt; "no memory"),
+        },
+        ParsedValues::Bad { .. } => panic!(rt; "bad"),
+        ParsedValues::NoMemory => panic!(rt; "no memory"),
+    }
+}
+
+#[test]
+fn an_animator_and_a_countdown_run_to_their_ends(rt: HostRuntime) {
+    assert_runs(&rt, rt.alloc(), BOTH, TOLD, 49);
+}
+
+#[test]
+fn a_countdown_of_nothing_takes_one_frame(rt: HostRuntime) {
+    let text = b"animate 1\nperiod 1000000\ncountdown 0 10\nend\n";
+    assert_runs(
+        &rt,
+        rt.alloc(),
+        text,
+        b"values 1\n1000000 0 finished\nend\n",
+        7,
+    );
+}
+
+#[test]
+fn without_things_there_is_no_frame(rt: HostRuntime) {
+    assert_runs(
+        &rt,
+        rt.alloc(),
+        b"animate 1\nperiod 1000000\nend\n",
+        b"values 1\nend\n",
+        0,
+    );
+}
+
+fn assert_bad(rt: &impl Abort, alloc: Global, text: &[u8], line: u64, cause: Cause) {
+    match parse_values(alloc, text) {
+        ParsedValues::Bad {
+            line: bad,
+            cause: why,
+        } => {
+            assert_eq!(rt; bad, line);
+            assert!(rt; why == cause);
+        }
+        ParsedValues::Ok(_) => panic!(rt; "read"),
+        ParsedValues::NoMemory => panic!(rt; "no memory"),
+    }
+}
+
+#[test]
+fn bad_texts_are_refused_at_their_line(rt: HostRuntime) {
+    for (text, line, cause) in &BAD {
+        assert_bad(&rt, rt.alloc(), text, *line, *cause);
+    }
+}
