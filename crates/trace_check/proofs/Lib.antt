@@ -1,0 +1,14 @@
+pub mod Spelled
+pub mod Taken
+pub mod Again
+pub mod Pieces
+pub mod Whole
+pub mod Written
+pub mod Passing
+pub mod Indexed
+pub mod Shelved
+pub mod Labelled
+pub mod EachShelf
+pub mod Shelving
+pub mod Ranked
+pub mod Parts

@@ -1,0 +1,667 @@
+-- What is read of the words of a line is a line of these words, and the words of a line are read as the line.
+use Rattle.std.proofs.Common.{◌≡◌, ◌<◌, ◌^◌, ℕ, Bool, true, false, cond, ltb, eqb, List, [], ◌∷◌, ◌++◌, map, Option, Some, None, refl, sym, ap, subst, ◌∙◌, inl, inr, append_assoc}
+use Rattle.std.specs.Prelude.{IfSome}
+use Rattle.std.specs.Option.{option_map}
+use Rattle.std.proofs.lemmas.Bool.{cases_Bool, ltb-true, eqb-true}
+use Rattle.std.proofs.lemmas.Option.{same_Some, none-some}
+use Rattle.std.proofs.lemmas.List.{append-nil, map-append}
+use Rattle.loop_model.specs.declared.post.Post.{Post}
+use Rattle.loop_model.specs.declared.post.Kind.{Kind}
+use Rattle.loop_model.specs.declared.post.Kind.TheVariants.{What, Callback, All as AnyKind}
+use Rattle.loop_model.specs.declared.post.Filter.{Filter}
+use Rattle.loop_model.specs.declared.call.Call.{Call}
+use Rattle.loop_model.specs.declared.call.Call.TheVariants as call_of
+use Rattle.loop_model.specs.declared.reply.Reply.{Reply}
+use Rattle.loop_model.specs.declared.reply.Reply.TheVariants as reply_of
+use Rattle.loop_model.specs.declared.entry.Entry.{Entry as EntryData}
+use Rattle.trace_check.specs.declared.keyword.Keyword.{Keyword}
+use Rattle.trace_check.specs.declared.keyword.Keyword.TheVariants as name
+use Rattle.trace_check.specs.declared.word.Word.{Word}
+use Rattle.trace_check.specs.declared.word.Word.TheVariants.{Name, Number, Absent}
+use Rattle.trace_check.specs.declared.line.Head.{Head}
+use Rattle.trace_check.specs.declared.line.Line.{Line}
+use Rattle.trace_check.specs.declared.line.Line.TheVariants.{Title, Queue, Entry, End}
+use Rattle.trace_check.specs.Line as words_of
+use Rattle.trace_check.specs.Line.{IsShort, IsLong, FitsPost, FitsKind, FitsFilter, FitsCall, FitsReply, Fits, maybe, line_words, call_words, reply_words, kind_words, filter_words, post_words}
+use Rattle.trace_check.specs.Reading as reading
+use Rattle.trace_check.specs.Reading.{Rest, read, and_then, below, is_none_left, ended, line_by}
+
+-- ---- one thing after another
+
+-- each of two things was read
+pub parted : {A B : Type 0} (o : Option (A × Rest)) (f : A → Rest → Option (B × Rest)) (y : B × Rest) → and_then o f ≡ Some y → (p : A × Rest) × (o ≡ Some p) × (f p.0 p.1 ≡ Some y)
+parted None f y e = absurd (none-some y e)
+parted (Some p) f y e = (p, refl, e)
+
+read_parted : {A : Type 0} (o : Option A) (mid : Rest) (y : A × Rest) → read o mid ≡ Some y → (o ≡ Some y.0) × (mid ≡ y.1)
+read_parted None mid y e = absurd (none-some y e)
+read_parted (Some a) mid y e = let same : (a, mid) ≡ y = same_Some (a, mid) y e in (ap (λ p. Some p.0) same, ap (λ p. p.1) same)
+
+word_parted : (ws : Rest) (y : Word × Rest) → reading.word ws ≡ Some y → ws ≡ Some y.0 ∷ y.1
+word_parted [] y e = absurd (none-some y e)
+word_parted (None ∷ rest) y e = absurd (none-some y e)
+word_parted (Some w ∷ rest) y e = let same : (w, rest) ≡ y = same_Some (w, rest) y e in ap (λ p. Some p.0 ∷ p.1) same
+
+one_taken : {A : Type 0} (by : Word → Option A) (ws : Rest) (y : A × Rest) → and_then (reading.word ws) (λ w more. read (by w) more) ≡ Some y → (w : Word) × (by w ≡ Some y.0) × (ws ≡ Some w ∷ y.1)
+one_taken by ws y e =
+    let p = parted (reading.word ws) (λ w more. read (by w) more) y e in
+    let q = read_parted (by p.0.0) p.0.1 y p.2 in
+    (p.0.0, q.0, word_parted ws p.0 p.1 ∙ ap (λ rest. Some p.0.0 ∷ rest) q.1)
+
+-- ---- one word
+
+below_taken : (limit n m : ℕ) → below limit n ≡ Some m → (n < limit) × (n ≡ m)
+below_taken limit n m e =
+    elim (cases_Bool (ltb n limit)) [
+      | inl small ↦
+          let here : below limit n ≡ Some n = rw small refl in
+          (ltb-true n limit small, same_Some n m (sym here ∙ e))
+      | inr large ↦
+          let here : below limit n ≡ None = rw large refl in absurd (none-some m (sym here ∙ e))
+    ]
+
+number_taken : (limit n m : ℕ) → below limit n ≡ Some m → (m < limit) × (Number n ≡ Number m)
+number_taken limit n m e = let b = below_taken limit n m e in (subst (λ x. x < limit) b.1 b.0, ap Number b.1)
+
+maybe_taken : (limit n : ℕ) (o : Option ℕ) (b : Option ℕ) → below limit n ≡ b → option_map Some b ≡ Some o → IfSome o (λ m. m < limit) × (Number n ≡ maybe o)
+maybe_taken limit n o None is e = absurd (none-some o e)
+maybe_taken limit n o (Some m) is e =
+    let b = number_taken limit n m is in
+    subst (λ x. IfSome x (λ k. k < limit) × (Number n ≡ maybe x)) (same_Some (Some m) o e) b
+
+long_word : (w : Word) (n : ℕ) → reading.long_by w ≡ Some n → IsLong n × (w ≡ Number n)
+long_word (Name k) n e = absurd (none-some n e)
+long_word (Number m) n e = number_taken (2 ^ 64) m n e
+long_word Absent n e = absurd (none-some n e)
+
+short_word : (w : Word) (n : ℕ) → reading.short_by w ≡ Some n → IsShort n × (w ≡ Number n)
+short_word (Name k) n e = absurd (none-some n e)
+short_word (Number m) n e = number_taken (2 ^ 32) m n e
+short_word Absent n e = absurd (none-some n e)
+
+maybe_long_word : (w : Word) (o : Option ℕ) → reading.maybe_long_by w ≡ Some o → IfSome o IsLong × (w ≡ maybe o)
+maybe_long_word (Name k) o e = absurd (none-some o e)
+maybe_long_word (Number m) o e = maybe_taken (2 ^ 64) m o (below (2 ^ 64) m) refl e
+maybe_long_word Absent o e = subst (λ x. IfSome x IsLong × (Absent ≡ maybe x)) (same_Some None o e) (tt, refl)
+
+maybe_short_word : (w : Word) (o : Option ℕ) → reading.maybe_short_by w ≡ Some o → IfSome o IsShort × (w ≡ maybe o)
+maybe_short_word (Name k) o e = absurd (none-some o e)
+maybe_short_word (Number m) o e = maybe_taken (2 ^ 32) m o (below (2 ^ 32) m) refl e
+maybe_short_word Absent o e = subst (λ x. IfSome x IsShort × (Absent ≡ maybe x)) (same_Some None o e) (tt, refl)
+
+name_word : (w : Word) (k : Keyword) → reading.name_by w ≡ Some k → w ≡ Name k
+name_word (Name j) k e = ap Name (same_Some j k e)
+name_word (Number m) k e = absurd (none-some k e)
+name_word Absent k e = absurd (none-some k e)
+
+-- what one word gives, which is written so and within these limits
+abbrev Takes : {A : Type 0} → (A → Word) → (A → Type 0) → (Rest → Option (A × Rest)) → Type 0
+Takes {A} spell Within by = (ws : Rest) (y : A × Rest) → by ws ≡ Some y → Within y.0 × (ws ≡ Some (spell y.0) ∷ y.1)
+
+long_taken : Takes Number IsLong reading.long
+unfolding reading.long
+long_taken ws y e =
+    let p = one_taken reading.long_by ws y e in
+    let q = long_word p.0 y.0 p.1 in (q.0, p.2 ∙ ap (λ w. Some w ∷ y.1) q.1)
+
+short_taken : Takes Number IsShort reading.short
+unfolding reading.short
+short_taken ws y e =
+    let p = one_taken reading.short_by ws y e in
+    let q = short_word p.0 y.0 p.1 in (q.0, p.2 ∙ ap (λ w. Some w ∷ y.1) q.1)
+
+maybe_long_taken : Takes maybe (λ o. IfSome o IsLong) reading.maybe_long
+unfolding reading.maybe_long
+maybe_long_taken ws y e =
+    let p = one_taken reading.maybe_long_by ws y e in
+    let q = maybe_long_word p.0 y.0 p.1 in (q.0, p.2 ∙ ap (λ w. Some w ∷ y.1) q.1)
+
+maybe_short_taken : Takes maybe (λ o. IfSome o IsShort) reading.maybe_short
+unfolding reading.maybe_short
+maybe_short_taken ws y e =
+    let p = one_taken reading.maybe_short_by ws y e in
+    let q = maybe_short_word p.0 y.0 p.1 in (q.0, p.2 ∙ ap (λ w. Some w ∷ y.1) q.1)
+
+name_taken : (ws : Rest) (y : Keyword × Rest) → reading.name ws ≡ Some y → ws ≡ Some (Name y.0) ∷ y.1
+unfolding reading.name
+name_taken ws y e =
+    let p = one_taken reading.name_by ws y e in
+    p.2 ∙ ap (λ w. Some w ∷ y.1) (name_word p.0 y.0 p.1)
+
+-- one of some fixed words
+chosen : {A : Type 0} (spell : A → Word) (by : Keyword → Option A) → ((k : Keyword) (a : A) → by k ≡ Some a → Name k ≡ spell a)
+    → (ws : Rest) (y : A × Rest) → and_then (reading.name ws) (λ k more. read (by k) more) ≡ Some y → ws ≡ Some (spell y.0) ∷ y.1
+chosen spell by says ws y e =
+    let p = parted (reading.name ws) (λ k more. read (by k) more) y e in
+    let q = read_parted (by p.0.0) p.0.1 y p.2 in
+    name_taken ws p.0 p.1 ∙ ap (λ w. Some w ∷ p.0.1) (says p.0.0 y.0 q.0) ∙ ap (λ rest. Some (spell y.0) ∷ rest) q.1
+
+flag_word : (k : Keyword) (a : Bool) → reading.flag_by k ≡ Some a → Name k ≡ words_of.flag a
+flag_word name.Trace a e = absurd (none-some a e)
+flag_word name.Queue a e = absurd (none-some a e)
+flag_word name.Main a e = absurd (none-some a e)
+flag_word name.Side a e = absurd (none-some a e)
+flag_word name.Lockstep a e = absurd (none-some a e)
+flag_word name.Free a e = absurd (none-some a e)
+flag_word name.End a e = absurd (none-some a e)
+flag_word name.Post a e = absurd (none-some a e)
+flag_word name.Barrier a e = absurd (none-some a e)
+flag_word name.Unbarrier a e = absurd (none-some a e)
+flag_word name.Remove a e = absurd (none-some a e)
+flag_word name.What a e = absurd (none-some a e)
+flag_word name.Callback a e = absurd (none-some a e)
+flag_word name.All a e = absurd (none-some a e)
+flag_word name.Quit a e = absurd (none-some a e)
+flag_word name.Plain a e = absurd (none-some a e)
+flag_word name.Safe a e = absurd (none-some a e)
+flag_word name.Next a e = absurd (none-some a e)
+flag_word name.Advance a e = absurd (none-some a e)
+flag_word name.Halt a e = absurd (none-some a e)
+flag_word name.Asynchronous a e = ap words_of.flag (same_Some true a e)
+flag_word name.Synchronous a e = ap words_of.flag (same_Some false a e)
+flag_word name.Accepted a e = absurd (none-some a e)
+flag_word name.Refused a e = absurd (none-some a e)
+flag_word name.Token a e = absurd (none-some a e)
+flag_word name.Unbarriered a e = absurd (none-some a e)
+flag_word name.NotPosted a e = absurd (none-some a e)
+flag_word name.Removed a e = absurd (none-some a e)
+flag_word name.QuitDone a e = absurd (none-some a e)
+flag_word name.AlreadyQuit a e = absurd (none-some a e)
+flag_word name.NotAllowed a e = absurd (none-some a e)
+flag_word name.Dispatched a e = absurd (none-some a e)
+flag_word name.Disposed a e = absurd (none-some a e)
+flag_word name.Advanced a e = absurd (none-some a e)
+flag_word name.Halted a e = absurd (none-some a e)
+
+side_word : (k : Keyword) (a : Bool) → reading.side_by k ≡ Some a → Name k ≡ words_of.side a
+side_word name.Trace a e = absurd (none-some a e)
+side_word name.Queue a e = absurd (none-some a e)
+side_word name.Main a e = ap words_of.side (same_Some true a e)
+side_word name.Side a e = ap words_of.side (same_Some false a e)
+side_word name.Lockstep a e = absurd (none-some a e)
+side_word name.Free a e = absurd (none-some a e)
+side_word name.End a e = absurd (none-some a e)
+side_word name.Post a e = absurd (none-some a e)
+side_word name.Barrier a e = absurd (none-some a e)
+side_word name.Unbarrier a e = absurd (none-some a e)
+side_word name.Remove a e = absurd (none-some a e)
+side_word name.What a e = absurd (none-some a e)
+side_word name.Callback a e = absurd (none-some a e)
+side_word name.All a e = absurd (none-some a e)
+side_word name.Quit a e = absurd (none-some a e)
+side_word name.Plain a e = absurd (none-some a e)
+side_word name.Safe a e = absurd (none-some a e)
+side_word name.Next a e = absurd (none-some a e)
+side_word name.Advance a e = absurd (none-some a e)
+side_word name.Halt a e = absurd (none-some a e)
+side_word name.Asynchronous a e = absurd (none-some a e)
+side_word name.Synchronous a e = absurd (none-some a e)
+side_word name.Accepted a e = absurd (none-some a e)
+side_word name.Refused a e = absurd (none-some a e)
+side_word name.Token a e = absurd (none-some a e)
+side_word name.Unbarriered a e = absurd (none-some a e)
+side_word name.NotPosted a e = absurd (none-some a e)
+side_word name.Removed a e = absurd (none-some a e)
+side_word name.QuitDone a e = absurd (none-some a e)
+side_word name.AlreadyQuit a e = absurd (none-some a e)
+side_word name.NotAllowed a e = absurd (none-some a e)
+side_word name.Dispatched a e = absurd (none-some a e)
+side_word name.Disposed a e = absurd (none-some a e)
+side_word name.Advanced a e = absurd (none-some a e)
+side_word name.Halted a e = absurd (none-some a e)
+
+mode_word : (k : Keyword) (a : Bool) → reading.mode_by k ≡ Some a → Name k ≡ words_of.mode a
+mode_word name.Trace a e = absurd (none-some a e)
+mode_word name.Queue a e = absurd (none-some a e)
+mode_word name.Main a e = absurd (none-some a e)
+mode_word name.Side a e = absurd (none-some a e)
+mode_word name.Lockstep a e = ap words_of.mode (same_Some true a e)
+mode_word name.Free a e = ap words_of.mode (same_Some false a e)
+mode_word name.End a e = absurd (none-some a e)
+mode_word name.Post a e = absurd (none-some a e)
+mode_word name.Barrier a e = absurd (none-some a e)
+mode_word name.Unbarrier a e = absurd (none-some a e)
+mode_word name.Remove a e = absurd (none-some a e)
+mode_word name.What a e = absurd (none-some a e)
+mode_word name.Callback a e = absurd (none-some a e)
+mode_word name.All a e = absurd (none-some a e)
+mode_word name.Quit a e = absurd (none-some a e)
+mode_word name.Plain a e = absurd (none-some a e)
+mode_word name.Safe a e = absurd (none-some a e)
+mode_word name.Next a e = absurd (none-some a e)
+mode_word name.Advance a e = absurd (none-some a e)
+mode_word name.Halt a e = absurd (none-some a e)
+mode_word name.Asynchronous a e = absurd (none-some a e)
+mode_word name.Synchronous a e = absurd (none-some a e)
+mode_word name.Accepted a e = absurd (none-some a e)
+mode_word name.Refused a e = absurd (none-some a e)
+mode_word name.Token a e = absurd (none-some a e)
+mode_word name.Unbarriered a e = absurd (none-some a e)
+mode_word name.NotPosted a e = absurd (none-some a e)
+mode_word name.Removed a e = absurd (none-some a e)
+mode_word name.QuitDone a e = absurd (none-some a e)
+mode_word name.AlreadyQuit a e = absurd (none-some a e)
+mode_word name.NotAllowed a e = absurd (none-some a e)
+mode_word name.Dispatched a e = absurd (none-some a e)
+mode_word name.Disposed a e = absurd (none-some a e)
+mode_word name.Advanced a e = absurd (none-some a e)
+mode_word name.Halted a e = absurd (none-some a e)
+
+manner_word : (k : Keyword) (a : Bool) → reading.manner_by k ≡ Some a → Name k ≡ words_of.manner a
+manner_word name.Trace a e = absurd (none-some a e)
+manner_word name.Queue a e = absurd (none-some a e)
+manner_word name.Main a e = absurd (none-some a e)
+manner_word name.Side a e = absurd (none-some a e)
+manner_word name.Lockstep a e = absurd (none-some a e)
+manner_word name.Free a e = absurd (none-some a e)
+manner_word name.End a e = absurd (none-some a e)
+manner_word name.Post a e = absurd (none-some a e)
+manner_word name.Barrier a e = absurd (none-some a e)
+manner_word name.Unbarrier a e = absurd (none-some a e)
+manner_word name.Remove a e = absurd (none-some a e)
+manner_word name.What a e = absurd (none-some a e)
+manner_word name.Callback a e = absurd (none-some a e)
+manner_word name.All a e = absurd (none-some a e)
+manner_word name.Quit a e = absurd (none-some a e)
+manner_word name.Plain a e = ap words_of.manner (same_Some false a e)
+manner_word name.Safe a e = ap words_of.manner (same_Some true a e)
+manner_word name.Next a e = absurd (none-some a e)
+manner_word name.Advance a e = absurd (none-some a e)
+manner_word name.Halt a e = absurd (none-some a e)
+manner_word name.Asynchronous a e = absurd (none-some a e)
+manner_word name.Synchronous a e = absurd (none-some a e)
+manner_word name.Accepted a e = absurd (none-some a e)
+manner_word name.Refused a e = absurd (none-some a e)
+manner_word name.Token a e = absurd (none-some a e)
+manner_word name.Unbarriered a e = absurd (none-some a e)
+manner_word name.NotPosted a e = absurd (none-some a e)
+manner_word name.Removed a e = absurd (none-some a e)
+manner_word name.QuitDone a e = absurd (none-some a e)
+manner_word name.AlreadyQuit a e = absurd (none-some a e)
+manner_word name.NotAllowed a e = absurd (none-some a e)
+manner_word name.Dispatched a e = absurd (none-some a e)
+manner_word name.Disposed a e = absurd (none-some a e)
+manner_word name.Advanced a e = absurd (none-some a e)
+manner_word name.Halted a e = absurd (none-some a e)
+
+flag_taken : (ws : Rest) (y : Bool × Rest) → reading.flag ws ≡ Some y → ws ≡ Some (words_of.flag y.0) ∷ y.1
+unfolding reading.flag
+flag_taken ws y e = chosen words_of.flag reading.flag_by flag_word ws y e
+
+side_taken : (ws : Rest) (y : Bool × Rest) → reading.side ws ≡ Some y → ws ≡ Some (words_of.side y.0) ∷ y.1
+unfolding reading.side
+side_taken ws y e = chosen words_of.side reading.side_by side_word ws y e
+
+mode_taken : (ws : Rest) (y : Bool × Rest) → reading.mode ws ≡ Some y → ws ≡ Some (words_of.mode y.0) ∷ y.1
+unfolding reading.mode
+mode_taken ws y e = chosen words_of.mode reading.mode_by mode_word ws y e
+
+manner_taken : (ws : Rest) (y : Bool × Rest) → reading.manner ws ≡ Some y → ws ≡ Some (words_of.manner y.0) ∷ y.1
+unfolding reading.manner
+manner_taken ws y e = chosen words_of.manner reading.manner_by manner_word ws y e
+
+-- ---- more than one word
+
+-- words that were read, which are spelled so and within these limits
+abbrev Spells : {A : Type 0} → (A → List Word) → (A → Type 0) → Rest → A × Rest → Type 0
+Spells spell Within ws y = Within y.0 × (ws ≡ map Some (spell y.0) ++ y.1)
+
+post_taken : (ws : Rest) (y : Post × Rest) → reading.post ws ≡ Some y → Spells post_words FitsPost ws y
+unfolding reading.post
+post_taken ws y e =
+    let p0 = parted (reading.short ws) _ y e in
+    let p1 = parted (reading.short p0.0.1) _ y p0.2 in
+    let p2 = parted (reading.short p1.0.1) _ y p1.2 in
+    let p3 = parted (reading.maybe_long p2.0.1) _ y p2.2 in
+    let p4 = parted (reading.maybe_long p3.0.1) _ y p3.2 in
+    let p5 = parted (reading.long p4.0.1) _ y p4.2 in
+    let p6 = parted (reading.flag p5.0.1) _ y p5.2 in
+    let p7 = parted (reading.maybe_short p6.0.1) _ y p6.2 in
+    let t0 = short_taken ws p0.0 p0.1 in
+    let t1 = short_taken p0.0.1 p1.0 p1.1 in
+    let t2 = short_taken p1.0.1 p2.0 p2.1 in
+    let t3 = maybe_long_taken p2.0.1 p3.0 p3.1 in
+    let t4 = maybe_long_taken p3.0.1 p4.0 p4.1 in
+    let t5 = long_taken p4.0.1 p5.0 p5.1 in
+    let t6 = flag_taken p5.0.1 p6.0 p6.1 in
+    let t7 = maybe_short_taken p6.0.1 p7.0 p7.1 in
+    let made : Post = record { handler = p0.0.0; what = p1.0.0; arg = p2.0.0; obj = p3.0.0; callback = p4.0.0; when = p5.0.0; asynchronous = p6.0.0; slot = p7.0.0 } in
+    let words : ws ≡ map Some (post_words made) ++ p7.0.1 =
+    t0.1 ∙ ap (λ r. Some (Number made.handler) ∷ r) (t1.1 ∙ ap (λ r. Some (Number made.what) ∷ r) (t2.1 ∙ ap (λ r. Some (Number made.arg) ∷ r) (t3.1 ∙ ap (λ r. Some (maybe made.obj) ∷ r) (t4.1 ∙ ap (λ r. Some (maybe made.callback) ∷ r)
+    (t5.1 ∙ ap (λ r. Some (Number made.when) ∷ r) (t6 ∙ ap (λ r. Some (words_of.flag made.asynchronous) ∷ r) t7.1)))))) in
+    subst (λ z. Spells post_words FitsPost ws z) (same_Some (made, p7.0.1) y p7.2) ((t0.0, t1.0, t2.0, t3.0, t4.0, t5.0, t7.0), words)
+
+numbered_taken : {A : Type 0} (make : ℕ → A) (rest : Rest) (y : A × Rest) → reading.numbered make rest ≡ Some y → (n : ℕ) × IsLong n × (make n ≡ y.0) × (rest ≡ Some (Number n) ∷ y.1)
+numbered_taken make rest y e =
+    let p = parted (reading.long rest) _ y e in
+    let t = long_taken rest p.0 p.1 in
+    let same = same_Some (make p.0.0, p.0.1) y p.2 in
+    (p.0.0, t.0, ap (λ z. z.0) same, t.1 ∙ ap (λ z. Some (Number p.0.0) ∷ z.1) same)
+
+kind_named : (k : Keyword) (rest : Rest) (y : Kind × Rest) → reading.kind_by k rest ≡ Some y → FitsKind y.0 × (Some (Name k) ∷ rest ≡ map Some (kind_words y.0) ++ y.1)
+kind_named name.Trace rest y e = absurd (none-some y e)
+kind_named name.Queue rest y e = absurd (none-some y e)
+kind_named name.Main rest y e = absurd (none-some y e)
+kind_named name.Side rest y e = absurd (none-some y e)
+kind_named name.Lockstep rest y e = absurd (none-some y e)
+kind_named name.Free rest y e = absurd (none-some y e)
+kind_named name.End rest y e = absurd (none-some y e)
+kind_named name.Post rest y e = absurd (none-some y e)
+kind_named name.Barrier rest y e = absurd (none-some y e)
+kind_named name.Unbarrier rest y e = absurd (none-some y e)
+kind_named name.Remove rest y e = absurd (none-some y e)
+kind_named name.What rest y e =
+    let p = parted (reading.short rest) _ y e in
+    let t = short_taken rest p.0 p.1 in
+    let same = same_Some (What p.0.0, p.0.1) y p.2 in
+    (subst FitsKind (ap (λ z. z.0) same) t.0, ap (λ r. Some (Name name.What) ∷ r) t.1 ∙ ap (λ z. map Some (kind_words z.0) ++ z.1) same)
+kind_named name.Callback rest y e =
+    let p = parted (reading.long rest) _ y e in
+    let t = long_taken rest p.0 p.1 in
+    let same = same_Some (Callback p.0.0, p.0.1) y p.2 in
+    (subst FitsKind (ap (λ z. z.0) same) t.0, ap (λ r. Some (Name name.Callback) ∷ r) t.1 ∙ ap (λ z. map Some (kind_words z.0) ++ z.1) same)
+kind_named name.All rest y e =
+    subst (λ (z : Kind × Rest). FitsKind z.0 × (Some (Name name.All) ∷ rest ≡ map Some (kind_words z.0) ++ z.1)) (same_Some (AnyKind, rest) y e) (tt, refl)
+kind_named name.Quit rest y e = absurd (none-some y e)
+kind_named name.Plain rest y e = absurd (none-some y e)
+kind_named name.Safe rest y e = absurd (none-some y e)
+kind_named name.Next rest y e = absurd (none-some y e)
+kind_named name.Advance rest y e = absurd (none-some y e)
+kind_named name.Halt rest y e = absurd (none-some y e)
+kind_named name.Asynchronous rest y e = absurd (none-some y e)
+kind_named name.Synchronous rest y e = absurd (none-some y e)
+kind_named name.Accepted rest y e = absurd (none-some y e)
+kind_named name.Refused rest y e = absurd (none-some y e)
+kind_named name.Token rest y e = absurd (none-some y e)
+kind_named name.Unbarriered rest y e = absurd (none-some y e)
+kind_named name.NotPosted rest y e = absurd (none-some y e)
+kind_named name.Removed rest y e = absurd (none-some y e)
+kind_named name.QuitDone rest y e = absurd (none-some y e)
+kind_named name.AlreadyQuit rest y e = absurd (none-some y e)
+kind_named name.NotAllowed rest y e = absurd (none-some y e)
+kind_named name.Dispatched rest y e = absurd (none-some y e)
+kind_named name.Disposed rest y e = absurd (none-some y e)
+kind_named name.Advanced rest y e = absurd (none-some y e)
+kind_named name.Halted rest y e = absurd (none-some y e)
+
+kind_taken : (ws : Rest) (y : Kind × Rest) → reading.kind ws ≡ Some y → Spells kind_words FitsKind ws y
+unfolding reading.kind
+kind_taken ws y e =
+    let p = parted (reading.name ws) reading.kind_by y e in
+    let t = kind_named p.0.0 p.0.1 y p.2 in
+    (t.0, name_taken ws p.0 p.1 ∙ t.1)
+
+filter_taken : (ws : Rest) (y : Filter × Rest) → reading.filter ws ≡ Some y → Spells filter_words FitsFilter ws y
+unfolding reading.filter
+filter_taken ws y e =
+    let p0 = parted (reading.short ws) _ y e in
+    let p1 = parted (reading.kind p0.0.1) _ y p0.2 in
+    let p2 = parted (reading.maybe_long p1.0.1) _ y p1.2 in
+    let t0 = short_taken ws p0.0 p0.1 in
+    let t1 = kind_taken p0.0.1 p1.0 p1.1 in
+    let t2 = maybe_long_taken p1.0.1 p2.0 p2.1 in
+    let made : Filter = record { handler = p0.0.0; kind = p1.0.0; obj = p2.0.0 } in
+    let front = map Some (kind_words made.kind) in
+    let words : ws ≡ map Some (filter_words made) ++ p2.0.1 =
+    t0.1 ∙ ap (λ r. Some (Number made.handler) ∷ r) (t1.1 ∙ ap (λ r. front ++ r) t2.1 ∙ sym (append_assoc front (Some (maybe made.obj) ∷ []) p2.0.1)
+    ∙ ap (λ r. r ++ p2.0.1) (sym (map-append Some (kind_words made.kind) (maybe made.obj ∷ [])))) in
+    subst (λ z. Spells filter_words FitsFilter ws z) (same_Some (made, p2.0.1) y p2.2) ((t0.0, t1.0, t2.0), words)
+
+quit_taken : (rest : Rest) (y : Call × Rest) → reading.quit rest ≡ Some y → FitsCall y.0 × (Some (Name name.Quit) ∷ rest ≡ map Some (call_words y.0) ++ y.1)
+unfolding reading.quit
+quit_taken rest y e =
+    let p0 = parted (reading.manner rest) _ y e in
+    let p1 = parted (reading.long p0.0.1) _ y p0.2 in
+    let t0 = manner_taken rest p0.0 p0.1 in
+    let t1 = long_taken p0.0.1 p1.0 p1.1 in
+    let words = ap (λ r. Some (Name name.Quit) ∷ r) (t0 ∙ ap (λ r. Some (words_of.manner p0.0.0) ∷ r) t1.1) in
+    subst (λ (z : Call × Rest). FitsCall z.0 × (Some (Name name.Quit) ∷ rest ≡ map Some (call_words z.0) ++ z.1)) (same_Some (call_of.Quit p0.0.0 p1.0.0, p1.0.1) y p1.2) (t1.0, words)
+
+call_named : (k : Keyword) (rest : Rest) (y : Call × Rest) → reading.call_by k rest ≡ Some y → FitsCall y.0 × (Some (Name k) ∷ rest ≡ map Some (call_words y.0) ++ y.1)
+call_named name.Trace rest y e = absurd (none-some y e)
+call_named name.Queue rest y e = absurd (none-some y e)
+call_named name.Main rest y e = absurd (none-some y e)
+call_named name.Side rest y e = absurd (none-some y e)
+call_named name.Lockstep rest y e = absurd (none-some y e)
+call_named name.Free rest y e = absurd (none-some y e)
+call_named name.End rest y e = absurd (none-some y e)
+call_named name.Post rest y e =
+    let p = parted (reading.post rest) _ y e in
+    let t = post_taken rest p.0 p.1 in
+    let same = same_Some (call_of.Post p.0.0, p.0.1) y p.2 in
+    (subst FitsCall (ap (λ z. z.0) same) t.0, ap (λ r. Some (Name name.Post) ∷ r) t.1 ∙ ap (λ z. map Some (call_words z.0) ++ z.1) same)
+call_named name.Barrier rest y e =
+    let p = numbered_taken call_of.Barrier rest y e in
+    (subst FitsCall p.2 p.1, ap (λ r. Some (Name name.Barrier) ∷ r) p.3 ∙ ap (λ c. map Some (call_words c) ++ y.1) p.2)
+call_named name.Unbarrier rest y e =
+    let p = numbered_taken call_of.Unbarrier rest y e in
+    (subst FitsCall p.2 p.1, ap (λ r. Some (Name name.Unbarrier) ∷ r) p.3 ∙ ap (λ c. map Some (call_words c) ++ y.1) p.2)
+call_named name.Remove rest y e =
+    let p = parted (reading.filter rest) _ y e in
+    let t = filter_taken rest p.0 p.1 in
+    let same = same_Some (call_of.Remove p.0.0, p.0.1) y p.2 in
+    (subst FitsCall (ap (λ z. z.0) same) t.0, ap (λ r. Some (Name name.Remove) ∷ r) t.1 ∙ ap (λ z. map Some (call_words z.0) ++ z.1) same)
+call_named name.What rest y e = absurd (none-some y e)
+call_named name.Callback rest y e = absurd (none-some y e)
+call_named name.All rest y e = absurd (none-some y e)
+call_named name.Quit rest y e =
+    quit_taken rest y e
+call_named name.Plain rest y e = absurd (none-some y e)
+call_named name.Safe rest y e = absurd (none-some y e)
+call_named name.Next rest y e =
+    let p = numbered_taken call_of.Next rest y e in
+    (subst FitsCall p.2 p.1, ap (λ r. Some (Name name.Next) ∷ r) p.3 ∙ ap (λ c. map Some (call_words c) ++ y.1) p.2)
+call_named name.Advance rest y e =
+    let p = numbered_taken call_of.Advance rest y e in
+    (subst FitsCall p.2 p.1, ap (λ r. Some (Name name.Advance) ∷ r) p.3 ∙ ap (λ c. map Some (call_words c) ++ y.1) p.2)
+call_named name.Halt rest y e =
+    let p = numbered_taken call_of.Halt rest y e in
+    (subst FitsCall p.2 p.1, ap (λ r. Some (Name name.Halt) ∷ r) p.3 ∙ ap (λ c. map Some (call_words c) ++ y.1) p.2)
+call_named name.Asynchronous rest y e = absurd (none-some y e)
+call_named name.Synchronous rest y e = absurd (none-some y e)
+call_named name.Accepted rest y e = absurd (none-some y e)
+call_named name.Refused rest y e = absurd (none-some y e)
+call_named name.Token rest y e = absurd (none-some y e)
+call_named name.Unbarriered rest y e = absurd (none-some y e)
+call_named name.NotPosted rest y e = absurd (none-some y e)
+call_named name.Removed rest y e = absurd (none-some y e)
+call_named name.QuitDone rest y e = absurd (none-some y e)
+call_named name.AlreadyQuit rest y e = absurd (none-some y e)
+call_named name.NotAllowed rest y e = absurd (none-some y e)
+call_named name.Dispatched rest y e = absurd (none-some y e)
+call_named name.Disposed rest y e = absurd (none-some y e)
+call_named name.Advanced rest y e = absurd (none-some y e)
+call_named name.Halted rest y e = absurd (none-some y e)
+
+reply_named : (k : Keyword) (rest : Rest) (y : Reply × Rest) → reading.reply_by k rest ≡ Some y → FitsReply y.0 × (Some (Name k) ∷ rest ≡ map Some (reply_words y.0) ++ y.1)
+reply_named name.Trace rest y e = absurd (none-some y e)
+reply_named name.Queue rest y e = absurd (none-some y e)
+reply_named name.Main rest y e = absurd (none-some y e)
+reply_named name.Side rest y e = absurd (none-some y e)
+reply_named name.Lockstep rest y e = absurd (none-some y e)
+reply_named name.Free rest y e = absurd (none-some y e)
+reply_named name.End rest y e = absurd (none-some y e)
+reply_named name.Post rest y e = absurd (none-some y e)
+reply_named name.Barrier rest y e = absurd (none-some y e)
+reply_named name.Unbarrier rest y e = absurd (none-some y e)
+reply_named name.Remove rest y e = absurd (none-some y e)
+reply_named name.What rest y e = absurd (none-some y e)
+reply_named name.Callback rest y e = absurd (none-some y e)
+reply_named name.All rest y e = absurd (none-some y e)
+reply_named name.Quit rest y e = absurd (none-some y e)
+reply_named name.Plain rest y e = absurd (none-some y e)
+reply_named name.Safe rest y e = absurd (none-some y e)
+reply_named name.Next rest y e = absurd (none-some y e)
+reply_named name.Advance rest y e = absurd (none-some y e)
+reply_named name.Halt rest y e = absurd (none-some y e)
+reply_named name.Asynchronous rest y e = absurd (none-some y e)
+reply_named name.Synchronous rest y e = absurd (none-some y e)
+reply_named name.Accepted rest y e =
+    let p = numbered_taken reply_of.Accepted rest y e in
+    (subst FitsReply p.2 p.1, ap (λ r. Some (Name name.Accepted) ∷ r) p.3 ∙ ap (λ c. map Some (reply_words c) ++ y.1) p.2)
+reply_named name.Refused rest y e =
+    let p = numbered_taken reply_of.Refused rest y e in
+    (subst FitsReply p.2 p.1, ap (λ r. Some (Name name.Refused) ∷ r) p.3 ∙ ap (λ c. map Some (reply_words c) ++ y.1) p.2)
+reply_named name.Token rest y e =
+    let p = numbered_taken reply_of.Token rest y e in
+    (subst FitsReply p.2 p.1, ap (λ r. Some (Name name.Token) ∷ r) p.3 ∙ ap (λ c. map Some (reply_words c) ++ y.1) p.2)
+reply_named name.Unbarriered rest y e =
+    subst (λ (z : Reply × Rest). FitsReply z.0 × (Some (Name name.Unbarriered) ∷ rest ≡ map Some (reply_words z.0) ++ z.1)) (same_Some (reply_of.Unbarriered, rest) y e) (tt, refl)
+reply_named name.NotPosted rest y e =
+    subst (λ (z : Reply × Rest). FitsReply z.0 × (Some (Name name.NotPosted) ∷ rest ≡ map Some (reply_words z.0) ++ z.1)) (same_Some (reply_of.NotPosted, rest) y e) (tt, refl)
+reply_named name.Removed rest y e =
+    let p = numbered_taken reply_of.Removed rest y e in
+    (subst FitsReply p.2 p.1, ap (λ r. Some (Name name.Removed) ∷ r) p.3 ∙ ap (λ c. map Some (reply_words c) ++ y.1) p.2)
+reply_named name.QuitDone rest y e =
+    subst (λ (z : Reply × Rest). FitsReply z.0 × (Some (Name name.QuitDone) ∷ rest ≡ map Some (reply_words z.0) ++ z.1)) (same_Some (reply_of.QuitDone, rest) y e) (tt, refl)
+reply_named name.AlreadyQuit rest y e =
+    let p = numbered_taken reply_of.AlreadyQuit rest y e in
+    (subst FitsReply p.2 p.1, ap (λ r. Some (Name name.AlreadyQuit) ∷ r) p.3 ∙ ap (λ c. map Some (reply_words c) ++ y.1) p.2)
+reply_named name.NotAllowed rest y e =
+    subst (λ (z : Reply × Rest). FitsReply z.0 × (Some (Name name.NotAllowed) ∷ rest ≡ map Some (reply_words z.0) ++ z.1)) (same_Some (reply_of.NotAllowed, rest) y e) (tt, refl)
+reply_named name.Dispatched rest y e =
+    let p = numbered_taken reply_of.Dispatched rest y e in
+    (subst FitsReply p.2 p.1, ap (λ r. Some (Name name.Dispatched) ∷ r) p.3 ∙ ap (λ c. map Some (reply_words c) ++ y.1) p.2)
+reply_named name.Disposed rest y e =
+    subst (λ (z : Reply × Rest). FitsReply z.0 × (Some (Name name.Disposed) ∷ rest ≡ map Some (reply_words z.0) ++ z.1)) (same_Some (reply_of.Disposed, rest) y e) (tt, refl)
+reply_named name.Advanced rest y e =
+    subst (λ (z : Reply × Rest). FitsReply z.0 × (Some (Name name.Advanced) ∷ rest ≡ map Some (reply_words z.0) ++ z.1)) (same_Some (reply_of.Advanced, rest) y e) (tt, refl)
+reply_named name.Halted rest y e =
+    subst (λ (z : Reply × Rest). FitsReply z.0 × (Some (Name name.Halted) ∷ rest ≡ map Some (reply_words z.0) ++ z.1)) (same_Some (reply_of.Halted, rest) y e) (tt, refl)
+
+call_taken : (ws : Rest) (y : Call × Rest) → reading.call ws ≡ Some y → Spells call_words FitsCall ws y
+unfolding reading.call
+call_taken ws y e =
+    let p = parted (reading.name ws) reading.call_by y e in
+    let t = call_named p.0.0 p.0.1 y p.2 in
+    (t.0, name_taken ws p.0 p.1 ∙ t.1)
+
+reply_taken : (ws : Rest) (y : Reply × Rest) → reading.reply ws ≡ Some y → Spells reply_words FitsReply ws y
+unfolding reading.reply
+reply_taken ws y e =
+    let p = parted (reading.name ws) reading.reply_by y e in
+    let t = reply_named p.0.0 p.0.1 y p.2 in
+    (t.0, name_taken ws p.0 p.1 ∙ t.1)
+
+-- ---- lines
+
+abbrev LineTaken : Rest → Line × Rest → Type 0
+LineTaken ws y = Fits y.0 × (ws ≡ map Some (line_words y.0) ++ y.1)
+
+entry_taken : (ws : Rest) (y : EntryData × Rest) → reading.entry ws ≡ Some y → LineTaken ws (Entry y.0, y.1)
+unfolding reading.entry
+entry_taken ws y e =
+    let p0 = parted (reading.short ws) _ y e in
+    let p1 = parted (reading.long p0.0.1) _ y p0.2 in
+    let p2 = parted (reading.call p1.0.1) _ y p1.2 in
+    let p3 = parted (reading.reply p2.0.1) _ y p2.2 in
+    let t0 = short_taken ws p0.0 p0.1 in
+    let t1 = long_taken p0.0.1 p1.0 p1.1 in
+    let t2 = call_taken p1.0.1 p2.0 p2.1 in
+    let t3 = reply_taken p2.0.1 p3.0 p3.1 in
+    let made : EntryData = record { sender = p0.0.0; seq = p1.0.0; call = p2.0.0; reply = p3.0.0 } in
+    let front = map Some (call_words made.call) in
+    let back = map Some (reply_words made.reply) in
+    let words : ws ≡ map Some (line_words (Entry made)) ++ p3.0.1 =
+    t0.1 ∙ ap (λ r. Some (Number made.sender) ∷ r) (t1.1 ∙ ap (λ r. Some (Number made.seq) ∷ r) (t2.1 ∙ ap (λ r. front ++ r) t3.1 ∙ sym (append_assoc front back p3.0.1)
+    ∙ ap (λ r. r ++ p3.0.1) (sym (map-append Some (call_words made.call) (reply_words made.reply))))) in
+    subst (λ (z : EntryData × Rest). LineTaken ws (Entry z.0, z.1)) (same_Some (made, p3.0.1) y p3.2) ((t0.0, t1.0, t2.0, t3.0), words)
+
+head_taken : (rest : Rest) (y : Head × Rest) → reading.head rest ≡ Some y → LineTaken (Some (Name name.Queue) ∷ rest) (Queue y.0, y.1)
+unfolding reading.head
+head_taken rest y e =
+    let p0 = parted (reading.short rest) _ y e in
+    let p1 = parted (reading.side p0.0.1) _ y p0.2 in
+    let p2 = parted (reading.mode p1.0.1) _ y p1.2 in
+    let p3 = parted (reading.short p2.0.1) _ y p2.2 in
+    let p4 = parted (reading.long p3.0.1) _ y p3.2 in
+    let t0 = short_taken rest p0.0 p0.1 in
+    let t1 = side_taken p0.0.1 p1.0 p1.1 in
+    let t2 = mode_taken p1.0.1 p2.0 p2.1 in
+    let t3 = short_taken p2.0.1 p3.0 p3.1 in
+    let t4 = long_taken p3.0.1 p4.0 p4.1 in
+    let made : Head = record { looper = p0.0.0; main = p1.0.0; lockstep = p2.0.0; senders = p3.0.0; count = p4.0.0 } in
+    let words : Some (Name name.Queue) ∷ rest ≡ map Some (line_words (Queue made)) ++ p4.0.1 =
+    ap (λ r. Some (Name name.Queue) ∷ r) (t0.1 ∙ ap (λ r. Some (Number made.looper) ∷ r) (t1 ∙ ap (λ r. Some (words_of.side made.main) ∷ r) (t2 ∙ ap (λ r. Some (words_of.mode made.lockstep) ∷ r)
+    (t3.1 ∙ ap (λ r. Some (Number made.senders) ∷ r) t4.1)))) in
+    subst (λ (z : Head × Rest). LineTaken (Some (Name name.Queue) ∷ rest) (Queue z.0, z.1)) (same_Some (made, p4.0.1) y p4.2) ((t0.0, t3.0, t4.0), words)
+
+version_taken : (n : ℕ) (more : Rest) (y : Line × Rest) → cond (eqb n 1) (Some (Title, more)) None ≡ Some y → (n ≡ 1) × ((Title, more) ≡ y)
+version_taken n more y e =
+    elim (cases_Bool (eqb n 1)) [
+      | inl one ↦ (eqb-true n 1 one, same_Some (Title, more) y (rw one at e))
+      | inr other ↦ absurd (none-some y (rw other at e))
+    ]
+
+title_taken : (rest : Rest) (y : Line × Rest) → reading.title rest ≡ Some y → LineTaken (Some (Name name.Trace) ∷ rest) y
+unfolding reading.title
+title_taken rest y e =
+    let p = parted (reading.long rest) _ y e in
+    let t = long_taken rest p.0 p.1 in
+    let v = version_taken p.0.0 p.0.1 y p.2 in
+    subst (LineTaken (Some (Name name.Trace) ∷ rest)) v.1 (tt, ap (λ r. Some (Name name.Trace) ∷ r) (t.1 ∙ ap (λ n. Some (Number n) ∷ p.0.1) v.0))
+
+queue_taken : (rest : Rest) (y : Line × Rest) → and_then (reading.head rest) (λ h more. Some (Queue h, more)) ≡ Some y → LineTaken (Some (Name name.Queue) ∷ rest) y
+queue_taken rest y e =
+    let p = parted (reading.head rest) _ y e in
+    subst (LineTaken (Some (Name name.Queue) ∷ rest)) (same_Some (Queue p.0.0, p.0.1) y p.2) (head_taken rest p.0 p.1)
+
+named_taken : (k : Keyword) (rest : Rest) (y : Line × Rest) → reading.named_by k rest ≡ Some y → LineTaken (Some (Name k) ∷ rest) y
+named_taken name.Trace rest y e = title_taken rest y e
+named_taken name.Queue rest y e = queue_taken rest y e
+named_taken name.Main rest y e = absurd (none-some y e)
+named_taken name.Side rest y e = absurd (none-some y e)
+named_taken name.Lockstep rest y e = absurd (none-some y e)
+named_taken name.Free rest y e = absurd (none-some y e)
+named_taken name.End rest y e = subst (LineTaken (Some (Name name.End) ∷ rest)) (same_Some (End, rest) y e) (tt, refl)
+named_taken name.Post rest y e = absurd (none-some y e)
+named_taken name.Barrier rest y e = absurd (none-some y e)
+named_taken name.Unbarrier rest y e = absurd (none-some y e)
+named_taken name.Remove rest y e = absurd (none-some y e)
+named_taken name.What rest y e = absurd (none-some y e)
+named_taken name.Callback rest y e = absurd (none-some y e)
+named_taken name.All rest y e = absurd (none-some y e)
+named_taken name.Quit rest y e = absurd (none-some y e)
+named_taken name.Plain rest y e = absurd (none-some y e)
+named_taken name.Safe rest y e = absurd (none-some y e)
+named_taken name.Next rest y e = absurd (none-some y e)
+named_taken name.Advance rest y e = absurd (none-some y e)
+named_taken name.Halt rest y e = absurd (none-some y e)
+named_taken name.Asynchronous rest y e = absurd (none-some y e)
+named_taken name.Synchronous rest y e = absurd (none-some y e)
+named_taken name.Accepted rest y e = absurd (none-some y e)
+named_taken name.Refused rest y e = absurd (none-some y e)
+named_taken name.Token rest y e = absurd (none-some y e)
+named_taken name.Unbarriered rest y e = absurd (none-some y e)
+named_taken name.NotPosted rest y e = absurd (none-some y e)
+named_taken name.Removed rest y e = absurd (none-some y e)
+named_taken name.QuitDone rest y e = absurd (none-some y e)
+named_taken name.AlreadyQuit rest y e = absurd (none-some y e)
+named_taken name.NotAllowed rest y e = absurd (none-some y e)
+named_taken name.Dispatched rest y e = absurd (none-some y e)
+named_taken name.Disposed rest y e = absurd (none-some y e)
+named_taken name.Advanced rest y e = absurd (none-some y e)
+named_taken name.Halted rest y e = absurd (none-some y e)
+
+any_taken : (ws : Rest) (y : Line × Rest) (o : Option (Keyword × Rest)) → reading.name ws ≡ o → line_by ws o ≡ Some y → LineTaken ws y
+any_taken ws y (Some p) is e =
+    let t = named_taken p.0 p.1 y e in (t.0, name_taken ws p is ∙ t.1)
+any_taken ws y None is e =
+    let p = parted (reading.entry ws) _ y e in
+    subst (LineTaken ws) (same_Some (Entry p.0.0, p.0.1) y p.2) (entry_taken ws p.0 p.1)
+
+none_more : (l : Line) (rest : Rest) (k : Line) → cond (is_none_left rest) (Some l) None ≡ Some k → (rest ≡ []) × (l ≡ k)
+none_more l [] k e = (refl, same_Some l k e)
+none_more l (w ∷ rest) k e = absurd (none-some k e)
+
+ended_taken : (ws : Rest) (l : Line) (o : Option (Line × Rest)) → line_by ws (reading.name ws) ≡ o → ended o ≡ Some l → Fits l × (ws ≡ map Some (line_words l))
+ended_taken ws l None is e = absurd (none-some l e)
+ended_taken ws l (Some p) is e =
+    let t = any_taken ws p (reading.name ws) refl is in
+    let n = none_more p.0 p.1 l e in
+    subst (λ k. Fits k × (ws ≡ map Some (line_words k))) n.1 (t.0, t.1 ∙ ap (λ r. map Some (line_words p.0) ++ r) n.0 ∙ append-nil (map Some (line_words p.0)))
+
+-- a line that is read has these words, with numbers within their limits
+pub line_taken : (ws : Rest) (l : Line) → reading.line_of ws ≡ Some l → Fits l × (ws ≡ map Some (line_words l))
+unfolding reading.line_of
+line_taken ws l e = ended_taken ws l (line_by ws (reading.name ws)) refl e

@@ -1,0 +1,11 @@
+pub mod Keyword
+pub mod Word
+pub mod Line
+pub mod Text
+pub mod Reading
+pub mod Progress
+pub mod Ranks
+pub mod Checking
+pub mod Records
+pub mod Labels
+pub mod Shelves

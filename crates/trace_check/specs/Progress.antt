@@ -1,0 +1,110 @@
+-- A trace that is read line by line.
+use Rattle.std.specs.Prelude.{◌≡◌, ℕ, ◌+◌, ◌-◌, ◌==◌, Bool, true, false, ◌&&◌, List, [], ◌∷◌, ◌++◌, length, Option, Some, None, Result, Ok, Err, if◌then◌else◌}
+use Rattle.std.specs.Option.{option_and_then}
+use Rattle.trace_check.specs.declared.trace.TraceQueue.{TraceQueue}
+use Rattle.loop_model.specs.declared.entry.Entry.{Entry as EntryData}
+use Rattle.line_words.specs.Words.{pieces}
+use Rattle.trace_check.specs.declared.line.Head.{Head}
+use Rattle.trace_check.specs.declared.line.Line.{Line}
+use Rattle.trace_check.specs.declared.line.Line.TheVariants.{Title, Queue, Entry, End}
+use Rattle.trace_check.specs.declared.draft.Part.{Part}
+use Rattle.trace_check.specs.declared.draft.Part.TheVariants as part_of
+use Rattle.trace_check.specs.declared.draft.Draft.{Draft}
+use Rattle.trace_check.specs.declared.trace.Trace.{Trace}
+use Rattle.trace_check.specs.declared.reader.Stop.{Stop}
+use Rattle.trace_check.specs.declared.reader.Stop.TheVariants as stop
+use Rattle.trace_check.specs.Word.{words_of}
+use Rattle.trace_check.specs.Reading.{line_of}
+
+-- no queue
+abbrev pub blank : TraceQueue
+blank = record { looper = 0; main = false; lockstep = false; senders = 0; entries = [] }
+
+-- a queue without entries
+abbrev pub opened : Head → TraceQueue
+opened h = record { looper = h.looper; main = h.main; lockstep = h.lockstep; senders = h.senders; entries = [] }
+
+-- nothing is read yet
+abbrev pub start : Draft
+start = record { part = part_of.Start; queues = []; current = blank; left = 0 }
+
+-- a queue that has all its entries goes to the others
+abbrev pub settled : Draft → Draft
+settled d = if d.left == 0 then record d { queues = d.queues ++ d.current ∷ []; current = blank } else d
+
+-- the queue with one more entry
+abbrev pub with_entry : TraceQueue → EntryData → TraceQueue
+with_entry q e = record q { entries = q.entries ++ e ∷ [] }
+
+-- what the first line makes of a draft
+abbrev pub after_start : Draft → Line → Option Draft
+after_start d Title = Some (record d { part = part_of.Body })
+after_start d (Queue h) = None
+after_start d (Entry e) = None
+after_start d End = None
+
+-- what a line makes of a draft whose queues have all their entries
+abbrev pub after_queues : Draft → Line → Option Draft
+after_queues d Title = None
+after_queues d (Queue h) = Some (settled (record d { current = opened h; left = h.count }))
+after_queues d (Entry e) = None
+after_queues d End = Some (record d { part = part_of.End })
+
+-- what a line makes of a draft whose last queue has entries to come
+abbrev pub after_entries : Draft → Line → Option Draft
+after_entries d Title = None
+after_entries d (Queue h) = None
+after_entries d (Entry e) = Some (settled (record d { current = with_entry d.current e; left = d.left - 1 }))
+after_entries d End = None
+
+-- what a line makes of a draft in this part
+abbrev pub after_part : Part → Draft → Line → Option Draft
+after_part part_of.Start d l = after_start d l
+after_part part_of.Body d l = if d.left == 0 then after_queues d l else after_entries d l
+after_part part_of.End d l = None
+
+-- the draft with one more line, where the line may come next
+unfoldable pub next : Draft → Line → Option Draft
+next d l = after_part d.part d l
+
+-- the draft with one more line of bytes
+unfoldable pub next_line : Draft → List ℕ → Option Draft
+next_line d bytes = option_and_then (next d) (line_of (words_of bytes))
+
+-- what a call answered, and the draft that it left, as what the line makes
+abbrev pub answered : Bool → Draft → Option Draft
+answered true d = Some d
+answered false d = None
+
+abbrev pub is_end : Part → Bool
+is_end part_of.End = true
+is_end part_of.Start = false
+is_end part_of.Body = false
+
+abbrev pub trace_so_far : Draft → Trace
+trace_so_far d = record { queues = d.queues }
+
+-- the rest is read after a good line; a bad one is the answer
+abbrev pub goes_on : ℕ → Option Draft → (Draft → Result Trace ℕ) → Result Trace ℕ
+goes_on k (Some d) rest = rest d
+goes_on k None rest = Err k
+
+-- the trace of the pieces from line k on, or the first line that may not come where it stands
+unfoldable pub trace_from : ℕ → Draft → List (List ℕ) → Result Trace ℕ
+trace_from k d [] = Err k
+trace_from k d (rest ∷ []) = if length rest == 0 && is_end d.part then Ok (trace_so_far d) else Err k
+trace_from k d (line ∷ piece ∷ more) = goes_on k (next_line d line) (λ e. trace_from (k + 1) e (piece ∷ more))
+
+-- the trace of a text, or the first line that may not come where it stands
+abbrev pub read_text : List ℕ → Result Trace ℕ
+read_text b = trace_from 1 start (pieces b)
+
+-- reading stopped for this reason, or for want of memory
+abbrev pub Stops : Stop → Result Trace ℕ → Type 0
+Stops (stop.Bad line) read = read ≡ Err line
+Stops stop.Memory read = Unit {0}
+
+-- what was read, or why reading stopped
+abbrev pub ReadsText : Result Trace Stop → Result Trace ℕ → Type 0
+ReadsText (Ok t) read = read ≡ Ok t
+ReadsText (Err e) read = Stops e read

@@ -1,0 +1,173 @@
+//! A trace that is read line by line.
+ghost use Rattle.std.specs.Prelude.{◌≡◌, ◌<◌, ◌-◌, IfOk, OnOk};
+ghost use Rattle.trace_check.specs.Progress.{after_entries, after_part, after_queues, after_start, answered, blank, is_end, next, opened, settled, start, trace_so_far, with_entry};
+
+use crate::line::{Head, Line};
+use crate::trace::{Trace, TraceQueue};
+use loop_model::{Entry, NoMemory, Sequence};
+use std::alloc::Global;
+use std::mem::replace;
+
+/// How far the trace has come.
+#[derive(Clone, Copy, Debug, PartialEq, Eq)]
+pub(crate) enum Part {
+    Start,
+    Body,
+    End,
+}
+
+/// The queues that have all their entries, the one that has not, and how many of its entries are to come.
+#[derive(Drop)]
+pub(crate) struct Draft {
+    part: Part,
+    queues: Sequence<TraceQueue>,
+    current: TraceQueue,
+    left: u64,
+}
+
+/// No queue.
+fn blank(alloc: Global) -> TraceQueue
+    ensures { result ≡ blank }
+{
+    TraceQueue {
+        looper: 0,
+        main: false,
+        lockstep: false,
+        senders: 0,
+        entries: Sequence::from_vec(Vec::new(alloc)),
+    }
+}
+
+/// A queue without entries.
+fn opened(alloc: Global, head: &Head) -> TraceQueue
+    ensures { result ≡ opened head.now }
+{
+    TraceQueue {
+        looper: head.looper,
+        main: head.main,
+        lockstep: head.lockstep,
+        senders: head.senders,
+        entries: Sequence::from_vec(Vec::new(alloc)),
+    }
+}
+
+impl Draft {
+    /// Nothing is read yet.
+    pub(crate) fn new(alloc: Global) -> Draft
+        ensures { result ≡ start }
+    {
+        Draft {
+            part: Part::Start,
+            queues: Sequence::from_vec(Vec::new(alloc)),
+            current: blank(alloc),
+            left: 0,
+        }
+    }
+
+    /// Moves a queue that has all its entries to the others.
+    fn settle(&mut self, alloc: Global) -> Result<(), NoMemory>
+        ensures { OnOk result (self.new ≡ settled self.old) }
+    {
+        if self.left == 0 {
+            let whole = replace(&mut self.current, blank(alloc));
+            self.queues.push(whole)?;
+        }
+        Ok(())
+    }
+
+    fn add_queue(&mut self, alloc: Global, head: &Head) -> Result<(), NoMemory>
+        ensures { OnOk result (self.new ≡ settled (record self.old { current = opened head.now; left = head.now.count })) }
+    {
+        self.current = opened(alloc, head);
+        self.left = head.count;
+        self.settle(alloc)
+    }
+
+    fn add_entry(&mut self, alloc: Global, entry: &Entry) -> Result<(), NoMemory>
+        requires { 0 < self.old.left }
+        ensures { OnOk result (self.new ≡ settled (record self.old { current = with_entry self.old.current entry.now; left = self.old.left - 1 })) }
+    {
+        self.current.entries.push(*entry)?;
+        self.left -= 1;
+        self.settle(alloc)
+    }
+
+    /// Takes a line where it may come next, and else answers false.
+    #[tactic(auto, unfolding(crate::specs::Progress::next))]
+    pub(crate) fn add(&mut self, alloc: Global, line: &Line) -> Result<bool, NoMemory>
+        ensures { IfOk result (λ good. next self.old line.now ≡ answered good self.new) }
+    {
+        match self.part {
+            Part::Start => Ok(self.add_at_start(line)),
+            Part::Body if self.left == 0 => self.add_to_queues(alloc, line),
+            Part::Body => self.add_to_entries(alloc, line),
+            Part::End => Ok(false),
+        }
+    }
+
+    fn add_at_start(&mut self, line: &Line) -> bool
+        ensures { after_start self.old line.now ≡ answered result self.new }
+    {
+        match line {
+            Line::Title => {
+                self.part = Part::Body;
+                true
+            }
+            Line::Queue(_) => false,
+            Line::Entry(_) => false,
+            Line::End => false,
+        }
+    }
+
+    fn add_to_queues(&mut self, alloc: Global, line: &Line) -> Result<bool, NoMemory>
+        ensures { IfOk result (λ good. after_queues self.old line.now ≡ answered good self.new) }
+    {
+        match line {
+            Line::Queue(head) => {
+                self.add_queue(alloc, head)?;
+                Ok(true)
+            }
+            Line::End => {
+                self.part = Part::End;
+                Ok(true)
+            }
+            Line::Title => Ok(false),
+            Line::Entry(_) => Ok(false),
+        }
+    }
+
+    fn add_to_entries(&mut self, alloc: Global, line: &Line) -> Result<bool, NoMemory>
+        requires { 0 < self.old.left }
+        ensures { IfOk result (λ good. after_entries self.old line.now ≡ answered good self.new) }
+    {
+        match line {
+            Line::Entry(entry) => {
+                self.add_entry(alloc, entry)?;
+                Ok(true)
+            }
+            Line::Title => Ok(false),
+            Line::Queue(_) => Ok(false),
+            Line::End => Ok(false),
+        }
+    }
+
+    /// Whether the last line has come.
+    pub(crate) fn is_ended(&self) -> bool
+        ensures { result ≡ is_end self.now.part }
+    {
+        match self.part {
+            Part::End => true,
+            Part::Start => false,
+            Part::Body => false,
+        }
+    }
+
+    /// The trace of the queues that have all their entries.
+    pub(crate) fn into_trace(self) -> Trace
+        ensures { result ≡ trace_so_far self }
+    {
+        Trace {
+            queues: self.queues,
+        }
+    }
+}
