@@ -1,0 +1,267 @@
+-- What each entry of the looper and of the controller keeps, and how a run of them goes on.
+use Rattle.std.proofs.Common.{◌≡◌, ◌≢◌, ◌<◌, ◌≤◌, ◌+◌, inl, inr, ℕ, Bool, true, false, List, [], ◌∷◌, ◌++◌, length, refl, sym, ap, ◌∙◌, subst, arith, append_assoc, Option, Some, None, max, take, get_or}
+use Rattle.std.specs.Prelude.{◌==◌, ◌&&◌, not, is_some, if◌then◌else◌, option_map}
+use Rattle.std.specs.List.{AllByRecursion}
+use Rattle.std.proofs.lemmas.Bool.{and_from, or_left, or_right, eq-eqb, ne_eqb, le-leb}
+use Rattle.std.proofs.lemmas.List.{append-nil, take_more, take_all}
+use Rattle.loop_model.specs.declared.post.Post.{Post as PostData}
+use Rattle.loop_model.specs.declared.call.Call.{Call}
+use Rattle.loop_model.specs.declared.call.Call.TheVariants.{Advance, Halt}
+use Rattle.loop_model.specs.declared.reply.Reply.TheVariants.{Halted}
+use Rattle.loop_model.specs.declared.item.Item.{Item}
+use Rattle.loop_model.specs.declared.entry.Entry.{Entry}
+use Rattle.loop_model.specs.Base.{empty_base}
+use Rattle.loop_model.specs.Items.{when_of}
+use Rattle.loop_model.specs.Entries.{moment_of, is_halted}
+use Rattle.loop_model.specs.Answers.{quit_place}
+use Rattle.loop_model.specs.Pick.{first_eligible}
+use Rattle.loop_model.proofs.AfterLaws.{clock-snoc}
+use Rattle.run_model.specs.Asks.{entries_by}
+use Rattle.run_model.specs.Control.{is_advance, is_halt, are_controls, is_controlled, is_quit_by_others, is_none_before, is_in_time, comes_in_time, is_called_in_time, ends_halted}
+use Rattle.run_model.proofs.ControlLaws.{are_advances, are_controls-last, each_behind-snoc}
+use Rattle.run_model.proofs.RunLaws.{entries_by-own, entries_by-unchanged}
+use Rattle.inbox_queue.specs.declared.parcel.Parcel.{Parcel}
+use Rattle.inbox_queue.specs.declared.main_queue.Look.{Look}
+use Rattle.inbox_queue.specs.declared.main_queue.Look.TheVariants.{Taken, Waits, Other}
+use Rattle.inbox_queue.specs.declared.main_queue.Move.{Move}
+use Rattle.inbox_queue.specs.declared.main_queue.Move.TheVariants.{There, Stays, NoMemory}
+use Rattle.inbox_queue.specs.InboxRun.{unslotted, IsPostOrLook, post_at_time, posts_after, posts_made, posts_at}
+use Rattle.inbox_queue.specs.MainQueue.{AreSilent, time_of, GrowsBy, IsLookAt, IsMoveTo, IsHaltAt, IsPostOf, LooksOn, MovesOn, Goes, WaitsFor, HasLooked, HasDrained, HasDriven, HasMoved, HasPosted, HasEnded, HasHalted, IsEarlier}
+
+-- ---- one entry more
+
+all_more : {X : Type 0} (P : X → Type 0) (xs : List X) (x : X) → AllByRecursion P xs → P x → AllByRecursion P (xs ++ x ∷ [])
+all_more P [] x h one = (one, tt)
+all_more P (y ∷ ys) x h one = (h.0, all_more P ys x h.1 one)
+
+own : (k : ℕ) (e : Entry) → e.sender ≡ k → (e.sender == k) ≡ true
+own k e is = eq-eqb e.sender k is
+
+other : (n k : ℕ) (e : Entry) → e.sender ≡ n → n ≢ k → (e.sender == k) ≡ false
+other n k e is apart = ne_eqb e.sender k (λ at. apart (sym is ∙ at))
+
+apart_up : (n : ℕ) → n ≢ n + 1
+apart_up n e = absurd (omega (arith, e))
+
+apart_down : (n : ℕ) → n + 1 ≢ n
+apart_down n e = absurd (omega (arith, e))
+
+-- the posts of a sender with one entry more
+posts_after-snoc : (k : ℕ) (past es : List Entry) (e : Entry) → posts_after k past (es ++ e ∷ []) ≡ posts_after k past es ++ (if e.sender == k then post_at_time (time_of (past ++ es)) e.call else [])
+posts_after-snoc k past [] e =
+    append-nil (if e.sender == k then post_at_time (time_of past) e.call else []) ∙ ap (λ l. if e.sender == k then post_at_time (time_of l) e.call else []) (sym (append-nil past))
+posts_after-snoc k past (f ∷ es) e =
+    let first : List (ℕ × PostData) = if f.sender == k then post_at_time (time_of past) f.call else [] in
+    ap (λ l. first ++ l) (posts_after-snoc k (past ++ f ∷ []) es e ∙ ap (λ l. posts_after k (past ++ f ∷ []) es ++ (if e.sender == k then post_at_time (time_of l) e.call else [])) (append_assoc past (f ∷ []) es))
+    ∙ sym (append_assoc first (posts_after k (past ++ f ∷ []) es) (if e.sender == k then post_at_time (time_of (past ++ f ∷ es)) e.call else []))
+
+posts_own : (k : ℕ) (es : List Entry) (e : Entry) → e.sender ≡ k → posts_made k (es ++ e ∷ []) ≡ posts_made k es ++ post_at_time (time_of es) e.call
+posts_own k es e is = posts_after-snoc k [] es e ∙ ap (λ b. posts_made k es ++ (if b then post_at_time (time_of es) e.call else [])) (own k e is)
+
+posts_other : (n k : ℕ) (es : List Entry) (e : Entry) → e.sender ≡ n → n ≢ k → posts_made k (es ++ e ∷ []) ≡ posts_made k es
+posts_other n k es e is apart = posts_after-snoc k [] es e ∙ ap (λ b. posts_made k es ++ (if b then post_at_time (time_of es) e.call else [])) (other n k e is apart) ∙ append-nil (posts_made k es)
+
+time_more : (es : List Entry) (e : Entry) → time_of (es ++ e ∷ []) ≡ max (time_of es) (moment_of e.call)
+time_more es e = clock-snoc (empty_base 0) es e
+
+-- an entry of the looper
+goes_own : (threads end : ℕ) (es : List Entry) (e : Entry) → e.sender ≡ threads → IsPostOrLook e.call → Goes threads end es → Goes threads end (es ++ e ∷ [])
+unfolding is_called_in_time
+goes_own threads end es e is one h = record {
+  looks = subst (AllByRecursion (λ (f : Entry). IsPostOrLook f.call)) (sym (entries_by-own threads es e (own threads e is))) (all_more (λ (f : Entry). IsPostOrLook f.call) (entries_by threads es) e h.looks one);
+  moves = subst (AllByRecursion (λ (f : Entry). (is_advance f.call ≡ true) × (moment_of f.call ≤ end))) (sym (entries_by-unchanged (threads + 1) es (e ∷ []) (not_mine, tt))) h.moves;
+  timely = each_behind-snoc (comes_in_time (threads + 1)) [] es e h.timely (or_left _ _ (ap not not_mine));
+}
+  where
+    not_mine : (e.sender == threads + 1) ≡ false
+    not_mine = other threads (threads + 1) e is (apart_up threads)
+
+-- a move of the time
+goes_move : (threads end time : ℕ) (es : List Entry) (e : Entry) → e.sender ≡ threads + 1 → e.call ≡ Advance time → time ≤ end → is_none_before time (first_eligible (empty_base 0) es) ≡ true → quit_place (empty_base 0) es ≡ None
+    → Goes threads end es → Goes threads end (es ++ e ∷ [])
+unfolding is_called_in_time
+goes_move threads end time es e is call within none quiet h = record {
+  looks = subst (AllByRecursion (λ (f : Entry). IsPostOrLook f.call)) (sym (entries_by-unchanged threads es (e ∷ []) (other (threads + 1) threads e is (apart_down threads), tt))) h.looks;
+  moves = subst (AllByRecursion (λ (f : Entry). (is_advance f.call ≡ true) × (moment_of f.call ≤ end))) (sym (entries_by-own (threads + 1) es e (own (threads + 1) e is)))
+      (all_more (λ (f : Entry). (is_advance f.call ≡ true) × (moment_of f.call ≤ end)) (entries_by (threads + 1) es) e h.moves (subst (λ (c : Call). (is_advance c ≡ true) × (moment_of c ≤ end)) (sym call) (refl, within)));
+  timely = each_behind-snoc (comes_in_time (threads + 1)) [] es e h.timely (or_right _ _ (subst (λ (c : Call). is_in_time es c e.reply ≡ true) (sym call) (and_from _ _ none (ap (λ o. not (is_some o)) quiet))));
+}
+
+-- the halt
+advances : (end : ℕ) (es : List Entry) → AllByRecursion (λ (f : Entry). (is_advance f.call ≡ true) × (moment_of f.call ≤ end)) es → are_advances true end es ≡ true
+advances end [] h = refl
+advances end (e ∷ es) h = and_from _ _ h.0.0 (and_from _ _ (and_from _ _ refl (le-leb (moment_of e.call) end h.0.1)) (advances end es h.1))
+
+ends_halted-snoc : (es : List Entry) (e : Entry) → ends_halted (es ++ e ∷ []) ≡ is_halted e.reply
+ends_halted-snoc [] e = refl
+ends_halted-snoc (f ∷ []) e = refl
+ends_halted-snoc (f ∷ g ∷ es) e = ends_halted-snoc (g ∷ es) e
+
+ends : (threads end : ℕ) (es : List Entry) (e : Entry) → e.sender ≡ threads + 1 → e.call ≡ Halt end → e.reply ≡ Halted → Goes threads end es → HasEnded threads end (es ++ e ∷ [])
+unfolding is_called_in_time is_controlled
+ends threads end es e is call reply h = record {
+  looks = subst (AllByRecursion (λ (f : Entry). IsPostOrLook f.call)) (sym (entries_by-unchanged threads es (e ∷ []) (other (threads + 1) threads e is (apart_down threads), tt))) h.looks;
+  controlled = and_from _ _ (ap (are_controls true true end (is_quit_by_others (threads + 1) (es ++ e ∷ []))) (entries_by-own (threads + 1) es e (own (threads + 1) e is))
+      ∙ are_controls-last true true end (is_quit_by_others (threads + 1) (es ++ e ∷ [])) (entries_by (threads + 1) es) e (advances end (entries_by (threads + 1) es) h.moves) (ap is_advance call)
+      (subst (λ (z : Call × (Bool)). ((is_halt z.0 && z.1) && (moment_of z.0 == end)) ≡ true) (λ i. (sym call i, sym (ap is_halted reply) i)) (and_from _ _ refl (eq-eqb end end refl)))) refl;
+  timely = each_behind-snoc (comes_in_time (threads + 1)) [] es e h.timely (or_right _ _ (subst (λ (c : Call). is_in_time es c e.reply ≡ true) (sym call) refl));
+  halted = ends_halted-snoc es e ∙ ap is_halted reply;
+}
+
+-- ---- a look
+
+same_time : (t : ℕ) → max t t ≡ t
+same_time t = omega arith
+
+looked_one : (threads : ℕ) (past now : List Entry) → GrowsBy threads (IsLookAt (time_of past)) past now → HasLooked threads past now
+looked_one threads past now g = subst (HasLooked threads past) (sym g.1) (record {
+  goes = λ end h. goes_own threads end past g.0 g.2 (subst IsPostOrLook (sym g.3) tt) h;
+  posts = posts_own threads past g.0 g.2 ∙ ap (λ (c : Call). posts_made threads past ++ post_at_time (time_of past) c) g.3 ∙ append-nil (posts_made threads past);
+  time = time_more past g.0 ∙ ap (λ (c : Call). max (time_of past) (moment_of c)) g.3 ∙ same_time (time_of past);
+})
+
+looked_none : (threads : ℕ) (past : List Entry) → HasLooked threads past past
+looked_none threads past = record { goes = λ end h. h; posts = refl; time = refl }
+
+looked_then : (threads : ℕ) (a b c : List Entry) → HasLooked threads a b → HasLooked threads b c → HasLooked threads a c
+looked_then threads a b c p q = record { goes = λ end h. q.goes end (p.goes end h); posts = q.posts ∙ p.posts; time = q.time ∙ p.time }
+
+looked_by : (threads : ℕ) (look : Look) (past now : List Entry) → LooksOn threads look past now → HasLooked threads past now
+looked_by threads Taken past now g = looked_one threads past now g
+looked_by threads (Waits until) past now g = subst (HasLooked threads past) (sym g.0) (looked_none threads past)
+looked_by threads Other past now (inl is) = subst (HasLooked threads past) (sym is) (looked_none threads past)
+looked_by threads Other past now (inr g) = looked_one threads past now g
+
+-- what holds of two histories where no thread has an entry, for so many threads
+abbrev pub Led : ℕ → (List Entry → List Entry → Type 0) → List Entry → List Entry → Type 0
+Led threads R past now = AreSilent threads now → AreSilent threads past × R past now
+
+pub led_then : (n m : ℕ) (R S T : List Entry → List Entry → Type 0) (a b c : List Entry) → m ≡ n → (R a b → S b c → T a c) → Led n R a b → Led m S b c → Led n T a c
+led_then n m R S T a b c is step p q silent =
+    let q' = q (subst (λ k. AreSilent k c) (sym is) silent) in
+    let p' = p (subst (λ k. AreSilent k b) is q'.0) in (p'.0, step p'.1 q'.1)
+
+pub led_none : (threads : ℕ) (a : List Entry) → Led threads (HasLooked threads) a a
+led_none threads a silent = (silent, looked_none threads a)
+
+pub look_more : (n m : ℕ) (look : Look) (a b c : List Entry) → m ≡ n → Led n (HasLooked n) a b → Led m (LooksOn m look) b c → Led n (HasLooked n) a c
+look_more n m look a b c is p q = led_then n m (HasLooked n) (LooksOn m look) (HasLooked n) a b c is (λ x y. looked_then n a b c x (looked_by n look b c (subst (λ k. LooksOn k look b c) is y))) p q
+
+pub look_last : (n m : ℕ) (until : Option ℕ) (a b c : List Entry) → m ≡ n → Led n (HasLooked n) a b → Led m (LooksOn m (Waits until)) b c → Led n (HasDrained n until) a c
+look_last n m until a b c is p q = led_then n m (HasLooked n) (LooksOn m (Waits until)) (HasDrained n until) a b c is
+    (λ x y. (subst (HasLooked n a) (sym y.0) x, (subst (λ es. until ≡ option_map when_of (first_eligible (empty_base 0) es)) (sym y.0) y.1, subst (λ es. quit_place (empty_base 0) es ≡ None) (sym y.0) y.2))) p q
+
+-- ---- a move
+
+-- a time no later than what the looper waits for passes no message
+none_passed : (until : Option ℕ) (first : Option Item) (limit time : ℕ) → until ≡ option_map when_of first → IsEarlier until limit time → is_none_before time first ≡ true
+none_passed until None limit time is early = refl
+none_passed None (Some x) limit time is early = absurd (let wrong : None ≡ Some (when_of x) = is in cc wrong)
+none_passed (Some u) (Some x) limit time is early =
+    let same : u ≡ when_of x = (let e : Some u ≡ Some (when_of x) = is in cc e) in
+    le-leb time (when_of x) (let r : time ≤ when_of x = omega (arith, same, early) in r)
+
+earlier_within : (until : Option ℕ) (limit time : ℕ) → IsEarlier until limit time → time ≤ limit
+earlier_within None limit time is = omega (arith, is)
+earlier_within (Some u) limit time is = omega (arith, is)
+
+driven_none : (threads time : ℕ) (a : List Entry) → HasDriven threads time a a
+driven_none threads time a = record { goes = λ end le h. h; posts = refl; within = λ h. h }
+
+driven_then : (threads time : ℕ) (a b c : List Entry) → HasDriven threads time a b → HasDriven threads time b c → HasDriven threads time a c
+driven_then threads time a b c p q = record { goes = λ end le h. q.goes end le (p.goes end le h); posts = q.posts ∙ p.posts; within = λ h. q.within (p.within h) }
+
+driven_looked : (threads time : ℕ) (a b : List Entry) → HasLooked threads a b → HasDriven threads time a b
+driven_looked threads time a b p = record { goes = λ end le h. p.goes end h; posts = p.posts; within = λ h. subst (λ t. t ≤ time) (sym p.time) h }
+
+driven_moved : (threads limit time : ℕ) (until : Option ℕ) (past now : List Entry) → IsEarlier until limit time → WaitsFor until past → GrowsBy (threads + 1) (IsMoveTo time) past now → HasDriven threads limit past now
+driven_moved threads limit time until past now early waits g = subst (HasDriven threads limit past) (sym g.1) (record {
+  goes = λ end le h. goes_move threads end time past g.0 g.2 g.3.0 (let w = earlier_within until limit time early in let r : time ≤ end = omega (arith, w, le) in r)
+      (none_passed until (first_eligible (empty_base 0) past) limit time waits.0 early) waits.1 h;
+  posts = posts_other (threads + 1) threads past g.0 g.2 (apart_down threads);
+  within = λ h. let w = earlier_within until limit time early in
+      let t : time_of (past ++ g.0 ∷ []) ≡ max (time_of past) time = time_more past g.0 ∙ ap (λ (c : Call). max (time_of past) (moment_of c)) g.3.0 in
+      let r : time_of (past ++ g.0 ∷ []) ≤ limit = omega (arith, w, t, h) in r;
+})
+
+-- the move's answer, after the looper has drained
+pub move_by : (threads limit time : ℕ) (until : Option ℕ) (move : Move) (a b c : List Entry) → IsEarlier until limit time → HasDrained threads until a b → MovesOn threads time move b c → HasDriven threads limit a c
+move_by threads limit time until There a b c early p (inl q) = subst (HasDriven threads limit a) (sym q.0) (driven_looked threads limit a b p.0)
+move_by threads limit time until There a b c early p (inr q) = driven_then threads limit a b c (driven_looked threads limit a b p.0) (driven_moved threads limit time until b c early p.1 q.0)
+move_by threads limit time until Stays a b c early p q = subst (HasDriven threads limit a) (sym q) (driven_looked threads limit a b p.0)
+move_by threads limit time until NoMemory a b c early p q = subst (HasDriven threads limit a) (sym q) (driven_looked threads limit a b p.0)
+
+-- where the move went to this time, it was reached
+reached : (threads time : ℕ) (b c : List Entry) → MovesOn threads time There b c → time ≤ time_of c
+reached threads time b c (inl q) = subst (λ es. time ≤ time_of es) (sym q.0) q.1
+reached threads time b c (inr q) = let g = q.0 in
+    let t : time_of c ≡ max (time_of b) time = ap time_of g.1 ∙ time_more b g.0 ∙ ap (λ (x : Call). max (time_of b) (moment_of x)) g.3.0 in let r : time ≤ time_of c = omega (arith, t) in r
+
+pub drive_none : (threads time : ℕ) (a : List Entry) → Led threads (HasDriven threads time) a a
+drive_none threads time a silent = (silent, driven_none threads time a)
+
+-- one turn of the loop: drained, and moved or not
+pub drive_more : (n m k limit time : ℕ) (until : Option ℕ) (move : Move) (a b c d : List Entry) → m ≡ n → k ≡ n → IsEarlier until limit time → Led n (HasDriven n limit) a b → Led m (HasDrained m until) b c → Led k (MovesOn k time move) c d → Led n (HasDriven n limit) a d
+drive_more n m k limit time until move a b c d is is' early p q r silent =
+    let r' = r (subst (λ t. AreSilent t d) (sym is') silent) in
+    let q' = q (subst (λ t. AreSilent t c) (is' ∙ sym is) r'.0) in
+    let p' = p (subst (λ t. AreSilent t b) is q'.0) in
+    (p'.0, driven_then n limit a b d p'.1 (move_by n limit time until move b c d early (subst (λ t. HasDrained t until b c) is q'.1) (subst (λ t. MovesOn t time move c d) is' r'.1)))
+
+pub drive_last : (n m k limit time : ℕ) (until : Option ℕ) (a b c d : List Entry) → m ≡ n → k ≡ n → time ≡ limit → IsEarlier until limit time → Led n (HasDriven n limit) a b → Led m (HasDrained m until) b c → Led k (MovesOn k time There) c d → Led n (HasMoved n limit) a d
+drive_last n m k limit time until a b c d is is' there early p q r silent =
+    let all = drive_more n m k limit time until There a b c d is is' early p q r silent in
+    let r' = r (subst (λ t. AreSilent t d) (sym is') silent) in
+    (all.0, (all.1, subst (λ t. t ≤ time_of d) there (reached k time c d r'.1)))
+
+-- ---- the looper's posts
+
+posted_none : (threads : ℕ) (a : List Entry) → HasPosted threads [] a a
+posted_none threads a = record { goes = λ end h. h; posts = sym (append-nil (posts_made threads a)); time = refl }
+
+posted_one : (threads : ℕ) (parcels : List Parcel) (x : Parcel) (a b c : List Entry) → HasPosted threads parcels a b → GrowsBy threads (IsPostOf x.post) b c → HasPosted threads (parcels ++ x ∷ []) a c
+posted_one threads parcels x a b c p g = subst (HasPosted threads (parcels ++ x ∷ []) a) (sym g.1) (record {
+  goes = λ end h. goes_own threads end b g.0 g.2 (subst IsPostOrLook (sym g.3.1) tt) (p.goes end h);
+  posts = posts_own threads b g.0 g.2 ∙ ap (λ (q : Call). posts_made threads b ++ post_at_time (time_of b) q) g.3.1
+      ∙ (λ i. p.posts i ++ (p.time i, g.3.2 i) ∷ []) ∙ append_assoc (posts_made threads a) (posts_at (time_of a) parcels) ((time_of a, unslotted x.post) ∷ [])
+      ∙ ap (λ l. posts_made threads a ++ l) (sym (posts_at-snoc (time_of a) parcels x));
+  time = time_more b g.0 ∙ ap (λ (q : Call). max (time_of b) (moment_of q)) g.3.1 ∙ (let z : max (time_of b) 0 ≡ time_of b = omega arith in z) ∙ p.time;
+})
+  where
+    posts_at-snoc : (time : ℕ) (xs : List Parcel) (x : Parcel) → posts_at time (xs ++ x ∷ []) ≡ posts_at time xs ++ (time, unslotted x.post) ∷ []
+    posts_at-snoc time [] x = refl
+    posts_at-snoc time (y ∷ ys) x = ap (λ l. (time, unslotted y.post) ∷ l) (posts_at-snoc time ys x)
+
+pub post_none : (threads : ℕ) (a : List Entry) → Led threads (HasPosted threads []) a a
+post_none threads a silent = (silent, posted_none threads a)
+
+pub post_more : (n m : ℕ) (parcels : List Parcel) (x : Parcel) (a b c : List Entry) → m ≡ n → Led n (HasPosted n parcels) a b → Led m (GrowsBy m (IsPostOf x.post)) b c → Led n (HasPosted n (parcels ++ x ∷ [])) a c
+post_more n m parcels x a b c is p q = led_then n m (HasPosted n parcels) (GrowsBy m (IsPostOf x.post)) (HasPosted n (parcels ++ x ∷ [])) a b c is (λ u v. posted_one n parcels x a b c u (subst (λ k. GrowsBy k (IsPostOf x.post) b c) is v)) p q
+
+pub post_next : (n m : ℕ) (parcels : List Parcel) (i : ℕ) (d : Parcel) (a b c : List Entry) → i < length parcels → m ≡ n → Led n (HasPosted n (take i parcels)) a b → Led m (GrowsBy m (IsPostOf (get_or parcels i d).post)) b c → Led n (HasPosted n (take (i + 1) parcels)) a c
+post_next n m parcels i d a b c lt is p q = subst (λ l. Led n (HasPosted n l) a c) (sym (take_more parcels i d lt)) (post_more n m (take i parcels) (get_or parcels i d) a b c is p q)
+
+pub post_all : (n : ℕ) (parcels : List Parcel) (i : ℕ) (a b : List Entry) → (i < length parcels → ⊥) → Led n (HasPosted n (take i parcels)) a b → Led n (HasPosted n parcels) a b
+post_all n parcels i a b no_more p = subst (λ l. Led n (HasPosted n l) a b) (take_all i parcels (let le : length parcels ≤ i = omega arith in le)) p
+
+-- ---- the halt
+
+halted_one : (threads : ℕ) (a b c : List Entry) → HasLooked threads a b → GrowsBy (threads + 1) (IsHaltAt (time_of b)) b c → HasHalted threads a c
+halted_one threads a b c p g = subst (HasHalted threads a) (sym g.1) (record {
+  ends = λ h. ends threads (time_of a) b g.0 g.2 (g.3.0 ∙ ap Halt p.time) g.3.1 (p.goes (time_of a) h);
+  posts = posts_other (threads + 1) threads b g.0 g.2 (apart_down threads) ∙ p.posts;
+})
+
+pub halt_last : (n m k : ℕ) (until : Option ℕ) (a b c d : List Entry) → m ≡ n → k ≡ n → Led n (HasLooked n) a b → Led m (HasDrained m until) b c → Led k (λ past now. GrowsBy (k + 1) (IsHaltAt (time_of past)) past now) c d → Led n (HasHalted n) a d
+halt_last n m k until a b c d is is' p q r silent =
+    let r' = r (subst (λ t. AreSilent t d) (sym is') silent) in
+    let q' = q (subst (λ t. AreSilent t c) (is' ∙ sym is) r'.0) in
+    let p' = p (subst (λ t. AreSilent t b) is q'.0) in
+    (p'.0, halted_one n a c d (looked_then n a b c p'.1 (subst (λ t. HasLooked t b c) is q'.1.0)) (subst (λ t. GrowsBy (t + 1) (IsHaltAt (time_of c)) c d) is' r'.1))
+
+pub halt_more : (n m k : ℕ) (until : Option ℕ) (a b c d : List Entry) → m ≡ n → k ≡ n → Led n (HasLooked n) a b → Led m (HasDrained m until) b c → Led k (λ past now. now ≡ past) c d → Led n (HasLooked n) a d
+halt_more n m k until a b c d is is' p q r silent =
+    let r' = r (subst (λ t. AreSilent t d) (sym is') silent) in
+    let q' = q (subst (λ t. AreSilent t c) (is' ∙ sym is) r'.0) in
+    let p' = p (subst (λ t. AreSilent t b) is q'.0) in
+    (p'.0, subst (HasLooked n a) (sym r'.1) (looked_then n a b c p'.1 (subst (λ t. HasLooked t b c) is q'.1.0)))

@@ -1,0 +1,14 @@
+pub mod ParcelLists
+pub mod Keeping
+pub mod Admissions
+pub mod Popped
+pub mod Silence
+pub mod TurnSteps
+pub mod Driving
+pub mod Handing
+pub mod Gatherings
+pub mod Playing
+pub mod Keepings
+pub mod Bads
+pub mod Limits
+pub mod Ending

@@ -1,0 +1,5 @@
+use Rattle.inbox_queue.proofs.Keeping.{begins}
+use Rattle.inbox_queue.proofs.inbox.Inbox.make.Goals as goal
+
+pub with_rule-requires : goal.with_rule-requires
+with_rule-requires c = begins

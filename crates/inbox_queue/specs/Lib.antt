@@ -1,0 +1,11 @@
+pub mod Parcels
+pub mod Carried
+pub mod Passes
+pub mod Handed
+pub mod Plans
+pub mod Gathered
+pub mod InboxRun
+pub mod MainQueue
+pub mod Turned
+pub mod Bad
+pub mod Opened

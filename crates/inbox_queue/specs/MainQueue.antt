@@ -1,0 +1,136 @@
+-- The queue of an inbox run, the two that call it, and what each call adds to its history.
+use Rattle.std.specs.Prelude.{◌≡◌, ◌<◌, ◌≤◌, ◌+◌, ◌⊎◌, ℕ, true, List, [], ◌∷◌, ◌++◌, Option, Some, None, option_map, min}
+use Rattle.std.specs.List.{AllByRecursion}
+use Rattle.loop_model.specs.declared.post.Post.{Post as PostData}
+use Rattle.loop_model.specs.declared.call.Call.TheVariants.{Post, Next, Advance, Halt}
+use Rattle.loop_model.specs.declared.reply.Reply.TheVariants.{Advanced, Halted}
+use Rattle.loop_model.specs.declared.entry.Entry.{Entry}
+use Rattle.loop_model.specs.Base.{empty_base}
+use Rattle.loop_model.specs.Answers.{clock, quit_place}
+use Rattle.loop_model.specs.Items.{when_of}
+use Rattle.loop_model.specs.Pick.{first_eligible}
+use Rattle.shared_queue.specs.Known.{IsOf}
+use Rattle.run_model.specs.Asks.{entries_by}
+use Rattle.run_model.specs.Control.{is_called_in_time, is_controlled, ends_halted, is_advance}
+use Rattle.loop_model.specs.Entries.{moment_of}
+use Rattle.inbox_queue.specs.declared.parcel.Parcel.{Parcel}
+use Rattle.inbox_queue.specs.declared.main_queue.Place.{Place}
+use Rattle.inbox_queue.specs.declared.main_queue.Hands.{Hands}
+use Rattle.inbox_queue.specs.declared.main_queue.Look.{Look}
+use Rattle.inbox_queue.specs.declared.main_queue.Look.TheVariants.{Taken, Waits, Other}
+use Rattle.inbox_queue.specs.declared.main_queue.Move.{Move}
+use Rattle.inbox_queue.specs.declared.main_queue.Move.TheVariants.{There, Stays, NoMemory}
+use Rattle.inbox_queue.specs.InboxRun.{unslotted, IsPostOrLook, posts_made, posts_at}
+
+-- how many threads there are: their senders' numbers are below that of the looper
+abbrev pub threads_of : Hands → ℕ
+threads_of h = h.looper.sender
+
+-- what the looper and the controller have seen of the history
+abbrev pub seen : Hands → List Entry
+seen h = h.looper.view.seen
+
+-- the posters are the looper's and the controller's, of the main looper's queue in lockstep, and the pass is of its pool; both have seen the same, and the history stands in one part
+pub record IsAt (place : Place) (h : Hands) : Type 0 where
+  pub looper : IsOf h.looper place.queue
+  pub controller : IsOf h.controller place.queue
+  pub number : h.controller.sender ≡ threads_of h + 1
+  pub setting : place.queue.constants.setting ≡ record { main = true; lockstep = true; senders = threads_of h + 2 }
+  pub pass : h.pass.home ≡ place.pool
+  pub home : place.queue.constants.home ≡ place.pool
+  pub same : h.controller.view.seen ≡ seen h
+  pub whole : h.controller.view.sealed ≡ []
+
+-- no thread has an entry
+abbrev pub AreSilent : ℕ → List Entry → Type 0
+AreSilent threads es = (k : ℕ) → k < threads → entries_by k es ≡ []
+
+-- the time of such a history
+abbrev pub time_of : List Entry → ℕ
+time_of es = clock (empty_base 0) es
+
+-- where no thread has an entry now, none had one before, and this holds of the two histories
+abbrev pub Leads : (List Entry → List Entry → Type 0) → Hands → Hands → Type 0
+Leads R before after = AreSilent (threads_of before) (seen after) → AreSilent (threads_of before) (seen before) × R (seen before) (seen after)
+
+-- one more entry of this sender, by a call of this kind
+abbrev pub GrowsBy : ℕ → (Entry → Type 0) → List Entry → List Entry → Type 0
+GrowsBy sender Is past now = (e : Entry) × (now ≡ past ++ e ∷ []) × (e.sender ≡ sender) × Is e
+
+-- a look at this time
+abbrev pub IsLookAt : ℕ → Entry → Type 0
+IsLookAt time e = e.call ≡ Next time
+
+abbrev pub IsMoveTo : ℕ → Entry → Type 0
+IsMoveTo time e = (e.call ≡ Advance time) × (e.reply ≡ Advanced)
+
+abbrev pub IsHaltAt : ℕ → Entry → Type 0
+IsHaltAt time e = (e.call ≡ Halt time) × (e.reply ≡ Halted)
+
+abbrev pub IsPostOf : PostData → Entry → Type 0
+IsPostOf p e = (q : PostData) × (e.call ≡ Post q) × (unslotted q ≡ unslotted p)
+
+-- a look of the looper, by its answer
+abbrev pub LooksOn : ℕ → Look → List Entry → List Entry → Type 0
+LooksOn threads Taken past now = GrowsBy threads (IsLookAt (time_of past)) past now
+LooksOn threads (Waits until) past now = (now ≡ past) × (until ≡ option_map when_of (first_eligible (empty_base 0) past)) × (quit_place (empty_base 0) past ≡ None)
+LooksOn threads Other past now = (now ≡ past) ⊎ GrowsBy threads (IsLookAt (time_of past)) past now
+
+-- a move of the time by the controller, by its answer
+abbrev pub MovesOn : ℕ → ℕ → Move → List Entry → List Entry → Type 0
+MovesOn threads time There past now = ((now ≡ past) × (time ≤ time_of past)) ⊎ (GrowsBy (threads + 1) (IsMoveTo time) past now × (time_of past < time))
+MovesOn threads time Stays past now = now ≡ past
+MovesOn threads time NoMemory past now = now ≡ past
+
+-- the looper's calls are posts and looks, and the controller's moves of the time, none past the end, nor past a message that may be dispatched
+pub record Goes (threads end : ℕ) (es : List Entry) : Type 0 where
+  pub looks : AllByRecursion (λ e. IsPostOrLook e.call) (entries_by threads es)
+  pub moves : AllByRecursion (λ e. (is_advance e.call ≡ true) × (moment_of e.call ≤ end)) (entries_by (threads + 1) es)
+  pub timely : is_called_in_time (threads + 1) es ≡ true
+
+-- the looper waits for the first message that may be dispatched, if there is one
+abbrev pub WaitsFor : Option ℕ → List Entry → Type 0
+WaitsFor until es = (until ≡ option_map when_of (first_eligible (empty_base 0) es)) × (quit_place (empty_base 0) es ≡ None)
+
+-- the looper has looked for messages, and nothing else happened
+pub record HasLooked (threads : ℕ) (past now : List Entry) : Type 0 where
+  pub goes : (end : ℕ) → Goes threads end past → Goes threads end now
+  pub posts : posts_made threads now ≡ posts_made threads past
+  pub time : time_of now ≡ time_of past
+
+-- the looper has looked for messages until it waits
+abbrev pub HasDrained : ℕ → Option ℕ → List Entry → List Entry → Type 0
+HasDrained threads until past now = HasLooked threads past now × WaitsFor until now
+
+-- the looper has looked for messages, and the time was moved on, no further than to this one
+pub record HasDriven (threads time : ℕ) (past now : List Entry) : Type 0 where
+  pub goes : (end : ℕ) → time ≤ end → Goes threads end past → Goes threads end now
+  pub posts : posts_made threads now ≡ posts_made threads past
+  pub within : time_of past ≤ time → time_of now ≤ time
+
+-- the time was moved on to this one, if it wasn't later, and what was due on the way was taken
+abbrev pub HasMoved : ℕ → ℕ → List Entry → List Entry → Type 0
+HasMoved threads time past now = HasDriven threads time past now × (time ≤ time_of now)
+
+-- the looper has posted what these parcels hold, in order
+pub record HasPosted (threads : ℕ) (parcels : List Parcel) (past now : List Entry) : Type 0 where
+  pub goes : (end : ℕ) → Goes threads end past → Goes threads end now
+  pub posts : posts_made threads now ≡ posts_made threads past ++ posts_at (time_of past) parcels
+  pub time : time_of now ≡ time_of past
+
+-- the history is at its end
+pub record HasEnded (threads end : ℕ) (es : List Entry) : Type 0 where
+  pub looks : AllByRecursion (λ e. IsPostOrLook e.call) (entries_by threads es)
+  pub controlled : is_controlled true true (threads + 1) end es ≡ true
+  pub timely : is_called_in_time (threads + 1) es ≡ true
+  pub halted : ends_halted es ≡ true
+
+-- what was due was taken, and the queue was halted at its time
+pub record HasHalted (threads : ℕ) (past now : List Entry) : Type 0 where
+  pub ends : Goes threads (time_of past) past → HasEnded threads (time_of past) now
+  pub posts : posts_made threads now ≡ posts_made threads past
+
+-- the time is that one or the moment, whichever comes first
+abbrev pub IsEarlier : Option ℕ → ℕ → ℕ → Type 0
+IsEarlier None time result = result ≡ time
+IsEarlier (Some until) time result = result ≡ min until time

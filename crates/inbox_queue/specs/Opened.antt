@@ -1,0 +1,64 @@
+-- An inbox run from its start to its end.
+use Rattle.std.specs.Prelude.{◌≡◌, ◌<◌, ◌+◌, ℕ, true, List, length, slice_index_or, Some, None}
+use Rattle.loop_model.specs.declared.entry.Entry.{Entry}
+use Rattle.loop_model.specs.declared.record.QueueRecord.{QueueRecord}
+use Rattle.loop_model.specs.Base.{empty_base}
+use Rattle.loop_model.specs.Legal.{IsLegal, AreNumbered}
+use Rattle.dash_script.specs.declared.script.Block.{Block}
+use Rattle.dash_script.specs.declared.script.Script.{Script}
+use Rattle.shared_queue.specs.Known.{Shared, IsOf, made_by}
+use Rattle.atomic_table.specs.Seated.{TableId}
+use Rattle.run_model.specs.Histories.{history_of}
+use Rattle.run_model.specs.Run.{setting_of}
+use Rattle.inbox_queue.specs.declared.parcel.Parcel.{Parcel}
+use Rattle.inbox_queue.specs.declared.run.Opened.{Opened}
+use Rattle.inbox_queue.specs.declared.run.InboxRan.{InboxRan}
+use Rattle.inbox_queue.specs.declared.run.InboxRan.TheVariants as ran
+use Rattle.inbox_queue.specs.InboxRun.{posts_made, posts_admitted, IsInboxRun}
+use Rattle.inbox_queue.specs.MainQueue.{IsAt, threads_of, AreSilent, Goes, HasEnded}
+use Rattle.inbox_queue.specs.Turned.{Sender}
+use Rattle.inbox_queue.specs.Bad.{bad_line}
+
+-- the threads' posters of the queue, in order, none of which has made a call
+abbrev pub AreIdle : Shared TableId → List Sender → Type 0
+AreIdle queue posters = (k : ℕ) (d : Sender) → k < length posters
+    → IsOf (slice_index_or posters k d) queue × ((slice_index_or posters k d).sender ≡ k) × (made_by (slice_index_or posters k d) ≡ 0)
+
+-- the queue of so many threads, and who calls it
+pub record IsOpen (threads : ℕ) (o : Opened) : Type 0 where
+  pub at : IsAt o.place o.hands
+  pub count : threads_of o.hands ≡ threads
+  pub looper : o.place.queue.constants.looper ≡ 0
+  pub idle : AreIdle o.place.queue o.threads.items
+  pub posters : length o.threads.items ≡ threads
+
+-- the blocks so far were run, and these parcels were admitted
+pub record HasRun (threads end : ℕ) (blocks : List Block) (admitted : List (List Parcel)) (es : List Entry) : Type 0 where
+  pub goes : Goes threads end es
+  pub posts : posts_made threads es ≡ posts_admitted blocks admitted
+
+-- the whole run, with what was admitted
+pub record IsPlayed (s : Script) (threads : ℕ) (admitted : List (List Parcel)) (es : List Entry) : Type 0 where
+  pub ended : HasEnded threads s.end es
+  pub posts : posts_made threads es ≡ posts_admitted s.blocks admitted
+
+-- what is kept of the queue, where this was seen of its history
+pub record IsKept (threads : ℕ) (es : List Entry) (r : QueueRecord) : Type 0 where
+  pub looper : r.looper ≡ 0
+  pub setting : setting_of r ≡ record { main = true; lockstep = true; senders = threads + 2 }
+  pub legal : IsLegal (setting_of r) (empty_base r.senders) (history_of r)
+  pub numbered : AreNumbered (setting_of r) (empty_base r.senders) (history_of r)
+  pub silent : AreSilent threads (history_of r)
+  pub whole : history_of r ≡ es
+
+-- where it is said that the script was run, the report is an inbox run of it
+abbrev pub Runs : Script → InboxRan → Type 0
+Runs s (ran.Ok report) = IsInboxRun s report
+Runs s (ran.Bad line) = bad_line s ≡ Some line
+Runs s ran.NoMemory = Unit {0}
+
+-- a line that an inbox run doesn't know is told, and no other answer comes then
+abbrev pub RefusesBad : Script → InboxRan → Type 0
+RefusesBad s (ran.Ok report) = bad_line s ≡ None
+RefusesBad s (ran.Bad line) = Unit {0}
+RefusesBad s ran.NoMemory = bad_line s ≡ None
