@@ -1,0 +1,146 @@
+// Answers as C has them.
+ghost use Rattle.std.specs.Prelude.{◌≡◌, false};
+ghost use Rattle.message_queue_c.specs.Shown.{answer_as, no_memory_kind, look_as, shown_post, shown_barrier, shown_gone, shown_taking, shown_quit, shown_next};
+
+use crate::message::MqMessage;
+use message_slot::NoClaim;
+use queue_state::{BarrierGone, BarrierPosted, Nexted, Posted, Quitting, Taking};
+
+/// It was done.
+const DONE: u32 = 0;
+
+/// There was no memory, and all is as before.
+const NO_MEMORY: u32 = 1;
+
+/// The queue quit before.
+const REFUSED: u32 = 2;
+
+/// No barrier of the token stands in the queue.
+const NOT_POSTED: u32 = 3;
+
+/// A quit was done before.
+const ALREADY_QUIT: u32 = 4;
+
+/// The queue may not quit.
+const NOT_ALLOWED: u32 = 5;
+
+/// What a call answers: its kind, a number that goes with it, and whether a waiting looper has to look again.
+#[repr(C)]
+#[derive(Clone, Copy, Debug, PartialEq, Eq)]
+pub struct MqAnswer {
+    pub number: u64,
+    pub kind: u32,
+    pub wake: bool,
+}
+
+/// What a look for a message answers: its kind, the message that was taken with its number, and a moment in milliseconds.
+#[repr(C)]
+#[derive(Clone, Copy, Debug, PartialEq, Eq)]
+pub struct MqNext {
+    pub message: MqMessage,
+    pub number: u64,
+    pub time: u64,
+    pub kind: u32,
+}
+
+const NO_MESSAGE: MqMessage = MqMessage {
+    when: 0,
+    obj: 0,
+    callback: 0,
+    handler: 0,
+    what: 0,
+    arg: 0,
+    has_obj: false,
+    has_callback: false,
+    asynchronous: false,
+};
+
+fn answer(kind: u32, number: u64, wake: bool) -> MqAnswer
+    ensures { result ≡ answer_as kind number wake }
+{
+    MqAnswer { number, kind, wake }
+}
+
+pub(crate) fn no_memory() -> MqAnswer
+    ensures { result ≡ answer_as no_memory_kind 0 false }
+{
+    answer(NO_MEMORY, 0, false)
+}
+
+fn look(kind: u32, number: u64, time: u64) -> MqNext
+    ensures { result ≡ look_as kind number time }
+{
+    MqNext {
+        message: NO_MESSAGE,
+        number,
+        time,
+        kind,
+    }
+}
+
+pub(crate) fn shown_post(posted: Posted<NoClaim>) -> MqAnswer
+    ensures { result ≡ shown_post posted }
+{
+    match posted {
+        Posted::Accepted { number, wake } => answer(DONE, number, wake),
+        Posted::Refused { place, node: _ } => answer(REFUSED, place, false),
+        Posted::NoMemory(_) => answer(NO_MEMORY, 0, false),
+    }
+}
+
+pub(crate) fn shown_barrier(posted: BarrierPosted<NoClaim>) -> MqAnswer
+    ensures { result ≡ shown_barrier posted }
+{
+    match posted {
+        BarrierPosted::Token { token } => answer(DONE, token, false),
+        BarrierPosted::NoMemory(_) => answer(NO_MEMORY, 0, false),
+    }
+}
+
+pub(crate) fn shown_gone(gone: BarrierGone<NoClaim>) -> MqAnswer
+    ensures { result ≡ shown_gone gone }
+{
+    match gone {
+        BarrierGone::Unbarriered { node: _, wake } => answer(DONE, 0, wake),
+        BarrierGone::NotPosted => answer(NOT_POSTED, 0, false),
+        BarrierGone::NoMemory => answer(NO_MEMORY, 0, false),
+    }
+}
+
+pub(crate) fn shown_taking(taking: Taking<NoClaim>) -> MqAnswer
+    ensures { result ≡ shown_taking taking }
+{
+    match taking {
+        Taking::Removed(list) => answer(DONE, list.len() as u64, false),
+        Taking::NoMemory => answer(NO_MEMORY, 0, false),
+    }
+}
+
+pub(crate) fn shown_quit(quitting: Quitting<NoClaim>) -> MqAnswer
+    ensures { result ≡ shown_quit quitting }
+{
+    match quitting {
+        Quitting::Done(list) => answer(DONE, list.len() as u64, true),
+        Quitting::AlreadyQuit { place } => answer(ALREADY_QUIT, place, false),
+        Quitting::NotAllowed => answer(NOT_ALLOWED, 0, false),
+        Quitting::NoMemory => answer(NO_MEMORY, 0, false),
+    }
+}
+
+pub(crate) fn shown_next(nexted: Nexted<NoClaim>) -> MqNext
+    ensures { result ≡ shown_next nexted }
+{
+    match nexted {
+        Nexted::Taken { number, now, node } => MqNext {
+            message: MqMessage::of(&node.item().as_post()),
+            number,
+            time: now,
+            kind: 0,
+        },
+        Nexted::Idle => look(1, 0, 0),
+        Nexted::Wait { until: Some(until) } => look(2, 0, until),
+        Nexted::Wait { until: None } => look(3, 0, 0),
+        Nexted::End(list) => look(4, list.len() as u64, 0),
+        Nexted::Over => look(5, 0, 0),
+    }
+}

@@ -1,0 +1,116 @@
+// Each call on a queue, as C makes it.
+ghost use Rattle.std.specs.Prelude.{◌≡◌, IfOk, true, false};
+ghost use Rattle.queue_state.specs.Queue.{has_match, sealed};
+ghost use Rattle.message_queue_c.specs.Messages.{filter_by};
+ghost use Rattle.message_queue_c.specs.Ours.{is_ours, new_queue};
+ghost use Rattle.message_queue_c.specs.Shown.{PostShown, BarrierShown, GoneShown, TakingShown, QuitShown, NextShown};
+
+use crate::answers::{
+    MqAnswer, MqNext, no_memory, shown_barrier, shown_gone, shown_next, shown_post, shown_quit,
+    shown_taking,
+};
+use crate::lone::Lone;
+use crate::message::{MqFilter, MqMessage};
+use loop_model::NoMemory;
+use message_list::new_node;
+use message_slot::{Message, NoClaim};
+use queue_state::QueueState;
+use std::alloc::Global;
+use std_alloc::room::Vacant;
+
+/// All calls are made by this one sender.
+const SENDER: u32 = 0;
+
+pub(crate) fn open(alloc: Global) -> Result<Lone<QueueState<NoClaim>>, NoMemory>
+    ensures { IfOk result (λ q. q.value ≡ new_queue) }
+{
+    let queue = QueueState::new(alloc, (), false, false, 1)?;
+    match Vacant::take(alloc) {
+        Ok(room) => Ok(Lone::put(room, queue)),
+        Err(_) => Err(NoMemory),
+    }
+}
+
+pub(crate) fn close(alloc: Global, queue: Lone<QueueState<NoClaim>>) {
+    let (queue, room) = queue.take(alloc);
+    drop(queue);
+    room.free();
+}
+
+pub(crate) fn post(alloc: Global, queue: &mut QueueState<NoClaim>, message: &MqMessage) -> MqAnswer
+    requires { is_ours queue.old }
+    ensures done { PostShown queue.old message.now result queue.new }
+    ensures ours { is_ours queue.new }
+{
+    let mut letter = Message::blank();
+    letter.set_post(&message.post());
+    match new_node(alloc, letter) {
+        Ok(node) => shown_post(queue.post(SENDER, node)),
+        Err(_) => no_memory(),
+    }
+}
+
+pub(crate) fn post_barrier(alloc: Global, queue: &mut QueueState<NoClaim>, now: u64) -> MqAnswer
+    requires { is_ours queue.old }
+    ensures done { BarrierShown queue.old now result queue.new }
+    ensures ours { is_ours queue.new }
+{
+    match new_node(alloc, Message::blank()) {
+        Ok(node) => shown_barrier(queue.post_barrier(SENDER, now, node)),
+        Err(_) => no_memory(),
+    }
+}
+
+pub(crate) fn remove_barrier(queue: &mut QueueState<NoClaim>, token: u64) -> MqAnswer
+    requires { is_ours queue.old }
+    ensures done { GoneShown queue.old token result queue.new }
+    ensures ours { is_ours queue.new }
+{
+    shown_gone(queue.remove_barrier(SENDER, token))
+}
+
+pub(crate) fn remove(queue: &mut QueueState<NoClaim>, filter: &MqFilter) -> MqAnswer
+    requires { is_ours queue.old }
+    ensures done { TakingShown queue.old filter.now result queue.new }
+    ensures ours { is_ours queue.new }
+{
+    shown_taking(queue.remove(SENDER, &filter.filter()))
+}
+
+pub(crate) fn quit(queue: &mut QueueState<NoClaim>, safe: bool, now: u64) -> MqAnswer
+    requires { is_ours queue.old }
+    ensures done { QuitShown queue.old safe now result queue.new }
+    ensures ours { is_ours queue.new }
+{
+    shown_quit(queue.quit(SENDER, safe, now))
+}
+
+pub(crate) fn next(queue: &mut QueueState<NoClaim>, now: u64, idle_owed: bool) -> MqNext
+    requires { is_ours queue.old }
+    ensures done { NextShown queue.old now idle_owed result queue.new }
+    ensures ours { is_ours queue.new }
+{
+    shown_next(queue.next(SENDER, now, idle_owed))
+}
+
+pub(crate) fn has(queue: &QueueState<NoClaim>, filter: &MqFilter) -> bool
+    ensures { result ≡ has_match queue.now (filter_by filter.now) }
+{
+    queue.has(&filter.filter())
+}
+
+/// Drops the entries so far.
+pub(crate) fn forget(queue: &mut QueueState<NoClaim>) -> bool
+    requires { is_ours queue.old }
+    ensures forgot { (result ≡ true) → queue.new ≡ sealed queue.old }
+    ensures kept { (result ≡ false) → queue.new ≡ queue.old }
+    ensures ours { is_ours queue.new }
+{
+    match queue.seal() {
+        Ok(part) => {
+            drop(part);
+            true
+        }
+        Err(_) => false,
+    }
+}
