@@ -1,0 +1,8 @@
+pub mod Left
+pub mod Spelled
+pub mod Taken
+pub mod Again
+pub mod Pieces
+pub mod Whole
+pub mod Elements
+pub mod Threads

@@ -1,0 +1,41 @@
+-- The words of a line are read again, and bytes with these words are the line.
+use Rattle.std.proofs.Common.{◌≡◌, ◌<◌, ◌^◌, ℕ, true, List, [], ◌∷◌, ◌++◌, refl, sym, ap, ◌∙◌, arith}
+use Rattle.std.specs.List.{join_with_byte}
+use Rattle.std.specs.Fmt.{decimal}
+use Rattle.std.proofs.lemmas.List.Splits.{join_with_byte-slice_split}
+use Rattle.std.proofs.lemmas.Fmt.{digits_decimal}
+use Rattle.line_words.specs.Words.{words}
+use Rattle.line_words.proofs.Spelling.{own}
+use Rattle.line_words.proofs.Joining.{is_free, digits_free, AllFree, join_free, words_joined}
+
+-- neither a space nor a line feed stands in the word
+abbrev pub IsWord : List ℕ → Type 0
+IsWord w = (is_free 32 w ≡ true) × (is_free 10 w ≡ true)
+
+abbrev pub AreWords : List (List ℕ) → Type 0
+AreWords [] = Unit {0}
+AreWords (w ∷ ws) = IsWord w × AreWords ws
+
+pub decimal_word : (n : ℕ) → n < 2 ^ 64 → IsWord (decimal n)
+decimal_word n fit =
+    (digits_free 32 (decimal n) (omega arith) (digits_decimal own n fit), digits_free 10 (decimal n) (omega arith) (digits_decimal own n fit))
+
+free_spaces : (ws : List (List ℕ)) → AreWords ws → AllFree 32 ws
+free_spaces [] h = tt
+free_spaces (w ∷ ws) h = (h.0.0, free_spaces ws h.1)
+
+free_feeds : (ws : List (List ℕ)) → AreWords ws → AllFree 10 ws
+free_feeds [] h = tt
+free_feeds (w ∷ ws) h = (h.0.1, free_feeds ws h.1)
+
+-- words that were joined are parted again
+pub words_again : (w : List ℕ) (ws : List (List ℕ)) → AreWords (w ∷ ws) → words (join_with_byte 32 (w ∷ ws)) ≡ w ∷ ws
+words_again w ws h = words_joined w ws (free_spaces (w ∷ ws) h)
+
+-- and no line feed stands among their bytes
+pub no_feed_within : (ws : List (List ℕ)) → AreWords ws → is_free 10 (join_with_byte 32 ws) ≡ true
+no_feed_within ws h = join_free 10 ws refl (free_feeds ws h)
+
+-- bytes with these words are the words joined
+pub words_taken : (bytes : List ℕ) (ws : List (List ℕ)) → words bytes ≡ ws → bytes ≡ join_with_byte 32 ws
+words_taken bytes ws e = sym (join_with_byte-slice_split 32 bytes) ∙ ap (join_with_byte 32) e

@@ -1,0 +1,340 @@
+-- What is read of the words of a line is a line of these words.
+use Rattle.std.proofs.Common.{◌≡◌, ◌<◌, ◌+◌, ◌^◌, ℕ, Bool, true, false, cond, ltb, eqb, List, [], ◌∷◌, ◌++◌, Option, Some, None, refl, sym, ap, subst, ◌∙◌, inl, inr, arith, append_assoc}
+use Rattle.std.specs.Prelude.{codes, ◌⊎◌, ◌&&◌}
+use Rattle.std.specs.Option.{option_map}
+use Rattle.std.specs.Str.{bytes_eq}
+use Rattle.std.specs.Str.Parse.{digits_value}
+use Rattle.std.specs.Fmt.{decimal}
+use Rattle.std.proofs.lemmas.Bool.{cases_Bool, ltb-true, eqb-true, and_parts}
+use Rattle.std.proofs.lemmas.Option.{same_Some, none-some, cond_some}
+use Rattle.std.proofs.lemmas.List.{append-nil}
+use Rattle.std.proofs.lemmas.Slice.Eq.{bytes_eq-Decides}
+use Rattle.line_words.specs.Words.{number_of, is_numeral}
+use Rattle.line_words.proofs.Spelling.{number_taken}
+use Rattle.run_picture.specs.declared.report.Subject.{Subject}
+use Rattle.run_picture.specs.declared.report.Subject.TheVariants.{What, Callback}
+use Rattle.run_picture.specs.declared.report.Past.TheVariants as past_of
+use Rattle.run_picture.specs.declared.report.Fates.{Fates as FatesData}
+use Rattle.run_picture.specs.declared.report.Act.TheVariants as act_of
+use Rattle.run_picture.specs.declared.report.Run.{Run as RunData}
+use Rattle.run_picture.specs.declared.line.Line.{Line}
+use Rattle.run_picture.specs.declared.line.Line.TheVariants.{Title, Looper, Past, Fates, Act, Frame, Run, End}
+use Rattle.run_picture.specs.Reading as reading
+use Rattle.run_picture.specs.Reading.{Rest, read, and_then, below, whole}
+use Rattle.run_picture.specs.Lines as lines
+use Rattle.run_picture.specs.Lines.{either, adds_up}
+use Rattle.run_picture.specs.Text.{IsShort, IsLong, FitsSubject, Fits, AddsUp, line_words, subject_words, fates_words}
+
+-- ---- one thing after another
+
+-- something was read, and the rest followed by it
+parted : {A C : Type 0} (o : Option (A × Rest)) (f : A → Rest → Option C) (y : C) → and_then o f ≡ Some y → (p : A × Rest) × (o ≡ Some p) × (f p.0 p.1 ≡ Some y)
+parted None f y e = absurd (none-some y e)
+parted (Some p) f y e = (p, refl, e)
+
+read_parted : {A : Type 0} (o : Option A) (mid : Rest) (y : A × Rest) → read o mid ≡ Some y → (o ≡ Some y.0) × (mid ≡ y.1)
+read_parted None mid y e = absurd (none-some y e)
+read_parted (Some a) mid y e = let same : (a, mid) ≡ y = same_Some (a, mid) y e in (ap (λ p. Some p.0) same, ap (λ p. p.1) same)
+
+word_parted : (ws : Rest) (y : List ℕ × Rest) → reading.word ws ≡ Some y → ws ≡ y.0 ∷ y.1
+word_parted [] y e = absurd (none-some y e)
+word_parted (w ∷ rest) y e = let same : (w, rest) ≡ y = same_Some (w, rest) y e in ap (λ p. p.0 ∷ p.1) same
+
+below_taken : (limit n m : ℕ) → below limit n ≡ Some m → (n < limit) × (n ≡ m)
+below_taken limit n m e =
+    elim (cases_Bool (ltb n limit)) [
+      | inl small ↦
+          let here : below limit n ≡ Some n = rw small refl in
+          (ltb-true n limit small, same_Some n m (sym here ∙ e))
+      | inr large ↦
+          let here : below limit n ≡ None = rw large refl in absurd (none-some m (sym here ∙ e))
+    ]
+
+-- a word that is a number is below 2 to the 64
+number_small : (w : List ℕ) (n : ℕ) → number_of w ≡ Some n → n < 2 ^ 64
+unfolding number_of
+number_small w n e =
+    let p = cond_some (is_numeral w && ltb (digits_value 10 w) (2 ^ 64)) (digits_value 10 w) n e in
+    let a = and_parts (is_numeral w) (ltb (digits_value 10 w) (2 ^ 64)) p.0 in
+    subst (λ m. m < 2 ^ 64) p.1 (ltb-true (digits_value 10 w) (2 ^ 64) a.1)
+
+-- ---- one word or two
+
+long_taken : (ws : Rest) (y : ℕ × Rest) → reading.long ws ≡ Some y → IsLong y.0 × (ws ≡ decimal y.0 ∷ y.1)
+unfolding reading.long
+long_taken ws y e =
+    let p = parted (reading.word ws) _ y e in
+    let q = read_parted (number_of p.0.0) p.0.1 y p.2 in
+    (number_small p.0.0 y.0 q.0, word_parted ws p.0 p.1 ∙ ap (λ w. w ∷ p.0.1) (number_taken p.0.0 y.0 q.0) ∙ ap (λ r. decimal y.0 ∷ r) q.1)
+
+fixed_by : (spelling w : List ℕ) (more : Rest) (y : Bool × Rest) → cond (bytes_eq w spelling) (Some (true, more)) None ≡ Some y → (w ≡ spelling) × (more ≡ y.1)
+fixed_by spelling w more y e =
+    elim (cases_Bool (bytes_eq w spelling)) [
+      | inl same ↦ ((bytes_eq-Decides w spelling).0 same, ap (λ p. p.1) (same_Some (true, more) y (rw same at e)))
+      | inr other ↦ absurd (none-some y (rw other at e))
+    ]
+
+fixed_taken : (spelling : List ℕ) (ws : Rest) (y : Bool × Rest) → reading.fixed spelling ws ≡ Some y → ws ≡ spelling ∷ y.1
+unfolding reading.fixed
+fixed_taken spelling ws y e =
+    let p = parted (reading.word ws) _ y e in
+    let q = fixed_by spelling p.0.0 p.0.1 y p.2 in
+    word_parted ws p.0 p.1 ∙ ap (λ w. w ∷ p.0.1) q.0 ∙ ap (λ r. spelling ∷ r) q.1
+
+short_taken : (ws : Rest) (y : ℕ × Rest) → reading.short ws ≡ Some y → IsShort y.0 × (ws ≡ decimal y.0 ∷ y.1)
+unfolding reading.short
+short_taken ws y e =
+    let p = parted (reading.long ws) _ y e in
+    let q = read_parted (below (2 ^ 32) p.0.0) p.0.1 y p.2 in
+    let b = below_taken (2 ^ 32) p.0.0 y.0 q.0 in
+    (subst (λ n. n < 2 ^ 32) b.1 b.0, (long_taken ws p.0 p.1).1 ∙ ap (λ n. decimal n ∷ p.0.1) b.1 ∙ ap (λ r. decimal y.0 ∷ r) q.1)
+
+counted_taken : (spelling : List ℕ) (ws : Rest) (y : ℕ × Rest) → reading.counted spelling ws ≡ Some y → IsLong y.0 × (ws ≡ spelling ∷ decimal y.0 ∷ y.1)
+unfolding reading.counted
+counted_taken spelling ws y e =
+    let p = parted (reading.fixed spelling ws) _ y e in
+    let t = long_taken p.0.1 y p.2 in
+    (t.0, fixed_taken spelling ws p.0 p.1 ∙ ap (λ r. spelling ∷ r) t.1)
+
+abbrev SubjectTaken : Rest → Subject × Rest → Type 0
+SubjectTaken ws y = FitsSubject y.0 × (ws ≡ subject_words y.0 ++ y.1)
+
+what_taken : (n : ℕ) (o : Option ℕ) (s : Subject) → below (2 ^ 32) n ≡ o → option_map What o ≡ Some s → FitsSubject s × (decimal n ∷ [] ≡ subject_words s)
+what_taken n None s is e = absurd (none-some s e)
+what_taken n (Some m) s is e =
+    let b = below_taken (2 ^ 32) n m is in
+    subst (λ x. FitsSubject x × (decimal n ∷ [] ≡ subject_words x)) (same_Some (What m) s e) (subst (λ x. x < 2 ^ 32) b.1 b.0, ap (λ x. decimal x ∷ []) b.1)
+
+callback_taken : (w : List ℕ) (rest : Rest) (y : Subject × Rest) → reading.callback w rest ≡ Some y → SubjectTaken (w ∷ rest) y
+callback_taken w rest y e =
+    elim (cases_Bool (bytes_eq w (codes "callback"))) [
+      | inl same ↦
+          let made : and_then (reading.long rest) (λ c more. Some (Callback c, more)) ≡ Some y = rw same at e in
+          let p = parted (reading.long rest) _ y made in
+          let t = long_taken rest p.0 p.1 in
+          let is : w ≡ codes "callback" = (bytes_eq-Decides w (codes "callback")).0 same in
+          subst (SubjectTaken (w ∷ rest)) (same_Some (Callback p.0.0, p.0.1) y p.2) (t.0, ap (λ v. v ∷ rest) is ∙ ap (λ r. codes "callback" ∷ r) t.1)
+      | inr other ↦ absurd (none-some y (rw other at e))
+    ]
+
+subject_by_taken : (w : List ℕ) (o : Option ℕ) (rest : Rest) (y : Subject × Rest) → number_of w ≡ o → reading.subject_by w o rest ≡ Some y → SubjectTaken (w ∷ rest) y
+subject_by_taken w None rest y is e = callback_taken w rest y e
+subject_by_taken w (Some n) rest y is e =
+    let q = read_parted (option_map What (below (2 ^ 32) n)) rest y e in
+    let t = what_taken n (below (2 ^ 32) n) y.0 refl q.0 in
+    (t.0, ap (λ v. v ∷ rest) (number_taken w n is) ∙ ap (λ v. v ++ rest) t.1 ∙ ap (λ r. subject_words y.0 ++ r) q.1)
+
+subject_taken : (ws : Rest) (y : Subject × Rest) → reading.subject ws ≡ Some y → SubjectTaken ws y
+unfolding reading.subject
+subject_taken ws y e =
+    let p = parted (reading.word ws) _ y e in
+    let t = subject_by_taken p.0.0 (number_of p.0.0) p.0.1 y refl p.2 in
+    (t.0, word_parted ws p.0 p.1 ∙ t.1)
+
+-- ---- lines
+
+abbrev LineTaken : Rest → Line → Type 0
+LineTaken ws l = Fits l × (ws ≡ line_words l)
+
+-- nothing is left behind the words of a line
+whole_taken : (ws : Rest) (made : Line) (rest : Rest) (l : Line) → whole made rest ≡ Some l → Fits made → ws ≡ line_words made ++ rest → LineTaken ws l
+whole_taken ws made [] l e fit words = subst (LineTaken ws) (same_Some made l e) (fit, words ∙ append-nil (line_words made))
+whole_taken ws made (w ∷ rest) l e fit words = absurd (none-some l e)
+
+abbrev Takes : (Rest → Option Line) → Type 0
+Takes by = (ws : Rest) (l : Line) → by ws ≡ Some l → LineTaken ws l
+
+edition_taken : (ws : Rest) (n : ℕ) (rest : Rest) (l : Line) → cond (eqb n 1) (whole (Title n) rest) (cond (eqb n 2) (whole (Title n) rest) None) ≡ Some l → ws ≡ codes "report" ∷ decimal n ∷ rest → LineTaken ws l
+edition_taken ws n rest l e words =
+    elim (cases_Bool (eqb n 1)) [
+      | inl one ↦ whole_taken ws (Title n) rest l (rw one at e) (inl (eqb-true n 1 one)) words
+      | inr more ↦
+          let later : cond (eqb n 2) (whole (Title n) rest) None ≡ Some l = rw more at e in
+          elim (cases_Bool (eqb n 2)) [
+            | inl two ↦ whole_taken ws (Title n) rest l (rw two at later) (inr (eqb-true n 2 two)) words
+            | inr other ↦ absurd (none-some l (rw other at later))
+          ]
+    ]
+
+title_taken : Takes lines.title
+unfolding lines.title
+title_taken ws l e =
+    let p0 = parted (reading.fixed (codes "report") ws) _ l e in
+    let p1 = parted (reading.short p0.0.1) _ l p0.2 in
+    edition_taken ws p1.0.0 p1.0.1 l p1.2 (fixed_taken (codes "report") ws p0.0 p0.1 ∙ ap (λ r. codes "report" ∷ r) (short_taken p0.0.1 p1.0 p1.1).1)
+
+looper_taken : Takes lines.looper
+unfolding lines.looper
+looper_taken ws l e =
+    let p = parted (reading.counted (codes "looper") ws) _ l e in
+    let t = counted_taken (codes "looper") ws p.0 p.1 in
+    whole_taken ws (Looper p.0.0) p.0.1 l p.2 t.0 t.1
+
+dispatch_taken : Takes lines.dispatch
+unfolding lines.dispatch
+dispatch_taken ws l e =
+    let p0 = parted (reading.long ws) _ l e in
+    let p1 = parted (reading.counted (codes "dispatch") p0.0.1) _ l p0.2 in
+    let p2 = parted (reading.short p1.0.1) _ l p1.2 in
+    let p3 = parted (reading.subject p2.0.1) _ l p2.2 in
+    let t0 = long_taken ws p0.0 p0.1 in
+    let t1 = counted_taken (codes "dispatch") p0.0.1 p1.0 p1.1 in
+    let t2 = short_taken p1.0.1 p2.0 p2.1 in
+    let t3 = subject_taken p2.0.1 p3.0 p3.1 in
+    whole_taken ws (Past (past_of.Dispatch p0.0.0 p1.0.0 p2.0.0 p3.0.0)) p3.0.1 l p3.2 (t0.0, t1.0, t2.0, t3.0)
+    (t0.1 ∙ ap (λ r. decimal p0.0.0 ∷ r) (t1.1 ∙ ap (λ r. codes "dispatch" ∷ decimal p1.0.0 ∷ r) (t2.1 ∙ ap (λ r. decimal p2.0.0 ∷ r) t3.1)))
+
+refused_taken : Takes lines.refused
+unfolding lines.refused
+refused_taken ws l e =
+    let p0 = parted (reading.fixed (codes "refused") ws) _ l e in
+    let p1 = parted (reading.short p0.0.1) _ l p0.2 in
+    let p2 = parted (reading.subject p1.0.1) _ l p1.2 in
+    let p3 = parted (reading.counted (codes "quit") p2.0.1) _ l p2.2 in
+    let t0 = fixed_taken (codes "refused") ws p0.0 p0.1 in
+    let t1 = short_taken p0.0.1 p1.0 p1.1 in
+    let t2 = subject_taken p1.0.1 p2.0 p2.1 in
+    let t3 = counted_taken (codes "quit") p2.0.1 p3.0 p3.1 in
+    let tail : p2.0.1 ≡ (codes "quit" ∷ decimal p3.0.0 ∷ []) ++ p3.0.1 = t3.1 in
+    whole_taken ws (Past (past_of.Refused p1.0.0 p2.0.0 p3.0.0)) p3.0.1 l p3.2 (t1.0, t2.0, t3.0)
+    (t0 ∙ ap (λ r. codes "refused" ∷ r) (t1.1 ∙ ap (λ r. decimal p1.0.0 ∷ r) (t2.1 ∙ ap (λ r. subject_words p2.0.0 ++ r) tail ∙ sym (append_assoc (subject_words p2.0.0) (codes "quit" ∷ decimal p3.0.0 ∷ []) p3.0.1))))
+
+not_posted_taken : Takes lines.not_posted
+unfolding lines.not_posted
+not_posted_taken ws l e =
+    let p = parted (reading.counted (codes "not-posted") ws) _ l e in
+    let t = counted_taken (codes "not-posted") ws p.0 p.1 in
+    whole_taken ws (Past (past_of.NotPosted p.0.0)) p.0.1 l p.2 t.0 t.1
+
+not_allowed_taken : Takes lines.not_allowed
+unfolding lines.not_allowed
+not_allowed_taken ws l e =
+    let p = parted (reading.fixed (codes "not-allowed") ws) _ l e in
+    whole_taken ws (Past past_of.NotAllowed) p.0.1 l p.2 tt (fixed_taken (codes "not-allowed") ws p.0 p.1)
+
+already_quit_taken : Takes lines.already_quit
+unfolding lines.already_quit
+already_quit_taken ws l e =
+    let p = parted (reading.counted (codes "already-quit") ws) _ l e in
+    let t = counted_taken (codes "already-quit") ws p.0 p.1 in
+    whole_taken ws (Past (past_of.AlreadyQuit p.0.0)) p.0.1 l p.2 t.0 t.1
+
+abbrev FatesTaken : Rest → FatesData × Rest → Type 0
+FatesTaken ws y =
+    IsLong y.0.accepted × IsLong y.0.dispatched × IsLong y.0.removed × IsLong y.0.dropped × IsLong y.0.stranded × IsLong y.0.queued × (ws ≡ fates_words y.0 ++ y.1)
+
+fates_of_taken : (ws : Rest) (y : FatesData × Rest) → lines.fates_of ws ≡ Some y → FatesTaken ws y
+unfolding lines.fates_of
+fates_of_taken ws y e =
+    let p0 = parted (reading.fixed (codes "fates") ws) _ y e in
+    let p1 = parted (reading.counted (codes "accepted") p0.0.1) _ y p0.2 in
+    let p2 = parted (reading.counted (codes "dispatched") p1.0.1) _ y p1.2 in
+    let p3 = parted (reading.counted (codes "removed") p2.0.1) _ y p2.2 in
+    let p4 = parted (reading.counted (codes "dropped") p3.0.1) _ y p3.2 in
+    let p5 = parted (reading.counted (codes "stranded") p4.0.1) _ y p4.2 in
+    let p6 = parted (reading.counted (codes "queued") p5.0.1) _ y p5.2 in
+    let t0 = fixed_taken (codes "fates") ws p0.0 p0.1 in
+    let t1 = counted_taken (codes "accepted") p0.0.1 p1.0 p1.1 in
+    let t2 = counted_taken (codes "dispatched") p1.0.1 p2.0 p2.1 in
+    let t3 = counted_taken (codes "removed") p2.0.1 p3.0 p3.1 in
+    let t4 = counted_taken (codes "dropped") p3.0.1 p4.0 p4.1 in
+    let t5 = counted_taken (codes "stranded") p4.0.1 p5.0 p5.1 in
+    let t6 = counted_taken (codes "queued") p5.0.1 p6.0 p6.1 in
+    let made : FatesData = record { accepted = p1.0.0; dispatched = p2.0.0; removed = p3.0.0; dropped = p4.0.0; stranded = p5.0.0; queued = p6.0.0 } in
+    let words : ws ≡ fates_words made ++ p6.0.1 =
+    t0 ∙ ap (λ r. codes "fates" ∷ r) (t1.1 ∙ ap (λ r. codes "accepted" ∷ decimal made.accepted ∷ r) (t2.1 ∙ ap (λ r. codes "dispatched" ∷ decimal made.dispatched ∷ r) (t3.1 ∙ ap (λ r. codes "removed" ∷ decimal made.removed ∷ r)
+    (t4.1 ∙ ap (λ r. codes "dropped" ∷ decimal made.dropped ∷ r) (t5.1 ∙ ap (λ r. codes "stranded" ∷ decimal made.stranded ∷ r) t6.1))))) in
+    subst (FatesTaken ws) (same_Some (made, p6.0.1) y p6.2) (t1.0, t2.0, t3.0, t4.0, t5.0, t6.0, words)
+
+sum_taken : (ws : Rest) (p : FatesData × Rest) (l : Line) → FatesTaken ws p → cond (adds_up p.0) (whole (Fates p.0) p.1) None ≡ Some l → LineTaken ws l
+sum_taken ws p l t e =
+    elim (cases_Bool (adds_up p.0)) [
+      | inl sum ↦ whole_taken ws (Fates p.0) p.1 l (rw sum at e) (t.0, t.1, t.2, t.3, t.4, t.5, eqb-true p.0.accepted (p.0.dispatched + p.0.removed + p.0.dropped + p.0.stranded + p.0.queued) sum) t.6
+      | inr other ↦ absurd (none-some l (rw other at e))
+    ]
+
+fates_taken : Takes lines.fates
+unfolding lines.fates
+fates_taken ws l e =
+    let p = parted (lines.fates_of ws) _ l e in
+    sum_taken ws p.0 l (fates_of_taken ws p.0 p.1) p.2
+
+idle_taken : Takes lines.idle
+unfolding lines.idle
+idle_taken ws l e =
+    let p0 = parted (reading.fixed (codes "idle") ws) _ l e in
+    let p1 = parted (reading.short p0.0.1) _ l p0.2 in
+    let t1 = short_taken p0.0.1 p1.0 p1.1 in
+    whole_taken ws (Act (act_of.Idle p1.0.0)) p1.0.1 l p1.2 t1.0 (fixed_taken (codes "idle") ws p0.0 p0.1 ∙ ap (λ r. codes "idle" ∷ r) t1.1)
+
+event_taken : Takes lines.event
+unfolding lines.event
+event_taken ws l e =
+    let p0 = parted (reading.fixed (codes "event") ws) _ l e in
+    let p1 = parted (reading.short p0.0.1) _ l p0.2 in
+    let p2 = parted (reading.short p1.0.1) _ l p1.2 in
+    let t1 = short_taken p0.0.1 p1.0 p1.1 in
+    let t2 = short_taken p1.0.1 p2.0 p2.1 in
+    whole_taken ws (Act (act_of.Event p1.0.0 p2.0.0)) p2.0.1 l p2.2 (t1.0, t2.0)
+    (fixed_taken (codes "event") ws p0.0 p0.1 ∙ ap (λ r. codes "event" ∷ r) (t1.1 ∙ ap (λ r. decimal p1.0.0 ∷ r) t2.1))
+
+paint_taken : Takes lines.paint
+unfolding lines.paint
+paint_taken ws l e =
+    let p0 = parted (reading.fixed (codes "paint") ws) _ l e in
+    let p1 = parted (reading.short p0.0.1) _ l p0.2 in
+    let p2 = parted (reading.short p1.0.1) _ l p1.2 in
+    let t1 = short_taken p0.0.1 p1.0 p1.1 in
+    let t2 = short_taken p1.0.1 p2.0 p2.1 in
+    whole_taken ws (Act (act_of.Paint p1.0.0 p2.0.0)) p2.0.1 l p2.2 (t1.0, t2.0)
+    (fixed_taken (codes "paint") ws p0.0 p0.1 ∙ ap (λ r. codes "paint" ∷ r) (t1.1 ∙ ap (λ r. decimal p1.0.0 ∷ r) t2.1))
+
+frame_taken : Takes lines.frame
+unfolding lines.frame
+frame_taken ws l e =
+    let p = parted (reading.counted (codes "frame") ws) _ l e in
+    let t = counted_taken (codes "frame") ws p.0 p.1 in
+    whole_taken ws (Frame p.0.0) p.0.1 l p.2 t.0 t.1
+
+run_taken : Takes lines.run
+unfolding lines.run
+run_taken ws l e =
+    let p0 = parted (reading.fixed (codes "run") ws) _ l e in
+    let p1 = parted (reading.short p0.0.1) _ l p0.2 in
+    let p2 = parted (reading.long p1.0.1) _ l p1.2 in
+    let t1 = short_taken p0.0.1 p1.0 p1.1 in
+    let t2 = long_taken p1.0.1 p2.0 p2.1 in
+    let made : RunData = record { phase = p1.0.0; id = p2.0.0 } in
+    whole_taken ws (Run made) p2.0.1 l p2.2 (t1.0, t2.0)
+    (fixed_taken (codes "run") ws p0.0 p0.1 ∙ ap (λ r. codes "run" ∷ r) (t1.1 ∙ ap (λ r. decimal p1.0.0 ∷ r) t2.1))
+
+end_taken : Takes lines.end
+unfolding lines.end
+end_taken ws l e =
+    let p = parted (reading.fixed (codes "end") ws) _ l e in
+    whole_taken ws End p.0.1 l p.2 tt (fixed_taken (codes "end") ws p.0 p.1)
+
+-- ---- one of several forms
+
+one_of : (ws : Rest) (l : Line) (a b : Option Line) → (a ≡ Some l → LineTaken ws l) → (b ≡ Some l → LineTaken ws l) → either a b ≡ Some l → LineTaken ws l
+one_of ws l None b f g e = g e
+one_of ws l (Some k) b f g e = f e
+
+past_taken : Takes lines.past
+unfolding lines.past
+past_taken ws l e =
+    one_of ws l _ _ (dispatch_taken ws l) (one_of ws l _ _ (refused_taken ws l) (one_of ws l _ _ (not_posted_taken ws l) (one_of ws l _ _ (not_allowed_taken ws l) (already_quit_taken ws l)))) e
+
+act_taken : Takes lines.act
+unfolding lines.act
+act_taken ws l e = one_of ws l _ _ (idle_taken ws l) (one_of ws l _ _ (event_taken ws l) (paint_taken ws l)) e
+
+other_taken : Takes lines.other
+unfolding lines.other
+other_taken ws l e = one_of ws l _ _ (looper_taken ws l) (one_of ws l _ _ (fates_taken ws l) (one_of ws l _ _ (title_taken ws l) (end_taken ws l))) e
+
+-- a line that is read has these words, with numbers within their limits
+pub line_taken : (ws : Rest) (l : Line) → lines.line_of ws ≡ Some l → Fits l × (ws ≡ line_words l)
+unfolding lines.line_of
+line_taken ws l e =
+    one_of ws l _ _ (past_taken ws l) (one_of ws l _ _ (one_of ws l _ _ (frame_taken ws l) (run_taken ws l)) (one_of ws l _ _ (act_taken ws l) (other_taken ws l))) e

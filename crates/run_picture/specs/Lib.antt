@@ -1,0 +1,10 @@
+pub mod Reading
+pub mod Lines
+pub mod Progress
+pub mod Text
+pub mod Marks
+pub mod Groups
+pub mod Labels
+pub mod Drawn
+pub mod Events
+pub mod Picture

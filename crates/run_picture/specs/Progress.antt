@@ -1,0 +1,168 @@
+-- A report that is read line by line.
+use Rattle.std.specs.Prelude.{◌≡◌, ℕ, ◌+◌, ◌==◌, Bool, true, false, ◌&&◌, List, [], ◌∷◌, ◌++◌, length, Option, Some, None, Result, Ok, Err, if◌then◌else◌}
+use Rattle.std.specs.Option.{option_and_then}
+use Rattle.line_words.specs.Words.{pieces, words}
+use Rattle.run_picture.specs.declared.report.Past.{Past as PastData}
+use Rattle.run_picture.specs.declared.report.Fates.{Fates as FatesData}
+use Rattle.run_picture.specs.declared.report.Act.{Act as ActData}
+use Rattle.run_picture.specs.declared.report.Run.{Run as RunData}
+use Rattle.run_picture.specs.declared.report.Frame.{Frame as FrameData}
+use Rattle.run_picture.specs.declared.report.Looper.{Looper as LooperData}
+use Rattle.run_picture.specs.declared.report.Report.{Report}
+use Rattle.run_picture.specs.declared.line.Line.{Line}
+use Rattle.run_picture.specs.declared.line.Line.TheVariants.{Title, Looper, Past, Fates, Act, Frame, Run, End}
+use Rattle.run_picture.specs.declared.draft.Part.{Part}
+use Rattle.run_picture.specs.declared.draft.Part.TheVariants as part_of
+use Rattle.run_picture.specs.declared.draft.Draft.{Draft}
+use Rattle.run_picture.specs.declared.reader.Stop.{Stop}
+use Rattle.run_picture.specs.declared.reader.Stop.TheVariants as stop
+use Rattle.run_picture.specs.Lines.{line_of}
+
+-- a looper of which nothing is told
+abbrev pub blank : LooperData
+blank = record { past = []; fates = record { accepted = 0; dispatched = 0; removed = 0; dropped = 0; stranded = 0; queued = 0 }; acts = []; frames = [] }
+
+-- a frame in which nothing ran
+abbrev pub opened : ℕ → FrameData
+opened t = record { time = t; runs = [] }
+
+-- nothing is read yet
+abbrev pub start : Draft
+start = record { part = part_of.Start; edition = 1; loopers = []; current = blank; frame = opened 0 }
+
+-- the looper has all its lines
+abbrev pub closed : Draft → Draft
+closed d = record d { part = part_of.Open; loopers = d.loopers ++ d.current ∷ []; current = blank }
+
+-- looper l with one more frame
+abbrev pub framed : LooperData → FrameData → LooperData
+framed l f = record l { frames = l.frames ++ f ∷ [] }
+
+-- the frame has all its lines, and the next one has this time
+abbrev pub shut : ℕ → Draft → Draft
+shut t d = record d { current = framed d.current d.frame; frame = opened t }
+
+-- looper l with one more line of its history
+abbrev pub with_past : LooperData → PastData → LooperData
+with_past l p = record l { past = l.past ++ p ∷ [] }
+
+-- looper l with one more line of its journal
+abbrev pub with_act : LooperData → ActData → LooperData
+with_act l a = record l { acts = l.acts ++ a ∷ [] }
+
+-- frame f with one more callback
+abbrev pub with_run : FrameData → RunData → FrameData
+with_run f r = record f { runs = f.runs ++ r ∷ [] }
+
+-- what the first line makes of a draft
+abbrev pub after_start : Draft → Line → Option Draft
+after_start d (Title e) = Some (record d { part = part_of.Open; edition = e })
+after_start d (Looper n) = None
+after_start d (Past p) = None
+after_start d (Fates f) = None
+after_start d (Act a) = None
+after_start d (Frame t) = None
+after_start d (Run r) = None
+after_start d End = None
+
+-- what a line makes of a draft between its loopers
+abbrev pub after_open : Draft → Line → Option Draft
+after_open d (Title e) = None
+after_open d (Looper n) = if n == length d.loopers then Some (record d { part = part_of.Past }) else None
+after_open d (Past p) = None
+after_open d (Fates f) = None
+after_open d (Act a) = None
+after_open d (Frame t) = None
+after_open d (Run r) = None
+after_open d End = Some (record d { part = part_of.End })
+
+-- what a line makes of a draft in the history of a looper
+abbrev pub after_past : Draft → Line → Option Draft
+after_past d (Title e) = None
+after_past d (Looper n) = None
+after_past d (Past p) = Some (record d { current = with_past d.current p })
+after_past d (Fates f) = Some (record d { part = part_of.Acts; current = record d.current { fates = f } })
+after_past d (Act a) = None
+after_past d (Frame t) = None
+after_past d (Run r) = None
+after_past d End = None
+
+-- what a line makes of a draft in the journal of a looper
+abbrev pub after_acts : Draft → Line → Option Draft
+after_acts d (Title e) = None
+after_acts d (Looper n) = after_open (closed d) (Looper n)
+after_acts d (Past p) = None
+after_acts d (Fates f) = None
+after_acts d (Act a) = Some (record d { current = with_act d.current a })
+after_acts d (Frame t) = Some (record d { part = part_of.Frames; frame = opened t })
+after_acts d (Run r) = None
+after_acts d End = after_open (closed d) End
+
+-- what a line makes of a draft in a frame of a looper
+abbrev pub after_frames : Draft → Line → Option Draft
+after_frames d (Title e) = None
+after_frames d (Looper n) = after_open (closed (shut 0 d)) (Looper n)
+after_frames d (Past p) = None
+after_frames d (Fates f) = None
+after_frames d (Act a) = None
+after_frames d (Frame t) = Some (shut t d)
+after_frames d (Run r) = Some (record d { frame = with_run d.frame r })
+after_frames d End = after_open (closed (shut 0 d)) End
+
+-- what a line makes of a draft in this part
+abbrev pub after_part : Part → Draft → Line → Option Draft
+after_part part_of.Start d l = after_start d l
+after_part part_of.Open d l = after_open d l
+after_part part_of.Past d l = after_past d l
+after_part part_of.Acts d l = after_acts d l
+after_part part_of.Frames d l = after_frames d l
+after_part part_of.End d l = None
+
+-- the draft with one more line, where the line may come next
+unfoldable pub next : Draft → Line → Option Draft
+next d l = after_part d.part d l
+
+-- the draft with one more line of bytes
+unfoldable pub next_line : Draft → List ℕ → Option Draft
+next_line d bytes = option_and_then (next d) (line_of (words bytes))
+
+-- what a call answered, and the draft that it left, as what the line makes
+abbrev pub answered : Bool → Draft → Option Draft
+answered true d = Some d
+answered false d = None
+
+abbrev pub is_end : Part → Bool
+is_end part_of.End = true
+is_end part_of.Start = false
+is_end part_of.Open = false
+is_end part_of.Past = false
+is_end part_of.Acts = false
+is_end part_of.Frames = false
+
+abbrev pub report_of : Draft → Report
+report_of d = record { edition = d.edition; loopers = d.loopers }
+
+-- the rest is read after a good line; a bad one is the answer
+abbrev pub goes_on : ℕ → Option Draft → (Draft → Result Report ℕ) → Result Report ℕ
+goes_on k (Some d) rest = rest d
+goes_on k None rest = Err k
+
+-- the report of the pieces from line k on, or the first line that may not come where it stands
+unfoldable pub report_from : ℕ → Draft → List (List ℕ) → Result Report ℕ
+report_from k d [] = Err k
+report_from k d (rest ∷ []) = if length rest == 0 && is_end d.part then Ok (report_of d) else Err k
+report_from k d (line ∷ piece ∷ more) = goes_on k (next_line d line) (λ e. report_from (k + 1) e (piece ∷ more))
+
+-- the report of a text, or the first line that may not come where it stands
+abbrev pub read_text : List ℕ → Result Report ℕ
+read_text b = report_from 1 start (pieces b)
+
+-- reading stopped for this reason, or for want of memory
+abbrev pub Stops : Stop → Result Report ℕ → Type 0
+Stops (stop.Bad line) read = read ≡ Err line
+Stops stop.Memory read = Unit {0}
+
+-- what was read, or why reading stopped
+abbrev pub ReadsText : Result Report Stop → Result Report ℕ → Type 0
+ReadsText (Ok r) read = read ≡ Ok r
+ReadsText (Err e) read = Stops e read

@@ -1,0 +1,258 @@
+//! A report that is read line by line.
+ghost use Rattle.std.specs.Prelude.{◌≡◌, IfOk, OnOk};
+ghost use Rattle.run_picture.specs.Progress.{after_acts, after_frames, after_open, after_past, after_start, answered, blank, closed, is_end, next, opened, report_of, shut, start};
+
+use crate::line::Line;
+use crate::report::{Act, Fates, Frame, Looper, Past, Report, Run};
+use loop_model::{NoMemory, Sequence};
+use std::alloc::Global;
+use std::mem::replace;
+
+/// How far the report has come: nothing yet, between loopers, in a looper's history, its journal or its frames, or behind
+/// the last line.
+#[derive(Clone, Copy, Debug, PartialEq, Eq)]
+pub(crate) enum Part {
+    Start,
+    Open,
+    Past,
+    Acts,
+    Frames,
+    End,
+}
+
+/// The loopers that have all their lines, the one that has not, and its last frame.
+#[derive(Drop)]
+pub(crate) struct Draft {
+    part: Part,
+    edition: u32,
+    loopers: Sequence<Looper>,
+    current: Looper,
+    frame: Frame,
+}
+
+const NO_FATES: Fates = Fates {
+    accepted: 0,
+    dispatched: 0,
+    removed: 0,
+    dropped: 0,
+    stranded: 0,
+    queued: 0,
+};
+
+/// A looper of which nothing is told.
+fn blank(alloc: Global) -> Looper
+    ensures { result ≡ blank }
+{
+    Looper {
+        past: Sequence::from_vec(Vec::new(alloc)),
+        fates: NO_FATES,
+        acts: Sequence::from_vec(Vec::new(alloc)),
+        frames: Sequence::from_vec(Vec::new(alloc)),
+    }
+}
+
+/// A frame in which nothing ran.
+fn opened(alloc: Global, time: u64) -> Frame
+    ensures { result ≡ opened time }
+{
+    Frame {
+        time,
+        runs: Sequence::from_vec(Vec::new(alloc)),
+    }
+}
+
+impl Draft {
+    /// Nothing is read yet.
+    pub(crate) fn new(alloc: Global) -> Draft
+        ensures { result ≡ start }
+    {
+        Draft {
+            part: Part::Start,
+            edition: 1,
+            loopers: Sequence::from_vec(Vec::new(alloc)),
+            current: blank(alloc),
+            frame: opened(alloc, 0),
+        }
+    }
+
+    /// The looper has all its lines.
+    fn close(&mut self, alloc: Global) -> Result<(), NoMemory>
+        ensures { OnOk result (self.new ≡ closed self.old) }
+    {
+        let whole = replace(&mut self.current, blank(alloc));
+        self.loopers.push(whole)?;
+        self.part = Part::Open;
+        Ok(())
+    }
+
+    /// The frame has all its lines.
+    fn shut(&mut self, alloc: Global, time: u64) -> Result<(), NoMemory>
+        ensures { OnOk result (self.new ≡ shut time self.old) }
+    {
+        let whole = replace(&mut self.frame, opened(alloc, time));
+        self.current.frames.push(whole)?;
+        Ok(())
+    }
+
+    /// Takes a line where it may come next, and else answers false.
+    #[tactic(auto, unfolding(crate::specs::Progress::next))]
+    pub(crate) fn add(&mut self, alloc: Global, line: &Line) -> Result<bool, NoMemory>
+        ensures { IfOk result (λ good. next self.old line.now ≡ answered good self.new) }
+    {
+        match self.part {
+            Part::Start => Ok(self.add_title(line)),
+            Part::Open => Ok(self.add_between(line)),
+            Part::Past => self.add_past(line),
+            Part::Acts => self.add_act(alloc, line),
+            Part::Frames => self.add_frame(alloc, line),
+            Part::End => Ok(false),
+        }
+    }
+
+    fn add_title(&mut self, line: &Line) -> bool
+        ensures { after_start self.old line.now ≡ answered result self.new }
+    {
+        match *line {
+            Line::Title(edition) => {
+                self.edition = edition;
+                self.part = Part::Open;
+                true
+            }
+            Line::Looper(_) => false,
+            Line::Past(_) => false,
+            Line::Fates(_) => false,
+            Line::Act(_) => false,
+            Line::Frame(_) => false,
+            Line::Run(_) => false,
+            Line::End => false,
+        }
+    }
+
+    fn add_between(&mut self, line: &Line) -> bool
+        ensures { after_open self.old line.now ≡ answered result self.new }
+    {
+        match *line {
+            Line::Looper(number) => {
+                if number == self.loopers.len() as u64 {
+                    self.part = Part::Past;
+                    true
+                } else {
+                    false
+                }
+            }
+            Line::End => {
+                self.part = Part::End;
+                true
+            }
+            Line::Title(_) => false,
+            Line::Past(_) => false,
+            Line::Fates(_) => false,
+            Line::Act(_) => false,
+            Line::Frame(_) => false,
+            Line::Run(_) => false,
+        }
+    }
+
+    fn add_past(&mut self, line: &Line) -> Result<bool, NoMemory>
+        ensures { IfOk result (λ good. after_past self.old line.now ≡ answered good self.new) }
+    {
+        match *line {
+            Line::Past(past) => {
+                self.current.past.push(past)?;
+                Ok(true)
+            }
+            Line::Fates(fates) => {
+                self.current.fates = fates;
+                self.part = Part::Acts;
+                Ok(true)
+            }
+            Line::Title(_) => Ok(false),
+            Line::Looper(_) => Ok(false),
+            Line::Act(_) => Ok(false),
+            Line::Frame(_) => Ok(false),
+            Line::Run(_) => Ok(false),
+            Line::End => Ok(false),
+        }
+    }
+
+    fn add_act(&mut self, alloc: Global, line: &Line) -> Result<bool, NoMemory>
+        ensures { IfOk result (λ good. after_acts self.old line.now ≡ answered good self.new) }
+    {
+        match *line {
+            Line::Act(act) => {
+                self.current.acts.push(act)?;
+                Ok(true)
+            }
+            Line::Frame(time) => {
+                self.frame = opened(alloc, time);
+                self.part = Part::Frames;
+                Ok(true)
+            }
+            Line::Looper(_) => {
+                self.close(alloc)?;
+                Ok(self.add_between(line))
+            }
+            Line::End => {
+                self.close(alloc)?;
+                Ok(self.add_between(line))
+            }
+            Line::Title(_) => Ok(false),
+            Line::Past(_) => Ok(false),
+            Line::Fates(_) => Ok(false),
+            Line::Run(_) => Ok(false),
+        }
+    }
+
+    fn add_frame(&mut self, alloc: Global, line: &Line) -> Result<bool, NoMemory>
+        ensures { IfOk result (λ good. after_frames self.old line.now ≡ answered good self.new) }
+    {
+        match *line {
+            Line::Run(run) => {
+                self.frame.runs.push(run)?;
+                Ok(true)
+            }
+            Line::Frame(time) => {
+                self.shut(alloc, time)?;
+                Ok(true)
+            }
+            Line::Looper(_) => {
+                self.shut(alloc, 0)?;
+                self.close(alloc)?;
+                Ok(self.add_between(line))
+            }
+            Line::End => {
+                self.shut(alloc, 0)?;
+                self.close(alloc)?;
+                Ok(self.add_between(line))
+            }
+            Line::Title(_) => Ok(false),
+            Line::Past(_) => Ok(false),
+            Line::Fates(_) => Ok(false),
+            Line::Act(_) => Ok(false),
+        }
+    }
+
+    /// Whether the last line has come.
+    pub(crate) fn is_ended(&self) -> bool
+        ensures { result ≡ is_end self.now.part }
+    {
+        match self.part {
+            Part::End => true,
+            Part::Start => false,
+            Part::Open => false,
+            Part::Past => false,
+            Part::Acts => false,
+            Part::Frames => false,
+        }
+    }
+
+    /// The report of the loopers that have all their lines.
+    pub(crate) fn into_report(self) -> Report
+        ensures { result ≡ report_of self }
+    {
+        Report {
+            edition: self.edition,
+            loopers: self.loopers,
+        }
+    }
+}

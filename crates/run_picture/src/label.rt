@@ -1,0 +1,133 @@
+//! What the marks of a picture say.
+ghost use Rattle.std.specs.Prelude.{◌≡◌, ◌++◌, OnOk};
+ghost use Rattle.std.specs.List.{flat_map};
+ghost use Rattle.run_picture.specs.Labels.{entity, fraction, group_text, kind_text, more_text, subject_text, time_text};
+
+use crate::group::Group;
+use crate::mark::{Kind, Moment};
+use crate::report::Subject;
+use line_words::push_number;
+use loop_model::NoMemory;
+use std::alloc::Global;
+
+/// The digits of the microseconds beyond a millisecond.
+#[tactic(auto, using(std::proofs::lemmas::List::append_assoc))]
+fn push_fraction(out: &mut Vec<u8>, micros: u64) -> Result<(), NoMemory>
+    ensures { OnOk result (out.new.items ≡ out.old.items ++ fraction micros) }
+{
+    out.push(b'.')?;
+    push_number(out, micros / 100 % 10)?;
+    push_number(out, micros / 10 % 10)?;
+    push_number(out, micros % 10)
+}
+
+/// A moment in milliseconds, with microseconds where there are any.
+#[tactic(auto, using(std::proofs::lemmas::List::append_assoc))]
+pub(crate) fn push_time(out: &mut Vec<u8>, time: Moment) -> Result<(), NoMemory>
+    ensures { OnOk result (out.new.items ≡ out.old.items ++ time_text time) }
+{
+    push_number(out, time.millis)?;
+    let micros = time.nanos / 1000;
+    if micros != 0 {
+        push_fraction(out, micros)?;
+    }
+    out.extend_from_slice(b" ms")?;
+    Ok(())
+}
+
+#[tactic(auto, using(std::proofs::lemmas::List::append_assoc))]
+pub(crate) fn push_subject(out: &mut Vec<u8>, subject: Subject) -> Result<(), NoMemory>
+    ensures { OnOk result (out.new.items ≡ out.old.items ++ subject_text subject) }
+{
+    match subject {
+        Subject::What(what) => {
+            out.extend_from_slice(b"what ")?;
+            push_number(out, u64::from(what))
+        }
+        Subject::Callback(callback) => {
+            out.extend_from_slice(b"callback ")?;
+            push_number(out, callback)
+        }
+    }
+}
+
+/// What a mark shows.
+#[tactic(auto, using(std::proofs::lemmas::List::append_assoc))]
+pub(crate) fn push_kind(out: &mut Vec<u8>, kind: Kind) -> Result<(), NoMemory>
+    ensures { OnOk result (out.new.items ≡ out.old.items ++ kind_text kind) }
+{
+    match kind {
+        Kind::Dispatch {
+            number,
+            handler,
+            subject,
+        } => {
+            out.extend_from_slice(b"message ")?;
+            push_number(out, number)?;
+            out.extend_from_slice(b", handler ")?;
+            push_number(out, u64::from(handler))?;
+            out.extend_from_slice(b", ")?;
+            push_subject(out, subject)
+        }
+        Kind::Frame => {
+            out.extend_from_slice(b"frame")?;
+            Ok(())
+        }
+        Kind::Run(run) => {
+            out.extend_from_slice(b"callback ")?;
+            push_number(out, run.id)?;
+            out.extend_from_slice(b" in phase ")?;
+            push_number(out, u64::from(run.phase))
+        }
+        Kind::Paint { gauge, value } => {
+            out.extend_from_slice(b"gauge ")?;
+            push_number(out, u64::from(gauge))?;
+            out.extend_from_slice(b" at ")?;
+            push_number(out, u64::from(value))
+        }
+    }
+}
+
+/// How many more marks stand at the place of the first one.
+#[tactic(auto, using(std::proofs::lemmas::List::append_assoc))]
+fn push_more(out: &mut Vec<u8>, count: u64) -> Result<(), NoMemory>
+    ensures { OnOk result (out.new.items ≡ out.old.items ++ more_text count) }
+{
+    if count > 1 {
+        out.extend_from_slice(b" (")?;
+        push_number(out, count)?;
+        out.extend_from_slice(b" marks here)")?;
+    }
+    Ok(())
+}
+
+/// What a group says: the time of its first mark and what it shows, and the count where there are more.
+#[tactic(auto, using(std::proofs::lemmas::List::append_assoc))]
+pub(crate) fn push_group(out: &mut Vec<u8>, group: &Group) -> Result<(), NoMemory>
+    ensures { OnOk result (out.new.items ≡ out.old.items ++ group_text group.now) }
+{
+    let marks = group.marks.as_slice();
+    if let Some(first) = marks.first() {
+        push_time(out, first.time)?;
+        out.extend_from_slice(b": ")?;
+        push_kind(out, first.kind)?;
+    }
+    push_more(out, marks.len() as u64)
+}
+
+/// Writes text into an SVG: what would be markup is written as an entity.
+#[tactic(auto, using(std::proofs::lemmas::List::append_assoc))]
+pub(crate) fn push_escaped(out: &mut Vec<u8>, text: &[u8]) -> Result<(), NoMemory>
+    ensures { OnOk result (out.new.items ≡ out.old.items ++ flat_map entity text.now) }
+{
+    for byte in text {
+        match *byte {
+            b'&' => out.extend_from_slice(b"&amp;")?,
+            b'<' => out.extend_from_slice(b"&lt;")?,
+            b'>' => out.extend_from_slice(b"&gt;")?,
+            b'"' => out.extend_from_slice(b"&quot;")?,
+            other => out.push(other)?,
+        }
+    }
+    Ok(())
+}

@@ -1,0 +1,28 @@
+//! A report of the dashboard read, the marks of its picture, and the picture drawn.
+#![tactic(auto)]
+
+mod draft;
+mod glyph;
+mod group;
+mod label;
+mod lanes;
+mod levels;
+mod line;
+mod lines;
+mod mark;
+mod perfetto;
+mod picture;
+mod reader;
+mod report;
+mod scale;
+mod shape;
+mod svg;
+mod words;
+
+pub use group::{Group, Place, Row, Scale, groups};
+pub use mark::{Kind, Mark, Moment, TRAVERSAL, marks};
+pub use perfetto::perfetto_text;
+pub use picture::{Form, Picture, picture_of};
+pub use reader::parse_report;
+pub use report::{Act, Fates, Frame, Looper, ParsedReport, Past, Report, Run, Subject};
+pub use svg::svg_text;

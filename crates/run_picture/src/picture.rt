@@ -1,0 +1,53 @@
+//! The picture of a text.
+ghost use Rattle.std.specs.Prelude.{IfOk};
+ghost use Rattle.run_picture.specs.Picture.{IsPictureOf, Shows};
+
+use crate::perfetto::perfetto_text;
+use crate::reader::parse_report;
+use crate::report::{ParsedReport, Report};
+use crate::svg::svg_text;
+use loop_model::NoMemory;
+use std::alloc::Global;
+
+/// In which form a picture is written.
+#[derive(Clone, Copy, Debug, PartialEq, Eq)]
+pub enum Form {
+    /// One SVG that stands alone.
+    Svg,
+    /// Trace events in JSON.
+    Perfetto,
+}
+
+/// What becomes of a text.
+#[derive(Debug, Drop)]
+pub enum Picture {
+    /// The picture of the report.
+    Text(Vec<u8>),
+    /// The text is no report: its least bad line, counted from 1.
+    Bad { line: u64 },
+    NoMemory,
+}
+
+/// The picture of a report in a form.
+fn drawn(alloc: Global, form: Form, report: &Report) -> Result<Vec<u8>, NoMemory>
+    ensures { IfOk result (λ text. IsPictureOf form report.now text.items) }
+{
+    match form {
+        Form::Svg => svg_text(alloc, report),
+        Form::Perfetto => perfetto_text(alloc, report),
+    }
+}
+
+/// The picture of the report that a text spells, or the text's least bad line. `NoMemory` where there was none.
+pub fn picture_of(alloc: Global, form: Form, bytes: &[u8]) -> Picture
+    ensures { Shows result form bytes.now }
+{
+    match parse_report(alloc, bytes) {
+        ParsedReport::Ok(report) => match drawn(alloc, form, &report) {
+            Ok(text) => Picture::Text(text),
+            Err(NoMemory) => Picture::NoMemory,
+        },
+        ParsedReport::Bad { line } => Picture::Bad { line },
+        ParsedReport::NoMemory => Picture::NoMemory,
+    }
+}

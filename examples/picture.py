@@ -1,0 +1,61 @@
+#!/usr/bin/env python3
+"""picture.py PROGRAM [--write]: docs/gauge.svg is what `timeline svg` makes of a report; with --write it is made anew.
+
+Every report of this folder becomes an SVG that an XML parser takes, with an element for each mark, and a trace that a JSON
+parser takes, with an event for each mark.
+"""
+import json
+import pathlib
+import re
+import subprocess
+import sys
+import xml.etree.ElementTree as tree
+
+HERE = pathlib.Path(__file__).resolve().parent
+SHOWN = HERE.parent / "docs" / "gauge.svg"
+SVG = "{http://www.w3.org/2000/svg}"
+
+
+def run(program, word, text):
+    return subprocess.run([program, word], input=text, capture_output=True, check=False)
+
+
+def marks_of(text):
+    """How many marks the lines of a report have."""
+    return len(re.findall(rb"^(?:\d+ dispatch|frame|run|paint) ", text, re.M))
+
+
+def drawn_marks(svg):
+    """How many marks the elements of an SVG stand for."""
+    count = 0
+    for group in tree.fromstring(svg).iter(SVG + "g"):
+        more = re.search(r"\((\d+) marks here\)$", group.find(SVG + "title").text)
+        count += int(more.group(1)) if more else 1
+    return count
+
+
+def look(program, name, text):
+    svg = run(program, "svg", text)
+    trace = run(program, "perfetto", text)
+    assert svg.returncode == 0 and trace.returncode == 0, name
+    assert len(svg.stdout) < 1_000_000, name
+    assert drawn_marks(svg.stdout) == marks_of(text), name
+    assert sum(event["ph"] != "M" for event in json.loads(trace.stdout)) == marks_of(text), name
+
+
+def main():
+    program = sys.argv[1]
+    reports = [file for file in sorted(HERE.glob("*.report")) if file.read_bytes().startswith(b"report ")]
+    for file in reports:
+        look(program, file.name, file.read_bytes())
+    bad = run(program, "svg", b"report 1\nend\nend\n")
+    assert (bad.returncode, bad.stdout, bad.stderr) == (3, b"", b"timeline: line 3\n"), bad
+    assert run(program, "gif", b"").returncode == 2
+    shown = run(program, "svg", (HERE / "gauge_runs_to_its_target.report").read_bytes()).stdout
+    if "--write" in sys.argv:
+        SHOWN.write_bytes(shown)
+    assert SHOWN.read_bytes() == shown, "docs/gauge.svg is another one"
+    print(f"{len(reports)} reports drawn")
+
+
+main()
