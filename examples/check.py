@@ -1,11 +1,13 @@
 #!/usr/bin/env python3
 """check.py PROGRAM: runs the worked examples of this folder against the built program.
 
-INDEX.txt names each example, with its words, its exit status and what it shows. NAME.script is what the program reads,
-NAME.report what it must write, and NAME.error what standard error must get; a file that is not there stands for nothing.
+INDEX.txt names each example, with its words, its exit status and what it shows. NAME.script, NAME.plan (of values) or
+NAME.trace (of histories) is what the program reads, NAME.report what it must write, and NAME.error what standard error must
+get; a file that is not there stands for nothing.
 Where threads race, NAME.reports holds the lawful reports, parted by lines %%: each run must write one of them, and it is
 told how many of them were seen.
-Two inputs that are too large to be kept are made here, and so is what `make N` must write.
+Three inputs that are too large to be kept are made here, and so is what `make N` must write. What `trace` writes of each script
+must be legal, and no longer where a dispatch is told of another message.
 """
 import difflib
 import pathlib
@@ -18,6 +20,7 @@ RUNS = 200
 HEAD = "dashboard 1\nloopers 1\nthreads 1\nhandler 0 0\nvsync 16666667\n"
 MADE = {
     "input_too_long": lambda: b"x" * 1_048_577,
+    "trace_too_long": lambda: b"x" * 67_108_865,
     "line_20001": lambda: (HEAD + "at 0\n" + "0 post 0 1 0\n" * 19_994 + "end 0\n").encode(),
 }
 
@@ -54,13 +57,17 @@ def read(name, kind):
     return file.read_bytes() if file.exists() else b""
 
 
+def given_to(name):
+    """What the program reads in an example: a script, a plan of values or a trace."""
+    return MADE[name]() if name in MADE else b"".join(read(name, kind) for kind in ("script", "plan", "trace"))
+
+
 def examples():
     for line in (HERE / "INDEX.txt").read_text().splitlines():
         name, words, code, shows = line.split("\t")
         if (HERE / f"{name}.reports").exists():
             continue
-        given = MADE[name]() if name in MADE else read(name, "script")
-        yield name, words.split(), given, int(code), read(name, "report"), read(name, "error"), shows
+        yield name, words.split(), given_to(name), int(code), read(name, "report"), read(name, "error"), shows
     for number in (0, 1, 4_294_967_295):
         yield f"make_{number}", ["make", str(number)], b"", 0, generated(number), b"", "the generated script"
 
@@ -98,6 +105,43 @@ def summaries(program):
         last_paint = dict(re.findall(r"paint (\d+) (\d+)$", run(program, ["run"], script), re.M))
         if last_set != last_paint:
             yield f"make_{number}", f"last paints {last_paint}, last sets {last_set}"
+
+
+def scripts():
+    """The examples' scripts that are run, and some larger ones."""
+    for file in sorted(HERE.glob("*.script")):
+        yield file.stem, file.read_bytes()
+    yield "busy", busy()
+    yield "whole", WHOLE.encode()
+    yield from ((f"make_{number}", generated(number)) for number in range(4))
+
+
+def spoiled(trace):
+    """The trace with its first dispatch told of the next message, and the verdict on it; None without a dispatch."""
+    queue = place = None
+    lines = trace.splitlines()
+    for at, line in enumerate(lines):
+        words = line.split()
+        if words[0] == "queue":
+            queue, place = words[1], -1
+        place = None if place is None else place + 1
+        if words[-2:-1] == ["dispatched"]:
+            lines[at] = " ".join([*words[:-1], str(int(words[-1]) + 1)])
+            return "\n".join([*lines, ""]), f"illegal queue {queue} entry {place - 1}\n"
+    return None
+
+
+def traces(program):
+    """What `trace` writes of each script is legal, and with another message dispatched it is not."""
+    for name, script in scripts():
+        trace = run(program, ["trace"], script)
+        if not trace:
+            continue
+        if (verdict := run(program, ["check"], trace.encode())) != "legal\n":
+            yield f"trace of {name}", verdict
+        if changed := spoiled(trace):
+            if (verdict := run(program, ["check"], changed[0].encode())) != changed[1]:
+                yield f"trace of {name} with another dispatch", f"{verdict!r}, wanted {changed[1]!r}"
 
 
 def busy():
@@ -199,7 +243,7 @@ def main():
             print("\n".join([f"FAILED {name}: {shows}", *found]))
         else:
             passed += 1
-    for name, found in [*races(program), *summaries(program), *whole(program), *counts_stay(program)]:
+    for name, found in [*races(program), *summaries(program), *whole(program), *counts_stay(program), *traces(program)]:
         failed += 1
         print(f"FAILED {name}: {found}")
     print(f"examples: {passed} passed, {failed} failed")

@@ -12,7 +12,7 @@ use Rattle.dashboard_cli.specs.CommandLine.{dashboard_app, HasNumber, HasRows, I
 use Rattle.dashboard_cli.specs.Words.{IsInRange, IsListed, IsSpelled}
 use Rattle.std.specs.Prelude.{IfNone, IsSomeAnd, None, unwrap_or}
 use Rattle.dashboard_cli.specs.declared.words.Command.{Command}
-use Rattle.dashboard_cli.specs.declared.words.Command.TheVariants.{Run, Text, Make, MakeRun}
+use Rattle.dashboard_cli.specs.declared.words.Command.TheVariants.{Run, Text, Make, MakeRun, Trace, Check, Animate}
 
 -- the parser takes the words, and finds the command in them
 pub record IsParsed (words : List (List ℕ)) (Found : Type 0) : Type 0 where
@@ -72,6 +72,18 @@ pub finds_text : Finds Text (codes "text" ∷ [])
 unfolding clap_on_literals
 finds_text = record { taken = refl; found = (refl, tt) }
 
+pub finds_trace : Finds Trace (codes "trace" ∷ [])
+unfolding clap_on_literals
+finds_trace = record { taken = refl; found = (refl, tt) }
+
+pub finds_check : Finds Check (codes "check" ∷ [])
+unfolding clap_on_literals
+finds_check = record { taken = refl; found = (refl, tt) }
+
+pub finds_animate : Finds Animate (codes "animate" ∷ [])
+unfolding clap_on_literals
+finds_animate = record { taken = refl; found = (refl, tt) }
+
 makes_number : (number : ℕ) → number < 2 ^ 32 → MakesAll (decimal number)
 makes_number number small =
     let numeral = (decimal_is_IsNumeral number (omega (arith, small))).0 in
@@ -82,6 +94,9 @@ makes_number number small =
 pub finds : (command : Command) (words : List (List ℕ)) → IsInRange command → IsSpelled command words → Finds command words
 finds Run words fits is = subst (Finds Run) (sym is) finds_run
 finds Text words fits is = subst (Finds Text) (sym is) finds_text
+finds Trace words fits is = subst (Finds Trace) (sym is) finds_trace
+finds Check words fits is = subst (Finds Check) (sym is) finds_check
+finds Animate words fits is = subst (Finds Animate) (sym is) finds_animate
 finds (Make number) words fits is = subst (Finds (Make number)) (sym is) (makes_number number fits).0
 finds (MakeRun number) words fits (inl is) = subst (Finds (MakeRun number)) (sym is) (makes_number number fits).1
 finds (MakeRun number) words fits (inr is) = subst (Finds (MakeRun number)) (sym is) (makes_number number fits).2
@@ -97,8 +112,11 @@ pub record IsMake (command : Command) (rows : List Row) : Type 0 where
       ⊎ ((command ≡ MakeRun number) × (one_of (codes "run") rows ≡ Some (codes "true")))
 
 pub is_make : (command : Command) (rows : List Row) → IsInRange command → name_of command ≡ codes "make" → HasRows command rows → IsMake command rows
-is_make Run rows fits named has = let bad : ◌≡◌ {A = ℕ} 114 109 = ap (λ (t : List ℕ). slice_index t 0) named in absurd (omega arith)
-is_make Text rows fits named has = let bad : ◌≡◌ {A = ℕ} 116 109 = ap (λ (t : List ℕ). slice_index t 0) named in absurd (omega arith)
+is_make Run rows fits named has = let bad : ◌≡◌ {A = ℕ} 110 107 = ap (λ (t : List ℕ). slice_index t 2) named in absurd (omega arith)
+is_make Text rows fits named has = let bad : ◌≡◌ {A = ℕ} 120 107 = ap (λ (t : List ℕ). slice_index t 2) named in absurd (omega arith)
+is_make Trace rows fits named has = let bad : ◌≡◌ {A = ℕ} 97 107 = ap (λ (t : List ℕ). slice_index t 2) named in absurd (omega arith)
+is_make Check rows fits named has = let bad : ◌≡◌ {A = ℕ} 101 107 = ap (λ (t : List ℕ). slice_index t 2) named in absurd (omega arith)
+is_make Animate rows fits named has = let bad : ◌≡◌ {A = ℕ} 105 107 = ap (λ (t : List ℕ). slice_index t 2) named in absurd (omega arith)
 is_make (Make number) rows fits named has = record { number = number; small = fits; text = has.0; flag = inl (refl, has.1) }
 is_make (MakeRun number) rows fits named has = record { number = number; small = fits; text = has.0; flag = inr (refl, has.1) }
 

@@ -1,18 +1,16 @@
 -- A command whose input is told and good stops for a fault or for want of memory alone.
-use Rattle.std.proofs.Common.{◌≡◌, ◌⊎◌, ◌+◌, ◌≤◌, ℕ, Bool, true, false, List, [], ◌++◌, Option, Some, None, refl, length, arith, sym, subst, inl, inr, ap, ◌∙◌, unwrap_or}
+use Rattle.std.proofs.Common.{◌≡◌, ◌⊎◌, ◌+◌, ◌≤◌, ℕ, List, [], ◌++◌, Option, Some, None, refl, length, arith, sym, subst, inl, inr, ap, ◌∙◌, unwrap_or}
 use Rattle.std.proofs.lemmas.List.{append-nil, length-append}
 use Rattle.std.proofs.Math.Nat.{le_refl}
 use Rattle.std.specs.Io.KnownBytes.{Consumes, IsAtEnd}
-use Rattle.dash_script.specs.declared.refusal.Cause.{Cause}
 use Rattle.loop_io.specs.Causes.{one_more, Rose}
-use Rattle.dashboard_cli.specs.Answers.{CountsReads, HasGoodInput, HasInput, IsOf, IsRefused, IsTold, IsTooLong, Stops}
-use Rattle.dashboard_cli.specs.Streams.{limit, Known, ReadsWhole}
+use Rattle.dashboard_cli.specs.Answers.{AllOf, CountsReads, HasGoodInput, HasInput, IsOf, IsRefused, IsTold, IsTooLong, IsWithin, Stops}
+use Rattle.dashboard_cli.specs.Streams.{Known}
 use Rattle.dashboard_cli.specs.Words.{IsAsked}
-use Rattle.dashboard_cli.specs.Works.{reads, IsGood}
+use Rattle.dashboard_cli.specs.Works.{work, Input}
 use Rattle.dashboard_cli.specs.declared.status.Status.{Status}
-use Rattle.dashboard_cli.specs.declared.status.Status.TheVariants.{Ok, Usage, Script, ReadFault, WriteFault, NoMemory, TooLong}
+use Rattle.dashboard_cli.specs.declared.status.Status.TheVariants.{Ok, Usage, Script, ReadFault, WriteFault, NoMemory, TooLong, Trace}
 use Rattle.dashboard_cli.specs.declared.words.Command.{Command}
-use Rattle.dashboard_cli.specs.declared.words.Command.TheVariants.{Run, Text, Make, MakeRun}
 use Rattle.dashboard_cli.proofs.OneCommand.{one_command}
 
 -- no more is read than was there
@@ -32,42 +30,74 @@ read_is_told (Some xs) (Some ys) told input is read ended =
     let same : xs ≡ told = ap (λ (o : Known). unwrap_or o []) is in
     sym (append-nil input) ∙ ap (λ (t : List ℕ). input ++ t) (sym ended) ∙ sym read ∙ same
 
-not_long : (command : Command) (before after : Known) → IsTooLong command before after → HasGoodInput command before → ⊥
-not_long command before after long good =
-    let told : IsTold true before good.input = subst (λ (b : Bool). IsTold b before good.input) long.reading good.told in
-    let fits = read_fits before after good.input long.input told.0 long.read in
-    omega (arith, fits, told.1, long.long)
+-- the whole input is the one that was told
+input_is_told : (most : Option ℕ) (before after : Known) (input told : List ℕ) → HasInput most before after input → IsTold most before told → input ≡ told
+input_is_told (Some most) before after input told read tells = read_is_told before after told input tells.0 read.consumed read.ended
+input_is_told None before after input told read tells = read.1 ∙ sym tells
 
-is_good : (command : Command) (before after : Known) (input told : List ℕ) → HasInput (reads command) before after input → IsTold (reads command) before told
-    → IsGood command told → IsGood command input
-is_good Run before after input told read tells good = subst (IsGood Run) (sym (read_is_told before after told input tells.0 read.consumed read.ended)) good
-is_good Text before after input told read tells good = subst (IsGood Text) (sym (read_is_told before after told input tells.0 read.consumed read.ended)) good
-is_good (Make number) before after input told read tells good = good
-is_good (MakeRun number) before after input told read tells good = good
+not_long : (most : Option ℕ) (before after : Known) (input : List ℕ) → IsTooLong most before after → IsTold most before input → ⊥
+not_long None before after input long told = long
+not_long (Some most) before after input long told =
+    let fits = read_fits before after input long.0 told.0 long.1 in
+    omega (arith, fits, told.1, long.2)
 
-not_refused : (command : Command) (before after : Known) (line : ℕ) (cause : Cause) → IsRefused command before after line cause → HasGoodInput command before → ⊥
-not_refused command before after line cause refused good =
-    refused.not_good (is_good command before after refused.input good.input refused.read good.told good.good)
+not_refused : (wanted : Input) (before after : Known) (status : Status) → IsRefused wanted before after status → HasGoodInput wanted before → ⊥
+not_refused wanted before after status refused good =
+    refused.not_taken (subst wanted.Takes (sym (input_is_told wanted.most before after refused.input good.input refused.read good.told)) good.good)
 
-stops_for_memory : (command : Command) (before after : Known) (status : Status) → Stops command before after status → HasGoodInput command before
+stops_for_memory : (wanted : Input) (before after : Known) (status : Status) → Stops wanted before after status → HasGoodInput wanted before
     → (status ≡ ReadFault → ⊥) → (status ≡ Ok) ⊎ (status ≡ NoMemory)
-stops_for_memory command before after Ok stops good sound = inl refl
-stops_for_memory command before after Usage stops good sound = absurd stops
-stops_for_memory command before after (Script line cause) stops good sound = absurd (not_refused command before after line cause stops good)
-stops_for_memory command before after ReadFault stops good sound = absurd (sound refl)
-stops_for_memory command before after WriteFault stops good sound = absurd stops
-stops_for_memory command before after NoMemory stops good sound = inr refl
-stops_for_memory command before after TooLong stops good sound = absurd (not_long command before after stops good)
+stops_for_memory wanted before after Ok stops good sound = inl refl
+stops_for_memory wanted before after Usage stops good sound = absurd stops
+stops_for_memory wanted before after (Script line cause) stops good sound = absurd (not_refused wanted before after (Script line cause) stops good)
+stops_for_memory wanted before after (Trace line) stops good sound = absurd (not_refused wanted before after (Trace line) stops good)
+stops_for_memory wanted before after ReadFault stops good sound = absurd (sound refl)
+stops_for_memory wanted before after WriteFault stops good sound = absurd stops
+stops_for_memory wanted before after NoMemory stops good sound = inr refl
+stops_for_memory wanted before after TooLong stops good sound = absurd (not_long wanted.most before after good.input stops good.told)
 
 -- the words are of the command that stopped
 pub gives_up : (words : List (List ℕ)) (command : Command) (before after : Known) (status : Status) → IsAsked words command
-    → Stops command before after status → IsOf words (λ c. HasGoodInput c before) → (status ≡ ReadFault → ⊥) → (status ≡ Ok) ⊎ (status ≡ NoMemory)
+    → Stops (work command).reads before after status → IsOf words (λ c. HasGoodInput (work c).reads before) → (status ≡ ReadFault → ⊥)
+    → (status ≡ Ok) ⊎ (status ≡ NoMemory)
 gives_up words command before after status asked stops of sound =
     let same : of.command ≡ command = one_command of.command command words of.asked asked in
-    stops_for_memory command before after status stops (subst (λ (c : Command). HasGoodInput c before) same of.holds) sound
+    stops_for_memory (work command).reads before after status stops (subst (λ (c : Command). HasGoodInput (work c).reads before) same of.holds) sound
 
 -- a read fault that is told was counted
 pub told_rose : (status : Status) (before now : ℕ) → CountsReads status before now → status ≡ ReadFault → Rose before now
 told_rose status before now counts is =
     let one : now ≡ one_more before = subst (λ (s : Status). CountsReads s before now) is counts in
     subst (λ (n : ℕ). one_more before ≤ n) (sym one) (le_refl (one_more before))
+
+-- ---- how much was read
+
+-- a whole input is within its limit
+input_within : (most : Option ℕ) (before after : Known) (input : List ℕ) → HasInput most before after input → IsWithin most before after
+input_within (Some most) before after input read = (input, read.consumed, read.fits)
+input_within None before after input read = read.0
+
+stops_within : (wanted : Input) (before after : Known) (status : Status) → Stops wanted before after status → (status ≡ TooLong → ⊥)
+    → IsWithin wanted.most before after
+stops_within wanted before after Ok stops short = absurd stops
+stops_within wanted before after Usage stops short = absurd stops
+stops_within wanted before after (Script line cause) stops short = input_within wanted.most before after stops.input stops.read
+stops_within wanted before after (Trace line) stops short = input_within wanted.most before after stops.input stops.read
+stops_within wanted before after ReadFault stops short = stops
+stops_within wanted before after WriteFault stops short = absurd stops
+stops_within wanted before after NoMemory stops short = stops
+stops_within wanted before after TooLong stops short = absurd (short refl)
+
+-- what holds of the command that was read holds of the one that the words are
+of_command : (words : List (List ℕ)) (command : Command) (P : Command → Type 0) → IsAsked words command → P command → AllOf words P
+of_command words command P asked holds = λ c also. subst P (one_command command c words asked also) holds
+
+pub all_stops : (words : List (List ℕ)) (command : Command) (before after : Known) (status : Status) → IsAsked words command
+    → Stops (work command).reads before after status → (status ≡ TooLong → ⊥) → AllOf words (λ c. IsWithin (work c).reads.most before after)
+all_stops words command before after status asked stops short =
+    of_command words command (λ c. IsWithin (work c).reads.most before after) asked (stops_within (work command).reads before after status stops short)
+
+pub all_read : (words : List (List ℕ)) (command : Command) (before after : Known) (input : List ℕ) → IsAsked words command
+    → HasInput (work command).reads.most before after input → AllOf words (λ c. IsWithin (work c).reads.most before after)
+all_read words command before after input asked read =
+    of_command words command (λ c. IsWithin (work c).reads.most before after) asked (input_within (work command).reads.most before after input read)

@@ -3,3 +3,4 @@ pub mod CommandLineLemmas
 pub mod OneCommand
 pub mod Completing
 pub mod Running
+pub mod Judging

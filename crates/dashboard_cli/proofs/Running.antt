@@ -1,25 +1,35 @@
--- What comes of a script that was read: the report of its run.
-use Rattle.std.proofs.Common.{◌≡◌, ℕ, List, refl, sym, subst, Some}
+-- What comes of an input that was read, and of none.
+use Rattle.std.proofs.Common.{◌≡◌, ℕ, List, [], Option, Some, None, refl, sym, subst}
+use Rattle.std.specs.Io.KnownBytes.{Keeps}
 use Rattle.dash_script.specs.declared.script.Script.{Script as ScriptData}
 use Rattle.dash_script.specs.Reading.{IsText}
 use Rattle.run_model.specs.declared.report.Report.{Report}
-use Rattle.run_model.specs.Text.{text}
-use Rattle.dashboard_cli.specs.Answers.{MakesOf}
 use Rattle.dash_stage.specs.Staged.{IsStaged}
+use Rattle.dashboard_cli.specs.Answers.{HasInput, HasRun, MakesOf}
 use Rattle.dashboard_cli.specs.Streams.{limit, Known, ReadsWhole}
-use Rattle.dashboard_cli.specs.declared.words.Command.TheVariants.{Run}
+use Rattle.dashboard_cli.specs.Works.{work}
+use Rattle.dashboard_cli.specs.declared.making.Returned.{Returned}
+use Rattle.dashboard_cli.specs.declared.words.Command.{Command}
 
--- the report of the input's script is written
-pub makes_run : (before after : Known) (input given out : List ℕ) (script : ScriptData) (report : Report) → ReadsWhole limit before after input → given ≡ input
-    → IsText given script → IsStaged script report → report.script ≡ script → out ≡ text report → MakesOf Run before after out (Some report)
-makes_run before after input given out script report read same is runs of written = record {
+-- the report is of the script that was read
+pub has_run : (before after : Known) (input given : List ℕ) (script : ScriptData) (report : Report) → ReadsWhole limit before after input → given ≡ input
+    → IsText given script → IsStaged script report → report.script ≡ script → HasRun before after report
+has_run before after input given script report read same is runs of = record {
   input = input;
   read = read;
-  made = record {
-    report = report;
-    read = subst (λ (s : ScriptData). IsText input s) (sym of) (subst (λ (b : List ℕ). IsText b script) same is);
-    runs = subst (λ (s : ScriptData). IsStaged s report) (sym of) runs;
-    text_is = written;
-    report_is = refl;
-  };
+  text = subst (λ (s : ScriptData). IsText input s) (sym of) (subst (λ (b : List ℕ). IsText b script) same is);
+  runs = subst (λ (s : ScriptData). IsStaged s report) (sym of) runs;
 }
+
+keeps_itself : (known : Known) → Keeps known known
+keeps_itself None = tt
+keeps_itself (Some bytes) = refl
+
+-- a command that reads nothing makes its text of no input
+pub makes_of_nothing : (command one : Command) (before : Known) (out : List ℕ) (given : Returned) → command ≡ one → (work one).reads.most ≡ None
+    → (work one).Makes [] out given → MakesOf (work command) before before out given
+makes_of_nothing command one before out given same reads made = subst (λ (c : Command). MakesOf (work c) before before out given) (sym same) (record {
+  input = [];
+  read = subst (λ (most : Option ℕ). HasInput most before before []) (sym reads) (keeps_itself before, refl);
+  made = made;
+})

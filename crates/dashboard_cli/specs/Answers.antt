@@ -1,16 +1,16 @@
 -- What the statuses of the top call say of the words, the source and the sink.
-use Rattle.std.specs.Prelude.{◌≡◌, ℕ, ◌+◌, ◌≤◌, List, [], Bool, true, false, Option, Some, length}
+use Rattle.std.specs.Prelude.{◌≡◌, ℕ, ◌+◌, ◌≤◌, List, [], Bool, true, false, Option, Some, None, length}
 use Rattle.std.specs.Io.KnownBytes.{Appends, Consumes, Keeps}
-use Rattle.dash_script.specs.declared.refusal.Cause.{Cause}
-use Rattle.dash_script.specs.declared.script.Script.{Script as ScriptData}
-use Rattle.dash_script.specs.Reading.{IsRefusal, IsText}
 use Rattle.loop_io.specs.Causes.{one_more, AppendsFront}
+use Rattle.dash_script.specs.Reading.{IsText}
+use Rattle.dash_stage.specs.Staged.{IsStaged}
 use Rattle.run_model.specs.declared.report.Report.{Report}
 use Rattle.dashboard_cli.specs.Streams.{limit, Known, ReadsWhole}
 use Rattle.dashboard_cli.specs.Words.{IsAsked}
-use Rattle.dashboard_cli.specs.Works.{reads, IsBad, IsGood, Makes}
+use Rattle.dashboard_cli.specs.Works.{Input, Work}
+use Rattle.dashboard_cli.specs.declared.making.Returned.{Returned}
 use Rattle.dashboard_cli.specs.declared.status.Status.{Status}
-use Rattle.dashboard_cli.specs.declared.status.Status.TheVariants.{Ok, Script, ReadFault, WriteFault, NoMemory, TooLong}
+use Rattle.dashboard_cli.specs.declared.status.Status.TheVariants.{Ok, Script, ReadFault, WriteFault, NoMemory, TooLong, Trace}
 use Rattle.dashboard_cli.specs.declared.words.Command.{Command}
 
 -- the words are a command of which this holds
@@ -19,65 +19,80 @@ pub record IsOf (words : List (List ℕ)) (P : Command → Type 0) : Type 0 wher
   pub asked : IsAsked words command
   pub holds : P command
 
--- the whole input of a command that reads; nothing for one that does not read
-abbrev pub HasInput : Bool → Known → Known → List ℕ → Type 0
-HasInput true before after input = ReadsWhole limit before after input
-HasInput false before after input = Keeps before after × (input ≡ [])
+-- this holds of the command that the words are, if they are one
+abbrev pub AllOf : List (List ℕ) → (Command → Type 0) → Type 0
+AllOf words P = (command : Command) → IsAsked words command → P command
 
--- the command made this text and this report of its whole input
-pub record MakesOf (command : Command) (before after : Known) (out : List ℕ) (returned : Option Report) : Type 0 where
+-- the whole input of a command that reads so many bytes at most; nothing for one that does not read
+abbrev pub HasInput : Option ℕ → Known → Known → List ℕ → Type 0
+HasInput (Some most) before after input = ReadsWhole most before after input
+HasInput None before after input = Keeps before after × (input ≡ [])
+
+-- this text and what is returned were made of the whole input
+pub record MakesOf (work : Work) (before after : Known) (out : List ℕ) (given : Returned) : Type 0 where
   pub input : List ℕ
-  pub read : HasInput (reads command) before after input
-  pub made : Makes command input out returned
+  pub read : HasInput work.reads.most before after input
+  pub made : work.Makes input out given
 
--- the text of the command is written whole
-pub record IsDone (command : Command) (before after held holds : Known) (returned : Option Report) : Type 0 where
+-- the text is written whole
+pub record IsDone (work : Work) (before after held holds : Known) (given : Returned) : Type 0 where
   pub out : List ℕ
-  pub made : MakesOf command before after out returned
+  pub made : MakesOf work before after out given
   pub written : Appends held holds out
 
--- the text of the command is made whole, and a front of it is written
-pub record IsBrokenOff (command : Command) (before after held holds : Known) (returned : Option Report) : Type 0 where
+-- the text is made whole, and a front of it is written
+pub record IsBrokenOff (work : Work) (before after held holds : Known) (given : Returned) : Type 0 where
   pub out : List ℕ
-  pub made : MakesOf command before after out returned
+  pub made : MakesOf work before after out given
   pub written : AppendsFront held holds out
 
--- the whole input is refused at this line for this cause, and it is none that the command takes
-pub record IsRefused (command : Command) (before after : Known) (line : ℕ) (cause : Cause) : Type 0 where
+-- the whole input is refused with this status, and it is none that is taken
+pub record IsRefused (wanted : Input) (before after : Known) (status : Status) : Type 0 where
   pub input : List ℕ
-  pub read : HasInput (reads command) before after input
-  pub bad : IsBad command input line cause
-  pub not_good : ¬ (IsGood command input)
+  pub read : HasInput wanted.most before after input
+  pub bad : wanted.Refuses input status
+  pub not_taken : wanted.Takes input → ⊥
 
--- the command reads, and one byte more was read than an input may have
-pub record IsTooLong (command : Command) (before after : Known) : Type 0 where
-  pub reading : reads command ≡ true
+-- so many bytes and one more were read
+abbrev pub ReadsPast : ℕ → Known → Known → Type 0
+ReadsPast most before after = (input : List ℕ) × Consumes before after input × (length input ≡ most + 1)
+
+-- the command reads, and one byte more was read than its input may have
+abbrev pub IsTooLong : Option ℕ → Known → Known → Type 0
+IsTooLong (Some most) before after = ReadsPast most before after
+IsTooLong None before after = ⊥
+
+-- no more bytes were read than these
+abbrev pub ReadsWithin : ℕ → Known → Known → Type 0
+ReadsWithin most before after = (input : List ℕ) × Consumes before after input × (length input ≤ most)
+
+-- no more bytes were read than the command's input may have
+abbrev pub IsWithin : Option ℕ → Known → Known → Type 0
+IsWithin (Some most) before after = ReadsWithin most before after
+IsWithin None before after = Keeps before after
+
+-- the source tells that this is its input, which is short enough; for a command that reads nothing it is empty
+abbrev pub IsTold : Option ℕ → Known → List ℕ → Type 0
+IsTold (Some most) before input = (before ≡ Some input) × (length input ≤ most)
+IsTold None before input = input ≡ []
+
+-- the input is told, short enough and one that is taken
+pub record HasGoodInput (wanted : Input) (before : Known) : Type 0 where
   pub input : List ℕ
-  pub read : Consumes before after input
-  pub long : length input ≡ limit + 1
-
--- no more bytes were read than an input may have
-pub record IsWithin (before after : Known) : Type 0 where
-  pub input : List ℕ
-  pub read : Consumes before after input
-  pub short : length input ≤ limit
-
--- the source tells that this is its input, which is short enough, where the command reads one
-abbrev pub IsTold : Bool → Known → List ℕ → Type 0
-IsTold true before input = (before ≡ Some input) × (length input ≤ limit)
-IsTold false before input = Unit {0}
-
--- the input is told, short enough and one that the command takes
-pub record HasGoodInput (command : Command) (before : Known) : Type 0 where
-  pub input : List ℕ
-  pub told : IsTold (reads command) before input
-  pub good : IsGood command input
+  pub told : IsTold wanted.most before input
+  pub good : wanted.Takes input
 
 -- at this status nothing was written
 abbrev pub writes_nothing : Status → Bool
 writes_nothing Ok = false
 writes_nothing WriteFault = false
 writes_nothing status = true
+
+-- this status names a bad line of the input
+abbrev pub is_refusal : Status → Bool
+is_refusal (Script line cause) = true
+is_refusal (Trace line) = true
+is_refusal status = false
 
 -- where the status tells that the source failed, it counted one fault in this call, and else none
 abbrev pub CountsReads : Status → ℕ → ℕ → Type 0
@@ -90,22 +105,24 @@ CountsWrites WriteFault before now = now ≡ one_more before
 CountsWrites status before now = now ≡ before
 
 -- why a command stopped before its text was made
-abbrev pub Stops : Command → Known → Known → Status → Type 0
-Stops command before after ReadFault = IsWithin before after
-Stops command before after TooLong = IsTooLong command before after
-Stops command before after (Script line cause) = IsRefused command before after line cause
-Stops command before after NoMemory = IsWithin before after
-Stops command before after status = ⊥
+abbrev pub Stops : Input → Known → Known → Status → Type 0
+Stops wanted before after ReadFault = IsWithin wanted.most before after
+Stops wanted before after TooLong = IsTooLong wanted.most before after
+Stops wanted before after (Script line cause) = IsRefused wanted before after (Script line cause)
+Stops wanted before after (Trace line) = IsRefused wanted before after (Trace line)
+Stops wanted before after NoMemory = IsWithin wanted.most before after
+Stops wanted before after status = ⊥
 
 -- why an input was not read whole
-abbrev pub StopsReading : Known → Known → Status → Type 0
-StopsReading before after ReadFault = IsWithin before after
-StopsReading before after TooLong = (input : List ℕ) × Consumes before after input × (length input ≡ limit + 1)
-StopsReading before after NoMemory = IsWithin before after
-StopsReading before after status = ⊥
+abbrev pub StopsReading : ℕ → Known → Known → Status → Type 0
+StopsReading most before after ReadFault = ReadsWithin most before after
+StopsReading most before after TooLong = ReadsPast most before after
+StopsReading most before after NoMemory = ReadsWithin most before after
+StopsReading most before after status = ⊥
 
--- why no script was read of an input
-abbrev pub IsNoScript : List ℕ → Status → Type 0
-IsNoScript input (Script line cause) = IsRefusal input line cause × ((s : ScriptData) → IsText input s → ⊥)
-IsNoScript input NoMemory = Unit {0}
-IsNoScript input status = ⊥
+-- this report is of a run of the script that the input is the text of
+pub record HasRun (before after : Known) (report : Report) : Type 0 where
+  pub input : List ℕ
+  pub read : ReadsWhole limit before after input
+  pub text : IsText input report.script
+  pub runs : IsStaged report.script report

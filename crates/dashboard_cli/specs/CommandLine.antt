@@ -4,7 +4,7 @@ use Rattle.std.specs.Fmt.{decimal}
 use Rattle.clap.specs.Words.{App, Row, Rule, first_of, new_app, new_rule, one_of, with_rule, with_subcommand}
 use Rattle.clap.specs.declared.builder.ArgAction.TheVariants.{SetTrue}
 use Rattle.dashboard_cli.specs.declared.words.Command.{Command}
-use Rattle.dashboard_cli.specs.declared.words.Command.TheVariants.{Run, Text, Make, MakeRun}
+use Rattle.dashboard_cli.specs.declared.words.Command.TheVariants.{Run, Text, Make, MakeRun, Trace, Check, Animate}
 
 -- a flag without a value
 abbrev pub flag_rule : List ℕ → Rule
@@ -16,6 +16,15 @@ run_app = new_app (codes "run")
 abbrev pub text_app : App
 text_app = new_app (codes "text")
 
+abbrev pub trace_app : App
+trace_app = new_app (codes "trace")
+
+abbrev pub check_app : App
+check_app = new_app (codes "check")
+
+abbrev pub animate_app : App
+animate_app = new_app (codes "animate")
+
 abbrev pub make_app : App
 make_app = with_rule (with_rule (new_app (codes "make")) (new_rule (codes "number"))) (flag_rule (codes "run"))
 
@@ -25,8 +34,13 @@ without_help app = record app {
   top = record app.top { no_binary_name = true; disable_help_flag = true; disable_help_subcommand = true };
 }
 
+-- the line with one subcommand more
+abbrev pub and_one : App → App → App
+and_one app one = with_subcommand app one.top
+
 abbrev pub dashboard_app : App
-dashboard_app = with_subcommand (with_subcommand (with_subcommand (without_help (new_app (codes "dashboard"))) run_app.top) text_app.top) make_app.top
+dashboard_app =
+    and_one (and_one (and_one (and_one (and_one (and_one (without_help (new_app (codes "dashboard"))) run_app) text_app) make_app) trace_app) check_app) animate_app
 
 -- the first word of a command
 abbrev pub name_of : Command → List ℕ
@@ -34,6 +48,9 @@ name_of Run = codes "run"
 name_of Text = codes "text"
 name_of (Make number) = codes "make"
 name_of (MakeRun number) = codes "make"
+name_of Trace = codes "trace"
+name_of Check = codes "check"
+name_of Animate = codes "animate"
 
 -- the matches give this number, and this value of the flag
 abbrev pub HasNumber : List ℕ → List ℕ → List Row → Type 0
@@ -41,10 +58,9 @@ HasNumber number runs rows = (first_of (codes "number") rows ≡ Some number) ×
 
 -- the matches that stand for a command
 abbrev pub HasRows : Command → List Row → Type 0
-HasRows Run rows = Unit {0}
-HasRows Text rows = Unit {0}
 HasRows (Make number) rows = HasNumber (decimal number) (codes "false") rows
 HasRows (MakeRun number) rows = HasNumber (decimal number) (codes "true") rows
+HasRows command rows = Unit {0}
 
 -- the parser found the command: its subcommand, with its matches
 abbrev pub IsFound : Command → Option (List ℕ × List Row) → Type 0

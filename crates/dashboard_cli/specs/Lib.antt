@@ -2,5 +2,6 @@ pub mod Status
 pub mod Streams
 pub mod Words
 pub mod CommandLine
+pub mod Verdicts
 pub mod Works
 pub mod Answers

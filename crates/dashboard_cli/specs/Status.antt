@@ -4,7 +4,7 @@ use Rattle.std.specs.Fmt.{decimal}
 use Rattle.dash_script.specs.declared.refusal.Cause.{Cause}
 use Rattle.dash_script.specs.declared.refusal.Cause.TheVariants.{Form, Range, Unknown, Order, TooMany, Missing}
 use Rattle.dashboard_cli.specs.declared.status.Status.{Status}
-use Rattle.dashboard_cli.specs.declared.status.Status.TheVariants.{Ok, Usage, Script, ReadFault, WriteFault, NoMemory, TooLong}
+use Rattle.dashboard_cli.specs.declared.status.Status.TheVariants.{Ok, Usage, Script, ReadFault, WriteFault, NoMemory, TooLong, Trace}
 
 -- what the process ends with
 abbrev pub code_of : Status → ℕ
@@ -15,6 +15,7 @@ code_of ReadFault = 4
 code_of WriteFault = 5
 code_of NoMemory = 6
 code_of TooLong = 7
+code_of (Trace line) = 8
 
 -- the word for what is wrong with a line
 abbrev pub cause_word : Cause → List ℕ
@@ -34,3 +35,4 @@ status_line ReadFault = codes "dashboard: read fault"
 status_line WriteFault = codes "dashboard: write fault"
 status_line NoMemory = codes "dashboard: no memory"
 status_line TooLong = codes "dashboard: too long"
+status_line (Trace line) = codes "dashboard: trace line " ++ decimal line

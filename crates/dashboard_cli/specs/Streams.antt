@@ -5,9 +5,13 @@ use Rattle.dashboard_cli.specs.declared.reading.ReadError.{ReadError}
 use Rattle.dashboard_cli.specs.declared.reading.ReadError.TheVariants.{Failed, TooLong}
 use Rattle.loop_io.specs.Causes.{one_more}
 
--- the most bytes that an input may have
+-- the most bytes that a script or a plan may have
 abbrev pub limit : ℕ
 limit = 1048576
+
+-- the most bytes that a trace may have
+abbrev pub trace_limit : ℕ
+trace_limit = 67108864
 
 -- the bytes that a source has left, or that a sink holds, where it tells them
 abbrev pub Known : Type 0

@@ -1,62 +1,163 @@
--- What each command makes of its input, and which inputs it refuses.
-use Rattle.std.specs.Prelude.{◌≡◌, ℕ, Bool, true, false, List, Option, Some, None}
-use Rattle.dash_script.specs.declared.refusal.Cause.{Cause}
-use Rattle.dash_script.specs.declared.script.Script.{Script}
+-- What each command does: how many bytes it reads, which inputs it takes, how it refuses another, and what it makes.
+use Rattle.std.specs.Prelude.{◌≡◌, ℕ, List, Option, Some, None}
+use Rattle.dash_script.specs.declared.script.Script.{Script as ScriptData}
 use Rattle.dash_script.specs.Generated.{generated}
 use Rattle.dash_script.specs.Reading.{IsRefusal, IsText}
 use Rattle.dash_script.specs.Text.{text as script_text}
+use Rattle.frame_phases.specs.declared.entry.FrameRecord.{FrameRecord}
 use Rattle.run_model.specs.declared.report.Report.{Report}
 use Rattle.run_model.specs.Text.{summary, text}
 use Rattle.dash_stage.specs.Staged.{IsStaged}
+use Rattle.trace_check.specs.declared.trace.Trace.{Trace as TraceData}
+use Rattle.trace_check.specs.Records.{trace_of}
+use Rattle.trace_check.specs.Text.{IsLeastBad, IsText as IsTraceText, text as trace_text}
+use Rattle.value_animator.specs.declared.plan.Values.{Values}
+use Rattle.value_animator.specs.Least.{IsLeastBad as IsLeastBadOfValues}
+use Rattle.value_animator.specs.Reading.{IsRefusal as IsValuesRefusal, IsText as IsValuesText}
+use Rattle.value_animator.specs.Run.{IsRunOf}
+use Rattle.dashboard_cli.specs.Streams.{limit, trace_limit}
+use Rattle.dashboard_cli.specs.Verdicts.{verdict_text, IsVerdict}
+use Rattle.dashboard_cli.specs.declared.making.Returned.{Returned}
+use Rattle.dashboard_cli.specs.declared.top_call.Outcome.{Outcome}
+use Rattle.dashboard_cli.specs.declared.verdict.Verdict.{Verdict}
+use Rattle.dashboard_cli.specs.declared.status.Status.{Status}
+use Rattle.dashboard_cli.specs.declared.status.Status.TheVariants.{NoMemory, Script, Trace}
 use Rattle.dashboard_cli.specs.declared.words.Command.{Command}
-use Rattle.dashboard_cli.specs.declared.words.Command.TheVariants.{Run, Text, Make, MakeRun}
+use Rattle.dashboard_cli.specs.declared.words.Command.TheVariants as command
 
--- the command reads its source
-abbrev pub reads : Command → Bool
-reads Run = true
-reads Text = true
-reads (Make number) = false
-reads (MakeRun number) = false
+-- ---- what is returned beside a text
 
--- the input is the text of the report's script, and the report is written
-pub record WritesReport (input out : List ℕ) (returned : Option Report) : Type 0 where
+abbrev pub nothing : Returned
+nothing = record { report = None; frames = None }
+
+abbrev pub only_report : Report → Returned
+only_report report = record { report = Some report; frames = None }
+
+abbrev pub only_frames : FrameRecord → Returned
+only_frames frames = record { report = None; frames = Some frames }
+
+-- what an outcome returns beside its status
+abbrev pub returned : Outcome → Returned
+returned outcome = record { report = outcome.report; frames = outcome.frames }
+
+-- ---- inputs that are taken or refused
+
+-- the input is the text of a script
+abbrev pub IsScript : List ℕ → Type 0
+IsScript input = (script : ScriptData) × IsText input script
+
+-- the input is the text of a plan of values
+abbrev pub IsPlan : List ℕ → Type 0
+IsPlan input = (values : Values) × IsValuesText input values
+
+-- the input is the text of a trace
+abbrev pub IsTrace : List ℕ → Type 0
+IsTrace input = (trace : TraceData) × IsTraceText input trace
+
+-- the status names the least bad line of what should be a script, and its first cause
+abbrev pub RefusesScript : List ℕ → Status → Type 0
+RefusesScript input (Script line cause) = IsRefusal input line cause
+RefusesScript input status = ⊥
+
+-- the status names the least bad line of what should be a plan of values, and its first cause
+abbrev pub RefusesPlan : List ℕ → Status → Type 0
+RefusesPlan input (Script line cause) = IsValuesRefusal input line cause × IsLeastBadOfValues input line
+RefusesPlan input status = ⊥
+
+-- the status names the least bad line of what should be a trace
+abbrev pub RefusesTrace : List ℕ → Status → Type 0
+RefusesTrace input (Trace line) = IsLeastBad input line
+RefusesTrace input status = ⊥
+
+-- ---- what is made of an input
+
+-- the input is the text of the report's script, and what is printed of the report is written
+pub record WritesRun (printed : Report → List ℕ) (input out : List ℕ) (given : Returned) : Type 0 where
   pub report : Report
   pub read : IsText input report.script
   pub runs : IsStaged report.script report
-  pub text_is : out ≡ text report
-  pub report_is : returned ≡ Some report
+  pub text_is : out ≡ printed report
+  pub given_is : given ≡ only_report report
 
 -- the input is the text of a script, and it is written
-pub record WritesScript (input out : List ℕ) (returned : Option Report) : Type 0 where
-  pub script : Script
+pub record WritesScript (input out : List ℕ) (given : Returned) : Type 0 where
+  pub script : ScriptData
   pub read : IsText input script
   pub text_is : out ≡ input
-  pub report_is : returned ≡ None
+  pub given_is : given ≡ nothing
+
+-- the script that is made from the number is written
+pub record WritesGenerated (number : ℕ) (out : List ℕ) (given : Returned) : Type 0 where
+  pub text_is : out ≡ script_text (generated number)
+  pub given_is : given ≡ nothing
 
 -- the script that is made from the number is run, and the summary is written
-pub record WritesSummary (number : ℕ) (out : List ℕ) (returned : Option Report) : Type 0 where
+pub record WritesSummary (number : ℕ) (out : List ℕ) (given : Returned) : Type 0 where
   pub report : Report
   pub runs : IsStaged (generated number) report
   pub text_is : out ≡ summary number report
-  pub report_is : returned ≡ Some report
+  pub given_is : given ≡ only_report report
 
--- what a command writes of its input, and the report that it returns
-abbrev pub Makes : Command → List ℕ → List ℕ → Option Report → Type 0
-Makes Run input out returned = WritesReport input out returned
-Makes Text input out returned = WritesScript input out returned
-Makes (Make number) input out returned = (out ≡ script_text (generated number)) × (returned ≡ None)
-Makes (MakeRun number) input out returned = WritesSummary number out returned
+-- the input is the text of a trace, and the verdict on its queues is written
+pub record WritesVerdict (input out : List ℕ) (given : Returned) : Type 0 where
+  pub trace : TraceData
+  pub verdict : Verdict
+  pub read : IsTraceText input trace
+  pub judged : IsVerdict trace.queues verdict
+  pub text_is : out ≡ verdict_text verdict
+  pub given_is : given ≡ nothing
 
--- why a command refuses its input: it is the text of no script, and this is its refusal
-abbrev pub IsBad : Command → List ℕ → ℕ → Cause → Type 0
-IsBad Run input line cause = IsRefusal input line cause
-IsBad Text input line cause = IsRefusal input line cause
-IsBad (Make number) input line cause = ⊥
-IsBad (MakeRun number) input line cause = ⊥
+-- the input is the text of values, and what their run tells is written
+pub record WritesValues (input out : List ℕ) (given : Returned) : Type 0 where
+  pub values : Values
+  pub frames : FrameRecord
+  pub read : IsValuesText input values
+  pub runs : IsRunOf values out frames
+  pub given_is : given ≡ only_frames frames
 
--- the input is one that the command takes
-abbrev pub IsGood : Command → List ℕ → Type 0
-IsGood Run input = (script : Script) × IsText input script
-IsGood Text input = (script : Script) × IsText input script
-IsGood (Make number) input = Unit {0}
-IsGood (MakeRun number) input = Unit {0}
+-- ---- the commands
+
+-- what a command reads
+pub record Input : Type 1 where
+  -- the most bytes, or None where it reads nothing
+  pub most : Option ℕ
+  -- the inputs that it takes
+  pub Takes : List ℕ → Type 0
+  -- the status with which it refuses an input
+  pub Refuses : List ℕ → Status → Type 0
+
+abbrev pub scripts : Input
+scripts = record { most = Some limit; Takes = IsScript; Refuses = RefusesScript }
+
+abbrev pub plans : Input
+plans = record { most = Some limit; Takes = IsPlan; Refuses = RefusesPlan }
+
+abbrev pub traces : Input
+traces = record { most = Some trace_limit; Takes = IsTrace; Refuses = RefusesTrace }
+
+abbrev pub no_input : Input
+no_input = record { most = None; Takes = λ input. Unit {0}; Refuses = λ input status. ⊥ }
+
+-- what a command does
+pub record Work : Type 1 where
+  -- what it reads
+  pub reads : Input
+  -- the text that it makes of an input, and what is returned beside it
+  pub Makes : List ℕ → List ℕ → Returned → Type 0
+
+-- the table of the commands
+abbrev pub work : Command → Work
+work command.Run = record { reads = scripts; Makes = WritesRun text }
+work command.Text = record { reads = scripts; Makes = WritesScript }
+work (command.Make number) = record { reads = no_input; Makes = λ input. WritesGenerated number }
+work (command.MakeRun number) = record { reads = no_input; Makes = λ input. WritesSummary number }
+work command.Trace = record { reads = scripts; Makes = WritesRun (λ report. trace_text (trace_of report.queues)) }
+work command.Check = record { reads = traces; Makes = WritesVerdict }
+work command.Animate = record { reads = plans; Makes = WritesValues }
+
+-- ---- why no input was understood
+
+-- the status refuses the input, which is none that is taken, or there was no memory
+abbrev pub IsNone : Input → List ℕ → Status → Type 0
+IsNone wanted input NoMemory = Unit {0}
+IsNone wanted input status = wanted.Refuses input status × (wanted.Takes input → ⊥)

@@ -2,15 +2,17 @@
 //! sink. Its status says how that went.
 #![tactic(auto)]
 
+mod inputs;
 mod making;
 mod reading;
 mod status;
 mod top_call;
+mod verdict;
 mod words;
 mod writing;
 
 pub use dash_report::{report_text, summary_text};
-pub use reading::{MOST_BYTES, ReadError, read_whole};
+pub use reading::{MOST_BYTES, MOST_TRACE_BYTES, ReadError, read_whole};
 pub use run_model::Report;
 pub use status::{Status, status_text};
 pub use top_call::{Outcome, dashboard};

@@ -1,31 +1,74 @@
 // The text of each command, made whole before it is written.
-ghost use Rattle.std.specs.Prelude.{◌≡◌, [], false, IfErr, IfOk};
-ghost use Rattle.dash_script.specs.Generated.{generated};
-ghost use Rattle.dash_script.specs.Reading.{HasText, IsText};
-ghost use Rattle.dash_script.specs.Text.{text as script_text};
-ghost use Rattle.dashboard_cli.specs.Answers.{CountsReads, IsNoScript, MakesOf, Stops, StopsReading};
-ghost use Rattle.dashboard_cli.specs.Streams.{limit, ReadsWhole};
+ghost use Rattle.std.specs.Prelude.{◌≡◌, [], None, IfErr, IfOk};
+ghost use Rattle.dash_script.specs.Reading.{HasText};
+ghost use Rattle.dashboard_cli.specs.Answers.{CountsReads, HasRun, MakesOf, Stops};
+ghost use Rattle.dashboard_cli.specs.Works.{plans, scripts, traces, work};
 ghost use Rattle.dash_stage.specs.Staged.{IsStaged};
-ghost use Rattle.dashboard_cli.specs.Works.{reads, Makes};
+ghost use Rattle.value_animator.specs.Plans.{AreValues};
+ghost use Rattle.value_animator.specs.Run.{IsRunOf};
 
-use crate::reading::{MOST_BYTES, ReadError, read_whole};
+use crate::inputs::{read_input, read_plan, read_script, read_trace};
+use crate::reading::{MOST_BYTES, MOST_TRACE_BYTES};
 use crate::status::Status;
+use crate::verdict::{judge, verdict_text};
 use crate::words::Command;
 use dash_report::{report_text, summary_text};
-use dash_script::{Parsed, Script, make_script, parse, print};
+use dash_script::{Script, make_script, print};
 use dash_stage::{Ran, run_script};
+use frame_phases::FrameRecord;
 use loop_io::{Gate, Source};
 use loop_model::NoMemory;
 use run_model::Report;
 use std::alloc::Global;
 use std::sync::Wait;
 use std::thread::Threads;
+use trace_check::print_records;
+use value_animator::{Values, ValuesRan, run_values};
 
-/// A text that is ready to be written, and the report of the run that it came from.
+/// What is returned beside a text: the report or the frames of the run that it came from.
+#[derive(Drop)]
+pub(crate) struct Returned {
+    pub report: Option<Report>,
+    pub frames: Option<FrameRecord>,
+}
+
+impl Returned {
+    ghost use Rattle.std.specs.Prelude.{◌≡◌};
+    ghost use Rattle.dashboard_cli.specs.Works.{nothing, only_report, only_frames};
+
+    pub(crate) fn nothing() -> Returned
+        ensures { result ≡ nothing }
+    {
+        Returned {
+            report: None,
+            frames: None,
+        }
+    }
+
+    fn report(report: Report) -> Returned
+        ensures { result ≡ only_report report }
+    {
+        Returned {
+            report: Some(report),
+            frames: None,
+        }
+    }
+
+    fn frames(frames: FrameRecord) -> Returned
+        ensures { result ≡ only_frames frames }
+    {
+        Returned {
+            report: None,
+            frames: Some(frames),
+        }
+    }
+}
+
+/// A text that is ready to be written, and what is returned beside it.
 #[derive(Drop)]
 pub(crate) struct Product {
     pub text: Vec<u8>,
-    pub report: Option<Report>,
+    pub returned: Returned,
 }
 
 impl From<NoMemory> for Status {
@@ -47,9 +90,9 @@ pub(crate) fn produce<R: Threads + Wait + Sync, S: Source, G: Gate + Sync>(
     source: &mut S,
     gate: &G,
 ) -> Result<Product, Status>
-    ensures made { IfOk result (λ product. MakesOf command (S.left source.old) (S.left source.new) product.text.items product.report) }
-    ensures stopped { IfErr result (Stops command (S.left source.old) (S.left source.new)) }
-    ensures unread { reads command ≡ false → source.new ≡ source.old }
+    ensures made { IfOk result (λ product. MakesOf (work command) (S.left source.old) (S.left source.new) product.text.items product.returned) }
+    ensures stopped { IfErr result (Stops (work command).reads (S.left source.old) (S.left source.new)) }
+    ensures unread { (work command).reads.most ≡ None → source.new ≡ source.old }
     ensures sound { IfOk result (λ _. S.faults source.new ≡ S.faults source.old) }
     ensures failed { IfErr result (λ status. CountsReads status (S.faults source.old) (S.faults source.new)) }
 {
@@ -58,6 +101,9 @@ pub(crate) fn produce<R: Threads + Wait + Sync, S: Source, G: Gate + Sync>(
         Command::Text => print_input(alloc, source),
         Command::Make { number } => print_made(alloc, number),
         Command::MakeRun { number } => run_made(rt, alloc, number, gate),
+        Command::Trace => trace_input(rt, alloc, source, gate),
+        Command::Check => check_input(alloc, source),
+        Command::Animate => animate_input(alloc, source),
     }
 }
 
@@ -68,42 +114,40 @@ fn run_input<R: Threads + Wait + Sync, S: Source, G: Gate + Sync>(
     source: &mut S,
     gate: &G,
 ) -> Result<Product, Status>
-    ensures made { IfOk result (λ product. MakesOf Command.Run (S.left source.old) (S.left source.new) product.text.items product.report) }
-    ensures stopped { IfErr result (Stops Command.Run (S.left source.old) (S.left source.new)) }
+    ensures made { IfOk result (λ product. MakesOf (work Command.Run) (S.left source.old) (S.left source.new) product.text.items product.returned) }
+    ensures stopped { IfErr result (Stops scripts (S.left source.old) (S.left source.new)) }
     ensures sound { IfOk result (λ _. S.faults source.new ≡ S.faults source.old) }
     ensures failed { IfErr result (λ status. CountsReads status (S.faults source.old) (S.faults source.new)) }
 {
-    let input = read_input(alloc, source)?;
-    let script = read_script(alloc, input.as_slice())?;
-    let report = run(rt, alloc, script, gate)?;
+    let report = read_and_run(rt, alloc, source, gate)?;
     let text = report_text(alloc, &report)?;
-    Ok(Product {
-        text,
-        report: Some(report),
-    })
+    let returned = Returned::report(report);
+    Ok(Product { text, returned })
 }
 
 /// Reads a script, and prints it.
 fn print_input<S: Source>(alloc: Global, source: &mut S) -> Result<Product, Status>
-    ensures made { IfOk result (λ product. MakesOf Command.Text (S.left source.old) (S.left source.new) product.text.items product.report) }
-    ensures stopped { IfErr result (Stops Command.Text (S.left source.old) (S.left source.new)) }
+    ensures made { IfOk result (λ product. MakesOf (work Command.Text) (S.left source.old) (S.left source.new) product.text.items product.returned) }
+    ensures stopped { IfErr result (Stops scripts (S.left source.old) (S.left source.new)) }
     ensures sound { IfOk result (λ _. S.faults source.new ≡ S.faults source.old) }
     ensures failed { IfErr result (λ status. CountsReads status (S.faults source.old) (S.faults source.new)) }
 {
-    let input = read_input(alloc, source)?;
+    let input = read_input(alloc, source, MOST_BYTES)?;
     let script = read_script(alloc, input.as_slice())?;
     let text = print(alloc, &script)?;
-    Ok(Product { text, report: None })
+    let returned = Returned::nothing();
+    Ok(Product { text, returned })
 }
 
 /// Prints the script that is made from the number.
 fn print_made(alloc: Global, number: u32) -> Result<Product, Status>
-    ensures made { IfOk result (λ product. Makes (Command.Make number) [] product.text.items product.report) }
+    ensures made { IfOk result (λ product. (work (Command.Make number)).Makes [] product.text.items product.returned) }
     ensures stopped { IfErr result (λ status. status ≡ Status.NoMemory) }
 {
     let script = make_script(alloc, number)?;
     let text = print(alloc, &script)?;
-    Ok(Product { text, report: None })
+    let returned = Returned::nothing();
+    Ok(Product { text, returned })
 }
 
 /// Runs the script that is made from the number, and makes the text of its summary.
@@ -113,43 +157,78 @@ fn run_made<R: Threads + Wait + Sync, G: Gate + Sync>(
     number: u32,
     gate: &G,
 ) -> Result<Product, Status>
-    ensures made { IfOk result (λ product. Makes (Command.MakeRun number) [] product.text.items product.report) }
+    ensures made { IfOk result (λ product. (work (Command.MakeRun number)).Makes [] product.text.items product.returned) }
     ensures stopped { IfErr result (λ status. status ≡ Status.NoMemory) }
 {
     let script = make_script(alloc, number)?;
     let report = run(rt, alloc, script, gate)?;
     let text = summary_text(alloc, number, &report)?;
-    Ok(Product {
-        text,
-        report: Some(report),
-    })
+    let returned = Returned::report(report);
+    Ok(Product { text, returned })
 }
 
-/// Reads the input whole.
-fn read_input<S: Source>(alloc: Global, source: &mut S) -> Result<Vec<u8>, Status>
-    ensures whole { IfOk result (λ input. ReadsWhole limit (S.left source.old) (S.left source.new) input.items) }
-    ensures stopped { IfErr result (StopsReading (S.left source.old) (S.left source.new)) }
+/// Reads a script, runs it, and prints the histories of its queues.
+fn trace_input<R: Threads + Wait + Sync, S: Source, G: Gate + Sync>(
+    rt: &R,
+    alloc: Global,
+    source: &mut S,
+    gate: &G,
+) -> Result<Product, Status>
+    ensures made { IfOk result (λ product. MakesOf (work Command.Trace) (S.left source.old) (S.left source.new) product.text.items product.returned) }
+    ensures stopped { IfErr result (Stops scripts (S.left source.old) (S.left source.new)) }
     ensures sound { IfOk result (λ _. S.faults source.new ≡ S.faults source.old) }
     ensures failed { IfErr result (λ status. CountsReads status (S.faults source.old) (S.faults source.new)) }
 {
-    match read_whole(alloc, source, MOST_BYTES) {
-        Ok(input) => Ok(input),
-        Err(ReadError::Failed) => Err(Status::ReadFault),
-        Err(ReadError::TooLong) => Err(Status::TooLong),
-        Err(ReadError::NoMemory) => Err(Status::NoMemory),
-    }
+    let report = read_and_run(rt, alloc, source, gate)?;
+    let text = print_records(alloc, report.queues.as_slice())?;
+    let returned = Returned::report(report);
+    Ok(Product { text, returned })
 }
 
-/// The script of a text.
-fn read_script(alloc: Global, input: &[u8]) -> Result<Script, Status>
-    ensures read { IfOk result (λ script. IsText input.now script) }
-    ensures refused { IfErr result (IsNoScript input.now) }
+/// Reads histories of queues, and tells whether each is legal.
+fn check_input<S: Source>(alloc: Global, source: &mut S) -> Result<Product, Status>
+    ensures made { IfOk result (λ product. MakesOf (work Command.Check) (S.left source.old) (S.left source.new) product.text.items product.returned) }
+    ensures stopped { IfErr result (Stops traces (S.left source.old) (S.left source.new)) }
+    ensures sound { IfOk result (λ _. S.faults source.new ≡ S.faults source.old) }
+    ensures failed { IfErr result (λ status. CountsReads status (S.faults source.old) (S.faults source.new)) }
 {
-    match parse(alloc, input) {
-        Parsed::Ok(script) => Ok(script),
-        Parsed::Bad { line, cause } => Err(Status::Script { line, cause }),
-        Parsed::NoMemory => Err(Status::NoMemory),
-    }
+    let input = read_input(alloc, source, MOST_TRACE_BYTES)?;
+    let trace = read_trace(alloc, input.as_slice())?;
+    let verdict = judge(alloc, trace.queues.as_slice())?;
+    let text = verdict_text(alloc, verdict)?;
+    let returned = Returned::nothing();
+    Ok(Product { text, returned })
+}
+
+/// Reads a plan of values, and runs it over frames.
+fn animate_input<S: Source>(alloc: Global, source: &mut S) -> Result<Product, Status>
+    ensures made { IfOk result (λ product. MakesOf (work Command.Animate) (S.left source.old) (S.left source.new) product.text.items product.returned) }
+    ensures stopped { IfErr result (Stops plans (S.left source.old) (S.left source.new)) }
+    ensures sound { IfOk result (λ _. S.faults source.new ≡ S.faults source.old) }
+    ensures failed { IfErr result (λ status. CountsReads status (S.faults source.old) (S.faults source.new)) }
+{
+    let input = read_input(alloc, source, MOST_BYTES)?;
+    let values = read_plan(alloc, input.as_slice())?;
+    let (text, frames) = animate(alloc, &values)?;
+    let returned = Returned::frames(frames);
+    Ok(Product { text, returned })
+}
+
+/// Reads a script and runs it.
+fn read_and_run<R: Threads + Wait + Sync, S: Source, G: Gate + Sync>(
+    rt: &R,
+    alloc: Global,
+    source: &mut S,
+    gate: &G,
+) -> Result<Report, Status>
+    ensures ran { IfOk result (HasRun (S.left source.old) (S.left source.new)) }
+    ensures stopped { IfErr result (Stops scripts (S.left source.old) (S.left source.new)) }
+    ensures sound { IfOk result (λ _. S.faults source.new ≡ S.faults source.old) }
+    ensures failed { IfErr result (λ status. CountsReads status (S.faults source.old) (S.faults source.new)) }
+{
+    let input = read_input(alloc, source, MOST_BYTES)?;
+    let script = read_script(alloc, input.as_slice())?;
+    Ok(run(rt, alloc, script, gate)?)
 }
 
 /// Runs a script.
@@ -166,5 +245,16 @@ fn run<R: Threads + Wait + Sync, G: Gate + Sync>(
     match run_script(rt, alloc, script, gate) {
         Ran::Ok(report) => Ok(report),
         Ran::NoMemory => Err(NoMemory),
+    }
+}
+
+/// Runs values over frames.
+fn animate(alloc: Global, values: &Values) -> Result<(Vec<u8>, FrameRecord), NoMemory>
+    requires { AreValues values.now }
+    ensures { IfOk result (λ made. IsRunOf values.now made.0.items made.1) }
+{
+    match run_values(alloc, values) {
+        ValuesRan::Ok { text, frames } => Ok((text, frames)),
+        ValuesRan::NoMemory => Err(NoMemory),
     }
 }

@@ -6,8 +6,11 @@ ghost use Rattle.dashboard_cli.specs.Streams.{ReadsWhole, ReadsPart, Counts};
 use loop_io::Source;
 use std::alloc::Global;
 
-/// The most bytes that an input may have.
+/// The most bytes that a script or a plan may have.
 pub const MOST_BYTES: usize = 1_048_576;
+
+/// The most bytes that a trace may have.
+pub const MOST_TRACE_BYTES: usize = 67_108_864;
 
 const PIECE: usize = 4096;
 

@@ -24,6 +24,8 @@ pub enum Status {
     NoMemory,
     /// The input has more bytes than are read.
     TooLong,
+    /// The input is the text of no trace: its least bad line, counted from 1.
+    Trace { line: u64 },
 }
 
 impl Status {
@@ -42,6 +44,7 @@ impl Status {
             Status::WriteFault => 5,
             Status::NoMemory => 6,
             Status::TooLong => 7,
+            Status::Trace { .. } => 8,
         }
     }
 }
@@ -78,6 +81,7 @@ impl fmt::Display for Status {
             Status::WriteFault => write!(f, "dashboard: write fault"),
             Status::NoMemory => write!(f, "dashboard: no memory"),
             Status::TooLong => write!(f, "dashboard: too long"),
+            Status::Trace { line } => write!(f, "dashboard: trace line {line}"),
         }
     }
 }

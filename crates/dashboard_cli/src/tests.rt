@@ -68,13 +68,19 @@ fn run_at<G: Gate + Sync>(
 }
 
 /// Words, and the command that they name.
-const NAMED: [(&str, Option<Command>); 21] = [
+const NAMED: [(&str, Option<Command>); 27] = [
     ("run", Some(Command::Run)),
     ("text", Some(Command::Text)),
     ("make 0", Some(Command::Make { number: 0 })),
     ("make 4294967295", Some(Command::Make { number: u32::MAX })),
     ("make 17 --run", Some(Command::MakeRun { number: 17 })),
     ("make --run 17", Some(Command::MakeRun { number: 17 })),
+    ("trace", Some(Command::Trace)),
+    ("check", Some(Command::Check)),
+    ("animate", Some(Command::Animate)),
+    ("trace trace", None),
+    ("check --all", None),
+    ("animate 1", None),
     ("", None),
     ("run --free", None),
     ("run --fast", None),
@@ -415,10 +421,11 @@ fn a_busy_run_comes_to_its_counts(rt: HostRuntime) -> Result<(), Fail> {
 }
 
 /// Words, a text, its least bad line and that line's cause.
-const REFUSED: [(&str, &str, u64, Cause); 5] = [
+const REFUSED: [(&str, &str, u64, Cause); 7] = [
     ("run", "", 1, Cause::Missing),
     ("text", "dashboard 1\nloopers 1\nthre", 3, Cause::Form),
     ("run", "dashboard 1\nloopers 9\n", 2, Cause::Range),
+    ("trace", "trace 1\nend\n", 1, Cause::Form),
     (
         "run",
         "dashboard 1\nloopers 1\nthreads 1\nhandler 0 1\n",
@@ -430,6 +437,12 @@ const REFUSED: [(&str, &str, u64, Cause); 5] = [
         "dashboard 1\nloopers 1\nthreads 1\nhandler 1 0\n",
         4,
         Cause::Order,
+    ),
+    (
+        "animate",
+        "animate 1\nperiod 1000000\ncountdown 60001 10\nend\n",
+        3,
+        Cause::Range,
     ),
 ];
 
@@ -460,6 +473,120 @@ fn refused_scripts_write_nothing(rt: HostRuntime) -> Result<(), Fail> {
             &Status::Script { line: bad, cause },
         )?;
     }
+    Ok(())
+}
+
+fn is_animated(
+    rt: &(impl Abort + Threads + Wait + Sync),
+    alloc: Global,
+    plan: &[u8],
+    wanted: &[u8],
+) -> Result<(), AllocError> {
+    let mut source = source(plan.to_vec(alloc)?, 7, Vec::new(alloc));
+    let (outcome, written) = run(rt, alloc, "animate", &mut source, Vec::new(alloc))?;
+    assert!(rt; outcome.status == Status::Ok);
+    assert!(rt; outcome.report.is_none());
+    assert!(rt; outcome.frames.is_some());
+    assert!(rt; written.as_slice() == wanted);
+    Ok(())
+}
+
+/// The histories of a run: a post that is dispatched, a removal that takes nothing, and the end.
+const HISTORY: &str =
+    "trace 1\nqueue 0 main lockstep 3 6\n2 0 advance 10 advanced\n0 0 post 0 7 0 - - 10 s 0 accepted 0\n0 1 remove 0 what 8 - removed 0\n1 0 next 10 dispatched 0\n2 1 advance 12 advanced\n2 2 halt 12 halted\nend\n";
+
+/// Its script.
+const SCRIPT: &str = "at 10\n0 post 0 7 0\n0 remove 0 8\nend 12\n";
+
+#[test]
+fn histories_of_a_run_are_written(rt: HostRuntime) -> Result<(), Fail> {
+    let alloc = rt.alloc();
+    let mut source = source(joined(alloc, ONE, SCRIPT)?, 7, Vec::new(alloc));
+    let (outcome, written) = run(&rt, alloc, "trace", &mut source, Vec::new(alloc))?;
+    assert!(rt; outcome.status == Status::Ok);
+    assert!(rt; outcome.report.is_some());
+    assert!(rt; outcome.frames.is_none());
+    assert!(rt; written.as_slice() == HISTORY.as_bytes());
+    Ok(())
+}
+
+/// Histories, and what a check finds of them.
+const CHECKED: [(&str, &str); 6] = [
+    (HISTORY, "legal\n"),
+    ("trace 1\nend\n", "legal\n"),
+    (
+        "trace 1\nqueue 0 main lockstep 3 1\n2 0 halt 0 halted\nend\n",
+        "legal\n",
+    ),
+    // Another reply.
+    (
+        "trace 1\nqueue 0 main lockstep 3 1\n2 0 halt 0 advanced\nend\n",
+        "illegal queue 0 entry 0\n",
+    ),
+    // The later of two messages with one time is dispatched first.
+    (
+        "trace 1\nqueue 0 side free 2 4\n0 0 post 0 1 0 - - 5 s - accepted 0\n0 1 post 0 2 0 - - 5 s - accepted 1\n1 0 next 5 dispatched 1\n1 1 next 5 dispatched 0\nend\n",
+        "illegal queue 0 entry 2\n",
+    ),
+    // The second and the third queue have a bad entry.
+    (
+        "trace 1\nqueue 4 main lockstep 3 1\n2 0 halt 0 halted\nqueue 9 main lockstep 3 2\n2 0 halt 0 halted\n2 1 halt 0 halted\nqueue 5 main lockstep 3 1\n2 0 halt 0 advanced\nend\n",
+        "illegal queue 9 entry 1\n",
+    ),
+];
+
+fn is_judged(
+    rt: &(impl Abort + Threads + Wait + Sync),
+    alloc: Global,
+    trace: &str,
+    wanted: &str,
+) -> Result<(), AllocError> {
+    let mut source = source(trace.as_bytes().to_vec(alloc)?, 7, Vec::new(alloc));
+    let (outcome, written) = run(rt, alloc, "check", &mut source, Vec::new(alloc))?;
+    assert!(rt; outcome.status == Status::Ok);
+    assert!(rt; outcome.report.is_none());
+    assert!(rt; written.as_slice() == wanted.as_bytes());
+    Ok(())
+}
+
+#[test]
+fn histories_are_judged(rt: HostRuntime) -> Result<(), Fail> {
+    let alloc = rt.alloc();
+    for &(trace, wanted) in &CHECKED {
+        is_judged(&rt, alloc, trace, wanted)?;
+    }
+    Ok(())
+}
+
+/// Texts of no trace, and the least bad line of each.
+const NO_TRACES: [(&str, u64); 4] = [
+    ("", 1),
+    ("trace 1\nqueue 0 main lockstep 3 1\n2 0 halt 0 halted\n", 4),
+    (
+        "trace 1\nqueue 0 main lockstep 3 1\n2 0 halt 0  halted\nend\n",
+        3,
+    ),
+    ("trace 1\nend\nend\n", 3),
+];
+
+#[test]
+fn texts_of_no_trace_are_refused(rt: HostRuntime) -> Result<(), Fail> {
+    let alloc = rt.alloc();
+    for &(text, line) in &NO_TRACES {
+        is_refused(&rt, alloc, "check", text, &Status::Trace { line })?;
+    }
+    Ok(())
+}
+
+#[test]
+fn plans_of_values_are_told(rt: HostRuntime) -> Result<(), Fail> {
+    let plan = b"animate 1\nperiod 1000000\ncountdown 0 10\nend\n";
+    is_animated(
+        &rt,
+        rt.alloc(),
+        plan,
+        b"values 1\n1000000 0 finished\nend\n",
+    )?;
     Ok(())
 }
 
@@ -550,11 +677,33 @@ fn slots_are_used_again(rt: HostRuntime) -> Result<(), Fail> {
     let (outcome, _) = run(&rt, alloc, "run", &mut source, Vec::new(alloc))?;
     let report = outcome.report.expect(&rt, "a report");
     let queue = report.queues.as_slice().first().expect(&rt, "a queue");
-    let slots = slots(alloc, queue.entries.as_slice())?;
+    let part = queue.segments.as_slice().first().expect(&rt, "a part");
+    let slots = slots(alloc, part.entries.as_slice())?;
     assert!(rt; slots.len() == 102);
     let (first, second) = slots.as_slice().split_at(51);
     assert!(rt; are_all_slots(first));
     assert!(rt; are_all_slots(second));
+    Ok(())
+}
+
+/// A queue with many entries hands them out after its rounds: the last part has the halt alone.
+#[test]
+fn a_long_history_has_parts(rt: HostRuntime) -> Result<(), Fail> {
+    let alloc = rt.alloc();
+    let mut script = joined(alloc, ONE, "at 0\n")?;
+    for _ in 0..41 {
+        posts(&mut script)?;
+    }
+    script.extend_from_slice(b"end 0\n")?;
+    let mut source = source(script, 64, Vec::new(alloc));
+    let (outcome, _) = run(&rt, alloc, "run", &mut source, Vec::new(alloc))?;
+    let report = outcome.report.expect(&rt, "a report");
+    let queue = report.queues.as_slice().first().expect(&rt, "a queue");
+    let [first, last] = queue.segments.as_slice() else {
+        panic!(rt; "two parts were handed out")
+    };
+    let whole = first.entries.len() == 4_182 && last.base.length == 4_182;
+    assert!(rt; whole && last.entries.len() == 1);
     Ok(())
 }
 
@@ -626,10 +775,11 @@ fn each_fault_is_answered(rt: HostRuntime) -> Result<(), Fail> {
 fn is_long(
     rt: &(impl Abort + Threads + Wait + Sync),
     alloc: Global,
+    line: &str,
     length: usize,
     wanted: &Status,
 ) -> Result<(), AllocError> {
-    let words = words(alloc, "run")?;
+    let words = words(alloc, line)?;
     let mut source = SureSource::new(vec![in alloc; b'x'; length]?, 100_000);
     let mut sink = SureSink::new(100_000);
     let clock = StepClock::new(5);
@@ -653,13 +803,15 @@ fn a_byte_too_many_is_too_long(rt: HostRuntime) -> Result<(), Fail> {
         line: 1,
         cause: Cause::Form,
     };
-    is_long(&rt, alloc, MOST_BYTES, &form)?;
-    is_long(&rt, alloc, MOST_BYTES + 1, &Status::TooLong)?;
+    is_long(&rt, alloc, "run", MOST_BYTES, &form)?;
+    is_long(&rt, alloc, "run", MOST_BYTES + 1, &Status::TooLong)?;
+    let bad = Status::Trace { line: 1 };
+    is_long(&rt, alloc, "check", MOST_BYTES + 1, &bad)?;
     Ok(())
 }
 
 /// Statuses, with their codes and texts.
-const STATUSES: [(Status, u8, &str); 12] = [
+const STATUSES: [(Status, u8, &str); 13] = [
     (Status::Ok, 0, ""),
     (Status::Usage, 2, "dashboard: usage"),
     (
@@ -714,6 +866,7 @@ const STATUSES: [(Status, u8, &str); 12] = [
     (Status::WriteFault, 5, "dashboard: write fault"),
     (Status::NoMemory, 6, "dashboard: no memory"),
     (Status::TooLong, 7, "dashboard: too long"),
+    (Status::Trace { line: 7 }, 8, "dashboard: trace line 7"),
 ];
 
 fn is_told(

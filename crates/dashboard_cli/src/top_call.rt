@@ -1,15 +1,15 @@
 // The top call: the words, then the reading, then the work, then the writing.
-ghost use Rattle.std.specs.Prelude.{◌≡◌, ◌≢◌, ◌⊎◌, ℕ, IsTrue, None, true};
+ghost use Rattle.std.specs.Prelude.{◌≡◌, ◌≢◌, ◌⊎◌, IsTrue, None};
 ghost use Rattle.loop_io.specs.Causes.{Rose};
-ghost use Rattle.dash_script.specs.declared.refusal.Cause.{Cause};
-ghost use Rattle.dashboard_cli.specs.Answers.{writes_nothing, CountsReads, CountsWrites, HasGoodInput, IsBrokenOff, IsDone, IsOf, IsRefused, IsTooLong, IsWithin};
-ghost use Rattle.dashboard_cli.specs.Works.{reads};
+ghost use Rattle.dashboard_cli.specs.Answers.{is_refusal, writes_nothing, AllOf, CountsReads, CountsWrites, HasGoodInput, IsBrokenOff, IsDone, IsOf, IsRefused, IsTooLong, IsWithin};
+ghost use Rattle.dashboard_cli.specs.Works.{returned, work, nothing};
 ghost use Rattle.dashboard_cli.specs.Words.{texts, IsListed};
 
-use crate::making::produce;
+use crate::making::{Returned, produce};
 use crate::status::Status;
 use crate::words::read_words;
 use crate::writing::write_whole;
+use frame_phases::FrameRecord;
 use loop_io::{Clock, Failed, Gate, Sink, Source};
 use loop_model::NoMemory;
 use run_model::Report;
@@ -17,12 +17,14 @@ use std::alloc::Global;
 use std::sync::Wait;
 use std::thread::Threads;
 
-/// How the program ended, and the report of a run whose text was made.
+/// How the program ended, and the report or the frames of a run whose text was made.
 #[derive(Debug, Drop)]
 pub struct Outcome {
     pub status: Status,
-    /// It is there for `run`, and for `make` with `--run`, at `Ok` and at `WriteFault`.
+    /// It is there for `run`, for `trace`, and for `make` with `--run`, at `Ok` and at `WriteFault`.
     pub report: Option<Report>,
+    /// The frames in which values were told. They are there for `animate`, at `Ok` and at `WriteFault`.
+    pub frames: Option<FrameRecord>,
 }
 
 /// Does all that the program does. The words are those after the program's name.
@@ -33,10 +35,13 @@ pub struct Outcome {
 /// | `text` | reads a script, writes it |
 /// | `make N` | writes the script that the generator makes from N |
 /// | `make N --run`, `make --run N` | makes it, runs it in lockstep, writes the summary |
+/// | `trace` | reads a script, runs it in lockstep, writes the histories of its queues |
+/// | `check` | reads histories of queues, writes `legal`, or the first queue that isn't and its first bad entry |
+/// | `animate` | reads a plan of values, runs it over frames, writes what is told |
 ///
 /// N is a decimal below 2 to the 32 without leading zeros. It looks for faults in this order: the words (`Usage`), the
-/// reading (`ReadFault`, `TooLong`), the script (`Script`), the writing (`WriteFault`). `NoMemory` comes where it is met.
-/// The text is made whole before the first write.
+/// reading (`ReadFault`, `TooLong`), the script or the plan (`Script`) or the histories (`Trace`), the writing (`WriteFault`).
+/// `NoMemory` comes where it is met. The text is made whole before the first write.
 pub fn dashboard<R: Threads + Wait + Sync, S: Source, K: Sink, C: Clock, G: Gate + Sync>(
     rt: &R,
     alloc: Global,
@@ -51,61 +56,58 @@ pub fn dashboard<R: Threads + Wait + Sync, S: Source, K: Sink, C: Clock, G: Gate
     ensures listed { result.status ≢ Status.Usage → result.status ≢ Status.NoMemory → IsListed (texts words.now) }
 
     // Nothing is read unless the command is one that reads.
-    ensures unread { ¬ (IsOf (texts words.now) (λ command. reads command ≡ true)) → source.new ≡ source.old }
+    ensures unread { ¬ (IsOf (texts words.now) (λ command. (work command).reads.most ≢ None)) → source.new ≡ source.old }
 
     // The text is written whole at Ok, and a front of it at WriteFault. At every other status nothing is written.
-    ensures ok { result.status ≡ Status.Ok
-        → IsOf (texts words.now) (λ command. IsDone command
-        (S.left source.old) (S.left source.new) (K.holds sink.old) (K.holds sink.new) result.report) }
-    ensures broken_off { result.status ≡ Status.WriteFault
-        → IsOf (texts words.now) (λ command. IsBrokenOff command
-        (S.left source.old) (S.left source.new) (K.holds sink.old) (K.holds sink.new) result.report) }
+    ensures ok { result.status ≡ Status.Ok → IsOf (texts words.now) (λ command. IsDone (work command)
+        (S.left source.old) (S.left source.new) (K.holds sink.old) (K.holds sink.new) (returned result)) }
+    ensures broken_off { result.status ≡ Status.WriteFault → IsOf (texts words.now) (λ command. IsBrokenOff (work command)
+        (S.left source.old) (S.left source.new) (K.holds sink.old) (K.holds sink.new) (returned result)) }
     ensures nothing { IsTrue (writes_nothing result.status) → sink.new ≡ sink.old }
-    ensures no_report { IsTrue (writes_nothing result.status) → result.report ≡ None }
+    ensures none_returned { IsTrue (writes_nothing result.status) → returned result ≡ nothing }
 
     // A fault is answered exactly where the object has counted one in this call.
     ensures reads { CountsReads result.status (S.faults source.old) (S.faults source.new) }
     ensures writes { CountsWrites result.status (K.faults sink.old) (K.faults sink.new) }
 
-    // The input is too long exactly where more bytes were read than it may have.
+    // The input is too long exactly where more bytes were read than the command's input may have.
     ensures too_long { result.status ≡ Status.TooLong
-        → IsOf (texts words.now) (λ command. IsTooLong command (S.left source.old) (S.left source.new)) }
-    ensures within { result.status ≢ Status.TooLong → IsWithin (S.left source.old) (S.left source.new) }
+        → IsOf (texts words.now) (λ command. IsTooLong (work command).reads.most (S.left source.old) (S.left source.new)) }
+    ensures within { result.status ≢ Status.TooLong
+        → AllOf (texts words.now) (λ command. IsWithin (work command).reads.most (S.left source.old) (S.left source.new)) }
 
-    // A refused input was read whole.
-    ensures script { (line : ℕ) (cause : Cause) → result.status ≡ Status.Script line cause
-        → IsOf (texts words.now) (λ command. IsRefused command (S.left source.old) (S.left source.new) line cause) }
+    // A refused input was read whole, and it is none that the command takes.
+    ensures refused { IsTrue (is_refusal result.status)
+        → IsOf (texts words.now) (λ command. IsRefused (work command).reads (S.left source.old) (S.left source.new) result.status) }
 
     // It doesn't give up by itself.
-    ensures complete { IsOf (texts words.now) (λ command. HasGoodInput command (S.left source.old))
+    ensures complete { IsOf (texts words.now) (λ command. HasGoodInput (work command).reads (S.left source.old))
         → ¬ (Rose (S.faults source.old) (S.faults source.new)) → ¬ (Rose (K.faults sink.old) (K.faults sink.new))
         → (result.status ≡ Status.Ok) ⊎ (result.status ≡ Status.NoMemory) }
 {
     let command = match read_words(alloc, words) {
         Ok(Some(command)) => command,
-        Ok(None) => return stopped(Status::Usage),
-        Err(NoMemory) => return stopped(Status::NoMemory),
+        Ok(None) => return ended(Status::Usage, Returned::nothing()),
+        Err(NoMemory) => return ended(Status::NoMemory, Returned::nothing()),
     };
     let product = match produce(rt, alloc, command, source, gate) {
         Ok(product) => product,
-        Err(status) => return stopped(status),
+        Err(status) => return ended(status, Returned::nothing()),
     };
     let status = match write_whole(sink, product.text.as_slice()) {
         Ok(()) => Status::Ok,
         Err(Failed) => Status::WriteFault,
     };
-    Outcome {
-        status,
-        report: product.report,
-    }
+    ended(status, product.returned)
 }
 
-/// The outcome where no text was made.
-fn stopped(status: Status) -> Outcome
-    ensures { result ≡ record { status = status; report = None } }
+/// The outcome with this status.
+fn ended(status: Status, returned: Returned) -> Outcome
+    ensures { result ≡ record { status = status; report = returned.report; frames = returned.frames } }
 {
     Outcome {
         status,
-        report: None,
+        report: returned.report,
+        frames: returned.frames,
     }
 }

@@ -21,6 +21,12 @@ pub enum Command {
     Make { number: u32 },
     /// Makes that script, runs it in lockstep and writes the summary.
     MakeRun { number: u32 },
+    /// Reads a script, runs it in lockstep and writes the histories of its queues.
+    Trace,
+    /// Reads the histories of queues and writes whether each is legal.
+    Check,
+    /// Reads a plan of values, runs it over frames and writes what is told.
+    Animate,
 }
 
 /// Reads the words: a command exactly where they are a spelling of one, else None. NoMemory where it found none. The spellings
@@ -62,13 +68,19 @@ fn command_line<'a>(alloc: Global) -> Result<clap::Command<'a>, AllocError>
     let run = clap::Command::new(alloc, "run");
     let text = clap::Command::new(alloc, "text");
     let make = make_line(alloc)?;
+    let trace = clap::Command::new(alloc, "trace");
+    let check = clap::Command::new(alloc, "check");
+    let animate = clap::Command::new(alloc, "animate");
     clap::Command::new(alloc, "dashboard")
         .no_binary_name(true)
         .disable_help_flag(true)
         .disable_help_subcommand(true)
         .subcommand(run)?
         .subcommand(text)?
-        .subcommand(make)
+        .subcommand(make)?
+        .subcommand(trace)?
+        .subcommand(check)?
+        .subcommand(animate)
 }
 
 /// The line of `make`: a number, and perhaps the flag.
@@ -92,6 +104,9 @@ fn command_found(matches: &ArgMatches<'_>) -> Option<Command>
         "run" => Some(Command::Run),
         "text" => Some(Command::Text),
         "make" => make_found(inner),
+        "trace" => Some(Command::Trace),
+        "check" => Some(Command::Check),
+        "animate" => Some(Command::Animate),
         _ => None,
     }
 }
@@ -116,6 +131,9 @@ fn is_spelled(alloc: Global, command: Command, words: &[String]) -> Result<bool,
     Ok(match command {
         Command::Run => are_same(words, &["run"]),
         Command::Text => are_same(words, &["text"]),
+        Command::Trace => are_same(words, &["trace"]),
+        Command::Check => are_same(words, &["check"]),
+        Command::Animate => are_same(words, &["animate"]),
         Command::Make { number } => {
             let digits = number.to_string(alloc)?;
             are_same(words, &["make", digits.as_str()])

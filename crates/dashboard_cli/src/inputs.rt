@@ -1,0 +1,72 @@
+// The input of a command, read whole and understood.
+ghost use Rattle.std.specs.Prelude.{◌≡◌, IfErr, IfOk, ◌<◌, ◌^◌, ◌-◌};
+ghost use Rattle.dash_script.specs.Reading.{IsText};
+ghost use Rattle.dashboard_cli.specs.Answers.{CountsReads, StopsReading};
+ghost use Rattle.dashboard_cli.specs.Works.{plans, scripts, traces, IsNone};
+ghost use Rattle.dashboard_cli.specs.Streams.{ReadsWhole};
+ghost use Rattle.trace_check.specs.Text.{IsText as IsTraceText};
+ghost use Rattle.value_animator.specs.Reading.{IsText as IsValuesText};
+
+use crate::reading::{ReadError, read_whole};
+use crate::status::Status;
+use dash_script::{Parsed, Script, parse};
+use loop_io::Source;
+use std::alloc::Global;
+use trace_check::{ParsedTrace, Trace, parse_trace};
+use value_animator::{ParsedValues, Values, parse_values};
+
+/// Reads the input whole.
+pub(crate) fn read_input<S: Source>(
+    alloc: Global,
+    source: &mut S,
+    most: usize,
+) -> Result<Vec<u8>, Status>
+    requires { most < 2 ^ 64 - 1 }
+    ensures whole { IfOk result (λ input. ReadsWhole most (S.left source.old) (S.left source.new) input.items) }
+    ensures stopped { IfErr result (StopsReading most (S.left source.old) (S.left source.new)) }
+    ensures sound { IfOk result (λ _. S.faults source.new ≡ S.faults source.old) }
+    ensures failed { IfErr result (λ status. CountsReads status (S.faults source.old) (S.faults source.new)) }
+{
+    match read_whole(alloc, source, most) {
+        Ok(input) => Ok(input),
+        Err(ReadError::Failed) => Err(Status::ReadFault),
+        Err(ReadError::TooLong) => Err(Status::TooLong),
+        Err(ReadError::NoMemory) => Err(Status::NoMemory),
+    }
+}
+
+/// The script of a text.
+pub(crate) fn read_script(alloc: Global, input: &[u8]) -> Result<Script, Status>
+    ensures read { IfOk result (λ script. IsText input.now script) }
+    ensures refused { IfErr result (IsNone scripts input.now) }
+{
+    match parse(alloc, input) {
+        Parsed::Ok(script) => Ok(script),
+        Parsed::Bad { line, cause } => Err(Status::Script { line, cause }),
+        Parsed::NoMemory => Err(Status::NoMemory),
+    }
+}
+
+/// The values of a text.
+pub(crate) fn read_plan(alloc: Global, input: &[u8]) -> Result<Values, Status>
+    ensures read { IfOk result (λ values. IsValuesText input.now values) }
+    ensures refused { IfErr result (IsNone plans input.now) }
+{
+    match parse_values(alloc, input) {
+        ParsedValues::Ok(values) => Ok(values),
+        ParsedValues::Bad { line, cause } => Err(Status::Script { line, cause }),
+        ParsedValues::NoMemory => Err(Status::NoMemory),
+    }
+}
+
+/// The histories of a text.
+pub(crate) fn read_trace(alloc: Global, input: &[u8]) -> Result<Trace, Status>
+    ensures read { IfOk result (λ trace. IsTraceText input.now trace) }
+    ensures refused { IfErr result (IsNone traces input.now) }
+{
+    match parse_trace(alloc, input) {
+        ParsedTrace::Ok(trace) => Ok(trace),
+        ParsedTrace::Bad { line } => Err(Status::Trace { line }),
+        ParsedTrace::NoMemory => Err(Status::NoMemory),
+    }
+}
