@@ -6,8 +6,8 @@ NAME.trace (of histories) is what the program reads, NAME.report what it must wr
 get; a file that is not there stands for nothing.
 Where threads race, NAME.reports holds the lawful reports, parted by lines %%: each run must write one of them, and it is
 told how many of them were seen.
-Three inputs that are too large to be kept are made here, and so is what `make N` must write. What `trace` writes of each script
-must be legal, and no longer where a dispatch is told of another message.
+Inputs that are too large to be kept are made here, and so is what `make N` and the longest script must write. What `trace` writes
+of each script must be legal, and no longer where a dispatch is told of another message.
 """
 import difflib
 import pathlib
@@ -21,6 +21,7 @@ HEAD = "dashboard 1\nloopers 1\nthreads 1\nhandler 0 0\nvsync 16666667\n"
 MADE = {
     "input_too_long": lambda: b"x" * 1_048_577,
     "trace_too_long": lambda: b"x" * 67_108_865,
+    "longest_script": lambda: (HEAD + "at 0\n" + "0 post 0 1 0\n" * 19_993 + "end 0\n").encode(),
     "line_20001": lambda: (HEAD + "at 0\n" + "0 post 0 1 0\n" * 19_994 + "end 0\n").encode(),
 }
 
@@ -52,6 +53,37 @@ def generated(number):
     return "\n".join([*lines, "end 6000", ""]).encode()
 
 
+def longest():
+    """What the script of 20,000 lines writes: its messages of time 0 go from the last to the first."""
+    lines = [f"0 dispatch {number} 0 1" for number in range(19_992, -1, -1)]
+    fates = "fates accepted 19993 dispatched 19993 removed 0 dropped 0 stranded 0 queued 0"
+    return "\n".join(["report 1", "looper 0", *lines, fates, "end", ""]).encode()
+
+
+def quit_race(posts):
+    """A thread quits a looper safely while another posts to it so often, and the lawful reports: the first posts are accepted and
+    dispatched, the others refused by the quit."""
+    head = ["dashboard 1", "loopers 2", "threads 2", "handler 0 0", "handler 1 1", "vsync 16666667"]
+    script = "\n".join([*head, "at 10", "0 quit-safely 1", *["1 post 1 5 0"] * posts, "end 10", ""]).encode()
+    idle = "fates accepted 0 dispatched 0 removed 0 dropped 0 stranded 0 queued 0"
+    lawful = set()
+    for accepted in range(posts + 1):
+        lines = ["report 1", "looper 0", idle, "looper 1", *[f"refused 1 5 quit {accepted + 1}"] * (posts - accepted)]
+        lines += [f"10 dispatch {number} 1 5" for number in range(accepted)]
+        lines += [f"fates accepted {accepted} dispatched {accepted} removed 0 dropped 0 stranded 0 queued 0", "end", ""]
+        lawful.add("\n".join(lines))
+    return script, lawful
+
+
+def quit_races(program):
+    """A safe quit among two hundred posts refuses those behind it, and no other."""
+    script, lawful = quit_race(200)
+    seen = {run(program, ["run"], script) for _ in range(RUNS // 4)}
+    print(f"a safe quit among 200 posts: {len(seen)} lawful reports seen in {RUNS // 4} runs")
+    if seen - lawful:
+        yield "quit_race", f"a report that is not lawful: {sorted(seen - lawful)[0]!r}"
+
+
 def read(name, kind):
     file = HERE / f"{name}.{kind}"
     return file.read_bytes() if file.exists() else b""
@@ -67,7 +99,8 @@ def examples():
         name, words, code, shows = line.split("\t")
         if (HERE / f"{name}.reports").exists():
             continue
-        yield name, words.split(), given_to(name), int(code), read(name, "report"), read(name, "error"), shows
+        report = longest() if name == "longest_script" else read(name, "report")
+        yield name, words.split(), given_to(name), int(code), report, read(name, "error"), shows
     for number in (0, 1, 4_294_967_295):
         yield f"make_{number}", ["make", str(number)], b"", 0, generated(number), b"", "the generated script"
 
@@ -243,7 +276,7 @@ def main():
             print("\n".join([f"FAILED {name}: {shows}", *found]))
         else:
             passed += 1
-    for name, found in [*races(program), *summaries(program), *whole(program), *counts_stay(program), *traces(program)]:
+    for name, found in [*races(program), *quit_races(program), *summaries(program), *whole(program), *counts_stay(program), *traces(program)]:
         failed += 1
         print(f"FAILED {name}: {found}")
     print(f"examples: {passed} passed, {failed} failed")
