@@ -5,7 +5,7 @@ use Rattle.std.proofs.lemmas.List.{take_all}
 use Rattle.std.proofs.lemmas.List.Elements.{All-more}
 use Rattle.std.proofs.lemmas.Option.{slice_get_read}
 use Rattle.trace_check.specs.declared.trace.TraceQueue.{TraceQueue}
-use Rattle.trace_check.specs.Checking.{IsFirstBad}
+use Rattle.trace_check.specs.Good.{IsFirstBad}
 use Rattle.dashboard_cli.specs.Verdicts.{IsFirstIllegal, IsLegalQueue}
 
 pub one_more : (queues : List TraceQueue) (i : ℕ) (queue : TraceQueue) → i < length queues → queue ≡ slice_index_or queues i queue

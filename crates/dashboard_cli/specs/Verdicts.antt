@@ -2,7 +2,7 @@
 use Rattle.std.specs.Prelude.{◌≡◌, ℕ, List, [], ◌∷◌, ◌++◌, All, Some, codes, slice_get, take}
 use Rattle.std.specs.Fmt.{decimal}
 use Rattle.trace_check.specs.declared.trace.TraceQueue.{TraceQueue}
-use Rattle.trace_check.specs.Checking.{IsFirstBad, IsGood}
+use Rattle.trace_check.specs.Good.{IsFirstBad, IsGood}
 use Rattle.dashboard_cli.specs.declared.verdict.Verdict.{Verdict}
 use Rattle.dashboard_cli.specs.declared.verdict.Verdict.TheVariants.{Legal, Illegal}
 

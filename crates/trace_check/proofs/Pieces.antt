@@ -8,7 +8,7 @@ use Rattle.line_words.proofs.Splitting.{first_part}
 use Rattle.trace_check.specs.declared.draft.Draft.{Draft}
 use Rattle.trace_check.specs.declared.line.Line.{Line}
 use Rattle.trace_check.specs.declared.trace.Trace.{Trace}
-use Rattle.trace_check.specs.Word.{words_of}
+use Rattle.trace_check.specs.Saying.{words_of}
 use Rattle.trace_check.specs.Reading.{line_of}
 use Rattle.trace_check.specs.Progress.{trace_from, next, next_line, goes_on, is_end, trace_so_far}
 

@@ -19,7 +19,8 @@ use Rattle.trace_check.specs.declared.keyword.Keyword.TheVariants as name
 use Rattle.trace_check.specs.declared.word.Word.{Word}
 use Rattle.trace_check.specs.declared.word.Word.TheVariants.{Name, Number, Absent}
 use Rattle.trace_check.specs.Keyword.{spelling, all_keywords}
-use Rattle.trace_check.specs.Word.{spell, mark_or_name, number_or_other, word_of, words_of}
+use Rattle.trace_check.specs.Word.{spell}
+use Rattle.trace_check.specs.Saying.{mark_or_name, number_or_other, word_of, words_of}
 use Rattle.trace_check.specs.Reading.{is_none_left}
 
 -- ---- one word

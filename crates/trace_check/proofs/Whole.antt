@@ -24,9 +24,11 @@ use Rattle.trace_check.specs.declared.draft.Part.TheVariants as part_of
 use Rattle.trace_check.specs.declared.draft.Draft.{Draft}
 use Rattle.trace_check.specs.declared.trace.Trace.{Trace}
 use Rattle.trace_check.specs.declared.trace.ParsedTrace.TheVariants as parsed
-use Rattle.trace_check.specs.Word.{line, words_of}
+use Rattle.trace_check.specs.Word.{line}
+use Rattle.trace_check.specs.Saying.{words_of}
 use Rattle.trace_check.specs.Line.{line_words, Fits}
-use Rattle.trace_check.specs.Text.{head_of, queue_lines, lines, line_text, IsText, Begins, first_lines, IsLeastBad, Finds, FindsAll, Refuses}
+use Rattle.trace_check.specs.Text.{head_of, queue_lines, lines, line_text, IsText, Begins, first_lines, IsLeastBad}
+use Rattle.trace_check.specs.Answering.{Finds, FindsAll, Refuses}
 use Rattle.trace_check.specs.Reading.{line_of}
 use Rattle.trace_check.specs.Progress.{blank, opened, start, settled, with_entry, after_part, next, next_line, is_end, trace_so_far, goes_on, trace_from, read_text}
 use Rattle.trace_check.specs.declared.word.Word.{Word}

@@ -9,7 +9,8 @@ use Rattle.line_words.proofs.Joining.{join_with_byte-cons}
 use Rattle.trace_check.specs.declared.word.Word.{Word}
 use Rattle.trace_check.specs.declared.word.Word.TheVariants.{Number}
 use Rattle.trace_check.specs.declared.line.Line.TheVariants.{Title, Entry, End}
-use Rattle.trace_check.specs.Word.{spell, spaced, line}
+use Rattle.trace_check.specs.Word.{spell, line}
+use Rattle.trace_check.specs.Saying.{spaced}
 use Rattle.trace_check.specs.Line.{call_words, reply_words}
 use Rattle.trace_check.specs.Text.{line_text, queue_lines, text}
 

@@ -8,7 +8,7 @@ use Rattle.trace_check.specs.declared.trace.TraceQueue.{TraceQueue}
 use Rattle.loop_model.specs.declared.reply.Reply.{Reply}
 use Rattle.loop_model.specs.Answers.{Setting, answer, clock}
 use Rattle.loop_model.specs.Base.{empty_base}
-use Rattle.loop_model.specs.Legal.{IsLegal, IsTimely, AreNumbered, is_control, made_count}
+use Rattle.loop_model.specs.Legal.{IsTimely, is_control, made_count}
 use Rattle.loop_model.specs.Listed.{listed_answer}
 use Rattle.trace_check.specs.declared.checker.Checked.{Checked}
 use Rattle.trace_check.specs.declared.checker.Checked.TheVariants as checked
@@ -19,22 +19,9 @@ use Rattle.trace_check.specs.declared.checker.Explained.TheVariants as explained
 use Rattle.trace_check.specs.declared.counts.Counts.{Counts}
 use Rattle.trace_check.specs.declared.past.Past.{Past}
 use Rattle.trace_check.specs.Ranks.{listed}
+use Rattle.trace_check.specs.Good.{setting_of, IsGood, IsFirstBad}
 
 -- ---- what is promised
-
--- what stays fixed for the queue
-abbrev pub setting_of : TraceQueue → Setting
-setting_of q = record { main = q.main; lockstep = q.lockstep; senders = q.senders }
-
--- these entries are a history that the queue could have had from an empty start, and its senders number them
-abbrev pub IsGood : TraceQueue → List Entry → Type 0
-IsGood q es = IsLegal (setting_of q) (empty_base q.senders) es × AreNumbered (setting_of q) (empty_base q.senders) es
-
--- this is the least place with whose entry the entries up to it are no such history
-pub record IsFirstBad (q : TraceQueue) (place : ℕ) : Type 0 where
-  pub within : place < length q.entries
-  pub before : IsGood q (take place q.entries)
-  pub at : IsGood q (take (place + 1) q.entries) → ⊥
 
 -- legal is answered only of a good history
 abbrev pub IsCheckedLegal : Checked → TraceQueue → Type 0

@@ -1,11 +1,14 @@
 pub mod Keyword
 pub mod Word
+pub mod Saying
 pub mod Line
 pub mod Text
+pub mod Answering
 pub mod Reading
 pub mod Progress
 pub mod Ranks
 pub mod Checking
+pub mod Good
 pub mod Records
 pub mod Labels
 pub mod Shelves

@@ -13,7 +13,7 @@ use Rattle.trace_check.specs.declared.draft.Draft.{Draft}
 use Rattle.trace_check.specs.declared.trace.Trace.{Trace}
 use Rattle.trace_check.specs.declared.reader.Stop.{Stop}
 use Rattle.trace_check.specs.declared.reader.Stop.TheVariants as stop
-use Rattle.trace_check.specs.Word.{words_of}
+use Rattle.trace_check.specs.Saying.{words_of}
 use Rattle.trace_check.specs.Reading.{line_of}
 
 -- no queue

@@ -1,15 +1,12 @@
 -- The text of a trace, and where a text that is none goes wrong.
 use Rattle.std.specs.Prelude.{◌≡◌, ℕ, ◌-◌, ◌<◌, ◌≤◌, List, [], ◌∷◌, ◌++◌, map, length, take}
 use Rattle.std.specs.List.{flat_map, AllByRecursion}
-use Rattle.std.specs.Prelude.{◌⊎◌}
 use Rattle.trace_check.specs.declared.trace.TraceQueue.{TraceQueue}
 use Rattle.line_words.specs.Words.{pieces}
 use Rattle.trace_check.specs.declared.line.Head.{Head}
 use Rattle.trace_check.specs.declared.line.Line.{Line}
 use Rattle.trace_check.specs.declared.line.Line.TheVariants.{Title, Queue, Entry, End}
 use Rattle.trace_check.specs.declared.trace.Trace.{Trace}
-use Rattle.trace_check.specs.declared.trace.ParsedTrace.{ParsedTrace}
-use Rattle.trace_check.specs.declared.trace.ParsedTrace.TheVariants as parsed
 use Rattle.trace_check.specs.Word.{line}
 use Rattle.trace_check.specs.Line.{line_words, Fits}
 
@@ -54,17 +51,3 @@ pub record IsLeastBad (b : List ℕ) (k : ℕ) : Type 0 where
   pub before : Begins (first_lines (k - 1) b)
   pub at : k < length (pieces b) → Begins (first_lines k b) → ⊥
   pub whole : (t : Trace) → IsText b t → ⊥
-
--- ---- what reading answers
-
--- a trace is found only where the bytes are its text
-abbrev pub Finds : ParsedTrace → List ℕ → Type 0
-Finds p b = (t : Trace) → p ≡ parsed.Ok t → IsText b t
-
--- the text of a trace is found to be that trace's, unless memory ran out
-abbrev pub FindsAll : ParsedTrace → List ℕ → Type 0
-FindsAll p b = (t : Trace) → IsText b t → (p ≡ parsed.Ok t) ⊎ (p ≡ parsed.NoMemory)
-
--- a line is named only where it is the least bad one
-abbrev pub Refuses : ParsedTrace → List ℕ → Type 0
-Refuses p b = (k : ℕ) → p ≡ parsed.Bad k → IsLeastBad b k

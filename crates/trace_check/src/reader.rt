@@ -1,6 +1,6 @@
 //! The trace of a text.
 ghost use Rattle.std.specs.Prelude.{◌≡◌};
-ghost use Rattle.trace_check.specs.Text.{Finds, FindsAll, Refuses};
+ghost use Rattle.trace_check.specs.Answering.{Finds, FindsAll, Refuses};
 ghost use Rattle.trace_check.specs.Progress.{ReadsText, read_text};
 
 use crate::draft::Draft;

@@ -1,6 +1,6 @@
 //! What the words of a line say.
 ghost use Rattle.std.specs.Prelude.{◌≡◌};
-ghost use Rattle.trace_check.specs.Word.{words_of};
+ghost use Rattle.trace_check.specs.Saying.{words_of};
 ghost use Rattle.trace_check.specs.Reading.{read, long, short, maybe_long, maybe_short, name, flag, side, mode, manner, post, kind_by, kind, filter, quit, call_by, call, reply_by, reply, entry, head, title, named_by, line_of};
 
 use crate::keyword::Keyword;

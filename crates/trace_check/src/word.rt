@@ -1,6 +1,6 @@
 //! The words of a line of a trace.
 ghost use Rattle.std.specs.Prelude.{◌≡◌, ◌∷◌, [], Some, None, MatchOption};
-ghost use Rattle.trace_check.specs.Word.{word_of, words_of};
+ghost use Rattle.trace_check.specs.Saying.{word_of, words_of};
 ghost use Rattle.trace_check.specs.Reading.{is_none_left, read, word};
 
 use crate::keyword::{Keyword, keyword_of};
@@ -16,7 +16,7 @@ pub enum Word {
 }
 
 /// What the bytes between spaces say.
-#[tactic(auto, unfolding(crate::specs::Word::word_of))]
+#[tactic(auto, unfolding(crate::specs::Saying::word_of))]
 fn word_of(bytes: &[u8]) -> Option<Word>
     ensures { result ≡ word_of bytes.now }
 {
@@ -43,7 +43,7 @@ impl<'a> Model for Words<'a> {
     ghost use Rattle.std.specs.Option.{option_copied};
     ghost use Rattle.line_words.specs.Words.{parts_left};
     ghost use Rattle.trace_check.specs.declared.word.Word.{Word};
-    ghost use Rattle.trace_check.specs.Word.{word_of};
+    ghost use Rattle.trace_check.specs.Saying.{word_of};
 
     ghost Value = { List (Option Word) };
 

@@ -10,7 +10,8 @@ use Rattle.value_animator.specs.declared.refusal.ParsedValues.TheVariants as par
 use Rattle.value_animator.specs.Plans.{AreValues}
 use Rattle.value_animator.specs.Rows.{row_text}
 use Rattle.value_animator.specs.Rules.{nothing}
-use Rattle.value_animator.specs.Reading.{IsText, Finds, FindsAll, Refuses, RefusesAll, read_values, values_text, rows}
+use Rattle.value_animator.specs.Reading.{IsText, read_values, values_text, rows}
+use Rattle.value_animator.specs.Answering.{Finds, FindsAll, Refuses, RefusesAll}
 use Rattle.value_animator.proofs.Leading.{texts_are_read}
 use Rattle.value_animator.proofs.Ran.{Ran, ran}
 use Rattle.value_animator.proofs.Holding.{Held, held}

@@ -8,7 +8,8 @@ use Rattle.frame_phases.specs.declared.entry.FrameEntry.{FrameEntry}
 use Rattle.frame_phases.specs.declared.entry.FrameEntry.TheVariants.{Posted, Begin, Take, Ran}
 use Rattle.frame_phases.specs.Frames.{pulse, live, next_phase, last_time, posted_count, taken, take_time, commit_time, is_due, is_undue, in_due_order, before_later}
 use Rattle.frame_phases.specs.State.{Frames, past, ran, delivered}
-use Rattle.value_animator.specs.Framing.{begun, taken_at, posted_again, callback, last_number, IsReady, again, frame_entries, after_frame}
+use Rattle.value_animator.specs.Framing.{begun, taken_at, posted_again, last_number, IsReady, after_frame}
+use Rattle.value_animator.specs.FrameEntries.{callback, again, frame_entries}
 
 -- the state with more entries, and another schedule
 abbrev pub grown : Frames → List FrameEntry → Bool → Option ℕ → Frames

@@ -1,10 +1,9 @@
 -- What frames leave in their choreographer.
-use Rattle.std.specs.Prelude.{◌≡◌, ◌≤◌, ◌<◌, ℕ, ◌+◌, ◌-◌, ◌/◌, Bool, true, false, List, [], ◌∷◌, ◌++◌, map, Some, None}
-use Rattle.frame_phases.specs.declared.entry.Callback.{Callback}
-use Rattle.frame_phases.specs.declared.entry.FrameEntry.{FrameEntry}
-use Rattle.frame_phases.specs.declared.entry.FrameEntry.TheVariants.{Posted, Begin, Take, Ran}
+use Rattle.std.specs.Prelude.{◌≡◌, ◌≤◌, ◌<◌, ℕ, ◌-◌, ◌/◌, Bool, true, false, [], ◌∷◌, ◌++◌, map, Some, None}
+use Rattle.frame_phases.specs.declared.entry.FrameEntry.TheVariants.{Begin, Take}
 use Rattle.frame_phases.specs.Frames.{pulse, live, next_phase, last_time, posted_count, taken, take_time}
 use Rattle.frame_phases.specs.State.{Frames, past, next_callback, posted, ran}
+use Rattle.value_animator.specs.FrameEntries.{callback, frame_entries}
 
 -- a frame may begin at this pulse
 pub record CanBegin (s : Frames) (p : ℕ) : Type 0 where
@@ -27,10 +26,6 @@ abbrev pub posted_again : Frames → Bool → ℕ → Frames
 posted_again s true now = s
 posted_again s false now = posted s (next_callback s 1 (now / 1000000) 0 None) now
 
--- the callback of this number, which is due at this millisecond
-abbrev pub callback : ℕ → ℕ → Callback
-callback number due = record { number = number; phase = 1; due = due; id = 0; token = None }
-
 -- the number of the callback that was posted last
 abbrev pub last_number : Frames → ℕ
 last_number s = posted_count (past s) - 1
@@ -47,16 +42,6 @@ pub record IsReady (s : Frames) (p : ℕ) : Type 0 where
   pub due : ℕ
   pub is_due : due ≤ p / 1000000
   pub live : live (past s) ≡ callback (last_number s) due ∷ []
-
--- the posting in a frame of the callback after this one, unless all has ended
-abbrev pub again : ℕ → ℕ → Bool → List FrameEntry
-again p number true = []
-again p number false = Posted (callback (number + 1) (p / 1000000)) ∷ []
-
--- the entries of a frame at this pulse, in which the callback of this number runs
-abbrev pub frame_entries : ℕ → ℕ → Bool → List FrameEntry
-frame_entries p number ended =
-    Begin p p p ∷ Take 0 p p ∷ Take 1 p p ∷ Ran number ∷ again p number ended ++ Take 2 p p ∷ Take 3 p p ∷ []
 
 -- what a frame at this pulse leaves
 abbrev pub after_frame : Frames → ℕ → Bool → Frames

@@ -2,10 +2,13 @@ pub mod Plans
 pub mod Valuing
 pub mod Running
 pub mod Framing
+pub mod FrameEntries
 pub mod Run
+pub mod Going
 pub mod Rows
 pub mod Rules
 pub mod Drafts
 pub mod Reading
+pub mod Answering
 pub mod Least
 pub mod Laws

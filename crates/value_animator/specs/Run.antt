@@ -4,13 +4,10 @@ use Rattle.std.specs.List.{flat_map, filter_map, range_with_len}
 use Rattle.frame_phases.specs.declared.entry.FrameEntry.{FrameEntry}
 use Rattle.frame_phases.specs.declared.entry.FrameEntry.TheVariants.{Posted, Begin, Take, Ran, Removed}
 use Rattle.frame_phases.specs.declared.entry.FrameRecord.{FrameRecord}
-use Rattle.frame_phases.specs.Frames.{lawful, posted_count}
-use Rattle.frame_phases.specs.State.{Frames, past}
+use Rattle.frame_phases.specs.Frames.{lawful}
 use Rattle.value_animator.specs.declared.plan.Values.{Values}
-use Rattle.value_animator.specs.declared.run.ValuesRan.{ValuesRan}
-use Rattle.value_animator.specs.declared.run.ValuesRan.TheVariants as ran_to
-use Rattle.value_animator.specs.Framing.{IsReady, callback, frame_entries}
-use Rattle.value_animator.specs.Running.{all_ended, frame_time, frame_times, frames_text, text}
+use Rattle.value_animator.specs.FrameEntries.{callback, frame_entries}
+use Rattle.value_animator.specs.Running.{all_ended, frame_time, frame_times, text}
 
 -- all things have ended after so many frames, and not after fewer
 pub record IsCount (v : Values) (n : ℕ) : Type 0 where
@@ -39,24 +36,6 @@ record_entries period zero = []
 record_entries period (suc n) =
     (Posted (callback 0 0) ∷ going_entries period n) ++ frame_entries (frame_time period n) n true
 
--- the first callback is posted, and nothing else happened
-pub record IsStarted (s : Frames) (period : ℕ) : Type 0 where
-  pub looper : s.looper ≡ 0
-  pub interval : s.interval ≡ period
-  pub ready : IsReady s (frame_time period 0)
-  pub posted : posted_count (past s) ≡ 1
-  pub entries : s.entries ≡ Posted (callback 0 0) ∷ []
-
--- frames ran until all things had ended, and what they told was written
-pub record HasRun (v : Values) (before after : List ℕ) (s : Frames) : Type 0 where
-  pub count : ℕ
-  pub counted : IsCount v count
-  pub told : after ≡ before ++ frames_text v count
-  pub looper : s.looper ≡ 0
-  pub interval : s.interval ≡ v.period
-  pub phases : s.phases ≡ 4
-  pub entries : s.entries ≡ record_entries v.period count
-
 -- the text and the frame record are those of a run of the values
 pub record IsRunOf (v : Values) (bytes : List ℕ) (frames : FrameRecord) : Type 0 where
   pub count : ℕ
@@ -68,8 +47,3 @@ pub record IsRunOf (v : Values) (bytes : List ℕ) (frames : FrameRecord) : Type
   pub lawful : IsTrue (lawful frames.interval frames.phases frames.entries)
   pub begins : begin_times frames.entries ≡ frame_times v.period count
   pub entries : frames.entries ≡ record_entries v.period count
-
--- the run of the values, unless memory ran out
-abbrev pub RunsTo : ValuesRan → Values → Type 0
-RunsTo (ran_to.Ok bytes frames) v = IsRunOf v bytes.items frames
-RunsTo ran_to.NoMemory v = Unit {0}

@@ -1,7 +1,8 @@
 //! The values of a text.
 ghost use Rattle.std.specs.Prelude.{◌≡◌};
 ghost use Rattle.value_animator.specs.Least.{NamesLeast};
-ghost use Rattle.value_animator.specs.Reading.{Refuses, RefusesAll, Finds, FindsAll, Reads, read_values};
+ghost use Rattle.value_animator.specs.Reading.{read_values};
+ghost use Rattle.value_animator.specs.Answering.{Refuses, RefusesAll, Finds, FindsAll, Reads};
 
 use crate::draft::Draft;
 use crate::plan::Values;

@@ -1,7 +1,8 @@
 //! A run of values.
 ghost use Rattle.std.specs.Prelude.{IfOk, string_bytes};
 ghost use Rattle.value_animator.specs.Plans.{AreValues};
-ghost use Rattle.value_animator.specs.Run.{HasRun, IsRunOf, RunsTo};
+ghost use Rattle.value_animator.specs.Run.{IsRunOf};
+ghost use Rattle.value_animator.specs.Going.{HasRun, RunsTo};
 
 use crate::frames::{ANIMATION, PHASES, run_frame};
 use crate::plan::Values;

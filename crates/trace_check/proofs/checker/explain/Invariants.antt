@@ -2,7 +2,8 @@ use Rattle.std.proofs.Common.{◌≡◌, ◌≤◌, ℕ, take}
 use Rattle.std.specs.Prelude.{◌==◌, fold, count_by}
 use Rattle.loop_model.specs.Base.{empty_base}
 use Rattle.loop_model.specs.Listed.{next_base}
-use Rattle.trace_check.specs.Checking.{IsGood, base_by, made_in}
+use Rattle.trace_check.specs.Checking.{base_by, made_in}
+use Rattle.trace_check.specs.Good.{IsGood}
 use Rattle.trace_check.specs.Ranks.{AreIndexed, AreRanked}
 use Rattle.trace_check.proofs.checker.explain.Given as goal
 

@@ -1,7 +1,7 @@
 use Rattle.std.proofs.Common.{◌≡◌, ◌++◌, ◌∷◌, []}
 use Rattle.trace_check.specs.declared.keyword.Keyword.TheVariants.{Queue}
 use Rattle.trace_check.specs.declared.word.Word.TheVariants.{Name, Number}
-use Rattle.trace_check.specs.Word.{spaced}
+use Rattle.trace_check.specs.Saying.{spaced}
 use Rattle.trace_check.specs.Line.{side, mode}
 use Rattle.trace_check.proofs.Written.{whole_line}
 use Rattle.trace_check.proofs.writer.push_head.Goals as goal

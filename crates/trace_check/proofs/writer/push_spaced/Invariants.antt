@@ -1,5 +1,5 @@
 use Rattle.std.proofs.Common.{◌≡◌, ◌++◌, take}
-use Rattle.trace_check.specs.Word.{spaced}
+use Rattle.trace_check.specs.Saying.{spaced}
 use Rattle.trace_check.proofs.writer.push_spaced.Given as goal
 
 abbrev pub invariant-loop-word : goal.invariant-loop-word

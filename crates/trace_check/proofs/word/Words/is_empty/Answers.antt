@@ -1,7 +1,7 @@
 use Rattle.std.proofs.Common.{◌∙◌, sym, ap, map}
 use Rattle.std.specs.Option.{option_copied}
 use Rattle.line_words.specs.Words.{parts_left}
-use Rattle.trace_check.specs.Word.{word_of}
+use Rattle.trace_check.specs.Saying.{word_of}
 use Rattle.trace_check.specs.Reading.{is_none_left}
 use Rattle.trace_check.proofs.Spelled.{some_left}
 use Rattle.trace_check.proofs.word.Words.is_empty.Goals as goal
