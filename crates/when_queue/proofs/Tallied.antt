@@ -92,14 +92,14 @@ module _ {K : Type 0} where
       let low = h k within in
       let all = count_by-le-length (λ m. is_just (place m.item) k) xs in
       dite (ℕ_discrete k j)
-        (λ same.
-          let one : cond {A = ℕ} (is_just (place x.item) k) 1 0 ≡ 1 = ap (λ (o : Option ℕ). cond {A = ℕ} (is_just o k) 1 0) e ∙ ap (λ (b : Bool). cond {A = ℕ} b 1 0) (equal_is j k (sym same)) in
-          let now : slice_index (with_more (Some j) cs) k ≡ min (slice_index cs k + 1) (2 ^ 64 - 1) = subst (λ n. slice_index (with_more (Some n) cs) k ≡ min (slice_index cs k + 1) (2 ^ 64 - 1)) same (get_or-set_same cs k (min (slice_index cs k + 1) (2 ^ 64 - 1)) 0 within) in
-          omega arith)
-        (λ other.
-          let none : cond {A = ℕ} (is_just (place x.item) k) 1 0 ≡ 0 = ap (λ (o : Option ℕ). cond {A = ℕ} (is_just o k) 1 0) e ∙ ap (λ (b : Bool). cond {A = ℕ} b 1 0) (other_is j k (λ s. other (sym s))) in
-          let now : slice_index (with_more (Some j) cs) k ≡ slice_index cs k = get_or-set_other cs j k (min (slice_index cs j + 1) (2 ^ 64 - 1)) 0 other in
-          omega arith)
+      (λ same.
+      let one : cond {A = ℕ} (is_just (place x.item) k) 1 0 ≡ 1 = ap (λ (o : Option ℕ). cond {A = ℕ} (is_just o k) 1 0) e ∙ ap (λ (b : Bool). cond {A = ℕ} b 1 0) (equal_is j k (sym same)) in
+      let now : slice_index (with_more (Some j) cs) k ≡ min (slice_index cs k + 1) (2 ^ 64 - 1) = subst (λ n. slice_index (with_more (Some n) cs) k ≡ min (slice_index cs k + 1) (2 ^ 64 - 1)) same (get_or-set_same cs k (min (slice_index cs k + 1) (2 ^ 64 - 1)) 0 within) in
+      omega arith)
+      (λ other.
+      let none : cond {A = ℕ} (is_just (place x.item) k) 1 0 ≡ 0 = ap (λ (o : Option ℕ). cond {A = ℕ} (is_just o k) 1 0) e ∙ ap (λ (b : Bool). cond {A = ℕ} b 1 0) (other_is j k (λ s. other (sym s))) in
+      let now : slice_index (with_more (Some j) cs) k ≡ slice_index cs k = get_or-set_other cs j k (min (slice_index cs j + 1) (2 ^ 64 - 1)) 0 other in
+      omega arith)
 
   fewer_at : (place : Item → Option ℕ) (cs : List ℕ) (xs : List (Letter K)) (i : ℕ) (x : Letter K) (o : Option ℕ) → place x.item ≡ o → IsCounted place cs (insert xs i x) → IsCounted place (with_fewer o cs) xs
   fewer_at place cs xs i x None e h k lt =
@@ -110,13 +110,13 @@ module _ {K : Type 0} where
       let within : k < length cs = subst (λ n. k < n) (length-set cs j (slice_index cs j - 1)) lt in
       let low = h k within in
       dite (ℕ_discrete k j)
-        (λ same.
-          let one : cond {A = ℕ} (is_just (place x.item) k) 1 0 ≡ 1 = ap (λ (o : Option ℕ). cond {A = ℕ} (is_just o k) 1 0) e ∙ ap (λ (b : Bool). cond {A = ℕ} b 1 0) (equal_is j k (sym same)) in
-          let now : slice_index (with_fewer (Some j) cs) k ≡ slice_index cs k - 1 = subst (λ n. slice_index (with_fewer (Some n) cs) k ≡ slice_index cs k - 1) same (get_or-set_same cs k (slice_index cs k - 1) 0 within) in
-          omega arith)
-        (λ other.
-          let now : slice_index (with_fewer (Some j) cs) k ≡ slice_index cs k = get_or-set_other cs j k (slice_index cs j - 1) 0 other in
-          omega arith)
+      (λ same.
+      let one : cond {A = ℕ} (is_just (place x.item) k) 1 0 ≡ 1 = ap (λ (o : Option ℕ). cond {A = ℕ} (is_just o k) 1 0) e ∙ ap (λ (b : Bool). cond {A = ℕ} b 1 0) (equal_is j k (sym same)) in
+      let now : slice_index (with_fewer (Some j) cs) k ≡ slice_index cs k - 1 = subst (λ n. slice_index (with_fewer (Some n) cs) k ≡ slice_index cs k - 1) same (get_or-set_same cs k (slice_index cs k - 1) 0 within) in
+      omega arith)
+      (λ other.
+      let now : slice_index (with_fewer (Some j) cs) k ≡ slice_index cs k = get_or-set_other cs j k (slice_index cs j - 1) 0 other in
+      omega arith)
 
   -- a message that comes is counted
   pub tallied_more : (ws cs vs ds : List ℕ) (xs ys : List (Letter K)) (i : ℕ) (x : Letter K) → length xs + 1 < 2 ^ 64 → vs ≡ with_more (what_place x.item) ws → ds ≡ with_more (callback_place x.item) cs → ys ≡ insert xs i x → IsTallied ws cs xs → IsTallied vs ds ys
@@ -192,15 +192,15 @@ module _ {K : Type 0} where
           let at = not_counted ws k (ap (rules_out_kind ws cs f.handler) (sym is) ∙ e) in
           let low = h.0 k at.0 in let none = at.1 in
           all_other (λ m. is_just (what_place m.item) k ≡ false) (λ m. is_named f m ≡ false)
-            (λ m other. ap (λ q. matches (record { handler = f.handler; kind = q; obj = f.obj }) m.item) is ∙ other_what f.handler w f.obj m.item other)
-            xs (none_at what_place k xs (omega arith))
+          (λ m other. ap (λ q. matches (record { handler = f.handler; kind = q; obj = f.obj }) m.item) is ∙ other_what f.handler w f.obj m.item other)
+          xs (none_at what_place k xs (omega arith))
       go (Callback c) is =
           let k = place_of f.handler c in
           let at = not_counted cs k (ap (rules_out_kind ws cs f.handler) (sym is) ∙ e) in
           let low = h.1 k at.0 in let none = at.1 in
           all_other (λ m. is_just (callback_place m.item) k ≡ false) (λ m. is_named f m ≡ false)
-            (λ m other. ap (λ q. matches (record { handler = f.handler; kind = q; obj = f.obj }) m.item) is ∙ other_callback f.handler c f.obj m.item other)
-            xs (none_at callback_place k xs (omega arith))
+          (λ m other. ap (λ q. matches (record { handler = f.handler; kind = q; obj = f.obj }) m.item) is ∙ other_callback f.handler c f.obj m.item other)
+          xs (none_at callback_place k xs (omega arith))
       go AnyKind is = let never : false ≡ true = ap (rules_out_kind ws cs f.handler) (sym is) ∙ e in absurd (cc)
 
 -- ---- the place up to which none passes

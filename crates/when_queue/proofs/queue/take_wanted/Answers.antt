@@ -23,19 +23,21 @@ loop-preserved g c =
     let more : c.loop.counter < c.len-count.result = c.loop-test.true in
     elim c.if-is_met_by.branch [
       | then-is_met_by w ↦
-          let last = w.insert_at.ensures ∙ put_last c.loop.taken w.len-end.result w.remove_at-node.result w.len-end.ensures in
-          (subst (λ (r : L × L × ℕ). Gone r.0 r.1 r.2) (λ j. (sym w.list-is j, sym w.taken-is j, sym w.index-is j))
-          (goes_taking p c.rewind.new.self c.loop.list w.remove_at-node.new.self c.loop.taken w.insert_at.new.self c.len-count.result c.loop.counter c.loop.index w.remove_at-node.result c.get.result.now more c.loop.invariant.0 c.get.ensures (sym c.is_met_by.ensures ∙ w.if-is_met_by.true) (sym w.forget_marks.ensures ∙ w.remove_at-node.ensures) last),
-          subst (λ (r : L × Tally). IsTallied r.1.whats.items r.1.callbacks.items r.0) (λ j. (sym w.list-is j, sym w.tally-is j))
-          (tallied_fewer c.loop.tally.whats.items c.loop.tally.callbacks.items w.take_off.new.self.whats.items w.take_off.new.self.callbacks.items w.remove_at-node.new.self c.loop.list c.loop.index w.remove_at-node.result
-            (w.take_off.ensures.whats ∙ ap (λ (m : Letter g.row.K.Denot). with_fewer (what_place m.item) c.loop.tally.whats.items) w.item.ensures)
-            (w.take_off.ensures.callbacks ∙ ap (λ (m : Letter g.row.K.Denot). with_fewer (callback_place m.item) c.loop.tally.callbacks.items) w.item.ensures)
-            (sym w.forget_marks.ensures ∙ w.remove_at-node.ensures) c.loop.invariant.1))
-      | else-is_met_by w ↦
-          (subst (λ (r : L × L × ℕ). Gone r.0 r.1 r.2) (λ j. (sym w.list-is j, sym w.taken-is j, sym w.index-is j))
-          (subst (λ (l : L). Gone l c.loop.taken (c.loop.index + 1)) (sym w.step.ensures) (goes_past p c.rewind.new.self c.loop.list c.loop.taken c.len-count.result c.loop.counter c.loop.index c.get.result.now more c.loop.invariant.0 c.get.ensures (sym c.is_met_by.ensures ∙ w.if-is_met_by.false))),
-          subst (λ (r : L × Tally). IsTallied r.1.whats.items r.1.callbacks.items r.0) (λ j. (sym w.list-is j, sym w.tally-is j))
-          (subst (λ (l : L). IsTallied c.loop.tally.whats.items c.loop.tally.callbacks.items l) (sym w.step.ensures) c.loop.invariant.1))
+          let last = w.insert_at.ensures ∙ put_last c.loop.taken w.len-end.result w.remove_at-node.result w.len-end.ensures in (
+            subst (λ (r : L × L × ℕ). Gone r.0 r.1 r.2) (λ j. (sym w.list-is j, sym w.taken-is j, sym w.index-is j))
+                (goes_taking p c.rewind.new.self c.loop.list w.remove_at-node.new.self c.loop.taken w.insert_at.new.self c.len-count.result c.loop.counter c.loop.index w.remove_at-node.result c.get.result.now more c.loop.invariant.0 c.get.ensures (sym c.is_met_by.ensures ∙ w.if-is_met_by.true) (sym w.forget_marks.ensures ∙ w.remove_at-node.ensures) last),
+            subst (λ (r : L × Tally). IsTallied r.1.whats.items r.1.callbacks.items r.0) (λ j. (sym w.list-is j, sym w.tally-is j))
+                (tallied_fewer c.loop.tally.whats.items c.loop.tally.callbacks.items w.take_off.new.self.whats.items w.take_off.new.self.callbacks.items w.remove_at-node.new.self c.loop.list c.loop.index w.remove_at-node.result
+                (w.take_off.ensures.whats ∙ ap (λ (m : Letter g.row.K.Denot). with_fewer (what_place m.item) c.loop.tally.whats.items) w.item.ensures)
+                (w.take_off.ensures.callbacks ∙ ap (λ (m : Letter g.row.K.Denot). with_fewer (callback_place m.item) c.loop.tally.callbacks.items) w.item.ensures)
+                (sym w.forget_marks.ensures ∙ w.remove_at-node.ensures) c.loop.invariant.1),
+          )
+      | else-is_met_by w ↦ (
+        subst (λ (r : L × L × ℕ). Gone r.0 r.1 r.2) (λ j. (sym w.list-is j, sym w.taken-is j, sym w.index-is j))
+            (subst (λ (l : L). Gone l c.loop.taken (c.loop.index + 1)) (sym w.step.ensures) (goes_past p c.rewind.new.self c.loop.list c.loop.taken c.len-count.result c.loop.counter c.loop.index c.get.result.now more c.loop.invariant.0 c.get.ensures (sym c.is_met_by.ensures ∙ w.if-is_met_by.false))),
+        subst (λ (r : L × Tally). IsTallied r.1.whats.items r.1.callbacks.items r.0) (λ j. (sym w.list-is j, sym w.tally-is j))
+            (subst (λ (l : L). IsTallied c.loop.tally.whats.items c.loop.tally.callbacks.items l) (sym w.step.ensures) c.loop.invariant.1),
+      )
     ]
 
 pub returns-clause-taken : goal.returns-clause-taken

@@ -15,9 +15,9 @@ invariant_of-self g c =
     let within : c.args.index ≤ length c.remove_at-node.new.self = omega arith in (
       subst IsRising (sym (removed_is c.self.inside.list c.remove_at-node.new.self c.args.index c.remove_at-node.result at c.remove_at-node.ensures)) (rising_removed c.self.inside.list c.args.index c.self.invariant.0),
       tallied_fewer c.self.inside.tally.whats.items c.self.inside.tally.callbacks.items c.take_off.new.self.whats.items c.take_off.new.self.callbacks.items c.remove_at-node.new.self c.self.inside.list c.args.index c.remove_at-node.result
-        (c.take_off.ensures.whats ∙ ap (λ (m : Letter g.row.K.Denot). with_fewer (what_place m.item) c.self.inside.tally.whats.items) is)
-        (c.take_off.ensures.callbacks ∙ ap (λ (m : Letter g.row.K.Denot). with_fewer (callback_place m.item) c.self.inside.tally.callbacks.items) is)
-        c.remove_at-node.ensures c.self.invariant.1,
+          (c.take_off.ensures.whats ∙ ap (λ (m : Letter g.row.K.Denot). with_fewer (what_place m.item) c.self.inside.tally.whats.items) is)
+          (c.take_off.ensures.callbacks ∙ ap (λ (m : Letter g.row.K.Denot). with_fewer (callback_place m.item) c.self.inside.tally.callbacks.items) is)
+          c.remove_at-node.ensures c.self.invariant.1,
       skip_gone (λ m. is_asynchronous m.item) c.self.inside.list c.remove_at-node.new.self c.args.index c.self.inside.skip c.skip_without-self-inside.result c.remove_at-node.result c.skip_without-self-inside.ensures c.remove_at-node.ensures within c.self.invariant.2,
     )
 
