@@ -1,7 +1,6 @@
 -- What the entries behind a place end: the place of the first of them that ends messages in a given way.
 use Rattle.std.specs.Prelude.{ℕ, ◌≡◌, ◌+◌, ◌==◌, Bool, true, false, ◌&&◌, nat_lt, List, [], ◌∷◌, Option, length, cond}
 use Rattle.std.specs.Option.{unwrap_or}
-use Rattle.std.specs.Ordering.{nat_cmp}
 use Rattle.std.specs.BTreeMap.{get}
 use Rattle.loop_model.specs.declared.post.Post.{Post}
 use Rattle.loop_model.specs.Items.{is_of_kind, matches_post}
@@ -11,6 +10,7 @@ use Rattle.fate_ledger.specs.declared.keys.RemovalKey.{RemovalKey}
 use Rattle.fate_ledger.specs.declared.behind.Behind.{Behind}
 use Rattle.fate_ledger.specs.Keys.{key_cmp, key_of, is_same, is_same_name}
 use Rattle.fate_ledger.specs.Quits.{first_quit}
+use Rattle.fate_ledger.specs.Dispatches.{dispatch_at}
 
 -- a removal that names just this
 abbrev pub names : RemovalKey → Cause → Bool
@@ -58,7 +58,7 @@ first_at p k (c ∷ cs) = cond (p c) k (first_at p (k + 1) cs)
 -- the places that are kept are those of these causes, the first of which stands at place k
 pub record Tells (b : Behind) (k : ℕ) (cs : List Cause) : Type 0 where
   pub removals : (x : RemovalKey) → unwrap_or (get key_cmp b.removals x) b.end ≡ first_at (names x) k cs
-  pub dispatches : (n : ℕ) → unwrap_or (get nat_cmp b.dispatches n) b.end ≡ first_at (is_dispatch n) k cs
+  pub dispatches : (n : ℕ) → dispatch_at b.dispatches n ≡ first_at (is_dispatch n) k cs
   pub everything : b.everything ≡ first_at is_everything k cs
   pub safe_quits : (w : ℕ) → first_quit w b.end b.safe_quits.list.items ≡ first_at (is_quit_before w) k cs
   pub ended : b.end ≡ k + length cs

@@ -1,11 +1,12 @@
 // What the entries behind a place of a history end.
 
-ghost use Rattle.std.specs.Prelude.{◌≡◌, ◌+◌, ℕ, List, [], ◌∷◌, OnOk, min};
+ghost use Rattle.std.specs.Prelude.{◌≡◌, ◌+◌, ℕ, List, [], ◌∷◌, IfOk, OnOk, min};
 ghost use Rattle.fate_ledger.specs.Behind.{Tells, first_at, is_dispatch, ends_post, names, removes, removes_with};
 ghost use Rattle.fate_ledger.specs.Quits.{IsRising};
 ghost use Rattle.fate_ledger.specs.declared.cause.Cause.{Cause};
 
 use crate::cause::Cause;
+use crate::dispatches::Dispatches;
 use crate::keys::{RemovalKey, key_of};
 use crate::quits::SafeQuits;
 use loop_model::{NoMemory, Post};
@@ -17,25 +18,26 @@ use std::collections::BTreeMap;
 #[derive(Drop)]
 pub struct Behind {
     pub removals: BTreeMap<RemovalKey, usize>,
-    pub dispatches: BTreeMap<u64, usize>,
+    pub dispatches: Dispatches,
     pub everything: usize,
     pub safe_quits: SafeQuits,
     pub end: usize,
 }
 
 impl Behind {
-    /// Nothing stands behind the end.
-    pub(crate) fn new(alloc: Global, end: usize) -> Behind
-        ensures tells { Tells result end [] }
-        ensures rising { IsRising result.safe_quits.list.items }
+    /// Nothing stands behind the end, in a history that posts so many messages.
+    pub(crate) fn new(alloc: Global, posts: u64, end: usize) -> Result<Behind, NoMemory>
+        ensures tells { IfOk result (λ b. Tells b end []) }
+        ensures rising { IfOk result (λ b. IsRising b.safe_quits.list.items) }
     {
-        Behind {
+        let dispatches = Dispatches::new(alloc, posts, end)?;
+        Ok(Behind {
             removals: BTreeMap::new(alloc),
-            dispatches: BTreeMap::new(alloc),
+            dispatches,
             everything: end,
             safe_quits: SafeQuits::new(alloc),
             end,
-        }
+        })
     }
 
     /// Goes on to the entry in front, which stands at this place.
@@ -50,11 +52,7 @@ impl Behind {
                     return Err(NoMemory);
                 };
             }
-            Cause::Dispatch(number) => {
-                let Ok(_) = self.dispatches.insert(number, place) else {
-                    return Err(NoMemory);
-                };
-            }
+            Cause::Dispatch(number) => self.dispatches.add(number, place)?,
             Cause::Everything => self.everything = place,
             Cause::SafeQuit(now) => self.safe_quits.add(now, place)?,
             Cause::Nothing => {}
@@ -112,10 +110,7 @@ impl Behind {
     fn dispatch(&self, number: u64) -> usize
         ensures { (place : ℕ) (causes : List Cause) → Tells self.now place causes → result ≡ first_at (is_dispatch number) place causes }
     {
-        match self.dispatches.get(&number) {
-            Some(place) => *place,
-            None => self.end,
-        }
+        self.dispatches.first(number)
     }
 
     /// The place of the first entry that ends the post of this number, or the end where none does.

@@ -42,7 +42,7 @@ fn all_entries(alloc: Global, segments: &[Segment]) -> Result<Vec<Entry>, NoMemo
 fn fate_list(alloc: Global, entries: &[Entry]) -> Result<Vec<Fate>, NoMemory>
     ensures { IfOk result (λ list. list.items ≡ fates entries.now) }
 {
-    let mut ledger = Ledger::new(alloc, entries);
+    let mut ledger = Ledger::new(alloc, entries)?;
     let mut place = entries.len();
     while place > 0 {
         place -= 1;

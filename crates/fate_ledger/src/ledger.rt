@@ -1,6 +1,6 @@
 // A ledger that goes through a history once, from its last entry to its first.
 
-ghost use Rattle.std.specs.Prelude.{◌≡◌, ◌+◌, ◌<◌, ℕ, OnOk, drop, reverse, length, slice_get};
+ghost use Rattle.std.specs.Prelude.{◌≡◌, ◌+◌, ◌<◌, ℕ, IfOk, OnOk, drop, reverse, length, slice_get};
 ghost use Rattle.loop_model.specs.Fates.{fate_of};
 ghost use Rattle.loop_model.specs.Posts.{accepted_by};
 ghost use Rattle.fate_ledger.specs.Ledgers.{Follows, fates_from, posts_of};
@@ -21,14 +21,15 @@ pub struct Ledger {
 
 impl Ledger {
     /// The ledger at the end of a history.
-    pub fn new(alloc: Global, entries: &[Entry]) -> Ledger
-        ensures { Follows entries.now (length entries.now) result }
+    pub fn new(alloc: Global, entries: &[Entry]) -> Result<Ledger, NoMemory>
+        ensures { IfOk result (λ l. Follows entries.now (length entries.now) l) }
     {
-        Ledger {
-            behind: Behind::new(alloc, entries.len()),
-            number: posts(entries),
+        let number = posts(entries);
+        Ok(Ledger {
+            behind: Behind::new(alloc, number, entries.len())?,
+            number,
             fates: Vec::new(alloc),
-        }
+        })
     }
 
     /// Goes on to the entry at this place. After want of memory the ledger is not to be used.

@@ -4,6 +4,7 @@
 mod behind;
 mod cause;
 mod counted;
+mod dispatches;
 mod history;
 mod keys;
 mod ledger;

@@ -1,6 +1,9 @@
 -- What stays fixed for a queue, whatever is called.
 use Rattle.std.proofs.Common.{◌≡◌, ℕ, Bool, ap}
+use Rattle.std.specs.Prelude.{Result, Ok, Err}
 use Rattle.loop_model.specs.declared.post.Filter.{Filter}
+use Rattle.loop_model.specs.declared.segment.Segment.{Segment}
+use Rattle.loop_model.specs.declared.memory.NoMemory.{NoMemory}
 use Rattle.loop_model.specs.Answers.{Setting}
 use Rattle.message_slot.specs.Letter.{Letter}
 use Rattle.queue_state.specs.declared.answers.Posted.{Posted}
@@ -20,7 +23,7 @@ use Rattle.queue_state.specs.declared.answers.Advancing.TheVariants as advancing
 use Rattle.queue_state.specs.declared.answers.Halting.{Halting}
 use Rattle.queue_state.specs.declared.answers.Halting.TheVariants as halting
 use Rattle.queue_state.specs.Queue.{Queue}
-use Rattle.queue_state.specs.Calls.{Posts, Looks, PostsBarrier, Unbars, Takes, Quits, Advances, Halts}
+use Rattle.queue_state.specs.Calls.{Posts, Looks, PostsBarrier, Unbars, Takes, Quits, Advances, Halts, Seals}
 
 module _ {H K : Type 0} where
   abbrev setting : Queue H K → Setting
@@ -68,3 +71,7 @@ module _ {H K : Type 0} where
   halts_stays x y s now halting.Halted e = ap setting e.1
   halts_stays x y s now halting.Over e = ap setting e.1
   halts_stays x y s now (halting.NotDrained n) e = ap setting e.2
+
+  pub seals_stays : (x y : Queue H K) (r : Result Segment NoMemory) → Seals x r y → y.setting ≡ x.setting
+  seals_stays x y (Ok p) e = ap setting e.1
+  seals_stays x y (Err n) e = ap setting e

@@ -99,6 +99,21 @@ pub(crate) fn remove(state: &mut QueueState<NoClaim>, filter: &Filter) -> Result
     }
 }
 
+/// Hands the entries out and drops them, where there are so many.
+#[tactic(auto, using(crate::proofs::Stays::seals_stays))]
+pub(crate) fn forget(state: &mut QueueState<NoClaim>, many: usize) -> Result<(), NoMemory>
+    requires { state.old.setting.senders ≡ 1 }
+    ensures { state.new.setting ≡ state.old.setting }
+{
+    if state.entries().len() < many {
+        return Ok(());
+    }
+    match state.seal() {
+        Ok(_) => Ok(()),
+        Err(_) => Err(NoMemory),
+    }
+}
+
 /// Quits safely at this moment, and tells how many messages that dropped.
 #[tactic(auto, using(crate::proofs::Stays::quits_stays))]
 pub(crate) fn quit_safely(state: &mut QueueState<NoClaim>, now: u64) -> Result<u64, NoMemory>

@@ -2,7 +2,7 @@
 
 ghost use Rattle.std.specs.Prelude.{◌≡◌, ◌<◌, ◌^◌, IfOk};
 
-use crate::calls::{message, new_queue, post, post_barrier, quit_safely, remove, take};
+use crate::calls::{forget, message, new_queue, post, post_barrier, quit_safely, remove, take};
 use crate::words::Mode;
 use loop_model::{Filter, Kind, NoMemory, Post};
 use message_slot::NoClaim;
@@ -11,6 +11,9 @@ use std::alloc::Global;
 
 /// The time of what is posted for later, in milliseconds.
 const LATE: u64 = 1_000_000_000_000;
+
+/// So many entries a queue makes before it hands them out.
+const PART: usize = 4_096;
 
 /// How many messages were posted, taken, removed and dropped, and how many looks took none.
 #[derive(Clone, Copy, Debug, PartialEq, Eq)]
@@ -35,6 +38,7 @@ pub(crate) fn run(alloc: Global, mode: Mode, count: u64) -> Result<Counts, NoMem
     match mode {
         Mode::Chain => chain(alloc, count),
         Mode::Burst => burst(alloc, count),
+        Mode::Sealed => sealed(alloc, count),
         Mode::Late => late(alloc, count),
         Mode::Rising => rising(alloc, count),
         Mode::Scatter => scatter(alloc, count),
@@ -68,6 +72,24 @@ fn burst(alloc: Global, count: u64) -> Result<Counts, NoMemory> {
     let mut state = new_queue(alloc)?;
     post_each(alloc, &mut state, 1, count)?;
     let taken = take_each(&mut state, count, count);
+    Ok(Counts {
+        posted: count,
+        taken,
+        ..NONE
+    })
+}
+
+/// Posts each message for now and takes it, and hands the entries out, part by part, which drops them.
+fn sealed(alloc: Global, count: u64) -> Result<Counts, NoMemory> {
+    let mut state = new_queue(alloc)?;
+    let mut taken = 0;
+    for now in 0..count {
+        post(alloc, &mut state, &message(now))?;
+        if take(&mut state, now) {
+            taken = more(taken);
+        }
+        forget(&mut state, PART)?;
+    }
     Ok(Counts {
         posted: count,
         taken,

@@ -7,6 +7,7 @@ ghost use Rattle.std.specs.Prelude.{◌≡◌, ◌≤◌, IfSome};
 pub(crate) enum Mode {
     Chain,
     Burst,
+    Sealed,
     Late,
     Rising,
     Scatter,
@@ -18,9 +19,10 @@ pub(crate) enum Mode {
 }
 
 /// All modes, in the order in which they are printed.
-pub(crate) const ALL: [Mode; 10] = [
+pub(crate) const ALL: [Mode; 11] = [
     Mode::Chain,
     Mode::Burst,
+    Mode::Sealed,
     Mode::Late,
     Mode::Rising,
     Mode::Scatter,
@@ -36,6 +38,7 @@ pub(crate) fn word(mode: Mode) -> &'static str {
     match mode {
         Mode::Chain => "chain",
         Mode::Burst => "burst",
+        Mode::Sealed => "sealed",
         Mode::Late => "late",
         Mode::Rising => "rising",
         Mode::Scatter => "scatter",

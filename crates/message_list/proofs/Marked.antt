@@ -8,7 +8,6 @@ use Rattle.std.proofs.lemmas.Bool.Decides.{nat_tests}
 use mathlib.Core.Option.{some, some-injective, some-ne-none}
 use lib.ListN.{get_elem?, length-map}
 use denote.RawPtr.{Ptr}
-use Rattle.message_list.specs.declared.node.Linked.{Linked}
 use Rattle.message_list.specs.declared.marks.Mark.{Mark}
 use Rattle.message_list.specs.declared.place.Place.{Place}
 use Rattle.message_list.specs.Links.{Placed, places_of, HasOneMore}

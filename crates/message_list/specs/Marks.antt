@@ -1,6 +1,5 @@
 -- Marks on the nodes of a list.
-use Rattle.std.specs.Prelude.{◌≡◌, ℕ, ◌+◌, ◌-◌, ◌<◌, ◌==◌, ◌^◌, List, length, Contains, nat_lt, if◌then◌else◌, min}
-use denote.RawPtr.{Ptr}
+use Rattle.std.specs.Prelude.{ℕ, ◌+◌, ◌-◌, ◌<◌, ◌==◌, ◌^◌, List, length, Contains, nat_lt, if◌then◌else◌, min}
 use Rattle.message_list.specs.declared.marks.Mark.{Mark}
 use Rattle.message_list.specs.declared.place.Place.{Place}
 use Rattle.message_list.specs.Store.{Cell, Holds}

@@ -1,4 +1,4 @@
-use Rattle.std.proofs.Common.{◌≡◌, ◌<◌, ◌≤◌, length, refl, sym, arith}
+use Rattle.std.proofs.Common.{refl}
 use Rattle.message_list.specs.Marks.{lowered}
 use Rattle.message_list.proofs.Marked.{moved_more}
 use Rattle.message_list.proofs.marks.lower.Goals as goal

@@ -1,4 +1,4 @@
-use Rattle.std.proofs.Common.{◌≡◌, ◌<◌, ◌≤◌, length, refl, sym, arith}
+use Rattle.std.proofs.Common.{refl, arith}
 use Rattle.message_list.proofs.Marked.{all_in}
 use Rattle.message_list.proofs.marks.thin.Goals as goal
 

@@ -1,5 +1,4 @@
-use Rattle.std.proofs.Common.{◌≡◌, ◌<◌, length, sym, arith}
-use Rattle.message_list.specs.Marks.{LeadsTo}
+use Rattle.std.proofs.Common.{arith}
 use Rattle.message_list.proofs.Marked.{read_leads}
 use Rattle.message_list.proofs.list.NodeList.mark_item.Goals as goal
 

@@ -1,4 +1,4 @@
-use Rattle.std.proofs.Common.{◌≡◌, ◌<◌, length, sym, arith}
+use Rattle.std.proofs.Common.{arith}
 use Rattle.message_list.proofs.Marked.{read_leads}
 use Rattle.message_list.proofs.list.NodeList.seek_mark.Goals as goal
 
