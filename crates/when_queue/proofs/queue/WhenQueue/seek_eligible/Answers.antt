@@ -4,10 +4,10 @@ use Rattle.std.specs.List.{position_or_len}
 use Rattle.std.proofs.lemmas.List.Sums.{prefix_len-le-length}
 use Rattle.std.specs.Prelude.{not}
 use Rattle.loop_model.specs.Items.{when_of, is_barrier, is_asynchronous}
+use Rattle.when_queue.proofs.Lists.{index_none, index_plain, index_fenced, index_fenced_none, listed_at, listed_none}
 use Rattle.when_queue.specs.Queue.{items_of}
 use Rattle.std.proofs.Common.{None}
 use Rattle.when_queue.proofs.First.{first_by}
-use Rattle.when_queue.proofs.Lists.{index_none, index_plain, index_fenced, index_fenced_none, listed_at, listed_none}
 use Rattle.when_queue.proofs.queue.WhenQueue.seek_eligible.Goals as goal
 
 pub returns-then-len-eq0-clause-when : goal.returns-then-len-eq0-clause-when
