@@ -8,6 +8,9 @@ use Rattle.message_slot.specs.Letter.{Letter}
 use Rattle.when_queue.specs.Queue.{IsRising}
 use Rattle.when_queue.specs.Tally.{IsTallied}
 use Rattle.when_queue.proofs.Lists.{index_none, index_plain, index_fenced, index_fenced_none, listed_at, listed_none}
+use Rattle.when_queue.specs.Queue.{items_of}
+use Rattle.std.proofs.Common.{None}
+use Rattle.when_queue.proofs.First.{first_by}
 use Rattle.when_queue.proofs.queue.WhenQueue.seek_eligible.Goals as goal
 
 pub returns-then-len-eq0-clause-when : goal.returns-then-len-eq0-clause-when
@@ -37,6 +40,9 @@ returns-then-place-len-clause-when g c =
     let at : c.seek_behind-place.result ≡ position_or_len (λ m. is_asynchronous m.item) c.self.inside.list = c.seek_behind-place.ensures.index in
     rw (← c.self.view_is) (sym (ap (option_map when_of) (listed_none c.self.inside.list (index_fenced_none c.self.inside.list c.get-front.result.now c.seek_behind-place.result c.get-front.ensures fence at (omega arith)))))
 
+pub returns-then-place-len-clause-first : goal.returns-then-place-len-clause-first
+returns-then-place-len-clause-first g c = first_by (items_of c.args.self.now) None (returns-then-place-len-clause-index g c)
+
 pub get-requires : goal.get-requires
 get-requires g c =
     let le = prefix_len-le-length (λ m. not (is_asynchronous m.item)) c.self.inside.list in
@@ -49,6 +55,9 @@ returns-clause-index g c =
     let le = prefix_len-le-length (λ m. not (is_asynchronous m.item)) c.self.inside.list in
     let at : c.seek_behind-place.result ≡ position_or_len (λ m. is_asynchronous m.item) c.self.inside.list = c.seek_behind-place.ensures.index in
     rw (← c.self.view_is) (sym (index_fenced c.self.inside.list c.get-front.result.now c.seek_behind-place.result c.get-front.ensures fence at (omega arith)))
+
+pub returns-clause-first : goal.returns-clause-first
+returns-clause-first g c = first_by _ _ (returns-clause-index g c)
 
 pub returns-clause-when : goal.returns-clause-when
 returns-clause-when g c =
