@@ -2,8 +2,8 @@
 ghost use Rattle.std.specs.Prelude.{◌≡◌, ◌+◌, ◌<◌, ◌^◌, ◌++◌, [], length};
 ghost use Rattle.message_queue_c.specs.Joined.{joined};
 
-use message_slot::NoClaim;
 use message_list::NodeList;
+use message_slot::NoClaim;
 use std::alloc::Global;
 use std::mem;
 use when_queue::MsgList;
