@@ -42,18 +42,18 @@ LIMIT = 20
 # these walk their list from the head at each post, so they take no part where it is long (nor do Qt's timers)
 WALKS = {"plain C list", JAVA}
 
-# mode, messages, those that don't take part
+# mode, messages at once, rounds, those that don't take part
 CASES = [
-    ("chain", 200_000, set()),
-    ("burst", 1_000, set()),
-    ("burst", 200_000, WALKS),
-    ("rising", 1_000, set()),
-    ("rising", 200_000, WALKS | {"Qt"}),
-    ("posters", 100_000, {"libuv"}),
-    ("scatter", 52, set()),
-    ("scatter", 1_000, set()),
-    ("scatter", 20_000, {"Qt"}),
-    ("scatter", 100_000, WALKS | {"Qt"}),
+    ("chain", 200_000, 1, set()),
+    ("burst", 1_000, 50, set()),
+    ("burst", 200_000, 1, WALKS),
+    ("rising", 1_000, 20, set()),
+    ("rising", 200_000, 1, WALKS | {"Qt"}),
+    ("posters", 100_000, 1, {"libuv"}),
+    ("scatter", 52, 40, set()),
+    ("scatter", 1_000, 20, set()),
+    ("scatter", 20_000, 1, WALKS | {"Qt"}),
+    ("scatter", 100_000, 1, WALKS | {"Qt"}),
 ]
 
 
@@ -100,14 +100,14 @@ def commands(room):
         yield JAVA, ["java", "-cp", room, "JavaQueue"]
 
 
-def measured(command, mode, count):
+def measured(command, mode, count, rounds):
     """The nanoseconds a message of one run, or None where it takes longer than LIMIT."""
     try:
-        ran = subprocess.run([*command, mode, str(count)], capture_output=True, text=True, timeout=LIMIT)
+        ran = subprocess.run([*command, mode, str(count), str(rounds)], capture_output=True, text=True, timeout=LIMIT)
     except subprocess.TimeoutExpired:
         return None
     if ran.returncode != 0:
-        raise SystemExit(f"{command} {mode} {count} failed with status {ran.returncode}: {ran.stderr}")
+        raise SystemExit(f"{command} {mode} {count} {rounds} failed with status {ran.returncode}: {ran.stderr}")
     return float(ran.stdout)
 
 
@@ -115,12 +115,12 @@ def measure(programs, rounds, end):
     """The least time of each program in each case."""
     least, slow = {}, set()
     for number in range(rounds):
-        for mode, count, absent in CASES:
+        for mode, count, times, absent in CASES:
             for name, command in programs:
                 key = (mode, count, name)
                 if name in absent or key in slow or (number > 0 and time.time() > end):
                     continue
-                value = measured(command, mode, count)
+                value = measured(command, mode, count, times)
                 if value is None:
                     slow.add(key)
                     skipped(f"{mode} {count} of {name}", f"it takes more than {LIMIT} seconds")
@@ -134,7 +134,7 @@ def table(programs, least, show):
     names = [name for name, _ in programs]
     yield "| What | " + " | ".join(names) + " |"
     yield "|---" * (len(names) + 1) + "|"
-    for mode, count, _ in CASES:
+    for mode, count, _, _ in CASES:
         cells = [show(least, (mode, count), name) for name in names]
         yield f"| {mode} {count:,} | " + " | ".join(cells) + " |"
 

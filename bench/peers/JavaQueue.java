@@ -1,5 +1,5 @@
 // A queue in the manner of AOSP's MessageQueue: one monitor, a singly linked list in order of time, a pool of fifty messages.
-// JavaQueue MODE COUNT, as the programs of bench.h; the first three runs are not measured.
+// JavaQueue MODE COUNT ROUNDS, as the programs of bench.h; the first three runs of all rounds are not measured.
 public final class JavaQueue {
     static final class Message {
         long when;
@@ -114,9 +114,10 @@ public final class JavaQueue {
         }
     }
 
-    double run(String mode, long count) throws InterruptedException {
-        byPosters = 0;
-        long seed = 12345, now = milliseconds(), start = processorTime();
+    private long seed = 12345;
+
+    void round(String mode, long count) throws InterruptedException {
+        long now = milliseconds();
         if (mode.equals("posters")) {
             posters(count);
         } else if (mode.equals("chain")) {
@@ -131,14 +132,22 @@ public final class JavaQueue {
             }
             take(count);
         }
-        return (double) (processorTime() - start + byPosters) / count;
+    }
+
+    double run(String mode, long count, long rounds) throws InterruptedException {
+        byPosters = 0;
+        long start = processorTime();
+        for (long i = 0; i < rounds; i++) {
+            round(mode, count);
+        }
+        return (double) (processorTime() - start + byPosters) / (count * rounds);
     }
 
     public static void main(String[] words) throws InterruptedException {
-        long count = Long.parseLong(words[1]) / POSTERS * POSTERS;
+        long count = Long.parseLong(words[1]) / POSTERS * POSTERS, rounds = Long.parseLong(words[2]);
         for (int i = 0; i < 3; i++) {
-            new JavaQueue().run(words[0], count);
+            new JavaQueue().run(words[0], count, rounds);
         }
-        System.out.printf(java.util.Locale.ROOT, "%.1f%n", new JavaQueue().run(words[0], count));
+        System.out.printf(java.util.Locale.ROOT, "%.1f%n", new JavaQueue().run(words[0], count, rounds));
     }
 }

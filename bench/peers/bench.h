@@ -1,9 +1,9 @@
-/* What the programs of this folder share: PROGRAM MODE COUNT makes the posts of the mode, takes all messages, and prints the
- * nanoseconds of processor time that it cost a message.
+/* What the programs of this folder share: PROGRAM MODE COUNT ROUNDS makes the posts of the mode and takes all messages, so many
+ * times on one queue, and prints the nanoseconds of processor time that it cost a message.
  *
  *     chain    each message posts the next one for now
  *     burst    COUNT messages for now are posted, then all are taken
- *     rising   the same for rising times, all in the past once they are taken
+ *     rising   the same for rising times, all of them past once they are taken
  *     scatter  the same for scattered times
  *     posters  four threads post COUNT messages in all, each for now, while one thread takes them */
 #ifndef BENCH_H
@@ -45,11 +45,16 @@ static inline int is_mode(char **words, const char *mode)
 
 static inline long count_of(int words, char **word)
 {
-    if (words < 3 || atol(word[2]) < POSTERS) {
-        fprintf(stderr, "usage: %s chain|burst|rising|scatter|posters COUNT\n", word[0]);
+    if (words < 4 || atol(word[2]) < POSTERS || atol(word[3]) < 1) {
+        fprintf(stderr, "usage: %s chain|burst|rising|scatter|posters COUNT ROUNDS\n", word[0]);
         exit(2);
     }
     return atol(word[2]) / POSTERS * POSTERS;
+}
+
+static inline long rounds_of(char **word)
+{
+    return atol(word[3]);
 }
 
 static inline int report(uint64_t time, long count)

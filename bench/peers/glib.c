@@ -55,24 +55,31 @@ static void posters(long count)
     }
 }
 
+static void run(char **word, long count)
+{
+    gint64 now = g_get_monotonic_time();
+    left = count;
+    chained = is_mode(word, "chain");
+    if (is_mode(word, "posters")) {
+        posters(count);
+        return;
+    }
+    for (long i = 0; i < (chained ? 1 : count); i++) {
+        gboolean at_once = chained || is_mode(word, "burst");
+        post(at_once ? 0 : is_mode(word, "rising") ? now - count + i : 1 + (gint64)scattered((uint64_t)now));
+    }
+    g_main_loop_run(loop);
+}
+
 int main(int words, char **word)
 {
-    long count = count_of(words, word);
-    left = count;
+    long count = count_of(words, word), rounds = rounds_of(word);
     context = g_main_context_new();
     loop = g_main_loop_new(context, FALSE);
     uint64_t start = processor_time();
-    gint64 now = g_get_monotonic_time();
-    if (is_mode(word, "posters")) {
-        posters(count);
-    } else {
-        chained = is_mode(word, "chain");
-        for (long i = 0; i < (chained ? 1 : count); i++) {
-            gboolean at_once = chained || is_mode(word, "burst");
-            post(at_once ? 0 : is_mode(word, "rising") ? now - count + i : 1 + (gint64)scattered((uint64_t)now));
-        }
-        g_main_loop_run(loop);
+    for (long round = 0; round < rounds; round++) {
+        run(word, count);
     }
-    report(processor_time() - start, count);
+    report(processor_time() - start, count * rounds);
     return left != 0;
 }

@@ -51,26 +51,33 @@ static void posters(long count)
     }
 }
 
+static void run(char **word, long count)
+{
+    left = count;
+    chained = is_mode(word, "chain");
+    if (is_mode(word, "posters")) {
+        posters(count);
+        return;
+    }
+    for (long i = 0; i < (chained ? 1 : count); i++) {
+        int at_once = chained || is_mode(word, "burst");
+        post(at_once ? 0 : is_mode(word, "rising") ? 1 + i * 20000 / count : 1 + (long)scattered(20000));
+    }
+    if (is_mode(word, "rising") || is_mode(word, "scatter")) {
+        usleep(30000);
+    }
+    event_base_dispatch(base);
+}
+
 int main(int words, char **word)
 {
-    long count = count_of(words, word);
-    left = count;
+    long count = count_of(words, word), rounds = rounds_of(word);
     evthread_use_pthreads();
     base = event_base_new();
     uint64_t start = processor_time();
-    if (is_mode(word, "posters")) {
-        posters(count);
-    } else if (is_mode(word, "chain")) {
-        chained = 1;
-        post(0);
-        event_base_dispatch(base);
-    } else {
-        for (long i = 0; i < count; i++) {
-            post(is_mode(word, "burst") ? 0 : is_mode(word, "rising") ? 1 + i * 20000 / count : 1 + (long)scattered(20000));
-        }
-        usleep(30000);
-        event_base_dispatch(base);
+    for (long round = 0; round < rounds; round++) {
+        run(word, count);
     }
-    report(processor_time() - start, count);
+    report(processor_time() - start, count * rounds);
     return left != 0;
 }

@@ -30,26 +30,32 @@ static void one(uv_timer_t *timer)
     }
 }
 
+static void run(char **word, long count)
+{
+    left = count;
+    chained = is_mode(word, "chain");
+    uv_update_time(loop);
+    for (long i = 0; i < (chained ? 1 : count); i++) {
+        int at_once = chained || is_mode(word, "burst");
+        post(at_once ? 0 : is_mode(word, "rising") ? (uint64_t)(i * 20 / count) : scattered(20));
+    }
+    if (is_mode(word, "rising") || is_mode(word, "scatter")) {
+        usleep(30000);
+    }
+    uv_run(loop, UV_RUN_DEFAULT);
+}
+
 int main(int words, char **word)
 {
-    long count = count_of(words, word);
-    left = count;
+    long count = count_of(words, word), rounds = rounds_of(word);
     if (is_mode(word, "posters")) {
         return 7;
     }
     loop = uv_default_loop();
-    uv_update_time(loop);
     uint64_t start = processor_time();
-    if (is_mode(word, "chain")) {
-        chained = 1;
-        post(0);
-    } else {
-        for (long i = 0; i < count; i++) {
-            post(is_mode(word, "burst") ? 0 : is_mode(word, "rising") ? (uint64_t)(i * 20 / count) : scattered(20));
-        }
-        usleep(30000);
+    for (long round = 0; round < rounds; round++) {
+        run(word, count);
     }
-    uv_run(loop, UV_RUN_DEFAULT);
-    report(processor_time() - start, count);
+    report(processor_time() - start, count * rounds);
     return left != 0;
 }

@@ -82,9 +82,29 @@ static void posters(long count)
     }
 }
 
+/* All are posted, then all are taken. */
+static void each_then_all(char **word, long count)
+{
+    uint64_t now = milliseconds();
+    for (long i = 0; i < count; i++) {
+        send(is_mode(word, "burst") ? now : is_mode(word, "rising") ? now - (uint64_t)(count - i) / 1000 : 1 + scattered(now));
+    }
+    for (long i = 0; i < count; i++) {
+        take();
+    }
+}
+
+static void chain(long count)
+{
+    for (long i = 0; i < count; i++) {
+        send(milliseconds());
+        take();
+    }
+}
+
 int main(int words, char **word)
 {
-    long count = count_of(words, word);
+    long count = count_of(words, word), rounds = rounds_of(word);
     pthread_condattr_t monotonic;
     pthread_condattr_init(&monotonic);
     pthread_condattr_setclock(&monotonic, CLOCK_MONOTONIC);
@@ -92,22 +112,16 @@ int main(int words, char **word)
     if (!open_queue()) {
         return 5;
     }
-    uint64_t start = processor_time(), now = milliseconds();
-    if (is_mode(word, "posters")) {
-        posters(count);
-    } else if (is_mode(word, "chain")) {
-        for (long i = 0; i < count; i++) {
-            send(milliseconds());
-            take();
-        }
-    } else {
-        for (long i = 0; i < count; i++) {
-            send(is_mode(word, "burst") ? now : is_mode(word, "rising") ? now - (uint64_t)(count - i) / 1000 : 1 + scattered(now));
-        }
-        for (long i = 0; i < count; i++) {
-            take();
+    uint64_t start = processor_time();
+    for (long round = 0; round < rounds; round++) {
+        if (is_mode(word, "posters")) {
+            posters(count);
+        } else if (is_mode(word, "chain")) {
+            chain(count);
+        } else {
+            each_then_all(word, count);
         }
     }
-    report(processor_time() - start, count);
-    return sum != (uint64_t)count;
+    report(processor_time() - start, count * rounds);
+    return sum != (uint64_t)(count * rounds);
 }

@@ -1,5 +1,5 @@
-/* The proved queue under a mutex. Built with -DFORGET=1000 it lets the record of its calls go after so many calls, or as many as
- * messages stand in the queue, since letting go costs a step for each of them. */
+/* The proved queue under a mutex. Built with -DFORGET=1000 it lets the record of its calls go after so many calls, but not before
+ * there are eight for each message that stands in the queue, since letting go costs a step for each of these. */
 #include "locked.h"
 
 static mq_queue queue = MQ_CLOSED;
@@ -10,7 +10,7 @@ static uint64_t live, since;
 /* One call was made. */
 static void made(void)
 {
-    if (++since >= FORGET && since >= live) {
+    if (++since >= FORGET && since >= 8 * live) {
         since = 0;
         if (!mq_forget(&queue)) {
             exit(6);
