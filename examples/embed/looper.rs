@@ -1,136 +1,252 @@
-//! Two threads post and one looper takes the messages, under a `Mutex` with a `Condvar` of this program's own.
-use std::sync::{Condvar, Mutex};
+//! Two threads post and one looper takes the messages, under a `Mutex` with a `Condvar` of this program's own. `Queue` is a safe
+//! queue of boxes over message_queue.h: each box comes back by one call, or is dropped with the queue.
+use std::marker::PhantomData;
+use std::sync::{Condvar, Mutex, MutexGuard};
 use std::thread;
 use std::time::{Duration, Instant};
 
-#[repr(C)]
-struct MqQueue {
-    at: *mut u8,
-    live: bool,
-}
-
-#[repr(C)]
-#[derive(Clone, Copy, Default)]
-struct MqMessage {
-    when: u64,
-    obj: u64,
-    callback: u64,
-    handler: u32,
-    what: u32,
-    arg: u32,
-    has_obj: bool,
-    has_callback: bool,
-    asynchronous: bool,
-}
-
-#[repr(C)]
-struct MqAnswer {
-    number: u64,
-    kind: u32,
-    wake: bool,
-}
-
-#[repr(C)]
-struct MqLook {
-    message: MqMessage,
-    number: u64,
-    time: u64,
-    kind: u32,
-}
-
-unsafe extern "C" {
-    fn mq_open(queue: *mut MqQueue) -> bool;
-    fn mq_close(queue: *mut MqQueue);
-    fn mq_post(queue: *mut MqQueue, message: *const MqMessage) -> MqAnswer;
-    fn mq_next(queue: *mut MqQueue, now: u64, idle_owed: bool) -> MqLook;
-    fn mq_quit(queue: *mut MqQueue, safe: bool, now: u64) -> MqAnswer;
-}
-
-/// An open queue. It is closed when it is dropped.
-struct Queue(MqQueue);
-
-// SAFETY: what the library keeps of a queue may go to another thread, and the lock gives it to one call at a time.
-unsafe impl Send for Queue {}
-
-impl Queue {
-    fn open() -> Option<Queue> {
-        let mut queue = MqQueue {
-            at: std::ptr::null_mut(),
-            live: false,
-        };
-        // SAFETY: the handle is closed.
-        unsafe { mq_open(&mut queue) }.then_some(Queue(queue))
+/// The library's functions and structs, as message_queue.h has them.
+mod c {
+    #[repr(C)]
+    pub struct Handle {
+        pub at: *mut u8,
+        pub live: bool,
     }
 
-    fn post(&mut self, message: &MqMessage) -> MqAnswer {
-        // SAFETY: the handle is open, here and below.
-        unsafe { mq_post(&mut self.0, message) }
+    #[repr(C)]
+    #[derive(Clone, Copy, Default)]
+    pub struct Message {
+        pub when: u64,
+        pub obj: u64,
+        pub callback: u64,
+        pub handler: u32,
+        pub what: u32,
+        pub arg: u32,
+        pub has_obj: bool,
+        pub has_callback: bool,
+        pub asynchronous: bool,
     }
 
-    fn next(&mut self, now: u64) -> MqLook {
-        unsafe { mq_next(&mut self.0, now, false) }
+    #[repr(C)]
+    pub struct Filter {
+        pub obj: u64,
+        pub callback: u64,
+        pub handler: u32,
+        pub what: u32,
+        pub by_what: bool,
+        pub by_callback: bool,
+        pub has_obj: bool,
     }
 
-    fn quit(&mut self, now: u64) -> MqAnswer {
-        unsafe { mq_quit(&mut self.0, true, now) }
+    #[repr(C)]
+    pub struct Answer {
+        pub number: u64,
+        pub kind: u32,
+        pub wake: bool,
+    }
+
+    #[repr(C)]
+    pub struct Look {
+        pub message: Message,
+        pub number: u64,
+        pub time: u64,
+        pub kind: u32,
+    }
+
+    pub const DONE: u32 = 0;
+    pub const TAKEN: u32 = 0;
+    pub const WAIT: u32 = 2;
+    pub const WAIT_FOREVER: u32 = 3;
+    pub const NOTHING_LEFT: u32 = 8;
+
+    unsafe extern "C" {
+        pub fn mq_open(queue: *mut Handle) -> bool;
+        pub fn mq_close(queue: *mut Handle) -> Answer;
+        pub fn mq_post(queue: *mut Handle, message: *const Message) -> Answer;
+        pub fn mq_remove(queue: *mut Handle, filter: *const Filter) -> Answer;
+        pub fn mq_has(queue: *mut Handle, filter: *const Filter) -> bool;
+        pub fn mq_next(queue: *mut Handle, now: u64, idle_owed: bool) -> Look;
+        pub fn mq_quit(queue: *mut Handle, safe: bool, now: u64) -> Answer;
+        pub fn mq_next_dropped(queue: *mut Handle) -> Look;
+        pub fn mq_forget(queue: *mut Handle) -> bool;
     }
 }
 
-impl Drop for Queue {
+/// What a look answers.
+enum Next<T> {
+    Taken { handler: u32, value: Box<T> },
+    /// Nothing is due until this moment, or without limit.
+    Wait(Option<u64>),
+    Ended,
+}
+
+/// A queue of boxes, for the messages of handlers. Times are milliseconds.
+struct Queue<T> {
+    handle: c::Handle,
+    boxes: PhantomData<Box<T>>,
+}
+
+// SAFETY: what the library keeps of a queue may go to another thread, and so may the boxes; `&mut` gives it to one call at a time.
+unsafe impl<T: Send> Send for Queue<T> {}
+
+// SAFETY of the calls below: the handle is never copied and stays in its queue, and all pointers are to objects of these
+// functions. A number of an object comes from `Box::into_raw` in `post`, and the queue hands each out once.
+impl<T> Queue<T> {
+    fn open() -> Option<Queue<T>> {
+        let at = std::ptr::null_mut();
+        let mut handle = c::Handle { at, live: false };
+        let boxes = PhantomData;
+        unsafe { c::mq_open(&mut handle) }.then_some(Queue { handle, boxes })
+    }
+
+    /// Posts the box, and answers whether the looper has to be woken. It comes back where it is refused.
+    fn post(&mut self, handler: u32, what: u32, when: u64, value: Box<T>) -> Result<bool, Box<T>> {
+        let obj = Box::into_raw(value) as u64;
+        let message = c::Message { when, obj, handler, what, has_obj: true, ..Default::default() };
+        let answer = unsafe { c::mq_post(&mut self.handle, &message) };
+        if answer.kind == c::DONE { Ok(answer.wake) } else { Err(Queue::value(&message)) }
+    }
+
+    fn value(message: &c::Message) -> Box<T> {
+        unsafe { Box::from_raw(message.obj as *mut T) }
+    }
+
+    fn next(&mut self, now: u64) -> Next<T> {
+        let look = unsafe { c::mq_next(&mut self.handle, now, false) };
+        match look.kind {
+            c::TAKEN => Next::Taken { handler: look.message.handler, value: Queue::value(&look.message) },
+            c::WAIT => Next::Wait(Some(look.time)),
+            c::WAIT_FOREVER => Next::Wait(None),
+            _ => Next::Ended,
+        }
+    }
+
+    fn has(&mut self, handler: u32, what: u32) -> bool {
+        unsafe { c::mq_has(&mut self.handle, &filter(handler, Some(what))) }
+    }
+
+    /// Removes the messages of a handler, and answers how many.
+    fn remove(&mut self, handler: u32) -> u64 {
+        unsafe { c::mq_remove(&mut self.handle, &filter(handler, None)) }.number
+    }
+
+    /// Quits safely, and answers how many it dropped and whether the looper has to be woken.
+    fn quit(&mut self, now: u64) -> (u64, bool) {
+        let answer = unsafe { c::mq_quit(&mut self.handle, true, now) };
+        (answer.number, answer.wake)
+    }
+
+    /// The next box that a removal or a quit dropped, in order.
+    fn next_dropped(&mut self) -> Option<Box<T>> {
+        loop {
+            let look = unsafe { c::mq_next_dropped(&mut self.handle) };
+            match look.kind {
+                c::TAKEN => return Some(Queue::value(&look.message)),
+                c::NOTHING_LEFT => return None,
+                _ => {}
+            }
+        }
+    }
+
+    fn forget(&mut self) -> bool {
+        unsafe { c::mq_forget(&mut self.handle) }
+    }
+}
+
+impl<T> Drop for Queue<T> {
     fn drop(&mut self) {
-        unsafe { mq_close(&mut self.0) }
+        unsafe { c::mq_close(&mut self.handle) };
+        while self.next_dropped().is_some() {}
+    }
+}
+
+fn filter(handler: u32, what: Option<u32>) -> c::Filter {
+    let by_what = what.is_some();
+    c::Filter { obj: 0, callback: 0, handler, what: what.unwrap_or(0), by_what, by_callback: false, has_obj: false }
+}
+
+const POSTS: u32 = 1000;
+
+struct Shared {
+    queue: Mutex<Queue<u32>>,
+    changed: Condvar,
+    start: Instant,
+}
+
+impl Shared {
+    fn now(&self) -> u64 {
+        self.start.elapsed().as_millis() as u64 + 1
+    }
+
+    fn lock(&self) -> MutexGuard<'_, Queue<u32>> {
+        self.queue.lock().unwrap()
+    }
+
+    /// Posts to the handler, every tenth message for a later time, and one that is never due.
+    fn post_all(&self, handler: u32) {
+        for what in 0..=POSTS {
+            let later = if what % 10 == 0 { 5 } else { 0 };
+            let when = if what == POSTS { u64::MAX } else { self.now() + later };
+            if self.lock().post(handler, what, when, Box::new(what)).expect("posted") {
+                self.changed.notify_one();
+            }
+        }
+    }
+
+    /// Takes messages until the queue has quit, and counts each handler's.
+    fn take_all(&self) -> [u32; 2] {
+        let mut counts = [0; 2];
+        let mut queue = self.lock();
+        loop {
+            match queue.next(self.now()) {
+                Next::Taken { handler, value } => {
+                    counts[handler as usize] += (*value < POSTS) as u32;
+                    assert!(counts[0] % 100 != 0 || queue.forget());
+                }
+                Next::Wait(Some(until)) => {
+                    let wait = Duration::from_millis(until.saturating_sub(self.now()).min(1000));
+                    queue = self.changed.wait_timeout(queue, wait).unwrap().0;
+                }
+                Next::Wait(None) => queue = self.changed.wait(queue).unwrap(),
+                Next::Ended => return counts,
+            }
+        }
+    }
+
+    fn wait_for_all_taken(&self) {
+        let is_there = |handler| (0..POSTS).any(|what| self.lock().has(handler, what));
+        while is_there(0) || is_there(1) {
+            thread::sleep(Duration::from_millis(1));
+        }
     }
 }
 
 fn main() {
-    let queue = Mutex::new(Queue::open().expect("no memory"));
-    let changed = Condvar::new();
-    let start = Instant::now();
-    let now = || start.elapsed().as_millis() as u64 + 1;
+    let queue = Mutex::new(Queue::open().expect("memory"));
+    let shared = Shared { queue, changed: Condvar::new(), start: Instant::now() };
     let counts = thread::scope(|scope| {
-        let looper = scope.spawn(|| {
-            let mut counts = [0; 2];
-            let mut held = queue.lock().unwrap();
-            loop {
-                let look = held.next(now());
-                match look.kind {
-                    0 => counts[look.message.handler as usize] += 1,
-                    2 => {
-                        let wait = Duration::from_millis(look.time.saturating_sub(now()));
-                        held = changed.wait_timeout(held, wait).unwrap().0;
-                    }
-                    3 => held = changed.wait(held).unwrap(),
-                    _ => return counts,
-                }
-            }
-        });
-        let posters = [0, 1].map(|handler| {
-            let (queue, changed, now) = (&queue, &changed, &now);
-            scope.spawn(move || {
-                for what in 0..1000 {
-                    let when = now() + if what % 10 == 0 { 5 } else { 0 };
-                    let message = MqMessage {
-                        when,
-                        handler,
-                        what,
-                        ..MqMessage::default()
-                    };
-                    let answer = queue.lock().unwrap().post(&message);
-                    assert_eq!(answer.kind, 0);
-                    if answer.wake {
-                        changed.notify_one();
-                    }
-                }
-            })
-        });
+        let looper = scope.spawn(|| shared.take_all());
+        let posters = [0, 1].map(|handler| scope.spawn({ let shared = &shared; move || shared.post_all(handler) }));
         for poster in posters {
             poster.join().unwrap();
         }
-        thread::sleep(Duration::from_millis(10));
-        let dropped = queue.lock().unwrap().quit(now()).number;
-        changed.notify_one();
-        println!("dropped {dropped}");
+        shared.wait_for_all_taken();
+        let mut queue = shared.lock();
+        let removed = queue.remove(0);
+        let (dropped, wake) = queue.quit(shared.now());
+        if wake {
+            shared.changed.notify_one();
+        }
+        let mut freed = 0;
+        while let Some(value) = queue.next_dropped() {
+            assert_eq!(*value, POSTS);
+            freed += 1;
+        }
+        drop(queue);
+        assert_eq!((removed, dropped, freed), (1, 1, 2));
         looper.join().unwrap()
     });
-    println!("taken {} and {}", counts[0], counts[1]);
+    assert_eq!(counts, [POSTS; 2]);
+    let late = shared.lock().post(0, 0, 1, Box::new(7));
+    println!("taken {} and {}, a late post comes back: {}", counts[0], counts[1], late == Err(Box::new(7)));
 }

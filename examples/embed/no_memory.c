@@ -70,7 +70,20 @@ static bool play(void)
     for (mq_look look = mq_next(&queue, 20, false); look.kind == MQ_TAKEN; look = mq_next(&queue, 20, false)) {
         sum = sum * 13 + look.message.what;
     }
-    mq_close(&queue);
+    /* What was removed and what a post leaves is handed out without memory. */
+    do {
+        mq_message message = {.when = 30, .what = 99};
+        answer = mq_post(&queue, &message);
+    } while (again(answer));
+    if (mq_close(&queue).kind != MQ_DONE) {
+        return false;
+    }
+    for (mq_look look = mq_next_dropped(&queue); look.kind == MQ_TAKEN; look = mq_next_dropped(&queue)) {
+        sum = sum * 13 + look.message.what;
+    }
+    if (queue.live) {
+        return false;
+    }
     static uint64_t first;
     first = first == 0 ? sum : first;
     return sum == first && sum != 1;

@@ -1,22 +1,38 @@
 /* A message queue after Android's MessageQueue, for C and C++: messages in order of their times, barriers that let
  * asynchronous messages pass, removal by a filter, and a quit.
  *
- * The queue takes no lock, never waits, starts no thread and reads no clock. The caller holds a lock of its own round each
- * call, hands in the time, and waits by its own means:
+ * LOCK AND WAIT. The queue takes no lock, never waits, starts no thread and reads no clock. The caller holds one lock of its own
+ * round every call on a handle, also round those that only look, hands in the time, and waits by its own means:
  *
- *     - after a post, a removed barrier or a quit that answers `wake`, wake the thread that waits for messages;
+ *     - after a call that answers `wake`, wake the thread that waits for messages: one that waits since its last look has to look
+ *       again, since what comes first has changed. The wake may be given before or after the lock is let go. Where `wake` is false
+ *       none is needed;
  *     - after `mq_next` answers MQ_WAIT, wait until `time`, after MQ_WAIT_FOREVER without limit, in both cases until woken.
- *       Let go of the lock as the wait begins (a condition variable does), and call `mq_next` again afterwards.
+ *       Let go of the lock as the wait begins and in one step with it (a condition variable does), and call `mq_next` again
+ *       afterwards. To be woken too often does no harm.
  *
- * Times are milliseconds of one clock that does not go back. A call that names an earlier moment than one before it uses the
+ * TIMES are milliseconds of one clock that does not go back. A call that names an earlier moment than one before it uses the
  * later one.
  *
- * A handle is plain memory of the caller's: begin with MQ_CLOSED, never copy it or write its fields. Between `mq_open` and
- * `mq_close` it is open, and every other call wants it open: no call tests that. All pointers are to one whole object each,
- * which nothing else reads or writes during the call. The flags of a struct are 0 or 1.
+ * HANDLES. A handle is plain memory of the caller's: begin with MQ_CLOSED, never copy it or write its fields. It is open from
+ * `mq_open` to `mq_close`. A call on a handle that is not open changes nothing and says so: it answers MQ_NOT_OPEN, or false
+ * where it answers a bool. What the library can't see, the caller owes: all pointers are to one whole object each, which
+ * nothing else reads or writes during the call, the flags of a struct are 0 or 1, and a handle is never made up.
  *
- * Memory comes from the three functions at the end of this file. Where a call answers MQ_NO_MEMORY all is as before it.
- * `mq_next`, `mq_has` and the first `mq_quit` take no memory: each post keeps the room that its later entries need.
+ * OBJECTS. `obj` and `callback` are numbers of the caller's, as a pointer's value. The queue keeps them, and frees nothing that
+ * they may stand for. A message that `mq_next` answers is the caller's again. One that leaves the queue otherwise, by a removal,
+ * a quit, the end or a close, is not lost: it waits, in the order in which it was dropped, until `mq_next_dropped` hands it out:
+ *
+ *     for (mq_look d = mq_next_dropped(&queue); d.kind != MQ_NOTHING_LEFT; d = mq_next_dropped(&queue))
+ *         if (d.kind == MQ_TAKEN && d.message.has_obj)
+ *             free((void *)(uintptr_t)d.message.obj);
+ *
+ * MEMORY comes from the three functions at the end of this file. Where a call answers MQ_NO_MEMORY all is as before it. `mq_next`,
+ * `mq_next_dropped`, `mq_has`, `mq_close` and the first `mq_quit` take no memory: each post keeps the room that its later entries
+ * need. The queue records its calls, about 200 bytes for a message that is posted and taken; `mq_forget` lets that go.
+ *
+ * Rules of order, barriers, quits and wakes are those of AOSP's android.os.MessageQueue; where a call follows one of its methods,
+ * the method is named. The rest is this library's own.
  *
  * Link with libmessage_queue_c.a. */
 #ifndef MESSAGE_QUEUE_H
@@ -37,12 +53,11 @@ typedef struct {
 
 #define MQ_CLOSED {0, false}
 
-/* A message. `obj` and `callback` are numbers of the caller's, as a pointer's value, and count only where their flag is
- * set. The queue keeps them, and frees nothing that they may stand for. */
+/* A message (android.os.Message). */
 typedef struct {
-    uint64_t when;     /* when it is due; at 0 it goes to the front */
-    uint64_t obj;
-    uint64_t callback;
+    uint64_t when;     /* when it is due, in milliseconds; at 0 it goes to the front */
+    uint64_t obj;      /* counts only where `has_obj` is set */
+    uint64_t callback; /* counts only where `has_callback` is set */
     uint32_t handler;  /* whom it is for */
     uint32_t what;     /* the user's code; 0 where a callback is posted */
     uint32_t arg;
@@ -70,68 +85,84 @@ enum {
     MQ_REFUSED = 2,      /* a post after a quit: `number` is the place of the quit among all recorded calls */
     MQ_NOT_POSTED = 3,   /* no barrier has the token */
     MQ_ALREADY_QUIT = 4, /* `number` is the place of the quit that was done */
-    MQ_NOT_ALLOWED = 5   /* the queue may not quit; no queue of `mq_open` answers it */
+    MQ_NOT_ALLOWED = 5,  /* the queue may not quit; no queue of `mq_open` answers it */
+    MQ_NOT_OPEN = 6      /* the handle is not open; also a kind of a look */
 };
 
 typedef struct {
-    uint64_t number;
+    uint64_t number; /* as each call says, else 0 */
     uint32_t kind;
     bool wake; /* whoever waits for messages has to look again */
 } mq_answer;
 
-/* The kinds of a look. */
+/* The kinds of a look, with MQ_NOT_OPEN. The last two are answers of `mq_next_dropped` alone. */
 enum {
-    MQ_TAKEN = 0,        /* `message` was taken out; `number` is that of its post, `time` the moment that was used */
+    MQ_TAKEN = 0,        /* `message` was taken out; `number` is that of its post */
     MQ_IDLE = 1,         /* nothing is due and the head is later or missing; only where an idle turn is owed */
     MQ_WAIT = 2,         /* nothing is due until `time` */
     MQ_WAIT_FOREVER = 3, /* nothing is due until something is posted or a barrier goes */
-    MQ_END = 4,          /* it has quit and nothing is due: the `number` messages that were left are dropped */
-    MQ_OVER = 5          /* MQ_END was answered before */
+    MQ_END = 4,          /* it has quit and nothing is due: the `number` messages and barriers that were left are dropped */
+    MQ_OVER = 5,         /* MQ_END was answered before */
+    MQ_BARRIER = 7,      /* a barrier was dropped: `number` is its token, `time` its moment */
+    MQ_NOTHING_LEFT = 8  /* all that was dropped was handed out */
 };
 
 typedef struct {
     mq_message message; /* all 0 but where `kind` is MQ_TAKEN */
-    uint64_t number;
-    uint64_t time;
+    uint64_t number;    /* as the kind says, else 0 */
+    uint64_t time;      /* milliseconds: as the kind says; where `mq_next` answers MQ_TAKEN the moment that was used; else 0 */
     uint32_t kind;
 } mq_look;
 
-/* Opens a closed handle for a queue in which nothing has happened. False where there is no memory; it stays closed. */
+/* Opens a handle for a queue in which nothing has happened. False, and nothing changes, where there is no memory, and where the
+ * handle is open or messages still wait to be handed out. */
 bool mq_open(mq_queue *queue);
 
-/* Frees the queue and the messages in it. The handle is closed then, and may be opened again. */
-void mq_close(mq_queue *queue);
+/* Closes the handle: no more is posted or taken. MQ_DONE: `number` is how many messages and barriers wait for
+ * `mq_next_dropped`: what earlier calls dropped, then what stood in the queue, in order. Once the last is handed out, or at once
+ * where there is none, nothing is left of the queue, and the handle may be opened anew.
+ * MQ_NOT_OPEN: the handle is not open; what still waits is freed and not handed out. So two calls free all. */
+mq_answer mq_close(mq_queue *queue);
 
-/* Posts the message: behind every item whose time is not greater, or at the front where its time is 0.
- * MQ_DONE: `number` counts the accepted posts from 0. MQ_REFUSED, MQ_NO_MEMORY: it was not posted. */
+/* Posts the message (enqueueMessage): behind every item whose time is not greater, or at the front where its time is 0.
+ * MQ_DONE: `number` counts the accepted posts from 0. MQ_REFUSED, MQ_NO_MEMORY, MQ_NOT_OPEN: it was not posted, and is the
+ * caller's. */
 mq_answer mq_post(mq_queue *queue, const mq_message *message);
 
-/* Posts the message at the front, as `mq_post` with `when` 0. */
+/* Posts the message at the front, as `mq_post` with `when` 0 (Handler.sendMessageAtFrontOfQueue). */
 mq_answer mq_post_at_front(mq_queue *queue, const mq_message *message);
 
-/* Posts a barrier at the moment `now`, also after a quit: while it stands first, only asynchronous messages are due.
- * MQ_DONE: `number` is its token, counted from 0. MQ_NO_MEMORY. */
+/* Posts a barrier at the moment `now`, also after a quit (postSyncBarrier): while it stands first, only asynchronous messages are
+ * due. It never wakes. MQ_DONE: `number` is its token, counted from 0. MQ_NO_MEMORY, MQ_NOT_OPEN. */
 mq_answer mq_barrier(mq_queue *queue, uint64_t now);
 
-/* Removes the barrier of the token. MQ_DONE, MQ_NOT_POSTED, MQ_NO_MEMORY. */
+/* Removes the barrier of the token (removeSyncBarrier). MQ_DONE, MQ_NOT_POSTED, MQ_NO_MEMORY, MQ_NOT_OPEN. */
 mq_answer mq_remove_barrier(mq_queue *queue, uint64_t token);
 
-/* Removes the messages that the filter names. MQ_DONE: `number` is how many. MQ_NO_MEMORY. */
+/* Removes the messages that the filter names (removeMessages and its kin). MQ_DONE: `number` is how many; they wait to be handed
+ * out. MQ_NO_MEMORY, MQ_NOT_OPEN. */
 mq_answer mq_remove(mq_queue *queue, const mq_filter *filter);
 
-/* Whether the filter names a message that stands in the queue. Nothing changes. */
+/* Whether the filter names a message that stands in the queue (hasMessages). Nothing changes. False where no queue is open. */
 bool mq_has(mq_queue *queue, const mq_filter *filter);
 
-/* Looks for the first message that is due at the moment `now` and that no barrier holds back, and takes it out.
- * `idle_owed` says whether the caller still has idle work for this wait. */
+/* Looks for the first message that is due at the moment `now` and that no barrier holds back, and takes it out (next).
+ * `idle_owed` says whether the caller still has idle work for this wait. At MQ_END what was left waits to be handed out.
+ * MQ_TAKEN, else MQ_END or MQ_OVER where it has quit, else MQ_IDLE, else MQ_WAIT or MQ_WAIT_FOREVER; MQ_NOT_OPEN. */
 mq_look mq_next(mq_queue *queue, uint64_t now, bool idle_owed);
 
-/* Quits: drops every message and barrier, or safely only those that are due later than `now`, and refuses posts from then
- * on. MQ_DONE: `number` is how many were dropped. MQ_ALREADY_QUIT. MQ_NO_MEMORY only where it quit before. */
+/* Quits (quit): drops every message and barrier, or safely only those that are due later than `now`, and refuses posts from then
+ * on. MQ_DONE: `number` is how many were dropped; they wait to be handed out. MQ_ALREADY_QUIT, MQ_NOT_OPEN. MQ_NO_MEMORY only
+ * where it quit before. */
 mq_answer mq_quit(mq_queue *queue, bool safe, uint64_t now);
 
+/* Hands out the first of what was dropped and not handed out yet, also once the handle is closed: MQ_TAKEN with the message and
+ * its number, MQ_BARRIER, or MQ_NOTHING_LEFT. Only a queue that dropped 2 to the 64 of them without handing any out would let go
+ * of the earlier ones. */
+mq_look mq_next_dropped(mq_queue *queue);
+
 /* Forgets the record of the calls so far, which else grows with each call. It takes time and memory for each message that is
- * in the queue. False where there is no memory: nothing changes. */
+ * in the queue. False, and nothing changes, where there is no memory or no queue is open. */
 bool mq_forget(mq_queue *queue);
 
 /* What the program provides: a heap. `heap.c` of examples/embed has it over malloc, and so has the toolchain's liblibc_c.a. A

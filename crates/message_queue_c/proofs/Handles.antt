@@ -8,7 +8,7 @@ use mir.Val.{has_ty, WT}
 use denote.RawPtr.{null_ptr}
 use Rattle.message_queue_c.specs.contracts.handle.MqQueue as handle
 use Rattle.message_queue_c.specs.contracts.handle.Nowhere as nowhere
-use Rattle.message_queue_c.specs.Handle.{queue_row, owned_by}
+use Rattle.message_queue_c.specs.Handle.{kept_row, owned_by}
 
 abbrev pub Handle : RattleType
 Handle = handle.the_row
@@ -18,7 +18,7 @@ abbrev pub pair : Ptr → Bool → Val
 pair p t = vstruct (vcons (ptr_val p) (vcons (vbool t) vnil))
 
 module _ {M : Type 1} {𝓤 : Ura M} {𝓛 : Logic 𝓤} {K : Type 0} {Γ : List (Item 𝓤)} {G : Goal 𝓤 𝓛.H} where
-  pub handle_in : K → (p : Ptr) (t : Bool) (x : queue_row.Denot)
+  pub handle_in : K → (p : Ptr) (t : Bool) (x : kept_row.Denot)
       → Step K 𝓛 (‵ (Handle.own_val (record { at = p; live = t; state = x }) (pair p t ∷ [])) ∷ Γ) G (‵ (owned_by t p x) ∷ Γ) G
   handle_in k p t x = step (λ s.
       nothing k $ feq_i k (List Val) (vbool t ∷ []) (vbool t ∷ []) refl $ fjoin k $ feq_i k (List Val) (ptr_val p ∷ []) (ptr_val p ∷ []) refl $ fjoin k $

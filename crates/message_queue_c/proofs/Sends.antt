@@ -2,7 +2,7 @@
 use mathlib.Core.Bool.{Bool, true, false}
 use mir.Raw.{raw}
 use base.Shift.{Keyless}
-use denote.Builtin.{bool, unit}
+use denote.Builtin.{bool}
 use denote.RattleType.{RattleType}
 use denote.Memory.{lone}
 use denote.RawPtr.{Ptr, RawPtr}
@@ -11,11 +11,9 @@ use denote.Struct.Owning.{shape, fields, to}
 use denote.Param.Send.{IsSend, owning_send, struct_send, sendable}
 use Rattle.std.proofs.Crossing.{frees}
 use Rattle.std_alloc.proofs.SendSync.{lies, quiet}
-use Rattle.message_slot.specs.contracts.claim.NoClaim as claim
-use Rattle.message_slot.specs.contracts.claim.NoClaimClaim.TheImpl as claiming
-use Rattle.queue_state.proofs.state.QueueState.TheSendSync.{the_send}
+use Rattle.message_queue_c.proofs.kept.Kept.TheSendSync.{the_send}
 use Rattle.message_queue_c.specs.Held.{heap, held}
-use Rattle.message_queue_c.specs.Handle.{queue_row, owned_by}
+use Rattle.message_queue_c.specs.Handle.{kept_row, owned_by}
 use Rattle.message_queue_c.specs.contracts.lone.Lone as lonely
 use Rattle.message_queue_c.specs.contracts.handle.MqQueue as handle
 
@@ -32,17 +30,11 @@ pub lone_send : (T : RattleType) → IsSend T → IsSend (lonely.the_row T)
 lone_send T s = let O = lonely.the_type T in owning_send O (ptr_send, tt) (λ d. held_keyless T s d.at d.value)
     (λ k. quiet (to O) (exits_of k (fields O)) ((struct_send (shape O) (ptr_send, tt)).leaving k))
 
-claim_send : IsSend claim.the_row
-claim_send = search sendable
+kept_send : IsSend kept_row
+kept_send = the_send
 
-unit_send : IsSend unit
-unit_send = search sendable
-
-queue_send : IsSend queue_row
-queue_send = the_send claim.the_row unit claiming.ghosts claim_send unit_send
-
-owned_keyless : (live : Bool) (p : Ptr) (x : queue_row.Denot) → Keyless (owned_by live p x)
-owned_keyless true p x = held_keyless queue_row queue_send p x
+owned_keyless : (live : Bool) (p : Ptr) (x : kept_row.Denot) → Keyless (owned_by live p x)
+owned_keyless true p x = held_keyless kept_row kept_send p x
 owned_keyless false p x = tt
 
 pub handle_send : IsSend handle.the_row

@@ -2,6 +2,8 @@ pub mod Held
 pub mod Lent
 pub mod Handle
 pub mod Ours
-pub mod Open
 pub mod Messages
+pub mod Joined
 pub mod Shown
+pub mod Contents
+pub mod Handed

@@ -9,32 +9,21 @@ use crate::answers::{
     MqAnswer, MqNext, no_memory, shown_barrier, shown_gone, shown_next, shown_post, shown_quit,
     shown_taking,
 };
-use crate::lone::Lone;
 use crate::message::{MqFilter, MqMessage};
 use loop_model::NoMemory;
 use message_list::new_node;
 use message_slot::{Message, NoClaim};
 use queue_state::QueueState;
 use std::alloc::Global;
-use std_alloc::room::Vacant;
+use when_queue::MsgList;
 
 /// All calls are made by this one sender.
 const SENDER: u32 = 0;
 
-pub(crate) fn open(alloc: Global) -> Result<Lone<QueueState<NoClaim>>, NoMemory>
-    ensures { IfOk result (λ q. q.value ≡ new_queue) }
+pub(crate) fn open(alloc: Global) -> Result<QueueState<NoClaim>, NoMemory>
+    ensures { IfOk result (λ q. q ≡ new_queue) }
 {
-    let queue = QueueState::new(alloc, (), false, false, 1)?;
-    match Vacant::take(alloc) {
-        Ok(room) => Ok(Lone::put(room, queue)),
-        Err(_) => Err(NoMemory),
-    }
-}
-
-pub(crate) fn close(alloc: Global, queue: Lone<QueueState<NoClaim>>) {
-    let (queue, room) = queue.take(alloc);
-    drop(queue);
-    room.free();
+    QueueState::new(alloc, (), false, false, 1)
 }
 
 pub(crate) fn post(alloc: Global, queue: &mut QueueState<NoClaim>, message: &MqMessage) -> MqAnswer
@@ -69,28 +58,42 @@ pub(crate) fn remove_barrier(queue: &mut QueueState<NoClaim>, token: u64) -> MqA
     shown_gone(queue.remove_barrier(SENDER, token))
 }
 
-pub(crate) fn remove(queue: &mut QueueState<NoClaim>, filter: &MqFilter) -> MqAnswer
+pub(crate) fn remove(
+    queue: &mut QueueState<NoClaim>,
+    dropped: &mut MsgList<NoClaim>,
+    filter: &MqFilter,
+) -> MqAnswer
     requires { is_ours queue.old }
-    ensures done { TakingShown queue.old filter.now result queue.new }
+    ensures done { TakingShown queue.old filter.now result queue.new dropped.old dropped.new }
     ensures ours { is_ours queue.new }
 {
-    shown_taking(queue.remove(SENDER, &filter.filter()))
+    shown_taking(queue.remove(SENDER, &filter.filter()), dropped)
 }
 
-pub(crate) fn quit(queue: &mut QueueState<NoClaim>, safe: bool, now: u64) -> MqAnswer
+pub(crate) fn quit(
+    queue: &mut QueueState<NoClaim>,
+    dropped: &mut MsgList<NoClaim>,
+    safe: bool,
+    now: u64,
+) -> MqAnswer
     requires { is_ours queue.old }
-    ensures done { QuitShown queue.old safe now result queue.new }
+    ensures done { QuitShown queue.old safe now result queue.new dropped.old dropped.new }
     ensures ours { is_ours queue.new }
 {
-    shown_quit(queue.quit(SENDER, safe, now))
+    shown_quit(queue.quit(SENDER, safe, now), dropped)
 }
 
-pub(crate) fn next(queue: &mut QueueState<NoClaim>, now: u64, idle_owed: bool) -> MqNext
+pub(crate) fn next(
+    queue: &mut QueueState<NoClaim>,
+    dropped: &mut MsgList<NoClaim>,
+    now: u64,
+    idle_owed: bool,
+) -> MqNext
     requires { is_ours queue.old }
-    ensures done { NextShown queue.old now idle_owed result queue.new }
+    ensures done { NextShown queue.old now idle_owed result queue.new dropped.old dropped.new }
     ensures ours { is_ours queue.new }
 {
-    shown_next(queue.next(SENDER, now, idle_owed))
+    shown_next(queue.next(SENDER, now, idle_owed), dropped)
 }
 
 pub(crate) fn has(queue: &QueueState<NoClaim>, filter: &MqFilter) -> bool

@@ -1,20 +1,18 @@
 // The handle that C holds.
 ghost use Rattle.std.specs.Prelude.{◌≡◌, true, false};
-ghost use Rattle.message_slot.specs.declared.claim.NoClaim.{NoClaim};
-ghost use Rattle.queue_state.specs.Queue.{Queue};
+ghost use Rattle.message_queue_c.specs.Contents.{Contents};
 
+use crate::kept::Kept;
 use crate::lone::Lone;
-use message_slot::NoClaim;
-use queue_state::QueueState;
 use std::marker::{Model, Send};
 
-/// What C holds of a queue. Where it is live it owns the queue that lies at its pointer, and it may not be copied.
+/// What C holds of a queue. Where it is live it owns what lies at its pointer, and it may not be copied.
 /// One whose bytes are all 0 is not live, and owns nothing. It can't be let go while it is live.
 #[repr(C)]
 pub struct MqQueue {
     at: *mut u8,
     live: bool,
-    pub ghost state: { Queue (Unit {0}) NoClaim },
+    pub ghost state: { Contents },
 }
 
 impl Model for MqQueue {
@@ -45,28 +43,36 @@ impl MqQueue {
         MqQueue { at, live: false }
     }
 
-    pub(crate) fn of(queue: Lone<QueueState<NoClaim>>) -> MqQueue
-        ensures { (result.live ≡ true) × (result.state ≡ queue.value) }
+    pub(crate) fn of(kept: Lone<Kept>) -> MqQueue
+        ensures { (result.live ≡ true) × (result.state ≡ kept.value) }
     {
-        let Lone { at } = queue;
+        let Lone { at } = kept;
         MqQueue {
             at: at as *mut u8,
             live: true,
         }
     }
 
-    pub(crate) fn into_queue(self) -> Lone<QueueState<NoClaim>>
+    pub(crate) fn into_kept(self) -> Lone<Kept>
         requires { self.live ≡ true }
         ensures { result.value ≡ self.state }
     {
         let MqQueue { at, live: _ } = self;
         Lone {
-            at: at as *mut QueueState<NoClaim>,
+            at: at as *mut Kept,
         }
     }
 }
 
 impl MqQueue {
+    /// The handle, with whether it is live.
+    pub(crate) fn told(self) -> (bool, MqQueue)
+        ensures { (result.0 ≡ self.live) × (result.1 ≡ self) }
+    {
+        let live = self.live;
+        (live, self)
+    }
+
     /// Ends a handle that is not live. No other way ends one.
     pub(crate) fn done(self)
         requires { self.live ≡ false }

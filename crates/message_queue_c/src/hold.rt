@@ -1,33 +1,66 @@
-// A queue is taken out of its handle for a call, and put back.
-ghost use Rattle.std.specs.Prelude.{◌≡◌, false};
-ghost use Rattle.message_queue_c.specs.Ours.{is_ours};
-ghost use Rattle.message_queue_c.specs.Open.{IsOpen};
+// What a handle keeps is taken out of it for a call, and put back.
+ghost use Rattle.std.specs.Prelude.{◌≡◌, false, MatchOption, IfOk};
+ghost use Rattle.message_queue_c.specs.Contents.{nothing_in, just_opened};
+ghost use Rattle.message_queue_c.specs.Handed.{inside};
 
+use crate::calls;
 use crate::handle::{MqQueue, Nowhere};
+use crate::kept::Kept;
 use crate::lone::Lone;
-use message_slot::NoClaim;
-use queue_state::QueueState;
+use loop_model::NoMemory;
+use message_list::NodeList;
+use std::alloc::Global;
 use std::mem;
+use std_alloc::room::Vacant;
 
 impl MqQueue {
-    /// The queue of an open handle, which is left closed.
-    pub(crate) fn take(&mut self) -> Lone<QueueState<NoClaim>>
-        requires { IsOpen self.old }
-        ensures queue { result.value ≡ self.old.state }
-        ensures ours { is_ours result.value }
+    /// What a live handle keeps; the handle is left closed.
+    pub(crate) fn take(&mut self) -> Option<Lone<Kept>>
+        ensures taken { MatchOption result (inside self.old ≡ nothing_in) (λ k. inside self.old ≡ k.value) }
         ensures closed { self.new.live ≡ false }
     {
-        let handle = mem::replace(self, MqQueue::closed(Nowhere::new()));
-        handle.into_queue()
+        let (live, handle) = mem::replace(self, MqQueue::closed(Nowhere::new())).told();
+        if live {
+            return Some(handle.into_kept());
+        }
+        handle.done();
+        None
     }
 
-    /// Opens a closed handle for a queue.
-    pub(crate) fn put(&mut self, queue: Lone<QueueState<NoClaim>>)
-        requires closed { self.old.live ≡ false }
-        requires ours { is_ours queue.value }
-        ensures open { IsOpen self.new }
-        ensures queue { self.new.state ≡ queue.value }
+    /// Makes a closed handle keep this.
+    pub(crate) fn put(&mut self, kept: Lone<Kept>)
+        requires { self.old.live ≡ false }
+        ensures { inside self.new ≡ kept.value }
     {
-        mem::replace(self, MqQueue::of(queue)).done();
+        mem::replace(self, MqQueue::of(kept)).done();
+    }
+
+    /// The same, and where nothing is left in it its memory is freed.
+    pub(crate) fn put_or_free(&mut self, alloc: Global, mut kept: Lone<Kept>)
+        requires { self.old.live ≡ false }
+        ensures { inside self.new ≡ kept.value }
+    {
+        if kept.get_mut().is_spent() {
+            free(alloc, kept);
+            return;
+        }
+        self.put(kept);
+    }
+}
+
+fn free(alloc: Global, kept: Lone<Kept>) {
+    let (kept, room) = kept.take(alloc);
+    drop(kept);
+    room.free();
+}
+
+/// A queue in which nothing has happened, on the heap.
+pub(crate) fn open(alloc: Global) -> Result<Lone<Kept>, NoMemory>
+    ensures { IfOk result (λ k. k.value ≡ just_opened) }
+{
+    let queue = calls::open(alloc)?;
+    match Vacant::take(alloc) {
+        Ok(room) => Ok(Lone::put(room, Kept::new(queue, NodeList::empty(alloc)))),
+        Err(_) => Err(NoMemory),
     }
 }

@@ -1,61 +1,73 @@
 //! A message queue for C, under the caller's own lock and with the caller's own wait: `message_queue.h` says how each call is made.
 #![tactic(auto)]
 
-ghost use Rattle.std.specs.Prelude.{◌≡◌, true, false};
+ghost use Rattle.std.specs.Prelude.{◌≡◌, true, false, MatchOption, if◌then◌else◌};
 ghost use Rattle.queue_state.specs.Queue.{has_match, sealed};
+ghost use Rattle.message_queue_c.specs.Handed.{inside};
+ghost use Rattle.message_queue_c.specs.Contents.{Does, Keeps, Closes, Pops, just_opened, nothing_in};
 ghost use Rattle.message_queue_c.specs.Messages.{filter_by};
-ghost use Rattle.message_queue_c.specs.Open.{IsOpen};
-ghost use Rattle.message_queue_c.specs.Ours.{new_queue};
-ghost use Rattle.message_queue_c.specs.Shown.{PostShown, BarrierShown, GoneShown, TakingShown, QuitShown, NextShown};
+ghost use Rattle.message_queue_c.specs.Shown.{PostShown, BarrierShown, GoneShown, TakingShown, QuitShown, NextShown, IsNotOpen, HasNotOpen};
 
 mod answers;
 mod calls;
+mod drops;
 mod handle;
 mod hold;
+mod kept;
 mod lends;
 mod lone;
 mod message;
 
+use crate::answers::{not_open, not_open_look, nothing};
 pub use answers::{MqAnswer, MqNext};
 pub use handle::MqQueue;
 pub use message::{MqFilter, MqMessage};
 use std::alloc::Global;
 
-/// Opens a closed handle for a queue in which nothing has happened, or answers false where there is no memory.
+/// Opens a handle behind which nothing stands for a queue in which nothing has happened. False, and nothing changes, where
+/// something stands behind it or where there is no memory.
 #[unsafe(no_mangle)]
 pub extern "C" fn mq_open(alloc: Global, queue: &mut MqQueue) -> bool
-    requires { queue.old.live ≡ false }
-    ensures opened { (result ≡ true) → IsOpen queue.new × (queue.new.state ≡ new_queue) }
-    ensures closed { (result ≡ false) → queue.new.live ≡ false }
+    ensures opened { (result ≡ true) → (inside queue.old ≡ nothing_in) × (inside queue.new ≡ just_opened) }
+    ensures refused { (result ≡ false) → inside queue.new ≡ inside queue.old }
 {
-    match calls::open(alloc) {
-        Ok(state) => {
-            queue.put(state);
+    if let Some(kept) = queue.take() {
+        queue.put(kept);
+        return false;
+    }
+    match hold::open(alloc) {
+        Ok(kept) => {
+            queue.put(kept);
             true
         }
         Err(_) => false,
     }
 }
 
-/// Frees the queue of an open handle with its messages, and closes the handle.
+/// Closes the queue, and answers how many messages and barriers wait to be handed out, those that stood in it behind the rest.
+/// Where no queue is open it lets go of what was not handed out.
 #[unsafe(no_mangle)]
-pub extern "C" fn mq_close(alloc: Global, queue: &mut MqQueue)
-    requires { IsOpen queue.old }
-    ensures { queue.new.live ≡ false }
+pub extern "C" fn mq_close(alloc: Global, queue: &mut MqQueue) -> MqAnswer
+    ensures { Closes (inside queue.old) (inside queue.new) result }
 {
-    calls::close(alloc, queue.take());
+    let Some(mut kept) = queue.take() else {
+        return not_open();
+    };
+    let answer = kept.get_mut().close(alloc);
+    queue.put_or_free(alloc, kept);
+    answer
 }
 
 /// Posts a message for the time in it, or at the front where that is 0.
 #[unsafe(no_mangle)]
 pub extern "C" fn mq_post(alloc: Global, queue: &mut MqQueue, message: &MqMessage) -> MqAnswer
-    requires { IsOpen queue.old }
-    ensures done { PostShown queue.old.state message.now result queue.new.state }
-    ensures open { IsOpen queue.new }
+    ensures { Does (inside queue.old) (inside queue.new) (IsNotOpen result) (Keeps (λ x y. PostShown x message.now result y)) }
 {
-    let mut state = queue.take();
-    let answer = calls::post(alloc, state.get_mut(), message);
-    queue.put(state);
+    let Some(mut kept) = queue.take() else {
+        return not_open();
+    };
+    let answer = kept.get_mut().post(alloc, message);
+    queue.put(kept);
     answer
 }
 
@@ -66,108 +78,121 @@ pub extern "C" fn mq_post_at_front(
     queue: &mut MqQueue,
     message: &MqMessage,
 ) -> MqAnswer
-    requires { IsOpen queue.old }
-    ensures done { PostShown queue.old.state (record message.now { when = 0 }) result queue.new.state }
-    ensures open { IsOpen queue.new }
+    ensures { Does (inside queue.old) (inside queue.new) (IsNotOpen result) (Keeps (λ x y. PostShown x (record message.now { when = 0 }) result y)) }
 {
     let mut front = *message;
     front.when = 0;
-    let mut state = queue.take();
-    let answer = calls::post(alloc, state.get_mut(), &front);
-    queue.put(state);
+    let Some(mut kept) = queue.take() else {
+        return not_open();
+    };
+    let answer = kept.get_mut().post(alloc, &front);
+    queue.put(kept);
     answer
 }
 
 /// Posts a barrier at this moment, in milliseconds, and answers its token.
 #[unsafe(no_mangle)]
 pub extern "C" fn mq_barrier(alloc: Global, queue: &mut MqQueue, now: u64) -> MqAnswer
-    requires { IsOpen queue.old }
-    ensures done { BarrierShown queue.old.state now result queue.new.state }
-    ensures open { IsOpen queue.new }
+    ensures { Does (inside queue.old) (inside queue.new) (IsNotOpen result) (Keeps (λ x y. BarrierShown x now result y)) }
 {
-    let mut state = queue.take();
-    let answer = calls::post_barrier(alloc, state.get_mut(), now);
-    queue.put(state);
+    let Some(mut kept) = queue.take() else {
+        return not_open();
+    };
+    let answer = kept.get_mut().post_barrier(alloc, now);
+    queue.put(kept);
     answer
 }
 
 /// Removes the barrier of this token.
 #[unsafe(no_mangle)]
 pub extern "C" fn mq_remove_barrier(queue: &mut MqQueue, token: u64) -> MqAnswer
-    requires { IsOpen queue.old }
-    ensures done { GoneShown queue.old.state token result queue.new.state }
-    ensures open { IsOpen queue.new }
+    ensures { Does (inside queue.old) (inside queue.new) (IsNotOpen result) (Keeps (λ x y. GoneShown x token result y)) }
 {
-    let mut state = queue.take();
-    let answer = calls::remove_barrier(state.get_mut(), token);
-    queue.put(state);
+    let Some(mut kept) = queue.take() else {
+        return not_open();
+    };
+    let answer = kept.get_mut().remove_barrier(token);
+    queue.put(kept);
     answer
 }
 
-/// Removes the messages that the filter names, and answers how many.
+/// Removes the messages that the filter names, which wait to be handed out then, and answers how many.
 #[unsafe(no_mangle)]
 pub extern "C" fn mq_remove(queue: &mut MqQueue, filter: &MqFilter) -> MqAnswer
-    requires { IsOpen queue.old }
-    ensures done { TakingShown queue.old.state filter.now result queue.new.state }
-    ensures open { IsOpen queue.new }
+    ensures { Does (inside queue.old) (inside queue.new) (IsNotOpen result) (λ x y ds es. TakingShown x filter.now result y ds es) }
 {
-    let mut state = queue.take();
-    let answer = calls::remove(state.get_mut(), filter);
-    queue.put(state);
+    let Some(mut kept) = queue.take() else {
+        return not_open();
+    };
+    let answer = kept.get_mut().remove(filter);
+    queue.put(kept);
     answer
 }
 
-/// Whether a message stands in the queue that the filter names.
+/// Whether a message stands in the queue that the filter names. False where no queue is open.
 #[unsafe(no_mangle)]
 pub extern "C" fn mq_has(queue: &mut MqQueue, filter: &MqFilter) -> bool
-    requires { IsOpen queue.old }
-    ensures found { result ≡ has_match queue.old.state (filter_by filter.now) }
-    ensures same { queue.new.state ≡ queue.old.state }
-    ensures open { IsOpen queue.new }
+    ensures found { MatchOption (inside queue.old).queue (result ≡ false) (λ x. result ≡ has_match x (filter_by filter.now)) }
+    ensures same { inside queue.new ≡ inside queue.old }
 {
-    let mut state = queue.take();
-    let found = calls::has(state.get_mut(), filter);
-    queue.put(state);
-    found
-}
-
-/// Looks for the first message that is due at `now`, in milliseconds.
-#[unsafe(no_mangle)]
-pub extern "C" fn mq_next(queue: &mut MqQueue, now: u64, idle_owed: bool) -> MqNext
-    requires { IsOpen queue.old }
-    ensures done { NextShown queue.old.state now idle_owed result queue.new.state }
-    ensures open { IsOpen queue.new }
-{
-    let mut state = queue.take();
-    let next = calls::next(state.get_mut(), now, idle_owed);
-    queue.put(state);
-    next
-}
-
-/// Quits, and answers how many messages it dropped: all, or safely those that are due later than `now`, in milliseconds.
-#[unsafe(no_mangle)]
-pub extern "C" fn mq_quit(queue: &mut MqQueue, safe: bool, now: u64) -> MqAnswer
-    requires { IsOpen queue.old }
-    ensures done { QuitShown queue.old.state safe now result queue.new.state }
-    ensures open { IsOpen queue.new }
-{
-    let mut state = queue.take();
-    let answer = calls::quit(state.get_mut(), safe, now);
-    queue.put(state);
+    let Some(mut kept) = queue.take() else {
+        return false;
+    };
+    let answer = kept.get_mut().has(filter);
+    queue.put(kept);
     answer
 }
 
-/// Forgets the record of the calls so far, which else grows with each call. False where there is no memory; then nothing
-/// changes.
+/// Looks for the first message that is due at `now`, in milliseconds. What an end drops waits to be handed out.
+#[unsafe(no_mangle)]
+pub extern "C" fn mq_next(queue: &mut MqQueue, now: u64, idle_owed: bool) -> MqNext
+    ensures { Does (inside queue.old) (inside queue.new) (HasNotOpen result) (λ x y ds es. NextShown x now idle_owed result y ds es) }
+{
+    let Some(mut kept) = queue.take() else {
+        return not_open_look();
+    };
+    let answer = kept.get_mut().next(now, idle_owed);
+    queue.put(kept);
+    answer
+}
+
+/// Quits, and answers how many messages and barriers it dropped, which wait to be handed out then: all, or safely those that are
+/// due later than `now`, in milliseconds.
+#[unsafe(no_mangle)]
+pub extern "C" fn mq_quit(queue: &mut MqQueue, safe: bool, now: u64) -> MqAnswer
+    ensures { Does (inside queue.old) (inside queue.new) (IsNotOpen result) (λ x y ds es. QuitShown x safe now result y ds es) }
+{
+    let Some(mut kept) = queue.take() else {
+        return not_open();
+    };
+    let answer = kept.get_mut().quit(safe, now);
+    queue.put(kept);
+    answer
+}
+
+/// Hands out the first of the messages and barriers that were dropped, also once the queue is closed.
+#[unsafe(no_mangle)]
+pub extern "C" fn mq_next_dropped(alloc: Global, queue: &mut MqQueue) -> MqNext
+    ensures { Pops (inside queue.old) (inside queue.new) result }
+{
+    let Some(mut kept) = queue.take() else {
+        return nothing();
+    };
+    let answer = kept.get_mut().next_dropped();
+    queue.put_or_free(alloc, kept);
+    answer
+}
+
+/// Forgets the record of the calls so far, which else grows with each call. False, and nothing changes, where there is no
+/// memory or no queue is open.
 #[unsafe(no_mangle)]
 pub extern "C" fn mq_forget(queue: &mut MqQueue) -> bool
-    requires { IsOpen queue.old }
-    ensures forgot { (result ≡ true) → queue.new.state ≡ sealed queue.old.state }
-    ensures kept { (result ≡ false) → queue.new.state ≡ queue.old.state }
-    ensures open { IsOpen queue.new }
+    ensures { Does (inside queue.old) (inside queue.new) (result ≡ false) (Keeps (λ x y. y ≡ (if result then sealed x else x))) }
 {
-    let mut state = queue.take();
-    let done = calls::forget(state.get_mut());
-    queue.put(state);
-    done
+    let Some(mut kept) = queue.take() else {
+        return false;
+    };
+    let answer = kept.get_mut().forget();
+    queue.put(kept);
+    answer
 }

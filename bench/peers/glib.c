@@ -1,0 +1,85 @@
+/* GLib's main context: one source a message, an idle source for now and a timeout for a time. */
+#include "bench.h"
+
+#include <glib.h>
+
+static GMainContext *context;
+static GMainLoop *loop;
+static long left;
+static gboolean chained;
+
+static void post(gint64 ready);
+
+static gboolean one(gpointer argument)
+{
+    (void)argument;
+    if (--left == 0) {
+        g_main_loop_quit(loop);
+    } else if (chained) {
+        post(0);
+    }
+    return G_SOURCE_REMOVE;
+}
+
+/* For this moment of the monotonic clock in microseconds, or for now at 0. */
+static void post(gint64 ready)
+{
+    GSource *source = ready != 0 ? g_timeout_source_new(0) : g_idle_source_new();
+    if (ready != 0) {
+        g_source_set_ready_time(source, ready);
+    }
+    g_source_set_priority(source, G_PRIORITY_DEFAULT);
+    g_source_set_callback(source, one, NULL, NULL);
+    g_source_attach(source, context);
+    g_source_unref(source);
+}
+
+static gpointer post_some(gpointer count)
+{
+    for (long i = *(long *)count; i > 0; i--) {
+        post(0);
+    }
+    return NULL;
+}
+
+static void posters(long count)
+{
+    GThread *threads[POSTERS];
+    long each = count / POSTERS;
+    for (int i = 0; i < POSTERS; i++) {
+        threads[i] = g_thread_new("poster", post_some, &each);
+    }
+    g_main_loop_run(loop);
+    for (int i = 0; i < POSTERS; i++) {
+        g_thread_join(threads[i]);
+    }
+}
+
+static void run(char **word, long count)
+{
+    gint64 now = g_get_monotonic_time();
+    left = count;
+    chained = is_mode(word, "chain");
+    if (is_mode(word, "posters")) {
+        posters(count);
+        return;
+    }
+    for (long i = 0; i < (chained ? 1 : count); i++) {
+        gboolean at_once = chained || is_mode(word, "burst");
+        post(at_once ? 0 : is_mode(word, "rising") ? now - count + i : 1 + (gint64)scattered((uint64_t)now));
+    }
+    g_main_loop_run(loop);
+}
+
+int main(int words, char **word)
+{
+    long count = count_of(words, word), rounds = rounds_of(word);
+    context = g_main_context_new();
+    loop = g_main_loop_new(context, FALSE);
+    uint64_t start = processor_time();
+    for (long round = 0; round < rounds; round++) {
+        run(word, count);
+    }
+    report(processor_time() - start, count * rounds);
+    return left != 0;
+}

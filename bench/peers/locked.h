@@ -1,0 +1,127 @@
+/* The modes over a queue under a pthread mutex with a condition variable: what `ours.c` and `plain_list.c` share. The file that
+ * includes this defines open_queue, post, next and taken. */
+#include "bench.h"
+
+#include "message_queue.h"
+#include <pthread.h>
+
+static bool open_queue(void);
+static mq_answer post(const mq_message *message);
+static mq_look next(uint64_t now);
+/* Is called once for each message that was taken, under the lock. */
+static void taken(void);
+
+static pthread_mutex_t lock = PTHREAD_MUTEX_INITIALIZER;
+static pthread_cond_t changed;
+static uint64_t sum;
+
+static uint64_t milliseconds(void)
+{
+    return nanoseconds(CLOCK_MONOTONIC) / 1000000;
+}
+
+static void send(uint64_t when)
+{
+    mq_message message = {.when = when, .handler = 7, .what = 1};
+    pthread_mutex_lock(&lock);
+    mq_answer answer = post(&message);
+    if (answer.wake) {
+        pthread_cond_signal(&changed);
+    }
+    pthread_mutex_unlock(&lock);
+    if (answer.kind != MQ_DONE) {
+        exit(3);
+    }
+}
+
+static void wait_for(const mq_look *look)
+{
+    if (look->kind == MQ_WAIT) {
+        struct timespec time = {(time_t)(look->time / 1000), (long)(look->time % 1000) * 1000000};
+        pthread_cond_timedwait(&changed, &lock, &time);
+    } else if (look->kind == MQ_WAIT_FOREVER) {
+        pthread_cond_wait(&changed, &lock);
+    } else {
+        exit(4);
+    }
+}
+
+static void take(void)
+{
+    pthread_mutex_lock(&lock);
+    mq_look look = next(milliseconds());
+    while (look.kind != MQ_TAKEN) {
+        wait_for(&look);
+        look = next(milliseconds());
+    }
+    taken();
+    pthread_mutex_unlock(&lock);
+    sum += look.message.what;
+}
+
+static void *post_some(void *count)
+{
+    for (long i = *(long *)count; i > 0; i--) {
+        send(milliseconds());
+    }
+    return NULL;
+}
+
+static void posters(long count)
+{
+    pthread_t threads[POSTERS];
+    long each = count / POSTERS;
+    for (int i = 0; i < POSTERS; i++) {
+        pthread_create(&threads[i], NULL, post_some, &each);
+    }
+    for (long i = 0; i < count; i++) {
+        take();
+    }
+    for (int i = 0; i < POSTERS; i++) {
+        pthread_join(threads[i], NULL);
+    }
+}
+
+/* All are posted, then all are taken. */
+static void each_then_all(char **word, long count)
+{
+    uint64_t now = milliseconds();
+    for (long i = 0; i < count; i++) {
+        send(is_mode(word, "burst") ? now : is_mode(word, "rising") ? now - (uint64_t)(count - i) / 1000 : 1 + scattered(now));
+    }
+    for (long i = 0; i < count; i++) {
+        take();
+    }
+}
+
+static void chain(long count)
+{
+    for (long i = 0; i < count; i++) {
+        send(milliseconds());
+        take();
+    }
+}
+
+int main(int words, char **word)
+{
+    long count = count_of(words, word), rounds = rounds_of(word);
+    pthread_condattr_t monotonic;
+    pthread_condattr_init(&monotonic);
+    pthread_condattr_setclock(&monotonic, CLOCK_MONOTONIC);
+    pthread_cond_init(&changed, &monotonic);
+    if (!open_queue()) {
+        return 5;
+    }
+    uint64_t start = processor_time();
+    for (long round = 0; round < rounds; round++) {
+        if (is_mode(word, "posters")) {
+            posters(count);
+        } else if (is_mode(word, "chain")) {
+            chain(count);
+        } else {
+            each_then_all(word, count);
+        }
+    }
+    report(processor_time() - start, count * rounds);
+    return sum != (uint64_t)(count * rounds);
+}

@@ -1,0 +1,150 @@
+// What a handle that is not empty keeps: a queue, and the messages that its calls have dropped.
+ghost use Rattle.std.specs.Prelude.{◌≡◌, true, false, Some, MatchOption, if◌then◌else◌};
+ghost use Rattle.queue_state.specs.Queue.{has_match, sealed};
+ghost use Rattle.message_queue_c.specs.Contents.{Does, Keeps, Closes, Pops, nothing_in};
+ghost use Rattle.message_queue_c.specs.Messages.{filter_by};
+ghost use Rattle.message_queue_c.specs.Ours.{is_ours};
+ghost use Rattle.message_queue_c.specs.Shown.{PostShown, BarrierShown, GoneShown, TakingShown, QuitShown, NextShown, IsNotOpen, HasNotOpen};
+
+use crate::answers::{MqAnswer, MqNext, done, not_open, not_open_look, shown_dropped};
+use crate::calls;
+use crate::drops::{emptied, join};
+use crate::message::{MqFilter, MqMessage};
+use message_slot::NoClaim;
+use queue_state::QueueState;
+use std::alloc::Global;
+use std::marker::Model;
+use when_queue::MsgList;
+
+/// The queue, until it is closed, and the messages that its calls dropped and that were not handed out yet.
+#[derive(Drop)]
+pub struct Kept {
+    queue: Option<QueueState<NoClaim>>,
+    dropped: MsgList<NoClaim>,
+}
+
+impl Model for Kept {
+    ghost use Rattle.message_queue_c.specs.Contents.{Contents, HasOurs};
+
+    ghost Value = { Contents };
+
+    ghost view = { λ k. record { queue = k.queue; dropped = k.dropped } };
+
+    ghost invariant = { λ k. HasOurs k.queue };
+}
+
+impl Kept {
+    pub(crate) fn new(queue: QueueState<NoClaim>, dropped: MsgList<NoClaim>) -> Kept
+        requires { is_ours queue }
+        ensures { result ≡ record { queue = Some queue; dropped = dropped } }
+    {
+        Kept {
+            queue: Some(queue),
+            dropped,
+        }
+    }
+
+    pub(crate) fn post(&mut self, alloc: Global, message: &MqMessage) -> MqAnswer
+        ensures { Does self.old self.new (IsNotOpen result) (Keeps (λ x y. PostShown x message.now result y)) }
+    {
+        match &mut self.queue {
+            Some(queue) => calls::post(alloc, queue, message),
+            None => not_open(),
+        }
+    }
+
+    pub(crate) fn post_barrier(&mut self, alloc: Global, now: u64) -> MqAnswer
+        ensures { Does self.old self.new (IsNotOpen result) (Keeps (λ x y. BarrierShown x now result y)) }
+    {
+        match &mut self.queue {
+            Some(queue) => calls::post_barrier(alloc, queue, now),
+            None => not_open(),
+        }
+    }
+
+    pub(crate) fn remove_barrier(&mut self, token: u64) -> MqAnswer
+        ensures { Does self.old self.new (IsNotOpen result) (Keeps (λ x y. GoneShown x token result y)) }
+    {
+        match &mut self.queue {
+            Some(queue) => calls::remove_barrier(queue, token),
+            None => not_open(),
+        }
+    }
+
+    pub(crate) fn remove(&mut self, filter: &MqFilter) -> MqAnswer
+        ensures { Does self.old self.new (IsNotOpen result) (λ x y ds es. TakingShown x filter.now result y ds es) }
+    {
+        match &mut self.queue {
+            Some(queue) => calls::remove(queue, &mut self.dropped, filter),
+            None => not_open(),
+        }
+    }
+
+    pub(crate) fn quit(&mut self, safe: bool, now: u64) -> MqAnswer
+        ensures { Does self.old self.new (IsNotOpen result) (λ x y ds es. QuitShown x safe now result y ds es) }
+    {
+        match &mut self.queue {
+            Some(queue) => calls::quit(queue, &mut self.dropped, safe, now),
+            None => not_open(),
+        }
+    }
+
+    pub(crate) fn next(&mut self, now: u64, idle_owed: bool) -> MqNext
+        ensures { Does self.old self.new (HasNotOpen result) (λ x y ds es. NextShown x now idle_owed result y ds es) }
+    {
+        match &mut self.queue {
+            Some(queue) => calls::next(queue, &mut self.dropped, now, idle_owed),
+            None => not_open_look(),
+        }
+    }
+
+    pub(crate) fn has(&self, filter: &MqFilter) -> bool
+        ensures { MatchOption self.now.queue (result ≡ false) (λ x. result ≡ has_match x (filter_by filter.now)) }
+    {
+        match &self.queue {
+            Some(queue) => calls::has(queue, filter),
+            None => false,
+        }
+    }
+
+    pub(crate) fn forget(&mut self) -> bool
+        ensures { Does self.old self.new (result ≡ false) (Keeps (λ x y. y ≡ (if result then sealed x else x))) }
+    {
+        match &mut self.queue {
+            Some(queue) => calls::forget(queue),
+            None => false,
+        }
+    }
+
+    /// Closes the queue, and counts the messages that are to be handed out. Where there is no queue it lets go of those.
+    pub(crate) fn close(&mut self, alloc: Global) -> MqAnswer
+        ensures { Closes self.old self.new result }
+    {
+        match self.queue.take() {
+            Some(queue) => {
+                let (part, left) = queue.into_parts();
+                drop(part);
+                join(&mut self.dropped, left);
+                done(self.dropped.len() as u64)
+            }
+            None => {
+                emptied(alloc, &mut self.dropped);
+                not_open()
+            }
+        }
+    }
+
+    pub(crate) fn next_dropped(&mut self) -> MqNext
+        ensures { Pops self.old self.new result }
+    {
+        shown_dropped(self.dropped.pop_front())
+    }
+
+    /// Nothing is left in it.
+    pub(crate) fn is_spent(&self) -> bool
+        ensures { (result ≡ true) → self.now ≡ nothing_in }
+    {
+        let none = self.dropped.len() == 0;
+        none & self.queue.is_none()
+    }
+}
