@@ -29,9 +29,23 @@ def drawn_marks(svg):
     """How many marks the elements of an SVG stand for."""
     count = 0
     for group in tree.fromstring(svg).iter(SVG + "g"):
-        more = re.search(r"\((\d+) marks here\)$", group.find(SVG + "title").text)
-        count += int(more.group(1)) if more else 1
+        if group.get("class") == "mark":
+            more = re.search(r"\((\d+) marks here\)$", group.find(SVG + "title").text)
+            count += int(more.group(1)) if more else 1
     return count
+
+
+def longest():
+    """A report with as many loopers, handlers and gauges as the dashboard takes, and marks all along its rows."""
+    lines = ["report 2"]
+    for looper in range(8):
+        dispatches = [f"{2 * n} dispatch {n} {8 * looper + n % 8} {n % 1000}" for n in range(2000)]
+        paints = [f"paint {2 * looper + n % 2} {n * 37 % 1001}" for n in range(480)]
+        fates = "fates accepted 2000 dispatched 2000 removed 0 dropped 0 stranded 0 queued 0"
+        lines += [f"looper {looper}", *dispatches, fates, *paints]
+        for frame in range(1, 241):
+            lines += [f"frame {16_666_667 * frame}", "run 0 77", "run 1 1000000", "run 3 1000016"]
+    return ("\n".join([*lines, "end"]) + "\n").encode()
 
 
 def look(program, name, text):
@@ -48,6 +62,7 @@ def main():
     reports = [file for file in sorted(HERE.glob("*.report")) if file.read_bytes().startswith(b"report ")]
     for file in reports:
         look(program, file.name, file.read_bytes())
+    look(program, "the longest", longest())
     bad = run(program, "svg", b"report 1\nend\nend\n")
     assert (bad.returncode, bad.stdout, bad.stderr) == (3, b"", b"timeline: line 3\n"), bad
     assert run(program, "gif", b"").returncode == 2

@@ -1,29 +1,36 @@
 -- How the marks of a picture stand in its SVG.
 use Rattle.std.specs.Prelude.{◌≡◌, ℕ, List, [], ◌∷◌, ◌++◌, codes, IsPermutation}
 use Rattle.std.specs.List.{flat_map, AllByRecursion}
+use Rattle.std.specs.Fmt.{decimal}
 use Rattle.run_picture.specs.declared.group.Group.{Group}
+use Rattle.run_picture.specs.declared.group.Scale.{Scale}
 use Rattle.run_picture.specs.declared.report.Report.{Report}
 use Rattle.run_picture.specs.Marks.{marks}
 use Rattle.run_picture.specs.Groups.{IsOfPlace, marks_of}
 use Rattle.run_picture.specs.Labels.{entity, group_text}
 
--- behind what was there stands the element of a group: its text as a title, and a shape
-abbrev pub IsElement : Group → List ℕ → List ℕ → List ℕ → Type 0
-IsElement g shape before after =
-    after ≡ before ++ codes "<g class=\"mark\"><title>" ++ flat_map entity (group_text g) ++ codes "</title>" ++ shape ++ codes "</g>\n"
+-- an element that stands so many pixels from the left edge of the lanes and from the picture's upper edge
+unfoldable pub opening : ℕ → ℕ → List ℕ
+opening x y = codes "<g class=\"mark\" transform=\"translate(" ++ decimal x ++ codes " " ++ decimal y ++ codes ")\"><title>"
+
+-- behind what was there stands the element of a group: at its column, with its text as a title, and a shape
+abbrev pub IsElement : Group → ℕ → List ℕ → List ℕ → List ℕ → Type 0
+IsElement g y shape before after =
+    after ≡ before ++ opening g.place.column y ++ flat_map entity (group_text g) ++ codes "</title>" ++ shape ++ codes "</g>\n"
 
 -- behind what was there stands one element for each group, in order, and nothing else
 abbrev pub AreElements : List Group → List ℕ → List ℕ → Type 0
 AreElements [] before after = after ≡ before
-AreElements (g ∷ gs) before after = (shape : List ℕ) × (between : List ℕ) × IsElement g shape before between × AreElements gs between after
+AreElements (g ∷ gs) before after = (y : ℕ) × (shape : List ℕ) × (between : List ℕ) × IsElement g y shape before between × AreElements gs between after
 
 -- behind the background stands one element for each group of marks; the groups have each mark of the report exactly once, and
--- all marks of a group stand in its lane and row
+-- all marks of a group stand at its place, by the scale of the picture
 pub record Draws (r : Report) (text : List ℕ) : Type 0 where
+  pub scale : Scale
   pub groups : List Group
   pub background : List ℕ
   pub drawn : List ℕ
   pub marked : IsPermutation (marks r) (flat_map marks_of groups)
-  pub placed : AllByRecursion IsOfPlace groups
+  pub placed : AllByRecursion (IsOfPlace scale) groups
   pub elements : AreElements groups background drawn
-  pub whole : text ≡ drawn ++ codes "</svg>\n"
+  pub whole : text ≡ drawn ++ codes "</g>\n</svg>\n"

@@ -1,12 +1,14 @@
 -- Marks that fall on one place of the picture are one group.
-use Rattle.std.specs.Prelude.{◌≡◌, List, []}
+use Rattle.std.specs.Prelude.{◌≡◌, ℕ, ◌+◌, ◌-◌, ◌*◌, ◌/◌, ◌%◌, ◌^◌, min, max, List, []}
 use Rattle.std.specs.List.{AllByRecursion}
 use Rattle.run_picture.specs.declared.mark.Kind.{Kind}
 use Rattle.run_picture.specs.declared.mark.Kind.TheVariants as kind_of
 use Rattle.run_picture.specs.declared.mark.Mark.{Mark}
+use Rattle.run_picture.specs.declared.mark.Moment.{Moment}
 use Rattle.run_picture.specs.declared.group.Row.{Row}
 use Rattle.run_picture.specs.declared.group.Row.TheVariants.{Handler, Frames, Runs, Gauge}
 use Rattle.run_picture.specs.declared.group.Place.{Place}
+use Rattle.run_picture.specs.declared.group.Scale.{Scale}
 use Rattle.run_picture.specs.declared.group.Group.{Group}
 
 -- the row of a mark
@@ -16,16 +18,39 @@ row_of kind_of.Frame = Frames
 row_of (kind_of.Run r) = Runs
 row_of (kind_of.Paint gauge value) = Gauge gauge
 
--- the mark stands in the lane and the row of the place
-abbrev pub StandsIn : Place → Mark → Type 0
-StandsIn p m = (p.lane ≡ m.lane) × (p.row ≡ row_of m.kind)
+-- a moment in nanoseconds
+abbrev pub nanos : Moment → ℕ
+nanos t = t.millis * 1000000 + t.nanos
+
+-- how many of 1,026 pixels a moment lies from the left edge
+abbrev pub pixels : Scale → ℕ → ℕ
+pixels s t = min (min ((t - s.first) * 1026) (2 ^ 128 - 1) / max s.span 1) 1026
+
+-- a callback stands behind its moment by its phase
+abbrev pub shift : Scale → Kind → ℕ
+shift s (kind_of.Dispatch number handler subject) = 0
+shift s kind_of.Frame = 0
+shift s (kind_of.Run r) = min r.phase 4 * s.slot
+shift s (kind_of.Paint gauge value) = 0
+
+-- how many pixels are left of a mark, which begins a place of the scale
+abbrev pub column : Scale → Mark → ℕ
+column s m = let x = pixels s (nanos m.time) + shift s m.kind in x - x % max s.step 1
+
+-- where a mark stands: in its looper's lane, the row of its kind, and at its time
+abbrev pub place : Scale → Mark → Place
+place s m = record { lane = m.lane; row = row_of m.kind; column = column s m }
 
 abbrev pub marks_of : Group → List Mark
 marks_of g = g.marks
 
--- all marks of the group stand in its place
-abbrev pub IsOfPlace : Group → Type 0
-IsOfPlace g = AllByRecursion (StandsIn g.place) g.marks
+-- the mark stands at this place
+abbrev pub StandsAt : Scale → Place → Mark → Type 0
+StandsAt s p m = p ≡ place s m
+
+-- all marks of the group stand at its place
+abbrev pub IsOfPlace : Scale → Group → Type 0
+IsOfPlace s g = AllByRecursion (StandsAt s g.place) g.marks
 
 -- a place without marks yet
 abbrev pub begun : Place → Group

@@ -1,22 +1,25 @@
-//! The shape of a mark.
-use crate::group::{Group, Place, Row, Scale};
+//! The shape of a mark, drawn from its place on.
+use crate::group::{Group, Row, Scale};
 use crate::levels::value_of;
-use crate::mark::{Kind, Mark};
+use crate::mark::Kind;
 use crate::report::Subject;
-use crate::shape::{Extent, LEFT, numbered, push_rect, push_text};
+use crate::shape::{Extent, LEFT, WIDTH, numbered, push_rect, push_text};
 use line_words::push_number;
 use loop_model::NoMemory;
 use std::alloc::Global;
 
-/// What drawing remembers from one group to the next: the scale, and up to where a row's text reaches.
+/// No text beside a paint is as wide, in pixels.
+const WIDEST: usize = 80;
+
+/// What drawing remembers from one group to the next: the sizes, and up to where a row's text reaches.
 #[derive(Drop)]
 pub(crate) struct Spot {
     frame: u64,
     slot: u64,
     phases: u64,
-    row: Option<Row>,
+    /// The row that was begun last, behind its lane.
+    row: Option<(u64, Row)>,
     free: u64,
-    level: Option<u32>,
 }
 
 /// The letter of a phase, so that it is told without colour.
@@ -36,62 +39,83 @@ pub(crate) fn letter(phases: u64, phase: u64) -> &'static [u8] {
     b"T"
 }
 
+/// Whether two groups stand in one row.
+fn is_beside(group: &Group, later: &Group) -> bool {
+    group.place.lane == later.place.lane && group.place.row == later.place.row
+}
+
+/// Whether a group behind another one in its row stands where its text would: each mark, but no paint of a lower value.
+fn is_in_the_way(group: &Group, later: &Group) -> bool {
+    match group.place.row {
+        Row::Gauge(_) => value_of(later) > value_of(group),
+        Row::Handler(_) => true,
+        Row::Frames => true,
+        Row::Runs => true,
+    }
+}
+
+/// How many pixels the text of a group may take: up to what is in the way, or the picture's edge.
+pub(crate) fn room_behind(groups: &[Group], index: usize) -> u64 {
+    let Some(group) = groups.get(index) else {
+        return 0;
+    };
+    for step in 1..WIDEST {
+        let Some(later) = groups.get(index.saturating_add(step)) else {
+            break;
+        };
+        if !is_beside(group, later) {
+            break;
+        }
+        if is_in_the_way(group, later) {
+            return later.place.column.saturating_sub(group.place.column);
+        }
+    }
+    (WIDTH - LEFT).saturating_sub(group.place.column)
+}
+
 impl Spot {
     /// Nothing is drawn yet.
     pub(crate) fn new(scale: Scale, frame: u64, phases: u64) -> Spot {
         Spot {
             frame,
-            slot: scale.slot,
+            slot: u64::from(scale.slot),
             phases,
             row: None,
             free: 0,
-            level: None,
         }
     }
 
-    /// Text behind a mark, where it reaches no other.
+    /// Begins a row where this group has another one than the last group.
+    fn begin(&mut self, group: &Group) {
+        let row = Some((group.place.lane, group.place.row));
+        if self.row != row {
+            self.row = row;
+            self.free = 0;
+        }
+    }
+
+    /// Text beside a mark that stands in this column, from this point on, where there is room for it.
     fn push_beside(
         &mut self,
         out: &mut Vec<u8>,
-        x: u64,
-        y: u64,
+        column: u64,
+        room: u64,
+        point: &[u8],
         text: &[u8],
     ) -> Result<(), NoMemory> {
-        if x >= self.free {
-            push_text(out, x, y, b"w", text)?;
-            self.free = x
-                .saturating_add(8)
-                .saturating_add(6u64.saturating_mul(text.len() as u64));
+        let width = 7u64.saturating_mul(text.len() as u64).saturating_add(8);
+        if column >= self.free {
+            if width <= room {
+                out.extend_from_slice(b"<text class=\"w\" ")?;
+                out.extend_from_slice(point)?;
+                out.push(b'>')?;
+                out.extend_from_slice(text)?;
+                out.extend_from_slice(b"</text>")?;
+                self.free = column.saturating_add(width);
+            }
         }
         Ok(())
     }
-
-    fn begin(&mut self, row: Row) {
-        if self.row != Some(row) {
-            self.row = Some(row);
-            self.free = 0;
-            self.level = None;
-        }
-    }
-}
-
-/// The point of a mark.
-#[derive(Clone, Copy)]
-struct Point {
-    x: u64,
-    y: u64,
-}
-
-fn push_path(out: &mut Vec<u8>, at: Point, class: &[u8], steps: &[u8]) -> Result<(), NoMemory> {
-    out.extend_from_slice(b"<path")?;
-    crate::shape::push_class(out, class)?;
-    out.extend_from_slice(b" d=\"M")?;
-    push_number(out, at.x)?;
-    out.push(b' ')?;
-    push_number(out, at.y)?;
-    out.extend_from_slice(steps)?;
-    out.extend_from_slice(b"\"/>")?;
-    Ok(())
 }
 
 /// What stands beside a dispatch: its `what` or callback, or how many dispatches there are.
@@ -115,26 +139,23 @@ fn push_dispatch(
     alloc: Global,
     out: &mut Vec<u8>,
     spot: &mut Spot,
-    at: Point,
     handler: u32,
+    room: u64,
     group: &Group,
 ) -> Result<(), NoMemory> {
-    let up = Point {
-        x: at.x,
-        y: at.y.saturating_add(4),
-    };
     if handler >= 64 {
-        return push_path(out, up, b"m", b" l4 6 l-4 6 l-4 -6 z");
+        out.extend_from_slice(b"<path class=\"m\" d=\"M0 4l4 6-4 6-4-6z\"/>")?;
+        return Ok(());
     }
-    push_path(out, up, b"d", b" l4 6 l-4 6 l-4 -6 z")?;
+    out.extend_from_slice(b"<path class=\"d\" d=\"M0 4l4 6-4 6-4-6z\"/>")?;
     let text = beside(alloc, group)?;
-    spot.push_beside(out, at.x.saturating_add(6), at.y.saturating_add(14), &text)
+    spot.push_beside(out, group.place.column, room, b"x=\"6\" y=\"14\"", &text)
 }
 
-fn push_frame(out: &mut Vec<u8>, spot: &Spot, at: Point) -> Result<(), NoMemory> {
+fn push_frame(out: &mut Vec<u8>, spot: &Spot) -> Result<(), NoMemory> {
     let extent = Extent {
-        x: at.x,
-        y: at.y.saturating_add(3),
+        x: 0,
+        y: 3,
         width: spot.frame.saturating_sub(2).max(1),
         height: 20,
     };
@@ -145,26 +166,27 @@ fn push_run(
     alloc: Global,
     out: &mut Vec<u8>,
     spot: &Spot,
-    at: Point,
     phase: u32,
     count: usize,
 ) -> Result<(), NoMemory> {
-    let class = numbered(alloc, b"p", u64::from(phase.min(4)))?;
+    let letter = letter(spot.phases, u64::from(phase));
+    let mut class = Vec::new(alloc);
+    class.push(b'p')?;
+    class.extend_from_slice(letter)?;
     let extent = Extent {
-        x: at.x.saturating_add(1),
-        y: at.y.saturating_add(4),
+        x: 1,
+        y: 4,
         width: spot.slot.saturating_sub(1).max(1),
         height: 18,
     };
     push_rect(out, extent, &class)?;
     if spot.slot >= 9 {
         let mut text = Vec::new(alloc);
-        text.extend_from_slice(letter(spot.phases, u64::from(phase)))?;
+        text.extend_from_slice(letter)?;
         if count > 1 && spot.slot >= 20 {
             push_number(&mut text, count as u64)?;
         }
-        let x = at.x.saturating_add(spot.slot / 2);
-        push_text(out, x, at.y.saturating_add(17), b"c", &text)?;
+        push_text(out, spot.slot / 2, 17, b"c", &text)?;
     }
     Ok(())
 }
@@ -173,43 +195,31 @@ fn push_paint(
     alloc: Global,
     out: &mut Vec<u8>,
     spot: &mut Spot,
-    at: Point,
+    room: u64,
     group: &Group,
 ) -> Result<(), NoMemory> {
-    push_path(
-        out,
-        Point {
-            x: at.x,
-            y: at.y.saturating_sub(2),
-        },
-        b"o",
-        b" l2 2 l-2 2 l-2 -2 z",
-    )?;
+    out.extend_from_slice(b"<path class=\"o\" d=\"M0-2l2 2-2 2-2-2z\"/>")?;
     let text = numbered(alloc, b"", u64::from(value_of(group)))?;
-    spot.push_beside(out, at.x.saturating_add(3), at.y.saturating_sub(3), &text)
+    spot.push_beside(out, group.place.column, room, b"x=\"3\" y=\"-3\"", &text)
 }
 
-/// Draws the shape of a group: what its first mark is.
+/// The shape of a group: what its first mark is, and text beside it where that fits into so many pixels.
 pub(crate) fn push_glyph(
     alloc: Global,
     out: &mut Vec<u8>,
     spot: &mut Spot,
-    y: u64,
+    room: u64,
     group: &Group,
 ) -> Result<(), NoMemory> {
-    spot.begin(group.place.row);
-    let at = Point {
-        x: LEFT.saturating_add(group.place.column),
-        y,
-    };
+    spot.begin(group);
     let marks = group.marks.as_slice();
     let Some(mark) = marks.first() else {
         return Ok(());
     };
     match mark.kind {
-        Kind::Dispatch { handler, .. } => push_dispatch(alloc, out, spot, at, handler, group),
-        Kind::Frame => push_frame(out, spot, at),
-        Kind::Run(run) => push_run(alloc, out, spot, at, run.phase, marks.len()),
-        Kind::Paint { .. } => push_paint(alloc, out, spot, at, group),
+        Kind::Dispatch { handler, .. } => push_dispatch(alloc, out, spot, handler, room, group),
+        Kind::Frame => push_frame(out, spot),
+        Kind::Run(run) => push_run(alloc, out, spot, run.phase, marks.len()),
+        Kind::Paint { .. } => push_paint(alloc, out, spot, room, group),
     }
 }

@@ -1,9 +1,10 @@
 //! Marks that fall on one place of the picture are one group.
-ghost use Rattle.std.specs.Prelude.{◌≡◌, ◌++◌, IfOk, OnOk, IsPermutation};
+ghost use Rattle.std.specs.Prelude.{◌≡◌, ◌<◌, ◌≤◌, ◌^◌, ◌++◌, IfOk, OnOk, IsPermutation};
 ghost use Rattle.std.specs.List.{flat_map, AllByRecursion};
-ghost use Rattle.run_picture.specs.Groups.{IsOfPlace, StandsIn, begun, marks_of, row_of};
+ghost use Rattle.run_picture.specs.Groups.{IsOfPlace, begun, column, marks_of, nanos, pixels, place, row_of, shift};
 
 use crate::mark::{Kind, Mark, Moment, NANOS_PER_MILLI};
+use crate::shape::LANE_WIDTH;
 use loop_model::{NoMemory, Sequence};
 use std::alloc::Global;
 use std::mem::replace;
@@ -41,18 +42,18 @@ pub struct Group {
 pub struct Scale {
     /// The moment of the left edge, in nanoseconds.
     pub first: u128,
-    /// How many nanoseconds the width shows, at least 1.
+    /// How many nanoseconds the width shows; 0 stands for 1.
     pub span: u128,
-    /// The width of the lanes in pixels.
-    pub width: u64,
     /// The part of a frame's box that a phase has, in pixels.
-    pub slot: u64,
-    /// How many pixels are one place, at least 1.
+    pub slot: u32,
+    /// How many pixels are one place; 0 stands for 1.
     pub step: u64,
 }
 
 /// A moment in nanoseconds.
-pub(crate) fn nanos(moment: Moment) -> u128 {
+pub(crate) fn nanos(moment: Moment) -> u128
+    ensures { result ≡ nanos moment }
+{
     u128::from(moment.millis) * u128::from(NANOS_PER_MILLI) + u128::from(moment.nanos)
 }
 
@@ -70,26 +71,39 @@ pub(crate) fn row_of(kind: Kind) -> Row
 
 impl Scale {
     /// How many pixels a moment lies from the left edge, at most the width.
-    pub(crate) fn pixels(&self, time: u128) -> u64 {
+    pub(crate) fn pixels(&self, time: u128) -> u64
+        ensures is { result ≡ pixels self.now time }
+        ensures near { result ≤ 1026 }
+    {
         let since = time.saturating_sub(self.first);
-        let width = u128::from(self.width);
+        let width = u128::from(LANE_WIDTH);
         let pixels = since.saturating_mul(width) / self.span.max(1);
-        u64::try_from(pixels.min(width)).unwrap_or(self.width)
+        pixels.min(width) as u64
     }
 
-    fn column(&self, mark: &Mark) -> u64 {
-        let from_left = self.pixels(nanos(mark.time));
-        let shift = match mark.kind {
-            Kind::Run(run) => u64::from(run.phase.min(4)).saturating_mul(self.slot),
-            _ => 0,
-        };
-        let column = from_left.saturating_add(shift);
+    /// How far a mark stands behind its moment, in pixels: a callback by its phase.
+    fn shift(&self, kind: Kind) -> u64
+        ensures is { result ≡ shift self.now kind }
+        ensures near { result < 2 ^ 40 }
+    {
+        match kind {
+            Kind::Run(run) => u64::from(run.phase.min(4)) * u64::from(self.slot),
+            Kind::Dispatch { .. } => 0,
+            Kind::Frame => 0,
+            Kind::Paint { .. } => 0,
+        }
+    }
+
+    fn column(&self, mark: &Mark) -> u64
+        ensures { result ≡ column self.now mark.now }
+    {
+        let column = self.pixels(nanos(mark.time)) + self.shift(mark.kind);
         column - column % self.step.max(1)
     }
 
     /// Where a mark stands.
     pub(crate) fn place(&self, mark: &Mark) -> Place
-        ensures { StandsIn result mark.now }
+        ensures { result ≡ place self.now mark.now }
     {
         Place {
             lane: mark.lane,
@@ -125,11 +139,11 @@ fn begun(alloc: Global, place: Place) -> Group
 }
 
 /// Adds a group, where it has marks.
-fn settle(groups: &mut Vec<Group>, whole: Group) -> Result<(), NoMemory>
-    requires whole { IsOfPlace whole }
-    requires before { AllByRecursion IsOfPlace groups.old.items }
+fn settle(scale: Scale, groups: &mut Vec<Group>, whole: Group) -> Result<(), NoMemory>
+    requires whole { IsOfPlace scale whole }
+    requires before { AllByRecursion (IsOfPlace scale) groups.old.items }
     ensures all { OnOk result (flat_map marks_of groups.new.items ≡ flat_map marks_of groups.old.items ++ whole.marks) }
-    ensures places { OnOk result (AllByRecursion IsOfPlace groups.new.items) }
+    ensures places { OnOk result (AllByRecursion (IsOfPlace scale) groups.new.items) }
 {
     if !whole.marks.is_empty() {
         groups.push(whole)?;
@@ -140,7 +154,7 @@ fn settle(groups: &mut Vec<Group>, whole: Group) -> Result<(), NoMemory>
 /// Cuts marks where the next one stands at another place.
 fn cut(alloc: Global, scale: Scale, marks: &[Mark]) -> Result<Vec<Group>, NoMemory>
     ensures all { IfOk result (λ found. flat_map marks_of found.items ≡ marks.now) }
-    ensures places { IfOk result (λ found. AllByRecursion IsOfPlace found.items) }
+    ensures places { IfOk result (λ found. AllByRecursion (IsOfPlace scale) found.items) }
 {
     let mut groups = Vec::new(alloc);
     let mut current = begun(alloc, NOWHERE);
@@ -148,19 +162,19 @@ fn cut(alloc: Global, scale: Scale, marks: &[Mark]) -> Result<Vec<Group>, NoMemo
         let place = scale.place(mark);
         if place != current.place {
             let whole = replace(&mut current, begun(alloc, place));
-            settle(&mut groups, whole)?;
+            settle(scale, &mut groups, whole)?;
         }
         current.marks.push(*mark)?;
     }
-    settle(&mut groups, current)?;
+    settle(scale, &mut groups, current)?;
     Ok(groups)
 }
 
-/// The marks of a picture by the places where they stand: each mark is in one group, and the groups are in the order of the
-/// lanes, their rows and the pixels. `NoMemory` where there was none.
+/// The marks of a picture by the places where they stand: each mark is in one group, that of its place, and the groups are in
+/// the order of the lanes, their rows and the pixels. `NoMemory` where there was none.
 pub fn groups(alloc: Global, scale: Scale, marks: Vec<Mark>) -> Result<Vec<Group>, NoMemory>
     ensures all { IfOk result (λ found. IsPermutation marks.items (flat_map marks_of found.items)) }
-    ensures places { IfOk result (λ found. AllByRecursion IsOfPlace found.items) }
+    ensures places { IfOk result (λ found. AllByRecursion (IsOfPlace scale) found.items) }
 {
     let marks = sorted(scale, marks)?;
     cut(alloc, scale, &marks)

@@ -17,13 +17,38 @@ const NOTE_HEIGHT: u64 = 16;
 
 const MOST_NOTES: u64 = 6;
 
-/// The height of a row of marks.
-fn height_of(row: Row) -> u64 {
+/// The height of a row, and how far below its upper edge its name and its line stand, in pixels.
+#[derive(Clone, Copy)]
+struct Measures {
+    height: u64,
+    name: u64,
+    line: u64,
+}
+
+const HANDLER: Measures = Measures {
+    height: 22,
+    name: 14,
+    line: 17,
+};
+
+const FRAMES: Measures = Measures {
+    height: 30,
+    name: 17,
+    line: 24,
+};
+
+const GAUGE: Measures = Measures {
+    height: 48,
+    name: 28,
+    line: 40,
+};
+
+fn measures_of(row: Row) -> Measures {
     match row {
-        Row::Handler(_) => 22,
-        Row::Frames => 0,
-        Row::Runs => 0,
-        Row::Gauge(_) => 48,
+        Row::Handler(_) => HANDLER,
+        Row::Frames => FRAMES,
+        Row::Runs => FRAMES,
+        Row::Gauge(_) => GAUGE,
     }
 }
 
@@ -39,6 +64,12 @@ pub(crate) struct Lanes {
     top: u64,
 }
 
+fn worded(alloc: Global, words: &[u8]) -> Result<Vec<u8>, NoMemory> {
+    let mut text = Vec::new(alloc);
+    text.extend_from_slice(words)?;
+    Ok(text)
+}
+
 /// The name of a row; a handler from 64 on is a choreographer's.
 fn row_name(alloc: Global, row: Row) -> Result<Vec<u8>, NoMemory> {
     match row {
@@ -46,19 +77,11 @@ fn row_name(alloc: Global, row: Row) -> Result<Vec<u8>, NoMemory> {
             if handler < 64 {
                 numbered(alloc, b"handler ", u64::from(handler))
             } else {
-                numbered(alloc, b"frame handler ", u64::from(handler))
+                worded(alloc, b"frame messages")
             }
         }
-        Row::Frames => {
-            let mut text = Vec::new(alloc);
-            text.extend_from_slice(b"frames")?;
-            Ok(text)
-        }
-        Row::Runs => {
-            let mut text = Vec::new(alloc);
-            text.extend_from_slice(b"frames")?;
-            Ok(text)
-        }
+        Row::Frames => worded(alloc, b"frames"),
+        Row::Runs => worded(alloc, b"frames"),
         Row::Gauge(gauge) => numbered(alloc, b"gauge ", u64::from(gauge)),
     }
 }
@@ -91,7 +114,7 @@ fn fates_text(alloc: Global, fates: &Fates) -> Result<Vec<u8>, NoMemory> {
     Ok(text)
 }
 
-/// The same as fates_text but under the looper's name. A looper's line.
+/// A looper's line: its name, and the fates of its messages.
 fn push_head(
     alloc: Global,
     out: &mut Vec<u8>,
@@ -225,20 +248,15 @@ impl Lanes {
             self.row = Some(row);
             return Ok(());
         }
+        let measures = measures_of(row);
         self.top = self.next;
-        let height = height_of(row).max(22);
-        let extra = if row == Row::Frames { 8 } else { 0 };
-        self.next = self.next.saturating_add(height).saturating_add(extra);
+        self.next = self.next.saturating_add(measures.height);
         self.row = Some(row);
         let name = row_name(alloc, row)?;
-        let base = match row {
-            Row::Gauge(_) => self.top.saturating_add(40),
-            Row::Handler(_) => self.top.saturating_add(17),
-            Row::Frames => self.top.saturating_add(24),
-            Row::Runs => self.top.saturating_add(24),
-        };
-        push_text(out, LEFT - 10, base.saturating_sub(3), b"l", &name)?;
-        push_line(out, (LEFT, base), (LEFT + LANE_WIDTH, base), b"q")
+        let name_y = self.top.saturating_add(measures.name);
+        push_text(out, LEFT - 10, name_y, b"l", &name)?;
+        let line_y = self.top.saturating_add(measures.line);
+        push_line(out, (LEFT, line_y), (LEFT + LANE_WIDTH, line_y), b"q")
     }
 
     /// The rows of one lane.

@@ -50,27 +50,41 @@ fn bounds(marks: &[Mark]) -> (u128, u128) {
     (first.min(last), last)
 }
 
-/// How many rows marks have, at most: the changes of the row from one mark to the next, up to 64 a lane.
+/// The bit of a row in a set of rows: those whose numbers differ by a multiple of 64 share one.
+fn bit_of(number: u32) -> u64 {
+    1u64 << (number % 64)
+}
+
+/// How many rows marks have, about. Marks of one lane stand together, and a lane has three rows beside those that its bits
+/// tell: a choreographer's messages, the frames, and the callbacks in them.
 fn rows_of(marks: &[Mark]) -> u64 {
+    let mut rows = 0u64;
+    let mut lane = None;
     let mut handlers = 0u64;
-    let mut lanes = 0u64;
     let mut gauges = 0u64;
     for mark in marks {
-        lanes = lanes.max(mark.lane.saturating_add(1));
+        if lane != Some(mark.lane) {
+            lane = Some(mark.lane);
+            handlers = 0;
+            gauges = 0;
+            rows = rows.saturating_add(3);
+        }
         match row_of(mark.kind) {
             Row::Handler(handler) => {
-                if handler < 64 {
-                    handlers = handlers.max(u64::from(handler) + 1);
-                }
+                let bit = bit_of(handler);
+                rows = rows.saturating_add(u64::from(handlers & bit == 0));
+                handlers |= bit;
             }
-            Row::Gauge(gauge) => gauges = gauges.max(u64::from(gauge) + 1),
+            Row::Gauge(gauge) => {
+                let bit = bit_of(gauge);
+                rows = rows.saturating_add(u64::from(gauges & bit == 0));
+                gauges |= bit;
+            }
             Row::Frames => {}
             Row::Runs => {}
         }
     }
-    handlers
-        .saturating_add(gauges)
-        .saturating_add(lanes.saturating_mul(4))
+    rows
 }
 
 /// The scale of a picture, by its marks, the width of a frame in nanoseconds, and the number of phases.
@@ -80,7 +94,6 @@ pub(crate) fn scale_of(marks: &[Mark], period: u128, phases: u64) -> Scale {
     let scale = Scale {
         first,
         span,
-        width: LANE_WIDTH,
         slot: 0,
         step: 1,
     };
@@ -89,13 +102,12 @@ pub(crate) fn scale_of(marks: &[Mark], period: u128, phases: u64) -> Scale {
     let step = if (marks.len() as u64) <= MOST_PLACES {
         1
     } else {
-        (places / MOST_PLACES).min(64).max(1)
+        places / MOST_PLACES + 1
     };
     Scale {
         first,
         span,
-        width: LANE_WIDTH,
-        slot: frame / phases.max(1),
+        slot: u32::try_from(frame / phases.max(1)).unwrap_or(0),
         step,
     }
 }

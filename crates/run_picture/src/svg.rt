@@ -1,8 +1,8 @@
 //! The picture as an SVG.
 ghost use Rattle.std.specs.Prelude.{◌≡◌, ◌++◌, IfOk, OnOk};
-ghost use Rattle.run_picture.specs.Drawn.{AreElements, Draws, IsElement};
+ghost use Rattle.run_picture.specs.Drawn.{AreElements, Draws, IsElement, opening};
 
-use crate::glyph::{Spot, push_glyph};
+use crate::glyph::{Spot, letter, push_glyph, room_behind};
 use crate::group::{Group, Scale, groups};
 use crate::label::{push_escaped, push_group};
 use crate::lanes::{Lanes, TOP, push_lanes};
@@ -16,21 +16,34 @@ use loop_model::NoMemory;
 use std::alloc::Global;
 
 const STYLE: &[u8] =
-    b"<style>text{font:11px 'DejaVu Sans',Helvetica,sans-serif;fill:#1b1f24}.h{font-size:16px;font-weight:bold}.n{font-size:15px;font-weight:bold}.f{fill:#6a737d}.l{fill:#6a737d;text-anchor:end}.t{fill:#6a737d;text-anchor:middle}.r{fill:#cf222e}.q{stroke:#d9dde2}.g{stroke:#d9dde2;stroke-dasharray:2 3}.d{fill:#1b1f24}.m{fill:#fff;stroke:#6a737d}.w{font-size:10px}.b{fill:#f6f8fa;stroke:#8c959f}.p0{fill:#8250df}.p1{fill:#0969da}.p2{fill:#1a7f37}.p3{fill:#bc4c00}.p4{fill:#57606a}.c{fill:#fff;font-size:10px;text-anchor:middle}.v{fill:none;stroke:#1a7f37;stroke-width:1.6}.o{fill:#1a7f37}</style>";
+    b"<style>text{font:11px 'DejaVu Sans',Helvetica,sans-serif;fill:#1b1f24}.h{font-size:16px;font-weight:bold}.n{font-size:15px;font-weight:bold}.f{fill:#6a737d}.l{fill:#6a737d;text-anchor:end}.t{fill:#6a737d;text-anchor:middle}.r{fill:#cf222e}.q{stroke:#d9dde2}.g{stroke:#d9dde2;stroke-dasharray:2 3}.d{fill:#1b1f24}.m{fill:#fff;stroke:#6a737d}.w{font-size:10px}.b{fill:#f6f8fa;stroke:#8c959f}.pI{fill:#8250df}.pA{fill:#0969da}.pS{fill:#57606a}.pT{fill:#1a7f37}.pC{fill:#bc4c00}.c{fill:#fff;font-size:10px;text-anchor:middle}.v{fill:none;stroke:#1a7f37;stroke-width:1.6}.o{fill:#1a7f37}</style>";
 
-/// The element of a group: its text for a pointer or a screen reader, and its shape.
+/// The beginning of an element that stands at this point of the lanes.
+fn push_start(out: &mut Vec<u8>, x: u64, y: u64) -> Result<(), NoMemory>
+    ensures { OnOk result (out.new.items ≡ out.old.items ++ opening x y) }
+{
+    out.extend_from_slice(b"<g class=\"mark\" transform=\"translate(")?;
+    push_number(out, x)?;
+    out.extend_from_slice(b" ")?;
+    push_number(out, y)?;
+    out.extend_from_slice(b")\"><title>")?;
+    Ok(())
+}
+
+/// The element of a group: it stands at its column, has its text for a pointer or a screen reader, and a shape.
 #[tactic(auto, using(std::proofs::lemmas::List::append_assoc))]
 fn push_element(
     alloc: Global,
     out: &mut Vec<u8>,
+    y: u64,
     group: &Group,
     shape: &[u8],
 ) -> Result<(), NoMemory>
-    ensures { OnOk result (IsElement group.now shape.now out.old.items out.new.items) }
+    ensures { OnOk result (IsElement group.now y shape.now out.old.items out.new.items) }
 {
     let mut label = Vec::new(alloc);
     push_group(&mut label, group)?;
-    out.extend_from_slice(b"<g class=\"mark\"><title>")?;
+    push_start(out, group.place.column, y)?;
     push_escaped(out, &label)?;
     out.extend_from_slice(b"</title>")?;
     out.extend_from_slice(shape)?;
@@ -52,8 +65,14 @@ fn push_elements(
     for (index, group) in groups.iter().enumerate() {
         let top = lanes.tops.get(index).copied().unwrap_or(TOP);
         let mut shape = Vec::new(alloc);
-        push_glyph(alloc, &mut shape, &mut spot, top, group)?;
-        push_element(alloc, out, group, &shape)?;
+        push_glyph(
+            alloc,
+            &mut shape,
+            &mut spot,
+            room_behind(groups, index),
+            group,
+        )?;
+        push_element(alloc, out, top, group, &shape)?;
     }
     Ok(())
 }
@@ -79,19 +98,15 @@ fn phase_name(phases: u64, phase: u64) -> &'static [u8] {
 fn push_key(alloc: Global, out: &mut Vec<u8>, phases: u64) -> Result<(), NoMemory> {
     let mut x = WIDTH - 24 - 92 * phases.min(5);
     for phase in 0..phases.min(5) {
-        let class = numbered(alloc, b"p", phase)?;
+        let mut class = Vec::new(alloc);
+        class.push(b'p')?;
+        class.extend_from_slice(letter(phases, phase))?;
         out.extend_from_slice(b"<rect")?;
         crate::shape::push_class(out, &class)?;
         push_attribute(out, b"x", x)?;
         out.extend_from_slice(b" y=\"12\" width=\"14\" height=\"14\"/>")?;
         let name = phase_name(phases, phase);
-        push_text(
-            out,
-            x.saturating_add(7),
-            23,
-            b"c",
-            crate::glyph::letter(phases, phase),
-        )?;
+        push_text(out, x.saturating_add(7), 23, b"c", letter(phases, phase))?;
         push_text(out, x.saturating_add(18), 23, b"k", name)?;
         x = x.saturating_add(92);
     }
@@ -143,13 +158,14 @@ fn push_summary(
     marks: u64,
     groups: u64,
 ) -> Result<(), NoMemory> {
+    out.extend_from_slice(b"Loopers: ")?;
     push_number(out, report.loopers.len() as u64)?;
-    out.extend_from_slice(b" loopers with ")?;
+    out.extend_from_slice(b". Marks: ")?;
     push_number(out, marks)?;
-    out.extend_from_slice(b" marks at ")?;
+    out.extend_from_slice(b", at places: ")?;
     push_number(out, groups)?;
     out.extend_from_slice(
-        b" places: dispatches, frames, the callbacks that ran in them, and paints. Times are milliseconds of uptime. Each mark has its text as its title.",
+        b". Marks are dispatches, frames, the callbacks that ran in them, and paints. Times are milliseconds of uptime. Each mark has its text as its title.",
     )?;
     Ok(())
 }
@@ -171,7 +187,7 @@ fn push_opening(
     out.push(b' ')?;
     push_number(out, height)?;
     out.extend_from_slice(
-        b"\" role=\"img\" aria-labelledby=\"title desc\"><title id=\"title\">A run of the dashboard</title><desc id=\"desc\">",
+        b"\" role=\"graphics-document document\" aria-labelledby=\"title desc\"><title id=\"title\">A run of the dashboard</title><desc id=\"desc\">",
     )?;
     push_summary(out, report, marks, groups)?;
     out.extend_from_slice(b"</desc>\n")?;
@@ -209,9 +225,10 @@ pub fn svg_text(alloc: Global, report: &Report) -> Result<Vec<u8>, NoMemory>
     )?;
     push_ticks(alloc, &mut out, scale, lanes.next.saturating_sub(6))?;
     out.extend_from_slice(&lower)?;
+    out.extend_from_slice(b"<g transform=\"translate(150)\">\n")?;
     let frame = scale.pixels(scale.first.saturating_add(period));
     let spot = Spot::new(scale, frame, phases_of(report));
     push_elements(alloc, &mut out, &groups, &lanes, spot)?;
-    out.extend_from_slice(b"</svg>\n")?;
+    out.extend_from_slice(b"</g>\n</svg>\n")?;
     Ok(out)
 }

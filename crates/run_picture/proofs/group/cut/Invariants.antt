@@ -6,6 +6,6 @@ use Rattle.run_picture.proofs.group.cut.Given as goal
 abbrev pub invariant-loop-mark : goal.invariant-loop-mark
 invariant-loop-mark l = record {
   all : flat_map marks_of l.groups.items ++ l.current.marks ≡ take l.mark-index l.marks;
-  settled : AllByRecursion IsOfPlace l.groups.items;
-  current : IsOfPlace l.current;
+  settled : AllByRecursion (IsOfPlace l.scale) l.groups.items;
+  current : IsOfPlace l.scale l.current;
 }

@@ -6,8 +6,8 @@ use Rattle.run_picture.proofs.svg.push_elements.Goals as goal
 
 pub loop-index-preserved : goal.loop-index-preserved
 loop-index-preserved c =
-    element_more c.args.groups.now c.loop-index.index _ c.deref-in-loop-index.result.now c.args.out.now.items c.loop-index.out.items c.push_element.new.out.items c.loop-index-test.true c.loop-index.invariant
-    (subst (λ g. IsElement g c.deref-in-loop-index.result.now c.loop-index.out.items c.push_element.new.out.items) c.index-groups-index.is c.in_ok-push_element.ensures)
+    element_more c.args.groups.now c.loop-index.index _ c.unwrap_or-top.result c.deref-in-loop-index.result.now c.args.out.now.items c.loop-index.out.items c.push_element.new.out.items c.loop-index-test.true c.loop-index.invariant
+    (subst (λ g. IsElement g c.unwrap_or-top.result c.deref-in-loop-index.result.now c.loop-index.out.items c.push_element.new.out.items) c.index-groups-index.is c.in_ok-push_element.ensures)
 
 pub returns : goal.returns
 returns c =

@@ -7,11 +7,12 @@ use Rattle.run_picture.proofs.svg.svg_text.Goals as goal
 
 pub returns : goal.returns
 returns c = record {
+  scale = c.scale_of-scale.result;
   groups = c.in_ok-groups.groups.items;
-  background = c.extend_from_slice.new.self.items;
+  background = c.extend_from_slice-2.new.self.items;
   drawn = c.push_elements.new.out.items;
   marked = subst (λ ms. IsPermutation ms (flat_map marks_of c.in_ok-groups.groups.items)) c.in_ok-marks.ensures c.in_ok-groups.ensures.all;
   placed = c.in_ok-groups.ensures.places;
-  elements = subst (λ gs. AreElements gs c.extend_from_slice.new.self.items c.push_elements.new.out.items) c.deref-5.ensures.value c.in_ok-push_elements.ensures;
-  whole = c.in_ok-extend_from_slice-2.ensures.items;
+  elements = subst (λ gs. AreElements gs c.extend_from_slice-2.new.self.items c.push_elements.new.out.items) c.deref-5.ensures.value c.in_ok-push_elements.ensures;
+  whole = c.in_ok-extend_from_slice-3.ensures.items;
 }
