@@ -1,6 +1,7 @@
 //! The editions of the language, and the way from the first to the second.
 ghost use Rattle.std.specs.Prelude.{◌≡◌, ◌++◌, map, IfOk, OnOk};
 ghost use Rattle.dash_script.specs.Causes.{phase_count};
+ghost use Rattle.dash_script.specs.Reading.{HasText};
 ghost use Rattle.dash_script.specs.Editions.{block_from, command_from, line_from, phase_up, up};
 
 use crate::script::{Block, Command, Line, Script};
@@ -19,7 +20,8 @@ pub fn phase_count(edition: u32) -> u32
 /// phase 2 to phase 3, and those of the commit from phase 3 to phase 4. All else stays, and so does a script of edition 2.
 /// NoMemory where it found none. Editions are this project's profile.
 pub fn migrate(alloc: Global, script: &Script) -> Result<Script, NoMemory>
-    ensures { IfOk result (λ s. s ≡ up script.now) }
+    ensures up { IfOk result (λ s. s ≡ up script.now) }
+    ensures text { IfOk result (λ s. HasText script.now → HasText s) }
 {
     Ok(Script {
         edition: 2,
