@@ -194,7 +194,7 @@ module _ (s : Script) (q k n now : ℕ) (m : PostData) (es more : List Entry) (e
         ∙ one_more (is_run_then fs) a.frames d.ran.frame now (st.moments fs (prefix_trans parts.frames.view.seen parts'.frames.view.seen fs d.ran.grew begins) law) (d.ran.framed fs begins law).2;
     whole = λ fs begins law.
         ap (are_whole (phase_count s.edition) fs) adds.frames
-        ∙ one_more (is_whole 4 fs) a.frames d.ran.frame now (st.whole fs (prefix_trans parts.frames.view.seen parts'.frames.view.seen fs d.ran.grew begins) law) (d.ran.framed fs begins law).3;
+        ∙ one_more (is_whole (phase_count s.edition) fs) a.frames d.ran.frame now (st.whole fs (prefix_trans parts.frames.view.seen parts'.frames.view.seen fs d.ran.grew begins) law) (d.ran.framed fs begins law).3;
     ran = d.ran.asks ∙ ((λ i. st.ran i ++ asks_to_run (frames_after [] d.ran.frame now)) ∙ (runs_more a.frames d.ran.frame ∙ ap asks_to_run (sym adds.frames)));
     settled = refl;
     played = done.0;

@@ -2,7 +2,7 @@
 ghost use Rattle.std.specs.Prelude.{◌≡◌, ◌≢◌, ◌↔◌, List, IfOk, IfNone, IfSome, IsTrue, map, codes, Some, None, false, true};
 ghost use Rattle.clap.specs.Words.{app_of, found_of, kind_of, rows_of, subcommand_rows_of};
 ghost use Rattle.clap.specs.declared.builder.command.Command.TheViews.{out-Command};
-ghost use Rattle.dashboard_cli.specs.CommandLine.{dashboard_app, make_app, name_of, HasRows, IsFound};
+ghost use Rattle.dashboard_cli.specs.CommandLine.{dashboard_app, make_app, text_app, name_of, HasRows, IsFound};
 ghost use Rattle.dashboard_cli.specs.Words.{IsInRange, IsAsked, IsListed, IsSpelled, texts};
 
 use clap::error::ErrorKind;
