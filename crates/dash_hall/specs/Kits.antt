@@ -5,6 +5,7 @@ use Rattle.atomic_table.specs.Seated.{TableId}
 use Rattle.loop_model.specs.Base.{empty_base}
 use Rattle.loop_model.specs.Answers.{is_over}
 use Rattle.dash_script.specs.declared.script.Script.{Script}
+use Rattle.dash_script.specs.Causes.{phase_count}
 use Rattle.shared_queue.specs.Constants.{Constants}
 use Rattle.shared_queue.specs.Known.{Shared}
 use Rattle.looper_run.specs.Holding.{Sender}
@@ -51,9 +52,9 @@ abbrev pub queue_constants : Script → TableId → ℕ → Constants TableId
 queue_constants s pool looper =
     record { home = pool; looper = looper; setting = record { main = looper == 0; lockstep = true; senders = sender_count s } }
 
--- what stays the same in a looper's choreographer: each thread has a pass, the looper two and the controller one
+-- what stays the same in a looper's choreographer: it has the phases of the script's edition, and each thread has a pass, the looper two and the controller one
 abbrev pub frame_constants : Script → ℕ → FrameConstants
-frame_constants s looper = record { looper = looper; interval = s.period; phases = 4; passes = s.threads + 3 }
+frame_constants s looper = record { looper = looper; interval = s.period; phases = phase_count s.edition; passes = s.threads + 3 }
 
 abbrev pub queue_key : Shared TableId → Constants TableId
 queue_key q = q.constants

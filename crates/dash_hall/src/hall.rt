@@ -6,7 +6,7 @@ ghost use Rattle.dash_hall.specs.Dealing.{IsEmptyKit, EachGets, nothing, DealsPo
 
 use crate::kit::Kit;
 use choreographer::{Choreographer, FramePass};
-use dash_script::Script;
+use dash_script::{Script, phase_count};
 use loop_model::NoMemory;
 use loop_sources::{FdTable, IdleSet};
 use looper_run::Sources;
@@ -14,9 +14,6 @@ use message_pool::{Pool, PoolClaim, PoolPass};
 use shared_queue::{Poster, SharedQueue};
 use std::alloc::Global;
 use std::sync::Mutex;
-
-/// The number of frame phases: input, animation, traversal and commit (the callback types of AOSP's `Choreographer` but for insets).
-pub const PHASES: u32 = 4;
 
 /// The queue, the choreographer and the sources of each looper, by looper number, and the pool of all messages.
 #[derive(Drop)]
@@ -160,7 +157,7 @@ fn choreographer(
         alloc,
         looper,
         script.period,
-        PHASES,
+        phase_count(script.edition),
         script.threads + 3,
     )?;
     deal_passes(kits, script, looper, passes)?;

@@ -12,7 +12,7 @@ mod kit;
 
 pub use barriers::{quit, recycle_all};
 pub use calls::{QueueCall, perform_by};
-pub use hall::{Hall, PHASES, holder, open};
+pub use hall::{Hall, holder, open};
 pub use handlers::{Request, frame_handler, gauge_handler, handler_of, looper_of, make};
 pub use host::Host;
 pub use kit::Kit;

@@ -1,11 +1,13 @@
 -- A looper's place in its hall, and its parts.
-use Rattle.std.proofs.Common.{◌≡◌, ℕ, ◌+◌, ◌<◌, map, length, set, Some, refl, sym, ap, ◌∙◌, subst, arith}
+use Rattle.std.proofs.Common.{◌≡◌, ℕ, Bool, true, false, ◌+◌, ◌<◌, map, length, set, Some, refl, sym, ap, ◌∙◌, subst, arith}
 use Rattle.std.specs.List.{slice_get}
+use Rattle.std.specs.Prelude.{◌==◌, if◌then◌else◌}
 use Rattle.std.specs.Option.{option_map}
 use Rattle.std.proofs.lemmas.List.{length-map}
 use Rattle.std.proofs.lemmas.Option.{slice_get-map, slice_get_within, get_or_from_slice_get}
 use Rattle.atomic_table.specs.Seated.{TableId}
 use Rattle.dash_script.specs.declared.script.Script.{Script}
+use Rattle.dash_script.specs.Causes.{phase_count}
 use Rattle.shared_queue.specs.Known.{Shared, IsOf}
 use Rattle.looper_run.specs.Holding.{Sender, Holding, Workplace, workplace}
 use Rattle.looper_run.specs.Tests.{IsSameLooper}
@@ -45,11 +47,19 @@ module _ (s : Script) (hall : Hall) (n : ℕ) (l : IsLooperOf s hall n) where
       ap (λ (z : Frames). z.constants) (sym (get_or_from_slice_get hall.choreographers.items n c c at))
       ∙ choreographer_at s hall.choreographers.items l.is_hall.choreographers n c l.one
 
-  pub four_phases : (c : Frames) → slice_get hall.choreographers.items n ≡ Some c → c.constants.phases ≡ 4
-  four_phases c at = ap (λ k. k.phases) (frame_constants_are c at)
+  pub its_phases : (c : Frames) → slice_get hall.choreographers.items n ≡ Some c → c.constants.phases ≡ phase_count s.edition
+  its_phases c at = ap (λ k. k.phases) (frame_constants_are c at)
 
   pub its_period : (c : Frames) → slice_get hall.choreographers.items n ≡ Some c → c.constants.interval ≡ s.period
   its_period c at = ap (λ k. k.interval) (frame_constants_are c at)
+
+-- each edition has the phases up to 3
+pub up_to_three : (edition : ℕ) → 3 < phase_count edition
+up_to_three edition = go (edition == 2)
+  where
+    go : (b : Bool) → 3 < (if b then 5 else 4)
+    go true = omega arith
+    go false = omega arith
 
 pub parts_self : (a : Parts) → AreSameParts a a
 parts_self a = record { others = refl; frames = refl; client = refl }

@@ -46,9 +46,9 @@ unseen_without xs n within unseen = λ j d near. by_order j d near (cases_lt j n
 -- a looper that has done nothing stands at the first state
 pub stands_first : (s : Script) (q k : ℕ) (seen : List Entry) (acts : List Act) (parts : Parts) → seen ≡ [] → acts ≡ []
     → map standing parts.root.gauges.items ≡ replicate (length s.gauges) (record { value = 0; target = 0; animating = false }) → map fixed parts.root.gauges.items ≡ map (fixed_by s q) s.gauges
-    → parts.root.barrier ≡ None → parts.root.painted.items ≡ [] → AreUnseen parts.others.items → parts.fired.items ≡ replicate (length s.rules) 0 → parts.root.pass.view.own ≡ [] → parts.root.pass.view.turns ≡ 0 → parts.frames.view.own ≡ []
+    → parts.root.barrier ≡ None → parts.root.painted.items ≡ [] → parts.root.edition ≡ s.edition → AreUnseen parts.others.items → parts.fired.items ≡ replicate (length s.rules) 0 → parts.root.pass.view.own ≡ [] → parts.root.pass.view.turns ≡ 0 → parts.frames.view.own ≡ []
     → Stands s q k seen acts parts (first_looper s)
-stands_first s q k seen acts parts none still gauges lines barrier painted unseen fired unasked untaken unrun = record {
+stands_first s q k seen acts parts none still gauges lines barrier painted edition unseen fired unasked untaken unrun = record {
   led = λ fs begins law. subst (λ (xs : List Act). Lead s q seen fs (first_looper s) xs (first_looper s)) (sym still) refl;
   place = omega arith;
   moments = λ fs begins law. refl;
@@ -61,6 +61,7 @@ stands_first s q k seen acts parts none still gauges lines barrier painted unsee
       asked = ap asks_in unasked;
       turns = untaken;
       stands = record {
+        edition = edition;
         gauges = gauges;
         lines = lines;
         barrier = subst (λ (o : Option ℕ). IsBarrierOf [] None o) (sym barrier) tt;

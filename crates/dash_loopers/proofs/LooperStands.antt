@@ -18,6 +18,7 @@ use Rattle.loop_model.specs.declared.journal.Route.{Route}
 use Rattle.frame_phases.specs.declared.entry.FrameEntry.{FrameEntry}
 use Rattle.frame_phases.specs.Frames.{is_pulse, is_pulse_if_any}
 use Rattle.dash_script.specs.declared.script.Script.{Script}
+use Rattle.dash_script.specs.Causes.{phase_count}
 use Rattle.dash_script.specs.Reading.{HasText}
 use Rattle.looper_run.specs.Tests.{IsTake}
 use Rattle.loop_model.proofs.Prefixes.{prefix_trans, prefix_length}
@@ -63,7 +64,7 @@ module _ (s : Script) (q k : ℕ) where
         (by_stamp fs p.stamp p.is_pulse (Lead-entries s q es fs more (first_looper s) acts a (st.led fs (prefix_trans parts.frames.view.seen parts'.frames.view.seen fs p.grew begins) law)));
     place = (let at : (pulsed q p.stamp a).place ≡ a.place = placed p.stamp in let le = st.place in let longer = prefix_length parts.frames.view.seen parts'.frames.view.seen p.grew in omega (arith, at, le, longer));
     moments = λ fs begins law. ap (are_run_then fs) (ran p.stamp) ∙ st.moments fs (prefix_trans parts.frames.view.seen parts'.frames.view.seen fs p.grew begins) law;
-    whole = λ fs begins law. ap (are_whole 4 fs) (ran p.stamp) ∙ st.whole fs (prefix_trans parts.frames.view.seen parts'.frames.view.seen fs p.grew begins) law;
+    whole = λ fs begins law. ap (are_whole (phase_count s.edition) fs) (ran p.stamp) ∙ st.whole fs (prefix_trans parts.frames.view.seen parts'.frames.view.seen fs p.grew begins) law;
     ran = p.asks ∙ (st.ran ∙ ap asks_to_run (sym (ran p.stamp)));
     settled = painted p.stamp;
     played = p.plays text a st.played;
@@ -138,6 +139,7 @@ module _ (s : Script) (q k n now : ℕ) (es : List Entry) (e : Entry) (take : Is
       asked = p.shown.asked;
       turns = p.shown.turns;
       stands = subst (λ l. IsRootOf s q l (taken q n now frame a) parts.root) (sym (tokens_more (calls_in k es) e [] (ap token_in take.reply) ∙ append-nil (tokens_in (calls_in k es)))) (record {
+        edition = p.shown.stands.edition;
         gauges = p.shown.stands.gauges;
         lines = p.shown.stands.lines;
         barrier = p.shown.stands.barrier;
@@ -191,8 +193,8 @@ module _ (s : Script) (q k n now : ℕ) (m : PostData) (es more : List Entry) (e
         ap (are_run_then fs) adds.frames
         ∙ one_more (is_run_then fs) a.frames d.ran.frame now (st.moments fs (prefix_trans parts.frames.view.seen parts'.frames.view.seen fs d.ran.grew begins) law) (d.ran.framed fs begins law).2;
     whole = λ fs begins law.
-        ap (are_whole 4 fs) adds.frames
-        ∙ one_more (is_whole 4 fs) a.frames d.ran.frame now (st.whole fs (prefix_trans parts.frames.view.seen parts'.frames.view.seen fs d.ran.grew begins) law) (d.ran.framed fs begins law).3;
+        ap (are_whole (phase_count s.edition) fs) adds.frames
+        ∙ one_more (is_whole (phase_count s.edition) fs) a.frames d.ran.frame now (st.whole fs (prefix_trans parts.frames.view.seen parts'.frames.view.seen fs d.ran.grew begins) law) (d.ran.framed fs begins law).3;
     ran = d.ran.asks ∙ ((λ i. st.ran i ++ asks_to_run (frames_after [] d.ran.frame now)) ∙ (runs_more a.frames d.ran.frame ∙ ap asks_to_run (sym adds.frames)));
     settled = refl;
     played = done.0;

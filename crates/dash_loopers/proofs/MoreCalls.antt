@@ -76,7 +76,7 @@ played_call s q call timing p p' parts looks m a is =
         calls = subst (λ (l : List Sent). AreFor IsSent [] l (made ++ m.entry ∷ [])) (sym (sent_here q a.sent x refl)) (AreFor-snoc IsSent (sent_on q a.sent) x made m.entry is.shown.calls (record { call = m.makes; reply = tt }));
         asked = is.shown.asked;
         turns = is.shown.turns;
-        stands = subst (λ (l : List ℕ). IsRootOf s q l (with_call q call timing a) parts.root) tokens (record { gauges = root.gauges; lines = root.lines; barrier = root.barrier; barriers = root.barriers; painted = root.painted });
+        stands = subst (λ (l : List ℕ). IsRootOf s q l (with_call q call timing a) parts.root) tokens (record { edition = root.edition; gauges = root.gauges; lines = root.lines; barrier = root.barrier; barriers = root.barriers; painted = root.painted });
       };
       elsewhere = λ k j d place near. subst (λ (l : List Sent). AreFor IsSent [] l (own (slice_index_or parts.others.items j d))) (sym (sent_else k a.sent x (without_self q k j place))) (is.elsewhere k j d place near);
       fired = is.fired;

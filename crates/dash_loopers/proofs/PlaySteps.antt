@@ -13,6 +13,7 @@ use Rattle.loop_model.specs.declared.entry.Entry.{Entry}
 use Rattle.loop_model.specs.declared.journal.Act.{Act}
 use Rattle.loop_model.specs.declared.journal.Act.TheVariants.{Vsync}
 use Rattle.dash_script.specs.declared.script.Script.{Script}
+use Rattle.dash_script.specs.Causes.{phase_count}
 use Rattle.message_pool.specs.Passes.{Tally}
 use Rattle.looper_run.specs.declared.dispatcher.Did.{Did}
 use Rattle.looper_run.specs.declared.dispatcher.Did.TheVariants.{Yes, No, NoMemory}
@@ -248,11 +249,11 @@ set_hosted (Err e) s q now now' g target p p0 made' parts parts' shows at same o
 
 -- a frame ran by such a host
 pub frame_hosted : {E : Type 0} (r : Result Unit E) (s : Script) (q now now' interval phases : ℕ) (p p0 p' : Sender) (parts parts' : Parts)
-    → OnOk r ((ids : List ℕ) × RanFrame interval phases now' parts.frames parts'.frames ids × FrameShows now' ids p0 parts.root p' parts'.root) → interval ≡ s.period → phases ≡ 4 → now' ≡ now → p0 ≡ p → parts'.others ≡ parts.others → parts'.fired ≡ parts.fired
-    → OnOk r ((ids : List ℕ) × RanFrame s.period 4 now parts.frames parts'.frames ids × Plays s q (λ a. fold (callback_ran s q now) a ids) (calls_of p) parts (calls_of p') parts')
+    → OnOk r ((ids : List ℕ) × RanFrame interval phases now' parts.frames parts'.frames ids × FrameShows now' ids p0 parts.root p' parts'.root) → interval ≡ s.period → phases ≡ phase_count s.edition → now' ≡ now → p0 ≡ p → parts'.others ≡ parts.others → parts'.fired ≡ parts.fired
+    → OnOk r ((ids : List ℕ) × RanFrame s.period (phase_count s.edition) now parts.frames parts'.frames ids × Plays s q (λ a. fold (callback_ran s q now) a ids) (calls_of p) parts (calls_of p') parts')
 frame_hosted (Ok u) s q now now' interval phases p p0 p' parts parts' (ids, ran, shows) period four at same others fired = (
   ids,
-  subst (λ (n : ℕ). RanFrame s.period 4 n parts.frames parts'.frames ids) at (subst (λ (n : ℕ). RanFrame s.period n now' parts.frames parts'.frames ids) four (subst (λ (n : ℕ). RanFrame n phases now' parts.frames parts'.frames ids) period ran)),
+  subst (λ (n : ℕ). RanFrame s.period (phase_count s.edition) n parts.frames parts'.frames ids) at (subst (λ (n : ℕ). RanFrame s.period n now' parts.frames parts'.frames ids) four (subst (λ (n : ℕ). RanFrame n phases now' parts.frames parts'.frames ids) period ran)),
   played_shown s q (λ a. fold (callback_ran s q now) a ids) (calls_of p) (calls_of p') parts parts'
       (subst (λ (n : ℕ). Shows s q (λ a. fold (callback_ran s q n) a ids) (calls_of p) parts.root (calls_of p') parts'.root) at (subst (λ (z : Sender). Shows s q (λ a. fold (callback_ran s q now') a ids) (calls_of z) parts.root (calls_of p') parts'.root) same (shows s q)))
       (stays_ran s q now ids) others fired,
@@ -297,14 +298,14 @@ delivered_plain s q now m a none other nothing =
     if_other (is_some m.callback) (m.handler == frame_handler q) a _ _ (ap is_some none) (ne_eqb m.handler (frame_handler q) other) ∙ ap (λ (o : Option ℕ). option_map_or (λ g. object_set s q now g m.arg a) o (reacted s now m a)) nothing
 
 -- what a frame painted was told, and is painted no more
-pub frame_delivered : (s : Script) (q now : ℕ) (m : PostData) (made made' : List Entry) (parts mid parts' : Parts) (acts acts0 acts' : List Act) (ids : List ℕ) → starts_frame q m ≡ true → RanFrame s.period 4 now parts.frames mid.frames ids
+pub frame_delivered : (s : Script) (q now : ℕ) (m : PostData) (made made' : List Entry) (parts mid parts' : Parts) (acts acts0 acts' : List Act) (ids : List ℕ) → starts_frame q m ≡ true → RanFrame s.period (phase_count s.edition) now parts.frames mid.frames ids
     → Plays s q (λ a. fold (callback_ran s q now) a ids) made parts made' mid → acts0 ≡ acts → acts' ≡ acts0 ++ map paint_of mid.root.painted.items → parts'.frames ≡ mid.frames → parts'.others ≡ mid.others → parts'.fired ≡ mid.fired
-    → parts'.root.gauges ≡ mid.root.gauges → parts'.root.barrier ≡ mid.root.barrier → parts'.root.pass ≡ mid.root.pass → parts'.root.painted.items ≡ [] → Delivers s q now m made made' parts parts' acts acts'
-frame_delivered s q now m made made' parts mid parts' acts acts0 acts' ids starts ran plays same told frames others fired gauges barrier pass none = record {
+    → parts'.root.gauges ≡ mid.root.gauges → parts'.root.barrier ≡ mid.root.barrier → parts'.root.pass ≡ mid.root.pass → parts'.root.edition ≡ mid.root.edition → parts'.root.painted.items ≡ [] → Delivers s q now m made made' parts parts' acts acts'
+frame_delivered s q now m made made' parts mid parts' acts acts0 acts' ids starts ran plays same told frames others fired gauges barrier pass edition none = record {
   ids = ids;
   ran = record {
     frame = ran.frame;
-    framed = subst (λ (f : Pass). IsFrameBy s.period 4 now parts.frames f ran.frame ids) (sym frames) ran.framed;
+    framed = subst (λ (f : Pass). IsFrameBy s.period (phase_count s.edition) now parts.frames f ran.frame ids) (sym frames) ran.framed;
     within = subst (λ (f : Pass). place_after 0 ran.frame ≤ length f.view.seen) (sym frames) ran.within;
     grew = subst (λ (f : Pass). IsPrefix parts.frames.view.seen f.view.seen) (sym frames) ran.grew;
     asks = ap asks_of frames ∙ ran.asks;
@@ -321,6 +322,7 @@ frame_delivered s q now m made made' parts mid parts' acts acts0 acts' ids start
             asked = ap asks_of pass ∙ done.shown.asked;
             turns = ap (λ (f : Pass). f.view.turns) pass ∙ done.shown.turns;
             stands = record {
+              edition = edition ∙ root.edition;
               gauges = ap (λ v. map standing v.items) gauges ∙ root.gauges;
               lines = ap (λ v. map fixed v.items) gauges ∙ root.lines;
               barrier = subst (IsBarrierOf (tokens_in made') b.barrier) (sym barrier) root.barrier;

@@ -65,7 +65,7 @@ none_for k queue xs call timing es other h =
 
 -- a view root stands as it stood, whatever was sent
 pub root_sent : (s : Script) (q : ℕ) (tokens : List ℕ) (a : Looper) (xs : List Sent) (root : ViewRoot) → IsRootOf s q tokens a root → IsRootOf s q tokens (record a { sent = xs }) root
-root_sent s q tokens a xs root h = record { gauges = h.gauges; lines = h.lines; barrier = h.barrier; barriers = h.barriers; painted = h.painted }
+root_sent s q tokens a xs root h = record { edition = h.edition; gauges = h.gauges; lines = h.lines; barrier = h.barrier; barriers = h.barriers; painted = h.painted }
 
 -- a call on the own queue
 pub called_here : (s : Script) (q : ℕ) (h : Handler) (r : Request) (timing : Timing) (p p' : Sender) (parts : Parts) → Makes p p' (call_by h r) []
@@ -246,7 +246,7 @@ counted s q place n made parts parts' a fired same is = record {
     calls = is.shown.calls;
     asked = is.shown.asked;
     turns = is.shown.turns;
-    stands = record { gauges = is.shown.stands.gauges; lines = is.shown.stands.lines; barrier = is.shown.stands.barrier; barriers = is.shown.stands.barriers; painted = is.shown.stands.painted };
+    stands = record { edition = is.shown.stands.edition; gauges = is.shown.stands.gauges; lines = is.shown.stands.lines; barrier = is.shown.stands.barrier; barriers = is.shown.stands.barriers; painted = is.shown.stands.painted };
   });
   elsewhere = subst (λ (l : List Sender). AreMadeElsewhere q l (record a { fired = slice_set a.fired place (n + 1) })) (λ i. (sym same.0 i).items) is.elsewhere;
   fired = fired ∙ ap (λ (l : List ℕ). slice_set l place (n + 1)) is.fired;

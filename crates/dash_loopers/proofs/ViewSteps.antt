@@ -75,7 +75,7 @@ barrier_posted s q now p p' token root a m h =
       calls = sent_more q now (Asks (Barrier 0)) b made m.entry h.calls m.makes;
       asked = h.asked;
       turns = h.turns;
-      stands = record { gauges = h.stands.gauges; lines = h.stands.lines; barrier = got; barriers = more; painted = h.stands.painted };
+      stands = record { edition = h.stands.edition; gauges = h.stands.gauges; lines = h.stands.lines; barrier = got; barriers = more; painted = h.stands.painted };
     })
 
 -- a frame callback was posted for now
@@ -89,7 +89,7 @@ frame_posted s q h u phase id p p' root pass a posts shown =
           let had = shown.turns in
           let one = posts.turn in
           omega (arith, had, one, length-append a.posted (Posts phase (frame_due u 0) id None ∷ [])));
-      stands = record { gauges = shown.stands.gauges; lines = shown.stands.lines; barrier = shown.stands.barrier; barriers = shown.stands.barriers; painted = shown.stands.painted };
+      stands = record { edition = shown.stands.edition; gauges = shown.stands.gauges; lines = shown.stands.lines; barrier = shown.stands.barrier; barriers = shown.stands.barriers; painted = shown.stands.painted };
     })
 
 -- the same by what a host's posting answers
@@ -99,17 +99,14 @@ frame_placed s q h h' u phase id p p' t t' root pass same on placed text a shown
     let by : PlacesBy root.pass pass u (sends_by h p) (sends_by h p') phase id 0 = subst (λ (n : ℕ). PlacesBy root.pass pass u (sends_by h p) (sends_by n p') phase id 0) same placed in
     frame_posted s q h u phase id p p' root pass a (posts_frame_by h u phase id 0 p p' t t' root.pass pass on by) shown
 
-phase_is : (s : Script) → s.edition ≡ 1 → traversal_phase s ≡ 2
-phase_is s is = ap (λ (n : ℕ). if n == 2 then 3 else 2) is
-
 -- a traversal is requested while none is under way
-pub requested_anew : (s : Script) (q now now' : ℕ) (p p' : Sender) (token : ℕ) (root : ViewRoot) (made : List Entry) (root' : ViewRoot) → is_some root.barrier ≡ false → Makes p p' (Barrier 0) (token ∷ []) → now' ≡ now
-    → Shows s q (and_posts_frame now' 2 1000016) (calls_of p') (record root { barrier = Some token }) made root' → Shows s q (traversal_requested s q now) (calls_of p) root made root'
-requested_anew s q now now' p p' token root made root' none m same rest text a h =
+pub requested_anew : (s : Script) (q now now' phase : ℕ) (p p' : Sender) (token : ℕ) (root : ViewRoot) (made : List Entry) (root' : ViewRoot) → is_some root.barrier ≡ false → Makes p p' (Barrier 0) (token ∷ []) → now' ≡ now → (root.edition ≡ s.edition → phase ≡ traversal_phase s)
+    → Shows s q (and_posts_frame now' phase 1000016) (calls_of p') (record root { barrier = Some token }) made root' → Shows s q (traversal_requested s q now) (calls_of p) root made root'
+requested_anew s q now now' phase p p' token root made root' none m same of_edition rest text a h =
     let b = and_sends q now (Asks (Barrier 0)) (record a { barrier = Some a.barriers; barriers = a.barriers + 1 }) in
     let still : is_some a.barrier ≡ false = barrier_alike (tokens_in (calls_of p)) a.barrier root.barrier h.stands.barrier ∙ none in
     subst (λ (t : Bool). IsShown s q made root' (if t then a else and_posts_frame now (traversal_phase s) traversal_id b)) (sym still)
-    (subst (λ (n : ℕ). IsShown s q made root' (and_posts_frame now n traversal_id b)) (sym (phase_is s text.edition)) (subst (λ (n : ℕ). IsShown s q made root' (and_posts_frame n 2 traversal_id b)) same (rest text b (barrier_posted s q now p p' token root a m h))))
+    (subst (λ (n : ℕ). IsShown s q made root' (and_posts_frame now n traversal_id b)) (of_edition h.stands.edition) (subst (λ (n : ℕ). IsShown s q made root' (and_posts_frame n phase traversal_id b)) same (rest text b (barrier_posted s q now p p' token root a m h))))
 
 -- ---- gauges
 
@@ -141,7 +138,7 @@ gauge_of s q g tokens v root a at h =
 -- a gauge was put in the place of one that is as much the looper's own and has its step
 pub record IsPut (g : ℕ) (w : ViewGauge) (root root' : ViewRoot) : Type 0 where
   pub gauges : root'.gauges.items ≡ slice_set root.gauges.items g w
-  pub same : (root'.barrier ≡ root.barrier) × (root'.pass ≡ root.pass) × (root'.painted ≡ root.painted)
+  pub same : (root'.barrier ≡ root.barrier) × (root'.pass ≡ root.pass) × (root'.painted ≡ root.painted) × (root'.edition ≡ root.edition)
 
 pub gauge_put : (s : Script) (q g : ℕ) (v w : ViewGauge) (made : List Entry) (root root' : ViewRoot) (a : Looper) → IsPut g w root root' → slice_get root.gauges.items g ≡ Some v → fixed w ≡ fixed v
     → IsShown s q made root a → IsShown s q made root' (with_gauge g (standing w) a)
@@ -150,6 +147,7 @@ gauge_put s q g v w made root root' a put at alike h = record {
   asked = ap asks_of put.same.1 ∙ h.asked;
   turns = ap (λ (f : Pass). f.view.turns) put.same.1 ∙ h.turns;
   stands = record {
+    edition = put.same.3 ∙ h.stands.edition;
     gauges = ap (map standing) put.gauges ∙ (map-set standing root.gauges.items g w ∙ ap (λ (l : List Gauge). slice_set l g (standing w)) h.stands.gauges);
     lines = ap (map fixed) put.gauges ∙ (map-set_same fixed root.gauges.items g w v (alike ∙ ap fixed (sym (get_or_from_slice_get root.gauges.items g v v at))) ∙ h.stands.lines);
     barrier = subst (λ (o : Option ℕ). IsBarrierOf (tokens_in made) a.barrier o) (sym put.same.0) h.stands.barrier;
@@ -360,6 +358,7 @@ pub record HasPainted (root root' : ViewRoot) : Type 0 where
   pub gauges : root'.gauges ≡ root.gauges
   pub barrier : root'.barrier ≡ None
   pub pass : root'.pass ≡ root.pass
+  pub edition : root'.edition ≡ root.edition
 
 pub traverses : (s : Script) (q now : ℕ) (p p' : Sender) (token : ℕ) (root root' : ViewRoot) → root.barrier ≡ Some token → Makes p p' (Unbarrier token) [] → HasPainted root root'
     → (HasText s → map fixed root.gauges.items ≡ map (fixed_by s q) s.gauges → map paint_of root'.painted.items ≡ map paint_of root.painted.items ++ paints s q (map standing root.gauges.items))
@@ -380,6 +379,7 @@ traverses s q now p p' token root root' has m left told text a h =
       asked = ap asks_of left.pass ∙ h.asked;
       turns = ap (λ (f : Pass). f.view.turns) left.pass ∙ h.turns;
       stands = record {
+        edition = left.edition ∙ h.stands.edition;
         gauges = ap (λ (x : Vec ViewGauge Global). map standing x.items) left.gauges ∙ h.stands.gauges;
         lines = ap (λ (x : Vec ViewGauge Global). map fixed x.items) left.gauges ∙ h.stands.lines;
         barrier = subst (IsBarrierOf (tokens_in (made ++ m.entry ∷ [])) None) (sym left.barrier) tt;

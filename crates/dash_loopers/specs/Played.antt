@@ -16,6 +16,7 @@ use Rattle.frame_phases.specs.Frames.{lawful, is_pulse_if_any}
 use Rattle.dash_script.specs.declared.script.GaugeLine.{GaugeLine}
 use Rattle.dash_script.specs.declared.script.Rule.{Rule}
 use Rattle.dash_script.specs.declared.script.Script.{Script}
+use Rattle.dash_script.specs.Causes.{phase_count}
 use Rattle.dash_script.specs.Reading.{HasText}
 use Rattle.looper_run.specs.Holding.{Sender}
 use Rattle.choreographer.specs.Known.{Known as Pass}
@@ -72,6 +73,7 @@ paint_of_gauge (g, v) = if v.own then Paint g v.value ∷ [] else []
 
 -- the view root of looper q stands as the state says, where the looper's barriers were answered these tokens
 pub record IsRootOf (s : Script) (q : ℕ) (tokens : List ℕ) (a : Looper) (root : ViewRoot) : Type 0 where
+  pub edition : root.edition ≡ s.edition
   pub gauges : map standing root.gauges.items ≡ a.gauges
   pub lines : map fixed root.gauges.items ≡ map (fixed_by s q) s.gauges
   pub barrier : IsBarrierOf tokens a.barrier root.barrier
@@ -155,7 +157,7 @@ pub record RanFrame (interval phases now : ℕ) (before after : Pass) (ids : Lis
 -- a message was delivered: its frame, where it began one, ran, and what was painted is told
 pub record Delivers (s : Script) (q now : ℕ) (m : PostData) (made made' : List Entry) (parts parts' : Parts) (acts acts' : List Act) : Type 0 where
   pub ids : List ℕ
-  pub ran : RanFrame s.period 4 now parts.frames parts'.frames ids
+  pub ran : RanFrame s.period (phase_count s.edition) now parts.frames parts'.frames ids
   pub starts : (not (is_some ran.frame) || starts_frame q m) ≡ true
   pub plays : HasText s → (a : Looper) → a.painted ≡ [] → IsPlayed s q made parts a
       → IsPlayed s q made' parts' (record (delivered s q now ids m a) { painted = [] }) × (acts' ≡ acts ++ (delivered s q now ids m a).painted)
@@ -195,10 +197,10 @@ pub record Pulses (s : Script) (q now : ℕ) (made made' : List Entry) (parts pa
 
 -- the looper's acts lead to this state, by whatever its frame record comes to, each frame that they ran started at the time of its dispatch and took all phases then, its own pass asked for these frames, in order and for nothing else, and all that the state says is so
 pub record Stands (s : Script) (q sender : ℕ) (es : List Entry) (acts : List Act) (parts : Parts) (a : Looper) : Type 0 where
-  pub led : (fs : List FrameEntry) → IsPrefix parts.frames.view.seen fs → lawful s.period 4 fs ≡ true → Lead s q es fs (first_looper s) acts a
+  pub led : (fs : List FrameEntry) → IsPrefix parts.frames.view.seen fs → lawful s.period (phase_count s.edition) fs ≡ true → Lead s q es fs (first_looper s) acts a
   pub place : a.place ≤ length parts.frames.view.seen
-  pub moments : (fs : List FrameEntry) → IsPrefix parts.frames.view.seen fs → lawful s.period 4 fs ≡ true → are_run_then fs a.frames ≡ true
-  pub whole : (fs : List FrameEntry) → IsPrefix parts.frames.view.seen fs → lawful s.period 4 fs ≡ true → are_whole 4 fs a.frames ≡ true
+  pub moments : (fs : List FrameEntry) → IsPrefix parts.frames.view.seen fs → lawful s.period (phase_count s.edition) fs ≡ true → are_run_then fs a.frames ≡ true
+  pub whole : (fs : List FrameEntry) → IsPrefix parts.frames.view.seen fs → lawful s.period (phase_count s.edition) fs ≡ true → are_whole (phase_count s.edition) fs a.frames ≡ true
   pub ran : asks_of parts.frames ≡ asks_to_run a.frames
   pub settled : a.painted ≡ []
   pub played : IsPlayed s q (calls_in sender es) parts a
@@ -240,10 +242,10 @@ HasPlayed s now before after = is_given_up after.last ≡ false → HasText s �
 
 -- where a looper stood, told by its journal and what it worked with
 pub record HasLeft (s : Script) (q : ℕ) (j : Journal) (kit : Kit) (a : Looper) : Type 0 where
-  pub led : (d : Sender) (p : Pass) (fs : List FrameEntry) → IsPrefix (slice_index_or kit.frames.items 0 p).view.seen fs → lawful s.period 4 fs ≡ true
+  pub led : (d : Sender) (p : Pass) (fs : List FrameEntry) → IsPrefix (slice_index_or kit.frames.items 0 p).view.seen fs → lawful s.period (phase_count s.edition) fs ≡ true
       → Lead s q (slice_index_or kit.posters.items q d).view.seen fs (first_looper s) j.acts a
-  pub moments : (p : Pass) (fs : List FrameEntry) → IsPrefix (slice_index_or kit.frames.items 0 p).view.seen fs → lawful s.period 4 fs ≡ true → are_run_then fs a.frames ≡ true
-  pub whole : (p : Pass) (fs : List FrameEntry) → IsPrefix (slice_index_or kit.frames.items 0 p).view.seen fs → lawful s.period 4 fs ≡ true → are_whole 4 fs a.frames ≡ true
+  pub moments : (p : Pass) (fs : List FrameEntry) → IsPrefix (slice_index_or kit.frames.items 0 p).view.seen fs → lawful s.period (phase_count s.edition) fs ≡ true → are_run_then fs a.frames ≡ true
+  pub whole : (p : Pass) (fs : List FrameEntry) → IsPrefix (slice_index_or kit.frames.items 0 p).view.seen fs → lawful s.period (phase_count s.edition) fs ≡ true → are_whole (phase_count s.edition) fs a.frames ≡ true
   pub settled : a.painted ≡ []
   pub calls : (d : Sender) → AreFor IsSent [] (sent_on q a.sent) (calls_of (slice_index_or kit.posters.items q d))
   pub elsewhere : (k : ℕ) (d : Sender) → k ≢ q → k < length kit.posters.items → AreFor IsSent [] (sent_on k a.sent) (own (slice_index_or kit.posters.items k d))

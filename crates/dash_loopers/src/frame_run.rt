@@ -32,7 +32,7 @@ pub(crate) struct FrameRun<'a> {
 }
 
 impl<'a, 'b, R: Wait> FrameClient<Host<'b, R>> for FrameRun<'a> {
-    ghost Serves = { λ l c. IsOf l.root.now.pass c × (2 < c.constants.phases) };
+    ghost Serves = { λ l c. IsOf l.root.now.pass c × (3 < c.constants.phases) };
 
     ghost Origin = { FrameOwner };
 
@@ -71,7 +71,7 @@ impl ViewRoot {
     ) -> Result<(), NoMemory>
         requires ready { IsHost (origin_of host.old.queue.now host.old.pool.now host.old.poster.ghost_name host.old.pass.ghost_name host.old.began.now.value host.old.pass_began.now.value host.old.handler.id host.old.now) host.old.poster.now host.old.pass.now }
         requires pass { IsOf pass.old c.now }
-        requires root { IsOf self.old.pass c.now × (2 < c.now.constants.phases) }
+        requires root { IsOf self.old.pass c.now × (3 < c.now.constants.phases) }
         ensures ready { IsHost (origin_of host.new.queue.now host.new.pool.now host.new.poster.ghost_name host.new.pass.ghost_name host.new.began.now.value host.new.pass_began.now.value host.new.handler.id host.new.now) host.new.poster.now host.new.pass.now }
         ensures origin { origin_of host.new.queue.now host.new.pool.now host.new.poster.ghost_name host.new.pass.ghost_name host.new.began.now.value host.new.pass_began.now.value host.new.handler.id host.new.now ≡ origin_of host.old.queue.now host.old.pool.now host.old.poster.ghost_name host.old.pass.ghost_name host.old.began.now.value host.old.pass_began.now.value host.old.handler.id host.old.now }
         ensures pass { frame_badge_of pass.new ≡ frame_badge_of pass.old }

@@ -192,6 +192,7 @@ impl StageLooper {
             passed: _,
         } = parts;
         let ViewRoot {
+            edition: _,
             gauges: _,
             barrier: _,
             pass: client,

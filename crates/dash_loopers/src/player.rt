@@ -17,6 +17,7 @@ ghost use Rattle.dash_loopers.specs.Loopers.{ArePartsOf, IsPlaceOf, IsLooperOf};
 ghost use Rattle.dash_loopers.specs.Players.{Owner, ServesAt, AreSameParts, PlaceWithout};
 ghost use Rattle.dash_hall.specs.Growth.{Makes};
 ghost use Rattle.dash_loopers.specs.declared.player.Parts.{Parts as PartsData};
+ghost use Rattle.dash_script.specs.Causes.{phase_count};
 ghost use Rattle.dash_script.specs.Reading.{HasText};
 ghost use Rattle.dash_hall.specs.Requests.{call_by};
 ghost use Rattle.dash_loopers.specs.Played.{calls_of, FiresAt, Plays, DeliversPulse, Delivers, RanFrame, Pulses, IsPlaying, rule_met, with_call, paint_of};
@@ -33,8 +34,8 @@ ghost use Rattle.choreographer.specs.Calls.{stamp_in};
 use crate::looper::StageLooper;
 use crate::view_root::{Painted, ViewRoot};
 use choreographer::{Choreographer, FramePass, HostSent, Pulse};
-use dash_hall::{Hall, Host, PHASES, Request, frame_handler, handler_of, looper_of, make};
-use dash_script::{Rule, Script};
+use dash_hall::{Hall, Host, Request, frame_handler, handler_of, looper_of, make};
+use dash_script::{Rule, Script, phase_count};
 use handler_post::{Handler, Way};
 use loop_io::Gate;
 use loop_model::{Act, Journal, NoMemory, Post};
@@ -232,7 +233,7 @@ impl<'a, R: Wait> Place<'a, R> {
         ensures own { IsSameOwn own.old own.new }
         ensures lent { IsLent (held own.old) (held own.new) }
         ensures rung { own.new.poster.now.view.rung ≡ own.old.poster.now.view.rung }
-        ensures ran { OnOk result ((ids : List ℕ) × RanFrame self.now.script.now.period 4 now parts.old.frames parts.new.frames ids
+        ensures ran { OnOk result ((ids : List ℕ) × RanFrame self.now.script.now.period (phase_count self.now.script.now.edition) now parts.old.frames parts.new.frames ids
             × Plays self.now.script.now self.now.looper (λ a. fold (callback_ran self.now.script.now self.now.looper now) a ids) (calls_of own.old.poster.now) parts.old (calls_of own.new.poster.now) parts.new) }
         ensures acts { own.new.journal.now.acts ≡ own.old.journal.now.acts }
     {
@@ -272,7 +273,8 @@ impl<'a, R: Wait> Place<'a, R> {
         ensures asks { asks_of parts.new.frames ≡ asks_of parts.old.frames }
         ensures calls { calls_of own.new.poster.now ≡ calls_of own.old.poster.now }
     {
-        if phase >= PHASES {
+        let phases = phase_count(self.script.edition);
+        if phase >= phases {
             return;
         }
         let began = Snapshot::of(&*own.poster);

@@ -8,6 +8,7 @@ ghost use Rattle.dash_hall.specs.Kits.{FrameBadge, frame_badge_of};
 ghost use Rattle.dash_loopers.specs.Played.{calls_of, standing, fixed, fixed_by, paint_of, paint_of_gauge, Shows};
 ghost use Rattle.dash_script.specs.declared.script.Script.{Script as ScriptData};
 ghost use Rattle.dash_script.specs.Reading.{HasText};
+ghost use Rattle.run_model.specs.Senders.{traversal_phase};
 ghost use Rattle.run_model.specs.Loopers.{object_set, traversal_requested, animation_ran, traversal_ran, callback_ran, and_posts_frame, paints, moved as moved_by};
 
 use choreographer::{Choreographer, FramePass};
@@ -22,6 +23,9 @@ const ANIMATION: u32 = 1;
 
 /// The phase of traversals.
 const TRAVERSAL: u32 = 2;
+
+/// The phase of traversals in edition 2, where insets animations stand before them.
+const TRAVERSAL_BEHIND_INSETS: u32 = 3;
 
 /// The callback of gauge 0's animation; the other gauges' follow.
 const FIRST_ANIMATION: u64 = 1_000_000;
@@ -51,6 +55,8 @@ pub(crate) struct Painted {
 /// stands in the looper's queue, as AOSP's `ViewRootImpl` has it. It posts frame callbacks by a pass of its own.
 #[derive(Drop)]
 pub struct ViewRoot {
+    /// The edition of the script.
+    pub(crate) edition: u32,
     pub(crate) gauges: Vec<Gauge>,
     pub(crate) barrier: Option<u64>,
     pub pass: FramePass,
@@ -67,7 +73,7 @@ impl ViewRoot {
     ) -> Result<ViewRoot, NoMemory>
         ensures pass { IfOk result (λ v. v.pass ≡ pass) }
         ensures gauges { IfOk result (λ v. (map standing v.gauges.items ≡ replicate (length script.now.gauges) (record { value = 0; target = 0; animating = false })) × (map fixed v.gauges.items ≡ map (fixed_by script.now looper) script.now.gauges)) }
-        ensures rest { IfOk result (λ v. (v.barrier ≡ None) × (v.painted.items ≡ [])) }
+        ensures rest { IfOk result (λ v. (v.barrier ≡ None) × (v.painted.items ≡ []) × (v.edition ≡ script.now.edition)) }
     {
         let mut gauges = Vec::new(alloc);
         for line in script.gauges.as_slice() {
@@ -80,6 +86,7 @@ impl ViewRoot {
             })?;
         }
         Ok(ViewRoot {
+            edition: script.edition,
             gauges,
             barrier: None,
             pass,
@@ -96,7 +103,7 @@ impl ViewRoot {
         target: u32,
     ) -> Result<(), NoMemory>
         requires ready { IsHost (origin_of host.old.queue.now host.old.pool.now host.old.poster.ghost_name host.old.pass.ghost_name host.old.began.now.value host.old.pass_began.now.value host.old.handler.id host.old.now) host.old.poster.now host.old.pass.now }
-        requires pass { IsOf self.old.pass c.now × (TRAVERSAL < c.now.constants.phases) }
+        requires pass { IsOf self.old.pass c.now × (3 < c.now.constants.phases) }
         ensures ready { IsHost (origin_of host.new.queue.now host.new.pool.now host.new.poster.ghost_name host.new.pass.ghost_name host.new.began.now.value host.new.pass_began.now.value host.new.handler.id host.new.now) host.new.poster.now host.new.pass.now }
         ensures origin { origin_of host.new.queue.now host.new.pool.now host.new.poster.ghost_name host.new.pass.ghost_name host.new.began.now.value host.new.pass_began.now.value host.new.handler.id host.new.now ≡ origin_of host.old.queue.now host.old.pool.now host.old.poster.ghost_name host.old.pass.ghost_name host.old.began.now.value host.old.pass_began.now.value host.old.handler.id host.old.now }
         ensures pass { frame_badge_of self.new.pass ≡ frame_badge_of self.old.pass }
@@ -135,9 +142,21 @@ impl ViewRoot {
     fn put(&mut self, gauge: u64, x: Gauge)
         requires { gauge < length self.old.gauges.items }
         ensures gauges { self.new.gauges.items ≡ slice_set self.old.gauges.items gauge x }
-        ensures same { (self.new.barrier ≡ self.old.barrier) × (self.new.pass ≡ self.old.pass) × (self.new.painted ≡ self.old.painted) }
+        ensures same { (self.new.barrier ≡ self.old.barrier) × (self.new.pass ≡ self.old.pass) × (self.new.painted ≡ self.old.painted) × (self.new.edition ≡ self.old.edition) }
     {
         self.gauges[gauge as usize] = x;
+    }
+
+    /// The phase of the looper's traversals.
+    fn traversal(&self) -> u32
+        ensures phase { (s : ScriptData) → self.now.edition ≡ s.edition → result ≡ traversal_phase s }
+        ensures few { result ≤ 3 }
+    {
+        if self.edition == 2 {
+            TRAVERSAL_BEHIND_INSETS
+        } else {
+            TRAVERSAL
+        }
     }
 
     /// Posts a barrier and the traversal's callback, unless a traversal is under way.
@@ -147,7 +166,7 @@ impl ViewRoot {
         host: &mut Host<R>,
     ) -> Result<(), NoMemory>
         requires ready { IsHost (origin_of host.old.queue.now host.old.pool.now host.old.poster.ghost_name host.old.pass.ghost_name host.old.began.now.value host.old.pass_began.now.value host.old.handler.id host.old.now) host.old.poster.now host.old.pass.now }
-        requires pass { IsOf self.old.pass c.now × (TRAVERSAL < c.now.constants.phases) }
+        requires pass { IsOf self.old.pass c.now × (3 < c.now.constants.phases) }
         ensures ready { IsHost (origin_of host.new.queue.now host.new.pool.now host.new.poster.ghost_name host.new.pass.ghost_name host.new.began.now.value host.new.pass_began.now.value host.new.handler.id host.new.now) host.new.poster.now host.new.pass.now }
         ensures origin { origin_of host.new.queue.now host.new.pool.now host.new.poster.ghost_name host.new.pass.ghost_name host.new.began.now.value host.new.pass_began.now.value host.new.handler.id host.new.now ≡ origin_of host.old.queue.now host.old.pool.now host.old.poster.ghost_name host.old.pass.ghost_name host.old.began.now.value host.old.pass_began.now.value host.old.handler.id host.old.now }
         ensures pass { frame_badge_of self.new.pass ≡ frame_badge_of self.old.pass }
@@ -158,7 +177,8 @@ impl ViewRoot {
         }
         let token = host.post_barrier()?;
         self.barrier = Some(token);
-        self.post(c, host, TRAVERSAL, TRAVERSAL_CALLBACK)
+        let phase = self.traversal();
+        self.post(c, host, phase, TRAVERSAL_CALLBACK)
     }
 
     /// The animation of a gauge moves it by a step, requests a traversal, and goes on until the target is reached.
@@ -169,7 +189,7 @@ impl ViewRoot {
         gauge: u64,
     ) -> Result<(), NoMemory>
         requires ready { IsHost (origin_of host.old.queue.now host.old.pool.now host.old.poster.ghost_name host.old.pass.ghost_name host.old.began.now.value host.old.pass_began.now.value host.old.handler.id host.old.now) host.old.poster.now host.old.pass.now }
-        requires pass { IsOf self.old.pass c.now × (TRAVERSAL < c.now.constants.phases) }
+        requires pass { IsOf self.old.pass c.now × (3 < c.now.constants.phases) }
         ensures ready { IsHost (origin_of host.new.queue.now host.new.pool.now host.new.poster.ghost_name host.new.pass.ghost_name host.new.began.now.value host.new.pass_began.now.value host.new.handler.id host.new.now) host.new.poster.now host.new.pass.now }
         ensures origin { origin_of host.new.queue.now host.new.pool.now host.new.poster.ghost_name host.new.pass.ghost_name host.new.began.now.value host.new.pass_began.now.value host.new.handler.id host.new.now ≡ origin_of host.old.queue.now host.old.pool.now host.old.poster.ghost_name host.old.pass.ghost_name host.old.began.now.value host.old.pass_began.now.value host.old.handler.id host.old.now }
         ensures pass { frame_badge_of self.new.pass ≡ frame_badge_of self.old.pass }
@@ -219,7 +239,7 @@ impl ViewRoot {
         ensures pass { self.new.pass ≡ self.old.pass }
         ensures painted { (s : ScriptData) (q : ℕ) → HasText s → map fixed self.old.gauges.items ≡ map (fixed_by s q) s.gauges
             → OnOk result (map paint_of self.new.painted.items ≡ map paint_of self.old.painted.items ++ paints s q (map standing self.old.gauges.items)) }
-        ensures same { (self.new.gauges ≡ self.old.gauges) × (self.new.barrier ≡ self.old.barrier) }
+        ensures same { (self.new.gauges ≡ self.old.gauges) × (self.new.barrier ≡ self.old.barrier) × (self.new.edition ≡ self.old.edition) }
     {
         paint_all(&mut self.painted, self.gauges.as_slice())
     }
@@ -233,8 +253,8 @@ impl ViewRoot {
         id: u64,
     ) -> Result<(), NoMemory>
         requires ready { IsHost (origin_of host.old.queue.now host.old.pool.now host.old.poster.ghost_name host.old.pass.ghost_name host.old.began.now.value host.old.pass_began.now.value host.old.handler.id host.old.now) host.old.poster.now host.old.pass.now }
-        requires pass { IsOf self.old.pass c.now × (TRAVERSAL < c.now.constants.phases) }
-        requires phase { phase ≤ TRAVERSAL }
+        requires pass { IsOf self.old.pass c.now × (3 < c.now.constants.phases) }
+        requires phase { phase ≤ 3 }
         ensures ready { IsHost (origin_of host.new.queue.now host.new.pool.now host.new.poster.ghost_name host.new.pass.ghost_name host.new.began.now.value host.new.pass_began.now.value host.new.handler.id host.new.now) host.new.poster.now host.new.pass.now }
         ensures origin { origin_of host.new.queue.now host.new.pool.now host.new.poster.ghost_name host.new.pass.ghost_name host.new.began.now.value host.new.pass_began.now.value host.new.handler.id host.new.now ≡ origin_of host.old.queue.now host.old.pool.now host.old.poster.ghost_name host.old.pass.ghost_name host.old.began.now.value host.old.pass_began.now.value host.old.handler.id host.old.now }
         ensures pass { frame_badge_of self.new.pass ≡ frame_badge_of self.old.pass }
@@ -251,7 +271,7 @@ impl ViewRoot {
         id: u64,
     ) -> Result<(), NoMemory>
         requires ready { IsHost (origin_of host.old.queue.now host.old.pool.now host.old.poster.ghost_name host.old.pass.ghost_name host.old.began.now.value host.old.pass_began.now.value host.old.handler.id host.old.now) host.old.poster.now host.old.pass.now }
-        requires pass { IsOf self.old.pass c.now × (TRAVERSAL < c.now.constants.phases) }
+        requires pass { IsOf self.old.pass c.now × (3 < c.now.constants.phases) }
         ensures ready { IsHost (origin_of host.new.queue.now host.new.pool.now host.new.poster.ghost_name host.new.pass.ghost_name host.new.began.now.value host.new.pass_began.now.value host.new.handler.id host.new.now) host.new.poster.now host.new.pass.now }
         ensures origin { origin_of host.new.queue.now host.new.pool.now host.new.poster.ghost_name host.new.pass.ghost_name host.new.began.now.value host.new.pass_began.now.value host.new.handler.id host.new.now ≡ origin_of host.old.queue.now host.old.pool.now host.old.poster.ghost_name host.old.pass.ghost_name host.old.began.now.value host.old.pass_began.now.value host.old.handler.id host.old.now }
         ensures pass { frame_badge_of self.new.pass ≡ frame_badge_of self.old.pass }

@@ -22,7 +22,6 @@ use Rattle.choreographer.specs.Known.{Known as Pass}
 use Rattle.dash_threads.specs.declared.thread.PostingThread.{PostingThread}
 use Rattle.dash_hall.specs.Kits.{badge_of, badge_for, frame_badge_of, frame_badge_for, IsHall, IsKitOf, AreKitsOf, AreUnusedKits}
 use Rattle.dash_threads.specs.Threads.{IsThread, IsUpTo, HasCalled}
-use Rattle.dash_stage.specs.Staged.{IsFrameRecord}
 use Rattle.dash_stage.specs.Records.{AreQueueRecords, AreFrameRecords, HaveAll}
 use Rattle.dash_hall.specs.Dealing.{AreUsedNowhere}
 use Rattle.dash_stage.specs.Runs.{HasRunAll, HaveRunAll, HaveRunFrom}
@@ -114,15 +113,6 @@ module _ {X : Type 0} (f : X → ℕ) (n : ℕ) (xs : List X) (are : map f xs �
   numbered_at i x lt =
       sym (get_or-map f xs i x (f x) lt) ∙ ap (λ l. slice_index_or l i (f x)) are ∙ get_or-range_with_len 0 n i (f x) (subst (λ m. i < m) numbered_count lt)
       ∙ (let same : 0 + i ≡ i = omega arith in same)
-
--- each frame record is a run's
-pub frame_runs : (s : Script) (frames : List FrameRecord) → HasText s → AreFrameRecords s frames → AllByRecursion (IsFrameRun s) frames
-frame_runs s frames text recs = All_recursive (IsFrameRun s) frames (λ q f lt.
-    let is = All_indexed (IsFrameRecord s) frames recs.lawful q f lt in record {
-      interval = is.interval;
-      phases = is.phases ∙ ap (λ e. if e == 2 then 5 else 4) (sym text.edition);
-      lawful = is.lawful;
-    })
 
 module _ (s : Script) (hall : Hall) (h : IsHall s hall) (kits : List Kit) (are : AreKitsOf s hall kits) (run : HaveRunAll s kits) where
   -- each thread's entries in the records are as its lines plan them

@@ -18,7 +18,7 @@ use Rattle.dash_hall.specs.declared.kit.Kit.{Kit}
 use Rattle.dash_hall.specs.Kits.{FrameBadge, frame_badge_of, frame_badge_for, AreChoreographersOf, frame_key, frame_constants}
 use Rattle.dash_hall.specs.Dealing.{GivesPass, holder_of, given, given_of}
 use Rattle.dash_stage.specs.Records.{passes_at, AreAllTheirs, HaveSeenOwn, AreFrameRecords}
-use Rattle.dash_stage.specs.Staged.{IsFrameRecord}
+use Rattle.run_model.specs.Run.{IsFrameRun}
 use Rattle.dash_stage.specs.Ending.{BeginWithPasses, HaveAllPasses, HasFramesLeft, HaveFramesLeft, AreOfNext, BeginWithOwn, AreOfPool, KeepFrames}
 use Rattle.dash_hall.proofs.HallPasses.{given_one, given_more, given_parts, given_none, is_given, not_given, given_all, of_thread, of_other, of_controller, thread_holds, looper_holds, controller_holds}
 use Rattle.dash_hall.proofs.HallSteps.{within_parts, at_parts}
@@ -228,7 +228,7 @@ map_same f g a (suc n) same = λ i. same a (omega arith) i ∷ map_same f g (a +
 -- what is known where the choreographers of the first loopers have ended, and these have not
 pub record HaveEnded (s : Script) (looper : ℕ) (rest : List Frames) (orig : List Kit) (records : List FrameRecord) (kits : List Kit) : Type 0 where
   pub loopers : map (λ (f : FrameRecord). f.looper) records ≡ range_with_len 0 looper
-  pub lawful : AllByRecursion (IsFrameRecord s) records
+  pub lawful : AllByRecursion (IsFrameRun s) records
   pub theirs : AreAllTheirs s orig records
   pub count : length kits ≡ length orig
   pub marks : HaveAllPasses (given_all s looper rest) kits
@@ -269,7 +269,7 @@ next_constants s cs yielded rest c n parts is keys =
 
 -- one choreographer more has ended
 pub ends_more : (s : Script) (looper : ℕ) (c : Frames) (rest : List Frames) (orig kits kits' : List Kit) (records records' : List FrameRecord) (r : FrameRecord)
-    → length records ≡ looper → looper < s.loopers → s.threads + s.loopers < length orig → IsFrameRecord s r → r.looper ≡ looper → AreOfNext s looper kits r.entries → BeginWithOwn (s.threads + looper) kits r.entries → HaveFramesLeft (λ k. length (given_of s looper c k)) kits kits'
+    → length records ≡ looper → looper < s.loopers → s.threads + s.loopers < length orig → IsFrameRun s r → r.looper ≡ looper → AreOfNext s looper kits r.entries → BeginWithOwn (s.threads + looper) kits r.entries → HaveFramesLeft (λ k. length (given_of s looper c k)) kits kits'
     → records' ≡ records ++ r ∷ [] → HaveEnded s looper (c ∷ rest) orig records kits → HaveEnded s (looper + 1) rest orig records' kits'
 ends_more s looper c rest orig kits kits' records records' r long few enough lawful number theirs begins_own left more before = subst (λ l. HaveEnded s (looper + 1) rest orig l kits') (sym more) (record {
   loopers = map-append (λ (f : FrameRecord). f.looper) records (r ∷ []) ∙ ((λ i. before.loopers i ++ (number ∙ zeroth) i ∷ []) ∙ sym (numbers_more 0 looper));
@@ -338,7 +338,7 @@ ends_more s looper c rest orig kits kits' records records' r long few enough law
         let last = next_is (s.threads + s.loopers) d p (before.controller d) in
         λ i. threads i ++ get_or (mine i) 0 p ∷ get_or (mine i) 1 p ∷ last i ∷ []
 
-    all_push : (l : List FrameRecord) → AllByRecursion (IsFrameRecord s) l → AllByRecursion (IsFrameRecord s) (l ++ r ∷ [])
+    all_push : (l : List FrameRecord) → AllByRecursion (IsFrameRun s) l → AllByRecursion (IsFrameRun s) (l ++ r ∷ [])
     all_push [] h = (lawful, tt)
     all_push (x ∷ xs) h = (h.0, all_push xs h.1)
 

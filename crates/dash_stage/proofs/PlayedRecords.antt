@@ -22,6 +22,7 @@ use Rattle.loop_model.proofs.WellFormedLaws.{All_recursive, All_indexed}
 use Rattle.frame_phases.specs.declared.entry.FrameRecord.{FrameRecord}
 use Rattle.frame_phases.specs.Frames.{lawful}
 use Rattle.dash_script.specs.declared.script.Script.{Script}
+use Rattle.dash_script.specs.Causes.{phase_count}
 use Rattle.looper_run.specs.Holding.{Sender}
 use Rattle.choreographer.specs.Known.{Known as Pass}
 use Rattle.run_model.specs.Asks.{Makes, AreFor, tokens_in, entries_by}
@@ -32,7 +33,7 @@ use Rattle.run_model.specs.Loopers.{Looper, Sent, first_looper}
 use Rattle.run_model.specs.Acts.{Lead, sent_on, closing, IsSent}
 use Rattle.run_model.specs.FrameRuns.{are_whole}
 use Rattle.run_model.specs.FrameAsks.{as_told, asks_in, AreAsOften}
-use Rattle.run_model.specs.Run.{IsAsPlanned, IsControlled, IsLooperRun, EachLooper, setting_of, caused_on, asked_of}
+use Rattle.run_model.specs.Run.{IsAsPlanned, IsControlled, IsLooperRun, IsFrameRun, EachLooper, setting_of, caused_on, asked_of}
 use Rattle.run_model.proofs.RunLaws.{AreFor-snoc, sent_on-append, are_on_time-snoc}
 use Rattle.run_model.proofs.Growth.{Lead-entries}
 use Rattle.dash_hall.specs.declared.hall.Hall.{Hall}
@@ -49,7 +50,6 @@ use Rattle.dash_stage.specs.Leaving.{HaveGiven}
 use Rattle.dash_stage.specs.Playing.{befores_called, AreCallsOnTime, IsTimelyLooper}
 use Rattle.dash_stage.specs.Records.{AreQueueRecords, AreFrameRecords, AreJournals, AreAllTheirs, HaveAll, HaveSeenOwn}
 use Rattle.dash_stage.specs.Sharing.{OfKits}
-use Rattle.dash_stage.specs.Staged.{IsFrameRecord}
 use Rattle.dash_stage.specs.Stages.{LoopersGoOn}
 use Rattle.dash_loopers.specs.Loopers.{IsLooperOf}
 use Rattle.dash_loopers.proofs.LooperKits.{kit_two}
@@ -113,7 +113,7 @@ record Known (s : Script) (queues : List QueueRecord) (k : ℕ) (j : Journal) (f
   seen : (x : QueueRecord) → IsPrefix (slice_index_or kit.posters.items k poster).view.seen (history_of (slice_index_or queues k x))
   pass : Pass
   frames : (i : ℕ) → i < 2 → IsPrefix (slice_index_or kit.frames.items i pass).view.seen f.entries
-  lawful_ : IsFrameRecord s f
+  lawful_ : IsFrameRun s f
   told : (x : QueueRecord) → filter_map act_dispatch j.acts ≡ filter_map (λ e. call_dispatch e.call e.reply) (entries_by (looper_sender s k) (history_of (slice_index_or queues k x)))
   asked : AreAsOften (map (as_told true) (asks_in f.entries)) (map (as_told true) (asked_of s k a))
   timely : (x : QueueRecord) → are_on_time (timings (sent_on k a.sent)) (befores_called (looper_sender s k) (history_of (slice_index_or queues k x))) ≡ true
@@ -121,7 +121,7 @@ record Known (s : Script) (queues : List QueueRecord) (k : ℕ) (j : Journal) (f
 
 module _ (s : Script) (queues : List QueueRecord) (k : ℕ) (j : Journal) (f : FrameRecord) (kit : Kit) (a : Looper) (h : Known s queues k j f kit a) where
   -- its acts lead there
-  is_lawful : lawful s.period 4 f.entries ≡ true
+  is_lawful : lawful s.period (phase_count s.edition) f.entries ≡ true
   is_lawful = (λ i. lawful (sym h.lawful_.interval i) (sym h.lawful_.phases i) f.entries) ∙ h.lawful_.lawful
 
   led : (x : QueueRecord) → Lead s k (history_of (slice_index_or queues k x)) f.entries (first_looper s) j.acts a
@@ -304,7 +304,7 @@ module _ (s : Script) (hall : Hall) (kits : List Kit) (queues : List QueueRecord
         seen = λ x. (all (s.threads + k) k c.kit (some_of kit.posters.items k (poster_in k lt)) x (in_kits k lt) lt).1;
         pass = some_of kit.frames.items 0 (omega (arith, two));
         frames = λ i below. own_seen k i c.kit (some_of kit.frames.items 0 (omega (arith, two))) f below (in_frames k lt);
-        lawful_ = All_indexed (IsFrameRecord s) fs are_fs.lawful k f (in_frames k lt);
+        lawful_ = All_indexed (IsFrameRun s) fs are_fs.lawful k f (in_frames k lt);
         told = λ x. dispatches_of_records s hall h kits are queues js recs all are_js told k x j lt;
         asked = asked k j f (some_of kit.frames.items 0 (omega (arith, two))) lt;
         timely = λ x.

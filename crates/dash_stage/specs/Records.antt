@@ -14,9 +14,8 @@ use Rattle.choreographer.specs.Ends.{AreTheirs}
 use Rattle.run_model.specs.Moments.{in_lockstep}
 use Rattle.std.specs.List.{range_with_len}
 use Rattle.run_model.specs.Asks.{entries_by}
-use Rattle.run_model.specs.Run.{IsHistory, all_entries}
+use Rattle.run_model.specs.Run.{IsHistory, IsFrameRun, all_entries}
 use Rattle.dash_hall.specs.declared.kit.Kit.{Kit}
-use Rattle.dash_stage.specs.Staged.{IsFrameRecord}
 use Rattle.dash_hall.specs.Growth.{own}
 
 -- each looper's queue has its record, in order, with the replies that a queue of one thread gives
@@ -27,7 +26,7 @@ pub record AreQueueRecords (s : Script) (records : List QueueRecord) : Type 0 wh
 -- each looper's choreographer has its record, in order
 pub record AreFrameRecords (s : Script) (records : List FrameRecord) : Type 0 where
   pub loopers : map (λ (f : FrameRecord). f.looper) records ≡ range_with_len 0 s.loopers
-  pub lawful : AllByRecursion (IsFrameRecord s) records
+  pub lawful : AllByRecursion (IsFrameRun s) records
 
 -- the history has the entries that the poster made and no others of its sender, and begins with what it has seen
 abbrev pub HasAllOf : ℕ → Sender → List Entry → Type 0

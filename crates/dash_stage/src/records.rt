@@ -7,7 +7,7 @@ ghost use Rattle.dash_hall.specs.Kits.{IsHall, AreKitsOf, AreQueuesOf, AreChoreo
 ghost use Rattle.dash_hall.specs.Dealing.{EachGivesPoster, given_of};
 ghost use Rattle.dash_stage.specs.Ending.{HavePosters, AreNext, AreSealed, HasSealedNext, HaveAllPosters, IsKeptOf, EachEndsPoster, KeepFrames, BeginWithPasses, HaveAllPasses, HaveFramesLeft, AreOfNext, BeginWithOwn, AreOfPool};
 ghost use Rattle.dash_stage.specs.Records.{AreQueueRecords, AreFrameRecords, AreAllTheirs, HaveAll, HaveSeenOwn};
-ghost use Rattle.dash_stage.specs.Staged.{IsFrameRecord};
+ghost use Rattle.run_model.specs.Run.{IsFrameRun};
 
 use choreographer::{Choreographer, FramePass};
 use dash_hall::{Hall, Kit, holder, recycle_all};
@@ -154,7 +154,7 @@ fn frame_record(
     requires constants { choreographer.constants ≡ frame_constants script.now looper }
     requires count { length kits.old.items ≡ sender_count script.now }
     requires kits { BeginWithPasses script.now looper choreographer kits.old.items }
-    ensures record { IfOk result (λ r. IsFrameRecord script.now r × (r.looper ≡ looper)) }
+    ensures record { IfOk result (λ r. IsFrameRun script.now r × (r.looper ≡ looper)) }
     ensures theirs { IfOk result (λ r. AreOfNext script.now looper kits.old.items r.entries) }
     ensures own { IfOk result (λ r. BeginWithOwn (script.now.threads + looper) kits.old.items r.entries) }
     ensures kits { OnOk result (HaveFramesLeft (λ k. length (given_of script.now looper choreographer k)) kits.old.items kits.new.items) }

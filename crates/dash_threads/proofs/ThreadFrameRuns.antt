@@ -129,20 +129,20 @@ unframe_progress s u lo phase id n bs ps fs f g past is near asks turn up =
     }
 
 -- a line of a text names a looper and a phase that are there
-pub frame_within : (s : Script) (n u lo phase id delay : ℕ) (past rest : List Timed) → HasText s → past ++ (line u (Frame lo phase id delay) ∷ rest) ≡ lines_of n s.blocks → (lo < s.loopers) × (phase < 4)
+pub frame_within : (s : Script) (n u lo phase id delay : ℕ) (past rest : List Timed) → HasText s → past ++ (line u (Frame lo phase id delay) ∷ rest) ≡ lines_of n s.blocks → (lo < s.loopers) × (phase < phase_count s.edition)
 unfolding each_number
 frame_within s n u lo phase id delay past rest text are =
     let declared = line_passes (numbers_pass (is_declared s)) s n past rest (line u (Frame lo phase id delay)) text.names are in
     let within = line_passes (numbers_pass (is_within s)) s n past rest (line u (Frame lo phase id delay)) text.limits are in
     let place = ltb-true lo s.loopers (and_parts _ _ (and_parts _ _ declared).1).0 in
     let least = ltb-true phase (phase_count s.edition) (and_parts _ _ within).0 in
-    (place, subst (λ (e : ℕ). phase < phase_count e) text.edition least)
+    (place, least)
 
-pub unframe_within : (s : Script) (n u lo phase id : ℕ) (past rest : List Timed) → HasText s → past ++ (line u (Unframe lo phase id) ∷ rest) ≡ lines_of n s.blocks → (lo < s.loopers) × (phase < 4)
+pub unframe_within : (s : Script) (n u lo phase id : ℕ) (past rest : List Timed) → HasText s → past ++ (line u (Unframe lo phase id) ∷ rest) ≡ lines_of n s.blocks → (lo < s.loopers) × (phase < phase_count s.edition)
 unfolding each_number
 unframe_within s n u lo phase id past rest text are =
     let declared = line_passes (numbers_pass (is_declared s)) s n past rest (line u (Unframe lo phase id)) text.names are in
     let within = line_passes (numbers_pass (is_within s)) s n past rest (line u (Unframe lo phase id)) text.limits are in
     let place = ltb-true lo s.loopers (and_parts _ _ (and_parts _ _ declared).1).0 in
     let least = ltb-true phase (phase_count s.edition) (and_parts _ _ within).0 in
-    (place, subst (λ (e : ℕ). phase < phase_count e) text.edition least)
+    (place, least)

@@ -1,6 +1,7 @@
 -- The posters and passes of a thread, by the place of their looper.
 use Rattle.std.proofs.Common.{◌≡◌, ℕ, ◌<◌, length, get_or, ap, ◌∙◌, arith}
 use Rattle.dash_script.specs.declared.script.Script.{Script}
+use Rattle.dash_script.specs.Causes.{phase_count}
 use Rattle.atomic_table.specs.Seated.{TableId}
 use Rattle.shared_queue.specs.Constants.{Constants}
 use Rattle.shared_queue.specs.Known.{Shared, IsOf}
@@ -26,7 +27,7 @@ module _ (s : Script) (hall : Hall) (t : PostingThread) (h : IsHall s hall) (own
   pub its_pass : (c : Frames) (p : Pass) → c ≡ get_or hall.choreographers.items i c → p ≡ get_or t.kit.frames.items i p → i < length t.kit.frames.items → IsFrameOf p c
   its_pass c p is is' near = pass_is t.number hall.choreographers.items t.kit.frames.items own.frames i p c near is' is
 
-  pub its_phases : (c : Frames) → c ≡ get_or hall.choreographers.items i c → i < length hall.choreographers.items → c.constants.phases ≡ 4
+  pub its_phases : (c : Frames) → c ≡ get_or hall.choreographers.items i c → i < length hall.choreographers.items → c.constants.phases ≡ phase_count s.edition
   its_phases c is near =
       let within : i < s.loopers = omega (arith, near, choreographer_count s hall.choreographers.items h.choreographers) in
       ap (λ (z : Frames). z.constants.phases) is ∙ ap (λ (k : FrameConstants). k.phases) (choreographer_at s hall.choreographers.items h.choreographers i c within)

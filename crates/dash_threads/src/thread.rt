@@ -14,8 +14,8 @@ ghost use Rattle.dash_threads.specs.Threads.{IsThread, CallsAt, with_barrier, Ma
 use crate::labels::Labelled;
 use crate::planned::call_for;
 use choreographer::{Choreographer, FramePass};
-use dash_hall::{Hall, Host, Kit, PHASES, QueueCall, frame_handler, perform_by};
-use dash_script::{Block, Command, Script};
+use dash_hall::{Hall, Host, Kit, QueueCall, frame_handler, perform_by};
+use dash_script::{Block, Command, Script, phase_count};
 use handler_post::Handler;
 use loop_io::Gate;
 use loop_model::NoMemory;
@@ -256,11 +256,12 @@ impl PostingThread {
         ensures made { OnOk result (Takes script.now (record { time = now; command = Frame looper phase id delay }) self.old self.new) }
     {
         let place = looper as usize;
+        let phases = phase_count(script.edition);
         if place < self.kit.posters.len()
             && place < hall.queues.len()
             && place < self.kit.frames.len()
             && place < hall.choreographers.len()
-            && phase < PHASES
+            && phase < phases
         {
             return post_frame(
                 rt,
@@ -300,7 +301,8 @@ impl PostingThread {
         ensures made { OnOk result (Takes script.now (record { time = now; command = Unframe looper phase id }) self.old self.new) }
     {
         let place = looper as usize;
-        if place < self.kit.frames.len() && place < hall.choreographers.len() && phase < PHASES {
+        let phases = phase_count(script.edition);
+        if place < self.kit.frames.len() && place < hall.choreographers.len() && phase < phases {
             hall.choreographers[place].remove_callbacks(
                 rt,
                 &mut self.kit.frames[place],

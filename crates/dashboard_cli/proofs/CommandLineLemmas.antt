@@ -12,7 +12,7 @@ use Rattle.dashboard_cli.specs.CommandLine.{dashboard_app, HasNumber, HasRows, I
 use Rattle.dashboard_cli.specs.Words.{IsInRange, IsListed, IsSpelled}
 use Rattle.std.specs.Prelude.{IfNone, IsSomeAnd, None, unwrap_or}
 use Rattle.dashboard_cli.specs.declared.words.Command.{Command}
-use Rattle.dashboard_cli.specs.declared.words.Command.TheVariants.{Run, Text, Make, MakeRun, Trace, Check, Animate}
+use Rattle.dashboard_cli.specs.declared.words.Command.TheVariants.{Run, Text, Migrate, Make, MakeRun, Trace, Check, Animate}
 
 -- the parser takes the words, and finds the command in them
 pub record IsParsed (words : List (List ℕ)) (Found : Type 0) : Type 0 where
@@ -70,7 +70,11 @@ finds_run = record { taken = refl; found = (refl, tt) }
 
 pub finds_text : Finds Text (codes "text" ∷ [])
 unfolding clap_on_literals
-finds_text = record { taken = refl; found = (refl, tt) }
+finds_text = record { taken = refl; found = (refl, refl) }
+
+pub finds_migrate : Finds Migrate (codes "text" ∷ codes "--to" ∷ codes "2" ∷ [])
+unfolding clap_on_literals
+finds_migrate = record { taken = refl; found = (refl, refl) }
 
 pub finds_trace : Finds Trace (codes "trace" ∷ [])
 unfolding clap_on_literals
@@ -94,6 +98,7 @@ makes_number number small =
 pub finds : (command : Command) (words : List (List ℕ)) → IsInRange command → IsSpelled command words → Finds command words
 finds Run words fits is = subst (Finds Run) (sym is) finds_run
 finds Text words fits is = subst (Finds Text) (sym is) finds_text
+finds Migrate words fits is = subst (Finds Migrate) (sym is) finds_migrate
 finds Trace words fits is = subst (Finds Trace) (sym is) finds_trace
 finds Check words fits is = subst (Finds Check) (sym is) finds_check
 finds Animate words fits is = subst (Finds Animate) (sym is) finds_animate
@@ -114,11 +119,24 @@ pub record IsMake (command : Command) (rows : List Row) : Type 0 where
 pub is_make : (command : Command) (rows : List Row) → IsInRange command → name_of command ≡ codes "make" → HasRows command rows → IsMake command rows
 is_make Run rows fits named has = let bad : ◌≡◌ {A = ℕ} 110 107 = ap (λ (t : List ℕ). slice_index t 2) named in absurd (omega arith)
 is_make Text rows fits named has = let bad : ◌≡◌ {A = ℕ} 120 107 = ap (λ (t : List ℕ). slice_index t 2) named in absurd (omega arith)
+is_make Migrate rows fits named has = let bad : ◌≡◌ {A = ℕ} 120 107 = ap (λ (t : List ℕ). slice_index t 2) named in absurd (omega arith)
 is_make Trace rows fits named has = let bad : ◌≡◌ {A = ℕ} 97 107 = ap (λ (t : List ℕ). slice_index t 2) named in absurd (omega arith)
 is_make Check rows fits named has = let bad : ◌≡◌ {A = ℕ} 101 107 = ap (λ (t : List ℕ). slice_index t 2) named in absurd (omega arith)
 is_make Animate rows fits named has = let bad : ◌≡◌ {A = ℕ} 105 107 = ap (λ (t : List ℕ). slice_index t 2) named in absurd (omega arith)
 is_make (Make number) rows fits named has = record { number = number; small = fits; text = has.0; flag = inl (refl, has.1) }
 is_make (MakeRun number) rows fits named has = record { number = number; small = fits; text = has.0; flag = inr (refl, has.1) }
+
+-- the matches of `text` tell whether it has an edition, and which
+pub is_text : (command : Command) (rows : List Row) → name_of command ≡ codes "text" → HasRows command rows
+    → ((command ≡ Text) × (first_of (codes "to") rows ≡ None)) ⊎ ((command ≡ Migrate) × (first_of (codes "to") rows ≡ Some (codes "2")))
+is_text Run rows named has = let bad : ◌≡◌ {A = ℕ} 110 120 = ap (λ (t : List ℕ). slice_index t 2) named in absurd (omega arith)
+is_text Text rows named has = inl (refl, has)
+is_text Migrate rows named has = inr (refl, has)
+is_text Trace rows named has = let bad : ◌≡◌ {A = ℕ} 97 120 = ap (λ (t : List ℕ). slice_index t 2) named in absurd (omega arith)
+is_text Check rows named has = let bad : ◌≡◌ {A = ℕ} 101 120 = ap (λ (t : List ℕ). slice_index t 2) named in absurd (omega arith)
+is_text Animate rows named has = let bad : ◌≡◌ {A = ℕ} 105 120 = ap (λ (t : List ℕ). slice_index t 2) named in absurd (omega arith)
+is_text (Make number) rows named has = let bad : ◌≡◌ {A = ℕ} 107 120 = ap (λ (t : List ℕ). slice_index t 2) named in absurd (omega arith)
+is_text (MakeRun number) rows named has = let bad : ◌≡◌ {A = ℕ} 107 120 = ap (λ (t : List ℕ). slice_index t 2) named in absurd (omega arith)
 
 -- the printed number is read as that number
 pub parses : {E : Type 0} (n : ℕ) (bs : List ℕ) (r : Result ℕ E) → n < 2 ^ 32 → bs ≡ decimal n → ParsesUnsigned 32 10 bs r → r ≡ Ok n

@@ -1,10 +1,10 @@
 -- The command line as the parser of command lines sees it, and what it finds of each command.
-use Rattle.std.specs.Prelude.{◌≡◌, ℕ, List, Option, Some, codes, true, IsSomeAnd}
+use Rattle.std.specs.Prelude.{◌≡◌, ℕ, List, Option, Some, None, codes, true, IsSomeAnd}
 use Rattle.std.specs.Fmt.{decimal}
 use Rattle.clap.specs.Words.{App, Row, Rule, first_of, new_app, new_rule, one_of, with_rule, with_subcommand}
 use Rattle.clap.specs.declared.builder.ArgAction.TheVariants.{SetTrue}
 use Rattle.dashboard_cli.specs.declared.words.Command.{Command}
-use Rattle.dashboard_cli.specs.declared.words.Command.TheVariants.{Run, Text, Make, MakeRun, Trace, Check, Animate}
+use Rattle.dashboard_cli.specs.declared.words.Command.TheVariants.{Run, Text, Migrate, Make, MakeRun, Trace, Check, Animate}
 
 -- a flag without a value
 abbrev pub flag_rule : List ℕ → Rule
@@ -13,8 +13,12 @@ flag_rule name = record (new_rule name) { long = Some name; action = Some SetTru
 abbrev pub run_app : App
 run_app = new_app (codes "run")
 
+-- an option with a value
+abbrev pub option_rule : List ℕ → Rule
+option_rule name = record (new_rule name) { long = Some name }
+
 abbrev pub text_app : App
-text_app = new_app (codes "text")
+text_app = with_rule (new_app (codes "text")) (option_rule (codes "to"))
 
 abbrev pub trace_app : App
 trace_app = new_app (codes "trace")
@@ -46,6 +50,7 @@ dashboard_app =
 abbrev pub name_of : Command → List ℕ
 name_of Run = codes "run"
 name_of Text = codes "text"
+name_of Migrate = codes "text"
 name_of (Make number) = codes "make"
 name_of (MakeRun number) = codes "make"
 name_of Trace = codes "trace"
@@ -58,6 +63,8 @@ HasNumber number runs rows = (first_of (codes "number") rows ≡ Some number) ×
 
 -- the matches that stand for a command
 abbrev pub HasRows : Command → List Row → Type 0
+HasRows Text rows = first_of (codes "to") rows ≡ None
+HasRows Migrate rows = first_of (codes "to") rows ≡ Some (codes "2")
 HasRows (Make number) rows = HasNumber (decimal number) (codes "false") rows
 HasRows (MakeRun number) rows = HasNumber (decimal number) (codes "true") rows
 HasRows command rows = Unit {0}

@@ -3,7 +3,7 @@ use Rattle.std.specs.Prelude.{◌≡◌, ◌⊎◌, ◌^◌, ◌<◌, ℕ, List,
 use Rattle.std.specs.declared.alloc.Global.{Global}
 use Rattle.std.specs.Fmt.{decimal}
 use Rattle.dashboard_cli.specs.declared.words.Command.{Command}
-use Rattle.dashboard_cli.specs.declared.words.Command.TheVariants.{Run, Text, Make, MakeRun, Trace, Check, Animate}
+use Rattle.dashboard_cli.specs.declared.words.Command.TheVariants.{Run, Text, Migrate, Make, MakeRun, Trace, Check, Animate}
 
 -- the words as texts
 abbrev pub texts : List (String Global) → List (List ℕ)
@@ -13,6 +13,7 @@ texts = map string_bytes
 abbrev pub IsSpelled : Command → List (List ℕ) → Type 0
 IsSpelled Run words = words ≡ codes "run" ∷ []
 IsSpelled Text words = words ≡ codes "text" ∷ []
+IsSpelled Migrate words = words ≡ codes "text" ∷ codes "--to" ∷ codes "2" ∷ []
 IsSpelled Trace words = words ≡ codes "trace" ∷ []
 IsSpelled Check words = words ≡ codes "check" ∷ []
 IsSpelled Animate words = words ≡ codes "animate" ∷ []

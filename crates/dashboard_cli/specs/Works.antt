@@ -1,6 +1,7 @@
 -- What each command does: how many bytes it reads, which inputs it takes, how it refuses another, and what it makes.
 use Rattle.std.specs.Prelude.{◌≡◌, ℕ, List, Option, Some, None}
 use Rattle.dash_script.specs.declared.script.Script.{Script as ScriptData}
+use Rattle.dash_script.specs.Editions.{up}
 use Rattle.dash_script.specs.Generated.{generated}
 use Rattle.dash_script.specs.Reading.{IsRefusal, IsText}
 use Rattle.dash_script.specs.Text.{text as script_text}
@@ -86,6 +87,13 @@ pub record WritesScript (input out : List ℕ) (given : Returned) : Type 0 where
   pub text_is : out ≡ input
   pub given_is : given ≡ nothing
 
+-- the input is the text of a script, and the text of that script in edition 2 is written
+pub record WritesUp (input out : List ℕ) (given : Returned) : Type 0 where
+  pub script : ScriptData
+  pub read : IsText input script
+  pub text_is : out ≡ script_text (up script)
+  pub given_is : given ≡ nothing
+
 -- the script that is made from the number is written
 pub record WritesGenerated (number : ℕ) (out : List ℕ) (given : Returned) : Type 0 where
   pub text_is : out ≡ script_text (generated number)
@@ -149,6 +157,7 @@ pub record Work : Type 1 where
 abbrev pub work : Command → Work
 work command.Run = record { reads = scripts; Makes = WritesRun text }
 work command.Text = record { reads = scripts; Makes = WritesScript }
+work command.Migrate = record { reads = scripts; Makes = WritesUp }
 work (command.Make number) = record { reads = no_input; Makes = λ input. WritesGenerated number }
 work (command.MakeRun number) = record { reads = no_input; Makes = λ input. WritesSummary number }
 work command.Trace = record { reads = scripts; Makes = WritesRun (λ report. trace_text (trace_of report.queues)) }

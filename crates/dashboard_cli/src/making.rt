@@ -13,7 +13,7 @@ use crate::status::Status;
 use crate::verdict::{judge, verdict_text};
 use crate::words::Command;
 use dash_report::{report_text, summary_text};
-use dash_script::{Script, make_script, print};
+use dash_script::{Script, make_script, migrate, print};
 use dash_stage::{Ran, run_script};
 use frame_phases::FrameRecord;
 use loop_io::{Gate, Source};
@@ -99,6 +99,7 @@ pub(crate) fn produce<R: Threads + Wait + Sync, S: Source, G: Gate + Sync>(
     match command {
         Command::Run => run_input(rt, alloc, source, gate),
         Command::Text => print_input(alloc, source),
+        Command::Migrate => migrate_input(alloc, source),
         Command::Make { number } => print_made(alloc, number),
         Command::MakeRun { number } => run_made(rt, alloc, number, gate),
         Command::Trace => trace_input(rt, alloc, source, gate),
@@ -135,6 +136,21 @@ fn print_input<S: Source>(alloc: Global, source: &mut S) -> Result<Product, Stat
     let input = read_input(alloc, source, MOST_BYTES)?;
     let script = read_script(alloc, input.as_slice())?;
     let text = print(alloc, &script)?;
+    let returned = Returned::nothing();
+    Ok(Product { text, returned })
+}
+
+/// Reads a script, and prints it as one of edition 2.
+fn migrate_input<S: Source>(alloc: Global, source: &mut S) -> Result<Product, Status>
+    ensures made { IfOk result (λ product. MakesOf (work Command.Migrate) (S.left source.old) (S.left source.new) product.text.items product.returned) }
+    ensures stopped { IfErr result (Stops scripts (S.left source.old) (S.left source.new)) }
+    ensures sound { IfOk result (λ _. S.faults source.new ≡ S.faults source.old) }
+    ensures failed { IfErr result (λ status. CountsReads status (S.faults source.old) (S.faults source.new)) }
+{
+    let input = read_input(alloc, source, MOST_BYTES)?;
+    let script = read_script(alloc, input.as_slice())?;
+    let brought_up = migrate(alloc, &script)?;
+    let text = print(alloc, &brought_up)?;
     let returned = Returned::nothing();
     Ok(Product { text, returned })
 }

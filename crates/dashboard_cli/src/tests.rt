@@ -68,9 +68,10 @@ fn run_at<G: Gate + Sync>(
 }
 
 /// Words, and the command that they name.
-const NAMED: [(&str, Option<Command>); 27] = [
+const NAMED: [(&str, Option<Command>); 33] = [
     ("run", Some(Command::Run)),
     ("text", Some(Command::Text)),
+    ("text --to 2", Some(Command::Migrate)),
     ("make 0", Some(Command::Make { number: 0 })),
     ("make 4294967295", Some(Command::Make { number: u32::MAX })),
     ("make 17 --run", Some(Command::MakeRun { number: 17 })),
@@ -86,6 +87,11 @@ const NAMED: [(&str, Option<Command>); 27] = [
     ("run --fast", None),
     ("run run", None),
     ("text --", None),
+    ("text --to", None),
+    ("text --to 1", None),
+    ("text --to=2", None),
+    ("text --to 02", None),
+    ("text --to 2 --to 2", None),
     ("make", None),
     ("make 017", None),
     ("make +17", None),
@@ -295,7 +301,7 @@ fn scripts_run_to_their_reports(rt: HostRuntime) -> Result<(), Fail> {
 }
 
 /// Scripts and their reports: an asynchronous handler, reactions, idle handlers, descriptors and frames.
-const OF_LOOPERS: [(&str, &str); 9] = [
+const OF_LOOPERS: [(&str, &str); 11] = [
     // An asynchronous handler's plain post passes a barrier.
     (
         "dashboard 1\nloopers 1\nthreads 1\nhandler 0 0 async\nvsync 16666667\nat 10\n0 barrier 0 0\n0 post 0 1 0\nend 10\n",
@@ -335,6 +341,16 @@ const OF_LOOPERS: [(&str, &str); 9] = [
     (
         "dashboard 1\nloopers 1\nthreads 1\nhandler 0 0\ngauge 0 0 3\nvsync 16666667\nat 0\n0 set 0 7\nend 70\n",
         "report 1\nlooper 0\n0 dispatch 0 0 1\n17 dispatch 1 64 0\n34 dispatch 2 64 0\n51 dispatch 3 64 0\n67 dispatch 4 64 0\nfates accepted 5 dispatched 5 removed 0 dropped 0 stranded 0 queued 0\npaint 0 3\npaint 0 6\npaint 0 7\nframe 16666667\nrun 1 1000000\nrun 2 1000016\nframe 33333334\nrun 1 1000000\nrun 2 1000016\nframe 50000001\nrun 1 1000000\nrun 2 1000016\nframe 66666668\nend\n",
+    ),
+    // Five phases of edition 2 run in their order.
+    (
+        "dashboard 2\nloopers 1\nthreads 1\nhandler 0 0\nvsync 16666667\nat 10\n0 frame 0 3 5 0\n0 frame 0 2 6 0\n0 frame 0 4 7 0\nend 20\n",
+        "report 2\nlooper 0\n17 dispatch 0 64 0\nfates accepted 1 dispatched 1 removed 0 dropped 0 stranded 0 queued 0\nframe 16666667\nrun 2 6\nrun 3 5\nrun 4 7\nend\n",
+    ),
+    // The traversal has another phase in edition 2.
+    (
+        "dashboard 2\nloopers 1\nthreads 1\nhandler 0 0\ngauge 0 0 3\nvsync 16666667\nat 0\n0 set 0 3\nend 40\n",
+        "report 2\nlooper 0\n0 dispatch 0 0 1\n17 dispatch 1 64 0\n34 dispatch 2 64 0\nfates accepted 3 dispatched 3 removed 0 dropped 0 stranded 0 queued 0\npaint 0 3\nframe 16666667\nrun 1 1000000\nrun 3 1000016\nframe 33333334\nend\n",
     ),
     // A removed frame callback leaves its frame, which is empty.
     (
@@ -590,17 +606,20 @@ fn plans_of_values_are_told(rt: HostRuntime) -> Result<(), Fail> {
     Ok(())
 }
 
-fn is_given_back(
+/// These words write a script as this text.
+fn is_written(
     rt: &(impl Abort + Threads + Wait + Sync),
     alloc: Global,
+    line: &str,
     script: &[u8],
+    wanted: &[u8],
     most: u8,
 ) -> Result<(), AllocError> {
     let mut source = source(script.to_vec(alloc)?, most, Vec::new(alloc));
-    let (outcome, written) = run(rt, alloc, "text", &mut source, Vec::new(alloc))?;
+    let (outcome, written) = run(rt, alloc, line, &mut source, Vec::new(alloc))?;
     assert!(rt; outcome.status == Status::Ok);
     assert!(rt; outcome.report.is_none());
-    assert!(rt; written.as_slice() == script);
+    assert!(rt; written.as_slice() == wanted);
     Ok(())
 }
 
@@ -608,8 +627,20 @@ fn is_given_back(
 fn texts_are_given_back(rt: HostRuntime) -> Result<(), Fail> {
     let alloc = rt.alloc();
     let script = joined(alloc, ONE, "at 10\n0 idle 0 3 keep\n0 post 0 7 5\nend 20\n")?;
-    is_given_back(&rt, alloc, script.as_slice(), 1)?;
-    is_given_back(&rt, alloc, script.as_slice(), 255)?;
+    let text = script.as_slice();
+    is_written(&rt, alloc, "text", text, text, 1)?;
+    is_written(&rt, alloc, "text", text, text, 255)?;
+    Ok(())
+}
+
+#[test]
+fn scripts_are_brought_up(rt: HostRuntime) -> Result<(), Fail> {
+    let first =
+        b"dashboard 1\nloopers 1\nthreads 1\nvsync 16666667\nat 10\n0 frame 0 1 7 0\n0 frame 0 2 7 0\n0 unframe 0 3 8\nend 60\n";
+    let second =
+        b"dashboard 2\nloopers 1\nthreads 1\nvsync 16666667\nat 10\n0 frame 0 1 7 0\n0 frame 0 3 7 0\n0 unframe 0 4 8\nend 60\n";
+    is_written(&rt, rt.alloc(), "text --to 2", first, second, 255)?;
+    is_written(&rt, rt.alloc(), "text --to 2", second, second, 255)?;
     Ok(())
 }
 

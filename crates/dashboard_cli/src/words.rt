@@ -2,7 +2,7 @@
 ghost use Rattle.std.specs.Prelude.{◌≡◌, ◌≢◌, ◌↔◌, List, IfOk, IfNone, IfSome, IsTrue, map, codes, Some, None, false, true};
 ghost use Rattle.clap.specs.Words.{app_of, found_of, kind_of, rows_of, subcommand_rows_of};
 ghost use Rattle.clap.specs.declared.builder.command.Command.TheViews.{out-Command};
-ghost use Rattle.dashboard_cli.specs.CommandLine.{dashboard_app, make_app, name_of, HasRows, IsFound};
+ghost use Rattle.dashboard_cli.specs.CommandLine.{dashboard_app, make_app, text_app, name_of, HasRows, IsFound};
 ghost use Rattle.dashboard_cli.specs.Words.{IsInRange, IsAsked, IsListed, IsSpelled, texts};
 
 use clap::error::ErrorKind;
@@ -17,6 +17,8 @@ pub enum Command {
     Run,
     /// Reads a script and writes it.
     Text,
+    /// Reads a script and writes it as one of edition 2.
+    Migrate,
     /// Writes the script that the generator makes from the number.
     Make { number: u32 },
     /// Makes that script, runs it in lockstep and writes the summary.
@@ -66,7 +68,7 @@ fn command_line<'a>(alloc: Global) -> Result<clap::Command<'a>, AllocError>
     ensures { IfOk result (λ line. app_of line ≡ dashboard_app) }
 {
     let run = clap::Command::new(alloc, "run");
-    let text = clap::Command::new(alloc, "text");
+    let text = text_line(alloc)?;
     let make = make_line(alloc)?;
     let trace = clap::Command::new(alloc, "trace");
     let check = clap::Command::new(alloc, "check");
@@ -81,6 +83,15 @@ fn command_line<'a>(alloc: Global) -> Result<clap::Command<'a>, AllocError>
         .subcommand(trace)?
         .subcommand(check)?
         .subcommand(animate)
+}
+
+/// The line of `text`: perhaps an edition.
+fn text_line<'a>(alloc: Global) -> Result<clap::Command<'a>, AllocError>
+    ensures app { IfOk result (λ line. app_of line ≡ text_app) }
+    ensures local { IfOk result (λ line. (out-Command line).has_globals ≡ false) }
+{
+    let to = Arg::new(alloc, "to").long("to");
+    clap::Command::new(alloc, "text").arg(to)
 }
 
 /// The line of `make`: a number, and perhaps the flag.
@@ -102,12 +113,27 @@ fn command_found(matches: &ArgMatches<'_>) -> Option<Command>
     let (name, inner) = matches.subcommand()?;
     match name {
         "run" => Some(Command::Run),
-        "text" => Some(Command::Text),
+        "text" => text_found(inner),
         "make" => make_found(inner),
         "trace" => Some(Command::Trace),
         "check" => Some(Command::Check),
         "animate" => Some(Command::Animate),
         _ => None,
+    }
+}
+
+/// The command that the parser found behind `text`.
+fn text_found(matches: &ArgMatches<'_>) -> Option<Command>
+    ensures { (command : Command) → name_of command ≡ codes "text"
+        → HasRows command (rows_of (found_of matches.now)) → result ≡ Some command }
+{
+    let Some(edition) = matches.get_str("to") else {
+        return Some(Command::Text);
+    };
+    if edition == "2" {
+        Some(Command::Migrate)
+    } else {
+        None
     }
 }
 
@@ -131,6 +157,7 @@ fn is_spelled(alloc: Global, command: Command, words: &[String]) -> Result<bool,
     Ok(match command {
         Command::Run => are_same(words, &["run"]),
         Command::Text => are_same(words, &["text"]),
+        Command::Migrate => are_same(words, &["text", "--to", "2"]),
         Command::Trace => are_same(words, &["trace"]),
         Command::Check => are_same(words, &["check"]),
         Command::Animate => are_same(words, &["animate"]),

@@ -1,7 +1,7 @@
 use Rattle.std.proofs.Common.{◌≡◌, ◌≤◌, ◌+◌, ◌∙◌, refl, sym, ap, length, arith}
 use Rattle.dash_stage.proofs.Casting.{all_kits}
 use Rattle.run_model.specs.Senders.{controller}
-use Rattle.dash_stage.proofs.Carried.{run_kept, planned_records, frame_runs, numbered_count}
+use Rattle.dash_stage.proofs.Carried.{run_kept, planned_records, numbered_count}
 use Rattle.loop_model.specs.declared.journal.Journal.{Journal}
 use Rattle.dash_stage.proofs.PlayedRecords.{loopers_of_records}
 use Rattle.dash_stage.proofs.LoopersGive.{given_kept}
@@ -31,8 +31,7 @@ returns-clause-planned c =
     (run_kept s hall kits kits' c.args.stage.controller.kit all grown (c.in_ok-journals.ensures.run c.in_ok-kits.ensures.run)) c.in_ok-queues.queues.items c.in_ok-queues.ensures.queues c.in_ok-queues.ensures.all
 
 pub returns-clause-run : goal.returns-clause-run
-returns-clause-run c =
-    frame_runs c.args.script.now c.in_ok-queues.frames.items c.requires.text c.in_ok-queues.ensures.frames
+returns-clause-run c = c.in_ok-queues.ensures.frames.lawful
 
 pub returns-clause-controls : goal.returns-clause-controls
 returns-clause-controls c =

@@ -1,5 +1,5 @@
 use Rattle.std.proofs.Common.{◌+◌, refl, arith}
-use Rattle.dash_loopers.proofs.LooperPlaces.{frame_of_badge, four_phases, its_period}
+use Rattle.dash_loopers.proofs.LooperPlaces.{frame_of_badge, its_phases, up_to_three, its_period}
 use Rattle.dash_loopers.proofs.PlaySteps.{frame_hosted}
 use Rattle.dash_loopers.proofs.player.Place.run_frame.Goals as goal
 
@@ -7,14 +7,14 @@ pub do_frame-requires-clause-root : goal.do_frame-requires-clause-root
 do_frame-requires-clause-root g c =
     let place = c.args.self.now in
     let frames = c.choreographer.result.now in
-    let four = four_phases place.script.now place.hall.now place.looper c.requires.serves.looper frames c.choreographer.ensures in
-    (frame_of_badge (place.script.now.threads + 1) c.args.parts.now.root.pass frames (c.requires.serves.are_parts.client frames c.choreographer.ensures), omega (arith, four))
+    let phases = its_phases place.script.now place.hall.now place.looper c.requires.serves.looper frames c.choreographer.ensures in
+    (frame_of_badge (place.script.now.threads + 1) c.args.parts.now.root.pass frames (c.requires.serves.are_parts.client frames c.choreographer.ensures), omega (arith, phases, up_to_three place.script.now.edition))
 
 pub returns-clause-ran : goal.returns-clause-ran
 returns-clause-ran g c =
     let place = c.args.self.now in
     let frames = c.choreographer.result.now in
-    let four = four_phases place.script.now place.hall.now place.looper c.requires.serves.looper frames c.choreographer.ensures in
+    let phases = its_phases place.script.now place.hall.now place.looper c.requires.serves.looper frames c.choreographer.ensures in
     let period = its_period place.script.now place.hall.now place.looper c.requires.serves.looper frames c.choreographer.ensures in
     frame_hosted c.do_frame.result place.script.now place.looper c.args.now c.host-host.result.now frames.constants.interval frames.constants.phases c.args.own.now.poster.now c.host-host.result.poster.now c.do_frame.new.host.poster.now c.args.parts.now _
-    c.do_frame.ensures.ran period four c.host-host.ensures.moment.0 c.host-host.ensures.poster.1 refl refl
+    c.do_frame.ensures.ran period phases c.host-host.ensures.moment.0 c.host-host.ensures.poster.1 refl refl

@@ -1,15 +1,15 @@
 use Rattle.std.proofs.Common.{◌+◌, refl, arith}
 use Rattle.dash_loopers.specs.Played.{calls_of}
 use Rattle.dash_loopers.proofs.PlaySteps.{set_hosted}
-use Rattle.dash_loopers.proofs.LooperPlaces.{frame_of_badge, four_phases}
+use Rattle.dash_loopers.proofs.LooperPlaces.{frame_of_badge, its_phases, up_to_three}
 use Rattle.dash_loopers.proofs.player.Place.set_target.Goals as goal
 
 pub set_target-requires-clause-pass : goal.set_target-requires-clause-pass
 set_target-requires-clause-pass g c =
     let place = c.args.self.now in
     let frames = c.choreographer.result.now in
-    let four = four_phases place.script.now place.hall.now place.looper c.requires.serves.looper frames c.choreographer.ensures in
-    (frame_of_badge (place.script.now.threads + 1) c.args.parts.now.root.pass frames (c.requires.serves.are_parts.client frames c.choreographer.ensures), omega (arith, four))
+    let phases = its_phases place.script.now place.hall.now place.looper c.requires.serves.looper frames c.choreographer.ensures in
+    (frame_of_badge (place.script.now.threads + 1) c.args.parts.now.root.pass frames (c.requires.serves.are_parts.client frames c.choreographer.ensures), omega (arith, phases, up_to_three place.script.now.edition))
 
 pub returns-clause-plays : goal.returns-clause-plays
 returns-clause-plays g c =

@@ -4,7 +4,7 @@ use Rattle.dash_threads.proofs.ThreadFrameRuns.{unframe_progress, unframe_within
 use Rattle.dash_threads.proofs.ThreadPlaces.{its_pass, its_phases}
 use Rattle.dash_hall.proofs.Badges.{alike_length, passes_kept, frame_turn_badge, choreographer_count}
 use Rattle.dash_threads.proofs.thread.PostingThread.remove_frame.Goals as goal
-use Rattle.dash_threads.proofs.thread.PostingThread.remove_frame.Goals.{else-place-len-via-then-place-len+then-place-len-2+else-phase-lt-PHASES, else-place-len-via-then-place-len+else-place-len-2, else-place-len-via-else-place-len}
+use Rattle.dash_threads.proofs.thread.PostingThread.remove_frame.Goals.{else-place-len-via-then-place-len+then-place-len-2+else-phase-phases, else-place-len-via-then-place-len+else-place-len-2, else-place-len-via-else-place-len}
 use Rattle.run_model.specs.FrameAsks.{Removes}
 use Rattle.dash_hall.specs.Hosts.{AsksFor}
 use Rattle.dash_hall.specs.Kits.{frame_badge_of, frame_badge_for}
@@ -16,7 +16,7 @@ remove_callbacks-requires g c =
     let near : c.args.looper < length t.kit.frames.items = omega (arith, c.len.ensures, c.if-place-len.true) in
     let near' : c.args.looper < length hall.choreographers.items = omega (arith, c.len-then-place-len.ensures, c.if-place-len-2.true) in
     let phases = its_phases c.args.script.now hall t c.requires.hall c.requires.thread c.args.looper c.index.result.now c.index.ensures near' in
-    (its_pass c.args.script.now hall t c.requires.hall c.requires.thread c.args.looper c.index.result.now c.index_mut.result.now c.index.ensures c.index_mut.ensures.value near, omega (arith, phases, c.if-phase-lt-PHASES.true))
+    (its_pass c.args.script.now hall t c.requires.hall c.requires.thread c.args.looper c.index.result.now c.index_mut.result.now c.index.ensures c.index_mut.ensures.value near, omega (arith, phases, c.phase_count-phases.ensures, c.if-phase-phases.true))
 
 pub returns-in_err-remove_callbacks-clause-thread : goal.returns-in_err-remove_callbacks-clause-thread
 returns-in_err-remove_callbacks-clause-thread g c =
@@ -59,7 +59,7 @@ returns-else-place-len-clause-made g c = λ past rest are up. (
     let cs = choreographer_count s hall.choreographers.items c.requires.hall.choreographers in
     let frames = alike_length frame_badge_of (frame_badge_for t.number) t.kit.frames.items hall.choreographers.items c.requires.thread.frames in
     elim c.else-place-len.branch [
-      | else-place-len-via-then-place-len+then-place-len-2+else-phase-lt-PHASES w ↦ absurd (omega (arith, ph, w.if-phase-lt-PHASES.false))
+      | else-place-len-via-then-place-len+then-place-len-2+else-phase-phases w ↦ absurd (omega (arith, ph, c.phase_count-phases.ensures, w.if-phase-phases.false))
       | else-place-len-via-then-place-len+else-place-len-2 w ↦ absurd (omega (arith, lt, cs, w.len-then-place-len.ensures, w.if-place-len-2.false))
       | else-place-len-via-else-place-len w ↦ absurd (omega (arith, lt, cs, frames, c.len.ensures, w.if-place-len.false))
     ])
