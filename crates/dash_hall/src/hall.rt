@@ -5,6 +5,7 @@ ghost use Rattle.dash_hall.specs.Kits.{IsHall, AreKitsOf, AreQueuesOf, AreChoreo
 ghost use Rattle.dash_hall.specs.Dealing.{IsEmptyKit, EachGets, nothing, DealsPosters, DealsPasses, given_of, holder_of, AreUsedNowhere};
 
 use crate::kit::Kit;
+use crate::stop::Stop;
 use choreographer::{Choreographer, FramePass};
 use dash_script::Script;
 use loop_model::NoMemory;
@@ -18,13 +19,16 @@ use std::sync::Mutex;
 /// The number of frame phases: input, animation, traversal and commit (the callback types of AOSP's `Choreographer` but for insets).
 pub const PHASES: u32 = 4;
 
-/// The queue, the choreographer and the sources of each looper, by looper number, and the pool of all messages.
+/// The queue, the choreographer and the sources of each looper, by looper number, the pool of all messages, and the flag by which the
+/// run is given up.
 #[derive(Drop)]
 pub struct Hall {
     pub pool: Pool,
     pub queues: Vec<SharedQueue<PoolClaim>>,
     pub choreographers: Vec<Choreographer>,
     pub sources: Vec<Mutex<Sources>>,
+    /// Set by whoever finds no memory.
+    pub stop: Stop,
 }
 
 /// The queues and choreographers of a script's loopers, and what each sender needs to work with them, by sender number:
@@ -48,6 +52,7 @@ pub fn open(alloc: Global, script: &Script) -> Result<(Hall, Vec<Kit>, PoolPass)
         queues,
         choreographers,
         sources,
+        stop: Stop::new(),
     };
     Ok((hall, kits, pass))
 }
