@@ -234,7 +234,8 @@ fn close<R: Wait>(
         return;
     }
     hall.stop.stop(rt);
-    if 0 < number && 0 < parts.others.len() && 0 < hall.queues.len() {
-        parts.others[0].nudge(rt, &hall.queues[0]);
+    if number == 0 {
+        return;
     }
+    parts.others[0].nudge(rt, &hall.queues[0]);
 }
