@@ -46,13 +46,16 @@ impl Spread {
 #[derive(Drop)]
 pub(crate) struct Agenda {
     due: Vec<Option<u64>>,
+    /// Whether some rule sends without delay.
+    prompt: bool,
 }
 
 impl Agenda {
-    /// So many loopers, which have nothing to do.
-    pub(crate) fn new(alloc: Global, loopers: u32) -> Result<Agenda, NoMemory> {
+    /// The loopers of the script, which have nothing to do.
+    pub(crate) fn new(alloc: Global, script: &Script) -> Result<Agenda, NoMemory> {
         Ok(Agenda {
-            due: vec![in alloc; None; loopers as usize]?,
+            due: vec![in alloc; None; script.loopers as usize]?,
+            prompt: has_prompt_rule(script),
         })
     }
 
@@ -85,6 +88,12 @@ impl Agenda {
         }
     }
 
+    /// A round at this time has done all that was due. A rule without delay may have given any looper something to do.
+    pub(crate) fn note_round(&mut self, now: u64) {
+        let due = if self.prompt { Some(now) } else { None };
+        self.note_all(due);
+    }
+
     /// How many threads a round at this time is worth.
     pub(crate) fn threads(&self, now: u64) -> usize
         ensures { 0 < result }
@@ -97,6 +106,15 @@ impl Agenda {
         }
         spread.threads()
     }
+}
+
+fn has_prompt_rule(script: &Script) -> bool {
+    for rule in script.rules.as_slice() {
+        if rule.delay == 0 {
+            return true;
+        }
+    }
+    false
 }
 
 fn is_by(due: Option<u64>, now: u64) -> bool {

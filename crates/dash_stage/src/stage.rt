@@ -77,7 +77,7 @@ impl Stage {
         ensures first { OnOk result (HaveComeFirst script.now self.new) }
         ensures moves { OnOk result (AreMoved script.now self.new.controller) }
     {
-        let mut agenda = Agenda::new(alloc, script.loopers)?;
+        let mut agenda = Agenda::new(alloc, script)?;
         for block in script.blocks.as_slice() {
             self.go_to(rt, alloc, script, gate, block.time, &mut agenda)?;
             self.run_block(rt, alloc, script, gate, block)?;
@@ -254,7 +254,7 @@ impl Stage {
     }
 
     /// The threads run their commands of a block, side by side.
-    fn run_block<R: Threads + Wait + Sync, G: Gate + Sync>(
+    pub(crate) fn run_block<R: Threads + Wait + Sync, G: Gate + Sync>(
         &mut self,
         rt: &R,
         alloc: Global,
@@ -313,35 +313,13 @@ impl Stage {
     {
         for _ in rt.forever() {
             let before = self.controller.entries_seen();
-            let made = self.made_elsewhere();
             self.run_round(rt, alloc, script, gate, turn, agenda.threads(self.time))?;
             if self.controller.entries_seen() == before {
                 return Ok(());
             }
-            agenda.note_all(self.news_since(made));
+            agenda.note_round(self.time);
         }
         unreachable!()
-    }
-
-    /// How many entries the loopers have made on the queues of others, wrapping.
-    fn made_elsewhere(&self) -> u64 {
-        let mut made: u64 = 0;
-        for looper in self.loopers.as_slice() {
-            if let Some(parts) = &looper.parts {
-                for poster in parts.others.as_slice() {
-                    made = made.wrapping_add(poster.made());
-                }
-            }
-        }
-        made
-    }
-
-    /// The stage's time, where loopers have made entries on the queues of others since they had made so many.
-    fn news_since(&self, made: u64) -> Option<u64> {
-        if self.made_elsewhere() == made {
-            return None;
-        }
-        Some(self.time)
     }
 
     /// One round of these loopers, on so many threads.
@@ -453,7 +431,7 @@ impl Stage {
     }
 
     /// Whether each looper but the main one has ended.
-    fn others_have_ended(&self, script: &Script) -> bool
+    pub(crate) fn others_have_ended(&self, script: &Script) -> bool
         requires stage { IsStage script.now self.now }
         ensures { result ≡ true → OthersHaveEnded self.now.loopers.items }
     {
