@@ -313,7 +313,8 @@ impl Stage {
     {
         for _ in rt.forever() {
             let before = self.controller.entries_seen();
-            self.run_round(rt, alloc, script, gate, turn, agenda.threads(self.time))?;
+            let count = agenda.threads(self.time);
+            self.run_round(rt, alloc, script, gate, turn, count)?;
             if self.controller.entries_seen() == before {
                 return Ok(());
             }
@@ -395,7 +396,8 @@ impl Stage {
             if self.others_have_ended(script) {
                 break;
             }
-            self.run_round(rt, alloc, script, gate, Turn::Others, self.loopers.len().max(1))?;
+            let count = self.loopers.len().max(1);
+            self.run_round(rt, alloc, script, gate, Turn::Others, count)?;
         }
         for _ in rt.forever() {
             self.run_rounds(rt, alloc, script, gate, Turn::Main, agenda)?;
