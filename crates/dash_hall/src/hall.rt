@@ -5,6 +5,7 @@ ghost use Rattle.dash_hall.specs.Kits.{IsHall, AreKitsOf, AreQueuesOf, AreChoreo
 ghost use Rattle.dash_hall.specs.Dealing.{IsEmptyKit, EachGets, nothing, DealsPosters, DealsPasses, given_of, holder_of, AreUsedNowhere};
 
 use crate::kit::Kit;
+use crate::stop::Stop;
 use choreographer::{Choreographer, FramePass};
 use dash_script::{Script, phase_count};
 use loop_model::NoMemory;
@@ -15,13 +16,16 @@ use shared_queue::{Poster, SharedQueue};
 use std::alloc::Global;
 use std::sync::Mutex;
 
-/// The queue, the choreographer and the sources of each looper, by looper number, and the pool of all messages.
+/// The queue, the choreographer and the sources of each looper, by looper number, the pool of all messages, and the flag by which the
+/// run is given up.
 #[derive(Drop)]
 pub struct Hall {
     pub pool: Pool,
     pub queues: Vec<SharedQueue<PoolClaim>>,
     pub choreographers: Vec<Choreographer>,
     pub sources: Vec<Mutex<Sources>>,
+    /// Set by whoever finds no memory.
+    pub stop: Stop,
 }
 
 /// The queues and choreographers of a script's loopers, and what each sender needs to work with them, by sender number:
@@ -45,6 +49,7 @@ pub fn open(alloc: Global, script: &Script) -> Result<(Hall, Vec<Kit>, PoolPass)
         queues,
         choreographers,
         sources,
+        stop: Stop::new(),
     };
     Ok((hall, kits, pass))
 }

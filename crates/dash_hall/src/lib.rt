@@ -9,6 +9,7 @@ mod hall;
 mod handlers;
 mod host;
 mod kit;
+mod stop;
 
 pub use barriers::{quit, recycle_all};
 pub use calls::{QueueCall, perform_by};
@@ -16,3 +17,4 @@ pub use hall::{Hall, holder, open};
 pub use handlers::{Request, frame_handler, gauge_handler, handler_of, looper_of, make};
 pub use host::Host;
 pub use kit::Kit;
+pub use stop::{Look, Stop};

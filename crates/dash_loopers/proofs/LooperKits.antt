@@ -102,6 +102,15 @@ second_is f [] x a b e is = absurd cc
 second_is f (y ∷ []) x a b e is = absurd cc
 second_is f (y ∷ z ∷ ys) x a b e is = let head : f z ≡ b = cc in ap f is ∙ head
 
+-- the parts that a round leaves are still the looper's
+pub parts_left : (s : Script) (hall : Hall) (now : ℕ) (began l : StageLooper) (o : Owner) (parts parts' : Parts) → IsHall s hall → IsLooper s hall l
+    → l.parts ≡ Some parts → o ≡ record { script = s; hall = hall; number = l.number; now = now; began = began }
+    → ((w : Workplace) → ServesAt s hall l.number parts w → ServesAt o.script o.hall o.number parts' w) → ArePartsOf s hall l.number parts'
+parts_left s hall now began l o parts parts' is_hall is e origin serves =
+    let w : Workplace = workplace l.looper.held in
+    let first : ServesAt s hall l.number parts w = record { looper = looper_of s hall l is_hall is; place = is.place; are_parts = parts_of s hall l parts is e } in
+    (subst (λ (x : Owner). ServesAt x.script x.hall x.number parts' w) origin (serves w first)).are_parts
+
 -- what a round leaves is still the looper
 pub looper_then : (s : Script) (hall : Hall) (now : ℕ) (began l : StageLooper) (q : Shared TableId) (o : Owner) (parts parts' : Parts) (after : Looping) (last : Round) → IsHall s hall → IsLooper s hall l
     → l.parts ≡ Some parts → slice_get hall.queues.items l.number ≡ Some q

@@ -94,6 +94,13 @@ played_round s hall now l began o parts' after last same mine origin kept meets 
     subst (λ (b : StageLooper). IsPlaying s l.number now b after.held.poster.sender after.held.poster.view.seen after.held.journal.acts parts') same here in
     subst (λ (k : ℕ). ComesTo s l.number now a k l.looper.held.poster.view.seen after.held.poster.view.seen after.held.journal.acts parts') (kept.sender ∙ mine) (from text a come)
 
+-- and with parts that are the same unless memory was wanting
+pub played_left : (s : Script) (now : ℕ) (l : StageLooper) (after : Looping) (last : Round) (p q : Parts) → (is_given_up last ≡ false → q ≡ p)
+    → HasPlayed s now l (record { number = l.number; sender = l.sender; looper = after; parts = Some p; last = last })
+    → HasPlayed s now l (record { number = l.number; sender = l.sender; looper = after; parts = Some q; last = last })
+played_left s now l after last p q same h = λ going.
+    subst (λ (z : Parts). HasPlayed s now l (record { number = l.number; sender = l.sender; looper = after; parts = Some z; last = last })) (sym (same going)) h going
+
 -- ---- at its end
 
 -- what it leaves tells where it stood

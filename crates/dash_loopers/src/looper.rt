@@ -2,7 +2,8 @@
 ghost use Rattle.std.specs.Prelude.{◌≡◌, ◌+◌, ◌<◌, true, false, IfOk};
 ghost use Rattle.looper_run.specs.Round.{is_ended};
 ghost use Rattle.dash_hall.specs.Kits.{IsHall, IsKitOf, HasSeenOver, IsUnusedKit};
-ghost use Rattle.dash_loopers.specs.Loopers.{posters_of, ComesToWait, WaitsForNothing, IsLooper, HasRun, HasTold, HasDisposedLast, is_given_up, until_of};
+ghost use Rattle.dash_loopers.specs.Loopers.{posters_of, ComesToWait, WaitsForNothing, IsLooper, IsLooperOf, ArePartsOf, HasRun, HasTold, HasDisposedLast, is_given_up, until_of};
+ghost use Rattle.dash_loopers.specs.Players.{AreSameParts};
 ghost use Rattle.dash_loopers.specs.Played.{HasCome, HasPlayed, HasLeft};
 ghost use Rattle.run_model.specs.Loopers.{Looper as LooperState, first_looper};
 
@@ -107,7 +108,7 @@ impl StageLooper {
     }
 
     /// One round at this time, in milliseconds, unless it has ended or given up (`loop` of AOSP's `Looper`, up to its wait). Where it
-    /// finds no memory it has given up.
+    /// finds no memory, or the run given up before a message, it has given up, and the run with it.
     pub fn run_round<R: Wait, G: Gate>(
         &mut self,
         rt: &R,
@@ -155,7 +156,9 @@ impl StageLooper {
             &mut player,
             now,
         );
-        self.parts = Some(player.parts);
+        let mut parts = player.parts;
+        close(rt, hall, script, self.number, self.gave_up(), &mut parts);
+        self.parts = Some(parts);
     }
 
     /// Its journal, and what it worked with, at its end. NoMemory where it found none.
@@ -212,4 +215,28 @@ impl StageLooper {
             },
         ))
     }
+}
+
+/// Gives the run up where the looper of this number found no memory in its round, and nudges main.
+fn close<R: Wait>(
+    rt: &R,
+    hall: &Hall,
+    script: &Script,
+    number: u32,
+    gave_up: bool,
+    parts: &mut Parts,
+)
+    requires looper { IsLooperOf script.now hall.now number }
+    requires parts { ArePartsOf script.now hall.now number parts.old }
+    ensures parts { AreSameParts parts.old parts.new }
+    ensures same { gave_up ≡ false → parts.new ≡ parts.old }
+{
+    if !gave_up {
+        return;
+    }
+    hall.stop.stop(rt);
+    if number == 0 {
+        return;
+    }
+    parts.others[0].nudge(rt, &hall.queues[0]);
 }

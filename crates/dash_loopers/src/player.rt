@@ -119,6 +119,9 @@ impl<'a, R: Wait, G: Gate> Dispatcher for Player<'a, R, G> {
     }
 
     fn run_callback(&mut self, own: &mut Own, id: u64, m: &Message<PoolClaim>, now: u64) -> Did {
+        if self.place.hall.stop.is_stopped(self.place.rt) {
+            return Did::NoMemory;
+        }
         Did::Yes
     }
 
@@ -339,7 +342,7 @@ impl<'a, R: Wait> Place<'a, R> {
     }
 
     /// Delivers a message that has no callback: one of the choreographer to it, one with an object to the gauge of that number, and
-    /// any other to the rules.
+    /// any other to the rules. Where the run is given up it delivers none.
     fn deliver(&self, parts: &mut Parts, own: &mut Own, p: &Post, now: u64) -> Result<(), NoMemory>
         requires serves { ServesAt self.now.script.now self.now.hall.now self.now.looper parts.old (workplace (held own.old)) }
         requires callback { p.now.callback ≡ None }
@@ -349,6 +352,9 @@ impl<'a, R: Wait> Place<'a, R> {
         ensures rung { own.new.poster.now.view.rung ≡ own.old.poster.now.view.rung }
         ensures delivers { OnOk result (Delivers self.now.script.now self.now.looper now p.now (calls_of own.old.poster.now) (calls_of own.new.poster.now) parts.old parts.new own.old.journal.now.acts own.new.journal.now.acts) }
     {
+        if self.hall.stop.is_stopped(self.rt) {
+            return Err(NoMemory);
+        }
         if p.handler == frame_handler(self.looper).id {
             return self.on_frame(parts, own, p, now);
         }

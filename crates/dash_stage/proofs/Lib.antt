@@ -3,6 +3,7 @@ pub mod Controls
 pub mod ControlKept
 pub mod ControlTurns
 pub mod ControlWhole
+pub mod GivingUp
 pub mod Blocks
 pub mod BlocksFirst
 pub mod BlocksReached

@@ -1,10 +1,10 @@
 -- Which loopers run a round, and what the others have heard.
-use Rattle.std.proofs.Common.{◌≡◌, ◌<◌, ℕ, Bool, true, false, List, length, slice_index_or, sym, ap, ◌∙◌, subst}
+use Rattle.std.proofs.Common.{◌≡◌, ◌<◌, ℕ, zero, suc, refl, arith, Bool, true, false, List, length, slice_index_or, sym, ap, ◌∙◌, subst}
 use Rattle.dash_loopers.specs.declared.looper.StageLooper.{StageLooper}
 use Rattle.dash_hall.specs.Hearing.{HaveHeard, AtEach}
 use Rattle.dash_loopers.specs.Loopers.{LooperKeeps}
 use Rattle.dash_stage.specs.declared.side.Turn.{Turn}
-use Rattle.dash_stage.specs.declared.side.Turn.TheVariants.{All}
+use Rattle.dash_stage.specs.declared.side.Turn.TheVariants.{All, Others}
 use Rattle.dash_stage.specs.Turns.{has_turn, AwaitTheirTurn}
 use Rattle.dash_hall.proofs.Hearing.{have_heard_self, have_heard_then}
 use Rattle.dash_stage.proofs.LooperShares.{looper_self, looper_then}
@@ -20,6 +20,11 @@ turn_at turn b k a x same number h = subst (λ (n : ℕ). has_turn turn n ≡ b)
 -- all have their turn
 pub all_have_turn : (turn : Turn) (k : ℕ) → turn ≡ All → has_turn turn k ≡ true
 all_have_turn turn k all = ap (λ (t : Turn). has_turn t k) all
+
+-- all but the main one have theirs
+pub others_have_turn : (k : ℕ) → 0 < k → has_turn Others k ≡ true
+others_have_turn zero some = absurd (omega (arith, some))
+others_have_turn (suc k) some = refl
 
 -- as they are
 pub awaited_self : (turn : Turn) (xs : List StageLooper) → AwaitTheirTurn turn xs xs

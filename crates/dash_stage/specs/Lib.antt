@@ -1,4 +1,5 @@
 pub mod Controllers
+pub mod GivingUp
 pub mod Blocks
 pub mod Staged
 pub mod Records

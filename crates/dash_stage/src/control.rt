@@ -247,6 +247,7 @@ impl Controller {
             &mut self.kit.posters[place],
             &hall.pool,
             &mut self.kit.pass,
+            true,
             script.end,
         )
     }
@@ -300,20 +301,21 @@ fn hand_out<R: Wait>(
     Ok(())
 }
 
-/// Quits a queue safely, at this time in milliseconds.
-fn quit_by<R: Wait>(
+/// Quits a queue, safely or not, at this time in milliseconds.
+pub(crate) fn quit_by<R: Wait>(
     rt: &R,
     queue: &SharedQueue<PoolClaim>,
     poster: &mut Poster<PoolClaim>,
     pool: &Pool,
     pass: &mut PoolPass,
+    safe: bool,
     now: u64,
 ) -> Result<(), NoMemory>
     requires poster { IsOf poster.old queue.now }
     requires pass { pass.old.home ≡ pool.now }
     requires home { queue.now.constants.home ≡ pool.now }
     ensures on { GoesOn poster.old poster.new pass.old pass.new }
-    ensures quit { OnOk result (QuitsOf poster.old poster.new true now) }
+    ensures quit { OnOk result (QuitsOf poster.old poster.new safe now) }
 {
     let mut way = Way {
         queue,
@@ -321,5 +323,5 @@ fn quit_by<R: Wait>(
         pool,
         pass,
     };
-    quit(rt, &mut way, true, now)
+    quit(rt, &mut way, safe, now)
 }

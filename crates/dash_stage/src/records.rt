@@ -44,6 +44,7 @@ pub(crate) fn records(
         queues,
         choreographers,
         sources: _,
+        stop: _,
     } = hall;
     let queues = queue_records(alloc, script, &pool, &mut pass, queues, &mut kits, sealed)?;
     let frames = frame_records(alloc, script, choreographers, &mut kits)?;

@@ -70,6 +70,9 @@ fn played<R: Threads + Wait + Sync, G: Gate + Sync>(
     ensures moves { IfOk result (λ st. AreMoved script.now st.controller) }
 {
     let mut stage = set_up(alloc, script)?;
-    stage.play(rt, alloc, script, gate)?;
+    let Ok(()) = stage.play(rt, alloc, script, gate) else {
+        let _ = stage.give_up(rt, alloc, script, gate);
+        return Err(NoMemory);
+    };
     Ok(stage)
 }

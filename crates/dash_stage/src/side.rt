@@ -1,4 +1,4 @@
-//! Senders that work side by side, each on a thread of its own.
+//! Senders that work side by side, those that have work each on a thread of its own.
 ghost use Rattle.std.specs.Prelude.{◌≡◌, ◌<◌, ℕ, true, false, OnOk, length, slice_index_or};
 ghost use Rattle.std.specs.Thread.{IsSync};
 ghost use Rattle.dash_script.specs.Reading.{HasText};
@@ -11,6 +11,7 @@ ghost use Rattle.dash_stage.specs.Stages.{AreThreads, AreLoopers, RunOn, GoOn, O
 ghost use Rattle.dash_stage.specs.Turns.{has_turn};
 ghost use Rattle.dash_stage.specs.Playing.{PlaysOn};
 
+use crate::agenda::Spread;
 use dash_hall::Hall;
 use dash_loopers::StageLooper;
 use dash_script::{Block, Script};
@@ -57,7 +58,7 @@ pub(crate) fn run_threads<R: Threads + Wait + Sync, G: Gate + Sync>(
     ensures threads { AreThreads script.now hall.now threads.new }
     ensures run { OnOk result (RunOn script.now block.now threads.old threads.new) }
 {
-    let count = threads.len().max(1);
+    let count = threads_for(block, threads);
     for_each_mut(
         rt,
         threads,
@@ -73,6 +74,28 @@ pub(crate) fn run_threads<R: Threads + Wait + Sync, G: Gate + Sync>(
     Ok(())
 }
 
+/// How many threads these senders' lines of a block are worth.
+fn threads_for(block: &Block, threads: &[PostingThread]) -> usize
+    ensures { 0 < result }
+{
+    let mut spread = Spread::new(threads.len());
+    for (place, thread) in threads.iter().enumerate() {
+        if has_line(block, thread.number) {
+            spread.add(place);
+        }
+    }
+    spread.threads()
+}
+
+fn has_line(block: &Block, thread: u32) -> bool {
+    for line in block.lines.as_slice() {
+        if line.thread == thread {
+            return true;
+        }
+    }
+    false
+}
+
 /// Whether one of the threads found no memory.
 fn has_given_up(threads: &[PostingThread]) -> bool
     ensures { result ≡ false → GoOn threads.now }
@@ -85,7 +108,7 @@ fn has_given_up(threads: &[PostingThread]) -> bool
     false
 }
 
-/// These loopers run a round.
+/// These loopers run a round, on so many threads.
 pub(crate) fn run_loopers<R: Threads + Wait + Sync, G: Gate + Sync>(
     rt: &R,
     alloc: Global,
@@ -94,8 +117,10 @@ pub(crate) fn run_loopers<R: Threads + Wait + Sync, G: Gate + Sync>(
     gate: &G,
     now: u64,
     turn: Turn,
+    count: usize,
     loopers: &mut [StageLooper],
 ) -> Result<(), NoMemory>
+    requires count { 0 < count }
     requires hall { IsHall script.now hall.now }
     requires loopers { AreLoopers script.now hall.now loopers.old }
     ensures loopers { AreLoopers script.now hall.now loopers.new }
@@ -106,7 +131,6 @@ pub(crate) fn run_loopers<R: Threads + Wait + Sync, G: Gate + Sync>(
     ensures others { (k : ℕ) (d : StageLooper) → k < length loopers.old → has_turn turn k ≡ false → slice_index_or loopers.new k d ≡ slice_index_or loopers.old k d }
     ensures plays { (k : ℕ) (d : StageLooper) → k < length loopers.old → PlaysOn script.now now (slice_index_or loopers.old k d) (slice_index_or loopers.new k d) }
 {
-    let count = loopers.len().max(1);
     for_each_mut(
         rt,
         loopers,

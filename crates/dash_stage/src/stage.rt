@@ -19,6 +19,7 @@ ghost use Rattle.dash_stage.specs.Playing.{ArePlayed, AreAtBlock, HaveComeFirst,
 ghost use Rattle.dash_stage.specs.Turns.{AwaitTheirTurn};
 ghost use Rattle.dash_stage.specs.Stages.{IsStage, HaveRun, RunOn, OthersHaveEnded, LoopersGoOn};
 
+use crate::agenda::Agenda;
 use crate::control::Controller;
 use crate::side::{Turn, run_loopers, run_threads};
 use dash_hall::Hall;
@@ -76,14 +77,16 @@ impl Stage {
         ensures first { OnOk result (HaveComeFirst script.now self.new) }
         ensures moves { OnOk result (AreMoved script.now self.new.controller) }
     {
+        let mut agenda = Agenda::new(alloc, script)?;
         for block in script.blocks.as_slice() {
-            self.go_to(rt, alloc, script, gate, block.time)?;
+            self.go_to(rt, alloc, script, gate, block.time, &mut agenda)?;
             self.run_block(rt, alloc, script, gate, block)?;
-            self.settle(rt, alloc, script, gate)?;
+            agenda.note_block(script, block);
+            self.settle(rt, alloc, script, gate, &mut agenda)?;
         }
-        self.go_to(rt, alloc, script, gate, script.end)?;
-        self.settle(rt, alloc, script, gate)?;
-        self.end(rt, alloc, script, gate)?;
+        self.go_to(rt, alloc, script, gate, script.end, &mut agenda)?;
+        self.settle(rt, alloc, script, gate, &mut agenda)?;
+        self.end(rt, alloc, script, gate, &mut agenda)?;
         Ok(())
     }
 
@@ -95,6 +98,7 @@ impl Stage {
         script: &Script,
         gate: &G,
         time: u64,
+        agenda: &mut Agenda,
     ) -> Result<(), NoMemory>
         requires text { HasText script.now }
         requires stage { IsStage script.now self.old }
@@ -116,12 +120,12 @@ impl Stage {
         ensures moves { IsInStep script.now self.old → AreRested script.now self.old → AreMoved script.now self.old.controller → OnOk result (AreMoved script.now self.new.controller) }
     {
         for _ in rt.forever() {
-            let next = at_most(self.next_due(rt, script), time);
+            let next = at_most(self.next_due(rt, script, agenda), time);
             let moved = self.advance(rt, script, next)?;
             if moved && next == time {
                 return Ok(());
             }
-            self.settle(rt, alloc, script, gate)?;
+            self.settle(rt, alloc, script, gate, agenda)?;
         }
         unreachable!()
     }
@@ -134,6 +138,7 @@ impl Stage {
         alloc: Global,
         script: &Script,
         gate: &G,
+        agenda: &mut Agenda,
     ) -> Result<(), NoMemory>
         requires text { HasText script.now }
         requires stage { IsStage script.now self.old }
@@ -148,10 +153,10 @@ impl Stage {
         ensures step { IsInStep script.now self.old → OnOk result (IsInStep script.now self.new) }
         ensures moves { AreMoved script.now self.old.controller → OnOk result (AreMoved script.now self.new.controller) }
     {
-        self.run_rounds(rt, alloc, script, gate, Turn::All)?;
+        self.run_rounds(rt, alloc, script, gate, Turn::All, agenda)?;
         if self.controller.has_many() {
             self.hand_out(rt, script)?;
-            self.run_rounds(rt, alloc, script, gate, Turn::All)?;
+            self.run_rounds(rt, alloc, script, gate, Turn::All, agenda)?;
         }
         Ok(())
     }
@@ -175,7 +180,12 @@ impl Stage {
     }
 
     /// The least time at which a message is due or a pulse comes, in milliseconds.
-    fn next_due<R: Wait>(&mut self, rt: &R, script: &Script) -> Option<u64>
+    fn next_due<R: Wait>(
+        &mut self,
+        rt: &R,
+        script: &Script,
+        agenda: &mut Agenda,
+    ) -> Option<u64>
         requires stage { IsStage script.now self.old }
         ensures stage { IsStage script.now self.new }
         ensures threads { self.new.threads.items ≡ self.old.threads.items }
@@ -189,7 +199,9 @@ impl Stage {
     {
         let mut next = None;
         for looper in 0..script.loopers {
-            next = earlier(next, self.due_on(rt, script, looper));
+            let due = self.due_on(rt, script, looper);
+            agenda.note(looper, due);
+            next = earlier(next, due);
         }
         next
     }
@@ -242,7 +254,7 @@ impl Stage {
     }
 
     /// The threads run their commands of a block, side by side.
-    fn run_block<R: Threads + Wait + Sync, G: Gate + Sync>(
+    pub(crate) fn run_block<R: Threads + Wait + Sync, G: Gate + Sync>(
         &mut self,
         rt: &R,
         alloc: Global,
@@ -281,6 +293,7 @@ impl Stage {
         script: &Script,
         gate: &G,
         turn: Turn,
+        agenda: &mut Agenda,
     ) -> Result<(), NoMemory>
         requires text { HasText script.now }
         requires stage { IsStage script.now self.old }
@@ -300,15 +313,17 @@ impl Stage {
     {
         for _ in rt.forever() {
             let before = self.controller.entries_seen();
-            self.run_round(rt, alloc, script, gate, turn)?;
+            let count = agenda.threads(self.time);
+            self.run_round(rt, alloc, script, gate, turn, count)?;
             if self.controller.entries_seen() == before {
                 return Ok(());
             }
+            agenda.note_round(self.time);
         }
         unreachable!()
     }
 
-    /// One round of these loopers, side by side.
+    /// One round of these loopers, on so many threads.
     fn run_round<R: Threads + Wait + Sync, G: Gate + Sync>(
         &mut self,
         rt: &R,
@@ -316,8 +331,10 @@ impl Stage {
         script: &Script,
         gate: &G,
         turn: Turn,
+        count: usize,
     ) -> Result<(), NoMemory>
         requires text { HasText script.now }
+        requires count { 0 < count }
         requires stage { IsStage script.now self.old }
         ensures stage { IsStage script.now self.new }
         ensures run { (past : List BlockData) → HaveRun script.now past self.old.threads.items → HaveRun script.now past self.new.threads.items }
@@ -342,6 +359,7 @@ impl Stage {
             gate,
             self.time,
             turn,
+            count,
             self.loopers.as_mut_slice(),
         )?;
         self.share(script);
@@ -356,6 +374,7 @@ impl Stage {
         alloc: Global,
         script: &Script,
         gate: &G,
+        agenda: &mut Agenda,
     ) -> Result<(), NoMemory>
         requires text { HasText script.now }
         requires some { 0 < script.now.loopers }
@@ -377,10 +396,11 @@ impl Stage {
             if self.others_have_ended(script) {
                 break;
             }
-            self.run_round(rt, alloc, script, gate, Turn::Others)?;
+            let count = self.loopers.len().max(1);
+            self.run_round(rt, alloc, script, gate, Turn::Others, count)?;
         }
         for _ in rt.forever() {
-            self.run_rounds(rt, alloc, script, gate, Turn::Main)?;
+            self.run_rounds(rt, alloc, script, gate, Turn::Main, agenda)?;
             let halted = self.controller.halt(rt, &self.hall, script);
             self.share(script);
             if halted {
@@ -413,7 +433,7 @@ impl Stage {
     }
 
     /// Whether each looper but the main one has ended.
-    fn others_have_ended(&self, script: &Script) -> bool
+    pub(crate) fn others_have_ended(&self, script: &Script) -> bool
         requires stage { IsStage script.now self.now }
         ensures { result ≡ true → OthersHaveEnded self.now.loopers.items }
     {

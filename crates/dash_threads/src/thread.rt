@@ -14,7 +14,7 @@ ghost use Rattle.dash_threads.specs.Threads.{IsThread, CallsAt, with_barrier, Ma
 use crate::labels::Labelled;
 use crate::planned::call_for;
 use choreographer::{Choreographer, FramePass};
-use dash_hall::{Hall, Host, Kit, QueueCall, frame_handler, perform_by};
+use dash_hall::{Hall, Host, Kit, Look, QueueCall, frame_handler, perform_by};
 use dash_script::{Block, Command, Script, phase_count};
 use handler_post::Handler;
 use loop_io::Gate;
@@ -34,7 +34,7 @@ pub struct PostingThread {
     pub barriers: Vec<Labelled>,
     /// How often it came to the gate.
     pub passed: u64,
-    /// It found no memory, and makes no command more.
+    /// It found no memory, or the run given up, and makes no command more.
     pub gave_up: bool,
 }
 
@@ -69,8 +69,8 @@ impl PostingThread {
         kit
     }
 
-    /// Runs its commands of a block, in the order of their lines, at the block's time in milliseconds. Each passes the gate first. Where
-    /// one finds no memory the thread gives up, and runs none behind it.
+    /// Runs its commands of a block, in the order of their lines, at the block's time in milliseconds. Each passes the gate first, and
+    /// then looks whether the run is given up. Where one finds no memory the thread gives the run up. Behind either it runs none.
     pub fn run_block<R: Wait, G: Gate>(
         &mut self,
         rt: &R,
@@ -120,8 +120,52 @@ impl PostingThread {
         }
         gate.pass(self.number, self.passed);
         self.passed = self.passed.saturating_add(1);
-        let done = self.run(rt, alloc, hall, script, now, command);
-        self.gave_up = done.is_err();
+        let look = hall.stop.look(rt);
+        self.run_unless_stopped(rt, alloc, hall, script, now, command, look);
+    }
+
+    /// Runs a command at this uptime, in milliseconds, unless the look found the run given up. Where it finds no memory it gives the run
+    /// up.
+    fn run_unless_stopped<R: Wait>(
+        &mut self,
+        rt: &R,
+        alloc: Global,
+        hall: &Hall,
+        script: &Script,
+        now: u64,
+        command: Command,
+        look: Look,
+    )
+        requires text { HasText script.now }
+        requires hall { IsHall script.now hall.now }
+        requires thread { IsThread script.now hall.now self.old }
+        ensures thread { IsThread script.now hall.now self.new }
+        ensures number { self.new.number ≡ self.old.number }
+        ensures heeds { look ≡ true → self.new ≡ record self.old { gave_up = true } }
+        ensures made { self.new.gave_up ≡ false → Takes script.now (record { time = now; command = command }) self.old self.new }
+    {
+        if look.is_stopped() {
+            self.gave_up = true;
+            return;
+        }
+        if self.run(rt, alloc, hall, script, now, command).is_err() {
+            self.give_up(rt, hall, script);
+        }
+    }
+
+    /// Makes no command more, gives the run up and nudges main.
+    fn give_up<R: Wait>(&mut self, rt: &R, hall: &Hall, script: &Script)
+        requires hall { IsHall script.now hall.now }
+        requires thread { IsThread script.now hall.now self.old }
+        ensures thread { IsThread script.now hall.now self.new }
+        ensures number { self.new.number ≡ self.old.number }
+        ensures gave_up { self.new.gave_up ≡ true }
+    {
+        self.gave_up = true;
+        hall.stop.stop(rt);
+        if 0 < self.kit.posters.len() && 0 < hall.queues.len() {
+            self.kit.posters[0].nudge(rt, &hall.queues[0]);
+        }
     }
 
     /// Runs a command at this uptime, in milliseconds.

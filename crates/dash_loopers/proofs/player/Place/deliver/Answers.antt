@@ -3,9 +3,14 @@ use Rattle.choreographer.proofs.Phases.{on_ok}
 use Rattle.handler_post.specs.declared.handler.Handler.{Handler}
 use Rattle.run_model.specs.Senders.{frame_handler}
 use Rattle.run_model.specs.Loopers.{object_set, reacted}
+use Rattle.looper_run.specs.Holding.{held}
+use Rattle.looper_run.proofs.Working.{lent_self}
 use Rattle.dash_loopers.specs.Played.{calls_of}
 use Rattle.dash_loopers.proofs.PlaySteps.{delivered_object, delivered_plain, object_painted, still_delivered}
 use Rattle.dash_loopers.proofs.player.Place.deliver.Goals as goal
+
+pub returns-then-is_stopped-clause-lent : goal.returns-then-is_stopped-clause-lent
+returns-then-is_stopped-clause-lent g c = lent_self (held c.args.own.now)
 
 pub returns-in-Some-clause-delivers : goal.returns-in-Some-clause-delivers
 returns-in-Some-clause-delivers g c =

@@ -6,6 +6,9 @@ use Rattle.looper_run.proofs.Working.{lent_self}
 use Rattle.dash_loopers.proofs.LooperPlaying.{playing_dispatch, delivers_none}
 use Rattle.dash_loopers.proofs.player.PlayerDispatcher.run_callback.Goals as goal
 
+pub returns-then-is_stopped-clause-lent : goal.returns-then-is_stopped-clause-lent
+returns-then-is_stopped-clause-lent g c = lent_self (held c.args.own.now)
+
 pub returns-clause-lent : goal.returns-clause-lent
 returns-clause-lent g c = lent_self (held c.args.own.now)
 

@@ -1,0 +1,33 @@
+use Rattle.std.proofs.Common.{◌≡◌, ◌≤◌, ◌+◌, ℕ, arith}
+use Rattle.std.proofs.lemmas.Bool.{and_parts}
+use Rattle.dash_stage.proofs.Controlling.{poster_count}
+use Rattle.dash_stage.proofs.GivingUp.{quit_more, rest_less, nudged_kept}
+use Rattle.dash_stage.proofs.give_up.Controller.give_up.Goals as goal
+
+pub loop-looper-init : goal.loop-looper-init
+loop-looper-init g c = record {
+  controller = c.nudge_main.ensures.controller;
+  some = omega arith;
+  nudged = c.nudge_main.ensures.nudged;
+  quit = λ done q d some below. absurd (omega (arith, some, below));
+  rest = λ q d le. c.nudge_main.ensures.elsewhere q d (λ e. absurd (omega (arith, e, le)));
+}
+
+pub loop-looper-preserved : goal.loop-looper-preserved
+loop-looper-preserved g c =
+    let at = c.loop-looper in
+    let first = c.args.self.now in
+    let after = c.quit_plainly.new.self in
+    record {
+      controller = c.quit_plainly.ensures.controller;
+      some = omega arith;
+      nudged = nudged_kept first at.self after at.invariant.nudged (λ d. c.quit_plainly.ensures.elsewhere 0 d (λ e. let one = at.invariant.some in absurd (omega (arith, e, one))));
+      quit = λ done. (let both = and_parts at.done _ done in
+          quit_more c.args.now at.looper first at.self after at.invariant.rest c.quit_plainly.ensures.elsewhere (at.invariant.quit both.0) (c.quit_plainly.ensures.here both.1));
+      rest = rest_less c.args.now at.looper first at.self after at.invariant.rest c.quit_plainly.ensures.elsewhere;
+    }
+
+pub returns-clause-quit : goal.returns-clause-quit
+returns-clause-quit g c done q d some below =
+    let count = poster_count c.args.script.now c.args.hall.now c.args.self.now c.requires.hall c.requires.controller in
+    c.loop-looper.invariant.quit done q d some (omega (arith, count, below, c.loop-looper-test.false))

@@ -1,0 +1,37 @@
+use Rattle.std.proofs.Common.{false}
+use Rattle.dash_hall.specs.Growth.{QuitsOf}
+use Rattle.looper_run.specs.Holding.{Sender}
+use Rattle.dash_stage.proofs.Controlling.{in_queues, in_posters, has_poster, own_poster, in_pool, after_call}
+use Rattle.dash_stage.proofs.ControlWhole.{turns_elsewhere}
+use Rattle.dash_stage.proofs.GivingUp.{stands_there}
+use Rattle.dash_stage.proofs.give_up.Controller.quit_plainly.Goals as goal
+
+pub index-requires : goal.index-requires
+index-requires g c = in_queues c.args.script.now c.args.hall.now c.requires.hall c.args.place c.requires.place
+
+pub index_mut-requires : goal.index_mut-requires
+index_mut-requires g c = in_posters c.args.script.now c.args.hall.now c.requires.hall c.args.place c.requires.place c.args.self.now c.requires.controller
+
+pub quit_by-requires-clause-poster : goal.quit_by-requires-clause-poster
+quit_by-requires-clause-poster g c =
+    (own_poster c.args.script.now c.args.hall.now c.requires.hall c.args.place c.requires.place c.args.self.now c.requires.controller c.index_mut.result.now c.index.result.now c.index_mut.ensures.value c.index.ensures).0
+
+pub quit_by-requires-clause-home : goal.quit_by-requires-clause-home
+quit_by-requires-clause-home g c = in_pool c.args.script.now c.args.hall.now c.requires.hall c.args.place c.requires.place c.args.self.now c.requires.controller c.index.result.now c.index.ensures
+
+pub returns-in_err-quit_by : goal.returns-in_err-quit_by
+returns-in_err-quit_by g c = ?
+
+pub returns : goal.returns
+returns g c =
+    let s = c.args.script.now in
+    let hall = c.args.hall.now in
+    let me = c.args.self.now in
+    let within = has_poster s hall c.requires.hall c.args.place c.requires.place me c.requires.controller in
+    let p = c.index_mut.result.now in
+    let p' = c.quit_by.new.poster in
+    record {
+      controller = after_call s hall c.requires.hall c.args.place c.requires.place me c.requires.controller p p' c.quit_by.new.pass c.index_mut.ensures.value c.quit_by.ensures.on;
+      here = λ done. stands_there me.kit.posters.items c.args.place p p' within c.index_mut.ensures.value (λ (a b : Sender). QuitsOf a b false c.args.now) ?;
+      elsewhere = turns_elsewhere me c.args.place p p' c.quit_by.new.pass within c.index_mut.ensures.value;
+    }

@@ -1,0 +1,21 @@
+use Rattle.std.proofs.Common.{◌≡◌, ◌<◌, ℕ, true, List, length, sym, ◌∙◌, subst, arith}
+use Rattle.std.specs.Prelude.{slice_index_or}
+use Rattle.std.proofs.lemmas.List.{with_items_is}
+use Rattle.dash_loopers.specs.declared.looper.StageLooper.{StageLooper}
+use Rattle.dash_loopers.specs.Loopers.{HasRun}
+use Rattle.dash_stage.specs.declared.side.Turn.TheVariants.{Others}
+use Rattle.dash_stage.specs.Turns.{has_turn}
+use Rattle.dash_stage.proofs.Turns.{others_have_turn}
+use Rattle.dash_stage.proofs.give_up.Stage.give_up.Goals as goal
+
+pub returns-clause-run : goal.returns-clause-run
+returns-clause-run g c k d some lt =
+    let s = c.args.script.now in
+    let me = c.args.self.now in
+    let ran = c.run_loopers.new.loopers in
+    let rounds =
+    subst (λ (xs : List StageLooper). (k : ℕ) (d : StageLooper) → k < length xs → has_turn Others k ≡ true → HasRun s me.time (slice_index_or xs k d) (slice_index_or ran k d)) c.as_mut_slice.ensures.value c.run_loopers.ensures.rounds in
+    let long = c.run_loopers.ensures.loopers.0 in
+    let many = c.requires.stage.loopers.0 in
+    subst (λ (xs : List StageLooper). HasRun s me.time (slice_index_or me.loopers.items k d) (slice_index_or xs k d)) (sym (with_items_is me.loopers ran (omega (arith, long, many, me.loopers.ok.0))))
+    (rounds k d lt (others_have_turn k some))

@@ -1,0 +1,18 @@
+-- How the controller ends the queues of a run that is given up.
+use Rattle.std.specs.Prelude.{◌≡◌, ◌<◌, ◌+◌, ℕ, false, length, slice_index_or}
+use Rattle.looper_run.specs.Holding.{Sender}
+use Rattle.dash_hall.specs.Growth.{own, QuitsOf}
+use Rattle.dash_stage.specs.declared.control.Controller.{Controller}
+
+-- each of the first n queues but main's was quit plainly at this time by one call, which may have been refused
+abbrev pub AreQuitBelow : ℕ → ℕ → Controller → Controller → Type 0
+AreQuitBelow n now before after = (q : ℕ) (d : Sender) → 0 < q → q < n → QuitsOf (slice_index_or before.kit.posters.items q d) (slice_index_or after.kit.posters.items q d) false now
+
+-- so it is with each queue but main's
+abbrev pub AreQuit : ℕ → Controller → Controller → Type 0
+AreQuit now before after = AreQuitBelow (length before.kit.posters.items) now before after
+
+-- main's bell was rung, and no call was made on its queue
+pub record IsNudged (before after : Controller) : Type 0 where
+  pub rung : (d : Sender) → (slice_index_or after.kit.posters.items 0 d).view.rung ≡ (slice_index_or before.kit.posters.items 0 d).view.rung + 1
+  pub none : (d : Sender) → own (slice_index_or after.kit.posters.items 0 d) ≡ own (slice_index_or before.kit.posters.items 0 d)

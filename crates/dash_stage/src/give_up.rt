@@ -1,0 +1,118 @@
+//! How a run is given up.
+ghost use Rattle.std.specs.Prelude.{◌≡◌, ◌≢◌, ◌<◌, ℕ, true, false, length, slice_index_or};
+ghost use Rattle.looper_run.specs.Holding.{Sender};
+ghost use Rattle.dash_hall.specs.Growth.{QuitsOf};
+ghost use Rattle.dash_hall.specs.Kits.{IsHall};
+ghost use Rattle.dash_loopers.specs.declared.looper.StageLooper.{StageLooper};
+ghost use Rattle.dash_loopers.specs.Loopers.{HasRun};
+ghost use Rattle.dash_stage.specs.Controllers.{IsController};
+ghost use Rattle.dash_stage.specs.GivingUp.{AreQuit, IsNudged};
+ghost use Rattle.dash_stage.specs.Stages.{IsStage};
+
+use crate::control::{Controller, quit_by};
+use crate::side::{Turn, run_loopers};
+use crate::stage::Stage;
+use dash_hall::Hall;
+use dash_script::Script;
+use loop_io::Gate;
+use loop_model::NoMemory;
+use std::alloc::Global;
+use std::sync::Wait;
+use std::thread::Threads;
+
+impl Stage {
+    /// Gives the run up, since a sender found no memory: the flag is set, main is nudged, and the controller quits each other looper
+    /// plainly, whatever comes of it. These run a round, which ends with their disposal, for want of memory, or at the flag. Answers
+    /// false where a quit found no memory.
+    pub(crate) fn give_up<R: Threads + Wait + Sync, G: Gate + Sync>(
+        &mut self,
+        rt: &R,
+        alloc: Global,
+        script: &Script,
+        gate: &G,
+    ) -> bool
+        requires some { 0 < script.now.loopers }
+        requires stage { IsStage script.now self.old }
+        ensures stage { IsStage script.now self.new }
+        ensures nudged { IsNudged self.old.controller self.new.controller }
+        ensures quit { result ≡ true → AreQuit self.old.time self.old.controller self.new.controller }
+        ensures run { (k : ℕ) (d : StageLooper) → 0 < k → k < length self.old.loopers.items → HasRun script.now self.old.time (slice_index_or self.old.loopers.items k d) (slice_index_or self.new.loopers.items k d) }
+    {
+        let quit = self.controller.give_up(rt, &self.hall, script, self.time);
+        let _ = run_loopers(
+            rt,
+            alloc,
+            &self.hall,
+            script,
+            gate,
+            self.time,
+            Turn::Others,
+            1,
+            self.loopers.as_mut_slice(),
+        );
+        quit
+    }
+}
+
+impl Controller {
+    /// Sets the flag by which the run is given up, nudges main, and quits each other looper plainly at this time, in milliseconds.
+    /// Answers false where a quit found no memory; the others are made all the same.
+    fn give_up<R: Wait>(&mut self, rt: &R, hall: &Hall, script: &Script, now: u64) -> bool
+        requires some { 0 < script.now.loopers }
+        requires hall { IsHall script.now hall.now }
+        requires controller { IsController script.now hall.now self.old }
+        ensures controller { IsController script.now hall.now self.new }
+        ensures nudged { IsNudged self.old self.new }
+        ensures quit { result ≡ true → AreQuit now self.old self.new }
+    {
+        hall.stop.stop(rt);
+        self.nudge_main(rt, hall, script);
+        let mut done = true;
+        for looper in 1..script.loopers {
+            done &= self.quit_plainly(rt, hall, script, looper as usize, now);
+        }
+        done
+    }
+
+    /// Rings main's bell.
+    fn nudge_main<R: Wait>(&mut self, rt: &R, hall: &Hall, script: &Script)
+        requires some { 0 < script.now.loopers }
+        requires hall { IsHall script.now hall.now }
+        requires controller { IsController script.now hall.now self.old }
+        ensures controller { IsController script.now hall.now self.new }
+        ensures nudged { IsNudged self.old self.new }
+        ensures elsewhere { (q : ℕ) (d : Sender) → q ≢ 0 → slice_index_or self.new.kit.posters.items q d ≡ slice_index_or self.old.kit.posters.items q d }
+    {
+        self.kit.posters[0].nudge(rt, &hall.queues[0]);
+    }
+
+    /// Quits a looper plainly at this time, in milliseconds. Answers false where it found no memory.
+    fn quit_plainly<R: Wait>(
+        &mut self,
+        rt: &R,
+        hall: &Hall,
+        script: &Script,
+        place: usize,
+        now: u64,
+    ) -> bool
+        requires hall { IsHall script.now hall.now }
+        requires controller { IsController script.now hall.now self.old }
+        requires place { place < script.now.loopers }
+        ensures controller { IsController script.now hall.now self.new }
+        ensures here { result ≡ true → (d : Sender) → QuitsOf (slice_index_or self.old.kit.posters.items place d) (slice_index_or self.new.kit.posters.items place d) false now }
+        ensures elsewhere { (q : ℕ) (d : Sender) → q ≢ place → slice_index_or self.new.kit.posters.items q d ≡ slice_index_or self.old.kit.posters.items q d }
+    {
+        let Ok(()) = quit_by(
+            rt,
+            &hall.queues[place],
+            &mut self.kit.posters[place],
+            &hall.pool,
+            &mut self.kit.pass,
+            false,
+            now,
+        ) else {
+            return false;
+        };
+        true
+    }
+}
