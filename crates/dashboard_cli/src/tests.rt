@@ -1,5 +1,5 @@
 use crate::*;
-use dash_script::Cause;
+use dash_script::Cause as TextCause;
 use loop_io::{Gate, MeetGate, MemSink, MemSource, OpenGate, StepClock, SureSink, SureSource};
 use loop_model::{Call, Entry};
 use std::alloc::{AllocError, Global};
@@ -422,27 +422,27 @@ fn a_busy_run_comes_to_its_counts(rt: HostRuntime) -> Result<(), Fail> {
 
 /// Words, a text, its least bad line and that line's cause.
 const REFUSED: [(&str, &str, u64, Cause); 7] = [
-    ("run", "", 1, Cause::Missing),
-    ("text", "dashboard 1\nloopers 1\nthre", 3, Cause::Form),
-    ("run", "dashboard 1\nloopers 9\n", 2, Cause::Range),
-    ("trace", "trace 1\nend\n", 1, Cause::Form),
+    ("run", "", 1, Cause::Text(TextCause::Missing)),
+    ("text", "dashboard 1\nloopers 1\nthre", 3, Cause::Text(TextCause::Form)),
+    ("run", "dashboard 1\nloopers 9\n", 2, Cause::Text(TextCause::Range)),
+    ("trace", "trace 1\nend\n", 1, Cause::Text(TextCause::Form)),
     (
         "run",
         "dashboard 1\nloopers 1\nthreads 1\nhandler 0 1\n",
         4,
-        Cause::Unknown,
+        Cause::Text(TextCause::Unknown),
     ),
     (
         "run",
         "dashboard 1\nloopers 1\nthreads 1\nhandler 1 0\n",
         4,
-        Cause::Order,
+        Cause::Text(TextCause::Order),
     ),
     (
         "animate",
         "animate 1\nperiod 1000000\ncountdown 60001 10\nend\n",
         3,
-        Cause::Range,
+        Cause::Text(TextCause::Range),
     ),
 ];
 
@@ -801,7 +801,7 @@ fn a_byte_too_many_is_too_long(rt: HostRuntime) -> Result<(), Fail> {
     let alloc = rt.alloc();
     let form = Status::Script {
         line: 1,
-        cause: Cause::Form,
+        cause: Cause::Text(TextCause::Form),
     };
     is_long(&rt, alloc, "run", MOST_BYTES, &form)?;
     is_long(&rt, alloc, "run", MOST_BYTES + 1, &Status::TooLong)?;
@@ -817,7 +817,7 @@ const STATUSES: [(Status, u8, &str); 13] = [
     (
         Status::Script {
             line: 1,
-            cause: Cause::Missing,
+            cause: Cause::Text(TextCause::Missing),
         },
         3,
         "dashboard: script line 1: missing",
@@ -825,7 +825,7 @@ const STATUSES: [(Status, u8, &str); 13] = [
     (
         Status::Script {
             line: 2,
-            cause: Cause::Form,
+            cause: Cause::Text(TextCause::Form),
         },
         3,
         "dashboard: script line 2: form",
@@ -833,7 +833,7 @@ const STATUSES: [(Status, u8, &str); 13] = [
     (
         Status::Script {
             line: 30,
-            cause: Cause::Range,
+            cause: Cause::Text(TextCause::Range),
         },
         3,
         "dashboard: script line 30: range",
@@ -841,7 +841,7 @@ const STATUSES: [(Status, u8, &str); 13] = [
     (
         Status::Script {
             line: 400,
-            cause: Cause::Unknown,
+            cause: Cause::Text(TextCause::Unknown),
         },
         3,
         "dashboard: script line 400: unknown",
@@ -849,7 +849,7 @@ const STATUSES: [(Status, u8, &str); 13] = [
     (
         Status::Script {
             line: 5,
-            cause: Cause::Order,
+            cause: Cause::Text(TextCause::Order),
         },
         3,
         "dashboard: script line 5: order",
@@ -857,7 +857,7 @@ const STATUSES: [(Status, u8, &str); 13] = [
     (
         Status::Script {
             line: 20_001,
-            cause: Cause::TooMany,
+            cause: Cause::Text(TextCause::TooMany),
         },
         3,
         "dashboard: script line 20001: toomany",
