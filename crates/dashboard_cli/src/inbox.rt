@@ -26,14 +26,15 @@ fn count_admitted(lists: &[Sequence<Parcel>], thread: u32) -> Result<u64, NoMemo
 {
     let mut total: u64 = 0;
     for parcels in lists {
-        let more = count_from(parcels.as_slice(), thread);
-        total = total.checked_add(more).ok_or(NoMemory)?;
+        let Some(more) = total.checked_add(count_from(parcels.as_slice(), thread)) else {
+            return Err(NoMemory);
+        };
+        total = more;
     }
     Ok(total)
 }
 
 /// Writes for each of so many threads how many of its parcels were admitted.
-#[tactic(auto, using(std::proofs::lemmas::List::append_assoc))]
 fn write_admitted(
     out: &mut String,
     threads: u32,

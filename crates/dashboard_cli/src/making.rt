@@ -297,7 +297,10 @@ fn run_with_inbox<R: Threads + Wait + Sync, G: Gate + Sync>(
     let script = read_script(alloc, input)?;
     match run_inbox(rt, alloc, script, gate) {
         InboxRan::Ok(report) => Ok(report),
-        InboxRan::Bad { line } => Err(Status::Script { line, cause: Cause::Inbox }),
+        InboxRan::Bad { line } => Err(Status::Script {
+            line,
+            cause: Cause::Inbox,
+        }),
         InboxRan::NoMemory => Err(Status::NoMemory),
     }
 }
