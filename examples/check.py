@@ -94,9 +94,13 @@ def given_to(name):
     return MADE[name]() if name in MADE else b"".join(read(name, kind) for kind in ("script", "plan", "trace"))
 
 
+def listed():
+    """The lines of INDEX.txt: name, words, exit status and what is shown."""
+    return [line.split("\t") for line in (HERE / "INDEX.txt").read_text().splitlines()]
+
+
 def examples():
-    for line in (HERE / "INDEX.txt").read_text().splitlines():
-        name, words, code, shows = line.split("\t")
+    for name, words, code, shows in listed():
         if (HERE / f"{name}.reports").exists():
             continue
         report = longest() if name == "longest_script" else read(name, "report")
@@ -106,18 +110,19 @@ def examples():
 
 
 def races(program):
-    """Each run writes one of the lawful reports, and each of them is seen."""
-    for file in sorted(HERE.glob("*.reports")):
-        lawful = [text.lstrip("\n") for text in file.read_text().split("%%\n")]
-        given = file.with_suffix(".script").read_bytes()
-        seen = set()
+    """Each run writes one of the lawful reports."""
+    for name, words, *_ in listed():
+        lawful = [text.lstrip("\n") for text in read(name, "reports").decode().split("%%\n")]
+        if lawful == [""]:
+            continue
+        given, seen = given_to(name), set()
         for _ in range(RUNS):
-            got = subprocess.run([program, "run"], input=given, capture_output=True, timeout=60).stdout.decode()
+            got = run(program, words.split(), given)
             if got not in lawful:
-                yield file.stem, f"a report that is not lawful: {got!r}"
+                yield name, f"a report that is not lawful: {got!r}"
                 break
             seen.add(got)
-        print(f"{file.stem}: {len(seen)} of {len(lawful)} lawful reports seen in {RUNS} runs")
+        print(f"{name}: {len(seen)} of {len(lawful)} lawful reports seen in {RUNS} runs")
 
 
 def run(program, words, given=b""):

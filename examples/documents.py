@@ -19,7 +19,7 @@ sys.dont_write_bytecode = True
 from believe import files_below
 
 TOP = pathlib.Path(__file__).resolve().parent.parent
-LIMITS = {"README.md": 14_336, "docs/PROMISE.md": 10_240, "docs/USING.md": 8_192, "docs/PROVING.md": 25_600}
+LIMITS = {"README.md": 14_336, "docs/PROMISE.md": 11_264, "docs/USING.md": 8_192, "docs/PROVING.md": 25_600}
 faults = []
 
 

@@ -99,6 +99,7 @@ def main():
     places = [set(every[:1]), set(every[:2]), set(every)]
     runs = found = 0
     seen = set()
+    words_of = {line.split("\t")[0]: line.split("\t")[1].split() for line in (HERE / "INDEX.txt").read_text().splitlines()}
     for number in range(asked.seed, asked.seed + asked.scripts):
         given, posts = script(number)
         for turn in range(asked.runs):
@@ -116,7 +117,7 @@ def main():
     for file in sorted(HERE.glob("*.reports")):
         lawful = [text.lstrip("\n") for text in file.read_text().split("%%\n")]
         for turn in range(asked.runs * 10):
-            got = run(program, ["run"], file.with_suffix(".script").read_bytes(), places[turn % 3]).stdout.decode()
+            got = run(program, words_of[file.stem], file.with_suffix(".script").read_bytes(), places[turn % 3]).stdout.decode()
             runs += 1
             seen.add((file.stem, got))
             if got not in lawful:

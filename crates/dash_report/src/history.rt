@@ -107,7 +107,8 @@ fn write_entries(out: &mut String, posts: &[Post], entries: &[Entry]) -> Result<
     Ok(())
 }
 
-/// Writes the lines of a history in these parts.
+/// Writes the lines of a history in these parts: its dispatches, refusals and other answers, in order. It is refused only for want
+/// of memory. The form is this project's profile.
 pub fn write_history(alloc: Global, out: &mut String, segments: &[Segment]) -> Result<(), NoMemory>
     ensures { OnOk result (string_bytes out.new
         ≡ string_bytes out.old ++ flat_map line_text (history_lines (entries_of segments.now))) }

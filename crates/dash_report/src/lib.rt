@@ -8,6 +8,8 @@ mod journal;
 mod report;
 mod summary;
 
+pub use fates::write_fates;
+pub use history::write_history;
 pub use report::report_text;
 pub use summary::summary_text;
 

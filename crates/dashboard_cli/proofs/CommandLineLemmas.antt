@@ -12,7 +12,7 @@ use Rattle.dashboard_cli.specs.CommandLine.{dashboard_app, HasNumber, HasRows, I
 use Rattle.dashboard_cli.specs.Words.{IsInRange, IsListed, IsSpelled}
 use Rattle.std.specs.Prelude.{IfNone, IsSomeAnd, None, unwrap_or}
 use Rattle.dashboard_cli.specs.declared.words.Command.{Command}
-use Rattle.dashboard_cli.specs.declared.words.Command.TheVariants.{Run, Text, Migrate, Make, MakeRun, Trace, Check, Animate}
+use Rattle.dashboard_cli.specs.declared.words.Command.TheVariants.{Run, Text, Migrate, Make, MakeRun, Trace, Check, Animate, Inbox}
 
 -- the parser takes the words, and finds the command in them
 pub record IsParsed (words : List (List ℕ)) (Found : Type 0) : Type 0 where
@@ -88,6 +88,10 @@ pub finds_animate : Finds Animate (codes "animate" ∷ [])
 unfolding clap_on_literals
 finds_animate = record { taken = refl; found = (refl, tt) }
 
+pub finds_inbox : Finds Inbox (codes "inbox" ∷ [])
+unfolding clap_on_literals
+finds_inbox = record { taken = refl; found = (refl, tt) }
+
 makes_number : (number : ℕ) → number < 2 ^ 32 → MakesAll (decimal number)
 makes_number number small =
     let numeral = (decimal_is_IsNumeral number (omega (arith, small))).0 in
@@ -102,6 +106,7 @@ finds Migrate words fits is = subst (Finds Migrate) (sym is) finds_migrate
 finds Trace words fits is = subst (Finds Trace) (sym is) finds_trace
 finds Check words fits is = subst (Finds Check) (sym is) finds_check
 finds Animate words fits is = subst (Finds Animate) (sym is) finds_animate
+finds Inbox words fits is = subst (Finds Inbox) (sym is) finds_inbox
 finds (Make number) words fits is = subst (Finds (Make number)) (sym is) (makes_number number fits).0
 finds (MakeRun number) words fits (inl is) = subst (Finds (MakeRun number)) (sym is) (makes_number number fits).1
 finds (MakeRun number) words fits (inr is) = subst (Finds (MakeRun number)) (sym is) (makes_number number fits).2
@@ -123,6 +128,7 @@ is_make Migrate rows fits named has = let bad : ◌≡◌ {A = ℕ} 120 107 = ap
 is_make Trace rows fits named has = let bad : ◌≡◌ {A = ℕ} 97 107 = ap (λ (t : List ℕ). slice_index t 2) named in absurd (omega arith)
 is_make Check rows fits named has = let bad : ◌≡◌ {A = ℕ} 101 107 = ap (λ (t : List ℕ). slice_index t 2) named in absurd (omega arith)
 is_make Animate rows fits named has = let bad : ◌≡◌ {A = ℕ} 105 107 = ap (λ (t : List ℕ). slice_index t 2) named in absurd (omega arith)
+is_make Inbox rows fits named has = let bad : ◌≡◌ {A = ℕ} 98 107 = ap (λ (t : List ℕ). slice_index t 2) named in absurd (omega arith)
 is_make (Make number) rows fits named has = record { number = number; small = fits; text = has.0; flag = inl (refl, has.1) }
 is_make (MakeRun number) rows fits named has = record { number = number; small = fits; text = has.0; flag = inr (refl, has.1) }
 
@@ -135,6 +141,7 @@ is_text Migrate rows named has = inr (refl, has)
 is_text Trace rows named has = let bad : ◌≡◌ {A = ℕ} 97 120 = ap (λ (t : List ℕ). slice_index t 2) named in absurd (omega arith)
 is_text Check rows named has = let bad : ◌≡◌ {A = ℕ} 101 120 = ap (λ (t : List ℕ). slice_index t 2) named in absurd (omega arith)
 is_text Animate rows named has = let bad : ◌≡◌ {A = ℕ} 105 120 = ap (λ (t : List ℕ). slice_index t 2) named in absurd (omega arith)
+is_text Inbox rows named has = let bad : ◌≡◌ {A = ℕ} 98 120 = ap (λ (t : List ℕ). slice_index t 2) named in absurd (omega arith)
 is_text (Make number) rows named has = let bad : ◌≡◌ {A = ℕ} 107 120 = ap (λ (t : List ℕ). slice_index t 2) named in absurd (omega arith)
 is_text (MakeRun number) rows named has = let bad : ◌≡◌ {A = ℕ} 107 120 = ap (λ (t : List ℕ). slice_index t 2) named in absurd (omega arith)
 

@@ -4,3 +4,4 @@ pub mod OneCommand
 pub mod Completing
 pub mod Running
 pub mod Judging
+pub mod Inboxes

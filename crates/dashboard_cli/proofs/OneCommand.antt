@@ -7,7 +7,7 @@ use Rattle.std.proofs.lemmas.Fmt.{decimal_is_IsNumeral}
 use Rattle.std.proofs.lemmas.Str.Parse.{digit_at}
 use Rattle.dashboard_cli.specs.Words.{IsAsked, IsInRange, IsSpelled}
 use Rattle.dashboard_cli.specs.declared.words.Command.{Command}
-use Rattle.dashboard_cli.specs.declared.words.Command.TheVariants.{Run, Text, Migrate, Make, MakeRun, Trace, Check, Animate}
+use Rattle.dashboard_cli.specs.declared.words.Command.TheVariants.{Run, Text, Migrate, Make, MakeRun, Trace, Check, Animate, Inbox}
 
 -- the word that is the number, where the first word may be a flag
 abbrev number_word : Bool → List ℕ → List ℕ → List ℕ
@@ -29,7 +29,7 @@ printed (flag ∷ more) = Migrate
 abbrev by_letter : ℕ → List (List ℕ) → Command
 by_letter letter rest =
     if letter == 110 then Run else if letter == 120 then printed rest else if letter == 97 then Trace else if letter == 101 then Check
-    else if letter == 105 then Animate else made rest
+    else if letter == 105 then Animate else if letter == 98 then Inbox else made rest
 
 abbrev command_of : List (List ℕ) → Command
 command_of [] = Run
@@ -56,6 +56,7 @@ told Migrate words fits is = ap command_of is
 told Trace words fits is = ap command_of is
 told Check words fits is = ap command_of is
 told Animate words fits is = ap command_of is
+told Inbox words fits is = ap command_of is
 told (Make n) words fits is = ap command_of is ∙ ap Make (value n fits)
 told (MakeRun n) words fits (inl is) =
     ap command_of is ∙ ap (λ (flag : Bool). MakeRun (digits_value 10 (number_word flag (decimal n) (codes "--run")))) (no_flag n fits) ∙ ap MakeRun (value n fits)

@@ -4,7 +4,7 @@ use Rattle.std.specs.Fmt.{decimal}
 use Rattle.clap.specs.Words.{App, Row, Rule, first_of, new_app, new_rule, one_of, with_rule, with_subcommand}
 use Rattle.clap.specs.declared.builder.ArgAction.TheVariants.{SetTrue}
 use Rattle.dashboard_cli.specs.declared.words.Command.{Command}
-use Rattle.dashboard_cli.specs.declared.words.Command.TheVariants.{Run, Text, Migrate, Make, MakeRun, Trace, Check, Animate}
+use Rattle.dashboard_cli.specs.declared.words.Command.TheVariants.{Run, Text, Migrate, Make, MakeRun, Trace, Check, Animate, Inbox}
 
 -- a flag without a value
 abbrev pub flag_rule : List ℕ → Rule
@@ -29,6 +29,9 @@ check_app = new_app (codes "check")
 abbrev pub animate_app : App
 animate_app = new_app (codes "animate")
 
+abbrev pub inbox_app : App
+inbox_app = new_app (codes "inbox")
+
 abbrev pub make_app : App
 make_app = with_rule (with_rule (new_app (codes "make")) (new_rule (codes "number"))) (flag_rule (codes "run"))
 
@@ -44,7 +47,7 @@ and_one app one = with_subcommand app one.top
 
 abbrev pub dashboard_app : App
 dashboard_app =
-    and_one (and_one (and_one (and_one (and_one (and_one (without_help (new_app (codes "dashboard"))) run_app) text_app) make_app) trace_app) check_app) animate_app
+    and_one (and_one (and_one (and_one (and_one (and_one (and_one (without_help (new_app (codes "dashboard"))) run_app) text_app) make_app) trace_app) check_app) animate_app) inbox_app
 
 -- the first word of a command
 abbrev pub name_of : Command → List ℕ
@@ -56,6 +59,7 @@ name_of (MakeRun number) = codes "make"
 name_of Trace = codes "trace"
 name_of Check = codes "check"
 name_of Animate = codes "animate"
+name_of Inbox = codes "inbox"
 
 -- the matches give this number, and this value of the flag
 abbrev pub HasNumber : List ℕ → List ℕ → List Row → Type 0

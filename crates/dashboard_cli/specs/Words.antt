@@ -3,7 +3,7 @@ use Rattle.std.specs.Prelude.{◌≡◌, ◌⊎◌, ◌^◌, ◌<◌, ℕ, List,
 use Rattle.std.specs.declared.alloc.Global.{Global}
 use Rattle.std.specs.Fmt.{decimal}
 use Rattle.dashboard_cli.specs.declared.words.Command.{Command}
-use Rattle.dashboard_cli.specs.declared.words.Command.TheVariants.{Run, Text, Migrate, Make, MakeRun, Trace, Check, Animate}
+use Rattle.dashboard_cli.specs.declared.words.Command.TheVariants.{Run, Text, Migrate, Make, MakeRun, Trace, Check, Animate, Inbox}
 
 -- the words as texts
 abbrev pub texts : List (String Global) → List (List ℕ)
@@ -17,6 +17,7 @@ IsSpelled Migrate words = words ≡ codes "text" ∷ codes "--to" ∷ codes "2" 
 IsSpelled Trace words = words ≡ codes "trace" ∷ []
 IsSpelled Check words = words ≡ codes "check" ∷ []
 IsSpelled Animate words = words ≡ codes "animate" ∷ []
+IsSpelled Inbox words = words ≡ codes "inbox" ∷ []
 IsSpelled (Make number) words = words ≡ codes "make" ∷ decimal number ∷ []
 IsSpelled (MakeRun number) words = (words ≡ codes "make" ∷ decimal number ∷ codes "--run" ∷ [])
     ⊎ (words ≡ codes "make" ∷ codes "--run" ∷ decimal number ∷ [])

@@ -17,10 +17,15 @@ use Rattle.value_animator.specs.Least.{IsLeastBad as IsLeastBadOfValues}
 use Rattle.value_animator.specs.Reading.{IsRefusal as IsValuesRefusal, IsText as IsValuesText}
 use Rattle.value_animator.specs.Run.{IsRunOf}
 use Rattle.dashboard_cli.specs.Streams.{limit, trace_limit}
+use Rattle.inbox_queue.specs.declared.run.InboxReport.{InboxReport}
+use Rattle.inbox_queue.specs.Bad.{bad_line}
+use Rattle.inbox_queue.specs.InboxRun.{IsInboxRun}
+use Rattle.dashboard_cli.specs.InboxText.{inbox_text}
 use Rattle.dashboard_cli.specs.Verdicts.{verdict_text, IsVerdict}
 use Rattle.dashboard_cli.specs.declared.making.Returned.{Returned}
 use Rattle.dashboard_cli.specs.declared.top_call.Outcome.{Outcome}
 use Rattle.dashboard_cli.specs.declared.verdict.Verdict.{Verdict}
+use Rattle.dashboard_cli.specs.declared.status.Cause.TheVariants as cause
 use Rattle.dashboard_cli.specs.declared.status.Status.{Status}
 use Rattle.dashboard_cli.specs.declared.status.Status.TheVariants.{NoMemory, Script, Trace}
 use Rattle.dashboard_cli.specs.declared.words.Command.{Command}
@@ -29,23 +34,30 @@ use Rattle.dashboard_cli.specs.declared.words.Command.TheVariants as command
 -- ---- what is returned beside a text
 
 abbrev pub nothing : Returned
-nothing = record { report = None; frames = None }
+nothing = record { report = None; frames = None; inbox = None }
 
 abbrev pub only_report : Report → Returned
-only_report report = record { report = Some report; frames = None }
+only_report report = record { report = Some report; frames = None; inbox = None }
 
 abbrev pub only_frames : FrameRecord → Returned
-only_frames frames = record { report = None; frames = Some frames }
+only_frames frames = record { report = None; frames = Some frames; inbox = None }
+
+abbrev pub only_inbox : InboxReport → Returned
+only_inbox report = record { report = None; frames = None; inbox = Some report }
 
 -- what an outcome returns beside its status
 abbrev pub returned : Outcome → Returned
-returned outcome = record { report = outcome.report; frames = outcome.frames }
+returned outcome = record { report = outcome.report; frames = outcome.frames; inbox = outcome.inbox }
 
 -- ---- inputs that are taken or refused
 
 -- the input is the text of a script
 abbrev pub IsScript : List ℕ → Type 0
 IsScript input = (script : ScriptData) × IsText input script
+
+-- the input is the text of a script, each line of which a run through an inbox knows
+abbrev pub IsInboxScript : List ℕ → Type 0
+IsInboxScript input = (script : ScriptData) × IsText input script × (bad_line script ≡ None)
 
 -- the input is the text of a plan of values
 abbrev pub IsPlan : List ℕ → Type 0
@@ -57,12 +69,18 @@ IsTrace input = (trace : TraceData) × IsTraceText input trace
 
 -- the status names the least bad line of what should be a script, and its first cause
 abbrev pub RefusesScript : List ℕ → Status → Type 0
-RefusesScript input (Script line cause) = IsRefusal input line cause
+RefusesScript input (Script line (cause.Text why)) = IsRefusal input line why
 RefusesScript input status = ⊥
+
+-- the status names the least bad line of what should be a script, and its first cause; or of a script the least line that a run through an inbox doesn't know
+abbrev pub RefusesInbox : List ℕ → Status → Type 0
+RefusesInbox input (Script line (cause.Text why)) = IsRefusal input line why
+RefusesInbox input (Script line cause.Inbox) = (script : ScriptData) × IsText input script × (bad_line script ≡ Some line)
+RefusesInbox input status = ⊥
 
 -- the status names the least bad line of what should be a plan of values, and its first cause
 abbrev pub RefusesPlan : List ℕ → Status → Type 0
-RefusesPlan input (Script line cause) = IsValuesRefusal input line cause × IsLeastBadOfValues input line
+RefusesPlan input (Script line (cause.Text why)) = IsValuesRefusal input line why × IsLeastBadOfValues input line
 RefusesPlan input status = ⊥
 
 -- the status names the least bad line of what should be a trace
@@ -123,6 +141,17 @@ pub record WritesValues (input out : List ℕ) (given : Returned) : Type 0 where
   pub runs : IsRunOf values out frames
   pub given_is : given ≡ only_frames frames
 
+-- the input is the text of the report's script, of which the report is a run through an inbox
+abbrev pub IsInboxRunOf : List ℕ → InboxReport → Type 0
+IsInboxRunOf input report = IsText input report.script × IsInboxRun report.script report
+
+-- what came of a run through an inbox is written
+pub record WritesInbox (input out : List ℕ) (given : Returned) : Type 0 where
+  pub report : InboxReport
+  pub runs : IsInboxRunOf input report
+  pub text_is : out ≡ inbox_text report
+  pub given_is : given ≡ only_inbox report
+
 -- ---- the commands
 
 -- what a command reads
@@ -136,6 +165,9 @@ pub record Input : Type 1 where
 
 abbrev pub scripts : Input
 scripts = record { most = Some limit; Takes = IsScript; Refuses = RefusesScript }
+
+abbrev pub inbox_scripts : Input
+inbox_scripts = record { most = Some limit; Takes = IsInboxScript; Refuses = RefusesInbox }
 
 abbrev pub plans : Input
 plans = record { most = Some limit; Takes = IsPlan; Refuses = RefusesPlan }
@@ -163,6 +195,7 @@ work (command.MakeRun number) = record { reads = no_input; Makes = λ input. Wri
 work command.Trace = record { reads = scripts; Makes = WritesRun (λ report. trace_text (trace_of report.queues)) }
 work command.Check = record { reads = traces; Makes = WritesVerdict }
 work command.Animate = record { reads = plans; Makes = WritesValues }
+work command.Inbox = record { reads = inbox_scripts; Makes = WritesInbox }
 
 -- ---- why no input was understood
 

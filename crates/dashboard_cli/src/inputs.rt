@@ -8,7 +8,7 @@ ghost use Rattle.trace_check.specs.Text.{IsText as IsTraceText};
 ghost use Rattle.value_animator.specs.Reading.{IsText as IsValuesText};
 
 use crate::reading::{ReadError, read_whole};
-use crate::status::Status;
+use crate::status::{Cause, Status};
 use dash_script::{Parsed, Script, parse};
 use loop_io::Source;
 use std::alloc::Global;
@@ -42,7 +42,10 @@ pub(crate) fn read_script(alloc: Global, input: &[u8]) -> Result<Script, Status>
 {
     match parse(alloc, input) {
         Parsed::Ok(script) => Ok(script),
-        Parsed::Bad { line, cause } => Err(Status::Script { line, cause }),
+        Parsed::Bad { line, cause } => Err(Status::Script {
+            line,
+            cause: Cause::Text(cause),
+        }),
         Parsed::NoMemory => Err(Status::NoMemory),
     }
 }
@@ -54,7 +57,10 @@ pub(crate) fn read_plan(alloc: Global, input: &[u8]) -> Result<Values, Status>
 {
     match parse_values(alloc, input) {
         ParsedValues::Ok(values) => Ok(values),
-        ParsedValues::Bad { line, cause } => Err(Status::Script { line, cause }),
+        ParsedValues::Bad { line, cause } => Err(Status::Script {
+            line,
+            cause: Cause::Text(cause),
+        }),
         ParsedValues::NoMemory => Err(Status::NoMemory),
     }
 }

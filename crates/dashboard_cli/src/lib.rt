@@ -2,6 +2,7 @@
 //! sink. Its status says how that went.
 #![tactic(auto)]
 
+mod inbox;
 mod inputs;
 mod making;
 mod reading;
@@ -12,9 +13,11 @@ mod words;
 mod writing;
 
 pub use dash_report::{report_text, summary_text};
+pub use inbox::inbox_text;
+pub use inbox_queue::InboxReport;
 pub use reading::{MOST_BYTES, MOST_TRACE_BYTES, ReadError, read_whole};
 pub use run_model::Report;
-pub use status::{Status, status_text};
+pub use status::{Cause, Status, status_text};
 pub use top_call::{Outcome, dashboard};
 pub use words::{Command, read_words};
 pub use writing::write_whole;

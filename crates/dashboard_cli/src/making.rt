@@ -2,20 +2,22 @@
 ghost use Rattle.std.specs.Prelude.{◌≡◌, [], None, IfErr, IfOk};
 ghost use Rattle.dash_script.specs.Reading.{HasText};
 ghost use Rattle.dashboard_cli.specs.Answers.{CountsReads, HasRun, MakesOf, Stops};
-ghost use Rattle.dashboard_cli.specs.Works.{plans, scripts, traces, work};
+ghost use Rattle.dashboard_cli.specs.Works.{inbox_scripts, plans, scripts, traces, work, IsInboxRunOf, IsNone};
 ghost use Rattle.dash_stage.specs.Staged.{IsStaged};
 ghost use Rattle.value_animator.specs.Plans.{AreValues};
 ghost use Rattle.value_animator.specs.Run.{IsRunOf};
 
+use crate::inbox::inbox_text;
 use crate::inputs::{read_input, read_plan, read_script, read_trace};
 use crate::reading::{MOST_BYTES, MOST_TRACE_BYTES};
-use crate::status::Status;
+use crate::status::{Cause, Status};
 use crate::verdict::{judge, verdict_text};
 use crate::words::Command;
 use dash_report::{report_text, summary_text};
 use dash_script::{Script, make_script, migrate, print};
 use dash_stage::{Ran, run_script};
 use frame_phases::FrameRecord;
+use inbox_queue::{InboxRan, InboxReport, run_inbox};
 use loop_io::{Gate, Source};
 use loop_model::NoMemory;
 use run_model::Report;
@@ -30,11 +32,12 @@ use value_animator::{Values, ValuesRan, run_values};
 pub(crate) struct Returned {
     pub report: Option<Report>,
     pub frames: Option<FrameRecord>,
+    pub inbox: Option<InboxReport>,
 }
 
 impl Returned {
     ghost use Rattle.std.specs.Prelude.{◌≡◌};
-    ghost use Rattle.dashboard_cli.specs.Works.{nothing, only_report, only_frames};
+    ghost use Rattle.dashboard_cli.specs.Works.{nothing, only_report, only_frames, only_inbox};
 
     pub(crate) fn nothing() -> Returned
         ensures { result ≡ nothing }
@@ -42,6 +45,7 @@ impl Returned {
         Returned {
             report: None,
             frames: None,
+            inbox: None,
         }
     }
 
@@ -51,6 +55,7 @@ impl Returned {
         Returned {
             report: Some(report),
             frames: None,
+            inbox: None,
         }
     }
 
@@ -60,6 +65,17 @@ impl Returned {
         Returned {
             report: None,
             frames: Some(frames),
+            inbox: None,
+        }
+    }
+
+    fn inbox(report: InboxReport) -> Returned
+        ensures { result ≡ only_inbox report }
+    {
+        Returned {
+            report: None,
+            frames: None,
+            inbox: Some(report),
         }
     }
 }
@@ -105,6 +121,7 @@ pub(crate) fn produce<R: Threads + Wait + Sync, S: Source, G: Gate + Sync>(
         Command::Trace => trace_input(rt, alloc, source, gate),
         Command::Check => check_input(alloc, source),
         Command::Animate => animate_input(alloc, source),
+        Command::Inbox => inbox_input(rt, alloc, source, gate),
     }
 }
 
@@ -230,6 +247,25 @@ fn animate_input<S: Source>(alloc: Global, source: &mut S) -> Result<Product, St
     Ok(Product { text, returned })
 }
 
+/// Reads a script, runs it through an inbox, and makes the text of what came of it.
+fn inbox_input<R: Threads + Wait + Sync, S: Source, G: Gate + Sync>(
+    rt: &R,
+    alloc: Global,
+    source: &mut S,
+    gate: &G,
+) -> Result<Product, Status>
+    ensures made { IfOk result (λ product. MakesOf (work Command.Inbox) (S.left source.old) (S.left source.new) product.text.items product.returned) }
+    ensures stopped { IfErr result (Stops inbox_scripts (S.left source.old) (S.left source.new)) }
+    ensures sound { IfOk result (λ _. S.faults source.new ≡ S.faults source.old) }
+    ensures failed { IfErr result (λ status. CountsReads status (S.faults source.old) (S.faults source.new)) }
+{
+    let input = read_input(alloc, source, MOST_BYTES)?;
+    let report = run_with_inbox(rt, alloc, input.as_slice(), gate)?;
+    let text = inbox_text(alloc, &report)?;
+    let returned = Returned::inbox(report);
+    Ok(Product { text, returned })
+}
+
 /// Reads a script and runs it.
 fn read_and_run<R: Threads + Wait + Sync, S: Source, G: Gate + Sync>(
     rt: &R,
@@ -261,6 +297,27 @@ fn run<R: Threads + Wait + Sync, G: Gate + Sync>(
     match run_script(rt, alloc, script, gate) {
         Ran::Ok(report) => Ok(report),
         Ran::NoMemory => Err(NoMemory),
+    }
+}
+
+/// Runs the script of a text through an inbox.
+fn run_with_inbox<R: Threads + Wait + Sync, G: Gate + Sync>(
+    rt: &R,
+    alloc: Global,
+    input: &[u8],
+    gate: &G,
+) -> Result<InboxReport, Status>
+    ensures ran { IfOk result (IsInboxRunOf input.now) }
+    ensures refused { IfErr result (IsNone inbox_scripts input.now) }
+{
+    let script = read_script(alloc, input)?;
+    match run_inbox(rt, alloc, script, gate) {
+        InboxRan::Ok(report) => Ok(report),
+        InboxRan::Bad { line } => Err(Status::Script {
+            line,
+            cause: Cause::Inbox,
+        }),
+        InboxRan::NoMemory => Err(Status::NoMemory),
     }
 }
 

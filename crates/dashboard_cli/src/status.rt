@@ -1,11 +1,20 @@
 // The answer of the top call, its code and its text.
 ghost use Rattle.std.specs.Prelude.{◌≡◌, IfOk, string_bytes};
-ghost use Rattle.dashboard_cli.specs.Status.{cause_word, status_line};
+ghost use Rattle.dashboard_cli.specs.Status.{cause_word, status_line, text_word};
 
-use dash_script::Cause;
+use dash_script::Cause as TextCause;
 use loop_model::NoMemory;
 use std::alloc::Global;
 use std::fmt;
+
+/// Why a line is refused.
+#[derive(Clone, Copy, Debug, PartialEq, Eq)]
+pub enum Cause {
+    /// It may not stand there in the text of a script or of a plan.
+    Text(TextCause),
+    /// It is a line of a script that a run through an inbox doesn't know.
+    Inbox,
+}
 
 /// How the program ended.
 #[derive(Clone, Copy, Debug, PartialEq, Eq)]
@@ -49,17 +58,27 @@ impl Status {
     }
 }
 
-/// The word for what is wrong with a line.
+/// The word for what is wrong with a line of a text.
+fn text_word(cause: TextCause) -> &'static str
+    ensures { result.now ≡ text_word cause }
+{
+    match cause {
+        TextCause::Form => "form",
+        TextCause::Range => "range",
+        TextCause::Unknown => "unknown",
+        TextCause::Order => "order",
+        TextCause::TooMany => "toomany",
+        TextCause::Missing => "missing",
+    }
+}
+
+/// The word for why a line is refused.
 fn cause_word(cause: Cause) -> &'static str
     ensures { result.now ≡ cause_word cause }
 {
     match cause {
-        Cause::Form => "form",
-        Cause::Range => "range",
-        Cause::Unknown => "unknown",
-        Cause::Order => "order",
-        Cause::TooMany => "toomany",
-        Cause::Missing => "missing",
+        Cause::Text(cause) => text_word(cause),
+        Cause::Inbox => "inbox",
     }
 }
 

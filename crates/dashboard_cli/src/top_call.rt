@@ -10,6 +10,7 @@ use crate::status::Status;
 use crate::words::read_words;
 use crate::writing::write_whole;
 use frame_phases::FrameRecord;
+use inbox_queue::InboxReport;
 use loop_io::{Clock, Failed, Gate, Sink, Source};
 use loop_model::NoMemory;
 use run_model::Report;
@@ -25,6 +26,8 @@ pub struct Outcome {
     pub report: Option<Report>,
     /// The frames in which values were told. They are there for `animate`, at `Ok` and at `WriteFault`.
     pub frames: Option<FrameRecord>,
+    /// What came of a run through an inbox. It is there for `inbox`, at `Ok` and at `WriteFault`.
+    pub inbox: Option<InboxReport>,
 }
 
 /// Does all that the program does. The words are those after the program's name.
@@ -38,6 +41,7 @@ pub struct Outcome {
 /// | `trace` | reads a script, runs it in lockstep, writes the histories of its queues |
 /// | `check` | reads histories of queues, writes `legal`, or the first queue that isn't and its first bad entry |
 /// | `animate` | reads a plan of values, runs it over frames, writes what is told |
+/// | `inbox` | reads a script, runs it with an inbox between the threads and the main looper, writes what came of it |
 ///
 /// N is a decimal below 2 to the 32 without leading zeros. It looks for faults in this order: the words (`Usage`), the
 /// reading (`ReadFault`, `TooLong`), the script or the plan (`Script`) or the histories (`Trace`), the writing (`WriteFault`).
@@ -103,11 +107,12 @@ pub fn dashboard<R: Threads + Wait + Sync, S: Source, K: Sink, C: Clock, G: Gate
 
 /// The outcome with this status.
 fn ended(status: Status, returned: Returned) -> Outcome
-    ensures { result ≡ record { status = status; report = returned.report; frames = returned.frames } }
+    ensures { result ≡ record { status = status; report = returned.report; frames = returned.frames; inbox = returned.inbox } }
 {
     Outcome {
         status,
         report: returned.report,
         frames: returned.frames,
+        inbox: returned.inbox,
     }
 }

@@ -29,6 +29,8 @@ pub enum Command {
     Check,
     /// Reads a plan of values, runs it over frames and writes what is told.
     Animate,
+    /// Reads a script, runs it in lockstep with an inbox between the threads and the main looper, and writes what came of it.
+    Inbox,
 }
 
 /// Reads the words: a command exactly where they are a spelling of one, else None. NoMemory where it found none. The spellings
@@ -73,6 +75,7 @@ fn command_line<'a>(alloc: Global) -> Result<clap::Command<'a>, AllocError>
     let trace = clap::Command::new(alloc, "trace");
     let check = clap::Command::new(alloc, "check");
     let animate = clap::Command::new(alloc, "animate");
+    let inbox = clap::Command::new(alloc, "inbox");
     clap::Command::new(alloc, "dashboard")
         .no_binary_name(true)
         .disable_help_flag(true)
@@ -82,7 +85,8 @@ fn command_line<'a>(alloc: Global) -> Result<clap::Command<'a>, AllocError>
         .subcommand(make)?
         .subcommand(trace)?
         .subcommand(check)?
-        .subcommand(animate)
+        .subcommand(animate)?
+        .subcommand(inbox)
 }
 
 /// The line of `text`: perhaps an edition.
@@ -118,6 +122,7 @@ fn command_found(matches: &ArgMatches<'_>) -> Option<Command>
         "trace" => Some(Command::Trace),
         "check" => Some(Command::Check),
         "animate" => Some(Command::Animate),
+        "inbox" => Some(Command::Inbox),
         _ => None,
     }
 }
@@ -161,6 +166,7 @@ fn is_spelled(alloc: Global, command: Command, words: &[String]) -> Result<bool,
         Command::Trace => are_same(words, &["trace"]),
         Command::Check => are_same(words, &["check"]),
         Command::Animate => are_same(words, &["animate"]),
+        Command::Inbox => are_same(words, &["inbox"]),
         Command::Make { number } => {
             let digits = number.to_string(alloc)?;
             are_same(words, &["make", digits.as_str()])

@@ -17,6 +17,7 @@ returns c =
     let with_make = c.in_ok-subcommand-3.ensures.shape c.in_ok-make.ensures.local ∙ ap₂ with_subcommand with_text (ap (λ (a : App). a.top) c.in_ok-make.ensures.app) in
     let with_trace = c.in_ok-subcommand-4.ensures.shape c.new-trace.ensures.local ∙ ap₂ with_subcommand with_make (ap (λ (a : App). a.top) c.new-trace.ensures.app) in
     let with_check = c.in_ok-subcommand-5.ensures.shape c.new-check.ensures.local ∙ ap₂ with_subcommand with_trace (ap (λ (a : App). a.top) c.new-check.ensures.app) in
-    IfOk-weaker c.subcommand-6.result _ _
-    (λ line added. added.shape c.new-animate.ensures.local ∙ ap₂ with_subcommand with_check (ap (λ (a : App). a.top) c.new-animate.ensures.app))
-    c.subcommand-6.ensures
+    let with_animate = c.in_ok-subcommand-6.ensures.shape c.new-animate.ensures.local ∙ ap₂ with_subcommand with_check (ap (λ (a : App). a.top) c.new-animate.ensures.app) in
+    IfOk-weaker c.subcommand-7.result _ _
+    (λ line added. added.shape c.new-inbox.ensures.local ∙ ap₂ with_subcommand with_animate (ap (λ (a : App). a.top) c.new-inbox.ensures.app))
+    c.subcommand-7.ensures

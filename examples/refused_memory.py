@@ -1,0 +1,91 @@
+#!/usr/bin/env python3
+"""refused_memory.py PROGRAM [--plain]: runs worked examples again and again, and refuses one allocation in each run: the first, the
+second, and so on, until the runs ask for fewer.
+
+Each run must write a lawful report and end with status 0, or write nothing and end with status 6 and its line. refuse.c does
+the refusing: it is compiled by cc and laid before the program, and before it the address sanitizer of the compiler, which finds
+what is not freed, freed twice or freed wrongly, and stops the program with status 99. Its view of a program that it didn't build
+ends there: reads and writes past a block are what the tests look for that rt try runs. --plain leaves it away. A run that
+takes ten seconds counts as a hang. The last line tells how many runs there were, how they ended, and how many faults.
+"""
+import argparse
+import collections
+import os
+import pathlib
+import subprocess
+import sys
+import tempfile
+
+HERE = pathlib.Path(__file__).resolve().parent
+EXAMPLES = ("posts_by_delay", "post_after_quit_refused", "post_races_quit", "gauge_runs_to_its_target", "inbox_keeps_each_senders_order")
+
+
+def examples():
+    """Of each example its name, its words, what it reads and its lawful reports."""
+    index = dict(line.split("\t")[:2] for line in (HERE / "INDEX.txt").read_text().splitlines())
+    for name in EXAMPLES:
+        one, many = HERE / f"{name}.report", HERE / f"{name}.reports"
+        lawful = [one.read_text()] if one.exists() else many.read_text().split("%%\n")
+        yield name, index[name].split(), (HERE / f"{name}.script").read_bytes(), [text.encode() for text in lawful]
+
+
+def laid(folder, plain):
+    """The libraries that are laid before the program, first the sanitizer."""
+    own = f"{folder}/refuse.so"
+    subprocess.run(["cc", "-O2", "-shared", "-fPIC", "-o", own, HERE / "refuse.c", "-ldl"], check=True)
+    found = subprocess.run(["cc", "-print-file-name=libasan.so"], capture_output=True, text=True, check=True).stdout.strip()
+    if plain or not os.path.isabs(found):
+        return own, False
+    return f"{found}:{own}", True
+
+
+def run(program, words, given, before, number, count):
+    how = {"LD_PRELOAD": before, "REFUSE": str(number), "COUNT": count, "ASAN_OPTIONS": "exitcode=99:allocator_may_return_null=1"}
+    try:
+        return subprocess.run([program, *words], input=given, capture_output=True, timeout=10, env={**os.environ, **how}, check=False)
+    except subprocess.TimeoutExpired:
+        return None
+
+
+def fault(got, lawful):
+    """What is wrong with a run, and else how it ended."""
+    if got is None:
+        return "it hangs", None
+    if got.returncode == 0 and got.stdout in lawful:
+        return None, "with its report"
+    if got.returncode == 6 and not got.stdout and got.stderr in (b"dashboard: no memory\n", b""):
+        return None, "without memory"
+    return f"status {got.returncode}, output {got.stdout[:200]!r}, standard error {got.stderr[:2000]!r}", None
+
+
+def main():
+    words = argparse.ArgumentParser(description="refuses each allocation of worked examples in turn")
+    words.add_argument("program")
+    words.add_argument("--plain", action="store_true", help="without the address sanitizer")
+    asked = words.parse_args()
+    program = str(pathlib.Path(asked.program).resolve())
+    ends, faults = collections.Counter(), 0
+    with tempfile.TemporaryDirectory() as folder:
+        before, watched = laid(folder, asked.plain)
+        count = f"{folder}/count"
+        for name, words, given, lawful in examples():
+            number = 0
+            while True:
+                got = run(program, words, given, before, number, count)
+                wrong, end = fault(got, lawful)
+                if wrong:
+                    faults += 1
+                    print(f"FAILED {name}, allocation {number} refused: {wrong}")
+                ends[end] += 1
+                if number and int(pathlib.Path(count).read_text()) < number:
+                    break
+                number += 1
+            print(f"{name}: {number} runs")
+    runs = sum(ends.values())
+    how = "with the address sanitizer" if watched else "without the address sanitizer"
+    print(f"refused memory: {runs} runs {how}, {ends['with its report']} with a report, {ends['without memory']} without memory, {faults} faults")
+    sys.exit(1 if faults else 0)
+
+
+if __name__ == "__main__":
+    main()
