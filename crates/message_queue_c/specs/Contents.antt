@@ -1,5 +1,5 @@
 -- What stands behind a handle, and what each kind of call does to it.
-use Rattle.std.specs.Prelude.{◌≡◌, false, [], ◌∷◌, Option, Some, None, length, MatchOption}
+use Rattle.std.specs.Prelude.{◌≡◌, ◌==◌, ◌&&◌, not, Bool, false, [], ◌∷◌, Option, Some, None, is_some, length, MatchOption}
 use Rattle.message_queue_c.specs.Ours.{is_ours, new_queue}
 use Rattle.message_queue_c.specs.declared.answers.MqAnswer.{MqAnswer}
 use Rattle.message_queue_c.specs.declared.answers.MqNext.{MqNext}
@@ -14,6 +14,9 @@ pub record Contents : Type 0 where
 -- what stands behind a handle that was closed and from which all was handed out
 abbrev pub nothing_in : Contents
 nothing_in = record { queue = None; dropped = [] }
+
+abbrev pub holds_nothing : Contents → Bool
+holds_nothing c = (length c.dropped == 0) && not (is_some c.queue)
 
 -- what stands behind a handle that was just opened
 abbrev pub just_opened : Contents

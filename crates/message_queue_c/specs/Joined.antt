@@ -1,5 +1,5 @@
 -- Lists of messages that wait to be handed out.
-use Rattle.std.specs.Prelude.{ℕ, ◌+◌, ◌^◌, List, [], ◌∷◌, ◌++◌, length, nat_lt, if◌then◌else◌}
+use Rattle.std.specs.Prelude.{◌+◌, ◌^◌, List, [], ◌∷◌, ◌++◌, length, nat_lt, if◌then◌else◌}
 
 -- what waits once these have been dropped too; the earlier ones are let go where a list can't count both
 abbrev pub joined : {X : Type 0} → List X → List X → List X

@@ -1,6 +1,6 @@
 // What a handle keeps is taken out of it for a call, and put back.
-ghost use Rattle.std.specs.Prelude.{◌≡◌, false, MatchOption, IfOk};
-ghost use Rattle.message_queue_c.specs.Contents.{nothing_in, just_opened};
+ghost use Rattle.std.specs.Prelude.{◌≡◌, true, false, not, MatchOption, IfOk};
+ghost use Rattle.message_queue_c.specs.Contents.{nothing_in, just_opened, holds_nothing};
 ghost use Rattle.message_queue_c.specs.Handed.{inside};
 
 use crate::calls;
@@ -30,7 +30,8 @@ impl MqQueue {
     /// Makes a closed handle keep this.
     pub(crate) fn put(&mut self, kept: Lone<Kept>)
         requires { self.old.live ≡ false }
-        ensures { inside self.new ≡ kept.value }
+        ensures kept { inside self.new ≡ kept.value }
+        ensures live { self.new.live ≡ true }
     {
         mem::replace(self, MqQueue::of(kept)).done();
     }
@@ -38,7 +39,8 @@ impl MqQueue {
     /// The same, and where nothing is left in it its memory is freed.
     pub(crate) fn put_or_free(&mut self, alloc: Global, mut kept: Lone<Kept>)
         requires { self.old.live ≡ false }
-        ensures { inside self.new ≡ kept.value }
+        ensures kept { inside self.new ≡ kept.value }
+        ensures freed { self.new.live ≡ not (holds_nothing kept.value) }
     {
         if kept.get_mut().is_spent() {
             free(alloc, kept);

@@ -1,7 +1,7 @@
 // What a handle that is not empty keeps: a queue, and the messages that its calls have dropped.
 ghost use Rattle.std.specs.Prelude.{◌≡◌, true, false, Some, MatchOption, if◌then◌else◌};
 ghost use Rattle.queue_state.specs.Queue.{has_match, sealed};
-ghost use Rattle.message_queue_c.specs.Contents.{Does, Keeps, Closes, Pops, nothing_in};
+ghost use Rattle.message_queue_c.specs.Contents.{Does, Keeps, Closes, Pops, nothing_in, holds_nothing};
 ghost use Rattle.message_queue_c.specs.Messages.{filter_by};
 ghost use Rattle.message_queue_c.specs.Ours.{is_ours};
 ghost use Rattle.message_queue_c.specs.Shown.{PostShown, BarrierShown, GoneShown, TakingShown, QuitShown, NextShown, IsNotOpen, HasNotOpen};
@@ -142,7 +142,8 @@ impl Kept {
 
     /// Nothing is left in it.
     pub(crate) fn is_spent(&self) -> bool
-        ensures { (result ≡ true) → self.now ≡ nothing_in }
+        ensures spent { result ≡ holds_nothing self.now }
+        ensures nothing { (result ≡ true) → self.now ≡ nothing_in }
     {
         let none = self.dropped.len() == 0;
         none & self.queue.is_none()

@@ -3,7 +3,7 @@
 
 ghost use Rattle.std.specs.Prelude.{◌≡◌, true, false, MatchOption, if◌then◌else◌};
 ghost use Rattle.queue_state.specs.Queue.{has_match, sealed};
-ghost use Rattle.message_queue_c.specs.Handed.{inside};
+ghost use Rattle.message_queue_c.specs.Handed.{inside, IsFreed};
 ghost use Rattle.message_queue_c.specs.Contents.{Does, Keeps, Closes, Pops, just_opened, nothing_in};
 ghost use Rattle.message_queue_c.specs.Messages.{filter_by};
 ghost use Rattle.message_queue_c.specs.Shown.{PostShown, BarrierShown, GoneShown, TakingShown, QuitShown, NextShown, IsNotOpen, HasNotOpen};
@@ -48,7 +48,8 @@ pub extern "C" fn mq_open(alloc: Global, queue: &mut MqQueue) -> bool
 /// Where no queue is open it lets go of what was not handed out.
 #[unsafe(no_mangle)]
 pub extern "C" fn mq_close(alloc: Global, queue: &mut MqQueue) -> MqAnswer
-    ensures { Closes (inside queue.old) (inside queue.new) result }
+    ensures closed { Closes (inside queue.old) (inside queue.new) result }
+    ensures freed { IsFreed queue.new }
 {
     let Some(mut kept) = queue.take() else {
         return not_open();
@@ -173,7 +174,8 @@ pub extern "C" fn mq_quit(queue: &mut MqQueue, safe: bool, now: u64) -> MqAnswer
 /// Hands out the first of the messages and barriers that were dropped, also once the queue is closed.
 #[unsafe(no_mangle)]
 pub extern "C" fn mq_next_dropped(alloc: Global, queue: &mut MqQueue) -> MqNext
-    ensures { Pops (inside queue.old) (inside queue.new) result }
+    ensures handed { Pops (inside queue.old) (inside queue.new) result }
+    ensures freed { IsFreed queue.new }
 {
     let Some(mut kept) = queue.take() else {
         return nothing();
