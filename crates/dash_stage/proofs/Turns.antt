@@ -1,5 +1,7 @@
 -- Which loopers run a round, and what the others have heard.
-use Rattle.std.proofs.Common.{◌≡◌, ◌<◌, ℕ, zero, suc, refl, arith, Bool, true, false, List, length, slice_index_or, sym, ap, ◌∙◌, subst}
+use Rattle.std.proofs.Common.{◌≡◌, ◌<◌, ℕ, arith, Bool, true, false, List, length, slice_index_or, sym, ap, ◌∙◌, subst}
+use Rattle.std.specs.Prelude.{not}
+use Rattle.std.proofs.lemmas.Bool.{ne_eqb}
 use Rattle.dash_loopers.specs.declared.looper.StageLooper.{StageLooper}
 use Rattle.dash_hall.specs.Hearing.{HaveHeard, AtEach}
 use Rattle.dash_loopers.specs.Loopers.{LooperKeeps}
@@ -23,8 +25,7 @@ all_have_turn turn k all = ap (λ (t : Turn). has_turn t k) all
 
 -- all but the main one have theirs
 pub others_have_turn : (k : ℕ) → 0 < k → has_turn Others k ≡ true
-others_have_turn zero some = absurd (omega (arith, some))
-others_have_turn (suc k) some = refl
+others_have_turn k some = ap not (ne_eqb k 0 (λ e. absurd (omega (arith, e, some))))
 
 -- as they are
 pub awaited_self : (turn : Turn) (xs : List StageLooper) → AwaitTheirTurn turn xs xs

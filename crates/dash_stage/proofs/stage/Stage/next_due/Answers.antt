@@ -12,7 +12,7 @@ use Rattle.dash_stage.proofs.stage.Stage.next_due.Goals as goal
 pub loop-looper-preserved : goal.loop-looper-preserved
 loop-looper-preserved g c =
     let at = c.loop-looper in
-    let done = c.due_on.ensures in (
+    let done = c.due_on-due.ensures in (
       done.stage,
       done.threads ∙ at.invariant.1,
       none_after _ _ _ at.invariant.2 done.none,
@@ -22,7 +22,7 @@ loop-looper-preserved g c =
       λ t early.
           let both = c.earlier-next.ensures.early t early in
           one_waits_more t at.looper _ _ (ap (λ v. v.items) at.invariant.4) (at.invariant.6 t both.0) (λ l. done.due t l both.1),
-      λ t is. one_waits c.args.script.now t at.looper c.args.self.now.loopers.items at.self.loopers.items at.next c.due_on.result (omega (arith, c.loop-looper-test.true, c.requires.stage.loopers.0))
+      λ t is. one_waits c.args.script.now t at.looper c.args.self.now.loopers.items at.self.loopers.items at.next c.due_on-due.result (omega (arith, c.loop-looper-test.true, c.requires.stage.loopers.0))
           (ap (λ v. v.items) at.invariant.4) (at.invariant.7 t) (done.reason t) (c.earlier-next.ensures.one t is),
       one_look_more at.looper _ _ _ _ _ _ _ _ (ap (λ v. v.items) at.invariant.4) at.invariant.8 done.look done.elsewhere c.earlier-next.ensures.early,
     )

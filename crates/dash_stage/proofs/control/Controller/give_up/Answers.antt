@@ -2,7 +2,7 @@ use Rattle.std.proofs.Common.{◌≡◌, ◌≤◌, ◌+◌, ℕ, arith}
 use Rattle.std.proofs.lemmas.Bool.{and_parts}
 use Rattle.dash_stage.proofs.Controlling.{poster_count}
 use Rattle.dash_stage.proofs.GivingUp.{quit_more, rest_less, nudged_kept}
-use Rattle.dash_stage.proofs.give_up.Controller.give_up.Goals as goal
+use Rattle.dash_stage.proofs.control.Controller.give_up.Goals as goal
 
 pub loop-looper-init : goal.loop-looper-init
 loop-looper-init g c = record {

@@ -4,7 +4,7 @@ use Rattle.looper_run.specs.Holding.{Sender}
 use Rattle.dash_stage.proofs.Controlling.{in_queues, in_posters, has_poster, own_poster, in_pool, after_call}
 use Rattle.dash_stage.proofs.ControlWhole.{turns_elsewhere}
 use Rattle.dash_stage.proofs.GivingUp.{stands_there}
-use Rattle.dash_stage.proofs.give_up.Controller.quit_plainly.Goals as goal
+use Rattle.dash_stage.proofs.control.Controller.quit_plainly.Goals as goal
 
 pub index-requires : goal.index-requires
 index-requires g c = in_queues c.args.script.now c.args.hall.now c.requires.hall c.args.place c.requires.place
@@ -19,19 +19,16 @@ quit_by-requires-clause-poster g c =
 pub quit_by-requires-clause-home : goal.quit_by-requires-clause-home
 quit_by-requires-clause-home g c = in_pool c.args.script.now c.args.hall.now c.requires.hall c.args.place c.requires.place c.args.self.now c.requires.controller c.index.result.now c.index.ensures
 
-pub returns-in_err-quit_by : goal.returns-in_err-quit_by
-returns-in_err-quit_by g c = ?
+pub returns-in_default-clause-controller : goal.returns-in_default-clause-controller
+returns-in_default-clause-controller g c =
+    after_call c.args.script.now c.args.hall.now c.requires.hall c.args.place c.requires.place c.args.self.now c.requires.controller c.index_mut.result.now c.quit_by.new.poster c.quit_by.new.pass c.index_mut.ensures.value c.quit_by.ensures.on
 
-pub returns : goal.returns
-returns g c =
-    let s = c.args.script.now in
-    let hall = c.args.hall.now in
+pub returns-clause-controller : goal.returns-clause-controller
+returns-clause-controller g c =
+    after_call c.args.script.now c.args.hall.now c.requires.hall c.args.place c.requires.place c.args.self.now c.requires.controller c.index_mut.result.now c.quit_by.new.poster c.quit_by.new.pass c.index_mut.ensures.value c.quit_by.ensures.on
+
+pub returns-clause-here : goal.returns-clause-here
+returns-clause-here g c done =
     let me = c.args.self.now in
-    let within = has_poster s hall c.requires.hall c.args.place c.requires.place me c.requires.controller in
-    let p = c.index_mut.result.now in
-    let p' = c.quit_by.new.poster in
-    record {
-      controller = after_call s hall c.requires.hall c.args.place c.requires.place me c.requires.controller p p' c.quit_by.new.pass c.index_mut.ensures.value c.quit_by.ensures.on;
-      here = λ done. stands_there me.kit.posters.items c.args.place p p' within c.index_mut.ensures.value (λ (a b : Sender). QuitsOf a b false c.args.now) ?;
-      elsewhere = turns_elsewhere me c.args.place p p' c.quit_by.new.pass within c.index_mut.ensures.value;
-    }
+    let within = has_poster c.args.script.now c.args.hall.now c.requires.hall c.args.place c.requires.place me c.requires.controller in
+    stands_there me.kit.posters.items c.args.place c.index_mut.result.now c.quit_by.new.poster within c.index_mut.ensures.value (λ (a b : Sender). QuitsOf a b false c.args.now) c.in-Ok.ensures.quit

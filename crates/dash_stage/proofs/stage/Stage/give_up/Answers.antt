@@ -6,7 +6,7 @@ use Rattle.dash_loopers.specs.Loopers.{HasRun}
 use Rattle.dash_stage.specs.declared.side.Turn.TheVariants.{Others}
 use Rattle.dash_stage.specs.Turns.{has_turn}
 use Rattle.dash_stage.proofs.Turns.{others_have_turn}
-use Rattle.dash_stage.proofs.give_up.Stage.give_up.Goals as goal
+use Rattle.dash_stage.proofs.stage.Stage.give_up.Goals as goal
 
 pub returns-clause-run : goal.returns-clause-run
 returns-clause-run g c k d some lt =

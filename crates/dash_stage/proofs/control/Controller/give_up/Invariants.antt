@@ -3,7 +3,7 @@ use Rattle.std.specs.Prelude.{slice_index_or}
 use Rattle.looper_run.specs.Holding.{Sender}
 use Rattle.dash_stage.specs.Controllers.{IsController}
 use Rattle.dash_stage.specs.GivingUp.{AreQuitBelow, IsNudged}
-use Rattle.dash_stage.proofs.give_up.Controller.give_up.Given as goal
+use Rattle.dash_stage.proofs.control.Controller.give_up.Given as goal
 
 abbrev pub invariant-loop-looper : goal.invariant-loop-looper
 invariant-loop-looper g l = record {

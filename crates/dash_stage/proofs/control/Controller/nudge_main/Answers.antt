@@ -4,7 +4,7 @@ use Rattle.dash_hall.specs.Growth.{own}
 use Rattle.dash_stage.proofs.Controlling.{in_queues, in_posters, has_poster, own_poster}
 use Rattle.dash_stage.proofs.ControlWhole.{turns_elsewhere}
 use Rattle.dash_stage.proofs.GivingUp.{stands_there, after_bell, none_by_bell}
-use Rattle.dash_stage.proofs.give_up.Controller.nudge_main.Goals as goal
+use Rattle.dash_stage.proofs.control.Controller.nudge_main.Goals as goal
 
 pub index-requires : goal.index-requires
 index-requires g c = in_queues c.args.script.now c.args.hall.now c.requires.hall 0 c.requires.some
