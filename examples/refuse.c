@@ -13,6 +13,7 @@ static atomic_ulong asked;
 static unsigned long refused;
 static void *(*next_malloc)(size_t), *(*next_calloc)(size_t, size_t), *(*next_realloc)(void *, size_t);
 static void *(*next_aligned)(size_t, size_t);
+static void (*next_free)(void *);
 static int (*next_memalign)(void **, size_t, size_t);
 /* What is asked for before the next functions are known, for good. */
 static _Alignas(16) char first[65536];
@@ -20,6 +21,7 @@ static size_t first_used;
 
 __attribute__((constructor)) static void begin(void) {
     const char *number = getenv("REFUSE");
+    next_free = dlsym(RTLD_NEXT, "free");
     next_calloc = dlsym(RTLD_NEXT, "calloc");
     next_realloc = dlsym(RTLD_NEXT, "realloc");
     next_aligned = dlsym(RTLD_NEXT, "aligned_alloc");
@@ -49,6 +51,11 @@ static int is_refused(void) {
     if (atomic_fetch_add(&asked, 1) + 1 != refused) return 0;
     errno = ENOMEM;
     return 1;
+}
+
+void free(void *at) {
+    int is_early = (char *)at >= first && (char *)at < first + sizeof first;
+    if (!is_early && next_free) next_free(at);
 }
 
 void *malloc(size_t size) {

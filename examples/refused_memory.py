@@ -3,10 +3,10 @@
 second, and so on, until the runs ask for fewer.
 
 Each run must write a lawful report and end with status 0, or write nothing and end with status 6 and its line. refuse.c does
-the refusing: it is compiled by cc and laid before the program, and before it the address sanitizer of the compiler, which finds
-what is not freed, freed twice or freed wrongly, and stops the program with status 99. Its view of a program that it didn't build
-ends there: reads and writes past a block are what the tests look for that rt try runs. --plain leaves it away. A run that
-takes ten seconds counts as a hang. The last line tells how many runs there were, how they ended, and how many faults.
+the refusing: it is compiled by cc and laid before the program, and behind it the address sanitizer of that compiler, which finds
+what is not freed, freed twice or freed wrongly, and then ends the program with status 99. Of a program that it didn't build it sees
+no more: `rt try` builds one with reads and writes watched too. --plain leaves it away. A run that takes ten seconds counts as
+a hang. The last line tells how many runs there were, how they ended, and how many faults.
 """
 import argparse
 import collections
@@ -30,17 +30,18 @@ def examples():
 
 
 def laid(folder, plain):
-    """The libraries that are laid before the program, first the sanitizer."""
+    """The libraries that are laid before the program, and whether the sanitizer is one of them."""
     own = f"{folder}/refuse.so"
-    subprocess.run(["cc", "-O2", "-shared", "-fPIC", "-o", own, HERE / "refuse.c", "-ldl"], check=True)
     found = subprocess.run(["cc", "-print-file-name=libasan.so"], capture_output=True, text=True, check=True).stdout.strip()
-    if plain or not os.path.isabs(found):
-        return own, False
-    return f"{found}:{own}", True
+    watched = not plain and os.path.isabs(found)
+    # What refuses stands on the sanitizer, so that this one begins first.
+    below = ["-Wl,--no-as-needed", found] if watched else []
+    subprocess.run(["cc", "-O2", "-shared", "-fPIC", "-o", own, HERE / "refuse.c", "-ldl", *below], check=True)
+    return (f"{own}:{found}" if watched else own), watched
 
 
 def run(program, words, given, before, number, count):
-    how = {"LD_PRELOAD": before, "REFUSE": str(number), "COUNT": count, "ASAN_OPTIONS": "exitcode=99:allocator_may_return_null=1"}
+    how = {"LD_PRELOAD": before, "REFUSE": str(number), "COUNT": count, "ASAN_OPTIONS": "exitcode=99:allocator_may_return_null=1:verify_asan_link_order=0"}
     try:
         return subprocess.run([program, *words], input=given, capture_output=True, timeout=10, env={**os.environ, **how}, check=False)
     except subprocess.TimeoutExpired:

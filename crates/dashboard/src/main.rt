@@ -37,11 +37,20 @@ fn main(rt: HostRuntime) -> ExitCode {
 
 /// The words after the program's name. Words that are no text are no command.
 fn words(rt: &(impl env::Env + AllocGlobal)) -> Result<Vec<String>, Status> {
-    let Ok(args) = env::args(rt) else {
-        return Err(Status::Usage);
+    let args = match env::args(rt) {
+        Ok(args) => args,
+        Err(error) => return Err(refusal(&error)),
     };
     match args.skip(1).collect(rt.alloc()) {
         Ok(words) => Ok(words),
         Err(_) => Err(Status::NoMemory),
+    }
+}
+
+/// Why the words can't be had: there is no memory, or one of them is no text.
+fn refusal(error: &io::Error) -> Status {
+    match error.kind() {
+        io::ErrorKind::OutOfMemory => Status::NoMemory,
+        _ => Status::Usage,
     }
 }
