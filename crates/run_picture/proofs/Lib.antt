@@ -5,4 +5,4 @@ pub mod Again
 pub mod Pieces
 pub mod Whole
 pub mod Elements
-pub mod Threads
+pub mod Traced

@@ -1,13 +1,15 @@
 //! The marks as trace events in JSON, as chrome://tracing and Perfetto's page read them.
-ghost use Rattle.std.specs.Prelude.{◌≡◌, ◌++◌, IfOk, OnOk};
-ghost use Rattle.std.specs.List.{flat_map};
-ghost use Rattle.run_picture.specs.Events.{Traces, counter_text, dispatch_text, event_text, kind_event, kind_name, micros, moment_text, slice_text, thread_text, threads_from, trace_text};
+ghost use Rattle.std.specs.Prelude.{◌≡◌, ◌++◌, IfOk, OnOk, map, codes, string_bytes};
+ghost use Rattle.serde_json.specs.Data.{array, no_members, object, put, string};
+ghost use Rattle.serde_json.specs.View.{items_of, members_view, view};
+ghost use Rattle.serde_json.specs.Written.{compact_text};
+ghost use Rattle.run_picture.specs.Events.{Traces, argued, count, event, kind_members, kind_name, micros, moment_members, naming, phased, process, slice, thread, threads_from, trace};
 
 use crate::mark::{Kind, Mark, Moment, marks};
 use crate::report::{Looper, Report, Subject};
 use crate::scale::period_of;
-use line_words::push_number;
 use loop_model::NoMemory;
+use serde_json::{Map, Value};
 use std::alloc::Global;
 
 /// A moment in whole microseconds.
@@ -19,159 +21,225 @@ fn micros(time: Moment) -> u64
         .saturating_add(time.nanos / 1000)
 }
 
-/// The name of a mark's slice or counter: letters, digits and spaces, which JSON takes as they are.
-#[tactic(auto, using(std::proofs::lemmas::List::append_assoc))]
-fn push_name(out: &mut Vec<u8>, lane: u64, kind: Kind) -> Result<(), NoMemory>
-    ensures { OnOk result (out.new.items ≡ out.old.items ++ kind_name lane kind) }
+/// Adds a member that is a number.
+fn put_number(
+    alloc: Global,
+    members: &mut Map<String, Value>,
+    key: &str,
+    number: u64,
+) -> Result<(), NoMemory>
+    ensures { OnOk result (members_view members.new.entries ≡ put key.now (count number) (members_view members.old.entries)) }
 {
-    match kind {
+    members.insert(String::from_str(alloc, key)?, Value::from(number))?;
+    Ok(())
+}
+
+/// Adds a member that is text.
+fn put_text(
+    alloc: Global,
+    members: &mut Map<String, Value>,
+    key: &str,
+    text: String,
+) -> Result<(), NoMemory>
+    ensures { OnOk result (members_view members.new.entries ≡ put key.now (string (string_bytes text)) (members_view members.old.entries)) }
+{
+    members.insert(String::from_str(alloc, key)?, Value::from(text))?;
+    Ok(())
+}
+
+/// Adds the one argument of an event.
+fn put_argument(
+    alloc: Global,
+    members: &mut Map<String, Value>,
+    args: Map<String, Value>,
+) -> Result<(), NoMemory>
+    ensures { OnOk result (members_view members.new.entries ≡ put (codes "args") (object (members_view args.entries)) (members_view members.old.entries)) }
+{
+    members.insert(String::from_str(alloc, "args")?, Value::Object(args))?;
+    Ok(())
+}
+
+/// Adds the form of an event.
+fn put_phase(alloc: Global, members: &mut Map<String, Value>, letter: &str) -> Result<(), NoMemory>
+    ensures { OnOk result (members_view members.new.entries ≡ phased letter.now (members_view members.old.entries)) }
+{
+    put_text(alloc, members, "ph", String::from_str(alloc, letter)?)
+}
+
+/// Adds an argument that is a number.
+fn put_counted(
+    alloc: Global,
+    members: &mut Map<String, Value>,
+    name: &str,
+    number: u64,
+) -> Result<(), NoMemory>
+    ensures { OnOk result (members_view members.new.entries ≡ argued name.now (count number) (members_view members.old.entries)) }
+{
+    let mut args = Map::new(alloc);
+    put_number(alloc, &mut args, name, number)?;
+    put_argument(alloc, members, args)
+}
+
+/// The name of a mark's slice or counter.
+fn name_of(alloc: Global, lane: u64, kind: Kind) -> Result<String, NoMemory>
+    ensures { IfOk result (λ name. string_bytes name ≡ kind_name lane kind) }
+{
+    let name = match kind {
         Kind::Dispatch {
             handler,
             subject,
             ..
-        } => {
-            out.extend_from_slice(b"handler ")?;
-            push_number(out, u64::from(handler))?;
-            out.push(b' ')?;
-            crate::label::push_subject(out, subject)
-        }
-        Kind::Frame => {
-            out.extend_from_slice(b"frame")?;
-            Ok(())
-        }
+        } => match subject {
+            Subject::What(what) => format!(in alloc; "handler {handler} what {what}")?,
+            Subject::Callback(callback) => format!(in alloc;
+                "handler {handler} callback {callback}"
+            )?,
+        },
+        Kind::Frame => String::from_str(alloc, "frame")?,
         Kind::Run(run) => {
-            out.extend_from_slice(b"phase ")?;
-            push_number(out, u64::from(run.phase))?;
-            out.extend_from_slice(b" callback ")?;
-            push_number(out, run.id)
+            let phase = run.phase;
+            let id = run.id;
+            format!(in alloc; "phase {phase} callback {id}")?
         }
-        Kind::Paint { gauge, .. } => {
-            out.extend_from_slice(b"looper ")?;
-            push_number(out, lane)?;
-            out.extend_from_slice(b" gauge ")?;
-            push_number(out, u64::from(gauge))
-        }
-    }
+        Kind::Paint { gauge, .. } => format!(in alloc; "looper {lane} gauge {gauge}")?,
+    };
+    Ok(name)
 }
 
-/// The beginning of an event: its name, the looper's thread, and its time.
-#[tactic(auto, using(std::proofs::lemmas::List::append_assoc), unfolding(crate::specs::Events::moment_text))]
-fn push_moment(out: &mut Vec<u8>, mark: &Mark) -> Result<(), NoMemory>
-    ensures { OnOk result (out.new.items ≡ out.old.items ++ moment_text mark.now) }
+/// The name of a mark's event, its looper's thread, and its time.
+#[tactic(auto, unfolding(crate::specs::Events::moment_members))]
+fn moment_members(alloc: Global, mark: &Mark) -> Result<Map<String, Value>, NoMemory>
+    ensures { IfOk result (λ members. members_view members.entries ≡ moment_members mark.now) }
 {
-    out.extend_from_slice(b",\n{\"name\":\"")?;
-    push_name(out, mark.lane, mark.kind)?;
-    out.extend_from_slice(b"\",\"pid\":1,\"tid\":")?;
-    push_number(out, mark.lane)?;
-    out.extend_from_slice(b",\"ts\":")?;
-    push_number(out, micros(mark.time))
+    let mut members = Map::new(alloc);
+    put_text(
+        alloc,
+        &mut members,
+        "name",
+        name_of(alloc, mark.lane, mark.kind)?,
+    )?;
+    put_number(alloc, &mut members, "pid", 1)?;
+    put_number(alloc, &mut members, "tid", mark.lane)?;
+    put_number(alloc, &mut members, "ts", micros(mark.time))?;
+    Ok(members)
 }
 
 /// A slice that lasts so many microseconds.
-#[tactic(auto, using(std::proofs::lemmas::List::append_assoc), unfolding(crate::specs::Events::slice_text))]
-fn push_slice(out: &mut Vec<u8>, lasts: u64) -> Result<(), NoMemory>
-    ensures { OnOk result (out.new.items ≡ out.old.items ++ slice_text lasts) }
+fn put_slice(alloc: Global, members: &mut Map<String, Value>, lasts: u64) -> Result<(), NoMemory>
+    ensures { OnOk result (members_view members.new.entries ≡ slice lasts (members_view members.old.entries)) }
 {
-    out.extend_from_slice(b",\"ph\":\"X\",\"dur\":")?;
-    push_number(out, lasts)?;
-    out.extend_from_slice(b"}")?;
-    Ok(())
+    put_phase(alloc, members, "X")?;
+    put_number(alloc, members, "dur", lasts)
 }
 
-/// A slice that lasts 0, with its message's number.
-#[tactic(auto, using(std::proofs::lemmas::List::append_assoc), unfolding(crate::specs::Events::dispatch_text))]
-fn push_dispatch(out: &mut Vec<u8>, number: u64) -> Result<(), NoMemory>
-    ensures { OnOk result (out.new.items ≡ out.old.items ++ dispatch_text number) }
-{
-    out.extend_from_slice(b",\"ph\":\"X\",\"dur\":0,\"args\":{\"number\":")?;
-    push_number(out, number)?;
-    out.extend_from_slice(b"}}")?;
-    Ok(())
-}
-
-/// What is told of a paint: a counter's value.
-#[tactic(auto, using(std::proofs::lemmas::List::append_assoc), unfolding(crate::specs::Events::counter_text))]
-fn push_counter(out: &mut Vec<u8>, value: u64) -> Result<(), NoMemory>
-    ensures { OnOk result (out.new.items ≡ out.old.items ++ counter_text value) }
-{
-    out.extend_from_slice(b",\"ph\":\"C\",\"args\":{\"value\":")?;
-    push_number(out, value)?;
-    out.extend_from_slice(b"}}")?;
-    Ok(())
-}
-
-/// The end of an event, by what the mark shows.
-#[tactic(auto, using(std::proofs::lemmas::List::append_assoc), unfolding(crate::specs::Events::kind_event))]
-fn push_kind(out: &mut Vec<u8>, kind: Kind, period: u64) -> Result<(), NoMemory>
-    ensures { OnOk result (out.new.items ≡ out.old.items ++ kind_event period kind) }
+/// What an event tells beside, by what the mark shows.
+#[tactic(auto, unfolding(crate::specs::Events::kind_members))]
+fn put_kind(
+    alloc: Global,
+    members: &mut Map<String, Value>,
+    kind: Kind,
+    period: u64,
+) -> Result<(), NoMemory>
+    ensures { OnOk result (members_view members.new.entries ≡ kind_members period kind (members_view members.old.entries)) }
 {
     match kind {
-        Kind::Dispatch { number, .. } => push_dispatch(out, number),
-        Kind::Frame => push_slice(out, period),
-        Kind::Run(_) => push_slice(out, 0),
-        Kind::Paint { value, .. } => push_counter(out, u64::from(value)),
+        Kind::Dispatch { number, .. } => {
+            put_slice(alloc, members, 0)?;
+            put_counted(alloc, members, "number", number)
+        }
+        Kind::Frame => put_slice(alloc, members, period),
+        Kind::Run(_) => put_slice(alloc, members, 0),
+        Kind::Paint { value, .. } => {
+            put_phase(alloc, members, "C")?;
+            put_counted(alloc, members, "value", u64::from(value))
+        }
     }
 }
 
 /// The event of a mark: a slice in its looper's thread, or a counter. A frame lasts a period, in microseconds.
-#[tactic(auto, using(std::proofs::lemmas::List::append_assoc), unfolding(crate::specs::Events::event_text))]
-fn push_event(out: &mut Vec<u8>, mark: &Mark, period: u64) -> Result<(), NoMemory>
-    ensures { OnOk result (out.new.items ≡ out.old.items ++ event_text period mark.now) }
+#[tactic(auto, unfolding(crate::specs::Events::event))]
+fn event(alloc: Global, mark: &Mark, period: u64) -> Result<Value, NoMemory>
+    ensures { IfOk result (λ value. view value ≡ event period mark.now) }
 {
-    push_moment(out, mark)?;
-    push_kind(out, mark.kind, period)?;
-    Ok(())
+    let mut members = moment_members(alloc, mark)?;
+    put_kind(alloc, &mut members, mark.kind, period)?;
+    Ok(Value::Object(members))
 }
 
 /// The events of marks, in order.
-#[tactic(auto, using(std::proofs::lemmas::List::append_assoc))]
-fn push_events(out: &mut Vec<u8>, marks: &[Mark], period: u64) -> Result<(), NoMemory>
-    ensures { OnOk result (out.new.items ≡ out.old.items ++ flat_map (event_text period) marks.now) }
+fn push_events(
+    alloc: Global,
+    out: &mut Vec<Value>,
+    marks: &[Mark],
+    period: u64,
+) -> Result<(), NoMemory>
+    ensures { OnOk result (map view out.new.items ≡ map view out.old.items ++ map (event period) marks.now) }
 {
     for mark in marks {
-        push_event(out, mark, period)?;
+        let value = event(alloc, mark, period)?;
+        out.push(value)?;
     }
     Ok(())
 }
 
-/// The name of a looper's thread.
-#[tactic(auto, using(std::proofs::lemmas::List::append_assoc), unfolding(crate::specs::Events::thread_text))]
-fn push_thread(out: &mut Vec<u8>, lane: u64) -> Result<(), NoMemory>
-    ensures { OnOk result (out.new.items ≡ out.old.items ++ thread_text lane) }
+/// What names something.
+#[tactic(auto, unfolding(crate::specs::Events::naming))]
+fn naming(alloc: Global, what: &str, name: String) -> Result<Map<String, Value>, NoMemory>
+    ensures { IfOk result (λ members. members_view members.entries ≡ naming what.now (string_bytes name)) }
 {
-    out.extend_from_slice(b",\n{\"name\":\"thread_name\",\"ph\":\"M\",\"pid\":1,\"tid\":")?;
-    push_number(out, lane)?;
-    out.extend_from_slice(b",\"args\":{\"name\":\"looper ")?;
-    push_number(out, lane)?;
-    out.extend_from_slice(b"\"}}")?;
-    Ok(())
+    let mut members = Map::new(alloc);
+    put_text(alloc, &mut members, "name", String::from_str(alloc, what)?)?;
+    put_number(alloc, &mut members, "pid", 1)?;
+    put_phase(alloc, &mut members, "M")?;
+    let mut args = Map::new(alloc);
+    put_text(alloc, &mut args, "name", name)?;
+    put_argument(alloc, &mut members, args)?;
+    Ok(members)
+}
+
+/// The name of the process.
+#[tactic(auto, unfolding(crate::specs::Events::process))]
+fn process(alloc: Global) -> Result<Value, NoMemory>
+    ensures { IfOk result (λ value. view value ≡ process) }
+{
+    let members = naming(alloc, "process_name", String::from_str(alloc, "dashboard")?)?;
+    Ok(Value::Object(members))
+}
+
+/// The name of a looper's thread.
+#[tactic(auto, unfolding(crate::specs::Events::thread))]
+fn thread(alloc: Global, lane: u64) -> Result<Value, NoMemory>
+    ensures { IfOk result (λ value. view value ≡ thread lane) }
+{
+    let name = format!(in alloc; "looper {lane}")?;
+    let mut members = naming(alloc, "thread_name", name)?;
+    put_number(alloc, &mut members, "tid", lane)?;
+    Ok(Value::Object(members))
 }
 
 /// The names of the loopers' threads.
-fn push_threads(out: &mut Vec<u8>, loopers: &[Looper]) -> Result<(), NoMemory>
-    ensures { OnOk result (out.new.items ≡ out.old.items ++ threads_from 0 loopers.now) }
+fn push_threads(alloc: Global, out: &mut Vec<Value>, loopers: &[Looper]) -> Result<(), NoMemory>
+    ensures { OnOk result (map view out.new.items ≡ map view out.old.items ++ threads_from 0 loopers.now) }
 {
     let mut lane = 0;
     for looper in loopers {
-        push_thread(out, lane)?;
+        let value = thread(alloc, lane)?;
+        out.push(value)?;
         lane += 1;
     }
     Ok(())
 }
 
-/// The trace where a frame lasts so many microseconds.
-#[tactic(auto, using(std::proofs::lemmas::List::append_assoc))]
-fn trace_with(alloc: Global, report: &Report, period: u64) -> Result<Vec<u8>, NoMemory>
-    ensures { IfOk result (λ text. text.items ≡ trace_text period report.now) }
+/// The names and events where a frame lasts so many microseconds.
+fn trace(alloc: Global, report: &Report, period: u64) -> Result<Vec<Value>, NoMemory>
+    ensures { IfOk result (λ found. map view found.items ≡ trace period report.now) }
 {
     let marks = marks(alloc, report)?;
     let mut out = Vec::new(alloc);
-    out.extend_from_slice(
-        b"[{\"name\":\"process_name\",\"ph\":\"M\",\"pid\":1,\"args\":{\"name\":\"dashboard\"}}",
-    )?;
-    push_threads(&mut out, report.loopers.as_slice())?;
-    push_events(&mut out, &marks, period)?;
-    out.extend_from_slice(b"]\n")?;
+    let first = process(alloc)?;
+    out.push(first)?;
+    push_threads(alloc, &mut out, report.loopers.as_slice())?;
+    push_events(alloc, &mut out, &marks, period)?;
     Ok(out)
 }
 
@@ -181,6 +249,10 @@ pub fn perfetto_text(alloc: Global, report: &Report) -> Result<Vec<u8>, NoMemory
     ensures { IfOk result (λ text. Traces report.now text.items) }
 {
     let period = u64::try_from(period_of(report) / 1000).unwrap_or(u64::MAX);
-    let text = trace_with(alloc, report, period)?;
-    Ok(text)
+    let events = trace(alloc, report, period)?;
+    let text = Value::Array(events).to_string(alloc)?;
+    let mut out = Vec::new(alloc);
+    out.extend_from_slice(text.as_bytes())?;
+    out.extend_from_slice(b"\n")?;
+    Ok(out)
 }

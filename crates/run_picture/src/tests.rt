@@ -138,7 +138,7 @@ fn an_empty_run_has_a_trace(rt: HostRuntime) -> Result<(), Fail> {
         return Err("no trace".into());
     };
     let expected: &[u8] =
-        b"[{\"name\":\"process_name\",\"ph\":\"M\",\"pid\":1,\"args\":{\"name\":\"dashboard\"}}]\n";
+        b"[{\"args\":{\"name\":\"dashboard\"},\"name\":\"process_name\",\"ph\":\"M\",\"pid\":1}]\n";
     assert_eq!(rt; text.as_slice(), expected);
     Ok(())
 }

@@ -1,4 +1,12 @@
+use Rattle.std.proofs.Common.{ap, codes, ◌++◌, ◌∙◌, string_bytes}
+use Rattle.run_picture.proofs.Traced.{traced}
 use Rattle.run_picture.proofs.perfetto.perfetto_text.Goals as goal
 
 pub returns : goal.returns
-returns c = (_, c.in_ok-text.ensures)
+returns c = (
+  c.unwrap_or-period.result,
+  c.in_ok-extend_from_slice-2.ensures.items
+      ∙ ap (λ l. l ++ codes "\n")
+      (c.in_ok-extend_from_slice.ensures.items ∙ ap (λ l. l ++ c.as_bytes.result.now) c.new-out.ensures.items ∙ c.as_bytes.ensures.value
+      ∙ traced c.unwrap_or-period.result c.args.report.now c.in_ok-events.events (string_bytes c.in_ok-text.text) c.in_ok-events.ensures c.in_ok-text.ensures.text),
+)
