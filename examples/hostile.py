@@ -3,7 +3,7 @@
 
 Each input has a megabyte, or as much as its limits allow. It must be refused with the status and the line that are told here; the time
 is the least of some rounds, in processor milliseconds, less what an empty input takes. The last line tells the greatest ratio
-of full to half length among those that take a millisecond at half length; a reader that is linear in the length comes to about 2.
+of full to half length among those that take half a millisecond at half length; a reader that is linear in the length comes to about 2.
 """
 import argparse
 import pathlib
@@ -30,7 +30,7 @@ def unbarriers(count):
 def posts(size):
     """Good lines up to the most, and one too many."""
     count = size * 19_994 // MEGABYTE
-    return HEAD + b"0 post 0 1000000 0\n" * count, (count + 7 if count < 19_994 else 20_001)
+    return HEAD + b"0 post 0 999999 0\n" * count, (count + 7 if count < 19_994 else 20_001)
 
 
 def inputs(part):
@@ -93,7 +93,7 @@ def main():
             print(f"FAILED {word}, {name}")
             continue
         part, whole = (max(it - nothing, 0.0) for it in times)
-        ratio = whole / part if part >= 1 else 0.0
+        ratio = whole / part if part >= 0.5 else 0.0
         most = max(most, ratio)
         print(f"| `{word}` | {name} | {len(given):,} | {part:.1f} | {whole:.1f} | {f'{ratio:.1f}' if ratio else 'too short'} |")
     print(f"hostile: the greatest ratio is {most:.1f}, {failed} failed")

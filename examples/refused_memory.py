@@ -1,6 +1,6 @@
 #!/usr/bin/env python3
-"""refused_memory.py PROGRAM [--plain]: runs worked examples again and again, and refuses one allocation in each run: the first, the
-second, and so on, until the runs ask for fewer.
+"""refused_memory.py PROGRAM [--plain]: runs worked examples again and again, and refuses one request for memory or for a thread in
+each run: the first, the second, and so on, until a run has fewer.
 
 Each run must write a lawful report and end with status 0, or write nothing and end with status 6 and its line. refuse.c does
 the refusing: it is compiled by cc and laid before the program, and behind it the address sanitizer of that compiler, which finds
@@ -60,7 +60,7 @@ def fault(got, lawful):
 
 
 def main():
-    words = argparse.ArgumentParser(description="refuses each allocation of worked examples in turn")
+    words = argparse.ArgumentParser(description="refuses each request of worked examples for memory or a thread in turn")
     words.add_argument("program")
     words.add_argument("--plain", action="store_true", help="without the address sanitizer")
     asked = words.parse_args()
@@ -76,7 +76,7 @@ def main():
                 wrong, end = fault(got, lawful)
                 if wrong:
                     faults += 1
-                    print(f"FAILED {name}, allocation {number} refused: {wrong}")
+                    print(f"FAILED {name}, request {number} refused: {wrong}")
                 ends[end] += 1
                 if number and int(pathlib.Path(count).read_text()) < number:
                     break
