@@ -217,6 +217,36 @@ fn time_moves_and_stops(rt: HostRuntime) -> Result<(), Fail> {
 }
 
 #[test]
+fn a_look_waits_for_the_message(rt: HostRuntime) -> Result<(), Fail> {
+    let (queue, mut poster) = alone(rt.alloc(), false)?;
+    assert!(rt;
+        matches!(
+            poster.next(&rt, &queue, 0, false),
+            Nexted::Wait { until: None }
+        )
+    );
+    assert!(rt; matches!(poster.next(&rt, &queue, 0, true), Nexted::Idle));
+    assert!(rt; send(&rt, rt.alloc(), &queue, &mut poster, 7));
+    assert!(rt;
+        matches!(
+            poster.next(&rt, &queue, 0, false),
+            Nexted::Wait { until: Some(5) }
+        )
+    );
+    Ok(())
+}
+
+#[test]
+fn a_queue_ends_and_is_over(rt: HostRuntime) -> Result<(), Fail> {
+    let (queue, mut poster) = alone(rt.alloc(), false)?;
+    assert!(rt; matches!(poster.quit(&rt, &queue, false, 0), Quitting::Done(_)));
+    assert!(rt; matches!(poster.next(&rt, &queue, 0, true), Nexted::End(_)));
+    assert!(rt; !poster.has(&rt, &queue, &ALL));
+    assert!(rt; matches!(poster.next(&rt, &queue, 0, true), Nexted::Over));
+    Ok(())
+}
+
+#[test]
 fn a_removal_empties(rt: HostRuntime) -> Result<(), Fail> {
     let (queue, mut poster) = alone(rt.alloc(), false)?;
     assert!(rt; send(&rt, rt.alloc(), &queue, &mut poster, 7));
