@@ -180,12 +180,7 @@ impl Stage {
     }
 
     /// The least time at which a message is due or a pulse comes, in milliseconds.
-    fn next_due<R: Wait>(
-        &mut self,
-        rt: &R,
-        script: &Script,
-        agenda: &mut Agenda,
-    ) -> Option<u64>
+    fn next_due<R: Wait>(&mut self, rt: &R, script: &Script, agenda: &mut Agenda) -> Option<u64>
         requires stage { IsStage script.now self.old }
         ensures stage { IsStage script.now self.new }
         ensures threads { self.new.threads.items ≡ self.old.threads.items }
