@@ -22,10 +22,11 @@ fn a_run_is_given_up(rt: HostRuntime) -> Result<(), Fail> {
     let script = make_script(alloc, 0)?;
     let mut stage = set_up(alloc, &script)?;
     stage.hall.stop.stop(&rt);
-    if let Some(block) = script.blocks.as_slice().first() {
-        let run = stage.run_block(&rt, alloc, &script, &OpenGate, block);
-        assert!(rt; run.is_err());
-    }
+    let Some(block) = script.blocks.as_slice().first() else {
+        panic!(rt; "no block")
+    };
+    let run = stage.run_block(&rt, alloc, &script, &OpenGate, block);
+    assert!(rt; run.is_err());
     stage.share(&script);
     assert!(rt; stage.controller.entries_seen() == 0);
     assert!(rt; stage.give_up(&rt, alloc, &script, &OpenGate));
