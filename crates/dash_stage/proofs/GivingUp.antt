@@ -1,21 +1,19 @@
 -- What the controller leaves of its posters as it gives a run up.
-use Rattle.std.proofs.Common.{◌≡◌, ◌≢◌, ◌<◌, ◌≤◌, ◌+◌, ℕ, false, List, length, set, get_or, refl, sym, ap, ◌∙◌, subst, arith}
+use Rattle.std.proofs.Common.{◌≡◌, ◌≢◌, ◌<◌, ◌≤◌, ◌+◌, ℕ, false, List, length, set, sym, ap, ◌∙◌, subst, arith}
 use Rattle.std.specs.Prelude.{slice_index_or}
 use Rattle.std.specs.Vec.{with_item}
-use Rattle.std.proofs.lemmas.List.{get_or-set_same, get_or-set_other, get_or_default}
+use Rattle.std.proofs.lemmas.List.{get_or-set_same, get_or_default}
 use Rattle.std.proofs.Math.Seq.{map-set_same}
 use mathlib.Core.Logic.{dite}
 use native.Mathlib.Decide.{ℕ_discrete}
 use Rattle.dash_script.specs.declared.script.Script.{Script}
-use Rattle.atomic_table.specs.Seated.{TableId}
 use Rattle.shared_queue.specs.Known.{IsSame}
-use Rattle.message_pool.specs.Passes.{Claimed}
 use Rattle.looper_run.specs.Holding.{Sender}
 use Rattle.run_model.specs.Asks.{entries_by}
 use Rattle.run_model.specs.Senders.{controller}
 use Rattle.dash_hall.specs.declared.hall.Hall.{Hall}
 use Rattle.dash_hall.specs.Growth.{own, QuitsOf}
-use Rattle.dash_hall.specs.Kits.{badge_of, IsHall}
+use Rattle.dash_hall.specs.Kits.{badge_of}
 use Rattle.dash_hall.proofs.Badges.{posters_kept}
 use Rattle.dash_stage.specs.declared.control.Controller.{Controller}
 use Rattle.dash_stage.specs.Controllers.{IsController}

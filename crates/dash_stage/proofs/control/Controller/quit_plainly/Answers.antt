@@ -2,7 +2,6 @@ use Rattle.std.proofs.Common.{false}
 use Rattle.dash_hall.specs.Growth.{QuitsOf}
 use Rattle.looper_run.specs.Holding.{Sender}
 use Rattle.dash_stage.proofs.Controlling.{in_queues, in_posters, has_poster, own_poster, in_pool, after_call}
-use Rattle.dash_stage.proofs.ControlWhole.{turns_elsewhere}
 use Rattle.dash_stage.proofs.GivingUp.{stands_there}
 use Rattle.dash_stage.proofs.control.Controller.quit_plainly.Goals as goal
 
