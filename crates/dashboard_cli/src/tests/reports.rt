@@ -250,10 +250,10 @@ pub(super) const OF_LOOPERS: [(&str, &str, &str, Status, &str, &str); 11] = [
     (
         "run",
         "",
-        "dashboard 2\nloopers 1\nthreads 1\nhandler 0 0\ngauge 0 0 3\nvsync 16666667\nat 0\n0 set 0 3\nend 40\n",
+        "dashboard 2\nloopers 1\nthreads 1\nhandler 0 0\ngauge 0 0 3\nvsync 16666667\nat 0\n0 set 0 7\nend 70\n",
         Status::Ok,
         "",
-        "report 2\nlooper 0\n0 dispatch 0 0 1\n17 dispatch 1 64 0\n34 dispatch 2 64 0\nfates accepted 3 dispatched 3 removed 0 dropped 0 stranded 0 queued 0\npaint 0 3\nframe 16666667\nrun 1 1000000\nrun 3 1000016\nframe 33333334\nend\n",
+        "report 2\nlooper 0\n0 dispatch 0 0 1\n17 dispatch 1 64 0\n34 dispatch 2 64 0\n51 dispatch 3 64 0\n67 dispatch 4 64 0\nfates accepted 5 dispatched 5 removed 0 dropped 0 stranded 0 queued 0\npaint 0 3\npaint 0 6\npaint 0 7\nframe 16666667\nrun 1 1000000\nrun 3 1000016\nframe 33333334\nrun 1 1000000\nrun 3 1000016\nframe 50000001\nrun 1 1000000\nrun 3 1000016\nframe 66666668\nend\n",
     ),
     // A removed frame callback leaves its frame, which is empty.
     (
