@@ -1,11 +1,9 @@
 //! Which words name which command.
-use super::{run, source, words_of};
+use super::{Given, NEVER, come_of, words_of};
 use crate::*;
 use std::alloc::{AllocError, Global};
 use std::process::Abort;
-use std::sync::Wait;
 use std::test::Fail;
-use std::thread::Threads;
 
 /// Words, and the command that they name.
 const NAMED: [(&str, Option<Command>); 29] = [
@@ -41,7 +39,7 @@ const NAMED: [(&str, Option<Command>); 29] = [
 ];
 
 fn names(
-    rt: &(impl Abort + Threads + Wait + Sync),
+    rt: &impl Abort,
     alloc: Global,
     line: &str,
     command: Option<Command>,
@@ -62,26 +60,27 @@ fn words_name_a_command(rt: HostRuntime) -> Result<(), Fail> {
 }
 
 /// Words that name no command are refused. Nothing is read, so a source that fails is no fault, and nothing is written.
-fn is_usage(
-    rt: &(impl Abort + Threads + Wait + Sync),
-    alloc: Global,
-    line: &str,
-) -> Result<(), AllocError> {
-    let mut source = source(Vec::new(alloc), 1, vec![in alloc; 0]?);
-    let (outcome, written) = run(rt, alloc, line, &mut source, Vec::new(alloc))?;
-    assert!(rt; outcome.status == Status::Usage, "at {line:?}");
-    assert!(rt; outcome.report.is_none());
-    assert!(rt; written.is_empty());
-    Ok(())
-}
-
 #[test]
 fn other_words_are_refused(rt: HostRuntime) -> Result<(), Fail> {
     let alloc = rt.alloc();
     for &(line, command) in &NAMED {
         if command.is_none() {
-            is_usage(&rt, alloc, line)?;
+            let came = come_of(&rt, alloc, line, Vec::new(alloc), 1, 0, NEVER)?;
+            assert!(rt; came.status == Status::Usage, "at {line:?}");
+            assert!(rt; came.given == Given::Nothing && came.written.is_empty());
         }
     }
+    Ok(())
+}
+
+/// `make` reads nothing either.
+#[test]
+fn a_script_is_made(rt: HostRuntime) -> Result<(), Fail> {
+    let alloc = rt.alloc();
+    let came = come_of(&rt, alloc, "make 0", Vec::new(alloc), 1, 0, NEVER)?;
+    assert!(rt; came.status == Status::Ok);
+    let lines = came.written.iter().filter(|byte| **byte == b'\n').count();
+    assert!(rt; lines == 2_525);
+    assert!(rt; came.written.as_slice().ends_with(b"\nend 6000\n"));
     Ok(())
 }

@@ -1,38 +1,81 @@
 //! Runs whose threads race.
-use super::{SECOND, joined, run, run_at, source};
+use super::{Given, NEVER, come_of, joined, run_at, wanted};
 use crate::*;
-use loop_io::MeetGate;
+use loop_io::{MeetGate, MemSource};
 use std::alloc::{AllocError, Global};
 use std::process::Abort;
 use std::sync::Wait;
 use std::test::Fail;
 use std::thread::Threads;
 
-/// The same with two threads, which are the senders 0 and 1; the loopers are the senders 2 and 3.
-const THREE: &str = "dashboard 1\nloopers 2\nthreads 2\nhandler 0 0\nhandler 1 1\nvsync 16666667\n";
-
 /// A post of one thread that races the quit of another.
-const RACE: &str = "at 10\n0 quit 1\n1 post 1 5 0\nend 10\n";
+const QUIT: &str =
+    "dashboard 1\nloopers 2\nthreads 2\nhandler 0 0\nhandler 1 1\nvsync 16666667\nat 10\n0 quit 1\n1 post 1 5 0\nend 10\n";
 
-/// The post came behind the quit and was refused, or before it and was dropped.
-const OUTCOMES: [&str; 2] = [
-    "refused 1 5 quit 1\nfates accepted 0 dispatched 0 removed 0 dropped 0 stranded 0 queued 0\nend\n",
-    "fates accepted 1 dispatched 0 removed 0 dropped 1 stranded 0 queued 0\nend\n",
+/// Two threads put three posts into an inbox.
+const PUTS: &str =
+    "dashboard 1\nloopers 1\nthreads 2\nhandler 0 0\nvsync 16666667\nat 10\n0 post 0 1 0\n0 post 0 2 0\n1 post 0 3 0\nend 10\n";
+
+/// Words and their script; how its text begins and ends; and the lawful middles, of which one must come.
+const RACES: [(&str, &str, &str, &str, [&str; 3]); 2] = [
+    // The post came behind the quit and was refused, or before it and was dropped.
+    (
+        "run",
+        QUIT,
+        "report 1\nlooper 0\nfates accepted 0 dispatched 0 removed 0 dropped 0 stranded 0 queued 0\nlooper 1\n",
+        "end\n",
+        [
+            "refused 1 5 quit 1\nfates accepted 0 dispatched 0 removed 0 dropped 0 stranded 0 queued 0\n",
+            "fates accepted 1 dispatched 0 removed 0 dropped 1 stranded 0 queued 0\n",
+            "",
+        ],
+    ),
+    // The first thread's own order is kept.
+    (
+        "inbox",
+        PUTS,
+        "inbox 1\nlooper 0\n",
+        "fates accepted 3 dispatched 3 removed 0 dropped 0 stranded 0 queued 0\nfrom 0 2\nfrom 1 1\nend\n",
+        [
+            "10 dispatch 0 0 1\n10 dispatch 1 0 2\n10 dispatch 2 0 3\n",
+            "10 dispatch 0 0 1\n10 dispatch 1 0 3\n10 dispatch 2 0 2\n",
+            "10 dispatch 0 0 3\n10 dispatch 1 0 1\n10 dispatch 2 0 2\n",
+        ],
+    ),
 ];
 
+/// Whether the text has this front and this end, and between them one of the middles.
+fn is_lawful(text: &[u8], front: &str, end: &str, middles: &[&str]) -> bool {
+    let Some(rest) = text.strip_prefix(front.as_bytes()) else {
+        return false;
+    };
+    let Some(middle) = rest.strip_suffix(end.as_bytes()) else {
+        return false;
+    };
+    middles.iter().any(|lawful| middle == lawful.as_bytes())
+}
+
 #[test]
-fn a_race_has_one_of_two_reports(rt: HostRuntime) -> Result<(), Fail> {
+fn races_have_lawful_texts(rt: HostRuntime) -> Result<(), Fail> {
     let alloc = rt.alloc();
-    let first = joined(alloc, SECOND, OUTCOMES[0])?;
-    let second = joined(alloc, SECOND, OUTCOMES[1])?;
-    for _ in 0..20 {
-        let script = joined(alloc, THREE, RACE)?;
-        let mut source = source(script, 64, Vec::new(alloc));
-        let (outcome, written) = run(&rt, alloc, "run", &mut source, Vec::new(alloc))?;
-        assert!(rt; outcome.status == Status::Ok);
-        assert!(rt;
-            written.as_slice() == first.as_slice() || written.as_slice() == second.as_slice()
-        );
+    for turn in 0..20 {
+        for &(line, script, front, end, middles) in &RACES {
+            let came = come_of(
+                &rt,
+                alloc,
+                line,
+                joined(alloc, script, "")?,
+                64,
+                NEVER,
+                NEVER,
+            )?;
+            assert!(rt; came.status == Status::Ok && came.given == wanted(line));
+            let text = came.written.as_slice();
+            assert!(rt;
+                is_lawful(text, front, end, middles.as_slice()),
+                "{line} in turn {turn}"
+            );
+        }
     }
     Ok(())
 }
@@ -68,39 +111,41 @@ fn lines_with(text: &[u8], front: &[u8]) -> usize {
 #[test]
 fn a_busy_run_comes_to_its_counts(rt: HostRuntime) -> Result<(), Fail> {
     let alloc = rt.alloc();
-    let mut source = source(BUSY.as_bytes().to_vec(alloc)?, 255, Vec::new(alloc));
-    let (outcome, written) = run(&rt, alloc, "run", &mut source, Vec::new(alloc))?;
-    assert!(rt; outcome.status == Status::Ok);
+    let came = come_of(
+        &rt,
+        alloc,
+        "run",
+        joined(alloc, BUSY, "")?,
+        255,
+        NEVER,
+        NEVER,
+    )?;
+    assert!(rt; came.status == Status::Ok && came.given == Given::Report);
+    let text = came.written.as_slice();
     for &line in &BUSY_LINES {
-        assert!(rt; has_line(written.as_slice(), line.as_bytes()), "{line}");
+        assert!(rt; has_line(text, line.as_bytes()), "{line}");
     }
-    assert!(rt; lines_with(written.as_slice(), b"refused 2 4 quit ") == 1);
+    assert!(rt; lines_with(text, b"refused 2 4 quit ") == 1);
     Ok(())
 }
+
+/// A script of two threads, which are the senders 0 and 1; its loopers are the senders 2 and 3.
+const MEETING: &str =
+    "dashboard 1\nloopers 2\nthreads 2\nhandler 0 0\nhandler 1 1\nvsync 16666667\nat 10\n0 post 0 1 0\n1 post 1 2 0\nend 10\n";
 
 /// Two senders are held at the gate until both are there, so they run side by side.
-fn meet(
-    rt: &(impl Abort + Threads + Wait + Sync),
-    alloc: Global,
-    first: u32,
-    second: u32,
-) -> Result<(), AllocError> {
-    let script = joined(alloc, THREE, "at 10\n0 post 0 1 0\n1 post 1 2 0\nend 10\n")?;
-    let mut source = source(script, 64, Vec::new(alloc));
-    let gate = MeetGate::new(first, second, 0, 10_000_000);
-    let (outcome, _) = run_at(rt, alloc, "run", &mut source, Vec::new(alloc), &gate)?;
-    assert!(rt;
-        outcome.status == Status::Ok,
-        "senders {first} and {second}"
-    );
-    assert!(rt; !gate.missed(), "senders {first} and {second}");
-    Ok(())
-}
-
 #[test]
 fn threads_and_loopers_run_side_by_side(rt: HostRuntime) -> Result<(), Fail> {
     let alloc = rt.alloc();
-    meet(&rt, alloc, 0, 1)?;
-    meet(&rt, alloc, 2, 3)?;
+    for &(first, second) in &[(0, 1), (2, 3)] {
+        let mut source = MemSource::new(joined(alloc, MEETING, "")?, 64, Vec::new(alloc));
+        let gate = MeetGate::new(first, second, 0, 10_000_000);
+        let (outcome, _) = run_at(&rt, alloc, "run", &mut source, NEVER, &gate)?;
+        assert!(rt;
+            outcome.status == Status::Ok,
+            "senders {first} and {second}"
+        );
+        assert!(rt; !gate.missed(), "senders {first} and {second}");
+    }
     Ok(())
 }

@@ -1,5 +1,6 @@
 //! What a long run uses again, and what it hands out.
-use super::{ONE, joined, run, source};
+use super::{NEVER, ONE, joined, run_at};
+use loop_io::{MemSource, OpenGate};
 use loop_model::{Call, Entry};
 use std::alloc::{AllocError, Global};
 use std::test::Fail;
@@ -37,8 +38,8 @@ fn slots_are_used_again(rt: HostRuntime) -> Result<(), Fail> {
     script.extend_from_slice(b"at 2\n")?;
     posts(&mut script)?;
     script.extend_from_slice(b"end 2\n")?;
-    let mut source = source(script, 64, Vec::new(alloc));
-    let (outcome, _) = run(&rt, alloc, "run", &mut source, Vec::new(alloc))?;
+    let mut source = MemSource::new(script, 64, Vec::new(alloc));
+    let (outcome, _) = run_at(&rt, alloc, "run", &mut source, NEVER, &OpenGate)?;
     let report = outcome.report.expect(&rt, "a report");
     let queue = report.queues.as_slice().first().expect(&rt, "a queue");
     let part = queue.segments.as_slice().first().expect(&rt, "a part");
@@ -59,8 +60,8 @@ fn a_long_history_has_parts(rt: HostRuntime) -> Result<(), Fail> {
         posts(&mut script)?;
     }
     script.extend_from_slice(b"end 0\n")?;
-    let mut source = source(script, 64, Vec::new(alloc));
-    let (outcome, _) = run(&rt, alloc, "run", &mut source, Vec::new(alloc))?;
+    let mut source = MemSource::new(script, 64, Vec::new(alloc));
+    let (outcome, _) = run_at(&rt, alloc, "run", &mut source, NEVER, &OpenGate)?;
     let report = outcome.report.expect(&rt, "a report");
     let queue = report.queues.as_slice().first().expect(&rt, "a queue");
     let [first, last] = queue.segments.as_slice() else {

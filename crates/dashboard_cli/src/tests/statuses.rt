@@ -3,9 +3,7 @@ use crate::*;
 use dash_script::Cause as TextCause;
 use std::alloc::Global;
 use std::process::Abort;
-use std::sync::Wait;
 use std::test::Fail;
-use std::thread::Threads;
 
 /// Statuses, with their codes and texts.
 const STATUSES: [(Status, u8, &str); 14] = [
@@ -74,13 +72,7 @@ const STATUSES: [(Status, u8, &str); 14] = [
     (Status::Trace { line: 7 }, 8, "dashboard: trace line 7"),
 ];
 
-fn is_told(
-    rt: &(impl Abort + Threads + Wait + Sync),
-    alloc: Global,
-    status: &Status,
-    code: u8,
-    text: &str,
-) {
+fn is_told(rt: &impl Abort, alloc: Global, status: &Status, code: u8, text: &str) {
     assert!(rt; status.code() == code);
     let line = status_text(alloc, status).expect(rt, "memory");
     assert!(rt; line.as_str() == text);
