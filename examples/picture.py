@@ -2,13 +2,15 @@
 """picture.py PROGRAM [--write]: docs/gauge.svg is what `timeline svg` makes of a report; with --write it is made anew.
 
 Every report of this folder becomes an SVG that an XML parser takes, with an element for each mark, and a trace that a JSON
-parser takes, with an event for each mark.
+parser takes, with an event for each mark. Where Chromium is installed, it opens the pictures too, with as many elements.
 """
 import json
 import pathlib
 import re
+import shutil
 import subprocess
 import sys
+import tempfile
 import xml.etree.ElementTree as tree
 
 HERE = pathlib.Path(__file__).resolve().parent
@@ -57,6 +59,31 @@ def look(program, name, text):
     assert sum(event["ph"] != "M" for event in json.loads(trace.stdout)) == marks_of(text), name
 
 
+def opened(browser, svg):
+    """What the browser makes of the picture, as text."""
+    with tempfile.TemporaryDirectory() as folder:
+        file = pathlib.Path(folder, "picture.svg")
+        file.write_bytes(svg)
+        words = [browser, "--headless", "--no-sandbox", "--disable-gpu", f"--user-data-dir={folder}/user", "--dump-dom", file.as_uri()]
+        return subprocess.run(words, capture_output=True, check=True, timeout=120).stdout
+
+
+def open_in_browser(pictures):
+    browser = shutil.which("chromium") or shutil.which("chromium-browser") or shutil.which("google-chrome")
+    if browser is None:
+        print("no browser is installed: the pictures were not opened in one")
+        return
+    for svg in pictures:
+        try:
+            shown = opened(browser, svg)
+        except subprocess.SubprocessError as fault:
+            print(f"the browser didn't open a picture here: {fault}"[:200])
+            return
+        assert shown.startswith(b"<svg") and b"parsererror" not in shown
+        assert shown.count(b'class="mark"') == svg.count(b'class="mark"')
+    print(f"{len(pictures)} pictures opened in a browser")
+
+
 def main():
     program = sys.argv[1]
     reports = [file for file in sorted(HERE.glob("*.report")) if file.read_bytes().startswith(b"report ")]
@@ -70,6 +97,7 @@ def main():
     if "--write" in sys.argv:
         SHOWN.write_bytes(shown)
     assert SHOWN.read_bytes() == shown, "docs/gauge.svg is another one"
+    open_in_browser([shown, run(program, "svg", longest()).stdout])
     print(f"{len(reports)} reports drawn")
 
 
