@@ -1,6 +1,7 @@
 -- Spans with one time more.
 use Rattle.std.proofs.Common.{◌≡◌, ℕ, max, List, [], ◌∷◌, ◌++◌, ap, Option, Some, None, arith}
-use Rattle.countdown.specs.Moments.{latest, span_of}
+use Rattle.countdown.specs.Moments.{latest}
+use Rattle.countdown.specs.Given.{span_of}
 
 -- the greatest with one time more
 pub latest-push : (ts : List ℕ) (t : ℕ) → latest (ts ++ t ∷ []) ≡ max (latest ts) t

@@ -1,3 +1,4 @@
 pub mod Moments
 pub mod Ticking
+pub mod Given
 pub mod Laws

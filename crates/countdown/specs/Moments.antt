@@ -1,19 +1,10 @@
 -- The time that a list of frame times spans.
-use Rattle.std.specs.Prelude.{ℕ, ◌-◌, ◌/◌, max, Bool, false, nat_le, List, [], ◌∷◌, Option, Some, None}
+use Rattle.std.specs.Prelude.{ℕ, ◌-◌, ◌/◌, max, Bool, false, nat_le, List, [], ◌∷◌}
 
 -- the greatest of the times, or 0 of none
 abbrev pub latest : List ℕ → ℕ
 latest [] = 0
 latest (t ∷ ts) = max t (latest ts)
-
--- the first of the times and the greatest, or nothing of none
-abbrev pub span_of : List ℕ → Option (ℕ × ℕ)
-span_of [] = None
-span_of (t ∷ ts) = Some (t, latest (t ∷ ts))
-
--- whole milliseconds from the first time to the greatest, in nanoseconds
-abbrev pub milliseconds : ℕ × ℕ → ℕ
-milliseconds (first, greatest) = (greatest - first) / 1000000
 
 -- whole milliseconds from the first of the times to the greatest, or 0 of none
 abbrev pub elapsed : List ℕ → ℕ

@@ -1,18 +1,8 @@
 -- What a countdown tells at each frame.
-use Rattle.std.specs.Prelude.{◌≡◌, ℕ, ◌-◌, ◌/◌, Bool, true, nat_lt, if◌then◌else◌, List, [], ◌∷◌, ◌++◌, Option}
+use Rattle.std.specs.Prelude.{ℕ, ◌-◌, ◌/◌, Bool, true, nat_lt, if◌then◌else◌, List, [], ◌∷◌, ◌++◌}
 use Rattle.countdown.specs.declared.timer.Ticked.{Ticked}
 use Rattle.countdown.specs.declared.timer.Ticked.TheVariants.{Tick, Quiet, Finished, Over}
-use Rattle.countdown.specs.Moments.{elapsed, has_ended, span_of}
-
--- a countdown: its total and its interval in milliseconds, and the span of the times that it was given
-pub record Counting : Type 0 where
-  pub total : ℕ
-  pub interval : ℕ
-  pub span : Option (ℕ × ℕ)
-
--- the countdown was given these times, in this order
-abbrev pub WasGiven : Counting → List ℕ → Type 0
-WasGiven c times = c.span ≡ span_of times
+use Rattle.countdown.specs.Moments.{elapsed, has_ended}
 
 -- a tick comes at the first time, and where more whole intervals have elapsed than at the time before
 abbrev pub ticks : ℕ → List ℕ → ℕ → Bool

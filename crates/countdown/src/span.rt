@@ -1,7 +1,7 @@
 //! The time that frames span.
 ghost use Rattle.std.specs.Prelude.{◌≡◌, ◌++◌, ◌∷◌, [], List, ℕ, Some};
 ghost use Rattle.std.specs.Option.{option_map};
-ghost use Rattle.countdown.specs.Moments.{milliseconds, span_of};
+ghost use Rattle.countdown.specs.Given.{milliseconds, span_of};
 
 use std::marker::Model;
 

@@ -1,7 +1,7 @@
 //! The countdown.
 ghost use Rattle.std.specs.Prelude.{◌≡◌, ◌<◌, ◌++◌, ◌∷◌, [], List, ℕ};
-ghost use Rattle.countdown.specs.Moments.{span_of};
-ghost use Rattle.countdown.specs.Ticking.{answer, WasGiven};
+ghost use Rattle.countdown.specs.Given.{span_of, WasGiven};
+ghost use Rattle.countdown.specs.Ticking.{answer};
 
 use crate::span::Span;
 use std::marker::Model;
@@ -30,7 +30,7 @@ pub struct Countdown {
 
 impl Model for Countdown {
     ghost use Rattle.std.specs.Prelude.{◌<◌};
-    ghost use Rattle.countdown.specs.Ticking.{Counting};
+    ghost use Rattle.countdown.specs.Given.{Counting};
 
     ghost Value = { Counting };
 

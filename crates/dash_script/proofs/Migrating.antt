@@ -1,9 +1,9 @@
 -- A script that has a text has one in edition 2 too.
-use Rattle.std.proofs.Common.{◌≡◌, ◌≢◌, ◌<◌, ◌≤◌, ◌+◌, ℕ, zero, suc, Bool, true, false, ◌&&◌, not, ltb, leb, eqb, cond, List, [], ◌∷◌, ◌++◌, map, length, inl, inr, refl, sym, ap, subst, ◌∙◌, arith, append_assoc, eq-eqb, ne_eqb}
+use Rattle.std.proofs.Common.{◌≡◌, ◌+◌, ℕ, zero, suc, Bool, true, false, ◌&&◌, not, ltb, leb, eqb, cond, List, [], ◌∷◌, ◌++◌, map, length, inl, inr, refl, sym, ap, subst, ◌∙◌, arith, eq-eqb, ne_eqb}
 use Rattle.std.proofs.Math.Decide.{ℕ_discrete}
 use mathlib.Core.Logic.{dite}
-use Rattle.std.specs.Prelude.{◌||◌, ◌==◌, nat_lt, nat_le, slice_index, if◌then◌else◌}
-use Rattle.std.specs.List.{list_all, list_any, flat_map, enumerate_from, sum_by}
+use Rattle.std.specs.Prelude.{◌||◌, ◌==◌, if◌then◌else◌}
+use Rattle.std.specs.List.{list_all, flat_map, enumerate_from, sum_by}
 use Rattle.std.proofs.lemmas.Bool.{and_parts, and_from, ltb-true, lt-ltb}
 use Rattle.std.proofs.lemmas.List.{length-append, length-map, map-append}
 use Rattle.std.proofs.lemmas.List.Sums.{sum_by-cons}
@@ -20,11 +20,11 @@ use Rattle.dash_script.specs.declared.script.Script.{Script}
 use Rattle.dash_script.specs.declared.statement.Statement.{Statement}
 use Rattle.dash_script.specs.Form.{form}
 use Rattle.dash_script.specs.Text.{say, line_of, command_line, handler_line, gauge_line, rule_line, block_lines, first_lines, lines_before_end, lines}
-use Rattle.dash_script.specs.Causes.{commands, each_number, numbers_pass, is_within, is_declared, phase_count, is_label, has_barrier, steps_for, gauge_steps}
+use Rattle.dash_script.specs.Causes.{commands, each_number, numbers_pass, is_within, is_declared, phase_count, is_label, has_barrier, steps_for}
 use Rattle.dash_script.specs.Reading.{HasText, label_fits, labels_fit, rise}
 use Rattle.dash_script.specs.Editions.{phase_up, command_up, block_up, up, command_from, line_from, block_from}
 use Rattle.dash_script.proofs.Holding.{each_kept, all_kept}
-use Rattle.dash_script.proofs.Going.{Sections, sections, list_parts}
+use Rattle.dash_script.proofs.Going.{sections, list_parts}
 
 -- the script in edition 2, where it is of edition 1
 abbrev brought : Script → Script

@@ -11,7 +11,8 @@ use Rattle.dash_script.specs.declared.statement.Statement.{Statement}
 use Rattle.dash_script.specs.Words.{pieces}
 use Rattle.dash_script.specs.Statement.{statement_of}
 use Rattle.dash_script.specs.Causes.{Draft, cause_of}
-use Rattle.dash_script.specs.Reading.{IsRefusal, script_from, script_of, start, next_line, after_cause, after_statement, goes_on, is_end, cause_at_stop, with_line, with_said, said_cause, first_cause}
+use Rattle.dash_script.specs.Reading.{IsRefusal, start, is_end, cause_at_stop, with_line, with_said, said_cause, first_cause}
+use Rattle.dash_script.specs.Parsing.{script_from, script_of, next_line, after_cause, after_statement, goes_on}
 use Rattle.dash_script.proofs.Lines.{failed}
 use Rattle.dash_script.proofs.Runs.{not_failed}
 

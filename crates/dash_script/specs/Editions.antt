@@ -1,5 +1,5 @@
 -- A script brought up to edition 2, whose frames have insets animation as phase 2.
-use Rattle.std.specs.Prelude.{ℕ, ◌==◌, List, map, if◌then◌else◌}
+use Rattle.std.specs.Prelude.{ℕ, ◌==◌, map, if◌then◌else◌}
 use Rattle.dash_script.specs.declared.script.Command.{Command}
 use Rattle.dash_script.specs.declared.script.Command.TheVariants.{Frame, Unframe}
 use Rattle.dash_script.specs.declared.script.Line.{Line}

@@ -4,7 +4,8 @@ use Rattle.std.proofs.lemmas.List.{append-nil, length-append}
 use Rattle.std.proofs.Math.Nat.{le_refl}
 use Rattle.std.specs.Io.KnownBytes.{Consumes, IsAtEnd}
 use Rattle.loop_io.specs.Causes.{one_more, Rose}
-use Rattle.dashboard_cli.specs.Answers.{AllOf, CountsReads, HasGoodInput, HasInput, IsOf, IsRefused, IsTold, IsTooLong, IsWithin, Stops}
+use Rattle.dashboard_cli.specs.Answers.{AllOf, CountsReads, HasGoodInput, HasInput, IsOf, IsRefused, IsTold, IsTooLong, IsWithin}
+use Rattle.dashboard_cli.specs.Steps.{Stops}
 use Rattle.dashboard_cli.specs.Streams.{Known}
 use Rattle.dashboard_cli.specs.Words.{IsAsked}
 use Rattle.dashboard_cli.specs.Works.{work, Input}

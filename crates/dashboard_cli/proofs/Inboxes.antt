@@ -16,7 +16,8 @@ use Rattle.inbox_queue.specs.declared.parcel.Parcel.{Parcel}
 use Rattle.inbox_queue.specs.declared.run.InboxReport.{InboxReport}
 use Rattle.inbox_queue.specs.Bad.{bad_line}
 use Rattle.dashboard_cli.specs.InboxText.{admitted_from, from_line, inbox_lines, inbox_text}
-use Rattle.dashboard_cli.specs.Works.{inbox_scripts, IsNone}
+use Rattle.dashboard_cli.specs.Works.{inbox_scripts}
+use Rattle.dashboard_cli.specs.Steps.{IsNone}
 use Rattle.dashboard_cli.specs.declared.status.Cause.TheVariants as cause
 use Rattle.dashboard_cli.specs.declared.status.Status.TheVariants.{Script}
 

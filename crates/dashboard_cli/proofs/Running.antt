@@ -5,7 +5,8 @@ use Rattle.dash_script.specs.declared.script.Script.{Script as ScriptData}
 use Rattle.dash_script.specs.Reading.{IsText}
 use Rattle.run_model.specs.declared.report.Report.{Report}
 use Rattle.dash_stage.specs.Staged.{IsStaged}
-use Rattle.dashboard_cli.specs.Answers.{HasInput, HasRun, MakesOf}
+use Rattle.dashboard_cli.specs.Answers.{HasInput, MakesOf}
+use Rattle.dashboard_cli.specs.Steps.{HasRun}
 use Rattle.dashboard_cli.specs.Streams.{limit, Known, ReadsWhole}
 use Rattle.dashboard_cli.specs.Works.{work}
 use Rattle.dashboard_cli.specs.declared.making.Returned.{Returned}

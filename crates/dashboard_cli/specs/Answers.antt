@@ -2,15 +2,12 @@
 use Rattle.std.specs.Prelude.{◌≡◌, ℕ, ◌+◌, ◌≤◌, List, [], Bool, true, false, Option, Some, None, length}
 use Rattle.std.specs.Io.KnownBytes.{Appends, Consumes, Keeps}
 use Rattle.loop_io.specs.Causes.{one_more, AppendsFront}
-use Rattle.dash_script.specs.Reading.{IsText}
-use Rattle.dash_stage.specs.Staged.{IsStaged}
-use Rattle.run_model.specs.declared.report.Report.{Report}
-use Rattle.dashboard_cli.specs.Streams.{limit, Known, ReadsWhole}
+use Rattle.dashboard_cli.specs.Streams.{Known, ReadsWhole}
 use Rattle.dashboard_cli.specs.Words.{IsAsked}
 use Rattle.dashboard_cli.specs.Works.{Input, Work}
 use Rattle.dashboard_cli.specs.declared.making.Returned.{Returned}
 use Rattle.dashboard_cli.specs.declared.status.Status.{Status}
-use Rattle.dashboard_cli.specs.declared.status.Status.TheVariants.{Ok, Script, ReadFault, WriteFault, NoMemory, TooLong, Trace}
+use Rattle.dashboard_cli.specs.declared.status.Status.TheVariants.{Ok, Script, ReadFault, WriteFault, Trace}
 use Rattle.dashboard_cli.specs.declared.words.Command.{Command}
 
 -- the words are a command of which this holds
@@ -103,26 +100,3 @@ CountsReads status before now = now ≡ before
 abbrev pub CountsWrites : Status → ℕ → ℕ → Type 0
 CountsWrites WriteFault before now = now ≡ one_more before
 CountsWrites status before now = now ≡ before
-
--- why a command stopped before its text was made
-abbrev pub Stops : Input → Known → Known → Status → Type 0
-Stops wanted before after ReadFault = IsWithin wanted.most before after
-Stops wanted before after TooLong = IsTooLong wanted.most before after
-Stops wanted before after (Script line cause) = IsRefused wanted before after (Script line cause)
-Stops wanted before after (Trace line) = IsRefused wanted before after (Trace line)
-Stops wanted before after NoMemory = IsWithin wanted.most before after
-Stops wanted before after status = ⊥
-
--- why an input was not read whole
-abbrev pub StopsReading : ℕ → Known → Known → Status → Type 0
-StopsReading most before after ReadFault = ReadsWithin most before after
-StopsReading most before after TooLong = ReadsPast most before after
-StopsReading most before after NoMemory = ReadsWithin most before after
-StopsReading most before after status = ⊥
-
--- this report is of a run of the script that the input is the text of
-pub record HasRun (before after : Known) (report : Report) : Type 0 where
-  pub input : List ℕ
-  pub read : ReadsWhole limit before after input
-  pub text : IsText input report.script
-  pub runs : IsStaged report.script report

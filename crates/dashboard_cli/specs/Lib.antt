@@ -1,8 +1,10 @@
 pub mod Status
 pub mod Streams
+pub mod Partial
 pub mod Words
 pub mod CommandLine
 pub mod Verdicts
 pub mod InboxText
 pub mod Works
 pub mod Answers
+pub mod Steps

@@ -1,9 +1,6 @@
 -- What was read of a source.
-use Rattle.std.specs.Prelude.{◌≡◌, ℕ, ◌+◌, ◌<◌, ◌≤◌, List, length, Option, ◌↔◌}
+use Rattle.std.specs.Prelude.{ℕ, ◌≤◌, List, length, Option}
 use Rattle.std.specs.Io.KnownBytes.{Consumes, IsAtEnd}
-use Rattle.dashboard_cli.specs.declared.reading.ReadError.{ReadError}
-use Rattle.dashboard_cli.specs.declared.reading.ReadError.TheVariants.{Failed, TooLong}
-use Rattle.loop_io.specs.Causes.{one_more}
 
 -- the most bytes that a script or a plan may have
 abbrev pub limit : ℕ
@@ -22,15 +19,3 @@ pub record ReadsWhole (most : ℕ) (before after : Known) (input : List ℕ) : T
   pub consumed : Consumes before after input
   pub ended : IsAtEnd after
   pub fits : length input ≤ most
-
--- some bytes were read, at most one more than the limit, and one more exactly where the input is too long
-pub record ReadsPart (most : ℕ) (before after : Known) (error : ReadError) : Type 0 where
-  pub input : List ℕ
-  pub consumed : Consumes before after input
-  pub bounded : length input ≤ most + 1
-  pub too_long : (error ≡ TooLong) ↔ (most < length input)
-
--- where a read failed, the source counted one fault, and else none
-abbrev pub Counts : ReadError → ℕ → ℕ → Type 0
-Counts Failed before now = now ≡ one_more before
-Counts error before now = now ≡ before

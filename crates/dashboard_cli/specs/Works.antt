@@ -27,7 +27,7 @@ use Rattle.dashboard_cli.specs.declared.top_call.Outcome.{Outcome}
 use Rattle.dashboard_cli.specs.declared.verdict.Verdict.{Verdict}
 use Rattle.dashboard_cli.specs.declared.status.Cause.TheVariants as cause
 use Rattle.dashboard_cli.specs.declared.status.Status.{Status}
-use Rattle.dashboard_cli.specs.declared.status.Status.TheVariants.{NoMemory, Script, Trace}
+use Rattle.dashboard_cli.specs.declared.status.Status.TheVariants.{Script, Trace}
 use Rattle.dashboard_cli.specs.declared.words.Command.{Command}
 use Rattle.dashboard_cli.specs.declared.words.Command.TheVariants as command
 
@@ -196,10 +196,3 @@ work command.Trace = record { reads = scripts; Makes = WritesRun (λ report. tra
 work command.Check = record { reads = traces; Makes = WritesVerdict }
 work command.Animate = record { reads = plans; Makes = WritesValues }
 work command.Inbox = record { reads = inbox_scripts; Makes = WritesInbox }
-
--- ---- why no input was understood
-
--- the status refuses the input, which is none that is taken, or there was no memory
-abbrev pub IsNone : Input → List ℕ → Status → Type 0
-IsNone wanted input NoMemory = Unit {0}
-IsNone wanted input status = wanted.Refuses input status × (wanted.Takes input → ⊥)

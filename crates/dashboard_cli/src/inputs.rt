@@ -1,8 +1,9 @@
 // The input of a command, read whole and understood.
 ghost use Rattle.std.specs.Prelude.{◌≡◌, IfErr, IfOk, ◌<◌, ◌^◌, ◌-◌};
 ghost use Rattle.dash_script.specs.Reading.{IsText};
-ghost use Rattle.dashboard_cli.specs.Answers.{CountsReads, StopsReading};
-ghost use Rattle.dashboard_cli.specs.Works.{plans, scripts, traces, IsNone};
+ghost use Rattle.dashboard_cli.specs.Answers.{CountsReads};
+ghost use Rattle.dashboard_cli.specs.Steps.{StopsReading, IsNone};
+ghost use Rattle.dashboard_cli.specs.Works.{plans, scripts, traces};
 ghost use Rattle.dashboard_cli.specs.Streams.{ReadsWhole};
 ghost use Rattle.trace_check.specs.Text.{IsText as IsTraceText};
 ghost use Rattle.value_animator.specs.Reading.{IsText as IsValuesText};

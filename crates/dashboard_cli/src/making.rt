@@ -1,8 +1,9 @@
 // The text of each command, made whole before it is written.
 ghost use Rattle.std.specs.Prelude.{◌≡◌, [], None, IfErr, IfOk};
 ghost use Rattle.dash_script.specs.Reading.{HasText};
-ghost use Rattle.dashboard_cli.specs.Answers.{CountsReads, HasRun, MakesOf, Stops};
-ghost use Rattle.dashboard_cli.specs.Works.{inbox_scripts, plans, scripts, traces, work, IsInboxRunOf, IsNone};
+ghost use Rattle.dashboard_cli.specs.Answers.{CountsReads, MakesOf};
+ghost use Rattle.dashboard_cli.specs.Steps.{HasRun, Stops, IsNone};
+ghost use Rattle.dashboard_cli.specs.Works.{inbox_scripts, plans, scripts, traces, work, IsInboxRunOf};
 ghost use Rattle.dash_stage.specs.Staged.{IsStaged};
 ghost use Rattle.value_animator.specs.Plans.{AreValues};
 ghost use Rattle.value_animator.specs.Run.{IsRunOf};

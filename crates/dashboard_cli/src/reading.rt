@@ -1,7 +1,8 @@
 // A source is read to its end, or until it has given one byte more than the limit.
 ghost use Rattle.std.specs.Prelude.{◌≡◌, ◌+◌, ◌-◌, ◌^◌, ◌<◌, ◌++◌, take, IfOk, IfErr};
 ghost use Rattle.std.specs.Io.KnownBytes.{Consumes};
-ghost use Rattle.dashboard_cli.specs.Streams.{ReadsWhole, ReadsPart, Counts};
+ghost use Rattle.dashboard_cli.specs.Streams.{ReadsWhole};
+ghost use Rattle.dashboard_cli.specs.Partial.{ReadsPart, Counts};
 
 use loop_io::Source;
 use std::alloc::Global;

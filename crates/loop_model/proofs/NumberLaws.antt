@@ -7,7 +7,8 @@ use Rattle.loop_model.specs.declared.base.Base.{Base}
 use Rattle.loop_model.specs.declared.segment.Segment.{Segment}
 use Rattle.loop_model.specs.Answers.{Setting}
 use Rattle.loop_model.specs.Legal.{IsNextOfSender, AreNumberedAfter, AreNumbered}
-use Rattle.loop_model.specs.Chain.{raised, after, IsChainFrom, entries_of, ArePartsNumbered}
+use Rattle.loop_model.specs.Chain.{raised, after, IsChainFrom, entries_of}
+use Rattle.loop_model.specs.Parts.{ArePartsNumbered}
 use Rattle.loop_model.proofs.LegalLaws.{AreNumberedAfter-append, AreNumbered-none, made_count_from_after}
 
 -- a history leaves one count per sender

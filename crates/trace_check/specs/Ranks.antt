@@ -8,7 +8,7 @@ use Rattle.loop_model.specs.declared.entry.Entry.{Entry}
 use Rattle.loop_model.specs.declared.item.Item.{Item}
 use Rattle.loop_model.specs.Entries.{ends}
 use Rattle.loop_model.specs.Items.{when_of}
-use Rattle.loop_model.specs.Base.{shares_number}
+use Rattle.loop_model.specs.WellFormed.{shares_number}
 use Rattle.trace_check.specs.declared.items.Items.{Items}
 use Rattle.trace_check.specs.Shelves.{by_rank, AreShelved}
 

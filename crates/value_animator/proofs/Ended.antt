@@ -8,7 +8,8 @@ use Rattle.value_animator.specs.declared.plan.Thing.{Thing}
 use Rattle.value_animator.specs.declared.plan.Thing.TheVariants as thing_of
 use Rattle.value_animator.specs.declared.runner.Runner.{Runner}
 use Rattle.value_animator.specs.declared.runner.Runner.TheVariants as runner
-use Rattle.value_animator.specs.Running.{all_ended, thing_end, runner_at, is_ended}
+use Rattle.value_animator.specs.Running.{all_ended, thing_end}
+use Rattle.value_animator.specs.Runners.{runner_at, is_ended}
 use Rattle.value_animator.specs.Valuing.{end_of}
 
 -- a runner has ended exactly where its thing has

@@ -10,11 +10,13 @@ use Rattle.value_animator.specs.declared.refusal.ParsedValues.TheVariants as par
 use Rattle.value_animator.specs.Plans.{AreValues}
 use Rattle.value_animator.specs.Rows.{row_text}
 use Rattle.value_animator.specs.Rules.{nothing}
-use Rattle.value_animator.specs.Reading.{IsText, read_values, values_text, rows}
+use Rattle.value_animator.specs.Reading.{IsText, values_text, rows}
+use Rattle.value_animator.specs.Parsing.{read_values}
 use Rattle.value_animator.specs.Answering.{Finds, FindsAll, Refuses, RefusesAll}
 use Rattle.value_animator.proofs.Leading.{texts_are_read}
 use Rattle.value_animator.proofs.Ran.{Ran, ran}
 use Rattle.value_animator.proofs.Holding.{Held, held}
+use Rattle.value_animator.proofs.Refusals.{is_refused, refusals_are_read}
 
 abbrev pub answer : Values → Result Values (ℕ × Cause)
 answer v = Ok v
@@ -73,10 +75,10 @@ pub found_never : (b : List ℕ) (line : ℕ) (c : Cause) → read_values b ≡ 
 found_never b line c h v is = absurd (no_text b line c v h is)
 
 pub refused_as : (b : List ℕ) (line : ℕ) (cause : Cause) → read_values b ≡ refusal line cause → Refuses (parsed.Bad line cause) b
-refused_as b line cause h l c e = (h ∙ same_bad line l cause c e, λ v is. no_text b line cause v h is)
+refused_as b line cause h l c e = (is_refused b l c (h ∙ same_bad line l cause c e), λ v is. no_text b line cause v h is)
 
 pub refused_never : (b : List ℕ) (v : Values) → read_values b ≡ answer v → RefusesAll (parsed.Ok v) b
-refused_never b v h line c e = absurd (not_both line c v (sym e ∙ h))
+refused_never b v h line c r = absurd (not_both line c v (sym ((refusals_are_read b line c).1 r) ∙ h))
 
 pub refused_so : (b : List ℕ) (line : ℕ) (cause : Cause) → read_values b ≡ refusal line cause → RefusesAll (parsed.Bad line cause) b
-refused_so b line cause h l c e = inl (bad_as line l cause c (sym h ∙ e))
+refused_so b line cause h l c r = inl (bad_as line l cause c (sym h ∙ (refusals_are_read b l c).1 r))

@@ -17,7 +17,8 @@ use Rattle.value_animator.specs.declared.plan.Thing.TheVariants as thing_of
 use Rattle.value_animator.specs.declared.runner.Runner.{Runner}
 use Rattle.value_animator.specs.Framing.{IsReady, last_number, after_frame}
 use Rattle.value_animator.specs.FrameEntries.{callback, frame_entries}
-use Rattle.value_animator.specs.Running.{frame_time, frame_times, frame_lines, frames_text, line_text, thing_lines, all_ended, runner_at, is_ended}
+use Rattle.value_animator.specs.Running.{frame_time, frame_times, frame_lines, frames_text, line_text, thing_lines, all_ended}
+use Rattle.value_animator.specs.Runners.{runner_at, is_ended}
 use Rattle.value_animator.specs.Plans.{AreValues}
 use Rattle.value_animator.specs.Run.{begin_time, begin_times, going_entries, record_entries, IsRunOf}
 use Rattle.value_animator.specs.Going.{IsStarted, HasRun}

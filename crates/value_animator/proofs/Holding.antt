@@ -23,7 +23,8 @@ use Rattle.value_animator.specs.declared.draft.Stage.TheVariants.{Start, Headed,
 use Rattle.value_animator.specs.Plans.{IsKey, IsPlan, IsThing, AreValues, rise, rise_from}
 use Rattle.value_animator.specs.Rows.{form}
 use Rattle.value_animator.specs.Rules.{SoFar, cause_of, with_row, is_ended_stage, values_of, last_place, may_be_placed, key_of, plan_of}
-use Rattle.value_animator.specs.Reading.{say, key_row, plan_row, thing_rows, rows, goes_on, after_cause}
+use Rattle.value_animator.specs.Reading.{say, key_row, plan_row, thing_rows, rows}
+use Rattle.value_animator.specs.Parsing.{goes_on, after_cause}
 use Rattle.value_animator.specs.Answering.{run}
 use Rattle.value_animator.proofs.Limits.{key_fits, countdown_fits, restart_fits, reverse_fits, period_fits, WayFits}
 use Rattle.value_animator.proofs.Lines.{IsGood, good_is, failed}

@@ -12,6 +12,7 @@ pub mod Running
 pub mod Leading
 pub mod Ran
 pub mod Holding
+pub mod Refusals
 pub mod Found
 pub mod Continuing
 pub mod Stopping

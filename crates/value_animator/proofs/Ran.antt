@@ -15,7 +15,7 @@ use Rattle.value_animator.specs.declared.row.RowKind.{RowKind}
 use Rattle.value_animator.specs.declared.row.Row.{Row}
 use Rattle.value_animator.specs.Rows.{form, all_kinds, row_among, row_of, row_text}
 use Rattle.value_animator.specs.Rules.{SoFar, cause_of, with_row, is_ended_stage, values_of}
-use Rattle.value_animator.specs.Reading.{next_line, goes_on, after_cause, after_row, values_from}
+use Rattle.value_animator.specs.Parsing.{next_line, goes_on, after_cause, after_row, values_from}
 use Rattle.value_animator.specs.Answering.{run}
 use Rattle.value_animator.proofs.Rows.{row_taken}
 use Rattle.value_animator.proofs.Lines.{failed}

@@ -7,7 +7,7 @@ use Rattle.value_animator.specs.declared.plan.Values.{Values}
 use Rattle.value_animator.specs.declared.row.Row.{Row}
 use Rattle.value_animator.specs.Rows.{row_text}
 use Rattle.value_animator.specs.Rules.{SoFar, cause_of, with_row, is_ended_stage, values_of}
-use Rattle.value_animator.specs.Reading.{next_line, goes_on, after_cause, values_from}
+use Rattle.value_animator.specs.Parsing.{next_line, goes_on, after_cause, values_from}
 use Rattle.value_animator.specs.Answering.{run}
 use Rattle.value_animator.proofs.Rows.{IsWhole, row_bytes, row_first, row_again}
 use Rattle.value_animator.proofs.Lines.{a_line, IsGood, is_good}

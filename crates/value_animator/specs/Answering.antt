@@ -9,7 +9,8 @@ use Rattle.value_animator.specs.declared.refusal.ParsedValues.TheVariants as par
 use Rattle.value_animator.specs.declared.reader.Stop.{Stop}
 use Rattle.value_animator.specs.declared.reader.Stop.TheVariants as stop
 use Rattle.value_animator.specs.Rules.{SoFar, cause_of, is_ended_stage, values_of}
-use Rattle.value_animator.specs.Reading.{IsText, after_cause, goes_on, IsRefusal}
+use Rattle.value_animator.specs.Reading.{IsText, IsRefusal}
+use Rattle.value_animator.specs.Parsing.{after_cause, goes_on}
 
 -- values are found only where the bytes are their text
 abbrev pub Finds : ParsedValues → List ℕ → Type 0

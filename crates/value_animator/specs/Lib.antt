@@ -1,6 +1,8 @@
 pub mod Plans
 pub mod Valuing
+pub mod Given
 pub mod Running
+pub mod Runners
 pub mod Framing
 pub mod FrameEntries
 pub mod Run
@@ -9,6 +11,7 @@ pub mod Rows
 pub mod Rules
 pub mod Drafts
 pub mod Reading
+pub mod Parsing
 pub mod Answering
 pub mod Least
 pub mod Laws

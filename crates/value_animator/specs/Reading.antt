@@ -1,5 +1,5 @@
 -- The values of a text, or its least bad line with the first cause.
-use Rattle.std.specs.Prelude.{◌≡◌, ℕ, ◌+◌, ◌==◌, List, [], ◌∷◌, ◌++◌, map, length, Option, Some, None, Result, Ok, Err, if◌then◌else◌}
+use Rattle.std.specs.Prelude.{◌≡◌, ◌<◌, ℕ, ◌+◌, ◌==◌, ◌&&◌, List, [], ◌∷◌, ◌++◌, map, length, fold, take, drop, Option, Some, None, if◌then◌else◌}
 use Rattle.std.specs.List.{flat_map}
 use Rattle.dash_script.specs.declared.refusal.Cause.{Cause}
 use Rattle.dash_script.specs.declared.refusal.Cause.TheVariants as cause
@@ -14,7 +14,7 @@ use Rattle.value_animator.specs.declared.row.RowKind.TheVariants as kind
 use Rattle.value_animator.specs.declared.row.Row.{Row}
 use Rattle.value_animator.specs.Plans.{AreValues}
 use Rattle.value_animator.specs.Rows.{row_of, row_text}
-use Rattle.value_animator.specs.Rules.{SoFar, nothing, cause_of, with_row, is_ended_stage, values_of}
+use Rattle.value_animator.specs.Rules.{SoFar, nothing, cause_of, with_row, is_ended_stage}
 
 -- ---- the text of values
 
@@ -47,38 +47,41 @@ values_text v = flat_map row_text (rows v)
 abbrev pub IsText : List ℕ → Values → Type 0
 IsText b v = (b ≡ values_text v) × AreValues v
 
--- ---- the least bad line
+-- ---- the refusal of a text
 
--- a line that has a form, with the cause that cause_of gives
-abbrev pub after_cause : SoFar → Row → Option Cause → Result SoFar Cause
-after_cause d r None = Ok (with_row d r.kind r.numbers)
-after_cause d r (Some c) = Err c
+-- what the lines so far hold with what one more says; a line that has no form says nothing
+abbrev pub with_said : SoFar → Option Row → SoFar
+with_said d None = d
+with_said d (Some r) = with_row d r.kind r.numbers
 
--- a line that has no form, or one that has
-abbrev pub after_row : SoFar → Option Row → Result SoFar Cause
-after_row d None = Err cause.Form
-after_row d (Some r) = after_cause d r (cause_of d r)
+-- what these lines hold
+abbrev pub held_by : List (List ℕ) → SoFar
+held_by ls = fold (λ d line. with_said d (row_of line)) nothing ls
 
--- what the lines so far hold with one more, or why it may not come next
-unfoldable pub next_line : SoFar → List ℕ → Result SoFar Cause
-next_line d line = after_row d (row_of line)
+-- the first cause for which what a line says may not come next
+abbrev pub said_cause : SoFar → Option Row → Option Cause
+said_cause d None = Some cause.Form
+said_cause d (Some r) = cause_of d r
 
--- the rest is read after a good line; a bad one is the refusal
-abbrev pub goes_on : ℕ → Result SoFar Cause → (SoFar → Result Values (ℕ × Cause)) → Result Values (ℕ × Cause)
-goes_on k (Ok d) rest = rest d
-goes_on k (Err c) rest = Err (k, c)
+-- why the text may not stop here, where a piece without a line feed is left
+abbrev pub cause_at_stop : List ℕ → Cause
+cause_at_stop rest = if length rest == 0 then cause.Missing else cause.Form
 
--- the values of the pieces from line k on, or the least bad line of them with its first cause
-unfoldable pub values_from : ℕ → SoFar → List (List ℕ) → Result Values (ℕ × Cause)
-values_from k d [] = Err (k, cause.Missing)
-values_from k d (rest ∷ []) =
-    if length rest == 0 then (if is_ended_stage d.stage then Ok (values_of d) else Err (k, cause.Missing)) else Err (k, cause.Form)
-values_from k d (line ∷ piece ∷ more) = goes_on k (next_line d line) (λ e. values_from (k + 1) e (piece ∷ more))
+-- the first cause of a line, where these pieces are what is left of the text: it has a line feed where another piece stands behind it, and else the
+-- text stops here
+abbrev pub first_cause : SoFar → List (List ℕ) → Option Cause
+first_cause d [] = None
+first_cause d (rest ∷ []) = if length rest == 0 && is_ended_stage d.stage then None else Some (cause_at_stop rest)
+first_cause d (line ∷ piece ∷ more) = said_cause d (row_of line)
 
--- the values of a text, or its least bad line and the first cause
-abbrev pub read_values : List ℕ → Result Values (ℕ × Cause)
-read_values b = values_from 1 nothing (pieces b)
+-- the first cause of the line of a text that has n lines before it
+abbrev pub cause_behind : List ℕ → ℕ → Option Cause
+cause_behind b n = first_cause (held_by (take n (pieces b))) (drop n (pieces b))
 
--- the text is refused: this is its least bad line, and this the line's first cause
-abbrev pub IsRefusal : List ℕ → ℕ → Cause → Type 0
-IsRefusal b line c = read_values b ≡ Err (line, c)
+-- this is the least line of the text, counted from 1, that has a cause, and this is the first cause that it has
+pub record IsRefusal (b : List ℕ) (line : ℕ) (c : Cause) : Type 0 where
+  -- how many lines stand before it
+  pub before : ℕ
+  pub number : line ≡ before + 1
+  pub good : (n : ℕ) → n < before → cause_behind b n ≡ None
+  pub bad : cause_behind b before ≡ Some c

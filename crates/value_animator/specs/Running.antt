@@ -1,8 +1,8 @@
 -- What is told over frames, and how it is printed.
-use Rattle.std.specs.Prelude.{ℕ, ◌+◌, ◌*◌, Bool, true, false, List, [], ◌∷◌, ◌++◌, map, Option, Some, None, codes, if◌then◌else◌}
+use Rattle.std.specs.Prelude.{ℕ, ◌+◌, ◌*◌, Bool, List, [], ◌∷◌, ◌++◌, map, Option, Some, None, codes}
 use Rattle.std.specs.List.{flat_map, join_with_byte, range_with_len, enumerate_from, list_all}
 use Rattle.std.specs.Fmt.{decimal}
-use Rattle.countdown.specs.Moments.{has_ended, span_of}
+use Rattle.countdown.specs.Moments.{has_ended}
 use Rattle.countdown.specs.Ticking.{answer as ticking_answer}
 use Rattle.countdown.specs.declared.timer.Ticked.{Ticked}
 use Rattle.countdown.specs.declared.timer.Ticked.TheVariants as ticked
@@ -13,8 +13,6 @@ use Rattle.value_animator.specs.declared.plan.Thing.TheVariants as thing_of
 use Rattle.value_animator.specs.declared.plan.Values.{Values}
 use Rattle.value_animator.specs.declared.runner.Telling.{Telling}
 use Rattle.value_animator.specs.declared.runner.Telling.TheVariants.{Tick, Finished, Value, End}
-use Rattle.value_animator.specs.declared.runner.Runner.{Runner}
-use Rattle.value_animator.specs.declared.runner.Runner.TheVariants as runner
 use Rattle.value_animator.specs.Valuing.{answer, end_of}
 
 -- ---- what a thing tells
@@ -91,18 +89,3 @@ text v n = line_text (codes "values" ∷ codes "1" ∷ []) ++ frames_text v n ++
 -- all things have ended by these times
 abbrev pub all_ended : List Thing → List ℕ → Bool
 all_ended things times = list_all (λ t. has_ended (thing_end t) times) things
-
--- ---- the state of what runs
-
--- a thing that was given these times
-abbrev pub runner_at : Thing → List ℕ → Runner
-runner_at (thing_of.Animator plan) times =
-    if has_ended (end_of plan) times then runner.Ended else runner.Animator (record { plan = plan; span = span_of times })
-runner_at (thing_of.Countdown total interval) times =
-    if has_ended total times then runner.Ended
-    else runner.Countdown (record { total = total; interval = interval; span = span_of times })
-
--- the thing has ended
-abbrev pub is_ended : Runner → Bool
-is_ended runner.Ended = true
-is_ended _ = false

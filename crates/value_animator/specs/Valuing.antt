@@ -1,19 +1,10 @@
 -- What an animator tells at each frame.
-use Rattle.std.specs.Prelude.{◌≡◌, ℕ, ◌+◌, ◌-◌, ◌*◌, ◌/◌, ◌%◌, Bool, ◌&&◌, ◌==◌, nat_lt, nat_le, if◌then◌else◌, List, [], ◌∷◌, ◌++◌, Option}
-use Rattle.countdown.specs.Moments.{elapsed, has_ended, span_of}
+use Rattle.std.specs.Prelude.{ℕ, ◌+◌, ◌-◌, ◌*◌, ◌/◌, ◌%◌, Bool, ◌&&◌, ◌==◌, nat_lt, nat_le, if◌then◌else◌, List, [], ◌∷◌, ◌++◌}
+use Rattle.countdown.specs.Moments.{elapsed, has_ended}
 use Rattle.value_animator.specs.declared.plan.Key.{Key}
 use Rattle.value_animator.specs.declared.plan.Plan.{Plan}
 use Rattle.value_animator.specs.declared.animator.Valued.{Valued}
 use Rattle.value_animator.specs.declared.animator.Valued.TheVariants.{Value, End, Over}
-
--- an animator: its plan, and the span of the times that it was given
-pub record Animating : Type 0 where
-  pub plan : Plan
-  pub span : Option (ℕ × ℕ)
-
--- the animator was given these times, in this order
-abbrev pub WasGiven : Animating → List ℕ → Type 0
-WasGiven a times = a.span ≡ span_of times
 
 -- the value of the first key
 abbrev pub first_value : List Key → ℕ

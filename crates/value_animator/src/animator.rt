@@ -1,7 +1,8 @@
 //! The animator.
 ghost use Rattle.std.specs.Prelude.{◌≡◌, ◌<◌, ◌≤◌, ◌*◌, ◌++◌, ◌∷◌, [], List, ℕ, All, length};
 ghost use Rattle.value_animator.specs.Plans.{IsKey, IsPlan};
-ghost use Rattle.value_animator.specs.Valuing.{answer, end_of, end_value, is_around, moved, position, value_among, value_at, WasGiven};
+ghost use Rattle.value_animator.specs.Valuing.{answer, end_of, end_value, is_around, moved, position, value_among, value_at};
+ghost use Rattle.value_animator.specs.Given.{WasGiven};
 
 use crate::plan::{Key, Plan};
 use countdown::Span;
@@ -28,7 +29,7 @@ pub struct Animator {
 
 impl Model for Animator {
     ghost use Rattle.value_animator.specs.Plans.{IsPlan};
-    ghost use Rattle.value_animator.specs.Valuing.{Animating};
+    ghost use Rattle.value_animator.specs.Given.{Animating};
 
     ghost Value = { Animating };
 

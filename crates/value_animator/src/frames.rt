@@ -4,7 +4,8 @@ ghost use Rattle.std.specs.List.{flat_map, enumerate_from, list_all};
 ghost use Rattle.frame_phases.specs.Frames.{next_phase};
 ghost use Rattle.frame_phases.specs.State.{past};
 ghost use Rattle.value_animator.specs.Framing.{after_frame, begun, CanBegin, IsReady, posted_again, taken_at};
-ghost use Rattle.value_animator.specs.Running.{is_ended, line_text, runner_at, thing_lines};
+ghost use Rattle.value_animator.specs.Runners.{is_ended, runner_at};
+ghost use Rattle.value_animator.specs.Running.{line_text, thing_lines};
 
 use crate::plan::Thing;
 use crate::runner::{Runner, ask_all, have_ended};

@@ -1,5 +1,5 @@
 //! What holds of every animator, and of every text of values.
-ghost use Rattle.value_animator.specs.Laws.{EndsAreToldOnce, OneText, ReadsTexts};
+ghost use Rattle.value_animator.specs.Laws.{EndsAreToldOnce, OneText, ReadsRefusals, ReadsTexts};
 
 /// Stands for the law that an animator answers `Over` exactly at the times after the one at which it answered `End`, and that
 /// there is only one such time.
@@ -10,6 +10,12 @@ pub fn ends_are_told_once()
 /// Stands for the law that a text is read as values exactly where it is their text.
 pub fn texts_are_read()
     ensures { ReadsTexts }
+{}
+
+/// Stands for the law that a text is read as a refusal exactly where that is the text's refusal: its least line that has a cause, and
+/// its first cause.
+pub fn refusals_are_read()
+    ensures { ReadsRefusals }
 {}
 
 /// Stands for the law that the text of values is the text of no others.

@@ -1,7 +1,7 @@
 //! The values of a text.
 ghost use Rattle.std.specs.Prelude.{◌≡◌};
 ghost use Rattle.value_animator.specs.Least.{NamesLeast};
-ghost use Rattle.value_animator.specs.Reading.{read_values};
+ghost use Rattle.value_animator.specs.Parsing.{read_values};
 ghost use Rattle.value_animator.specs.Answering.{Refuses, RefusesAll, Finds, FindsAll, Reads};
 
 use crate::draft::Draft;

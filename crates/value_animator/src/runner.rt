@@ -2,7 +2,8 @@
 ghost use Rattle.std.specs.Prelude.{◌≡◌, ◌++◌, ◌∷◌, [], List, ℕ, OnOk, IfOk, All, map, string_bytes};
 ghost use Rattle.std.specs.List.{flat_map, enumerate_from, list_all};
 ghost use Rattle.value_animator.specs.Plans.{IsThing};
-ghost use Rattle.value_animator.specs.Running.{is_ended, line_text, runner_at, telling_lines, thing_lines, told};
+ghost use Rattle.value_animator.specs.Runners.{is_ended, runner_at};
+ghost use Rattle.value_animator.specs.Running.{line_text, telling_lines, thing_lines, told};
 
 use crate::animator::{Animator, Valued};
 use crate::plan::{Plan, Thing};

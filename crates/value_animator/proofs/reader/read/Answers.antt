@@ -3,7 +3,7 @@ use Rattle.std.proofs.lemmas.Bool.{eqb-true, eqb-false}
 use Rattle.std.proofs.lemmas.List.{nil_from_length}
 use Rattle.line_words.specs.Words.{pieces}
 use Rattle.dash_script.proofs.Lines.{one_piece, whole_piece}
-use Rattle.value_animator.specs.Reading.{values_from}
+use Rattle.value_animator.specs.Parsing.{values_from}
 use Rattle.value_animator.specs.Drafts.{so_far}
 use Rattle.value_animator.proofs.Lines.{no_row, has_cause, one_line, cut_short, ended, missing, good_is}
 use Rattle.value_animator.proofs.reader.read.Goals as goal

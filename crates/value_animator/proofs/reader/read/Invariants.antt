@@ -1,6 +1,6 @@
 use Rattle.std.proofs.Common.{◌≡◌, ◌+◌, ◌≤◌, length}
 use Rattle.line_words.specs.Words.{pieces}
-use Rattle.value_animator.specs.Reading.{values_from, read_values}
+use Rattle.value_animator.specs.Parsing.{values_from, read_values}
 use Rattle.value_animator.specs.Drafts.{so_far}
 use Rattle.value_animator.proofs.reader.read.Given as goal
 

@@ -8,7 +8,8 @@ use Rattle.value_animator.specs.declared.plan.Thing.TheVariants as thing_of
 use Rattle.value_animator.specs.declared.runner.Runner.{Runner}
 use Rattle.value_animator.specs.declared.runner.Telling.{Telling}
 use Rattle.std.specs.Prelude.{Option}
-use Rattle.value_animator.specs.Running.{line_text, runner_at, thing_lines, telling_lines, told}
+use Rattle.value_animator.specs.Running.{line_text, thing_lines, telling_lines, told}
+use Rattle.value_animator.specs.Runners.{runner_at}
 use Rattle.value_animator.proofs.Asking.{as_many, asked_at, asked_more, written_one}
 use Rattle.value_animator.proofs.runner.ask_all.Goals as goal
 

@@ -1,5 +1,5 @@
 use Rattle.std.proofs.Common.{◌≡◌, map, take, []}
-use Rattle.value_animator.specs.Running.{runner_at}
+use Rattle.value_animator.specs.Runners.{runner_at}
 use Rattle.value_animator.proofs.runner.runners.Given as goal
 
 abbrev pub invariant-loop-thing : goal.invariant-loop-thing

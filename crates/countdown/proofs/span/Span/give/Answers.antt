@@ -1,5 +1,5 @@
 use Rattle.std.proofs.Common.{◌≡◌, ◌++◌, ◌∷◌, [], ℕ, Some, None, max}
-use Rattle.countdown.specs.Moments.{span_of}
+use Rattle.countdown.specs.Given.{span_of}
 use Rattle.countdown.proofs.Spans.{span_first, span_later}
 use Rattle.countdown.proofs.span.Span.give.Goals as goal
 use Rattle.countdown.proofs.span.Span.give.Goals.{in-None, in-Some}

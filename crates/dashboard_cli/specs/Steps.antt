@@ -1,0 +1,40 @@
+-- What the steps of the top call answer.
+use Rattle.std.specs.Prelude.{ℕ, List}
+use Rattle.dash_script.specs.Reading.{IsText}
+use Rattle.dash_stage.specs.Staged.{IsStaged}
+use Rattle.run_model.specs.declared.report.Report.{Report}
+use Rattle.dashboard_cli.specs.Streams.{limit, Known, ReadsWhole}
+use Rattle.dashboard_cli.specs.Works.{Input}
+use Rattle.dashboard_cli.specs.declared.status.Status.{Status}
+use Rattle.dashboard_cli.specs.declared.status.Status.TheVariants.{Script, ReadFault, NoMemory, TooLong, Trace}
+use Rattle.dashboard_cli.specs.Answers.{IsRefused, ReadsPast, IsTooLong, ReadsWithin, IsWithin}
+use Rattle.run_model.specs.Text.{text}
+use Rattle.dashboard_cli.specs.declared.status.Cause.TheVariants as cause
+
+-- why a command stopped before its text was made
+abbrev pub Stops : Input → Known → Known → Status → Type 0
+Stops wanted before after ReadFault = IsWithin wanted.most before after
+Stops wanted before after TooLong = IsTooLong wanted.most before after
+Stops wanted before after (Script line cause) = IsRefused wanted before after (Script line cause)
+Stops wanted before after (Trace line) = IsRefused wanted before after (Trace line)
+Stops wanted before after NoMemory = IsWithin wanted.most before after
+Stops wanted before after status = ⊥
+
+-- why an input was not read whole
+abbrev pub StopsReading : ℕ → Known → Known → Status → Type 0
+StopsReading most before after ReadFault = ReadsWithin most before after
+StopsReading most before after TooLong = ReadsPast most before after
+StopsReading most before after NoMemory = ReadsWithin most before after
+StopsReading most before after status = ⊥
+
+-- this report is of a run of the script that the input is the text of
+pub record HasRun (before after : Known) (report : Report) : Type 0 where
+  pub input : List ℕ
+  pub read : ReadsWhole limit before after input
+  pub text : IsText input report.script
+  pub runs : IsStaged report.script report
+
+-- the status refuses the input, which is none that is taken, or there was no memory
+abbrev pub IsNone : Input → List ℕ → Status → Type 0
+IsNone wanted input NoMemory = Unit {0}
+IsNone wanted input status = wanted.Refuses input status × (wanted.Takes input → ⊥)

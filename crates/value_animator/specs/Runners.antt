@@ -1,0 +1,22 @@
+-- The state of what runs, by the times that it was given.
+use Rattle.std.specs.Prelude.{ℕ, Bool, true, false, List, if◌then◌else◌}
+use Rattle.countdown.specs.Moments.{has_ended}
+use Rattle.countdown.specs.Given.{span_of}
+use Rattle.value_animator.specs.declared.plan.Thing.{Thing}
+use Rattle.value_animator.specs.declared.plan.Thing.TheVariants as thing_of
+use Rattle.value_animator.specs.declared.runner.Runner.{Runner}
+use Rattle.value_animator.specs.declared.runner.Runner.TheVariants as runner
+use Rattle.value_animator.specs.Valuing.{end_of}
+
+-- a thing that was given these times
+abbrev pub runner_at : Thing → List ℕ → Runner
+runner_at (thing_of.Animator plan) times =
+    if has_ended (end_of plan) times then runner.Ended else runner.Animator (record { plan = plan; span = span_of times })
+runner_at (thing_of.Countdown total interval) times =
+    if has_ended total times then runner.Ended
+    else runner.Countdown (record { total = total; interval = interval; span = span_of times })
+
+-- the thing has ended
+abbrev pub is_ended : Runner → Bool
+is_ended runner.Ended = true
+is_ended _ = false
