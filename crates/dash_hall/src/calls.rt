@@ -17,9 +17,13 @@ use std::sync::Wait;
 /// A call that a sender makes on a queue. Moments are in milliseconds.
 #[derive(Clone, Copy, Debug, PartialEq, Eq)]
 pub enum QueueCall {
+    /// A handler's sending or removal.
     ByHandler { handler: Handler, request: Request },
+    /// `postSyncBarrier` at this moment.
     PostBarrier { now: u64 },
+    /// `removeSyncBarrier` of this token.
     RemoveBarrier { token: u64 },
+    /// `quit` at this moment, a safe one where `safe` is set.
     Quit { safe: bool, now: u64 },
 }
 

@@ -20,9 +20,13 @@ use std::sync::Mutex;
 /// run is given up.
 #[derive(Drop)]
 pub struct Hall {
+    /// The pool that all messages come from.
     pub pool: Pool,
+    /// The queue of each looper.
     pub queues: Vec<SharedQueue<PoolClaim>>,
+    /// The choreographer of each looper.
     pub choreographers: Vec<Choreographer>,
+    /// The idle handlers and the watched descriptors of each looper.
     pub sources: Vec<Mutex<Sources>>,
     /// Set by whoever finds no memory.
     pub stop: Stop,

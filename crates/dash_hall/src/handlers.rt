@@ -14,30 +14,37 @@ use std::sync::Wait;
 /// A call that a sender makes by a handler. Moments and delays are in milliseconds.
 #[derive(Clone, Copy, Debug, PartialEq, Eq)]
 pub enum Request {
+    /// `sendMessageAtTime` of a message with these fields.
     Send {
         what: u32,
         arg: u32,
         obj: Option<u64>,
         when: u64,
     },
+    /// The same of an asynchronous message.
     SendAsync {
         what: u32,
         when: u64,
     },
+    /// `sendMessageAtFrontOfQueue`.
     SendFront {
         what: u32,
     },
+    /// `postDelayed` of this callback, `delay` later than `now`.
     PostCallback {
         id: u64,
         now: u64,
         delay: u64,
     },
+    /// `removeMessages` with this `what`.
     RemoveMessages {
         what: u32,
     },
+    /// `removeCallbacks` of this callback.
     RemoveCallbacks {
         id: u64,
     },
+    /// `removeCallbacksAndMessages` without an object.
     RemoveAll,
 }
 

@@ -25,16 +25,25 @@ const NANOS_PER_MILLI: u64 = 1_000_000;
 /// A sender's way to a looper's queue, by which the choreographer sends its messages, at a moment in milliseconds.
 #[derive(Drop)]
 pub struct Host<'a, R: Wait> {
+    /// What locks and waits go through.
     pub rt: &'a R,
+    /// Where memory comes from.
     pub alloc: Global,
+    /// The handler that the messages are for.
     pub handler: Handler,
+    /// The queue that they are sent to.
     pub queue: &'a SharedQueue<PoolClaim>,
+    /// The pool that they come from.
     pub pool: &'a Pool,
+    /// The sender's poster of the queue.
     pub poster: &'a mut Poster<PoolClaim>,
+    /// The sender's pass of the pool.
     pub pass: &'a mut PoolPass,
     /// The poster and the pass as they were when the host was made.
     pub began: &'a Snapshot<Poster<PoolClaim>>,
+    /// The pass as it was when the host was made.
     pub pass_began: &'a Snapshot<PoolPass>,
+    /// The uptime, in milliseconds.
     pub now: u64,
 }
 

@@ -13,8 +13,11 @@ use std::alloc::Global;
 /// but two of its own where the sender is a looper.
 #[derive(Drop)]
 pub struct Kit {
+    /// Its posters, by looper number.
     pub posters: Vec<Poster<PoolClaim>>,
+    /// Its pass of the pool.
     pub pass: PoolPass,
+    /// Its passes of choreographers.
     pub frames: Vec<FramePass>,
 }
 

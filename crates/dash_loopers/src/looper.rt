@@ -21,11 +21,15 @@ use std::sync::Wait;
 /// A looper with all that it works with, and how its last round ended.
 #[derive(Drop)]
 pub struct StageLooper {
+    /// Its number among the loopers.
     pub number: u32,
+    /// Its number among the senders.
     pub sender: u32,
+    /// The loop of its own queue.
     pub looper: Looper,
     /// They are there between two rounds.
     pub parts: Option<Parts>,
+    /// How its last round ended.
     pub last: Round,
 }
 

@@ -60,6 +60,7 @@ pub struct Parts {
     pub others: Vec<Poster<PoolClaim>>,
     /// Its pass of its choreographer.
     pub frames: FramePass,
+    /// Its gauges and its traversal.
     pub root: ViewRoot,
     /// How often each rule has fired.
     pub fired: Vec<u32>,

@@ -59,6 +59,7 @@ pub struct ViewRoot {
     pub(crate) edition: u32,
     pub(crate) gauges: Vec<Gauge>,
     pub(crate) barrier: Option<u64>,
+    /// The pass by which it posts frame callbacks.
     pub pass: FramePass,
     pub(crate) painted: Vec<Painted>,
 }

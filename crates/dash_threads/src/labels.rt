@@ -5,8 +5,11 @@ ghost use Rattle.std.specs.List.{find as first_with};
 /// A barrier that a thread posted under a label on a looper's queue, and the token that was answered.
 #[derive(Clone, Copy, Debug, PartialEq, Eq)]
 pub struct Labelled {
+    /// The label, a number that the script gives.
     pub label: u32,
+    /// The number of the looper on whose queue it stands.
     pub looper: u32,
+    /// The token that `postSyncBarrier` answered.
     pub token: u64,
 }
 

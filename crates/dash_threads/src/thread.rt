@@ -28,7 +28,9 @@ use std::sync::Wait;
 /// A posting thread: what it needs to work with the queues, the barriers that it posted, and how often it came to the gate.
 #[derive(Drop)]
 pub struct PostingThread {
+    /// Its number among the threads, which is its number among the senders.
     pub number: u32,
+    /// Its posters, its pass of the pool and its passes of choreographers.
     pub kit: Kit,
     /// The barriers that it posted, in order.
     pub barriers: Vec<Labelled>,

@@ -22,6 +22,7 @@ pub enum ReadError {
     Failed,
     /// There are more bytes than the most.
     TooLong,
+    /// What was read found no memory.
     NoMemory,
 }
 

@@ -21,6 +21,7 @@ use std::thread::Threads;
 /// How the program ended, and the report or the frames of a run whose text was made.
 #[derive(Debug, Drop)]
 pub struct Outcome {
+    /// How it ended.
     pub status: Status,
     /// It is there for `run`, for `trace`, and for `make` with `--run`, at `Ok` and at `WriteFault`.
     pub report: Option<Report>,

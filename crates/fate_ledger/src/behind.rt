@@ -17,10 +17,15 @@ use std::collections::BTreeMap;
 /// history. `end` is the length of the history, and stands where there is no such entry.
 #[derive(Drop)]
 pub struct Behind {
+    /// The first removal, by what it names.
     pub removals: BTreeMap<RemovalKey, usize>,
+    /// The first dispatch, by the number of the message.
     pub dispatches: Dispatches,
+    /// The first entry that ends all messages: a quit that is not safe, or a disposal.
     pub everything: usize,
+    /// The safe quits.
     pub safe_quits: SafeQuits,
+    /// The length of the history.
     pub end: usize,
 }
 

@@ -8,10 +8,15 @@ use loop_model::{Call, Entry, Filter, Reply};
 /// What an entry ends: the messages of a filter, one message by its number, all of them, those later than a moment, or none.
 #[derive(Clone, Copy, Debug, PartialEq, Eq)]
 pub enum Cause {
+    /// A removal, of the messages of this filter.
     Removal(Filter),
+    /// A dispatch, of the message of this number.
     Dispatch(u64),
+    /// All messages: a quit that is not safe, or a disposal.
     Everything,
+    /// A safe quit at this moment in milliseconds: the messages that are later.
     SafeQuit(u64),
+    /// None.
     Nothing,
 }
 

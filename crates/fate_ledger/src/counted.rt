@@ -8,11 +8,17 @@ use loop_model::{Fate, Sequence};
 /// One fate for each accepted post of a history, by number, and how many there are of each.
 #[derive(Debug, Drop)]
 pub struct Fates {
+    /// The fates, by the number of the message.
     pub list: Sequence<Fate>,
+    /// How many were dispatched.
     pub dispatched: u64,
+    /// How many were removed.
     pub removed: u64,
+    /// How many a quit dropped.
     pub dropped: u64,
+    /// How many a disposal stranded.
     pub stranded: u64,
+    /// How many are queued still.
     pub queued: u64,
 }
 

@@ -11,8 +11,11 @@ use std::collections::BTreeMap;
 /// `end` stands for none.
 #[derive(Drop)]
 pub struct Dispatches {
+    /// The place of the dispatch of each number that is below the number of posts.
     pub list: Vec<usize>,
+    /// The places of dispatches of other numbers.
     pub others: BTreeMap<u64, usize>,
+    /// The place that stands for none.
     pub end: usize,
 }
 

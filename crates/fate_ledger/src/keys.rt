@@ -8,9 +8,13 @@ use loop_model::{Filter, Kind};
 /// What a filter names: the handler, and the what, the callback and the object, where it names them.
 #[derive(Clone, Copy, Debug, PartialEq, Eq, PartialOrd, Ord)]
 pub struct RemovalKey {
+    /// The handler.
     pub handler: u32,
+    /// The `what`, where it names one.
     pub what: Option<u32>,
+    /// The callback, where it names one.
     pub callback: Option<u64>,
+    /// The object, where it names one.
     pub obj: Option<u64>,
 }
 

@@ -14,8 +14,11 @@ use std::alloc::Global;
 /// messages, the last one first.
 #[derive(Drop)]
 pub struct Ledger {
+    /// What the entries behind end.
     pub behind: Behind,
+    /// How many posts stand before.
     pub number: u64,
+    /// The fates of the posts behind, the last one first.
     pub fates: Vec<Fate>,
 }
 

@@ -9,13 +9,16 @@ use std::alloc::Global;
 /// A safe quit: its moment in milliseconds, and its place in the history.
 #[derive(Clone, Copy, Debug, PartialEq, Eq)]
 pub struct SafeQuit {
+    /// Its moment, in milliseconds.
     pub now: u64,
+    /// Its place in the history.
     pub place: usize,
 }
 
 /// The safe quits that no earlier one outdoes, by rising moment. The last of them stands first in the history.
 #[derive(Drop)]
 pub struct SafeQuits {
+    /// Those that are earlier in time than all that stand before them, in rising order.
     pub list: Vec<SafeQuit>,
 }
 

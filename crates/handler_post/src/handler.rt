@@ -17,7 +17,9 @@ use std::sync::Wait;
 /// says, and each removal as `Erased`; the methods in brackets are those of the reference's `Handler`.
 #[derive(Clone, Copy, Debug, PartialEq, Eq)]
 pub struct Handler {
+    /// Its number on its looper.
     pub id: u32,
+    /// Whether each message that it sends is asynchronous.
     pub asynchronous: bool,
 }
 

@@ -15,9 +15,13 @@ use std::sync::Wait;
 /// passes.
 #[derive(Drop)]
 pub struct Way<'a> {
+    /// The queue.
     pub queue: &'a SharedQueue<PoolClaim>,
+    /// The thread's poster of the queue.
     pub poster: &'a mut Poster<PoolClaim>,
+    /// The pool that messages come from and go back to.
     pub pool: &'a Pool,
+    /// The thread's pass of the pool.
     pub pass: &'a mut PoolPass,
 }
 

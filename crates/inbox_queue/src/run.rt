@@ -25,6 +25,7 @@ use std::thread::Threads;
 /// What is kept of such a run.
 #[derive(Debug, Drop)]
 pub struct InboxReport {
+    /// The script that was run.
     pub script: Script,
     /// The history of the main looper's queue.
     pub kept: QueueRecord,

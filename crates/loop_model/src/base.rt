@@ -13,14 +13,23 @@ use std::alloc::Global;
 /// Histories are this project's profile: AOSP keeps none.
 #[derive(Debug, Drop)]
 pub struct Base {
+    /// How many entries stand before.
     pub length: u64,
+    /// The greatest moment in them, in milliseconds.
     pub time: u64,
+    /// How many posts were accepted, which is the number of the next one.
     pub accepted: u64,
+    /// How many barriers were posted, which is the token of the next one.
     pub barriers: u64,
+    /// The place of the first quit that was done.
     pub quit: Option<u64>,
+    /// Whether the queue was disposed of.
     pub disposed: bool,
+    /// Whether the queue was halted.
     pub halted: bool,
+    /// How many entries each sender made, by its number.
     pub made: Sequence<u64>,
+    /// The messages and barriers that stand in the queue, in order.
     pub items: Sequence<Item>,
 }
 

@@ -6,8 +6,11 @@ use crate::sequence::Sequence;
 /// `Handler.dispatchMessage`).
 #[derive(Clone, Copy, Debug, PartialEq, Eq)]
 pub enum Route {
+    /// The message's own callback.
     Callback { id: u64 },
+    /// The handler's callback object, which then wants no more done.
     Intercepted,
+    /// The handler itself (`handleMessage`).
     Handled,
 }
 
@@ -29,6 +32,8 @@ pub enum Act {
 /// What a looper did, in order (this project's profile).
 #[derive(Debug, Drop)]
 pub struct Journal {
+    /// The number of the looper.
     pub looper: u32,
+    /// What it did, in order.
     pub acts: Sequence<Act>,
 }

@@ -7,6 +7,7 @@ use crate::sequence::Sequence;
 /// profile).
 #[derive(Debug, Drop)]
 pub struct QueueRecord {
+    /// The number of the looper.
     pub looper: u32,
     /// It is the queue of the main looper, which may not quit.
     pub main: bool,
@@ -14,5 +15,6 @@ pub struct QueueRecord {
     pub lockstep: bool,
     /// How many senders there are, the last of them the controller.
     pub senders: u32,
+    /// The parts, in order; each starts from what those before have left.
     pub segments: Sequence<Segment>,
 }

@@ -7,6 +7,8 @@ use crate::sequence::Sequence;
 /// Entries, with what they start from.
 #[derive(Debug, Drop)]
 pub struct Segment {
+    /// What they start from.
     pub base: Base,
+    /// The entries, in order.
     pub entries: Sequence<Entry>,
 }

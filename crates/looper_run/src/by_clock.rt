@@ -29,6 +29,7 @@ pub enum Loop {
     Cap { now: u64 },
     /// Nothing was due, and the bell was rung.
     Nudged,
+    /// No memory was found. What was done till then stands in the journal.
     NoMemory,
 }
 

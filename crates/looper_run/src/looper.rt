@@ -27,6 +27,7 @@ pub enum Round {
     Drained { dispatched: u64, until: Option<u64> },
     /// So many messages were dispatched, and the queue is over.
     Ended { dispatched: u64 },
+    /// No memory was found. What was done till then stands in the journal.
     NoMemory,
 }
 

@@ -14,7 +14,9 @@ use std::sync::{Mutex, Wait};
 /// The idle handlers and the watched descriptors of a looper.
 #[derive(Drop)]
 pub struct Sources {
+    /// The idle handlers.
     pub idle: IdleSet,
+    /// The watched descriptors.
     pub fds: FdTable,
 }
 

@@ -31,6 +31,7 @@ pub enum Step {
     Waits { until: Option<u64> },
     /// The queue is over.
     Ends,
+    /// No memory was found.
     NoMemory,
 }
 

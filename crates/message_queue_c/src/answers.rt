@@ -41,8 +41,11 @@ const NOTHING: u32 = 8;
 #[repr(C)]
 #[derive(Clone, Copy, Debug, PartialEq, Eq)]
 pub struct MqAnswer {
+    /// The accepted message's number, a barrier's token, how many messages went, or a place of the history, by the kind.
     pub number: u64,
+    /// Which answer it is.
     pub kind: u32,
+    /// Whether a waiting looper has to look again.
     pub wake: bool,
 }
 
@@ -50,9 +53,13 @@ pub struct MqAnswer {
 #[repr(C)]
 #[derive(Clone, Copy, Debug, PartialEq, Eq)]
 pub struct MqNext {
+    /// The message that was taken; all is 0 where none was.
     pub message: MqMessage,
+    /// Its number among the accepted messages, counted from 0.
     pub number: u64,
+    /// The moment that was used, or until which to wait, in milliseconds.
     pub time: u64,
+    /// Which answer it is.
     pub kind: u32,
 }
 

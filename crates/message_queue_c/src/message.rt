@@ -9,14 +9,23 @@ use loop_model::{Filter, Kind, Post};
 #[repr(C)]
 #[derive(Clone, Copy, Debug, PartialEq, Eq)]
 pub struct MqMessage {
+    /// When it is due, in milliseconds; 0 for a post at the front.
     pub when: u64,
+    /// The object, where `has_obj` is set.
     pub obj: u64,
+    /// The callback, where `has_callback` is set.
     pub callback: u64,
+    /// The handler that it is for.
     pub handler: u32,
+    /// The user's code.
     pub what: u32,
+    /// The argument (`arg1`).
     pub arg: u32,
+    /// Whether an object goes along.
     pub has_obj: bool,
+    /// Whether it is the post of a callback.
     pub has_callback: bool,
+    /// Whether barriers let it pass (`isAsynchronous`).
     pub asynchronous: bool,
 }
 
@@ -25,12 +34,19 @@ pub struct MqMessage {
 #[repr(C)]
 #[derive(Clone, Copy, Debug, PartialEq, Eq)]
 pub struct MqFilter {
+    /// The object, where `has_obj` is set.
     pub obj: u64,
+    /// The callback, where `by_callback` is set.
     pub callback: u64,
+    /// The handler whose messages are meant.
     pub handler: u32,
+    /// The `what`, where `by_what` is set.
     pub what: u32,
+    /// Whether only those with the `what` are meant.
     pub by_what: bool,
+    /// Whether only posts of the callback are meant; read where `by_what` is not set.
     pub by_callback: bool,
+    /// Whether only those with the object are meant.
     pub has_obj: bool,
 }
 

@@ -6,6 +6,7 @@ use loop_model::{Journal, QueueRecord, Sequence};
 /// What is kept of a run of a script. Each of the three lists has one member per looper, in order.
 #[derive(Debug, Drop)]
 pub struct Report {
+    /// The script that was run.
     pub script: Script,
     /// The history of each looper's queue.
     pub queues: Sequence<QueueRecord>,

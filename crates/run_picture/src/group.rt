@@ -25,15 +25,20 @@ pub enum Row {
 /// Where marks stand: the looper's lane, its row, and how many pixels from the left edge of the lanes.
 #[derive(Clone, Copy, Debug, PartialEq, Eq, PartialOrd, Ord)]
 pub struct Place {
+    /// The lane of the mark's looper, from above, counted from 0.
     pub lane: u64,
+    /// The row in the lane.
     pub row: Row,
+    /// How many pixels from the left edge of the lanes.
     pub column: u64,
 }
 
 /// The marks of one place, in order.
 #[derive(Debug, Drop)]
 pub struct Group {
+    /// Where they stand.
     pub place: Place,
+    /// The marks, in the order of the report.
     pub marks: Sequence<Mark>,
 }
 

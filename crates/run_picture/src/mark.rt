@@ -30,15 +30,20 @@ pub enum Kind {
 /// A moment of uptime: milliseconds, and nanoseconds beyond them.
 #[derive(Clone, Copy, Debug, PartialEq, Eq)]
 pub struct Moment {
+    /// Whole milliseconds.
     pub millis: u64,
+    /// Nanoseconds on top of them.
     pub nanos: u64,
 }
 
 /// One mark of the picture: the looper's lane, its time, and what it shows.
 #[derive(Clone, Copy, Debug, PartialEq, Eq)]
 pub struct Mark {
+    /// The place of its looper among the loopers.
     pub lane: u64,
+    /// When it was.
     pub time: Moment,
+    /// What was done.
     pub kind: Kind,
 }
 

@@ -25,6 +25,7 @@ pub enum Picture {
     Text(Vec<u8>),
     /// The text is no report: its least bad line, counted from 1.
     Bad { line: u64 },
+    /// No memory was found.
     NoMemory,
 }
 

@@ -30,6 +30,7 @@ pub struct View<S, H> {
     pub seen: LinkedList<Entry>,
     /// Beginnings that it was told of.
     pub told: LinkedList<LinkedList<Entry>>,
+    /// Whether it has a turn at the table now.
     pub has_turn: bool,
     /// How many turns it had.
     pub turns: u64,

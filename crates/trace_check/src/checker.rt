@@ -19,6 +19,7 @@ pub enum Checked {
     Legal,
     /// The entry at this place, counted from 0, is the first that has not.
     First { place: u64 },
+    /// No memory was found.
     NoMemory,
 }
 
@@ -29,6 +30,7 @@ pub enum Explained {
     Legal,
     /// The entry at this place, counted from 0, is the first bad one, and this is wrong with it.
     First { place: u64, fault: Fault },
+    /// No memory was found.
     NoMemory,
 }
 

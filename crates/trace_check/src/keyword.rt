@@ -6,40 +6,75 @@ ghost use Rattle.trace_check.specs.Keyword.{all_keywords, spelling};
 /// A word that is written as it is.
 #[derive(Clone, Copy, Debug, PartialEq, Eq)]
 pub enum Keyword {
+    /// `trace`.
     Trace,
+    /// `queue`.
     Queue,
+    /// `main`.
     Main,
+    /// `side`.
     Side,
+    /// `lockstep`.
     Lockstep,
+    /// `free`.
     Free,
+    /// `end`.
     End,
+    /// `post`.
     Post,
+    /// `barrier`.
     Barrier,
+    /// `unbarrier`.
     Unbarrier,
+    /// `remove`.
     Remove,
+    /// `what`.
     What,
+    /// `callback`.
     Callback,
+    /// `all`.
     All,
+    /// `quit`.
     Quit,
+    /// `plain`.
     Plain,
+    /// `safe`.
     Safe,
+    /// `next`.
     Next,
+    /// `advance`.
     Advance,
+    /// `halt`.
     Halt,
+    /// `a`.
     Asynchronous,
+    /// `s`.
     Synchronous,
+    /// `accepted`.
     Accepted,
+    /// `refused`.
     Refused,
+    /// `token`.
     Token,
+    /// `unbarriered`.
     Unbarriered,
+    /// `not-posted`.
     NotPosted,
+    /// `removed`.
     Removed,
+    /// `quit-done`.
     QuitDone,
+    /// `already-quit`.
     AlreadyQuit,
+    /// `not-allowed`.
     NotAllowed,
+    /// `dispatched`.
     Dispatched,
+    /// `disposed`.
     Disposed,
+    /// `advanced`.
     Advanced,
+    /// `halted`.
     Halted,
 }
 

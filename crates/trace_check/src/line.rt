@@ -5,18 +5,27 @@ use loop_model::Entry;
 /// senders it has, and how many lines of entries follow.
 #[derive(Clone, Copy, Debug, PartialEq, Eq)]
 pub struct Head {
+    /// The number of the looper.
     pub looper: u32,
+    /// Whether it is the main one, which may not quit.
     pub main: bool,
+    /// Whether a controller moves the time on.
     pub lockstep: bool,
+    /// How many senders there are, the last of them the controller.
     pub senders: u32,
+    /// How many lines of entries follow.
     pub count: u64,
 }
 
 /// What one line says.
 #[derive(Clone, Copy, Debug, PartialEq, Eq)]
 pub enum Line {
+    /// The first line.
     Title,
+    /// The line of a queue.
     Queue(Head),
+    /// A call with its reply.
     Entry(Entry),
+    /// The last line.
     End,
 }

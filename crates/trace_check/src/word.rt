@@ -10,8 +10,11 @@ use std::marker::Model;
 /// A fixed word, a number, or the mark of what is absent.
 #[derive(Clone, Copy, Debug, PartialEq, Eq)]
 pub enum Word {
+    /// A fixed word.
     Name(Keyword),
+    /// A number, by its decimal.
     Number(u64),
+    /// The mark of what is absent, `-`.
     Absent,
 }
 

@@ -8,8 +8,11 @@ use plain_loop::Handle;
 /// How many messages and callbacks came, and the sum of the messages' arguments.
 #[derive(Clone, Copy, Debug, PartialEq, Eq)]
 pub struct Counts {
+    /// How many messages were handled.
     pub messages: u64,
+    /// How many callbacks ran.
     pub callbacks: u64,
+    /// The sum of the messages' arguments.
     pub sum: u64,
 }
 

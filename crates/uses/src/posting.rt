@@ -13,8 +13,11 @@ use std::thread::{Threads, join};
 /// the queue.
 #[derive(Drop)]
 pub struct Sender {
+    /// Its poster of the queue.
     pub poster: Poster<PoolClaim>,
+    /// Its pass of the pool.
     pub pass: PoolPass,
+    /// How many of its posts stand or stood in the queue.
     pub kept: u64,
 }
 

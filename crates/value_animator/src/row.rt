@@ -8,19 +8,28 @@ use dash_script::{Keyword, Numbers, Role, Slot, numbers_in};
 /// The kinds of line.
 #[derive(Clone, Copy, Debug, PartialEq, Eq)]
 pub enum RowKind {
+    /// `animate 1`, the first line.
     Head,
+    /// The period between pulses.
     Period,
+    /// A countdown, with its total and its interval.
     Countdown,
+    /// An animator that begins anew at each repeat.
     Restart,
+    /// An animator that turns at each repeat.
     Reverse,
+    /// A key value of the animator above.
     Key,
+    /// The last line.
     End,
 }
 
 /// What one line says.
 #[derive(Drop)]
 pub struct Row {
+    /// Which form the line has.
     pub kind: RowKind,
+    /// The numbers of the line, in order.
     pub numbers: Numbers,
 }
 
