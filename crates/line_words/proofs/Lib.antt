@@ -2,3 +2,5 @@ pub mod Splitting
 pub mod NumberReading
 pub mod Spelling
 pub mod Joining
+pub mod Pieces
+pub mod LineReading

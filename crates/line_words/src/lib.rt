@@ -3,9 +3,11 @@
 //! project's profile).
 #![tactic(auto)]
 
+mod reader;
 mod words;
 mod writer;
 
+pub use reader::{ByLines, Stop, read_lines};
 pub use words::{number, split_first};
 pub use writer::push_number;
 

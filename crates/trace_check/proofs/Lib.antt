@@ -1,7 +1,6 @@
 pub mod Spelled
 pub mod Taken
 pub mod Again
-pub mod Pieces
 pub mod Whole
 pub mod Written
 pub mod Passing

@@ -1,9 +1,8 @@
 -- A trace that is read line by line.
-use Rattle.std.specs.Prelude.{◌≡◌, ℕ, ◌+◌, ◌-◌, ◌==◌, Bool, true, false, ◌&&◌, List, [], ◌∷◌, ◌++◌, length, Option, Some, None, Result, Ok, Err, if◌then◌else◌}
-use Rattle.std.specs.Option.{option_and_then}
+use Rattle.std.specs.Prelude.{◌-◌, ◌==◌, Bool, true, false, [], ◌∷◌, ◌++◌, Option, Some, None, if◌then◌else◌}
 use Rattle.trace_check.specs.declared.trace.TraceQueue.{TraceQueue}
 use Rattle.loop_model.specs.declared.entry.Entry.{Entry as EntryData}
-use Rattle.line_words.specs.Words.{pieces}
+use Rattle.line_words.specs.LineReading.{Reading}
 use Rattle.trace_check.specs.declared.line.Head.{Head}
 use Rattle.trace_check.specs.declared.line.Line.{Line}
 use Rattle.trace_check.specs.declared.line.Line.TheVariants.{Title, Queue, Entry, End}
@@ -11,8 +10,6 @@ use Rattle.trace_check.specs.declared.draft.Part.{Part}
 use Rattle.trace_check.specs.declared.draft.Part.TheVariants as part_of
 use Rattle.trace_check.specs.declared.draft.Draft.{Draft}
 use Rattle.trace_check.specs.declared.trace.Trace.{Trace}
-use Rattle.trace_check.specs.declared.reader.Stop.{Stop}
-use Rattle.trace_check.specs.declared.reader.Stop.TheVariants as stop
 use Rattle.trace_check.specs.Saying.{words_of}
 use Rattle.trace_check.specs.Reading.{line_of}
 
@@ -67,15 +64,6 @@ after_part part_of.End d l = None
 unfoldable pub next : Draft → Line → Option Draft
 next d l = after_part d.part d l
 
--- the draft with one more line of bytes
-unfoldable pub next_line : Draft → List ℕ → Option Draft
-next_line d bytes = option_and_then (next d) (line_of (words_of bytes))
-
--- what a call answered, and the draft that it left, as what the line makes
-abbrev pub answered : Bool → Draft → Option Draft
-answered true d = Some d
-answered false d = None
-
 abbrev pub is_end : Part → Bool
 is_end part_of.End = true
 is_end part_of.Start = false
@@ -84,27 +72,6 @@ is_end part_of.Body = false
 abbrev pub trace_so_far : Draft → Trace
 trace_so_far d = record { queues = d.queues }
 
--- the rest is read after a good line; a bad one is the answer
-abbrev pub goes_on : ℕ → Option Draft → (Draft → Result Trace ℕ) → Result Trace ℕ
-goes_on k (Some d) rest = rest d
-goes_on k None rest = Err k
-
--- the trace of the pieces from line k on, or the first line that may not come where it stands
-unfoldable pub trace_from : ℕ → Draft → List (List ℕ) → Result Trace ℕ
-trace_from k d [] = Err k
-trace_from k d (rest ∷ []) = if length rest == 0 && is_end d.part then Ok (trace_so_far d) else Err k
-trace_from k d (line ∷ piece ∷ more) = goes_on k (next_line d line) (λ e. trace_from (k + 1) e (piece ∷ more))
-
--- the trace of a text, or the first line that may not come where it stands
-abbrev pub read_text : List ℕ → Result Trace ℕ
-read_text b = trace_from 1 start (pieces b)
-
--- reading stopped for this reason, or for want of memory
-abbrev pub Stops : Stop → Result Trace ℕ → Type 0
-Stops (stop.Bad line) read = read ≡ Err line
-Stops stop.Memory read = Unit {0}
-
--- what was read, or why reading stopped
-abbrev pub ReadsText : Result Trace Stop → Result Trace ℕ → Type 0
-ReadsText (Ok t) read = read ≡ Ok t
-ReadsText (Err e) read = Stops e read
+-- how the lines of a trace are read
+abbrev pub reading : Reading Line Draft Trace
+reading = record { start = start; line_of = λ bytes. line_of (words_of bytes); next = next; is_end = λ d. is_end d.part; whole = trace_so_far }

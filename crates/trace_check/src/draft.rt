@@ -1,9 +1,12 @@
 //! A trace that is read line by line.
 ghost use Rattle.std.specs.Prelude.{◌≡◌, ◌<◌, ◌-◌, IfOk, OnOk};
-ghost use Rattle.trace_check.specs.Progress.{after_entries, after_part, after_queues, after_start, answered, blank, is_end, next, opened, settled, start, trace_so_far, with_entry};
+ghost use Rattle.line_words.specs.LineReading.{answered};
+ghost use Rattle.trace_check.specs.Progress.{after_entries, after_part, after_queues, after_start, blank, opened, settled, with_entry};
 
 use crate::line::{Head, Line};
+use crate::reading::line_of;
 use crate::trace::{Trace, TraceQueue};
+use line_words::ByLines;
 use loop_model::{Entry, NoMemory, Sequence};
 use std::alloc::Global;
 use std::mem::replace;
@@ -52,18 +55,6 @@ fn opened(alloc: Global, head: &Head) -> TraceQueue
 }
 
 impl Draft {
-    /// Nothing is read yet.
-    pub(crate) fn new(alloc: Global) -> Draft
-        ensures { result ≡ start }
-    {
-        Draft {
-            part: Part::Start,
-            queues: Sequence::from_vec(Vec::new(alloc)),
-            current: blank(alloc),
-            left: 0,
-        }
-    }
-
     /// Moves a queue that has all its entries to the others.
     fn settle(&mut self, alloc: Global) -> Result<(), NoMemory>
         ensures { OnOk result (self.new ≡ settled self.old) }
@@ -90,19 +81,6 @@ impl Draft {
         self.current.entries.push(*entry)?;
         self.left -= 1;
         self.settle(alloc)
-    }
-
-    /// Takes a line where it may come next, and else answers false.
-    #[tactic(auto, unfolding(crate::specs::Progress::next))]
-    pub(crate) fn add(&mut self, alloc: Global, line: &Line) -> Result<bool, NoMemory>
-        ensures { IfOk result (λ good. next self.old line.now ≡ answered good self.new) }
-    {
-        match self.part {
-            Part::Start => Ok(self.add_at_start(line)),
-            Part::Body if self.left == 0 => self.add_to_queues(alloc, line),
-            Part::Body => self.add_to_entries(alloc, line),
-            Part::End => Ok(false),
-        }
     }
 
     fn add_at_start(&mut self, line: &Line) -> bool
@@ -150,11 +128,41 @@ impl Draft {
             Line::End => Ok(false),
         }
     }
+}
 
-    /// Whether the last line has come.
-    pub(crate) fn is_ended(&self) -> bool
-        ensures { result ≡ is_end self.now.part }
-    {
+impl ByLines for Draft {
+    type Line = Line;
+
+    type Whole = Trace;
+
+    ghost use Rattle.trace_check.specs.Progress.{reading};
+
+    ghost reading = { reading };
+
+    fn new(alloc: Global) -> Draft {
+        Draft {
+            part: Part::Start,
+            queues: Sequence::from_vec(Vec::new(alloc)),
+            current: blank(alloc),
+            left: 0,
+        }
+    }
+
+    fn line_of(bytes: &[u8]) -> Option<Line> {
+        line_of(bytes)
+    }
+
+    #[tactic(auto, unfolding(crate::specs::Progress::next))]
+    fn add(&mut self, alloc: Global, line: &Line) -> Result<bool, NoMemory> {
+        match self.part {
+            Part::Start => Ok(self.add_at_start(line)),
+            Part::Body if self.left == 0 => self.add_to_queues(alloc, line),
+            Part::Body => self.add_to_entries(alloc, line),
+            Part::End => Ok(false),
+        }
+    }
+
+    fn is_ended(&self) -> bool {
         match self.part {
             Part::End => true,
             Part::Start => false,
@@ -162,10 +170,7 @@ impl Draft {
         }
     }
 
-    /// The trace of the queues that have all their entries.
-    pub(crate) fn into_trace(self) -> Trace
-        ensures { result ≡ trace_so_far self }
-    {
+    fn into_whole(self) -> Trace {
         Trace {
             queues: self.queues,
         }
