@@ -11,7 +11,8 @@ use Rattle.std.proofs.lemmas.List.Splits.{join_with_byte-slice_split}
 use Rattle.std.proofs.Math.Seq.{take-append_seam, take-append-add}
 use Rattle.loop_model.proofs.Sorting.{AllByRecursion-append}
 use Rattle.line_words.specs.Words.{pieces}
-use Rattle.line_words.specs.LineReading.{Reading, next_line, goes_on, read_from, read_text, Begins, first_lines, IsLeastBad}
+use Rattle.line_words.specs.LeastBad.{Begins, first_lines, IsLeastBad}
+use Rattle.line_words.specs.LineReading.{Reading, next_line, goes_on, read_from, read_text}
 use Rattle.line_words.proofs.Splitting.{first_part}
 use Rattle.line_words.proofs.Joining.{is_free, AllFree, parts_free, line_first}
 use Rattle.line_words.proofs.Pieces.{failed}

@@ -2,7 +2,7 @@
 use Rattle.std.specs.Prelude.{◌≡◌, ℕ, List, [], ◌∷◌, ◌++◌, map, length}
 use Rattle.std.specs.List.{flat_map, AllByRecursion}
 use Rattle.trace_check.specs.declared.trace.TraceQueue.{TraceQueue}
-use Rattle.line_words.specs.LineReading.{IsLeastBad as IsLeastBadOf}
+use Rattle.line_words.specs.LeastBad.{IsLeastBad as IsLeastBadOf}
 use Rattle.trace_check.specs.declared.line.Head.{Head}
 use Rattle.trace_check.specs.declared.line.Line.{Line}
 use Rattle.trace_check.specs.declared.line.Line.TheVariants.{Title, Queue, Entry, End}
