@@ -572,3 +572,84 @@ pub(crate) const WAKES: [Row; 7] = [
         false,
     ),
 ];
+
+/// What a look answers, by name: the number that is taken, until when it waits, how many items are left at the end.
+#[derive(Clone, Copy, Debug, PartialEq, Eq)]
+pub(crate) enum Look {
+    Taken(u64),
+    Idle,
+    Wait(Option<u64>),
+    End(usize),
+    Over,
+}
+
+/// A call that is made, a look at a moment with what it answers, or whether a message is there.
+#[derive(Clone, Copy)]
+pub(crate) enum Step {
+    Make(Ask),
+    Look { now: u64, idle: bool, wanted: Look },
+    Has(bool),
+}
+
+pub(crate) const LOOKS: [Step; 19] = [
+    Step::Look {
+        now: 0,
+        idle: true,
+        wanted: Look::Idle,
+    },
+    Step::Look {
+        now: 0,
+        idle: false,
+        wanted: Look::Wait(None),
+    },
+    Step::Has(false),
+    Step::Make(Ask::Post { what: 1, when: 5 }),
+    Step::Has(true),
+    Step::Look {
+        now: 4,
+        idle: true,
+        wanted: Look::Idle,
+    },
+    Step::Look {
+        now: 4,
+        idle: false,
+        wanted: Look::Wait(Some(5)),
+    },
+    Step::Look {
+        now: 5,
+        idle: true,
+        wanted: Look::Taken(0),
+    },
+    Step::Make(Ask::Make(Call::Barrier { now: 5 })),
+    Step::Make(Ask::Post { what: 2, when: 5 }),
+    // the head is due and a barrier, so no idle turn
+    Step::Look {
+        now: 6,
+        idle: true,
+        wanted: Look::Wait(None),
+    },
+    Step::Make(Ask::Asynchronous { what: 3, when: 9 }),
+    Step::Look {
+        now: 6,
+        idle: true,
+        wanted: Look::Wait(Some(9)),
+    },
+    Step::Look {
+        now: 9,
+        idle: true,
+        wanted: Look::Taken(2),
+    },
+    Step::Make(Ask::Make(Call::Quit { safe: true, now: 9 })),
+    Step::Has(true),
+    Step::Look {
+        now: 9,
+        idle: true,
+        wanted: Look::End(2),
+    },
+    Step::Has(false),
+    Step::Look {
+        now: 9,
+        idle: true,
+        wanted: Look::Over,
+    },
+];

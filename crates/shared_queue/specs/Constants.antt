@@ -32,7 +32,7 @@ pub record IsFor {H K : Type 0} (key : Constants H) (x : Queue H K) : Type 0 whe
 abbrev pub last_of : {H : Type 0} → Constants H → ℕ
 last_of key = key.setting.senders - 1
 
--- and has all entries since the queue was made
+-- the state is one of a queue with these constants, and has all entries since the queue was made
 pub record IsStateOf {H K : Type 0} (key : Constants H) (x : Queue H K) : Type 0 where
   pub home : x.home ≡ key.home
   pub setting : x.setting ≡ key.setting

@@ -1,6 +1,6 @@
 // Counts of the messages that stand in a queue, by which a removal that matches nothing answers without a walk.
 
-ghost use Rattle.std.specs.Prelude.{◌≡◌, []};
+ghost use Rattle.std.specs.Prelude.{◌≡◌, true, []};
 ghost use Rattle.when_queue.specs.Tally.{place_of, what_place, callback_place, with_more, with_fewer, counts_none, rules_out};
 
 use loop_model::{Filter, Kind, NoMemory};
@@ -100,12 +100,27 @@ impl Tally {
         })
     }
 
+    /// Whether it counts nothing.
+    #[inline]
+    fn is_off(&self) -> bool
+        ensures whats { result ≡ true → self.now.whats.items ≡ [] }
+        ensures callbacks { result ≡ true → self.now.callbacks.items ≡ [] }
+    {
+        if self.whats.len() > 0 {
+            return false;
+        }
+        self.callbacks.len() == 0
+    }
+
     /// Counts a message that comes.
     #[inline]
     pub(crate) fn add<K: Claim>(&mut self, message: &Message<K>)
         ensures whats { self.new.whats.items ≡ with_more (what_place message.now.item) self.old.whats.items }
         ensures callbacks { self.new.callbacks.items ≡ with_more (callback_place message.now.item) self.old.callbacks.items }
     {
+        if self.is_off() {
+            return;
+        }
         count_more(&mut self.whats, what_place(message));
         count_more(&mut self.callbacks, callback_place(message));
     }
@@ -116,6 +131,9 @@ impl Tally {
         ensures whats { self.new.whats.items ≡ with_fewer (what_place message.now.item) self.old.whats.items }
         ensures callbacks { self.new.callbacks.items ≡ with_fewer (callback_place message.now.item) self.old.callbacks.items }
     {
+        if self.is_off() {
+            return;
+        }
         count_fewer(&mut self.whats, what_place(message));
         count_fewer(&mut self.callbacks, callback_place(message));
     }
