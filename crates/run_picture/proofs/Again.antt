@@ -1,7 +1,6 @@
 -- The words of a line are read as the line, and each of them is a word.
-use Rattle.std.proofs.Common.{◌≡◌, ◌<◌, ◌+◌, ◌^◌, ℕ, Bool, true, false, cond, ltb, eqb, List, [], ◌∷◌, ◌++◌, Option, Some, None, refl, sym, ap, subst, ◌∙◌, inl, inr, arith, append_assoc}
+use Rattle.std.proofs.Common.{◌≡◌, ◌<◌, ◌+◌, ◌^◌, ℕ, true, List, [], ◌∷◌, ◌++◌, Option, Some, refl, sym, ap, subst, ◌∙◌, inl, inr, arith}
 use Rattle.std.specs.Prelude.{codes, ◌⊎◌}
-use Rattle.std.specs.Option.{option_map}
 use Rattle.std.specs.Str.{bytes_eq}
 use Rattle.std.specs.Fmt.{decimal}
 use Rattle.std.proofs.lemmas.Bool.{lt-ltb, eq-eqb}
@@ -23,7 +22,7 @@ use Rattle.run_picture.specs.Reading.{Rest, read, and_then, below, whole}
 use Rattle.run_picture.specs.Lines as lines
 use Rattle.run_picture.specs.Lines.{either, adds_up}
 use Rattle.run_picture.specs.Text.{IsShort, IsLong, FitsSubject, FitsPast, FitsFates, FitsAct, Fits, line_words, past_words, act_words, subject_words, fates_words}
-use Rattle.run_picture.proofs.Spelled.{IsWord, AreWords, decimal_word}
+use Rattle.run_picture.proofs.Spelled.{AreWords, decimal_word}
 
 -- ---- one word or two
 

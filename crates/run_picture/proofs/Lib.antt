@@ -2,7 +2,6 @@ pub mod Left
 pub mod Spelled
 pub mod Taken
 pub mod Again
-pub mod Pieces
 pub mod Whole
 pub mod Elements
 pub mod Traced

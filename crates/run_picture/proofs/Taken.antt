@@ -1,6 +1,6 @@
 -- What is read of the words of a line is a line of these words.
-use Rattle.std.proofs.Common.{◌≡◌, ◌<◌, ◌+◌, ◌^◌, ℕ, Bool, true, false, cond, ltb, eqb, List, [], ◌∷◌, ◌++◌, Option, Some, None, refl, sym, ap, subst, ◌∙◌, inl, inr, arith, append_assoc}
-use Rattle.std.specs.Prelude.{codes, ◌⊎◌, ◌&&◌}
+use Rattle.std.proofs.Common.{◌≡◌, ◌<◌, ◌+◌, ◌^◌, ℕ, Bool, true, cond, ltb, eqb, List, [], ◌∷◌, ◌++◌, Option, Some, None, refl, sym, ap, subst, ◌∙◌, inl, inr, append_assoc}
+use Rattle.std.specs.Prelude.{codes, ◌&&◌}
 use Rattle.std.specs.Option.{option_map}
 use Rattle.std.specs.Str.{bytes_eq}
 use Rattle.std.specs.Str.Parse.{digits_value}
@@ -23,7 +23,7 @@ use Rattle.run_picture.specs.Reading as reading
 use Rattle.run_picture.specs.Reading.{Rest, read, and_then, below, whole}
 use Rattle.run_picture.specs.Lines as lines
 use Rattle.run_picture.specs.Lines.{either, adds_up}
-use Rattle.run_picture.specs.Text.{IsShort, IsLong, FitsSubject, Fits, AddsUp, line_words, subject_words, fates_words}
+use Rattle.run_picture.specs.Text.{IsShort, IsLong, FitsSubject, Fits, line_words, subject_words, fates_words}
 
 -- ---- one thing after another
 

@@ -1,5 +1,5 @@
 -- What the words of a line say, by its form.
-use Rattle.std.specs.Prelude.{ℕ, ◌+◌, ◌==◌, Bool, List, codes, Option, Some, None, if◌then◌else◌}
+use Rattle.std.specs.Prelude.{◌+◌, ◌==◌, Bool, codes, Option, Some, None, if◌then◌else◌}
 use Rattle.run_picture.specs.declared.report.Past.TheVariants as past_of
 use Rattle.run_picture.specs.declared.report.Fates.{Fates as FatesData}
 use Rattle.run_picture.specs.declared.report.Act.TheVariants as act_of

@@ -1,9 +1,8 @@
 -- A report that is read line by line.
-use Rattle.std.specs.Prelude.{◌≡◌, ℕ, ◌+◌, ◌==◌, Bool, true, false, ◌&&◌, List, [], ◌∷◌, ◌++◌, length, Option, Some, None, Result, Ok, Err, if◌then◌else◌}
-use Rattle.std.specs.Option.{option_and_then}
-use Rattle.line_words.specs.Words.{pieces, words}
+use Rattle.std.specs.Prelude.{ℕ, ◌==◌, Bool, true, false, [], ◌∷◌, ◌++◌, length, Option, Some, None, if◌then◌else◌}
+use Rattle.line_words.specs.Words.{words}
+use Rattle.line_words.specs.LineReading.{Reading}
 use Rattle.run_picture.specs.declared.report.Past.{Past as PastData}
-use Rattle.run_picture.specs.declared.report.Fates.{Fates as FatesData}
 use Rattle.run_picture.specs.declared.report.Act.{Act as ActData}
 use Rattle.run_picture.specs.declared.report.Run.{Run as RunData}
 use Rattle.run_picture.specs.declared.report.Frame.{Frame as FrameData}
@@ -14,8 +13,6 @@ use Rattle.run_picture.specs.declared.line.Line.TheVariants.{Title, Looper, Past
 use Rattle.run_picture.specs.declared.draft.Part.{Part}
 use Rattle.run_picture.specs.declared.draft.Part.TheVariants as part_of
 use Rattle.run_picture.specs.declared.draft.Draft.{Draft}
-use Rattle.run_picture.specs.declared.reader.Stop.{Stop}
-use Rattle.run_picture.specs.declared.reader.Stop.TheVariants as stop
 use Rattle.run_picture.specs.Lines.{line_of}
 
 -- a looper of which nothing is told
@@ -122,15 +119,6 @@ after_part part_of.End d l = None
 unfoldable pub next : Draft → Line → Option Draft
 next d l = after_part d.part d l
 
--- the draft with one more line of bytes
-unfoldable pub next_line : Draft → List ℕ → Option Draft
-next_line d bytes = option_and_then (next d) (line_of (words bytes))
-
--- what a call answered, and the draft that it left, as what the line makes
-abbrev pub answered : Bool → Draft → Option Draft
-answered true d = Some d
-answered false d = None
-
 abbrev pub is_end : Part → Bool
 is_end part_of.End = true
 is_end part_of.Start = false
@@ -142,27 +130,6 @@ is_end part_of.Frames = false
 abbrev pub report_of : Draft → Report
 report_of d = record { edition = d.edition; loopers = d.loopers }
 
--- the rest is read after a good line; a bad one is the answer
-abbrev pub goes_on : ℕ → Option Draft → (Draft → Result Report ℕ) → Result Report ℕ
-goes_on k (Some d) rest = rest d
-goes_on k None rest = Err k
-
--- the report of the pieces from line k on, or the first line that may not come where it stands
-unfoldable pub report_from : ℕ → Draft → List (List ℕ) → Result Report ℕ
-report_from k d [] = Err k
-report_from k d (rest ∷ []) = if length rest == 0 && is_end d.part then Ok (report_of d) else Err k
-report_from k d (line ∷ piece ∷ more) = goes_on k (next_line d line) (λ e. report_from (k + 1) e (piece ∷ more))
-
--- the report of a text, or the first line that may not come where it stands
-abbrev pub read_text : List ℕ → Result Report ℕ
-read_text b = report_from 1 start (pieces b)
-
--- reading stopped for this reason, or for want of memory
-abbrev pub Stops : Stop → Result Report ℕ → Type 0
-Stops (stop.Bad line) read = read ≡ Err line
-Stops stop.Memory read = Unit {0}
-
--- what was read, or why reading stopped
-abbrev pub ReadsText : Result Report Stop → Result Report ℕ → Type 0
-ReadsText (Ok r) read = read ≡ Ok r
-ReadsText (Err e) read = Stops e read
+-- how the lines of a report are read
+abbrev pub reading : Reading Line Draft Report
+reading = record { start = start; line_of = λ bytes. line_of (words bytes); next = next; is_end = λ d. is_end d.part; whole = report_of }

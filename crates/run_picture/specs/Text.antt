@@ -1,9 +1,9 @@
 -- The text of a report, and where a text that is none goes wrong.
-use Rattle.std.specs.Prelude.{◌≡◌, ℕ, ◌+◌, ◌-◌, ◌<◌, ◌≤◌, ◌^◌, List, [], ◌∷◌, ◌++◌, codes, map, length, take}
+use Rattle.std.specs.Prelude.{◌≡◌, ℕ, ◌+◌, ◌<◌, ◌^◌, List, [], ◌∷◌, ◌++◌, codes, map}
 use Rattle.std.specs.List.{flat_map, join_with_byte, AllByRecursion}
 use Rattle.std.specs.Fmt.{decimal}
 use Rattle.std.specs.Prelude.{◌⊎◌}
-use Rattle.line_words.specs.Words.{pieces}
+use Rattle.line_words.specs.LineReading.{IsLeastBad as IsLeastBadOf}
 use Rattle.run_picture.specs.declared.report.Subject.{Subject}
 use Rattle.run_picture.specs.declared.report.Subject.TheVariants.{What, Callback}
 use Rattle.run_picture.specs.declared.report.Past.{Past as PastData}
@@ -130,23 +130,9 @@ text r = flat_map line_text (lines r)
 abbrev pub IsText : List ℕ → Report → Type 0
 IsText b r = (b ≡ text r) × AllByRecursion Fits (lines r)
 
--- the text of some report begins with these bytes
-abbrev pub Begins : List ℕ → Type 0
-Begins b = (r : Report) × (more : List ℕ) × IsText (b ++ more) r
-
--- the first k lines of a text, which have their line feeds
-abbrev pub first_lines : ℕ → List ℕ → List ℕ
-first_lines k b = flat_map (λ piece. piece ++ 10 ∷ []) (take k (pieces b))
-
--- this is the least line of the text, counted from 1, that has no line feed or with which the lines up to it begin the text
--- of no report; or the text stops early, and it is the line behind its last one
-pub record IsLeastBad (b : List ℕ) (k : ℕ) : Type 0 where
-  pub counted : 0 < k
-  -- it has a line feed, or it is what stands behind the last line feed
-  pub within : k ≤ length (pieces b)
-  pub before : Begins (first_lines (k - 1) b)
-  pub at : k < length (pieces b) → Begins (first_lines k b) → ⊥
-  pub whole : (r : Report) → IsText b r → ⊥
+-- this is the least bad line of a text that is the text of no report
+abbrev pub IsLeastBad : List ℕ → ℕ → Type 0
+IsLeastBad b k = IsLeastBadOf IsText b k
 
 -- ---- what reading answers
 

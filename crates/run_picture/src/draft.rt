@@ -1,9 +1,12 @@
 //! A report that is read line by line.
 ghost use Rattle.std.specs.Prelude.{◌≡◌, IfOk, OnOk};
-ghost use Rattle.run_picture.specs.Progress.{after_acts, after_frames, after_open, after_past, after_start, answered, blank, closed, is_end, next, opened, report_of, shut, start};
+ghost use Rattle.line_words.specs.LineReading.{answered};
+ghost use Rattle.run_picture.specs.Progress.{after_acts, after_frames, after_open, after_past, after_start, blank, closed, opened, shut};
 
 use crate::line::Line;
+use crate::lines::line_of;
 use crate::report::{Act, Fates, Frame, Looper, Past, Report, Run};
+use line_words::ByLines;
 use loop_model::{NoMemory, Sequence};
 use std::alloc::Global;
 use std::mem::replace;
@@ -62,19 +65,6 @@ fn opened(alloc: Global, time: u64) -> Frame
 }
 
 impl Draft {
-    /// Nothing is read yet.
-    pub(crate) fn new(alloc: Global) -> Draft
-        ensures { result ≡ start }
-    {
-        Draft {
-            part: Part::Start,
-            edition: 1,
-            loopers: Sequence::from_vec(Vec::new(alloc)),
-            current: blank(alloc),
-            frame: opened(alloc, 0),
-        }
-    }
-
     /// The looper has all its lines.
     fn close(&mut self, alloc: Global) -> Result<(), NoMemory>
         ensures { OnOk result (self.new ≡ closed self.old) }
@@ -92,21 +82,6 @@ impl Draft {
         let whole = replace(&mut self.frame, opened(alloc, time));
         self.current.frames.push(whole)?;
         Ok(())
-    }
-
-    /// Takes a line where it may come next, and else answers false.
-    #[tactic(auto, unfolding(crate::specs::Progress::next))]
-    pub(crate) fn add(&mut self, alloc: Global, line: &Line) -> Result<bool, NoMemory>
-        ensures { IfOk result (λ good. next self.old line.now ≡ answered good self.new) }
-    {
-        match self.part {
-            Part::Start => Ok(self.add_title(line)),
-            Part::Open => Ok(self.add_between(line)),
-            Part::Past => self.add_past(line),
-            Part::Acts => self.add_act(alloc, line),
-            Part::Frames => self.add_frame(alloc, line),
-            Part::End => Ok(false),
-        }
     }
 
     fn add_title(&mut self, line: &Line) -> bool
@@ -231,11 +206,44 @@ impl Draft {
             Line::Act(_) => Ok(false),
         }
     }
+}
 
-    /// Whether the last line has come.
-    pub(crate) fn is_ended(&self) -> bool
-        ensures { result ≡ is_end self.now.part }
-    {
+impl ByLines for Draft {
+    type Line = Line;
+
+    type Whole = Report;
+
+    ghost use Rattle.run_picture.specs.Progress.{reading};
+
+    ghost reading = { reading };
+
+    fn new(alloc: Global) -> Draft {
+        Draft {
+            part: Part::Start,
+            edition: 1,
+            loopers: Sequence::from_vec(Vec::new(alloc)),
+            current: blank(alloc),
+            frame: opened(alloc, 0),
+        }
+    }
+
+    fn line_of(bytes: &[u8]) -> Option<Line> {
+        line_of(bytes)
+    }
+
+    #[tactic(auto, unfolding(crate::specs::Progress::next))]
+    fn add(&mut self, alloc: Global, line: &Line) -> Result<bool, NoMemory> {
+        match self.part {
+            Part::Start => Ok(self.add_title(line)),
+            Part::Open => Ok(self.add_between(line)),
+            Part::Past => self.add_past(line),
+            Part::Acts => self.add_act(alloc, line),
+            Part::Frames => self.add_frame(alloc, line),
+            Part::End => Ok(false),
+        }
+    }
+
+    fn is_ended(&self) -> bool {
         match self.part {
             Part::End => true,
             Part::Start => false,
@@ -246,10 +254,7 @@ impl Draft {
         }
     }
 
-    /// The report of the loopers that have all their lines.
-    pub(crate) fn into_report(self) -> Report
-        ensures { result ≡ report_of self }
-    {
+    fn into_whole(self) -> Report {
         Report {
             edition: self.edition,
             loopers: self.loopers,
