@@ -7,6 +7,7 @@ use Rattle.loop_model.specs.declared.entry.Entry.{Entry}
 use Rattle.loop_model.specs.declared.record.QueueRecord.{QueueRecord}
 use Rattle.loop_model.specs.Answers.{Setting}
 use Rattle.loop_model.specs.Base.{empty_base}
+use Rattle.loop_model.specs.Chain.{IsChainFrom}
 use Rattle.loop_model.specs.Legal.{IsLegal, AreNumbered}
 use Rattle.shared_queue.specs.Constants.{Constants}
 use Rattle.shared_queue.specs.Ends.{AreInOrder, HasCalls, AreNew}
@@ -68,10 +69,10 @@ all_in_order place hands threads at idle count = (
 
 -- what is kept
 pub as_kept : (place : Place) (hands : Hands) (threads : List Sender) (r : QueueRecord) → IsAt place hands → AreIdle place.queue threads → length threads ≡ threads_of hands → place.queue.constants.looper ≡ 0
-    → r.looper ≡ place.queue.constants.looper → setting_of r ≡ place.queue.constants.setting
+    → r.looper ≡ place.queue.constants.looper → setting_of r ≡ place.queue.constants.setting → IsChainFrom (empty_base place.queue.constants.setting.senders) r.segments
     → IsLegal place.queue.constants.setting (empty_base place.queue.constants.setting.senders) (history_of r) → AreNumbered place.queue.constants.setting (empty_base place.queue.constants.setting.senders) (history_of r)
     → HasCalls (history_of r) (all_posters threads hands.looper hands.controller) → IsKept (threads_of hands) (seen hands) r
-as_kept place hands threads r at idle count main looper set legal numbered calls =
+as_kept place hands threads r at idle count main looper set chain legal numbered calls =
     let key = place.queue.constants.setting in
     let n : key.senders ≡ threads_of hands + 2 = ap (λ (s : Setting). s.senders) at.setting in
     let senders : key.senders ≡ length threads + 2 = omega (arith, n, count) in
@@ -79,6 +80,7 @@ as_kept place hands threads r at idle count main looper set legal numbered calls
     record {
       looper = looper ∙ main;
       setting = set ∙ at.setting;
+      chain = subst (λ (s : Setting). IsChainFrom (empty_base s.senders) r.segments) (sym set) chain;
       legal = subst (λ (s : Setting). IsLegal s (empty_base s.senders) (history_of r)) (sym set) legal;
       numbered = subst (λ (s : Setting). AreNumbered s (empty_base s.senders) (history_of r)) (sym set) numbered;
       silent = subst (λ k. AreSilent k (history_of r)) count w.0;
@@ -97,6 +99,7 @@ is_run s report es is blocks kept played = record {
   script = is;
   looper = kept.looper;
   setting = kept.setting;
+  chain = kept.chain;
   legal = kept.legal;
   numbered = kept.numbered;
   threads = kept.silent;

@@ -7,6 +7,7 @@ use Rattle.loop_model.specs.declared.call.Call.TheVariants.{Post, Next}
 use Rattle.loop_model.specs.declared.entry.Entry.{Entry}
 use Rattle.loop_model.specs.Base.{empty_base}
 use Rattle.loop_model.specs.Answers.{clock}
+use Rattle.loop_model.specs.Chain.{IsChainFrom}
 use Rattle.loop_model.specs.Legal.{IsLegal, AreNumbered}
 use Rattle.dash_script.specs.declared.script.Block.{Block}
 use Rattle.dash_script.specs.declared.script.Script.{Script}
@@ -79,6 +80,8 @@ pub record IsInboxRun (s : Script) (r : InboxReport) : Type 0 where
   -- the record is that of the main looper, in lockstep, with a sender for each thread, one for the looper and one for the controller; its history is one of a queue of one thread
   pub looper : r.kept.looper ≡ 0
   pub setting : setting_of r.kept ≡ record { main = true; lockstep = true; senders = s.threads + 2 }
+  -- its parts are a chain: each starts from what the one before it left
+  pub chain : IsChainFrom (empty_base r.kept.senders) r.kept.segments
   pub legal : IsLegal (setting_of r.kept) (empty_base r.kept.senders) (history_of r.kept)
   pub numbered : AreNumbered (setting_of r.kept) (empty_base r.kept.senders) (history_of r.kept)
   -- no thread has an entry

@@ -3,6 +3,7 @@ use Rattle.std.specs.Prelude.{◌≡◌, ◌<◌, ◌+◌, ℕ, true, List, leng
 use Rattle.loop_model.specs.declared.entry.Entry.{Entry}
 use Rattle.loop_model.specs.declared.record.QueueRecord.{QueueRecord}
 use Rattle.loop_model.specs.Base.{empty_base}
+use Rattle.loop_model.specs.Chain.{IsChainFrom}
 use Rattle.loop_model.specs.Legal.{IsLegal, AreNumbered}
 use Rattle.dash_script.specs.declared.script.Block.{Block}
 use Rattle.dash_script.specs.declared.script.Script.{Script}
@@ -46,6 +47,7 @@ pub record IsPlayed (s : Script) (threads : ℕ) (admitted : List (List Parcel))
 pub record IsKept (threads : ℕ) (es : List Entry) (r : QueueRecord) : Type 0 where
   pub looper : r.looper ≡ 0
   pub setting : setting_of r ≡ record { main = true; lockstep = true; senders = threads + 2 }
+  pub chain : IsChainFrom (empty_base r.senders) r.segments
   pub legal : IsLegal (setting_of r) (empty_base r.senders) (history_of r)
   pub numbered : AreNumbered (setting_of r) (empty_base r.senders) (history_of r)
   pub silent : AreSilent threads (history_of r)
