@@ -3,7 +3,7 @@ use Rattle.std.specs.Prelude.{◌≡◌, ℕ, ◌+◌, ◌<◌, ◌^◌, List, [
 use Rattle.std.specs.List.{flat_map, join_with_byte, AllByRecursion}
 use Rattle.std.specs.Fmt.{decimal}
 use Rattle.std.specs.Prelude.{◌⊎◌}
-use Rattle.line_words.specs.LineReading.{IsLeastBad as IsLeastBadOf}
+use Rattle.line_words.specs.LeastBad.{IsLeastBad as IsLeastBadOf}
 use Rattle.run_picture.specs.declared.report.Subject.{Subject}
 use Rattle.run_picture.specs.declared.report.Subject.TheVariants.{What, Callback}
 use Rattle.run_picture.specs.declared.report.Past.{Past as PastData}
