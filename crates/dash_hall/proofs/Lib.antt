@@ -8,3 +8,4 @@ pub mod HallSteps
 pub mod Sending
 pub mod Hearing
 pub mod FramePosts
+pub mod Clocking

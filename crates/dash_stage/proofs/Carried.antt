@@ -21,6 +21,7 @@ use Rattle.dash_hall.specs.Hosts.{asks_of}
 use Rattle.choreographer.specs.Known.{Known as Pass}
 use Rattle.dash_threads.specs.declared.thread.PostingThread.{PostingThread}
 use Rattle.dash_hall.specs.Kits.{badge_of, badge_for, frame_badge_of, frame_badge_for, IsHall, IsKitOf, AreKitsOf, AreUnusedKits}
+use Rattle.dash_threads.proofs.ThreadFrames.{asked_in_lockstep}
 use Rattle.dash_threads.specs.Threads.{IsThread, IsUpTo, HasCalled}
 use Rattle.dash_stage.specs.Records.{AreQueueRecords, AreFrameRecords, HaveAll}
 use Rattle.dash_hall.specs.Dealing.{AreUsedNowhere}
@@ -41,7 +42,7 @@ other_unused (x ∷ kits) h some = λ k d lt. h (suc k) d (omega (arith, lt))
 module _ (s : Script) (hall : Hall) where
   -- one thread more was made
   pub thread_made : (n : ℕ) (kits kits' : List Kit) (ts ts' : List PostingThread) (t : PostingThread) → AreKitsFrom s hall n kits → AreUnusedKits kits → 0 < length kits → kits' ≡ remove kits 0
-      → length ts ≡ n → AreFirstThreads s hall ts → HaveRun s [] ts → IsThread s hall t → t.number ≡ n → IsUpTo s [] t → ts' ≡ ts ++ t ∷ []
+      → length ts ≡ n → AreFirstThreads s hall ts → HaveRun s [] ts → IsThread s hall t → t.number ≡ n → IsUpTo in_lockstep s [] t → ts' ≡ ts ++ t ∷ []
       → AreKitsFrom s hall (n + 1) kits' × AreUnusedKits kits' × (length ts' ≡ n + 1) × AreFirstThreads s hall ts' × HaveRun s [] ts'
   thread_made n kits kits' ts ts' t are unused some rest count first run is number new grown =
       let more : length ts' ≡ length ts + 1 = ap length grown ∙ length-append ts (t ∷ []) in (
@@ -49,16 +50,16 @@ module _ (s : Script) (hall : Hall) where
         subst AreUnusedKits (sym rest) (other_unused kits unused some),
         omega (arith, more, count),
         subst (AreFirstThreads s hall) (sym grown) (first_more (λ k (z : PostingThread). IsThread s hall z × (z.number ≡ k)) ts t first (is, number ∙ sym count)),
-        subst (HaveRun s []) (sym grown) (first_more (λ k (z : PostingThread). IsUpTo s [] z) ts t run new),
+        subst (HaveRun s []) (sym grown) (first_more (λ k (z : PostingThread). IsUpTo in_lockstep s [] z) ts t run new),
       )
 
   -- the threads' lines behind those of the first one
   other_run : (n : ℕ) (ts : List PostingThread) → HaveRunFrom s n ts → 0 < length ts → HaveRunFrom s (n + 1) (remove ts 0)
   other_run n [] h some = absurd (omega (arith, some))
-  other_run n (x ∷ ts) h some = λ k d lt. subst (λ m. IsUpTo s (lines_of m s.blocks) (slice_index_or ts k d)) (let same : suc k + n ≡ k + (n + 1) = omega arith in same) (h (suc k) d (omega (arith, lt)))
+  other_run n (x ∷ ts) h some = λ k d lt. subst (λ m. IsUpTo in_lockstep s (lines_of m s.blocks) (slice_index_or ts k d)) (let same : suc k + n ≡ k + (n + 1) = omega arith in same) (h (suc k) d (omega (arith, lt)))
 
   pub run_from : (ts : List PostingThread) → HaveRun s s.blocks ts → HaveRunFrom s 0 ts
-  run_from ts h = λ k d lt. subst (λ m. IsUpTo s (lines_of m s.blocks) (slice_index_or ts k d)) (let same : k ≡ k + 0 = omega arith in same) (h k d lt)
+  run_from ts h = λ k d lt. subst (λ m. IsUpTo in_lockstep s (lines_of m s.blocks) (slice_index_or ts k d)) (let same : k ≡ k + 0 = omega arith in same) (h k d lt)
 
   pub threads_from : (ts : List PostingThread) → (length ts ≡ s.threads) × AreFirstThreads s hall ts → AreThreadsFrom s hall 0 ts
   threads_from ts are =
@@ -68,9 +69,9 @@ module _ (s : Script) (hall : Hall) where
       }
 
   -- a thread that has run all its lines, told by its kit
-  kit_has_run : (n : ℕ) (t : PostingThread) → t.number ≡ n → IsUpTo s (lines_of n s.blocks) t → HasRunAll s n t.kit
+  kit_has_run : (n : ℕ) (t : PostingThread) → t.number ≡ n → IsUpTo in_lockstep s (lines_of n s.blocks) t → HasRunAll s n t.kit
   kit_has_run n t number up = record {
-    called = subst (λ m. HasCalled s (lines_of n s.blocks) m t.kit.posters.items) number up.called;
+    called = subst (λ m. HasCalled in_lockstep s (lines_of n s.blocks) m t.kit.posters.items) number up.called;
     asked = up.asked;
   }
 
@@ -82,7 +83,7 @@ module _ (s : Script) (hall : Hall) where
       let n = length kits in
       let more : length kits' ≡ n + 1 = ap length grown ∙ length-append kits (kit ∷ []) in
       let here = subst (λ (z : PostingThread). IsThread s hall z × (z.number ≡ n)) (sym is_t) (first_thread s hall n ts t are some) in
-      let up = subst (λ (z : PostingThread). IsUpTo s (lines_of n s.blocks) z) (sym is_t) (subst (λ m. IsUpTo s (lines_of m s.blocks) (slice_index_or ts 0 t)) (let same : 0 + n ≡ n = omega arith in same) (run 0 t some)) in
+      let up = subst (λ (z : PostingThread). IsUpTo in_lockstep s (lines_of n s.blocks) z) (sym is_t) (subst (λ m. IsUpTo in_lockstep s (lines_of m s.blocks) (slice_index_or ts 0 t)) (let same : 0 + n ≡ n = omega arith in same) (run 0 t some)) in
       let is_of = subst (IsKitOf s hall n) (sym is_kit) (kit_of_thread s hall n t here.0 here.1) in
       let has = subst (HasRunAll s n) (sym is_kit) (kit_has_run n t here.1 up) in (
         subst (λ (z : List PostingThread). AreThreadsFrom s hall (length kits') z) (sym rest) (subst (λ m. AreThreadsFrom s hall m (remove ts 0)) (sym more) (other_threads s hall n ts are some)),
@@ -124,7 +125,7 @@ module _ (s : Script) (hall : Hall) (h : IsHall s hall) (kits : List Kit) (are :
       let kit = slice_index_or kits thread d in
       let lines = lines_of thread s.blocks in
       let few = numbered_count (λ (z : QueueRecord). z.looper) s.loopers records recs.loopers in
-      let long = alike_length badge_of (badge_for thread) kit.posters.items hall.queues.items (are.each thread d in_kits).posters ∙ queue_count s hall.pool hall.queues.items h.queues in
+      let long = alike_length badge_of (badge_for thread) kit.posters.items hall.queues.items (are.each thread d in_kits).posters ∙ queue_count hall.lockstep s hall.pool hall.queues.items h.queues in
       let in_posters : q < length kit.posters.items = omega (arith, lt, few, long) in
       let p = some_of kit.posters.items q in_posters in
       let is_q = numbered_at (λ (z : QueueRecord). z.looper) s.loopers records recs.loopers q r lt in
@@ -142,4 +143,4 @@ module _ (s : Script) (hall : Hall) (h : IsHall s hall) (kits : List Kit) (are :
       let kit = slice_index_or kits thread d in
       let marks = (are.each thread d in_kits).frames ∙ frames_of_thread s hall.choreographers.items thread below in
       let long = alike_length frame_badge_of (frame_badge_for thread) kit.frames.items hall.choreographers.items marks ∙ choreographer_count s hall.choreographers.items h.choreographers in
-      (run thread d in_kits below).asked q p (omega (arith, lt, long))
+      asked_in_lockstep (lines_of thread s.blocks) kit.frames.items (run thread d in_kits below).asked q p (omega (arith, lt, long))

@@ -1,5 +1,5 @@
 -- A sender's kit, and the sender that it makes.
-use Rattle.std.proofs.Common.{◌≡◌, ◌<◌, ◌+◌, ◌-◌, ℕ, zero, suc, List, [], ◌∷◌, ◌++◌, map, length, refl, sym, ap, ◌∙◌, subst, arith, slice_index_or, if◌then◌else◌, nat_lt, Bool, slice_get}
+use Rattle.std.proofs.Common.{◌≡◌, ◌<◌, ◌+◌, ◌-◌, ℕ, zero, suc, List, [], ◌∷◌, ◌++◌, map, length, refl, sym, ap, ◌∙◌, subst, arith, slice_index_or, if◌then◌else◌, nat_lt, Bool, slice_get, true}
 use Rattle.std.specs.Global.{Vec}
 use Rattle.std.specs.Prelude.{replicate}
 use Rattle.std.specs.List.{remove, range_with_len}
@@ -70,14 +70,15 @@ module _ (s : Script) (hall : Hall) where
       }
 
   -- the controller with the last kit
-  pub controller_of : (kit : Kit) (lists : Vec (Vec Segment)) → IsHall s hall → IsKitOf s hall (controller s) kit → IsUnusedKit kit → parts_in lists.items ≡ replicate s.loopers [] → IsController s hall (record { kit = kit; sealed = lists })
-  controller_of kit lists h is unused none = record {
+  pub controller_of : hall.lockstep ≡ true → (kit : Kit) (lists : Vec (Vec Segment)) → IsHall s hall → IsKitOf s hall (controller s) kit → IsUnusedKit kit → parts_in lists.items ≡ replicate s.loopers [] → IsController s hall (record { kit = kit; sealed = lists })
+  controller_of mode kit lists h is unused none = record {
     posters = is.posters;
+    mode = mode;
     frames = is.frames ∙ frames_of_controller s hall.choreographers.items;
     pass = is.pass;
     idle = unused.own;
     sealed = nothing_handed kit.posters.items unused.sealed
-        ∙ (ap (λ n. replicate n []) (alike_length badge_of (badge_for (controller s)) kit.posters.items hall.queues.items is.posters ∙ queue_count s hall.pool hall.queues.items h.queues)
+        ∙ (ap (λ n. replicate n []) (alike_length badge_of (badge_for (controller s)) kit.posters.items hall.queues.items is.posters ∙ queue_count hall.lockstep s hall.pool hall.queues.items h.queues)
         ∙ sym none);
   }
 

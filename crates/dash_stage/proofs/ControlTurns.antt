@@ -156,14 +156,14 @@ module _ {parts : List Segment} (s : Script) (hall : Hall) (h : IsHall s hall) (
   state : IsStateOf q.constants x
   state = (t.own q.constants mine.0.1).0
 
-  setting : x.setting ≡ (queue_constants s hall.pool i).setting
-  setting = state.setting ∙ ap (λ (z : Constants TableId). z.setting) (queue_is s hall.pool hall.queues.items h.queues i q lt is_q)
+  setting : x.setting ≡ (queue_constants hall.lockstep s hall.pool i).setting
+  setting = state.setting ∙ ap (λ (z : Constants TableId). z.setting) (queue_is hall.lockstep s hall.pool hall.queues.items h.queues i q lt is_q)
 
   last : p.sender + 1 ≡ x.setting.senders
   last = ap (λ (n : ℕ). n + 1) mine.1 ∙ sym (ap (λ (z : Setting). z.senders) setting)
 
   lockstep : x.setting.lockstep ≡ true
-  lockstep = ap (λ (z : Setting). z.lockstep) setting
+  lockstep = ap (λ (z : Setting). z.lockstep) setting ∙ k.mode
 
   start : x.start ≡ empty_base x.setting.senders
   start = state.start ∙ ap (λ (z : Setting). empty_base z.senders) (sym state.setting)

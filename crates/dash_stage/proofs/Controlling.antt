@@ -25,12 +25,12 @@ use Rattle.dash_hall.proofs.Badges.{alike_length, queue_count, choreographer_cou
 
 -- the controller has a poster for each looper
 pub poster_count : (s : Script) (hall : Hall) (c : Controller) → IsHall s hall → IsController s hall c → length c.kit.posters.items ≡ s.loopers
-poster_count s hall c h k = alike_length badge_of (badge_for (controller s)) c.kit.posters.items hall.queues.items k.posters ∙ queue_count s hall.pool hall.queues.items h.queues
+poster_count s hall c h k = alike_length badge_of (badge_for (controller s)) c.kit.posters.items hall.queues.items k.posters ∙ queue_count hall.lockstep s hall.pool hall.queues.items h.queues
 
 module _ (s : Script) (hall : Hall) (h : IsHall s hall) (i : ℕ) (lt : i < s.loopers) where
   -- each looper has a queue and a choreographer
   pub in_queues : i < vec_len hall.queues
-  in_queues = subst (λ n. i < n) (sym (hall.queues.ok.0 ∙ queue_count s hall.pool hall.queues.items h.queues)) lt
+  in_queues = subst (λ n. i < n) (sym (hall.queues.ok.0 ∙ queue_count hall.lockstep s hall.pool hall.queues.items h.queues)) lt
 
   pub in_choreographers : i < vec_len hall.choreographers
   in_choreographers = subst (λ n. i < n) (sym (hall.choreographers.ok.0 ∙ choreographer_count s hall.choreographers.items h.choreographers)) lt
@@ -60,14 +60,14 @@ module _ (s : Script) (hall : Hall) (h : IsHall s hall) (i : ℕ) (lt : i < s.lo
     -- it is the last sender of a queue in lockstep
     pub is_last : (p : Sender) (q : Shared TableId) → p ≡ slice_index_or c.kit.posters.items i p → q ≡ slice_index_or hall.queues.items i q → p.sender + 1 ≡ q.constants.setting.senders
     is_last p q is_p is_q =
-        ap (λ n. n + 1) (own_poster p q is_p is_q).1 ∙ sym (ap (λ (z : Constants TableId). z.setting.senders) (queue_is s hall.pool hall.queues.items h.queues i q lt is_q))
+        ap (λ n. n + 1) (own_poster p q is_p is_q).1 ∙ sym (ap (λ (z : Constants TableId). z.setting.senders) (queue_is hall.lockstep s hall.pool hall.queues.items h.queues i q lt is_q))
 
     pub in_step : (q : Shared TableId) → q ≡ slice_index_or hall.queues.items i q → q.constants.setting.lockstep ≡ true
-    in_step q is_q = ap (λ (z : Constants TableId). z.setting.lockstep) (queue_is s hall.pool hall.queues.items h.queues i q lt is_q)
+    in_step q is_q = ap (λ (z : Constants TableId). z.setting.lockstep) (queue_is hall.lockstep s hall.pool hall.queues.items h.queues i q lt is_q) ∙ k.mode
 
     -- the queue's messages are of the pool
     pub in_pool : (q : Shared TableId) → q ≡ slice_index_or hall.queues.items i q → q.constants.home ≡ hall.pool
-    in_pool q is_q = ap (λ (z : Constants TableId). z.home) (queue_is s hall.pool hall.queues.items h.queues i q lt is_q)
+    in_pool q is_q = ap (λ (z : Constants TableId). z.home) (queue_is hall.lockstep s hall.pool hall.queues.items h.queues i q lt is_q)
 
     -- a poster that handed nothing out keeps the parts that it handed out
     parts_kept : (p p' : Sender) → p ≡ slice_index_or c.kit.posters.items i p → p'.view.sealed ≡ p.view.sealed → handed_out (set c.kit.posters.items i p') ≡ parts_in c.sealed.items
@@ -80,6 +80,7 @@ module _ (s : Script) (hall : Hall) (h : IsHall s hall) (i : ℕ) (lt : i < s.lo
       posters = posters_kept (controller s) hall.queues.items c.kit.posters.items k.posters i p' p (gone_badge p p' c.kit.pass pass' on ∙ ap badge_of is_p);
       frames = k.frames;
       pass = on.home ∙ k.pass;
+      mode = k.mode;
       idle = k.idle;
       sealed = parts_kept p p' is_p on.sealed;
     }
@@ -91,6 +92,7 @@ module _ (s : Script) (hall : Hall) (h : IsHall s hall) (i : ℕ) (lt : i < s.lo
       posters = posters_kept (controller s) hall.queues.items c.kit.posters.items k.posters i p' p (turn_badge p p' x y t ∙ ap badge_of is_p);
       frames = k.frames;
       pass = k.pass;
+      mode = k.mode;
       idle = k.idle;
       sealed = parts_kept p p' is_p t.sealed;
     }
@@ -102,6 +104,7 @@ module _ (s : Script) (hall : Hall) (h : IsHall s hall) (i : ℕ) (lt : i < s.lo
       posters = k.posters;
       frames = passes_kept (s.threads + 2) hall.choreographers.items c.kit.frames.items k.frames i p' p (frame_turn_badge p p' x x t ∙ ap frame_badge_of is_p);
       pass = k.pass;
+      mode = k.mode;
       sealed = k.sealed;
       idle = λ q d below. dite (ℕ_discrete q i)
           (λ here. ap (λ m. (get_or (set c.kit.frames.items i p') m d).view.own) here ∙ (ap (λ (z : Pass). z.view.own) (get_or-set_same c.kit.frames.items i p' d has_pass) ∙ still))

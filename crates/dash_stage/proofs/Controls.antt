@@ -446,7 +446,7 @@ module _ (s : Script) (hall : Hall) (kits : List Kit) (records : List QueueRecor
       within : (q : ℕ) → q < length records → q < length c.kit.posters.items
       within q lt =
           let posters = subst (λ (z : Kit). ArePostersOf (controller s) hall.queues.items z.posters.items) (held c.kit) (are.each (controller s) c.kit last).posters in
-          let long = alike_length badge_of (badge_for (controller s)) c.kit.posters.items hall.queues.items posters ∙ queue_count s hall.pool hall.queues.items h.queues in
+          let long = alike_length badge_of (badge_for (controller s)) c.kit.posters.items hall.queues.items posters ∙ queue_count hall.lockstep s hall.pool hall.queues.items h.queues in
           let short = few in
           omega (arith, lt, long, short)
 

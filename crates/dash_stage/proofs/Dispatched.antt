@@ -46,11 +46,11 @@ module _ (s : Script) (hall : Hall) (h : IsHall s hall) (kits : List Kit) (are :
       let d = some_of kits n in_kits in
       let kit = slice_index_or kits n d in
       let badges = (are.each n d in_kits).posters in
-      let long = alike_length badge_of (badge_for n) kit.posters.items hall.queues.items badges ∙ queue_count s hall.pool hall.queues.items h.queues in
+      let long = alike_length badge_of (badge_for n) kit.posters.items hall.queues.items badges ∙ queue_count hall.lockstep s hall.pool hall.queues.items h.queues in
       let in_posters : k < length kit.posters.items = omega (arith, lt, few, long) in
       let p = some_of kit.posters.items k in_posters in
       let poster = slice_index_or kit.posters.items k p in
-      let in_queues : k < length hall.queues.items = omega (arith, lt, few, queue_count s hall.pool hall.queues.items h.queues) in
+      let in_queues : k < length hall.queues.items = omega (arith, lt, few, queue_count hall.lockstep s hall.pool hall.queues.items h.queues) in
       let sender = (poster_at n hall.queues.items kit.posters.items badges k p (some_of hall.queues.items k in_queues) in_posters).1 in
       let made : entries_by n (history_of (slice_index_or queues k q)) ≡ own poster = (all n k d p q in_kits lt).0 in
       let in_js : k < length js = omega (arith, lt, few, few_js) in

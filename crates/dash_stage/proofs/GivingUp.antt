@@ -34,6 +34,7 @@ after_bell s hall i c p p' k is_p same = record {
   posters = posters_kept (controller s) hall.queues.items c.kit.posters.items k.posters i p' p ((λ j. record { table = same.table j; constants = same.constants j; sender = same.sender j }) ∙ ap badge_of is_p);
   frames = k.frames;
   pass = k.pass;
+  mode = k.mode;
   idle = k.idle;
   sealed = map-set_same (λ (z : Sender). z.view.sealed) c.kit.posters.items i p' p (same.sealed ∙ ap (λ (z : Sender). z.view.sealed) is_p) ∙ k.sealed;
 }

@@ -1,5 +1,5 @@
 -- The queues end, one after another, with the posters of all kits.
-use Rattle.std.proofs.Common.{◌≡◌, ℕ, zero, suc, ◌+◌, ◌<◌, ◌≤◌, List, [], ◌∷◌, ◌++◌, map, length, set, get_or, drop, refl, sym, ap, ◌∙◌, subst, arith, append-nil, length-append}
+use Rattle.std.proofs.Common.{◌≡◌, ℕ, zero, suc, ◌+◌, ◌<◌, ◌≤◌, List, [], ◌∷◌, ◌++◌, map, length, set, get_or, drop, refl, sym, ap, ◌∙◌, subst, arith, append-nil, length-append, true}
 use Rattle.std.specs.Prelude.{◌==◌}
 use Rattle.std.specs.List.{AllByRecursion}
 use Rattle.std.proofs.Math.ListN.{get_or-append}
@@ -141,10 +141,10 @@ numbers_more k (suc n) =
     ap (range_with_len k) one ∙ ap (λ l. k ∷ l) (numbers_more (k + 1) n ∙ ap (λ m. range_with_len (k + 1) n ++ m ∷ []) there)
 
 -- the record that is kept of this looper's queue
-pub kept_history : (s : Script) (pool : TableId) (n : ℕ) (c : Constants TableId) (r : QueueRecord) → c ≡ queue_constants s pool n → IsKeptOf c r → IsHistory in_lockstep all_entries s r × (r.looper ≡ n)
+pub kept_history : (s : Script) (pool : TableId) (n : ℕ) (c : Constants TableId) (r : QueueRecord) → c ≡ queue_constants true s pool n → IsKeptOf c r → IsHistory in_lockstep all_entries s r × (r.looper ≡ n)
 kept_history s pool n c r is kept =
     let looper : r.looper ≡ n = kept.looper ∙ ap (λ (x : Constants TableId). x.looper) is in
-    let setting : setting_of r ≡ (queue_constants s pool n).setting = kept.setting ∙ ap (λ (x : Constants TableId). x.setting) is in (
+    let setting : setting_of r ≡ (queue_constants true s pool n).setting = kept.setting ∙ ap (λ (x : Constants TableId). x.setting) is in (
       record {
         main = ap (λ (x : Setting). x.main) setting ∙ ap (λ (m : ℕ). m == 0) (sym looper);
         lockstep = ap (λ (x : Setting). x.lockstep) setting;
@@ -174,21 +174,21 @@ retired_none s kits = record {
 
 -- the kits as some queues have ended: what comes next is of the next queue
 pub next_queue : (s : Script) (pool : TableId) (queues yielded rest : List (Shared TableId)) (q : Shared TableId) (n : ℕ) (orig kits : List Kit)
-    → yielded ++ q ∷ rest ≡ queues → n ≡ length yielded → AreQueuesOf s pool queues → length orig ≡ sender_count s → HaveAllPosters queues orig → HaveLeft n orig kits
-    → (q.constants ≡ queue_constants s pool n) × AreNext q kits
+    → yielded ++ q ∷ rest ≡ queues → n ≡ length yielded → AreQueuesOf true s pool queues → length orig ≡ sender_count s → HaveAllPosters queues orig → HaveLeft n orig kits
+    → (q.constants ≡ queue_constants true s pool n) × AreNext q kits
 next_queue s pool queues yielded rest q n orig kits parts is keys senders have left = (constants, record { count = count; each = next })
   where
     within : n < length queues
     within = within_parts yielded rest queues q n parts is
 
-    constants : q.constants ≡ queue_constants s pool n
+    constants : q.constants ≡ queue_constants true s pool n
     constants =
-        let long : length queues ≡ s.loopers = sym (length-map queues queue_key) ∙ (ap length keys ∙ length-map-range_with_len (queue_constants s pool) 0 s.loopers) in
+        let long : length queues ≡ s.loopers = sym (length-map queues queue_key) ∙ (ap length keys ∙ length-map-range_with_len (queue_constants true s pool) 0 s.loopers) in
         let lt = within_parts yielded rest queues q n parts is in
         let few : n < s.loopers = omega (arith, lt, long) in
         ap queue_key (sym (at_parts yielded rest queues q n parts is))
         ∙ (sym (get_or-map queue_key queues n q q.constants lt)
-        ∙ (ap (λ l. get_or l n q.constants) keys ∙ get_or-map-range_with_len (queue_constants s pool) 0 s.loopers n n q.constants few (omega arith)))
+        ∙ (ap (λ l. get_or l n q.constants) keys ∙ get_or-map-range_with_len (queue_constants true s pool) 0 s.loopers n n q.constants few (omega arith)))
 
     count : length kits ≡ q.constants.setting.senders
     count =
@@ -219,7 +219,7 @@ next_queue s pool queues yielded rest q n orig kits parts is keys senders have l
 
 -- one queue more has ended
 pub retires_more : (s : Script) (pool : TableId) (c : Constants TableId) (orig kits kits' : List Kit) (records records' : List QueueRecord) (r : QueueRecord)
-    → c ≡ queue_constants s pool (length records) → IsKeptOf c r → EachEndsPoster (history_of r) kits kits' → records' ≡ records ++ r ∷ [] → AreRetired s orig records kits → AreRetired s orig records' kits'
+    → c ≡ queue_constants true s pool (length records) → IsKeptOf c r → EachEndsPoster (history_of r) kits kits' → records' ≡ records ++ r ∷ [] → AreRetired s orig records kits → AreRetired s orig records' kits'
 retires_more s pool c orig kits kits' records records' r is kept ends more before = subst (λ l. AreRetired s orig l kits') (sym more) (record {
   loopers = map-append (λ (q : QueueRecord). q.looper) records (r ∷ []) ∙ ((λ i. before.loopers i ++ (history.1 ∙ zeroth) i ∷ []) ∙ (sym (numbers_more 0 (length records)) ∙ ap (range_with_len 0) (sym one)));
   histories = all_push records before.histories;

@@ -290,7 +290,7 @@ module _ (s : Script) (hall : Hall) (kits : List Kit) (queues : List QueueRecord
       let kit = slice_index_or kits (s.threads + k) c.kit in
       let is = are.each (s.threads + k) c.kit (in_kits k lt) in
       let l = some_of ls k (in_loopers k lt) in
-      let long = alike_length badge_of (badge_for (s.threads + k)) kit.posters.items hall.queues.items is.posters ∙ queue_count s hall.pool hall.queues.items h.queues in
+      let long = alike_length badge_of (badge_for (s.threads + k)) kit.posters.items hall.queues.items is.posters ∙ queue_count hall.lockstep s hall.pool hall.queues.items h.queues in
       let short = count in
       let of : IsLooperOf s hall k = record { few = small; one = omega (arith, lt, short); is_hall = h } in
       let two = kit_two s hall k of kit is in
@@ -349,7 +349,7 @@ module _ (s : Script) (hall : Hall) (kits : List Kit) (queues : List QueueRecord
       let p = some_of kit.posters.items k there in
       let poster = slice_index_or kit.posters.items k p in
       let short = count in
-      let in_queues : k < length hall.queues.items = omega (arith, lt, short, queue_count s hall.pool hall.queues.items h.queues) in
+      let in_queues : k < length hall.queues.items = omega (arith, lt, short, queue_count hall.lockstep s hall.pool hall.queues.items h.queues) in
       let sender = (poster_at n hall.queues.items kit.posters.items badges k p (some_of hall.queues.items k in_queues) there).1 in
       let made = (all n k c.kit p x (in_kits k lt) lt).0 in
       subst DisposesLast (ap (λ (m : ℕ). entries_by m poster.view.seen) (sym sender) ∙ sym made) ((given k l j c.kit (in_journals k lt)).disposes (going k l (in_loopers k lt)) p)

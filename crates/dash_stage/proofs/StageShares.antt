@@ -38,6 +38,7 @@ controller_kept s hall a b k is = record {
   posters = heard_badges a.kit.posters.items b.kit.posters.items k.posters ∙ is.posters;
   frames = ap (λ v. map frame_badge_of v.items) k.frames ∙ is.frames;
   pass = ap (λ t. t.home) k.pass ∙ is.pass;
+  mode = is.mode;
   sealed = heard_parts a.kit.posters.items b.kit.posters.items k.posters ∙ (is.sealed ∙ ap (λ v. parts_in v.items) (sym k.sealed));
   idle = subst (λ (fs : List Pass). (q : ℕ) (p : Pass) → q < length fs → (get_or fs q p).view.own ≡ []) (sym (ap (λ v. v.items) k.frames)) is.idle;
 }
@@ -169,7 +170,7 @@ share_more n a b sh all = λ q lt. dite (ℕ_discrete q n)
 module _ (s : Script) (st : Stage) (is : IsStage s st) where
   -- one poster of each queue is as many as there are loopers
   count : (k : ℕ) (ps : List Sender) → ArePostersOf k st.hall.queues.items ps → length ps ≡ s.loopers
-  count k ps are = alike_length badge_of (badge_for k) ps st.hall.queues.items are ∙ queue_count s st.hall.pool st.hall.queues.items is.hall.queues
+  count k ps are = alike_length badge_of (badge_for k) ps st.hall.queues.items are ∙ queue_count st.hall.lockstep s st.hall.pool st.hall.queues.items is.hall.queues
 
   -- each of the stage's senders has so many
   counts : OfSenders (λ ps. length ps ≡ s.loopers) st

@@ -71,15 +71,15 @@ lines_at k b = all_same b.time (filter (λ l. l.thread == k) b.lines)
 -- ---- a block
 
 -- a thread that has come so far has made a call for each of its lines there
-called_count : (s : Script) (bs : List Block) (k : ℕ) (t : PostingThread) → t.number ≡ k → IsUpTo s (lines_of k bs) t → (q : ℕ) (d : Sender) → q < length t.kit.posters.items
+called_count : (s : Script) (bs : List Block) (k : ℕ) (t : PostingThread) → t.number ≡ k → IsUpTo in_lockstep s (lines_of k bs) t → (q : ℕ) (d : Sender) → q < length t.kit.posters.items
     → length (lines_on s (labels_on q (lines_of k s.blocks)) q (lines_of k bs)) ≡ length (own (slice_index_or t.kit.posters.items q d))
-called_count s bs k t number up q d lt = for_count _ [] _ _ (subst (λ n. HasCalled s (lines_of k bs) n t.kit.posters.items) number up.called q d lt)
+called_count s bs k t number up q d lt = for_count _ [] _ _ (subst (λ n. HasCalled in_lockstep s (lines_of k bs) n t.kit.posters.items) number up.called q d lt)
 
 -- and it has disposed of nothing there
-called_none : (s : Script) (bs : List Block) (k : ℕ) (t : PostingThread) → t.number ≡ k → IsUpTo s (lines_of k bs) t → (q : ℕ) (d : Sender) → q < length t.kit.posters.items
+called_none : (s : Script) (bs : List Block) (k : ℕ) (t : PostingThread) → t.number ≡ k → IsUpTo in_lockstep s (lines_of k bs) t → (q : ℕ) (d : Sender) → q < length t.kit.posters.items
     → NoneDisposes (own (slice_index_or t.kit.posters.items q d))
 called_none s bs k t number up q d lt =
-    lines_dispose_nothing in_lockstep s (labels_on q (lines_of k s.blocks)) q [] _ _ (subst (λ n. HasCalled s (lines_of k bs) n t.kit.posters.items) number up.called q d lt)
+    lines_dispose_nothing in_lockstep s (labels_on q (lines_of k s.blocks)) q [] _ _ (subst (λ n. HasCalled in_lockstep s (lines_of k bs) n t.kit.posters.items) number up.called q d lt)
 
 module _ (s : Script) (q : ℕ) (es whole : List Entry) (front : IsPrefix es whole) (sound : IsSoundOn s q whole) (controlled : entries_by (controller s) whole ≡ entries_by (controller s) es) where
   -- the controller called nothing

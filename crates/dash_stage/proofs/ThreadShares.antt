@@ -76,7 +76,7 @@ thread_kept s hall a b k is = record {
 }
 
 -- and has come as far
-pub up_to_kept : (s : Script) (past : List Timed) (a b : PostingThread) → ThreadKeeps HaveHeard a b → IsUpTo s past a → IsUpTo s past b
+pub up_to_kept : (s : Script) (past : List Timed) (a b : PostingThread) → ThreadKeeps HaveHeard a b → IsUpTo in_lockstep s past a → IsUpTo in_lockstep s past b
 up_to_kept s past a b k up =
     let long = k.posters.long in
     let barriers : b.barriers.items ≡ a.barriers.items = ap (λ v. v.items) k.barriers in
@@ -86,12 +86,13 @@ up_to_kept s past a b k up =
           let near : q < length a.kit.posters.items = omega (arith, lt) in
           subst (λ (es : List Entry). MakeCalls in_lockstep s (labels_on q (lines_of b.number s.blocks)) q past es) (sym (k.posters.each q d near).called)
           (subst (λ (n : ℕ). MakeCalls in_lockstep s (labels_on q (lines_of n s.blocks)) q past (own (get_or a.kit.posters.items q d))) (sym k.number) (up.called q d near));
+      clocked = λ q d lt. tt;
       barriers = record {
         labels = λ q. ap (labels_kept q) barriers ∙ up.barriers.labels q;
         tokens = λ q d lt.
             let near : q < length a.kit.posters.items = omega (arith, lt) in
             ap (tokens_kept q) barriers ∙ (up.barriers.tokens q d near ∙ ap tokens_in (sym (k.posters.each q d near).called));
       };
-      asked = subst (λ (fs : List Pass). HasAsked past fs) (sym frames) up.asked;
+      asked = subst (λ (fs : List Pass). HasAsked in_lockstep past fs) (sym frames) up.asked;
       turned = subst (λ (fs : List Pass). HasTurned past fs) (sym frames) up.turned;
     }

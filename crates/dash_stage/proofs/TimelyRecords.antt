@@ -113,7 +113,7 @@ module _ (s : Script) (hall : Hall) (kits : List Kit) (records : List QueueRecor
   pub in_posters : (k q : ℕ) (d : Kit) → k < length kits → q < length records → q < length (slice_index_or kits k d).posters.items
   in_posters k q d in_kits lt =
       let kit = slice_index_or kits k d in
-      let long = alike_length badge_of (badge_for k) kit.posters.items hall.queues.items (are.each k d in_kits).posters ∙ queue_count s hall.pool hall.queues.items h.queues in
+      let long = alike_length badge_of (badge_for k) kit.posters.items hall.queues.items (are.each k d in_kits).posters ∙ queue_count hall.lockstep s hall.pool hall.queues.items h.queues in
       let short = few in
       omega (arith, lt, short, long)
 
@@ -129,7 +129,7 @@ module _ (s : Script) (hall : Hall) (kits : List Kit) (records : List QueueRecor
   made_by k q d r in_kits lt =
       let kit = slice_index_or kits k c.kit in
       let there = in_posters k q c.kit in_kits lt in
-      let in_queues : q < length hall.queues.items = omega (arith, lt, few, queue_count s hall.pool hall.queues.items h.queues) in
+      let in_queues : q < length hall.queues.items = omega (arith, lt, few, queue_count hall.lockstep s hall.pool hall.queues.items h.queues) in
       let sender = (poster_at k hall.queues.items kit.posters.items (are.each k c.kit in_kits).posters q d (some_of hall.queues.items q in_queues) there).1 in
       (all k q c.kit d r in_kits lt).0
       ∙ (ap (λ (n : ℕ). entries_by n (slice_index_or kit.posters.items q d).view.seen) sender
@@ -169,7 +169,7 @@ module _ (s : Script) (hall : Hall) (kits : List Kit) (records : List QueueRecor
   pub known : (q : ℕ) → q < length c.kit.posters.items → q < length records
   known q lt =
       let kit = slice_index_or kits (controller s) c.kit in
-      let long = alike_length badge_of (badge_for (controller s)) kit.posters.items hall.queues.items (are.each (controller s) c.kit last).posters ∙ queue_count s hall.pool hall.queues.items h.queues in
+      let long = alike_length badge_of (badge_for (controller s)) kit.posters.items hall.queues.items (are.each (controller s) c.kit last).posters ∙ queue_count hall.lockstep s hall.pool hall.queues.items h.queues in
       let mine : length kit.posters.items ≡ length c.kit.posters.items = ap (λ (z : Kit). length z.posters.items) (held c.kit) in
       let short = few in
       omega (arith, lt, mine, short, long)

@@ -32,6 +32,8 @@ pub record IsController (s : Script) (hall : Hall) (c : Controller) : Type 0 whe
   pub posters : ArePostersOf (controller s) hall.queues.items c.kit.posters.items
   pub frames : ArePassesOf (s.threads + 2) hall.choreographers.items c.kit.frames.items
   pub pass : c.kit.pass.home ≡ hall.pool
+  -- the hall is one in lockstep
+  pub mode : hall.lockstep ≡ true
   pub idle : (q : ℕ) (p : Pass) → q < length c.kit.frames.items → (slice_index_or c.kit.frames.items q p).view.own ≡ []
   pub sealed : handed_out c.kit.posters.items ≡ parts_in c.sealed.items
 

@@ -11,6 +11,7 @@ use Rattle.run_model.specs.Senders.{sender_count}
 use Rattle.dash_hall.specs.declared.kit.Kit.{Kit}
 use Rattle.looper_run.specs.Round.{is_ended}
 use Rattle.dash_hall.specs.Kits.{IsHall, IsKitOf}
+use Rattle.run_model.specs.Moments.{in_lockstep}
 use Rattle.dash_threads.specs.Threads.{IsThread, IsUpTo, Continues}
 use Rattle.dash_loopers.specs.Loopers.{IsLooper, is_given_up}
 use Rattle.dash_stage.specs.Controllers.{IsController}
@@ -39,11 +40,11 @@ pub record IsPlayable (s : Script) : Type 0 where
 
 -- each thread has run its lines of these blocks, the first of the script's
 abbrev pub HaveRun : Script → List Block → List PostingThread → Type 0
-HaveRun s bs ts = (k : ℕ) (d : PostingThread) → k < length ts → IsUpTo s (lines_of k bs) (slice_index_or ts k d)
+HaveRun s bs ts = (k : ℕ) (d : PostingThread) → k < length ts → IsUpTo in_lockstep s (lines_of k bs) (slice_index_or ts k d)
 
 -- each thread has run its lines of this block, where it comes next
 abbrev pub RunOn : Script → Block → List PostingThread → List PostingThread → Type 0
-RunOn s b before after = (k : ℕ) (d : PostingThread) → k < length before → Continues s b (slice_index_or before k d) (slice_index_or after k d)
+RunOn s b before after = (k : ℕ) (d : PostingThread) → k < length before → Continues in_lockstep s b (slice_index_or before k d) (slice_index_or after k d)
 
 -- none has given up
 abbrev pub GoOn : List PostingThread → Type 0

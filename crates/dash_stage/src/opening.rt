@@ -28,7 +28,7 @@ pub(crate) fn set_up(alloc: Global, script: &Script) -> Result<Stage, NoMemory>
     ensures step { IfOk result (λ st. IsInStep script.now st) }
     ensures unseen { IfOk result (λ st. AreUnseen st.controller.kit.posters.items) }
 {
-    let (hall, mut kits, pass) = open(alloc, script)?;
+    let (hall, mut kits, pass) = open(alloc, script, true)?;
     let threads = threads(alloc, script, &hall, &mut kits)?;
     let loopers = loopers(alloc, script, &hall, &mut kits)?;
     let sealed = nothing_sealed(alloc, script.loopers)?;

@@ -1,5 +1,5 @@
 //! The records of a run's queues and choreographers.
-ghost use Rattle.std.specs.Prelude.{◌≡◌, ◌<◌, ◌+◌, length, IfOk, OnOk};
+ghost use Rattle.std.specs.Prelude.{◌≡◌, ◌<◌, ◌+◌, true, length, IfOk, OnOk};
 ghost use Rattle.atomic_table.specs.Seated.{TableId};
 ghost use Rattle.run_model.specs.Histories.{history_of};
 ghost use Rattle.run_model.specs.Senders.{sender_count};
@@ -30,6 +30,7 @@ pub(crate) fn records(
 ) -> Result<(Vec<QueueRecord>, Vec<FrameRecord>), NoMemory>
     requires fits { script.now.threads + script.now.loopers < 100 }
     requires hall { IsHall script.now hall }
+    requires mode { hall.lockstep ≡ true }
     requires kits { AreKitsOf script.now hall kits.items }
     requires sealed { AreSealed kits.items sealed.items }
     requires pass { pass.home ≡ hall.pool }
@@ -40,6 +41,7 @@ pub(crate) fn records(
     ensures own { IfOk result (λ r. HaveSeenOwn script.now.threads kits.items r.1.items) }
 {
     let Hall {
+        lockstep: _,
         pool,
         queues,
         choreographers,
@@ -63,7 +65,7 @@ fn queue_records(
     mut sealed: Vec<Vec<Segment>>,
 ) -> Result<Vec<QueueRecord>, NoMemory>
     requires pass { pass.old.home ≡ pool.now }
-    requires queues { AreQueuesOf script.now pool.now queues.items }
+    requires queues { AreQueuesOf true script.now pool.now queues.items }
     requires count { length kits.old.items ≡ sender_count script.now }
     requires kits { HaveAllPosters queues.items kits.old.items }
     requires sealed { AreSealed kits.old.items sealed.items }

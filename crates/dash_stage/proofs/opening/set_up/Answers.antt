@@ -22,7 +22,7 @@ returns-clause-stage c =
       hall = c.in_ok-hall.ensures.hall;
       threads = c.in_ok-threads.ensures.threads;
       loopers = c.in_ok-loopers.ensures.loopers;
-      controller = controller_of s hall c.remove.result c.in_ok-sealed.sealed c.in_ok-hall.ensures.hall is unused c.in_ok-sealed.ensures;
+      controller = controller_of s hall c.in_ok-hall.ensures.mode c.remove.result c.in_ok-sealed.sealed c.in_ok-hall.ensures.hall is unused c.in_ok-sealed.ensures;
       pass = c.in_ok-hall.ensures.pass;
     }
 

@@ -1,4 +1,4 @@
-use Rattle.std.proofs.Common.{◌≡◌, ◌<◌, [], ◌∷◌, ◌++◌, length, ap, sym, ◌∙◌, append-nil, length-append, subst, arith}
+use Rattle.std.proofs.Common.{◌≡◌, ◌<◌, [], ◌∷◌, ◌++◌, length, ap, sym, ◌∙◌, append-nil, length-append, subst, arith, true}
 use Rattle.std.specs.Vec.Iter.{into_iter_items}
 use Rattle.std.proofs.lemmas.List.{nil_from_length, length-map}
 use Rattle.std.proofs.lemmas.List.FromFn.{length-map-range_with_len}
@@ -81,5 +81,5 @@ returns-clause-records c =
     let none = c.in-None.ensures.steps in
     let empty : into_iter_items at.queue-iterator ≡ [] = nil_from_length _ (sym at.invariant.long ∙ none.0) in
     let all : at.yielded ≡ c.args.queues.items = sym (append-nil at.yielded) ∙ (ap (λ l. at.yielded ++ l) (sym empty) ∙ (at.invariant.parts ∙ c.into_iter-queue-iterator.ensures.into_iter_gives.0)) in
-    let loopers : length c.args.queues.items ≡ s.loopers = sym (length-map c.args.queues.items queue_key) ∙ (ap length c.requires.queues ∙ length-map-range_with_len (queue_constants s c.args.pool.now) 0 s.loopers) in
+    let loopers : length c.args.queues.items ≡ s.loopers = sym (length-map c.args.queues.items queue_key) ∙ (ap length c.requires.queues ∙ length-map-range_with_len (queue_constants true s c.args.pool.now) 0 s.loopers) in
     (retired_all s c.args.kits.now.items at.kits.items at.records.items (at.invariant.count ∙ (ap length all ∙ loopers)) at.invariant.retired).0
