@@ -43,11 +43,11 @@ pub if_free : (b : Bool) (P : Type 0) → (b ≡ false → P) → MatchBool b (U
 if_free true P h = tt
 if_free false P h = h refl
 
-unless : (b : Bool) (P : Type 0) → b ≡ false → MatchBool b P (Unit {0})
+pub unless : (b : Bool) (P : Type 0) → b ≡ false → MatchBool b P (Unit {0})
 unless true P is = absurd cc
 unless false P is = tt
 
-where_true : (b : Bool) (P : Type 0) → (b ≡ true → P) → MatchBool b P (Unit {0})
+pub where_true : (b : Bool) (P : Type 0) → (b ≡ true → P) → MatchBool b P (Unit {0})
 where_true true P h = h refl
 where_true false P h = tt
 
@@ -86,7 +86,7 @@ unfolding clock
 clock_same n es = refl
 
 -- the moment that a queue in free mode takes, where it is asked for at this one
-abbrev IsTaken : ℕ → ℕ → ℕ → Type 0
+abbrev pub IsTaken : ℕ → ℕ → ℕ → Type 0
 IsTaken time u at = ((at ≡ u) ⊎ (at ≡ time)) × (u ≤ at)
 
 greater : (u t : ℕ) → IsTaken t u (max u t)
@@ -97,7 +97,7 @@ taken true u t is = absurd cc
 taken false u t is = greater u t
 
 -- what a turn finds has the time of its history
-its_moment : (m : Mode) (p q : Sender) (x y : State) (u : ℕ) → IsTurn p q x y → IsInMode m p → m.lockstep ≡ false → IsTaken (clock (empty_base 0) x.entries) u (moment_at x u)
+pub its_moment : (m : Mode) (p q : Sender) (x y : State) (u : ℕ) → IsTurn p q x y → IsInMode m p → m.lockstep ≡ false → IsTaken (clock (empty_base 0) x.entries) u (moment_at x u)
 its_moment m p q x y u t mode free =
     let c = MatchBool-at_false (Unit {0}) ((c : Constants TableId) × (p.view.constants ≡ Some c) × (c.setting.lockstep ≡ false)) free mode in
     let mine : IsStateOf c.0 x = (t.own c.0 c.1).0 in
@@ -106,7 +106,7 @@ its_moment m p q x y u t mode free =
     subst (λ (n : ℕ). IsTaken n u (moment_at x u)) time (taken x.setting.lockstep u (time_of x) off)
 
 -- a turn that entered one call, whose moment is the clock's or the time that it found
-clocked_turn : (m : Mode) (p q : Sender) (x y : State) (c : Call) (r : Reply) → IsTurn p q x y → y.entries ≡ x.entries ++ entry_of x p.sender c r ∷ []
+pub clocked_turn : (m : Mode) (p q : Sender) (x y : State) (c : Call) (r : Reply) → IsTurn p q x y → y.entries ≡ x.entries ++ entry_of x p.sender c r ∷ []
     → (m.lockstep ≡ false → IsOfClock m (clock (empty_base 0) x.entries) c) → IsByClock m p → IsByClock m q
 clocked_turn m p q x y c r t left of_clock by = if_free m.lockstep (AreOfClockAfter m (is_by q.sender) [] q.view.seen) (λ free. (
     let f = found p q x y t in
@@ -120,36 +120,36 @@ clocked_turn m p q x y c r t left of_clock by = if_free m.lockstep (AreOfClockAf
     (subst (λ (k : ℕ). AreOfClockAfter m (is_by k) [] (x.entries ++ e ∷ [])) (sym t.sender) (clock_more m test [] x.entries (e ∷ []) before one))))
 
 -- a turn that entered a call at the moment that the queue took for this one
-abbrev EntersAt : (ℕ → Call) → Sender → Sender → ℕ → Type 0
+abbrev pub EntersAt : (ℕ → Call) → Sender → Sender → ℕ → Type 0
 EntersAt call p q u = (x : State) × (y : State) × IsTurn p q x y × (r : Reply) × (y.entries ≡ x.entries ++ entry_of x p.sender (call (moment_at x u)) r ∷ [])
 
 entries_of : (x y : State) → y ≡ x → y.entries ≡ x.entries
 entries_of x y same = ap (λ (z : State). z.entries) same
 
-bars_enter : (p q : Sender) (u token : ℕ) → BarsOf p q u token → EntersAt Barrier p q u
+pub bars_enter : (p q : Sender) (u token : ℕ) → BarsOf p q u token → EntersAt Barrier p q u
 bars_enter p q u token (node, (x, y, t, posts)) = (x, y, t, Token token, entries_of _ y posts.1)
 
-quits_enter : (p q : Sender) (safe : Bool) (u : ℕ) → QuitsOf p q safe u → EntersAt (Quit safe) p q u
+pub quits_enter : (p q : Sender) (safe : Bool) (u : ℕ) → QuitsOf p q safe u → EntersAt (Quit safe) p q u
 quits_enter p q safe u (quitting.Done list, some, (x, y, t, d)) = (x, y, t, QuitDone, entries_of _ y d.2)
 quits_enter p q safe u (quitting.AlreadyQuit place, some, (x, y, t, d)) = (x, y, t, AlreadyQuit place, entries_of _ y d.1)
 quits_enter p q safe u (quitting.NotAllowed, some, (x, y, t, d)) = (x, y, t, NotAllowed, entries_of _ y d.1)
 quits_enter p q safe u (quitting.NoMemory, some, by) = absurd (some refl)
 
-last_same : (es : List Entry) (e f : Entry) → es ++ e ∷ [] ≡ es ++ f ∷ [] → e ≡ f
+pub last_same : (es : List Entry) (e f : Entry) → es ++ e ∷ [] ≡ es ++ f ∷ [] → e ≡ f
 last_same es e f same =
     sym (get_or-append_seam es e [] e) ∙ (ap (λ (l : List Entry). get_or l (length es) e) same ∙ get_or-append_seam es f [] e)
 
-of_either : (m : Mode) (time u at : ℕ) → ((at ≡ u) ⊎ (at ≡ time)) → IsMoment m u → IsMoment m at ⊎ (at ≡ time)
+pub of_either : (m : Mode) (time u at : ℕ) → ((at ≡ u) ⊎ (at ≡ time)) → IsMoment m u → IsMoment m at ⊎ (at ≡ time)
 of_either m time u at (inl is) moment = inl (subst (IsMoment m) (sym is) moment)
 of_either m time u at (inr is) moment = inr is
 
 module _ (m : Mode) (call : ℕ → Call) (p q : Sender) (u : ℕ) (mode : IsInMode m p) where
-  clocked_at : ((time at : ℕ) → (IsMoment m at ⊎ (at ≡ time)) → IsOfClock m time (call at)) → IfFree m (IsMoment m u) → EntersAt call p q u → IsByClock m p → IsByClock m q
+  pub clocked_at : ((time at : ℕ) → (IsMoment m at ⊎ (at ≡ time)) → IsOfClock m time (call at)) → IfFree m (IsMoment m u) → EntersAt call p q u → IsByClock m p → IsByClock m q
   clocked_at of_clock moment (x, y, t, r, left) by = clocked_turn m p q x y (call (moment_at x u)) r t left (λ free. (
       let at = its_moment m p q x y u t mode free in
       of_clock (clock (empty_base 0) x.entries) (moment_at x u) (of_either m (clock (empty_base 0) x.entries) u (moment_at x u) at.0 (MatchBool-at_false (Unit {0}) (IsMoment m u) free moment)))) by
 
-  no_earlier_at : (time : ℕ) → ((at : ℕ) → (m.lockstep ≡ false → time ≤ at) → IsNoEarlier m time (call at)) → IfFree m (time ≤ u) → EntersAt call p q u
+  pub no_earlier_at : (time : ℕ) → ((at : ℕ) → (m.lockstep ≡ false → time ≤ at) → IsNoEarlier m time (call at)) → IfFree m (time ≤ u) → EntersAt call p q u
       → (e : Entry) → own q ≡ own p ++ e ∷ [] → IsNoEarlier m time e.call
   no_earlier_at time early late (x, y, t, r, left) e made =
       let mine = entry_of x p.sender (call (moment_at x u)) r in
@@ -190,7 +190,7 @@ by_handler h (request.RemoveMessages what) = refl
 by_handler h (request.RemoveCallbacks id) = refl
 by_handler h request.RemoveAll = refl
 
-made_moment : (p q : Sender) (c : Call) (tokens : List ℕ) (made : Makes p q c tokens) → has_moment c ≡ false → has_moment made.entry.call ≡ false
+pub made_moment : (p q : Sender) (c : Call) (tokens : List ℕ) (made : Makes p q c tokens) → has_moment c ≡ false → has_moment made.entry.call ≡ false
 made_moment p q c tokens made none = sym (plain_moment made.entry.call) ∙ (ap has_moment made.makes ∙ none)
 
 -- the sender made these entries more, none of which has a moment

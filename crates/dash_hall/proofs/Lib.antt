@@ -9,3 +9,4 @@ pub mod Sending
 pub mod Hearing
 pub mod FramePosts
 pub mod Clocking
+pub mod HostClock
