@@ -21,6 +21,7 @@ use Rattle.dash_hall.proofs.Badges.{alike_length, queue_count, poster_at}
 use Rattle.dash_stage.proofs.HallEnds.{some_of}
 use Rattle.dash_stage.proofs.Carried.{numbered_count}
 use Rattle.dash_loopers.proofs.LooperTold.{taken_own}
+use Rattle.run_model.specs.Moments.{in_lockstep}
 
 -- what holds at each place holds of each looper
 pub each_looper : (P : QueueRecord → Journal → FrameRecord → Type 0) (qs : List QueueRecord) (js : List Journal) (fs : List FrameRecord) → length js ≡ length qs → length fs ≡ length qs
@@ -34,7 +35,7 @@ each_looper P (q ∷ qs) (j ∷ js) [] a b at = absurd (omega (arith, b))
 
 module _ (s : Script) (hall : Hall) (h : IsHall s hall) (kits : List Kit) (are : AreKitsOf s hall kits) where
   -- each journal tells what its looper took from its queue
-  pub dispatches_of_records : (queues : List QueueRecord) (js : List Journal) → AreQueueRecords s queues → HaveAll kits queues → AreJournals s js → HaveTold s js kits
+  pub dispatches_of_records : (queues : List QueueRecord) (js : List Journal) → AreQueueRecords in_lockstep s queues → HaveAll kits queues → AreJournals s js → HaveTold s js kits
       → (k : ℕ) (q : QueueRecord) (j : Journal) → k < length queues
       → filter_map act_dispatch (slice_index_or js k j).acts ≡ filter_map (λ e. call_dispatch e.call e.reply) (entries_by (looper_sender s k) (history_of (slice_index_or queues k q)))
   dispatches_of_records queues js recs all are_js told k q j lt =

@@ -75,3 +75,6 @@ returns-clause-unseen c =
     let some : 0 < length c.loopers.new.kits.items = omega (arith, count) in
     let unused = subst IsUnusedKit (sym c.remove.ensures.value) (c.in_ok-loopers.ensures.unused 0 c.remove.result some) in
     unused.posters
+
+pub returns-clause-unused : goal.returns-clause-unused
+returns-clause-unused c = record { threads = c.in_ok-threads.ensures.unseen; loopers = c.in_ok-loopers.ensures.unseen; controller = returns-clause-unseen c }

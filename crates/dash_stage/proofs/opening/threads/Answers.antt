@@ -2,7 +2,6 @@ use Rattle.std.proofs.Common.{◌<◌, length, sym, subst, arith}
 use Rattle.dash_hall.specs.declared.kit.Kit.{Kit}
 use Rattle.dash_threads.specs.declared.thread.PostingThread.{PostingThread}
 use Rattle.dash_hall.specs.Kits.{IsKitOf, AreUnseen, IsUnusedKit}
-use Rattle.run_model.specs.Moments.{in_lockstep}
 use Rattle.dash_stage.specs.Sharing.{OfThreads}
 use Rattle.dash_stage.proofs.Casting.{thread_of, first_kit, first_more}
 use Rattle.dash_stage.proofs.Carried.{thread_made}
@@ -21,7 +20,7 @@ loop-number-preserved c =
     let unused = subst IsUnusedKit (sym c.remove.ensures.value) (at.invariant.1 0 kit some) in
     let made = thread_made s hall at.number at.kits.items c.remove.new.self.items at.threads.items c.push.new.self.items c.new.result at.invariant.0 at.invariant.1 some c.remove.ensures.items at.invariant.2 at.invariant.3 at.invariant.4
     (thread_of s hall at.number kit c.new.result is c.loop-number-test.true c.new.ensures.number c.new.ensures.kit) c.new.ensures.number
-    (c.new.ensures.begun in_lockstep s unused) c.in_ok-push.ensures.items in (
+    (λ m. c.new.ensures.begun m s unused) c.in_ok-push.ensures.items in (
       made.0,
       made.1,
       made.2,
