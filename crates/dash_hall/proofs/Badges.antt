@@ -1,5 +1,5 @@
 -- What an equation of badges says of the poster, or the pass, at one place.
-use Rattle.std.proofs.Common.{◌≡◌, ◌<◌, ℕ, List, map, length, sym, ap, ◌∙◌, subst, arith}
+use Rattle.std.proofs.Common.{◌≡◌, ◌<◌, ℕ, Bool, List, map, length, sym, ap, ◌∙◌, subst, arith}
 use Rattle.std.specs.Prelude.{slice_index_or, slice_set}
 use Rattle.std.proofs.lemmas.List.{get_or-map, length-map}
 use Rattle.std.proofs.lemmas.List.FromFn.{get_or-map-range_with_len, length-range_with_len}
@@ -58,13 +58,13 @@ pub frame_turn_badge : (before after : Pass) (x y : Kept) → IsFrameTurn before
 frame_turn_badge before after x y t = λ i. record { table = t.table i; constants = t.constants i; number = t.number i }
 
 -- there is a queue for each looper, with the looper's constants
-pub queue_count : (s : Script) (pool : TableId) (qs : List (Shared TableId)) → AreQueuesOf s pool qs → length qs ≡ s.loopers
-queue_count s pool qs h = alike_length queue_key (queue_constants s pool) qs _ h ∙ length-range_with_len 0 s.loopers
+pub queue_count : (lockstep : Bool) (s : Script) (pool : TableId) (qs : List (Shared TableId)) → AreQueuesOf lockstep s pool qs → length qs ≡ s.loopers
+queue_count lockstep s pool qs h = alike_length queue_key (queue_constants lockstep s pool) qs _ h ∙ length-range_with_len 0 s.loopers
 
-pub queue_at : (s : Script) (pool : TableId) (qs : List (Shared TableId)) → AreQueuesOf s pool qs → (i : ℕ) (q : Shared TableId) → i < s.loopers → (slice_index_or qs i q).constants ≡ queue_constants s pool i
-queue_at s pool qs h i q lt =
-    sym (get_or-map queue_key qs i q (queue_key q) (subst (λ n. i < n) (sym (queue_count s pool qs h)) lt)) ∙ ap (λ l. slice_index_or l i (queue_key q)) h
-    ∙ get_or-map-range_with_len (queue_constants s pool) 0 s.loopers i i (queue_key q) lt (omega arith)
+pub queue_at : (lockstep : Bool) (s : Script) (pool : TableId) (qs : List (Shared TableId)) → AreQueuesOf lockstep s pool qs → (i : ℕ) (q : Shared TableId) → i < s.loopers → (slice_index_or qs i q).constants ≡ queue_constants lockstep s pool i
+queue_at lockstep s pool qs h i q lt =
+    sym (get_or-map queue_key qs i q (queue_key q) (subst (λ n. i < n) (sym (queue_count lockstep s pool qs h)) lt)) ∙ ap (λ l. slice_index_or l i (queue_key q)) h
+    ∙ get_or-map-range_with_len (queue_constants lockstep s pool) 0 s.loopers i i (queue_key q) lt (omega arith)
 
 pub choreographer_count : (s : Script) (cs : List Frames) → AreChoreographersOf s cs → length cs ≡ s.loopers
 choreographer_count s cs h = alike_length frame_key (frame_constants s) cs _ h ∙ length-range_with_len 0 s.loopers
@@ -88,5 +88,5 @@ pass_is k cs ps h i p c lt is_p is_c =
     subst (λ (z : Pass). IsFrameOf z c) (sym is_p) (subst (λ (z : Frames). IsFrameOf (slice_index_or ps i p) z) (sym is_c) (pass_at k cs ps h i p c lt))
 
 -- a queue that was read at a place
-pub queue_is : (s : Script) (pool : TableId) (qs : List (Shared TableId)) → AreQueuesOf s pool qs → (i : ℕ) (q : Shared TableId) → i < s.loopers → q ≡ slice_index_or qs i q → q.constants ≡ queue_constants s pool i
-queue_is s pool qs h i q lt is_q = ap (λ (z : Shared TableId). z.constants) is_q ∙ queue_at s pool qs h i q lt
+pub queue_is : (lockstep : Bool) (s : Script) (pool : TableId) (qs : List (Shared TableId)) → AreQueuesOf lockstep s pool qs → (i : ℕ) (q : Shared TableId) → i < s.loopers → q ≡ slice_index_or qs i q → q.constants ≡ queue_constants lockstep s pool i
+queue_is lockstep s pool qs h i q lt is_q = ap (λ (z : Shared TableId). z.constants) is_q ∙ queue_at lockstep s pool qs h i q lt

@@ -8,3 +8,5 @@ pub mod HallSteps
 pub mod Sending
 pub mod Hearing
 pub mod FramePosts
+pub mod Clocking
+pub mod HostClock

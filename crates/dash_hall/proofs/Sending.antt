@@ -24,17 +24,21 @@ use Rattle.handler_post.specs.Forms.{message_by}
 use Rattle.handler_post.specs.Ways.{IsReady, IsSameWay}
 use Rattle.handler_post.specs.Sends.{Sending, Sends}
 use Rattle.dash_hall.specs.Growth.{own, GoesOn}
+use Rattle.dash_hall.specs.ByClock.{AddsAt}
 use Rattle.dash_hall.specs.Hosts.{Origin, IsHost, is_sending, told_by, sends_by}
 use Rattle.dash_hall.proofs.Growing.{goes_on_then, turn_makes, makes_none, own_of_one}
 use Rattle.dash_hall.proofs.Calling.{sends, same_home}
+use Rattle.dash_hall.proofs.HostClock.{adds_then, sent_adds, in_mode_then}
 
--- a host whose poster and pass went on is one still
-pub hosted : (o : Origin) (p q : Sender) (a b : Tally) → IsHost o p a → GoesOn p q a b → IsHost o q b
-hosted o p q a b h g = record {
+-- a host whose poster and pass went on is one still, where what the poster called was at the host's moment
+pub hosted : (o : Origin) (p q : Sender) (a b : Tally) → IsHost o p a → GoesOn p q a b → AddsAt o.now p q → IsHost o q b
+hosted o p q a b h g adds = record {
   of_queue = (g.table ∙ h.of_queue.0, g.constants ∙ h.of_queue.1);
   of_pool = g.home ∙ h.of_pool;
   home = h.home;
   on = goes_on_then o.poster p q o.pass a b h.on g;
+  clocked = λ m free mode moment.
+      adds_then m o.poster p q h.on.sender (h.clocked m free mode moment) (adds m free (in_mode_then m o.poster p h.on.constants mode) moment);
 }
 
 -- the answer of a host to such a sending
@@ -68,7 +72,8 @@ pub sends_on : (o : Origin) (h : Handler) (v w : Way) (what arg when : ℕ) (r :
     → IsHost o w.poster.now w.pass.now × (sends_by h.id w.poster.now ≡ sends_by h.id v.poster.now ++ sent_by what arg when (answer_by r))
 sends_on o h v w what arg when r is ready ready' same sent =
     let m = record (message_by h what arg None when) { asynchronous = true } in
-    let mine : is_sending h.id m ≡ true = ap (λ (b : Bool). b && true && true && true) (eq-eqb h.id h.id refl) in (
-      hosted o v.poster.now w.poster.now v.pass.now w.pass.now is (sends v.pool.now m v.poster.now w.poster.now v.pass.now w.pass.now r (same_home v w ready ready' same) sent).0,
+    let mine : is_sending h.id m ≡ true = ap (λ (b : Bool). b && true && true && true) (eq-eqb h.id h.id refl) in
+    let done = sends v.pool.now m v.poster.now w.poster.now v.pass.now w.pass.now r (same_home v w ready ready' same) sent in (
+      hosted o v.poster.now w.poster.now v.pass.now w.pass.now is done.0 (sent_adds o.now v.poster.now w.poster.now v.pass.now w.pass.now m r done.0 done.1),
       told h.id v.pool.now m v.poster.now w.poster.now v.pass.now w.pass.now r mine sent,
     )

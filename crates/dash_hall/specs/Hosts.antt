@@ -20,6 +20,7 @@ use Rattle.run_model.specs.Planned.{frame_due}
 use Rattle.run_model.specs.FrameRuns.{nanos_of}
 use Rattle.run_model.specs.FrameAsks.{FrameAsk, Posts, asks_in}
 use Rattle.dash_hall.specs.Growth.{own, GoesOn, Makes}
+use Rattle.dash_hall.specs.ByClock.{AddsAt}
 
 -- what a host keeps through all its calls: its queue and pool, its poster and its pass by their references, what these were when it was made, and its handler's number and moment
 pub record Origin : Type 0 where
@@ -32,12 +33,13 @@ pub record Origin : Type 0 where
   pub handler : ℕ
   pub now : ℕ
 
--- the poster is one of the queue, the pass is one of the pool, the queue's messages are the pool's, and both have gone on since the host was made
+-- the poster is one of the queue, the pass is one of the pool, the queue's messages are the pool's, and both have gone on since the host was made; what the poster has called since, it called at the host's moment
 pub record IsHost (o : Origin) (poster : Sender) (pass : Tally) : Type 0 where
   pub of_queue : IsOf poster o.queue
   pub of_pool : pass.home ≡ o.pool
   pub home : o.queue.constants.home ≡ o.pool
   pub on : GoesOn o.poster poster o.pass pass
+  pub clocked : AddsAt o.now o.poster poster
 
 -- a message that the handler sends for a choreographer: asynchronous, with no object and no callback
 abbrev pub is_sending : ℕ → PostData → Bool

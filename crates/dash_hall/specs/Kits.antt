@@ -1,5 +1,5 @@
 -- What the senders of a run share, and what each of them needs.
-use Rattle.std.specs.Prelude.{◌≡◌, ◌==◌, ◌+◌, ◌-◌, ◌<◌, nat_lt, ℕ, true, List, [], ◌∷◌, map, length, Option, Some, None, slice_get, slice_index_or, if◌then◌else◌}
+use Rattle.std.specs.Prelude.{◌≡◌, ◌==◌, ◌+◌, ◌-◌, ◌<◌, nat_lt, ℕ, Bool, true, List, [], ◌∷◌, map, length, Option, Some, None, slice_get, slice_index_or, if◌then◌else◌}
 use Rattle.std.specs.List.{range_with_len}
 use Rattle.atomic_table.specs.Seated.{TableId}
 use Rattle.loop_model.specs.Base.{empty_base}
@@ -47,10 +47,10 @@ frame_badge_for number c = record { table = c.table; constants = Some c.constant
 abbrev pub ArePassesOf : ℕ → List Frames → List Pass → Type 0
 ArePassesOf number choreographers passes = map frame_badge_of passes ≡ map (frame_badge_for number) choreographers
 
--- what stays the same in a looper's queue: in lockstep, main for looper 0 alone, its messages of this pool
-abbrev pub queue_constants : Script → TableId → ℕ → Constants TableId
-queue_constants s pool looper =
-    record { home = pool; looper = looper; setting = record { main = looper == 0; lockstep = true; senders = sender_count s } }
+-- what stays the same in a looper's queue: in lockstep or not, main for looper 0 alone, its messages of this pool
+abbrev pub queue_constants : Bool → Script → TableId → ℕ → Constants TableId
+queue_constants lockstep s pool looper =
+    record { home = pool; looper = looper; setting = record { main = looper == 0; lockstep = lockstep; senders = sender_count s } }
 
 -- what stays the same in a looper's choreographer: it has the phases of the script's edition, and each thread has a pass, the looper two and the controller one
 abbrev pub frame_constants : Script → ℕ → FrameConstants
@@ -63,8 +63,8 @@ abbrev pub frame_key : Frames → FrameConstants
 frame_key c = c.constants
 
 -- each looper has its queue, in order
-abbrev pub AreQueuesOf : Script → TableId → List (Shared TableId) → Type 0
-AreQueuesOf s pool queues = map queue_key queues ≡ map (queue_constants s pool) (range_with_len 0 s.loopers)
+abbrev pub AreQueuesOf : Bool → Script → TableId → List (Shared TableId) → Type 0
+AreQueuesOf lockstep s pool queues = map queue_key queues ≡ map (queue_constants lockstep s pool) (range_with_len 0 s.loopers)
 
 -- each looper has its choreographer, in order
 abbrev pub AreChoreographersOf : Script → List Frames → Type 0
@@ -72,7 +72,7 @@ AreChoreographersOf s cs = map frame_key cs ≡ map (frame_constants s) (range_w
 
 -- the queues, choreographers and sources of the script's loopers, with one pool
 pub record IsHall (s : Script) (hall : Hall) : Type 0 where
-  pub queues : AreQueuesOf s hall.pool hall.queues.items
+  pub queues : AreQueuesOf hall.lockstep s hall.pool hall.queues.items
   pub choreographers : AreChoreographersOf s hall.choreographers.items
   pub sources : length hall.sources.items ≡ s.loopers
 

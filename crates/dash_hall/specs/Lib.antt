@@ -4,3 +4,4 @@ pub mod Kits
 pub mod Dealing
 pub mod Hosts
 pub mod Hearing
+pub mod ByClock

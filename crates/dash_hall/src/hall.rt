@@ -20,6 +20,8 @@ use std::sync::Mutex;
 /// run is given up.
 #[derive(Drop)]
 pub struct Hall {
+    /// Whether the controller moves the queues' time on. Else they go by a clock.
+    pub lockstep: bool,
     /// The pool that all messages come from.
     pub pool: Pool,
     /// The queue of each looper.
@@ -34,10 +36,16 @@ pub struct Hall {
 
 /// The queues and choreographers of a script's loopers, and what each sender needs to work with them, by sender number:
 /// the threads, the loopers, and last the controller. Also a pass of the pool for its end. The script has fewer than 100 threads and
-/// loopers together, and a period above 0. NoMemory where it found none. Lockstep is this project's profile.
-pub fn open(alloc: Global, script: &Script) -> Result<(Hall, Vec<Kit>, PoolPass), NoMemory>
+/// loopers together, and a period above 0. The queues are in lockstep or in free mode. NoMemory where it found none. Lockstep is this
+/// project's profile.
+pub fn open(
+    alloc: Global,
+    script: &Script,
+    lockstep: bool,
+) -> Result<(Hall, Vec<Kit>, PoolPass), NoMemory>
     requires { (script.now.threads + script.now.loopers < 100) × (0 < script.now.period) }
     ensures hall { IfOk result (λ r. IsHall script.now r.0) }
+    ensures mode { IfOk result (λ r. r.0.lockstep ≡ lockstep) }
     ensures kits { IfOk result (λ r. AreKitsOf script.now r.0 r.1.items) }
     ensures new { IfOk result (λ r. AreUsedNowhere r.1.items) }
     ensures pass { IfOk result (λ r. r.2.home ≡ r.0.pool) }
@@ -45,10 +53,11 @@ pub fn open(alloc: Global, script: &Script) -> Result<(Hall, Vec<Kit>, PoolPass)
     let (pool, mut pass) = Pool::new(alloc)?;
     let senders = script.threads + script.loopers + 1;
     let mut kits = kits(alloc, &pool, &mut pass, senders)?;
-    let queues = queues(alloc, script, &pool, &mut kits)?;
+    let queues = queues(alloc, script, lockstep, &pool, &mut kits)?;
     let choreographers = choreographers(alloc, script, &mut kits)?;
     let sources = sources(alloc, script.loopers)?;
     let hall = Hall {
+        lockstep,
         pool,
         queues,
         choreographers,
@@ -75,17 +84,18 @@ fn kits(alloc: Global, pool: &Pool, pass: &mut PoolPass, senders: u32) -> Result
 fn queues(
     alloc: Global,
     script: &Script,
+    lockstep: bool,
     pool: &Pool,
     kits: &mut Vec<Kit>,
 ) -> Result<Vec<SharedQueue<PoolClaim>>, NoMemory>
     requires fits { script.now.threads + script.now.loopers < 100 }
     requires kits { length kits.old.items ≡ sender_count script.now }
-    ensures queues { IfOk result (λ v. AreQueuesOf script.now pool.now v.items) }
+    ensures queues { IfOk result (λ v. AreQueuesOf lockstep script.now pool.now v.items) }
     ensures dealt { IfOk result (λ v. EachGets (λ k. map (badge_for k) v.items) nothing kits.old.items kits.new.items) }
 {
     let mut queues = Vec::new(alloc);
     for looper in 0..script.loopers {
-        let queue = queue(alloc, script, pool, looper, kits)?;
+        let queue = queue(alloc, script, lockstep, pool, looper, kits)?;
         queues.push(queue)?;
     }
     Ok(queues)
@@ -95,13 +105,14 @@ fn queues(
 fn queue(
     alloc: Global,
     script: &Script,
+    lockstep: bool,
     pool: &Pool,
     looper: u32,
     kits: &mut Vec<Kit>,
 ) -> Result<SharedQueue<PoolClaim>, NoMemory>
     requires fits { script.now.threads + script.now.loopers < 100 }
     requires kits { length kits.old.items ≡ sender_count script.now }
-    ensures constants { IfOk result (λ q. q.constants ≡ queue_constants script.now pool.now looper) }
+    ensures constants { IfOk result (λ q. q.constants ≡ queue_constants lockstep script.now pool.now looper) }
     ensures dealt { IfOk result (λ q. EachGets (λ k. badge_for k q ∷ []) nothing kits.old.items kits.new.items) }
 {
     let senders = script.threads + script.loopers + 1;
@@ -110,7 +121,7 @@ fn queue(
         pool.home(),
         looper,
         looper == 0,
-        true,
+        lockstep,
         senders,
     )?;
     deal_posters(kits, posters)?;

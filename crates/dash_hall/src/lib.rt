@@ -10,6 +10,7 @@ mod handlers;
 mod host;
 mod kit;
 mod stop;
+mod timer;
 
 pub use barriers::{quit, recycle_all};
 pub use calls::{QueueCall, perform_by};
@@ -18,3 +19,4 @@ pub use handlers::{Request, frame_handler, gauge_handler, handler_of, looper_of,
 pub use host::Host;
 pub use kit::Kit;
 pub use stop::{Look, Stop};
+pub use timer::Timer;

@@ -2,12 +2,15 @@
 ghost use Rattle.std.specs.Prelude.{◌≡◌, Bool};
 
 use std::marker::Model;
-use std::sync::{Mutex, Wait};
+use std::sync::{Condvar, Mutex, Wait};
+use std::time::{Clock, Duration};
 
-/// Whether a run is given up. Once it is, it stays so. The flag stands behind a lock, so contracts see what a look found and not the flag.
+/// Whether a run is given up, and who waits while it isn't. Once it is, it stays so. The flag stands behind a lock, so contracts see what a
+/// look found and not the flag.
 #[derive(Drop)]
 pub struct Stop {
     stopped: Mutex<bool>,
+    woken: Condvar,
 }
 
 impl Stop {
@@ -15,12 +18,26 @@ impl Stop {
     pub fn new() -> Stop {
         Stop {
             stopped: Mutex::new(false),
+            woken: Condvar::new(),
         }
     }
 
-    /// Gives the run up.
+    /// Gives the run up, which ends all waits.
     pub fn stop<R: Wait>(&self, rt: &R) {
-        *self.stopped.lock(rt) = true;
+        let mut stopped = self.stopped.lock(rt);
+        *stopped = true;
+        drop(stopped);
+        self.woken.notify_all();
+    }
+
+    /// Waits while the run goes on, at most so many milliseconds. It may end for no reason.
+    pub(crate) fn wait<R: Wait + Clock>(&self, rt: &R, millis: u64) {
+        let stopped = self.stopped.lock(rt);
+        if *stopped {
+            return;
+        }
+        self.woken
+            .wait_timeout(rt, stopped, Duration::from_millis(millis));
     }
 
     /// A look at the flag.

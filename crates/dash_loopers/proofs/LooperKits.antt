@@ -29,7 +29,7 @@ use Rattle.dash_hall.specs.declared.hall.Hall.{Hall}
 use Rattle.dash_hall.specs.declared.kit.Kit.{Kit}
 use Rattle.dash_loopers.specs.declared.player.Parts.{Parts}
 use Rattle.dash_loopers.specs.declared.looper.StageLooper.{StageLooper}
-use Rattle.dash_hall.specs.Kits.{Badge, badge_of, badge_for, frame_badge_of, frame_badge_for, frames_for, IsHall, IsKitOf, IsUnusedKit}
+use Rattle.dash_hall.specs.Kits.{Badge, badge_of, badge_for, frame_badge_of, frame_badge_for, frames_for, IsHall, IsKitOf, IsUnusedKit, queue_constants}
 use Rattle.dash_loopers.specs.Loopers.{ArePartsOf, IsPlaceOf, IsLooperOf, IsLooper, DisposesLast, setting_for, is_given_up}
 use Rattle.dash_loopers.specs.Players.{Owner, ServesAt}
 use Rattle.dash_loopers.proofs.LooperLists.{map-remove, map-insert, insert_removed, at_same}
@@ -142,18 +142,18 @@ looper_then s hall now began l q o parts parts' after last is_hall is e at origi
     }
 
 -- the round that was run, by the setting of the looper's queue
-pub ran_on : (s : Script) (hall : Hall) (now : ℕ) (l : StageLooper) (q : Shared TableId) (after : Looping) (last : Round) → IsHall s hall → IsLooper s hall l → slice_get hall.queues.items l.number ≡ Some q
+pub ran_on : (s : Script) (hall : Hall) (mode : hall.lockstep ≡ true) (now : ℕ) (l : StageLooper) (q : Shared TableId) (after : Looping) (last : Round) → IsHall s hall → IsLooper s hall l → slice_get hall.queues.items l.number ≡ Some q
     → RoundBy q.constants.setting now l.looper.held after.held last → RoundBy (setting_for s l.number) now l.looper.held after.held last
-ran_on s hall now l q after last is_hall is at round =
-    subst (λ (c : Constants TableId). RoundBy c.setting now l.looper.held after.held last) (queue_is s hall l.number (looper_of s hall l is_hall is) l.number q at) round
+ran_on s hall mode now l q after last is_hall is at round =
+    subst (λ (c : Constants TableId). RoundBy c.setting now l.looper.held after.held last) (queue_is s hall l.number (looper_of s hall l is_hall is) l.number q at ∙ ap (λ b. queue_constants b s hall.pool l.number) mode) round
 
 -- unless it ended or gave up, it has come to wait for the first message that no barrier holds back, and none is due
-pub comes_to_wait : (s : Script) (hall : Hall) (now : ℕ) (l : StageLooper) (q : Shared TableId) (after : Looping) (last : Round) → IsHall s hall → IsLooper s hall l → slice_get hall.queues.items l.number ≡ Some q
+pub comes_to_wait : (s : Script) (hall : Hall) (mode : hall.lockstep ≡ true) (now : ℕ) (l : StageLooper) (q : Shared TableId) (after : Looping) (last : Round) → IsHall s hall → IsLooper s hall l → slice_get hall.queues.items l.number ≡ Some q
     → IsSameLooper l.looper.held after.held → RoundBy q.constants.setting now l.looper.held after.held last → is_ended last ≡ false → is_given_up last ≡ false
     → WaitsBy (setting_for s l.number) now last l.looper.held.poster.view.seen after.held.poster.view.seen
-comes_to_wait s hall now l q after last is_hall is at same round e g =
+comes_to_wait s hall mode now l q after last is_hall is at same round e g =
     subst (λ (c : Constants TableId). WaitsBy c.setting now last l.looper.held.poster.view.seen after.held.poster.view.seen)
-    (queue_is s hall l.number (looper_of s hall l is_hall is) l.number q at)
+    (queue_is s hall l.number (looper_of s hall l is_hall is) l.number q at ∙ ap (λ b. queue_constants b s hall.pool l.number) mode)
     (waits_by_round q.constants.setting now l.looper.held after.held last q.constants (same.constants ∙ (is.place.queue q at).1) round e g)
 
 -- its posters are those of its kit

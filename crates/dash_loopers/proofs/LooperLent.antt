@@ -19,6 +19,7 @@ use Rattle.looper_run.proofs.Working.{behind}
 use Rattle.dash_hall.specs.declared.hall.Hall.{Hall}
 use Rattle.dash_hall.specs.Growth.{GoesOn}
 use Rattle.dash_hall.proofs.Growing.{stays}
+use Rattle.dash_hall.proofs.HostClock.{begins_by_clock}
 use Rattle.dash_hall.specs.Hosts.{Origin, IsHost}
 use Rattle.dash_loopers.specs.Loopers.{IsPlaceOf, IsLooperOf}
 use Rattle.dash_loopers.proofs.LooperPlaces.{queue_home}
@@ -87,6 +88,7 @@ host_begins s hall n q p a t u b c handler now l at place e f = record {
   of_pool = place.pool;
   home = queue_home s hall n l n q at;
   on = subst (λ (x : Sender). GoesOn x p u t) (sym e) (subst (λ (x : Tally). GoesOn p p x t) (sym f) (goes_nowhere p t));
+  clocked = begins_by_clock now a p e;
 }
 
 -- how a host leaves what it was made with

@@ -29,15 +29,15 @@ of_badge k p q e = (ap (λ (b : Badge). b.table) e, ap (λ (b : Badge). b.consta
 
 module _ (s : Script) (hall : Hall) (n : ℕ) (l : IsLooperOf s hall n) where
   pub queue_count : length hall.queues.items ≡ s.loopers
-  queue_count = queues_counted s hall.pool hall.queues.items l.is_hall.queues
+  queue_count = queues_counted hall.lockstep s hall.pool hall.queues.items l.is_hall.queues
 
   pub frames_count : length hall.choreographers.items ≡ s.loopers
   frames_count = choreographer_count s hall.choreographers.items l.is_hall.choreographers
 
-  pub queue_is : (i : ℕ) (q : Shared TableId) → slice_get hall.queues.items i ≡ Some q → q.constants ≡ queue_constants s hall.pool i
+  pub queue_is : (i : ℕ) (q : Shared TableId) → slice_get hall.queues.items i ≡ Some q → q.constants ≡ queue_constants hall.lockstep s hall.pool i
   queue_is i q at =
       let lt : i < s.loopers = omega (arith, slice_get_within hall.queues.items i q at, queue_count) in
-      queue_read s hall.pool hall.queues.items l.is_hall.queues i q lt (sym (get_or_from_slice_get hall.queues.items i q q at))
+      queue_read hall.lockstep s hall.pool hall.queues.items l.is_hall.queues i q lt (sym (get_or_from_slice_get hall.queues.items i q q at))
 
   pub queue_home : (i : ℕ) (q : Shared TableId) → slice_get hall.queues.items i ≡ Some q → q.constants.home ≡ hall.pool
   queue_home i q at = ap (λ c. c.home) (queue_is i q at)

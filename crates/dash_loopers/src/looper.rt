@@ -122,6 +122,7 @@ impl StageLooper {
         gate: &G,
         now: u64,
     )
+        requires mode { hall.now.lockstep ≡ true }
         requires hall { IsHall script.now hall.now }
         requires looper { IsLooper script.now hall.now self.old }
         ensures looper { IsLooper script.now hall.now self.new }

@@ -6,6 +6,7 @@ use Rattle.dash_script.specs.declared.script.Block.{Block}
 use Rattle.dash_script.specs.declared.script.Script.{Script}
 use Rattle.run_model.specs.Planned.{Timed, lines_in, lines_of}
 use Rattle.dash_threads.specs.declared.thread.PostingThread.{PostingThread}
+use Rattle.run_model.specs.Moments.{in_lockstep}
 use Rattle.dash_threads.specs.Threads.{IsUpTo}
 use Rattle.dash_stage.specs.Stages.{HaveRun, RunOn}
 
@@ -29,7 +30,7 @@ run_one_more s past rest b whole ts ts' numbers long on run = λ k d below.
     let lt = subst (λ n. k < n) long below in
     let t = slice_index_or ts k d in
     let t' = slice_index_or ts' k d in
-    let goes : (p r : List Timed) → p ++ (lines_in k b ++ r) ≡ lines_of k s.blocks → IsUpTo s p t → IsUpTo s (p ++ lines_in k b) t' =
-    subst (λ m. (p r : List Timed) → p ++ (lines_in m b ++ r) ≡ lines_of m s.blocks → IsUpTo s p t → IsUpTo s (p ++ lines_in m b) t') (numbers k d lt) (on k d lt) in
-    subst (λ (l : List Timed). IsUpTo s l t') (lines_more k past b)
+    let goes : (p r : List Timed) → p ++ (lines_in k b ++ r) ≡ lines_of k s.blocks → IsUpTo in_lockstep s p t → IsUpTo in_lockstep s (p ++ lines_in k b) t' =
+    subst (λ m. (p r : List Timed) → p ++ (lines_in m b ++ r) ≡ lines_of m s.blocks → IsUpTo in_lockstep s p t → IsUpTo in_lockstep s (p ++ lines_in m b) t') (numbers k d lt) (on k d lt) in
+    subst (λ (l : List Timed). IsUpTo in_lockstep s l t') (lines_more k past b)
     (goes (lines_of k past) (lines_of k rest) (sym (flat_map-append (lines_in k) past (b ∷ rest)) ∙ ap (lines_of k) whole) (run k d lt))

@@ -19,7 +19,7 @@ use Rattle.dash_stage.specs.declared.control.Controller.{Controller}
 use Rattle.dash_hall.specs.Kits.{badge_of, badge_for, frame_badge_of, frame_badge_for, frames_for, looper_frames, ArePostersOf, IsHall, IsKitOf, AreKitsOf, IsUnusedKit}
 use Rattle.dash_threads.specs.Threads.{IsThread}
 use Rattle.dash_loopers.specs.Loopers.{IsLooper}
-use Rattle.dash_stage.specs.Controllers.{IsController, handed_out, parts_in}
+use Rattle.dash_stage.specs.Controllers.{handed_out, parts_in, IsControllerIn}
 use Rattle.dash_stage.specs.Stages.{AreKitsFrom, AreThreadsFrom, AreLoopersFrom, AreFirstKits, AreFirstLoopers, AreLoopers, AreSenderKits}
 use Rattle.dash_hall.proofs.Badges.{alike_length, queue_count}
 use Rattle.dash_stage.proofs.HallEnds.{numbers_more}
@@ -70,18 +70,19 @@ module _ (s : Script) (hall : Hall) where
       }
 
   -- the controller with the last kit
-  pub controller_of : (kit : Kit) (lists : Vec (Vec Segment)) → IsHall s hall → IsKitOf s hall (controller s) kit → IsUnusedKit kit → parts_in lists.items ≡ replicate s.loopers [] → IsController s hall (record { kit = kit; sealed = lists })
-  controller_of kit lists h is unused none = record {
+  pub controller_of : {lockstep : Bool} → hall.lockstep ≡ lockstep → (kit : Kit) (lists : Vec (Vec Segment)) → IsHall s hall → IsKitOf s hall (controller s) kit → IsUnusedKit kit → parts_in lists.items ≡ replicate s.loopers [] → IsControllerIn lockstep s hall (record { kit = kit; sealed = lists })
+  controller_of mode kit lists h is unused none = record {
     posters = is.posters;
+    mode = mode;
     frames = is.frames ∙ frames_of_controller s hall.choreographers.items;
     pass = is.pass;
     idle = unused.own;
     sealed = nothing_handed kit.posters.items unused.sealed
-        ∙ (ap (λ n. replicate n []) (alike_length badge_of (badge_for (controller s)) kit.posters.items hall.queues.items is.posters ∙ queue_count s hall.pool hall.queues.items h.queues)
+        ∙ (ap (λ n. replicate n []) (alike_length badge_of (badge_for (controller s)) kit.posters.items hall.queues.items is.posters ∙ queue_count hall.lockstep s hall.pool hall.queues.items h.queues)
         ∙ sym none);
   }
 
-  pub kit_of_controller : (c : Controller) → IsController s hall c → IsKitOf s hall (controller s) c.kit
+  pub kit_of_controller : {lockstep : Bool} (c : Controller) → IsControllerIn lockstep s hall c → IsKitOf s hall (controller s) c.kit
   kit_of_controller c is = record { posters = is.posters; frames = is.frames ∙ sym (frames_of_controller s hall.choreographers.items); pass = is.pass }
 
   -- the first of the kits that are left, and the others
@@ -162,7 +163,7 @@ module _ (s : Script) (hall : Hall) where
       )
 
   -- with the controller's kit all kits are there
-  pub all_kits : (kits kits' : List Kit) (c : Controller) → AreSenderKits s hall kits → IsController s hall c → kits' ≡ kits ++ c.kit ∷ [] → AreKitsOf s hall kits'
+  pub all_kits : {lockstep : Bool} (kits kits' : List Kit) (c : Controller) → AreSenderKits s hall kits → IsControllerIn lockstep s hall c → kits' ≡ kits ++ c.kit ∷ [] → AreKitsOf s hall kits'
   all_kits kits kits' c are is grown =
       let count = are.0 in
       let more : length kits' ≡ length kits + 1 = ap length grown ∙ length-append kits (c.kit ∷ []) in record {

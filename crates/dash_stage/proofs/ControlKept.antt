@@ -1,5 +1,5 @@
 -- What the controller has called stays true while it calls nothing, and its stages follow one another.
-use Rattle.std.proofs.Common.{◌≡◌, ◌<◌, ◌≤◌, ◌+◌, ℕ, true, false, List, length, sym, ◌∙◌, subst, ap, arith}
+use Rattle.std.proofs.Common.{◌≡◌, ◌<◌, ◌≤◌, ◌+◌, ℕ, true, false, List, length, sym, ◌∙◌, subst, ap, arith, Bool, []}
 use mathlib.Core.Logic.{dite}
 use native.Mathlib.Decide.{dec_lt}
 use Rattle.loop_model.specs.declared.entry.Entry.{Entry}
@@ -7,7 +7,7 @@ use Rattle.dash_script.specs.declared.script.Script.{Script}
 use Rattle.looper_run.specs.Holding.{Sender}
 use Rattle.run_model.specs.Control.{are_controls}
 use Rattle.dash_stage.specs.declared.control.Controller.{Controller}
-use Rattle.dash_stage.specs.Controllers.{are_advances, time_in, calls_on, OnlyMoves, MovesAndQuits, IsMoving, HasReached, IsQuitting, IsClosing, CallsNone, HasClosed}
+use Rattle.dash_stage.specs.Controllers.{are_advances, time_in, calls_on, OnlyMoves, MovesAndQuits, IsMoving, HasReached, IsQuitting, IsClosing, CallsNone, HasClosedIn, CallsNothingOn, IsClosingBy}
 use Rattle.dash_stage.specs.Timeliness.{AreBy}
 use Rattle.dash_stage.proofs.Controls.{advances_may_quit}
 
@@ -39,8 +39,12 @@ module _ (s : Script) (c c' : Controller) (none : CallsNone c c') where
   moves_kept : (q : ℕ) → OnlyMoves s c q → OnlyMoves s c' q
   moves_kept q = calls_kept c c' none.long q (none.calls q) (λ l. are_advances s.end l ≡ true)
 
-  quits_kept : (q : ℕ) → MovesAndQuits s c q → MovesAndQuits s c' q
-  quits_kept q = calls_kept c c' none.long q (none.calls q) (λ l. are_controls false true s.end true l ≡ true)
+  quits_kept : (lockstep : Bool) (q : ℕ) → MovesAndQuits lockstep s c q → MovesAndQuits lockstep s c' q
+  quits_kept lockstep q = calls_kept c c' none.long q (none.calls q) (λ l. are_controls false lockstep s.end true l ≡ true)
+
+  -- it has called nothing there, as before
+  pub nothing_kept : (q : ℕ) → CallsNothingOn c q → CallsNothingOn c' q
+  nothing_kept q = calls_kept c c' none.long q (none.calls q) (λ l. l ≡ [])
 
   -- it moves the queues' time on, as before
   pub moving_kept : IsMoving s c → IsMoving s c'
@@ -55,7 +59,7 @@ module _ (s : Script) (c c' : Controller) (none : CallsNone c c') where
   quitting_kept n k = record {
     main = moves_kept 0 k.main;
     reached = reached_kept s.end k.reached;
-    done = λ q some lt. quits_kept q (k.done q some lt);
+    done = λ q some lt. quits_kept true q (k.done q some lt);
     rest = λ q le. moves_kept q (k.rest q le);
   }
 
@@ -64,19 +68,23 @@ module _ (s : Script) (c c' : Controller) (none : CallsNone c c') where
   closing_kept k = record {
     main = moves_kept 0 k.main;
     reached = reached_kept s.end k.reached;
-    others = λ q some. quits_kept q (k.others q some);
+    others = λ q some. quits_kept true q (k.others q some);
   }
 
+  -- the same by a clock
+  pub closing_by_kept : IsClosingBy s c → IsClosingBy s c'
+  closing_by_kept k = record { main = nothing_kept 0 k.main; others = λ q some. quits_kept false q (k.others q some) }
+
   -- and main was halted, and the others may have been quit
-  pub closed_kept : HasClosed s c → HasClosed s c'
-  closed_kept k = record {
-    main = calls_kept c c' none.long 0 (none.calls 0) (λ l. are_controls true true s.end false l ≡ true) k.main;
-    others = λ q some. quits_kept q (k.others q some);
+  pub closed_kept : {lockstep : Bool} → HasClosedIn lockstep s c → HasClosedIn lockstep s c'
+  closed_kept {lockstep} k = record {
+    main = calls_kept c c' none.long 0 (none.calls 0) (λ l. are_controls true lockstep s.end false l ≡ true) k.main;
+    others = λ q some. quits_kept lockstep q (k.others q some);
   }
 
 module _ (s : Script) (c : Controller) where
   -- where only the time was moved on, the queue may also have been quit
-  pub moves_may_quit : (q : ℕ) → OnlyMoves s c q → MovesAndQuits s c q
+  pub moves_may_quit : (q : ℕ) → OnlyMoves s c q → MovesAndQuits true s c q
   moves_may_quit q moves d lt = advances_may_quit s.end (calls_on c q d) (moves d lt)
 
   -- none has been quit as the time of main comes to the end

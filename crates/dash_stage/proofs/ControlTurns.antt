@@ -36,7 +36,7 @@ use Rattle.dash_hall.specs.declared.hall.Hall.{Hall}
 use Rattle.dash_stage.specs.declared.control.Controller.{Controller}
 use Rattle.dash_hall.specs.Growth.{own}
 use Rattle.dash_hall.specs.Kits.{IsHall, queue_constants}
-use Rattle.dash_stage.specs.Controllers.{IsController, are_advances, time_in, calls_on, OnlyMoves, HasReached, IsQuitting, IsClosing, HasClosed, CallsNone}
+use Rattle.dash_stage.specs.Controllers.{IsController, are_advances, time_in, calls_on, OnlyMoves, HasReached, IsQuitting, IsClosing, HasClosed, CallsNone, IsControllerIn}
 use Rattle.dash_stage.specs.Timeliness.{AreBy, whole_on}
 use Rattle.dash_stage.specs.Playing.{IsStuck}
 use Rattle.dash_hall.proofs.Badges.{queue_is}
@@ -148,42 +148,28 @@ module _ {parts : List Segment} (p p' : Sender) (x y : State) (t : IsTurnWith pa
   made_one c r left = turn_makes p p' x y (entry_of x p.sender c r ∷ []) t left (own_of_one p.sender (entry_of x p.sender c r) refl)
 
 -- a turn of the controller's poster on the queue of a looper
-module _ {parts : List Segment} (s : Script) (hall : Hall) (h : IsHall s hall) (i : ℕ) (lt : i < s.loopers) (c : Controller) (k : IsController s hall c) (p p' : Sender) (q : Shared TableId)
+module _ {goes : Bool} {parts : List Segment} (s : Script) (hall : Hall) (h : IsHall s hall) (i : ℕ) (lt : i < s.loopers) (c : Controller) (k : IsControllerIn goes s hall c) (p p' : Sender) (q : Shared TableId)
     (is_p : p ≡ slice_index_or c.kit.posters.items i p) (is_q : q ≡ slice_index_or hall.queues.items i q) (x y : State) (t : IsTurnWith parts p p' x y) where
-  mine : IsOf p q × (p.sender ≡ controller s)
+  pub mine : IsOf p q × (p.sender ≡ controller s)
   mine = own_poster s hall h i lt c k p q is_p is_q
 
   state : IsStateOf q.constants x
   state = (t.own q.constants mine.0.1).0
 
-  setting : x.setting ≡ (queue_constants s hall.pool i).setting
-  setting = state.setting ∙ ap (λ (z : Constants TableId). z.setting) (queue_is s hall.pool hall.queues.items h.queues i q lt is_q)
+  pub setting : x.setting ≡ (queue_constants hall.lockstep s hall.pool i).setting
+  setting = state.setting ∙ ap (λ (z : Constants TableId). z.setting) (queue_is hall.lockstep s hall.pool hall.queues.items h.queues i q lt is_q)
 
-  last : p.sender + 1 ≡ x.setting.senders
+  pub last : p.sender + 1 ≡ x.setting.senders
   last = ap (λ (n : ℕ). n + 1) mine.1 ∙ sym (ap (λ (z : Setting). z.senders) setting)
 
-  lockstep : x.setting.lockstep ≡ true
-  lockstep = ap (λ (z : Setting). z.lockstep) setting
-
-  start : x.start ≡ empty_base x.setting.senders
+  pub start : x.start ≡ empty_base x.setting.senders
   start = state.start ∙ ap (λ (z : Setting). empty_base z.senders) (sym state.setting)
 
-  legal : IsLegal x.setting (empty_base x.setting.senders) x.entries
+  pub legal : IsLegal x.setting (empty_base x.setting.senders) x.entries
   legal = let sound = t.sound.0.legal in subst (λ b. IsLegal x.setting b x.entries) start sound
 
-  numbered : AreNumbered x.setting (empty_base x.setting.senders) x.entries
+  pub numbered : AreNumbered x.setting (empty_base x.setting.senders) x.entries
   numbered = let sound = t.sound.0.numbered in subst (λ b. AreNumbered x.setting b x.entries) start sound
-
-  -- the time of the queue is the one to which the controller moved it
-  time_found : time_of x ≡ time_in (own p)
-  time_found =
-      ap (λ (b : Base). clock b x.entries) start
-      ∙ (time_by_controller x.setting p.sender last lockstep x.entries legal numbered
-      ∙ ap time_in (found_own p p' x y t))
-
-  -- and the moment of a call is that time
-  moment_found : (now : ℕ) → moment_at x now ≡ time_in (own p)
-  moment_found now = ap (λ (b : Bool). cond b (time_of x) (max now (time_of x))) lockstep ∙ time_found
 
   -- main is not over before it is halted
   main_lives : i ≡ 0 → are_advances s.end (own p) ≡ true → is_over x.start x.entries ≡ false
@@ -192,11 +178,11 @@ module _ {parts : List Segment} (s : Script) (hall : Hall) (h : IsHall s hall) (
       ap (λ (b : Base). is_over b x.entries) start
       ∙ main_is_not_over x.setting p.sender last main s.end x.entries legal numbered (ap (are_advances s.end) (found_own p p' x y t) ∙ moves)
 
-  within : i < length c.kit.posters.items
+  pub within : i < length c.kit.posters.items
   within = has_poster s hall h i lt c k
 
   -- before, the time was only moved on, and not past this one
-  moves_before : (time : ℕ) → ((d : Sender) → i < length c.kit.posters.items → are_advances time (calls_on c i d) ≡ true) → are_advances time (own p) ≡ true
+  pub moves_before : (time : ℕ) → ((d : Sender) → i < length c.kit.posters.items → are_advances time (calls_on c i d) ≡ true) → are_advances time (own p) ≡ true
   moves_before time moves = subst (λ (l : List Entry). are_advances time l ≡ true) (called_by c i p within is_p p) (moves p within)
 
   -- main is not over, as long as its time was only moved on
@@ -210,14 +196,6 @@ module _ {parts : List Segment} (s : Script) (hall : Hall) (h : IsHall s hall) (
     -- the turn left the state as it was, so nothing was called
     pub turned_none : y ≡ x → CallsNone c (with_poster c i p' pass)
     turned_none same = calls_none c i p p' pass within is_p (made_none p p' x y t same)
-
-    -- the time of the queue is the one to which the controller has moved it
-    pub turned_time : y ≡ x → (d : Sender) → time_of x ≡ time_in (calls_on (with_poster c i p' pass) i d)
-    turned_time same d = time_found ∙ ap time_in (sym (called_here c i p p' pass within is_p d ∙ made_none p p' x y t same))
-
-    -- and the time had come to this one before
-    pub turned_late : (now : ℕ) → y ≡ x → now ≤ time_of x → (d : Sender) → now ≤ time_in (calls_on (with_poster c i p' pass) i d)
-    turned_late now same le d = subst (λ (n : ℕ). now ≤ n) (turned_time same d) le
 
     -- the queue was found over, and is so still
     pub still_over : y ≡ x → is_over x.start x.entries ≡ true → (d : Sender) → is_over (empty_base (sender_count s)) (whole_on (with_poster c i p' pass) i d) ≡ true
@@ -259,13 +237,39 @@ module _ {parts : List Segment} (s : Script) (hall : Hall) (h : IsHall s hall) (
     pub turned_kept : (now time : ℕ) → y ≡ entered x p.sender (Advance now) Advanced → HasReached time c → HasReached time (with_poster c i p' pass)
     turned_kept now time is = let grown = time_after now is in still_reached c i p p' pass within is_p time (omega (arith, grown))
 
+-- the same in lockstep
+module _ {parts : List Segment} (s : Script) (hall : Hall) (h : IsHall s hall) (i : ℕ) (lt : i < s.loopers) (c : Controller) (k : IsController s hall c) (p p' : Sender) (q : Shared TableId)
+    (is_p : p ≡ slice_index_or c.kit.posters.items i p) (is_q : q ≡ slice_index_or hall.queues.items i q) (x y : State) (t : IsTurnWith parts p p' x y) where
+  lockstep : x.setting.lockstep ≡ true
+  lockstep = ap (λ (z : Setting). z.lockstep) (setting s hall h i lt c k p p' q is_p is_q x y t) ∙ k.mode
+
+  -- the time of the queue is the one to which the controller moved it
+  time_found : time_of x ≡ time_in (own p)
+  time_found =
+      ap (λ (b : Base). clock b x.entries) (start s hall h i lt c k p p' q is_p is_q x y t)
+      ∙ (time_by_controller x.setting p.sender (last s hall h i lt c k p p' q is_p is_q x y t) lockstep x.entries (legal s hall h i lt c k p p' q is_p is_q x y t) (numbered s hall h i lt c k p p' q is_p is_q x y t)
+      ∙ ap time_in (found_own p p' x y t))
+
+  -- and the moment of a call is that time
+  moment_found : (now : ℕ) → moment_at x now ≡ time_in (own p)
+  moment_found now = ap (λ (b : Bool). cond b (time_of x) (max now (time_of x))) lockstep ∙ time_found
+
+  module _ (pass : Tally) where
+    -- the time of the queue is the one to which the controller has moved it
+    pub turned_time : y ≡ x → (d : Sender) → time_of x ≡ time_in (calls_on (with_poster c i p' pass) i d)
+    turned_time same d = time_found ∙ ap time_in (sym (called_here c i p p' pass (within s hall h i lt c k p p' q is_p is_q x y t) is_p d ∙ made_none p p' x y t same))
+
+    -- and the time had come to this one before
+    pub turned_late : (now : ℕ) → y ≡ x → now ≤ time_of x → (d : Sender) → now ≤ time_in (calls_on (with_poster c i p' pass) i d)
+    turned_late now same le d = subst (λ (n : ℕ). now ≤ n) (turned_time same d) le
+
     -- the turn asked to quit the queue safely, which is not main's, and whose time had come to the end
     turned_asked : (r : Reply) → 0 < i → y.entries ≡ x.entries ++ entry_of x p.sender (Quit true (moment_at x s.end)) r ∷ [] → ((d : Sender) → s.end ≤ time_in (calls_on c i d)) → IsQuitting s i c
         → IsQuitting s (i + 1) (with_poster c i p' pass)
     turned_asked r above left late quitting =
-        quits_one c i p p' pass within is_p s above
+        quits_one c i p p' pass (within s hall h i lt c k p p' q is_p is_q x y t) is_p s above
         (subst (λ (l : List Entry). are_controls false true s.end true l ≡ true) (sym (made_one p p' x y t (Quit true (moment_at x s.end)) r left))
-        (quits_at_end s.end (own p) _ (moves_before s.end (quitting.rest i (omega arith))) (subst (λ (l : List Entry). s.end ≤ time_in l) (called_by c i p within is_p p) (late p)) (ap (Quit true) (moment_found s.end))))
+        (quits_at_end s.end (own p) _ (moves_before s hall h i lt c k p p' q is_p is_q x y t s.end (quitting.rest i (omega arith))) (subst (λ (l : List Entry). s.end ≤ time_in l) (called_by c i p (within s hall h i lt c k p p' q is_p is_q x y t) is_p p) (late p)) (ap (Quit true) (moment_found s.end))))
         quitting
 
     -- whatever the answer
@@ -279,7 +283,7 @@ module _ {parts : List Segment} (s : Script) (hall : Hall) (h : IsHall s hall) (
     -- the turn halted main, whose time had come to the end
     pub turned_closed : i ≡ 0 → y ≡ entered x p.sender (Halt (moment_at x s.end)) Halted → IsClosing s c → HasClosed s (with_poster c i p' pass)
     turned_closed first is closing =
-        closes c i p p' pass within is_p s (sym first)
+        closes c i p p' pass (within s hall h i lt c k p p' q is_p is_q x y t) is_p s (sym first)
         (subst (λ (l : List Entry). are_controls true true s.end false l ≡ true) (sym (made_one p p' x y t (Halt (moment_at x s.end)) Halted (ap (λ (z : State). z.entries) is)))
-        (halts_at_end s.end (own p) _ (moves_before s.end (subst (OnlyMoves s c) (sym first) closing.main)) (reached_on c i p within is_p s.end (sym first) closing.reached) (ap Halt (moment_found s.end)) refl))
+        (halts_at_end s.end (own p) _ (moves_before s hall h i lt c k p p' q is_p is_q x y t s.end (subst (OnlyMoves s c) (sym first) closing.main)) (reached_on c i p (within s hall h i lt c k p p' q is_p is_q x y t) is_p s.end (sym first) closing.reached) (ap Halt (moment_found s.end)) refl))
         closing

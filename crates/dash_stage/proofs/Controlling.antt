@@ -1,5 +1,5 @@
 -- The controller's posters and passes, and what its calls leave of them.
-use Rattle.std.proofs.Common.{◌≡◌, ◌<◌, ◌+◌, ℕ, [], ◌++◌, length, drop, set, get_or, append-nil, sym, ap, ◌∙◌, subst, arith, true}
+use Rattle.std.proofs.Common.{◌≡◌, ◌<◌, ◌+◌, ℕ, [], ◌++◌, length, drop, set, get_or, append-nil, sym, ap, ◌∙◌, subst, arith, Bool}
 use Rattle.std.proofs.Math.Seq.{map-set_same}
 use Rattle.std.proofs.lemmas.List.{get_or-set_same, get_or-set_other, length-set}
 use mathlib.Core.Logic.{dite}
@@ -20,22 +20,22 @@ use Rattle.run_model.specs.Senders.{controller}
 use Rattle.dash_hall.specs.declared.hall.Hall.{Hall}
 use Rattle.dash_stage.specs.declared.control.Controller.{Controller}
 use Rattle.dash_hall.specs.Kits.{badge_of, badge_for, frame_badge_of, frame_badge_for, IsHall}
-use Rattle.dash_stage.specs.Controllers.{IsController, handed_out, parts_in}
+use Rattle.dash_stage.specs.Controllers.{IsControllerIn, handed_out, parts_in}
 use Rattle.dash_hall.proofs.Badges.{alike_length, queue_count, choreographer_count, poster_is, pass_is, queue_is, posters_kept, passes_kept, turn_badge, gone_badge, frame_turn_badge}
 
 -- the controller has a poster for each looper
-pub poster_count : (s : Script) (hall : Hall) (c : Controller) → IsHall s hall → IsController s hall c → length c.kit.posters.items ≡ s.loopers
-poster_count s hall c h k = alike_length badge_of (badge_for (controller s)) c.kit.posters.items hall.queues.items k.posters ∙ queue_count s hall.pool hall.queues.items h.queues
+pub poster_count : {lockstep : Bool} (s : Script) (hall : Hall) (c : Controller) → IsHall s hall → IsControllerIn lockstep s hall c → length c.kit.posters.items ≡ s.loopers
+poster_count s hall c h k = alike_length badge_of (badge_for (controller s)) c.kit.posters.items hall.queues.items k.posters ∙ queue_count hall.lockstep s hall.pool hall.queues.items h.queues
 
 module _ (s : Script) (hall : Hall) (h : IsHall s hall) (i : ℕ) (lt : i < s.loopers) where
   -- each looper has a queue and a choreographer
   pub in_queues : i < vec_len hall.queues
-  in_queues = subst (λ n. i < n) (sym (hall.queues.ok.0 ∙ queue_count s hall.pool hall.queues.items h.queues)) lt
+  in_queues = subst (λ n. i < n) (sym (hall.queues.ok.0 ∙ queue_count hall.lockstep s hall.pool hall.queues.items h.queues)) lt
 
   pub in_choreographers : i < vec_len hall.choreographers
   in_choreographers = subst (λ n. i < n) (sym (hall.choreographers.ok.0 ∙ choreographer_count s hall.choreographers.items h.choreographers)) lt
 
-  module _ (c : Controller) (k : IsController s hall c) where
+  module _ {lockstep : Bool} (c : Controller) (k : IsControllerIn lockstep s hall c) where
     pub has_poster : i < length c.kit.posters.items
     has_poster = subst (λ n. i < n) (sym (poster_count s hall c h k)) lt
 
@@ -60,14 +60,14 @@ module _ (s : Script) (hall : Hall) (h : IsHall s hall) (i : ℕ) (lt : i < s.lo
     -- it is the last sender of a queue in lockstep
     pub is_last : (p : Sender) (q : Shared TableId) → p ≡ slice_index_or c.kit.posters.items i p → q ≡ slice_index_or hall.queues.items i q → p.sender + 1 ≡ q.constants.setting.senders
     is_last p q is_p is_q =
-        ap (λ n. n + 1) (own_poster p q is_p is_q).1 ∙ sym (ap (λ (z : Constants TableId). z.setting.senders) (queue_is s hall.pool hall.queues.items h.queues i q lt is_q))
+        ap (λ n. n + 1) (own_poster p q is_p is_q).1 ∙ sym (ap (λ (z : Constants TableId). z.setting.senders) (queue_is hall.lockstep s hall.pool hall.queues.items h.queues i q lt is_q))
 
-    pub in_step : (q : Shared TableId) → q ≡ slice_index_or hall.queues.items i q → q.constants.setting.lockstep ≡ true
-    in_step q is_q = ap (λ (z : Constants TableId). z.setting.lockstep) (queue_is s hall.pool hall.queues.items h.queues i q lt is_q)
+    pub in_step : (q : Shared TableId) → q ≡ slice_index_or hall.queues.items i q → q.constants.setting.lockstep ≡ lockstep
+    in_step q is_q = ap (λ (z : Constants TableId). z.setting.lockstep) (queue_is hall.lockstep s hall.pool hall.queues.items h.queues i q lt is_q) ∙ k.mode
 
     -- the queue's messages are of the pool
     pub in_pool : (q : Shared TableId) → q ≡ slice_index_or hall.queues.items i q → q.constants.home ≡ hall.pool
-    in_pool q is_q = ap (λ (z : Constants TableId). z.home) (queue_is s hall.pool hall.queues.items h.queues i q lt is_q)
+    in_pool q is_q = ap (λ (z : Constants TableId). z.home) (queue_is hall.lockstep s hall.pool hall.queues.items h.queues i q lt is_q)
 
     -- a poster that handed nothing out keeps the parts that it handed out
     parts_kept : (p p' : Sender) → p ≡ slice_index_or c.kit.posters.items i p → p'.view.sealed ≡ p.view.sealed → handed_out (set c.kit.posters.items i p') ≡ parts_in c.sealed.items
@@ -75,33 +75,36 @@ module _ (s : Script) (hall : Hall) (h : IsHall s hall) (i : ℕ) (lt : i < s.lo
 
     -- a call of one of its posters, with its pass of the pool, leaves it the controller
     pub after_call : (p p' : Sender) (pass' : Tally) → p ≡ slice_index_or c.kit.posters.items i p → GoesOn p p' c.kit.pass pass'
-        → IsController s hall (record { kit = record { posters = with_item c.kit.posters i p'; pass = pass'; frames = c.kit.frames }; sealed = c.sealed })
+        → IsControllerIn lockstep s hall (record { kit = record { posters = with_item c.kit.posters i p'; pass = pass'; frames = c.kit.frames }; sealed = c.sealed })
     after_call p p' pass' is_p on = record {
       posters = posters_kept (controller s) hall.queues.items c.kit.posters.items k.posters i p' p (gone_badge p p' c.kit.pass pass' on ∙ ap badge_of is_p);
       frames = k.frames;
       pass = on.home ∙ k.pass;
+      mode = k.mode;
       idle = k.idle;
       sealed = parts_kept p p' is_p on.sealed;
     }
 
     -- a turn of one of its posters leaves it the controller
     pub after_turn : (p p' : Sender) (x y : State) → p ≡ slice_index_or c.kit.posters.items i p → IsTurn p p' x y
-        → IsController s hall (record { kit = record { posters = with_item c.kit.posters i p'; pass = c.kit.pass; frames = c.kit.frames }; sealed = c.sealed })
+        → IsControllerIn lockstep s hall (record { kit = record { posters = with_item c.kit.posters i p'; pass = c.kit.pass; frames = c.kit.frames }; sealed = c.sealed })
     after_turn p p' x y is_p t = record {
       posters = posters_kept (controller s) hall.queues.items c.kit.posters.items k.posters i p' p (turn_badge p p' x y t ∙ ap badge_of is_p);
       frames = k.frames;
       pass = k.pass;
+      mode = k.mode;
       idle = k.idle;
       sealed = parts_kept p p' is_p t.sealed;
     }
 
     -- and so does a turn of one of its passes that changes nothing
     pub after_frame_turn : (p p' : Pass) (x : Kept) → p ≡ slice_index_or c.kit.frames.items i p → IsFrameTurn p p' x x
-        → IsController s hall (record { kit = record { posters = c.kit.posters; pass = c.kit.pass; frames = with_item c.kit.frames i p' }; sealed = c.sealed })
+        → IsControllerIn lockstep s hall (record { kit = record { posters = c.kit.posters; pass = c.kit.pass; frames = with_item c.kit.frames i p' }; sealed = c.sealed })
     after_frame_turn p p' x is_p t = record {
       posters = k.posters;
       frames = passes_kept (s.threads + 2) hall.choreographers.items c.kit.frames.items k.frames i p' p (frame_turn_badge p p' x x t ∙ ap frame_badge_of is_p);
       pass = k.pass;
+      mode = k.mode;
       sealed = k.sealed;
       idle = λ q d below. dite (ℕ_discrete q i)
           (λ here. ap (λ m. (get_or (set c.kit.frames.items i p') m d).view.own) here ∙ (ap (λ (z : Pass). z.view.own) (get_or-set_same c.kit.frames.items i p' d has_pass) ∙ still))

@@ -34,7 +34,7 @@ use Rattle.loop_model.proofs.WellFormedLaws.{All_recursive, All_indexed}
 use Rattle.dash_script.specs.declared.script.Script.{Script}
 use Rattle.looper_run.specs.Holding.{Sender}
 use Rattle.run_model.specs.Asks.{entries_by}
-use Rattle.run_model.specs.Moments.{in_lockstep}
+use Rattle.run_model.specs.Moments.{Mode}
 use Rattle.run_model.specs.Senders.{controller, sender_count}
 use Rattle.run_model.specs.Run.{IsHistory, IsControlled, all_entries, setting_of}
 use Rattle.run_model.specs.Control.{is_advance, is_halt, is_quit, is_safe_quit, is_empty, is_closing, are_controls, is_quit_by_others, disposed_count, is_controlled}
@@ -45,7 +45,7 @@ use Rattle.dash_hall.specs.declared.kit.Kit.{Kit}
 use Rattle.dash_stage.specs.declared.control.Controller.{Controller}
 use Rattle.dash_hall.specs.Growth.{own}
 use Rattle.dash_hall.specs.Kits.{badge_of, badge_for, ArePostersOf, IsHall, AreKitsOf, OthersAreOver}
-use Rattle.dash_stage.specs.Controllers.{are_advances, time_in, calls_on, HasClosed}
+use Rattle.dash_stage.specs.Controllers.{are_advances, time_in, calls_on, HasClosedIn}
 use Rattle.dash_stage.specs.Records.{AreQueueRecords, HaveAll}
 use Rattle.dash_hall.proofs.Badges.{alike_length, queue_count}
 use Rattle.dash_stage.proofs.HallEnds.{some_of}
@@ -380,59 +380,67 @@ one_or_closed true within last all rest h more =
     ]
 one_or_closed false within last all rest h more = inr (λ q. h)
 
+-- by a clock nothing moves the time
+none_or_closed : (moves a b c last : Bool) → (if moves then false && a && b else last) ≡ true → (if moves then false && a && c else last) ≡ true
+none_or_closed true a b c last h = absurd cc
+none_or_closed false a b c last h = h
+
 -- moves of the time alone, or a last call behind them, so that no quit of another sender is needed
-moves_or_closed : (end : ℕ) (es : List Entry) → are_controls false true end true es ≡ true → (are_advances end es ≡ true) ⊎ ((q : Bool) → are_controls false true end q es ≡ true)
-moves_or_closed end [] h = inl refl
-moves_or_closed end (e ∷ es) h =
-    one_or_closed (is_advance e.call) (nat_le (moment_of e.call) end) (is_empty es && is_closing false true end e) (are_advances end es) (λ q. are_controls false true end q es) h (moves_or_closed end es)
+moves_or_closed : (lockstep : Bool) (end : ℕ) (es : List Entry) → are_controls false lockstep end true es ≡ true → (are_advances end es ≡ true) ⊎ ((q : Bool) → are_controls false lockstep end q es ≡ true)
+moves_or_closed true end [] h = inl refl
+moves_or_closed true end (e ∷ es) h =
+    one_or_closed (is_advance e.call) (nat_le (moment_of e.call) end) (is_empty es && is_closing false true end e) (are_advances end es) (λ q. are_controls false true end q es) h (moves_or_closed true end es)
+moves_or_closed false end [] h = inl refl
+moves_or_closed false end (e ∷ es) h =
+    inr (λ q. none_or_closed (is_advance e.call) (nat_le (moment_of e.call) end) (are_controls false false end true es) (are_controls false false end q es) (is_empty es && is_closing false false end e) h)
 
 -- the controller's entries on a queue that is not main, and was seen over
-pub side_is_controlled : (set : Setting) (n end : ℕ) (seen es : List Entry) → set.main ≡ false → IsLegal set (empty_base set.senders) es
-    → IsPrefix seen es → is_over (empty_base set.senders) seen ≡ true → are_controls false true end true (entries_by n es) ≡ true → is_controlled false true n end es ≡ true
+pub side_is_controlled : (lockstep : Bool) (set : Setting) (n end : ℕ) (seen es : List Entry) → set.main ≡ false → IsLegal set (empty_base set.senders) es
+    → IsPrefix seen es → is_over (empty_base set.senders) seen ≡ true → are_controls false lockstep end true (entries_by n es) ≡ true → is_controlled false lockstep n end es ≡ true
 unfolding is_controlled
-side_is_controlled set n end seen es side legal begins over calls =
+side_is_controlled lockstep set n end seen es side legal begins over calls =
     let base = empty_base set.senders in
     let early = IsLegal-front set base seen begins.0 (subst (IsLegal set base) (sym begins.1) legal) in
     let not_halted = side_is_not_halted set set.senders side seen early in
     let was : has_disposed base seen ≡ true = sym (or-false (has_disposed base seen)) ∙ ap (λ t. has_disposed base seen || t) (sym not_halted) ∙ over in
     let disposed = subst (λ l. has_disposed base l ≡ true) begins.1 (disposed_stays base seen begins.0 was) in
     let once : disposed_count es ≡ 1 = disposed_once set set.senders es legal ∙ ap one_if disposed in
-    let own : are_controls false true end (is_quit_by_others n es) (entries_by n es) ≡ true = elim (moves_or_closed end (entries_by n es) calls) [
-      | inl moves ↦ subst (λ q. are_controls false true end q (entries_by n es) ≡ true) (sym (quit_by_others set set.senders end n es legal moves (disposed_was_quit set set.senders es legal disposed))) calls
+    let own : are_controls false lockstep end (is_quit_by_others n es) (entries_by n es) ≡ true = elim (moves_or_closed lockstep end (entries_by n es) calls) [
+      | inl moves ↦ subst (λ q. are_controls false lockstep end q (entries_by n es) ≡ true) (sym (quit_by_others set set.senders end n es legal moves (disposed_was_quit set set.senders es legal disposed))) calls
       | inr any ↦ any (is_quit_by_others n es)
     ] in
     and_from _ _ own (eq-eqb (disposed_count es) 1 once)
 
 -- whether a queue was quit is nothing to main's halt
-halted_with_quit : (end : ℕ) (quit : Bool) (es : List Entry) → are_controls true true end quit es ≡ are_controls true true end false es
-halted_with_quit end quit [] = refl
-halted_with_quit end quit (e ∷ es) = ap (λ t. if is_advance e.call then nat_le (moment_of e.call) end && t else (is_empty es && is_closing true true end e)) (halted_with_quit end quit es)
+halted_with_quit : (lockstep : Bool) (end : ℕ) (quit : Bool) (es : List Entry) → are_controls true lockstep end quit es ≡ are_controls true lockstep end false es
+halted_with_quit lockstep end quit [] = refl
+halted_with_quit lockstep end quit (e ∷ es) = ap (λ t. if is_advance e.call then lockstep && nat_le (moment_of e.call) end && t else (is_empty es && is_closing true lockstep end e)) (halted_with_quit lockstep end quit es)
 
 -- the controller's entries on main
-pub main_is_controlled : (n end : ℕ) (es : List Entry) → are_controls true true end false (entries_by n es) ≡ true → is_controlled true true n end es ≡ true
+pub main_is_controlled : (lockstep : Bool) (n end : ℕ) (es : List Entry) → are_controls true lockstep end false (entries_by n es) ≡ true → is_controlled true lockstep n end es ≡ true
 unfolding is_controlled
-main_is_controlled n end es calls = and_from _ _ (halted_with_quit end (is_quit_by_others n es) (entries_by n es) ∙ calls) refl
+main_is_controlled lockstep n end es calls = and_from _ _ (halted_with_quit lockstep end (is_quit_by_others n es) (entries_by n es) ∙ calls) refl
 
-module _ (s : Script) (r : QueueRecord) (is : IsHistory in_lockstep all_entries s r) where
+module _ (m : Mode) (s : Script) (r : QueueRecord) (is : IsHistory m all_entries s r) where
   -- the record of main
-  main_record : r.looper ≡ 0 → are_controls true true s.end false (entries_by (controller s) (history_of r)) ≡ true → IsControlled s r
+  main_record : r.looper ≡ 0 → are_controls true m.lockstep s.end false (entries_by (controller s) (history_of r)) ≡ true → IsControlled s r
   main_record first calls =
       subst (λ b. is_controlled b r.lockstep (controller s) s.end (history_of r) ≡ true) (sym (is.main ∙ ap (λ (l : ℕ). l == 0) first))
-      (subst (λ b. is_controlled true b (controller s) s.end (history_of r) ≡ true) (sym is.lockstep) (main_is_controlled (controller s) s.end (history_of r) calls))
+      (subst (λ b. is_controlled true b (controller s) s.end (history_of r) ≡ true) (sym is.lockstep) (main_is_controlled m.lockstep (controller s) s.end (history_of r) calls))
 
   -- the record of another queue, which its looper has seen over
   side_record : 0 < r.looper → (seen : List Entry) → IsPrefix seen (history_of r) → is_over (empty_base (sender_count s)) seen ≡ true
-      → are_controls false true s.end true (entries_by (controller s) (history_of r)) ≡ true → IsControlled s r
+      → are_controls false m.lockstep s.end true (entries_by (controller s) (history_of r)) ≡ true → IsControlled s r
   side_record other seen begins over calls =
       let side : r.main ≡ false = is.main ∙ ne_eqb r.looper 0 (λ e. absurd (omega (arith, other, e))) in
       subst (λ b. is_controlled b r.lockstep (controller s) s.end (history_of r) ≡ true) (sym side)
       (subst (λ b. is_controlled false b (controller s) s.end (history_of r) ≡ true) (sym is.lockstep)
-      (side_is_controlled (setting_of r) (controller s) s.end seen (history_of r) side is.legal begins (subst (λ m. is_over (empty_base m) seen ≡ true) (sym is.senders) over) calls))
+      (side_is_controlled m.lockstep (setting_of r) (controller s) s.end seen (history_of r) side is.legal begins (subst (λ n. is_over (empty_base n) seen ≡ true) (sym is.senders) over) calls))
 
 module _ (s : Script) (hall : Hall) (kits : List Kit) (records : List QueueRecord) (h : IsHall s hall) (are : AreKitsOf s hall kits) (c : Controller) (held : (d : Kit) → slice_index_or kits (controller s) d ≡ c.kit) where
   -- each record has what the controller called on its queue, which is lawful
-  pub controls_of_records : HasClosed s c → OthersAreOver s kits → AreQueueRecords s records → HaveAll kits records → AllByRecursion (IsControlled s) records
-  controls_of_records closed over recs all = All_recursive (IsControlled s) records (λ q r lt. each q r (some_of c.kit.posters.items q (within q lt)) lt)
+  pub controls_of_records : (m : Mode) → HasClosedIn m.lockstep s c → OthersAreOver s kits → AreQueueRecords m s records → HaveAll kits records → AllByRecursion (IsControlled s) records
+  controls_of_records m closed over recs all = All_recursive (IsControlled s) records (λ q r lt. each q r (some_of c.kit.posters.items q (within q lt)) lt)
     where
       few : length records ≡ s.loopers
       few = numbered_count (λ (z : QueueRecord). z.looper) s.loopers records recs.loopers
@@ -440,13 +448,13 @@ module _ (s : Script) (hall : Hall) (kits : List Kit) (records : List QueueRecor
       last : controller s < length kits
       last = let count = are.count in omega (arith, count)
 
-      history : (q : ℕ) (r : QueueRecord) → q < length records → IsHistory in_lockstep all_entries s (slice_index_or records q r) × ((slice_index_or records q r).looper ≡ q)
-      history q r lt = (All_indexed (IsHistory in_lockstep all_entries s) records recs.histories q r lt, numbered_at (λ (z : QueueRecord). z.looper) s.loopers records recs.loopers q r lt)
+      history : (q : ℕ) (r : QueueRecord) → q < length records → IsHistory m all_entries s (slice_index_or records q r) × ((slice_index_or records q r).looper ≡ q)
+      history q r lt = (All_indexed (IsHistory m all_entries s) records recs.histories q r lt, numbered_at (λ (z : QueueRecord). z.looper) s.loopers records recs.loopers q r lt)
 
       within : (q : ℕ) → q < length records → q < length c.kit.posters.items
       within q lt =
           let posters = subst (λ (z : Kit). ArePostersOf (controller s) hall.queues.items z.posters.items) (held c.kit) (are.each (controller s) c.kit last).posters in
-          let long = alike_length badge_of (badge_for (controller s)) c.kit.posters.items hall.queues.items posters ∙ queue_count s hall.pool hall.queues.items h.queues in
+          let long = alike_length badge_of (badge_for (controller s)) c.kit.posters.items hall.queues.items posters ∙ queue_count hall.lockstep s hall.pool hall.queues.items h.queues in
           let short = few in
           omega (arith, lt, long, short)
 
@@ -456,13 +464,13 @@ module _ (s : Script) (hall : Hall) (kits : List Kit) (records : List QueueRecor
       each : (q : ℕ) (r : QueueRecord) (p : Sender) → q < length records → IsControlled s (slice_index_or records q r)
       each zero r p lt =
           let is = history zero r lt in
-          main_record s (slice_index_or records zero r) is.0 is.1 (subst (λ l. are_controls true true s.end false l ≡ true) (sym (calls zero r p lt)) (closed.main p (within zero lt)))
+          main_record m s (slice_index_or records zero r) is.0 is.1 (subst (λ l. are_controls true m.lockstep s.end false l ≡ true) (sym (calls zero r p lt)) (closed.main p (within zero lt)))
       each (suc q) r p lt =
           let is = history (suc q) r lt in
           let number = is.1 in
           let count = are.count in
           let short = few in
           let looper : s.threads + suc q < length kits = omega (arith, lt, count, short) in
-          side_record s (slice_index_or records (suc q) r) is.0 (omega (arith, number)) _ (all (s.threads + suc q) (suc q) c.kit p r looper lt).1
+          side_record m s (slice_index_or records (suc q) r) is.0 (omega (arith, number)) _ (all (s.threads + suc q) (suc q) c.kit p r looper lt).1
           (over (suc q) c.kit (omega arith) (omega (arith, lt, short)) p)
-          (subst (λ l. are_controls false true s.end true l ≡ true) (sym (calls (suc q) r p lt)) (closed.others (suc q) (omega arith) p (within (suc q) lt)))
+          (subst (λ l. are_controls false m.lockstep s.end true l ≡ true) (sym (calls (suc q) r p lt)) (closed.others (suc q) (omega arith) p (within (suc q) lt)))

@@ -21,6 +21,7 @@ use Rattle.dash_hall.proofs.Badges.{alike_length, queue_count, poster_at}
 use Rattle.dash_stage.proofs.HallEnds.{some_of}
 use Rattle.dash_stage.proofs.Carried.{numbered_count}
 use Rattle.dash_loopers.proofs.LooperTold.{taken_own}
+use Rattle.run_model.specs.Moments.{in_lockstep}
 
 -- what holds at each place holds of each looper
 pub each_looper : (P : QueueRecord → Journal → FrameRecord → Type 0) (qs : List QueueRecord) (js : List Journal) (fs : List FrameRecord) → length js ≡ length qs → length fs ≡ length qs
@@ -34,7 +35,7 @@ each_looper P (q ∷ qs) (j ∷ js) [] a b at = absurd (omega (arith, b))
 
 module _ (s : Script) (hall : Hall) (h : IsHall s hall) (kits : List Kit) (are : AreKitsOf s hall kits) where
   -- each journal tells what its looper took from its queue
-  pub dispatches_of_records : (queues : List QueueRecord) (js : List Journal) → AreQueueRecords s queues → HaveAll kits queues → AreJournals s js → HaveTold s js kits
+  pub dispatches_of_records : (queues : List QueueRecord) (js : List Journal) → AreQueueRecords in_lockstep s queues → HaveAll kits queues → AreJournals s js → HaveTold s js kits
       → (k : ℕ) (q : QueueRecord) (j : Journal) → k < length queues
       → filter_map act_dispatch (slice_index_or js k j).acts ≡ filter_map (λ e. call_dispatch e.call e.reply) (entries_by (looper_sender s k) (history_of (slice_index_or queues k q)))
   dispatches_of_records queues js recs all are_js told k q j lt =
@@ -46,11 +47,11 @@ module _ (s : Script) (hall : Hall) (h : IsHall s hall) (kits : List Kit) (are :
       let d = some_of kits n in_kits in
       let kit = slice_index_or kits n d in
       let badges = (are.each n d in_kits).posters in
-      let long = alike_length badge_of (badge_for n) kit.posters.items hall.queues.items badges ∙ queue_count s hall.pool hall.queues.items h.queues in
+      let long = alike_length badge_of (badge_for n) kit.posters.items hall.queues.items badges ∙ queue_count hall.lockstep s hall.pool hall.queues.items h.queues in
       let in_posters : k < length kit.posters.items = omega (arith, lt, few, long) in
       let p = some_of kit.posters.items k in_posters in
       let poster = slice_index_or kit.posters.items k p in
-      let in_queues : k < length hall.queues.items = omega (arith, lt, few, queue_count s hall.pool hall.queues.items h.queues) in
+      let in_queues : k < length hall.queues.items = omega (arith, lt, few, queue_count hall.lockstep s hall.pool hall.queues.items h.queues) in
       let sender = (poster_at n hall.queues.items kit.posters.items badges k p (some_of hall.queues.items k in_queues) in_posters).1 in
       let made : entries_by n (history_of (slice_index_or queues k q)) ≡ own poster = (all n k d p q in_kits lt).0 in
       let in_js : k < length js = omega (arith, lt, few, few_js) in

@@ -1,5 +1,5 @@
 -- What the controller leaves of its posters as it gives a run up.
-use Rattle.std.proofs.Common.{◌≡◌, ◌≢◌, ◌<◌, ◌≤◌, ◌+◌, ℕ, false, List, length, set, sym, ap, ◌∙◌, subst, arith}
+use Rattle.std.proofs.Common.{◌≡◌, ◌≢◌, ◌<◌, ◌≤◌, ◌+◌, ℕ, false, List, length, set, sym, ap, ◌∙◌, subst, arith, Bool}
 use Rattle.std.specs.Prelude.{slice_index_or}
 use Rattle.std.specs.Vec.{with_item}
 use Rattle.std.proofs.lemmas.List.{get_or-set_same, get_or_default}
@@ -16,7 +16,7 @@ use Rattle.dash_hall.specs.Growth.{own, QuitsOf}
 use Rattle.dash_hall.specs.Kits.{badge_of}
 use Rattle.dash_hall.proofs.Badges.{posters_kept}
 use Rattle.dash_stage.specs.declared.control.Controller.{Controller}
-use Rattle.dash_stage.specs.Controllers.{IsController}
+use Rattle.dash_stage.specs.Controllers.{IsControllerIn}
 use Rattle.dash_stage.specs.GivingUp.{AreQuitBelow, IsNudged}
 
 -- a poster at a place, and another one there
@@ -28,12 +28,13 @@ module _ (xs : List Sender) (i : ℕ) (p p' : Sender) (within : i < length xs) (
       (subst (R p) (sym (get_or-set_same xs i p' d within)) h)
 
 -- a poster of the controller that called nothing, and handed nothing out, leaves it the controller
-pub after_bell : (s : Script) (hall : Hall) (i : ℕ) (c : Controller) (p p' : Sender) → IsController s hall c → p ≡ slice_index_or c.kit.posters.items i p → IsSame p p'
-    → IsController s hall (record { kit = record { posters = with_item c.kit.posters i p'; pass = c.kit.pass; frames = c.kit.frames }; sealed = c.sealed })
+pub after_bell : {lockstep : Bool} (s : Script) (hall : Hall) (i : ℕ) (c : Controller) (p p' : Sender) → IsControllerIn lockstep s hall c → p ≡ slice_index_or c.kit.posters.items i p → IsSame p p'
+    → IsControllerIn lockstep s hall (record { kit = record { posters = with_item c.kit.posters i p'; pass = c.kit.pass; frames = c.kit.frames }; sealed = c.sealed })
 after_bell s hall i c p p' k is_p same = record {
   posters = posters_kept (controller s) hall.queues.items c.kit.posters.items k.posters i p' p ((λ j. record { table = same.table j; constants = same.constants j; sender = same.sender j }) ∙ ap badge_of is_p);
   frames = k.frames;
   pass = k.pass;
+  mode = k.mode;
   idle = k.idle;
   sealed = map-set_same (λ (z : Sender). z.view.sealed) c.kit.posters.items i p' p (same.sealed ∙ ap (λ (z : Sender). z.view.sealed) is_p) ∙ k.sealed;
 }

@@ -1,5 +1,5 @@
 -- The queues end, one after another, with the posters of all kits.
-use Rattle.std.proofs.Common.{◌≡◌, ℕ, zero, suc, ◌+◌, ◌<◌, ◌≤◌, List, [], ◌∷◌, ◌++◌, map, length, set, get_or, drop, refl, sym, ap, ◌∙◌, subst, arith, append-nil, length-append}
+use Rattle.std.proofs.Common.{◌≡◌, ℕ, zero, suc, ◌+◌, ◌<◌, ◌≤◌, List, [], ◌∷◌, ◌++◌, map, length, set, get_or, drop, refl, sym, ap, ◌∙◌, subst, arith, append-nil, length-append, Bool, false}
 use Rattle.std.specs.Prelude.{◌==◌}
 use Rattle.std.specs.List.{AllByRecursion}
 use Rattle.std.proofs.Math.ListN.{get_or-append}
@@ -27,16 +27,18 @@ use Rattle.looper_run.specs.Holding.{Sender}
 use Rattle.std.specs.List.{range_with_len}
 use Rattle.run_model.specs.Senders.{sender_count}
 use Rattle.run_model.specs.Asks.{entries_by}
-use Rattle.run_model.specs.Moments.{in_lockstep}
+use Rattle.run_model.specs.Moments.{Mode, AreOfClock, AreOfClockAfter}
 use Rattle.run_model.specs.Run.{IsHistory, all_entries, setting_of}
 use Rattle.run_model.proofs.RunLaws.{entries_by-append}
 use Rattle.dash_hall.specs.declared.kit.Kit.{Kit}
 use Rattle.dash_hall.specs.Growth.{own}
 use Rattle.dash_hall.specs.Kits.{Badge, badge_of, badge_for, AreQueuesOf, queue_key, queue_constants}
 use Rattle.dash_hall.specs.Dealing.{GivesPoster, EachGivesPoster}
-use Rattle.dash_stage.specs.Records.{HasAllOf, HaveAll, AreQueueRecords}
-use Rattle.dash_stage.specs.Ending.{HavePosters, IsNext, AreNext, HaveAllPosters, IsKeptOf, EachEndsPoster, HaveLeft, KeepFrames}
+use Rattle.dash_stage.specs.Records.{HasAllOf, HaveAll, HaveCalledByClock, AreOfLoopers}
+use Rattle.dash_stage.specs.Ending.{HavePosters, IsNext, AreNext, HaveAllPosters, IsKeptOf, EachEndsPoster, HaveLeft, KeepFrames, EndsPoster, HasLeft}
 use Rattle.dash_hall.proofs.HallSteps.{within_parts, at_parts}
+use Rattle.dash_hall.specs.ByClock.{is_by, IsByClock}
+use Rattle.dash_stage.proofs.Clocked.{clocked_of, clocked_all, IsKnownAll, known_all}
 
 -- an element of a list that has one
 pub some_of : {X : Type 0} (xs : List X) (k : ℕ) → k < length xs → X
@@ -125,6 +127,7 @@ ends_posters q before posters after entries next gives calls = record {
       let called = calls k p within in
       record {
         poster = get_or posters k p;
+        whose = order.1;
         posters = g.posters;
         made = (own_entries (get_or posters k p) k entries order.1 called.0 called.1, called.0);
         frames = g.frames;
@@ -141,54 +144,55 @@ numbers_more k (suc n) =
     ap (range_with_len k) one ∙ ap (λ l. k ∷ l) (numbers_more (k + 1) n ∙ ap (λ m. range_with_len (k + 1) n ++ m ∷ []) there)
 
 -- the record that is kept of this looper's queue
-pub kept_history : (s : Script) (pool : TableId) (n : ℕ) (c : Constants TableId) (r : QueueRecord) → c ≡ queue_constants s pool n → IsKeptOf c r → IsHistory in_lockstep all_entries s r × (r.looper ≡ n)
-kept_history s pool n c r is kept =
+pub kept_history : (m : Mode) (s : Script) (pool : TableId) (n : ℕ) (c : Constants TableId) (r : QueueRecord) → c ≡ queue_constants m.lockstep s pool n → IsKeptOf c r → AreOfClock m all_entries (history_of r) → IsHistory m all_entries s r
+kept_history m s pool n c r is kept clocked =
     let looper : r.looper ≡ n = kept.looper ∙ ap (λ (x : Constants TableId). x.looper) is in
-    let setting : setting_of r ≡ (queue_constants s pool n).setting = kept.setting ∙ ap (λ (x : Constants TableId). x.setting) is in (
+    let setting : setting_of r ≡ (queue_constants m.lockstep s pool n).setting = kept.setting ∙ ap (λ (x : Constants TableId). x.setting) is in
       record {
-        main = ap (λ (x : Setting). x.main) setting ∙ ap (λ (m : ℕ). m == 0) (sym looper);
+        main = ap (λ (x : Setting). x.main) setting ∙ ap (λ (k : ℕ). k == 0) (sym looper);
         lockstep = ap (λ (x : Setting). x.lockstep) setting;
         senders = ap (λ (x : Setting). x.senders) setting;
         chain = subst (λ (x : Setting). IsChainFrom (empty_base x.senders) r.segments) (sym kept.setting) kept.chain;
         legal = subst (λ (x : Setting). IsLegal x (empty_base x.senders) (history_of r)) (sym kept.setting) kept.legal;
         numbered = subst (λ (x : Setting). AreNumbered x (empty_base x.senders) (history_of r)) (sym kept.setting) kept.numbered;
-        clocked = tt;
-      },
-      looper,
-    )
+        clocked = clocked;
+      }
 
 -- what is known where some queues have ended
-pub record AreRetired (s : Script) (orig : List Kit) (records : List QueueRecord) (kits : List Kit) : Type 0 where
+pub record AreRetired (orig : List Kit) (records : List QueueRecord) (kits : List Kit) : Type 0 where
   pub loopers : map (λ (q : QueueRecord). q.looper) records ≡ range_with_len 0 (length records)
-  pub histories : AllByRecursion (IsHistory in_lockstep all_entries s) records
   pub all : HaveAll orig records
   pub left : HaveLeft (length records) orig kits
 
-pub retired_none : (s : Script) (kits : List Kit) → AreRetired s kits [] kits
-retired_none s kits = record {
+pub retired_none : (kits : List Kit) → AreRetired kits [] kits
+retired_none kits = record {
   loopers = refl;
-  histories = tt;
   all = λ k q d p r lt none. absurd (omega (arith, none));
   left = record { count = refl; each = λ k d lt. record { posters = refl; frames = refl; pass = refl } };
 }
 
+-- the next queue has its looper's constants
+pub next_constants : (lockstep : Bool) (s : Script) (pool : TableId) (queues yielded rest : List (Shared TableId)) (q : Shared TableId) (n : ℕ)
+    → yielded ++ q ∷ rest ≡ queues → n ≡ length yielded → AreQueuesOf lockstep s pool queues → q.constants ≡ queue_constants lockstep s pool n
+next_constants lockstep s pool queues yielded rest q n parts is keys =
+    let long : length queues ≡ s.loopers = sym (length-map queues queue_key) ∙ (ap length keys ∙ length-map-range_with_len (queue_constants lockstep s pool) 0 s.loopers) in
+    let lt = within_parts yielded rest queues q n parts is in
+    let few : n < s.loopers = omega (arith, lt, long) in
+    ap queue_key (sym (at_parts yielded rest queues q n parts is))
+    ∙ (sym (get_or-map queue_key queues n q q.constants lt)
+    ∙ (ap (λ l. get_or l n q.constants) keys ∙ get_or-map-range_with_len (queue_constants lockstep s pool) 0 s.loopers n n q.constants few (omega arith)))
+
 -- the kits as some queues have ended: what comes next is of the next queue
-pub next_queue : (s : Script) (pool : TableId) (queues yielded rest : List (Shared TableId)) (q : Shared TableId) (n : ℕ) (orig kits : List Kit)
-    → yielded ++ q ∷ rest ≡ queues → n ≡ length yielded → AreQueuesOf s pool queues → length orig ≡ sender_count s → HaveAllPosters queues orig → HaveLeft n orig kits
-    → (q.constants ≡ queue_constants s pool n) × AreNext q kits
-next_queue s pool queues yielded rest q n orig kits parts is keys senders have left = (constants, record { count = count; each = next })
+pub next_queue : (lockstep : Bool) (s : Script) (pool : TableId) (queues yielded rest : List (Shared TableId)) (q : Shared TableId) (n : ℕ) (orig kits : List Kit)
+    → yielded ++ q ∷ rest ≡ queues → n ≡ length yielded → AreQueuesOf lockstep s pool queues → length orig ≡ sender_count s → HaveAllPosters queues orig → HaveLeft n orig kits
+    → (q.constants ≡ queue_constants lockstep s pool n) × AreNext q kits
+next_queue lockstep s pool queues yielded rest q n orig kits parts is keys senders have left = (constants, record { count = count; each = next })
   where
     within : n < length queues
     within = within_parts yielded rest queues q n parts is
 
-    constants : q.constants ≡ queue_constants s pool n
-    constants =
-        let long : length queues ≡ s.loopers = sym (length-map queues queue_key) ∙ (ap length keys ∙ length-map-range_with_len (queue_constants s pool) 0 s.loopers) in
-        let lt = within_parts yielded rest queues q n parts is in
-        let few : n < s.loopers = omega (arith, lt, long) in
-        ap queue_key (sym (at_parts yielded rest queues q n parts is))
-        ∙ (sym (get_or-map queue_key queues n q q.constants lt)
-        ∙ (ap (λ l. get_or l n q.constants) keys ∙ get_or-map-range_with_len (queue_constants s pool) 0 s.loopers n n q.constants few (omega arith)))
+    constants : q.constants ≡ queue_constants lockstep s pool n
+    constants = next_constants lockstep s pool queues yielded rest q n parts is keys
 
     count : length kits ≡ q.constants.setting.senders
     count =
@@ -217,22 +221,25 @@ next_queue s pool queues yielded rest q n orig kits parts is keys senders have l
               ∙ (get_or-map (badge_for k) queues n q (badge_of p) below ∙ ap (badge_for k) (at_parts yielded rest queues q n parts is))));
         }
 
+-- the poster that a kit gave up next is the one at this place of what it had
+next_given : (n : ℕ) (had has left : Kit) (entries : List Entry) (k : ℕ) (e : EndsPoster k entries has left) → HasLeft n had has → (p : Sender) → e.poster ≡ get_or had.posters.items n p
+next_given n had has left entries k e h p =
+    let place : n + 0 ≡ n = omega arith in
+    ap (λ l. get_or l 0 p) (sym e.posters) ∙ (ap (λ l. get_or l 0 p) h.posters ∙ (get_or-drop n had.posters.items 0 p ∙ ap (λ m. get_or had.posters.items m p) place))
+
 -- one queue more has ended
-pub retires_more : (s : Script) (pool : TableId) (c : Constants TableId) (orig kits kits' : List Kit) (records records' : List QueueRecord) (r : QueueRecord)
-    → c ≡ queue_constants s pool (length records) → IsKeptOf c r → EachEndsPoster (history_of r) kits kits' → records' ≡ records ++ r ∷ [] → AreRetired s orig records kits → AreRetired s orig records' kits'
-retires_more s pool c orig kits kits' records records' r is kept ends more before = subst (λ l. AreRetired s orig l kits') (sym more) (record {
-  loopers = map-append (λ (q : QueueRecord). q.looper) records (r ∷ []) ∙ ((λ i. before.loopers i ++ (history.1 ∙ zeroth) i ∷ []) ∙ (sym (numbers_more 0 (length records)) ∙ ap (range_with_len 0) (sym one)));
-  histories = all_push records before.histories;
+pub retires_more : (orig kits kits' : List Kit) (records records' : List QueueRecord) (r : QueueRecord)
+    → r.looper ≡ length records → EachEndsPoster (history_of r) kits kits' → records' ≡ records ++ r ∷ [] → AreRetired orig records kits → AreRetired orig records' kits'
+retires_more orig kits kits' records records' r looper ends more before = subst (λ l. AreRetired orig l kits') (sym more) (record {
+  loopers = map-append (λ (q : QueueRecord). q.looper) records (r ∷ []) ∙ ((λ i. before.loopers i ++ (looper ∙ zeroth) i ∷ []) ∙ (sym (numbers_more 0 (length records)) ∙ ap (range_with_len 0) (sym one)));
   all = λ k q d p x lt below. dite (dec_lt q (length records))
       (λ early. subst (λ (y : QueueRecord). HasAllOf k (get_or (get_or orig k d).posters.items q p) (history_of y)) (sym (get_or-append records (r ∷ []) x q early)) (before.all k q d p x lt early))
       (λ late.
       let long = one in
       let last : q ≡ length records = omega (arith, late, below, long) in
       let e = ends.each k d (inside k lt) in
-      let place : length records + 0 ≡ length records = omega arith in
       let here : r ≡ get_or (records ++ r ∷ []) q x = sym (ap (λ (m : ℕ). get_or (records ++ r ∷ []) m x) last ∙ get_or-append_seam records r [] x) in
-      let gave : e.poster ≡ get_or (get_or orig k d).posters.items q p =
-      ap (λ l. get_or l 0 p) (sym e.posters) ∙ (ap (λ l. get_or l 0 p) (before.left.each k d lt).posters ∙ (get_or-drop (length records) (get_or orig k d).posters.items 0 p ∙ ap (λ m. get_or (get_or orig k d).posters.items m p) (place ∙ sym last))) in
+      let gave : e.poster ≡ get_or (get_or orig k d).posters.items q p = next_given (length records) (get_or orig k d) (get_or kits k d) (get_or kits' k d) (history_of r) k e (before.left.each k d lt) p ∙ ap (λ (m : ℕ). get_or (get_or orig k d).posters.items m p) (sym last) in
       subst (λ (y : QueueRecord). HasAllOf k (get_or (get_or orig k d).posters.items q p) (history_of y)) here (subst (λ (y : Sender). HasAllOf k y (history_of r)) gave e.made));
   left = record {
     count = ends.count ∙ before.left.count;
@@ -247,9 +254,6 @@ retires_more s pool c orig kits kits' records records' r is kept ends more befor
   };
 })
   where
-    history : IsHistory in_lockstep all_entries s r × (r.looper ≡ length records)
-    history = kept_history s pool (length records) c r is kept
-
     zeroth : length records ≡ 0 + length records
     zeroth = omega arith
 
@@ -259,13 +263,40 @@ retires_more s pool c orig kits kits' records records' r is kept ends more befor
     inside : (k : ℕ) → k < length orig → k < length kits
     inside k lt = let same = before.left.count in omega (arith, lt, same)
 
-    all_push : (l : List QueueRecord) → AllByRecursion (IsHistory in_lockstep all_entries s) l → AllByRecursion (IsHistory in_lockstep all_entries s) (l ++ r ∷ [])
-    all_push [] h = (history.0, tt)
-    all_push (x ∷ xs) h = (h.0, all_push xs h.1)
+-- the history of one queue more is one of the mode, where the moments of all senders' calls are
+pub histories_more : (m : Mode) (s : Script) (pool : TableId) (c : Constants TableId) (orig kits kits' : List Kit) (records records' : List QueueRecord) (r : QueueRecord)
+    → c ≡ queue_constants m.lockstep s pool (length records) → IsKeptOf c r → length orig ≡ sender_count s → length records < s.loopers
+    → EachEndsPoster (history_of r) kits kits' → HaveLeft (length records) orig kits → HaveCalledByClock m s orig → records' ≡ records ++ r ∷ []
+    → AllByRecursion (IsHistory m all_entries s) records → AllByRecursion (IsHistory m all_entries s) records'
+histories_more m s pool c orig kits kits' records records' r is kept senders few ends left by more before = subst (AllByRecursion (IsHistory m all_entries s)) (sym more) (push records before)
+  where
+    by_each : (k : ℕ) → k < sender_count s → m.lockstep ≡ false → AreOfClockAfter m (is_by k) [] (history_of r)
+    by_each k lt free =
+        let within : k < length orig = omega (arith, lt, senders) in
+        let d = some_of orig k within in
+        let same = left.count in
+        let e = ends.each k d (omega (arith, within, same)) in
+        let gave = next_given (length records) (get_or orig k d) (get_or kits k d) (get_or kits' k d) (history_of r) k e (left.each k d within) e.poster in
+        clocked_of m k e.poster (history_of r) e.whose e.made free (subst (IsByClock m) (sym gave) (by k (length records) d e.poster within few))
 
-pub retired_all : (s : Script) (orig kits : List Kit) (records : List QueueRecord) → length records ≡ s.loopers → AreRetired s orig records kits → AreQueueRecords s records × HaveAll orig records × KeepFrames orig kits
+    known : IsKnownAll (sender_count s) (history_of r)
+    known = subst (λ (n : ℕ). IsKnownAll n (history_of r)) (ap (λ (x : Constants TableId). x.setting.senders) is) (known_all c.setting (history_of r) kept.numbered)
+
+    history : IsHistory m all_entries s r
+    history = kept_history m s pool (length records) c r is kept (clocked_all m (sender_count s) (history_of r) known by_each)
+
+    push : (l : List QueueRecord) → AllByRecursion (IsHistory m all_entries s) l → AllByRecursion (IsHistory m all_entries s) (l ++ r ∷ [])
+    push [] h = (history, tt)
+    push (x ∷ xs) h = (h.0, push xs h.1)
+
+-- the kept queue is this looper's
+pub kept_looper : (lockstep : Bool) (s : Script) (pool : TableId) (n : ℕ) (c : Constants TableId) (r : QueueRecord) → c ≡ queue_constants lockstep s pool n → IsKeptOf c r → r.looper ≡ n
+kept_looper lockstep s pool n c r is kept = kept.looper ∙ ap (λ (x : Constants TableId). x.looper) is
+
+pub retired_all : (s : Script) (orig kits : List Kit) (records : List QueueRecord) → length records ≡ s.loopers → AreRetired orig records kits
+    → AreOfLoopers s records × HaveAll orig records × KeepFrames orig kits
 retired_all s orig kits records all h = (
-  record { loopers = h.loopers ∙ ap (range_with_len 0) all; histories = h.histories },
+  h.loopers ∙ ap (range_with_len 0) all,
   h.all,
   record { count = h.left.count; each = λ k d lt. record { frames = (h.left.each k d lt).frames; pass = (h.left.each k d lt).pass } },
 )

@@ -12,6 +12,7 @@ pub mod KitsOver
 pub mod ThreadShares
 pub mod LooperShares
 pub mod StageShares
+pub mod Clocked
 pub mod HallEnds
 pub mod HallFrames
 pub mod Casting

@@ -27,6 +27,7 @@ use Rattle.dash_stage.proofs.HallEnds.{some_of}
 use Rattle.dash_stage.proofs.MoveLaws.{main_at}
 use Rattle.dash_stage.proofs.MovesKept.{moves_at, moves_count}
 use Rattle.dash_stage.proofs.TimelyRecords.{is_seen, within, all_sound, known}
+use Rattle.run_model.specs.Moments.{in_lockstep}
 
 -- ---- the start
 
@@ -73,12 +74,12 @@ same_bounds m n up down = dite (dec_lt m n)
     (λ no_more. omega (arith, no_less, no_more)))
 
 module _ (s : Script) (hall : Hall) (kits : List Kit) (records : List QueueRecord) (h : IsHall s hall) (are : AreKitsOf s hall kits) (c : Controller) (held : (d : Kit) → slice_index_or kits (controller s) d ≡ c.kit)
-    (recs : AreQueueRecords s records) (all : HaveAll kits records) (seen : OfKits (HaveSeenAll (seen_by c.kit.posters.items)) kits) where
+    (recs : AreQueueRecords in_lockstep s records) (all : HaveAll kits records) (seen : OfKits (HaveSeenAll (seen_by c.kit.posters.items)) kits) where
   -- the moves in the records are those that all senders have seen
   record_moves : map (λ (r : QueueRecord). moves (controller s) (history_of r)) records ≡ moves_by s c
   record_moves =
-      let in_records : (q : ℕ) → q < length records → q < length c.kit.posters.items = within s hall kits records h are c held recs all seen in
-      let many : length records ≡ length c.kit.posters.items = same_bounds (length records) (length c.kit.posters.items) in_records (known s hall kits records h are c held recs all seen) in
+      let in_records : (q : ℕ) → q < length records → q < length c.kit.posters.items = within in_lockstep s hall kits records h are c held recs all seen in
+      let many : length records ≡ length c.kit.posters.items = same_bounds (length records) (length c.kit.posters.items) in_records (known in_lockstep s hall kits records h are c held recs all seen) in
       same_lists (map (λ (r : QueueRecord). moves (controller s) (history_of r)) records) (moves_by s c)
       (length-map records (λ (r : QueueRecord). moves (controller s) (history_of r)) ∙ many ∙ sym (moves_count s c))
       (λ q e lt'.
@@ -86,7 +87,7 @@ module _ (s : Script) (hall : Hall) (kits : List Kit) (records : List QueueRecor
       let r = some_of records q lt in
       let d = some_of c.kit.posters.items q (in_records q lt) in
       get_or-map (λ (r : QueueRecord). moves (controller s) (history_of r)) records q r e lt
-      ∙ ap (moves (controller s)) (is_seen s hall kits records h are c held recs all seen q d r lt)
+      ∙ ap (moves (controller s)) (is_seen in_lockstep s hall kits records h are c held recs all seen q d r lt)
       ∙ sym (moves_at s c q d e (in_records q lt)))
 
   -- so all queues were moved together

@@ -235,14 +235,14 @@ side_count true k side h = absurd cc
 side_count false k side h = eqb-true k 1 h
 
 module _ (s : Script) (hall : Hall) (kits : List Kit) (queues : List QueueRecord) (h : IsHall s hall) (are : AreKitsOf s hall kits) (c : Controller) (held : (d : Kit) → slice_index_or kits (controller s) d ≡ c.kit)
-    (recs : AreQueueRecords s queues) (all : HaveAll kits queues) (seen : OfKits (HaveSeenAll (seen_by c.kit.posters.items)) kits) (small : s.threads + s.loopers < 100)
+    (recs : AreQueueRecords in_lockstep s queues) (all : HaveAll kits queues) (seen : OfKits (HaveSeenAll (seen_by c.kit.posters.items)) kits) (small : s.threads + s.loopers < 100)
     (js : List Journal) (fs : List FrameRecord) (ls : List StageLooper) (are_js : AreJournals s js) (are_fs : AreFrameRecords s fs) (own_seen : HaveSeenOwn s.threads kits fs) (told : HaveTold s js kits)
     (given : HaveGiven s ls js kits) (going : LoopersGoOn ls) (many : length ls ≡ s.loopers) (places : (k : ℕ) (d : StageLooper) → k < length ls → (slice_index_or ls k d).number ≡ k)
     (played : AreSound s c → (k : ℕ) (d : StageLooper) → k < length ls → IsTimelyLooper s c (slice_index_or ls k d))
     (planned : AllByRecursion (IsAsPlanned in_lockstep s) queues) (controls : AllByRecursion (IsControlled s) queues)
-    (is_controller : IsController s hall c) (run : HaveRunAll s kits) (theirs : AreAllTheirs s kits fs) where
+    (is_controller : IsController s hall c) (run : HaveRunAll in_lockstep s kits) (theirs : AreAllTheirs s kits fs) where
   count : length queues ≡ s.loopers
-  count = few s hall kits queues h are c held recs all seen
+  count = few in_lockstep s hall kits queues h are c held recs all seen
 
   kit_at : ℕ → Kit
   kit_at k = slice_index_or kits (s.threads + k) c.kit
@@ -261,7 +261,7 @@ module _ (s : Script) (hall : Hall) (kits : List Kit) (queues : List QueueRecord
 
   poster_in : (k : ℕ) → k < length queues → k < length (kit_at k).posters.items
   unfolding kit_at
-  poster_in k lt = in_posters s hall kits queues h are c held recs all seen (s.threads + k) k c.kit (in_kits k lt) lt
+  poster_in k lt = in_posters in_lockstep s hall kits queues h are c held recs all seen (s.threads + k) k c.kit (in_kits k lt) lt
 
   stood : (k : ℕ) (lt : k < length queues) → IsTimelyLooper s c (slice_index_or ls k (some_of ls k (in_loopers k lt)))
   stood k lt = played (all_sound s hall kits queues h are c held recs all seen) k (some_of ls k (in_loopers k lt)) (in_loopers k lt)
@@ -290,14 +290,14 @@ module _ (s : Script) (hall : Hall) (kits : List Kit) (queues : List QueueRecord
       let kit = slice_index_or kits (s.threads + k) c.kit in
       let is = are.each (s.threads + k) c.kit (in_kits k lt) in
       let l = some_of ls k (in_loopers k lt) in
-      let long = alike_length badge_of (badge_for (s.threads + k)) kit.posters.items hall.queues.items is.posters ∙ queue_count s hall.pool hall.queues.items h.queues in
+      let long = alike_length badge_of (badge_for (s.threads + k)) kit.posters.items hall.queues.items is.posters ∙ queue_count hall.lockstep s hall.pool hall.queues.items h.queues in
       let short = count in
       let of : IsLooperOf s hall k = record { few = small; one = omega (arith, lt, short); is_hall = h } in
       let two = kit_two s hall k of kit is in
       record {
         left = (given k l j c.kit (in_journals k lt)).left (stood k lt).state (stood k lt).come;
         one = lt;
-        number = number s hall kits queues h are c held recs all seen;
+        number = number in_lockstep s hall kits queues h are c held recs all seen;
         made = λ r x p below. (all (s.threads + k) r c.kit p x (in_kits k lt) below).0;
         posters = omega (arith, short, long);
         poster = some_of kit.posters.items k (poster_in k lt);
@@ -308,14 +308,14 @@ module _ (s : Script) (hall : Hall) (kits : List Kit) (queues : List QueueRecord
         told = λ x. dispatches_of_records s hall h kits are queues js recs all are_js told k x j lt;
         asked = asked k j f (some_of kit.frames.items 0 (omega (arith, two))) lt;
         timely = λ x.
-            let there = within s hall kits queues h are c held recs all seen k lt in
+            let there = within in_lockstep s hall kits queues h are c held recs all seen k lt in
             let d = some_of c.kit.posters.items k there in
-            subst (λ (es : List Entry). are_on_time (timings (sent_on k (stood k lt).state.sent)) (befores_called (looper_sender s k) es) ≡ true) (sym (is_seen s hall kits queues h are c held recs all seen k d x lt))
+            subst (λ (es : List Entry). are_on_time (timings (sent_on k (stood k lt).state.sent)) (befores_called (looper_sender s k) es) ≡ true) (sym (is_seen in_lockstep s hall kits queues h are c held recs all seen k d x lt))
             ((on_time_at k lt).own d there);
         timely_elsewhere = λ r x below apart.
-            let there = within s hall kits queues h are c held recs all seen r below in
+            let there = within in_lockstep s hall kits queues h are c held recs all seen r below in
             let d = some_of c.kit.posters.items r there in
-            subst (λ (es : List Entry). are_on_time (timings (sent_on r (stood k lt).state.sent)) (befores (looper_sender s k) es) ≡ true) (sym (is_seen s hall kits queues h are c held recs all seen r d x below))
+            subst (λ (es : List Entry). are_on_time (timings (sent_on r (stood k lt).state.sent)) (befores (looper_sender s k) es) ≡ true) (sym (is_seen in_lockstep s hall kits queues h are c held recs all seen r d x below))
             ((on_time_at k lt).elsewhere r d apart there);
       }
 
@@ -345,11 +345,11 @@ module _ (s : Script) (hall : Hall) (kits : List Kit) (queues : List QueueRecord
       let l = some_of ls k (in_loopers k lt) in
       let kit = slice_index_or kits n c.kit in
       let badges = (are.each n c.kit (in_kits k lt)).posters in
-      let there = in_posters s hall kits queues h are c held recs all seen n k c.kit (in_kits k lt) lt in
+      let there = in_posters in_lockstep s hall kits queues h are c held recs all seen n k c.kit (in_kits k lt) lt in
       let p = some_of kit.posters.items k there in
       let poster = slice_index_or kit.posters.items k p in
       let short = count in
-      let in_queues : k < length hall.queues.items = omega (arith, lt, short, queue_count s hall.pool hall.queues.items h.queues) in
+      let in_queues : k < length hall.queues.items = omega (arith, lt, short, queue_count hall.lockstep s hall.pool hall.queues.items h.queues) in
       let sender = (poster_at n hall.queues.items kit.posters.items badges k p (some_of hall.queues.items k in_queues) there).1 in
       let made = (all n k c.kit p x (in_kits k lt) lt).0 in
       subst DisposesLast (ap (λ (m : ℕ). entries_by m poster.view.seen) (sym sender) ∙ sym made) ((given k l j c.kit (in_journals k lt)).disposes (going k l (in_loopers k lt)) p)
@@ -358,8 +358,8 @@ module _ (s : Script) (hall : Hall) (kits : List Kit) (queues : List QueueRecord
   looper_run : (k : ℕ) (x : QueueRecord) (j : Journal) (f : FrameRecord) → k < length queues → IsLooperRun in_lockstep s queues (slice_index_or queues k x) (slice_index_or js k j) (slice_index_or fs k f)
   looper_run zero x j f lt =
       let q = slice_index_or queues zero x in
-      let is = history s hall kits queues h are c held recs all seen zero x lt in
-      let main = is.main ∙ eq-eqb q.looper 0 (number s hall kits queues h are c held recs all seen zero x lt) in
+      let is = history in_lockstep s hall kits queues h are c held recs all seen zero x lt in
+      let main = is.main ∙ eq-eqb q.looper 0 (number in_lockstep s hall kits queues h are c held recs all seen zero x lt) in
       main_run s queues zero (slice_index_or js zero j) (slice_index_or fs zero f) (kit_at zero) (stood zero lt).state (known zero j f lt) x refl
       (none_by (looper_sender s zero) (history_of q) (open_history q.senders (history_of q) (main_is_not_disposed (setting_of q) q.senders main (history_of q) is.legal)))
   looper_run (suc k) x j f lt = by_last (own_disposes (suc k) x j lt)
@@ -367,8 +367,8 @@ module _ (s : Script) (hall : Hall) (kits : List Kit) (queues : List QueueRecord
       by_last : DisposesLast (entries_by (looper_sender s (suc k)) (history_of (slice_index_or queues (suc k) x))) → IsLooperRun in_lockstep s queues (slice_index_or queues (suc k) x) (slice_index_or js (suc k) j) (slice_index_or fs (suc k) f)
       by_last (inl none) = (
           let q = slice_index_or queues (suc k) x in
-          let is = history s hall kits queues h are c held recs all seen (suc k) x lt in
-          let side : q.main ≡ false = is.main ∙ ne_eqb q.looper 0 (λ e. absurd (let place = number s hall kits queues h are c held recs all seen (suc k) x lt in omega (arith, e, place))) in
+          let is = history in_lockstep s hall kits queues h are c held recs all seen (suc k) x lt in
+          let side : q.main ≡ false = is.main ∙ ne_eqb q.looper 0 (λ e. absurd (let place = number in_lockstep s hall kits queues h are c held recs all seen (suc k) x lt in omega (arith, e, place))) in
           let mine : NoneDisposes (entries_by (looper_sender s (suc k)) (history_of q)) = subst NoneDisposes none (calls_dispose_nothing (entries_by (looper_sender s (suc k)) (history_of q))) in
           let senders = is.senders in
           let by_each : (m : ℕ) → m < q.senders → NoneDisposes (entries_by m (history_of q)) = λ m below. dite (ℕ_discrete m (looper_sender s (suc k)))

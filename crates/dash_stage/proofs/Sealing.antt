@@ -77,6 +77,7 @@ module _ (s : Script) (hall : Hall) (h : IsHall s hall) (i : ℕ) (lt : i < s.lo
     posters = posters_kept (controller s) hall.queues.items c.kit.posters.items k.posters i p' p ((λ j. record { table = out.table j; constants = out.constants j; sender = out.turns.sender j }) ∙ ap badge_of is_p);
     frames = k.frames;
     pass = k.pass;
+    mode = k.mode;
     idle = k.idle;
     sealed = map-set (λ (z : Sender). z.view.sealed) c.kit.posters.items i p' ∙ (λ j. set (k.sealed j) i (out.parts kept_here j)) ∙ sym (map-set (λ (z : Vec Segment). z.items) c.sealed.items i v');
   }

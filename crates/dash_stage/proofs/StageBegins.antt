@@ -89,7 +89,7 @@ module _ (s : Script) (st : Stage) (k : ℕ) (is_hall : IsHall s st.hall) where
   -- the loopers wait for nothing
   pub begins_rested : AreLoopers s st.hall st.loopers.items → ArePostersOf k st.hall.queues.items st.controller.kit.posters.items → AreUnseen st.controller.kit.posters.items → WaitForNothing st.loopers.items → AreRested s st
   begins_rested loopers controller unseen waits = λ q l d lt.
-      let queues : length st.controller.kit.posters.items ≡ s.loopers = alike_length badge_of (badge_for k) st.controller.kit.posters.items st.hall.queues.items controller ∙ queue_count s st.hall.pool st.hall.queues.items is_hall.queues in
+      let queues : length st.controller.kit.posters.items ≡ s.loopers = alike_length badge_of (badge_for k) st.controller.kit.posters.items st.hall.queues.items controller ∙ queue_count st.hall.lockstep s st.hall.pool st.hall.queues.items is_hall.queues in
       let none = unseen q d (subst (λ (n : ℕ). q < n) (loopers.0 ∙ sym queues) lt) in
       let wait = waits q l lt in record {
         quiet = λ on. subst (λ (es : List Entry). HasNoneDue (empty_base (sender_count s)) es (clock (empty_base (sender_count s)) es)) (sym none) (nothing_due (sender_count s));
@@ -103,7 +103,7 @@ module _ (s : Script) (st : Stage) (k : ℕ) (is_hall : IsHall s st.hall) where
   begins_in_step timely loopers controller unseen zero begun = record {
     same = timely.same;
     in_time = λ sound q l d lt.
-        let queues : length st.controller.kit.posters.items ≡ s.loopers = alike_length badge_of (badge_for k) st.controller.kit.posters.items st.hall.queues.items controller ∙ queue_count s st.hall.pool st.hall.queues.items is_hall.queues in
+        let queues : length st.controller.kit.posters.items ≡ s.loopers = alike_length badge_of (badge_for k) st.controller.kit.posters.items st.hall.queues.items controller ∙ queue_count st.hall.lockstep s st.hall.pool st.hall.queues.items is_hall.queues in
         inl (ap (clock (empty_base (sender_count s))) (unseen q d (subst (λ (n : ℕ). q < n) (loopers.0 ∙ sym queues) lt)) ∙ (nothing_timed (sender_count s) ∙ sym zero));
     first = λ sound q d lt. ap (come_first s.threads) (unseen q d lt) ∙ nothing_first s.threads;
     played = λ sound n l lt. record {

@@ -32,7 +32,7 @@ use Rattle.dash_stage.specs.declared.control.Controller.{Controller}
 use Rattle.dash_stage.specs.declared.stage.Stage.{Stage}
 use Rattle.dash_stage.specs.Controllers.{are_advances, calls_on}
 use Rattle.dash_loopers.specs.Loopers.{IsSoundOn, setting_for, LooperKeeps}
-use Rattle.dash_stage.specs.Stages.{IsStage}
+use Rattle.dash_stage.specs.Stages.{IsStageIn}
 use Rattle.dash_hall.specs.Hearing.{AtEach, HaveHeard}
 use Rattle.dash_threads.specs.Threads.{ThreadKeeps}
 use Rattle.dash_stage.specs.Sharing.{HaveSeenTheSame}
@@ -149,7 +149,7 @@ step_on P n found left (inl same) = ([], append-nil found ∙ sym same)
 step_on P n found left (inr t) = (t.0 ∷ [], sym t.1)
 
 -- from a stage in which all have seen the same, over the controller's turns, to one in which all have seen the same again
-module _ (s : Script) (st : Stage) (c : Controller) (st' : Stage) (is : IsStage s st) (is' : IsStage s st') (same : HaveSeenTheSame st) (same' : HaveSeenTheSame st')
+module _ {lockstep : Bool} (s : Script) (st : Stage) (c : Controller) (st' : Stage) (is : IsStageIn lockstep s st) (is' : IsStageIn lockstep s st') (same : HaveSeenTheSame st) (same' : HaveSeenTheSame st')
     (threads : AtEach (ThreadKeeps HaveHeard) st.threads.items st'.threads.items) (loopers : AtEach (LooperKeeps HaveHeard) st.loopers.items st'.loopers.items)
     (heard : HaveHeard c.kit.posters.items st'.controller.kit.posters.items) where
   -- no other sender has made anything

@@ -1,5 +1,5 @@
 -- A stage whose senders hear each other, queue after queue.
-use Rattle.std.proofs.Common.{◌≡◌, ℕ, ◌+◌, ◌<◌, ◌≤◌, List, [], map, length, get_or, refl, sym, ap, ◌∙◌, subst, arith}
+use Rattle.std.proofs.Common.{◌≡◌, ℕ, Bool, ◌+◌, ◌<◌, ◌≤◌, List, [], map, length, get_or, refl, sym, ap, ◌∙◌, subst, arith}
 use Rattle.std.proofs.lemmas.List.{get_or_past}
 use mathlib.Core.Logic.{dite}
 use native.Mathlib.Decide.{ℕ_discrete, dec_lt}
@@ -12,6 +12,7 @@ use Rattle.looper_run.specs.Holding.{Sender}
 use Rattle.looper_run.specs.Round.{is_ended}
 use Rattle.choreographer.specs.Known.{Known as Pass}
 use Rattle.run_model.specs.Senders.{controller}
+use Rattle.run_model.specs.Moments.{Mode}
 use Rattle.run_model.specs.Planned.{lines_of}
 use Rattle.dash_hall.specs.declared.hall.Hall.{Hall}
 use Rattle.dash_threads.specs.declared.thread.PostingThread.{PostingThread}
@@ -20,8 +21,8 @@ use Rattle.dash_stage.specs.declared.control.Controller.{Controller}
 use Rattle.dash_stage.specs.declared.stage.Stage.{Stage}
 use Rattle.dash_hall.specs.Growth.{own}
 use Rattle.dash_hall.specs.Kits.{badge_of, badge_for, frame_badge_of, IsHall, ArePostersOf}
-use Rattle.dash_stage.specs.Controllers.{IsController, CallsNone, handed_out, parts_in}
-use Rattle.dash_stage.specs.Stages.{AreThreads, AreLoopers, IsStage, HaveRun, OthersHaveEnded}
+use Rattle.dash_stage.specs.Controllers.{IsControllerIn, CallsNone, handed_out, parts_in}
+use Rattle.dash_stage.specs.Stages.{AreThreads, AreLoopers, IsStageIn, HaveRunBy, OthersHaveEnded}
 use Rattle.dash_hall.specs.Hearing.{HaveHeard, HaveHeardAt, AtEach, AreReady, HaveSeenAt}
 use Rattle.dash_stage.specs.Sharing.{HaveSeenTheSame, ControllerKeeps, StageKeeps, OfThreads, OfLoopers, OfSenders, AreWithin, SharesAt}
 use Rattle.dash_threads.specs.Threads.{ThreadKeeps}
@@ -33,11 +34,12 @@ use Rattle.dash_stage.proofs.ThreadShares.{thread_self, thread_weaker, thread_th
 use Rattle.dash_stage.proofs.LooperShares.{looper_self, looper_weaker, looper_then, looper_kept, looper_within, looper_posters, of_loopers_then}
 
 -- the controller stays it
-pub controller_kept : (s : Script) (hall : Hall) (a b : Controller) → ControllerKeeps HaveHeard a b → IsController s hall a → IsController s hall b
+pub controller_kept : {lockstep : Bool} (s : Script) (hall : Hall) (a b : Controller) → ControllerKeeps HaveHeard a b → IsControllerIn lockstep s hall a → IsControllerIn lockstep s hall b
 controller_kept s hall a b k is = record {
   posters = heard_badges a.kit.posters.items b.kit.posters.items k.posters ∙ is.posters;
   frames = ap (λ v. map frame_badge_of v.items) k.frames ∙ is.frames;
   pass = ap (λ t. t.home) k.pass ∙ is.pass;
+  mode = is.mode;
   sealed = heard_parts a.kit.posters.items b.kit.posters.items k.posters ∙ (is.sealed ∙ ap (λ v. parts_in v.items) (sym k.sealed));
   idle = subst (λ (fs : List Pass). (q : ℕ) (p : Pass) → q < length fs → (get_or fs q p).view.own ≡ []) (sym (ap (λ v. v.items) k.frames)) is.idle;
 }
@@ -62,15 +64,19 @@ ended_kept R xs ys e h = λ k d some lt.
     ap is_ended (e.each k d within).last ∙ h k d some within
 
 -- each thread has come as far
-pub run_kept : (s : Script) (bs : List Block) (xs ys : List PostingThread) → AtEach (ThreadKeeps HaveHeard) xs ys → HaveRun s bs xs → HaveRun s bs ys
-run_kept s bs xs ys e h = λ k d lt.
+pub run_kept : (m : Mode) (s : Script) (bs : List Block) (xs ys : List PostingThread) → AtEach (ThreadKeeps HaveHeard) xs ys → HaveRunBy m s bs xs → HaveRunBy m s bs ys
+run_kept m s bs xs ys e h = λ k d lt.
     let long = e.long in
     let within : k < length xs = omega (arith, lt) in
-    up_to_kept s (lines_of k bs) (get_or xs k d) (get_or ys k d) (e.each k d within) (h k d within)
+    up_to_kept m s (lines_of k bs) (get_or xs k d) (get_or ys k d) (e.each k d within) (h k d within)
+
+-- a stage is one of its hall's mode
+pub stage_in_its_mode : {lockstep : Bool} (s : Script) (st : Stage) → IsStageIn lockstep s st → IsStageIn st.hall.lockstep s st
+stage_in_its_mode s st is = subst (λ (b : Bool). IsStageIn b s st) (sym is.controller.mode) is
 
 -- the stage stays the script's
-pub stage_kept : (s : Script) (a b : Stage) → StageKeeps HaveHeard a b → IsStage s a → IsStage s b
-stage_kept s a b k is =
+pub stage_kept : {lockstep : Bool} (s : Script) (a b : Stage) → StageKeeps HaveHeard a b → IsStageIn lockstep s a → IsStageIn lockstep s b
+stage_kept {lockstep} s a b k is =
     let hall = k.hall in
     let longs = k.threads.long in
     let longs' = k.loopers.long in
@@ -92,7 +98,7 @@ stage_kept s a b k is =
             let was = is.loopers.1 j d within in
             (looper_kept s a.hall is.hall (get_or a.loopers.items j d) was.0 (get_or b.loopers.items j d) same, same.number ∙ was.1),
       );
-      controller = subst (λ (h : Hall). IsController s h b.controller) (sym hall) (controller_kept s a.hall a.controller b.controller k.controller is.controller);
+      controller = subst (λ (h : Hall). IsControllerIn lockstep s h b.controller) (sym hall) (controller_kept s a.hall a.controller b.controller k.controller is.controller);
       pass = ap (λ t. t.home) k.pass ∙ (is.pass ∙ ap (λ h. h.pool) (sym hall));
     }
 
@@ -166,10 +172,10 @@ share_more n a b sh all = λ q lt. dite (ℕ_discrete q n)
     let w = all q (omega (arith, lt)) in
     (w.0, of_senders_then (HaveSeenAt q w.0) (HaveSeenAt q w.0) (HaveHeardAt n sh.0) (seen_elsewhere n q sh.0 w.0 not) a b sh.1 w.1))
 
-module _ (s : Script) (st : Stage) (is : IsStage s st) where
+module _ {lockstep : Bool} (s : Script) (st : Stage) (is : IsStageIn lockstep s st) where
   -- one poster of each queue is as many as there are loopers
   count : (k : ℕ) (ps : List Sender) → ArePostersOf k st.hall.queues.items ps → length ps ≡ s.loopers
-  count k ps are = alike_length badge_of (badge_for k) ps st.hall.queues.items are ∙ queue_count s st.hall.pool st.hall.queues.items is.hall.queues
+  count k ps are = alike_length badge_of (badge_for k) ps st.hall.queues.items are ∙ queue_count st.hall.lockstep s st.hall.pool st.hall.queues.items is.hall.queues
 
   -- each of the stage's senders has so many
   counts : OfSenders (λ ps. length ps ≡ s.loopers) st

@@ -1,5 +1,5 @@
 -- What a block of the threads, and the controller's turns that move no time, make of what all senders have seen of each queue.
-use Rattle.std.proofs.Common.{◌≡◌, ◌≢◌, ◌<◌, ◌≤◌, ◌+◌, ◌==◌, ◌⊎◌, inl, inr, ℕ, suc, true, ◌-◌, false, List, [], ◌∷◌, ◌++◌, map, length, filter, refl, sym, ap, ◌∙◌, subst, arith}
+use Rattle.std.proofs.Common.{◌≡◌, ◌≢◌, ◌<◌, ◌≤◌, ◌+◌, ◌==◌, ◌⊎◌, inl, inr, ℕ, Bool, suc, true, ◌-◌, false, List, [], ◌∷◌, ◌++◌, map, length, filter, refl, sym, ap, ◌∙◌, subst, arith}
 use Rattle.std.specs.Prelude.{slice_index_or, IsTrue}
 use Rattle.std.specs.List.{AllByRecursion}
 use Rattle.std.proofs.lemmas.Bool.{ne_eqb}
@@ -33,7 +33,7 @@ use Rattle.dash_hall.specs.Growth.{own}
 use Rattle.dash_stage.specs.Controllers.{are_advances, IsMoving}
 use Rattle.dash_threads.specs.Threads.{IsUpTo, HasCalled, ThreadKeeps}
 use Rattle.dash_loopers.specs.Loopers.{IsSoundOn, is_disposal, setting_for, is_given_up, LooperKeeps}
-use Rattle.dash_stage.specs.Stages.{IsStage, HaveRun, RunOn, LoopersGoOn}
+use Rattle.dash_stage.specs.Stages.{IsStage, IsStageIn, HaveRun, RunOn, LoopersGoOn}
 use Rattle.dash_hall.specs.Hearing.{AtEach, HaveHeard}
 use Rattle.dash_stage.specs.Sharing.{HaveSeenTheSame}
 use Rattle.dash_stage.specs.Timeliness.{whole_on, AreSound, IsTimelyUpTo, AreTimelyUpTo, TurnsOn, EachTurnsOn, HasHaltedLast}
@@ -71,15 +71,15 @@ lines_at k b = all_same b.time (filter (λ l. l.thread == k) b.lines)
 -- ---- a block
 
 -- a thread that has come so far has made a call for each of its lines there
-called_count : (s : Script) (bs : List Block) (k : ℕ) (t : PostingThread) → t.number ≡ k → IsUpTo s (lines_of k bs) t → (q : ℕ) (d : Sender) → q < length t.kit.posters.items
+called_count : (s : Script) (bs : List Block) (k : ℕ) (t : PostingThread) → t.number ≡ k → IsUpTo in_lockstep s (lines_of k bs) t → (q : ℕ) (d : Sender) → q < length t.kit.posters.items
     → length (lines_on s (labels_on q (lines_of k s.blocks)) q (lines_of k bs)) ≡ length (own (slice_index_or t.kit.posters.items q d))
-called_count s bs k t number up q d lt = for_count _ [] _ _ (subst (λ n. HasCalled s (lines_of k bs) n t.kit.posters.items) number up.called q d lt)
+called_count s bs k t number up q d lt = for_count _ [] _ _ (subst (λ n. HasCalled in_lockstep s (lines_of k bs) n t.kit.posters.items) number up.called q d lt)
 
 -- and it has disposed of nothing there
-called_none : (s : Script) (bs : List Block) (k : ℕ) (t : PostingThread) → t.number ≡ k → IsUpTo s (lines_of k bs) t → (q : ℕ) (d : Sender) → q < length t.kit.posters.items
+called_none : (s : Script) (bs : List Block) (k : ℕ) (t : PostingThread) → t.number ≡ k → IsUpTo in_lockstep s (lines_of k bs) t → (q : ℕ) (d : Sender) → q < length t.kit.posters.items
     → NoneDisposes (own (slice_index_or t.kit.posters.items q d))
 called_none s bs k t number up q d lt =
-    lines_dispose_nothing in_lockstep s (labels_on q (lines_of k s.blocks)) q [] _ _ (subst (λ n. HasCalled s (lines_of k bs) n t.kit.posters.items) number up.called q d lt)
+    lines_dispose_nothing in_lockstep s (labels_on q (lines_of k s.blocks)) q [] _ _ (subst (λ n. HasCalled in_lockstep s (lines_of k bs) n t.kit.posters.items) number up.called q d lt)
 
 module _ (s : Script) (q : ℕ) (es whole : List Entry) (front : IsPrefix es whole) (sound : IsSoundOn s q whole) (controlled : entries_by (controller s) whole ≡ entries_by (controller s) es) where
   -- the controller called nothing
@@ -238,7 +238,7 @@ turns_more P first now after n turns kept long here elsewhere = (
 )
 
 -- from a stage, over the controller's turns, to one in which all have seen the same again, and nobody else called anything
-module _ (s : Script) (st : Stage) (c : Controller) (st' : Stage) (is : IsStage s st) (is' : IsStage s st') (same : HaveSeenTheSame st) (same' : HaveSeenTheSame st')
+module _ {lockstep : Bool} (s : Script) (st : Stage) (c : Controller) (st' : Stage) (is : IsStageIn lockstep s st) (is' : IsStageIn lockstep s st') (same : HaveSeenTheSame st) (same' : HaveSeenTheSame st')
     (threads : AtEach (ThreadKeeps HaveHeard) st.threads.items st'.threads.items) (loopers : AtEach (LooperKeeps HaveHeard) st.loopers.items st'.loopers.items)
     (heard : HaveHeard c.kit.posters.items st'.controller.kit.posters.items) (P : Entry → Type 0) (turns : EachTurnsOn P st.controller c) where
   -- the histories stay timely, where on each queue no turn was taken, or what it left is in time
@@ -262,7 +262,7 @@ module _ (s : Script) (st : Stage) (c : Controller) (st' : Stage) (is : IsStage 
 
   -- where the controller halted main, main's history ends with the halt
   pub halted_stays : ((d : Sender) → ends_halted (whole_on c 0 d) ≡ true) → HasHaltedLast s st'
-  halted_stays halted d lt sound = ap ends_halted (turned_left s st c st' is is' same same' threads loopers heard P turns 0 d (subst (λ (n : ℕ). 0 < n) (heard.long ∙ turns.long) lt) sound.numbered) ∙ halted d
+  halted_stays halted d lt numbered = ap ends_halted (turned_left s st c st' is is' same same' threads loopers heard P turns 0 d (subst (λ (n : ℕ). 0 < n) (heard.long ∙ turns.long) lt) numbered) ∙ halted d
 
 -- ---- what stays while others are heard
 
@@ -275,4 +275,4 @@ go_on_kept R ls ls' kept on k d lt =
 -- what a thread does with a block, where others are heard after it
 pub continues_kept : (s : Script) (b : Block) (ts ms us : List PostingThread) → length ms ≡ length ts → RunOn s b ts ms → AtEach (ThreadKeeps HaveHeard) ms us → RunOn s b ts us
 continues_kept s b ts ms us long on kept k d lt past rest whole up =
-    up_to_kept s (past ++ lines_in (slice_index_or ts k d).number b) (slice_index_or ms k d) (slice_index_or us k d) (kept.each k d (subst (λ (n : ℕ). k < n) (sym long) lt)) (on k d lt past rest whole up)
+    up_to_kept in_lockstep s (past ++ lines_in (slice_index_or ts k d).number b) (slice_index_or ms k d) (slice_index_or us k d) (kept.each k d (subst (λ (n : ℕ). k < n) (sym long) lt)) (on k d lt past rest whole up)

@@ -1,5 +1,5 @@
 -- What all senders have seen of each queue tells what each of them has made, and stays timely where neither a thread nor the controller has made more.
-use Rattle.std.proofs.Common.{◌≡◌, ◌<◌, ◌+◌, ℕ, List, [], length, refl, sym, ap, ap₂, ◌∙◌, subst}
+use Rattle.std.proofs.Common.{◌≡◌, ◌<◌, ◌+◌, ℕ, Bool, List, [], length, refl, sym, ap, ap₂, ◌∙◌, subst}
 use Rattle.std.specs.Prelude.{slice_index_or}
 use Rattle.std.proofs.lemmas.List.Edits.{get_or-insert_at}
 use mathlib.Core.List.{IsPrefix}
@@ -23,7 +23,7 @@ use Rattle.dash_stage.specs.declared.stage.Stage.{Stage}
 use Rattle.dash_hall.specs.Growth.{own}
 use Rattle.dash_hall.specs.Kits.{Badge, badge_of, badge_for, ArePostersOf, IsHall}
 use Rattle.dash_loopers.specs.Loopers.{IsSoundOn, IsLooper, setting_for, others_in, posters_of, LooperKeeps}
-use Rattle.dash_stage.specs.Stages.{IsStage}
+use Rattle.dash_stage.specs.Stages.{IsStageIn}
 use Rattle.dash_hall.specs.Hearing.{seen_by, AtEach, HaveHeard}
 use Rattle.dash_threads.specs.Threads.{ThreadKeeps}
 use Rattle.dash_stage.specs.Sharing.{HaveSeenTheSame}
@@ -61,7 +61,7 @@ pub entries_own : (k : ℕ) (qs : List (Shared TableId)) (ps cs : List Sender) �
 entries_own k qs ps cs are same q p d lt =
     ap₂ entries_by (sym (sender_at k qs ps are q p (subst (λ (n : ℕ). q < n) (sym (as_many ps cs same)) lt))) (sym (seen_at ps cs same q p d lt))
 
-module _ (s : Script) (st : Stage) (is : IsStage s st) where
+module _ {lockstep : Bool} (s : Script) (st : Stage) (is : IsStageIn lockstep s st) where
   -- there is a poster of the controller for each looper
   pub queues_count : length st.controller.kit.posters.items ≡ length st.loopers.items
   queues_count = poster_count s st.hall st.controller is.hall is.controller ∙ sym is.loopers.0
@@ -142,7 +142,7 @@ threads_heard before after kept = record {
 }
 
 -- from a stage to a later one, each of which is one of the script and in which all have seen the same
-module _ (s : Script) (st st' : Stage) (is : IsStage s st) (is' : IsStage s st') (same : HaveSeenTheSame st) (same' : HaveSeenTheSame st') where
+module _ {lockstep : Bool} (s : Script) (st st' : Stage) (is : IsStageIn lockstep s st) (is' : IsStageIn lockstep s st') (same : HaveSeenTheSame st) (same' : HaveSeenTheSame st') where
   -- a thread that has made nothing has no entry more in what all have seen
   pub thread_made_none : ThreadsCallNone st.threads.items st'.threads.items → length st'.controller.kit.posters.items ≡ length st.controller.kit.posters.items
       → (q k : ℕ) (d : Sender) → q < length st.controller.kit.posters.items → k < s.threads → entries_by k (whole_on st'.controller q d) ≡ entries_by k (whole_on st.controller q d)

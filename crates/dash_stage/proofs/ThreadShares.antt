@@ -10,11 +10,12 @@ use Rattle.dash_stage.specs.Sharing.{OfThreads}
 use Rattle.dash_script.specs.declared.script.Script.{Script}
 use Rattle.choreographer.specs.Known.{Known as Pass}
 use Rattle.run_model.specs.Asks.{tokens_in}
-use Rattle.run_model.specs.Moments.{in_lockstep}
+use Rattle.run_model.specs.Moments.{Mode}
 use Rattle.run_model.specs.Planned.{Timed, lines_of, labels_on, MakeCalls}
 use Rattle.dash_hall.specs.declared.hall.Hall.{Hall}
 use Rattle.dash_hall.specs.Growth.{own}
 use Rattle.dash_hall.specs.Kits.{frame_badge_of, ArePostersOf, ArePassesOf}
+use Rattle.dash_hall.proofs.Clocking.{clocked_same}
 use Rattle.dash_hall.proofs.Hearing.{known_more, heard_badges}
 use Rattle.dash_hall.proofs.Sharing.{FirstAre, next_within}
 
@@ -76,22 +77,26 @@ thread_kept s hall a b k is = record {
 }
 
 -- and has come as far
-pub up_to_kept : (s : Script) (past : List Timed) (a b : PostingThread) → ThreadKeeps HaveHeard a b → IsUpTo s past a → IsUpTo s past b
-up_to_kept s past a b k up =
+pub up_to_kept : (m : Mode) (s : Script) (past : List Timed) (a b : PostingThread) → ThreadKeeps HaveHeard a b → IsUpTo m s past a → IsUpTo m s past b
+up_to_kept m s past a b k up =
     let long = k.posters.long in
     let barriers : b.barriers.items ≡ a.barriers.items = ap (λ v. v.items) k.barriers in
     let frames : b.kit.frames.items ≡ a.kit.frames.items = ap (λ v. v.items) k.frames in
     record {
       called = λ q d lt.
           let near : q < length a.kit.posters.items = omega (arith, lt) in
-          subst (λ (es : List Entry). MakeCalls in_lockstep s (labels_on q (lines_of b.number s.blocks)) q past es) (sym (k.posters.each q d near).called)
-          (subst (λ (n : ℕ). MakeCalls in_lockstep s (labels_on q (lines_of n s.blocks)) q past (own (get_or a.kit.posters.items q d))) (sym k.number) (up.called q d near));
+          subst (λ (es : List Entry). MakeCalls m s (labels_on q (lines_of b.number s.blocks)) q past es) (sym (k.posters.each q d near).called)
+          (subst (λ (n : ℕ). MakeCalls m s (labels_on q (lines_of n s.blocks)) q past (own (get_or a.kit.posters.items q d))) (sym k.number) (up.called q d near));
+      clocked = λ q d lt.
+          let near : q < length a.kit.posters.items = omega (arith, lt) in
+          let h = k.posters.each q d near in
+          clocked_same m (get_or a.kit.posters.items q d) (get_or b.kit.posters.items q d) h.same.sender h.more h.called (up.clocked q d near);
       barriers = record {
         labels = λ q. ap (labels_kept q) barriers ∙ up.barriers.labels q;
         tokens = λ q d lt.
             let near : q < length a.kit.posters.items = omega (arith, lt) in
             ap (tokens_kept q) barriers ∙ (up.barriers.tokens q d near ∙ ap tokens_in (sym (k.posters.each q d near).called));
       };
-      asked = subst (λ (fs : List Pass). HasAsked past fs) (sym frames) up.asked;
+      asked = subst (λ (fs : List Pass). HasAsked m past fs) (sym frames) up.asked;
       turned = subst (λ (fs : List Pass). HasTurned past fs) (sym frames) up.turned;
     }

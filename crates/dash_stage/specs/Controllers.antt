@@ -28,12 +28,17 @@ abbrev pub parts_in : List (Vec Segment) → List (List Segment)
 parts_in lists = map (λ v. v.items) lists
 
 -- the controller of the script, with what it needs in the hall; it keeps the parts of the histories that it handed out; its turns at the choreographers, which look for the pulse that is asked for, record nothing
-pub record IsController (s : Script) (hall : Hall) (c : Controller) : Type 0 where
+pub record IsControllerIn (lockstep : Bool) (s : Script) (hall : Hall) (c : Controller) : Type 0 where
   pub posters : ArePostersOf (controller s) hall.queues.items c.kit.posters.items
   pub frames : ArePassesOf (s.threads + 2) hall.choreographers.items c.kit.frames.items
   pub pass : c.kit.pass.home ≡ hall.pool
+  pub mode : hall.lockstep ≡ lockstep
   pub idle : (q : ℕ) (p : Pass) → q < length c.kit.frames.items → (slice_index_or c.kit.frames.items q p).view.own ≡ []
   pub sealed : handed_out c.kit.posters.items ≡ parts_in c.sealed.items
+
+-- the same in lockstep
+abbrev pub IsController : Script → Hall → Controller → Type 0
+IsController s hall c = IsControllerIn true s hall c
 
 -- moves of the time alone, none past the end
 abbrev pub are_advances : ℕ → List Entry → Bool
@@ -52,13 +57,13 @@ calls_on c q d = own (slice_index_or c.kit.posters.items q d)
 abbrev pub OnlyMoves : Script → Controller → ℕ → Type 0
 OnlyMoves s c q = (d : Sender) → q < length c.kit.posters.items → are_advances s.end (calls_on c q d) ≡ true
 
--- it has moved the time of this queue on, and may have quit it safely at the end
-abbrev pub MovesAndQuits : Script → Controller → ℕ → Type 0
-MovesAndQuits s c q = (d : Sender) → q < length c.kit.posters.items → are_controls false true s.end true (calls_on c q d) ≡ true
+-- in lockstep it has moved the time of this queue on; and it may have quit it safely at the end, or by a clock no earlier
+abbrev pub MovesAndQuits : Bool → Script → Controller → ℕ → Type 0
+MovesAndQuits lockstep s c q = (d : Sender) → q < length c.kit.posters.items → are_controls false lockstep s.end true (calls_on c q d) ≡ true
 
--- it has moved the time of main on to the end, and halted it there
-abbrev pub MovesAndHalts : Script → Controller → Type 0
-MovesAndHalts s c = (d : Sender) → 0 < length c.kit.posters.items → are_controls true true s.end false (calls_on c 0 d) ≡ true
+-- in lockstep it has moved the time of main on to the end; and it has halted main there, or by a clock no earlier
+abbrev pub MovesAndHalts : Bool → Script → Controller → Type 0
+MovesAndHalts lockstep s c = (d : Sender) → 0 < length c.kit.posters.items → are_controls true lockstep s.end false (calls_on c 0 d) ≡ true
 
 -- so far it has moved the time of the queues on
 abbrev pub IsMoving : Script → Controller → Type 0
@@ -72,19 +77,38 @@ HasReached time c = (d : Sender) → 0 < length c.kit.posters.items → time ≤
 pub record IsQuitting (s : Script) (n : ℕ) (c : Controller) : Type 0 where
   pub main : OnlyMoves s c 0
   pub reached : HasReached s.end c
-  pub done : (q : ℕ) → 0 < q → q < n → MovesAndQuits s c q
+  pub done : (q : ℕ) → 0 < q → q < n → MovesAndQuits true s c q
   pub rest : (q : ℕ) → n ≤ q → OnlyMoves s c q
 
 -- the time of main has come to the end, and the other queues may have been quit
 pub record IsClosing (s : Script) (c : Controller) : Type 0 where
   pub main : OnlyMoves s c 0
   pub reached : HasReached s.end c
-  pub others : (q : ℕ) → 0 < q → MovesAndQuits s c q
+  pub others : (q : ℕ) → 0 < q → MovesAndQuits true s c q
 
--- main was halted at the end, and the other queues may have been quit
-pub record HasClosed (s : Script) (c : Controller) : Type 0 where
-  pub main : MovesAndHalts s c
-  pub others : (q : ℕ) → 0 < q → MovesAndQuits s c q
+-- main was halted at the end, or by a clock no earlier, and the other queues may have been quit
+pub record HasClosedIn (lockstep : Bool) (s : Script) (c : Controller) : Type 0 where
+  pub main : MovesAndHalts lockstep s c
+  pub others : (q : ℕ) → 0 < q → MovesAndQuits lockstep s c q
+
+-- the same in lockstep
+abbrev pub HasClosed : Script → Controller → Type 0
+HasClosed s c = HasClosedIn true s c
+
+-- it has called nothing on this queue
+abbrev pub CallsNothingOn : Controller → ℕ → Type 0
+CallsNothingOn c q = (d : Sender) → q < length c.kit.posters.items → calls_on c q d ≡ []
+
+-- by a clock: the queues below this one, but main, may have been quit, and nothing else was called
+pub record IsQuittingBy (s : Script) (n : ℕ) (c : Controller) : Type 0 where
+  pub main : CallsNothingOn c 0
+  pub done : (q : ℕ) → 0 < q → q < n → MovesAndQuits false s c q
+  pub rest : (q : ℕ) → n ≤ q → CallsNothingOn c q
+
+-- by a clock: the queues but main may have been quit, and nothing else was called
+pub record IsClosingBy (s : Script) (c : Controller) : Type 0 where
+  pub main : CallsNothingOn c 0
+  pub others : (q : ℕ) → 0 < q → MovesAndQuits false s c q
 
 -- it has called nothing on any queue
 pub record CallsNone (before after : Controller) : Type 0 where

@@ -61,6 +61,7 @@ pub record IsKeptOf (c : Constants TableId) (r : QueueRecord) : Type 0 where
 -- sender k gave up its first poster, which made its entries in this history
 pub record EndsPoster (k : ℕ) (entries : List Entry) (before after : Kit) : Type 0 where
   pub poster : Sender
+  pub whose : poster.sender ≡ k
   pub posters : before.posters.items ≡ poster ∷ after.posters.items
   pub made : HasAllOf k poster entries
   pub frames : after.frames.items ≡ before.frames.items

@@ -12,3 +12,4 @@ pub mod Timeliness
 pub mod Playing
 pub mod Leaving
 pub mod Moves
+pub mod RunEnds

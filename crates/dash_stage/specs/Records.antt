@@ -11,17 +11,22 @@ use Rattle.frame_phases.specs.declared.entry.FrameRecord.{FrameRecord}
 use Rattle.looper_run.specs.Holding.{Sender}
 use Rattle.choreographer.specs.Known.{Known as Pass}
 use Rattle.choreographer.specs.Ends.{AreTheirs}
-use Rattle.run_model.specs.Moments.{in_lockstep}
+use Rattle.run_model.specs.Moments.{Mode}
 use Rattle.std.specs.List.{range_with_len}
 use Rattle.run_model.specs.Asks.{entries_by}
 use Rattle.run_model.specs.Run.{IsHistory, IsFrameRun, all_entries}
 use Rattle.dash_hall.specs.declared.kit.Kit.{Kit}
 use Rattle.dash_hall.specs.Growth.{own}
+use Rattle.dash_hall.specs.ByClock.{IsByClock}
 
--- each looper's queue has its record, in order, with the replies that a queue of one thread gives
-pub record AreQueueRecords (s : Script) (records : List QueueRecord) : Type 0 where
-  pub loopers : map (λ (q : QueueRecord). q.looper) records ≡ range_with_len 0 s.loopers
-  pub histories : AllByRecursion (IsHistory in_lockstep all_entries s) records
+-- each looper's queue has its record, in order
+abbrev pub AreOfLoopers : Script → List QueueRecord → Type 0
+AreOfLoopers s records = map (λ (q : QueueRecord). q.looper) records ≡ range_with_len 0 s.loopers
+
+-- and with the replies that a queue of one thread gives, and in free mode with moments of the clock
+pub record AreQueueRecords (m : Mode) (s : Script) (records : List QueueRecord) : Type 0 where
+  pub loopers : AreOfLoopers s records
+  pub histories : AllByRecursion (IsHistory m all_entries s) records
 
 -- each looper's choreographer has its record, in order
 pub record AreFrameRecords (s : Script) (records : List FrameRecord) : Type 0 where
@@ -59,3 +64,7 @@ HaveSeenOwn threads kits records = (q i : ℕ) (d : Kit) (p : Pass) (r : FrameRe
 -- each looper has its journal, in order
 abbrev pub AreJournals : Script → List Journal → Type 0
 AreJournals s js = map (λ (j : Journal). j.looper) js ≡ range_with_len 0 s.loopers
+
+-- in free mode the moments of what each sender called on each queue are the clock's, or the queue's time
+abbrev pub HaveCalledByClock : Mode → Script → List Kit → Type 0
+HaveCalledByClock m s kits = (k q : ℕ) (d : Kit) (p : Sender) → k < length kits → q < s.loopers → IsByClock m (slice_index_or (slice_index_or kits k d).posters.items q p)

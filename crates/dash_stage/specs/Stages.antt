@@ -1,5 +1,5 @@
 -- A stage: the senders of a run, and what they share.
-use Rattle.std.specs.Prelude.{◌≡◌, ◌<◌, ◌+◌, ℕ, true, false, List, length, slice_index_or}
+use Rattle.std.specs.Prelude.{◌≡◌, ◌<◌, ◌+◌, ℕ, Bool, true, false, List, length, slice_index_or}
 use Rattle.dash_script.specs.declared.script.Block.{Block}
 use Rattle.dash_script.specs.declared.script.Script.{Script}
 use Rattle.run_model.specs.Planned.{lines_of}
@@ -11,9 +11,10 @@ use Rattle.run_model.specs.Senders.{sender_count}
 use Rattle.dash_hall.specs.declared.kit.Kit.{Kit}
 use Rattle.looper_run.specs.Round.{is_ended}
 use Rattle.dash_hall.specs.Kits.{IsHall, IsKitOf}
+use Rattle.run_model.specs.Moments.{Mode, in_lockstep}
 use Rattle.dash_threads.specs.Threads.{IsThread, IsUpTo, Continues}
 use Rattle.dash_loopers.specs.Loopers.{IsLooper, is_given_up}
-use Rattle.dash_stage.specs.Controllers.{IsController}
+use Rattle.dash_stage.specs.Controllers.{IsControllerIn}
 
 -- the threads of the script, in order
 abbrev pub AreThreads : Script → Hall → List PostingThread → Type 0
@@ -24,12 +25,16 @@ abbrev pub AreLoopers : Script → Hall → List StageLooper → Type 0
 AreLoopers s hall ls = (length ls ≡ s.loopers) × ((k : ℕ) (d : StageLooper) → k < length ls → IsLooper s hall (slice_index_or ls k d) × ((slice_index_or ls k d).number ≡ k))
 
 -- all senders of the script, with what they need
-pub record IsStage (s : Script) (st : Stage) : Type 0 where
+pub record IsStageIn (lockstep : Bool) (s : Script) (st : Stage) : Type 0 where
   pub hall : IsHall s st.hall
   pub threads : AreThreads s st.hall st.threads.items
   pub loopers : AreLoopers s st.hall st.loopers.items
-  pub controller : IsController s st.hall st.controller
+  pub controller : IsControllerIn lockstep s st.hall st.controller
   pub pass : st.pass.home ≡ st.hall.pool
+
+-- the same in lockstep
+abbrev pub IsStage : Script → Stage → Type 0
+IsStage s st = IsStageIn true s st
 
 -- a script has at least one looper and a period, and few senders
 pub record IsPlayable (s : Script) : Type 0 where
@@ -38,12 +43,16 @@ pub record IsPlayable (s : Script) : Type 0 where
   pub few : s.threads + s.loopers < 100
 
 -- each thread has run its lines of these blocks, the first of the script's
+abbrev pub HaveRunBy : Mode → Script → List Block → List PostingThread → Type 0
+HaveRunBy m s bs ts = (k : ℕ) (d : PostingThread) → k < length ts → IsUpTo m s (lines_of k bs) (slice_index_or ts k d)
+
+-- the same in lockstep
 abbrev pub HaveRun : Script → List Block → List PostingThread → Type 0
-HaveRun s bs ts = (k : ℕ) (d : PostingThread) → k < length ts → IsUpTo s (lines_of k bs) (slice_index_or ts k d)
+HaveRun s bs ts = HaveRunBy in_lockstep s bs ts
 
 -- each thread has run its lines of this block, where it comes next
 abbrev pub RunOn : Script → Block → List PostingThread → List PostingThread → Type 0
-RunOn s b before after = (k : ℕ) (d : PostingThread) → k < length before → Continues s b (slice_index_or before k d) (slice_index_or after k d)
+RunOn s b before after = (k : ℕ) (d : PostingThread) → k < length before → Continues in_lockstep s b (slice_index_or before k d) (slice_index_or after k d)
 
 -- none has given up
 abbrev pub GoOn : List PostingThread → Type 0

@@ -23,9 +23,10 @@ use Rattle.dash_stage.specs.declared.control.Controller.{Controller}
 use Rattle.dash_stage.specs.declared.stage.Stage.{Stage}
 use Rattle.dash_hall.specs.Growth.{own}
 use Rattle.dash_stage.specs.Controllers.{LooksFor, are_advances, time_in, calls_on}
-use Rattle.dash_loopers.specs.Loopers.{IsSoundOn, until_of, WaitsForNothing, HasNoneDue}
+use Rattle.dash_loopers.specs.Loopers.{IsSoundOn, until_of, WaitsForNothing, HasNoneDue, setting_for}
 use Rattle.dash_stage.specs.Blocks.{AreReached}
 use Rattle.dash_stage.specs.Sharing.{HaveSeenTheSame}
+use Rattle.loop_model.specs.Legal.{AreNumbered}
 
 -- what the controller has seen of this queue, and all others where they have seen the same
 abbrev pub whole_on : Controller → ℕ → Sender → List Entry
@@ -136,4 +137,4 @@ HaveCome s now c = (q : ℕ) (d : Sender) → q < length c.kit.posters.items →
 
 -- main's history ends with its halt
 abbrev pub HasHaltedLast : Script → Stage → Type 0
-HasHaltedLast s st = (d : Sender) → 0 < length st.controller.kit.posters.items → IsSoundOn s 0 (whole_on st.controller 0 d) → ends_halted (whole_on st.controller 0 d) ≡ true
+HasHaltedLast s st = (d : Sender) → 0 < length st.controller.kit.posters.items → AreNumbered (setting_for s 0) (empty_base (sender_count s)) (whole_on st.controller 0 d) → ends_halted (whole_on st.controller 0 d) ≡ true

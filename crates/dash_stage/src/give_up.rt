@@ -5,7 +5,7 @@ ghost use Rattle.dash_hall.specs.Growth.{QuitsOf};
 ghost use Rattle.dash_hall.specs.Kits.{IsHall};
 ghost use Rattle.dash_loopers.specs.declared.looper.StageLooper.{StageLooper};
 ghost use Rattle.dash_loopers.specs.Loopers.{HasRun};
-ghost use Rattle.dash_stage.specs.Controllers.{IsController};
+ghost use Rattle.dash_stage.specs.Controllers.{IsControllerIn};
 ghost use Rattle.dash_stage.specs.GivingUp.{AreQuit, IsNudged};
 ghost use Rattle.dash_stage.specs.Stages.{IsStage};
 
@@ -57,11 +57,11 @@ impl Stage {
 impl Controller {
     /// Sets the flag by which the run is given up, nudges main, and quits each other looper plainly at this time, in milliseconds.
     /// Answers false where a quit found no memory; the others are made all the same.
-    fn give_up<R: Wait>(&mut self, rt: &R, hall: &Hall, script: &Script, now: u64) -> bool
+    pub(crate) fn give_up<R: Wait>(&mut self, rt: &R, hall: &Hall, script: &Script, now: u64) -> bool
         requires some { 0 < script.now.loopers }
         requires hall { IsHall script.now hall.now }
-        requires controller { IsController script.now hall.now self.old }
-        ensures controller { IsController script.now hall.now self.new }
+        requires controller { IsControllerIn hall.now.lockstep script.now hall.now self.old }
+        ensures controller { IsControllerIn hall.now.lockstep script.now hall.now self.new }
         ensures nudged { IsNudged self.old self.new }
         ensures quit { result ≡ true → AreQuit now self.old self.new }
     {
@@ -78,8 +78,8 @@ impl Controller {
     fn nudge_main<R: Wait>(&mut self, rt: &R, hall: &Hall, script: &Script)
         requires some { 0 < script.now.loopers }
         requires hall { IsHall script.now hall.now }
-        requires controller { IsController script.now hall.now self.old }
-        ensures controller { IsController script.now hall.now self.new }
+        requires controller { IsControllerIn hall.now.lockstep script.now hall.now self.old }
+        ensures controller { IsControllerIn hall.now.lockstep script.now hall.now self.new }
         ensures nudged { IsNudged self.old self.new }
         ensures elsewhere { (q : ℕ) (d : Sender) → q ≢ 0 → slice_index_or self.new.kit.posters.items q d ≡ slice_index_or self.old.kit.posters.items q d }
     {
@@ -96,9 +96,9 @@ impl Controller {
         now: u64,
     ) -> bool
         requires hall { IsHall script.now hall.now }
-        requires controller { IsController script.now hall.now self.old }
+        requires controller { IsControllerIn hall.now.lockstep script.now hall.now self.old }
         requires place { place < script.now.loopers }
-        ensures controller { IsController script.now hall.now self.new }
+        ensures controller { IsControllerIn hall.now.lockstep script.now hall.now self.new }
         ensures here { result ≡ true → (d : Sender) → QuitsOf (slice_index_or self.old.kit.posters.items place d) (slice_index_or self.new.kit.posters.items place d) false now }
         ensures elsewhere { (q : ℕ) (d : Sender) → q ≢ place → slice_index_or self.new.kit.posters.items q d ≡ slice_index_or self.old.kit.posters.items q d }
     {

@@ -3,10 +3,10 @@ ghost use Rattle.std.specs.Prelude.{◌≡◌, true, map, IfOk, OnOk, List};
 ghost use Rattle.std.specs.List.{AllByRecursion};
 ghost use Rattle.dash_script.specs.Reading.{HasText};
 ghost use Rattle.loop_model.specs.declared.entry.Entry.{Entry};
-ghost use Rattle.run_model.specs.Moments.{in_lockstep};
+ghost use Rattle.run_model.specs.Moments.{in_lockstep, Mode};
 ghost use Rattle.run_model.specs.Run.{IsAsPlanned, IsControlled, IsFrameRun, IsLooperRun, EachLooper, IsTimely, main_ends_halted};
-ghost use Rattle.dash_stage.specs.Controllers.{HasClosed};
-ghost use Rattle.dash_stage.specs.Timeliness.{AreTimelyUpTo, HasHaltedLast};
+ghost use Rattle.dash_stage.specs.Controllers.{HasClosedIn};
+ghost use Rattle.dash_stage.specs.Timeliness.{HasHaltedLast};
 ghost use Rattle.dash_hall.specs.Kits.{IsHall, OthersAreOver};
 ghost use Rattle.dash_stage.specs.Records.{AreQueueRecords, AreFrameRecords, AreJournals};
 ghost use Rattle.dash_loopers.specs.Loopers.{HaveTold};
@@ -19,9 +19,9 @@ ghost use Rattle.dash_stage.specs.Sharing.{OfThreads, OfLoopers, OfKits};
 ghost use Rattle.run_model.specs.Senders.{controller};
 ghost use Rattle.run_model.specs.Histories.{history_of};
 ghost use Rattle.run_model.specs.Moves.{moves, AreMovedTogether};
-ghost use Rattle.dash_stage.specs.Moves.{AreMoved};
-ghost use Rattle.dash_stage.specs.Playing.{ArePlayed, HaveComeFirst};
-ghost use Rattle.dash_stage.specs.Stages.{IsStage, IsPlayable, HaveRun, AreThreads, AreLoopers, AreThreadKits, AreSenderKits, OthersHaveEnded, LoopersGoOn};
+ghost use Rattle.dash_stage.specs.Stages.{IsPlayable, AreThreads, AreLoopers, AreThreadKits, AreSenderKits, OthersHaveEnded, LoopersGoOn, IsStageIn, HaveRunBy};
+ghost use Rattle.dash_threads.specs.Threads.{AreByClock};
+ghost use Rattle.dash_stage.specs.RunEnds.{HasEndedBy, HasEndedInLockstep};
 
 use crate::records::records;
 use crate::run::Ran;
@@ -39,16 +39,9 @@ use std::alloc::Global;
 pub(crate) fn report(alloc: Global, script: Script, stage: Stage) -> Ran
     requires playable { IsPlayable script }
     requires text { HasText script }
-    requires stage { IsStage script stage }
-    requires run { HaveRun script script.blocks stage.threads.items }
-    requires closed { HasClosed script stage.controller }
+    requires out { HasEndedInLockstep script stage }
     requires ended { OthersHaveEnded stage.loopers.items }
     requires on { LoopersGoOn stage.loopers.items }
-    requires timely { AreTimelyUpTo script script.blocks stage }
-    requires halted { HasHaltedLast script stage }
-    requires played { ArePlayed script stage }
-    requires first { HaveComeFirst script stage }
-    requires moves { AreMoved script stage.controller }
     ensures { Stages script result }
 {
     match kept(alloc, &script, stage) {
@@ -70,29 +63,22 @@ fn kept(
     stage: Stage,
 ) -> Result<(Vec<QueueRecord>, Vec<Journal>, Vec<FrameRecord>), NoMemory>
     requires playable { IsPlayable script.now }
-    requires stage { IsStage script.now stage }
+    requires stage { IsStageIn stage.hall.lockstep script.now stage }
     requires text { HasText script.now }
-    requires run { HaveRun script.now script.now.blocks stage.threads.items }
-    requires closed { HasClosed script.now stage.controller }
     requires ended { OthersHaveEnded stage.loopers.items }
     requires on { LoopersGoOn stage.loopers.items }
-    requires timely { AreTimelyUpTo script.now script.now.blocks stage }
-    requires halted { HasHaltedLast script.now stage }
-    requires played { ArePlayed script.now stage }
-    requires first { HaveComeFirst script.now stage }
-    requires moves { AreMoved script.now stage.controller }
-    ensures queues { IfOk result (λ r. AreQueueRecords script.now r.0.items) }
-    ensures planned { IfOk result (λ r. AllByRecursion (IsAsPlanned in_lockstep script.now) r.0.items) }
-    ensures halted { IfOk result (λ r. main_ends_halted r.0.items ≡ true) }
-    ensures timely { IfOk result (λ r. AllByRecursion (IsTimely script.now) r.0.items) }
-    ensures loopers { IfOk result (λ r. EachLooper (IsLooperRun in_lockstep script.now r.0.items) r.0.items r.1.items r.2.items) }
-    ensures controls { IfOk result (λ r. AllByRecursion (IsControlled script.now) r.0.items) }
+    ensures queues { (m : Mode) → HasEndedBy m script.now stage → IfOk result (λ r. AreQueueRecords m script.now r.0.items) }
+    ensures planned { (m : Mode) → HaveRunBy m script.now script.now.blocks stage.threads.items → IfOk result (λ r. AllByRecursion (IsAsPlanned m script.now) r.0.items) }
+    ensures controls { (m : Mode) → HasEndedBy m script.now stage → HasClosedIn m.lockstep script.now stage.controller → IfOk result (λ r. AllByRecursion (IsControlled script.now) r.0.items) }
+    ensures halted { (m : Mode) → HasEndedBy m script.now stage → HasHaltedLast script.now stage → IfOk result (λ r. main_ends_halted r.0.items ≡ true) }
+    ensures timely { HasEndedInLockstep script.now stage → IfOk result (λ r. AllByRecursion (IsTimely script.now) r.0.items) }
+    ensures loopers { HasEndedInLockstep script.now stage → IfOk result (λ r. EachLooper (IsLooperRun in_lockstep script.now r.0.items) r.0.items r.1.items r.2.items) }
     ensures journals { IfOk result (λ r. AreJournals script.now r.1.items) }
     ensures frames { IfOk result (λ r. AreFrameRecords script.now r.2.items) }
     ensures run { IfOk result (λ r. AllByRecursion (IsFrameRun script.now) r.2.items) }
-    ensures first { IfOk result (λ r. AreBlocksFirst script.now r.0.items) }
-    ensures reached { IfOk result (λ r. AreBlocksReached script.now r.0.items) }
-    ensures moves { IfOk result (λ r. AreMovedTogether script.now (map (λ q. moves (controller script.now) (history_of q)) r.0.items)) }
+    ensures first { HasEndedInLockstep script.now stage → IfOk result (λ r. AreBlocksFirst script.now r.0.items) }
+    ensures reached { HasEndedInLockstep script.now stage → IfOk result (λ r. AreBlocksReached script.now r.0.items) }
+    ensures moves { HasEndedInLockstep script.now stage → IfOk result (λ r. AreMovedTogether script.now (map (λ q. moves (controller script.now) (history_of q)) r.0.items)) }
 {
     let Stage {
         hall,
@@ -117,9 +103,9 @@ fn thread_kits(
     mut threads: Vec<PostingThread>,
 ) -> Result<Vec<Kit>, NoMemory>
     requires threads { AreThreads script.now hall.now threads.items }
-    requires run { HaveRun script.now script.now.blocks threads.items }
     ensures kits { IfOk result (λ v. AreThreadKits script.now hall.now v.items) }
-    ensures run { IfOk result (λ v. HaveRunAll script.now v.items) }
+    ensures run { (m : Mode) → HaveRunBy m script.now script.now.blocks threads.items → IfOk result (λ v. HaveRunAll m script.now v.items) }
+    ensures clocked { (m : Mode) → OfThreads (AreByClock m) threads.items → IfOk result (λ v. OfKits (AreByClock m) v.items) }
     ensures seen { IfOk result (λ v. (whole : List (List Entry)) → OfThreads (HaveSeenAll whole) threads.items → OfKits (HaveSeenAll whole) v.items) }
 {
     let mut kits = Vec::new(alloc);
@@ -142,7 +128,8 @@ fn looper_kits(
     requires kits { AreThreadKits script.now hall.now kits.old.items }
     ensures journals { IfOk result (λ v. AreJournals script.now v.items) }
     ensures kits { OnOk result (AreSenderKits script.now hall.now kits.new.items) }
-    ensures run { OnOk result (HaveRunAll script.now kits.old.items → HaveRunAll script.now kits.new.items) }
+    ensures run { OnOk result ((m : Mode) → HaveRunAll m script.now kits.old.items → HaveRunAll m script.now kits.new.items) }
+    ensures clocked { OnOk result ((m : Mode) → OfLoopers (AreByClock m) loopers.items → OfKits (AreByClock m) kits.old.items → OfKits (AreByClock m) kits.new.items) }
     ensures told { IfOk result (λ v. LoopersGoOn loopers.items → HaveTold script.now v.items kits.new.items) }
     ensures left { IfOk result (λ v. HaveGiven script.now loopers.items v.items kits.new.items) }
     ensures over { OnOk result (OthersHaveEnded loopers.items → OthersAreOver script.now kits.new.items) }

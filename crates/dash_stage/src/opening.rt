@@ -3,9 +3,10 @@ ghost use Rattle.std.specs.Prelude.{◌≡◌, ◌<◌, ◌+◌, [], IfOk, OnOk,
 ghost use Rattle.dash_stage.specs.Controllers.{IsMoving, parts_in};
 ghost use Rattle.dash_stage.specs.Timeliness.{AreBy, AreTimelyUpTo, AreRested, WaitForNothing};
 ghost use Rattle.dash_hall.specs.Kits.{IsHall, AreUnseen, AreUnusedKits};
-ghost use Rattle.dash_stage.specs.Sharing.{OfThreads, OfLoopers};
+ghost use Rattle.dash_stage.specs.Sharing.{OfThreads, OfLoopers, OfSenders};
 ghost use Rattle.dash_stage.specs.Playing.{HaveBegun, IsInStep};
-ghost use Rattle.dash_stage.specs.Stages.{IsStage, IsPlayable, HaveRun, AreKitsFrom, AreThreads, AreLoopers};
+ghost use Rattle.dash_stage.specs.Stages.{IsPlayable, AreKitsFrom, AreThreads, AreLoopers, HaveRunBy, IsStageIn};
+ghost use Rattle.run_model.specs.Moments.{Mode};
 
 use crate::control::Controller;
 use crate::stage::Stage;
@@ -16,19 +17,20 @@ use dash_threads::PostingThread;
 use loop_model::{NoMemory, Segment};
 use std::alloc::Global;
 
-/// The senders of a script, which have done nothing.
-pub(crate) fn set_up(alloc: Global, script: &Script) -> Result<Stage, NoMemory>
+/// The senders of a script, which have done nothing, in lockstep or by a clock.
+pub(crate) fn set_up(alloc: Global, script: &Script, lockstep: bool) -> Result<Stage, NoMemory>
     requires { IsPlayable script.now }
-    ensures stage { IfOk result (λ st. IsStage script.now st) }
-    ensures begun { IfOk result (λ st. HaveRun script.now [] st.threads.items) }
+    ensures stage { IfOk result (λ st. IsStageIn lockstep script.now st) }
+    ensures begun { (m : Mode) → IfOk result (λ st. HaveRunBy m script.now [] st.threads.items) }
     ensures moving { IfOk result (λ st. IsMoving script.now st.controller) }
     ensures by { IfOk result (λ st. AreBy st.time st.controller × (st.time ≡ 0)) }
     ensures timely { IfOk result (λ st. AreTimelyUpTo script.now [] st) }
     ensures rested { IfOk result (λ st. AreRested script.now st) }
     ensures step { IfOk result (λ st. IsInStep script.now st) }
     ensures unseen { IfOk result (λ st. AreUnseen st.controller.kit.posters.items) }
+    ensures unused { IfOk result (λ st. OfSenders AreUnseen st) }
 {
-    let (hall, mut kits, pass) = open(alloc, script)?;
+    let (hall, mut kits, pass) = open(alloc, script, lockstep)?;
     let threads = threads(alloc, script, &hall, &mut kits)?;
     let loopers = loopers(alloc, script, &hall, &mut kits)?;
     let sealed = nothing_sealed(alloc, script.loopers)?;
@@ -68,7 +70,7 @@ fn threads(
     requires kits { AreKitsFrom script.now hall.now 0 kits.old.items }
     requires unused { AreUnusedKits kits.old.items }
     ensures threads { IfOk result (λ v. AreThreads script.now hall.now v.items) }
-    ensures begun { IfOk result (λ v. HaveRun script.now [] v.items) }
+    ensures begun { (m : Mode) → IfOk result (λ v. HaveRunBy m script.now [] v.items) }
     ensures unseen { IfOk result (λ v. OfThreads AreUnseen v.items) }
     ensures kits { OnOk result (AreKitsFrom script.now hall.now script.now.threads kits.new.items) }
     ensures unused { OnOk result (AreUnusedKits kits.new.items) }

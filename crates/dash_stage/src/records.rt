@@ -1,13 +1,14 @@
 //! The records of a run's queues and choreographers.
-ghost use Rattle.std.specs.Prelude.{◌≡◌, ◌<◌, ◌+◌, length, IfOk, OnOk};
+ghost use Rattle.std.specs.Prelude.{◌≡◌, ◌<◌, ◌+◌, length, IfOk, OnOk, ℕ, Bool};
 ghost use Rattle.atomic_table.specs.Seated.{TableId};
 ghost use Rattle.run_model.specs.Histories.{history_of};
 ghost use Rattle.run_model.specs.Senders.{sender_count};
 ghost use Rattle.dash_hall.specs.Kits.{IsHall, AreKitsOf, AreQueuesOf, AreChoreographersOf, frame_constants, frames_for};
 ghost use Rattle.dash_hall.specs.Dealing.{EachGivesPoster, given_of};
 ghost use Rattle.dash_stage.specs.Ending.{HavePosters, AreNext, AreSealed, HasSealedNext, HaveAllPosters, IsKeptOf, EachEndsPoster, KeepFrames, BeginWithPasses, HaveAllPasses, HaveFramesLeft, AreOfNext, BeginWithOwn, AreOfPool};
-ghost use Rattle.dash_stage.specs.Records.{AreQueueRecords, AreFrameRecords, AreAllTheirs, HaveAll, HaveSeenOwn};
+ghost use Rattle.dash_stage.specs.Records.{AreQueueRecords, AreFrameRecords, AreAllTheirs, HaveAll, HaveSeenOwn, HaveCalledByClock, AreOfLoopers};
 ghost use Rattle.run_model.specs.Run.{IsFrameRun};
+ghost use Rattle.run_model.specs.Moments.{Mode};
 
 use choreographer::{Choreographer, FramePass};
 use dash_hall::{Hall, Kit, holder, recycle_all};
@@ -33,13 +34,15 @@ pub(crate) fn records(
     requires kits { AreKitsOf script.now hall kits.items }
     requires sealed { AreSealed kits.items sealed.items }
     requires pass { pass.home ≡ hall.pool }
-    ensures queues { IfOk result (λ r. AreQueueRecords script.now r.0.items) }
+    ensures queues { (m : Mode) → m.lockstep ≡ hall.lockstep → HaveCalledByClock m script.now kits.items → IfOk result (λ r. AreQueueRecords m script.now r.0.items) }
     ensures frames { IfOk result (λ r. AreFrameRecords script.now r.1.items) }
+    ensures loopers { IfOk result (λ r. AreOfLoopers script.now r.0.items) }
     ensures all { IfOk result (λ r. HaveAll kits.items r.0.items) }
     ensures theirs { IfOk result (λ r. AreAllTheirs script.now kits.items r.1.items) }
     ensures own { IfOk result (λ r. HaveSeenOwn script.now.threads kits.items r.1.items) }
 {
     let Hall {
+        lockstep: _,
         pool,
         queues,
         choreographers,
@@ -63,12 +66,13 @@ fn queue_records(
     mut sealed: Vec<Vec<Segment>>,
 ) -> Result<Vec<QueueRecord>, NoMemory>
     requires pass { pass.old.home ≡ pool.now }
-    requires queues { AreQueuesOf script.now pool.now queues.items }
+    requires queues { (lockstep : Bool) × AreQueuesOf lockstep script.now pool.now queues.items }
     requires count { length kits.old.items ≡ sender_count script.now }
     requires kits { HaveAllPosters queues.items kits.old.items }
     requires sealed { AreSealed kits.old.items sealed.items }
     ensures pass { OnOk result (pass.new.home ≡ pool.now) }
-    ensures records { IfOk result (λ v. AreQueueRecords script.now v.items) }
+    ensures records { (m : Mode) → AreQueuesOf m.lockstep script.now pool.now queues.items → HaveCalledByClock m script.now kits.old.items → IfOk result (λ v. AreQueueRecords m script.now v.items) }
+    ensures loopers { IfOk result (λ v. AreOfLoopers script.now v.items) }
     ensures all { IfOk result (λ v. HaveAll kits.old.items v.items) }
     ensures kits { OnOk result (KeepFrames kits.old.items kits.new.items) }
 {

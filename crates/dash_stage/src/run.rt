@@ -2,11 +2,8 @@
 ghost use Rattle.std.specs.Prelude.{IfOk};
 ghost use Rattle.dash_script.specs.Reading.{HasText};
 ghost use Rattle.dash_stage.specs.Staged.{Stages};
-ghost use Rattle.dash_stage.specs.Controllers.{HasClosed};
-ghost use Rattle.dash_stage.specs.Timeliness.{AreTimelyUpTo, HasHaltedLast};
-ghost use Rattle.dash_stage.specs.Moves.{AreMoved};
-ghost use Rattle.dash_stage.specs.Playing.{ArePlayed, HaveComeFirst};
-ghost use Rattle.dash_stage.specs.Stages.{IsStage, HaveRun, OthersHaveEnded, LoopersGoOn};
+ghost use Rattle.dash_stage.specs.RunEnds.{HasEndedInLockstep};
+ghost use Rattle.dash_stage.specs.Stages.{OthersHaveEnded, LoopersGoOn};
 
 use crate::kept::report;
 use crate::opening::set_up;
@@ -58,18 +55,11 @@ fn played<R: Threads + Wait + Sync, G: Gate + Sync>(
     gate: &G,
 ) -> Result<Stage, NoMemory>
     requires { HasText script.now }
-    ensures stage { IfOk result (λ st. IsStage script.now st) }
-    ensures run { IfOk result (λ st. HaveRun script.now script.now.blocks st.threads.items) }
-    ensures closed { IfOk result (λ st. HasClosed script.now st.controller) }
+    ensures out { IfOk result (λ st. HasEndedInLockstep script.now st) }
     ensures ended { IfOk result (λ st. OthersHaveEnded st.loopers.items) }
     ensures on { IfOk result (λ st. LoopersGoOn st.loopers.items) }
-    ensures timely { IfOk result (λ st. AreTimelyUpTo script.now script.now.blocks st) }
-    ensures halted { IfOk result (λ st. HasHaltedLast script.now st) }
-    ensures played { IfOk result (λ st. ArePlayed script.now st) }
-    ensures first { IfOk result (λ st. HaveComeFirst script.now st) }
-    ensures moves { IfOk result (λ st. AreMoved script.now st.controller) }
 {
-    let mut stage = set_up(alloc, script)?;
+    let mut stage = set_up(alloc, script, true)?;
     let Ok(()) = stage.play(rt, alloc, script, gate) else {
         let _ = stage.give_up(rt, alloc, script, gate);
         return Err(NoMemory);

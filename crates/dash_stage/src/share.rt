@@ -3,7 +3,7 @@ ghost use Rattle.std.specs.Prelude.{◌≡◌, ◌<◌, List};
 ghost use Rattle.dash_script.specs.declared.script.Block.{Block};
 ghost use Rattle.shared_queue.specs.Known.{IsOf};
 ghost use Rattle.dash_stage.specs.Controllers.{CallsNone};
-ghost use Rattle.dash_stage.specs.Stages.{IsStage, HaveRun, OthersHaveEnded};
+ghost use Rattle.dash_stage.specs.Stages.{IsStage, HaveRun, OthersHaveEnded, IsStageIn};
 ghost use Rattle.dash_hall.specs.Hearing.{HasHeard, HaveHeard, HaveHeardAt, AtEach, AreKept, AreReady, AreKnown};
 ghost use Rattle.dash_stage.specs.Sharing.{AreWithin, StageKeeps, OfThreads, OfLoopers, SharesAt, HaveSeenTheSame};
 ghost use Rattle.dash_threads.specs.Threads.{ThreadKeeps};
@@ -33,8 +33,8 @@ impl Stage {
     }
 
     /// All senders come to have seen the same of the history of the queue at this place.
-    fn share_queue(&mut self, script: &Script, place: usize)
-        requires stage { IsStage script.now self.old }
+    pub(crate) fn share_queue(&mut self, script: &Script, place: usize)
+        requires stage { IsStageIn self.old.hall.lockstep script.now self.old }
         requires place { place < script.now.loopers }
         ensures shares { SharesAt place self.old self.new }
     {

@@ -4,6 +4,7 @@ ghost use Rattle.std.specs.Thread.{IsSync};
 ghost use Rattle.dash_script.specs.Reading.{HasText};
 ghost use Rattle.looper_run.specs.Round.{is_ended};
 ghost use Rattle.dash_hall.specs.Kits.{IsHall};
+ghost use Rattle.run_model.specs.Moments.{in_lockstep};
 ghost use Rattle.dash_threads.specs.Threads.{IsThread, Continues};
 ghost use Rattle.dash_loopers.specs.Loopers.{IsLooper, HasRun, ComesToWait};
 ghost use Rattle.dash_loopers.specs.declared.looper.StageLooper.{StageLooper};
@@ -65,7 +66,7 @@ pub(crate) fn run_threads<R: Threads + Wait + Sync, G: Gate + Sync>(
         count,
         &|_, thread: &mut PostingThread|
             requires { IsSync R.row × IsSync G.row × HasText script.now × IsHall script.now hall.now × IsThread script.now hall.now thread.old }
-            ensures { IsThread script.entry.now hall.entry.now thread.new × (thread.new.number ≡ thread.old.number) × (thread.new.gave_up ≡ false → Continues script.entry.now block.entry.now thread.old thread.new) }
+            ensures { IsThread script.entry.now hall.entry.now thread.new × (thread.new.number ≡ thread.old.number) × (thread.new.gave_up ≡ false → Continues in_lockstep script.entry.now block.entry.now thread.old thread.new) }
         { thread.run_block(rt, alloc, hall, script, gate, block) },
     );
     if has_given_up(threads) {
@@ -122,6 +123,7 @@ pub(crate) fn run_loopers<R: Threads + Wait + Sync, G: Gate + Sync>(
 ) -> Result<(), NoMemory>
     requires count { 0 < count }
     requires hall { IsHall script.now hall.now }
+    requires mode { hall.now.lockstep ≡ true }
     requires loopers { AreLoopers script.now hall.now loopers.old }
     ensures loopers { AreLoopers script.now hall.now loopers.new }
     ensures ended { OthersHaveEnded loopers.old → OthersHaveEnded loopers.new }
@@ -136,7 +138,7 @@ pub(crate) fn run_loopers<R: Threads + Wait + Sync, G: Gate + Sync>(
         loopers,
         count,
         &|_, looper: &mut StageLooper|
-            requires { IsSync R.row × IsSync G.row × IsHall script.now hall.now × IsLooper script.now hall.now looper.old }
+            requires { IsSync R.row × IsSync G.row × IsHall script.now hall.now × (hall.now.lockstep ≡ true) × IsLooper script.now hall.now looper.old }
             ensures { IsLooper script.entry.now hall.entry.now looper.new × (looper.new.number ≡ looper.old.number) × (is_ended looper.old.last ≡ true → is_ended looper.new.last ≡ true) × (has_turn turn looper.old.number ≡ true → ComesToWait script.entry.now looper.old looper.new) × (has_turn turn looper.old.number ≡ true → HasRun script.entry.now now looper.old looper.new) × (has_turn turn looper.old.number ≡ false → looper.new ≡ looper.old) × PlaysOn script.entry.now now looper.old looper.new }
         {
             if turn.has(looper.number) {

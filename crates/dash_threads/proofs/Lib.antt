@@ -7,3 +7,4 @@ pub mod ThreadRuns
 pub mod ThreadBlocks
 pub mod ThreadFrames
 pub mod ThreadFrameRuns
+pub mod ThreadNudges

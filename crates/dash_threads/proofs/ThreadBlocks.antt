@@ -1,13 +1,16 @@
 -- A thread that runs the lines of a block, one after another.
 use Rattle.std.proofs.Common.{◌≡◌, ◌≢◌, ℕ, ◌+◌, ◌<◌, ◌==◌, Bool, cond, List, [], ◌∷◌, ◌++◌, map, length, take, drop, get_or, sym, ap, ◌∙◌, subst, append_assoc, eq-eqb, ne_eqb}
 use Rattle.std.specs.Prelude.{filter}
-use Rattle.std.proofs.lemmas.List.{append-nil, map-append, take_more, drop_more, take-append-drop}
+use Rattle.std.proofs.lemmas.List.{append-nil, map-append, take_more, drop_more, take-append-drop, flat_map_more}
 use Rattle.std.proofs.lemmas.List.Elements.{filter-append}
 use Rattle.dash_script.specs.declared.script.Line.{Line}
 use Rattle.dash_script.specs.declared.script.Script.{Script}
-use Rattle.run_model.specs.Planned.{Timed, lines_of}
+use Rattle.run_model.specs.Moments.{Mode}
+use Rattle.run_model.specs.Planned.{Timed, lines_in, lines_of}
+use Rattle.dash_script.specs.declared.script.Block.{Block}
+use Rattle.std.proofs.lemmas.Grind.{flat_map-append}
 use Rattle.dash_threads.specs.declared.thread.PostingThread.{PostingThread}
-use Rattle.dash_threads.specs.Threads.{IsUpTo, Takes, HasRun, timed_in}
+use Rattle.dash_threads.specs.Threads.{IsUpTo, Takes, Continues, HasRun, timed_in}
 use Rattle.dash_threads.proofs.ThreadLabels.{at_time}
 
 timed_append : (n time : ℕ) (xs ys : List Line) → timed_in n time (xs ++ ys) ≡ timed_in n time xs ++ timed_in n time ys
@@ -20,8 +23,8 @@ timed_own n time l ls is = ap (λ (b : Bool). map (at_time time) (cond b (l ∷ 
 timed_other : (n time : ℕ) (l : Line) (ls : List Line) → l.thread ≢ n → timed_in n time (l ∷ ls) ≡ timed_in n time ls
 timed_other n time l ls isnt = ap (λ (b : Bool). map (at_time time) (cond b (l ∷ filter (λ (x : Line). x.thread == n) ls) (filter (λ (x : Line). x.thread == n) ls))) (ne_eqb l.thread n isnt)
 
-pub begins : (s : Script) (time : ℕ) (all : List Line) (t : PostingThread) → HasRun s time all [] t t
-begins s time all t = λ past rest are up. subst (λ (ls : List Timed). IsUpTo s ls t) (sym (append-nil past)) up
+pub begins : (m : Mode) (s : Script) (time : ℕ) (all : List Line) (t : PostingThread) → HasRun m s time all [] t t
+begins m s time all t = λ past rest are up. subst (λ (ls : List Timed). IsUpTo m s ls t) (sym (append-nil past)) up
 
 regroup : (a b c d : List Timed) (x : Timed) → (a ++ b) ++ (x ∷ (c ++ d)) ≡ a ++ ((b ++ (x ∷ c)) ++ d)
 regroup a b c d x = append_assoc a b (x ∷ (c ++ d)) ∙ ap (λ (l : List Timed). a ++ l) (sym (append_assoc b (x ∷ c) d))
@@ -49,17 +52,31 @@ other_more n time all i d l near is other =
     ap (timed_in n time) (take_more all i d near ∙ ap (λ (x : Line). take i all ++ x ∷ []) (sym is)) ∙ (timed_append n time (take i all) (l ∷ []) ∙ (ap (λ (x : List Timed). before ++ x) (timed_other n time l [] other) ∙ append-nil before))
 
 -- one line more of the thread, and one of another
-pub goes_on : (s : Script) (time : ℕ) (all : List Line) (i : ℕ) (d l : Line) (t u v : PostingThread) → i < length all → l ≡ get_or all i d → l.thread ≡ t.number → u.number ≡ t.number
-    → HasRun s time all (take i all) t u → Takes s (at_time time l) u v → HasRun s time all (take (i + 1) all) t v
-goes_on s time all i d l t u v near is own number has takes = λ past rest are up. (
+pub goes_on : (m : Mode) (s : Script) (time : ℕ) (all : List Line) (i : ℕ) (d l : Line) (t u v : PostingThread) → i < length all → l ≡ get_or all i d → l.thread ≡ t.number → u.number ≡ t.number
+    → HasRun m s time all (take i all) t u → Takes m s (at_time time l) u v → HasRun m s time all (take (i + 1) all) t v
+goes_on m s time all i d l t u v near is own number has takes = λ past rest are up. (
     let n = t.number in
     let before = timed_in n time (take i all) in
     let after = timed_in n time (drop (i + 1) all) in
     let split : (past ++ before) ++ (at_time time l ∷ (after ++ rest)) ≡ lines_of u.number s.blocks =
     split_at n time all i d l past rest near is own ∙ (are ∙ ap (λ (k : ℕ). lines_of k s.blocks) (sym number)) in
-    let done : IsUpTo s ((past ++ before) ++ at_time time l ∷ []) v = takes (past ++ before) (after ++ rest) split (has past rest are up) in
-    subst (λ (ls : List Timed). IsUpTo s ls v) (append_assoc past before (at_time time l ∷ []) ∙ ap (λ (x : List Timed). past ++ x) (sym (own_more n time all i d l near is own))) done)
+    let done : IsUpTo m s ((past ++ before) ++ at_time time l ∷ []) v = takes (past ++ before) (after ++ rest) split (has past rest are up) in
+    subst (λ (ls : List Timed). IsUpTo m s ls v) (append_assoc past before (at_time time l ∷ []) ∙ ap (λ (x : List Timed). past ++ x) (sym (own_more n time all i d l near is own))) done)
 
-pub goes_by : (s : Script) (time : ℕ) (all : List Line) (i : ℕ) (d l : Line) (t u : PostingThread) → i < length all → l ≡ get_or all i d → l.thread ≢ t.number → HasRun s time all (take i all) t u → HasRun s time all (take (i + 1) all) t u
-goes_by s time all i d l t u near is other has = λ past rest are up.
-    subst (λ (ls : List Timed). IsUpTo s (past ++ ls) u) (sym (other_more t.number time all i d l near is other)) (has past rest are up)
+pub goes_by : (m : Mode) (s : Script) (time : ℕ) (all : List Line) (i : ℕ) (d l : Line) (t u : PostingThread) → i < length all → l ≡ get_or all i d → l.thread ≢ t.number → HasRun m s time all (take i all) t u → HasRun m s time all (take (i + 1) all) t u
+goes_by m s time all i d l t u near is other has = λ past rest are up.
+    subst (λ (ls : List Timed). IsUpTo m s (past ++ ls) u) (sym (other_more t.number time all i d l near is other)) (has past rest are up)
+
+-- one block more of all
+pub block_goes_on : (m : Mode) (s : Script) (i : ℕ) (d b : Block) (t u v : PostingThread) → i < length s.blocks → b ≡ get_or s.blocks i d → u.number ≡ t.number
+    → (IsUpTo m s [] t → IsUpTo m s (lines_of t.number (take i s.blocks)) u) → Continues m s b u v → IsUpTo m s [] t → IsUpTo m s (lines_of t.number (take (i + 1) s.blocks)) v
+block_goes_on m s i d b t u v near is number so_far on begun =
+    let bs = s.blocks in
+    let n = t.number in
+    let rest = drop (i + 1) bs in
+    let here : take i bs ++ (b ∷ rest) ≡ bs = ap (λ (x : List Block). take i bs ++ x) (ap (λ (x : Block). x ∷ rest) is ∙ sym (drop_more bs i d near)) ∙ take-append-drop i bs in
+    let whole : lines_of n (take i bs) ++ (lines_in n b ++ lines_of n rest) ≡ lines_of n bs = sym (flat_map-append (lines_in n) (take i bs) (b ∷ rest)) ∙ ap (lines_of n) here in
+    let goes : (p r : List Timed) → p ++ (lines_in n b ++ r) ≡ lines_of n bs → IsUpTo m s p u → IsUpTo m s (p ++ lines_in n b) v =
+    subst (λ (k : ℕ). (p r : List Timed) → p ++ (lines_in k b ++ r) ≡ lines_of k bs → IsUpTo m s p u → IsUpTo m s (p ++ lines_in k b) v) number on in
+    let more : lines_of n (take i bs) ++ lines_in n b ≡ lines_of n (take (i + 1) bs) = flat_map_more (lines_in n) [] (take i bs) b ∙ ap (lines_of n) (ap (λ (x : Block). take i bs ++ x ∷ []) is ∙ sym (take_more bs i d near)) in
+    subst (λ (ls : List Timed). IsUpTo m s ls v) more (goes (lines_of n (take i bs)) (lines_of n rest) whole (so_far begun))

@@ -1,10 +1,10 @@
 -- A thread that runs a line of frame callbacks.
-use Rattle.std.proofs.Common.{◌≡◌, ◌≢◌, ℕ, ◌+◌, ◌<◌, ◌==◌, Bool, true, false, List, [], ◌∷◌, ◌++◌, length, set, get_or, Option, Some, None, refl, sym, ap, ◌∙◌, subst, arith, inl, eq-eqb}
+use Rattle.std.proofs.Common.{◌≡◌, ◌≢◌, ℕ, ◌+◌, ◌<◌, ◌≤◌, ◌==◌, Bool, true, false, List, [], ◌∷◌, ◌++◌, map, length, set, get_or, Option, Some, None, refl, sym, ap, ◌∙◌, subst, arith, inl, eq-eqb}
 use Rattle.std.specs.Prelude.{MatchBool, if◌then◌else◌}
 use Rattle.std.specs.List.{cons_option}
 use Rattle.std.specs.Option.{option_map}
 use Rattle.std.proofs.lemmas.Bool.{and_parts, eqb-true, ltb-true}
-use Rattle.std.proofs.lemmas.List.{get_or_read, get_or-set_same, get_or-set_other, length-set, append-nil, length-append}
+use Rattle.std.proofs.lemmas.List.{get_or_read, get_or-set_same, get_or-set_other, length-set, append-nil, length-append, map-append}
 use Rattle.loop_model.specs.declared.call.Call.TheVariants as call
 use Rattle.dash_script.specs.declared.script.Command.TheVariants.{Frame, Unframe}
 use Rattle.dash_script.specs.declared.script.Script.{Script}
@@ -13,20 +13,24 @@ use Rattle.dash_script.specs.Reading.{HasText}
 use Rattle.looper_run.specs.Holding.{Sender}
 use Rattle.choreographer.specs.Known.{Known as Pass}
 use Rattle.run_model.specs.Asks.{call_of, tokens_in}
+use Rattle.run_model.specs.Moments.{Mode, IsUptime, IsMoment}
 use Rattle.run_model.specs.Planned.{Timed, labels_on, lines_of, frame_message, frame_due, on}
-use Rattle.run_model.specs.FrameAsks.{FrameAsk, Posts, Removes, line_asks, lines_ask}
+use Rattle.run_model.specs.FrameAsks.{FrameAsk, Posts, Removes, as_told, line_asks, lines_ask}
 use Rattle.dash_threads.specs.declared.labels.Labelled.{Labelled}
 use Rattle.dash_hall.specs.declared.handlers.Request.TheVariants as request
 use Rattle.dash_hall.specs.declared.calls.QueueCall.TheVariants as on_queue
 use Rattle.dash_threads.specs.declared.planned.PlannedCall.{PlannedCall}
+use mathlib.Core.List.{IsPrefix}
 use Rattle.dash_hall.specs.Growth.{own, Makes}
+use Rattle.dash_hall.specs.ByClock.{IsByClock}
+use Rattle.dash_hall.proofs.Clocking.{clocked_same}
 use Rattle.dash_hall.specs.Requests.{call_made}
 use Rattle.dash_hall.specs.Hosts.{asks_of, AsksFor, PostsFrame}
-use Rattle.dash_threads.specs.Threads.{HasCalled, HasAsked, HasTurned, KeepsBarriers, Progress, CallsAt}
+use Rattle.dash_threads.specs.Threads.{HasCalled, AreByClock, HasAsked, HasTurned, KeepsBarriers, Progress, CallsAt}
 use Rattle.dash_threads.proofs.ThreadText.{line_passes}
 use Rattle.dash_threads.proofs.ThreadPlans.{asked_if}
 use Rattle.dash_threads.proofs.ThreadSteps.{calls_at_set, step_calls}
-use Rattle.dash_threads.proofs.ThreadRuns.{line, called_more, kept_same, labels_none, asks_more}
+use Rattle.dash_threads.proofs.ThreadRuns.{AreInMode, line, called_more, clocked_more, kept_same, labels_none, asks_more}
 
 -- a relation of each element before and after one was replaced
 at_place : {A : Type 0} (P : A → A → Type 0) (xs : List A) (i k : ℕ) (x y d : A) → x ≡ get_or xs i x → i < length xs → ((i == k) ≡ true → P x y) → ((i == k) ≡ false → P (get_or xs k d) (get_or xs k d)) → (b : Bool) → (i == k) ≡ b → P (get_or xs k d) (get_or (set xs i y) k d)
@@ -42,27 +46,40 @@ at_place P xs i k x y d is near here there false other =
 abbrev due_call : ℕ → ℕ → ℕ → ℕ → PlannedCall
 due_call u lo phase delay = record { looper = lo; call = on_queue.ByHandler (record { id = 64 + lo; asynchronous = true }) (request.Send 2 phase None (frame_due u delay)) }
 
-module _ (s : Script) (u lo phase id delay n : ℕ) (bs : List Labelled) (ps : List Sender) (past : List Timed) (p q : Sender) (is : p ≡ get_or ps lo p) (near : lo < length ps) (called : HasCalled s past n ps) (kept : KeepsBarriers past bs ps) where
+-- in free mode the due time of what a line asks for is left open
+told_due : (m : Mode) (time u phase id delay : ℕ) → IsUptime m time u → as_told m.lockstep (Posts phase (frame_due u delay) id None) ≡ as_told m.lockstep (Posts phase (frame_due time delay) id None)
+told_due m time u phase id delay up = by_mode m.lockstep up
+  where
+    by_mode : (b : Bool) → MatchBool b (u ≡ time) ((time ≤ u) × IsMoment m u) → as_told b (Posts phase (frame_due u delay) id None) ≡ as_told b (Posts phase (frame_due time delay) id None)
+    by_mode true is = ap (λ (n : ℕ). Posts phase (frame_due n delay) id None) is
+    by_mode false is = refl
+
+module _ (m : Mode) (s : Script) (time u lo phase id delay n : ℕ) (bs : List Labelled) (ps : List Sender) (past : List Timed) (p q : Sender) (allowed : IsUptime m time u) (mode : AreInMode m ps) (is : p ≡ get_or ps lo p) (near : lo < length ps) (sender : q.sender ≡ p.sender) (seen : IsPrefix p.view.seen q.view.seen) (called : HasCalled m s past n ps) (clocked : AreByClock m ps) (kept : KeepsBarriers past bs ps) where
   same_own : own q ≡ own p → (k : ℕ) (d : Sender) → own (get_or (set ps lo q) k d) ≡ own (get_or ps k d)
   same_own same k d = at_place (λ (a b : Sender). own b ≡ own a) ps lo k p q d is near (λ here. same) (λ there. refl) (lo == k) refl
 
   calls_by : (z : Bool) → (delay == 0) ≡ z → MatchBool z (own q ≡ own p) (Makes p q (call_made (due_call u lo phase delay).call) [])
-      → HasCalled s (past ++ line u (Frame lo phase id delay) ∷ []) n (set ps lo q) × KeepsBarriers (past ++ line u (Frame lo phase id delay) ∷ []) bs (set ps lo q)
+      → HasCalled m s (past ++ line time (Frame lo phase id delay) ∷ []) n (set ps lo q) × AreByClock m (set ps lo q) × KeepsBarriers (past ++ line time (Frame lo phase id delay) ∷ []) bs (set ps lo q)
   calls_by false some made =
       let pc = due_call u lo phase delay in
-      let calls : CallsAt lo (call_made pc.call) [] ps (set ps lo q) = calls_at_set ps lo p q (call_made pc.call) [] is near made in (
-        called_more s past (line u (Frame lo phase id delay)) n n ps (set ps lo q) pc None refl calls called
+      let l = line time (Frame lo phase id delay) in
+      let calls : CallsAt lo pc.call None ps (set ps lo q) = calls_at_set ps lo p q pc.call None is near (record { sender = sender; seen = seen; made = made; moment = tt }) in (
+        called_more m s u l ps (set ps lo q) pc None allowed mode (λ P h. tt) calls past n n refl called
             (λ k d near'. ap (λ (z : Bool). option_map (call_of (tokens_in (own (get_or ps k d)))) (if z then None else on k lo (call.Post (frame_message lo 2 phase (frame_due u delay))))) some
             ∙ asked_if (tokens_in (own (get_or ps k d))) (call.Post (frame_message lo 2 phase (frame_due u delay))) (lo == k)),
-        kept_same past (line u (Frame lo phase id delay)) bs bs ps (set ps lo q) pc None calls kept refl (λ k. refl) (λ near'. refl),
+        clocked_more m s u l ps (set ps lo q) pc None allowed mode (λ P h. tt) calls clocked,
+        kept_same past l bs bs ps (set ps lo q) pc None calls kept refl (λ k. refl) (λ near'. refl),
       )
   calls_by true none same = (
     (λ k d near'. (
         let near'' : k < length ps = omega (arith, near', length-set ps lo q) in
-        step_calls s (labels_on k (lines_of n s.blocks)) k past (line u (Frame lo phase id delay)) (own (get_or ps k d)) (own (get_or (set ps lo q) k d)) (called k d near'')
+        step_calls m s (labels_on k (lines_of n s.blocks)) k u past (line time (Frame lo phase id delay)) (own (get_or ps k d)) (own (get_or (set ps lo q) k d)) allowed (called k d near'')
         (inl (ap (λ (z : Bool). if z then None else on k lo (call.Post (frame_message lo 2 phase (frame_due u delay)))) none, same_own same k d)))),
+    (λ k d near'. (
+        let near'' : k < length ps = omega (arith, near', length-set ps lo q) in
+        at_place (λ (a b : Sender). IsByClock m a → IsByClock m b) ps lo k p q d is near (λ here. clocked_same m p q sender seen same) (λ there h. h) (lo == k) refl (clocked k d near''))),
     record {
-      labels = λ k. kept.labels k ∙ sym (labels_none k past (line u (Frame lo phase id delay)) refl);
+      labels = λ k. kept.labels k ∙ sym (labels_none k past (line time (Frame lo phase id delay)) refl);
       tokens = λ k d near'. (let near'' : k < length ps = omega (arith, near', length-set ps lo q) in kept.tokens k d near'' ∙ ap tokens_in (sym (same_own same k d)));
     },
   )
@@ -71,20 +88,28 @@ asked_if_here : (ask : FrameAsk) (k : ℕ) (l : Timed) (b : Bool) → line_asks 
 asked_if_here ask k l true plan = ap (λ (o : Option FrameAsk). cons_option o []) plan
 asked_if_here ask k l false plan = ap (λ (o : Option FrameAsk). cons_option o []) plan
 
--- one pass has asked for what a line asks for, in one turn
-module _ (l : Timed) (lo : ℕ) (ask : FrameAsk) (past : List Timed) (fs : List Pass) (f g : Pass) (is : f ≡ get_or fs lo f) (near : lo < length fs) (plan : (k : ℕ) → line_asks k l ≡ (if lo == k then Some ask else None)) where
+-- one pass has asked for what a line asks for, as it is told in the mode, in one turn
+module _ (m : Mode) (l : Timed) (lo : ℕ) (ask did : FrameAsk) (told : as_told m.lockstep did ≡ as_told m.lockstep ask) (past : List Timed) (fs : List Pass) (f g : Pass) (is : f ≡ get_or fs lo f) (near : lo < length fs) (plan : (k : ℕ) → line_asks k l ≡ (if lo == k then Some ask else None)) where
   planned_here : (k : ℕ) → lines_ask k (past ++ l ∷ []) ≡ lines_ask k past ++ (if lo == k then ask ∷ [] else [])
   planned_here k = asks_more k past l ∙ ap (λ (xs : List FrameAsk). lines_ask k past ++ xs) (asked_if_here ask k l (lo == k) (plan k))
 
-  asked_more : AsksFor ask f g → HasAsked past fs → HasAsked (past ++ l ∷ []) (set fs lo g)
+  told_if : (b : Bool) → map (as_told m.lockstep) (if b then did ∷ [] else []) ≡ map (as_told m.lockstep) (if b then ask ∷ [] else [])
+  told_if true = ap (λ (a : FrameAsk). a ∷ []) told
+  told_if false = refl
+
+  asked_more : AsksFor did f g → HasAsked m past fs → HasAsked m (past ++ l ∷ []) (set fs lo g)
   asked_more asks has k d near' =
       let near'' : k < length fs = omega (arith, near', length-set fs lo g) in
-      let grown : asks_of (get_or (set fs lo g) k d) ≡ asks_of (get_or fs k d) ++ (if lo == k then ask ∷ [] else []) =
-      at_place (λ (a b : Pass). asks_of b ≡ asks_of a ++ (if lo == k then ask ∷ [] else [])) fs lo k f g d is near
-      (λ here. asks ∙ ap (λ (b : Bool). asks_of f ++ (if b then ask ∷ [] else [])) (sym here))
-      (λ there. sym (append-nil (asks_of (get_or fs k d))) ∙ ap (λ (b : Bool). asks_of (get_or fs k d) ++ (if b then ask ∷ [] else [])) (sym there))
+      let told_of = map (as_told m.lockstep) in
+      let grown : asks_of (get_or (set fs lo g) k d) ≡ asks_of (get_or fs k d) ++ (if lo == k then did ∷ [] else []) =
+      at_place (λ (a b : Pass). asks_of b ≡ asks_of a ++ (if lo == k then did ∷ [] else [])) fs lo k f g d is near
+      (λ here. asks ∙ ap (λ (b : Bool). asks_of f ++ (if b then did ∷ [] else [])) (sym here))
+      (λ there. sym (append-nil (asks_of (get_or fs k d))) ∙ ap (λ (b : Bool). asks_of (get_or fs k d) ++ (if b then did ∷ [] else [])) (sym there))
       (lo == k) refl in
-      grown ∙ (ap (λ (xs : List FrameAsk). xs ++ (if lo == k then ask ∷ [] else [])) (has k d near'') ∙ sym (planned_here k))
+      ap told_of grown
+      ∙ (map-append (as_told m.lockstep) (asks_of (get_or fs k d)) (if lo == k then did ∷ [] else [])
+      ∙ ((λ i. has k d near'' i ++ told_if (lo == k) i)
+      ∙ (sym (map-append (as_told m.lockstep) (lines_ask k past) (if lo == k then ask ∷ [] else [])) ∙ sym (ap told_of (planned_here k)))))
 
   turned_more : g.view.turns ≡ f.view.turns + 1 → HasTurned past fs → HasTurned (past ++ l ∷ []) (set fs lo g)
   turned_more turn has k d near' =
@@ -104,28 +129,37 @@ module _ (l : Timed) (lo : ℕ) (ask : FrameAsk) (past : List Timed) (fs : List 
       one_long true = refl
       one_long false = refl
 
-pub frame_progress : (s : Script) (u lo phase id delay n : ℕ) (bs : List Labelled) (ps : List Sender) (fs : List Pass) (p q : Sender) (f g : Pass) (past : List Timed) → p ≡ get_or ps lo p → f ≡ get_or fs lo f → lo < length ps → lo < length fs
-    → PostsFrame (64 + lo) u phase id delay p q f g → Progress s past n bs ps fs → Progress s (past ++ line u (Frame lo phase id delay) ∷ []) n bs (set ps lo q) (set fs lo g)
-frame_progress s u lo phase id delay n bs ps fs p q f g past is is' near near' made up =
-    let calls = calls_by s u lo phase id delay n bs ps past p q is near up.called up.barriers (delay == 0) refl made.calls in
+pub frame_progress : (m : Mode) (s : Script) (time u lo phase id delay n : ℕ) (bs : List Labelled) (ps : List Sender) (fs : List Pass) (p q : Sender) (f g : Pass) (past : List Timed) → IsUptime m time u → AreInMode m ps
+    → p ≡ get_or ps lo p → f ≡ get_or fs lo f → lo < length ps → lo < length fs → q.sender ≡ p.sender → IsPrefix p.view.seen q.view.seen
+    → PostsFrame (64 + lo) u phase id delay p q f g → Progress m s past n bs ps fs → Progress m s (past ++ line time (Frame lo phase id delay) ∷ []) n bs (set ps lo q) (set fs lo g)
+frame_progress m s time u lo phase id delay n bs ps fs p q f g past allowed mode is is' near near' sender seen made up =
+    let calls = calls_by m s time u lo phase id delay n bs ps past p q allowed mode is near sender seen up.called up.clocked up.barriers (delay == 0) refl made.calls in
+    let l = line time (Frame lo phase id delay) in
+    let ask = Posts phase (frame_due time delay) id None in
+    let did = Posts phase (frame_due u delay) id None in
+    let told : as_told m.lockstep did ≡ as_told m.lockstep ask = told_due m time u phase id delay allowed in
     record {
       called = calls.0;
-      barriers = calls.1;
-      asked = asked_more (line u (Frame lo phase id delay)) lo (Posts phase (frame_due u delay) id None) past fs f g is' near' (λ k. refl) made.asks up.asked;
-      turned = turned_more (line u (Frame lo phase id delay)) lo (Posts phase (frame_due u delay) id None) past fs f g is' near' (λ k. refl) made.turn up.turned;
+      clocked = calls.1;
+      barriers = calls.2;
+      asked = asked_more m l lo ask did told past fs f g is' near' (λ k. refl) made.asks up.asked;
+      turned = turned_more m l lo ask did told past fs f g is' near' (λ k. refl) made.turn up.turned;
     }
 
-pub unframe_progress : (s : Script) (u lo phase id n : ℕ) (bs : List Labelled) (ps : List Sender) (fs : List Pass) (f g : Pass) (past : List Timed) → f ≡ get_or fs lo f → lo < length fs
-    → AsksFor (Removes phase id None) f g → g.view.turns ≡ f.view.turns + 1 → Progress s past n bs ps fs → Progress s (past ++ line u (Unframe lo phase id) ∷ []) n bs ps (set fs lo g)
-unframe_progress s u lo phase id n bs ps fs f g past is near asks turn up =
+pub unframe_progress : (m : Mode) (s : Script) (time u lo phase id n : ℕ) (bs : List Labelled) (ps : List Sender) (fs : List Pass) (f g : Pass) (past : List Timed) → IsUptime m time u → f ≡ get_or fs lo f → lo < length fs
+    → AsksFor (Removes phase id None) f g → g.view.turns ≡ f.view.turns + 1 → Progress m s past n bs ps fs → Progress m s (past ++ line time (Unframe lo phase id) ∷ []) n bs ps (set fs lo g)
+unframe_progress m s time u lo phase id n bs ps fs f g past allowed is near asks turn up =
+    let l = line time (Unframe lo phase id) in
+    let ask = Removes phase id None in
     record {
-      called = λ k d near'. step_calls s (labels_on k (lines_of n s.blocks)) k past (line u (Unframe lo phase id)) (own (get_or ps k d)) (own (get_or ps k d)) (up.called k d near') (inl (refl, refl));
+      called = λ k d near'. step_calls m s (labels_on k (lines_of n s.blocks)) k u past l (own (get_or ps k d)) (own (get_or ps k d)) allowed (up.called k d near') (inl (refl, refl));
+      clocked = up.clocked;
       barriers = record {
-        labels = λ k. up.barriers.labels k ∙ sym (labels_none k past (line u (Unframe lo phase id)) refl);
+        labels = λ k. up.barriers.labels k ∙ sym (labels_none k past l refl);
         tokens = up.barriers.tokens;
       };
-      asked = asked_more (line u (Unframe lo phase id)) lo (Removes phase id None) past fs f g is near (λ k. refl) asks up.asked;
-      turned = turned_more (line u (Unframe lo phase id)) lo (Removes phase id None) past fs f g is near (λ k. refl) turn up.turned;
+      asked = asked_more m l lo ask ask refl past fs f g is near (λ k. refl) asks up.asked;
+      turned = turned_more m l lo ask ask refl past fs f g is near (λ k. refl) turn up.turned;
     }
 
 -- a line of a text names a looper and a phase that are there

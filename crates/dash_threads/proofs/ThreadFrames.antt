@@ -1,7 +1,7 @@
 -- The frame callbacks that a thread posts and removes.
-use Rattle.std.proofs.Common.{◌≡◌, ℕ, [], ◌∷◌, ◌++◌, None, sym, ap, ◌∙◌, subst}
+use Rattle.std.proofs.Common.{◌≡◌, ℕ, ◌<◌, true, List, [], ◌∷◌, ◌++◌, map, length, None, refl, sym, ap, ◌∙◌, subst}
 use Rattle.std.proofs.lemmas.List.Elements.{filter_map-append}
-use Rattle.std.specs.Prelude.{Result, Ok, Err, OnOk}
+use Rattle.std.specs.Prelude.{Result, Ok, Err, OnOk, slice_index_or}
 use Rattle.message_pool.specs.Passes.{Tally}
 use Rattle.frame_phases.specs.declared.entry.FrameEntry.TheVariants as frame
 use Rattle.frame_phases.specs.State.{removed, past}
@@ -10,9 +10,12 @@ use Rattle.looper_run.specs.Holding.{Sender}
 use Rattle.choreographer.specs.declared.kept.Kept.{Kept}
 use Rattle.choreographer.specs.Known.{Known as Pass, IsTurn}
 use Rattle.choreographer.proofs.Recorded.{turn_records}
-use Rattle.run_model.specs.FrameAsks.{Removes, asked_in, asks_in}
+use Rattle.run_model.specs.Moments.{in_lockstep}
+use Rattle.run_model.specs.Planned.{Timed}
+use Rattle.run_model.specs.FrameAsks.{FrameAsk, Posts, Removes, Runs, asked_in, asks_in, as_told, lines_ask}
 use Rattle.dash_hall.specs.Growth.{GoesOn}
-use Rattle.dash_hall.specs.Hosts.{Origin, IsHost, sends_by, PlacesBy, PostsFrame, AsksFor}
+use Rattle.dash_hall.specs.Hosts.{Origin, IsHost, sends_by, PlacesBy, PostsFrame, asks_of, AsksFor}
+use Rattle.dash_threads.specs.Threads.{HasAsked}
 use Rattle.dash_hall.proofs.FramePosts.{posts_frame_by}
 
 -- a frame callback was posted by a host that was made of this poster
@@ -31,3 +34,14 @@ removal_asks phase id f g x y t is =
     let e = frame.Removed phase id None (removed_count (past x.frames) phase id None) in
     let left : x.frames.entries ++ e ∷ [] ≡ y.frames.entries = sym (ap (λ (z : Kept). z.frames.entries) is) in
     ap asks_in (turn_records f g x y (e ∷ []) t left) ∙ filter_map-append asked_in f.view.own (e ∷ [])
+
+-- ---- what is told in lockstep is all that was asked for
+
+told_whole : (xs : List FrameAsk) → map (as_told true) xs ≡ xs
+told_whole [] = refl
+told_whole (Posts phase due id token ∷ xs) = ap (λ (l : List FrameAsk). Posts phase due id token ∷ l) (told_whole xs)
+told_whole (Removes phase id token ∷ xs) = ap (λ (l : List FrameAsk). Removes phase id token ∷ l) (told_whole xs)
+told_whole (Runs start ∷ xs) = ap (λ (l : List FrameAsk). Runs start ∷ l) (told_whole xs)
+
+pub asked_in_lockstep : (past : List Timed) (fs : List Pass) → HasAsked in_lockstep past fs → (q : ℕ) (d : Pass) → q < length fs → asks_of (slice_index_or fs q d) ≡ lines_ask q past
+asked_in_lockstep past fs has q d near = sym (told_whole (asks_of (slice_index_or fs q d))) ∙ (has q d near ∙ told_whole (lines_ask q past))

@@ -1,5 +1,5 @@
 -- The posters and passes of a thread, by the place of their looper.
-use Rattle.std.proofs.Common.{◌≡◌, ℕ, ◌<◌, length, get_or, ap, ◌∙◌, arith}
+use Rattle.std.proofs.Common.{◌≡◌, ℕ, ◌<◌, false, length, get_or, Some, ap, ◌∙◌, arith}
 use Rattle.dash_script.specs.declared.script.Script.{Script}
 use Rattle.dash_script.specs.Causes.{phase_count}
 use Rattle.atomic_table.specs.Seated.{TableId}
@@ -10,7 +10,12 @@ use Rattle.choreographer.specs.declared.view.Constants.{Constants as FrameConsta
 use Rattle.choreographer.specs.Known.{Shared as Frames, Known as Pass, IsOf as IsFrameOf}
 use Rattle.dash_hall.specs.declared.hall.Hall.{Hall}
 use Rattle.dash_hall.specs.Kits.{IsHall}
-use Rattle.dash_hall.proofs.Badges.{poster_is, pass_is, queue_count, queue_is, choreographer_count, choreographer_at}
+use Rattle.run_model.specs.Moments.{Mode, IfFree}
+use Rattle.std.proofs.lemmas.Bool.{MatchBool-at_false}
+use Rattle.dash_hall.proofs.Clocking.{if_free}
+use Rattle.dash_hall.specs.Kits.{badge_of, badge_for, queue_constants}
+use Rattle.dash_threads.proofs.ThreadRuns.{AreInMode}
+use Rattle.dash_hall.proofs.Badges.{alike_length, poster_at, queue_at, poster_is, pass_is, queue_count, queue_is, choreographer_count, choreographer_at}
 use Rattle.dash_threads.specs.declared.thread.PostingThread.{PostingThread}
 use Rattle.dash_threads.specs.Threads.{IsThread}
 
@@ -21,8 +26,8 @@ module _ (s : Script) (hall : Hall) (t : PostingThread) (h : IsHall s hall) (own
 
   pub its_home : (q : Shared TableId) → q ≡ get_or hall.queues.items i q → i < length hall.queues.items → q.constants.home ≡ hall.pool
   its_home q is near =
-      let within : i < s.loopers = omega (arith, near, queue_count s hall.pool hall.queues.items h.queues) in
-      ap (λ (c : Constants TableId). c.home) (queue_is s hall.pool hall.queues.items h.queues i q within is)
+      let within : i < s.loopers = omega (arith, near, queue_count hall.lockstep s hall.pool hall.queues.items h.queues) in
+      ap (λ (c : Constants TableId). c.home) (queue_is hall.lockstep s hall.pool hall.queues.items h.queues i q within is)
 
   pub its_pass : (c : Frames) (p : Pass) → c ≡ get_or hall.choreographers.items i c → p ≡ get_or t.kit.frames.items i p → i < length t.kit.frames.items → IsFrameOf p c
   its_pass c p is is' near = pass_is t.number hall.choreographers.items t.kit.frames.items own.frames i p c near is' is
@@ -31,3 +36,12 @@ module _ (s : Script) (hall : Hall) (t : PostingThread) (h : IsHall s hall) (own
   its_phases c is near =
       let within : i < s.loopers = omega (arith, near, choreographer_count s hall.choreographers.items h.choreographers) in
       ap (λ (z : Frames). z.constants.phases) is ∙ ap (λ (k : FrameConstants). k.phases) (choreographer_at s hall.choreographers.items h.choreographers i c within)
+
+-- in free mode its posters' queues are in free mode, as the hall is
+pub its_mode : (m : Mode) (s : Script) (hall : Hall) (t : PostingThread) → IsHall s hall → IsThread s hall t → IfFree m (hall.lockstep ≡ false) → AreInMode m t.kit.posters.items
+its_mode m s hall t h own mode = λ q d near. (
+    let other : Shared TableId = record { table = d.table; constants = queue_constants hall.lockstep s hall.pool q } in
+    let within : q < s.loopers = omega (arith, near, alike_length badge_of (badge_for t.number) t.kit.posters.items hall.queues.items own.posters, queue_count hall.lockstep s hall.pool hall.queues.items h.queues) in
+    let of_queue = (poster_at t.number hall.queues.items t.kit.posters.items own.posters q d other near).0 in
+    let is = queue_at hall.lockstep s hall.pool hall.queues.items h.queues q other within in
+    if_free m.lockstep _ (λ free. (queue_constants hall.lockstep s hall.pool q, of_queue.1 ∙ ap Some is, MatchBool-at_false (Unit {0}) (hall.lockstep ≡ false) free mode)))

@@ -9,8 +9,7 @@ use Rattle.dash_script.specs.declared.script.Command.TheVariants.{Post, PostAsyn
 use Rattle.dash_script.specs.declared.script.Script.{Script}
 use Rattle.run_model.specs.Senders.{looper_of, gauge_handler}
 use Rattle.run_model.specs.Asks.{Makes, call_of}
-use Rattle.run_model.specs.Planned.{planned, IsNoEarlier}
-use Rattle.run_model.specs.Moments.{in_lockstep}
+use Rattle.run_model.specs.Planned.{planned}
 use Rattle.dash_threads.specs.declared.labels.Labelled.{Labelled}
 use Rattle.dash_threads.specs.declared.planned.PlannedCall.{PlannedCall}
 use Rattle.dash_hall.specs.Requests.{call_made}
@@ -82,14 +81,3 @@ at_each_uptime s labels q u (Unframe l p i) = refl
 pub is_some_mapped : {A B : Type 0} (f : A → B) (o : Option A) → is_some (option_map f o) ≡ is_some o
 is_some_mapped f None = refl
 is_some_mapped f (Some x) = refl
-
--- in lockstep no call is too early
-pub no_earlier : (time : ℕ) (c : Call) → IsNoEarlier in_lockstep time c
-no_earlier time (call.Barrier now) = tt
-no_earlier time (call.Quit safe now) = tt
-no_earlier time (call.Post p) = tt
-no_earlier time (call.Unbarrier t) = tt
-no_earlier time (call.Remove f) = tt
-no_earlier time (call.Next now) = tt
-no_earlier time (call.Advance now) = tt
-no_earlier time (call.Halt now) = tt

@@ -1,17 +1,17 @@
 -- A thread of a script, and how far it has come.
-use Rattle.std.specs.Prelude.{◌≡◌, ◌≢◌, ◌<◌, ℕ, ◌==◌, List, [], ◌∷◌, ◌++◌, length, slice_index_or, Option, Some, None, is_some, map, filter, if◌then◌else◌}
+use Rattle.std.specs.Prelude.{◌≡◌, ◌≢◌, ◌<◌, ℕ, ◌==◌, Bool, false, List, [], ◌∷◌, ◌++◌, length, slice_index_or, Option, Some, None, is_some, map, filter, if◌then◌else◌}
 use Rattle.std.specs.List.{filter_map}
 use Rattle.dash_script.specs.declared.script.Block.{Block}
 use Rattle.dash_script.specs.declared.script.Line.{Line}
 use Rattle.dash_script.specs.declared.script.Script.{Script}
 use Rattle.looper_run.specs.Holding.{Sender}
 use Rattle.choreographer.specs.Known.{Known as Pass}
-use Rattle.run_model.specs.Moments.{in_lockstep}
+use Rattle.run_model.specs.Moments.{Mode, IfFree, IsUptime}
 use Rattle.run_model.specs.Planned.{Timed, lines_in, lines_of, labels_on, MakeCalls}
-use Rattle.run_model.specs.FrameAsks.{lines_ask}
+use Rattle.run_model.specs.FrameAsks.{as_told, lines_ask}
 use Rattle.dash_hall.specs.declared.hall.Hall.{Hall}
 use Rattle.dash_threads.specs.declared.thread.PostingThread.{PostingThread}
-use Rattle.loop_model.specs.declared.call.Call.{Call}
+use mathlib.Core.List.{IsPrefix}
 use Rattle.run_model.specs.Asks.{tokens_in}
 use Rattle.dash_script.specs.declared.script.Command.{Command}
 use Rattle.dash_script.specs.declared.script.Command.TheVariants.{Barrier}
@@ -19,9 +19,12 @@ use Rattle.dash_threads.specs.declared.labels.Labelled.{Labelled}
 use Rattle.dash_threads.specs.declared.planned.PlannedCall.{PlannedCall}
 use Rattle.dash_hall.specs.Growth.{own, Makes}
 use Rattle.dash_hall.specs.Hosts.{asks_of}
-use Rattle.dash_hall.specs.Requests.{call_made, tokens_of, posts_barrier}
+use Rattle.dash_hall.specs.ByClock.{IsByClock}
+use Rattle.dash_hall.specs.Requests.{call_made, tokens_of, posts_barrier, IsAtItsMoment}
+use Rattle.dash_hall.specs.declared.calls.QueueCall.{QueueCall}
 use Rattle.dash_threads.specs.Planning.{call_planned}
-use Rattle.dash_hall.specs.Kits.{ArePostersOf, ArePassesOf}
+use Rattle.dash_hall.specs.Kits.{Badge, badge_of, ArePostersOf, ArePassesOf}
+use Rattle.loop_model.specs.declared.entry.Entry.{Entry}
 
 -- a thread of the script, with what it needs in the hall
 pub record IsThread (s : Script) (hall : Hall) (t : PostingThread) : Type 0 where
@@ -31,13 +34,18 @@ pub record IsThread (s : Script) (hall : Hall) (t : PostingThread) : Type 0 wher
   pub pass : t.kit.pass.home ≡ hall.pool
 
 -- on each queue the thread has made the calls of these lines, the first of its lines, and no others
-abbrev pub HasCalled : Script → List Timed → ℕ → List Sender → Type 0
-HasCalled s past thread posters = (q : ℕ) (d : Sender) → q < length posters
-    → MakeCalls in_lockstep s (labels_on q (lines_of thread s.blocks)) q past (own (slice_index_or posters q d))
+abbrev pub HasCalled : Mode → Script → List Timed → ℕ → List Sender → Type 0
+HasCalled m s past thread posters = (q : ℕ) (d : Sender) → q < length posters
+    → MakeCalls m s (labels_on q (lines_of thread s.blocks)) q past (own (slice_index_or posters q d))
 
--- it has asked each choreographer for the posts and removals of frame callbacks that these lines ask for, in order, and for no others
-abbrev pub HasAsked : List Timed → List Pass → Type 0
-HasAsked past frames = (q : ℕ) (d : Pass) → q < length frames → asks_of (slice_index_or frames q d) ≡ lines_ask q past
+-- in free mode the moments of its calls are the clock's, or the queue's time
+abbrev pub AreByClock : Mode → List Sender → Type 0
+AreByClock m posters = (q : ℕ) (d : Sender) → q < length posters → IsByClock m (slice_index_or posters q d)
+
+-- it has asked each choreographer for the posts and removals of frame callbacks that these lines ask for, in order, and for no others; in free mode the due times are left open
+abbrev pub HasAsked : Mode → List Timed → List Pass → Type 0
+HasAsked m past frames = (q : ℕ) (d : Pass) → q < length frames
+    → map (as_told m.lockstep) (asks_of (slice_index_or frames q d)) ≡ map (as_told m.lockstep) (lines_ask q past)
 
 -- it has taken a turn there for each of these, and no other
 abbrev pub HasTurned : List Timed → List Pass → Type 0
@@ -56,38 +64,51 @@ pub record KeepsBarriers (past : List Timed) (barriers : List Labelled) (posters
   pub tokens : (q : ℕ) (d : Sender) → q < length posters → tokens_kept q barriers ≡ tokens_in (own (slice_index_or posters q d))
 
 -- how far a thread has come, by its number, its barriers, its posters and its passes: it has run these lines, the first of its lines
-pub record Progress (s : Script) (past : List Timed) (n : ℕ) (bs : List Labelled) (ps : List Sender) (fs : List Pass) : Type 0 where
-  pub called : HasCalled s past n ps
+pub record Progress (m : Mode) (s : Script) (past : List Timed) (n : ℕ) (bs : List Labelled) (ps : List Sender) (fs : List Pass) : Type 0 where
+  pub called : HasCalled m s past n ps
+  pub clocked : AreByClock m ps
   pub barriers : KeepsBarriers past bs ps
-  pub asked : HasAsked past fs
+  pub asked : HasAsked m past fs
   pub turned : HasTurned past fs
 
-abbrev pub IsUpTo : Script → List Timed → PostingThread → Type 0
-IsUpTo s past t = Progress s past t.number t.barriers.items t.kit.posters.items t.kit.frames.items
+abbrev pub IsUpTo : Mode → Script → List Timed → PostingThread → Type 0
+IsUpTo m s past t = Progress m s past t.number t.barriers.items t.kit.posters.items t.kit.frames.items
 
 -- where a block comes next among the thread's lines, the thread has run its lines too
-abbrev pub Continues : Script → Block → PostingThread → PostingThread → Type 0
-Continues s b before after = (past rest : List Timed) → past ++ (lines_in before.number b ++ rest) ≡ lines_of before.number s.blocks
-    → IsUpTo s past before → IsUpTo s (past ++ lines_in before.number b) after
+abbrev pub Continues : Mode → Script → Block → PostingThread → PostingThread → Type 0
+Continues m s b before after = (past rest : List Timed) → past ++ (lines_in before.number b ++ rest) ≡ lines_of before.number s.blocks
+    → IsUpTo m s past before → IsUpTo m s (past ++ lines_in before.number b) after
 
 -- the lines of a thread among these, at a time
 abbrev pub timed_in : ℕ → ℕ → List Line → List Timed
 timed_in thread time ls = map (λ l. record { time = time; command = l.command }) (filter (λ l. l.thread == thread) ls)
 
 -- where all these lines come next, the thread has run those of them that are done
-abbrev pub HasRun : Script → ℕ → List Line → List Line → PostingThread → PostingThread → Type 0
-HasRun s time all done before now = (past rest : List Timed) → past ++ (timed_in before.number time all ++ rest) ≡ lines_of before.number s.blocks
-    → IsUpTo s past before → IsUpTo s (past ++ timed_in before.number time done) now
+abbrev pub HasRun : Mode → Script → ℕ → List Line → List Line → PostingThread → PostingThread → Type 0
+HasRun m s time all done before now = (past rest : List Timed) → past ++ (timed_in before.number time all ++ rest) ≡ lines_of before.number s.blocks
+    → IsUpTo m s past before → IsUpTo m s (past ++ timed_in before.number time done) now
 
 -- where this line comes next among the thread's lines, the thread has run it too
-abbrev pub Takes : Script → Timed → PostingThread → PostingThread → Type 0
-Takes s l before after = (past rest : List Timed) → past ++ (l ∷ rest) ≡ lines_of before.number s.blocks
-    → IsUpTo s past before → IsUpTo s (past ++ l ∷ []) after
+abbrev pub Takes : Mode → Script → Timed → PostingThread → PostingThread → Type 0
+Takes m s l before after = (past rest : List Timed) → past ++ (l ∷ rest) ≡ lines_of before.number s.blocks
+    → IsUpTo m s past before → IsUpTo m s (past ++ l ∷ []) after
 
--- on the queue at this place the sender made this call, which was answered these tokens, and on the others none
-pub record CallsAt (place : ℕ) (call : Call) (tokens : List ℕ) (before after : List Sender) : Type 0 where
+-- at this uptime it has run the command, in each mode and for each time of a block that may have it; free mode is the hall's
+abbrev pub TakesAt : Bool → Script → ℕ → Command → PostingThread → PostingThread → Type 0
+TakesAt lockstep s u command before after = (m : Mode) (time : ℕ) → IfFree m (lockstep ≡ false) → IsUptime m time u
+    → Takes m s (record { time = time; command = command }) before after
+
+-- the sender made this call at its moment, which was answered this token, and has seen what it had seen and maybe more
+pub record Performs (call : QueueCall) (token : Option ℕ) (before after : Sender) : Type 0 where
+  pub sender : after.sender ≡ before.sender
+  pub seen : IsPrefix before.view.seen after.view.seen
+  pub made : Makes before after (call_made call) (tokens_of token)
+  pub moment : IsAtItsMoment call token before after
+
+-- on the queue at this place the sender made this call, which was answered this token, and on the others none
+pub record CallsAt (place : ℕ) (call : QueueCall) (token : Option ℕ) (before after : List Sender) : Type 0 where
   pub long : length after ≡ length before
-  pub here : (d : Sender) → place < length before → Makes (slice_index_or before place d) (slice_index_or after place d) call tokens
+  pub here : (d : Sender) → place < length before → Performs call token (slice_index_or before place d) (slice_index_or after place d)
   pub elsewhere : (q : ℕ) (d : Sender) → q ≢ place → slice_index_or after q d ≡ slice_index_or before q d
 
 -- the barriers with that of a command, where it posted one
@@ -98,7 +119,7 @@ with_barrier bs _ _ = bs
 -- the thread made this call, and keeps the barrier that its command posted
 pub record Called (command : Command) (p : PlannedCall) (before after : PostingThread) : Type 0 where
   pub token : Option ℕ
-  pub calls : CallsAt p.looper (call_made p.call) (tokens_of token) before.kit.posters.items after.kit.posters.items
+  pub calls : CallsAt p.looper p.call token before.kit.posters.items after.kit.posters.items
   pub answered : p.looper < length before.kit.posters.items → is_some token ≡ posts_barrier p.call
   pub barriers : after.barriers.items ≡ with_barrier before.barriers.items command token
   pub frames : after.kit.frames ≡ before.kit.frames
@@ -113,8 +134,8 @@ abbrev pub MakesPlanned : Script → ℕ → Command → PostingThread → Posti
 MakesPlanned s u command before after = CalledIf command (call_planned s before.barriers.items u command) before after
 
 -- a thread that has run nothing yet
-abbrev pub HasBegun : Script → PostingThread → Type 0
-HasBegun s t = IsUpTo s [] t
+abbrev pub HasBegun : Mode → Script → PostingThread → Type 0
+HasBegun m s t = IsUpTo m s [] t
 
 -- a thread's posters before and after are so, and all else of it is as before
 pub record ThreadKeeps (R : List Sender → List Sender → Type 0) (before after : PostingThread) : Type 0 where
@@ -125,3 +146,15 @@ pub record ThreadKeeps (R : List Sender → List Sender → Type 0) (before afte
   pub barriers : after.barriers ≡ before.barriers
   pub passed : after.passed ≡ before.passed
   pub gave_up : after.gave_up ≡ before.gave_up
+
+-- what is known of a poster besides its bell
+abbrev pub known_of : Sender → Badge × List Entry
+known_of p = (badge_of p, p.view.seen)
+
+-- the posters are the same and have seen the same; bells may have been rung
+abbrev pub HaveSeenSame : List Sender → List Sender → Type 0
+HaveSeenSame before after = map known_of after ≡ map known_of before
+
+-- a thread that had run nothing has run all its lines
+abbrev pub RunsAll : Mode → Script → PostingThread → PostingThread → Type 0
+RunsAll m s before after = IsUpTo m s [] before → IsUpTo m s (lines_of before.number s.blocks) after

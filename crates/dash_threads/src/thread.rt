@@ -5,11 +5,12 @@ ghost use Rattle.dash_script.specs.declared.script.Command.TheVariants.{Frame, U
 ghost use Rattle.dash_script.specs.Reading.{HasText};
 ghost use Rattle.shared_queue.specs.Known.{IsOf};
 ghost use Rattle.choreographer.specs.Known.{IsOf as IsFrameOf};
+ghost use Rattle.run_model.specs.Moments.{Mode, in_lockstep};
 ghost use Rattle.dash_hall.specs.Growth.{GoesOn};
 ghost use Rattle.dash_hall.specs.Kits.{IsHall, IsUnusedKit, frame_badge_of};
 ghost use Rattle.dash_hall.specs.Hosts.{PostsFrame};
-ghost use Rattle.dash_hall.specs.Requests.{call_made, tokens_of, posts_barrier};
-ghost use Rattle.dash_threads.specs.Threads.{IsThread, CallsAt, with_barrier, MakesPlanned, Takes, Continues, HasBegun};
+ghost use Rattle.dash_hall.specs.Requests.{posts_barrier};
+ghost use Rattle.dash_threads.specs.Threads.{IsThread, CallsAt, with_barrier, MakesPlanned, Takes, TakesAt, Continues, HasBegun};
 
 use crate::labels::Labelled;
 use crate::planned::call_for;
@@ -46,7 +47,7 @@ impl PostingThread {
         ensures number { result.number ≡ number }
         ensures kit { result.kit ≡ kit }
         ensures goes { result.gave_up ≡ false }
-        ensures begun { (s : TheScript) → IsUnusedKit kit → HasBegun s result }
+        ensures begun { (m : Mode) (s : TheScript) → IsUnusedKit kit → HasBegun m s result }
     {
         PostingThread {
             number,
@@ -89,7 +90,7 @@ impl PostingThread {
         ensures number { self.new.number ≡ self.old.number }
         ensures goes { self.new.gave_up ≡ false → self.old.gave_up ≡ false }
         ensures stays { self.old.gave_up ≡ true → self.new ≡ self.old }
-        ensures made { self.new.gave_up ≡ false → Continues script.now block.now self.old self.new }
+        ensures made { self.new.gave_up ≡ false → Continues in_lockstep script.now block.now self.old self.new }
     {
         for line in block.lines.as_slice() {
             if line.thread == self.number {
@@ -115,7 +116,7 @@ impl PostingThread {
         ensures thread { IsThread script.now hall.now self.new }
         ensures number { self.new.number ≡ self.old.number }
         ensures stays { self.old.gave_up ≡ true → self.new ≡ self.old }
-        ensures made { self.new.gave_up ≡ false → (self.old.gave_up ≡ false) × Takes script.now (record { time = now; command = command }) self.old self.new }
+        ensures made { self.new.gave_up ≡ false → (self.old.gave_up ≡ false) × Takes in_lockstep script.now (record { time = now; command = command }) self.old self.new }
     {
         if self.gave_up {
             return;
@@ -128,7 +129,7 @@ impl PostingThread {
 
     /// Runs a command at this uptime, in milliseconds, unless the look found the run given up. Where it finds no memory it gives the run
     /// up.
-    fn run_unless_stopped<R: Wait>(
+    pub(crate) fn run_unless_stopped<R: Wait>(
         &mut self,
         rt: &R,
         alloc: Global,
@@ -144,7 +145,7 @@ impl PostingThread {
         ensures thread { IsThread script.now hall.now self.new }
         ensures number { self.new.number ≡ self.old.number }
         ensures heeds { look ≡ true → self.new ≡ record self.old { gave_up = true } }
-        ensures made { self.new.gave_up ≡ false → Takes script.now (record { time = now; command = command }) self.old self.new }
+        ensures made { self.new.gave_up ≡ false → TakesAt hall.now.lockstep script.now now command self.old self.new }
     {
         if look.is_stopped() {
             self.gave_up = true;
@@ -165,9 +166,7 @@ impl PostingThread {
     {
         self.gave_up = true;
         hall.stop.stop(rt);
-        if 0 < self.kit.posters.len() && 0 < hall.queues.len() {
-            self.kit.posters[0].nudge(rt, &hall.queues[0]);
-        }
+        self.nudge(rt, hall, script, 0);
     }
 
     /// Runs a command at this uptime, in milliseconds.
@@ -185,7 +184,7 @@ impl PostingThread {
         requires thread { IsThread script.now hall.now self.old }
         ensures thread { IsThread script.now hall.now self.new }
         ensures number { self.new.number ≡ self.old.number }
-        ensures made { OnOk result (Takes script.now (record { time = now; command = command }) self.old self.new) }
+        ensures made { OnOk result (TakesAt hall.now.lockstep script.now now command self.old self.new) }
     {
         match command {
             Command::Frame {
@@ -241,7 +240,7 @@ impl PostingThread {
         requires thread { IsThread script.now hall.now self.old }
         ensures thread { IsThread script.now hall.now self.new }
         ensures number { self.new.number ≡ self.old.number }
-        ensures made { IfOk result (λ token. CallsAt looper (call_made call) (tokens_of token) self.old.kit.posters.items self.new.kit.posters.items) }
+        ensures made { IfOk result (λ token. CallsAt looper call token self.old.kit.posters.items self.new.kit.posters.items) }
         ensures token { IfOk result (λ token. looper < length self.old.kit.posters.items → is_some token ≡ posts_barrier call) }
         ensures barriers { self.new.barriers ≡ self.old.barriers }
         ensures frames { self.new.kit.frames ≡ self.old.kit.frames }
@@ -299,7 +298,7 @@ impl PostingThread {
         requires thread { IsThread script.now hall.now self.old }
         ensures thread { IsThread script.now hall.now self.new }
         ensures number { self.new.number ≡ self.old.number }
-        ensures made { OnOk result (Takes script.now (record { time = now; command = Frame looper phase id delay }) self.old self.new) }
+        ensures made { OnOk result (TakesAt hall.now.lockstep script.now now (Frame looper phase id delay) self.old self.new) }
     {
         let place = looper as usize;
         let phases = phase_count(script.edition);
@@ -344,7 +343,7 @@ impl PostingThread {
         requires thread { IsThread script.now hall.now self.old }
         ensures thread { IsThread script.now hall.now self.new }
         ensures number { self.new.number ≡ self.old.number }
-        ensures made { OnOk result (Takes script.now (record { time = now; command = Unframe looper phase id }) self.old self.new) }
+        ensures made { OnOk result (TakesAt hall.now.lockstep script.now now (Unframe looper phase id) self.old self.new) }
     {
         let place = looper as usize;
         let phases = phase_count(script.edition);

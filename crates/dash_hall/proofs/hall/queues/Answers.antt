@@ -9,6 +9,6 @@ loop-looper-preserved c =
     let q = c.in_ok-queue.queue in
     let items : c.push.new.self.items ≡ at.queues.items ++ q ∷ [] = c.in_ok-push.ensures.items in
     record {
-      queues = keyed_more queue_key (queue_constants c.args.script.now c.args.pool.now) at.queues.items _ q at.looper items at.invariant.queues c.in_ok-queue.ensures.constants;
+      queues = keyed_more queue_key (queue_constants c.args.lockstep c.args.script.now c.args.pool.now) at.queues.items _ q at.looper items at.invariant.queues c.in_ok-queue.ensures.constants;
       dealt = queues_more at.queues.items _ q c.args.kits.now.items at.kits.items c.queue.new.kits.items items at.invariant.dealt c.in_ok-queue.ensures.dealt;
     }

@@ -6,6 +6,6 @@ use Rattle.dash_hall.proofs.hall.queues.Given as goal
 
 abbrev pub invariant-loop-looper : goal.invariant-loop-looper
 invariant-loop-looper l = record {
-  queues : map queue_key l.queues.items ≡ map (queue_constants l.script l.pool) (range_with_len 0 l.looper);
+  queues : map queue_key l.queues.items ≡ map (queue_constants l.lockstep l.script l.pool) (range_with_len 0 l.looper);
   dealt : EachGets (λ k. map (badge_for k) l.queues.items) nothing l.initial.kits.items l.kits.items;
 }

@@ -1,7 +1,7 @@
 use Rattle.std.proofs.Common.{◌≡◌, ◌≤◌, ◌+◌, ◌∙◌, refl, sym, ap, length, arith}
 use Rattle.dash_stage.proofs.Casting.{all_kits}
 use Rattle.run_model.specs.Senders.{controller}
-use Rattle.dash_stage.proofs.Carried.{run_kept, planned_records, numbered_count}
+use Rattle.dash_stage.proofs.Carried.{run_kept, planned_records, numbered_count, called_by_clock}
 use Rattle.loop_model.specs.declared.journal.Journal.{Journal}
 use Rattle.dash_stage.proofs.PlayedRecords.{loopers_of_records}
 use Rattle.dash_stage.proofs.LoopersGive.{given_kept}
@@ -9,17 +9,19 @@ use Rattle.dash_stage.proofs.KitsTold.{told_kept}
 use Rattle.dash_stage.proofs.KitsOver.{over_kept, last_kit}
 use Rattle.dash_stage.proofs.Controls.{controls_of_records}
 use Rattle.dash_hall.specs.Hearing.{seen_by, HaveSeenAll}
-use Rattle.dash_stage.proofs.TimelyRecords.{kit_more, first_of_records, reached_of_records, timely_of_records, halted_of_records}
+use Rattle.dash_stage.proofs.TimelyRecords.{kit_more, first_of_records, reached_of_records, timely_of_records, halted_of_records, ended_in_step}
 use Rattle.dash_stage.proofs.MovesRecords.{moves_of_records}
 use Rattle.dash_stage.proofs.SealedEnds.{all_sealed}
 use Rattle.dash_stage.proofs.kept.kept.Goals as goal
+use Rattle.run_model.specs.Moments.{in_lockstep}
+use Rattle.dash_threads.specs.Threads.{AreByClock}
 
 pub records-requires-clause-sealed : goal.records-requires-clause-sealed
 records-requires-clause-sealed c =
     all_sealed c.looper_kits.new.kits.items c.push.new.self.items c.args.stage.controller c.in_ok-push.ensures.items c.requires.stage.controller.sealed
 
 pub returns-clause-planned : goal.returns-clause-planned
-returns-clause-planned c =
+returns-clause-planned c m run =
     let s = c.args.script.now in
     let hall = c.args.stage.hall in
     let kits = c.looper_kits.new.kits.items in
@@ -28,13 +30,26 @@ returns-clause-planned c =
     let count = c.in_ok-journals.ensures.kits.0 in
     let all : s.threads ≤ length kits = omega (arith, count) in
     planned_records s hall c.requires.stage.hall kits' (all_kits s hall kits kits' c.args.stage.controller c.in_ok-journals.ensures.kits c.requires.stage.controller grown)
-    (run_kept s hall kits kits' c.args.stage.controller.kit all grown (c.in_ok-journals.ensures.run c.in_ok-kits.ensures.run)) c.in_ok-queues.queues.items c.in_ok-queues.ensures.queues c.in_ok-queues.ensures.all
+    m (run_kept s hall m kits kits' c.args.stage.controller.kit all grown (c.in_ok-journals.ensures.run m (c.in_ok-kits.ensures.run m run))) c.in_ok-queues.queues.items c.in_ok-queues.ensures.loopers c.in_ok-queues.ensures.all
+
+-- the moments that the kits tell are the mode's
+pub returns-clause-queues : goal.returns-clause-queues
+returns-clause-queues c m out =
+    let s = c.args.script.now in
+    let hall = c.args.stage.hall in
+    let kits = c.looper_kits.new.kits.items in
+    let kits' = c.push.new.self.items in
+    let grown = c.in_ok-push.ensures.items in
+    let are = all_kits s hall kits kits' c.args.stage.controller c.in_ok-journals.ensures.kits c.requires.stage.controller grown in
+    let by = kit_more (AreByClock m) kits kits' c.args.stage.controller.kit grown out.clocked.controller
+    (c.in_ok-journals.ensures.clocked m out.clocked.loopers (c.in_ok-kits.ensures.clocked m out.clocked.threads)) in
+    c.in_ok-queues.ensures.queues m (sym out.stage.controller.mode) (called_by_clock m s hall kits' c.requires.stage.hall are by)
 
 pub returns-clause-run : goal.returns-clause-run
 returns-clause-run c = c.in_ok-queues.ensures.frames.lawful
 
 pub returns-clause-controls : goal.returns-clause-controls
-returns-clause-controls c =
+returns-clause-controls c m out closed =
     let s = c.args.script.now in
     let hall = c.args.stage.hall in
     let kits = c.looper_kits.new.kits.items in
@@ -43,11 +58,11 @@ returns-clause-controls c =
     let mine = c.args.stage.controller.kit in
     let count = c.in_ok-journals.ensures.kits.0 in
     controls_of_records s hall kits' c.in_ok-queues.queues.items c.requires.stage.hall (all_kits s hall kits kits' c.args.stage.controller c.in_ok-journals.ensures.kits c.requires.stage.controller grown)
-    c.args.stage.controller (last_kit kits kits' mine (controller s) count grown) c.requires.closed (over_kept s kits kits' mine count grown (c.in_ok-journals.ensures.over c.requires.ended))
-    c.in_ok-queues.ensures.queues c.in_ok-queues.ensures.all
+    c.args.stage.controller (last_kit kits kits' mine (controller s) count grown) m closed (over_kept s kits kits' mine count grown (c.in_ok-journals.ensures.over c.requires.ended))
+    (returns-clause-queues c m out) c.in_ok-queues.ensures.all
 
 pub returns-clause-loopers : goal.returns-clause-loopers
-returns-clause-loopers c =
+returns-clause-loopers c out =
     let s = c.args.script.now in
     let hall = c.args.stage.hall in
     let kits = c.looper_kits.new.kits.items in
@@ -58,20 +73,20 @@ returns-clause-loopers c =
     let journals = c.in_ok-journals.journals.items in
     let ls = c.args.stage.loopers.items in
     let whole = seen_by mine.posters.items in
-    let same = c.requires.timely.same in
+    let same = out.timely.same in
     let many : length journals ≡ s.loopers = numbered_count (λ (z : Journal). z.looper) s.loopers journals c.in_ok-journals.ensures.journals in
     let place = count ∙ ap (λ n. s.threads + n) (sym many) in
     loopers_of_records s hall kits' c.in_ok-queues.queues.items c.requires.stage.hall (all_kits s hall kits kits' c.args.stage.controller c.in_ok-journals.ensures.kits c.requires.stage.controller grown)
-    c.args.stage.controller (last_kit kits kits' mine (controller s) count grown) c.in_ok-queues.ensures.queues c.in_ok-queues.ensures.all
+    c.args.stage.controller (last_kit kits kits' mine (controller s) count grown) (returns-clause-queues c in_lockstep (ended_in_step c.args.script.now c.args.stage out)) c.in_ok-queues.ensures.all
     (kit_more (HaveSeenAll whole) kits kits' mine grown refl (c.in_ok-journals.ensures.seen whole same.loopers (c.in_ok-kits.ensures.seen whole same.threads))) c.requires.playable.few
     journals c.in_ok-queues.frames.items ls c.in_ok-journals.ensures.journals c.in_ok-queues.ensures.frames c.in_ok-queues.ensures.own
     (told_kept s journals kits kits' mine place grown (c.in_ok-journals.ensures.told c.requires.on))
-    (given_kept s ls journals kits kits' mine place grown c.in_ok-journals.ensures.left) c.requires.on c.requires.stage.loopers.0 (λ k d lt. (c.requires.stage.loopers.1 k d lt).1) c.requires.played
-    (returns-clause-planned c) (returns-clause-controls c) c.requires.stage.controller
-    (run_kept s hall kits kits' mine (omega (arith, count)) grown (c.in_ok-journals.ensures.run c.in_ok-kits.ensures.run)) c.in_ok-queues.ensures.theirs
+    (given_kept s ls journals kits kits' mine place grown c.in_ok-journals.ensures.left) c.requires.on c.requires.stage.loopers.0 (λ k d lt. (c.requires.stage.loopers.1 k d lt).1) out.played
+    (returns-clause-planned c in_lockstep out.run) (returns-clause-controls c in_lockstep (ended_in_step s c.args.stage out) out.closed) out.stage.controller
+    (run_kept s hall in_lockstep kits kits' mine (omega (arith, count)) grown (c.in_ok-journals.ensures.run in_lockstep (c.in_ok-kits.ensures.run in_lockstep out.run))) c.in_ok-queues.ensures.theirs
 
 pub returns-clause-timely : goal.returns-clause-timely
-returns-clause-timely c =
+returns-clause-timely c out =
     let s = c.args.script.now in
     let hall = c.args.stage.hall in
     let kits = c.looper_kits.new.kits.items in
@@ -79,13 +94,13 @@ returns-clause-timely c =
     let grown = c.in_ok-push.ensures.items in
     let mine = c.args.stage.controller.kit in
     let whole = seen_by mine.posters.items in
-    let same = c.requires.timely.same in
+    let same = out.timely.same in
     timely_of_records s hall kits' c.in_ok-queues.queues.items c.requires.stage.hall (all_kits s hall kits kits' c.args.stage.controller c.in_ok-journals.ensures.kits c.requires.stage.controller grown)
-    c.args.stage.controller (last_kit kits kits' mine (controller s) c.in_ok-journals.ensures.kits.0 grown) c.in_ok-queues.ensures.queues c.in_ok-queues.ensures.all
-    (kit_more (HaveSeenAll whole) kits kits' mine grown refl (c.in_ok-journals.ensures.seen whole same.loopers (c.in_ok-kits.ensures.seen whole same.threads))) c.requires.timely.timely
+    c.args.stage.controller (last_kit kits kits' mine (controller s) c.in_ok-journals.ensures.kits.0 grown) (returns-clause-queues c in_lockstep (ended_in_step c.args.script.now c.args.stage out)) c.in_ok-queues.ensures.all
+    (kit_more (HaveSeenAll whole) kits kits' mine grown refl (c.in_ok-journals.ensures.seen whole same.loopers (c.in_ok-kits.ensures.seen whole same.threads))) out.timely.timely
 
 pub returns-clause-halted : goal.returns-clause-halted
-returns-clause-halted c =
+returns-clause-halted c m out halted =
     let s = c.args.script.now in
     let hall = c.args.stage.hall in
     let kits = c.looper_kits.new.kits.items in
@@ -93,13 +108,13 @@ returns-clause-halted c =
     let grown = c.in_ok-push.ensures.items in
     let mine = c.args.stage.controller.kit in
     let whole = seen_by mine.posters.items in
-    let same = c.requires.timely.same in
-    halted_of_records s hall kits' c.in_ok-queues.queues.items c.requires.stage.hall (all_kits s hall kits kits' c.args.stage.controller c.in_ok-journals.ensures.kits c.requires.stage.controller grown)
-    c.args.stage.controller (last_kit kits kits' mine (controller s) c.in_ok-journals.ensures.kits.0 grown) c.in_ok-queues.ensures.queues c.in_ok-queues.ensures.all
-    (kit_more (HaveSeenAll whole) kits kits' mine grown refl (c.in_ok-journals.ensures.seen whole same.loopers (c.in_ok-kits.ensures.seen whole same.threads))) c.requires.playable.loopers c.requires.halted
+    let same = out.same in
+    halted_of_records m s hall kits' c.in_ok-queues.queues.items c.requires.stage.hall (all_kits s hall kits kits' c.args.stage.controller c.in_ok-journals.ensures.kits c.requires.stage.controller grown)
+    c.args.stage.controller (last_kit kits kits' mine (controller s) c.in_ok-journals.ensures.kits.0 grown) (returns-clause-queues c m out) c.in_ok-queues.ensures.all
+    (kit_more (HaveSeenAll whole) kits kits' mine grown refl (c.in_ok-journals.ensures.seen whole same.loopers (c.in_ok-kits.ensures.seen whole same.threads))) c.requires.playable.loopers halted
 
 pub returns-clause-first : goal.returns-clause-first
-returns-clause-first c =
+returns-clause-first c out =
     let s = c.args.script.now in
     let hall = c.args.stage.hall in
     let kits = c.looper_kits.new.kits.items in
@@ -107,13 +122,13 @@ returns-clause-first c =
     let grown = c.in_ok-push.ensures.items in
     let mine = c.args.stage.controller.kit in
     let whole = seen_by mine.posters.items in
-    let same = c.requires.timely.same in
+    let same = out.timely.same in
     first_of_records s hall kits' c.in_ok-queues.queues.items c.requires.stage.hall (all_kits s hall kits kits' c.args.stage.controller c.in_ok-journals.ensures.kits c.requires.stage.controller grown)
-    c.args.stage.controller (last_kit kits kits' mine (controller s) c.in_ok-journals.ensures.kits.0 grown) c.in_ok-queues.ensures.queues c.in_ok-queues.ensures.all
-    (kit_more (HaveSeenAll whole) kits kits' mine grown refl (c.in_ok-journals.ensures.seen whole same.loopers (c.in_ok-kits.ensures.seen whole same.threads))) c.requires.first
+    c.args.stage.controller (last_kit kits kits' mine (controller s) c.in_ok-journals.ensures.kits.0 grown) (returns-clause-queues c in_lockstep (ended_in_step c.args.script.now c.args.stage out)) c.in_ok-queues.ensures.all
+    (kit_more (HaveSeenAll whole) kits kits' mine grown refl (c.in_ok-journals.ensures.seen whole same.loopers (c.in_ok-kits.ensures.seen whole same.threads))) out.first
 
 pub returns-clause-reached : goal.returns-clause-reached
-returns-clause-reached c =
+returns-clause-reached c out =
     let s = c.args.script.now in
     let hall = c.args.stage.hall in
     let kits = c.looper_kits.new.kits.items in
@@ -121,13 +136,13 @@ returns-clause-reached c =
     let grown = c.in_ok-push.ensures.items in
     let mine = c.args.stage.controller.kit in
     let whole = seen_by mine.posters.items in
-    let same = c.requires.timely.same in
+    let same = out.timely.same in
     reached_of_records s hall kits' c.in_ok-queues.queues.items c.requires.stage.hall (all_kits s hall kits kits' c.args.stage.controller c.in_ok-journals.ensures.kits c.requires.stage.controller grown)
-    c.args.stage.controller (last_kit kits kits' mine (controller s) c.in_ok-journals.ensures.kits.0 grown) c.in_ok-queues.ensures.queues c.in_ok-queues.ensures.all
-    (kit_more (HaveSeenAll whole) kits kits' mine grown refl (c.in_ok-journals.ensures.seen whole same.loopers (c.in_ok-kits.ensures.seen whole same.threads))) c.requires.playable.loopers c.requires.timely.timely
+    c.args.stage.controller (last_kit kits kits' mine (controller s) c.in_ok-journals.ensures.kits.0 grown) (returns-clause-queues c in_lockstep (ended_in_step c.args.script.now c.args.stage out)) c.in_ok-queues.ensures.all
+    (kit_more (HaveSeenAll whole) kits kits' mine grown refl (c.in_ok-journals.ensures.seen whole same.loopers (c.in_ok-kits.ensures.seen whole same.threads))) c.requires.playable.loopers out.timely.timely
 
 pub returns-clause-moves : goal.returns-clause-moves
-returns-clause-moves c =
+returns-clause-moves c out =
     let s = c.args.script.now in
     let hall = c.args.stage.hall in
     let kits = c.looper_kits.new.kits.items in
@@ -135,7 +150,7 @@ returns-clause-moves c =
     let grown = c.in_ok-push.ensures.items in
     let mine = c.args.stage.controller.kit in
     let whole = seen_by mine.posters.items in
-    let same = c.requires.timely.same in
+    let same = out.timely.same in
     moves_of_records s hall kits' c.in_ok-queues.queues.items c.requires.stage.hall (all_kits s hall kits kits' c.args.stage.controller c.in_ok-journals.ensures.kits c.requires.stage.controller grown)
-    c.args.stage.controller (last_kit kits kits' mine (controller s) c.in_ok-journals.ensures.kits.0 grown) c.in_ok-queues.ensures.queues c.in_ok-queues.ensures.all
-    (kit_more (HaveSeenAll whole) kits kits' mine grown refl (c.in_ok-journals.ensures.seen whole same.loopers (c.in_ok-kits.ensures.seen whole same.threads))) c.requires.moves
+    c.args.stage.controller (last_kit kits kits' mine (controller s) c.in_ok-journals.ensures.kits.0 grown) (returns-clause-queues c in_lockstep (ended_in_step c.args.script.now c.args.stage out)) c.in_ok-queues.ensures.all
+    (kit_more (HaveSeenAll whole) kits kits' mine grown refl (c.in_ok-journals.ensures.seen whole same.loopers (c.in_ok-kits.ensures.seen whole same.threads))) out.moves

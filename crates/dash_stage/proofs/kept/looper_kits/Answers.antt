@@ -8,6 +8,7 @@ use Rattle.dash_stage.proofs.LoopersGive.{given_back}
 use Rattle.dash_hall.specs.Hearing.{HaveSeenAll}
 use Rattle.dash_stage.proofs.TimelyRecords.{looper_gives}
 use Rattle.dash_stage.proofs.kept.looper_kits.Goals as goal
+use Rattle.dash_threads.specs.Threads.{AreByClock}
 
 pub each-preserved : goal.each-preserved
 each-preserved c =
@@ -26,7 +27,7 @@ each-preserved c =
       back.1,
       back.2,
       back.3,
-      λ ran. run_kept s hall at.kits.items c.push-in-each.new.self.items c.in_ok-journal.kit all c.in_ok-push-2.ensures.items (at.invariant.4 ran),
+      λ m ran. run_kept s hall m at.kits.items c.push-in-each.new.self.items c.in_ok-journal.kit all c.in_ok-push-2.ensures.items (at.invariant.4 m ran),
       λ ended. over_back s at.journals.items c.push.new.self.items at.loopers.items c.remove.new.self.items at.kits.items c.push-in-each.new.self.items c.remove.result c.in_ok-journal.journal c.in_ok-journal.kit
           some c.remove.ensures.value c.remove.ensures.items at.invariant.1 number c.in_ok-journal.ensures.over c.in_ok-push.ensures.items c.in_ok-push-2.ensures.items (at.invariant.5 ended).0 (at.invariant.5 ended).1,
       λ on. told_back s at.journals.items c.push.new.self.items at.loopers.items c.remove.new.self.items at.kits.items c.push-in-each.new.self.items c.remove.result c.in_ok-journal.journal c.in_ok-journal.kit
@@ -35,4 +36,6 @@ each-preserved c =
           some c.remove.ensures.value c.remove.ensures.items c.in_ok-journal.ensures.posters c.in_ok-push-2.ensures.items (at.invariant.7 whole seen of_kits),
       given.0,
       given.1,
+      λ m by of_kits. looper_gives (AreByClock m) at.loopers.items c.remove.new.self.items at.kits.items c.push-in-each.new.self.items c.remove.result c.in_ok-journal.kit
+          some c.remove.ensures.value c.remove.ensures.items c.in_ok-journal.ensures.posters c.in_ok-push-2.ensures.items (at.invariant.10 m by of_kits),
     )

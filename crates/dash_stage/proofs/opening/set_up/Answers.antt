@@ -22,7 +22,7 @@ returns-clause-stage c =
       hall = c.in_ok-hall.ensures.hall;
       threads = c.in_ok-threads.ensures.threads;
       loopers = c.in_ok-loopers.ensures.loopers;
-      controller = controller_of s hall c.remove.result c.in_ok-sealed.sealed c.in_ok-hall.ensures.hall is unused c.in_ok-sealed.ensures;
+      controller = controller_of s hall c.in_ok-hall.ensures.mode c.remove.result c.in_ok-sealed.sealed c.in_ok-hall.ensures.hall is unused c.in_ok-sealed.ensures;
       pass = c.in_ok-hall.ensures.pass;
     }
 
@@ -75,3 +75,6 @@ returns-clause-unseen c =
     let some : 0 < length c.loopers.new.kits.items = omega (arith, count) in
     let unused = subst IsUnusedKit (sym c.remove.ensures.value) (c.in_ok-loopers.ensures.unused 0 c.remove.result some) in
     unused.posters
+
+pub returns-clause-unused : goal.returns-clause-unused
+returns-clause-unused c = record { threads = c.in_ok-threads.ensures.unseen; loopers = c.in_ok-loopers.ensures.unseen; controller = returns-clause-unseen c }

@@ -20,7 +20,7 @@ loop-number-preserved c =
     let unused = subst IsUnusedKit (sym c.remove.ensures.value) (at.invariant.1 0 kit some) in
     let made = thread_made s hall at.number at.kits.items c.remove.new.self.items at.threads.items c.push.new.self.items c.new.result at.invariant.0 at.invariant.1 some c.remove.ensures.items at.invariant.2 at.invariant.3 at.invariant.4
     (thread_of s hall at.number kit c.new.result is c.loop-number-test.true c.new.ensures.number c.new.ensures.kit) c.new.ensures.number
-    (c.new.ensures.begun s unused) c.in_ok-push.ensures.items in (
+    (λ m. c.new.ensures.begun m s unused) c.in_ok-push.ensures.items in (
       made.0,
       made.1,
       made.2,

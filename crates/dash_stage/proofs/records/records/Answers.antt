@@ -1,10 +1,11 @@
-use Rattle.std.proofs.Common.{◌≡◌, ◌+◌, ◌<◌, List, length, get_or, subst, ◌∙◌, arith}
+use Rattle.std.proofs.Common.{◌≡◌, ◌+◌, ◌<◌, List, length, get_or, subst, ◌∙◌, arith, Bool, sym}
 use mathlib.Core.List.{IsPrefix}
 use Rattle.choreographer.specs.Known.{Known as Pass}
 use Rattle.frame_phases.specs.declared.entry.FrameRecord.{FrameRecord}
 use Rattle.dash_stage.proofs.Carried.{numbered_count}
 use Rattle.dash_stage.proofs.HallFrames.{frames_kept}
 use Rattle.dash_stage.proofs.records.records.Goals as goal
+use Rattle.dash_hall.specs.Kits.{AreQueuesOf}
 
 pub close-requires-clause-kits : goal.close-requires-clause-kits
 close-requires-clause-kits c =
@@ -30,3 +31,10 @@ returns-clause-own c q i d p r small below =
     let few : length c.in_ok-frames.frames.items ≡ s.loopers = numbered_count (λ (z : FrameRecord). z.looper) s.loopers c.in_ok-frames.frames.items c.in_ok-frames.ensures.records.loopers in
     let within : s.threads + q < length c.args.kits.items = omega (arith, below, few, senders) in
     subst (λ (l : List Pass). IsPrefix (get_or l i p).view.seen (get_or c.in_ok-frames.frames.items q r).entries) (kept.each (s.threads + q) d within).frames (c.in_ok-frames.ensures.own q i d p r small below)
+
+pub queue_records-requires-clause-queues : goal.queue_records-requires-clause-queues
+queue_records-requires-clause-queues c = (c.args.hall.lockstep, c.requires.hall.queues)
+
+pub returns-clause-queues : goal.returns-clause-queues
+returns-clause-queues c m mode by =
+    c.in_ok-queues.ensures.records m (subst (λ (b : Bool). AreQueuesOf b c.args.script.now c.args.hall.pool c.args.hall.queues.items) (sym mode) c.requires.hall.queues) by

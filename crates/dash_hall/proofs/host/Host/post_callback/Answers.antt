@@ -1,7 +1,17 @@
-use Rattle.std.proofs.Common.{rules}
+use Rattle.std.proofs.Common.{rules, sym, refl}
 use Rattle.dash_hall.proofs.Sending.{hosted}
+use Rattle.dash_hall.proofs.HostClock.{begins_by_clock, adds_hosted}
+use Rattle.dash_hall.proofs.Growing.{stays}
 use Rattle.dash_hall.proofs.host.Host.post_callback.Goals as goal
+
+pub post_callback-requires-clause-ready : goal.post_callback-requires-clause-ready
+post_callback-requires-clause-ready g c =
+    let h = c.requires.ready in
+    record { of_queue = h.of_queue; of_pool = h.of_pool; home = h.home; on = (search rules); clocked = begins_by_clock c.args.self.now.now _ c.args.self.now.poster.now c.of-began.ensures }
 
 pub returns-clause-ready : goal.returns-clause-ready
 returns-clause-ready g c =
-    hosted _ c.args.self.now.poster.now c.post_callback.new.host.poster.now c.args.self.now.pass.now c.post_callback.new.host.pass.now c.requires.ready (search rules)
+    let p = c.args.self.now.poster.now in
+    let q = c.post_callback.new.host.poster.now in
+    hosted _ p q c.args.self.now.pass.now c.post_callback.new.host.pass.now c.requires.ready (search rules)
+    (adds_hosted _ _ c.args.self.now.now p q c.post_callback.new.host.pass.now c.post_callback.ensures.origin c.post_callback.ensures.ready c.of-began.ensures refl)

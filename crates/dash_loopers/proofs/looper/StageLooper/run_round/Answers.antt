@@ -63,7 +63,7 @@ returns-clause-round g c =
     let going : (is_ended l.last || is_given_up l.last) ≡ false = ap₂ (λ a b. a || b) no_end no_want in
     record {
       stopped = λ e. absurd (let wrong : false ≡ true = sym going ∙ e in cc);
-      ran = λ e. ran_on c.args.script.now hall c.args.now l c.index.result.now c.run_round-self.new.self c.run_round-self.result c.requires.hall c.requires.looper at c.run_round-self.ensures.round;
+      ran = λ e. ran_on c.args.script.now hall c.requires.mode c.args.now l c.index.result.now c.run_round-self.new.self c.run_round-self.result c.requires.hall c.requires.looper at c.run_round-self.ensures.round;
       looks = λ e. round_any _ c.args.now l.looper c.run_round-self.new.self c.run_round-self.result c.run_round-self.ensures.looks;
     }
 
@@ -74,7 +74,7 @@ returns-clause-waits g c =
     let count = queue_count c.args.script.now hall l.number (looper_of c.args.script.now hall l c.requires.hall c.requires.looper) in
     let one = c.requires.looper.number in
     let at = slice_get_read hall.queues.items hall.queues.len l.number c.index.result.now (omega (arith, hall.queues.ok.0)) (omega (arith, count, one, hall.queues.ok.0)) c.index.ensures in
-    comes_to_wait c.args.script.now hall c.args.now l c.index.result.now c.run_round-self.new.self c.run_round-self.result c.requires.hall c.requires.looper at c.run_round-self.ensures.same c.run_round-self.ensures.round
+    comes_to_wait c.args.script.now hall c.requires.mode c.args.now l c.index.result.now c.run_round-self.new.self c.run_round-self.result c.requires.hall c.requires.looper at c.run_round-self.ensures.same c.run_round-self.ensures.round
 
 pub returns-clause-plays : goal.returns-clause-plays
 returns-clause-plays g c =

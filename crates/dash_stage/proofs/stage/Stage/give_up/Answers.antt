@@ -1,4 +1,4 @@
-use Rattle.std.proofs.Common.{◌≡◌, ◌<◌, ℕ, true, List, length, sym, subst, arith}
+use Rattle.std.proofs.Common.{◌≡◌, ◌<◌, ℕ, true, List, length, sym, subst, arith, Bool}
 use Rattle.std.specs.Prelude.{slice_index_or}
 use Rattle.std.proofs.lemmas.List.{with_items_is}
 use Rattle.dash_loopers.specs.declared.looper.StageLooper.{StageLooper}
@@ -7,6 +7,8 @@ use Rattle.dash_stage.specs.declared.side.Turn.TheVariants.{Others}
 use Rattle.dash_stage.specs.Turns.{has_turn}
 use Rattle.dash_stage.proofs.Turns.{others_have_turn}
 use Rattle.dash_stage.proofs.stage.Stage.give_up.Goals as goal
+use Rattle.dash_stage.specs.Controllers.{IsControllerIn}
+use Rattle.dash_stage.specs.Stages.{AreLoopers}
 
 pub returns-clause-run : goal.returns-clause-run
 returns-clause-run g c k d some lt =
@@ -19,3 +21,22 @@ returns-clause-run g c k d some lt =
     let many = c.requires.stage.loopers.0 in
     subst (λ (xs : List StageLooper). HasRun s me.time (slice_index_or me.loopers.items k d) (slice_index_or xs k d)) (sym (with_items_is me.loopers ran (omega (arith, long, many, me.loopers.ok.0))))
     (rounds k d lt (others_have_turn k some))
+
+pub give_up-quit-requires-clause-controller : goal.give_up-quit-requires-clause-controller
+give_up-quit-requires-clause-controller g c =
+    subst (λ (b : Bool). IsControllerIn b c.args.script.now c.args.self.now.hall c.args.self.now.controller) (sym c.requires.stage.controller.mode) c.requires.stage.controller
+
+pub returns-clause-stage : goal.returns-clause-stage
+returns-clause-stage g c =
+    let s = c.args.script.now in
+    let me = c.args.self.now in
+    let ran = c.run_loopers.new.loopers in
+    let long = c.run_loopers.ensures.loopers.0 in
+    let many = c.requires.stage.loopers.0 in
+    record {
+      hall = c.requires.stage.hall;
+      threads = c.requires.stage.threads;
+      loopers = subst (AreLoopers s me.hall) (sym (with_items_is me.loopers ran (omega (arith, long, many, me.loopers.ok.0)))) c.run_loopers.ensures.loopers;
+      controller = subst (λ (b : Bool). IsControllerIn b s me.hall c.give_up-quit.new.self) c.requires.stage.controller.mode c.give_up-quit.ensures.controller;
+      pass = c.requires.stage.pass;
+    }

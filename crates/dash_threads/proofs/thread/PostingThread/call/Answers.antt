@@ -1,10 +1,10 @@
-use Rattle.std.proofs.Common.{◌≡◌, ◌<◌, ◌∙◌, length, set, [], arith, ap}
+use Rattle.std.proofs.Common.{◌≡◌, ◌<◌, ◌∙◌, length, set, None, sym, arith, ap}
 use Rattle.std.proofs.lemmas.Result.{IfOk-weaker}
 use Rattle.dash_hall.specs.Growth.{Makes}
-use Rattle.dash_hall.specs.Requests.{call_made, tokens_of, posts_barrier}
+use Rattle.dash_hall.specs.Requests.{call_made, tokens_of, posts_barrier, IsAtItsMoment}
 use Rattle.std.specs.Prelude.{is_some}
 use Rattle.dash_threads.specs.Threads.{CallsAt}
-use Rattle.dash_threads.proofs.ThreadSteps.{calls_at_set, calls_nowhere}
+use Rattle.dash_threads.proofs.ThreadSteps.{both_ok, calls_at_set, calls_nowhere}
 use Rattle.dash_hall.specs.Kits.{badge_of, badge_for}
 use Rattle.dash_hall.proofs.Badges.{alike_length, posters_kept, gone_badge}
 use Rattle.dash_threads.proofs.ThreadPlaces.{its_poster, its_home}
@@ -36,20 +36,24 @@ returns-then-place-len-2-clause-thread g c =
 pub returns-then-place-len-2-clause-made : goal.returns-then-place-len-2-clause-made
 returns-then-place-len-2-clause-made g c =
     let posters = c.args.self.now.kit.posters.items in
+    let p = c.index_mut.result.now in
+    let q = c.perform_by.new.poster in
     let near : c.args.looper < length posters = omega (arith, c.len.ensures, c.if-place-len.true) in
-    IfOk-weaker c.perform_by.result
-    (λ token. Makes c.index_mut.result.now c.perform_by.new.poster (call_made c.args.call) (tokens_of token))
-    (λ token. CallsAt c.args.looper (call_made c.args.call) (tokens_of token) posters (set posters c.args.looper c.perform_by.new.poster))
-    (λ token made. calls_at_set posters c.args.looper c.index_mut.result.now c.perform_by.new.poster (call_made c.args.call) (tokens_of token) c.index_mut.ensures.value near made)
-    c.perform_by.ensures.made
+    both_ok c.perform_by.result
+    (λ token. Makes p q (call_made c.args.call) (tokens_of token))
+    (λ token. IsAtItsMoment c.args.call token p q)
+    (λ token. CallsAt c.args.looper c.args.call token posters (set posters c.args.looper q))
+    (λ token made at. calls_at_set posters c.args.looper p q c.args.call token c.index_mut.ensures.value near
+    (record { sender = c.perform_by.ensures.on.sender; seen = (c.perform_by.ensures.on.more, sym c.perform_by.ensures.on.seen); made = made; moment = at }))
+    c.perform_by.ensures.made c.perform_by.ensures.moment
 
 pub returns-clause-made : goal.returns-clause-made
 returns-clause-made g c =
     let posters = c.args.self.now.kit.posters.items in
     let long = alike_length badge_of (badge_for c.args.self.now.number) posters c.args.hall.now.queues.items c.requires.thread.posters in
     elim c.else-place-len.branch [
-      | else-place-len-via-then-place-len+else-place-len-2 w ↦ calls_nowhere posters c.args.looper (call_made c.args.call) [] (omega (arith, long, w.len-then-place-len.ensures, w.if-place-len-2.false))
-      | else-place-len-via-else-place-len w ↦ calls_nowhere posters c.args.looper (call_made c.args.call) [] (omega (arith, c.len.ensures, w.if-place-len.false))
+      | else-place-len-via-then-place-len+else-place-len-2 w ↦ calls_nowhere posters c.args.looper c.args.call None (omega (arith, long, w.len-then-place-len.ensures, w.if-place-len-2.false))
+      | else-place-len-via-else-place-len w ↦ calls_nowhere posters c.args.looper c.args.call None (omega (arith, c.len.ensures, w.if-place-len.false))
     ]
 
 pub returns-then-place-len-2-clause-token : goal.returns-then-place-len-2-clause-token

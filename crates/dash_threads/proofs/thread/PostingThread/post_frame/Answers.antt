@@ -1,10 +1,10 @@
-use Rattle.std.proofs.Common.{◌<◌, ◌+◌, ◌∙◌, ℕ, subst, length, arith, ap}
+use Rattle.std.proofs.Common.{◌<◌, ◌+◌, ◌∙◌, ℕ, sym, subst, length, arith, ap}
 use Rattle.dash_hall.specs.Kits.{badge_of, badge_for, frame_badge_of, frame_badge_for}
 use Rattle.dash_threads.proofs.ThreadSteps.{on_ok}
 use Rattle.dash_threads.proofs.ThreadFrameRuns.{frame_progress, frame_within}
 use Rattle.dash_threads.proofs.ThreadText.{few_loopers}
 use Rattle.dash_hall.proofs.Badges.{alike_length, posters_kept, gone_badge, passes_kept, queue_count, choreographer_count}
-use Rattle.dash_threads.proofs.ThreadPlaces.{its_poster, its_home, its_pass, its_phases}
+use Rattle.dash_threads.proofs.ThreadPlaces.{its_poster, its_home, its_pass, its_phases, its_mode}
 use Rattle.dash_threads.proofs.thread.PostingThread.post_frame.Goals as goal
 use Rattle.dash_threads.proofs.thread.PostingThread.post_frame.Goals.{else-place-len-via-then-place-len+then-place-len-2+then-place-len-3+then-place-len-4+else-phase-phases, else-place-len-via-then-place-len+then-place-len-2+then-place-len-3+else-place-len-4, else-place-len-via-then-place-len+then-place-len-2+else-place-len-3, else-place-len-via-then-place-len+else-place-len-2, else-place-len-via-else-place-len}
 use Rattle.handler_post.specs.declared.handler.Handler.{Handler}
@@ -13,7 +13,7 @@ use Rattle.dash_hall.specs.Hosts.{PostsFrame}
 pub frame_handler-requires : goal.frame_handler-requires
 frame_handler-requires g c =
     let few = few_loopers c.args.script.now c.requires.text in
-    let long = queue_count c.args.script.now c.args.hall.now.pool c.args.hall.now.queues.items c.requires.hall.queues in
+    let long = queue_count c.args.hall.now.lockstep c.args.script.now c.args.hall.now.pool c.args.hall.now.queues.items c.requires.hall.queues in
     omega (arith, few, long, c.len-then-place-len.ensures, c.if-place-len-2.true)
 
 pub post_frame-requires-clause-queue : goal.post_frame-requires-clause-queue
@@ -60,20 +60,20 @@ returns-then-phase-phases-clause-made g c =
     let near : c.args.looper < length t.kit.posters.items = omega (arith, c.len.ensures, c.if-place-len.true) in
     let near' : c.args.looper < length t.kit.frames.items = omega (arith, c.len-then-place-len-2.ensures, c.if-place-len-3.true) in
     on_ok c.post_frame.result _ _
-    (λ made. λ past rest are up. frame_progress s c.args.now c.args.looper c.args.phase c.args.id c.args.delay t.number t.barriers.items t.kit.posters.items t.kit.frames.items p q f h past c.index_mut.ensures.value c.index_mut-then-phase-phases.ensures.value near near'
+    (λ made. λ m time mode allowed past rest are up. frame_progress m s time c.args.now c.args.looper c.args.phase c.args.id c.args.delay t.number t.barriers.items t.kit.posters.items t.kit.frames.items p q f h past allowed (its_mode m s c.args.hall.now t c.requires.hall c.requires.thread mode) c.index_mut.ensures.value c.index_mut-then-phase-phases.ensures.value near near' c.post_frame.ensures.on.sender (c.post_frame.ensures.on.more, sym c.post_frame.ensures.on.seen)
     (subst (λ (i : ℕ). PostsFrame (64 + c.args.looper) c.args.now c.args.phase i c.args.delay p q f h) c.from.ensures
     (subst (λ (x : Handler). PostsFrame x.id c.args.now c.args.phase c.from.result c.args.delay p q f h) c.frame_handler.ensures made)) up)
     c.post_frame.ensures.made
 
 pub returns-clause-made : goal.returns-clause-made
-returns-clause-made g c = λ past rest are up. (
+returns-clause-made g c = λ m time mode allowed past rest are up. (
     let t = c.args.self.now in
     let s = c.args.script.now in
     let hall = c.args.hall.now in
-    let within = frame_within s t.number c.args.now c.args.looper c.args.phase c.args.id c.args.delay past rest c.requires.text are in
+    let within = frame_within s t.number time c.args.looper c.args.phase c.args.id c.args.delay past rest c.requires.text are in
     let lt = within.0 in
     let ph = within.1 in
-    let queues = queue_count s hall.pool hall.queues.items c.requires.hall.queues in
+    let queues = queue_count hall.lockstep s hall.pool hall.queues.items c.requires.hall.queues in
     let posters = alike_length badge_of (badge_for t.number) t.kit.posters.items hall.queues.items c.requires.thread.posters in
     let cs = choreographer_count s hall.choreographers.items c.requires.hall.choreographers in
     let frames = alike_length frame_badge_of (frame_badge_for t.number) t.kit.frames.items hall.choreographers.items c.requires.thread.frames in

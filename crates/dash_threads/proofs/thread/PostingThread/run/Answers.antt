@@ -1,22 +1,43 @@
-use Rattle.std.proofs.Common.{◌∙◌}
+use Rattle.std.proofs.Common.{sym, ◌∙◌, subst}
+use Rattle.std.specs.Prelude.{OnOk}
+use Rattle.dash_script.specs.declared.script.Command.{Command}
 use Rattle.dash_hall.specs.Kits.{badge_of, badge_for}
 use Rattle.dash_hall.proofs.Badges.{alike_length, queue_count}
 use Rattle.dash_threads.proofs.ThreadSteps.{on_ok, ok_from}
 use Rattle.dash_threads.proofs.ThreadRuns.{made_takes, idle_takes, watch_takes, event_takes}
+use Rattle.dash_threads.specs.Threads.{TakesAt}
+use Rattle.dash_threads.proofs.ThreadPlaces.{its_mode}
 use Rattle.dash_threads.proofs.thread.PostingThread.run.Goals as goal
 
 pub returns-in_default-clause-made : goal.returns-in_default-clause-made
 returns-in_default-clause-made g c =
     let t = c.args.self.now in
     let s = c.args.script.now in
-    let long = alike_length badge_of (badge_for t.number) t.kit.posters.items c.args.hall.now.queues.items c.requires.thread.posters ∙ queue_count s c.args.hall.now.pool c.args.hall.now.queues.items c.requires.hall.queues in
-    on_ok c.make_call.result _ _ (λ made. made_takes s c.args.now c.args.command t c.make_call.new.self c.requires.text long c.make_call.ensures.number c.in_default.not-Frame c.in_default.not-Unframe made) c.make_call.ensures.made
+    let long = alike_length badge_of (badge_for t.number) t.kit.posters.items c.args.hall.now.queues.items c.requires.thread.posters ∙ queue_count c.args.hall.now.lockstep s c.args.hall.now.pool c.args.hall.now.queues.items c.requires.hall.queues in
+    on_ok c.make_call.result _ _ (λ made. λ m time mode allowed. made_takes m s time c.args.now c.args.command t c.make_call.new.self allowed (its_mode m s c.args.hall.now t c.requires.hall c.requires.thread mode) c.requires.text long c.make_call.ensures.number c.in_default.not-Frame c.in_default.not-Unframe made) c.make_call.ensures.made
 
 pub returns-in-Idle-clause-made : goal.returns-in-Idle-clause-made
-returns-in-Idle-clause-made g c = ok_from _ _ (idle_takes c.args.script.now c.args.now c.args.command c.args.self.now _ _ _ c.in-Idle.is)
+returns-in-Idle-clause-made g c =
+    let takes : TakesAt c.args.hall.now.lockstep c.args.script.now c.args.now c.args.command c.args.self.now c.args.self.now =
+    λ m time mode allowed. idle_takes m c.args.script.now time c.args.now c.args.command c.args.self.now _ _ _ c.in-Idle.is allowed in
+    ok_from _ _ takes
 
 pub returns-in-Watch-clause-made : goal.returns-in-Watch-clause-made
-returns-in-Watch-clause-made g c = ok_from _ _ (watch_takes c.args.script.now c.args.now c.args.command c.args.self.now _ _ _ _ c.in-Watch.is)
+returns-in-Watch-clause-made g c =
+    let takes : TakesAt c.args.hall.now.lockstep c.args.script.now c.args.now c.args.command c.args.self.now c.args.self.now =
+    λ m time mode allowed. watch_takes m c.args.script.now time c.args.now c.args.command c.args.self.now _ _ _ _ c.in-Watch.is allowed in
+    ok_from _ _ takes
 
 pub returns-in-Event-clause-made : goal.returns-in-Event-clause-made
-returns-in-Event-clause-made g c = ok_from _ _ (event_takes c.args.script.now c.args.now c.args.command c.args.self.now _ _ _ c.in-Event.is)
+returns-in-Event-clause-made g c =
+    let takes : TakesAt c.args.hall.now.lockstep c.args.script.now c.args.now c.args.command c.args.self.now c.args.self.now =
+    λ m time mode allowed. event_takes m c.args.script.now time c.args.now c.args.command c.args.self.now _ _ _ c.in-Event.is allowed in
+    ok_from _ _ takes
+
+pub returns-in-Frame-clause-made : goal.returns-in-Frame-clause-made
+returns-in-Frame-clause-made g c =
+    subst (λ (z : Command). OnOk c.post_frame.result (TakesAt c.args.hall.now.lockstep c.args.script.now c.args.now z c.args.self.now c.post_frame.new.self)) (sym c.in-Frame.is) c.post_frame.ensures.made
+
+pub returns-in-Unframe-clause-made : goal.returns-in-Unframe-clause-made
+returns-in-Unframe-clause-made g c =
+    subst (λ (z : Command). OnOk c.remove_frame.result (TakesAt c.args.hall.now.lockstep c.args.script.now c.args.now z c.args.self.now c.remove_frame.new.self)) (sym c.in-Unframe.is) c.remove_frame.ensures.made

@@ -1,4 +1,5 @@
 use Rattle.std.proofs.Common.{◌≡◌, true, false, take}
+use Rattle.run_model.specs.Moments.{in_lockstep}
 use Rattle.dash_threads.specs.Threads.{IsThread, HasRun}
 use Rattle.dash_threads.proofs.thread.PostingThread.run_block.Given as goal
 
@@ -8,5 +9,5 @@ invariant-loop-line g l = record {
   number : l.self.number ≡ l.fn.self.number;
   goes : l.self.gave_up ≡ false → l.fn.self.gave_up ≡ false;
   stays : l.fn.self.gave_up ≡ true → l.self ≡ l.fn.self;
-  made : l.self.gave_up ≡ false → HasRun l.script l.block.time l.block.lines (take l.line-index l.block.lines) l.fn.self l.self;
+  made : l.self.gave_up ≡ false → HasRun in_lockstep l.script l.block.time l.block.lines (take l.line-index l.block.lines) l.fn.self l.self;
 }

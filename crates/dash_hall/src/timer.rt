@@ -1,0 +1,53 @@
+//! The uptime of a run by a clock.
+ghost use Rattle.std.specs.Prelude.{◌≡◌, ◌≤◌, true, IfSome};
+ghost use Rattle.loop_io.specs.Moments.{IsMoment};
+
+use crate::stop::Stop;
+use loop_io::Clock;
+use std::sync::Wait;
+use std::time;
+
+/// A clock with its reading at the start of the run. A moment is a reading less that one, in milliseconds.
+#[derive(Drop)]
+pub struct Timer<'a, C: Clock> {
+    pub clock: &'a C,
+    pub start: u64,
+}
+
+impl<'a, C: Clock> Timer<'a, C> {
+    /// It reads the clock once, for the start.
+    pub fn new(clock: &'a C) -> Timer<'a, C>
+        ensures clock { result.clock.now ≡ clock.now }
+        ensures start { C.shows clock.now result.start ≡ true }
+    {
+        Timer {
+            clock,
+            start: clock.uptime_millis(),
+        }
+    }
+
+    /// A moment now.
+    pub fn now(&self) -> u64
+        ensures { IsMoment (C.shows self.now.clock.now) self.now.start result }
+    {
+        self.clock.uptime_millis().saturating_sub(self.start)
+    }
+
+    /// Waits for this time, in milliseconds, and answers a moment that is no earlier. None where the run is given up.
+    pub fn wait_until<R: Wait + time::Clock>(&self, rt: &R, stop: &Stop, time: u64) -> Option<u64>
+        ensures moment { IfSome result (IsMoment (C.shows self.now.clock.now) self.now.start) }
+        ensures late { IfSome result (λ now. time ≤ now) }
+    {
+        for _ in rt.forever() {
+            if stop.is_stopped(rt) {
+                return None;
+            }
+            let now = self.now();
+            if time <= now {
+                return Some(now);
+            }
+            stop.wait(rt, time - now);
+        }
+        unreachable!()
+    }
+}

@@ -1,0 +1,40 @@
+use Rattle.std.proofs.Common.{◌<◌, ◌∙◌, length, refl, arith, ap}
+use Rattle.std.proofs.Math.Seq.{map-set_same}
+use Rattle.dash_hall.specs.Kits.{badge_of}
+use Rattle.dash_hall.proofs.Badges.{posters_kept}
+use Rattle.dash_threads.specs.Threads.{known_of}
+use Rattle.dash_threads.proofs.ThreadPlaces.{its_poster}
+use Rattle.dash_threads.proofs.thread.PostingThread.nudge.Goals as goal
+
+pub nudge-requires-after_bounds : goal.nudge-requires-after_bounds
+nudge-requires-after_bounds g c κs within =
+    let t = c.args.self.now in
+    let hall = c.args.hall.now in
+    let near : c.args.looper < length t.kit.posters.items = omega (arith, c.len.ensures, c.if-place-len.false) in
+    its_poster c.args.script.now hall t c.requires.hall c.requires.thread c.args.looper c.index.result.now c.index_mut.result.now c.index.ensures c.index_mut.ensures.value near
+
+pub returns-clause-thread : goal.returns-clause-thread
+returns-clause-thread g c =
+    let t = c.args.self.now in
+    let same = c.nudge.ensures.same.0 in
+    record {
+      number = c.requires.thread.number;
+      posters = posters_kept t.number c.args.hall.now.queues.items t.kit.posters.items c.requires.thread.posters c.args.looper c.nudge.new.self c.index_mut.result.now ((λ i. record { table = same.table i; constants = same.constants i; sender = same.sender i }) ∙ ap badge_of c.index_mut.ensures.value);
+      frames = c.requires.thread.frames;
+      pass = c.requires.thread.pass;
+    }
+
+pub returns-clause-kept : goal.returns-clause-kept
+returns-clause-kept g c =
+    let t = c.args.self.now in
+    let same = c.nudge.ensures.same.0 in
+    record {
+      number = refl;
+      posters = map-set_same known_of t.kit.posters.items c.args.looper c.nudge.new.self c.index_mut.result.now
+          ((λ i. (record { table = same.table i; constants = same.constants i; sender = same.sender i }, c.nudge.ensures.same.1 i)) ∙ ap known_of c.index_mut.ensures.value);
+      pass = refl;
+      frames = refl;
+      barriers = refl;
+      passed = refl;
+      gave_up = refl;
+    }

@@ -1,0 +1,157 @@
+//! A thread that runs its blocks by a clock.
+ghost use Rattle.std.specs.Prelude.{◌≡◌, true, false, IfSome, IsSomeAnd};
+ghost use Rattle.dash_script.specs.Reading.{HasText};
+ghost use Rattle.run_model.specs.Moments.{in_free_mode, IsUptime};
+ghost use Rattle.dash_hall.specs.Kits.{IsHall};
+ghost use Rattle.dash_threads.specs.Threads.{IsThread, TakesAt, Continues, RunsAll, ThreadKeeps, HaveSeenSame};
+
+use crate::thread::PostingThread;
+use dash_hall::{Hall, Timer};
+use dash_script::{Block, Command, Script};
+use loop_io::{Clock, Gate};
+use std::alloc::Global;
+use std::sync::Wait;
+use std::time;
+
+impl PostingThread {
+    /// Runs all its commands, those of a block in the order of their lines and none before the block's time in milliseconds. Each waits
+    /// for that time, passes the gate, and goes by a moment of the clock. Where one finds no memory the thread gives the run up; where the
+    /// run is given up it gives up too. Behind either it runs none.
+    pub fn run_by_clock<R: Wait + time::Clock, C: Clock, G: Gate>(
+        &mut self,
+        rt: &R,
+        alloc: Global,
+        hall: &Hall,
+        script: &Script,
+        gate: &G,
+        timer: &Timer<C>,
+    )
+        requires text { HasText script.now }
+        requires hall { IsHall script.now hall.now }
+        requires mode { hall.now.lockstep ≡ false }
+        requires thread { IsThread script.now hall.now self.old }
+        ensures thread { IsThread script.now hall.now self.new }
+        ensures number { self.new.number ≡ self.old.number }
+        ensures goes { self.new.gave_up ≡ false → self.old.gave_up ≡ false }
+        ensures stays { self.old.gave_up ≡ true → self.new ≡ self.old }
+        ensures made { self.new.gave_up ≡ false → RunsAll (in_free_mode (C.shows timer.now.clock.now) timer.now.start) script.now self.old self.new }
+    {
+        for block in script.blocks.as_slice() {
+            self.run_block_by_clock(rt, alloc, hall, script, gate, timer, block);
+        }
+    }
+
+    /// Runs its commands of a block, each at the block's time or later.
+    fn run_block_by_clock<R: Wait + time::Clock, C: Clock, G: Gate>(
+        &mut self,
+        rt: &R,
+        alloc: Global,
+        hall: &Hall,
+        script: &Script,
+        gate: &G,
+        timer: &Timer<C>,
+        block: &Block,
+    )
+        requires text { HasText script.now }
+        requires hall { IsHall script.now hall.now }
+        requires mode { hall.now.lockstep ≡ false }
+        requires thread { IsThread script.now hall.now self.old }
+        ensures thread { IsThread script.now hall.now self.new }
+        ensures number { self.new.number ≡ self.old.number }
+        ensures goes { self.new.gave_up ≡ false → self.old.gave_up ≡ false }
+        ensures stays { self.old.gave_up ≡ true → self.new ≡ self.old }
+        ensures made { self.new.gave_up ≡ false → Continues (in_free_mode (C.shows timer.now.clock.now) timer.now.start) script.now block.now self.old self.new }
+    {
+        for line in block.lines.as_slice() {
+            if line.thread == self.number {
+                let now = self.wait_for(rt, hall, gate, timer, block.time);
+                self.run_at(rt, alloc, hall, script, now, line.command);
+            }
+        }
+    }
+
+    /// Waits for this time, in milliseconds, passes the gate, and answers a moment of the clock that is no earlier. None where the run is
+    /// given up, and where it has given up itself.
+    fn wait_for<R: Wait + time::Clock, C: Clock, G: Gate>(
+        &mut self,
+        rt: &R,
+        hall: &Hall,
+        gate: &G,
+        timer: &Timer<C>,
+        time: u64,
+    ) -> Option<u64>
+        ensures same { self.new ≡ record self.old { passed = self.new.passed } }
+        ensures stays { self.old.gave_up ≡ true → self.new ≡ self.old }
+        ensures moment { IfSome result (IsUptime (in_free_mode (C.shows timer.now.clock.now) timer.now.start) time) }
+    {
+        if self.gave_up {
+            return None;
+        }
+        timer.wait_until(rt, &hall.stop, time)?;
+        gate.pass(self.number, self.passed);
+        self.passed = self.passed.saturating_add(1);
+        timer.wait_until(rt, &hall.stop, time)
+    }
+
+    /// Runs a command at this moment, in milliseconds, unless the run is given up, and rings the bell of the looper that it asks for a frame
+    /// or hands an event. Where there is no moment it gives up.
+    fn run_at<R: Wait>(
+        &mut self,
+        rt: &R,
+        alloc: Global,
+        hall: &Hall,
+        script: &Script,
+        now: Option<u64>,
+        command: Command,
+    )
+        requires text { HasText script.now }
+        requires hall { IsHall script.now hall.now }
+        requires thread { IsThread script.now hall.now self.old }
+        ensures thread { IsThread script.now hall.now self.new }
+        ensures number { self.new.number ≡ self.old.number }
+        ensures stays { self.old.gave_up ≡ true → self.new ≡ self.old }
+        ensures made { self.new.gave_up ≡ false → (self.old.gave_up ≡ false) × IsSomeAnd now (λ u. TakesAt hall.now.lockstep script.now u command self.old self.new) }
+    {
+        if self.gave_up {
+            return;
+        }
+        let Some(now) = now else {
+            self.gave_up = true;
+            return;
+        };
+        let look = hall.stop.look(rt);
+        self.run_unless_stopped(rt, alloc, hall, script, now, command, look);
+        self.nudge_for(rt, hall, script, command);
+    }
+
+    /// Rings the bell of the looper that a command asks for a frame, or hands an event.
+    fn nudge_for<R: Wait>(&mut self, rt: &R, hall: &Hall, script: &Script, command: Command)
+        requires hall { IsHall script.now hall.now }
+        requires thread { IsThread script.now hall.now self.old }
+        ensures thread { IsThread script.now hall.now self.new }
+        ensures kept { ThreadKeeps HaveSeenSame self.old self.new }
+    {
+        match command {
+            Command::Frame { looper, .. } => self.nudge(rt, hall, script, looper),
+            Command::Event { looper, .. } => self.nudge(rt, hall, script, looper),
+            _ => {}
+        }
+    }
+
+    /// Rings the bell of this looper.
+    pub(crate) fn nudge<R: Wait>(&mut self, rt: &R, hall: &Hall, script: &Script, looper: u32)
+        requires hall { IsHall script.now hall.now }
+        requires thread { IsThread script.now hall.now self.old }
+        ensures thread { IsThread script.now hall.now self.new }
+        ensures kept { ThreadKeeps HaveSeenSame self.old self.new }
+    {
+        let place = looper as usize;
+        if place >= self.kit.posters.len() {
+            return;
+        }
+        if place >= hall.queues.len() {
+            return;
+        }
+        self.kit.posters[place].nudge(rt, &hall.queues[place]);
+    }
+}
