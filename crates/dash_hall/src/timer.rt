@@ -10,7 +10,9 @@ use std::time;
 /// A clock with its reading at the start of the run. A moment is a reading less that one, in milliseconds.
 #[derive(Drop)]
 pub struct Timer<'a, C: Clock> {
+    /// The clock.
     pub clock: &'a C,
+    /// Its reading at the start of the run, in milliseconds.
     pub start: u64,
 }
 
