@@ -1,38 +1,22 @@
 -- A frame callback that is removed before its frame.
-use Rattle.std.proofs.Common.{◌≡◌, ◌<◌, ℕ, true, List, [], ◌∷◌, Some, None, refl, arith, lit<, lit≤, inl, inr}
-use Rattle.std.specs.Prelude.{codes, map}
+use Rattle.std.proofs.Common.{◌≡◌, List, [], ◌∷◌, Some, None, refl}
+use Rattle.std.specs.Prelude.{codes}
 use Rattle.std.specs.Fmt.{digits}
 use Rattle.loop_model.specs.declared.call.Call.TheVariants as call
 use Rattle.loop_model.specs.declared.reply.Reply.TheVariants as reply
 use Rattle.loop_model.specs.declared.entry.Entry.{Entry}
-use Rattle.loop_model.specs.Base.{empty_base}
-use Rattle.loop_model.specs.Answers.{answer, clock, accepted_count, barrier_count, quit_place, has_disposed, has_halted}
-use Rattle.loop_model.specs.Legal.{IsLegal, AreNumbered, made_count}
-use Rattle.loop_model.specs.Live.{live}
-use Rattle.loop_model.specs.Pick.{first_eligible, pick}
 use Rattle.loop_model.specs.Fates.{fates}
-use Rattle.frame_phases.specs.declared.entry.FrameEntry.{FrameEntry}
 use Rattle.frame_phases.specs.declared.entry.FrameEntry.TheVariants as frame
-use Rattle.frame_phases.specs.Frames.{lawful, all_allowed, is_allowed, owed, next_phase, last_time, in_due_order, before_later, live as live_callbacks, posted_count}
 use Rattle.dash_script.specs.declared.script.Command.TheVariants as command
 use Rattle.dash_script.specs.declared.script.Script.{Script}
 use Rattle.loop_model.specs.declared.journal.Act.TheVariants as act
-use Rattle.loop_model.specs.declared.journal.Journal.{Journal}
 use Rattle.loop_model.specs.declared.journal.Route.TheVariants as route
-use Rattle.loop_model.specs.declared.record.QueueRecord.{QueueRecord}
 use Rattle.run_model.specs.declared.report.Report.{Report}
-use Rattle.run_model.specs.Control.{is_controlled, is_called_in_time, are_before_quit, befores}
 use Rattle.run_model.specs.Moments.{in_lockstep}
-use Rattle.run_model.specs.Planned.{AreAsPlanned}
-use Rattle.run_model.specs.Acts.{after_act}
-use Rattle.run_model.specs.Loopers.{first_looper, Looper}
-use Rattle.run_model.specs.Run.{IsRun, IsHistory, IsControlled, IsFrameRun, IsLooperRun, IsTimely, IsThreadOnTime, all_entries, setting_of, are_in_order}
+use Rattle.run_model.specs.Run.{IsRun}
 use Rattle.run_model.specs.Text.{text, lines}
-use Rattle.run_model.proofs.Below.{each_below}
-use Rattle.run_model.proofs.Examples.{entry, frame_message, handler_on, block, by, plain_script, queue, journal, frames, callback, led, page}
-use Rattle.run_model.specs.Moves.{moves, AreMovedTogether}
-use Rattle.run_model.specs.Histories.{history_of}
-use Rattle.run_model.specs.Senders.{controller}
+use Rattle.run_model.proofs.Examples.{entry, frame_message, handler_on, block, by, plain_script, callback, page}
+use Rattle.run_model.proofs.Table.{Row, report_of, run_by, computing}
 
 abbrev pub script : Script
 script =
@@ -47,97 +31,23 @@ entries_0 =
     entry 2 2 (call.Advance 20) reply.Advanced ∷
     entry 2 3 (call.Halt 20) reply.Halted ∷ []
 
-abbrev pub record_0 : QueueRecord
-record_0 = queue 0 true 3 entries_0
-
-abbrev pub journal_0 : Journal
-journal_0 =
-    journal 0 (act.Vsync 16666667 ∷ act.Dispatch 0 17 route.Intercepted ∷ [])
-
-abbrev pub frames_0 : List FrameEntry
-frames_0 =
-    frame.Posted (callback 0 0 10 8) ∷ frame.Removed 0 8 None 1 ∷ frame.Begin 16666667 17000000 16666667 ∷ frame.Take 0 17000000 16666667 ∷ frame.Take 1 17000000 16666667 ∷ frame.Take 2 17000000 16666667 ∷ frame.Take 3 17000000 16666667 ∷ []
+abbrev pub rows : List Row
+rows =
+    record {
+      entries = entries_0;
+      acts = act.Vsync 16666667 ∷ act.Dispatch 0 17 route.Intercepted ∷ [];
+      frames = frame.Posted (callback 0 0 10 8) ∷ frame.Removed 0 8 None 1 ∷ frame.Begin 16666667 17000000 16666667 ∷ frame.Take 0 17000000 16666667 ∷ frame.Take 1 17000000 16666667 ∷ frame.Take 2 17000000 16666667 ∷ frame.Take 3 17000000 16666667 ∷ [];
+      places = None ∷ Some 2 ∷ [];
+      disposed_at = 0;
+    }
+    ∷ []
 
 abbrev pub report : Report
-report = record {
-  script = script;
-  queues = record_0 ∷ [];
-  journals = journal_0 ∷ [];
-  frames = frames 0 frames_0 ∷ [];
-  start = 0;
-}
-
-pub legal_0 : IsLegal (setting_of record_0) (empty_base 3) entries_0
-unfolding IsLegal answer clock accepted_count barrier_count quit_place has_disposed has_halted live first_eligible pick
-legal_0 =
-    (record { reply = refl; timely = lit≤ tt }, (record { reply = refl; timely = lit≤ tt }, (record { reply = refl; timely = tt }, (record { reply = refl; timely = refl }, (record { reply = refl; timely = lit≤ tt }, (record { reply = refl; timely = refl }, tt))))))
-
-pub numbered_0 : AreNumbered (setting_of record_0) (empty_base 3) entries_0
-unfolding AreNumbered made_count
-numbered_0 =
-    (record { known = lit< tt; counted = refl; controller = λ h. refl }, (record { known = lit< tt; counted = refl; controller = λ h. refl }, (record { known = lit< tt; counted = refl; controller = λ h. cc }, (record { known = lit< tt; counted = refl; controller = λ h. cc }, (record { known = lit< tt; counted = refl; controller = λ h. refl }, (record { known = lit< tt; counted = refl; controller = λ h. refl }, tt))))))
-
-pub planned_0 : (thread : ℕ) → thread < 1 → AreAsPlanned in_lockstep script thread 0 entries_0
-planned_0 = each_below 1 (λ thread. AreAsPlanned in_lockstep script thread 0 entries_0) (tt, tt)
-
-pub history_0 : IsHistory in_lockstep all_entries script record_0
-history_0 = record { main = refl; lockstep = refl; senders = refl; chain = (refl, tt); legal = legal_0; numbered = numbered_0; clocked = tt }
-
-pub controlled_0 : IsControlled script record_0
-unfolding is_controlled
-controlled_0 = refl
-
-pub frame_run_0 : IsFrameRun script (frames 0 frames_0)
-unfolding lawful all_allowed is_allowed owed next_phase last_time in_due_order before_later live_callbacks posted_count
-frame_run_0 = record {
-  interval = refl;
-  phases = refl;
-  lawful = refl;
-}
-
-abbrev pub final_0 : Looper
-final_0 = led script 0 entries_0 frames_0 (first_looper script) (None ∷ Some 2 ∷ []) journal_0.acts
-
-pub looper_run_0 : IsLooperRun in_lockstep script report.queues record_0 journal_0 (frames 0 frames_0)
-unfolding after_act befores clock has_disposed
-looper_run_0 = record {
-  final = final_0;
-  acts =
-      (None, ((refl, refl, refl), (Some 2, (record { accepted = refl; starts = refl; place = refl; painted = refl }, refl))));
-  settled = refl;
-  dispatches = refl;
-  disposed_at = 0;
-  calls =
-      ((record { call = refl; reply = tt }, (record { call = refl; reply = refl }, tt)), tt);
-  asked = λ test. omega arith;
-  on_time = (refl, tt);
-  whole = refl;
-  moments = refl;
-}
-
-pub timely_0 : IsTimely script record_0
-unfolding is_called_in_time are_before_quit are_in_order befores clock has_disposed quit_place first_eligible pick live
-timely_0 = record {
-  controls = refl;
-  before_quit = refl;
-  threads = each_below 1 (λ thread. IsThreadOnTime script record_0 thread) (tt, refl);
-  in_order = refl;
-}
-
-pub moved : AreMovedTogether script (map (λ q. moves (controller script) (history_of q)) report.queues)
-unfolding moves first_eligible live
-moved = record { due = (inl refl, (inr (record { stamp = 16666667; pulse = refl; rounded = refl }), (inl refl, tt))); together = ((_, refl), tt) }
+report = report_of script rows
 
 pub is_run : IsRun in_lockstep script report
-is_run = record {
-  report = record { script = refl; queues = refl; journals = refl; frames = refl };
-  records = record { mode = refl; start = refl; histories = (history_0, tt) };
-  planned = (planned_0, tt);
-  controls = (controlled_0, tt);
-  frames = (frame_run_0, tt);
-  loopers = (looper_run_0, tt);
-  timely = record { halted = refl; histories = (timely_0, tt); moves = moved };
-}
+unfolding computing
+is_run = run_by script rows refl
 
 pub printed : text report ≡ page (codes "report 1" ∷ codes "looper 0" ∷ codes "17 dispatch 0 64 0" ∷ codes "fates accepted 1 dispatched 1 removed 0 dropped 0 stranded 0 queued 0" ∷ codes "frame 16666667" ∷ codes "end" ∷ [])
 unfolding text lines fates digits

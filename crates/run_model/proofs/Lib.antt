@@ -2,6 +2,7 @@ pub mod Below
 pub mod Examples
 pub mod RunBut
 pub mod ByTests
+pub mod Table
 pub mod TwoPosts
 pub mod BarrierHolds
 pub mod RemovesZero
