@@ -27,7 +27,11 @@ use Rattle.run_model.specs.Text.{text, lines}
 use Rattle.run_model.proofs.Below.{each_below}
 use Rattle.run_model.proofs.Table.{led}
 use Rattle.run_model.proofs.Examples.{entry, message, journal, frames, page}
-use Rattle.run_model.proofs.TwoPosts.{script}
+use Rattle.run_model.proofs.WorkedPosts.{two_posts}
+use Rattle.dash_script.specs.declared.script.Script.{Script}
+
+abbrev script : Script
+script = two_posts.script
 
 abbrev mode : Mode
 mode = in_free_mode (λ n. n % 5 == 0) 5

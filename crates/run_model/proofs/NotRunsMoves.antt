@@ -15,8 +15,7 @@ use Rattle.run_model.proofs.Examples.{handler_on, plain_script}
 use Rattle.run_model.proofs.RunBut.{IsRunBut}
 use Rattle.run_model.proofs.RunBut as but
 use Rattle.run_model.proofs.Table.{Row, quiet, report_of, run_but_by, computing}
-use Rattle.run_model.proofs.TwoPosts.{script}
-use Rattle.run_model.proofs.NotRuns.{dispatch, advance, look, first_post, second_post, halt}
+use Rattle.run_model.proofs.NotRuns.{script, dispatch, advance, look, first_post, second_post, halt}
 use Rattle.run_model.proofs.NotRunsQuits.{side_rows, side_advance, side_quit, disposal}
 use Rattle.run_model.proofs.NotRunsTimes.{main_rows}
 

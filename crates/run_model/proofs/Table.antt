@@ -1,6 +1,7 @@
 -- Reports as data: a report in lockstep is a run, or one but for a clause, where one equation computes.
 use Rattle.std.proofs.Common.{◌≡◌, ◌<◌, ℕ, zero, suc, Bool, true, false, List, [], ◌∷◌, ◌++◌, Option, Some, None, refl, sym, ap, ◌∙◌, inl, inr, arith}
 use Rattle.std.specs.Prelude.{◌+◌, ◌*◌, ◌/◌, ◌==◌, ◌&&◌, ◌||◌, not, is_some, map, drop, length, count_by, cond, MatchBool, if◌then◌else◌}
+use Rattle.std.specs.Fmt.{digits}
 use Rattle.std.specs.List.{AllByRecursion, filter_map, list_all, list_any, range_with_len, enumerate_from}
 use Rattle.std.specs.Option.{option_map, option_map_or, MatchOption}
 use Rattle.std.proofs.lemmas.Bool.{cases_Bool, and_parts, or_cases, eqb-true}
@@ -21,6 +22,7 @@ use Rattle.loop_model.specs.Legal.{made_count}
 use Rattle.loop_model.specs.Live.{live}
 use Rattle.loop_model.specs.Pick.{first_eligible, pick}
 use Rattle.loop_model.specs.Posts.{post_at}
+use Rattle.loop_model.specs.Fates.{fates}
 use Rattle.loop_model.specs.Dispatches.{act_dispatch, call_dispatch}
 use Rattle.frame_phases.specs.declared.entry.FrameEntry.{FrameEntry}
 use Rattle.frame_phases.specs.declared.entry.FrameRecord.{FrameRecord}
@@ -40,9 +42,10 @@ use Rattle.run_model.specs.Moves.{Move, moves, move_times, main_moves, is_planne
 use Rattle.run_model.specs.FrameRuns.{is_frame_from, are_run_then, are_whole}
 use Rattle.run_model.specs.FrameAsks.{FrameAsk, Posts, Removes, Runs, as_told, asks_in}
 use Rattle.run_model.specs.Run.{IsRun, IsHistory, IsAsPlanned, IsControlled, IsFrameRun, EachLooper, all_entries, setting_of, caused_on, asked_of, are_in_order, main_ends_halted}
+use Rattle.run_model.specs.Text.{text, lines}
 use Rattle.run_model.proofs.Below.{EachBelow, each_below}
 use Rattle.run_model.proofs.ByTests.{answers, replies, are_timely, are_numbered, history_by, planned_calls, made_calls, thread_lines, MakesThem, calls_by}
-use Rattle.run_model.proofs.Examples.{queue, journal}
+use Rattle.run_model.proofs.Examples.{queue, journal, page}
 use Rattle.run_model.proofs.RunBut.{Clause, Nothing, Asked, Whole, Moments, Starts, OnTime, Takes, Controls, BeforeQuit, Threads, Order, Blocks, Due, Together, number_of, Unless, with_pulses, IsLooperRunBut, IsTimelyBut, AreMovedBut, IsRunBut}
 use Rattle.run_model.proofs.RunBut as but
 
@@ -625,3 +628,24 @@ unfolding answer clock accepted_count barrier_count quit_place has_disposed has_
     lawful all_allowed is_allowed owed next_phase last_time in_due_order before_later live_callbacks posted_count
     after_act befores is_called_in_time are_before_quit are_in_order moves
 computing = tt
+
+-- ---- worked reports
+
+-- a script, what is kept of each looper, and the lines of the report's text
+pub record Worked : Type 0 where
+  pub script : Script
+  pub rows : List Row
+  pub printed : List (List ℕ)
+
+-- the report is a run of the script, and this is its text
+pub record Holds (w : Worked) : Type 0 where
+  pub runs : IsRun in_lockstep w.script (report_of w.script w.rows)
+  pub prints : text (report_of w.script w.rows) ≡ page w.printed
+
+pub holds : (w : Worked) → found Nothing w.script w.rows ≡ wanted Nothing w.script w.rows → text (report_of w.script w.rows) ≡ page w.printed → Holds w
+holds w same text_is = record { runs = run_by w.script w.rows same; prints = text_is }
+
+-- all with which both equations compute
+unfoldable pub printing : Unit {0}
+unfolding computing text lines fates digits
+printing = tt
