@@ -1,7 +1,7 @@
 -- Parts of a run, for reports that are written out: by tests that compute.
-use Rattle.std.proofs.Common.{◌≡◌, ◌<◌, ℕ, Bool, true, false, List, [], ◌∷◌, ◌++◌, Option, Some, None, refl, arith}
-use Rattle.std.specs.Prelude.{◌+◌, ◌==◌, ◌&&◌, ◌||◌, not, nat_lt, nat_le, is_some, map, if◌then◌else◌}
-use Rattle.std.specs.Option.{option_map, option_map_or}
+use Rattle.std.proofs.Common.{◌≡◌, ℕ, Bool, true, false, List, [], ◌∷◌, ◌++◌, Option, Some, None, refl, arith}
+use Rattle.std.specs.Prelude.{◌+◌, ◌==◌, ◌&&◌, ◌||◌, not, nat_lt, nat_le, map, if◌then◌else◌}
+use Rattle.std.specs.Option.{option_map}
 use Rattle.std.proofs.lemmas.Bool.{and_parts, eqb-true, ltb-true}
 use Rattle.std.proofs.lemmas.Bool.Decides.{nat_tests}
 use Rattle.loop_model.specs.declared.call.Call.{Call}
@@ -16,18 +16,11 @@ use Rattle.loop_model.specs.Answers.{Setting, clock, answer}
 use Rattle.loop_model.specs.Legal.{IsMoment, IsTimely, IsLegal, IsLegalAfter, made_count, is_control, AreNumbered, AreNumberedAfter}
 use Rattle.dash_script.specs.declared.script.Script.{Script}
 use Rattle.run_model.specs.Histories.{history_of}
-use Rattle.run_model.specs.Asks.{Ask, plain, call_of, token_in, entries_by, AreFor}
+use Rattle.run_model.specs.Asks.{plain, call_of, token_in, entries_by, AreFor}
 use Rattle.run_model.specs.Senders.{sender_count}
 use Rattle.run_model.specs.Moments.{in_lockstep}
 use Rattle.run_model.specs.Planned.{Timed, lines_of, labels_on, lines_on, planned, IsNoEarlier, IsPlanned}
-use Rattle.run_model.specs.Control.{Timing}
-use Rattle.run_model.specs.Loopers.{Looper, starts_frame}
-use Rattle.run_model.specs.Acts.{MayDispatch, dispatched, IsSent}
-use Rattle.run_model.specs.FrameRuns.{is_frame_from}
-use Rattle.loop_model.specs.Posts.{post_at}
-use Rattle.frame_phases.specs.declared.entry.FrameEntry.{FrameEntry}
-use Rattle.run_model.specs.Run.{setting_of, IsHistory, all_entries, IsAsPlanned, IsThreadOnTime}
-use Rattle.run_model.proofs.Below.{EachBelow, each_below}
+use Rattle.run_model.specs.Run.{setting_of, IsHistory, all_entries}
 
 -- the replies that a queue gives, behind these entries
 abbrev pub answers : Setting → Base → List Entry → List Entry → List (Option Reply)
@@ -136,7 +129,7 @@ no_earlier time (call.Next now) = tt
 no_earlier time (call.Advance now) = tt
 no_earlier time (call.Halt now) = tt
 
-calls_by : (s : Script) (labels : List ℕ) (q : ℕ) (tokens : List ℕ) (ls : List Timed) (es : List Entry)
+pub calls_by : (s : Script) (labels : List ℕ) (q : ℕ) (tokens : List ℕ) (ls : List Timed) (es : List Entry)
     → planned_calls s labels q tokens ls es ≡ made_calls es → AreFor (IsPlanned in_lockstep s labels q) tokens ls es
 calls_by s labels q tokens [] [] same = tt
 calls_by s labels q tokens [] (e ∷ es) same = cc
@@ -154,28 +147,3 @@ thread_lines s q thread = lines_on s (labels_on q (lines_of thread s.blocks)) q 
 abbrev pub MakesThem : Script → QueueRecord → ℕ → Type 0
 MakesThem s r thread =
     planned_calls s (labels_on r.looper (lines_of thread s.blocks)) r.looper [] (thread_lines s r.looper thread) (entries_by thread (history_of r)) ≡ made_calls (entries_by thread (history_of r))
-
--- all threads' entries in lockstep
-pub planned_by : (s : Script) (r : QueueRecord) → EachBelow s.threads (MakesThem s r) → IsAsPlanned in_lockstep s r
-planned_by s r made thread below =
-    calls_by s (labels_on r.looper (lines_of thread s.blocks)) r.looper [] (thread_lines s r.looper thread) (entries_by thread (history_of r)) (each_below s.threads (MakesThem s r) made thread below)
-
--- all threads' calls are on time
-pub on_time_by : (s : Script) (r : QueueRecord) → EachBelow s.threads (IsThreadOnTime s r) → (thread : ℕ) → thread < s.threads → IsThreadOnTime s r thread
-on_time_by s r on_time = each_below s.threads (IsThreadOnTime s r) on_time
-
--- a dispatch may come, by its four parts
-pub may : {s : Script} {q : ℕ} {es : List Entry} {fs : List FrameEntry} {frame : Option ℕ} {a : Looper} {n now : ℕ}
-    → is_some (post_at es n) ≡ true → (not (is_some frame) || option_map_or (starts_frame q) (post_at es n) false) ≡ true
-    → is_frame_from fs a.place frame ≡ true → (dispatched s q fs frame n now a (post_at es n)).painted ≡ a.painted → MayDispatch s q es fs frame a n now
-may accepted starts place painted = record { accepted = accepted; starts = starts; place = place; painted = painted }
-
--- the entry makes a call of which no reply is told
-pub makes : {queue : ℕ} {ask : Ask} {timing : Timing} {tokens : List ℕ} {e : Entry}
-    → plain e.call ≡ call_of tokens ask → IsSent tokens (record { queue = queue; ask = ask; reply = None; timing = timing }) e
-makes call = record { call = call; reply = tt }
-
--- or one of which this reply is told
-pub gets : {queue : ℕ} {ask : Ask} {timing : Timing} {r : Reply} {tokens : List ℕ} {e : Entry}
-    → plain e.call ≡ call_of tokens ask → e.reply ≡ r → IsSent tokens (record { queue = queue; ask = ask; reply = Some r; timing = timing }) e
-gets call reply = record { call = call; reply = reply }

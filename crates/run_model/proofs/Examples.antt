@@ -2,7 +2,9 @@
 use Rattle.std.proofs.Common.{ℕ, Bool, true, false, List, [], ◌∷◌, ◌++◌, ◌+◌, Option, Some, None}
 use Rattle.loop_model.specs.declared.post.Post.{Post as PostData}
 use Rattle.loop_model.specs.declared.call.Call.{Call}
+use Rattle.loop_model.specs.declared.call.Call.TheVariants.{Advance, Halt}
 use Rattle.loop_model.specs.declared.reply.Reply.{Reply}
+use Rattle.loop_model.specs.declared.reply.Reply.TheVariants.{Advanced, Halted}
 use Rattle.loop_model.specs.declared.entry.Entry.{Entry}
 use Rattle.frame_phases.specs.declared.entry.FrameRecord.{FrameRecord}
 use Rattle.frame_phases.specs.declared.entry.FrameEntry.{FrameEntry}
@@ -15,13 +17,15 @@ use Rattle.loop_model.specs.declared.journal.Act.{Act}
 use Rattle.loop_model.specs.declared.journal.Journal.{Journal}
 use Rattle.loop_model.specs.declared.record.QueueRecord.{QueueRecord}
 use Rattle.loop_model.specs.Base.{empty_base}
-use Rattle.run_model.specs.Loopers.{Looper}
-use Rattle.run_model.specs.Acts.{after_act}
 use Rattle.frame_phases.specs.declared.entry.Callback.{Callback}
 use Rattle.std.specs.List.{flat_map}
 
 abbrev pub entry : ℕ → ℕ → Call → Reply → Entry
 entry sender seq c r = record { sender = sender; seq = seq; call = c; reply = r }
+
+-- what this controller makes on main, where nothing else comes: it moves the time to the end, and halts there
+abbrev pub halted_at : ℕ → ℕ → List Entry
+halted_at controller end = entry controller 0 (Advance end) Advanced ∷ entry controller 1 (Halt end) Halted ∷ []
 
 -- a message of a handler with a number
 abbrev pub message : ℕ → ℕ → ℕ → Option ℕ → PostData
@@ -43,11 +47,6 @@ callback number phase due id = record { number = number; phase = phase; due = du
 -- a text of these lines
 abbrev pub page : List (List ℕ) → List ℕ
 page ls = flat_map (λ l. l ++ 10 ∷ []) ls
-
--- what a looper has come to after these acts, the dispatches running the frames at these places
-abbrev pub led : Script → ℕ → List Entry → List FrameEntry → Looper → List (Option ℕ) → List Act → Looper
-led s q es fs a (f ∷ frames) (x ∷ xs) = led s q es fs (after_act s q es fs f a x) frames xs
-led s q es fs a _ _ = a
 
 abbrev pub handler_on : ℕ → HandlerLine
 handler_on looper = record { looper = looper; asynchronous = false }

@@ -25,8 +25,13 @@ use Rattle.run_model.specs.Loopers.{first_looper}
 use Rattle.run_model.specs.Run.{IsRun, IsHistory, IsControlled, IsFrameRun, IsLooperRun, all_entries, setting_of}
 use Rattle.run_model.specs.Text.{text, lines}
 use Rattle.run_model.proofs.Below.{each_below}
-use Rattle.run_model.proofs.Examples.{entry, message, journal, frames, led, page}
-use Rattle.run_model.proofs.TwoPosts.{script}
+use Rattle.run_model.proofs.Table.{led}
+use Rattle.run_model.proofs.Examples.{entry, message, journal, frames, page}
+use Rattle.run_model.proofs.WorkedPosts.{two_posts}
+use Rattle.dash_script.specs.declared.script.Script.{Script}
+
+abbrev script : Script
+script = two_posts.script
 
 abbrev mode : Mode
 mode = in_free_mode (λ n. n % 5 == 0) 5
@@ -85,7 +90,7 @@ frame_run = record {
 looper_run : IsLooperRun mode script report.queues queue_0 journal_0 (frames 0 [])
 unfolding after_act
 looper_run = record {
-  final = led script 0 entries [] (first_looper script) (None ∷ None ∷ []) journal_0.acts;
+  final = led script 0 entries [] [] (first_looper script) journal_0.acts;
   acts = (None, (record { accepted = refl; starts = refl; place = refl; painted = refl }, (None, (record { accepted = refl; starts = refl; place = refl; painted = refl }, refl))));
   settled = refl;
   dispatches = refl;

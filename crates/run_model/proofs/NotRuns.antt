@@ -18,14 +18,18 @@ use Rattle.loop_model.specs.declared.journal.Route.TheVariants as route
 use Rattle.run_model.specs.Asks.{AreFor, entries_by}
 use Rattle.run_model.specs.Loopers.{Looper}
 use Rattle.run_model.specs.Acts.{IsSent, after_act}
-use Rattle.run_model.proofs.Examples.{entry, message, queue, journal}
+use Rattle.run_model.proofs.Examples.{entry, message}
 use Rattle.run_model.specs.Moments.{in_lockstep}
-use Rattle.run_model.proofs.TwoPosts as two_posts
-use Rattle.run_model.proofs.TwoPosts.{script}
+use Rattle.run_model.proofs.Table.{acting, report_of}
+use Rattle.run_model.proofs.WorkedPosts.{two_posts, two_posts_entries}
+use Rattle.dash_script.specs.declared.script.Script.{Script}
+
+abbrev pub script : Script
+script = two_posts.script
 
 -- the report of the run, with another history and other acts
 abbrev with_entries : List Entry → List Act → Report
-with_entries es acts = record two_posts.report { queues = queue 0 true 3 es ∷ []; journals = journal 0 acts ∷ [] }
+with_entries es acts = report_of script (acting es acts 0 ∷ [])
 
 -- the act of a dispatch
 abbrev pub dispatch : ℕ → ℕ → Act
@@ -82,14 +86,14 @@ unfolding is_called_in_time quit_place first_eligible pick live
 late r = let on_time : false ≡ true = r.timely.histories.0.controls in cc
 
 -- a journal that leaves a dispatch out
-pub act_missing : IsRun in_lockstep script (record two_posts.report { journals = journal 0 (act.Dispatch 1 10 route.Handled ∷ []) ∷ [] }) → ⊥
+pub act_missing : IsRun in_lockstep script (with_entries two_posts_entries (dispatch 1 10 ∷ [])) → ⊥
 unfolding after_act
 act_missing r =
     let l = r.loopers.0 in
-    (subst (λ (b : Looper). AreFor IsSent [] (caused_on 0 b 0 l.disposed_at) (entries_by 1 two_posts.entries_0)) (sym l.acts.1.1) l.calls.0).1
+    (subst (λ (b : Looper). AreFor IsSent [] (caused_on 0 b 0 l.disposed_at) (entries_by 1 two_posts_entries)) (sym l.acts.1.1) l.calls.0).1
 
 -- a journal with a paint that nothing caused
-pub paint_of_nothing : IsRun in_lockstep script (record two_posts.report { journals = journal 0 (act.Paint 0 1 ∷ act.Dispatch 1 10 route.Handled ∷ act.Dispatch 0 15 route.Handled ∷ []) ∷ [] }) → ⊥
+pub paint_of_nothing : IsRun in_lockstep script (with_entries two_posts_entries (act.Paint 0 1 ∷ dispatch 1 10 ∷ dispatch 0 15 ∷ [])) → ⊥
 unfolding after_act
 paint_of_nothing r =
     let painted : 0 ≡ 1 = ap length (r.loopers.0.acts.1.1.1.0.painted) in

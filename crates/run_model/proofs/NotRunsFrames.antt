@@ -1,46 +1,31 @@
 -- Reports that are no runs of their script: what is asked of a choreographer by a line, and its record has a fault.
-use Rattle.std.proofs.Common.{◌≡◌, refl, true, false, List, [], ◌∷◌, inl, Some, None, sym, subst, arith}
+use Rattle.std.proofs.Common.{◌≡◌, refl, true, false, List, [], ◌∷◌, Some, None, sym, subst, arith}
 use Rattle.std.specs.Prelude.{◌==◌, Bool, map, count_by}
-use Rattle.loop_model.specs.declared.call.Call.TheVariants as call
-use Rattle.loop_model.specs.declared.reply.Reply.TheVariants as reply
-use Rattle.loop_model.specs.declared.entry.Entry.{Entry}
-use Rattle.loop_model.specs.declared.record.QueueRecord.{QueueRecord}
-use Rattle.loop_model.specs.Legal.{made_count}
-use Rattle.loop_model.specs.Answers.{answer, clock, accepted_count, barrier_count, quit_place, has_disposed, has_halted}
-use Rattle.loop_model.specs.Live.{live}
-use Rattle.loop_model.specs.Pick.{first_eligible, pick}
 use Rattle.frame_phases.specs.declared.entry.FrameEntry.{FrameEntry}
 use Rattle.frame_phases.specs.declared.entry.FrameEntry.TheVariants as frame
-use Rattle.frame_phases.specs.Frames.{lawful, all_allowed, is_allowed, owed, next_phase, last_time, in_due_order, before_later, live as live_callbacks, posted_count}
 use Rattle.dash_script.specs.declared.script.Command.{Command}
 use Rattle.dash_script.specs.declared.script.Command.TheVariants as command
 use Rattle.dash_script.specs.declared.script.Script.{Script}
 use Rattle.run_model.specs.declared.report.Report.{Report}
 use Rattle.run_model.specs.Moments.{in_lockstep}
-use Rattle.run_model.specs.Control.{is_controlled, is_called_in_time, are_before_quit, befores}
 use Rattle.run_model.specs.Loopers.{first_looper}
 use Rattle.run_model.specs.FrameAsks.{FrameAsk, Posts, as_told, asks_in}
-use Rattle.run_model.specs.Moves.{moves}
-use Rattle.run_model.specs.Run.{IsRun, are_in_order}
-use Rattle.run_model.proofs.ByTests.{history_by, planned_by, on_time_by}
-use Rattle.run_model.proofs.Examples.{entry, handler_on, block, by, plain_script, queue, callback}
+use Rattle.run_model.specs.Run.{IsRun}
+use Rattle.run_model.proofs.Examples.{halted_at, handler_on, block, by, plain_script, callback}
 use Rattle.run_model.proofs.RunBut.{IsRunBut}
 use Rattle.run_model.proofs.RunBut as but
-use Rattle.run_model.proofs.NotRuns.{advance}
-use Rattle.run_model.proofs.NotRunsGauges.{main_report, asked}
+use Rattle.run_model.proofs.Table.{Row, quiet, report_of, run_but_by, computing}
+use Rattle.run_model.proofs.NotRunsGauges.{asked}
 
 -- a script with one line at its end, and its report, with this frame record
 abbrev line_script : Command → Script
 line_script c = plain_script 1 1 (handler_on 0 ∷ []) (block 10 (by 0 c ∷ []) ∷ []) 10
 
-abbrev line_entries : List Entry
-line_entries = advance 0 10 ∷ entry 2 1 (call.Halt 10) reply.Halted ∷ []
-
-abbrev line_queue : QueueRecord
-line_queue = queue 0 true 3 line_entries
+abbrev line_rows : List FrameEntry → List Row
+line_rows fs = record (quiet (halted_at 2 10) 0) { frames = fs } ∷ []
 
 abbrev line_report : Command → List FrameEntry → Report
-line_report c fs = main_report (line_script c) line_entries [] fs
+line_report c fs = report_of (line_script c) (line_rows fs)
 
 -- how many of what the line asks pass a test, where the looper's acts cause nothing
 line_asked : (c : Command) (fs : List FrameEntry) → IsRun in_lockstep (line_script c) (line_report c fs) → (test : FrameAsk → Bool)
@@ -54,66 +39,6 @@ posts_frame = command.Frame 0 3 8 0
 -- an unframe line
 abbrev removes_frame : Command
 removes_frame = command.Unframe 0 3 8
-
--- a frame line's report is a run but for what is asked, with each lawful record
-frame_else : (fs : List FrameEntry) → lawful 16666667 4 fs ≡ true → IsRunBut but.Asked (line_script posts_frame) (line_report posts_frame fs)
-unfolding made_count answer clock accepted_count barrier_count quit_place has_disposed has_halted live first_eligible pick is_controlled
-    befores is_called_in_time are_before_quit are_in_order moves
-frame_else fs law = record {
-  report = record { script = refl; queues = refl; journals = refl; frames = refl };
-  records = record { mode = refl; start = refl; histories = (history_by (line_script posts_frame) line_queue refl refl refl (refl, tt) refl refl refl, tt) };
-  planned = (planned_by (line_script posts_frame) line_queue (tt, refl), tt);
-  controls = (refl, tt);
-  frames = (record { interval = refl; phases = refl; lawful = law }, tt);
-  loopers = (
-    record {
-      final = first_looper (line_script posts_frame);
-      acts = refl;
-      settled = refl;
-      dispatches = refl;
-      disposed_at = 0;
-      calls = (tt, tt);
-      asked = tt;
-      whole = refl;
-      on_time = (refl, tt);
-      moments = refl;
-    },
-    tt,
-  );
-  halted = refl;
-  histories = (record { controls = refl; before_quit = refl; threads = on_time_by (line_script posts_frame) line_queue (tt, refl); in_order = refl }, tt);
-  moved = record { due = (inl refl, tt); together = ((_, refl), tt) };
-}
-
--- and so is an unframe line's
-unframe_else : (fs : List FrameEntry) → lawful 16666667 4 fs ≡ true → IsRunBut but.Asked (line_script removes_frame) (line_report removes_frame fs)
-unfolding made_count answer clock accepted_count barrier_count quit_place has_disposed has_halted live first_eligible pick is_controlled
-    befores is_called_in_time are_before_quit are_in_order moves
-unframe_else fs law = record {
-  report = record { script = refl; queues = refl; journals = refl; frames = refl };
-  records = record { mode = refl; start = refl; histories = (history_by (line_script removes_frame) line_queue refl refl refl (refl, tt) refl refl refl, tt) };
-  planned = (planned_by (line_script removes_frame) line_queue (tt, refl), tt);
-  controls = (refl, tt);
-  frames = (record { interval = refl; phases = refl; lawful = law }, tt);
-  loopers = (
-    record {
-      final = first_looper (line_script removes_frame);
-      acts = refl;
-      settled = refl;
-      dispatches = refl;
-      disposed_at = 0;
-      calls = (tt, tt);
-      asked = tt;
-      whole = refl;
-      on_time = (refl, tt);
-      moments = refl;
-    },
-    tt,
-  );
-  halted = refl;
-  histories = (record { controls = refl; before_quit = refl; threads = on_time_by (line_script removes_frame) line_queue (tt, refl); in_order = refl }, tt);
-  moved = record { due = (inl refl, tt); together = ((_, refl), tt) };
-}
 
 -- the ask is to post a callback that is due at 10
 abbrev is_due_at_10 : FrameAsk → Bool
@@ -141,8 +66,8 @@ posts_frame_twice r =
 
 -- all else of it is right
 pub posts_frame_twice_else : IsRunBut but.Asked (line_script posts_frame) (line_report posts_frame posts_frame_twice_frames)
-unfolding lawful all_allowed is_allowed owed next_phase last_time in_due_order before_later live_callbacks posted_count
-posts_frame_twice_else = frame_else posts_frame_twice_frames refl
+unfolding computing
+posts_frame_twice_else = run_but_by but.Asked (line_script posts_frame) (line_rows posts_frame_twice_frames) refl
 
 abbrev posts_frame_late_frames : List FrameEntry
 posts_frame_late_frames = frame.Posted (callback 0 3 11 8) ∷ []
@@ -155,8 +80,8 @@ posts_frame_late r =
 
 -- all else of it is right
 pub posts_frame_late_else : IsRunBut but.Asked (line_script posts_frame) (line_report posts_frame posts_frame_late_frames)
-unfolding lawful all_allowed is_allowed owed next_phase last_time in_due_order before_later live_callbacks posted_count
-posts_frame_late_else = frame_else posts_frame_late_frames refl
+unfolding computing
+posts_frame_late_else = run_but_by but.Asked (line_script posts_frame) (line_rows posts_frame_late_frames) refl
 
 abbrev posts_frame_elsewhere_frames : List FrameEntry
 posts_frame_elsewhere_frames = frame.Posted (callback 0 2 10 8) ∷ []
@@ -169,8 +94,8 @@ posts_frame_elsewhere r =
 
 -- all else of it is right
 pub posts_frame_elsewhere_else : IsRunBut but.Asked (line_script posts_frame) (line_report posts_frame posts_frame_elsewhere_frames)
-unfolding lawful all_allowed is_allowed owed next_phase last_time in_due_order before_later live_callbacks posted_count
-posts_frame_elsewhere_else = frame_else posts_frame_elsewhere_frames refl
+unfolding computing
+posts_frame_elsewhere_else = run_but_by but.Asked (line_script posts_frame) (line_rows posts_frame_elsewhere_frames) refl
 
 abbrev posts_frame_with_token_frames : List FrameEntry
 posts_frame_with_token_frames = frame.Posted (record (callback 0 3 10 8) { token = Some 1 }) ∷ []
@@ -183,8 +108,8 @@ posts_frame_with_token r =
 
 -- all else of it is right
 pub posts_frame_with_token_else : IsRunBut but.Asked (line_script posts_frame) (line_report posts_frame posts_frame_with_token_frames)
-unfolding lawful all_allowed is_allowed owed next_phase last_time in_due_order before_later live_callbacks posted_count
-posts_frame_with_token_else = frame_else posts_frame_with_token_frames refl
+unfolding computing
+posts_frame_with_token_else = run_but_by but.Asked (line_script posts_frame) (line_rows posts_frame_with_token_frames) refl
 
 abbrev removes_unasked_frames : List FrameEntry
 removes_unasked_frames = frame.Posted (callback 0 3 10 8) ∷ frame.Removed 3 8 None 1 ∷ []
@@ -197,8 +122,8 @@ removes_unasked r =
 
 -- all else of it is right
 pub removes_unasked_else : IsRunBut but.Asked (line_script posts_frame) (line_report posts_frame removes_unasked_frames)
-unfolding lawful all_allowed is_allowed owed next_phase last_time in_due_order before_later live_callbacks posted_count
-removes_unasked_else = frame_else removes_unasked_frames refl
+unfolding computing
+removes_unasked_else = run_but_by but.Asked (line_script posts_frame) (line_rows removes_unasked_frames) refl
 
 abbrev frame_of_nothing_frames : List FrameEntry
 frame_of_nothing_frames =
@@ -213,8 +138,8 @@ frame_of_nothing r =
 
 -- all else of it is right
 pub frame_of_nothing_else : IsRunBut but.Asked (line_script posts_frame) (line_report posts_frame frame_of_nothing_frames)
-unfolding lawful all_allowed is_allowed owed next_phase last_time in_due_order before_later live_callbacks posted_count
-frame_of_nothing_else = frame_else frame_of_nothing_frames refl
+unfolding computing
+frame_of_nothing_else = run_but_by but.Asked (line_script posts_frame) (line_rows frame_of_nothing_frames) refl
 
 abbrev removes_nothing_frames : List FrameEntry
 removes_nothing_frames = []
@@ -227,5 +152,5 @@ removes_nothing r =
 
 -- all else of it is right
 pub removes_nothing_else : IsRunBut but.Asked (line_script removes_frame) (line_report removes_frame removes_nothing_frames)
-unfolding lawful all_allowed is_allowed owed next_phase last_time in_due_order before_later live_callbacks posted_count
-removes_nothing_else = unframe_else removes_nothing_frames refl
+unfolding computing
+removes_nothing_else = run_but_by but.Asked (line_script removes_frame) (line_rows removes_nothing_frames) refl

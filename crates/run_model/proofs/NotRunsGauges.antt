@@ -1,5 +1,5 @@
 -- Reports that are no runs of their script: the frames, pulses and callbacks of a gauge, with one fault.
-use Rattle.std.proofs.Common.{◌≡◌, ℕ, zero, suc, refl, true, false, List, [], ◌∷◌, ◌++◌, inl, inr, Some, None, sym, ap, subst, length, arith}
+use Rattle.std.proofs.Common.{◌≡◌, ℕ, zero, suc, refl, true, false, List, [], ◌∷◌, ◌++◌, Some, None, sym, ap, subst, length, arith}
 use Rattle.std.specs.Prelude.{Bool, map, count_by, drop, nat_le, slice_get}
 use Rattle.std.specs.List.{AllByRecursion}
 use Rattle.std.specs.Option.{option_map_or}
@@ -9,41 +9,27 @@ use Rattle.loop_model.specs.declared.reply.Reply.TheVariants as reply
 use Rattle.loop_model.specs.declared.entry.Entry.{Entry}
 use Rattle.loop_model.specs.declared.journal.Act.{Act}
 use Rattle.loop_model.specs.declared.journal.Act.TheVariants as act
-use Rattle.loop_model.specs.declared.record.QueueRecord.{QueueRecord}
-use Rattle.loop_model.specs.Legal.{made_count}
-use Rattle.loop_model.specs.Answers.{answer, clock, accepted_count, barrier_count, quit_place, has_disposed, has_halted}
-use Rattle.loop_model.specs.Live.{live}
-use Rattle.loop_model.specs.Pick.{first_eligible, pick}
 use Rattle.frame_phases.specs.declared.entry.Callback.{Callback}
 use Rattle.frame_phases.specs.declared.entry.FrameEntry.{FrameEntry}
 use Rattle.frame_phases.specs.declared.entry.FrameEntry.TheVariants as frame
-use Rattle.frame_phases.specs.Frames.{lawful, all_allowed, is_allowed, owed, next_phase, last_time, in_due_order, before_later, live as live_callbacks, posted_count}
 use Rattle.dash_script.specs.declared.script.Command.TheVariants as command
 use Rattle.dash_script.specs.declared.script.Script.{Script}
 use Rattle.run_model.specs.declared.report.Report.{Report}
 use Rattle.run_model.specs.Moments.{in_lockstep}
-use Rattle.run_model.specs.Control.{is_controlled, is_called_in_time, are_before_quit, befores}
 use Rattle.run_model.specs.Loopers.{Looper, first_looper}
 use Rattle.run_model.specs.FrameAsks.{FrameAsk, as_told}
 use Rattle.run_model.specs.FrameRuns.{are_run_then, are_whole, is_begin, is_frame_from}
 use Rattle.run_model.specs.Acts.{after_act, Lead}
-use Rattle.run_model.specs.Moves.{moves}
-use Rattle.run_model.specs.Run.{IsRun, asked_of, are_in_order}
-use Rattle.run_model.proofs.ByTests.{history_by, planned_by, on_time_by, may, makes, gets}
-use Rattle.run_model.proofs.Examples.{entry, handler_on, block, by, plain_script, message, frame_message, queue, journal, callback, led}
+use Rattle.run_model.specs.Run.{IsRun, asked_of}
+use Rattle.run_model.proofs.Examples.{entry, handler_on, block, by, plain_script, message, frame_message, callback}
 use Rattle.run_model.proofs.RunBut.{IsRunBut}
 use Rattle.run_model.proofs.RunBut as but
+use Rattle.run_model.proofs.Table.{led, Row, acting, report_of, run_but_by, computing}
 use Rattle.run_model.proofs.NotRuns.{dispatch, advance, look, halt}
 
--- the report of a script with one looper, with this history, these acts and this frame record
-abbrev pub main_report : Script → List Entry → List Act → List FrameEntry → Report
-main_report s es acts fs = record {
-  script = s;
-  queues = queue 0 true 3 es ∷ [];
-  journals = journal 0 acts ∷ [];
-  frames = record { looper = 0; interval = s.period; phases = 4; entries = fs } ∷ [];
-  start = 0;
-}
+-- one looper, with this history, these acts and this frame record; the frame that begins at place 2 is run by the fourth act
+abbrev frame_rows : List Entry → List Act → List FrameEntry → List Row
+frame_rows es acts fs = record { entries = es; acts = acts; frames = fs; places = None ∷ None ∷ None ∷ Some 2 ∷ []; disposed_at = 0 } ∷ []
 
 -- a script whose gauge moves to its target in one frame, with this end
 abbrev gauge_script : ℕ → Script
@@ -63,9 +49,6 @@ gauge_frame now when =
 
 abbrev gauge_entries : List Entry
 gauge_entries = gauge_start ++ gauge_frame 17 16 ++ advance 1 20 ∷ halt 2 ∷ []
-
-abbrev gauge_queue : QueueRecord
-gauge_queue = queue 0 true 3 gauge_entries
 
 -- it is moved at this pulse, in the frame of this millisecond
 abbrev moves_gauge : ℕ → ℕ → List Act
@@ -92,7 +75,7 @@ one_frame c d vsync start time fs none (suc (suc (suc place))) h =
 
 -- the looper as its frame's message comes
 abbrev before_frame : List FrameEntry → Looper
-before_frame fs = led (gauge_script 20) 0 gauge_entries fs (first_looper (gauge_script 20)) (None ∷ None ∷ None ∷ []) gauge_acts
+before_frame fs = led (gauge_script 20) 0 gauge_entries fs [] (first_looper (gauge_script 20)) (dispatch 0 0 ∷ act.Vsync 16666667 ∷ act.Paint 0 7 ∷ [])
 
 -- and behind the frame that begins at this place
 abbrev after_frame : List FrameEntry → ℕ → Looper
@@ -120,8 +103,11 @@ abbrev last_phase : List FrameEntry
 last_phase = frame.Take 3 17000000 16666667 ∷ []
 
 -- its report
+abbrev gauge_rows : List FrameEntry → List Row
+gauge_rows fs = frame_rows gauge_entries gauge_acts fs
+
 abbrev gauge_report : List FrameEntry → Report
-gauge_report fs = main_report (gauge_script 20) gauge_entries gauge_acts fs
+gauge_report fs = report_of (gauge_script 20) (gauge_rows fs)
 
 abbrev starts_late_frames : List FrameEntry
 starts_late_frames = gauge_frames 17500000 17000000 last_phase
@@ -136,34 +122,8 @@ starts_late r =
 
 -- all else of it is right
 pub starts_late_else : IsRunBut but.Starts (gauge_script 20) (gauge_report starts_late_frames)
-unfolding made_count answer clock accepted_count barrier_count quit_place has_disposed has_halted live first_eligible pick is_controlled
-    lawful all_allowed is_allowed owed next_phase last_time in_due_order before_later live_callbacks posted_count
-    after_act befores is_called_in_time are_before_quit are_in_order moves
-starts_late_else = record {
-  report = record { script = refl; queues = refl; journals = refl; frames = refl };
-  records = record { mode = refl; start = refl; histories = (history_by (gauge_script 20) gauge_queue refl refl refl (refl, tt) refl refl refl, tt) };
-  planned = (planned_by (gauge_script 20) gauge_queue (tt, refl), tt);
-  controls = (refl, tt);
-  frames = (record { interval = refl; phases = refl; lawful = refl }, tt);
-  loopers = (
-    record {
-      final = led (gauge_script 20) 0 gauge_entries starts_late_frames (first_looper (gauge_script 20)) (None ∷ None ∷ None ∷ Some 2 ∷ []) gauge_acts;
-      acts = (None, (may refl refl refl refl, (None, ((refl, refl, refl), (None, (refl, (Some 2, (may refl refl refl refl, refl))))))));
-      settled = refl;
-      dispatches = refl;
-      disposed_at = 0;
-      calls = ((gets refl refl, (makes refl, (makes refl, (gets refl refl, (makes refl, tt))))), tt);
-      asked = tt;
-      whole = refl;
-      on_time = (refl, tt);
-      moments = tt;
-    },
-    tt,
-  );
-  halted = refl;
-  histories = (record { controls = refl; before_quit = refl; threads = on_time_by (gauge_script 20) gauge_queue (tt, refl); in_order = refl }, tt);
-  moved = record { due = (inr (record { stamp = 16666667; pulse = refl; rounded = refl }), (inl refl, tt)); together = ((_, refl), tt) };
-}
+unfolding computing
+starts_late_else = run_but_by but.Starts (gauge_script 20) (gauge_rows starts_late_frames) refl
 
 abbrev takes_phase_late_frames : List FrameEntry
 takes_phase_late_frames = gauge_frames 17000000 17500000 last_phase
@@ -178,34 +138,8 @@ takes_phase_late r =
 
 -- all else of it is right
 pub takes_phase_late_else : IsRunBut but.Moments (gauge_script 20) (gauge_report takes_phase_late_frames)
-unfolding made_count answer clock accepted_count barrier_count quit_place has_disposed has_halted live first_eligible pick is_controlled
-    lawful all_allowed is_allowed owed next_phase last_time in_due_order before_later live_callbacks posted_count
-    after_act befores is_called_in_time are_before_quit are_in_order moves
-takes_phase_late_else = record {
-  report = record { script = refl; queues = refl; journals = refl; frames = refl };
-  records = record { mode = refl; start = refl; histories = (history_by (gauge_script 20) gauge_queue refl refl refl (refl, tt) refl refl refl, tt) };
-  planned = (planned_by (gauge_script 20) gauge_queue (tt, refl), tt);
-  controls = (refl, tt);
-  frames = (record { interval = refl; phases = refl; lawful = refl }, tt);
-  loopers = (
-    record {
-      final = led (gauge_script 20) 0 gauge_entries takes_phase_late_frames (first_looper (gauge_script 20)) (None ∷ None ∷ None ∷ Some 2 ∷ []) gauge_acts;
-      acts = (None, (may refl refl refl refl, (None, ((refl, refl, refl), (None, (refl, (Some 2, (may refl refl refl refl, refl))))))));
-      settled = refl;
-      dispatches = refl;
-      disposed_at = 0;
-      calls = ((gets refl refl, (makes refl, (makes refl, (gets refl refl, (makes refl, tt))))), tt);
-      asked = λ test. omega arith;
-      whole = refl;
-      on_time = (refl, tt);
-      moments = tt;
-    },
-    tt,
-  );
-  halted = refl;
-  histories = (record { controls = refl; before_quit = refl; threads = on_time_by (gauge_script 20) gauge_queue (tt, refl); in_order = refl }, tt);
-  moved = record { due = (inr (record { stamp = 16666667; pulse = refl; rounded = refl }), (inl refl, tt)); together = ((_, refl), tt) };
-}
+unfolding computing
+takes_phase_late_else = run_but_by but.Moments (gauge_script 20) (gauge_rows takes_phase_late_frames) refl
 
 abbrev leaves_a_phase_out_frames : List FrameEntry
 leaves_a_phase_out_frames = gauge_frames 17000000 17000000 []
@@ -220,81 +154,32 @@ leaves_a_phase_out r =
 
 -- all else of it is right
 pub leaves_a_phase_out_else : IsRunBut but.Whole (gauge_script 20) (gauge_report leaves_a_phase_out_frames)
-unfolding made_count answer clock accepted_count barrier_count quit_place has_disposed has_halted live first_eligible pick is_controlled
-    lawful all_allowed is_allowed owed next_phase last_time in_due_order before_later live_callbacks posted_count
-    after_act befores is_called_in_time are_before_quit are_in_order moves
-leaves_a_phase_out_else = record {
-  report = record { script = refl; queues = refl; journals = refl; frames = refl };
-  records = record { mode = refl; start = refl; histories = (history_by (gauge_script 20) gauge_queue refl refl refl (refl, tt) refl refl refl, tt) };
-  planned = (planned_by (gauge_script 20) gauge_queue (tt, refl), tt);
-  controls = (refl, tt);
-  frames = (record { interval = refl; phases = refl; lawful = refl }, tt);
-  loopers = (
-    record {
-      final = led (gauge_script 20) 0 gauge_entries leaves_a_phase_out_frames (first_looper (gauge_script 20)) (None ∷ None ∷ None ∷ Some 2 ∷ []) gauge_acts;
-      acts = (None, (may refl refl refl refl, (None, ((refl, refl, refl), (None, (refl, (Some 2, (may refl refl refl refl, refl))))))));
-      settled = refl;
-      dispatches = refl;
-      disposed_at = 0;
-      calls = ((gets refl refl, (makes refl, (makes refl, (gets refl refl, (makes refl, tt))))), tt);
-      asked = λ test. omega arith;
-      whole = tt;
-      on_time = (refl, tt);
-      moments = refl;
-    },
-    tt,
-  );
-  halted = refl;
-  histories = (record { controls = refl; before_quit = refl; threads = on_time_by (gauge_script 20) gauge_queue (tt, refl); in_order = refl }, tt);
-  moved = record { due = (inr (record { stamp = 16666667; pulse = refl; rounded = refl }), (inl refl, tt)); together = ((_, refl), tt) };
-}
+unfolding computing
+leaves_a_phase_out_else = run_but_by but.Whole (gauge_script 20) (gauge_rows leaves_a_phase_out_frames) refl
 
 abbrev pulse_entries : List Entry
 pulse_entries = gauge_start ++ gauge_frame 16 16 ++ entry 2 1 (call.Halt 16) reply.Halted ∷ []
-
-abbrev pulse_queue : QueueRecord
-pulse_queue = queue 0 true 3 pulse_entries
 
 abbrev pulse_frames : List FrameEntry
 pulse_frames =
     frame.Posted (callback 0 1 0 1000000) ∷ frame.Posted (callback 1 2 0 1000016) ∷ frame.Begin 16000000 16000000 16000000 ∷ frame.Take 0 16000000 16000000
     ∷ frame.Take 1 16000000 16000000 ∷ frame.Ran 0 ∷ frame.Take 2 16000000 16000000 ∷ frame.Ran 1 ∷ frame.Take 3 16000000 16000000 ∷ []
 
+abbrev pulse_rows : List Row
+pulse_rows = frame_rows pulse_entries (moves_gauge 16000000 16) pulse_frames
+
+abbrev pulse_report : Report
+pulse_report = report_of (gauge_script 16) pulse_rows
+
 -- a pulse comes at 16 milliseconds, where no multiple of the period is
-pub pulse_between : IsRun in_lockstep (gauge_script 16) (main_report (gauge_script 16) pulse_entries (moves_gauge 16000000 16) pulse_frames) → ⊥
+pub pulse_between : IsRun in_lockstep (gauge_script 16) pulse_report → ⊥
 unfolding after_act
 pulse_between r = let pulse : false ≡ true = r.loopers.0.acts.1.1.1.0.2 in cc
 
 -- all else of it is right
-pub pulse_between_else : IsRunBut but.Pulses (gauge_script 16) (main_report (gauge_script 16) pulse_entries (moves_gauge 16000000 16) pulse_frames)
-unfolding made_count answer clock accepted_count barrier_count quit_place has_disposed has_halted live first_eligible pick is_controlled
-    lawful all_allowed is_allowed owed next_phase last_time in_due_order before_later live_callbacks posted_count
-    after_act befores is_called_in_time are_before_quit are_in_order moves
-pulse_between_else = record {
-  report = record { script = refl; queues = refl; journals = refl; frames = refl };
-  records = record { mode = refl; start = refl; histories = (history_by (gauge_script 16) pulse_queue refl refl refl (refl, tt) refl refl refl, tt) };
-  planned = (planned_by (gauge_script 16) pulse_queue (tt, refl), tt);
-  controls = (refl, tt);
-  frames = (record { interval = refl; phases = refl; lawful = refl }, tt);
-  loopers = (
-    record {
-      final = led (gauge_script 16) 0 pulse_entries pulse_frames (first_looper (gauge_script 16)) (None ∷ None ∷ None ∷ Some 2 ∷ []) (moves_gauge 16000000 16);
-      acts = (None, (may refl refl refl refl, (None, ((refl, refl, refl), (None, (refl, (Some 2, (may refl refl refl refl, refl))))))));
-      settled = refl;
-      dispatches = refl;
-      disposed_at = 0;
-      calls = ((gets refl refl, (makes refl, (makes refl, (gets refl refl, (makes refl, tt))))), tt);
-      asked = λ test. omega arith;
-      whole = refl;
-      on_time = (refl, tt);
-      moments = refl;
-    },
-    tt,
-  );
-  halted = refl;
-  histories = (record { controls = refl; before_quit = refl; threads = on_time_by (gauge_script 16) pulse_queue (tt, refl); in_order = refl }, tt);
-  moved = record { due = (inl refl, tt); together = ((_, refl), tt) };
-}
+pub pulse_between_else : IsRunBut but.Pulses (gauge_script 16) pulse_report
+unfolding computing
+pulse_between_else = run_but_by but.Pulses (gauge_script 16) pulse_rows refl
 
 -- how many of what is asked of the looper's choreographer pass a test
 abbrev pub asked : Script → (FrameAsk → Bool) → Looper → ℕ
@@ -304,17 +189,20 @@ asked s test b = count_by test (map (as_told true) (asked_of s 0 b))
 abbrev short_entries : List Entry
 short_entries = gauge_start ++ advance 0 10 ∷ entry 2 1 (call.Halt 10) reply.Halted ∷ []
 
-abbrev short_queue : QueueRecord
-short_queue = queue 0 true 3 short_entries
-
 abbrev short_frames : List FrameEntry
 short_frames = frame.Posted (callback 0 2 0 1000016) ∷ []
 
 abbrev short_acts : List Act
 short_acts = dispatch 0 0 ∷ []
 
+abbrev short_rows : List Row
+short_rows = record (acting short_entries short_acts 0) { frames = short_frames } ∷ []
+
+abbrev short_report : Report
+short_report = report_of (gauge_script 10) short_rows
+
 -- a gauge animates, and its callback is not posted
-pub posts_no_frame : IsRun in_lockstep (gauge_script 10) (main_report (gauge_script 10) short_entries short_acts short_frames) → ⊥
+pub posts_no_frame : IsRun in_lockstep (gauge_script 10) short_report → ⊥
 unfolding after_act
 posts_no_frame r = of_acts r.loopers.0.final r.loopers.0.acts (r.loopers.0.asked (λ x. true))
   where
@@ -325,32 +213,6 @@ posts_no_frame r = of_acts r.loopers.0.final r.loopers.0.acts (r.loopers.0.asked
         omega (arith, two)
 
 -- all else of it is right
-pub posts_no_frame_else : IsRunBut but.Asked (gauge_script 10) (main_report (gauge_script 10) short_entries short_acts short_frames)
-unfolding made_count answer clock accepted_count barrier_count quit_place has_disposed has_halted live first_eligible pick is_controlled
-    lawful all_allowed is_allowed owed next_phase last_time in_due_order before_later live_callbacks posted_count
-    after_act befores is_called_in_time are_before_quit are_in_order moves
-posts_no_frame_else = record {
-  report = record { script = refl; queues = refl; journals = refl; frames = refl };
-  records = record { mode = refl; start = refl; histories = (history_by (gauge_script 10) short_queue refl refl refl (refl, tt) refl refl refl, tt) };
-  planned = (planned_by (gauge_script 10) short_queue (tt, refl), tt);
-  controls = (refl, tt);
-  frames = (record { interval = refl; phases = refl; lawful = refl }, tt);
-  loopers = (
-    record {
-      final = led (gauge_script 10) 0 short_entries short_frames (first_looper (gauge_script 10)) (None ∷ []) short_acts;
-      acts = (None, (may refl refl refl refl, refl));
-      settled = refl;
-      dispatches = refl;
-      disposed_at = 0;
-      calls = ((gets refl refl, (makes refl, tt)), tt);
-      asked = tt;
-      whole = refl;
-      on_time = (refl, tt);
-      moments = refl;
-    },
-    tt,
-  );
-  halted = refl;
-  histories = (record { controls = refl; before_quit = refl; threads = on_time_by (gauge_script 10) short_queue (tt, refl); in_order = refl }, tt);
-  moved = record { due = (inl refl, tt); together = ((_, refl), tt) };
-}
+pub posts_no_frame_else : IsRunBut but.Asked (gauge_script 10) short_report
+unfolding computing
+posts_no_frame_else = run_but_by but.Asked (gauge_script 10) short_rows refl

@@ -1,36 +1,29 @@
 -- Reports that are no runs of their script: calls that come too early, too late or in another order.
-use Rattle.std.proofs.Common.{◌≡◌, ℕ, refl, true, false, List, [], ◌∷◌, inl, Some, None, sym, ap, subst, arith, lit<}
+use Rattle.std.proofs.Common.{◌≡◌, ℕ, refl, true, false, List, [], ◌∷◌, Some, None, sym, ap, subst, arith, lit<}
 use Rattle.std.specs.Prelude.{map}
 use Rattle.loop_model.specs.declared.call.Call.TheVariants as call
 use Rattle.loop_model.specs.declared.reply.Reply.TheVariants as reply
 use Rattle.loop_model.specs.declared.entry.Entry.{Entry}
 use Rattle.loop_model.specs.declared.journal.Act.{Act}
-use Rattle.loop_model.specs.declared.record.QueueRecord.{QueueRecord}
-use Rattle.loop_model.specs.Legal.{made_count}
-use Rattle.loop_model.specs.Answers.{answer, clock, accepted_count, barrier_count, quit_place, has_disposed, has_halted}
-use Rattle.loop_model.specs.Live.{live}
-use Rattle.loop_model.specs.Pick.{first_eligible, pick}
-use Rattle.frame_phases.specs.Frames.{lawful, all_allowed, is_allowed, owed, next_phase, last_time, in_due_order, before_later, live as live_callbacks, posted_count}
+use Rattle.loop_model.specs.Answers.{clock, has_disposed}
 use Rattle.dash_script.specs.declared.script.Command.TheVariants as command
-use Rattle.dash_script.specs.declared.script.Block.{Block}
 use Rattle.dash_script.specs.declared.script.Script.{Script}
 use Rattle.run_model.specs.declared.report.Report.{Report}
 use Rattle.run_model.specs.Moments.{in_lockstep}
-use Rattle.run_model.specs.Control.{is_controlled, is_called_in_time, are_before_quit, befores, are_on_time}
+use Rattle.run_model.specs.Control.{befores, are_on_time}
 use Rattle.run_model.specs.Loopers.{Looper, first_looper}
 use Rattle.run_model.specs.Acts.{after_act, Lead}
-use Rattle.run_model.specs.Moves.{moves}
 use Rattle.run_model.specs.Run.{IsRun, caused_on, are_in_order}
-use Rattle.run_model.proofs.ByTests.{history_by, planned_by, on_time_by, may, makes, gets}
-use Rattle.run_model.proofs.Examples.{entry, handler_on, block, by, plain_script, message, queue, journal, frames, led}
+use Rattle.run_model.proofs.Examples.{entry, handler_on, block, by, plain_script, message}
 use Rattle.run_model.proofs.RunBut.{IsRunBut}
 use Rattle.run_model.proofs.RunBut as but
+use Rattle.run_model.proofs.Table.{Row, acting, quiet, report_of, run_but_by, computing}
 use Rattle.run_model.proofs.NotRuns.{dispatch, advance, look}
-use Rattle.run_model.proofs.NotRunsEnds.{quits_side, posts_side, quit_report}
+use Rattle.run_model.proofs.NotRunsEnds.{quits_side, posts_side, quit_script}
 
--- the report of a script with one looper, with this history and these acts
-abbrev pub main_report : Script → List Entry → List Act → Report
-main_report s es acts = record { script = s; queues = queue 0 true 3 es ∷ []; journals = journal 0 acts ∷ []; frames = frames 0 [] ∷ []; start = 0 }
+-- one looper, with this history and these acts
+abbrev pub main_rows : List Entry → List Act → List Row
+main_rows es acts = acting es acts 0 ∷ []
 
 -- at 10 a thread posts a message with this delay, and the run ends at this time
 abbrev post_script : ℕ → ℕ → Script
@@ -42,136 +35,49 @@ post when = entry 0 0 (call.Post (message 0 7 when None)) (reply.Accepted 0)
 abbrev halt : ℕ → ℕ → Entry
 halt seq now = entry 2 seq (call.Halt now) reply.Halted
 
-abbrev early_entries : List Entry
-early_entries = post 10 ∷ advance 0 10 ∷ look 0 10 0 ∷ halt 1 10 ∷ []
-
-abbrev early_report : Report
-early_report = main_report (post_script 0 10) early_entries (dispatch 0 10 ∷ [])
+abbrev early_rows : List Row
+early_rows = main_rows (post 10 ∷ advance 0 10 ∷ look 0 10 0 ∷ halt 1 10 ∷ []) (dispatch 0 10 ∷ [])
 
 -- a thread's call comes before the time of its block
-pub calls_early : IsRun in_lockstep (post_script 0 10) early_report → ⊥
+pub calls_early : IsRun in_lockstep (post_script 0 10) (report_of (post_script 0 10) early_rows) → ⊥
 unfolding befores clock has_disposed
 calls_early r = let on_time : false ≡ true = r.timely.histories.0.threads 0 (lit< tt) in cc
 
 -- all else of it is right
-pub calls_early_else : IsRunBut but.Threads (post_script 0 10) early_report
-unfolding made_count answer clock accepted_count barrier_count quit_place has_disposed has_halted live first_eligible pick is_controlled
-    lawful all_allowed is_allowed owed next_phase last_time in_due_order before_later live_callbacks posted_count
-    after_act befores is_called_in_time are_before_quit are_in_order moves
-calls_early_else = record {
-  report = record { script = refl; queues = refl; journals = refl; frames = refl };
-  records = record { mode = refl; start = refl; histories = (history_by (post_script 0 10) (queue 0 true 3 early_entries) refl refl refl (refl, tt) refl refl refl, tt) };
-  planned = (planned_by (post_script 0 10) (queue 0 true 3 early_entries) (tt, refl), tt);
-  controls = (refl, tt);
-  frames = (record { interval = refl; phases = refl; lawful = refl }, tt);
-  loopers = (
-    record {
-      final = led (post_script 0 10) 0 early_entries [] (first_looper (post_script 0 10)) (None ∷ []) (dispatch 0 10 ∷ []);
-      acts = (None, (may refl refl refl refl, refl));
-      settled = refl;
-      dispatches = refl;
-      disposed_at = 0;
-      calls = ((gets refl refl, tt), tt);
-      asked = λ test. omega arith;
-      whole = refl;
-      on_time = (refl, tt);
-      moments = refl;
-    },
-    tt,
-  );
-  halted = refl;
-  histories = (record { controls = refl; before_quit = refl; threads = tt; in_order = refl }, tt);
-  moved = record { due = (inl refl, tt); together = ((_, refl), tt) };
-}
+pub calls_early_else : IsRunBut but.Threads (post_script 0 10) (report_of (post_script 0 10) early_rows)
+unfolding computing
+calls_early_else = run_but_by but.Threads (post_script 0 10) early_rows refl
 
-abbrev late_entries : List Entry
-late_entries = advance 0 10 ∷ advance 1 15 ∷ post 15 ∷ look 0 15 0 ∷ halt 2 15 ∷ []
-
-abbrev late_report : Report
-late_report = main_report (post_script 5 15) late_entries (dispatch 0 15 ∷ [])
+abbrev late_rows : List Row
+late_rows = main_rows (advance 0 10 ∷ advance 1 15 ∷ post 15 ∷ look 0 15 0 ∷ halt 2 15 ∷ []) (dispatch 0 15 ∷ [])
 
 -- a thread's call comes behind the next move of the time
-pub calls_late : IsRun in_lockstep (post_script 5 15) late_report → ⊥
+pub calls_late : IsRun in_lockstep (post_script 5 15) (report_of (post_script 5 15) late_rows) → ⊥
 unfolding befores clock has_disposed
 calls_late r = let on_time : false ≡ true = r.timely.histories.0.threads 0 (lit< tt) in cc
 
 -- all else of it is right
-pub calls_late_else : IsRunBut but.Threads (post_script 5 15) late_report
-unfolding made_count answer clock accepted_count barrier_count quit_place has_disposed has_halted live first_eligible pick is_controlled
-    lawful all_allowed is_allowed owed next_phase last_time in_due_order before_later live_callbacks posted_count
-    after_act befores is_called_in_time are_before_quit are_in_order moves
-calls_late_else = record {
-  report = record { script = refl; queues = refl; journals = refl; frames = refl };
-  records = record { mode = refl; start = refl; histories = (history_by (post_script 5 15) (queue 0 true 3 late_entries) refl refl refl (refl, tt) refl refl refl, tt) };
-  planned = (planned_by (post_script 5 15) (queue 0 true 3 late_entries) (tt, refl), tt);
-  controls = (refl, tt);
-  frames = (record { interval = refl; phases = refl; lawful = refl }, tt);
-  loopers = (
-    record {
-      final = led (post_script 5 15) 0 late_entries [] (first_looper (post_script 5 15)) (None ∷ []) (dispatch 0 15 ∷ []);
-      acts = (None, (may refl refl refl refl, refl));
-      settled = refl;
-      dispatches = refl;
-      disposed_at = 0;
-      calls = ((gets refl refl, tt), tt);
-      asked = λ test. omega arith;
-      whole = refl;
-      on_time = (refl, tt);
-      moments = refl;
-    },
-    tt,
-  );
-  halted = refl;
-  histories = (record { controls = refl; before_quit = refl; threads = tt; in_order = refl }, tt);
-  moved = record { due = (inl refl, (inl refl, tt)); together = ((_, refl), tt) };
-}
+pub calls_late_else : IsRunBut but.Threads (post_script 5 15) (report_of (post_script 5 15) late_rows)
+unfolding computing
+calls_late_else = run_but_by but.Threads (post_script 5 15) late_rows refl
 
-abbrev taken_entries : List Entry
-taken_entries = advance 0 10 ∷ post 15 ∷ advance 1 15 ∷ look 0 15 0 ∷ halt 2 15 ∷ []
-
-abbrev taken_report : Report
-taken_report = main_report (post_script 5 15) taken_entries (dispatch 0 10 ∷ [])
+abbrev taken_rows : List Row
+taken_rows = main_rows (advance 0 10 ∷ post 15 ∷ advance 1 15 ∷ look 0 15 0 ∷ halt 2 15 ∷ []) (dispatch 0 10 ∷ [])
 
 abbrev moment_first : List (ℕ × ℕ) → ℕ
 moment_first ((number, now) ∷ xs) = now
 moment_first [] = 0
 
 -- a message is dispatched at a later time than the journal tells
-pub takes_late : IsRun in_lockstep (post_script 5 15) taken_report → ⊥
+pub takes_late : IsRun in_lockstep (post_script 5 15) (report_of (post_script 5 15) taken_rows) → ⊥
 takes_late r =
     let now : 10 ≡ 15 = ap moment_first r.loopers.0.dispatches in
     omega (arith, now)
 
 -- all else of it is right
-pub takes_late_else : IsRunBut but.Takes (post_script 5 15) taken_report
-unfolding made_count answer clock accepted_count barrier_count quit_place has_disposed has_halted live first_eligible pick is_controlled
-    lawful all_allowed is_allowed owed next_phase last_time in_due_order before_later live_callbacks posted_count
-    after_act befores is_called_in_time are_before_quit are_in_order moves
-takes_late_else = record {
-  report = record { script = refl; queues = refl; journals = refl; frames = refl };
-  records = record { mode = refl; start = refl; histories = (history_by (post_script 5 15) (queue 0 true 3 taken_entries) refl refl refl (refl, tt) refl refl refl, tt) };
-  planned = (planned_by (post_script 5 15) (queue 0 true 3 taken_entries) (tt, refl), tt);
-  controls = (refl, tt);
-  frames = (record { interval = refl; phases = refl; lawful = refl }, tt);
-  loopers = (
-    record {
-      final = led (post_script 5 15) 0 taken_entries [] (first_looper (post_script 5 15)) (None ∷ []) (dispatch 0 10 ∷ []);
-      acts = (None, (may refl refl refl refl, refl));
-      settled = refl;
-      dispatches = tt;
-      disposed_at = 0;
-      calls = tt;
-      asked = λ test. omega arith;
-      whole = refl;
-      on_time = tt;
-      moments = refl;
-    },
-    tt,
-  );
-  halted = refl;
-  histories = (record { controls = refl; before_quit = refl; threads = on_time_by (post_script 5 15) (queue 0 true 3 taken_entries) (tt, refl); in_order = refl }, tt);
-  moved = record { due = (inl refl, (inl refl, tt)); together = ((_, refl), tt) };
-}
+pub takes_late_else : IsRunBut but.Takes (post_script 5 15) (report_of (post_script 5 15) taken_rows)
+unfolding computing
+takes_late_else = run_but_by but.Takes (post_script 5 15) taken_rows refl
 
 -- a script whose rule sends another message, due 5 later
 abbrev rule_script : Script
@@ -181,14 +87,11 @@ abbrev reacted_entries : List Entry
 reacted_entries =
     advance 0 10 ∷ post 10 ∷ look 0 10 0 ∷ advance 1 15 ∷ entry 1 1 (call.Post (message 0 8 15 None)) (reply.Accepted 1) ∷ look 2 15 1 ∷ halt 2 15 ∷ []
 
-abbrev reacted_queue : QueueRecord
-reacted_queue = queue 0 true 3 reacted_entries
-
 abbrev reacted_acts : List Act
 reacted_acts = dispatch 0 10 ∷ dispatch 1 15 ∷ []
 
 abbrev reacted_report : Report
-reacted_report = main_report rule_script reacted_entries reacted_acts
+reacted_report = report_of rule_script (main_rows reacted_entries reacted_acts)
 
 -- when this looper's calls are to come, and what stood before them
 abbrev AreItsOnTime : Looper → Type 0
@@ -206,123 +109,32 @@ reacts_late r = of_acts r.loopers.0.final r.loopers.0.acts r.loopers.0.on_time.0
 
 -- all else of it is right
 pub reacts_late_else : IsRunBut but.OnTime rule_script reacted_report
-unfolding made_count answer clock accepted_count barrier_count quit_place has_disposed has_halted live first_eligible pick is_controlled
-    lawful all_allowed is_allowed owed next_phase last_time in_due_order before_later live_callbacks posted_count
-    after_act befores is_called_in_time are_before_quit are_in_order moves
-reacts_late_else = record {
-  report = record { script = refl; queues = refl; journals = refl; frames = refl };
-  records = record { mode = refl; start = refl; histories = (history_by rule_script reacted_queue refl refl refl (refl, tt) refl refl refl, tt) };
-  planned = (planned_by rule_script reacted_queue (tt, refl), tt);
-  controls = (refl, tt);
-  frames = (record { interval = refl; phases = refl; lawful = refl }, tt);
-  loopers = (
-    record {
-      final = led rule_script 0 reacted_entries [] (first_looper rule_script) (None ∷ None ∷ []) reacted_acts;
-      acts = (None, (may refl refl refl refl, (None, (may refl refl refl refl, refl))));
-      settled = refl;
-      dispatches = refl;
-      disposed_at = 0;
-      calls = ((gets refl refl, (makes refl, (gets refl refl, tt))), tt);
-      asked = λ test. omega arith;
-      whole = refl;
-      on_time = tt;
-      moments = refl;
-    },
-    tt,
-  );
-  halted = refl;
-  histories = (record { controls = refl; before_quit = refl; threads = on_time_by rule_script reacted_queue (tt, refl); in_order = refl }, tt);
-  moved = record { due = (inl refl, (inl refl, tt)); together = ((_, refl), tt) };
-}
+unfolding computing
+reacts_late_else = run_but_by but.OnTime rule_script (main_rows reacted_entries reacted_acts) refl
 
 -- thread 1 quits the side looper and then posts to it, and later thread 0 posts to it
-abbrev order_blocks : List Block
-order_blocks = block 5 (quits_side ∷ []) ∷ block 8 (by 1 (command.Post 1 7 0) ∷ []) ∷ block 10 (posts_side ∷ []) ∷ []
-
-abbrev order_entries : List Entry
-order_entries =
-    entry 4 0 (call.Advance 5) reply.Advanced ∷ entry 1 0 (call.Quit false 5) reply.QuitDone ∷ entry 3 0 (call.Next 5) reply.Disposed
-    ∷ entry 0 0 (call.Post (message 1 7 10 None)) (reply.Refused 1) ∷ entry 1 1 (call.Post (message 1 7 8 None)) (reply.Refused 1) ∷ []
+abbrev order_script : Script
+order_script = quit_script (block 5 (quits_side ∷ []) ∷ block 8 (by 1 (command.Post 1 7 0) ∷ []) ∷ block 10 (posts_side ∷ []) ∷ [])
 
 abbrev order_main : List Entry
 order_main =
     entry 4 0 (call.Advance 5) reply.Advanced ∷ entry 4 1 (call.Advance 8) reply.Advanced ∷ entry 4 2 (call.Advance 10) reply.Advanced
     ∷ entry 4 3 (call.Halt 10) reply.Halted ∷ []
 
-abbrev order_queue_0 : QueueRecord
-order_queue_0 = queue 0 true 5 order_main
+abbrev order_side : List Entry
+order_side =
+    entry 4 0 (call.Advance 5) reply.Advanced ∷ entry 1 0 (call.Quit false 5) reply.QuitDone ∷ entry 3 0 (call.Next 5) reply.Disposed
+    ∷ entry 0 0 (call.Post (message 1 7 10 None)) (reply.Refused 1) ∷ entry 1 1 (call.Post (message 1 7 8 None)) (reply.Refused 1) ∷ []
 
-abbrev order_queue_1 : QueueRecord
-order_queue_1 = queue 1 false 5 order_entries
-
-abbrev order_script : Script
-order_script = (quit_report order_blocks []).script
-
-abbrev order_report : Report
-order_report = record (quit_report order_blocks order_entries) { queues = order_queue_0 ∷ order_queue_1 ∷ [] }
+abbrev order_rows : List Row
+order_rows = quiet order_main 0 ∷ quiet order_side 5 ∷ []
 
 -- behind the disposal a thread's post of the block at 10 comes before another's of the block at 8
-pub calls_out_of_order : IsRun in_lockstep order_script order_report → ⊥
+pub calls_out_of_order : IsRun in_lockstep order_script (report_of order_script order_rows) → ⊥
 unfolding are_in_order
 calls_out_of_order r = let in_order : false ≡ true = r.timely.histories.1.0.in_order in cc
 
 -- all else of it is right
-pub calls_out_of_order_else : IsRunBut but.Order order_script order_report
-unfolding made_count answer clock accepted_count barrier_count quit_place has_disposed has_halted live first_eligible pick is_controlled
-    lawful all_allowed is_allowed owed next_phase last_time in_due_order before_later live_callbacks posted_count
-    after_act befores is_called_in_time are_before_quit are_in_order moves
-calls_out_of_order_else = record {
-  report = record { script = refl; queues = refl; journals = refl; frames = refl };
-  records = record {
-    mode = refl;
-    start = refl;
-    histories = (
-      history_by order_script order_queue_0 refl refl refl (refl, tt) refl refl refl,
-      (
-        history_by order_script order_queue_1 refl refl refl (refl, tt) refl refl refl,
-        tt,
-      ),
-    );
-  };
-  planned = (planned_by order_script order_queue_0 ((tt, refl), refl), (planned_by order_script order_queue_1 ((tt, refl), refl), tt));
-  controls = (refl, (refl, tt));
-  frames = (record { interval = refl; phases = refl; lawful = refl }, (record { interval = refl; phases = refl; lawful = refl }, tt));
-  loopers = (
-    record {
-      final = first_looper order_script;
-      acts = refl;
-      settled = refl;
-      dispatches = refl;
-      disposed_at = 0;
-      calls = (tt, (tt, tt));
-      asked = λ test. omega arith;
-      whole = refl;
-      on_time = (refl, (refl, tt));
-      moments = refl;
-    },
-    (
-      record {
-        final = first_looper order_script;
-        acts = refl;
-        settled = refl;
-        dispatches = refl;
-        disposed_at = 5;
-        calls = (tt, ((gets refl refl, tt), tt));
-        asked = λ test. omega arith;
-        whole = refl;
-        on_time = (refl, (refl, tt));
-        moments = refl;
-      },
-      tt,
-    ),
-  );
-  halted = refl;
-  histories = (
-    record { controls = refl; before_quit = refl; threads = on_time_by order_script order_queue_0 ((tt, refl), refl); in_order = tt },
-    (
-      record { controls = refl; before_quit = refl; threads = on_time_by order_script order_queue_1 ((tt, refl), refl); in_order = tt },
-      tt,
-    ),
-  );
-  moved = record { due = (inl refl, (inl refl, (inl refl, tt))); together = ((_, refl), ((_, refl), tt)) };
-}
+pub calls_out_of_order_else : IsRunBut but.Order order_script (report_of order_script order_rows)
+unfolding computing
+calls_out_of_order_else = run_but_by but.Order order_script order_rows refl

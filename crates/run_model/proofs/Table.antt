@@ -1,0 +1,651 @@
+-- Reports as data: a report in lockstep is a run, or one but for a clause, where one equation computes.
+use Rattle.std.proofs.Common.{◌≡◌, ◌<◌, ℕ, zero, suc, Bool, true, false, List, [], ◌∷◌, ◌++◌, Option, Some, None, refl, sym, ap, ◌∙◌, inl, inr, arith}
+use Rattle.std.specs.Prelude.{◌+◌, ◌*◌, ◌/◌, ◌==◌, ◌&&◌, ◌||◌, not, is_some, map, drop, length, count_by, cond, MatchBool, if◌then◌else◌}
+use Rattle.std.specs.Fmt.{digits}
+use Rattle.std.specs.List.{AllByRecursion, filter_map, list_all, list_any, range_with_len, enumerate_from}
+use Rattle.std.specs.Option.{option_map, option_map_or, MatchOption}
+use Rattle.std.proofs.lemmas.Bool.{cases_Bool, and_parts, or_cases, eqb-true}
+use Rattle.std.proofs.lemmas.Option.{same_Some, none-some}
+use Rattle.std.proofs.lemmas.List.Sums.{sum_by-cons}
+use mathlib.Core.List.{IsPrefix}
+use Rattle.loop_model.specs.declared.call.Call.{Call}
+use Rattle.loop_model.specs.declared.call.Call.TheVariants.{Halt}
+use Rattle.loop_model.specs.declared.reply.Reply.{Reply}
+use Rattle.loop_model.specs.declared.entry.Entry.{Entry}
+use Rattle.loop_model.specs.declared.journal.Act.{Act}
+use Rattle.loop_model.specs.declared.journal.Act.TheVariants.{Dispatch, Idle, Event, Vsync, Paint}
+use Rattle.loop_model.specs.declared.journal.Journal.{Journal}
+use Rattle.loop_model.specs.declared.record.QueueRecord.{QueueRecord}
+use Rattle.loop_model.specs.Base.{empty_base}
+use Rattle.loop_model.specs.Answers.{answer, clock, accepted_count, barrier_count, quit_place, has_disposed, has_halted}
+use Rattle.loop_model.specs.Legal.{made_count}
+use Rattle.loop_model.specs.Live.{live}
+use Rattle.loop_model.specs.Pick.{first_eligible, pick}
+use Rattle.loop_model.specs.Posts.{post_at}
+use Rattle.loop_model.specs.Fates.{fates}
+use Rattle.loop_model.specs.Dispatches.{act_dispatch, call_dispatch}
+use Rattle.frame_phases.specs.declared.entry.FrameEntry.{FrameEntry}
+use Rattle.frame_phases.specs.declared.entry.FrameRecord.{FrameRecord}
+use Rattle.frame_phases.specs.Frames.{lawful, is_pulse, all_allowed, is_allowed, owed, next_phase, last_time, in_due_order, before_later, live as live_callbacks, posted_count}
+use Rattle.dash_script.specs.declared.script.Script.{Script}
+use Rattle.dash_script.specs.Causes.{phase_count}
+use Rattle.run_model.specs.declared.report.Report.{Report}
+use Rattle.run_model.specs.Histories.{history_of}
+use Rattle.run_model.specs.Asks.{AreFor, plain, call_of, token_in, entries_by}
+use Rattle.run_model.specs.Senders.{looper_sender, controller, sender_count}
+use Rattle.run_model.specs.Moments.{in_lockstep}
+use Rattle.run_model.specs.Planned.{lines_of, labels_on}
+use Rattle.run_model.specs.Control.{InBlock, is_controlled, is_called_in_time, are_before_quit, befores, are_on_time}
+use Rattle.run_model.specs.Loopers.{Looper, Sent, first_looper, starts_frame}
+use Rattle.run_model.specs.Acts.{Lead, IsSent, MayCome, after_act, dispatched, millis_up}
+use Rattle.run_model.specs.Moves.{Move, moves, move_times, main_moves, is_planned_time, was_due_at, MayMoveTo}
+use Rattle.run_model.specs.FrameRuns.{is_frame_from, are_run_then, are_whole}
+use Rattle.run_model.specs.FrameAsks.{FrameAsk, Posts, Removes, Runs, as_told, asks_in}
+use Rattle.run_model.specs.Run.{IsRun, IsHistory, IsAsPlanned, IsControlled, IsFrameRun, EachLooper, all_entries, setting_of, caused_on, asked_of, are_in_order, main_ends_halted}
+use Rattle.run_model.specs.Text.{text, lines}
+use Rattle.run_model.proofs.Below.{EachBelow, each_below}
+use Rattle.run_model.proofs.ByTests.{answers, replies, are_timely, are_numbered, history_by, planned_calls, made_calls, thread_lines, MakesThem, calls_by}
+use Rattle.run_model.proofs.Examples.{queue, journal, page}
+use Rattle.run_model.proofs.RunBut.{Clause, Nothing, Asked, Whole, Moments, Starts, OnTime, Takes, Controls, BeforeQuit, Threads, Order, Blocks, Due, Together, number_of, Unless, with_pulses, IsLooperRunBut, IsTimelyBut, AreMovedBut, IsRunBut}
+use Rattle.run_model.proofs.RunBut as but
+
+-- ---- a report as data
+
+-- what is kept of a looper: its queue's entries, its acts, its frame record, for each act the place of the frame that it runs (the acts behind these run
+-- none), and when it disposed of its queue
+pub record Row : Type 0 where
+  pub entries : List Entry
+  pub acts : List Act
+  pub frames : List FrameEntry
+  pub places : List (Option ℕ)
+  pub disposed_at : ℕ
+
+abbrev pub queue_in : Script → ℕ → Row → QueueRecord
+queue_in s n row = queue n (n == 0) (sender_count s) row.entries
+
+abbrev pub frames_in : Script → ℕ → Row → FrameRecord
+frames_in s n row = record { looper = n; interval = s.period; phases = phase_count s.edition; entries = row.frames }
+
+abbrev pub queues_from : Script → ℕ → List Row → List QueueRecord
+queues_from s n [] = []
+queues_from s n (row ∷ rows) = queue_in s n row ∷ queues_from s (n + 1) rows
+
+abbrev pub journals_from : ℕ → List Row → List Journal
+journals_from n [] = []
+journals_from n (row ∷ rows) = journal n row.acts ∷ journals_from (n + 1) rows
+
+abbrev pub frames_from : Script → ℕ → List Row → List FrameRecord
+frames_from s n [] = []
+frames_from s n (row ∷ rows) = frames_in s n row ∷ frames_from s (n + 1) rows
+
+-- the report of a run in lockstep
+abbrev pub report_of : Script → List Row → Report
+report_of s rows = record { script = s; queues = queues_from s 0 rows; journals = journals_from 0 rows; frames = frames_from s 0 rows; start = 0 }
+
+-- a looper that runs no frame
+abbrev pub acting : List Entry → List Act → ℕ → Row
+acting es acts disposed_at = record { entries = es; acts = acts; frames = []; places = []; disposed_at = disposed_at }
+
+-- and one whose journal is empty
+abbrev pub quiet : List Entry → ℕ → Row
+quiet es disposed_at = acting es [] disposed_at
+
+-- ---- lists
+
+module _ {X : Type 0} where
+  abbrev first_or : X → List X → X
+  first_or d [] = d
+  first_or d (x ∷ xs) = x
+
+  abbrev behind_first : List X → List X
+  behind_first [] = []
+  behind_first (x ∷ xs) = xs
+
+  firsts : (x y : X) (xs ys : List X) → x ∷ xs ≡ y ∷ ys → x ≡ y
+  firsts x y xs ys e = ap (first_or x) e
+
+  others : (x y : X) (xs ys : List X) → x ∷ xs ≡ y ∷ ys → xs ≡ ys
+  others x y xs ys e = ap behind_first e
+
+  -- what passes each test
+  all_by : (P : X → Type 0) (t : X → Bool) → ((x : X) → t x ≡ true → P x) → (xs : List X) → list_all t xs ≡ true → AllByRecursion P xs
+  all_by P t sound [] h = tt
+  all_by P t sound (x ∷ xs) h = let p = and_parts (t x) (list_all t xs) h in (sound x p.0, all_by P t sound xs p.1)
+
+  -- of each number below a number, the greatest first
+  abbrev down_from : ℕ → (ℕ → X) → List X
+  down_from zero f = []
+  down_from (suc n) f = f n ∷ down_from n f
+
+  down_same : (n : ℕ) (f g : ℕ → X) → down_from n f ≡ down_from n g → (k : ℕ) → k < n → f k ≡ g k
+  down_same n f g e = each_below n (λ k. f k ≡ g k) (go n e)
+    where
+      go : (m : ℕ) → down_from m f ≡ down_from m g → EachBelow m (λ k. f k ≡ g k)
+      go zero e = tt
+      go (suc m) e = (go m (others (f m) (g m) (down_from m f) (down_from m g) e), firsts (f m) (g m) (down_from m f) (down_from m g) e)
+
+-- what is equal for each
+all_same : {X Y : Type 0} (P : X → Type 0) (f g : X → Y) → ((x : X) → f x ≡ g x → P x) → (xs : List X) → map f xs ≡ map g xs → AllByRecursion P xs
+all_same P f g sound [] e = tt
+all_same P f g sound (x ∷ xs) e = (sound x (firsts (f x) (g x) (map f xs) (map g xs) e), all_same P f g sound xs (others (f x) (g x) (map f xs) (map g xs) e))
+
+-- ---- a clause that is left out
+
+abbrev unless : Clause → Clause → Bool → Bool
+unless out c test = number_of out == number_of c || test
+
+abbrev kept : {X : Type 0} → Clause → Clause → List X → List X
+kept out c xs = if number_of out == number_of c then [] else xs
+
+unless_true : (b test : Bool) (P : Type 0) → (test ≡ true → P) → (b || test) ≡ true → MatchBool b (Unit {0}) P
+unless_true true test P sound h = tt
+unless_true false test P sound h = sound h
+
+kept_same : {X : Type 0} (b : Bool) (xs ys : List X) (P : Type 0) → (xs ≡ ys → P) → (if b then [] else xs) ≡ (if b then [] else ys) → MatchBool b (Unit {0}) P
+kept_same true xs ys P sound e = tt
+kept_same false xs ys P sound e = sound e
+
+-- ---- the acts of a looper
+
+abbrev place_first : List (Option ℕ) → Option ℕ
+place_first [] = None
+place_first (f ∷ fs) = f
+
+-- what a looper has come to after these acts, which run the frames at these places
+abbrev pub led : Script → ℕ → List Entry → List FrameEntry → List (Option ℕ) → Looper → List Act → Looper
+led s q es fs places a [] = a
+led s q es fs places a (x ∷ xs) = led s q es fs (behind_first places) (after_act s q es fs (place_first places) a x) xs
+
+abbrev is_clear : Option ℕ → List Act → Bool
+is_clear None [] = true
+is_clear None (x ∷ xs) = false
+is_clear (Some place) [] = false
+is_clear (Some place) (x ∷ xs) = false
+
+-- the act may come next, but for what it paints
+abbrev act_may : Script → ℕ → List Entry → List FrameEntry → Option ℕ → Looper → Act → Bool
+act_may s q es fs frame a (Dispatch n now route) =
+    is_some (post_at es n) && (not (is_some frame) || option_map_or (starts_frame q) (post_at es n) false) && is_frame_from fs a.place frame
+act_may s q es fs frame a (Paint g v) = not (is_some frame)
+act_may s q es fs frame a (Vsync stamp) = is_clear frame a.painted && is_pulse s.period stamp
+act_may s q es fs frame a (Idle i k) = is_clear frame a.painted
+act_may s q es fs frame a (Event f e m) = is_clear frame a.painted
+
+-- what is painted once the act has come, where it dispatches
+abbrev act_paints : Script → ℕ → List Entry → List FrameEntry → Option ℕ → Looper → Act → List Act
+act_paints s q es fs frame a (Dispatch n now route) = (dispatched s q fs frame n now a (post_at es n)).painted
+act_paints s q es fs frame a (Paint g v) = a.painted
+act_paints s q es fs frame a (Vsync stamp) = a.painted
+act_paints s q es fs frame a (Idle i k) = a.painted
+act_paints s q es fs frame a (Event f e m) = a.painted
+
+abbrev acts_may : Script → ℕ → List Entry → List FrameEntry → List (Option ℕ) → Looper → List Act → Bool
+acts_may s q es fs places a [] = true
+acts_may s q es fs places a (x ∷ xs) =
+    act_may s q es fs (place_first places) a x && acts_may s q es fs (behind_first places) (after_act s q es fs (place_first places) a x) xs
+
+abbrev acts_paint : Script → ℕ → List Entry → List FrameEntry → List (Option ℕ) → Looper → List Act → List (List Act)
+acts_paint s q es fs places a [] = []
+acts_paint s q es fs places a (x ∷ xs) =
+    act_paints s q es fs (place_first places) a x ∷ acts_paint s q es fs (behind_first places) (after_act s q es fs (place_first places) a x) xs
+
+abbrev acts_painted : Script → ℕ → List Entry → List FrameEntry → List (Option ℕ) → Looper → List Act → List (List Act)
+acts_painted s q es fs places a [] = []
+acts_painted s q es fs places a (x ∷ xs) = a.painted ∷ acts_painted s q es fs (behind_first places) (after_act s q es fs (place_first places) a x) xs
+
+none_there : (o : Option ℕ) → not (is_some o) ≡ true → o ≡ None
+none_there None h = refl
+none_there (Some n) h = cc
+
+clear_parts : (o : Option ℕ) (xs : List Act) → is_clear o xs ≡ true → (o ≡ None) × (xs ≡ [])
+clear_parts None [] h = (refl, refl)
+clear_parts None (x ∷ xs) h = cc
+clear_parts (Some n) [] h = cc
+clear_parts (Some n) (x ∷ xs) h = cc
+
+may_come : (s : Script) (q : ℕ) (es : List Entry) (fs : List FrameEntry) (frame : Option ℕ) (a : Looper) (x : Act)
+    → act_may s q es fs frame a x ≡ true → act_paints s q es fs frame a x ≡ a.painted → MayCome s q es fs frame a x
+may_come s q es fs frame a (Dispatch n now route) h painted =
+    let starts = not (is_some frame) || option_map_or (starts_frame q) (post_at es n) false in
+    let two = and_parts (is_some (post_at es n) && starts) (is_frame_from fs a.place frame) h in
+    let one = and_parts (is_some (post_at es n)) starts two.0 in
+    record { accepted = one.0; starts = one.1; place = two.1; painted = painted }
+may_come s q es fs frame a (Paint g v) h painted = none_there frame h
+may_come s q es fs frame a (Vsync stamp) h painted =
+    let two = and_parts (is_clear frame a.painted) (is_pulse s.period stamp) h in
+    let c = clear_parts frame a.painted two.0 in (c.0, c.1, two.1)
+may_come s q es fs frame a (Idle i k) h painted = clear_parts frame a.painted h
+may_come s q es fs frame a (Event f e m) h painted = clear_parts frame a.painted h
+
+leads : (s : Script) (q : ℕ) (es : List Entry) (fs : List FrameEntry) (places : List (Option ℕ)) (a : Looper) (xs : List Act)
+    → acts_may s q es fs places a xs ≡ true → acts_paint s q es fs places a xs ≡ acts_painted s q es fs places a xs → Lead s q es fs a xs (led s q es fs places a xs)
+leads s q es fs places a [] h painted = refl
+leads s q es fs places a (x ∷ xs) h painted =
+    let frame = place_first places in
+    let next = after_act s q es fs frame a x in
+    let two = and_parts (act_may s q es fs frame a x) (acts_may s q es fs (behind_first places) next xs) h in
+    let now = firsts (act_paints s q es fs frame a x) a.painted (acts_paint s q es fs (behind_first places) next xs) (acts_painted s q es fs (behind_first places) next xs) painted in
+    let later = others (act_paints s q es fs frame a x) a.painted (acts_paint s q es fs (behind_first places) next xs) (acts_painted s q es fs (behind_first places) next xs) painted in
+    (frame, (may_come s q es fs frame a x two.0 now, leads s q es fs (behind_first places) next xs two.1 later))
+
+-- ---- the calls of a looper
+
+-- the reply that is told, or this one
+abbrev reply_or : Option Reply → Reply → Reply
+reply_or None r = r
+reply_or (Some told) r = told
+
+-- the entries that were to come for these calls, as far as it is told
+abbrev entries_for : List ℕ → List Sent → List Entry → List (Option Entry)
+entries_for tokens [] [] = []
+entries_for tokens [] (e ∷ es) = []
+entries_for tokens (x ∷ xs) [] = None ∷ []
+entries_for tokens (x ∷ xs) (e ∷ es) = Some (record e { call = call_of tokens x.ask; reply = reply_or x.reply e.reply }) ∷ entries_for (tokens ++ token_in e.reply) xs es
+
+abbrev plain_entry : Entry → Option Entry
+plain_entry e = Some (record e { call = plain e.call })
+
+abbrev call_in : Option Entry → Call
+call_in None = Halt 0
+call_in (Some e) = e.call
+
+abbrev reply_in : Reply → Option Entry → Reply
+reply_in r None = r
+reply_in r (Some e) = e.reply
+
+told_so : (o : Option Reply) (r : Reply) → reply_or o r ≡ r → MatchOption o (Unit {0}) (λ told. r ≡ told)
+told_so None r e = tt
+told_so (Some told) r e = sym e
+
+sent_by_table : (tokens : List ℕ) (xs : List Sent) (es : List Entry) → entries_for tokens xs es ≡ map plain_entry es → AreFor IsSent tokens xs es
+sent_by_table tokens [] [] same = tt
+sent_by_table tokens [] (e ∷ es) same = cc
+sent_by_table tokens (x ∷ xs) [] same = cc
+sent_by_table tokens (x ∷ xs) (e ∷ es) same =
+    let one : Option Entry = Some (record e { call = call_of tokens x.ask; reply = reply_or x.reply e.reply }) in
+    let first = firsts one (plain_entry e) (entries_for (tokens ++ token_in e.reply) xs es) (map plain_entry es) same in
+    let rest = others one (plain_entry e) (entries_for (tokens ++ token_in e.reply) xs es) (map plain_entry es) same in
+    (record { call = sym (ap call_in first); reply = told_so x.reply e.reply (ap (reply_in e.reply) first) }, sent_by_table (tokens ++ token_in e.reply) xs es rest)
+
+-- ---- what is asked of a choreographer
+
+abbrev same_token : Option ℕ → Option ℕ → Bool
+same_token None None = true
+same_token None (Some n) = false
+same_token (Some n) None = false
+same_token (Some n) (Some m) = n == m
+
+abbrev same_ask : FrameAsk → FrameAsk → Bool
+same_ask (Posts p d i t) (Posts q e j u) = p == q && d == e && i == j && same_token t u
+same_ask (Posts p d i t) (Removes q j u) = false
+same_ask (Posts p d i t) (Runs n) = false
+same_ask (Removes p i t) (Posts q e j u) = false
+same_ask (Removes p i t) (Removes q j u) = p == q && i == j && same_token t u
+same_ask (Removes p i t) (Runs n) = false
+same_ask (Runs n) (Posts q e j u) = false
+same_ask (Runs n) (Removes q j u) = false
+same_ask (Runs n) (Runs m) = n == m
+
+token_same : (t u : Option ℕ) → same_token t u ≡ true → t ≡ u
+token_same None None h = refl
+token_same None (Some n) h = cc
+token_same (Some n) None h = cc
+token_same (Some n) (Some m) h = ap (λ (k : ℕ). Some k) (eqb-true n m h)
+
+ask_same : (a b : FrameAsk) → same_ask a b ≡ true → a ≡ b
+ask_same (Posts p d i t) (Posts q e j u) h =
+    let three = and_parts (p == q && d == e && i == j) (same_token t u) h in
+    let two = and_parts (p == q && d == e) (i == j) three.0 in
+    let one = and_parts (p == q) (d == e) two.0 in
+    λ k. Posts (eqb-true p q one.0 k) (eqb-true d e one.1 k) (eqb-true i j two.1 k) (token_same t u three.1 k)
+ask_same (Posts p d i t) (Removes q j u) h = cc
+ask_same (Posts p d i t) (Runs n) h = cc
+ask_same (Removes p i t) (Posts q e j u) h = cc
+ask_same (Removes p i t) (Removes q j u) h =
+    let two = and_parts (p == q && i == j) (same_token t u) h in
+    let one = and_parts (p == q) (i == j) two.0 in
+    λ k. Removes (eqb-true p q one.0 k) (eqb-true i j one.1 k) (token_same t u two.1 k)
+ask_same (Removes p i t) (Runs n) h = cc
+ask_same (Runs n) (Posts q e j u) h = cc
+ask_same (Runs n) (Removes q j u) h = cc
+ask_same (Runs n) (Runs m) h = ap Runs (eqb-true n m h)
+
+-- these without the first that is equal to it, where one is
+abbrev without : FrameAsk → List FrameAsk → Option (List FrameAsk)
+without a [] = None
+without a (b ∷ bs) = if same_ask a b then Some bs else option_map (λ rest. b ∷ rest) (without a bs)
+
+-- each stands in the one list as often as in the other
+abbrev same_asks : List FrameAsk → List FrameAsk → Bool
+same_asks [] [] = true
+same_asks [] (b ∷ bs) = false
+same_asks (a ∷ xs) bs = option_map_or (same_asks xs) (without a bs) false
+
+counted : (test : FrameAsk → Bool) (a : FrameAsk) (xs : List FrameAsk) → count_by test (a ∷ xs) ≡ cond (test a) 1 0 + count_by test xs
+counted test a xs = sum_by-cons (λ x. cond (test x) 1 0) a xs
+
+taken_later : (test : FrameAsk → Bool) (a b : FrameAsk) (bs rest : List FrameAsk) (o : Option (List FrameAsk))
+    → ((more : List FrameAsk) → o ≡ Some more → count_by test bs ≡ cond (test a) 1 0 + count_by test more) → option_map (λ more. b ∷ more) o ≡ Some rest
+    → count_by test (b ∷ bs) ≡ cond (test a) 1 0 + count_by test rest
+taken_later test a b bs rest None each h = absurd (none-some rest h)
+taken_later test a b bs rest (Some more) each h =
+    let first = counted test b bs in
+    let second = each more refl in
+    let third = counted test b more in
+    let whole : count_by test (b ∷ bs) ≡ cond (test a) 1 0 + count_by test (b ∷ more) = omega (arith, first, second, third) in
+    whole ∙ ap (λ ys. cond (test a) 1 0 + count_by test ys) (same_Some (b ∷ more) rest h)
+
+taken_out : (test : FrameAsk → Bool) (a : FrameAsk) (bs rest : List FrameAsk) → without a bs ≡ Some rest → count_by test bs ≡ cond (test a) 1 0 + count_by test rest
+taken_out test a [] rest e = absurd (none-some rest e)
+taken_out test a (b ∷ bs) rest e =
+    elim (cases_Bool (same_ask a b)) [
+      | inl same ↦
+          let are : bs ≡ rest = same_Some bs rest (rw same at e) in
+          counted test b bs ∙ ap (λ x. cond (test x) 1 0 + count_by test bs) (sym (ask_same a b same)) ∙ ap (λ ys. cond (test a) 1 0 + count_by test ys) are
+      | inr other ↦ taken_later test a b bs rest (without a bs) (λ more is. taken_out test a bs more is) (rw other at e)
+    ]
+
+as_often_later : (test : FrameAsk → Bool) (a : FrameAsk) (xs bs : List FrameAsk) (o : Option (List FrameAsk)) → without a bs ≡ o
+    → ((rest : List FrameAsk) → same_asks xs rest ≡ true → count_by test xs ≡ count_by test rest) → option_map_or (same_asks xs) o false ≡ true → count_by test (a ∷ xs) ≡ count_by test bs
+as_often_later test a xs bs None is each same = cc
+as_often_later test a xs bs (Some rest) is each same = counted test a xs ∙ ap (λ n. cond (test a) 1 0 + n) (each rest same) ∙ sym (taken_out test a bs rest is)
+
+as_often : (test : FrameAsk → Bool) (xs bs : List FrameAsk) → same_asks xs bs ≡ true → count_by test xs ≡ count_by test bs
+as_often test [] [] h = refl
+as_often test [] (b ∷ bs) h = cc
+as_often test (a ∷ xs) bs h = as_often_later test a xs bs (without a bs) refl (λ rest same. as_often test xs rest same) h
+
+-- ---- one looper
+
+abbrev has_called_then : Script → QueueRecord → ℕ → Bool
+has_called_then s r thread = are_on_time (map (λ l. InBlock l.time) (thread_lines s r.looper thread)) (befores thread (history_of r))
+
+-- what is tested of a looper
+pub record LooperTest : Type 0 where
+  pub replies : List (Option Reply)
+  pub timely : Bool
+  pub numbered : Bool
+  pub planned : List (List (Option Call))
+  pub controlled : Bool
+  pub lawful : Bool
+  pub acts : Bool
+  pub painted : List (List Act)
+  pub left : List Act
+  pub dispatches : List (ℕ × ℕ)
+  pub calls : List (List (Option Entry))
+  pub asked : Bool
+  pub whole : Bool
+  pub on_time : Bool
+  pub moments : Bool
+  pub controls : Bool
+  pub before_quit : Bool
+  pub threads : List Bool
+  pub in_order : Bool
+
+abbrev final_of : Clause → Script → ℕ → Row → Looper
+final_of out s n row = led (with_pulses out s) n (history_of (queue_in s n row)) row.frames row.places (first_looper s) row.acts
+
+abbrev caused_by : Clause → Script → ℕ → Row → QueueRecord → List Sent
+caused_by out s n row r = caused_on r.looper (final_of out s n row) n row.disposed_at
+
+abbrev entries_there : Script → ℕ → QueueRecord → List Entry
+entries_there s n r = entries_by (looper_sender s n) (history_of r)
+
+-- what is found
+abbrev found_in : Clause → Script → List QueueRecord → ℕ → Row → LooperTest
+found_in out s queues n row =
+    let q = queue_in s n row in
+    let es = history_of q in
+    let final = final_of out s n row in
+    record {
+      replies = answers (setting_of q) (empty_base q.senders) [] es;
+      timely = are_timely (setting_of q) (empty_base q.senders) [] es;
+      numbered = are_numbered (setting_of q) (empty_base q.senders) [] es;
+      planned = down_from s.threads (λ thread. planned_calls s (labels_on n (lines_of thread s.blocks)) n [] (thread_lines s n thread) (entries_by thread es));
+      controlled = is_controlled q.main q.lockstep (controller s) s.end es;
+      lawful = lawful s.period (phase_count s.edition) row.frames;
+      acts = acts_may (with_pulses out s) n es row.frames row.places (first_looper s) row.acts;
+      painted = acts_paint (with_pulses out s) n es row.frames row.places (first_looper s) row.acts;
+      left = final.painted;
+      dispatches = kept out Takes (filter_map act_dispatch row.acts);
+      calls = kept out Takes (map (λ r. entries_for [] (caused_by out s n row r) (entries_there s n r)) queues);
+      asked = unless out Asked (unless out Starts (same_asks (map (as_told true) (asks_in row.frames)) (map (as_told true) (asked_of s n final))));
+      whole = unless out Whole (are_whole (phase_count s.edition) row.frames final.frames);
+      on_time = unless out OnTime (unless out Takes (list_all (λ r. are_on_time (map (λ x. x.timing) (caused_by out s n row r)) (befores (looper_sender s n) (history_of r))) queues));
+      moments = unless out Moments (unless out Starts (are_run_then row.frames final.frames));
+      controls = unless out Controls (is_called_in_time (controller s) es);
+      before_quit = unless out BeforeQuit (are_before_quit s.threads (controller s) es);
+      threads = kept out Threads (kept out Blocks (down_from s.threads (has_called_then s q)));
+      in_order = unless out Order (unless out Blocks (are_in_order s n es));
+    }
+
+-- what is wanted
+abbrev wanted_in : Clause → Script → List QueueRecord → ℕ → Row → LooperTest
+wanted_in out s queues n row =
+    let es = history_of (queue_in s n row) in
+    record {
+      replies = replies es;
+      timely = true;
+      numbered = true;
+      planned = down_from s.threads (λ thread. made_calls (entries_by thread es));
+      controlled = true;
+      lawful = true;
+      acts = true;
+      painted = acts_painted (with_pulses out s) n es row.frames row.places (first_looper s) row.acts;
+      left = [];
+      dispatches = kept out Takes (filter_map (λ e. call_dispatch e.call e.reply) (entries_there s n (queue_in s n row)));
+      calls = kept out Takes (map (λ r. map plain_entry (entries_there s n r)) queues);
+      asked = true;
+      whole = true;
+      on_time = true;
+      moments = true;
+      controls = true;
+      before_quit = true;
+      threads = kept out Threads (kept out Blocks (down_from s.threads (λ thread. true)));
+      in_order = true;
+    }
+
+-- what follows for a looper
+record IsLooperOf (out : Clause) (s : Script) (queues : List QueueRecord) (n : ℕ) (row : Row) : Type 0 where
+  history : IsHistory in_lockstep all_entries s (queue_in s n row)
+  planned : IsAsPlanned in_lockstep s (queue_in s n row)
+  controlled : IsControlled s (queue_in s n row)
+  frames : IsFrameRun s (frames_in s n row)
+  looper : IsLooperRunBut out s queues (queue_in s n row) (journal n row.acts) (frames_in s n row)
+  timely : IsTimelyBut out s (queue_in s n row)
+
+all_planned : (s : Script) (r : QueueRecord) → ((thread : ℕ) → thread < s.threads → MakesThem s r thread) → IsAsPlanned in_lockstep s r
+all_planned s r made thread lt =
+    calls_by s (labels_on r.looper (lines_of thread s.blocks)) r.looper [] (thread_lines s r.looper thread) (entries_by thread (history_of r)) (made thread lt)
+
+both_left : (b c test : Bool) (P : Type 0) → (test ≡ true → P) → (b || (c || test)) ≡ true → MatchBool b (Unit {0}) (MatchBool c (Unit {0}) P)
+both_left b c test P sound h = unless_true b (c || test) (MatchBool c (Unit {0}) P) (unless_true c test P sound) h
+
+looper_of : (out : Clause) (s : Script) (queues : List QueueRecord) (n : ℕ) (row : Row) → found_in out s queues n row ≡ wanted_in out s queues n row → IsLooperOf out s queues n row
+looper_of out s queues n row e =
+    let q = queue_in s n row in
+    let es = history_of q in
+    let final = final_of out s n row in
+    record {
+      history = history_by s q refl refl refl (refl, tt) (ap (λ (t : LooperTest). t.replies) e) (ap (λ (t : LooperTest). t.timely) e) (ap (λ (t : LooperTest). t.numbered) e);
+      planned = all_planned s q (down_same s.threads (λ thread. planned_calls s (labels_on n (lines_of thread s.blocks)) n [] (thread_lines s n thread) (entries_by thread es)) (λ thread. made_calls (entries_by thread es)) (ap (λ (t : LooperTest). t.planned) e));
+      controlled = ap (λ (t : LooperTest). t.controlled) e;
+      frames = record { interval = refl; phases = refl; lawful = ap (λ (t : LooperTest). t.lawful) e };
+      looper = record {
+        final = final;
+        acts = leads (with_pulses out s) n es row.frames row.places (first_looper s) row.acts (ap (λ (t : LooperTest). t.acts) e) (ap (λ (t : LooperTest). t.painted) e);
+        settled = ap (λ (t : LooperTest). t.left) e;
+        dispatches = kept_same (number_of out == number_of Takes) (filter_map act_dispatch row.acts) (filter_map (λ x. call_dispatch x.call x.reply) (entries_there s n q)) _ (λ same. same) (ap (λ (t : LooperTest). t.dispatches) e);
+        disposed_at = row.disposed_at;
+        calls = kept_same (number_of out == number_of Takes) (map (λ r. entries_for [] (caused_by out s n row r) (entries_there s n r)) queues) (map (λ r. map plain_entry (entries_there s n r)) queues) _
+            (λ same. all_same (λ (r : QueueRecord). AreFor IsSent [] (caused_by out s n row r) (entries_there s n r)) (λ r. entries_for [] (caused_by out s n row r) (entries_there s n r)) (λ r. map plain_entry (entries_there s n r))
+            (λ r one. sent_by_table [] (caused_by out s n row r) (entries_there s n r) one) queues same) (ap (λ (t : LooperTest). t.calls) e);
+        asked = both_left (number_of out == number_of Asked) (number_of out == number_of Starts) _ _
+            (λ h test. as_often test (map (as_told true) (asks_in row.frames)) (map (as_told true) (asked_of s n final)) h) (ap (λ (t : LooperTest). t.asked) e);
+        whole = unless_true (number_of out == number_of Whole) _ _ (λ h. h) (ap (λ (t : LooperTest). t.whole) e);
+        on_time = both_left (number_of out == number_of OnTime) (number_of out == number_of Takes) _ _
+            (λ h. all_by (λ (r : QueueRecord). are_on_time (map (λ x. x.timing) (caused_by out s n row r)) (befores (looper_sender s n) (history_of r)) ≡ true)
+            (λ r. are_on_time (map (λ x. x.timing) (caused_by out s n row r)) (befores (looper_sender s n) (history_of r))) (λ r one. one) queues h) (ap (λ (t : LooperTest). t.on_time) e);
+        moments = both_left (number_of out == number_of Moments) (number_of out == number_of Starts) _ _ (λ h. h) (ap (λ (t : LooperTest). t.moments) e);
+      };
+      timely = record {
+        controls = unless_true (number_of out == number_of Controls) _ _ (λ h. h) (ap (λ (t : LooperTest). t.controls) e);
+        before_quit = unless_true (number_of out == number_of BeforeQuit) _ _ (λ h. h) (ap (λ (t : LooperTest). t.before_quit) e);
+        threads = kept_same (number_of out == number_of Threads) (kept out Blocks (down_from s.threads (has_called_then s q))) (kept out Blocks (down_from s.threads (λ thread. true))) _
+            (λ same. kept_same (number_of out == number_of Blocks) (down_from s.threads (has_called_then s q)) (down_from s.threads (λ thread. true)) _
+            (λ each. down_same s.threads (has_called_then s q) (λ thread. true) each) same) (ap (λ (t : LooperTest). t.threads) e);
+        in_order = both_left (number_of out == number_of Order) (number_of out == number_of Blocks) _ _ (λ h. h) (ap (λ (t : LooperTest). t.in_order) e);
+      };
+    }
+
+-- ---- the whole report
+
+-- of each looper, by its number
+abbrev each_from : {X : Type 0} → (ℕ → Row → X) → ℕ → List Row → List X
+each_from f n [] = []
+each_from f n (row ∷ rows) = f n row ∷ each_from f (n + 1) rows
+
+-- a pulse comes at the greatest multiple of the period up to this time, and rounded up it is that time
+abbrev is_pulse_time : ℕ → ℕ → Bool
+is_pulse_time period t = is_pulse period (t * 1000000 / period * period) && millis_up (t * 1000000 / period * period) == t
+
+abbrev may_move : Script → List (List Move) → (ℕ × ℕ) → Bool
+may_move s all x = is_planned_time s x.1 || list_any (was_due_at x.0 x.1) all || is_pulse_time s.period x.1
+
+moves_may : (s : Script) (all : List (List Move)) (x : ℕ × ℕ) → may_move s all x ≡ true → MayMoveTo s all x.0 x.1
+moves_may s all x h =
+    elim (or_cases (is_planned_time s x.1 || list_any (was_due_at x.0 x.1) all) (is_pulse_time s.period x.1) h) [
+      | inl planned ↦ inl planned
+      | inr comes ↦
+          let stamp = x.1 * 1000000 / s.period * s.period in
+          let p = and_parts (is_pulse s.period stamp) (millis_up stamp == x.1) comes in
+          inr (record { stamp = stamp; pulse = p.0; rounded = eqb-true (millis_up stamp) x.1 p.1 })
+    ]
+
+-- main's moves behind those of each
+abbrev with_main : List Move → List Move → List ℕ
+with_main main ms = move_times ms ++ drop (length (move_times ms)) (move_times main)
+
+-- what is tested of a report
+pub record Test : Type 0 where
+  pub numbers : List (List ℕ)
+  pub loopers : List LooperTest
+  pub halted : Bool
+  pub due : Bool
+  pub together : List (List ℕ)
+
+abbrev moves_in : Script → List Row → List (List Move)
+moves_in s rows = map (λ q. moves (controller s) (history_of q)) (queues_from s 0 rows)
+
+abbrev pub found : Clause → Script → List Row → Test
+found out s rows =
+    let all = moves_in s rows in
+    record {
+      numbers = map (λ q. q.looper) (queues_from s 0 rows) ∷ map (λ j. j.looper) (journals_from 0 rows) ∷ map (λ f. f.looper) (frames_from s 0 rows) ∷ [];
+      loopers = each_from (found_in out s (queues_from s 0 rows)) 0 rows;
+      halted = main_ends_halted (queues_from s 0 rows);
+      due = unless out Due (list_all (may_move s all) (enumerate_from 0 (move_times (main_moves all))));
+      together = kept out Together (map (with_main (main_moves all)) all);
+    }
+
+abbrev pub wanted : Clause → Script → List Row → Test
+wanted out s rows =
+    let all = moves_in s rows in
+    record {
+      numbers = range_with_len 0 s.loopers ∷ range_with_len 0 s.loopers ∷ range_with_len 0 s.loopers ∷ [];
+      loopers = each_from (wanted_in out s (queues_from s 0 rows)) 0 rows;
+      halted = true;
+      due = true;
+      together = kept out Together (map (λ ms. move_times (main_moves all)) all);
+    }
+
+-- each looper of a report
+abbrev EachOf : (ℕ → Row → Type 0) → ℕ → List Row → Type 0
+EachOf P n [] = Unit {0}
+EachOf P n (row ∷ rows) = P n row × EachOf P (n + 1) rows
+
+each_looper : (out : Clause) (s : Script) (queues : List QueueRecord) (n : ℕ) (rows : List Row)
+    → each_from (found_in out s queues) n rows ≡ each_from (wanted_in out s queues) n rows → EachOf (IsLooperOf out s queues) n rows
+each_looper out s queues n [] e = tt
+each_looper out s queues n (row ∷ rows) e =
+    let first = found_in out s queues n row in
+    let second = wanted_in out s queues n row in
+    let firsts_behind = each_from (found_in out s queues) (n + 1) rows in
+    let seconds_behind = each_from (wanted_in out s queues) (n + 1) rows in
+    (looper_of out s queues n row (firsts first second firsts_behind seconds_behind e), each_looper out s queues (n + 1) rows (others first second firsts_behind seconds_behind e))
+
+module _ (P : ℕ → Row → Type 0) where
+  of_queues : (s : Script) (Q : QueueRecord → Type 0) → ((n : ℕ) (row : Row) → P n row → Q (queue_in s n row)) → (n : ℕ) (rows : List Row) → EachOf P n rows → AllByRecursion Q (queues_from s n rows)
+  of_queues s Q each n [] all = tt
+  of_queues s Q each n (row ∷ rows) all = (each n row all.0, of_queues s Q each (n + 1) rows all.1)
+
+  of_frames : (s : Script) (Q : FrameRecord → Type 0) → ((n : ℕ) (row : Row) → P n row → Q (frames_in s n row)) → (n : ℕ) (rows : List Row) → EachOf P n rows → AllByRecursion Q (frames_from s n rows)
+  of_frames s Q each n [] all = tt
+  of_frames s Q each n (row ∷ rows) all = (each n row all.0, of_frames s Q each (n + 1) rows all.1)
+
+  of_loopers : (s : Script) (Q : QueueRecord → Journal → FrameRecord → Type 0) → ((n : ℕ) (row : Row) → P n row → Q (queue_in s n row) (journal n row.acts) (frames_in s n row)) → (n : ℕ) (rows : List Row) → EachOf P n rows
+      → EachLooper Q (queues_from s n rows) (journals_from n rows) (frames_from s n rows)
+  of_loopers s Q each n [] all = tt
+  of_loopers s Q each n (row ∷ rows) all = (each n row all.0, of_loopers s Q each (n + 1) rows all.1)
+
+-- the equation of these two makes the report a run but for the clause
+pub run_but_by : (out : Clause) (s : Script) (rows : List Row) → found out s rows ≡ wanted out s rows → IsRunBut out s (report_of s rows)
+run_but_by out s rows e =
+    let queues = queues_from s 0 rows in
+    let P = IsLooperOf out s queues in
+    let each = each_looper out s queues 0 rows (ap (λ (t : Test). t.loopers) e) in
+    let all = moves_in s rows in
+    let numbers = ap (λ (t : Test). t.numbers) e in
+    record {
+      report = record {
+        script = refl;
+        queues = ap (first_or []) numbers;
+        journals = ap (λ ns. first_or [] (behind_first ns)) numbers;
+        frames = ap (λ ns. first_or [] (behind_first (behind_first ns))) numbers;
+      };
+      records = record { mode = refl; start = refl; histories = of_queues P s (IsHistory in_lockstep all_entries s) (λ n row l. l.history) 0 rows each };
+      planned = of_queues P s (IsAsPlanned in_lockstep s) (λ n row l. l.planned) 0 rows each;
+      controls = of_queues P s (IsControlled s) (λ n row l. l.controlled) 0 rows each;
+      frames = of_frames P s (IsFrameRun s) (λ n row l. l.frames) 0 rows each;
+      loopers = of_loopers P s (IsLooperRunBut out s queues) (λ n row l. l.looper) 0 rows each;
+      halted = ap (λ (t : Test). t.halted) e;
+      histories = of_queues P s (IsTimelyBut out s) (λ n row l. l.timely) 0 rows each;
+      moved = record {
+        due = unless_true (number_of out == number_of Due) _ _ (λ h. all_by (λ (number, t). MayMoveTo s all number t) (may_move s all) (moves_may s all) (enumerate_from 0 (move_times (main_moves all))) h) (ap (λ (t : Test). t.due) e);
+        together = kept_same (number_of out == number_of Together) (map (with_main (main_moves all)) all) (map (λ ms. move_times (main_moves all)) all) _
+            (λ same. all_same (λ (ms : List Move). IsPrefix (move_times ms) (move_times (main_moves all))) (with_main (main_moves all)) (λ ms. move_times (main_moves all))
+            (λ ms one. (drop (length (move_times ms)) (move_times (main_moves all)), one)) all same) (ap (λ (t : Test). t.together) e);
+      };
+    }
+
+-- and where no clause is left out, a run
+pub run_by : (s : Script) (rows : List Row) → found Nothing s rows ≡ wanted Nothing s rows → IsRun in_lockstep s (report_of s rows)
+run_by s rows e = but.is_run s (report_of s rows) (run_but_by Nothing s rows e)
+
+-- all with which the equation computes
+unfoldable pub computing : Unit {0}
+unfolding answer clock accepted_count barrier_count quit_place has_disposed has_halted live first_eligible pick made_count is_controlled
+    lawful all_allowed is_allowed owed next_phase last_time in_due_order before_later live_callbacks posted_count
+    after_act befores is_called_in_time are_before_quit are_in_order moves
+computing = tt
+
+-- ---- worked reports
+
+-- a script, what is kept of each looper, and the lines of the report's text
+pub record Worked : Type 0 where
+  pub script : Script
+  pub rows : List Row
+  pub printed : List (List ℕ)
+
+-- the report is a run of the script, and this is its text
+pub record Holds (w : Worked) : Type 0 where
+  pub runs : IsRun in_lockstep w.script (report_of w.script w.rows)
+  pub prints : text (report_of w.script w.rows) ≡ page w.printed
+
+pub holds : (w : Worked) → found Nothing w.script w.rows ≡ wanted Nothing w.script w.rows → text (report_of w.script w.rows) ≡ page w.printed → Holds w
+holds w same text_is = record { runs = run_by w.script w.rows same; prints = text_is }
+
+-- all with which both equations compute
+unfoldable pub printing : Unit {0}
+unfolding computing text lines fates digits
+printing = tt
