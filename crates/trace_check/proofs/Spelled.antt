@@ -1,11 +1,11 @@
 -- Words of a line: what is spelled is read again, and what is read is spelled so.
-use Rattle.std.proofs.Common.{◌≡◌, ◌<◌, ◌^◌, ℕ, true, false, List, [], ◌∷◌, map, Option, Some, None, refl, sym, ap, ◌∙◌, inl, inr, arith}
-use Rattle.std.specs.Prelude.{codes, find}
-use Rattle.std.specs.List.{join_with_byte, AllByRecursion}
+use Rattle.std.proofs.Common.{◌≡◌, ◌<◌, ◌^◌, ℕ, Bool, true, false, List, [], ◌∷◌, map, Option, Some, None, refl, sym, ap, subst, ◌∙◌, inl, inr, arith}
+use Rattle.std.specs.Prelude.{◌||◌, not, is_some, codes, find}
+use Rattle.std.specs.List.{join_with_byte, list_all, list_any, AllByRecursion}
 use Rattle.std.specs.Option.{option_map}
 use Rattle.std.specs.Fmt.{decimal}
 use Rattle.std.specs.Str.{bytes_eq}
-use Rattle.std.proofs.lemmas.Bool.{cases_Bool}
+use Rattle.std.proofs.lemmas.Bool.{cases_Bool, and_parts, or_cases}
 use Rattle.std.proofs.lemmas.Option.{same_Some, none-some}
 use Rattle.std.proofs.lemmas.List.Splits.{join_with_byte-slice_split}
 use Rattle.std.proofs.lemmas.Slice.Eq.{bytes_eq-Decides}
@@ -25,47 +25,48 @@ use Rattle.trace_check.specs.Reading.{is_none_left}
 
 -- ---- one word
 
--- a fixed word is read, and has neither a space nor a line feed
+-- a fixed word is read, is one of all of them, and has neither a space nor a line feed
 Known : Keyword → Type 0
-Known k = (word_of (spelling k) ≡ Some (Name k)) × (is_free 32 (spelling k) ≡ true) × (is_free 10 (spelling k) ≡ true)
+Known k =
+    (word_of (spelling k) ≡ Some (Name k)) × (find (λ j. bytes_eq (spelling k) (spelling j)) all_keywords ≡ Some k) × (is_free 32 (spelling k) ≡ true) × (is_free 10 (spelling k) ≡ true)
 
 known : (k : Keyword) → Known k
 unfolding Known word_of number_of
-known name.Trace = (refl, refl, refl)
-known name.Queue = (refl, refl, refl)
-known name.Main = (refl, refl, refl)
-known name.Side = (refl, refl, refl)
-known name.Lockstep = (refl, refl, refl)
-known name.Free = (refl, refl, refl)
-known name.End = (refl, refl, refl)
-known name.Post = (refl, refl, refl)
-known name.Barrier = (refl, refl, refl)
-known name.Unbarrier = (refl, refl, refl)
-known name.Remove = (refl, refl, refl)
-known name.What = (refl, refl, refl)
-known name.Callback = (refl, refl, refl)
-known name.All = (refl, refl, refl)
-known name.Quit = (refl, refl, refl)
-known name.Plain = (refl, refl, refl)
-known name.Safe = (refl, refl, refl)
-known name.Next = (refl, refl, refl)
-known name.Advance = (refl, refl, refl)
-known name.Halt = (refl, refl, refl)
-known name.Asynchronous = (refl, refl, refl)
-known name.Synchronous = (refl, refl, refl)
-known name.Accepted = (refl, refl, refl)
-known name.Refused = (refl, refl, refl)
-known name.Token = (refl, refl, refl)
-known name.Unbarriered = (refl, refl, refl)
-known name.NotPosted = (refl, refl, refl)
-known name.Removed = (refl, refl, refl)
-known name.QuitDone = (refl, refl, refl)
-known name.AlreadyQuit = (refl, refl, refl)
-known name.NotAllowed = (refl, refl, refl)
-known name.Dispatched = (refl, refl, refl)
-known name.Disposed = (refl, refl, refl)
-known name.Advanced = (refl, refl, refl)
-known name.Halted = (refl, refl, refl)
+known name.Trace = (refl, refl, refl, refl)
+known name.Queue = (refl, refl, refl, refl)
+known name.Main = (refl, refl, refl, refl)
+known name.Side = (refl, refl, refl, refl)
+known name.Lockstep = (refl, refl, refl, refl)
+known name.Free = (refl, refl, refl, refl)
+known name.End = (refl, refl, refl, refl)
+known name.Post = (refl, refl, refl, refl)
+known name.Barrier = (refl, refl, refl, refl)
+known name.Unbarrier = (refl, refl, refl, refl)
+known name.Remove = (refl, refl, refl, refl)
+known name.What = (refl, refl, refl, refl)
+known name.Callback = (refl, refl, refl, refl)
+known name.All = (refl, refl, refl, refl)
+known name.Quit = (refl, refl, refl, refl)
+known name.Plain = (refl, refl, refl, refl)
+known name.Safe = (refl, refl, refl, refl)
+known name.Next = (refl, refl, refl, refl)
+known name.Advance = (refl, refl, refl, refl)
+known name.Halt = (refl, refl, refl, refl)
+known name.Asynchronous = (refl, refl, refl, refl)
+known name.Synchronous = (refl, refl, refl, refl)
+known name.Accepted = (refl, refl, refl, refl)
+known name.Refused = (refl, refl, refl, refl)
+known name.Token = (refl, refl, refl, refl)
+known name.Unbarriered = (refl, refl, refl, refl)
+known name.NotPosted = (refl, refl, refl, refl)
+known name.Removed = (refl, refl, refl, refl)
+known name.QuitDone = (refl, refl, refl, refl)
+known name.AlreadyQuit = (refl, refl, refl, refl)
+known name.NotAllowed = (refl, refl, refl, refl)
+known name.Dispatched = (refl, refl, refl, refl)
+known name.Disposed = (refl, refl, refl, refl)
+known name.Advanced = (refl, refl, refl, refl)
+known name.Halted = (refl, refl, refl, refl)
 
 -- a number of 64 bits
 abbrev pub FitsWord : Word → Type 0
@@ -86,11 +87,60 @@ word_free c Absent lt free dash fit = dash
 
 no_space : (k : Keyword) → is_free 32 (spelling k) ≡ true
 unfolding Known
-no_space k = (known k).1
+no_space k = (known k).2
 
 no_feed : (k : Keyword) → is_free 10 (spelling k) ≡ true
 unfolding Known
-no_feed k = (known k).2
+no_feed k = (known k).3
+
+passes_found : (p t : Keyword → Bool) (ks : List Keyword) (k : Keyword) → find p ks ≡ Some k → list_all t ks ≡ true → t k ≡ true
+passes_found p t [] k e h = absurd (none-some k e)
+passes_found p t (j ∷ ks) k e h =
+    let two = and_parts (t j) (list_all t ks) h in
+    elim (cases_Bool (p j)) [
+      | inl first ↦
+          let here : find p (j ∷ ks) ≡ Some j = rw first refl in
+          subst (λ x. t x ≡ true) (same_Some j k (sym here ∙ e)) two.0
+      | inr other ↦
+          let later : find p (j ∷ ks) ≡ find p ks = rw other refl in
+          passes_found p t ks k (sym later ∙ e) two.1
+    ]
+
+-- what all fixed words pass, each passes
+pub of_keyword : (t : Keyword → Bool) → list_all t all_keywords ≡ true → (k : Keyword) → t k ≡ true
+unfolding Known
+of_keyword t all k = passes_found (λ j. bytes_eq (spelling k) (spelling j)) t all_keywords k (known k).1 all
+
+-- fixed words that are spelled alike are the same
+pub same_name : (j k : Keyword) → bytes_eq (spelling j) (spelling k) ≡ true → Name j ≡ Name k
+unfolding Known
+same_name j k h = same_Some (Name j) (Name k) (sym (known j).0 ∙ ap word_of ((bytes_eq-Decides (spelling j) (spelling k)).0 h) ∙ (known k).0)
+
+abbrev keyword_in : Word → Keyword
+keyword_in (Name k) = k
+keyword_in (Number n) = name.End
+keyword_in Absent = name.End
+
+-- the fixed word is one of these
+abbrev is_among : List Keyword → Keyword → Bool
+is_among ks k = list_any (λ j. bytes_eq (spelling k) (spelling j)) ks
+
+of_one : (P : Keyword → Type 0) (ks : List Keyword) (k : Keyword) → is_among ks k ≡ true → AllByRecursion P ks → P k
+of_one P [] k h all = cc
+of_one P (j ∷ ks) k h all =
+    elim (or_cases (bytes_eq (spelling k) (spelling j)) (is_among ks k) h) [
+      | inl same ↦ subst P (sym (ap keyword_in (same_name k j same))) all.0
+      | inr other ↦ of_one P ks k other all.1
+    ]
+
+-- where these fixed words alone give something, what holds of each of them holds of each that does
+pub of_these : {A : Type 0} (by : Keyword → Option A) (ks : List Keyword) (P : Keyword → Type 0) → list_all (λ k. is_among ks k || not (is_some (by k))) all_keywords ≡ true → AllByRecursion P ks
+    → (k : Keyword) (a : A) → by k ≡ Some a → P k
+of_these by ks P only all k a e =
+    elim (or_cases (is_among ks k) (not (is_some (by k))) (of_keyword (λ j. is_among ks j || not (is_some (by j))) only k)) [
+      | inl one ↦ of_one P ks k one all
+      | inr none ↦ let wrong : false ≡ true = sym (ap (λ o. not (is_some o)) e) ∙ none in absurd cc
+    ]
 
 keyword_taken : (w : List ℕ) (ks : List Keyword) (x : Word) → option_map Name (find (λ k. bytes_eq w (spelling k)) ks) ≡ Some x → w ≡ spell x
 keyword_taken w [] x e = absurd (none-some x e)

@@ -1,7 +1,9 @@
 -- What is read of the words of a line is a line of these words, and the words of a line are read as the line.
 use Rattle.std.proofs.Common.{◌≡◌, ◌<◌, ◌^◌, ℕ, Bool, true, false, cond, ltb, eqb, List, [], ◌∷◌, ◌++◌, map, Option, Some, None, refl, sym, ap, subst, ◌∙◌, inl, inr, append_assoc}
 use Rattle.std.specs.Prelude.{IfSome}
-use Rattle.std.specs.Option.{option_map}
+use Rattle.std.specs.List.{list_all}
+use Rattle.std.specs.Option.{option_map, option_map_or}
+use Rattle.std.specs.Str.{bytes_eq}
 use Rattle.std.proofs.lemmas.Bool.{cases_Bool, ltb-true, eqb-true}
 use Rattle.std.proofs.lemmas.Option.{same_Some, none-some}
 use Rattle.std.proofs.lemmas.List.{append-nil, map-append}
@@ -21,6 +23,8 @@ use Rattle.trace_check.specs.declared.word.Word.TheVariants.{Name, Number, Absen
 use Rattle.trace_check.specs.declared.line.Head.{Head}
 use Rattle.trace_check.specs.declared.line.Line.{Line}
 use Rattle.trace_check.specs.declared.line.Line.TheVariants.{Title, Queue, Entry, End}
+use Rattle.trace_check.specs.Keyword.{spelling, all_keywords}
+use Rattle.trace_check.proofs.Spelled.{of_keyword, of_these, same_name}
 use Rattle.trace_check.specs.Line as words_of
 use Rattle.trace_check.specs.Line.{IsShort, IsLong, FitsPost, FitsKind, FitsFilter, FitsCall, FitsReply, Fits, maybe, line_words, call_words, reply_words, kind_words, filter_words, post_words}
 use Rattle.trace_check.specs.Reading as reading
@@ -128,177 +132,45 @@ name_taken ws y e =
     let p = one_taken reading.name_by ws y e in
     p.2 ∙ ap (λ w. Some w ∷ y.1) (name_word p.0 y.0 p.1)
 
+-- the word is this fixed one
+abbrev is_name : Word → Keyword → Bool
+is_name (Name j) k = bytes_eq (spelling k) (spelling j)
+is_name (Number n) k = false
+is_name Absent k = false
+
+name_is : (w : Word) (k : Keyword) → is_name w k ≡ true → Name k ≡ w
+name_is (Name j) k h = same_name k j h
+name_is (Number n) k h = cc
+name_is Absent k h = cc
+
+-- where a fixed word says something, that is spelled so
+abbrev says : {A : Type 0} → (A → Word) → (Keyword → Option A) → Keyword → Bool
+says spell by k = option_map_or (λ a. is_name (spell a) k) (by k) true
+
 -- one of some fixed words
-chosen : {A : Type 0} (spell : A → Word) (by : Keyword → Option A) → ((k : Keyword) (a : A) → by k ≡ Some a → Name k ≡ spell a)
+chosen : {A : Type 0} (spell : A → Word) (by : Keyword → Option A) → list_all (says spell by) all_keywords ≡ true
     → (ws : Rest) (y : A × Rest) → and_then (reading.name ws) (λ k more. read (by k) more) ≡ Some y → ws ≡ Some (spell y.0) ∷ y.1
-chosen spell by says ws y e =
+chosen spell by all ws y e =
     let p = parted (reading.name ws) (λ k more. read (by k) more) y e in
     let q = read_parted (by p.0.0) p.0.1 y p.2 in
-    name_taken ws p.0 p.1 ∙ ap (λ w. Some w ∷ p.0.1) (says p.0.0 y.0 q.0) ∙ ap (λ rest. Some (spell y.0) ∷ rest) q.1
-
-flag_word : (k : Keyword) (a : Bool) → reading.flag_by k ≡ Some a → Name k ≡ words_of.flag a
-flag_word name.Trace a e = absurd (none-some a e)
-flag_word name.Queue a e = absurd (none-some a e)
-flag_word name.Main a e = absurd (none-some a e)
-flag_word name.Side a e = absurd (none-some a e)
-flag_word name.Lockstep a e = absurd (none-some a e)
-flag_word name.Free a e = absurd (none-some a e)
-flag_word name.End a e = absurd (none-some a e)
-flag_word name.Post a e = absurd (none-some a e)
-flag_word name.Barrier a e = absurd (none-some a e)
-flag_word name.Unbarrier a e = absurd (none-some a e)
-flag_word name.Remove a e = absurd (none-some a e)
-flag_word name.What a e = absurd (none-some a e)
-flag_word name.Callback a e = absurd (none-some a e)
-flag_word name.All a e = absurd (none-some a e)
-flag_word name.Quit a e = absurd (none-some a e)
-flag_word name.Plain a e = absurd (none-some a e)
-flag_word name.Safe a e = absurd (none-some a e)
-flag_word name.Next a e = absurd (none-some a e)
-flag_word name.Advance a e = absurd (none-some a e)
-flag_word name.Halt a e = absurd (none-some a e)
-flag_word name.Asynchronous a e = ap words_of.flag (same_Some true a e)
-flag_word name.Synchronous a e = ap words_of.flag (same_Some false a e)
-flag_word name.Accepted a e = absurd (none-some a e)
-flag_word name.Refused a e = absurd (none-some a e)
-flag_word name.Token a e = absurd (none-some a e)
-flag_word name.Unbarriered a e = absurd (none-some a e)
-flag_word name.NotPosted a e = absurd (none-some a e)
-flag_word name.Removed a e = absurd (none-some a e)
-flag_word name.QuitDone a e = absurd (none-some a e)
-flag_word name.AlreadyQuit a e = absurd (none-some a e)
-flag_word name.NotAllowed a e = absurd (none-some a e)
-flag_word name.Dispatched a e = absurd (none-some a e)
-flag_word name.Disposed a e = absurd (none-some a e)
-flag_word name.Advanced a e = absurd (none-some a e)
-flag_word name.Halted a e = absurd (none-some a e)
-
-side_word : (k : Keyword) (a : Bool) → reading.side_by k ≡ Some a → Name k ≡ words_of.side a
-side_word name.Trace a e = absurd (none-some a e)
-side_word name.Queue a e = absurd (none-some a e)
-side_word name.Main a e = ap words_of.side (same_Some true a e)
-side_word name.Side a e = ap words_of.side (same_Some false a e)
-side_word name.Lockstep a e = absurd (none-some a e)
-side_word name.Free a e = absurd (none-some a e)
-side_word name.End a e = absurd (none-some a e)
-side_word name.Post a e = absurd (none-some a e)
-side_word name.Barrier a e = absurd (none-some a e)
-side_word name.Unbarrier a e = absurd (none-some a e)
-side_word name.Remove a e = absurd (none-some a e)
-side_word name.What a e = absurd (none-some a e)
-side_word name.Callback a e = absurd (none-some a e)
-side_word name.All a e = absurd (none-some a e)
-side_word name.Quit a e = absurd (none-some a e)
-side_word name.Plain a e = absurd (none-some a e)
-side_word name.Safe a e = absurd (none-some a e)
-side_word name.Next a e = absurd (none-some a e)
-side_word name.Advance a e = absurd (none-some a e)
-side_word name.Halt a e = absurd (none-some a e)
-side_word name.Asynchronous a e = absurd (none-some a e)
-side_word name.Synchronous a e = absurd (none-some a e)
-side_word name.Accepted a e = absurd (none-some a e)
-side_word name.Refused a e = absurd (none-some a e)
-side_word name.Token a e = absurd (none-some a e)
-side_word name.Unbarriered a e = absurd (none-some a e)
-side_word name.NotPosted a e = absurd (none-some a e)
-side_word name.Removed a e = absurd (none-some a e)
-side_word name.QuitDone a e = absurd (none-some a e)
-side_word name.AlreadyQuit a e = absurd (none-some a e)
-side_word name.NotAllowed a e = absurd (none-some a e)
-side_word name.Dispatched a e = absurd (none-some a e)
-side_word name.Disposed a e = absurd (none-some a e)
-side_word name.Advanced a e = absurd (none-some a e)
-side_word name.Halted a e = absurd (none-some a e)
-
-mode_word : (k : Keyword) (a : Bool) → reading.mode_by k ≡ Some a → Name k ≡ words_of.mode a
-mode_word name.Trace a e = absurd (none-some a e)
-mode_word name.Queue a e = absurd (none-some a e)
-mode_word name.Main a e = absurd (none-some a e)
-mode_word name.Side a e = absurd (none-some a e)
-mode_word name.Lockstep a e = ap words_of.mode (same_Some true a e)
-mode_word name.Free a e = ap words_of.mode (same_Some false a e)
-mode_word name.End a e = absurd (none-some a e)
-mode_word name.Post a e = absurd (none-some a e)
-mode_word name.Barrier a e = absurd (none-some a e)
-mode_word name.Unbarrier a e = absurd (none-some a e)
-mode_word name.Remove a e = absurd (none-some a e)
-mode_word name.What a e = absurd (none-some a e)
-mode_word name.Callback a e = absurd (none-some a e)
-mode_word name.All a e = absurd (none-some a e)
-mode_word name.Quit a e = absurd (none-some a e)
-mode_word name.Plain a e = absurd (none-some a e)
-mode_word name.Safe a e = absurd (none-some a e)
-mode_word name.Next a e = absurd (none-some a e)
-mode_word name.Advance a e = absurd (none-some a e)
-mode_word name.Halt a e = absurd (none-some a e)
-mode_word name.Asynchronous a e = absurd (none-some a e)
-mode_word name.Synchronous a e = absurd (none-some a e)
-mode_word name.Accepted a e = absurd (none-some a e)
-mode_word name.Refused a e = absurd (none-some a e)
-mode_word name.Token a e = absurd (none-some a e)
-mode_word name.Unbarriered a e = absurd (none-some a e)
-mode_word name.NotPosted a e = absurd (none-some a e)
-mode_word name.Removed a e = absurd (none-some a e)
-mode_word name.QuitDone a e = absurd (none-some a e)
-mode_word name.AlreadyQuit a e = absurd (none-some a e)
-mode_word name.NotAllowed a e = absurd (none-some a e)
-mode_word name.Dispatched a e = absurd (none-some a e)
-mode_word name.Disposed a e = absurd (none-some a e)
-mode_word name.Advanced a e = absurd (none-some a e)
-mode_word name.Halted a e = absurd (none-some a e)
-
-manner_word : (k : Keyword) (a : Bool) → reading.manner_by k ≡ Some a → Name k ≡ words_of.manner a
-manner_word name.Trace a e = absurd (none-some a e)
-manner_word name.Queue a e = absurd (none-some a e)
-manner_word name.Main a e = absurd (none-some a e)
-manner_word name.Side a e = absurd (none-some a e)
-manner_word name.Lockstep a e = absurd (none-some a e)
-manner_word name.Free a e = absurd (none-some a e)
-manner_word name.End a e = absurd (none-some a e)
-manner_word name.Post a e = absurd (none-some a e)
-manner_word name.Barrier a e = absurd (none-some a e)
-manner_word name.Unbarrier a e = absurd (none-some a e)
-manner_word name.Remove a e = absurd (none-some a e)
-manner_word name.What a e = absurd (none-some a e)
-manner_word name.Callback a e = absurd (none-some a e)
-manner_word name.All a e = absurd (none-some a e)
-manner_word name.Quit a e = absurd (none-some a e)
-manner_word name.Plain a e = ap words_of.manner (same_Some false a e)
-manner_word name.Safe a e = ap words_of.manner (same_Some true a e)
-manner_word name.Next a e = absurd (none-some a e)
-manner_word name.Advance a e = absurd (none-some a e)
-manner_word name.Halt a e = absurd (none-some a e)
-manner_word name.Asynchronous a e = absurd (none-some a e)
-manner_word name.Synchronous a e = absurd (none-some a e)
-manner_word name.Accepted a e = absurd (none-some a e)
-manner_word name.Refused a e = absurd (none-some a e)
-manner_word name.Token a e = absurd (none-some a e)
-manner_word name.Unbarriered a e = absurd (none-some a e)
-manner_word name.NotPosted a e = absurd (none-some a e)
-manner_word name.Removed a e = absurd (none-some a e)
-manner_word name.QuitDone a e = absurd (none-some a e)
-manner_word name.AlreadyQuit a e = absurd (none-some a e)
-manner_word name.NotAllowed a e = absurd (none-some a e)
-manner_word name.Dispatched a e = absurd (none-some a e)
-manner_word name.Disposed a e = absurd (none-some a e)
-manner_word name.Advanced a e = absurd (none-some a e)
-manner_word name.Halted a e = absurd (none-some a e)
+    let test : is_name (spell y.0) p.0.0 ≡ true = sym (ap (λ o. option_map_or (λ a. is_name (spell a) p.0.0) o true) q.0) ∙ of_keyword (says spell by) all p.0.0 in
+    name_taken ws p.0 p.1 ∙ ap (λ w. Some w ∷ p.0.1) (name_is (spell y.0) p.0.0 test) ∙ ap (λ rest. Some (spell y.0) ∷ rest) q.1
 
 flag_taken : (ws : Rest) (y : Bool × Rest) → reading.flag ws ≡ Some y → ws ≡ Some (words_of.flag y.0) ∷ y.1
 unfolding reading.flag
-flag_taken ws y e = chosen words_of.flag reading.flag_by flag_word ws y e
+flag_taken ws y e = chosen words_of.flag reading.flag_by refl ws y e
 
 side_taken : (ws : Rest) (y : Bool × Rest) → reading.side ws ≡ Some y → ws ≡ Some (words_of.side y.0) ∷ y.1
 unfolding reading.side
-side_taken ws y e = chosen words_of.side reading.side_by side_word ws y e
+side_taken ws y e = chosen words_of.side reading.side_by refl ws y e
 
 mode_taken : (ws : Rest) (y : Bool × Rest) → reading.mode ws ≡ Some y → ws ≡ Some (words_of.mode y.0) ∷ y.1
 unfolding reading.mode
-mode_taken ws y e = chosen words_of.mode reading.mode_by mode_word ws y e
+mode_taken ws y e = chosen words_of.mode reading.mode_by refl ws y e
 
 manner_taken : (ws : Rest) (y : Bool × Rest) → reading.manner ws ≡ Some y → ws ≡ Some (words_of.manner y.0) ∷ y.1
 unfolding reading.manner
-manner_taken ws y e = chosen words_of.manner reading.manner_by manner_word ws y e
+manner_taken ws y e = chosen words_of.manner reading.manner_by refl ws y e
 
 -- ---- more than one word
 
@@ -338,51 +210,41 @@ numbered_taken make rest y e =
     let same = same_Some (make p.0.0, p.0.1) y p.2 in
     (p.0.0, t.0, ap (λ z. z.0) same, t.1 ∙ ap (λ z. Some (Number p.0.0) ∷ z.1) same)
 
-kind_named : (k : Keyword) (rest : Rest) (y : Kind × Rest) → reading.kind_by k rest ≡ Some y → FitsKind y.0 × (Some (Name k) ∷ rest ≡ map Some (kind_words y.0) ++ y.1)
-kind_named name.Trace rest y e = absurd (none-some y e)
-kind_named name.Queue rest y e = absurd (none-some y e)
-kind_named name.Main rest y e = absurd (none-some y e)
-kind_named name.Side rest y e = absurd (none-some y e)
-kind_named name.Lockstep rest y e = absurd (none-some y e)
-kind_named name.Free rest y e = absurd (none-some y e)
-kind_named name.End rest y e = absurd (none-some y e)
-kind_named name.Post rest y e = absurd (none-some y e)
-kind_named name.Barrier rest y e = absurd (none-some y e)
-kind_named name.Unbarrier rest y e = absurd (none-some y e)
-kind_named name.Remove rest y e = absurd (none-some y e)
-kind_named name.What rest y e =
+-- what stands behind a fixed word is read, and both are spelled so and within these limits
+abbrev Behind : {A : Type 0} → (A → List Word) → (A → Type 0) → (Keyword → Rest → Option (A × Rest)) → Keyword → Type 0
+Behind {A} words Within by k = (rest : Rest) (y : A × Rest) → by k rest ≡ Some y → Within y.0 × (Some (Name k) ∷ rest ≡ map Some (words y.0) ++ y.1)
+
+-- a fixed word alone
+alone : {A : Type 0} (words : A → List Word) (Within : A → Type 0) (k : Keyword) (a : A) → words a ≡ Name k ∷ [] → Within a
+    → (rest : Rest) (y : A × Rest) → Some (a, rest) ≡ Some y → Within y.0 × (Some (Name k) ∷ rest ≡ map Some (words y.0) ++ y.1)
+alone words Within k a spelled fits rest y e =
+    subst (λ z. Within z.0 × (Some (Name k) ∷ rest ≡ map Some (words z.0) ++ z.1)) (same_Some (a, rest) y e) (fits, ap (λ ws. map Some ws ++ rest) (sym spelled))
+
+-- a number of 64 bits behind it
+with_number : {A : Type 0} (words : A → List Word) (Within : A → Type 0) (k : Keyword) (make : ℕ → A) → ((n : ℕ) → words (make n) ≡ Name k ∷ Number n ∷ []) → ((n : ℕ) → IsLong n → Within (make n))
+    → (rest : Rest) (y : A × Rest) → reading.numbered make rest ≡ Some y → Within y.0 × (Some (Name k) ∷ rest ≡ map Some (words y.0) ++ y.1)
+with_number words Within k make spelled fits rest y e =
+    let p = numbered_taken make rest y e in
+    (subst Within p.2 (fits p.0 p.1), ap (λ r. Some (Name k) ∷ r) p.3 ∙ ap (λ ws. map Some ws ++ y.1) (sym (spelled p.0)) ∙ ap (λ a. map Some (words a) ++ y.1) p.2)
+
+what_behind : Behind kind_words FitsKind reading.kind_by name.What
+what_behind rest y e =
     let p = parted (reading.short rest) _ y e in
     let t = short_taken rest p.0 p.1 in
     let same = same_Some (What p.0.0, p.0.1) y p.2 in
     (subst FitsKind (ap (λ z. z.0) same) t.0, ap (λ r. Some (Name name.What) ∷ r) t.1 ∙ ap (λ z. map Some (kind_words z.0) ++ z.1) same)
-kind_named name.Callback rest y e =
+
+callback_behind : Behind kind_words FitsKind reading.kind_by name.Callback
+callback_behind rest y e =
     let p = parted (reading.long rest) _ y e in
     let t = long_taken rest p.0 p.1 in
     let same = same_Some (Callback p.0.0, p.0.1) y p.2 in
     (subst FitsKind (ap (λ z. z.0) same) t.0, ap (λ r. Some (Name name.Callback) ∷ r) t.1 ∙ ap (λ z. map Some (kind_words z.0) ++ z.1) same)
-kind_named name.All rest y e =
-    subst (λ (z : Kind × Rest). FitsKind z.0 × (Some (Name name.All) ∷ rest ≡ map Some (kind_words z.0) ++ z.1)) (same_Some (AnyKind, rest) y e) (tt, refl)
-kind_named name.Quit rest y e = absurd (none-some y e)
-kind_named name.Plain rest y e = absurd (none-some y e)
-kind_named name.Safe rest y e = absurd (none-some y e)
-kind_named name.Next rest y e = absurd (none-some y e)
-kind_named name.Advance rest y e = absurd (none-some y e)
-kind_named name.Halt rest y e = absurd (none-some y e)
-kind_named name.Asynchronous rest y e = absurd (none-some y e)
-kind_named name.Synchronous rest y e = absurd (none-some y e)
-kind_named name.Accepted rest y e = absurd (none-some y e)
-kind_named name.Refused rest y e = absurd (none-some y e)
-kind_named name.Token rest y e = absurd (none-some y e)
-kind_named name.Unbarriered rest y e = absurd (none-some y e)
-kind_named name.NotPosted rest y e = absurd (none-some y e)
-kind_named name.Removed rest y e = absurd (none-some y e)
-kind_named name.QuitDone rest y e = absurd (none-some y e)
-kind_named name.AlreadyQuit rest y e = absurd (none-some y e)
-kind_named name.NotAllowed rest y e = absurd (none-some y e)
-kind_named name.Dispatched rest y e = absurd (none-some y e)
-kind_named name.Disposed rest y e = absurd (none-some y e)
-kind_named name.Advanced rest y e = absurd (none-some y e)
-kind_named name.Halted rest y e = absurd (none-some y e)
+
+kind_named : (k : Keyword) (rest : Rest) (y : Kind × Rest) → reading.kind_by k rest ≡ Some y → FitsKind y.0 × (Some (Name k) ∷ rest ≡ map Some (kind_words y.0) ++ y.1)
+kind_named k rest y e =
+    of_these (λ j. reading.kind_by j rest) (name.What ∷ name.Callback ∷ name.All ∷ []) (Behind kind_words FitsKind reading.kind_by) refl
+    (what_behind, (callback_behind, (alone kind_words FitsKind name.All AnyKind refl tt, tt))) k y e rest y e
 
 kind_taken : (ws : Rest) (y : Kind × Rest) → reading.kind ws ≡ Some y → Spells kind_words FitsKind ws y
 unfolding reading.kind
@@ -417,117 +279,85 @@ quit_taken rest y e =
     let words = ap (λ r. Some (Name name.Quit) ∷ r) (t0 ∙ ap (λ r. Some (words_of.manner p0.0.0) ∷ r) t1.1) in
     subst (λ (z : Call × Rest). FitsCall z.0 × (Some (Name name.Quit) ∷ rest ≡ map Some (call_words z.0) ++ z.1)) (same_Some (call_of.Quit p0.0.0 p1.0.0, p1.0.1) y p1.2) (t1.0, words)
 
-call_named : (k : Keyword) (rest : Rest) (y : Call × Rest) → reading.call_by k rest ≡ Some y → FitsCall y.0 × (Some (Name k) ∷ rest ≡ map Some (call_words y.0) ++ y.1)
-call_named name.Trace rest y e = absurd (none-some y e)
-call_named name.Queue rest y e = absurd (none-some y e)
-call_named name.Main rest y e = absurd (none-some y e)
-call_named name.Side rest y e = absurd (none-some y e)
-call_named name.Lockstep rest y e = absurd (none-some y e)
-call_named name.Free rest y e = absurd (none-some y e)
-call_named name.End rest y e = absurd (none-some y e)
-call_named name.Post rest y e =
+post_behind : Behind call_words FitsCall reading.call_by name.Post
+post_behind rest y e =
     let p = parted (reading.post rest) _ y e in
     let t = post_taken rest p.0 p.1 in
     let same = same_Some (call_of.Post p.0.0, p.0.1) y p.2 in
     (subst FitsCall (ap (λ z. z.0) same) t.0, ap (λ r. Some (Name name.Post) ∷ r) t.1 ∙ ap (λ z. map Some (call_words z.0) ++ z.1) same)
-call_named name.Barrier rest y e =
-    let p = numbered_taken call_of.Barrier rest y e in
-    (subst FitsCall p.2 p.1, ap (λ r. Some (Name name.Barrier) ∷ r) p.3 ∙ ap (λ c. map Some (call_words c) ++ y.1) p.2)
-call_named name.Unbarrier rest y e =
-    let p = numbered_taken call_of.Unbarrier rest y e in
-    (subst FitsCall p.2 p.1, ap (λ r. Some (Name name.Unbarrier) ∷ r) p.3 ∙ ap (λ c. map Some (call_words c) ++ y.1) p.2)
-call_named name.Remove rest y e =
+
+remove_behind : Behind call_words FitsCall reading.call_by name.Remove
+remove_behind rest y e =
     let p = parted (reading.filter rest) _ y e in
     let t = filter_taken rest p.0 p.1 in
     let same = same_Some (call_of.Remove p.0.0, p.0.1) y p.2 in
     (subst FitsCall (ap (λ z. z.0) same) t.0, ap (λ r. Some (Name name.Remove) ∷ r) t.1 ∙ ap (λ z. map Some (call_words z.0) ++ z.1) same)
-call_named name.What rest y e = absurd (none-some y e)
-call_named name.Callback rest y e = absurd (none-some y e)
-call_named name.All rest y e = absurd (none-some y e)
-call_named name.Quit rest y e =
-    quit_taken rest y e
-call_named name.Plain rest y e = absurd (none-some y e)
-call_named name.Safe rest y e = absurd (none-some y e)
-call_named name.Next rest y e =
-    let p = numbered_taken call_of.Next rest y e in
-    (subst FitsCall p.2 p.1, ap (λ r. Some (Name name.Next) ∷ r) p.3 ∙ ap (λ c. map Some (call_words c) ++ y.1) p.2)
-call_named name.Advance rest y e =
-    let p = numbered_taken call_of.Advance rest y e in
-    (subst FitsCall p.2 p.1, ap (λ r. Some (Name name.Advance) ∷ r) p.3 ∙ ap (λ c. map Some (call_words c) ++ y.1) p.2)
-call_named name.Halt rest y e =
-    let p = numbered_taken call_of.Halt rest y e in
-    (subst FitsCall p.2 p.1, ap (λ r. Some (Name name.Halt) ∷ r) p.3 ∙ ap (λ c. map Some (call_words c) ++ y.1) p.2)
-call_named name.Asynchronous rest y e = absurd (none-some y e)
-call_named name.Synchronous rest y e = absurd (none-some y e)
-call_named name.Accepted rest y e = absurd (none-some y e)
-call_named name.Refused rest y e = absurd (none-some y e)
-call_named name.Token rest y e = absurd (none-some y e)
-call_named name.Unbarriered rest y e = absurd (none-some y e)
-call_named name.NotPosted rest y e = absurd (none-some y e)
-call_named name.Removed rest y e = absurd (none-some y e)
-call_named name.QuitDone rest y e = absurd (none-some y e)
-call_named name.AlreadyQuit rest y e = absurd (none-some y e)
-call_named name.NotAllowed rest y e = absurd (none-some y e)
-call_named name.Dispatched rest y e = absurd (none-some y e)
-call_named name.Disposed rest y e = absurd (none-some y e)
-call_named name.Advanced rest y e = absurd (none-some y e)
-call_named name.Halted rest y e = absurd (none-some y e)
+
+call_named : (k : Keyword) (rest : Rest) (y : Call × Rest) → reading.call_by k rest ≡ Some y → FitsCall y.0 × (Some (Name k) ∷ rest ≡ map Some (call_words y.0) ++ y.1)
+call_named k rest y e =
+    of_these (λ j. reading.call_by j rest) (name.Post ∷ name.Barrier ∷ name.Unbarrier ∷ name.Remove ∷ name.Quit ∷ name.Next ∷ name.Advance ∷ name.Halt ∷ []) (Behind call_words FitsCall reading.call_by) refl (
+      post_behind,
+      (
+        with_number call_words FitsCall name.Barrier call_of.Barrier (λ n. refl) (λ n h. h),
+        (
+          with_number call_words FitsCall name.Unbarrier call_of.Unbarrier (λ n. refl) (λ n h. h),
+          (
+            remove_behind,
+            (
+              quit_taken,
+              (
+                with_number call_words FitsCall name.Next call_of.Next (λ n. refl) (λ n h. h),
+                (
+                  with_number call_words FitsCall name.Advance call_of.Advance (λ n. refl) (λ n h. h),
+                  (with_number call_words FitsCall name.Halt call_of.Halt (λ n. refl) (λ n h. h), tt),
+                ),
+              ),
+            ),
+          ),
+        ),
+      ),
+    ) k y e rest y e
 
 reply_named : (k : Keyword) (rest : Rest) (y : Reply × Rest) → reading.reply_by k rest ≡ Some y → FitsReply y.0 × (Some (Name k) ∷ rest ≡ map Some (reply_words y.0) ++ y.1)
-reply_named name.Trace rest y e = absurd (none-some y e)
-reply_named name.Queue rest y e = absurd (none-some y e)
-reply_named name.Main rest y e = absurd (none-some y e)
-reply_named name.Side rest y e = absurd (none-some y e)
-reply_named name.Lockstep rest y e = absurd (none-some y e)
-reply_named name.Free rest y e = absurd (none-some y e)
-reply_named name.End rest y e = absurd (none-some y e)
-reply_named name.Post rest y e = absurd (none-some y e)
-reply_named name.Barrier rest y e = absurd (none-some y e)
-reply_named name.Unbarrier rest y e = absurd (none-some y e)
-reply_named name.Remove rest y e = absurd (none-some y e)
-reply_named name.What rest y e = absurd (none-some y e)
-reply_named name.Callback rest y e = absurd (none-some y e)
-reply_named name.All rest y e = absurd (none-some y e)
-reply_named name.Quit rest y e = absurd (none-some y e)
-reply_named name.Plain rest y e = absurd (none-some y e)
-reply_named name.Safe rest y e = absurd (none-some y e)
-reply_named name.Next rest y e = absurd (none-some y e)
-reply_named name.Advance rest y e = absurd (none-some y e)
-reply_named name.Halt rest y e = absurd (none-some y e)
-reply_named name.Asynchronous rest y e = absurd (none-some y e)
-reply_named name.Synchronous rest y e = absurd (none-some y e)
-reply_named name.Accepted rest y e =
-    let p = numbered_taken reply_of.Accepted rest y e in
-    (subst FitsReply p.2 p.1, ap (λ r. Some (Name name.Accepted) ∷ r) p.3 ∙ ap (λ c. map Some (reply_words c) ++ y.1) p.2)
-reply_named name.Refused rest y e =
-    let p = numbered_taken reply_of.Refused rest y e in
-    (subst FitsReply p.2 p.1, ap (λ r. Some (Name name.Refused) ∷ r) p.3 ∙ ap (λ c. map Some (reply_words c) ++ y.1) p.2)
-reply_named name.Token rest y e =
-    let p = numbered_taken reply_of.Token rest y e in
-    (subst FitsReply p.2 p.1, ap (λ r. Some (Name name.Token) ∷ r) p.3 ∙ ap (λ c. map Some (reply_words c) ++ y.1) p.2)
-reply_named name.Unbarriered rest y e =
-    subst (λ (z : Reply × Rest). FitsReply z.0 × (Some (Name name.Unbarriered) ∷ rest ≡ map Some (reply_words z.0) ++ z.1)) (same_Some (reply_of.Unbarriered, rest) y e) (tt, refl)
-reply_named name.NotPosted rest y e =
-    subst (λ (z : Reply × Rest). FitsReply z.0 × (Some (Name name.NotPosted) ∷ rest ≡ map Some (reply_words z.0) ++ z.1)) (same_Some (reply_of.NotPosted, rest) y e) (tt, refl)
-reply_named name.Removed rest y e =
-    let p = numbered_taken reply_of.Removed rest y e in
-    (subst FitsReply p.2 p.1, ap (λ r. Some (Name name.Removed) ∷ r) p.3 ∙ ap (λ c. map Some (reply_words c) ++ y.1) p.2)
-reply_named name.QuitDone rest y e =
-    subst (λ (z : Reply × Rest). FitsReply z.0 × (Some (Name name.QuitDone) ∷ rest ≡ map Some (reply_words z.0) ++ z.1)) (same_Some (reply_of.QuitDone, rest) y e) (tt, refl)
-reply_named name.AlreadyQuit rest y e =
-    let p = numbered_taken reply_of.AlreadyQuit rest y e in
-    (subst FitsReply p.2 p.1, ap (λ r. Some (Name name.AlreadyQuit) ∷ r) p.3 ∙ ap (λ c. map Some (reply_words c) ++ y.1) p.2)
-reply_named name.NotAllowed rest y e =
-    subst (λ (z : Reply × Rest). FitsReply z.0 × (Some (Name name.NotAllowed) ∷ rest ≡ map Some (reply_words z.0) ++ z.1)) (same_Some (reply_of.NotAllowed, rest) y e) (tt, refl)
-reply_named name.Dispatched rest y e =
-    let p = numbered_taken reply_of.Dispatched rest y e in
-    (subst FitsReply p.2 p.1, ap (λ r. Some (Name name.Dispatched) ∷ r) p.3 ∙ ap (λ c. map Some (reply_words c) ++ y.1) p.2)
-reply_named name.Disposed rest y e =
-    subst (λ (z : Reply × Rest). FitsReply z.0 × (Some (Name name.Disposed) ∷ rest ≡ map Some (reply_words z.0) ++ z.1)) (same_Some (reply_of.Disposed, rest) y e) (tt, refl)
-reply_named name.Advanced rest y e =
-    subst (λ (z : Reply × Rest). FitsReply z.0 × (Some (Name name.Advanced) ∷ rest ≡ map Some (reply_words z.0) ++ z.1)) (same_Some (reply_of.Advanced, rest) y e) (tt, refl)
-reply_named name.Halted rest y e =
-    subst (λ (z : Reply × Rest). FitsReply z.0 × (Some (Name name.Halted) ∷ rest ≡ map Some (reply_words z.0) ++ z.1)) (same_Some (reply_of.Halted, rest) y e) (tt, refl)
+reply_named k rest y e =
+    of_these (λ j. reading.reply_by j rest)
+    (name.Accepted ∷ name.Refused ∷ name.Token ∷ name.Unbarriered ∷ name.NotPosted ∷ name.Removed ∷ name.QuitDone ∷ name.AlreadyQuit ∷ name.NotAllowed ∷ name.Dispatched ∷ name.Disposed ∷ name.Advanced ∷ name.Halted ∷ []) (Behind reply_words FitsReply reading.reply_by) refl (
+      with_number reply_words FitsReply name.Accepted reply_of.Accepted (λ n. refl) (λ n h. h),
+      (
+        with_number reply_words FitsReply name.Refused reply_of.Refused (λ n. refl) (λ n h. h),
+        (
+          with_number reply_words FitsReply name.Token reply_of.Token (λ n. refl) (λ n h. h),
+          (
+            alone reply_words FitsReply name.Unbarriered reply_of.Unbarriered refl tt,
+            (
+              alone reply_words FitsReply name.NotPosted reply_of.NotPosted refl tt,
+              (
+                with_number reply_words FitsReply name.Removed reply_of.Removed (λ n. refl) (λ n h. h),
+                (
+                  alone reply_words FitsReply name.QuitDone reply_of.QuitDone refl tt,
+                  (
+                    with_number reply_words FitsReply name.AlreadyQuit reply_of.AlreadyQuit (λ n. refl) (λ n h. h),
+                    (
+                      alone reply_words FitsReply name.NotAllowed reply_of.NotAllowed refl tt,
+                      (
+                        with_number reply_words FitsReply name.Dispatched reply_of.Dispatched (λ n. refl) (λ n h. h),
+                        (
+                          alone reply_words FitsReply name.Disposed reply_of.Disposed refl tt,
+                          (
+                            alone reply_words FitsReply name.Advanced reply_of.Advanced refl tt,
+                            (alone reply_words FitsReply name.Halted reply_of.Halted refl tt, tt),
+                          ),
+                        ),
+                      ),
+                    ),
+                  ),
+                ),
+              ),
+            ),
+          ),
+        ),
+      ),
+    ) k y e rest y e
 
 call_taken : (ws : Rest) (y : Call × Rest) → reading.call ws ≡ Some y → Spells call_words FitsCall ws y
 unfolding reading.call
@@ -606,42 +436,16 @@ queue_taken rest y e =
     let p = parted (reading.head rest) _ y e in
     subst (LineTaken (Some (Name name.Queue) ∷ rest)) (same_Some (Queue p.0.0, p.0.1) y p.2) (head_taken rest p.0 p.1)
 
+-- the rest of a line behind its first fixed word
+abbrev IsRestTaken : Keyword → Type 0
+IsRestTaken k = (rest : Rest) (y : Line × Rest) → reading.named_by k rest ≡ Some y → LineTaken (Some (Name k) ∷ rest) y
+
+end_taken : IsRestTaken name.End
+end_taken rest y e = subst (LineTaken (Some (Name name.End) ∷ rest)) (same_Some (End, rest) y e) (tt, refl)
+
 named_taken : (k : Keyword) (rest : Rest) (y : Line × Rest) → reading.named_by k rest ≡ Some y → LineTaken (Some (Name k) ∷ rest) y
-named_taken name.Trace rest y e = title_taken rest y e
-named_taken name.Queue rest y e = queue_taken rest y e
-named_taken name.Main rest y e = absurd (none-some y e)
-named_taken name.Side rest y e = absurd (none-some y e)
-named_taken name.Lockstep rest y e = absurd (none-some y e)
-named_taken name.Free rest y e = absurd (none-some y e)
-named_taken name.End rest y e = subst (LineTaken (Some (Name name.End) ∷ rest)) (same_Some (End, rest) y e) (tt, refl)
-named_taken name.Post rest y e = absurd (none-some y e)
-named_taken name.Barrier rest y e = absurd (none-some y e)
-named_taken name.Unbarrier rest y e = absurd (none-some y e)
-named_taken name.Remove rest y e = absurd (none-some y e)
-named_taken name.What rest y e = absurd (none-some y e)
-named_taken name.Callback rest y e = absurd (none-some y e)
-named_taken name.All rest y e = absurd (none-some y e)
-named_taken name.Quit rest y e = absurd (none-some y e)
-named_taken name.Plain rest y e = absurd (none-some y e)
-named_taken name.Safe rest y e = absurd (none-some y e)
-named_taken name.Next rest y e = absurd (none-some y e)
-named_taken name.Advance rest y e = absurd (none-some y e)
-named_taken name.Halt rest y e = absurd (none-some y e)
-named_taken name.Asynchronous rest y e = absurd (none-some y e)
-named_taken name.Synchronous rest y e = absurd (none-some y e)
-named_taken name.Accepted rest y e = absurd (none-some y e)
-named_taken name.Refused rest y e = absurd (none-some y e)
-named_taken name.Token rest y e = absurd (none-some y e)
-named_taken name.Unbarriered rest y e = absurd (none-some y e)
-named_taken name.NotPosted rest y e = absurd (none-some y e)
-named_taken name.Removed rest y e = absurd (none-some y e)
-named_taken name.QuitDone rest y e = absurd (none-some y e)
-named_taken name.AlreadyQuit rest y e = absurd (none-some y e)
-named_taken name.NotAllowed rest y e = absurd (none-some y e)
-named_taken name.Dispatched rest y e = absurd (none-some y e)
-named_taken name.Disposed rest y e = absurd (none-some y e)
-named_taken name.Advanced rest y e = absurd (none-some y e)
-named_taken name.Halted rest y e = absurd (none-some y e)
+named_taken k rest y e =
+    of_these (λ j. reading.named_by j rest) (name.Trace ∷ name.Queue ∷ name.End ∷ []) IsRestTaken refl (title_taken, (queue_taken, (end_taken, tt))) k y e rest y e
 
 any_taken : (ws : Rest) (y : Line × Rest) (o : Option (Keyword × Rest)) → reading.name ws ≡ o → line_by ws o ≡ Some y → LineTaken ws y
 any_taken ws y (Some p) is e =
