@@ -7,8 +7,9 @@ and each run has the next one.
 
 The racing examples must write one of their lawful reports. Random scripts are judged by what holds of every schedule: times
 never fall in a looper's lines, no message is dispatched twice, the fates add up, every post of a line is accepted or refused,
-each thread's posts to one handler without delay come in its order, and what `trace` writes is legal. The last line tells how
-many scripts and runs there were, how many different reports were seen, and how many faults.
+each thread's posts to one handler without delay come in its order (but for those at time 0, which go to the front), and what
+`trace` writes is legal. The last line tells how many scripts and runs there were, how many different reports were seen, and how
+many faults.
 """
 import argparse
 import collections
@@ -24,7 +25,7 @@ HERE = pathlib.Path(__file__).resolve().parent
 
 def script(seed):
     """A random script of one to four loopers and two to four threads, in which the threads of each block race, and how many posts it has.
-    A post without delay of thread p has a `what` of its own, 1000 * (p + 1) and up."""
+    Half of the posts without delay behind time 0, where they go to the front, have a `what` of their own: 1000 * (p + 1) and up for thread p."""
     dice = random.Random(seed)
     loopers, threads, handlers = dice.randint(1, 4), dice.randint(2, 4), dice.randint(1, 6)
     lines = ["dashboard 1", f"loopers {loopers}", f"threads {threads}"]
@@ -37,7 +38,7 @@ def script(seed):
         for _ in range(dice.randint(1, 12)):
             thread, handler = dice.randrange(threads), dice.randrange(handlers)
             kind = dice.randrange(12)
-            if kind < 3:
+            if kind < 3 and time > 0:
                 made[thread] += 1
                 lines.append(f"{thread} post {handler} {1000 * (thread + 1) + made[thread]} 0")
                 posts += 1

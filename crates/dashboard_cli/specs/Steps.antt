@@ -8,8 +8,6 @@ use Rattle.dashboard_cli.specs.Works.{Input}
 use Rattle.dashboard_cli.specs.declared.status.Status.{Status}
 use Rattle.dashboard_cli.specs.declared.status.Status.TheVariants.{Script, ReadFault, NoMemory, TooLong, Trace}
 use Rattle.dashboard_cli.specs.Answers.{IsRefused, ReadsPast, IsTooLong, ReadsWithin, IsWithin}
-use Rattle.run_model.specs.Text.{text}
-use Rattle.dashboard_cli.specs.declared.status.Cause.TheVariants as cause
 
 -- why a command stopped before its text was made
 abbrev pub Stops : Input → Known → Known → Status → Type 0
