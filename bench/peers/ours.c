@@ -5,12 +5,12 @@
 static mq_queue queue = MQ_CLOSED;
 
 #ifdef FORGET
-static uint64_t live, since;
+static uint64_t since;
 
 /* One call was made. */
 static void made(void)
 {
-    if (++since >= FORGET && since >= 8 * live) {
+    if (++since % FORGET == 0 && since >= 8 * mq_live(&queue)) {
         since = 0;
         if (!mq_forget(&queue)) {
             exit(6);
@@ -28,7 +28,6 @@ static mq_answer post(const mq_message *message)
 {
     mq_answer answer = mq_post(&queue, message);
 #ifdef FORGET
-    live++;
     made();
 #endif
     return answer;
@@ -42,7 +41,6 @@ static mq_look next(uint64_t now)
 static void taken(void)
 {
 #ifdef FORGET
-    live--;
     made();
 #endif
 }

@@ -2,11 +2,15 @@
 # Builds the examples over the static library and runs them: those in C with each compiler that is there, plainly and under the
 # address and the thread sanitizer, the one in Rust with rustc. What isn't there is skipped with a line.
 # The library is made by rt lib where it isn't there or is older than the sources: that checks message_queue_c once more, and
-# nothing below it.
+# below it what changed.
 set -eu
 here=$(cd "$(dirname "$0")" && pwd)
 crate=$(cd "$here/../../crates/message_queue_c" && pwd)
 library=$crate/out/libmessage_queue_c.a
+sources=()
+for name in loop_model message_slot message_list when_queue queue_state message_queue_c; do
+    sources+=("$crate/../$name/src")
+done
 out=$(mktemp -d)
 trap 'rm -rf "$out"' EXIT
 
@@ -26,7 +30,7 @@ if [ "${#compilers[@]}" = 0 ]; then
     told "skipped, there is no C compiler"
     exit 0
 fi
-if [ ! -f "$library" ] || [ -n "$(find "$crate/src" "$crate/../../crates.txt" -newer "$library" -print -quit)" ]; then
+if [ ! -f "$library" ] || [ -n "$(find "${sources[@]}" "$crate/../../crates.txt" -newer "$library" -print -quit)" ]; then
     if ! command -v rt >/dev/null; then
         told "skipped, there is no rt to make $library"
         exit 0

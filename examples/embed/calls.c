@@ -19,7 +19,7 @@ static int closed_calls(void)
     if (mq_barrier(&queue, 1).kind != MQ_NOT_OPEN || mq_remove_barrier(&queue, 0).kind != MQ_NOT_OPEN) return 42;
     if (mq_remove(&queue, &filter).kind != MQ_NOT_OPEN || mq_has(&queue, &filter)) return 43;
     if (mq_next(&queue, 1, false).kind != MQ_NOT_OPEN || mq_quit(&queue, false, 1).kind != MQ_NOT_OPEN) return 44;
-    if (mq_forget(&queue) || mq_close(&queue).kind != MQ_NOT_OPEN) return 45;
+    if (mq_forget(&queue) || mq_close(&queue).kind != MQ_NOT_OPEN || mq_live(&queue) != 0) return 45;
     if (mq_next_dropped(&queue).kind != MQ_NOTHING_LEFT) return 46;
     return queue.live ? 47 : 0;
 }
@@ -42,11 +42,11 @@ static int closing(void)
     }
     if (mq_barrier(&queue, 9).kind != MQ_DONE) return 53;
     mq_filter filter = {.handler = 7, .by_what = true, .what = 2};
-    if (mq_remove(&queue, &filter).number != 1) return 54;
+    if (mq_live(&queue) != 5 || mq_remove(&queue, &filter).number != 1 || mq_live(&queue) != 4) return 54;
     mq_answer answer = mq_close(&queue);
     if (answer.kind != MQ_DONE || answer.number != 5) return 55;
     mq_message m = message(4, 10);
-    if (mq_post(&queue, &m).kind != MQ_NOT_OPEN || mq_open(&queue)) return 56;
+    if (mq_post(&queue, &m).kind != MQ_NOT_OPEN || mq_open(&queue) || mq_live(&queue) != 0) return 56;
     if (!dropped(&queue, 2, 2)) return 57;
     mq_look look = mq_next_dropped(&queue);
     if (look.kind != MQ_BARRIER || look.number != 0 || look.time != 9) return 58;
@@ -134,7 +134,7 @@ int main(void)
     if (look.kind != MQ_END || look.number != 1 || look.message.handler != 0) return 26;
     look = mq_next_dropped(&queue);
     if (look.kind != MQ_BARRIER || look.number != 1 || look.time != 41) return 34;
-    if (mq_next(&queue, 42, false).kind != MQ_OVER) return 27;
+    if (mq_next(&queue, 42, false).kind != MQ_OVER || mq_live(&queue) != 0) return 27;
     if (mq_close(&queue).number != 0 || queue.live) return 28;
     if (!mq_open(&queue)) return 29;
     m = message(1, 1);

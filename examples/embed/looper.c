@@ -156,6 +156,7 @@ int main(void)
     wait_for_all_taken();
     /* One of the two messages that are never due is removed, the quit drops the other. */
     pthread_mutex_lock(&lock);
+    uint64_t live = mq_live(&queue);
     mq_filter first = {.handler = 0};
     mq_answer removed = mq_remove(&queue, &first);
     mq_answer quit = mq_quit(&queue, true, now());
@@ -169,6 +170,7 @@ int main(void)
     printf("taken %u and %u, removed %u, dropped %u, freed %u, left %u, a late post is refused: %s\n", counts[0], counts[1],
            (unsigned)removed.number, (unsigned)quit.number, freed, (unsigned)closed.number,
            refused.kind == MQ_REFUSED ? "yes" : "no");
-    bool right = counts[0] == POSTS && counts[1] == POSTS && removed.number == 1 && quit.number == 1 && freed == 2 && !queue.live;
+    bool right = counts[0] == POSTS && counts[1] == POSTS && live == 2 && removed.number == 1 && quit.number == 1 && freed == 2
+                 && !queue.live;
     return right ? 0 : 2;
 }

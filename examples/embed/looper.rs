@@ -65,6 +65,7 @@ mod c {
         pub fn mq_post(queue: *mut Handle, message: *const Message) -> Answer;
         pub fn mq_remove(queue: *mut Handle, filter: *const Filter) -> Answer;
         pub fn mq_has(queue: *mut Handle, filter: *const Filter) -> bool;
+        pub fn mq_live(queue: *mut Handle) -> u64;
         pub fn mq_next(queue: *mut Handle, now: u64, idle_owed: bool) -> Look;
         pub fn mq_quit(queue: *mut Handle, safe: bool, now: u64) -> Answer;
         pub fn mq_next_dropped(queue: *mut Handle) -> Look;
@@ -123,6 +124,11 @@ impl<T> Queue<T> {
 
     fn has(&mut self, handler: u32, what: u32) -> bool {
         unsafe { c::mq_has(&mut self.handle, &filter(handler, Some(what))) }
+    }
+
+    /// How many messages and barriers stand in it.
+    fn live(&mut self) -> u64 {
+        unsafe { c::mq_live(&mut self.handle) }
     }
 
     /// Removes the messages of a handler, and answers how many.
@@ -232,6 +238,7 @@ fn main() {
         }
         shared.wait_for_all_taken();
         let mut queue = shared.lock();
+        assert_eq!(queue.live(), 2);
         let removed = queue.remove(0);
         let (dropped, wake) = queue.quit(shared.now());
         if wake {

@@ -11,16 +11,17 @@
  *       Let go of the lock as the wait begins and in one step with it (a condition variable does), and call `mq_next` again
  *       afterwards. To be woken too often does no harm.
  *
- * TIMES are milliseconds of one clock that does not go back. A call that names an earlier moment than one before it uses the
- * later one.
+ * TIMES are milliseconds of one clock that does not go back. A call that names an earlier moment than that of a message that was
+ * taken, of a barrier, of a quit or of the end before it uses the latest of these.
  *
  * HANDLES. A handle is plain memory of the caller's: begin with MQ_CLOSED, never copy it or write its fields. It is open from
- * `mq_open` to `mq_close`. A call on a handle that is not open changes nothing and says so: it answers MQ_NOT_OPEN, or false
- * where it answers a bool. What the library can't see, the caller owes: all pointers are to one whole object each, which
- * nothing else reads or writes during the call, the flags of a struct are 0 or 1, and a handle is never made up.
+ * `mq_open` to `mq_close`. A call on a handle that is not open changes nothing and says so, but for `mq_open`, `mq_close` and
+ * `mq_next_dropped`: it answers MQ_NOT_OPEN, or false where it answers a bool, or 0 where it counts. What the library can't see,
+ * the caller owes: all pointers are to one whole object each, which nothing else reads or writes during the call, the flags of a
+ * struct are 0 or 1, and a handle is never made up.
  *
  * OBJECTS. `obj` and `callback` are numbers of the caller's, as a pointer's value. The queue keeps them, and frees nothing that
- * they may stand for. A message that `mq_next` answers is the caller's again. One that leaves the queue otherwise, by a removal,
+ * they may stand for. A message that `mq_next` answers is the caller's again. One that leaves the queue otherwise, by `mq_remove`,
  * a quit, the end or a close, is not lost: it waits, in the order in which it was dropped, until `mq_next_dropped` hands it out:
  *
  *     for (mq_look d = mq_next_dropped(&queue); d.kind != MQ_NOTHING_LEFT; d = mq_next_dropped(&queue))
@@ -28,8 +29,8 @@
  *             free((void *)(uintptr_t)d.message.obj);
  *
  * MEMORY comes from the three functions at the end of this file. Where a call answers MQ_NO_MEMORY all is as before it. `mq_next`,
- * `mq_next_dropped`, `mq_has`, `mq_close` and the first `mq_quit` take no memory: each post keeps the room that its later entries
- * need. The queue records its calls, about 200 bytes for a message that is posted and taken; `mq_forget` lets that go.
+ * `mq_next_dropped`, `mq_has`, `mq_live`, `mq_close` and the first `mq_quit` take no memory: each post keeps the room that its
+ * later entries need. The queue records its calls, about 200 bytes for a message that is posted and taken; `mq_forget` lets that go.
  *
  * Rules of order, barriers, quits and wakes are those of AOSP's android.os.MessageQueue; where a call follows one of its methods,
  * the method is named. The rest is this library's own.
@@ -82,9 +83,9 @@ typedef struct {
 enum {
     MQ_DONE = 0,
     MQ_NO_MEMORY = 1,    /* all is as before */
-    MQ_REFUSED = 2,      /* a post after a quit: `number` is the place of the quit among all recorded calls */
+    MQ_REFUSED = 2,      /* a post after a quit: `number` is the place of the quit among all recorded calls, from 0 */
     MQ_NOT_POSTED = 3,   /* no barrier has the token */
-    MQ_ALREADY_QUIT = 4, /* `number` is the place of the quit that was done */
+    MQ_ALREADY_QUIT = 4, /* `number` is the place of the quit that was done, counted as there */
     MQ_NOT_ALLOWED = 5,  /* the queue may not quit; no queue of `mq_open` answers it */
     MQ_NOT_OPEN = 6      /* the handle is not open; also a kind of a look */
 };
@@ -99,8 +100,8 @@ typedef struct {
 enum {
     MQ_TAKEN = 0,        /* `message` was taken out; `number` is that of its post */
     MQ_IDLE = 1,         /* nothing is due and the head is later or missing; only where an idle turn is owed */
-    MQ_WAIT = 2,         /* nothing is due until `time` */
-    MQ_WAIT_FOREVER = 3, /* nothing is due until something is posted or a barrier goes */
+    MQ_WAIT = 2,         /* nothing is due until `time`, but for what comes as the next line says */
+    MQ_WAIT_FOREVER = 3, /* nothing is due until something is posted, a barrier goes or it quits */
     MQ_END = 4,          /* it has quit and nothing is due: the `number` messages and barriers that were left are dropped */
     MQ_OVER = 5,         /* MQ_END was answered before */
     MQ_BARRIER = 7,      /* a barrier was dropped: `number` is its token, `time` its moment */
@@ -136,7 +137,8 @@ mq_answer mq_post_at_front(mq_queue *queue, const mq_message *message);
  * due. It never wakes. MQ_DONE: `number` is its token, counted from 0. MQ_NO_MEMORY, MQ_NOT_OPEN. */
 mq_answer mq_barrier(mq_queue *queue, uint64_t now);
 
-/* Removes the barrier of the token (removeSyncBarrier). MQ_DONE, MQ_NOT_POSTED, MQ_NO_MEMORY, MQ_NOT_OPEN. */
+/* Removes the first barrier of the token, which is not handed out (removeSyncBarrier). MQ_DONE, MQ_NOT_POSTED, MQ_NO_MEMORY,
+ * MQ_NOT_OPEN. */
 mq_answer mq_remove_barrier(mq_queue *queue, uint64_t token);
 
 /* Removes the messages that the filter names (removeMessages and its kin). MQ_DONE: `number` is how many; they wait to be handed
@@ -146,13 +148,17 @@ mq_answer mq_remove(mq_queue *queue, const mq_filter *filter);
 /* Whether the filter names a message that stands in the queue (hasMessages). Nothing changes. False where no queue is open. */
 bool mq_has(mq_queue *queue, const mq_filter *filter);
 
+/* How many messages and barriers stand in the queue. Nothing changes. 0 where no queue is open. */
+uint64_t mq_live(mq_queue *queue);
+
 /* Looks for the first message that is due at the moment `now` and that no barrier holds back, and takes it out (next).
  * `idle_owed` says whether the caller still has idle work for this wait. At MQ_END what was left waits to be handed out.
- * MQ_TAKEN, else MQ_END or MQ_OVER where it has quit, else MQ_IDLE, else MQ_WAIT or MQ_WAIT_FOREVER; MQ_NOT_OPEN. */
+ * MQ_OVER where MQ_END was answered before, else MQ_TAKEN, else MQ_END where it has quit, else MQ_IDLE where an idle turn is owed
+ * and the head is later or missing, else MQ_WAIT or MQ_WAIT_FOREVER; MQ_NOT_OPEN. */
 mq_look mq_next(mq_queue *queue, uint64_t now, bool idle_owed);
 
 /* Quits (quit): drops every message and barrier, or safely only those that are due later than `now`, and refuses posts from then
- * on. MQ_DONE: `number` is how many were dropped; they wait to be handed out. MQ_ALREADY_QUIT, MQ_NOT_OPEN. MQ_NO_MEMORY only
+ * on. MQ_DONE wakes: `number` is how many were dropped; they wait to be handed out. MQ_ALREADY_QUIT, MQ_NOT_OPEN. MQ_NO_MEMORY only
  * where it quit before. */
 mq_answer mq_quit(mq_queue *queue, bool safe, uint64_t now);
 

@@ -1,5 +1,5 @@
 // What a handle that is not empty keeps: a queue, and the messages that its calls have dropped.
-ghost use Rattle.std.specs.Prelude.{◌≡◌, true, false, Some, MatchOption, if◌then◌else◌};
+ghost use Rattle.std.specs.Prelude.{◌≡◌, true, false, Some, MatchOption, if◌then◌else◌, length};
 ghost use Rattle.queue_state.specs.Queue.{has_match, sealed};
 ghost use Rattle.message_queue_c.specs.Contents.{Does, Keeps, Closes, Pops, nothing_in, holds_nothing};
 ghost use Rattle.message_queue_c.specs.Messages.{filter_by};
@@ -104,6 +104,16 @@ impl Kept {
         match &self.queue {
             Some(queue) => calls::has(queue, filter),
             None => false,
+        }
+    }
+
+    /// How many messages and barriers stand in the queue.
+    pub(crate) fn live(&self) -> u64
+        ensures { MatchOption self.now.queue (result ≡ 0) (λ x. result ≡ length x.messages) }
+    {
+        match &self.queue {
+            Some(queue) => queue.len() as u64,
+            None => 0,
         }
     }
 

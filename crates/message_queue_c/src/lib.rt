@@ -1,7 +1,7 @@
 //! A message queue for C, under the caller's own lock and with the caller's own wait: `message_queue.h` says how each call is made.
 #![tactic(auto)]
 
-ghost use Rattle.std.specs.Prelude.{◌≡◌, true, false, MatchOption, if◌then◌else◌};
+ghost use Rattle.std.specs.Prelude.{◌≡◌, true, false, MatchOption, if◌then◌else◌, length};
 ghost use Rattle.queue_state.specs.Queue.{has_match, sealed};
 ghost use Rattle.message_queue_c.specs.Handed.{inside, IsFreed};
 ghost use Rattle.message_queue_c.specs.Contents.{Does, Keeps, Closes, Pops, just_opened, nothing_in};
@@ -140,6 +140,20 @@ pub extern "C" fn mq_has(queue: &mut MqQueue, filter: &MqFilter) -> bool
         return false;
     };
     let answer = kept.get_mut().has(filter);
+    queue.put(kept);
+    answer
+}
+
+/// How many messages and barriers stand in the queue. 0 where no queue is open.
+#[unsafe(no_mangle)]
+pub extern "C" fn mq_live(queue: &mut MqQueue) -> u64
+    ensures counted { MatchOption (inside queue.old).queue (result ≡ 0) (λ x. result ≡ length x.messages) }
+    ensures same { inside queue.new ≡ inside queue.old }
+{
+    let Some(mut kept) = queue.take() else {
+        return 0;
+    };
+    let answer = kept.get_mut().live();
     queue.put(kept);
     answer
 }
