@@ -17,3 +17,10 @@ pub mod PlaySteps
 pub mod ViewSteps
 pub mod RuleSteps
 pub mod RuleText
+pub mod OpenTimes
+pub mod LooperByClock
+pub mod LooperLoops
+pub mod LooperClock
+pub mod LooperMoments
+pub mod LooperNext
+pub mod LooperLeft

@@ -50,13 +50,13 @@ none_by_others k (e ∷ more) others =
     keeps_first k e more (λ own. absurd (parts.0 (eqb-true e.sender k own))) (none_by_others k more parts.1)
 
 -- the same sender has seen more, and disposed of nothing by what it called
-record Calls (a b : Sender) : Type 0 where
-  more : List Entry
-  seen : b.view.seen ≡ a.view.seen ++ more
-  sender : b.sender ≡ a.sender
-  none : calls_among (entries_by a.sender more) ≡ entries_by a.sender more
+pub record Calls (a b : Sender) : Type 0 where
+  pub more : List Entry
+  pub seen : b.view.seen ≡ a.view.seen ++ more
+  pub sender : b.sender ≡ a.sender
+  pub none : calls_among (entries_by a.sender more) ≡ entries_by a.sender more
 
-calls_none : (a b : Sender) → b ≡ a → Calls a b
+pub calls_none : (a b : Sender) → b ≡ a → Calls a b
 calls_none a b same = record { more = []; seen = ap (λ (p : Sender). p.view.seen) same ∙ sym (append-nil a.view.seen); sender = ap (λ (p : Sender). p.sender) same; none = refl }
 
 -- two parts of entries that dispose of nothing
@@ -64,7 +64,7 @@ none_both : (k : ℕ) (xs ys : List Entry) → calls_among (entries_by k xs) ≡
 none_both k xs ys f g =
     ap calls_among (entries_by-append k xs ys) ∙ (calls_among-append (entries_by k xs) (entries_by k ys) ∙ ((λ i. f i ++ g i) ∙ sym (entries_by-append k xs ys)))
 
-calls_then : (a b c : Sender) → Calls a b → Calls b c → Calls a c
+pub calls_then : (a b c : Sender) → Calls a b → Calls b c → Calls a c
 calls_then a b c f g = record {
   more = f.more ++ g.more;
   seen = g.seen ∙ (ap (λ l. l ++ g.more) f.seen ∙ append_assoc a.view.seen f.more g.more);
@@ -73,7 +73,7 @@ calls_then a b c f g = record {
 }
 
 -- what a dispatcher does
-calls_lent : (a b : Holding) → IsLent a b → Calls a.poster b.poster
+pub calls_lent : (a b : Holding) → IsLent a b → Calls a.poster b.poster
 calls_lent a b lent = record { more = lent.more; seen = lent.seen; sender = lent.same.sender; none = none_by_calls a.poster.sender lent.more lent.no_looks }
 
 -- a turn that leaves this behind what it found
@@ -87,11 +87,11 @@ calls_turn p q x y tail turn left free =
     }
 
 -- a turn that leaves what it found
-calls_still : (p q : Sender) (x y : State) → IsTurn p q x y → y.entries ≡ x.entries → Calls p q
+pub calls_still : (p q : Sender) (x y : State) → IsTurn p q x y → y.entries ≡ x.entries → Calls p q
 calls_still p q x y turn same = calls_turn p q x y [] turn (same ∙ sym (append-nil x.entries)) refl
 
 -- a look that took a message
-calls_taken : (now : ℕ) (a b : Looping) → HasDispatched now a b → Calls a.held.poster b.held.poster
+pub calls_taken : (now : ℕ) (a b : Looping) → HasDispatched now a b → Calls a.held.poster b.held.poster
 calls_taken now a b h =
     let look = h.look in
     let p = a.held.poster in
@@ -102,7 +102,7 @@ calls_taken now a b h =
     (calls_turn p h.looked look.0 look.1 _ look.2 (ap (λ (s : State). s.entries) look.3.3) (keeps_first p.sender _ [] (λ own. refl) refl))
     (calls_then h.looked h.done.1.left.poster b.held.poster (calls_lent _ h.done.1.left lent) (calls_none h.done.1.left.poster b.held.poster (back ∙ told)))
 
-calls_idle : (now : ℕ) (a b : Looping) → HasIdled now a b → Calls a.held.poster b.held.poster
+pub calls_idle : (now : ℕ) (a b : Looping) → HasIdled now a b → Calls a.held.poster b.held.poster
 calls_idle now a b h = let look = h.look in calls_still a.held.poster b.held.poster look.0 look.1 look.2 (ap (λ (s : State). s.entries) look.3.3)
 
 -- all looks of a round but the last
@@ -115,13 +115,13 @@ calls_begun : (a b : Looping) → IsBegun any_heard a b → Calls a.held.poster 
 calls_begun a b h = calls_then a.held.poster h.left.poster b.held.poster (calls_lent a.held h.left h.lent) (calls_none h.left.poster b.held.poster h.poster)
 
 -- all of the sender's own entries, where none disposed before
-none_now : (k : ℕ) (a b : Sender) → Calls a b → a.sender ≡ k → calls_among (entries_by k a.view.seen) ≡ entries_by k a.view.seen → calls_among (entries_by k b.view.seen) ≡ entries_by k b.view.seen
+pub none_now : (k : ℕ) (a b : Sender) → Calls a b → a.sender ≡ k → calls_among (entries_by k a.view.seen) ≡ entries_by k a.view.seen → calls_among (entries_by k b.view.seen) ≡ entries_by k b.view.seen
 none_now k a b f own before =
     subst (λ (l : List Entry). calls_among (entries_by k l) ≡ entries_by k l) (sym f.seen)
     (none_both k a.view.seen f.more before (subst (λ (n : ℕ). calls_among (entries_by n f.more) ≡ entries_by n f.more) own f.none))
 
 -- the last look ended the queue, or found it over
-disposes_last : (k now : ℕ) (a b : Looping) → HasEnded now a b → a.held.poster.sender ≡ k → calls_among (entries_by k a.held.poster.view.seen) ≡ entries_by k a.held.poster.view.seen → DisposesLast (entries_by k b.held.poster.view.seen)
+pub disposes_last : (k now : ℕ) (a b : Looping) → HasEnded now a b → a.held.poster.sender ≡ k → calls_among (entries_by k a.held.poster.view.seen) ≡ entries_by k a.held.poster.view.seen → DisposesLast (entries_by k b.held.poster.view.seen)
 disposes_last k now a b h own before = by_look h.look
   where
     by_look : EndsBy now a b → DisposesLast (entries_by k b.held.poster.view.seen)
@@ -144,7 +144,7 @@ disposes_last k now a b h own before = by_look h.look
         inl (none_now k a.held.poster b.held.poster (calls_still a.held.poster b.held.poster look.0 look.1 look.2 (ap (λ (s : State). s.entries) look.3.1)) own before))
 
 -- before a round
-open_before : (r : Round) (es : List Entry) → is_ended r ≡ false → is_given_up r ≡ false → DisposesAtEnd r es → calls_among es ≡ es
+pub open_before : (r : Round) (es : List Entry) → is_ended r ≡ false → is_given_up r ≡ false → DisposesAtEnd r es → calls_among es ≡ es
 open_before (Drained dispatched until) es e g h = h
 open_before (Ended dispatched) es e g h = absurd cc
 open_before NoMemory es e g h = absurd cc

@@ -112,13 +112,13 @@ parts_left s hall now began l o parts parts' is_hall is e origin serves =
     (subst (λ (x : Owner). ServesAt x.script x.hall x.number parts' w) origin (serves w first)).are_parts
 
 -- what a round leaves is still the looper
-pub looper_then : (s : Script) (hall : Hall) (now : ℕ) (began l : StageLooper) (q : Shared TableId) (o : Owner) (parts parts' : Parts) (after : Looping) (last : Round) → IsHall s hall → IsLooper s hall l
+pub looper_then : (s : Script) (hall : Hall) (now moment : ℕ) (began l : StageLooper) (q : Shared TableId) (o : Owner) (parts parts' : Parts) (after : Looping) (last : Round) → IsHall s hall → IsLooper s hall l
     → l.parts ≡ Some parts → slice_get hall.queues.items l.number ≡ Some q
-    → o ≡ record { script = s; hall = hall; number = l.number; now = now; began = began }
+    → o ≡ record { script = s; hall = hall; number = l.number; now = moment; began = began }
     → ((w : Workplace) → ServesAt s hall l.number parts w → ServesAt o.script o.hall o.number parts' w)
     → IsSameLooper l.looper.held after.held → after.ended ≡ is_ended last → RoundBy q.constants.setting now l.looper.held after.held last → IsRound any_heard now l.looper after last → is_ended l.last ≡ false → is_given_up l.last ≡ false
     → IsLooper s hall (record { number = l.number; sender = l.sender; looper = after; parts = Some parts'; last = last })
-looper_then s hall now began l q o parts parts' after last is_hall is e at origin serves same ended round looks unended going =
+looper_then s hall now moment began l q o parts parts' after last is_hall is e at origin serves same ended round looks unended going =
     let w : Workplace = workplace l.looper.held in
     let of = looper_of s hall l is_hall is in
     let first : ServesAt s hall l.number parts w = record { looper = of; place = is.place; are_parts = parts_of s hall l parts is e } in

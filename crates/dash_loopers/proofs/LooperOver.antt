@@ -30,13 +30,13 @@ over_with b es e is =
     let disposed : has_disposed b (es ++ e ∷ []) ≡ true = has_disposed-snoc b es e ∙ (ap (λ r. has_disposed b es || is_disposed r) is ∙ or-true (has_disposed b es)) in
     ap (λ (d : Bool). d || has_halted b (es ++ e ∷ [])) disposed
 
-over_by_end : (now : ℕ) (p q : Sender) (idle : Bool) (left : List Node) (b : Base) → NextedBy p q now idle (nexted.End left) → is_over b q.view.seen ≡ true
+pub over_by_end : (now : ℕ) (p q : Sender) (idle : Bool) (left : List Node) (b : Base) → NextedBy p q now idle (nexted.End left) → is_over b q.view.seen ≡ true
 over_by_end now p q idle left b n =
     let x = n.0 in
     let seen = n.2.seen ∙ ap (λ (y : Queue TableId Claimed). y.entries) n.3.2 in
     subst (λ (es : List Entry). is_over b es ≡ true) (sym seen) (over_with b x.entries _ refl)
 
-over_by_over : (now : ℕ) (p q : Sender) (idle : Bool) (c : Constants TableId) → q.view.constants ≡ Some c → NextedBy p q now idle nexted.Over → is_over (empty_base c.setting.senders) q.view.seen ≡ true
+pub over_by_over : (now : ℕ) (p q : Sender) (idle : Bool) (c : Constants TableId) → q.view.constants ≡ Some c → NextedBy p q now idle nexted.Over → is_over (empty_base c.setting.senders) q.view.seen ≡ true
 over_by_over now p q idle c is n =
     let x = n.0 in
     let start = (n.2.own c (sym n.2.constants ∙ is)).0.start in

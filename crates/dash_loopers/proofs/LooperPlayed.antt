@@ -77,7 +77,7 @@ stands_first s q k seen acts parts none still gauges lines barrier painted editi
 
 -- ---- a round
 
-unless : (r : Round) (P : Type 0) → is_given_up r ≡ false → UnlessWanting r P → P
+pub unless : (r : Round) (P : Type 0) → is_given_up r ≡ false → UnlessWanting r P → P
 unless (Drained dispatched until) P going h = h
 unless (Ended dispatched) P going h = h
 unless NoMemory P going h = absurd cc

@@ -58,7 +58,7 @@ module _ (s : Script) (q now : ℕ) (began : StageLooper) where
       let here : Pulses s q now (calls_in k es) (calls_in k (es ++ more)) parts parts' acts acts' = subst (λ l. Pulses s q now (calls_in k es) l parts parts' acts acts') (λ i. calls_in (same i) (saw i)) p in
       subst (λ (n : ℕ). IsPlaying s q now began n es' acts' parts') (sym same) (subst (λ (l : List Entry). IsPlaying s q now began k l acts' parts') (sym saw) (λ text a come.
       (let c = meets text a come in
-      comes_on s q now a k began.looper.held.poster.view.seen es more acts acts' parts parts' c (pulsed q here.stamp c.state) (stands_pulse s q k now es more acts acts' parts parts' c.state text here c.stands) (goes_pulsed k q more now here.stamp c.state here.due))))
+      comes_on s q now a k began.looper.held.poster.view.seen es more acts acts' parts parts' c (pulsed q here.stamp c.state) (stands_pulse s q k now es more acts acts' parts parts' c.state c.state text here c.stands) (goes_pulsed k q more now here.stamp c.state here.due))))
 
   pub playing_pulse : (before after : Holding) (parts parts' : Parts) → IsLent before after → Pulses s q now (calls_of before.poster) (calls_of after.poster) parts parts' before.journal.acts after.journal.acts
       → Passes (λ k es acts. IsPlaying s q now began k es acts parts) before → Passes (λ k es acts. IsPlaying s q now began k es acts parts') after
@@ -76,10 +76,10 @@ module _ (s : Script) (q now : ℕ) (began : StageLooper) where
       subst (λ (j : ℕ). IsPlaying s q now began j es' (acts' ++ Dispatch n time route ∷ []) parts') (sym same)
       (subst (λ (l : List Entry). IsPlaying s q now began k l (acts' ++ Dispatch n time route ∷ []) parts') (sym (whole ∙ append_assoc past (e ∷ []) more)) (λ text a come.
       (let c = meets text a come in
-      comes_on s q now a k began.looper.held.poster.view.seen past (e ∷ more) acts (acts' ++ Dispatch n time route ∷ []) parts parts' c (by_dispatch s q k n time m past more e take acts acts' parts parts' here c.state)
-      (subst (λ (l : List Entry). Stands s q k l (acts' ++ Dispatch n time route ∷ []) parts' (by_dispatch s q k n time m past more e take acts acts' parts parts' here c.state)) (append_assoc past (e ∷ []) more)
-      (stands_dispatch s q k n time m past more e take acts acts' parts parts' here c.state route text post c.stands))
-      (goes_looked q k (e ∷ more) now time e c.state _ (Contains-append_left (e ∷ []) more e (Contains-push [] e)) take.sender_is take.call (sends_dispatch s q k n time m past more e take acts acts' parts parts' here c.state)))))
+      comes_on s q now a k began.looper.held.poster.view.seen past (e ∷ more) acts (acts' ++ Dispatch n time route ∷ []) parts parts' c (by_dispatch s q k n time time m past more e take acts acts' parts parts' here c.state c.state)
+      (subst (λ (l : List Entry). Stands s q k l (acts' ++ Dispatch n time route ∷ []) parts' (by_dispatch s q k n time time m past more e take acts acts' parts parts' here c.state c.state)) (append_assoc past (e ∷ []) more)
+      (stands_dispatch s q k n time time m past more e take acts acts' parts parts' here c.state c.state route text post c.stands.settled refl c.stands))
+      (goes_looked q k (e ∷ more) now time e c.state _ (Contains-append_left (e ∷ []) more e (Contains-push [] e)) take.sender_is take.call (sends_dispatch s q k n time time m past more e take acts acts' parts parts' here c.state c.state)))))
 
   pub playing_dispatch : (time : ℕ) (node : Node) (route : Route) (before after : Holding) (parts parts' : Parts) → IsLent before after
       → HasTaken (λ k es acts. IsPlaying s q now began k es acts parts) before node time

@@ -34,7 +34,7 @@ use Rattle.run_model.proofs.Growth.{Lead-entries, post_at-grows}
 use Rattle.dash_loopers.specs.declared.player.Parts.{Parts}
 use Rattle.dash_hall.specs.Growth.{own}
 use Rattle.dash_loopers.specs.Players.{PlaceWithout}
-use Rattle.dash_loopers.specs.Played.{IsRootOf, calls_in, IsPlayed, Delivers, pulse_acts, pulsed, Pulses, Stands}
+use Rattle.dash_loopers.specs.Played.{IsRootOf, calls_in, IsPlayed, Delivers, pulse_acts, pulsed, Pulses, StandsBy}
 use Rattle.dash_loopers.specs.PlayingLaws.{calls_more}
 use Rattle.dash_loopers.proofs.LooperSteps.{AddsAt, delivers}
 use Rattle.dash_loopers.proofs.MoreCalls.{tokens_more, sent_here, sent_else, without_self}
@@ -56,9 +56,9 @@ vsynced s q es fs acts a stamp is_one settled lead = Lead-snoc s q es fs None (f
 
 module _ (s : Script) (q k : ℕ) where
   -- a pulse, or none
-  pub stands_pulse : (now : ℕ) (es more : List Entry) (acts acts' : List Act) (parts parts' : Parts) (a : Looper) → HasText s
-      → (p : Pulses s q now (calls_in k es) (calls_in k (es ++ more)) parts parts' acts acts') → Stands s q k es acts parts a → Stands s q k (es ++ more) acts' parts' (pulsed q p.stamp a)
-  stands_pulse now es more acts acts' parts parts' a text p st = record {
+  pub stands_pulse : (now : ℕ) (es more : List Entry) (acts acts' : List Act) (parts parts' : Parts) (did a : Looper) → HasText s
+      → (p : Pulses s q now (calls_in k es) (calls_in k (es ++ more)) parts parts' acts acts') → StandsBy s q k es acts parts did a → StandsBy s q k (es ++ more) acts' parts' (pulsed q p.stamp did) (pulsed q p.stamp a)
+  stands_pulse now es more acts acts' parts parts' did a text p st = record {
     led = λ fs begins law.
         subst (λ l. Lead s q (es ++ more) fs (first_looper s) l (pulsed q p.stamp a)) (sym p.told)
         (by_stamp fs p.stamp p.is_pulse (Lead-entries s q es fs more (first_looper s) acts a (st.led fs (prefix_trans parts.frames.view.seen parts'.frames.view.seen fs p.grew begins) law)));
@@ -67,14 +67,14 @@ module _ (s : Script) (q k : ℕ) where
     whole = λ fs begins law. ap (are_whole (phase_count s.edition) fs) (ran p.stamp) ∙ st.whole fs (prefix_trans parts.frames.view.seen parts'.frames.view.seen fs p.grew begins) law;
     ran = p.asks ∙ (st.ran ∙ ap asks_to_run (sym (ran p.stamp)));
     settled = painted p.stamp;
-    played = p.plays text a st.played;
+    played = p.plays text did st.played;
   }
     where
       placed : (o : Option ℕ) → (pulsed q o a).place ≡ a.place
       placed None = refl
       placed (Some stamp) = refl
 
-      ran : (o : Option ℕ) → (pulsed q o a).frames ≡ a.frames
+      ran : (o : Option ℕ) → (pulsed q o did).frames ≡ did.frames
       ran None = refl
       ran (Some stamp) = refl
 
@@ -88,9 +88,9 @@ module _ (s : Script) (q k : ℕ) where
 
 -- ---- a dispatch
 
--- the state once the message is taken, before what it causes
-abbrev pub taken : ℕ → ℕ → ℕ → Option ℕ → Looper → Looper
-taken q n now frame a = and_takes q n now (running frame now a)
+-- the state once the message is taken, before what it causes; a frame that it begins is to start at the second moment
+abbrev pub taken : ℕ → ℕ → ℕ → ℕ → Option ℕ → Looper → Looper
+taken q n now u frame a = and_takes q n now (running frame u a)
 
 -- the frames so far pass a test, and so does this one, or there is none
 one_more : (test : FrameAt → Bool) (xs : List FrameAt) (frame : Option ℕ) (now : ℕ) → list_all test xs ≡ true → list_all test (frames_after [] frame now) ≡ true → list_all test (frames_after xs frame now) ≡ true
@@ -107,8 +107,8 @@ sooner fs first later (Some place) le h = and_from (nat_le first place) _ (no_la
 -- the acts lead on by a dispatch, with the paints that it makes before it
 leads_dispatch : (s : Script) (q : ℕ) (es : List Entry) (fs : List FrameEntry) (acts ps : List Act) (a : Looper) (ids : List ℕ) (frame : Option ℕ) (n now : ℕ) (route : Route) (m : PostData)
     → a.painted ≡ [] → Lead s q es fs (first_looper s) acts a → post_at es n ≡ Some m → (not (is_some frame) || starts_frame q m) ≡ true → is_frame_from fs a.place frame ≡ true → frame_ids fs frame ≡ ids
-    → ArePaints ps → (delivered s q now ids m (taken q n now frame a)).painted ≡ ps
-    → Lead s q es fs (first_looper s) ((acts ++ ps) ++ Dispatch n now route ∷ []) (record (delivered s q now ids m (taken q n now frame a)) { painted = [] })
+    → ArePaints ps → (delivered s q now ids m (taken q n now now frame a)).painted ≡ ps
+    → Lead s q es fs (first_looper s) ((acts ++ ps) ++ Dispatch n now route ∷ []) (record (delivered s q now ids m (taken q n now now frame a)) { painted = [] })
 unfolding after_act
 leads_dispatch s q es fs acts ps a ids frame n now route m settled lead post starts from are paints painted =
     subst (λ b. Lead s q es fs (first_looper s) ((acts ++ ps) ++ Dispatch n now route ∷ []) b) state (Lead-snoc s q es fs frame (first_looper s) (acts ++ ps) (record a { painted = ps }) (Dispatch n now route) told may)
@@ -116,10 +116,10 @@ leads_dispatch s q es fs acts ps a ids frame n now route m settled lead post sta
     told : Lead s q es fs (first_looper s) (acts ++ ps) (record a { painted = ps })
     told = subst (λ l. Lead s q es fs (first_looper s) (acts ++ ps) (record a { painted = l ++ ps })) settled (Lead-paints s q es fs (first_looper s) acts a ps paints lead)
 
-    causes : dispatched s q fs frame n now (record a { painted = ps }) (post_at es n) ≡ delivered s q now ids m (taken q n now frame a)
-    causes = ap (λ o. dispatched s q fs frame n now (record a { painted = ps }) o) post ∙ ap (λ l. delivered s q now l m (taken q n now frame a)) are
+    causes : dispatched s q fs frame n now (record a { painted = ps }) (post_at es n) ≡ delivered s q now ids m (taken q n now now frame a)
+    causes = ap (λ o. dispatched s q fs frame n now (record a { painted = ps }) o) post ∙ ap (λ l. delivered s q now l m (taken q n now now frame a)) are
 
-    state : record (dispatched s q fs frame n now (record a { painted = ps }) (post_at es n)) { painted = [] } ≡ record (delivered s q now ids m (taken q n now frame a)) { painted = [] }
+    state : record (dispatched s q fs frame n now (record a { painted = ps }) (post_at es n)) { painted = [] } ≡ record (delivered s q now ids m (taken q n now now frame a)) { painted = [] }
     state = ap (λ (b : Looper). record b { painted = [] }) causes
 
     may : MayDispatch s q es fs frame (record a { painted = ps }) n now
@@ -130,15 +130,15 @@ leads_dispatch s q es fs acts ps a ids frame n now route m settled lead post sta
       painted = ap (λ (b : Looper). b.painted) causes ∙ painted;
     }
 
-module _ (s : Script) (q k n now : ℕ) (es : List Entry) (e : Entry) (take : IsTake k now n e) (parts : Parts) (a : Looper) (settled : a.painted ≡ []) where
+module _ (s : Script) (q k n now u : ℕ) (es : List Entry) (e : Entry) (take : IsTake k now n e) (parts : Parts) (a : Looper) (settled : a.painted ≡ []) where
   -- the look that took the message is made
-  played_taken : (frame : Option ℕ) → IsPlayed s q (calls_in k es) parts a → IsPlayed s q (calls_in k (es ++ e ∷ [])) parts (taken q n now frame a)
-  played_taken frame p = subst (λ l. IsPlayed s q l parts (taken q n now frame a)) (sym (calls_taken k n now es e take)) (record {
+  played_taken : (frame : Option ℕ) → IsPlayed s q (calls_in k es) parts a → IsPlayed s q (calls_in k (es ++ e ∷ [])) parts (taken q n now u frame a)
+  played_taken frame p = subst (λ l. IsPlayed s q l parts (taken q n now u frame a)) (sym (calls_taken k n now es e take)) (record {
     shown = record {
       calls = subst (λ l. AreFor IsSent [] l (calls_in k es ++ e ∷ [])) (sym there) (AreFor-snoc IsSent (sent_on q a.sent) look (calls_in k es) e p.shown.calls is_look);
       asked = p.shown.asked;
       turns = p.shown.turns;
-      stands = subst (λ l. IsRootOf s q l (taken q n now frame a) parts.root) (sym (tokens_more (calls_in k es) e [] (ap token_in take.reply) ∙ append-nil (tokens_in (calls_in k es)))) (record {
+      stands = subst (λ l. IsRootOf s q l (taken q n now u frame a) parts.root) (sym (tokens_more (calls_in k es) e [] (ap token_in take.reply) ∙ append-nil (tokens_in (calls_in k es)))) (record {
         edition = p.shown.stands.edition;
         gauges = p.shown.stands.gauges;
         lines = p.shown.stands.lines;
@@ -165,13 +165,19 @@ module _ (s : Script) (q k n now : ℕ) (es : List Entry) (e : Entry) (take : Is
       is_look : IsSent (tokens_in (calls_in k es)) look e
       is_look = record { call = ap plain take.call; reply = take.reply }
 
-module _ (s : Script) (q k n now : ℕ) (m : PostData) (es more : List Entry) (e : Entry) (take : IsTake k now n e) (acts acts' : List Act) (parts parts' : Parts) (d : Delivers s q now m (calls_in k (es ++ e ∷ [])) (calls_in k ((es ++ e ∷ []) ++ more)) parts parts' acts acts') (a : Looper) where
-  -- what the dispatch leads to
+module _ (s : Script) (q k n now u : ℕ) (m : PostData) (es more : List Entry) (e : Entry) (take : IsTake k now n e) (acts acts' : List Act) (parts parts' : Parts) (d : Delivers s q u m (calls_in k (es ++ e ∷ [])) (calls_in k ((es ++ e ∷ []) ++ more)) parts parts' acts acts') (did a : Looper) where
+  -- what the dispatch leads to by its own moment, and what was done at the moment that was read
   abbrev pub by_dispatch : Looper
-  by_dispatch = record (delivered s q now d.ids m (taken q n now d.ran.frame a)) { painted = [] }
+  by_dispatch = record (delivered s q now d.ids m (taken q n now now d.ran.frame a)) { painted = [] }
 
-  adds : AddsAt now (taken q n now d.ran.frame a) (delivered s q now d.ids m (taken q n now d.ran.frame a))
-  adds = delivers s q now d.ids m (taken q n now d.ran.frame a)
+  abbrev pub by_reading : Looper
+  by_reading = record (delivered s q u d.ids m (taken q n now u d.ran.frame did)) { painted = [] }
+
+  adds : AddsAt now (taken q n now now d.ran.frame a) (delivered s q now d.ids m (taken q n now now d.ran.frame a))
+  adds = delivers s q now d.ids m (taken q n now now d.ran.frame a)
+
+  adds_read : AddsAt u (taken q n now u d.ran.frame did) (delivered s q u d.ids m (taken q n now u d.ran.frame did))
+  adds_read = delivers s q u d.ids m (taken q n now u d.ran.frame did)
 
   -- its calls come at its moment
   pub sends_dispatch : (more : List Sent) × (by_dispatch.sent ≡ a.sent ++ more) × AllByRecursion (λ x. x.timing ≡ At now) more
@@ -180,32 +186,33 @@ module _ (s : Script) (q k n now : ℕ) (m : PostData) (es more : List Entry) (e
       look : Sent
       look = record { queue = q; ask = Makes (Next now); reply = Some (Dispatched n); timing = At now }
 
-  pub stands_dispatch : (route : Route) → HasText s → post_at es n ≡ Some m → Stands s q k es acts parts a → Stands s q k ((es ++ e ∷ []) ++ more) (acts' ++ Dispatch n now route ∷ []) parts' by_dispatch
-  stands_dispatch route text post st = record {
+  pub stands_dispatch : (route : Route) → HasText s → post_at es n ≡ Some m → did.painted ≡ [] → (delivered s q u d.ids m (taken q n now u d.ran.frame did)).painted ≡ (delivered s q now d.ids m (taken q n now now d.ran.frame a)).painted
+      → StandsBy s q k es acts parts did a → StandsBy s q k ((es ++ e ∷ []) ++ more) (acts' ++ Dispatch n now route ∷ []) parts' by_reading by_dispatch
+  stands_dispatch route text post still alike st = record {
     led = λ fs begins law.
         let framed = d.ran.framed fs begins law in
-        subst (λ l. Lead s q ((es ++ e ∷ []) ++ more) fs (first_looper s) (l ++ Dispatch n now route ∷ []) by_dispatch) (sym done.1)
+        subst (λ l. Lead s q ((es ++ e ∷ []) ++ more) fs (first_looper s) (l ++ Dispatch n now route ∷ []) by_dispatch) (sym (done.1 ∙ ap (λ (l : List Act). acts ++ l) alike))
         (leads_dispatch s q ((es ++ e ∷ []) ++ more) fs acts _ a d.ids d.ran.frame n now route m st.settled
         (Lead-entries s q (es ++ e ∷ []) fs more (first_looper s) acts a (Lead-entries s q es fs (e ∷ []) (first_looper s) acts a (st.led fs (prefix_trans parts.frames.view.seen parts'.frames.view.seen fs d.ran.grew begins) law)))
         posts d.starts (sooner fs a.place (length parts.frames.view.seen) d.ran.frame st.place framed.0) framed.1 (adds.paints tt) refl);
     place = (let at = adds.place in let le = st.place in let longer = prefix_length parts.frames.view.seen parts'.frames.view.seen d.ran.grew in placed d.ran.frame by_dispatch.place at le longer d.ran.within);
     moments = λ fs begins law.
-        ap (are_run_then fs) adds.frames
-        ∙ one_more (is_run_then fs) a.frames d.ran.frame now (st.moments fs (prefix_trans parts.frames.view.seen parts'.frames.view.seen fs d.ran.grew begins) law) (d.ran.framed fs begins law).2;
+        ap (are_run_then fs) adds_read.frames
+        ∙ one_more (is_run_then fs) did.frames d.ran.frame u (st.moments fs (prefix_trans parts.frames.view.seen parts'.frames.view.seen fs d.ran.grew begins) law) (d.ran.framed fs begins law).2;
     whole = λ fs begins law.
-        ap (are_whole (phase_count s.edition) fs) adds.frames
-        ∙ one_more (is_whole (phase_count s.edition) fs) a.frames d.ran.frame now (st.whole fs (prefix_trans parts.frames.view.seen parts'.frames.view.seen fs d.ran.grew begins) law) (d.ran.framed fs begins law).3;
-    ran = d.ran.asks ∙ ((λ i. st.ran i ++ asks_to_run (frames_after [] d.ran.frame now)) ∙ (runs_more a.frames d.ran.frame ∙ ap asks_to_run (sym adds.frames)));
+        ap (are_whole (phase_count s.edition) fs) adds_read.frames
+        ∙ one_more (is_whole (phase_count s.edition) fs) did.frames d.ran.frame u (st.whole fs (prefix_trans parts.frames.view.seen parts'.frames.view.seen fs d.ran.grew begins) law) (d.ran.framed fs begins law).3;
+    ran = d.ran.asks ∙ ((λ i. st.ran i ++ asks_to_run (frames_after [] d.ran.frame u)) ∙ (runs_more did.frames d.ran.frame ∙ ap asks_to_run (sym adds_read.frames)));
     settled = refl;
     played = done.0;
   }
     where
-      done : IsPlayed s q (calls_in k ((es ++ e ∷ []) ++ more)) parts' by_dispatch × (acts' ≡ acts ++ (delivered s q now d.ids m (taken q n now d.ran.frame a)).painted)
-      done = d.plays text (taken q n now d.ran.frame a) refl (played_taken s q k n now es e take parts a st.settled d.ran.frame st.played)
+      done : IsPlayed s q (calls_in k ((es ++ e ∷ []) ++ more)) parts' by_reading × (acts' ≡ acts ++ (delivered s q u d.ids m (taken q n now u d.ran.frame did)).painted)
+      done = d.plays text (taken q n now u d.ran.frame did) refl (played_taken s q k n now u es e take parts did still d.ran.frame st.played)
 
-      runs_more : (xs : List FrameAt) (frame : Option ℕ) → asks_to_run xs ++ asks_to_run (frames_after [] frame now) ≡ asks_to_run (frames_after xs frame now)
+      runs_more : (xs : List FrameAt) (frame : Option ℕ) → asks_to_run xs ++ asks_to_run (frames_after [] frame u) ≡ asks_to_run (frames_after xs frame u)
       runs_more xs None = append-nil (asks_to_run xs)
-      runs_more xs (Some place) = sym (map-append (λ (x : FrameAt). Runs (nanos_of x.now)) xs (record { place = place; now = now } ∷ []))
+      runs_more xs (Some place) = sym (map-append (λ (x : FrameAt). Runs (nanos_of x.now)) xs (record { place = place; now = u } ∷ []))
 
       found : post_at es n ≡ Some m
       found = post

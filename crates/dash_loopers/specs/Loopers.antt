@@ -22,6 +22,8 @@ use Rattle.run_model.specs.Senders.{sender_count}
 use Rattle.run_model.specs.Asks.{entries_by}
 use Rattle.looper_run.specs.declared.looper.Round.{Round}
 use Rattle.looper_run.specs.declared.looper.Round.TheVariants as round
+use Rattle.looper_run.specs.declared.by_clock.Loop.{Loop}
+use Rattle.looper_run.specs.declared.by_clock.Loop.TheVariants as loop
 use Rattle.choreographer.specs.Known.{Shared as Frames, Known as Pass}
 use Rattle.dash_hall.specs.declared.hall.Hall.{Hall}
 use Rattle.dash_loopers.specs.declared.player.Parts.{Parts}
@@ -174,3 +176,10 @@ ComesToWait s before after = is_ended after.last ≡ false → is_given_up after
     → IsPrefix before.looper.held.poster.view.seen after.looper.held.poster.view.seen
     × (until_of after.last ≡ option_map when_of (first_eligible (empty_base (sender_count s)) after.looper.held.poster.view.seen))
     × HasNoneDue (empty_base (sender_count s)) after.looper.held.poster.view.seen (clock (empty_base (sender_count s)) after.looper.held.poster.view.seen)
+
+-- a loop by a clock as the last round of its looper: it ended it, it found no memory, or it waits
+abbrev pub round_of : Loop → Round
+round_of loop.Ended = round.Ended 0
+round_of (loop.Cap now) = round.Drained 0 None
+round_of loop.Nudged = round.Drained 0 None
+round_of loop.NoMemory = round.NoMemory

@@ -29,8 +29,8 @@ use Rattle.run_model.specs.Planned.{frame_message}
 use Rattle.run_model.specs.Control.{Timing, At, InBlock, NotBefore}
 use Rattle.run_model.specs.Loopers.{Looper, Gauge, Sent, first_looper, starts_frame, delivered, fires, reaction}
 use Rattle.run_model.specs.Acts.{Lead, sent_on, IsSent, millis_up}
-use Rattle.run_model.specs.FrameRuns.{frame_ids, is_frame_from, place_after, frames_after, are_run_then, are_whole}
-use Rattle.run_model.specs.FrameAsks.{asks_to_run}
+use Rattle.run_model.specs.FrameRuns.{FrameAt, frame_ids, is_frame_from, place_after, frames_after, are_run_then, are_whole}
+use Rattle.run_model.specs.FrameAsks.{asks_to_run, as_told}
 use Rattle.dash_hall.specs.declared.kit.Kit.{Kit}
 use Rattle.dash_loopers.specs.declared.view_root.Gauge.{Gauge as ViewGauge}
 use Rattle.dash_loopers.specs.declared.view_root.Painted.{Painted}
@@ -193,17 +193,42 @@ pub record Pulses (s : Script) (q now : ℕ) (made made' : List Entry) (parts pa
   pub asks : asks_of parts'.frames ≡ asks_of parts.frames
   pub plays : Plays s q (pulsed q stamp) made parts made' parts'
 
+-- ---- what is told in a mode
+
+-- a call without its timing, and a frame without the time at which it was to start
+abbrev pub untimed : Sent → Sent
+untimed x = record x { timing = NotBefore 0 }
+
+abbrev pub unstarted : FrameAt → FrameAt
+unstarted x = record x { now = 0 }
+
+-- two states that differ at most in what free mode leaves open: the timing of calls, the due times of frame callbacks, and the starts of frames
+pub record AreAlike (a b : Looper) : Type 0 where
+  pub gauges : a.gauges ≡ b.gauges
+  pub barrier : a.barrier ≡ b.barrier
+  pub barriers : a.barriers ≡ b.barriers
+  pub fired : a.fired ≡ b.fired
+  pub sent : map untimed a.sent ≡ map untimed b.sent
+  pub posted : map (as_told false) a.posted ≡ map (as_told false) b.posted
+  pub painted : a.painted ≡ b.painted
+  pub place : a.place ≡ b.place
+  pub frames : map unstarted a.frames ≡ map unstarted b.frames
+
 -- ---- between two acts
 
--- the looper's acts lead to this state, by whatever its frame record comes to, each frame that they ran started at the time of its dispatch and took all phases then, its own pass asked for these frames, in order and for nothing else, and all that the state says is so
-pub record Stands (s : Script) (q sender : ℕ) (es : List Entry) (acts : List Act) (parts : Parts) (a : Looper) : Type 0 where
+-- the looper's acts lead to the one state, by whatever its frame record comes to, and all that the other state says is so: each frame that it ran started at its time and took all phases then, and its own pass asked for these frames, in order and for nothing else
+pub record StandsBy (s : Script) (q sender : ℕ) (es : List Entry) (acts : List Act) (parts : Parts) (did a : Looper) : Type 0 where
   pub led : (fs : List FrameEntry) → IsPrefix parts.frames.view.seen fs → lawful s.period (phase_count s.edition) fs ≡ true → Lead s q es fs (first_looper s) acts a
   pub place : a.place ≤ length parts.frames.view.seen
-  pub moments : (fs : List FrameEntry) → IsPrefix parts.frames.view.seen fs → lawful s.period (phase_count s.edition) fs ≡ true → are_run_then fs a.frames ≡ true
-  pub whole : (fs : List FrameEntry) → IsPrefix parts.frames.view.seen fs → lawful s.period (phase_count s.edition) fs ≡ true → are_whole (phase_count s.edition) fs a.frames ≡ true
-  pub ran : asks_of parts.frames ≡ asks_to_run a.frames
+  pub moments : (fs : List FrameEntry) → IsPrefix parts.frames.view.seen fs → lawful s.period (phase_count s.edition) fs ≡ true → are_run_then fs did.frames ≡ true
+  pub whole : (fs : List FrameEntry) → IsPrefix parts.frames.view.seen fs → lawful s.period (phase_count s.edition) fs ≡ true → are_whole (phase_count s.edition) fs did.frames ≡ true
+  pub ran : asks_of parts.frames ≡ asks_to_run did.frames
   pub settled : a.painted ≡ []
-  pub played : IsPlayed s q (calls_in sender es) parts a
+  pub played : IsPlayed s q (calls_in sender es) parts did
+
+-- the same of one state: each frame that its dispatches ran started at the time of its dispatch
+abbrev pub Stands : Script → ℕ → ℕ → List Entry → List Act → Parts → Looper → Type 0
+Stands s q sender es acts parts a = StandsBy s q sender es acts parts a a
 
 -- a call is timed by a look of the sender among these entries, or it is one on the looper's own queue that may come no later than at this moment; a looper makes no call in a block
 abbrev pub IsTimedBy : ℕ → ℕ → List Entry → ℕ → ℕ → Timing → Type 0
@@ -238,6 +263,28 @@ abbrev pub HasPlayed : Script → ℕ → StageLooper → StageLooper → Type 0
 HasPlayed s now before after = is_given_up after.last ≡ false → HasText s → (a : Looper) → HasCome s before a
     → IsSomeAnd after.parts (ComesTo s before.number now a before.sender before.looper.held.poster.view.seen after.looper.held.poster.view.seen after.looper.held.journal.acts)
 
+-- ---- by a clock
+
+-- where a looper stands between two loops: its acts lead to the one state, it did what the other says, and the two are alike
+abbrev pub HasComeBy : Script → StageLooper → Looper → Looper → Type 0
+HasComeBy s l did a = AreAlike did a × IsSomeAnd l.parts (λ parts. StandsBy s l.number l.sender l.looper.held.poster.view.seen l.looper.held.journal.acts parts did a)
+
+-- it went on to such states
+pub record ComesBy (s : Script) (q sender : ℕ) (es : List Entry) (acts : List Act) (parts : Parts) : Type 0 where
+  pub did : Looper
+  pub state : Looper
+  pub alike : AreAlike did state
+  pub stands : StandsBy s q sender es acts parts did state
+
+-- in a loop by a clock: from whatever states it began it has gone on
+abbrev pub IsPlayingBy : Script → ℕ → StageLooper → ℕ → List Entry → List Act → Parts → Type 0
+IsPlayingBy s q began sender es acts parts = HasText s → (did a : Looper) → HasComeBy s began did a → ComesBy s q sender es acts parts
+
+-- the same once the loop is over, unless memory was wanting
+abbrev pub HasPlayedBy : Script → StageLooper → StageLooper → Type 0
+HasPlayedBy s before after = is_given_up after.last ≡ false → HasText s → (did a : Looper) → HasComeBy s before did a
+    → IsSomeAnd after.parts (ComesBy s before.number before.sender after.looper.held.poster.view.seen after.looper.held.journal.acts)
+
 -- ---- at the end
 
 -- where a looper stood, told by its journal and what it worked with
@@ -252,3 +299,15 @@ pub record HasLeft (s : Script) (q : ℕ) (j : Journal) (kit : Kit) (a : Looper)
   pub asked : (p : Pass) → asks_of (slice_index_or kit.frames.items 1 p) ≡ a.posted
   pub turns : (p : Pass) → (slice_index_or kit.frames.items 1 p).view.turns ≡ length a.posted
   pub ran : (p : Pass) → asks_of (slice_index_or kit.frames.items 0 p) ≡ asks_to_run a.frames
+
+-- the same of a looper by a clock, as free mode tells it: the due times of frame callbacks and the starts of frames are left open
+pub record HasLeftBy (s : Script) (q : ℕ) (j : Journal) (kit : Kit) (a : Looper) : Type 0 where
+  pub led : (d : Sender) (p : Pass) (fs : List FrameEntry) → IsPrefix (slice_index_or kit.frames.items 0 p).view.seen fs → lawful s.period (phase_count s.edition) fs ≡ true
+      → Lead s q (slice_index_or kit.posters.items q d).view.seen fs (first_looper s) j.acts a
+  pub whole : (p : Pass) (fs : List FrameEntry) → IsPrefix (slice_index_or kit.frames.items 0 p).view.seen fs → lawful s.period (phase_count s.edition) fs ≡ true → are_whole (phase_count s.edition) fs a.frames ≡ true
+  pub settled : a.painted ≡ []
+  pub calls : (d : Sender) → AreFor IsSent [] (sent_on q a.sent) (calls_of (slice_index_or kit.posters.items q d))
+  pub elsewhere : (k : ℕ) (d : Sender) → k ≢ q → k < length kit.posters.items → AreFor IsSent [] (sent_on k a.sent) (own (slice_index_or kit.posters.items k d))
+  pub asked : (p : Pass) → map (as_told false) (asks_of (slice_index_or kit.frames.items 1 p)) ≡ map (as_told false) a.posted
+  pub turns : (p : Pass) → (slice_index_or kit.frames.items 1 p).view.turns ≡ length a.posted
+  pub ran : (p : Pass) → map (as_told false) (asks_of (slice_index_or kit.frames.items 0 p)) ≡ map (as_told false) (asks_to_run a.frames)

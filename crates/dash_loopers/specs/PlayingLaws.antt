@@ -19,7 +19,7 @@ use Rattle.run_model.proofs.RunLaws.{Lead-snoc}
 use Rattle.run_model.proofs.Growth.{Lead-entries}
 use Rattle.dash_loopers.specs.declared.player.Parts.{Parts}
 use Rattle.dash_loopers.specs.declared.looper.StageLooper.{StageLooper}
-use Rattle.dash_loopers.specs.Played.{is_disposal, calls_in, IsPlayed, Stands, IsTimedBy, GoesOnTo, ComesTo, IsPlaying}
+use Rattle.dash_loopers.specs.Played.{is_disposal, calls_in, IsPlayed, StandsBy, Stands, IsTimedBy, GoesOnTo, ComesTo, IsPlaying, IsPlayingBy}
 
 -- ---- the calls of a sender, as entries are added
 
@@ -46,21 +46,21 @@ calls_disposed k es e now is call reply =
 
 module _ (s : Script) (q k : ℕ) where
   -- entries that are no calls of the looper
-  pub stands_beside : (es more : List Entry) (acts : List Act) (parts : Parts) (a : Looper) → calls_in k (es ++ more) ≡ calls_in k es → Stands s q k es acts parts a → Stands s q k (es ++ more) acts parts a
-  stands_beside es more acts parts a same st = record {
+  pub stands_beside : (es more : List Entry) (acts : List Act) (parts : Parts) (did a : Looper) → calls_in k (es ++ more) ≡ calls_in k es → StandsBy s q k es acts parts did a → StandsBy s q k (es ++ more) acts parts did a
+  stands_beside es more acts parts did a same st = record {
     led = λ fs begins is. Lead-entries s q es fs more (first_looper s) acts a (st.led fs begins is);
     place = st.place;
     moments = st.moments;
     whole = st.whole;
     ran = st.ran;
     settled = st.settled;
-    played = subst (λ l. IsPlayed s q l parts a) (sym same) st.played;
+    played = subst (λ l. IsPlayed s q l parts did) (sym same) st.played;
   }
 
   -- an act of an idle handler or an event
-  pub stands_quiet : (es : List Entry) (x : Act) (acts : List Act) (parts : Parts) (a : Looper) → IsQuiet x → Stands s q k es acts parts a → Stands s q k es (acts ++ x ∷ []) parts a
+  pub stands_quiet : (es : List Entry) (x : Act) (acts : List Act) (parts : Parts) (did a : Looper) → IsQuiet x → StandsBy s q k es acts parts did a → StandsBy s q k es (acts ++ x ∷ []) parts did a
   unfolding after_act
-  stands_quiet es (Idle i t) acts parts a is st = record {
+  stands_quiet es (Idle i t) acts parts did a is st = record {
     led = λ fs begins law. Lead-snoc s q es fs None (first_looper s) acts a (Idle i t) (st.led fs begins law) (refl, st.settled);
     place = st.place;
     moments = st.moments;
@@ -69,7 +69,7 @@ module _ (s : Script) (q k : ℕ) where
     settled = st.settled;
     played = st.played;
   }
-  stands_quiet es (Event f e m) acts parts a is st = record {
+  stands_quiet es (Event f e m) acts parts did a is st = record {
     led = λ fs begins law. Lead-snoc s q es fs None (first_looper s) acts a (Event f e m) (st.led fs begins law) (refl, st.settled);
     place = st.place;
     moments = st.moments;
@@ -78,9 +78,9 @@ module _ (s : Script) (q k : ℕ) where
     settled = st.settled;
     played = st.played;
   }
-  stands_quiet es (Dispatch n m r) acts parts a is st = absurd is
-  stands_quiet es (Vsync v) acts parts a is st = absurd is
-  stands_quiet es (Paint g v) acts parts a is st = absurd is
+  stands_quiet es (Dispatch n m r) acts parts did a is st = absurd is
+  stands_quiet es (Vsync v) acts parts did a is st = absurd is
+  stands_quiet es (Paint g v) acts parts did a is st = absurd is
 
 -- ---- calls more, and looks more
 
@@ -125,17 +125,39 @@ module _ (s : Script) (q now : ℕ) where
     pub playing_others : (k : ℕ) (es : List Entry) (e : Entry) (acts : List Act) (parts : Parts) → (e.sender ≡ k → ⊥) → IsPlaying s q now began k es acts parts → IsPlaying s q now began k (es ++ e ∷ []) acts parts
     playing_others k es e acts parts apart meets = λ text a come.
         let c = meets text a come in
-        comes_on a k began.looper.held.poster.view.seen es (e ∷ []) acts acts parts parts c c.state (stands_beside s q k es (e ∷ []) acts parts c.state (calls_others k es e apart) c.stands) (goes_nowhere q k (e ∷ []) now c.state)
+        comes_on a k began.looper.held.poster.view.seen es (e ∷ []) acts acts parts parts c c.state (stands_beside s q k es (e ∷ []) acts parts c.state c.state (calls_others k es e apart) c.stands) (goes_nowhere q k (e ∷ []) now c.state)
 
     -- the looper's look that ends the queue
     pub playing_disposed : (k : ℕ) (es : List Entry) (e : Entry) (time : ℕ) (acts : List Act) (parts : Parts) → e.sender ≡ k → e.call ≡ Next time → e.reply ≡ Disposed → IsPlaying s q now began k es acts parts
         → IsPlaying s q now began k (es ++ e ∷ []) acts parts
     playing_disposed k es e time acts parts mine call reply meets = λ text a come.
         let c = meets text a come in
-        comes_on a k began.looper.held.poster.view.seen es (e ∷ []) acts acts parts parts c c.state (stands_beside s q k es (e ∷ []) acts parts c.state (calls_disposed k es e time mine call reply) c.stands) (goes_nowhere q k (e ∷ []) now c.state)
+        comes_on a k began.looper.held.poster.view.seen es (e ∷ []) acts acts parts parts c c.state (stands_beside s q k es (e ∷ []) acts parts c.state c.state (calls_disposed k es e time mine call reply) c.stands) (goes_nowhere q k (e ∷ []) now c.state)
 
     -- an idle handler ran, or a listener was told of an event
     pub playing_quiet : (k : ℕ) (es : List Entry) (x : Act) (acts : List Act) (parts : Parts) → IsQuiet x → IsPlaying s q now began k es acts parts → IsPlaying s q now began k es (acts ++ x ∷ []) parts
     playing_quiet k es x acts parts is meets = λ text a come.
         let c = meets text a come in
-        record { state = c.state; stands = stands_quiet s q k es x acts parts c.state is c.stands; looks = c.looks; saw = c.saw; on = c.on }
+        record { state = c.state; stands = stands_quiet s q k es x acts parts c.state c.state is c.stands; looks = c.looks; saw = c.saw; on = c.on }
+
+-- ---- the laws by a clock
+
+module _ (s : Script) (q : ℕ) (began : StageLooper) where
+  -- another sender's entry
+  pub playing_by_others : (k : ℕ) (es : List Entry) (e : Entry) (acts : List Act) (parts : Parts) → (e.sender ≡ k → ⊥) → IsPlayingBy s q began k es acts parts → IsPlayingBy s q began k (es ++ e ∷ []) acts parts
+  playing_by_others k es e acts parts apart meets = λ text did a come.
+      let c = meets text did a come in
+      record { did = c.did; state = c.state; alike = c.alike; stands = stands_beside s q k es (e ∷ []) acts parts c.did c.state (calls_others k es e apart) c.stands }
+
+  -- the looper's look that ends the queue
+  pub playing_by_disposed : (k : ℕ) (es : List Entry) (e : Entry) (time : ℕ) (acts : List Act) (parts : Parts) → e.sender ≡ k → e.call ≡ Next time → e.reply ≡ Disposed → IsPlayingBy s q began k es acts parts
+      → IsPlayingBy s q began k (es ++ e ∷ []) acts parts
+  playing_by_disposed k es e time acts parts mine call reply meets = λ text did a come.
+      let c = meets text did a come in
+      record { did = c.did; state = c.state; alike = c.alike; stands = stands_beside s q k es (e ∷ []) acts parts c.did c.state (calls_disposed k es e time mine call reply) c.stands }
+
+  -- an idle handler ran, or a listener was told of an event
+  pub playing_by_quiet : (k : ℕ) (es : List Entry) (x : Act) (acts : List Act) (parts : Parts) → IsQuiet x → IsPlayingBy s q began k es acts parts → IsPlayingBy s q began k es (acts ++ x ∷ []) parts
+  playing_by_quiet k es x acts parts is meets = λ text did a come.
+      let c = meets text did a come in
+      record { did = c.did; state = c.state; alike = c.alike; stands = stands_quiet s q k es x acts parts c.did c.state is c.stands }

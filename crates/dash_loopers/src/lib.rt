@@ -1,6 +1,7 @@
 //! The loopers of a script's run: a looper runs rounds on its queue, with reactions, gauges and frames.
 #![tactic(auto)]
 
+mod by_clock;
 mod frame_run;
 mod hearing;
 mod looper;

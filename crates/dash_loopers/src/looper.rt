@@ -4,7 +4,7 @@ ghost use Rattle.looper_run.specs.Round.{is_ended};
 ghost use Rattle.dash_hall.specs.Kits.{IsHall, IsKitOf, HasSeenOver, IsUnusedKit};
 ghost use Rattle.dash_loopers.specs.Loopers.{posters_of, ComesToWait, WaitsForNothing, IsLooper, IsLooperOf, ArePartsOf, HasRun, HasTold, HasDisposedLast, is_given_up, until_of};
 ghost use Rattle.dash_loopers.specs.Players.{AreSameParts};
-ghost use Rattle.dash_loopers.specs.Played.{HasCome, HasPlayed, HasLeft};
+ghost use Rattle.dash_loopers.specs.Played.{HasCome, HasPlayed, HasLeft, HasComeBy, HasLeftBy};
 ghost use Rattle.run_model.specs.Loopers.{Looper as LooperState, first_looper};
 
 use crate::player::{Parts, Place, Player};
@@ -179,6 +179,7 @@ impl StageLooper {
         ensures over { IfOk result (λ r. is_ended self.last ≡ true → HasSeenOver script.now self.number r.1) }
         ensures posters { IfOk result (λ r. r.1.posters.items ≡ posters_of self) }
         ensures left { IfOk result (λ r. (a : LooperState) → HasCome script.now self a → HasLeft script.now self.number r.0 r.1 a) }
+        ensures left_by { IfOk result (λ r. (did a : LooperState) → HasComeBy script.now self did a → HasLeftBy script.now self.number r.0 r.1 a) }
     {
         let StageLooper {
             number,
@@ -219,7 +220,7 @@ impl StageLooper {
 }
 
 /// Gives the run up where the looper of this number found no memory in its round, and nudges main.
-fn close<R: Wait>(
+pub(crate) fn close<R: Wait>(
     rt: &R,
     hall: &Hall,
     script: &Script,

@@ -12,7 +12,9 @@ ghost use Rattle.looper_run.specs.Holding.{workplace, held, IsSameOwn};
 ghost use Rattle.looper_run.specs.Acts.{IsOfDispatcher, GrowsBy};
 ghost use Rattle.looper_run.specs.Tests.{IsLent};
 ghost use Rattle.dash_hall.specs.Hosts.{origin_of, IsHost, asks_of};
+ghost use Rattle.dash_hall.specs.ByClock.{AddsAt};
 ghost use Rattle.dash_hall.specs.Kits.{badge_of};
+ghost use Rattle.dash_loopers.specs.Clocked.{AddsUntimed, AreUntimed, CallsUntimed, DeliversAt};
 ghost use Rattle.dash_loopers.specs.Loopers.{ArePartsOf, IsPlaceOf, IsLooperOf};
 ghost use Rattle.dash_loopers.specs.Players.{Owner, ServesAt, AreSameParts, PlaceWithout};
 ghost use Rattle.dash_hall.specs.Growth.{Makes};
@@ -145,7 +147,7 @@ impl<'a, R: Wait, G: Gate> Dispatcher for Player<'a, R, G> {
 
 impl<'a, R: Wait> Place<'a, R> {
     /// The looper's queue.
-    fn queue(&self) -> &SharedQueue<PoolClaim>
+    pub(crate) fn queue(&self) -> &SharedQueue<PoolClaim>
         requires { IsLooperOf self.now.script.now self.now.hall.now self.now.looper }
         ensures { slice_get self.now.hall.now.queues.items self.now.looper ≡ Some result.now }
     {
@@ -199,6 +201,7 @@ impl<'a, R: Wait> Place<'a, R> {
         ensures own { IsSameOwn own.old own.new }
         ensures lent { IsLent (held own.old) (held own.new) }
         ensures rung { own.new.poster.now.view.rung ≡ own.old.poster.now.view.rung }
+        ensures untimed { CallsUntimed own.old.poster.now own.new.poster.now parts.old parts.new }
         ensures is_pulse { IsTrue (is_pulse_if_any self.now.script.now.period (stamp_in result)) }
         ensures pulses { DeliversPulse self.now.script.now self.now.looper now (calls_of own.old.poster.now) (calls_of own.new.poster.now) parts.old parts.new result }
         ensures acts { own.new.journal.now.acts ≡ own.old.journal.now.acts }
@@ -210,12 +213,13 @@ impl<'a, R: Wait> Place<'a, R> {
     }
 
     /// Delivers the pulse that is asked for, if it came, and tells it.
-    fn pulse(&self, parts: &mut Parts, own: &mut Own, now: u64) -> Did
+    pub(crate) fn pulse(&self, parts: &mut Parts, own: &mut Own, now: u64) -> Did
         requires serves { ServesAt self.now.script.now self.now.hall.now self.now.looper parts.old (workplace (held own.old)) }
         ensures parts { AreSameParts parts.old parts.new }
         ensures own { IsSameOwn own.old own.new }
         ensures lent { IsLent (held own.old) (held own.new) }
         ensures rung { own.new.poster.now.view.rung ≡ own.old.poster.now.view.rung }
+        ensures untimed { CallsUntimed own.old.poster.now own.new.poster.now parts.old parts.new }
         ensures pulses { Unless result (Pulses self.now.script.now self.now.looper now (calls_of own.old.poster.now) (calls_of own.new.poster.now) parts.old parts.new own.old.journal.now.acts own.new.journal.now.acts) }
     {
         match self.deliver_pulse(parts, own, now) {
@@ -236,6 +240,8 @@ impl<'a, R: Wait> Place<'a, R> {
         ensures own { IsSameOwn own.old own.new }
         ensures lent { IsLent (held own.old) (held own.new) }
         ensures rung { own.new.poster.now.view.rung ≡ own.old.poster.now.view.rung }
+        ensures clocked { AddsAt now own.old.poster.now own.new.poster.now }
+        ensures others { parts.new.others ≡ parts.old.others }
         ensures ran { OnOk result ((ids : List ℕ) × RanFrame self.now.script.now.period (phase_count self.now.script.now.edition) now parts.old.frames parts.new.frames ids
             × Plays self.now.script.now self.now.looper (λ a. fold (callback_ran self.now.script.now self.now.looper now) a ids) (calls_of own.old.poster.now) parts.old (calls_of own.new.poster.now) parts.new) }
         ensures acts { own.new.journal.now.acts ≡ own.old.journal.now.acts }
@@ -255,6 +261,8 @@ impl<'a, R: Wait> Place<'a, R> {
         ensures own { IsSameOwn own.old own.new }
         ensures lent { IsLent (held own.old) (held own.new) }
         ensures rung { own.new.poster.now.view.rung ≡ own.old.poster.now.view.rung }
+        ensures clocked { AddsAt now own.old.poster.now own.new.poster.now }
+        ensures others { parts.new.others ≡ parts.old.others }
         ensures delivers { (m : PostData) → starts_frame self.now.looper m ≡ true → OnOk result (Delivers self.now.script.now self.now.looper now m (calls_of own.old.poster.now) (calls_of own.new.poster.now) parts.old parts.new own.old.journal.now.acts own.new.journal.now.acts) }
     {
         self.run_frame(parts, own, now)?;
@@ -270,6 +278,8 @@ impl<'a, R: Wait> Place<'a, R> {
         ensures own { IsSameOwn own.old own.new }
         ensures lent { IsLent (held own.old) (held own.new) }
         ensures rung { own.new.poster.now.view.rung ≡ own.old.poster.now.view.rung }
+        ensures clocked { AddsAt now own.old.poster.now own.new.poster.now }
+        ensures others { parts.new.others ≡ parts.old.others }
         ensures plays { Plays self.now.script.now self.now.looper (λ a. a) (calls_of own.old.poster.now) parts.old (calls_of own.new.poster.now) parts.new }
         ensures acts { own.new.journal.now.acts ≡ own.old.journal.now.acts }
         ensures seen { IsPrefix parts.old.frames.view.seen parts.new.frames.view.seen }
@@ -300,6 +310,8 @@ impl<'a, R: Wait> Place<'a, R> {
         ensures own { IsSameOwn own.old own.new }
         ensures lent { IsLent (held own.old) (held own.new) }
         ensures rung { own.new.poster.now.view.rung ≡ own.old.poster.now.view.rung }
+        ensures clocked { AddsAt now own.old.poster.now own.new.poster.now }
+        ensures others { parts.new.others ≡ parts.old.others }
         ensures plays { OnOk result (Plays self.now.script.now self.now.looper (object_set self.now.script.now self.now.looper now object target) (calls_of own.old.poster.now) parts.old (calls_of own.new.poster.now) parts.new) }
         ensures acts { own.new.journal.now.acts ≡ own.old.journal.now.acts }
         ensures frames { parts.new.frames ≡ parts.old.frames }
@@ -321,6 +333,8 @@ impl<'a, R: Wait> Place<'a, R> {
         ensures own { IsSameOwn own.old own.new }
         ensures lent { IsLent (held own.old) (held own.new) }
         ensures rung { own.new.poster.now.view.rung ≡ own.old.poster.now.view.rung }
+        ensures clocked { AddsAt now own.old.poster.now own.new.poster.now }
+        ensures others { parts.new.others ≡ parts.old.others }
         ensures delivers { OnOk result (Delivers self.now.script.now self.now.looper now p.now (calls_of own.old.poster.now) (calls_of own.new.poster.now) parts.old parts.new own.old.journal.now.acts own.new.journal.now.acts) }
     {
         match p.what {
@@ -334,7 +348,7 @@ impl<'a, R: Wait> Place<'a, R> {
     }
 
     /// Whether the message is one of the choreographer, or has an object: the handler's callback object takes it then.
-    fn intercepts(&self, m: &Message<PoolClaim>) -> bool
+    pub(crate) fn intercepts(&self, m: &Message<PoolClaim>) -> bool
         requires { IsLooperOf self.now.script.now self.now.hall.now self.now.looper }
         ensures { result ≡ (option_map_or (λ h. h == the_frame_handler self.now.looper) (handler_of m.now.item) false || is_some (obj_of m.now.item)) }
     {
@@ -343,13 +357,20 @@ impl<'a, R: Wait> Place<'a, R> {
 
     /// Delivers a message that has no callback: one of the choreographer to it, one with an object to the gauge of that number, and
     /// any other to the rules. Where the run is given up it delivers none.
-    fn deliver(&self, parts: &mut Parts, own: &mut Own, p: &Post, now: u64) -> Result<(), NoMemory>
+    pub(crate) fn deliver(
+        &self,
+        parts: &mut Parts,
+        own: &mut Own,
+        p: &Post,
+        now: u64,
+    ) -> Result<(), NoMemory>
         requires serves { ServesAt self.now.script.now self.now.hall.now self.now.looper parts.old (workplace (held own.old)) }
         requires callback { p.now.callback ≡ None }
         ensures parts { AreSameParts parts.old parts.new }
         ensures own { IsSameOwn own.old own.new }
         ensures lent { IsLent (held own.old) (held own.new) }
         ensures rung { own.new.poster.now.view.rung ≡ own.old.poster.now.view.rung }
+        ensures clocked { DeliversAt self.now.looper now p.now own.old.poster.now own.new.poster.now parts.old parts.new }
         ensures delivers { OnOk result (Delivers self.now.script.now self.now.looper now p.now (calls_of own.old.poster.now) (calls_of own.new.poster.now) parts.old parts.new own.old.journal.now.acts own.new.journal.now.acts) }
     {
         if self.hall.stop.is_stopped(self.rt) {
@@ -371,6 +392,7 @@ impl<'a, R: Wait> Place<'a, R> {
         ensures own { IsSameOwn own.old own.new }
         ensures lent { IsLent (held own.old) (held own.new) }
         ensures rung { own.new.poster.now.view.rung ≡ own.old.poster.now.view.rung }
+        ensures untimed { CallsUntimed own.old.poster.now own.new.poster.now parts.old parts.new }
         ensures plays { OnOk result (Plays self.now.script.now self.now.looper (reacted self.now.script.now now p.now) (calls_of own.old.poster.now) parts.old (calls_of own.new.poster.now) parts.new) }
         ensures acts { own.new.journal.now.acts ≡ own.old.journal.now.acts }
         ensures rest { (parts.new.frames ≡ parts.old.frames) × (parts.new.root ≡ parts.old.root) }
@@ -397,6 +419,7 @@ impl<'a, R: Wait> Place<'a, R> {
         ensures own { IsSameOwn own.old own.new }
         ensures lent { IsLent (held own.old) (held own.new) }
         ensures rung { own.new.poster.now.view.rung ≡ own.old.poster.now.view.rung }
+        ensures untimed { CallsUntimed own.old.poster.now own.new.poster.now parts.old parts.new }
         ensures plays { OnOk result (Plays self.now.script.now self.now.looper (rule_met self.now.script.now now p.now place rule.now) (calls_of own.old.poster.now) parts.old (calls_of own.new.poster.now) parts.new) }
         ensures acts { own.new.journal.now.acts ≡ own.old.journal.now.acts }
         ensures rest { (parts.new.frames ≡ parts.old.frames) × (parts.new.root ≡ parts.old.root) }
@@ -418,6 +441,7 @@ impl<'a, R: Wait> Place<'a, R> {
         ensures own { IsSameOwn own.old own.new }
         ensures lent { IsLent (held own.old) (held own.new) }
         ensures rung { own.new.poster.now.view.rung ≡ own.old.poster.now.view.rung }
+        ensures untimed { CallsUntimed own.old.poster.now own.new.poster.now parts.old parts.new }
         ensures plays { OnOk result (Plays self.now.script.now self.now.looper (λ a. record a { sent = a.sent ++ reaction self.now.script.now now rule.now ∷ [] }) (calls_of own.old.poster.now) parts.old (calls_of own.new.poster.now) parts.new) }
         ensures acts { own.new.journal.now.acts ≡ own.old.journal.now.acts }
         ensures rest { (parts.new.frames ≡ parts.old.frames) × (parts.new.root ≡ parts.old.root) }
@@ -443,6 +467,7 @@ impl<'a, R: Wait> Place<'a, R> {
         ensures own { IsSameOwn own.old own.new }
         ensures lent { IsLent (held own.old) (held own.new) }
         ensures rung { own.new.poster.now.view.rung ≡ own.old.poster.now.view.rung }
+        ensures untimed { AddsUntimed own.old.poster.now own.new.poster.now }
         ensures plays { (parts : PartsData) (timing : Timing) → OnOk result (Plays self.now.script.now self.now.looper (with_call self.now.looper (call_by handler request) timing) (calls_of own.old.poster.now) parts (calls_of own.new.poster.now) parts) }
         ensures acts { own.new.journal.now.acts ≡ own.old.journal.now.acts }
     {
@@ -471,6 +496,8 @@ impl<'a, R: Wait> Place<'a, R> {
         ensures own { IsSameOwn own.old own.new }
         ensures lent { IsLent (held own.old) (held own.new) }
         ensures rung { own.new.poster.now.view.rung ≡ own.old.poster.now.view.rung }
+        ensures untimed { AreUntimed parts.old.others.items parts.new.others.items }
+        ensures seen { own.new.poster.now ≡ own.old.poster.now }
         ensures plays { (timing : Timing) → OnOk result (Plays self.now.script.now self.now.looper (with_call looper (call_by handler request) timing) (calls_of own.old.poster.now) parts.old (calls_of own.new.poster.now) parts.new) }
         ensures calls { calls_of own.new.poster.now ≡ calls_of own.old.poster.now }
         ensures acts { own.new.journal.now.acts ≡ own.old.journal.now.acts }
@@ -514,6 +541,7 @@ impl<'a, R: Wait> Place<'a, R> {
         ensures own { IsSameOwn own.old own.new }
         ensures lent { IsLent (held own.old) (held own.new) }
         ensures rung { own.new.poster.now.view.rung ≡ own.old.poster.now.view.rung }
+        ensures untimed { AddsUntimed poster.old poster.new }
         ensures made { OnOk result (Makes poster.old poster.new (call_by handler request) []) }
         ensures acts { own.new.journal.now.acts ≡ own.old.journal.now.acts }
         ensures seen { own.new.poster.now ≡ own.old.poster.now }
@@ -574,7 +602,7 @@ fn is_wanting(sent: HostSent) -> bool
     matches!(sent, HostSent::NoMemory)
 }
 
-fn did(done: Result<(), NoMemory>) -> Did
+pub(crate) fn did(done: Result<(), NoMemory>) -> Did
     ensures no { result ≡ No → ⊥ }
     ensures yes { result ≡ Yes → is_ok done ≡ true }
 {

@@ -1,6 +1,5 @@
-use Rattle.std.proofs.Common.{◌≡◌, ◌<◌, ◌∙◌, length, refl, inl, arith}
+use Rattle.std.proofs.Common.{◌<◌, length, refl, inl, arith}
 use Rattle.std.proofs.lemmas.Option.{slice_get_read}
-use Rattle.dash_loopers.specs.Players.{PlaceWithout}
 use Rattle.dash_loopers.proofs.LooperPlaces.{queue_count, other_of, other_within, parts_self, parts_with}
 use Rattle.dash_loopers.proofs.looper.close.Goals as goal
 

@@ -6,6 +6,7 @@ use Rattle.dash_loopers.specs.declared.player.Parts.{Parts}
 use Rattle.dash_loopers.specs.Loopers.{others_in}
 use Rattle.dash_loopers.proofs.LooperKits.{looper_of, parts_of, others_many, kit_again, seen_over, disposes_again, told_again}
 use Rattle.dash_loopers.proofs.LooperPlayed.{left_by}
+use Rattle.dash_loopers.proofs.LooperLeft.{left_by_clock}
 use Rattle.dash_loopers.proofs.looper.StageLooper.into_kit.Goals as goal
 
 pub insert-requires : goal.insert-requires
@@ -52,6 +53,14 @@ pub returns-clause-left : goal.returns-clause-left
 returns-clause-left c =
     let parts = c.in-Some.parts in
     left_by c.args.script.now c.args.hall.now c.args.self parts _ _ c.requires.hall c.requires.looper c.in-Some.is
+    (c.in_ok-insert.ensures.items ∙ ap (λ (p : Sender). insert parts.others.items c.args.self.number p) c.into_parts-poster.ensures.0)
+    (c.in_ok-push-2.ensures.items ∙ ap (λ (l : List Pass). l ++ parts.root.pass ∷ []) (c.in_ok-push.ensures.items ∙ ap (λ (l : List Pass). l ++ parts.frames ∷ []) c.new-passes.ensures.items))
+    c.into_parts-poster.ensures.2
+
+pub returns-clause-left_by : goal.returns-clause-left_by
+returns-clause-left_by c =
+    let parts = c.in-Some.parts in
+    left_by_clock c.args.script.now c.args.hall.now c.args.self parts _ _ c.requires.hall c.requires.looper c.in-Some.is
     (c.in_ok-insert.ensures.items ∙ ap (λ (p : Sender). insert parts.others.items c.args.self.number p) c.into_parts-poster.ensures.0)
     (c.in_ok-push-2.ensures.items ∙ ap (λ (l : List Pass). l ++ parts.root.pass ∷ []) (c.in_ok-push.ensures.items ∙ ap (λ (l : List Pass). l ++ parts.frames ∷ []) c.new-passes.ensures.items))
     c.into_parts-poster.ensures.2

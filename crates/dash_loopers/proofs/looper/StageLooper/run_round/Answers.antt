@@ -48,7 +48,7 @@ returns-clause-looper g c =
     let at = slice_get_read hall.queues.items hall.queues.len l.number c.index.result.now (omega (arith, hall.queues.ok.0)) (omega (arith, count, one, hall.queues.ok.0)) c.index.ensures in
     let d = c.run_round-self.new.d in
     let left = λ (w : Workplace) (first : ServesAt c.args.script.now hall l.number c.in-Some.parts w). serves_with d.place.script.now d.place.hall.now d.place.looper d.parts c.close.new.parts w c.close.ensures.parts (c.run_round-self.ensures.serves w first) in
-    looper_then c.args.script.now hall c.args.now _ l c.index.result.now _ c.in-Some.parts c.close.new.parts c.run_round-self.new.self c.run_round-self.result c.requires.hall c.requires.looper is at
+    looper_then c.args.script.now hall c.args.now c.args.now _ l c.index.result.now _ c.in-Some.parts c.close.new.parts c.run_round-self.new.self c.run_round-self.result c.requires.hall c.requires.looper is at
     c.run_round-self.ensures.origin left c.run_round-self.ensures.same c.run_round-self.ensures.ended c.run_round-self.ensures.round (round_any _ c.args.now l.looper c.run_round-self.new.self c.run_round-self.result c.run_round-self.ensures.looks) (sym c.has_ended.ensures ∙ c.if-has_ended.false) (sym c.gave_up.ensures ∙ c.if-gave_up.false)
 
 pub returns-clause-round : goal.returns-clause-round

@@ -4,6 +4,7 @@ use Rattle.frame_phases.specs.Frames.{is_pulse_if_any}
 use Rattle.choreographer.specs.Calls.{stamp_in}
 use Rattle.dash_loopers.proofs.LooperPlaces.{its_period}
 use Rattle.dash_loopers.proofs.PlaySteps.{pulse_hosted}
+use Rattle.dash_loopers.proofs.LooperClock.{untimed_same, pulse_untimed_hosted}
 use Rattle.dash_loopers.proofs.player.Place.deliver_pulse.Goals as goal
 
 pub returns-clause-pulses : goal.returns-clause-pulses
@@ -20,3 +21,14 @@ returns-clause-is_pulse g c =
     let place = c.args.self.now in
     let period = its_period place.script.now place.hall.now place.looper c.requires.serves.looper c.choreographer.result.now c.choreographer.ensures in
     subst (λ (n : ℕ). is_pulse_if_any n (stamp_in c.deliver.result) ≡ true) period c.deliver.ensures.is_pulse
+
+pub returns-clause-untimed : goal.returns-clause-untimed
+returns-clause-untimed g c =
+    let h = c.host-host.result in
+    let k = c.deliver.new.self in
+    let o = origin_of h.queue.now h.pool.now h.poster.ghost_name h.pass.ghost_name h.began.now.value h.pass_began.now.value h.handler.id h.now in
+    let o' = origin_of k.queue.now k.pool.now k.poster.ghost_name k.pass.ghost_name k.began.now.value k.pass_began.now.value k.handler.id k.now in
+    record {
+      own = pulse_untimed_hosted o o' c.args.own.now.poster.now h.poster.now k.poster.now k.pass.now c.args.parts.now.frames c.deliver.new.pass c.deliver.result c.deliver.ensures.origin c.deliver.ensures.ready c.host-host.ensures.began.0 c.host-host.ensures.poster.1 c.deliver.ensures.pulse;
+      others = untimed_same c.args.parts.now.others.items c.args.parts.now.others.items refl;
+    }

@@ -4,6 +4,9 @@ use Rattle.looper_run.proofs.Working.{lent_self}
 use Rattle.choreographer.proofs.Phases.{on_ok}
 use Rattle.dash_loopers.proofs.RuleSteps.{plays_fired, plays_used_up, plays_other}
 use Rattle.dash_loopers.specs.Played.{calls_of, FiresAt}
+use Rattle.std.proofs.Common.{refl, ap}
+use Rattle.dash_loopers.specs.declared.player.Parts.{Parts}
+use Rattle.dash_loopers.proofs.LooperClock.{calls_untimed_self, calls_untimed_from}
 use Rattle.dash_loopers.proofs.player.Place.fire.Goals as goal
 use Rattle.dash_loopers.proofs.player.Place.fire.Goals.{then-p-rule-via-then-p-rule, then-p-rule-via-else-p-rule+then-p-rule-2}
 
@@ -29,3 +32,16 @@ pub returns-clause-plays : goal.returns-clause-plays
 returns-clause-plays g c =
     plays_used_up c.args.self.now.script.now c.args.self.now.looper c.args.now c.args.p.now c.args.place c.args.rule.now (calls_of c.args.own.now.poster.now) c.args.parts.now c.fires.new.parts
     (subst (FiresAt c.args.place c.args.rule.now.times c.args.parts.now c.fires.new.parts) c.if-fires.false c.fires.ensures.fires)
+
+pub returns-then-p-rule-clause-untimed : goal.returns-then-p-rule-clause-untimed
+returns-then-p-rule-clause-untimed g c = calls_untimed_self c.args.own.now.poster.now c.args.own.now.poster.now c.args.parts.now c.args.parts.now refl refl
+
+pub returns-then-fires-clause-untimed : goal.returns-then-fires-clause-untimed
+returns-then-fires-clause-untimed g c =
+    let counted = subst (FiresAt c.args.place c.args.rule.now.times c.args.parts.now c.fires.new.parts) c.if-fires.true c.fires.ensures.fires in
+    calls_untimed_from c.args.own.now.poster.now c.send.new.own.poster.now c.args.parts.now c.fires.new.parts c.send.new.parts counted.4.0 c.send.ensures.untimed
+
+pub returns-clause-untimed : goal.returns-clause-untimed
+returns-clause-untimed g c =
+    let still = subst (FiresAt c.args.place c.args.rule.now.times c.args.parts.now c.fires.new.parts) c.if-fires.false c.fires.ensures.fires in
+    calls_untimed_self c.args.own.now.poster.now c.args.own.now.poster.now c.args.parts.now c.fires.new.parts refl (ap (λ (p : Parts). p.others) still.0)

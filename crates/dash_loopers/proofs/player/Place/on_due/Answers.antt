@@ -10,6 +10,8 @@ use Rattle.dash_loopers.proofs.PlaySteps.{untold_hosted, played_with}
 use Rattle.looper_run.specs.Holding.{held}
 use Rattle.looper_run.proofs.Working.{lent_self}
 use Rattle.dash_loopers.proofs.LooperPlaces.{frame_of_badge, its_phases}
+use Rattle.dash_hall.proofs.HostClock.{adds_hosted}
+use Rattle.dash_hall.proofs.HostClock.{begins_by_clock}
 use Rattle.dash_loopers.proofs.player.Place.on_due.Goals as goal
 
 pub returns-then-phase-phases-clause-lent : goal.returns-then-phase-phases-clause-lent
@@ -44,3 +46,14 @@ returns-clause-calls g c =
 
 pub returns-clause-asks : goal.returns-clause-asks
 returns-clause-asks g c = ap asks_in (due_records c.args.parts.now.frames c.on_due.new.pass (λ n. n == nanos_of c.host-host.result.now) c.args.phase c.on_due.result c.on_due.ensures.due)
+
+pub returns-clause-clocked : goal.returns-clause-clocked
+returns-clause-clocked g c =
+    let h = c.host-host.result in
+    let k = c.on_due.new.self in
+    let o = origin_of h.queue.now h.pool.now h.poster.ghost_name h.pass.ghost_name h.began.now.value h.pass_began.now.value h.handler.id h.now in
+    let o' = origin_of k.queue.now k.pool.now k.poster.ghost_name k.pass.ghost_name k.began.now.value k.pass_began.now.value k.handler.id k.now in
+    adds_hosted o o' c.args.now c.args.own.now.poster.now k.poster.now k.pass.now c.on_due.ensures.origin c.on_due.ensures.ready c.host-host.ensures.began.0 c.host-host.ensures.moment.0
+
+pub returns-then-phase-phases-clause-clocked : goal.returns-then-phase-phases-clause-clocked
+returns-then-phase-phases-clause-clocked g c = begins_by_clock c.args.now c.args.own.now.poster.now c.args.own.now.poster.now refl

@@ -3,6 +3,7 @@ use Rattle.looper_run.specs.Holding.{held}
 use Rattle.looper_run.proofs.Working.{lent_self}
 use Rattle.dash_loopers.specs.Played.{calls_of}
 use Rattle.dash_loopers.proofs.PlaySteps.{delivered_quiet, step_delivered, still_delivered}
+use Rattle.dash_hall.proofs.HostClock.{begins_by_clock}
 use Rattle.dash_loopers.proofs.player.Place.on_frame.Goals as goal
 
 pub returns-in_default-clause-lent : goal.returns-in_default-clause-lent
@@ -27,3 +28,6 @@ returns-in_default-clause-delivers g c =
     let isnt : m.what ≢ 0 = search rules in
     still_delivered s q c.args.now m (calls_of old.poster.now) (calls_of old.poster.now) c.args.parts.now c.args.parts.now old.journal.now.acts old.journal.now.acts (λ a. a) refl
     (λ a. delivered_quiet s q c.args.now m a c.requires.callback c.requires.handler isnt) (λ a. refl) (λ text a is. is) refl
+
+pub returns-in_default-clause-clocked : goal.returns-in_default-clause-clocked
+returns-in_default-clause-clocked g c = begins_by_clock c.args.now c.args.own.now.poster.now c.args.own.now.poster.now refl

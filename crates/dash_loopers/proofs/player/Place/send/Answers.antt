@@ -3,6 +3,8 @@ use Rattle.run_model.specs.Control.{At}
 use Rattle.choreographer.proofs.Phases.{on_ok}
 use Rattle.dash_loopers.proofs.RuleSteps.{plays_sent}
 use Rattle.dash_loopers.proofs.RuleText.{sends_within}
+use Rattle.std.proofs.Common.{refl}
+use Rattle.dash_loopers.proofs.LooperClock.{untimed_self, untimed_same}
 use Rattle.dash_loopers.proofs.player.Place.send.Goals as goal
 
 pub returns-then-looper-self-clause-plays : goal.returns-then-looper-self-clause-plays
@@ -16,3 +18,9 @@ send_other-requires-clause-within g c = λ text.
 pub returns-clause-plays : goal.returns-clause-plays
 returns-clause-plays g c =
     on_ok c.send_other.result _ _ (c.send_other.ensures.plays (At c.args.now)) (λ plays. plays_sent c.args.self.now.script.now c.args.self.now.looper c.args.now c.args.rule.now c.looper_of-looper.result c.handler_of-handler.result c.saturating_add.result _ _ _ _ c.looper_of-looper.ensures c.handler_of-handler.ensures c.saturating_add.ensures plays)
+
+pub returns-then-looper-self-clause-untimed : goal.returns-then-looper-self-clause-untimed
+returns-then-looper-self-clause-untimed g c = record { own = c.send_own.ensures.untimed; others = untimed_same c.args.parts.now.others.items c.args.parts.now.others.items refl }
+
+pub returns-clause-untimed : goal.returns-clause-untimed
+returns-clause-untimed g c = record { own = untimed_self c.args.own.now.poster.now c.send_other.new.own.poster.now c.send_other.ensures.seen; others = c.send_other.ensures.untimed }

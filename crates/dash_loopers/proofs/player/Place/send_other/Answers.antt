@@ -6,6 +6,9 @@ use Rattle.dash_loopers.specs.Played.{calls_of, IsPlayed}
 use Rattle.looper_run.proofs.Working.{lent_self}
 use Rattle.dash_loopers.proofs.LooperPlaces.{queue_home, queue_count, other_of, other_within, parts_with}
 use Rattle.dash_loopers.proofs.RuleSteps.{called_there}
+use Rattle.std.proofs.Common.{ap}
+use Rattle.dash_hall.specs.Kits.{Badge}
+use Rattle.dash_loopers.proofs.LooperClock.{untimed_same, untimed_put}
 use Rattle.dash_loopers.proofs.player.Place.send_other.Goals as goal
 
 pub returns-then-place-len-clause-lent : goal.returns-then-place-len-clause-lent
@@ -65,3 +68,17 @@ returns-clause-plays g c = λ timing.
     called_there place.script.now place.looper c.args.looper c.place_without.result c.args.handler c.args.request timing c.index_mut-poster.result.now c.send_by.new.poster _ c.args.parts.now _ c.place_without.ensures
     (slice_get_read others.items others.len c.place_without.result c.index_mut-poster.result.now (omega (arith, others.ok.0)) (omega (arith, within, others.ok.0)) c.index_mut-poster.ensures.value)
     m refl refl refl a (subst (λ (p : Sender). IsPlayed place.script.now place.looper (calls_of p) c.args.parts.now a) (sym c.send_by.ensures.seen) is))
+
+pub returns-then-place-len-clause-untimed : goal.returns-then-place-len-clause-untimed
+returns-then-place-len-clause-untimed g c = untimed_same c.args.parts.now.others.items c.args.parts.now.others.items refl
+
+pub returns-clause-untimed : goal.returns-clause-untimed
+returns-clause-untimed g c =
+    let place = c.args.self.now in
+    let hall = place.hall.now in
+    let others = c.args.parts.now.others in
+    let near : c.args.looper < length hall.queues.items = omega (arith, hall.queues.ok.0) in
+    let within : c.place_without.result < length others.items = other_within place.script.now hall place.looper c.args.looper c.place_without.result c.args.parts.now c.requires.serves.looper c.requires.serves.are_parts near c.place_without.ensures in
+    untimed_put others.items c.place_without.result c.index_mut-poster.result.now c.send_by.new.poster
+    (slice_get_read others.items others.len c.place_without.result c.index_mut-poster.result.now (omega (arith, others.ok.0)) (omega (arith, within, others.ok.0)) c.index_mut-poster.ensures.value)
+    (ap (λ (b : Badge). b.sender) c.send_by.ensures.poster) c.send_by.ensures.untimed

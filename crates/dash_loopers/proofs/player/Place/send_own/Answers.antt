@@ -1,6 +1,8 @@
 use Rattle.dash_loopers.proofs.LooperPlaces.{queue_home}
 use Rattle.choreographer.proofs.Phases.{on_ok}
 use Rattle.dash_loopers.proofs.RuleSteps.{called_here}
+use Rattle.dash_hall.specs.Requests.{call_by}
+use Rattle.dash_loopers.proofs.LooperClock.{no_moment_by, made_untimed}
 use Rattle.dash_loopers.proofs.player.Place.send_own.Goals as goal
 
 pub make-requires : goal.make-requires
@@ -13,3 +15,7 @@ make-requires g c = record {
 pub returns-clause-plays : goal.returns-clause-plays
 returns-clause-plays g c = λ parts timing.
     on_ok c.make.result _ _ c.make.ensures.made (λ m. called_here c.args.self.now.script.now c.args.self.now.looper c.args.handler c.args.request timing c.args.own.now.poster.now c.make.new.way.poster.now parts m)
+
+pub returns-clause-untimed : goal.returns-clause-untimed
+returns-clause-untimed g c =
+    made_untimed c.args.own.now.poster.now c.make.new.way.poster.now c.args.own.now.pass.now c.make.new.way.pass.now (call_by c.args.handler c.args.request) c.make.result c.make.ensures.on (no_moment_by c.args.handler c.args.request) c.make.ensures.made c.make.ensures.none

@@ -1,0 +1,150 @@
+-- In a loop by a clock a looper goes on from where it stood: what keeps that it has.
+use Rattle.std.proofs.Common.{◌≡◌, ℕ, true, false, List, [], ◌∷◌, ◌++◌, Some, None, refl, sym, ap, ◌∙◌, subst, arith}
+use Rattle.std.specs.Prelude.{◌==◌, ◌||◌, is_some, Result, Ok, Err, is_ok, OnOk}
+use Rattle.std.specs.Option.{option_map_or}
+use Rattle.loop_model.specs.declared.post.Post.{Post as PostData}
+use Rattle.loop_model.specs.declared.item.Item.{Item}
+use Rattle.loop_model.specs.declared.item.Item.TheVariants.{Post as Message, Barrier as Fence}
+use Rattle.message_slot.specs.Fields.{handler_of, obj_of}
+use Rattle.shared_queue.specs.Known.{IsSame}
+use Rattle.loop_model.specs.declared.entry.Entry.{Entry}
+use Rattle.loop_model.specs.declared.journal.Act.{Act}
+use Rattle.loop_model.specs.declared.journal.Act.TheVariants.{Dispatch}
+use Rattle.loop_model.specs.declared.journal.Route.{Route}
+use Rattle.loop_model.specs.Posts.{post_at}
+use Rattle.message_slot.specs.Letter.{number_in, post_of}
+use Rattle.message_pool.specs.Passes.{Node}
+use Rattle.dash_script.specs.declared.script.Script.{Script}
+use Rattle.looper_run.specs.Holding.{Sender, Holding}
+use Rattle.looper_run.specs.Tests.{Passes, PassesWith, IsLent, IsTake, HasTaken, Unless}
+use Rattle.looper_run.specs.declared.dispatcher.Did.{Did}
+use Rattle.looper_run.specs.declared.dispatcher.Did.TheVariants.{Yes, No, NoMemory}
+use Rattle.run_model.specs.Senders.{frame_handler}
+use Rattle.run_model.specs.Loopers.{Looper}
+use Rattle.dash_loopers.specs.declared.player.Parts.{Parts}
+use Rattle.dash_loopers.specs.declared.looper.StageLooper.{StageLooper}
+use Rattle.dash_loopers.specs.Played.{calls_in, calls_of, Delivers, pulsed, Pulses, AreAlike, IsPlayingBy}
+use Rattle.dash_loopers.proofs.OpenTimes.{delivered_alike, taken_alike, pulsed_alike}
+use Rattle.dash_loopers.proofs.LooperStands.{taken, stands_pulse, by_dispatch, by_reading, stands_dispatch}
+use Rattle.dash_loopers.proofs.LooperPlaying.{did_well}
+
+cleared : (a b : Looper) → AreAlike a b → AreAlike (record a { painted = [] }) (record b { painted = [] })
+cleared a b h = record {
+  gauges = h.gauges;
+  barrier = h.barrier;
+  barriers = h.barriers;
+  fired = h.fired;
+  sent = h.sent;
+  posted = h.posted;
+  painted = refl;
+  place = h.place;
+  frames = h.frames;
+}
+
+-- a message that goes to the rules is delivered at the moment of its dispatch
+abbrev pub IsAtOnce : ℕ → PostData → ℕ → ℕ → Type 0
+IsAtOnce q m u now = m.obj ≡ None → (m.handler == frame_handler q) ≡ false → u ≡ now
+
+module _ (s : Script) (q : ℕ) (began : StageLooper) where
+  -- a pulse was delivered and told, or none came
+  pulsed_by : (now k k' : ℕ) (es es' more : List Entry) (acts acts' : List Act) (parts parts' : Parts) → k' ≡ k → es' ≡ es ++ more → Pulses s q now (calls_in k es) (calls_in k' es') parts parts' acts acts'
+      → IsPlayingBy s q began k es acts parts → IsPlayingBy s q began k' es' acts' parts'
+  pulsed_by now k k' es es' more acts acts' parts parts' same saw p meets =
+      let here : Pulses s q now (calls_in k es) (calls_in k (es ++ more)) parts parts' acts acts' = subst (λ l. Pulses s q now (calls_in k es) l parts parts' acts acts') (λ i. calls_in (same i) (saw i)) p in
+      subst (λ (n : ℕ). IsPlayingBy s q began n es' acts' parts') (sym same) (subst (λ (l : List Entry). IsPlayingBy s q began k l acts' parts') (sym saw) (λ text did a come.
+      (let c = meets text did a come in
+      record {
+        did = pulsed q here.stamp c.did;
+        state = pulsed q here.stamp c.state;
+        alike = pulsed_alike q here.stamp c.did c.state c.alike;
+        stands = stands_pulse s q k now es more acts acts' parts parts' c.did c.state text here c.stands;
+      })))
+
+  pub by_pulse : (now : ℕ) (before after : Holding) (parts parts' : Parts) → IsLent before after → Pulses s q now (calls_of before.poster) (calls_of after.poster) parts parts' before.journal.acts after.journal.acts
+      → Passes (λ k es acts. IsPlayingBy s q began k es acts parts) before → Passes (λ k es acts. IsPlayingBy s q began k es acts parts') after
+  by_pulse now before after parts parts' lent p meets =
+      pulsed_by now before.poster.sender after.poster.sender before.poster.view.seen after.poster.view.seen lent.more before.journal.acts after.journal.acts parts parts' lent.same.sender lent.seen p meets
+
+  -- a message that was taken is dispatched, and delivered at a moment that was read
+  dispatched_by : (k k' n time u : ℕ) (m : PostData) (past es es' more : List Entry) (e : Entry) (acts acts' : List Act) (route : Route) (parts parts' : Parts) → k' ≡ k → es ≡ past ++ e ∷ [] → es' ≡ es ++ more
+      → IsTake k time n e → post_at past n ≡ Some m → IsAtOnce q m u time → Delivers s q u m (calls_in k es) (calls_in k' es') parts parts' acts acts'
+      → IsPlayingBy s q began k past acts parts → IsPlayingBy s q began k' es' (acts' ++ Dispatch n time route ∷ []) parts'
+  dispatched_by k k' n time u m past es es' more e acts acts' route parts parts' same seen saw take post once d meets =
+      let whole : es' ≡ (past ++ e ∷ []) ++ more = saw ∙ ap (λ (l : List Entry). l ++ more) seen in
+      let here : Delivers s q u m (calls_in k (past ++ e ∷ [])) (calls_in k ((past ++ e ∷ []) ++ more)) parts parts' acts acts' =
+      subst (λ l. Delivers s q u m l (calls_in k ((past ++ e ∷ []) ++ more)) parts parts' acts acts') (ap (calls_in k) seen) (subst (λ l. Delivers s q u m (calls_in k es) l parts parts' acts acts') (λ i. calls_in (same i) (whole i)) d) in
+      subst (λ (j : ℕ). IsPlayingBy s q began j es' (acts' ++ Dispatch n time route ∷ []) parts') (sym same)
+      (subst (λ (l : List Entry). IsPlayingBy s q began k l (acts' ++ Dispatch n time route ∷ []) parts') (sym whole) (λ text did a come.
+      (let c = meets text did a come in
+      let frame = here.ran.frame in
+      let alike = delivered_alike s q u time here.ids m (taken q n time u frame c.did) (taken q n time time frame c.state) once (taken_alike q n time u time frame c.did c.state c.alike) in
+      record {
+        did = by_reading s q k n time u m past more e take acts acts' parts parts' here c.did c.state;
+        state = by_dispatch s q k n time u m past more e take acts acts' parts parts' here c.did c.state;
+        alike = cleared _ _ alike;
+        stands = stands_dispatch s q k n time u m past more e take acts acts' parts parts' here c.did c.state route text post (c.alike.painted ∙ c.stands.settled) alike.painted c.stands;
+      })))
+
+  pub by_delivery : (time u : ℕ) (node : Node) (route : Route) (before after : Holding) (parts parts' : Parts) → IsLent before after
+      → HasTaken (λ k es acts. IsPlayingBy s q began k es acts parts) before node time → IsAtOnce q (post_of node.item) u time
+      → Delivers s q u (post_of node.item) (calls_of before.poster) (calls_of after.poster) parts parts' before.journal.acts after.journal.acts
+      → PassesWith (λ k es acts. IsPlayingBy s q began k es acts parts') after node time route
+  by_delivery time u node route before after parts parts' lent t once d =
+      dispatched_by before.poster.sender after.poster.sender (number_in node.item) time u (post_of node.item) t.past before.poster.view.seen after.poster.view.seen lent.more t.take before.journal.acts after.journal.acts route parts parts' lent.same.sender t.seen lent.seen t.is_take t.post once d t.passes
+
+  -- a pulse was delivered, or none came, unless memory was wanting
+  pub pulse_or_none_by : (now : ℕ) (d : Did) (before after : Holding) (parts parts' : Parts) → IsLent before after → Unless d (Pulses s q now (calls_of before.poster) (calls_of after.poster) parts parts' before.journal.acts after.journal.acts)
+      → Passes (λ k es acts. IsPlayingBy s q began k es acts parts) before → Unless d (Passes (λ k es acts. IsPlayingBy s q began k es acts parts') after)
+  pulse_or_none_by now Yes before after parts parts' lent p meets = by_pulse now before after parts parts' lent p meets
+  pulse_or_none_by now No before after parts parts' lent p meets = by_pulse now before after parts parts' lent p meets
+  pulse_or_none_by now NoMemory before after parts parts' lent p meets = tt
+
+  -- a message was dispatched, unless memory was wanting
+  pub dispatches_well_by : {A E : Type 0} (time u : ℕ) (node : Node) (route : Route) (m : PostData) (r : Result A E) (d : Did) (before after : Holding) (parts parts' : Parts) → m ≡ post_of node.item → IsAtOnce q m u time → IsLent before after
+      → HasTaken (λ k es acts. IsPlayingBy s q began k es acts parts) before node time
+      → OnOk r (Delivers s q u m (calls_of before.poster) (calls_of after.poster) parts parts' before.journal.acts after.journal.acts)
+      → (d ≡ No → ⊥) → (d ≡ Yes → is_ok r ≡ true)
+      → Unless d (PassesWith (λ k es acts. IsPlayingBy s q began k es acts parts') after node time route)
+  dispatches_well_by time u node route m r d before after parts parts' is once lent t done never well = did_well r d _ never well (by_end r done)
+    where
+      by_end : {A E : Type 0} (r : Result A E) → OnOk r (Delivers s q u m (calls_of before.poster) (calls_of after.poster) parts parts' before.journal.acts after.journal.acts) → OnOk r (PassesWith (λ k es acts. IsPlayingBy s q began k es acts parts') after node time route)
+      by_end (Ok x) h = by_delivery time u node route before after parts parts' lent t (subst (λ (p : PostData). IsAtOnce q p u time) is once) (subst (λ (p : PostData). Delivers s q u p (calls_of before.poster) (calls_of after.poster) parts parts' before.journal.acts after.journal.acts) is h)
+      by_end (Err e) h = tt
+
+-- ---- what a message tells by itself
+
+-- a message that is intercepted doesn't go to the rules
+pub intercepted_once : (q u now : ℕ) (item : Item) (m : PostData) → m ≡ post_of item → (option_map_or (λ h. h == frame_handler q) (handler_of item) false || is_some (obj_of item)) ≡ true → IsAtOnce q m u now
+intercepted_once q u now (Message n p) m is taken none not_frame = absurd (
+    let object : is_some p.obj ≡ false = ap is_some (ap (λ (x : PostData). x.obj) (sym is) ∙ none) in
+    let handler : (p.handler == frame_handler q) ≡ false = ap (λ (x : PostData). x.handler == frame_handler q) (sym is) ∙ not_frame in
+    let wrong : false ≡ true = sym (λ i. handler i || object i) ∙ taken in
+    cc)
+intercepted_once q u now (Fence t w) m is taken none not_frame = absurd cc
+
+-- ---- a bell that was rung behind a delivery
+
+-- what was lent, where the poster rang the bell behind it
+pub lent_rung : (a b : Holding) (p : Sender) → IsLent a b → IsSame b.poster p → p.view.seen ≡ b.poster.view.seen → p.view.heard ≡ b.poster.view.heard → IsLent a (record { poster = p; pass = b.pass; journal = b.journal })
+lent_rung a b p lent same seen heard = record {
+  same = record {
+    table = same.table ∙ lent.same.table;
+    sender = same.sender ∙ lent.same.sender;
+    constants = same.constants ∙ lent.same.constants;
+    heard = heard ∙ lent.same.heard;
+    turns = (let before = lent.same.turns in let still = same.turns in omega (arith, before, still));
+    home = lent.same.home;
+    looper = lent.same.looper;
+  };
+  more = lent.more;
+  did = lent.did;
+  seen = seen ∙ lent.seen;
+  acts = lent.acts;
+  no_looks = lent.no_looks;
+  told = lent.told;
+  back = lent.back;
+}
+
+-- its calls are the same
+pub calls_rung : (p p' : Sender) → IsSame p p' → p'.view.seen ≡ p.view.seen → calls_of p' ≡ calls_of p
+calls_rung p p' same seen = λ i. calls_in (same.sender i) (seen i)

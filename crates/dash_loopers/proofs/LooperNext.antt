@@ -1,0 +1,119 @@
+-- A looper that asked its choreographer for the next pulse stands where it stood.
+use Rattle.std.proofs.Common.{◌≡◌, ℕ, ◌<◌, ◌≤◌, Bool, true, false, List, length, get_or, Option, Some, None, refl, sym, ap, ◌∙◌, subst, arith}
+use Rattle.std.specs.List.{insert}
+use Rattle.std.specs.Option.{IsSomeAnd}
+use Rattle.std.specs.Prelude.{◌+◌, ◌||◌}
+use mathlib.Core.List.{IsPrefix}
+use Rattle.loop_model.proofs.Prefixes.{prefix_trans, prefix_length}
+use Rattle.dash_script.specs.declared.script.Script.{Script}
+use Rattle.looper_run.specs.Holding.{Sender}
+use Rattle.looper_run.specs.Round.{is_ended}
+use Rattle.choreographer.specs.Known.{Known as Pass}
+use Rattle.choreographer.specs.Calls.{AskedBy}
+use Rattle.choreographer.proofs.Recorded.{asked_records}
+use Rattle.run_model.specs.Loopers.{Looper}
+use Rattle.run_model.specs.FrameAsks.{asks_in}
+use Rattle.run_model.specs.Moments.{Mode}
+use Rattle.dash_hall.specs.declared.hall.Hall.{Hall}
+use Rattle.dash_hall.specs.Kits.{IsHall}
+use Rattle.dash_hall.specs.ByClock.{IsByClock}
+use Rattle.dash_hall.proofs.Badges.{frame_turn_badge}
+use Rattle.dash_loopers.specs.declared.player.Parts.{Parts}
+use Rattle.dash_loopers.specs.declared.looper.StageLooper.{StageLooper}
+use Rattle.dash_loopers.specs.Loopers.{ArePartsOf, IsLooper, others_in, posters_of, is_given_up}
+use Rattle.dash_loopers.specs.Played.{AreAlike, StandsBy, ComesBy, HasPlayedBy}
+use Rattle.dash_loopers.specs.Clocked.{AreByClockOf}
+use Rattle.dash_loopers.proofs.FrameIds.{turn_grew}
+use Rattle.dash_loopers.proofs.LooperLoops.{plays_then}
+use Rattle.dash_loopers.proofs.LooperKits.{parts_of, others_many, looper_of}
+
+-- it is the looper still
+pub looper_asked : (s : Script) (hall : Hall) (l : StageLooper) (parts : Parts) (g : Pass) (r : Option ℕ) → IsLooper s hall l → l.parts ≡ Some parts → AskedBy parts.frames g r
+    → IsLooper s hall (record { number = l.number; sender = l.sender; looper = l.looper; parts = Some (record parts { frames = g }); last = l.last })
+looper_asked s hall l parts g r is e asked =
+    let are = parts_of s hall l parts is e in
+    let badge = frame_turn_badge _ _ _ _ asked.1 in
+    record {
+      few = is.few;
+      number = is.number;
+      sender = is.sender;
+      parts = record { others = are.others; frames = λ c at. badge ∙ are.frames c at; client = are.client };
+      place = is.place;
+      own = is.own;
+      journal = is.journal;
+      ended = is.ended;
+      told = is.told;
+      over = is.over;
+      disposes = is.disposes;
+    }
+
+-- and stands where it stood
+pub played_asked : (s : Script) (l : StageLooper) (parts : Parts) (g : Pass) (r : Option ℕ) → l.parts ≡ Some parts → AskedBy parts.frames g r
+    → HasPlayedBy s l (record { number = l.number; sender = l.sender; looper = l.looper; parts = Some (record parts { frames = g }); last = l.last })
+played_asked s l parts g r e asked = λ going text did a come. record {
+  did = did;
+  state = a;
+  alike = come.0;
+  stands =
+      (let st : StandsBy s l.number l.sender l.looper.held.poster.view.seen l.looper.held.journal.acts parts did a =
+      subst (λ (o : Option Parts). IsSomeAnd o (λ ps. StandsBy s l.number l.sender l.looper.held.poster.view.seen l.looper.held.journal.acts ps did a)) e come.1 in
+      let grew : IsPrefix parts.frames.view.seen g.view.seen = turn_grew parts.frames g asked.0 asked.0 asked.1 in
+      record {
+        led = λ fs begins law. st.led fs (prefix_trans parts.frames.view.seen g.view.seen fs grew begins) law;
+        place = (let le = st.place in let longer = prefix_length parts.frames.view.seen g.view.seen grew in omega (arith, le, longer));
+        moments = λ fs begins law. st.moments fs (prefix_trans parts.frames.view.seen g.view.seen fs grew begins) law;
+        whole = λ fs begins law. st.whole fs (prefix_trans parts.frames.view.seen g.view.seen fs grew begins) law;
+        ran = ap asks_in (asked_records parts.frames g r asked) ∙ st.ran;
+        settled = st.settled;
+        played = record { shown = st.played.shown; elsewhere = st.played.elsewhere; fired = st.played.fired; counts = st.played.counts };
+      });
+}
+
+-- its posters are as they were
+pub posters_asked : (l : StageLooper) (parts : Parts) → l.parts ≡ Some parts → insert parts.others.items l.number l.looper.held.poster ≡ posters_of l
+posters_asked l parts e = ap (λ (o : Option Parts). insert (others_in o) l.number l.looper.held.poster) (sym e)
+
+-- ---- from one loop to the next
+
+-- a looper that has done nothing since
+pub played_self : (s : Script) (l : StageLooper) → HasPlayedBy s l l
+played_self s l = λ going text did a come. from l.parts did a come.0 come.1
+  where
+    from : (o : Option Parts) (did a : Looper) → AreAlike did a → IsSomeAnd o (λ parts. StandsBy s l.number l.sender l.looper.held.poster.view.seen l.looper.held.journal.acts parts did a)
+        → IsSomeAnd o (ComesBy s l.number l.sender l.looper.held.poster.view.seen l.looper.held.journal.acts)
+    from None did a alike h = absurd h
+    from (Some parts) did a alike h = record { did = did; state = a; alike = alike; stands = h }
+
+-- a looper is within its posters
+pub looper_within : (s : Script) (hall : Hall) (l : StageLooper) → IsHall s hall → IsLooper s hall l → l.number ≤ length (others_in l.parts)
+looper_within s hall l is_hall is = go l.parts refl
+  where
+    go : (o : Option Parts) → l.parts ≡ o → l.number ≤ length (others_in o)
+    go None e = absurd (subst (λ (o : Option Parts). IsSomeAnd o (ArePartsOf s hall l.number)) e is.parts)
+    go (Some parts) e = others_many s hall l.number (looper_of s hall l is_hall is) parts (parts_of s hall l parts is e)
+
+-- the same posters are by the clock
+pub by_clock_same : (m : Mode) (l k : StageLooper) → posters_of k ≡ posters_of l → AreByClockOf m l → AreByClockOf m k
+by_clock_same m l k same = subst (λ (ps : List Sender). (q : ℕ) (d : Sender) → q < length ps → IsByClock m (get_or ps q d)) (sym same)
+
+-- one that has ended or given up is told by its last round
+pub stopped_not : (a b : Bool) → a ≡ false → b ≡ false → (a || b) ≡ true → ⊥
+stopped_not a b none going is = (let wrong : false ≡ true = sym (λ i. none i || going i) ∙ is in absurd cc)
+
+-- the same looper has the same sender
+pub senders_same : (s : Script) (hall : Hall) (l k : StageLooper) → IsLooper s hall l → IsLooper s hall k → k.number ≡ l.number → k.sender ≡ l.sender
+senders_same s hall l k is is' same = is'.sender ∙ (ap (λ (n : ℕ). s.threads + n) same ∙ sym is.sender)
+
+-- it went on by a pulse asked for and a loop
+pub plays_on : (s : Script) (hall : Hall) (a b k c : StageLooper) → IsLooper s hall a → IsLooper s hall b → IsLooper s hall k → b.number ≡ a.number → k.number ≡ b.number → k.last ≡ b.last → is_given_up b.last ≡ false
+    → HasPlayedBy s a b → HasPlayedBy s b k → HasPlayedBy s k c → HasPlayedBy s a c
+plays_on s hall a b k c is_a is_b is_k here there same going first next last =
+    let far = there ∙ here in
+    plays_then s a k c far (senders_same s hall a k is_a is_k far) (ap is_given_up same ∙ going)
+    (plays_then s a b k here (senders_same s hall a b is_a is_b here) going first next) last
+
+-- one that has ended or given up goes on to nothing
+pub stays_on : (a b c : StageLooper) → ((is_ended a.last || is_given_up a.last) ≡ true → b ≡ a) → is_ended b.last ≡ false → is_given_up b.last ≡ false → (is_ended a.last || is_given_up a.last) ≡ true → c ≡ a
+stays_on a b c still unended going stopped =
+    let same = still stopped in
+    absurd (stopped_not (is_ended a.last) (is_given_up a.last) (ap (λ (z : StageLooper). is_ended z.last) (sym same) ∙ unended) (ap (λ (z : StageLooper). is_given_up z.last) (sym same) ∙ going) stopped)

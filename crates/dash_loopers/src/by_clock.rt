@@ -1,0 +1,378 @@
+//! A looper that runs by a clock.
+ghost use Rattle.std.specs.Prelude.{◌≡◌, ◌+◌, ◌||◌, ℕ, None, Some, IsTrue, true, false, OnOk};
+ghost use Rattle.loop_io.specs.Moments.{IsMoment};
+ghost use Rattle.looper_run.specs.Holding.{workplace, held, IsSameOwn};
+ghost use Rattle.looper_run.specs.Tests.{IsLent};
+ghost use Rattle.looper_run.specs.Round.{is_ended};
+ghost use Rattle.run_model.specs.Moments.{in_free_mode};
+ghost use Rattle.dash_hall.specs.Kits.{IsHall};
+ghost use Rattle.dash_loopers.specs.Loopers.{IsLooper, IsLooperOf, posters_of, round_of, is_given_up};
+ghost use Rattle.dash_loopers.specs.Players.{ServesAt, AreSameParts};
+ghost use Rattle.dash_loopers.specs.Played.{calls_of, Delivers, HasPlayedBy};
+ghost use Rattle.dash_loopers.specs.Clocked.{goes_to_rules, DeliversAt, ClockOwner, ServesFree, IsPlayingAt, StaysByClock};
+ghost use Rattle.dash_loopers.specs.ClockedLaws.{playing_at_others, playing_at_disposed, playing_at_quiet};
+
+use crate::looper::{StageLooper, close};
+use crate::player::{Parts, Place, did};
+use dash_hall::{Hall, Timer, frame_handler};
+use dash_script::Script;
+use loop_io::{Clock, Gate};
+use loop_model::{NoMemory, Post};
+use looper_run::{Did, Dispatcher, Loop, Own, Round};
+use message_pool::PoolClaim;
+use message_slot::Message;
+use std::alloc::Global;
+use std::snapshot::Snapshot;
+use std::sync::Wait;
+use std::time;
+
+/// A looper's code, for one loop by a clock.
+#[derive(Drop)]
+pub(crate) struct ClockPlayer<'a, R: Wait, G: Gate, C: Clock> {
+    pub(crate) place: Place<'a, R>,
+    pub(crate) gate: &'a G,
+    pub(crate) timer: &'a Timer<'a, C>,
+    pub(crate) sender: u32,
+    /// The looper as it was when the loop began.
+    pub(crate) began: &'a Snapshot<StageLooper>,
+    pub(crate) parts: Parts,
+    /// How often it rang the bell of its own queue, wrapping.
+    pub(crate) nudged: u64,
+}
+
+impl<'a, R: Wait, G: Gate, C: Clock> Dispatcher for ClockPlayer<'a, R, G, C> {
+    ghost Serves = { λ d w. ServesFree d.place.script.now d.place.hall.now d.place.looper d.parts w };
+
+    ghost Origin = { ClockOwner };
+
+    ghost origin = { λ d. record {
+      owner = record { script = d.place.script.now; hall = d.place.hall.now; number = d.place.looper; now = 0; began = d.began.now.value };
+      mode = in_free_mode (C.shows d.timer.now.clock.now) d.timer.now.start;
+    } };
+
+    ghost Awaits = { λ d awaited. IsTrue true };
+
+    ghost nudges = { λ d. d.nudged };
+
+    ghost asked = { λ d. None };
+
+    ghost Meets = { λ d s es acts. IsPlayingAt (in_free_mode (C.shows d.timer.now.clock.now) d.timer.now.start) d.place.script.now d.place.looper d.began.now.value s es acts d.parts };
+
+    fn before(&mut self, number: u64) {
+        self.gate.pass(self.sender, self.parts.passed);
+        self.parts.passed = self.parts.passed.saturating_add(1);
+    }
+
+    fn pulse(&mut self, own: &mut Own, now: u64) -> Did {
+        self.place.pulse(&mut self.parts, own, now)
+    }
+
+    fn listen(&mut self, fd: u32, events: u32, listener: u32) -> Option<u32> {
+        Some(listener.min(7))
+    }
+
+    fn run_callback(&mut self, own: &mut Own, id: u64, m: &Message<PoolClaim>, now: u64) -> Did {
+        Did::Yes
+    }
+
+    fn intercept(&mut self, own: &mut Own, m: &Message<PoolClaim>, now: u64) -> Did {
+        if !self.place.intercepts(m) {
+            return Did::No;
+        }
+        let p = m.as_post();
+        let at = self.place.moment_for(self.timer, &p, now);
+        self.nudged = self.nudged.wrapping_add(1);
+        did(self.place.deliver_and_ring(&mut self.parts, own, &p, at))
+    }
+
+    fn handle(&mut self, own: &mut Own, m: &Message<PoolClaim>, now: u64) -> Did {
+        let p = m.as_post();
+        let at = self.place.moment_for(self.timer, &p, now);
+        did(self.place.deliver(&mut self.parts, own, &p, at))
+    }
+
+    ghost others = { λ d s es e acts apart meets. playing_at_others (in_free_mode (C.shows d.timer.now.clock.now) d.timer.now.start) d.place.script.now d.place.looper d.began.now.value s es e acts d.parts apart meets };
+
+    ghost disposal = { λ d s es e now acts own call reply meets. playing_at_disposed (in_free_mode (C.shows d.timer.now.clock.now) d.timer.now.start) d.place.script.now d.place.looper d.began.now.value s es e now acts d.parts own call reply meets };
+
+    ghost quiet = { λ d s es a acts is meets. playing_at_quiet (in_free_mode (C.shows d.timer.now.clock.now) d.timer.now.start) d.place.script.now d.place.looper d.began.now.value s es a acts d.parts is meets };
+}
+
+impl<'a, R: Wait> Place<'a, R> {
+    /// The moment at which a message is delivered that was dispatched at this one, in milliseconds: for the rules that of the dispatch, and
+    /// else a reading of the clock.
+    fn moment_for<C: Clock>(&self, timer: &Timer<C>, p: &Post, now: u64) -> u64
+        requires { IsLooperOf self.now.script.now self.now.hall.now self.now.looper }
+        ensures rules { goes_to_rules self.now.looper p.now ≡ true → result ≡ now }
+        ensures read { goes_to_rules self.now.looper p.now ≡ false → IsMoment (C.shows timer.now.clock.now) timer.now.start result }
+    {
+        if p.handler == frame_handler(self.looper).id {
+            return timer.now();
+        }
+        if p.obj.is_some() {
+            return timer.now();
+        }
+        now
+    }
+
+    /// Delivers a message as `deliver` does, and rings the bell of its own queue, since a frame may be asked for.
+    fn deliver_and_ring(
+        &self,
+        parts: &mut Parts,
+        own: &mut Own,
+        p: &Post,
+        now: u64,
+    ) -> Result<(), NoMemory>
+        requires serves { ServesAt self.now.script.now self.now.hall.now self.now.looper parts.old (workplace (held own.old)) }
+        requires callback { p.now.callback ≡ None }
+        ensures parts { AreSameParts parts.old parts.new }
+        ensures own { IsSameOwn own.old own.new }
+        ensures lent { IsLent (held own.old) (held own.new) }
+        ensures rung { own.new.poster.now.view.rung ≡ own.old.poster.now.view.rung + 1 }
+        ensures clocked { DeliversAt self.now.looper now p.now own.old.poster.now own.new.poster.now parts.old parts.new }
+        ensures delivers { OnOk result (Delivers self.now.script.now self.now.looper now p.now (calls_of own.old.poster.now) (calls_of own.new.poster.now) parts.old parts.new own.old.journal.now.acts own.new.journal.now.acts) }
+    {
+        let done = self.deliver(parts, own, p, now);
+        own.poster.nudge(self.rt, self.queue());
+        done
+    }
+}
+
+impl StageLooper {
+    /// Loops by the clock until its queue is over, the run is given up, or where there is an end, until that time in milliseconds. Where it
+    /// finds no memory it has given up, and the run with it. One that has ended or given up does nothing.
+    pub fn run_by_clock<R: Wait + time::Clock, C: Clock, G: Gate>(
+        &mut self,
+        rt: &R,
+        alloc: Global,
+        hall: &Hall,
+        script: &Script,
+        gate: &G,
+        timer: &Timer<C>,
+        end: Option<u64>,
+    )
+        requires mode { hall.now.lockstep ≡ false }
+        requires hall { IsHall script.now hall.now }
+        requires looper { IsLooper script.now hall.now self.old }
+        ensures looper { IsLooper script.now hall.now self.new }
+        ensures number { self.new.number ≡ self.old.number }
+        ensures stays { (is_ended self.old.last || is_given_up self.old.last) ≡ true → self.new ≡ self.old }
+        ensures plays { HasPlayedBy script.now self.old self.new }
+        ensures clocked { StaysByClock (in_free_mode (C.shows timer.now.clock.now) timer.now.start) self.old self.new }
+    {
+        for _ in rt.forever() {
+            if self.has_ended() {
+                return;
+            }
+            if self.gave_up() {
+                return;
+            }
+            if hall.stop.is_stopped(rt) {
+                return;
+            }
+            let cap = earlier(self.next_pulse(rt, hall, script), end);
+            let how = self.run_loop(rt, alloc, hall, script, gate, timer, cap);
+            if is_at_end(how, end) {
+                return;
+            }
+        }
+    }
+
+    /// One round at this moment, in milliseconds, unless it has ended or given up, as `run_round` in lockstep.
+    pub fn drain_by_clock<R: Wait, C: Clock, G: Gate>(
+        &mut self,
+        rt: &R,
+        alloc: Global,
+        hall: &Hall,
+        script: &Script,
+        gate: &G,
+        timer: &Timer<C>,
+        now: u64,
+    )
+        requires mode { hall.now.lockstep ≡ false }
+        requires hall { IsHall script.now hall.now }
+        requires moment { IsMoment (C.shows timer.now.clock.now) timer.now.start now }
+        requires looper { IsLooper script.now hall.now self.old }
+        ensures looper { IsLooper script.now hall.now self.new }
+        ensures number { self.new.number ≡ self.old.number }
+        ensures stays { (is_ended self.old.last || is_given_up self.old.last) ≡ true → self.new ≡ self.old }
+        ensures plays { HasPlayedBy script.now self.old self.new }
+        ensures clocked { StaysByClock (in_free_mode (C.shows timer.now.clock.now) timer.now.start) self.old self.new }
+    {
+        if self.has_ended() {
+            return;
+        }
+        if self.gave_up() {
+            return;
+        }
+        self.drain(rt, alloc, hall, script, gate, timer, now);
+    }
+
+    /// The pulse that is asked for at its choreographer, in milliseconds, rounded up.
+    fn next_pulse<R: Wait>(&mut self, rt: &R, hall: &Hall, script: &Script) -> Option<u64>
+        requires hall { IsHall script.now hall.now }
+        requires looper { IsLooper script.now hall.now self.old }
+        ensures looper { IsLooper script.now hall.now self.new }
+        ensures number { self.new.number ≡ self.old.number }
+        ensures last { self.new.last ≡ self.old.last }
+        ensures plays { HasPlayedBy script.now self.old self.new }
+        ensures posters { posters_of self.new ≡ posters_of self.old }
+    {
+        let place = self.number as usize;
+        let Some(mut parts) = self.parts.take() else {
+            unreachable!()
+        };
+        let stamp = hall.choreographers[place].asked(rt, &mut parts.frames);
+        self.parts = Some(parts);
+        rounded_up(stamp)
+    }
+
+    /// One round at this moment. It has neither ended nor given up.
+    fn drain<R: Wait, C: Clock, G: Gate>(
+        &mut self,
+        rt: &R,
+        alloc: Global,
+        hall: &Hall,
+        script: &Script,
+        gate: &G,
+        timer: &Timer<C>,
+        now: u64,
+    )
+        requires hall { IsHall script.now hall.now }
+        requires moment { IsMoment (C.shows timer.now.clock.now) timer.now.start now }
+        requires mode { hall.now.lockstep ≡ false }
+        requires looper { IsLooper script.now hall.now self.old }
+        requires going { (is_ended self.old.last ≡ false) × (is_given_up self.old.last ≡ false) }
+        ensures looper { IsLooper script.now hall.now self.new }
+        ensures number { self.new.number ≡ self.old.number }
+        ensures plays { HasPlayedBy script.now self.old self.new }
+        ensures clocked { StaysByClock (in_free_mode (C.shows timer.now.clock.now) timer.now.start) self.old self.new }
+    {
+        let began = Snapshot::of(&*self);
+        let Some(parts) = self.parts.take() else {
+            unreachable!()
+        };
+        let place = self.number as usize;
+        let mut player = ClockPlayer {
+            place: Place {
+                rt,
+                alloc,
+                hall,
+                script,
+                looper: self.number,
+            },
+            gate,
+            timer,
+            sender: self.sender,
+            began: &began,
+            parts,
+            nudged: 0,
+        };
+        let last = self.looper.run_round(
+            rt,
+            &hall.queues[place],
+            &hall.pool,
+            &hall.sources[place],
+            &mut player,
+            now,
+        );
+        let mut parts = player.parts;
+        self.last = last;
+        close(rt, hall, script, self.number, self.gave_up(), &mut parts);
+        self.parts = Some(parts);
+    }
+
+    /// One loop by the clock. It has neither ended nor given up.
+    fn run_loop<R: Wait + time::Clock, C: Clock, G: Gate>(
+        &mut self,
+        rt: &R,
+        alloc: Global,
+        hall: &Hall,
+        script: &Script,
+        gate: &G,
+        timer: &Timer<C>,
+        cap: Option<u64>,
+    ) -> Loop
+        requires mode { hall.now.lockstep ≡ false }
+        requires hall { IsHall script.now hall.now }
+        requires looper { IsLooper script.now hall.now self.old }
+        requires going { (is_ended self.old.last ≡ false) × (is_given_up self.old.last ≡ false) }
+        ensures looper { IsLooper script.now hall.now self.new }
+        ensures number { self.new.number ≡ self.old.number }
+        ensures last { self.new.last ≡ round_of result }
+        ensures plays { HasPlayedBy script.now self.old self.new }
+        ensures clocked { StaysByClock (in_free_mode (C.shows timer.now.clock.now) timer.now.start) self.old self.new }
+    {
+        let began = Snapshot::of(&*self);
+        let Some(parts) = self.parts.take() else {
+            unreachable!()
+        };
+        let place = self.number as usize;
+        let mut player = ClockPlayer {
+            place: Place {
+                rt,
+                alloc,
+                hall,
+                script,
+                looper: self.number,
+            },
+            gate,
+            timer,
+            sender: self.sender,
+            began: &began,
+            parts,
+            nudged: 0,
+        };
+        let how = self.looper.run_loop(
+            rt,
+            &hall.queues[place],
+            &hall.pool,
+            &hall.sources[place],
+            &mut player,
+            timer.clock,
+            timer.start,
+            cap,
+        );
+        let mut parts = player.parts;
+        self.last = last_of(how);
+        close(rt, hall, script, self.number, self.gave_up(), &mut parts);
+        self.parts = Some(parts);
+        how
+    }
+}
+
+/// The loop as the looper's last round.
+fn last_of(how: Loop) -> Round
+    ensures { result ≡ round_of how }
+{
+    match how {
+        Loop::Ended => Round::Ended { dispatched: 0 },
+        Loop::NoMemory => Round::NoMemory,
+        Loop::Cap { .. } | Loop::Nudged => Round::Drained {
+            dispatched: 0,
+            until: None,
+        },
+    }
+}
+
+/// A pulse's stamp in nanoseconds, in milliseconds rounded up.
+fn rounded_up(stamp: Option<u64>) -> Option<u64> {
+    Some(stamp?.div_ceil(1_000_000))
+}
+
+/// Whether a loop ended at a moment that is no earlier than the end.
+fn is_at_end(how: Loop, end: Option<u64>) -> bool {
+    match (how, end) {
+        (Loop::Cap { now }, Some(end)) => end <= now,
+        _ => false,
+    }
+}
+
+/// The earlier of two times.
+fn earlier(a: Option<u64>, b: Option<u64>) -> Option<u64> {
+    match (a, b) {
+        (Some(x), Some(y)) => Some(x.min(y)),
+        (Some(x), None) => Some(x),
+        (None, b) => b,
+    }
+}
