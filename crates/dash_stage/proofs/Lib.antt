@@ -13,6 +13,8 @@ pub mod ThreadShares
 pub mod LooperShares
 pub mod StageShares
 pub mod Clocked
+pub mod ClockTurns
+pub mod ClockEnds
 pub mod HallEnds
 pub mod HallFrames
 pub mod Casting

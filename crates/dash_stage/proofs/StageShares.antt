@@ -145,7 +145,7 @@ stage_then a b c f g =
     }
 
 -- what holds of all senders' posters before holds of them after
-of_senders_then : (P Q : List Sender → Type 0) (R : List Sender → List Sender → Type 0) → ((ps qs : List Sender) → R ps qs → P ps → Q qs) → (a b : Stage) → StageKeeps R a b → OfSenders P a → OfSenders Q b
+pub of_senders_then : (P Q : List Sender → Type 0) (R : List Sender → List Sender → Type 0) → ((ps qs : List Sender) → R ps qs → P ps → Q qs) → (a b : Stage) → StageKeeps R a b → OfSenders P a → OfSenders Q b
 of_senders_then P Q R h a b k of = record {
   threads = of_threads_then P Q R h a.threads.items b.threads.items k.threads of.threads;
   loopers = of_loopers_then P Q R h a.loopers.items b.loopers.items k.loopers of.loopers;

@@ -13,3 +13,4 @@ pub mod Playing
 pub mod Leaving
 pub mod Moves
 pub mod RunEnds
+pub mod ByClock

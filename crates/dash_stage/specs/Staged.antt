@@ -1,8 +1,9 @@
 -- What a run of this stage keeps.
+use Rattle.std.specs.Prelude.{◌≡◌, ℕ, Bool, true}
 use Rattle.dash_script.specs.declared.script.Script.{Script}
 use Rattle.run_model.specs.declared.report.Report.{Report}
-use Rattle.run_model.specs.Moments.{in_lockstep}
-use Rattle.run_model.specs.Run.{IsRun}
+use Rattle.run_model.specs.Moments.{in_lockstep, in_free_mode}
+use Rattle.run_model.specs.Run.{IsRun, IsReportOf, AreRecordsOf, ArePlannedOf, AreControlsOf, AreFramesOf, all_entries, main_ends_halted}
 use Rattle.dash_stage.specs.Blocks.{AreBlocksFirst, AreBlocksReached}
 use Rattle.dash_stage.specs.declared.run.Ran.{Ran}
 use Rattle.dash_stage.specs.declared.run.Ran.TheVariants as ran
@@ -16,3 +17,16 @@ pub record IsStaged (s : Script) (r : Report) : Type 0 where
 abbrev pub Stages : Script → Ran → Type 0
 Stages s (ran.Ok r) = IsStaged s r
 Stages s ran.NoMemory = Unit {0}
+
+-- the report is one of the script by a clock that shows such numbers: the history of each looper's queue is one that a queue of one thread has, at moments of the clock or of the queue, each thread's calls there are those that its lines plan, one for one and in order, none earlier than its block, the controller's close the queue at the end or later, and main ends with its halt; and each frame history is lawful
+pub record IsStagedByClock (shows : ℕ → Bool) (s : Script) (r : Report) : Type 0 where
+  pub report : IsReportOf s r
+  pub records : AreRecordsOf (in_free_mode shows r.start) all_entries s r
+  pub planned : ArePlannedOf (in_free_mode shows r.start) s r
+  pub controls : AreControlsOf s r
+  pub frames : AreFramesOf s r
+  pub halted : main_ends_halted r.queues ≡ true
+
+abbrev pub StagesByClock : (ℕ → Bool) → Script → Ran → Type 0
+StagesByClock shows s (ran.Ok r) = IsStagedByClock shows s r
+StagesByClock shows s ran.NoMemory = Unit {0}

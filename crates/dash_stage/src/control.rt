@@ -4,7 +4,10 @@ ghost use Rattle.shared_queue.specs.Known.{IsOf};
 ghost use Rattle.choreographer.specs.Known.{Known as Pass};
 ghost use Rattle.dash_hall.specs.Growth.{GoesOn, QuitsOf};
 ghost use Rattle.dash_hall.specs.Kits.{IsHall};
-ghost use Rattle.dash_stage.specs.Controllers.{IsController, IsMoving, HasReached, IsQuitting, IsClosing, HasClosed, CallsNone, LooksFor, calls_on, time_in};
+ghost use Rattle.dash_threads.specs.Threads.{AreByClock};
+ghost use Rattle.dash_stage.specs.ByClock.{MayQuit};
+ghost use Rattle.run_model.specs.Moments.{Mode, IsMoment};
+ghost use Rattle.dash_stage.specs.Controllers.{IsController, IsControllerIn, IsMoving, HasReached, IsQuitting, IsClosing, IsClosingBy, HasClosed, HasClosedIn, CallsNone, LooksFor, calls_on, time_in};
 ghost use Rattle.loop_model.specs.Base.{empty_base};
 ghost use Rattle.loop_model.specs.Answers.{is_over};
 ghost use Rattle.looper_run.specs.Holding.{Sender};
@@ -265,6 +268,56 @@ impl Controller {
         ensures halted { result ≡ true → (d : Sender) → ends_halted (whole_on self.new 0 d) ≡ true }
     {
         match self.kit.posters[0].halt(rt, &hall.queues[0], script.end) {
+            Halting::Halted => true,
+            Halting::Over => true,
+            Halting::NotDrained { .. } => false,
+        }
+    }
+
+    /// By a clock: quits a looper safely at this moment, in milliseconds, unless it has ended. Answers false where it found no memory.
+    pub(crate) fn quit_unless<R: Wait>(
+        &mut self,
+        rt: &R,
+        hall: &Hall,
+        script: &Script,
+        place: usize,
+        has_ended: bool,
+        now: u64,
+    ) -> bool
+        requires hall { IsHall script.now hall.now }
+        requires controller { IsControllerIn hall.now.lockstep script.now hall.now self.old }
+        requires place { place < script.now.loopers }
+        ensures controller { IsControllerIn hall.now.lockstep script.now hall.now self.new }
+        ensures here { result ≡ true → (d : Sender) → MayQuit (slice_index_or self.old.kit.posters.items place d) (slice_index_or self.new.kit.posters.items place d) now }
+        ensures elsewhere { (q : ℕ) (d : Sender) → q ≢ place → slice_index_or self.new.kit.posters.items q d ≡ slice_index_or self.old.kit.posters.items q d }
+    {
+        if has_ended {
+            return true;
+        }
+        self.quit_now(rt, hall, script, place, true, now)
+    }
+
+    /// By a clock: halts the main looper at this moment, in milliseconds. Answers false where a message is due.
+    pub(crate) fn halt_by_clock<R: Wait>(
+        &mut self,
+        rt: &R,
+        hall: &Hall,
+        script: &Script,
+        now: u64,
+    ) -> bool
+        requires some { 0 < script.now.loopers }
+        requires hall { IsHall script.now hall.now }
+        requires controller { IsControllerIn false script.now hall.now self.old }
+        requires closing { IsClosingBy script.now self.old }
+        requires late { script.now.end ≤ now }
+        ensures controller { IsControllerIn false script.now hall.now self.new }
+        ensures closing { result ≡ false → IsClosingBy script.now self.new }
+        ensures closed { result ≡ true → HasClosedIn false script.now self.new }
+        ensures turns { EachTurnsOn Halts self.old self.new }
+        ensures halted { result ≡ true → (d : Sender) → ends_halted (whole_on self.new 0 d) ≡ true }
+        ensures clocked { (m : Mode) → IsMoment m now → AreByClock m self.old.kit.posters.items → AreByClock m self.new.kit.posters.items }
+    {
+        match self.kit.posters[0].halt(rt, &hall.queues[0], now) {
             Halting::Halted => true,
             Halting::Over => true,
             Halting::NotDrained { .. } => false,

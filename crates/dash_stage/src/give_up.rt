@@ -69,7 +69,7 @@ impl Controller {
         self.nudge_main(rt, hall, script);
         let mut done = true;
         for looper in 1..script.loopers {
-            done &= self.quit_plainly(rt, hall, script, looper as usize, now);
+            done &= self.quit_now(rt, hall, script, looper as usize, false, now);
         }
         done
     }
@@ -86,20 +86,21 @@ impl Controller {
         self.kit.posters[0].nudge(rt, &hall.queues[0]);
     }
 
-    /// Quits a looper plainly at this time, in milliseconds. Answers false where it found no memory.
-    fn quit_plainly<R: Wait>(
+    /// Quits a looper at this moment, in milliseconds, safely or plainly. Answers false where it found no memory.
+    pub(crate) fn quit_now<R: Wait>(
         &mut self,
         rt: &R,
         hall: &Hall,
         script: &Script,
         place: usize,
+        safe: bool,
         now: u64,
     ) -> bool
         requires hall { IsHall script.now hall.now }
         requires controller { IsControllerIn hall.now.lockstep script.now hall.now self.old }
         requires place { place < script.now.loopers }
         ensures controller { IsControllerIn hall.now.lockstep script.now hall.now self.new }
-        ensures here { result ≡ true → (d : Sender) → QuitsOf (slice_index_or self.old.kit.posters.items place d) (slice_index_or self.new.kit.posters.items place d) false now }
+        ensures here { result ≡ true → (d : Sender) → QuitsOf (slice_index_or self.old.kit.posters.items place d) (slice_index_or self.new.kit.posters.items place d) safe now }
         ensures elsewhere { (q : ℕ) (d : Sender) → q ≢ place → slice_index_or self.new.kit.posters.items q d ≡ slice_index_or self.old.kit.posters.items q d }
     {
         let Ok(()) = quit_by(
@@ -108,7 +109,7 @@ impl Controller {
             &mut self.kit.posters[place],
             &hall.pool,
             &mut self.kit.pass,
-            false,
+            safe,
             now,
         ) else {
             return false;

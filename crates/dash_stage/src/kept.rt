@@ -1,9 +1,9 @@
 //! The report of a run.
-ghost use Rattle.std.specs.Prelude.{◌≡◌, true, map, IfOk, OnOk, List};
+ghost use Rattle.std.specs.Prelude.{◌≡◌, ℕ, Bool, true, map, IfOk, OnOk, List};
 ghost use Rattle.std.specs.List.{AllByRecursion};
 ghost use Rattle.dash_script.specs.Reading.{HasText};
 ghost use Rattle.loop_model.specs.declared.entry.Entry.{Entry};
-ghost use Rattle.run_model.specs.Moments.{in_lockstep, Mode};
+ghost use Rattle.run_model.specs.Moments.{in_lockstep, in_free_mode, Mode};
 ghost use Rattle.run_model.specs.Run.{IsAsPlanned, IsControlled, IsFrameRun, IsLooperRun, EachLooper, IsTimely, main_ends_halted};
 ghost use Rattle.dash_stage.specs.Controllers.{HasClosedIn};
 ghost use Rattle.dash_stage.specs.Timeliness.{HasHaltedLast};
@@ -11,7 +11,7 @@ ghost use Rattle.dash_hall.specs.Kits.{IsHall, OthersAreOver};
 ghost use Rattle.dash_stage.specs.Records.{AreQueueRecords, AreFrameRecords, AreJournals};
 ghost use Rattle.dash_loopers.specs.Loopers.{HaveTold};
 ghost use Rattle.dash_stage.specs.Blocks.{AreBlocksFirst, AreBlocksReached};
-ghost use Rattle.dash_stage.specs.Staged.{Stages};
+ghost use Rattle.dash_stage.specs.Staged.{Stages, StagesByClock};
 ghost use Rattle.dash_stage.specs.Leaving.{HaveGiven};
 ghost use Rattle.dash_stage.specs.Runs.{HaveRunAll};
 ghost use Rattle.dash_hall.specs.Hearing.{HaveSeenAll};
@@ -21,7 +21,7 @@ ghost use Rattle.run_model.specs.Histories.{history_of};
 ghost use Rattle.run_model.specs.Moves.{moves, AreMovedTogether};
 ghost use Rattle.dash_stage.specs.Stages.{IsPlayable, AreThreads, AreLoopers, AreThreadKits, AreSenderKits, OthersHaveEnded, LoopersGoOn, IsStageIn, HaveRunBy};
 ghost use Rattle.dash_threads.specs.Threads.{AreByClock};
-ghost use Rattle.dash_stage.specs.RunEnds.{HasEndedBy, HasEndedInLockstep};
+ghost use Rattle.dash_stage.specs.RunEnds.{HasEndedBy, HasEndedByClock, HasEndedInLockstep};
 
 use crate::records::records;
 use crate::run::Ran;
@@ -51,6 +51,27 @@ pub(crate) fn report(alloc: Global, script: Script, stage: Stage) -> Ran
             journals: Sequence::from_vec(journals),
             frames: Sequence::from_vec(frames),
             start: 0,
+        }),
+        Err(NoMemory) => Ran::NoMemory,
+    }
+}
+
+/// The report of a run by a clock that left this; the clock was read so at its start.
+pub(crate) fn report_by_clock(alloc: Global, script: Script, stage: Stage, start: u64) -> Ran
+    requires playable { IsPlayable script }
+    requires text { HasText script }
+    requires stage { IsStageIn stage.hall.lockstep script stage }
+    requires ended { OthersHaveEnded stage.loopers.items }
+    requires on { LoopersGoOn stage.loopers.items }
+    ensures { (shows : ℕ → Bool) → shows start ≡ true → HasEndedByClock (in_free_mode shows start) script stage → StagesByClock shows script result }
+{
+    match kept(alloc, &script, stage) {
+        Ok((queues, journals, frames)) => Ran::Ok(Report {
+            script,
+            queues: Sequence::from_vec(queues),
+            journals: Sequence::from_vec(journals),
+            frames: Sequence::from_vec(frames),
+            start,
         }),
         Err(NoMemory) => Ran::NoMemory,
     }

@@ -1,8 +1,9 @@
-//! A run of a script in lockstep: its controller, its threads and its loopers, side by side on threads of their own.
+//! A run of a script, in lockstep or by a clock: its controller, its threads and its loopers, side by side on threads of their own.
 #![tactic(auto)]
 
 mod agenda;
 mod control;
+mod free;
 mod give_up;
 mod kept;
 mod opening;
@@ -12,6 +13,7 @@ mod share;
 mod side;
 mod stage;
 
+pub use free::run_free;
 pub use run::{Ran, run_script};
 
 #[cfg(test)]

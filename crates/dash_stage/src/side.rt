@@ -98,7 +98,7 @@ fn has_line(block: &Block, thread: u32) -> bool {
 }
 
 /// Whether one of the threads found no memory.
-fn has_given_up(threads: &[PostingThread]) -> bool
+pub(crate) fn has_given_up(threads: &[PostingThread]) -> bool
     ensures { result ≡ false → GoOn threads.now }
 {
     for thread in threads {
@@ -153,7 +153,7 @@ pub(crate) fn run_loopers<R: Threads + Wait + Sync, G: Gate + Sync>(
 }
 
 /// Whether one of the loopers found no memory.
-fn some_gave_up(loopers: &[StageLooper]) -> bool
+pub(crate) fn some_gave_up(loopers: &[StageLooper]) -> bool
     ensures { result ≡ false → LoopersGoOn loopers.now }
 {
     for looper in loopers {

@@ -17,14 +17,14 @@ pub loop-looper-preserved : goal.loop-looper-preserved
 loop-looper-preserved g c =
     let at = c.loop-looper in
     let first = c.args.self.now in
-    let after = c.quit_plainly-done.new.self in
+    let after = c.quit_now-done.new.self in
     record {
-      controller = c.quit_plainly-done.ensures.controller;
+      controller = c.quit_now-done.ensures.controller;
       some = omega arith;
-      nudged = nudged_kept first at.self after at.invariant.nudged (λ d. c.quit_plainly-done.ensures.elsewhere 0 d (λ e. let one = at.invariant.some in absurd (omega (arith, e, one))));
+      nudged = nudged_kept first at.self after at.invariant.nudged (λ d. c.quit_now-done.ensures.elsewhere 0 d (λ e. let one = at.invariant.some in absurd (omega (arith, e, one))));
       quit = λ done. (let both = and_parts at.done _ done in
-          quit_more c.args.now at.looper first at.self after at.invariant.rest c.quit_plainly-done.ensures.elsewhere (at.invariant.quit both.0) (c.quit_plainly-done.ensures.here both.1));
-      rest = rest_less c.args.now at.looper first at.self after at.invariant.rest c.quit_plainly-done.ensures.elsewhere;
+          quit_more c.args.now at.looper first at.self after at.invariant.rest c.quit_now-done.ensures.elsewhere (at.invariant.quit both.0) (c.quit_now-done.ensures.here both.1));
+      rest = rest_less c.args.now at.looper first at.self after at.invariant.rest c.quit_now-done.ensures.elsewhere;
     }
 
 pub returns-clause-quit : goal.returns-clause-quit

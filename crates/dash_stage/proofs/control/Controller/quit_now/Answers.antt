@@ -1,9 +1,8 @@
-use Rattle.std.proofs.Common.{false}
 use Rattle.dash_hall.specs.Growth.{QuitsOf}
 use Rattle.looper_run.specs.Holding.{Sender}
 use Rattle.dash_stage.proofs.Controlling.{in_queues, in_posters, has_poster, own_poster, in_pool, after_call}
 use Rattle.dash_stage.proofs.GivingUp.{stands_there}
-use Rattle.dash_stage.proofs.control.Controller.quit_plainly.Goals as goal
+use Rattle.dash_stage.proofs.control.Controller.quit_now.Goals as goal
 
 pub index-requires : goal.index-requires
 index-requires g c = in_queues c.args.script.now c.args.hall.now c.requires.hall c.args.place c.requires.place
@@ -30,4 +29,4 @@ pub returns-clause-here : goal.returns-clause-here
 returns-clause-here g c done =
     let me = c.args.self.now in
     let within = has_poster c.args.script.now c.args.hall.now c.requires.hall c.args.place c.requires.place me c.requires.controller in
-    stands_there me.kit.posters.items c.args.place c.index_mut.result.now c.quit_by.new.poster within c.index_mut.ensures.value (λ (a b : Sender). QuitsOf a b false c.args.now) c.in-Ok.ensures.quit
+    stands_there me.kit.posters.items c.args.place c.index_mut.result.now c.quit_by.new.poster within c.index_mut.ensures.value (λ (a b : Sender). QuitsOf a b c.args.safe c.args.now) c.in-Ok.ensures.quit

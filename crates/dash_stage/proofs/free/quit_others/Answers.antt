@@ -1,0 +1,69 @@
+use Rattle.std.proofs.Common.{◌≡◌, ◌≤◌, ◌<◌, true, length, sym, ◌∙◌, subst, arith}
+use Rattle.std.proofs.lemmas.Bool.{and_parts}
+use Rattle.run_model.specs.Moments.{Mode, in_free_mode, IsMoment}
+use Rattle.dash_stage.proofs.Controlling.{poster_count}
+use Rattle.dash_loopers.proofs.LooperMoments.{of_shown}
+use Rattle.dash_stage.proofs.ClockEnds.{in_free, in_its_mode}
+use Rattle.dash_stage.proofs.ClockTurns.{quits_more, quits_clocked, quitting_begins, quitting_ends}
+use Rattle.dash_stage.proofs.free.quit_others.Goals as goal
+
+pub give_up-requires-clause-controller : goal.give_up-requires-clause-controller
+give_up-requires-clause-controller g c = in_its_mode c.args.script.now c.args.hall.now c.args.controller.now c.requires.mode c.requires.controller
+
+pub loop-looper-init : goal.loop-looper-init
+loop-looper-init g c = record {
+  controller = in_its_mode c.args.script.now c.args.hall.now c.args.controller.now c.requires.mode c.requires.controller;
+  some = omega arith;
+  quitting = λ done. quitting_begins c.args.script.now c.args.controller.now c.requires.none;
+  clocked = λ done m moment by. by;
+}
+
+pub loop-looper-preserved : goal.loop-looper-preserved
+loop-looper-preserved g c =
+    let s = c.args.script.now in
+    let hall = c.args.hall.now in
+    let h = c.requires.hall in
+    let at = c.loop-looper in
+    let was = in_free s hall at.controller c.requires.mode at.invariant.controller in
+    let next = c.quit_unless-done.new.self in
+    let here = c.quit_unless-done.ensures.here in
+    let elsewhere = c.quit_unless-done.ensures.elsewhere in
+    let long : length next.kit.posters.items ≡ length at.controller.kit.posters.items =
+    poster_count s hall next h c.quit_unless-done.ensures.controller ∙ sym (poster_count s hall at.controller h at.invariant.controller) in
+    let lt : at.looper < s.loopers = omega (arith, c.loop-looper-test.true) in
+    record {
+      controller = c.quit_unless-done.ensures.controller;
+      some = omega arith;
+      quitting = λ done. (let both = and_parts at.done _ done in
+          quits_more s hall h at.looper lt at.controller was next c.in-Some.now long (here both.1) elsewhere at.invariant.some c.in-Some.ensures.late (at.invariant.quitting both.0));
+      clocked = λ done m moment by. (let both = and_parts at.done _ done in
+          quits_clocked s hall h at.looper lt at.controller was next c.in-Some.now long (here both.1) elsewhere m moment (at.invariant.clocked both.0 m moment by));
+    }
+
+pub returns-then-not-done : goal.returns-then-not-done
+returns-then-not-done g c done =
+    let s = c.args.script.now in
+    let hall = c.args.hall.now in
+    let at = c.loop-looper in
+    let m : Mode = in_free_mode (g.C.Clock.shows c.args.timer.now.clock.now) c.args.timer.now.start in
+    let count = poster_count s hall at.controller c.requires.hall at.invariant.controller in
+    let all : length at.controller.kit.posters.items ≤ at.looper = omega (arith, count, c.loop-looper-test.false) in
+    record {
+      controller = in_free s hall at.controller c.requires.mode at.invariant.controller;
+      closing = quitting_ends s at.controller at.looper all (at.invariant.quitting done);
+      clocked = at.invariant.clocked done m (of_shown (g.C.Clock.shows c.args.timer.now.clock.now) c.args.timer.now.start c.in-Some.now c.in-Some.ensures.moment);
+    }
+
+pub returns-else-not-done : goal.returns-else-not-done
+returns-else-not-done g c done =
+    let s = c.args.script.now in
+    let hall = c.args.hall.now in
+    let at = c.loop-looper in
+    let m : Mode = in_free_mode (g.C.Clock.shows c.args.timer.now.clock.now) c.args.timer.now.start in
+    let count = poster_count s hall at.controller c.requires.hall at.invariant.controller in
+    let all : length at.controller.kit.posters.items ≤ at.looper = omega (arith, count, c.loop-looper-test.false) in
+    record {
+      controller = in_free s hall at.controller c.requires.mode at.invariant.controller;
+      closing = quitting_ends s at.controller at.looper all (at.invariant.quitting done);
+      clocked = at.invariant.clocked done m (of_shown (g.C.Clock.shows c.args.timer.now.clock.now) c.args.timer.now.start c.in-Some.now c.in-Some.ensures.moment);
+    }

@@ -1,0 +1,10 @@
+use Rattle.std.proofs.Common.{subst}
+use Rattle.run_model.specs.Moments.{in_free_mode}
+use Rattle.dash_stage.specs.RunEnds.{HasEndedByClock}
+use Rattle.dash_stage.proofs.free.run_free.Goals as goal
+
+pub returns : goal.returns
+returns g c =
+    let timer = c.new-timer.result in
+    c.report_by_clock.ensures (g.C.Clock.shows c.args.clock.now) c.new-timer.ensures.start
+    (subst (λ k. HasEndedByClock (in_free_mode (g.C.Clock.shows k) timer.start) c.args.script c.in-Ok.stage) c.new-timer.ensures.clock c.in-Ok.ensures.out)

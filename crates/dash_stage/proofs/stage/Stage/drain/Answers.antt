@@ -1,0 +1,31 @@
+use Rattle.std.proofs.Common.{◌≡◌, ◌<◌, ◌∙◌, List, length, sym, subst, arith}
+use Rattle.std.proofs.lemmas.List.{with_items_is}
+use Rattle.run_model.specs.Moments.{Mode, in_free_mode}
+use Rattle.dash_hall.specs.Hearing.{AtEach}
+use Rattle.dash_threads.specs.Threads.{AreByClock}
+use Rattle.dash_loopers.specs.declared.looper.StageLooper.{StageLooper}
+use Rattle.dash_stage.specs.ByClock.{LoopsByClock}
+use Rattle.dash_stage.specs.Sharing.{OfLoopers}
+use Rattle.dash_stage.specs.Stages.{OthersHaveEnded, LoopersGoOn}
+use Rattle.dash_stage.proofs.ClockEnds.{loopers_clocked, closing_heard}
+use Rattle.dash_stage.proofs.stage.Stage.drain.Goals as goal
+
+pub returns : goal.returns
+returns g c =
+    let m : Mode = in_free_mode (g.C.Clock.shows c.args.timer.now.clock.now) c.args.timer.now.start in
+    let s = c.args.script.now in
+    let st = c.args.self.now in
+    let hall = st.hall in
+    let was = c.requires.closing in
+    let ls : List StageLooper = c.drain_first.new.loopers in
+    let looped = subst (λ (xs : List StageLooper). AtEach (LoopsByClock m s hall) xs ls) c.as_mut_slice.ensures.value c.drain_first.ensures.loopers in
+    let ended = subst (λ (xs : List StageLooper). OthersHaveEnded xs → OthersHaveEnded ls) c.as_mut_slice.ensures.value c.drain_first.ensures.others was.ended in
+    let wrote = with_items_is st.loopers ls (omega (arith, looped.long, st.loopers.ok.0)) in
+    let on : LoopersGoOn ls = subst LoopersGoOn (c.as_slice.ensures.value ∙ wrote) (c.some_gave_up.ensures c.if-some_gave_up.false) in
+    record { closing = closing_heard m s _ c.share_by_clock.new.self c.share_by_clock.ensures.stage c.share_by_clock.ensures.shared c.share_by_clock.ensures.kept
+    (record {
+      threads = was.clocked.threads;
+      loopers = subst (OfLoopers (AreByClock m)) (sym wrote) (loopers_clocked m s hall st.loopers.items ls looped on was.clocked.loopers);
+      controller = was.clocked.controller;
+    })
+    was.run (subst OthersHaveEnded (sym wrote) ended) (subst LoopersGoOn (sym wrote) on) was.closing }

@@ -1,0 +1,37 @@
+use Rattle.std.proofs.Common.{◌≡◌, ◌<◌, ◌∙◌, false, List, length, sym, subst, arith}
+use Rattle.std.proofs.lemmas.List.{with_items_is}
+use Rattle.run_model.specs.Moments.{Mode, in_free_mode}
+use Rattle.dash_hall.specs.Hearing.{AtEach}
+use Rattle.dash_threads.specs.declared.thread.PostingThread.{PostingThread}
+use Rattle.dash_threads.specs.Threads.{AreByClock}
+use Rattle.dash_loopers.specs.declared.looper.StageLooper.{StageLooper}
+use Rattle.dash_stage.specs.ByClock.{RunsByClock, LoopsByClock}
+use Rattle.dash_stage.specs.Sharing.{OfThreads, OfLoopers}
+use Rattle.dash_stage.specs.Stages.{AreThreads, AreLoopers, HaveRunBy, GoOn, OthersHaveEnded, LoopersGoOn}
+use Rattle.dash_stage.proofs.ClockEnds.{threads_ran, threads_ran_all, threads_clocked, loopers_ran, loopers_clocked, closing_heard}
+use Rattle.dash_stage.proofs.stage.Stage.run_by_clock.Goals as goal
+
+pub returns : goal.returns
+returns g c =
+    let m : Mode = in_free_mode (g.C.Clock.shows c.args.timer.now.clock.now) c.args.timer.now.start in
+    let s = c.args.script.now in
+    let st = c.args.self.now in
+    let hall = st.hall in
+    let begun = c.requires.begun in
+    let ts : List PostingThread = c.run_side_by_side-quit.new.threads in
+    let ls : List StageLooper = c.run_side_by_side-quit.new.loopers in
+    let ran = subst (λ (xs : List PostingThread). AtEach (RunsByClock m s hall) xs ts) c.as_mut_slice.ensures.value c.run_side_by_side-quit.ensures.threads in
+    let looped = subst (λ (xs : List StageLooper). AtEach (LoopsByClock m s hall) xs ls) c.as_mut_slice-2.ensures.value c.run_side_by_side-quit.ensures.loopers in
+    let wrote = with_items_is st.threads ts (omega (arith, ran.long, st.threads.ok.0)) in
+    let wrote' = with_items_is st.loopers ls (omega (arith, looped.long, st.loopers.ok.0)) in
+    let quit = c.run_side_by_side-quit.ensures.quit c.if-not-quit.false in
+    let going : GoOn ts = subst GoOn (c.as_slice.ensures.value ∙ wrote) (c.has_given_up.ensures c.if-has_given_up.false) in
+    let on : LoopersGoOn ls = subst LoopersGoOn (c.as_slice-2.ensures.value ∙ wrote') (c.some_gave_up.ensures c.if-some_gave_up.false) in
+    let run = threads_ran_all m s hall st.threads.items ts begun.stage.threads ran going begun.begun in
+    record { closing = closing_heard m s _ c.share_by_clock.new.self c.share_by_clock.ensures.stage c.share_by_clock.ensures.shared c.share_by_clock.ensures.kept
+    (record {
+      threads = subst (OfThreads (AreByClock m)) (sym wrote) (threads_clocked m s hall ts run);
+      loopers = subst (OfLoopers (AreByClock m)) (sym wrote') (loopers_clocked m s hall st.loopers.items ls looped on begun.clocked.loopers);
+      controller = quit.clocked begun.clocked.controller;
+    })
+    (subst (HaveRunBy m s s.blocks) (sym wrote) run) (subst OthersHaveEnded c.as_slice-3.ensures.value (c.all_but_main_have_ended.ensures c.if-not-all_but_main_have_ended.false)) (subst LoopersGoOn (sym wrote') on) quit.closing }

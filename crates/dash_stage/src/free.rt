@@ -1,0 +1,457 @@
+//! A run by a clock.
+ghost use Rattle.std.specs.Prelude.{◌≡◌, ◌<◌, ◌≤◌, ℕ, false, true, length, IfOk, OnOk};
+ghost use Rattle.std.specs.Thread.{IsSync};
+ghost use Rattle.loop_io.specs.Moments.{IsMoment};
+ghost use Rattle.dash_script.specs.Reading.{HasText};
+ghost use Rattle.run_model.specs.Moments.{in_free_mode};
+ghost use Rattle.dash_hall.specs.Hearing.{AtEach, HaveHeard};
+ghost use Rattle.dash_hall.specs.Kits.{IsHall};
+ghost use Rattle.dash_threads.specs.Threads.{IsThread};
+ghost use Rattle.dash_loopers.specs.Loopers.{IsLooper};
+ghost use Rattle.dash_stage.specs.ByClock.{RunsByClock, LoopsByClock, QuitsOthers, EachIsThread, EachIsLooper, CanRunMain, HasRunMain};
+ghost use Rattle.dash_stage.specs.Controllers.{IsControllerIn, CallsNothingOn};
+ghost use Rattle.dash_stage.specs.RunEnds.{HasBegunByClock, IsClosingByClock, HasEndedByClock};
+ghost use Rattle.dash_stage.specs.Sharing.{StageKeeps, HaveSeenTheSame};
+ghost use Rattle.dash_stage.specs.Staged.{StagesByClock};
+ghost use Rattle.dash_stage.specs.Stages.{IsStageIn, AreThreads, AreLoopers, OthersHaveEnded, LoopersGoOn};
+
+use crate::control::Controller;
+use crate::kept::report_by_clock;
+use crate::opening::set_up;
+use crate::run::Ran;
+use crate::side::{has_given_up, some_gave_up};
+use crate::stage::Stage;
+use dash_hall::{Hall, Timer};
+use dash_loopers::StageLooper;
+use dash_script::Script;
+use dash_threads::PostingThread;
+use loop_io::{Clock, Gate};
+use loop_model::NoMemory;
+use std::alloc::Global;
+use std::sync::{Mutex, Wait};
+use std::thread::{Threads, for_each_mut, join_mut};
+use std::time;
+
+/// Runs the script by a clock and keeps its records. Each thread runs its blocks at their times, each looper waits for its messages on a
+/// thread of its own, the main one until the script's end. Then the controller quits the others safely, these run until their queues
+/// are disposed of, and the main one drains and is halted. The script has a text. It is refused only for want of memory.
+#[tactic(auto, using(crate::proofs::Limits::playable))]
+pub fn run_free<R: Threads + Wait + time::Clock + Sync, C: Clock + Sync, G: Gate + Sync>(
+    rt: &R,
+    alloc: Global,
+    script: Script,
+    clock: &C,
+    gate: &G,
+) -> Ran
+    requires { HasText script }
+    ensures { StagesByClock (C.shows clock.now) script result }
+{
+    let timer = Timer::new(clock);
+    let stage = match played(rt, alloc, &script, gate, &timer) {
+        Ok(stage) => stage,
+        Err(NoMemory) => return Ran::NoMemory,
+    };
+    report_by_clock(alloc, script, stage, timer.start)
+}
+
+/// The stage after the run.
+#[tactic(auto, using(crate::proofs::Limits::playable))]
+fn played<R: Threads + Wait + time::Clock + Sync, C: Clock + Sync, G: Gate + Sync>(
+    rt: &R,
+    alloc: Global,
+    script: &Script,
+    gate: &G,
+    timer: &Timer<C>,
+) -> Result<Stage, NoMemory>
+    requires { HasText script.now }
+    ensures out { IfOk result (HasEndedByClock (in_free_mode (C.shows timer.now.clock.now) timer.now.start) script.now) }
+{
+    let mut stage = set_up(alloc, script, false)?;
+    stage.play_by_clock(rt, alloc, script, gate, timer)?;
+    Ok(stage)
+}
+
+impl Stage {
+    /// The whole script, by the clock.
+    fn play_by_clock<R: Threads + Wait + time::Clock + Sync, C: Clock + Sync, G: Gate + Sync>(
+        &mut self,
+        rt: &R,
+        alloc: Global,
+        script: &Script,
+        gate: &G,
+        timer: &Timer<C>,
+    ) -> Result<(), NoMemory>
+        requires text { HasText script.now }
+        requires some { 0 < script.now.loopers }
+        requires begun { HasBegunByClock (in_free_mode (C.shows timer.now.clock.now) timer.now.start) script.now self.old }
+        ensures out { OnOk result (HasEndedByClock (in_free_mode (C.shows timer.now.clock.now) timer.now.start) script.now self.new) }
+    {
+        self.run_by_clock(rt, alloc, script, gate, timer)?;
+        for _ in rt.forever() {
+            self.drain(rt, alloc, script, gate, timer)?;
+            let halted = self.halt_by_clock(rt, script, timer)?;
+            if halted {
+                return Ok(());
+            }
+        }
+        unreachable!()
+    }
+
+    /// The threads run their blocks beside the loopers, the main one up to the end, and the others are quit there.
+    fn run_by_clock<R: Threads + Wait + time::Clock + Sync, C: Clock + Sync, G: Gate + Sync>(
+        &mut self,
+        rt: &R,
+        alloc: Global,
+        script: &Script,
+        gate: &G,
+        timer: &Timer<C>,
+    ) -> Result<(), NoMemory>
+        requires text { HasText script.now }
+        requires some { 0 < script.now.loopers }
+        requires begun { HasBegunByClock (in_free_mode (C.shows timer.now.clock.now) timer.now.start) script.now self.old }
+        ensures closing { OnOk result (IsClosingByClock (in_free_mode (C.shows timer.now.clock.now) timer.now.start) script.now self.new) }
+    {
+        let quit = run_side_by_side(
+            rt,
+            alloc,
+            &self.hall,
+            script,
+            gate,
+            timer,
+            self.threads.as_mut_slice(),
+            self.loopers.as_mut_slice(),
+            &mut self.controller,
+        );
+        if !quit {
+            return Err(NoMemory);
+        }
+        if has_given_up(self.threads.as_slice()) {
+            return Err(NoMemory);
+        }
+        if some_gave_up(self.loopers.as_slice()) {
+            return Err(NoMemory);
+        }
+        if !all_but_main_have_ended(self.loopers.as_slice()) {
+            return Err(NoMemory);
+        }
+        self.share_by_clock(script);
+        Ok(())
+    }
+
+    /// The main looper drains, at the end of the script or later, and all hear of it.
+    fn drain<R: Wait + time::Clock, C: Clock, G: Gate>(
+        &mut self,
+        rt: &R,
+        alloc: Global,
+        script: &Script,
+        gate: &G,
+        timer: &Timer<C>,
+    ) -> Result<(), NoMemory>
+        requires some { 0 < script.now.loopers }
+        requires closing { IsClosingByClock (in_free_mode (C.shows timer.now.clock.now) timer.now.start) script.now self.old }
+        ensures closing { OnOk result (IsClosingByClock (in_free_mode (C.shows timer.now.clock.now) timer.now.start) script.now self.new) }
+    {
+        let Some(now) = timer.wait_until(rt, &self.hall.stop, script.end) else {
+            return Err(NoMemory);
+        };
+        drain_first(
+            rt,
+            alloc,
+            &self.hall,
+            script,
+            gate,
+            timer,
+            now,
+            self.loopers.as_mut_slice(),
+        );
+        if some_gave_up(self.loopers.as_slice()) {
+            return Err(NoMemory);
+        }
+        self.share_by_clock(script);
+        Ok(())
+    }
+
+    /// The controller halts the main looper, at the end of the script or later, and all hear of it. Answers false where a message is due.
+    fn halt_by_clock<R: Wait + time::Clock, C: Clock>(
+        &mut self,
+        rt: &R,
+        script: &Script,
+        timer: &Timer<C>,
+    ) -> Result<bool, NoMemory>
+        requires some { 0 < script.now.loopers }
+        requires closing { IsClosingByClock (in_free_mode (C.shows timer.now.clock.now) timer.now.start) script.now self.old }
+        ensures closing { IfOk result (λ halted. halted ≡ false → IsClosingByClock (in_free_mode (C.shows timer.now.clock.now) timer.now.start) script.now self.new) }
+        ensures out { IfOk result (λ halted. halted ≡ true → HasEndedByClock (in_free_mode (C.shows timer.now.clock.now) timer.now.start) script.now self.new) }
+    {
+        let Some(now) = timer.wait_until(rt, &self.hall.stop, script.end) else {
+            return Err(NoMemory);
+        };
+        let halted = self.controller.halt_by_clock(rt, &self.hall, script, now);
+        self.share_by_clock(script);
+        Ok(halted)
+    }
+
+    /// All senders come to have seen the same of each queue's history, as in lockstep.
+    fn share_by_clock(&mut self, script: &Script)
+        requires stage { IsStageIn false script.now self.old }
+        ensures stage { IsStageIn false script.now self.new }
+        ensures kept { StageKeeps HaveHeard self.old self.new }
+        ensures shared { HaveSeenTheSame self.new }
+    {
+        for looper in 0..script.loopers {
+            self.share_queue(script, looper as usize);
+        }
+    }
+}
+
+/// The threads run their blocks beside the loopers, each on a thread of its own, the main looper up to the end; then the controller quits
+/// the other loopers. Answers false where a sender found no memory or the run was given up.
+fn run_side_by_side<R: Threads + Wait + time::Clock + Sync, C: Clock + Sync, G: Gate + Sync>(
+    rt: &R,
+    alloc: Global,
+    hall: &Hall,
+    script: &Script,
+    gate: &G,
+    timer: &Timer<C>,
+    threads: &mut [PostingThread],
+    loopers: &mut [StageLooper],
+    controller: &mut Controller,
+) -> bool
+    requires text { HasText script.now }
+    requires some { 0 < script.now.loopers }
+    requires hall { IsHall script.now hall.now }
+    requires mode { hall.now.lockstep ≡ false }
+    requires threads { AreThreads script.now hall.now threads.old }
+    requires loopers { AreLoopers script.now hall.now loopers.old }
+    requires controller { IsControllerIn false script.now hall.now controller.old }
+    requires none { (q : ℕ) → CallsNothingOn controller.old q }
+    ensures threads { AtEach (RunsByClock (in_free_mode (C.shows timer.now.clock.now) timer.now.start) script.now hall.now) threads.old threads.new }
+    ensures loopers { AtEach (LoopsByClock (in_free_mode (C.shows timer.now.clock.now) timer.now.start) script.now hall.now) loopers.old loopers.new }
+    ensures quit { result ≡ true → QuitsOthers (in_free_mode (C.shows timer.now.clock.now) timer.now.start) script.now hall.now controller.old controller.new }
+{
+    let ended = Mutex::new(Vec::new(alloc));
+    let (main, others) = loopers.split_at_mut(1);
+    let ((), quit) = join_mut(
+        rt,
+        &mut ||
+            requires { IsSync R.row × IsSync C.row × IsSync G.row × IsHall script.now hall.now × (hall.now.lockstep ≡ false) × EachIsLooper script.now hall.now others.now }
+            ensures { AtEach (LoopsByClock (in_free_mode (C.shows timer.entry.now.clock.now) timer.entry.now.start) script.entry.now hall.entry.now) others.entry.now others.exit.now }
+        { run_others(rt, alloc, hall, script, gate, timer, &ended, others) },
+        &mut ||
+            requires { CanRunMain script.now hall.now main.now threads.now controller.now × IsSync R.row × IsSync C.row × IsSync G.row }
+            ensures { HasRunMain (in_free_mode (C.shows timer.entry.now.clock.now) timer.entry.now.start) script.entry.now hall.entry.now main.entry.now main.exit.now threads.entry.now threads.exit.now controller.entry.now controller.exit.now result }
+        { run_main(rt, alloc, hall, script, gate, timer, &ended, main, threads, controller) },
+    );
+    quit
+}
+
+/// The loopers but the main one run until their queues are disposed of, each on a thread of its own. Which have ended is told.
+fn run_others<R: Threads + Wait + time::Clock + Sync, C: Clock + Sync, G: Gate + Sync>(
+    rt: &R,
+    alloc: Global,
+    hall: &Hall,
+    script: &Script,
+    gate: &G,
+    timer: &Timer<C>,
+    ended: &Mutex<Vec<u32>>,
+    others: &mut [StageLooper],
+)
+    requires hall { IsHall script.now hall.now }
+    requires mode { hall.now.lockstep ≡ false }
+    requires loopers { EachIsLooper script.now hall.now others.old }
+    ensures loopers { AtEach (LoopsByClock (in_free_mode (C.shows timer.now.clock.now) timer.now.start) script.now hall.now) others.old others.new }
+{
+    let count = others.len().max(1);
+    for_each_mut(
+        rt,
+        others,
+        count,
+        &|_, looper: &mut StageLooper|
+            requires { IsSync R.row × IsSync C.row × IsSync G.row × IsHall script.now hall.now × (hall.now.lockstep ≡ false) × IsLooper script.now hall.now looper.old }
+            ensures { LoopsByClock (in_free_mode (C.shows timer.entry.now.clock.now) timer.entry.now.start) script.entry.now hall.entry.now looper.old looper.new }
+        { run_one(rt, alloc, hall, script, gate, timer, ended, looper) },
+    );
+}
+
+/// A looper runs until its queue is disposed of, and tells that it has ended.
+fn run_one<R: Wait + time::Clock, C: Clock, G: Gate>(
+    rt: &R,
+    alloc: Global,
+    hall: &Hall,
+    script: &Script,
+    gate: &G,
+    timer: &Timer<C>,
+    ended: &Mutex<Vec<u32>>,
+    looper: &mut StageLooper,
+)
+    requires hall { IsHall script.now hall.now }
+    requires mode { hall.now.lockstep ≡ false }
+    requires looper { IsLooper script.now hall.now looper.old }
+    ensures { LoopsByClock (in_free_mode (C.shows timer.now.clock.now) timer.now.start) script.now hall.now looper.old looper.new }
+{
+    looper.run_by_clock(rt, alloc, hall, script, gate, timer, None);
+    if looper.has_ended() {
+        tell(rt, hall, ended, looper.number);
+    }
+}
+
+/// Tells that the looper of this number has ended. Where there is no room the run is given up.
+fn tell<R: Wait>(rt: &R, hall: &Hall, ended: &Mutex<Vec<u32>>, number: u32) {
+    if ended.lock(rt).push(number).is_err() {
+        hall.stop.stop(rt);
+    }
+}
+
+/// The main looper runs until the script's end, beside the threads; then the controller quits the other loopers. Answers false where a
+/// quit found no memory or the run was given up.
+fn run_main<R: Threads + Wait + time::Clock + Sync, C: Clock + Sync, G: Gate + Sync>(
+    rt: &R,
+    alloc: Global,
+    hall: &Hall,
+    script: &Script,
+    gate: &G,
+    timer: &Timer<C>,
+    ended: &Mutex<Vec<u32>>,
+    main: &mut [StageLooper],
+    threads: &mut [PostingThread],
+    controller: &mut Controller,
+) -> bool
+    requires { CanRunMain script.now hall.now main.old threads.old controller.old }
+    ensures { HasRunMain (in_free_mode (C.shows timer.now.clock.now) timer.now.start) script.now hall.now main.old main.new threads.old threads.new controller.old controller.new result }
+{
+    join_mut(
+        rt,
+        &mut ||
+            requires { IsSync R.row × IsSync C.row × IsSync G.row × HasText script.now × IsHall script.now hall.now × (hall.now.lockstep ≡ false) × EachIsThread script.now hall.now threads.now }
+            ensures { AtEach (RunsByClock (in_free_mode (C.shows timer.entry.now.clock.now) timer.entry.now.start) script.entry.now hall.entry.now) threads.entry.now threads.exit.now }
+        { run_threads(rt, alloc, hall, script, gate, timer, threads) },
+        &mut ||
+            requires { IsSync R.row × IsSync C.row × IsSync G.row × IsHall script.now hall.now × (hall.now.lockstep ≡ false) × (length main.now ≡ 1) × EachIsLooper script.now hall.now main.now }
+            ensures { AtEach (LoopsByClock (in_free_mode (C.shows timer.entry.now.clock.now) timer.entry.now.start) script.entry.now hall.entry.now) main.entry.now main.exit.now }
+        { run_first(rt, alloc, hall, script, gate, timer, main) },
+    );
+    quit_others(rt, hall, script, timer, ended, controller)
+}
+
+/// The first of these loopers runs until the script's end.
+fn run_first<R: Wait + time::Clock, C: Clock, G: Gate>(
+    rt: &R,
+    alloc: Global,
+    hall: &Hall,
+    script: &Script,
+    gate: &G,
+    timer: &Timer<C>,
+    loopers: &mut [StageLooper],
+)
+    requires hall { IsHall script.now hall.now }
+    requires mode { hall.now.lockstep ≡ false }
+    requires one { length loopers.old ≡ 1 }
+    requires loopers { EachIsLooper script.now hall.now loopers.old }
+    ensures loopers { AtEach (LoopsByClock (in_free_mode (C.shows timer.now.clock.now) timer.now.start) script.now hall.now) loopers.old loopers.new }
+{
+    loopers[0].run_by_clock(rt, alloc, hall, script, gate, timer, Some(script.end));
+}
+
+/// The threads run their blocks, each on a thread of its own.
+fn run_threads<R: Threads + Wait + time::Clock + Sync, C: Clock + Sync, G: Gate + Sync>(
+    rt: &R,
+    alloc: Global,
+    hall: &Hall,
+    script: &Script,
+    gate: &G,
+    timer: &Timer<C>,
+    threads: &mut [PostingThread],
+)
+    requires text { HasText script.now }
+    requires hall { IsHall script.now hall.now }
+    requires mode { hall.now.lockstep ≡ false }
+    requires threads { EachIsThread script.now hall.now threads.old }
+    ensures threads { AtEach (RunsByClock (in_free_mode (C.shows timer.now.clock.now) timer.now.start) script.now hall.now) threads.old threads.new }
+{
+    let count = threads.len().max(1);
+    for_each_mut(
+        rt,
+        threads,
+        count,
+        &|_, thread: &mut PostingThread|
+            requires { IsSync R.row × IsSync C.row × IsSync G.row × HasText script.now × IsHall script.now hall.now × (hall.now.lockstep ≡ false) × IsThread script.now hall.now thread.old }
+            ensures { RunsByClock (in_free_mode (C.shows timer.entry.now.clock.now) timer.entry.now.start) script.entry.now hall.entry.now thread.old thread.new }
+        { thread.run_by_clock(rt, alloc, hall, script, gate, timer) },
+    );
+}
+
+/// At the script's end or later the controller quits safely each looper but the main one that has not told that it ended. Where the run is
+/// given up it quits them plainly. Answers false there, and where a quit found no memory.
+fn quit_others<R: Wait + time::Clock, C: Clock>(
+    rt: &R,
+    hall: &Hall,
+    script: &Script,
+    timer: &Timer<C>,
+    ended: &Mutex<Vec<u32>>,
+    controller: &mut Controller,
+) -> bool
+    requires some { 0 < script.now.loopers }
+    requires hall { IsHall script.now hall.now }
+    requires mode { hall.now.lockstep ≡ false }
+    requires controller { IsControllerIn false script.now hall.now controller.old }
+    requires none { (q : ℕ) → CallsNothingOn controller.old q }
+    ensures { result ≡ true → QuitsOthers (in_free_mode (C.shows timer.now.clock.now) timer.now.start) script.now hall.now controller.old controller.new }
+{
+    let Some(now) = timer.wait_until(rt, &hall.stop, script.end) else {
+        controller.give_up(rt, hall, script, timer.now());
+        return false;
+    };
+    let mut done = true;
+    for looper in 1..script.loopers {
+        let has_ended = is_among(ended.lock(rt).as_slice(), looper);
+        done &= controller.quit_unless(rt, hall, script, looper as usize, has_ended, now);
+    }
+    if !done {
+        hall.stop.stop(rt);
+    }
+    done
+}
+
+/// Whether the number stands in the list.
+fn is_among(numbers: &[u32], number: u32) -> bool {
+    for one in numbers {
+        if *one == number {
+            return true;
+        }
+    }
+    false
+}
+
+/// The first of the loopers, main, drains at this moment, in milliseconds.
+fn drain_first<R: Wait + time::Clock, C: Clock, G: Gate>(
+    rt: &R,
+    alloc: Global,
+    hall: &Hall,
+    script: &Script,
+    gate: &G,
+    timer: &Timer<C>,
+    now: u64,
+    loopers: &mut [StageLooper],
+)
+    requires some { 0 < script.now.loopers }
+    requires hall { IsHall script.now hall.now }
+    requires mode { hall.now.lockstep ≡ false }
+    requires loopers { AreLoopers script.now hall.now loopers.old }
+    requires moment { IsMoment (C.shows timer.now.clock.now) timer.now.start now }
+    ensures loopers { AtEach (LoopsByClock (in_free_mode (C.shows timer.now.clock.now) timer.now.start) script.now hall.now) loopers.old loopers.new }
+    ensures others { OthersHaveEnded loopers.old → OthersHaveEnded loopers.new }
+{
+    loopers[0].drain_by_clock(rt, alloc, hall, script, gate, timer, now);
+}
+
+/// Whether each of these loopers but the first has ended.
+fn all_but_main_have_ended(loopers: &[StageLooper]) -> bool
+    ensures { result ≡ true → OthersHaveEnded loopers.now }
+{
+    for place in 1..loopers.len() {
+        if !loopers[place].has_ended() {
+            return false;
+        }
+    }
+    true
+}
