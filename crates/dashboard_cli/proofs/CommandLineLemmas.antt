@@ -8,11 +8,11 @@ use Rattle.clap.specs.declared.error.ErrorKind.{ErrorKind}
 use Rattle.clap.specs.declared.error.ErrorKind.TheVariants.{OutOfMemory}
 use Rattle.std.specs.Str.Parse.{AllDigits, ParsesUnsigned, digits_value}
 use Rattle.clap.proofs.OnLiterals.{clap_on_literals}
-use Rattle.dashboard_cli.specs.CommandLine.{dashboard_app, HasNumber, HasRows, IsFound, name_of}
+use Rattle.dashboard_cli.specs.CommandLine.{dashboard_app, HasNumber, HasRows, IsFound, name_of, HasFree}
 use Rattle.dashboard_cli.specs.Words.{IsInRange, IsListed, IsSpelled}
 use Rattle.std.specs.Prelude.{IfNone, IsSomeAnd, None, unwrap_or}
 use Rattle.dashboard_cli.specs.declared.words.Command.{Command}
-use Rattle.dashboard_cli.specs.declared.words.Command.TheVariants.{Run, Text, Migrate, Make, MakeRun, Trace, Check, Animate, Inbox}
+use Rattle.dashboard_cli.specs.declared.words.Command.TheVariants.{Run, RunFree, Text, Migrate, Make, MakeRun, Trace, Check, Animate, Inbox}
 
 -- the parser takes the words, and finds the command in them
 pub record IsParsed (words : List (List ℕ)) (Found : Type 0) : Type 0 where
@@ -66,7 +66,11 @@ is_simple_app = refl
 
 pub finds_run : Finds Run (codes "run" ∷ [])
 unfolding clap_on_literals
-finds_run = record { taken = refl; found = (refl, tt) }
+finds_run = record { taken = refl; found = (refl, refl) }
+
+pub finds_free : Finds RunFree (codes "run" ∷ codes "--free" ∷ [])
+unfolding clap_on_literals
+finds_free = record { taken = refl; found = (refl, refl) }
 
 pub finds_text : Finds Text (codes "text" ∷ [])
 unfolding clap_on_literals
@@ -101,6 +105,7 @@ makes_number number small =
 -- each spelling of a command is taken, and that command is found
 pub finds : (command : Command) (words : List (List ℕ)) → IsInRange command → IsSpelled command words → Finds command words
 finds Run words fits is = subst (Finds Run) (sym is) finds_run
+finds RunFree words fits is = subst (Finds RunFree) (sym is) finds_free
 finds Text words fits is = subst (Finds Text) (sym is) finds_text
 finds Migrate words fits is = subst (Finds Migrate) (sym is) finds_migrate
 finds Trace words fits is = subst (Finds Trace) (sym is) finds_trace
@@ -123,6 +128,7 @@ pub record IsMake (command : Command) (rows : List Row) : Type 0 where
 
 pub is_make : (command : Command) (rows : List Row) → IsInRange command → name_of command ≡ codes "make" → HasRows command rows → IsMake command rows
 is_make Run rows fits named has = let bad : ◌≡◌ {A = ℕ} 110 107 = ap (λ (t : List ℕ). slice_index t 2) named in absurd (omega arith)
+is_make RunFree rows fits named has = let bad : ◌≡◌ {A = ℕ} 110 107 = ap (λ (t : List ℕ). slice_index t 2) named in absurd (omega arith)
 is_make Text rows fits named has = let bad : ◌≡◌ {A = ℕ} 120 107 = ap (λ (t : List ℕ). slice_index t 2) named in absurd (omega arith)
 is_make Migrate rows fits named has = let bad : ◌≡◌ {A = ℕ} 120 107 = ap (λ (t : List ℕ). slice_index t 2) named in absurd (omega arith)
 is_make Trace rows fits named has = let bad : ◌≡◌ {A = ℕ} 97 107 = ap (λ (t : List ℕ). slice_index t 2) named in absurd (omega arith)
@@ -136,6 +142,7 @@ is_make (MakeRun number) rows fits named has = record { number = number; small =
 pub is_text : (command : Command) (rows : List Row) → name_of command ≡ codes "text" → HasRows command rows
     → ((command ≡ Text) × (first_of (codes "to") rows ≡ None)) ⊎ ((command ≡ Migrate) × (first_of (codes "to") rows ≡ Some (codes "2")))
 is_text Run rows named has = let bad : ◌≡◌ {A = ℕ} 110 120 = ap (λ (t : List ℕ). slice_index t 2) named in absurd (omega arith)
+is_text RunFree rows named has = let bad : ◌≡◌ {A = ℕ} 110 120 = ap (λ (t : List ℕ). slice_index t 2) named in absurd (omega arith)
 is_text Text rows named has = inl (refl, has)
 is_text Migrate rows named has = inr (refl, has)
 is_text Trace rows named has = let bad : ◌≡◌ {A = ℕ} 97 120 = ap (λ (t : List ℕ). slice_index t 2) named in absurd (omega arith)
@@ -144,6 +151,20 @@ is_text Animate rows named has = let bad : ◌≡◌ {A = ℕ} 105 120 = ap (λ 
 is_text Inbox rows named has = let bad : ◌≡◌ {A = ℕ} 98 120 = ap (λ (t : List ℕ). slice_index t 2) named in absurd (omega arith)
 is_text (Make number) rows named has = let bad : ◌≡◌ {A = ℕ} 107 120 = ap (λ (t : List ℕ). slice_index t 2) named in absurd (omega arith)
 is_text (MakeRun number) rows named has = let bad : ◌≡◌ {A = ℕ} 107 120 = ap (λ (t : List ℕ). slice_index t 2) named in absurd (omega arith)
+
+-- the matches of `run` tell whether it goes by the clock
+pub is_run : (command : Command) (rows : List Row) → name_of command ≡ codes "run" → HasRows command rows
+    → ((command ≡ Run) × HasFree (codes "false") rows) ⊎ ((command ≡ RunFree) × HasFree (codes "true") rows)
+is_run Run rows named has = inl (refl, has)
+is_run RunFree rows named has = inr (refl, has)
+is_run Text rows named has = let bad : ◌≡◌ {A = ℕ} 120 110 = ap (λ (t : List ℕ). slice_index t 2) named in absurd (omega arith)
+is_run Migrate rows named has = let bad : ◌≡◌ {A = ℕ} 120 110 = ap (λ (t : List ℕ). slice_index t 2) named in absurd (omega arith)
+is_run Trace rows named has = let bad : ◌≡◌ {A = ℕ} 97 110 = ap (λ (t : List ℕ). slice_index t 2) named in absurd (omega arith)
+is_run Check rows named has = let bad : ◌≡◌ {A = ℕ} 101 110 = ap (λ (t : List ℕ). slice_index t 2) named in absurd (omega arith)
+is_run Animate rows named has = let bad : ◌≡◌ {A = ℕ} 105 110 = ap (λ (t : List ℕ). slice_index t 2) named in absurd (omega arith)
+is_run Inbox rows named has = let bad : ◌≡◌ {A = ℕ} 98 110 = ap (λ (t : List ℕ). slice_index t 2) named in absurd (omega arith)
+is_run (Make number) rows named has = let bad : ◌≡◌ {A = ℕ} 107 110 = ap (λ (t : List ℕ). slice_index t 2) named in absurd (omega arith)
+is_run (MakeRun number) rows named has = let bad : ◌≡◌ {A = ℕ} 107 110 = ap (λ (t : List ℕ). slice_index t 2) named in absurd (omega arith)
 
 -- the printed number is read as that number
 pub parses : {E : Type 0} (n : ℕ) (bs : List ℕ) (r : Result ℕ E) → n < 2 ^ 32 → bs ≡ decimal n → ParsesUnsigned 32 10 bs r → r ≡ Ok n

@@ -7,7 +7,7 @@ use Rattle.std.proofs.lemmas.Fmt.{decimal_is_IsNumeral}
 use Rattle.std.proofs.lemmas.Str.Parse.{digit_at}
 use Rattle.dashboard_cli.specs.Words.{IsAsked, IsInRange, IsSpelled}
 use Rattle.dashboard_cli.specs.declared.words.Command.{Command}
-use Rattle.dashboard_cli.specs.declared.words.Command.TheVariants.{Run, Text, Migrate, Make, MakeRun, Trace, Check, Animate, Inbox}
+use Rattle.dashboard_cli.specs.declared.words.Command.TheVariants.{Run, RunFree, Text, Migrate, Make, MakeRun, Trace, Check, Animate, Inbox}
 
 -- the word that is the number, where the first word may be a flag
 abbrev number_word : Bool → List ℕ → List ℕ → List ℕ
@@ -20,6 +20,11 @@ made [] = Run
 made (first ∷ []) = Make (digits_value 10 first)
 made (first ∷ second ∷ more) = MakeRun (digits_value 10 (number_word (slice_index first 0 == 45) first second))
 
+-- the command of words that begin with `run`
+abbrev ran : List (List ℕ) → Command
+ran [] = Run
+ran (flag ∷ more) = RunFree
+
 -- the command of words that begin with `text`
 abbrev printed : List (List ℕ) → Command
 printed [] = Text
@@ -28,7 +33,7 @@ printed (flag ∷ more) = Migrate
 -- the command by the third letter of the first word
 abbrev by_letter : ℕ → List (List ℕ) → Command
 by_letter letter rest =
-    if letter == 110 then Run else if letter == 120 then printed rest else if letter == 97 then Trace else if letter == 101 then Check
+    if letter == 110 then ran rest else if letter == 120 then printed rest else if letter == 97 then Trace else if letter == 101 then Check
     else if letter == 105 then Animate else if letter == 98 then Inbox else made rest
 
 abbrev command_of : List (List ℕ) → Command
@@ -51,6 +56,7 @@ value n small = (decimal_is_IsNumeral n (omega (arith, small))).1
 -- a spelling tells its command
 told : (command : Command) (words : List (List ℕ)) → IsInRange command → IsSpelled command words → command_of words ≡ command
 told Run words fits is = ap command_of is
+told RunFree words fits is = ap command_of is
 told Text words fits is = ap command_of is
 told Migrate words fits is = ap command_of is
 told Trace words fits is = ap command_of is

@@ -1,14 +1,14 @@
 -- What comes of an input that was read, and of none.
-use Rattle.std.proofs.Common.{◌≡◌, ℕ, List, [], Option, Some, None, refl, sym, subst}
+use Rattle.std.proofs.Common.{◌≡◌, ℕ, Bool, List, [], Option, Some, None, refl, sym, subst}
 use Rattle.std.specs.Io.KnownBytes.{Keeps}
 use Rattle.dash_script.specs.declared.script.Script.{Script as ScriptData}
 use Rattle.dash_script.specs.Reading.{IsText}
 use Rattle.run_model.specs.declared.report.Report.{Report}
-use Rattle.dash_stage.specs.Staged.{IsStaged}
+use Rattle.dash_stage.specs.Staged.{IsStaged, IsStagedByClock}
 use Rattle.dashboard_cli.specs.Answers.{HasInput, MakesOf}
-use Rattle.dashboard_cli.specs.Steps.{HasRun}
+use Rattle.dashboard_cli.specs.Steps.{HasRun, HasRunFree}
 use Rattle.dashboard_cli.specs.Streams.{limit, Known, ReadsWhole}
-use Rattle.dashboard_cli.specs.Works.{work}
+use Rattle.dashboard_cli.specs.Works.{work_by}
 use Rattle.dashboard_cli.specs.declared.making.Returned.{Returned}
 use Rattle.dashboard_cli.specs.declared.words.Command.{Command}
 
@@ -27,10 +27,20 @@ keeps_itself None = tt
 keeps_itself (Some bytes) = refl
 
 -- a command that reads nothing makes its text of no input
-pub makes_of_nothing : (command one : Command) (before : Known) (out : List ℕ) (given : Returned) → command ≡ one → (work one).reads.most ≡ None
-    → (work one).Makes [] out given → MakesOf (work command) before before out given
-makes_of_nothing command one before out given same reads made = subst (λ (c : Command). MakesOf (work c) before before out given) (sym same) (record {
+pub makes_of_nothing : (shows : ℕ → Bool) (command one : Command) (before : Known) (out : List ℕ) (given : Returned) → command ≡ one → (work_by shows one).reads.most ≡ None
+    → (work_by shows one).Makes [] out given → MakesOf (work_by shows command) before before out given
+makes_of_nothing shows command one before out given same reads made = subst (λ (c : Command). MakesOf (work_by shows c) before before out given) (sym same) (record {
   input = [];
   read = subst (λ (most : Option ℕ). HasInput most before before []) (sym reads) (keeps_itself before, refl);
   made = made;
 })
+
+-- the same by a clock
+pub has_run_free : (shows : ℕ → Bool) (before after : Known) (input given : List ℕ) (script : ScriptData) (report : Report) → ReadsWhole limit before after input → given ≡ input
+    → IsText given script → IsStagedByClock shows script report → report.script ≡ script → HasRunFree shows before after report
+has_run_free shows before after input given script report read same is runs of = record {
+  input = input;
+  read = read;
+  text = subst (λ (s : ScriptData). IsText input s) (sym of) (subst (λ (b : List ℕ). IsText b script) same is);
+  runs = subst (λ (s : ScriptData). IsStagedByClock shows s report) (sym of) runs;
+}

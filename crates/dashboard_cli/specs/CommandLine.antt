@@ -4,14 +4,14 @@ use Rattle.std.specs.Fmt.{decimal}
 use Rattle.clap.specs.Words.{App, Row, Rule, first_of, new_app, new_rule, one_of, with_rule, with_subcommand}
 use Rattle.clap.specs.declared.builder.ArgAction.TheVariants.{SetTrue}
 use Rattle.dashboard_cli.specs.declared.words.Command.{Command}
-use Rattle.dashboard_cli.specs.declared.words.Command.TheVariants.{Run, Text, Migrate, Make, MakeRun, Trace, Check, Animate, Inbox}
+use Rattle.dashboard_cli.specs.declared.words.Command.TheVariants.{Run, RunFree, Text, Migrate, Make, MakeRun, Trace, Check, Animate, Inbox}
 
 -- a flag without a value
 abbrev pub flag_rule : List ℕ → Rule
 flag_rule name = record (new_rule name) { long = Some name; action = Some SetTrue }
 
 abbrev pub run_app : App
-run_app = new_app (codes "run")
+run_app = with_rule (new_app (codes "run")) (flag_rule (codes "free"))
 
 -- an option with a value
 abbrev pub option_rule : List ℕ → Rule
@@ -52,6 +52,7 @@ dashboard_app =
 -- the first word of a command
 abbrev pub name_of : Command → List ℕ
 name_of Run = codes "run"
+name_of RunFree = codes "run"
 name_of Text = codes "text"
 name_of Migrate = codes "text"
 name_of (Make number) = codes "make"
@@ -65,8 +66,14 @@ name_of Inbox = codes "inbox"
 abbrev pub HasNumber : List ℕ → List ℕ → List Row → Type 0
 HasNumber number runs rows = (first_of (codes "number") rows ≡ Some number) × (one_of (codes "run") rows ≡ Some runs)
 
+-- the matches give this value of the flag of a run
+abbrev pub HasFree : List ℕ → List Row → Type 0
+HasFree free rows = one_of (codes "free") rows ≡ Some free
+
 -- the matches that stand for a command
 abbrev pub HasRows : Command → List Row → Type 0
+HasRows Run rows = HasFree (codes "false") rows
+HasRows RunFree rows = HasFree (codes "true") rows
 HasRows Text rows = first_of (codes "to") rows ≡ None
 HasRows Migrate rows = first_of (codes "to") rows ≡ Some (codes "2")
 HasRows (Make number) rows = HasNumber (decimal number) (codes "false") rows

@@ -1,7 +1,7 @@
 -- What the steps of the top call answer.
-use Rattle.std.specs.Prelude.{ℕ, List}
+use Rattle.std.specs.Prelude.{ℕ, List, Bool}
 use Rattle.dash_script.specs.Reading.{IsText}
-use Rattle.dash_stage.specs.Staged.{IsStaged}
+use Rattle.dash_stage.specs.Staged.{IsStaged, IsStagedByClock}
 use Rattle.run_model.specs.declared.report.Report.{Report}
 use Rattle.dashboard_cli.specs.Streams.{limit, Known, ReadsWhole}
 use Rattle.dashboard_cli.specs.Works.{Input}
@@ -31,6 +31,13 @@ pub record HasRun (before after : Known) (report : Report) : Type 0 where
   pub read : ReadsWhole limit before after input
   pub text : IsText input report.script
   pub runs : IsStaged report.script report
+
+-- the same of a run by a clock that shows such numbers
+pub record HasRunFree (shows : ℕ → Bool) (before after : Known) (report : Report) : Type 0 where
+  pub input : List ℕ
+  pub read : ReadsWhole limit before after input
+  pub text : IsText input report.script
+  pub runs : IsStagedByClock shows report.script report
 
 -- the status refuses the input, which is none that is taken, or there was no memory
 abbrev pub IsNone : Input → List ℕ → Status → Type 0

@@ -3,7 +3,7 @@ use Rattle.std.specs.Prelude.{◌≡◌, ◌⊎◌, ◌^◌, ◌<◌, ℕ, List,
 use Rattle.std.specs.declared.alloc.Global.{Global}
 use Rattle.std.specs.Fmt.{decimal}
 use Rattle.dashboard_cli.specs.declared.words.Command.{Command}
-use Rattle.dashboard_cli.specs.declared.words.Command.TheVariants.{Run, Text, Migrate, Make, MakeRun, Trace, Check, Animate, Inbox}
+use Rattle.dashboard_cli.specs.declared.words.Command.TheVariants.{Run, RunFree, Text, Migrate, Make, MakeRun, Trace, Check, Animate, Inbox}
 
 -- the words as texts
 abbrev pub texts : List (String Global) → List (List ℕ)
@@ -12,6 +12,7 @@ texts = map string_bytes
 -- the words are a spelling of the command
 abbrev pub IsSpelled : Command → List (List ℕ) → Type 0
 IsSpelled Run words = words ≡ codes "run" ∷ []
+IsSpelled RunFree words = words ≡ codes "run" ∷ codes "--free" ∷ []
 IsSpelled Text words = words ≡ codes "text" ∷ []
 IsSpelled Migrate words = words ≡ codes "text" ∷ codes "--to" ∷ codes "2" ∷ []
 IsSpelled Trace words = words ≡ codes "trace" ∷ []

@@ -1,5 +1,5 @@
 -- What each command does: how many bytes it reads, which inputs it takes, how it refuses another, and what it makes.
-use Rattle.std.specs.Prelude.{◌≡◌, ℕ, List, Option, Some, None}
+use Rattle.std.specs.Prelude.{◌≡◌, ℕ, List, Option, Some, None, Bool, true}
 use Rattle.dash_script.specs.declared.script.Script.{Script as ScriptData}
 use Rattle.dash_script.specs.Editions.{up}
 use Rattle.dash_script.specs.Generated.{generated}
@@ -8,7 +8,7 @@ use Rattle.dash_script.specs.Text.{text as script_text}
 use Rattle.frame_phases.specs.declared.entry.FrameRecord.{FrameRecord}
 use Rattle.run_model.specs.declared.report.Report.{Report}
 use Rattle.run_model.specs.Text.{summary, text}
-use Rattle.dash_stage.specs.Staged.{IsStaged}
+use Rattle.dash_stage.specs.Staged.{IsStaged, IsStagedByClock}
 use Rattle.trace_check.specs.declared.trace.Trace.{Trace as TraceData}
 use Rattle.trace_check.specs.Records.{trace_of}
 use Rattle.trace_check.specs.Text.{IsLeastBad, IsText as IsTraceText, text as trace_text}
@@ -98,6 +98,14 @@ pub record WritesRun (printed : Report → List ℕ) (input out : List ℕ) (giv
   pub text_is : out ≡ printed report
   pub given_is : given ≡ only_report report
 
+-- the input is the text of the report's script, and the report of its run by a clock that shows such numbers is written
+pub record WritesFree (shows : ℕ → Bool) (input out : List ℕ) (given : Returned) : Type 0 where
+  pub report : Report
+  pub read : IsText input report.script
+  pub runs : IsStagedByClock shows report.script report
+  pub text_is : out ≡ text report
+  pub given_is : given ≡ only_report report
+
 -- the input is the text of a script, and it is written
 pub record WritesScript (input out : List ℕ) (given : Returned) : Type 0 where
   pub script : ScriptData
@@ -185,14 +193,19 @@ pub record Work : Type 1 where
   -- the text that it makes of an input, and what is returned beside it
   pub Makes : List ℕ → List ℕ → Returned → Type 0
 
--- the table of the commands
+-- the table of the commands, by the numbers that the clock shows
+abbrev pub work_by : (ℕ → Bool) → Command → Work
+work_by shows command.Run = record { reads = scripts; Makes = WritesRun text }
+work_by shows command.RunFree = record { reads = scripts; Makes = WritesFree shows }
+work_by shows command.Text = record { reads = scripts; Makes = WritesScript }
+work_by shows command.Migrate = record { reads = scripts; Makes = WritesUp }
+work_by shows (command.Make number) = record { reads = no_input; Makes = λ input. WritesGenerated number }
+work_by shows (command.MakeRun number) = record { reads = no_input; Makes = λ input. WritesSummary number }
+work_by shows command.Trace = record { reads = scripts; Makes = WritesRun (λ report. trace_text (trace_of report.queues)) }
+work_by shows command.Check = record { reads = traces; Makes = WritesVerdict }
+work_by shows command.Animate = record { reads = plans; Makes = WritesValues }
+work_by shows command.Inbox = record { reads = inbox_scripts; Makes = WritesInbox }
+
+-- the same of a command that reads no clock
 abbrev pub work : Command → Work
-work command.Run = record { reads = scripts; Makes = WritesRun text }
-work command.Text = record { reads = scripts; Makes = WritesScript }
-work command.Migrate = record { reads = scripts; Makes = WritesUp }
-work (command.Make number) = record { reads = no_input; Makes = λ input. WritesGenerated number }
-work (command.MakeRun number) = record { reads = no_input; Makes = λ input. WritesSummary number }
-work command.Trace = record { reads = scripts; Makes = WritesRun (λ report. trace_text (trace_of report.queues)) }
-work command.Check = record { reads = traces; Makes = WritesVerdict }
-work command.Animate = record { reads = plans; Makes = WritesValues }
-work command.Inbox = record { reads = inbox_scripts; Makes = WritesInbox }
+work c = work_by (λ reading. true) c

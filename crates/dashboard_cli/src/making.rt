@@ -2,9 +2,9 @@
 ghost use Rattle.std.specs.Prelude.{◌≡◌, [], None, IfErr, IfOk};
 ghost use Rattle.dash_script.specs.Reading.{HasText};
 ghost use Rattle.dashboard_cli.specs.Answers.{CountsReads, MakesOf};
-ghost use Rattle.dashboard_cli.specs.Steps.{HasRun, Stops, IsNone};
-ghost use Rattle.dashboard_cli.specs.Works.{inbox_scripts, plans, scripts, traces, work, IsInboxRunOf};
-ghost use Rattle.dash_stage.specs.Staged.{IsStaged};
+ghost use Rattle.dashboard_cli.specs.Steps.{HasRun, HasRunFree, Stops, IsNone};
+ghost use Rattle.dashboard_cli.specs.Works.{inbox_scripts, plans, scripts, traces, work, work_by, IsInboxRunOf};
+ghost use Rattle.dash_stage.specs.Staged.{IsStaged, IsStagedByClock};
 ghost use Rattle.value_animator.specs.Plans.{AreValues};
 ghost use Rattle.value_animator.specs.Run.{IsRunOf};
 
@@ -16,15 +16,16 @@ use crate::verdict::{judge, verdict_text};
 use crate::words::Command;
 use dash_report::{report_text, summary_text};
 use dash_script::{Script, make_script, migrate, print};
-use dash_stage::{Ran, run_script};
+use dash_stage::{Ran, run_free, run_script};
 use frame_phases::FrameRecord;
 use inbox_queue::{InboxRan, InboxReport, run_inbox};
-use loop_io::{Gate, Source};
+use loop_io::{Clock, Gate, Source};
 use loop_model::NoMemory;
 use run_model::Report;
 use std::alloc::Global;
 use std::sync::Wait;
 use std::thread::Threads;
+use std::time;
 use trace_check::print_records;
 use value_animator::{Values, ValuesRan, run_values};
 
@@ -100,14 +101,20 @@ impl From<NoMemory> for Status {
 }
 
 /// Makes the text of a command, whole.
-pub(crate) fn produce<R: Threads + Wait + Sync, S: Source, G: Gate + Sync>(
+pub(crate) fn produce<
+    R: Threads + Wait + time::Clock + Sync,
+    S: Source,
+    C: Clock + Sync,
+    G: Gate + Sync,
+>(
     rt: &R,
     alloc: Global,
     command: Command,
     source: &mut S,
+    clock: &C,
     gate: &G,
 ) -> Result<Product, Status>
-    ensures made { IfOk result (λ product. MakesOf (work command) (S.left source.old) (S.left source.new) product.text.items product.returned) }
+    ensures made { IfOk result (λ product. MakesOf (work_by (C.shows clock.now) command) (S.left source.old) (S.left source.new) product.text.items product.returned) }
     ensures stopped { IfErr result (Stops (work command).reads (S.left source.old) (S.left source.new)) }
     ensures unread { (work command).reads.most ≡ None → source.new ≡ source.old }
     ensures sound { IfOk result (λ _. S.faults source.new ≡ S.faults source.old) }
@@ -115,6 +122,7 @@ pub(crate) fn produce<R: Threads + Wait + Sync, S: Source, G: Gate + Sync>(
 {
     match command {
         Command::Run => run_input(rt, alloc, source, gate),
+        Command::RunFree => run_input_free(rt, alloc, source, clock, gate),
         Command::Text => print_input(alloc, source),
         Command::Migrate => migrate_input(alloc, source),
         Command::Make { number } => print_made(alloc, number),
@@ -139,6 +147,30 @@ fn run_input<R: Threads + Wait + Sync, S: Source, G: Gate + Sync>(
     ensures failed { IfErr result (λ status. CountsReads status (S.faults source.old) (S.faults source.new)) }
 {
     let report = read_and_run(rt, alloc, source, gate)?;
+    let text = report_text(alloc, &report)?;
+    let returned = Returned::report(report);
+    Ok(Product { text, returned })
+}
+
+/// Reads a script, runs it by the clock, and makes the text of its report.
+fn run_input_free<
+    R: Threads + Wait + time::Clock + Sync,
+    S: Source,
+    C: Clock + Sync,
+    G: Gate + Sync,
+>(
+    rt: &R,
+    alloc: Global,
+    source: &mut S,
+    clock: &C,
+    gate: &G,
+) -> Result<Product, Status>
+    ensures made { IfOk result (λ product. MakesOf (work_by (C.shows clock.now) Command.RunFree) (S.left source.old) (S.left source.new) product.text.items product.returned) }
+    ensures stopped { IfErr result (Stops scripts (S.left source.old) (S.left source.new)) }
+    ensures sound { IfOk result (λ _. S.faults source.new ≡ S.faults source.old) }
+    ensures failed { IfErr result (λ status. CountsReads status (S.faults source.old) (S.faults source.new)) }
+{
+    let report = read_and_run_free(rt, alloc, source, clock, gate)?;
     let text = report_text(alloc, &report)?;
     let returned = Returned::report(report);
     Ok(Product { text, returned })
@@ -282,6 +314,47 @@ fn read_and_run<R: Threads + Wait + Sync, S: Source, G: Gate + Sync>(
     let input = read_input(alloc, source, MOST_BYTES)?;
     let script = read_script(alloc, input.as_slice())?;
     Ok(run(rt, alloc, script, gate)?)
+}
+
+/// Reads a script and runs it by the clock.
+fn read_and_run_free<
+    R: Threads + Wait + time::Clock + Sync,
+    S: Source,
+    C: Clock + Sync,
+    G: Gate + Sync,
+>(
+    rt: &R,
+    alloc: Global,
+    source: &mut S,
+    clock: &C,
+    gate: &G,
+) -> Result<Report, Status>
+    ensures ran { IfOk result (HasRunFree (C.shows clock.now) (S.left source.old) (S.left source.new)) }
+    ensures stopped { IfErr result (Stops scripts (S.left source.old) (S.left source.new)) }
+    ensures sound { IfOk result (λ _. S.faults source.new ≡ S.faults source.old) }
+    ensures failed { IfErr result (λ status. CountsReads status (S.faults source.old) (S.faults source.new)) }
+{
+    let input = read_input(alloc, source, MOST_BYTES)?;
+    let script = read_script(alloc, input.as_slice())?;
+    Ok(run_by_clock(rt, alloc, script, clock, gate)?)
+}
+
+/// Runs a script by the clock.
+fn run_by_clock<R: Threads + Wait + time::Clock + Sync, C: Clock + Sync, G: Gate + Sync>(
+    rt: &R,
+    alloc: Global,
+    script: Script,
+    clock: &C,
+    gate: &G,
+) -> Result<Report, NoMemory>
+    requires { HasText script }
+    ensures run { IfOk result (λ report. IsStagedByClock (C.shows clock.now) script report) }
+    ensures of { IfOk result (λ report. report.script ≡ script) }
+{
+    match run_free(rt, alloc, script, clock, gate) {
+        Ran::Ok(report) => Ok(report),
+        Ran::NoMemory => Err(NoMemory),
+    }
 }
 
 /// Runs a script.

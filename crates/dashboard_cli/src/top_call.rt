@@ -2,7 +2,7 @@
 ghost use Rattle.std.specs.Prelude.{◌≡◌, ◌≢◌, ◌⊎◌, IsTrue, None};
 ghost use Rattle.loop_io.specs.Causes.{Rose};
 ghost use Rattle.dashboard_cli.specs.Answers.{is_refusal, writes_nothing, AllOf, CountsReads, CountsWrites, HasGoodInput, IsBrokenOff, IsDone, IsOf, IsRefused, IsTooLong, IsWithin};
-ghost use Rattle.dashboard_cli.specs.Works.{returned, work, nothing};
+ghost use Rattle.dashboard_cli.specs.Works.{returned, work, nothing, work_by};
 ghost use Rattle.dashboard_cli.specs.Words.{texts, IsListed};
 
 use crate::making::{Returned, produce};
@@ -17,6 +17,7 @@ use run_model::Report;
 use std::alloc::Global;
 use std::sync::Wait;
 use std::thread::Threads;
+use std::time;
 
 /// How the program ended, and the report or the frames of a run whose text was made.
 #[derive(Debug, Drop)]
@@ -36,6 +37,7 @@ pub struct Outcome {
 /// | Words | What it does |
 /// |---|---|
 /// | `run` | reads a script, runs it in lockstep, writes the report |
+/// | `run --free` | reads a script, runs it by the clock, writes the report |
 /// | `text` | reads a script, writes it |
 /// | `make N` | writes the script that the generator makes from N |
 /// | `make N --run`, `make --run N` | makes it, runs it in lockstep, writes the summary |
@@ -47,13 +49,19 @@ pub struct Outcome {
 /// N is a decimal below 2 to the 32 without leading zeros. It looks for faults in this order: the words (`Usage`), the
 /// reading (`ReadFault`, `TooLong`), the script or the plan (`Script`) or the histories (`Trace`), the writing (`WriteFault`).
 /// `NoMemory` comes where it is met. The text is made whole before the first write.
-pub fn dashboard<R: Threads + Wait + Sync, S: Source, K: Sink, C: Clock, G: Gate + Sync>(
+pub fn dashboard<
+    R: Threads + Wait + time::Clock + Sync,
+    S: Source,
+    K: Sink,
+    C: Clock + Sync,
+    G: Gate + Sync,
+>(
     rt: &R,
     alloc: Global,
     words: &[String],
     source: &mut S,
     sink: &mut K,
-    _clock: &C,
+    clock: &C,
     gate: &G,
 ) -> Outcome
     // The words are a command, unless they are refused.
@@ -64,9 +72,9 @@ pub fn dashboard<R: Threads + Wait + Sync, S: Source, K: Sink, C: Clock, G: Gate
     ensures unread { ¬ (IsOf (texts words.now) (λ command. (work command).reads.most ≢ None)) → source.new ≡ source.old }
 
     // The text is written whole at Ok, and a front of it at WriteFault. At every other status nothing is written.
-    ensures ok { result.status ≡ Status.Ok → IsOf (texts words.now) (λ command. IsDone (work command)
+    ensures ok { result.status ≡ Status.Ok → IsOf (texts words.now) (λ command. IsDone (work_by (C.shows clock.now) command)
         (S.left source.old) (S.left source.new) (K.holds sink.old) (K.holds sink.new) (returned result)) }
-    ensures broken_off { result.status ≡ Status.WriteFault → IsOf (texts words.now) (λ command. IsBrokenOff (work command)
+    ensures broken_off { result.status ≡ Status.WriteFault → IsOf (texts words.now) (λ command. IsBrokenOff (work_by (C.shows clock.now) command)
         (S.left source.old) (S.left source.new) (K.holds sink.old) (K.holds sink.new) (returned result)) }
     ensures nothing { IsTrue (writes_nothing result.status) → sink.new ≡ sink.old }
     ensures none_returned { IsTrue (writes_nothing result.status) → returned result ≡ nothing }
@@ -95,7 +103,7 @@ pub fn dashboard<R: Threads + Wait + Sync, S: Source, K: Sink, C: Clock, G: Gate
         Ok(None) => return ended(Status::Usage, Returned::nothing()),
         Err(NoMemory) => return ended(Status::NoMemory, Returned::nothing()),
     };
-    let product = match produce(rt, alloc, command, source, gate) {
+    let product = match produce(rt, alloc, command, source, clock, gate) {
         Ok(product) => product,
         Err(status) => return ended(status, Returned::nothing()),
     };

@@ -2,7 +2,7 @@
 ghost use Rattle.std.specs.Prelude.{◌≡◌, ◌≢◌, ◌↔◌, List, IfOk, IfNone, IfSome, IsTrue, map, codes, Some, None, false, true};
 ghost use Rattle.clap.specs.Words.{app_of, found_of, kind_of, rows_of, subcommand_rows_of};
 ghost use Rattle.clap.specs.declared.builder.command.Command.TheViews.{out-Command};
-ghost use Rattle.dashboard_cli.specs.CommandLine.{dashboard_app, make_app, text_app, name_of, HasRows, IsFound};
+ghost use Rattle.dashboard_cli.specs.CommandLine.{dashboard_app, run_app, make_app, text_app, name_of, HasRows, IsFound};
 ghost use Rattle.dashboard_cli.specs.Words.{IsInRange, IsAsked, IsListed, IsSpelled, texts};
 
 use clap::error::ErrorKind;
@@ -15,6 +15,8 @@ use std::alloc::{AllocError, Global};
 pub enum Command {
     /// Reads a script, runs it in lockstep and writes the report.
     Run,
+    /// Reads a script, runs it by the clock and writes the report.
+    RunFree,
     /// Reads a script and writes it.
     Text,
     /// Reads a script and writes it as one of edition 2.
@@ -69,7 +71,7 @@ fn refused(error: &clap::Error) -> Result<Option<Command>, NoMemory>
 fn command_line<'a>(alloc: Global) -> Result<clap::Command<'a>, AllocError>
     ensures { IfOk result (λ line. app_of line ≡ dashboard_app) }
 {
-    let run = clap::Command::new(alloc, "run");
+    let run = run_line(alloc)?;
     let text = text_line(alloc)?;
     let make = make_line(alloc)?;
     let trace = clap::Command::new(alloc, "trace");
@@ -98,6 +100,17 @@ fn text_line<'a>(alloc: Global) -> Result<clap::Command<'a>, AllocError>
     clap::Command::new(alloc, "text").arg(to)
 }
 
+/// The line of `run`, with perhaps its flag.
+fn run_line<'a>(alloc: Global) -> Result<clap::Command<'a>, AllocError>
+    ensures app { IfOk result (λ line. app_of line ≡ run_app) }
+    ensures local { IfOk result (λ line. (out-Command line).has_globals ≡ false) }
+{
+    let free = Arg::new(alloc, "free")
+        .long("free")
+        .action(ArgAction::SetTrue);
+    clap::Command::new(alloc, "run").arg(free)
+}
+
 /// The line of `make`: a number, and perhaps the flag.
 fn make_line<'a>(alloc: Global) -> Result<clap::Command<'a>, AllocError>
     ensures app { IfOk result (λ line. app_of line ≡ make_app) }
@@ -116,7 +129,7 @@ fn command_found(matches: &ArgMatches<'_>) -> Option<Command>
 {
     let (name, inner) = matches.subcommand()?;
     match name {
-        "run" => Some(Command::Run),
+        "run" => Some(run_found(inner)),
         "text" => text_found(inner),
         "make" => make_found(inner),
         "trace" => Some(Command::Trace),
@@ -124,6 +137,18 @@ fn command_found(matches: &ArgMatches<'_>) -> Option<Command>
         "animate" => Some(Command::Animate),
         "inbox" => Some(Command::Inbox),
         _ => None,
+    }
+}
+
+/// The command that the parser found behind `run`.
+fn run_found(matches: &ArgMatches<'_>) -> Command
+    ensures { (command : Command) → IsInRange command → name_of command ≡ codes "run"
+        → HasRows command (rows_of (found_of matches.now)) → result ≡ command }
+{
+    if matches.get_flag("free") {
+        Command::RunFree
+    } else {
+        Command::Run
     }
 }
 
@@ -161,6 +186,7 @@ fn is_spelled(alloc: Global, command: Command, words: &[String]) -> Result<bool,
 {
     Ok(match command {
         Command::Run => are_same(words, &["run"]),
+        Command::RunFree => are_same(words, &["run", "--free"]),
         Command::Text => are_same(words, &["text"]),
         Command::Migrate => are_same(words, &["text", "--to", "2"]),
         Command::Trace => are_same(words, &["trace"]),

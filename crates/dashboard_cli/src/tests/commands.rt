@@ -6,8 +6,9 @@ use std::process::Abort;
 use std::test::Fail;
 
 /// Words, and the command that they name.
-const NAMED: [(&str, Option<Command>); 35] = [
+const NAMED: [(&str, Option<Command>); 37] = [
     ("run", Some(Command::Run)),
+    ("run --free", Some(Command::RunFree)),
     ("text", Some(Command::Text)),
     ("text --to 2", Some(Command::Migrate)),
     ("make 0", Some(Command::Make { number: 0 })),
@@ -23,7 +24,8 @@ const NAMED: [(&str, Option<Command>); 35] = [
     ("animate 1", None),
     ("inbox --free", None),
     ("", None),
-    ("run --free", None),
+    ("run --free --free", None),
+    ("--free run", None),
     ("run --fast", None),
     ("run run", None),
     ("text --", None),

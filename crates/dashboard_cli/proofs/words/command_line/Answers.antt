@@ -12,7 +12,7 @@ returns c =
     let no_flag = ap app_of_fields c.disable_help_flag.ensures ∙ ap (λ (a : App). record a { top = record a.top { disable_help_flag = true } }) words_first in
     let base : app_of c.disable_help_subcommand.result ≡ without_help (new_app (codes "dashboard")) =
     ap app_of_fields c.disable_help_subcommand.ensures ∙ ap (λ (a : App). record a { top = record a.top { disable_help_subcommand = true } }) no_flag in
-    let with_run = c.in_ok-subcommand.ensures.shape c.new-run.ensures.local ∙ ap₂ with_subcommand base (ap (λ (a : App). a.top) c.new-run.ensures.app) in
+    let with_run = c.in_ok-subcommand.ensures.shape c.in_ok-run.ensures.local ∙ ap₂ with_subcommand base (ap (λ (a : App). a.top) c.in_ok-run.ensures.app) in
     let with_text = c.in_ok-subcommand-2.ensures.shape c.in_ok-text.ensures.local ∙ ap₂ with_subcommand with_run (ap (λ (a : App). a.top) c.in_ok-text.ensures.app) in
     let with_make = c.in_ok-subcommand-3.ensures.shape c.in_ok-make.ensures.local ∙ ap₂ with_subcommand with_text (ap (λ (a : App). a.top) c.in_ok-make.ensures.app) in
     let with_trace = c.in_ok-subcommand-4.ensures.shape c.new-trace.ensures.local ∙ ap₂ with_subcommand with_make (ap (λ (a : App). a.top) c.new-trace.ensures.app) in
