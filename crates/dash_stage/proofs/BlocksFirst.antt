@@ -16,7 +16,8 @@ use Rattle.run_model.specs.Asks.{entries_by}
 use Rattle.run_model.specs.Control.{is_advance, each_behind}
 use Rattle.run_model.proofs.ControlLaws.{each_behind-snoc, each_behind-append}
 use Rattle.run_model.proofs.RunLaws.{entries_by-others}
-use Rattle.dash_stage.specs.Blocks.{fresh_behind, is_fresh, comes_first, come_first, IsFresh}
+use Rattle.dash_stage.specs.Blocks.{fresh_behind, is_fresh, comes_first, come_first}
+use Rattle.dash_stage.specs.AtBlocks.{IsFresh}
 use Rattle.dash_stage.proofs.Timely.{of_others, own_of_none, numbered_next, no_threads}
 
 -- one more entry

@@ -36,7 +36,8 @@ use Rattle.dash_stage.specs.Controllers.{are_advances, time_in, calls_on}
 use Rattle.dash_stage.specs.Stages.{IsStage}
 use Rattle.dash_stage.specs.Sharing.{HaveSeenTheSame}
 use Rattle.dash_stage.specs.Timeliness.{whole_on, AreSound, AreBy, AreRested, HasNoneBefore, AreDue, EachTurnsOn, MovesTo, MovesNot, HaveCome}
-use Rattle.dash_stage.specs.Blocks.{come_first, IsAtBlock}
+use Rattle.dash_stage.specs.Blocks.{come_first}
+use Rattle.dash_stage.specs.AtBlocks.{IsAtBlock}
 use Rattle.dash_stage.specs.Playing.{AreAtBlock, LiesAhead, HaveComeFirst, IsInTime, AreInTime, IsInStep, IsStuck, AreStuck}
 use Rattle.dash_stage.proofs.Controls.{time_by_controller}
 use Rattle.dash_stage.proofs.Timely.{clock_stays, has_disposed_same, on_time_open, on_time_gone}

@@ -1,6 +1,6 @@
 -- The threads' calls come first at their time: before the loopers run a round, on a queue that isn't disposed of. Behind a disposal each
 -- comes at a later time than the disposal's, which is said by its timing (`InBlock`). And no block is left out: main's time comes to each.
-use Rattle.std.specs.Prelude.{◌≡◌, ◌⊎◌, ◌==◌, ◌||◌, ◌&&◌, ℕ, Bool, true, not, nat_lt, List, [], ◌∷◌}
+use Rattle.std.specs.Prelude.{◌≡◌, ◌==◌, ◌||◌, ◌&&◌, ℕ, Bool, true, not, nat_lt, List, [], ◌∷◌}
 use Rattle.std.specs.List.{AllByRecursion, fold, list_any}
 use Rattle.run_model.specs.Histories.{history_of}
 use Rattle.loop_model.specs.declared.entry.Entry.{Entry}
@@ -11,7 +11,7 @@ use Rattle.loop_model.specs.Entries.{moment_of}
 use Rattle.dash_script.specs.declared.script.Block.{Block}
 use Rattle.dash_script.specs.declared.script.Script.{Script}
 use Rattle.run_model.specs.Senders.{controller}
-use Rattle.run_model.specs.Control.{is_advance, each_behind, before, InBlock, is_on_time}
+use Rattle.run_model.specs.Control.{is_advance, each_behind}
 
 -- the entry moves the time; or it was fresh before, and the entry is a thread's (a sender below this number)
 abbrev pub fresh_behind : ℕ → Bool → Entry → Bool
@@ -53,12 +53,3 @@ main_entries (q ∷ queues) = history_of q
 -- main's time was moved to the time of each block, but for one at the start
 abbrev pub AreBlocksReached : Script → List QueueRecord → Type 0
 AreBlocksReached s queues = AreReached (controller s) s.blocks (main_entries queues)
-
--- the queue was disposed of, or since its time was last moved only threads have called
-abbrev pub IsFresh : ℕ → List Entry → Type 0
-IsFresh threads es = (has_disposed (empty_base 0) es ≡ true) ⊎ (is_fresh threads es ≡ true)
-
--- as at the start of a block at this time: a thread's call is on time, and comes first
-pub record IsAtBlock (threads time : ℕ) (es : List Entry) : Type 0 where
-  pub on_time : is_on_time (InBlock time) (before es) ≡ true
-  pub fresh : IsFresh threads es

@@ -1,7 +1,9 @@
 pub mod Controllers
 pub mod GivingUp
 pub mod Blocks
+pub mod AtBlocks
 pub mod Staged
+pub mod Outcomes
 pub mod Records
 pub mod Runs
 pub mod Stages

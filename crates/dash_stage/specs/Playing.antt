@@ -17,7 +17,8 @@ use Rattle.dash_loopers.specs.Played.{is_disposal, HasCome, HasPlayed}
 use Rattle.dash_hall.specs.Kits.{AreUnseen}
 use Rattle.dash_stage.specs.declared.control.Controller.{Controller}
 use Rattle.dash_stage.specs.declared.stage.Stage.{Stage}
-use Rattle.dash_stage.specs.Blocks.{come_first, IsAtBlock}
+use Rattle.dash_stage.specs.Blocks.{come_first}
+use Rattle.dash_stage.specs.AtBlocks.{IsAtBlock}
 use Rattle.dash_stage.specs.Sharing.{HaveSeenTheSame}
 use Rattle.dash_stage.specs.Timeliness.{whole_on, AreSound, WasDisposedBy}
 

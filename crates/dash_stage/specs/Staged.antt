@@ -5,18 +5,12 @@ use Rattle.run_model.specs.declared.report.Report.{Report}
 use Rattle.run_model.specs.Moments.{in_lockstep, in_free_mode}
 use Rattle.run_model.specs.Run.{IsRun, IsReportOf, AreRecordsOf, ArePlannedOf, AreControlsOf, AreFramesOf, all_entries, main_ends_halted}
 use Rattle.dash_stage.specs.Blocks.{AreBlocksFirst, AreBlocksReached}
-use Rattle.dash_stage.specs.declared.run.Ran.{Ran}
-use Rattle.dash_stage.specs.declared.run.Ran.TheVariants as ran
 
 -- the report is a run of the script in lockstep: the history of each looper's queue is one that a queue of one thread has, each thread's calls there are those that its lines plan, one for one and in order, each looper's are those that the acts in its journal cause, the controller's move all queues' times on together, to times at which something may come and no further than the end, and close the queue there, each frame history is lawful and has the posts, the removals and the frames that the threads' lines and the looper's acts ask for, each as often, each of these frames takes all phases, and each call comes at its time; and on each queue each thread's call comes where only threads have called since the queue's time was last moved, or behind its disposal; and main's time was moved to the time of each block, but for one at the start
 pub record IsStaged (s : Script) (r : Report) : Type 0 where
   pub run : IsRun in_lockstep s r
   pub blocks : AreBlocksFirst s r.queues
   pub reached : AreBlocksReached s r.queues
-
-abbrev pub Stages : Script → Ran → Type 0
-Stages s (ran.Ok r) = IsStaged s r
-Stages s ran.NoMemory = Unit {0}
 
 -- the report is one of the script by a clock that shows such numbers: the history of each looper's queue is one that a queue of one thread has, at moments of the clock or of the queue, each thread's calls there are those that its lines plan, one for one and in order, none earlier than its block, the controller's close the queue at the end or later, and main ends with its halt; and each frame history is lawful
 pub record IsStagedByClock (shows : ℕ → Bool) (s : Script) (r : Report) : Type 0 where
@@ -26,7 +20,3 @@ pub record IsStagedByClock (shows : ℕ → Bool) (s : Script) (r : Report) : Ty
   pub controls : AreControlsOf s r
   pub frames : AreFramesOf s r
   pub halted : main_ends_halted r.queues ≡ true
-
-abbrev pub StagesByClock : (ℕ → Bool) → Script → Ran → Type 0
-StagesByClock shows s (ran.Ok r) = IsStagedByClock shows s r
-StagesByClock shows s ran.NoMemory = Unit {0}

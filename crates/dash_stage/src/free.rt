@@ -12,7 +12,7 @@ ghost use Rattle.dash_stage.specs.ByClock.{RunsByClock, LoopsByClock, QuitsOther
 ghost use Rattle.dash_stage.specs.Controllers.{IsControllerIn, CallsNothingOn};
 ghost use Rattle.dash_stage.specs.RunEnds.{HasBegunByClock, IsClosingByClock, HasEndedByClock};
 ghost use Rattle.dash_stage.specs.Sharing.{StageKeeps, HaveSeenTheSame};
-ghost use Rattle.dash_stage.specs.Staged.{StagesByClock};
+ghost use Rattle.dash_stage.specs.Outcomes.{StagesByClock};
 ghost use Rattle.dash_stage.specs.Stages.{IsStageIn, AreThreads, AreLoopers, OthersHaveEnded, LoopersGoOn};
 
 use crate::control::Controller;

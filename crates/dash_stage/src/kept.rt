@@ -11,7 +11,7 @@ ghost use Rattle.dash_hall.specs.Kits.{IsHall, OthersAreOver};
 ghost use Rattle.dash_stage.specs.Records.{AreQueueRecords, AreFrameRecords, AreJournals};
 ghost use Rattle.dash_loopers.specs.Loopers.{HaveTold};
 ghost use Rattle.dash_stage.specs.Blocks.{AreBlocksFirst, AreBlocksReached};
-ghost use Rattle.dash_stage.specs.Staged.{Stages, StagesByClock};
+ghost use Rattle.dash_stage.specs.Outcomes.{Stages, StagesByClock};
 ghost use Rattle.dash_stage.specs.Leaving.{HaveGiven};
 ghost use Rattle.dash_stage.specs.Runs.{HaveRunAll};
 ghost use Rattle.dash_hall.specs.Hearing.{HaveSeenAll};

@@ -1,7 +1,7 @@
 //! A run, from the script to the report.
 ghost use Rattle.std.specs.Prelude.{IfOk};
 ghost use Rattle.dash_script.specs.Reading.{HasText};
-ghost use Rattle.dash_stage.specs.Staged.{Stages};
+ghost use Rattle.dash_stage.specs.Outcomes.{Stages};
 ghost use Rattle.dash_stage.specs.RunEnds.{HasEndedInLockstep};
 ghost use Rattle.dash_stage.specs.Stages.{OthersHaveEnded, LoopersGoOn};
 
