@@ -158,13 +158,7 @@ fn run_input_free<
     S: Source,
     C: Clock + Sync,
     G: Gate + Sync,
->(
-    rt: &R,
-    alloc: Global,
-    source: &mut S,
-    clock: &C,
-    gate: &G,
-) -> Result<Product, Status>
+>(rt: &R, alloc: Global, source: &mut S, clock: &C, gate: &G) -> Result<Product, Status>
     ensures made { IfOk result (λ product. MakesOf (work_by (C.shows clock.now) Command.RunFree) (S.left source.old) (S.left source.new) product.text.items product.returned) }
     ensures stopped { IfErr result (Stops scripts (S.left source.old) (S.left source.new)) }
     ensures sound { IfOk result (λ _. S.faults source.new ≡ S.faults source.old) }
@@ -322,13 +316,7 @@ fn read_and_run_free<
     S: Source,
     C: Clock + Sync,
     G: Gate + Sync,
->(
-    rt: &R,
-    alloc: Global,
-    source: &mut S,
-    clock: &C,
-    gate: &G,
-) -> Result<Report, Status>
+>(rt: &R, alloc: Global, source: &mut S, clock: &C, gate: &G) -> Result<Report, Status>
     ensures ran { IfOk result (HasRunFree (C.shows clock.now) (S.left source.old) (S.left source.new)) }
     ensures stopped { IfErr result (Stops scripts (S.left source.old) (S.left source.new)) }
     ensures sound { IfOk result (λ _. S.faults source.new ≡ S.faults source.old) }

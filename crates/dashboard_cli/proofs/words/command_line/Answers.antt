@@ -1,5 +1,5 @@
 -- The command line that the parser gets is the one of the definitions, builder by builder.
-use Rattle.std.proofs.Common.{◌≡◌, ◌∙◌, ap, ap₂, codes, true}
+use Rattle.std.proofs.Common.{rules, ◌≡◌, ◌∙◌, ap, ap₂, codes, true}
 use Rattle.std.proofs.lemmas.Result.{IfOk-weaker}
 use Rattle.clap.specs.Words.{App, app_of, new_app, with_subcommand}
 use Rattle.clap.specs.Simple.{app_of_fields}
@@ -21,3 +21,6 @@ returns c =
     IfOk-weaker c.subcommand-7.result _ _
     (λ line added. added.shape c.new-inbox.ensures.local ∙ ap₂ with_subcommand with_animate (ap (λ (a : App). a.top) c.new-inbox.ensures.app))
     c.subcommand-7.ensures
+
+pub returns-in_err-subcommand : goal.returns-in_err-subcommand
+returns-in_err-subcommand c = let told = c.from_residual-in_err-subcommand.ensures in search rules
