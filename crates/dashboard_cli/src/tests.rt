@@ -6,6 +6,7 @@ use std::process::Abort;
 use std::sync::Wait;
 use std::test::Fail;
 use std::thread::Threads;
+use std::time;
 
 mod commands;
 mod faults;
@@ -79,7 +80,7 @@ fn returned_by(outcome: &Outcome) -> Given {
 /// Runs the words over the input, read in pieces of at most so many bytes and written in pieces of 16, where the read and the write of these
 /// numbers fail, and where each sender passes this gate before each of its commands or dispatches.
 fn run_at<G: Gate + Sync>(
-    rt: &(impl Abort + Threads + Wait + Sync),
+    rt: &(impl Abort + Threads + Wait + time::Clock + Sync),
     alloc: Global,
     line: &str,
     source: &mut MemSource,
@@ -95,7 +96,7 @@ fn run_at<G: Gate + Sync>(
 
 /// The same without a gate.
 fn come_of(
-    rt: &(impl Abort + Threads + Wait + Sync),
+    rt: &(impl Abort + Threads + Wait + time::Clock + Sync),
     alloc: Global,
     line: &str,
     input: Vec<u8>,

@@ -129,6 +129,29 @@ fn a_busy_run_comes_to_its_counts(rt: HostRuntime) -> Result<(), Fail> {
     Ok(())
 }
 
+/// Two posts, of which the later line is due first.
+const BY_CLOCK: &str =
+    "dashboard 1\nloopers 1\nthreads 1\nhandler 0 0\nvsync 16666667\nat 10\n0 post 0 7 5\n0 post 0 8 0\nend 20\n";
+
+/// Each reading of the clock is 5 milliseconds later, so both posts are due by the end.
+#[test]
+fn a_run_by_a_clock_dispatches_what_is_due(rt: HostRuntime) -> Result<(), Fail> {
+    let alloc = rt.alloc();
+    let came = come_of(
+        &rt,
+        alloc,
+        "run --free",
+        joined(alloc, BY_CLOCK, "")?,
+        255,
+        NEVER,
+        NEVER,
+    )?;
+    assert!(rt; came.status == Status::Ok && came.given == Given::Report);
+    let text = came.written.as_slice();
+    assert!(rt; has_line(text, b"fates accepted 2 dispatched 2 removed 0 dropped 0 stranded 0 queued 0"));
+    Ok(())
+}
+
 /// A script of two threads, which are the senders 0 and 1; its loopers are the senders 2 and 3.
 const MEETING: &str =
     "dashboard 1\nloopers 2\nthreads 2\nhandler 0 0\nhandler 1 1\nvsync 16666667\nat 10\n0 post 0 1 0\n1 post 1 2 0\nend 10\n";
