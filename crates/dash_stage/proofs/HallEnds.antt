@@ -148,15 +148,15 @@ pub kept_history : (m : Mode) (s : Script) (pool : TableId) (n : ℕ) (c : Const
 kept_history m s pool n c r is kept clocked =
     let looper : r.looper ≡ n = kept.looper ∙ ap (λ (x : Constants TableId). x.looper) is in
     let setting : setting_of r ≡ (queue_constants m.lockstep s pool n).setting = kept.setting ∙ ap (λ (x : Constants TableId). x.setting) is in
-      record {
-        main = ap (λ (x : Setting). x.main) setting ∙ ap (λ (k : ℕ). k == 0) (sym looper);
-        lockstep = ap (λ (x : Setting). x.lockstep) setting;
-        senders = ap (λ (x : Setting). x.senders) setting;
-        chain = subst (λ (x : Setting). IsChainFrom (empty_base x.senders) r.segments) (sym kept.setting) kept.chain;
-        legal = subst (λ (x : Setting). IsLegal x (empty_base x.senders) (history_of r)) (sym kept.setting) kept.legal;
-        numbered = subst (λ (x : Setting). AreNumbered x (empty_base x.senders) (history_of r)) (sym kept.setting) kept.numbered;
-        clocked = clocked;
-      }
+    record {
+      main = ap (λ (x : Setting). x.main) setting ∙ ap (λ (k : ℕ). k == 0) (sym looper);
+      lockstep = ap (λ (x : Setting). x.lockstep) setting;
+      senders = ap (λ (x : Setting). x.senders) setting;
+      chain = subst (λ (x : Setting). IsChainFrom (empty_base x.senders) r.segments) (sym kept.setting) kept.chain;
+      legal = subst (λ (x : Setting). IsLegal x (empty_base x.senders) (history_of r)) (sym kept.setting) kept.legal;
+      numbered = subst (λ (x : Setting). AreNumbered x (empty_base x.senders) (history_of r)) (sym kept.setting) kept.numbered;
+      clocked = clocked;
+    }
 
 -- what is known where some queues have ended
 pub record AreRetired (orig : List Kit) (records : List QueueRecord) (kits : List Kit) : Type 0 where

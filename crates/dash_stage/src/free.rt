@@ -240,7 +240,11 @@ fn run_side_by_side<R: Threads + Wait + time::Clock + Sync, C: Clock + Sync, G: 
         &mut ||
             requires { CanRunMain script.now hall.now main.now threads.now controller.now × IsSync R.row × IsSync C.row × IsSync G.row }
             ensures { HasRunMain (in_free_mode (C.shows timer.entry.now.clock.now) timer.entry.now.start) script.entry.now hall.entry.now main.entry.now main.exit.now threads.entry.now threads.exit.now controller.entry.now controller.exit.now result }
-        { run_main(rt, alloc, hall, script, gate, timer, &ended, main, threads, controller) },
+        {
+            run_main(
+                rt, alloc, hall, script, gate, timer, &ended, main, threads, controller,
+            )
+        },
     );
     quit
 }

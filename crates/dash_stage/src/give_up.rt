@@ -57,7 +57,13 @@ impl Stage {
 impl Controller {
     /// Sets the flag by which the run is given up, nudges main, and quits each other looper plainly at this time, in milliseconds.
     /// Answers false where a quit found no memory; the others are made all the same.
-    pub(crate) fn give_up<R: Wait>(&mut self, rt: &R, hall: &Hall, script: &Script, now: u64) -> bool
+    pub(crate) fn give_up<R: Wait>(
+        &mut self,
+        rt: &R,
+        hall: &Hall,
+        script: &Script,
+        now: u64,
+    ) -> bool
         requires some { 0 < script.now.loopers }
         requires hall { IsHall script.now hall.now }
         requires controller { IsControllerIn hall.now.lockstep script.now hall.now self.old }

@@ -44,7 +44,12 @@ pub(crate) fn no_counts() -> Counts {
 }
 
 /// Makes the calls of the mode for this many messages.
-pub(crate) fn run<R: Wait>(rt: &R, alloc: Global, mode: Mode, count: u64) -> Result<Counts, NoMemory> {
+pub(crate) fn run<R: Wait>(
+    rt: &R,
+    alloc: Global,
+    mode: Mode,
+    count: u64,
+) -> Result<Counts, NoMemory> {
     match mode {
         Mode::Chain => chain(alloc, count),
         Mode::Burst => burst(alloc, count),

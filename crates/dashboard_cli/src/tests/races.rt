@@ -148,7 +148,12 @@ fn a_run_by_a_clock_dispatches_what_is_due(rt: HostRuntime) -> Result<(), Fail> 
     )?;
     assert!(rt; came.status == Status::Ok && came.given == Given::Report);
     let text = came.written.as_slice();
-    assert!(rt; has_line(text, b"fates accepted 2 dispatched 2 removed 0 dropped 0 stranded 0 queued 0"));
+    assert!(rt;
+        has_line(
+            text,
+            b"fates accepted 2 dispatched 2 removed 0 dropped 0 stranded 0 queued 0"
+        )
+    );
     Ok(())
 }
 

@@ -15,5 +15,7 @@ returns g c =
     let ls = c.args.loopers.now in
     let it : StageLooper = slice_index_or ls 0 c.index-loopers-0.result in
     let some : 0 < length ls = omega (arith, c.requires.one) in
-    record { loopers = each_set (LoopsByClock m s hall) ls it c.run_by_clock.new.self (get_or_default ls 0 c.index-loopers-0.result it some) some (loops_still m s hall ls c.requires.loopers)
-    (record { looper = c.run_by_clock.ensures.looper; number = c.run_by_clock.ensures.number; clocked = c.run_by_clock.ensures.clocked }) }
+    record {
+      loopers = each_set (LoopsByClock m s hall) ls it c.run_by_clock.new.self (get_or_default ls 0 c.index-loopers-0.result it some) some (loops_still m s hall ls c.requires.loopers)
+          (record { looper = c.run_by_clock.ensures.looper; number = c.run_by_clock.ensures.number; clocked = c.run_by_clock.ensures.clocked });
+    }

@@ -8,9 +8,11 @@ use Rattle.dash_stage.proofs.free.run_others.Goals as goal
 pub returns : goal.returns
 returns g c =
     let m : Mode = in_free_mode (g.C.Clock.shows c.args.timer.now.clock.now) c.args.timer.now.start in
-    record { loopers = record {
-      long = omega (arith, c.for_each_mut.auto.s);
-      each = λ k d lt.
-          let one = (c.for_each_mut.ensures k d lt).1 in
-          of_same (LoopsByClock m c.args.script.now c.args.hall.now) one.argument.now one.after_call.now (slice_index_or c.args.others.now k d) (slice_index_or c.for_each_mut.new.s k d) one.argument_is one.left one.call;
-    } }
+    record {
+      loopers = record {
+        long = omega (arith, c.for_each_mut.auto.s);
+        each = λ k d lt.
+            let one = (c.for_each_mut.ensures k d lt).1 in
+            of_same (LoopsByClock m c.args.script.now c.args.hall.now) one.argument.now one.after_call.now (slice_index_or c.args.others.now k d) (slice_index_or c.for_each_mut.new.s k d) one.argument_is one.left one.call;
+      };
+    }

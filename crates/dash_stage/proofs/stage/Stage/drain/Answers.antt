@@ -22,10 +22,12 @@ returns g c =
     let ended = subst (λ (xs : List StageLooper). OthersHaveEnded xs → OthersHaveEnded ls) c.as_mut_slice.ensures.value c.drain_first.ensures.others was.ended in
     let wrote = with_items_is st.loopers ls (omega (arith, looped.long, st.loopers.ok.0)) in
     let on : LoopersGoOn ls = subst LoopersGoOn (c.as_slice.ensures.value ∙ wrote) (c.some_gave_up.ensures c.if-some_gave_up.false) in
-    record { closing = closing_heard m s _ c.share_by_clock.new.self c.share_by_clock.ensures.stage c.share_by_clock.ensures.shared c.share_by_clock.ensures.kept
-    (record {
-      threads = was.clocked.threads;
-      loopers = subst (OfLoopers (AreByClock m)) (sym wrote) (loopers_clocked m s hall st.loopers.items ls looped on was.clocked.loopers);
-      controller = was.clocked.controller;
-    })
-    was.run (subst OthersHaveEnded (sym wrote) ended) (subst LoopersGoOn (sym wrote) on) was.closing }
+    record {
+      closing = closing_heard m s _ c.share_by_clock.new.self c.share_by_clock.ensures.stage c.share_by_clock.ensures.shared c.share_by_clock.ensures.kept
+          (record {
+            threads = was.clocked.threads;
+            loopers = subst (OfLoopers (AreByClock m)) (sym wrote) (loopers_clocked m s hall st.loopers.items ls looped on was.clocked.loopers);
+            controller = was.clocked.controller;
+          })
+          was.run (subst OthersHaveEnded (sym wrote) ended) (subst LoopersGoOn (sym wrote) on) was.closing;
+    }

@@ -28,10 +28,12 @@ returns g c =
     let going : GoOn ts = subst GoOn (c.as_slice.ensures.value ∙ wrote) (c.has_given_up.ensures c.if-has_given_up.false) in
     let on : LoopersGoOn ls = subst LoopersGoOn (c.as_slice-2.ensures.value ∙ wrote') (c.some_gave_up.ensures c.if-some_gave_up.false) in
     let run = threads_ran_all m s hall st.threads.items ts begun.stage.threads ran going begun.begun in
-    record { closing = closing_heard m s _ c.share_by_clock.new.self c.share_by_clock.ensures.stage c.share_by_clock.ensures.shared c.share_by_clock.ensures.kept
-    (record {
-      threads = subst (OfThreads (AreByClock m)) (sym wrote) (threads_clocked m s hall ts run);
-      loopers = subst (OfLoopers (AreByClock m)) (sym wrote') (loopers_clocked m s hall st.loopers.items ls looped on begun.clocked.loopers);
-      controller = quit.clocked begun.clocked.controller;
-    })
-    (subst (HaveRunBy m s s.blocks) (sym wrote) run) (subst OthersHaveEnded c.as_slice-3.ensures.value (c.all_but_main_have_ended.ensures c.if-not-all_but_main_have_ended.false)) (subst LoopersGoOn (sym wrote') on) quit.closing }
+    record {
+      closing = closing_heard m s _ c.share_by_clock.new.self c.share_by_clock.ensures.stage c.share_by_clock.ensures.shared c.share_by_clock.ensures.kept
+          (record {
+            threads = subst (OfThreads (AreByClock m)) (sym wrote) (threads_clocked m s hall ts run);
+            loopers = subst (OfLoopers (AreByClock m)) (sym wrote') (loopers_clocked m s hall st.loopers.items ls looped on begun.clocked.loopers);
+            controller = quit.clocked begun.clocked.controller;
+          })
+          (subst (HaveRunBy m s s.blocks) (sym wrote) run) (subst OthersHaveEnded c.as_slice-3.ensures.value (c.all_but_main_have_ended.ensures c.if-not-all_but_main_have_ended.false)) (subst LoopersGoOn (sym wrote') on) quit.closing;
+    }
