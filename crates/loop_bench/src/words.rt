@@ -16,12 +16,10 @@ pub(crate) enum Mode {
     Removals,
     RemoveAll,
     SafeQuit,
-    Handled,
-    HandledBurst,
 }
 
 /// All modes, in the order in which they are printed.
-pub(crate) const ALL: [Mode; 13] = [
+pub(crate) const ALL: [Mode; 11] = [
     Mode::Chain,
     Mode::Burst,
     Mode::Sealed,
@@ -33,8 +31,6 @@ pub(crate) const ALL: [Mode; 13] = [
     Mode::Removals,
     Mode::RemoveAll,
     Mode::SafeQuit,
-    Mode::Handled,
-    Mode::HandledBurst,
 ];
 
 /// The word of a mode.
@@ -51,8 +47,6 @@ pub(crate) fn word(mode: Mode) -> &'static str {
         Mode::Removals => "removals",
         Mode::RemoveAll => "remove_all",
         Mode::SafeQuit => "safe_quit",
-        Mode::Handled => "handled",
-        Mode::HandledBurst => "handled_burst",
     }
 }
 
