@@ -193,18 +193,35 @@ pub record Work : Type 1 where
   -- the text that it makes of an input, and what is returned beside it
   pub Makes : List ℕ → List ℕ → Returned → Type 0
 
--- the table of the commands, by the numbers that the clock shows
+-- what each command reads
+abbrev pub reads_of : Command → Input
+reads_of command.Run = scripts
+reads_of command.RunFree = scripts
+reads_of command.Text = scripts
+reads_of command.Migrate = scripts
+reads_of (command.Make number) = no_input
+reads_of (command.MakeRun number) = no_input
+reads_of command.Trace = scripts
+reads_of command.Check = traces
+reads_of command.Animate = plans
+reads_of command.Inbox = inbox_scripts
+
+-- what each command makes of it, by the numbers that the clock shows
+abbrev pub makes_by : (ℕ → Bool) → Command → List ℕ → List ℕ → Returned → Type 0
+makes_by shows command.Run = WritesRun text
+makes_by shows command.RunFree = WritesFree shows
+makes_by shows command.Text = WritesScript
+makes_by shows command.Migrate = WritesUp
+makes_by shows (command.Make number) = λ input. WritesGenerated number
+makes_by shows (command.MakeRun number) = λ input. WritesSummary number
+makes_by shows command.Trace = WritesRun (λ report. trace_text (trace_of report.queues))
+makes_by shows command.Check = WritesVerdict
+makes_by shows command.Animate = WritesValues
+makes_by shows command.Inbox = WritesInbox
+
+-- the two together
 abbrev pub work_by : (ℕ → Bool) → Command → Work
-work_by shows command.Run = record { reads = scripts; Makes = WritesRun text }
-work_by shows command.RunFree = record { reads = scripts; Makes = WritesFree shows }
-work_by shows command.Text = record { reads = scripts; Makes = WritesScript }
-work_by shows command.Migrate = record { reads = scripts; Makes = WritesUp }
-work_by shows (command.Make number) = record { reads = no_input; Makes = λ input. WritesGenerated number }
-work_by shows (command.MakeRun number) = record { reads = no_input; Makes = λ input. WritesSummary number }
-work_by shows command.Trace = record { reads = scripts; Makes = WritesRun (λ report. trace_text (trace_of report.queues)) }
-work_by shows command.Check = record { reads = traces; Makes = WritesVerdict }
-work_by shows command.Animate = record { reads = plans; Makes = WritesValues }
-work_by shows command.Inbox = record { reads = inbox_scripts; Makes = WritesInbox }
+work_by shows c = record { reads = reads_of c; Makes = makes_by shows c }
 
 -- the same of a command that reads no clock
 abbrev pub work : Command → Work
