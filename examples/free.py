@@ -1,6 +1,6 @@
 #!/usr/bin/env python3
 """free.py PROGRAM [--scripts N] [--seed N] [--jobs N]: runs random short scripts by the real clock (run --free) and judges each report by
-what holds of every such run.
+what holds of every such run. With --sleep it runs one script of two seconds with ten messages, and tells what that cost and how late they came.
 
 Each post has a `what` of its own, so a dispatch tells of which line it comes. Of each report it is judged:
 - each looper's dispatches stand by rising time, no message is dispatched twice, and none before its block's time and its delay;
@@ -16,6 +16,7 @@ import concurrent.futures
 import pathlib
 import random
 import re
+import resource
 import subprocess
 import sys
 import time
@@ -174,14 +175,33 @@ def judge(program, seed):
     return seed, wrong, took - script.end / 1000, script.text, got.stdout.decode()
 
 
+def sleeps(program):
+    """Runs two seconds with ten messages, each 50 milliseconds behind its block: the processor time, and how late each came."""
+    lines = ["dashboard 1", "loopers 1", "threads 1", "handler 0 0", f"vsync {PERIOD}"]
+    for k in range(10):
+        lines += [f"at {200 * k}", f"0 post 0 {100 + k} 50"]
+    text = "\n".join([*lines, "end 2000", ""])
+    before = resource.getrusage(resource.RUSAGE_CHILDREN)
+    got = subprocess.run([program, "run", "--free"], input=text.encode(), capture_output=True, timeout=60, check=True)
+    after = resource.getrusage(resource.RUSAGE_CHILDREN)
+    spent = after.ru_utime + after.ru_stime - before.ru_utime - before.ru_stime
+    came = {int(what): int(now) for now, what in re.findall(r"^(\d+) dispatch \d+ 0 (\d+)$", got.stdout.decode(), re.M)}
+    late = [came[100 + k] - 200 * k - 50 for k in range(10)]
+    print(f"free: two seconds with ten messages took {spent * 1000:.0f} ms of a processor; they came {min(late)} to {max(late)} ms behind their times")
+    sys.exit(0 if min(late) >= 0 else 1)
+
+
 def main():
     words = argparse.ArgumentParser(description="runs random short scripts by the real clock, and judges their reports")
     words.add_argument("program")
     words.add_argument("--scripts", type=int, default=100)
     words.add_argument("--seed", type=int, default=1)
     words.add_argument("--jobs", type=int, default=4)
+    words.add_argument("--sleep", action="store_true")
     asked = words.parse_args()
     program = str(pathlib.Path(asked.program).resolve())
+    if asked.sleep:
+        sleeps(program)
     found, late, seen = 0, 0.0, 0
     with concurrent.futures.ThreadPoolExecutor(asked.jobs) as pool:
         for seed, wrong, behind, text, report in pool.map(lambda it: judge(program, it), range(asked.seed, asked.seed + asked.scripts)):
