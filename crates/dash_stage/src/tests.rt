@@ -20,7 +20,7 @@ fn a_made_script_runs(rt: HostRuntime) -> Result<(), Fail> {
 fn a_run_is_given_up(rt: HostRuntime) -> Result<(), Fail> {
     let alloc = rt.alloc();
     let script = make_script(alloc, 0)?;
-    let mut stage = set_up(alloc, &script)?;
+    let mut stage = set_up(alloc, &script, true)?;
     stage.hall.stop.stop(&rt);
     let Some(block) = script.blocks.as_slice().first() else {
         panic!(rt; "no block")
