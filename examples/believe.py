@@ -2,7 +2,8 @@
 """believe.py FILE..: the definition files that the contracts in these source files rest on, with their lines, by crate.
 
 Run it at the top of the repository, as `examples/believe.py crates/dashboard_cli/src/top_call.rt`. A reader who wants to know what the
-clauses there say has to read these files and no others."""
+clauses there say has to read these files and no others. With `--without FILE` behind, that definition file is left out, and so is what it
+alone leads to."""
 import os
 import re
 import sys
@@ -19,8 +20,8 @@ def file_of(crate, path):
     return None
 
 
-def files_below(sources):
-    """The files on which these rest, each with its lines."""
+def files_below(sources, without=()):
+    """The files on which these rest, each with its lines, and none that only these left out lead to."""
     seen, waiting = {}, list(sources)
     while waiting:
         name = waiting.pop()
@@ -29,12 +30,14 @@ def files_below(sources):
             if name in seen:
                 continue
             seen[name] = len(text.splitlines())
-        waiting += [f for f in (file_of(c, p) for c, p in USE.findall(text)) if f and f not in seen]
+        waiting += [f for f in (file_of(c, p) for c, p in USE.findall(text)) if f and f not in seen and f not in without]
     return seen
 
 
 def main():
-    seen = files_below(sys.argv[1:])
+    words = sys.argv[1:]
+    cut = words.index("--without") if "--without" in words else len(words)
+    seen = files_below(words[:cut], words[cut + 1:])
     crates = {}
     for name, lines in sorted(seen.items()):
         crates.setdefault(name.split("/")[1], []).append((os.path.basename(name), lines))

@@ -7,7 +7,7 @@ get; a file that is not there stands for nothing.
 Where threads race, NAME.reports holds the lawful reports, parted by lines %%: each run must write one of them, and it is
 told how many of them were seen.
 Inputs that are too large to be kept are made here, and so is what `make N` and the longest script must write. What `trace` writes
-of each script must be legal, and no longer where a dispatch is told of another message.
+of each script must be legal, and no longer where a dispatch is told of another message. One script is also run by the real clock.
 """
 import difflib
 import pathlib
@@ -143,6 +143,20 @@ def summaries(program):
         last_paint = dict(re.findall(r"paint (\d+) (\d+)$", run(program, ["run"], script), re.M))
         if last_set != last_paint:
             yield f"make_{number}", f"last paints {last_paint}, last sets {last_set}"
+
+
+def by_clock(program):
+    """By the real clock the script of two posts hands out both, none before its time: the second at 10 or later, the first 5 later. One may
+    still be queued where its time lies past the end."""
+    first = 0
+    for _ in range(RUNS // 10):
+        got = run(program, ["run", "--free"], given_to("posts_by_delay"))
+        came = {int(number): int(now) for now, number in re.findall(r"^(\d+) dispatch (\d) 0 [78]$", got, re.M)}
+        fates = re.search(r"^fates accepted 2 dispatched (\d) removed 0 dropped 0 stranded 0 queued (\d)$", got, re.M)
+        if not fates or int(fates[1]) != len(came) or int(fates[2]) != 2 - len(came) or came.get(0, 15) < 15 or came.get(1, 10) < 10:
+            yield "posts_by_delay by the clock", got
+        first += list(came) == [1, 0]
+    print(f"posts_by_delay by the clock: {first} of {RUNS // 10} runs hand out the post without delay, and then the other")
 
 
 def scripts():
@@ -281,7 +295,7 @@ def main():
             print("\n".join([f"FAILED {name}: {shows}", *found]))
         else:
             passed += 1
-    for name, found in [*races(program), *quit_races(program), *summaries(program), *whole(program), *counts_stay(program), *traces(program)]:
+    for name, found in [*races(program), *quit_races(program), *by_clock(program), *summaries(program), *whole(program), *counts_stay(program), *traces(program)]:
         failed += 1
         print(f"FAILED {name}: {found}")
     print(f"examples: {passed} passed, {failed} failed")

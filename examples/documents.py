@@ -4,7 +4,7 @@ and --believe first writes the lines of docs/PROMISE.md's definitions anew.
 
 - each piece of Rust in README.md and docs/USING.md stands in crates/uses/src, line for line (a line '// ..' stands before a piece);
 - README.md names every crate of crates.txt, and each has its README.md;
-- README.md, docs/PROMISE.md, docs/USING.md and docs/PROVING.md are within their sizes;
+- README.md, docs/PROMISE.md, docs/USING.md, docs/PROVING.md and each crate's README.md are within their sizes;
 - each link to a file of the repository leads to one;
 - each function that a walk of docs/ARCHITECTURE.md names stands in the file that it names;
 - the definitions that docs/PROMISE.md names are those on which the contract of `dashboard` rests, with their lines;
@@ -19,7 +19,7 @@ sys.dont_write_bytecode = True
 from believe import files_below
 
 TOP = pathlib.Path(__file__).resolve().parent.parent
-LIMITS = {"README.md": 14_336, "docs/PROMISE.md": 11_264, "docs/USING.md": 8_192, "docs/PROVING.md": 25_600}
+LIMITS = {"README.md": 14_336, "docs/PROMISE.md": 10_240, "docs/USING.md": 8_192, "docs/PROVING.md": 25_600}
 faults = []
 
 
@@ -74,16 +74,23 @@ def check_walks():
 
 
 def check_sizes():
-    for name, limit in LIMITS.items():
+    pages = {str(path.relative_to(TOP)): 3_072 for path in TOP.glob("crates/*/README.md")}
+    for name, limit in {**LIMITS, **pages}.items():
         size = len((TOP / name).read_bytes())
         if size > limit:
             faults.append(f"{name} has {size} bytes, more than {limit}")
 
 
-def believed():
+def believed(without=()):
     """The definitions on which the contract of `dashboard` rests, with their lines."""
     os.chdir(TOP)
-    return files_below(["crates/dashboard_cli/src/top_call.rt"])
+    return files_below(["crates/dashboard_cli/src/top_call.rt"], without)
+
+
+def of_run():
+    """How many of them, with how many lines in all, `run` alone rests on."""
+    below = believed(["crates/dashboard_cli/specs/Makings.antt"])
+    return f"`run` alone rests on {len(below)} with {sum(below.values()):,}"
 
 
 def total_of(below):
@@ -103,7 +110,8 @@ def write_believed():
         return f"`{crate}/specs`: " + ", ".join(f"{n} {below[f'crates/{crate}/specs/{n}.antt']}" for n in names)
 
     text = re.sub(r"`(\w+)/specs`: ([\w ,]+\d)", files_of, page.read_text())
-    page.write_text(re.sub(r"\d+ files with [\d,]+ lines(?= in all)", total_of(below), text))
+    text = re.sub(r"\d+ files with [\d,]+ lines(?= in all)", total_of(below), text)
+    page.write_text(re.sub(r"`run` alone rests on \d+ with \d+(?:,\d+)*", of_run(), text))
 
 
 def check_believed():
@@ -117,8 +125,9 @@ def check_believed():
     for name in sorted(named.keys() | below.keys()):
         if named.get(name) != below.get(name):
             faults.append(f"docs/PROMISE.md: {name} has {below.get(name)} lines, and is told with {named.get(name)}")
-    if total_of(below) not in text:
-        faults.append(f"docs/PROMISE.md doesn't say: {total_of(below)}")
+    for told in (total_of(below), of_run()):
+        if told not in text:
+            faults.append(f"docs/PROMISE.md doesn't say: {told}")
 
 
 def shown():

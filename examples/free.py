@@ -4,7 +4,8 @@ what holds of every such run. With --sleep it runs one script of two seconds wit
 
 Each post has a `what` of its own, so a dispatch tells of which line it comes. Of each report it is judged:
 - each looper's dispatches stand by rising time, no message is dispatched twice, and none before its block's time and its delay;
-- a thread's posts without delay to one handler come in their order;
+- a thread's posts without delay to one handler come in their order, and so do its asynchronous ones, which may pass the others at a barrier; but for those of a block
+  at 0: a post for time 0 goes before all others, as one at the front does;
 - each post was accepted or refused, and the fates of what was accepted add up;
 - frame times of a looper rise, each frame runs its callbacks by phase, and none runs before its block's time or more often than posted;
 - a gauge never moves by more than its step in a frame, nor past its target, and a frame paints what is under way;
@@ -37,7 +38,7 @@ class Script:
         self.gauges = [(dice.randrange(self.handlers), dice.randint(1, 40)) for _ in range(dice.randint(0, 2))]
         self.lines += [f"gauge {g} {handler} {step}" for g, (handler, step) in enumerate(self.gauges)]
         self.lines.append(f"vsync {PERIOD}")
-        # by `what`: thread, handler, the earliest time, whether it has no delay
+        # by `what`: thread, handler, the earliest time, and, where its order is known, among which of the thread's posts
         self.posts, self.frames, self.targets = {}, [], collections.defaultdict(set)
         self.quits = set()
         at, label, bars = 0, 0, []
@@ -58,7 +59,7 @@ class Script:
         what = 100 + len(self.posts)
         if kind < 6:
             delay = dice.choice([0, 0, 3, 25])
-            self.posts[what] = (thread, handler, at + delay, delay == 0)
+            self.posts[what] = (thread, handler, at + delay, (delay == 0 and at > 0) and ("post", "post-async")[kind == 5])
             self.lines.append(f"{thread} {'post-async' if kind == 5 else 'post'} {handler} {what} {delay}")
         elif kind == 6:
             self.posts[what] = (thread, handler, 0, False)
@@ -110,7 +111,7 @@ class Script:
                     if now < earliest:
                         yield f"message {what} is dispatched at {now}, before {earliest}"
                     if plain:
-                        order[thread, handler].append(what)
+                        order[thread, handler, plain].append(what)
         whats = [int(line.split()[4]) for line in lines if re.match(r"\d+ dispatch \d+ \d+ 1\d\d", line)]
         if len(whats) != len(set(whats)):
             yield "a message is dispatched twice"

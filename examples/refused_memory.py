@@ -2,8 +2,8 @@
 """refused_memory.py PROGRAM [--plain]: runs worked examples again and again, and refuses one request for memory or for a thread in
 each run: the first, the second, and so on, until a run has fewer.
 
-Each run must write a lawful report and end with status 0, or write nothing and end with status 6 and its line. refuse.c does
-the refusing: it is compiled by cc and laid before the program, and behind it the address sanitizer of that compiler, which finds
+Each run must write a lawful report and end with status 0, or write nothing and end with status 6 and its line. Two random scripts run
+by the real clock too, and their reports are judged as free.py judges them. refuse.c does the refusing: it is compiled by cc and laid before the program, and behind it the address sanitizer of that compiler, which finds
 what is not freed, freed twice or freed wrongly, and then ends the program with status 99. Of a program that it didn't build it sees
 no more: `rt try` builds one with reads and writes watched too. --plain leaves it away. A run that takes ten seconds counts as
 a hang. The last line tells how many runs there were, how they ended, and how many faults.
@@ -16,17 +16,24 @@ import subprocess
 import sys
 import tempfile
 
+sys.dont_write_bytecode = True
+from free import Script
+
 HERE = pathlib.Path(__file__).resolve().parent
+FREE = (27, 38)
 EXAMPLES = ("posts_by_delay", "post_after_quit_refused", "post_races_quit", "gauge_runs_to_its_target", "inbox_keeps_each_senders_order")
 
 
 def examples():
-    """Of each example its name, its words, what it reads and its lawful reports."""
+    """Of each example its name, its words, what it reads and what tells whether a report is lawful."""
     index = dict(line.split("\t")[:2] for line in (HERE / "INDEX.txt").read_text().splitlines())
     for name in EXAMPLES:
         one, many = HERE / f"{name}.report", HERE / f"{name}.reports"
         lawful = [one.read_text()] if one.exists() else many.read_text().split("%%\n")
-        yield name, index[name].split(), (HERE / f"{name}.script").read_bytes(), [text.encode() for text in lawful]
+        yield name, index[name].split(), (HERE / f"{name}.script").read_bytes(), [text.encode() for text in lawful].__contains__
+    for seed in FREE:
+        script = Script(seed)
+        yield f"random script {seed} by the clock", ["run", "--free"], script.text.encode(), lambda report, of=script: not list(of.faults(report.decode()))
 
 
 def laid(folder, plain):
@@ -52,7 +59,7 @@ def fault(got, lawful):
     """What is wrong with a run, and else how it ended."""
     if got is None:
         return "it hangs", None
-    if got.returncode == 0 and got.stdout in lawful:
+    if got.returncode == 0 and lawful(got.stdout):
         return None, "with its report"
     if got.returncode == 6 and not got.stdout and got.stderr in (b"dashboard: no memory\n", b""):
         return None, "without memory"

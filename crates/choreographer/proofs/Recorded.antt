@@ -7,7 +7,7 @@ use Rattle.frame_phases.specs.declared.entry.FrameEntry.TheVariants.{Posted, Rem
 use Rattle.frame_phases.specs.declared.entry.Beginning.TheVariants as begin
 use Rattle.frame_phases.specs.declared.entry.Took.{Took}
 use Rattle.frame_phases.specs.declared.entry.Took.TheVariants as took
-use Rattle.frame_phases.specs.Frames.{pulse}
+use Rattle.frame_phases.specs.Pulses.{pulse}
 use Rattle.frame_phases.specs.State.{Frames, ran, scheduled_at}
 use Rattle.choreographer.specs.declared.kept.Kept.{Kept}
 use Rattle.choreographer.specs.declared.host.Sending.{Sending}

@@ -81,7 +81,7 @@ module _ (m : Mode) (k : ℕ) where
 
 -- ---- a turn at a moment
 
-clock_same : (n : ℕ) (es : List Entry) → clock (empty_base n) es ≡ clock (empty_base 0) es
+pub clock_same : (n : ℕ) (es : List Entry) → clock (empty_base n) es ≡ clock (empty_base 0) es
 unfolding clock
 clock_same n es = refl
 
@@ -92,7 +92,7 @@ IsTaken time u at = ((at ≡ u) ⊎ (at ≡ time)) × (u ≤ at)
 greater : (u t : ℕ) → IsTaken t u (max u t)
 greater u t = (dite (dec_lt u t) (λ less. inr (omega (arith, less))) (λ not. inl (omega (arith, not))), omega arith)
 
-taken : (b : Bool) (u t : ℕ) → b ≡ false → IsTaken t u (if b then t else max u t)
+pub taken : (b : Bool) (u t : ℕ) → b ≡ false → IsTaken t u (if b then t else max u t)
 taken true u t is = absurd cc
 taken false u t is = greater u t
 
@@ -181,14 +181,14 @@ plain_moment (Next now) = refl
 plain_moment (Advance now) = refl
 plain_moment (Halt now) = refl
 
-by_handler : (h : Handler) (r : Request) → has_moment (call_by h r) ≡ false
-by_handler h (request.Send what arg obj when) = refl
-by_handler h (request.SendAsync what when) = refl
-by_handler h (request.SendFront what) = refl
-by_handler h (request.PostCallback id now delay) = refl
-by_handler h (request.RemoveMessages what) = refl
-by_handler h (request.RemoveCallbacks id) = refl
-by_handler h request.RemoveAll = refl
+pub no_moment_by : (h : Handler) (r : Request) → has_moment (call_by h r) ≡ false
+no_moment_by h (request.Send what arg obj when) = refl
+no_moment_by h (request.SendAsync what when) = refl
+no_moment_by h (request.SendFront what) = refl
+no_moment_by h (request.PostCallback id now delay) = refl
+no_moment_by h (request.RemoveMessages what) = refl
+no_moment_by h (request.RemoveCallbacks id) = refl
+no_moment_by h request.RemoveAll = refl
 
 pub made_moment : (p q : Sender) (c : Call) (tokens : List ℕ) (made : Makes p q c tokens) → has_moment c ≡ false → has_moment made.entry.call ≡ false
 made_moment p q c tokens made none = sym (plain_moment made.entry.call) ∙ (ap has_moment made.makes ∙ none)
@@ -219,7 +219,7 @@ clocked_same m p q sender begins same by = clocked_quiet m p q [] sender begins 
 -- its moment is the clock's, or the queue's time
 pub clocked_call : (m : Mode) (c : QueueCall) (token : Option ℕ) (p q : Sender) → IsInMode m p → IfTimed (λ u. IfFree m (IsMoment m u)) c
     → q.sender ≡ p.sender → IsPrefix p.view.seen q.view.seen → Makes p q (call_made c) (tokens_of token) → IsAtItsMoment c token p q → IsByClock m p → IsByClock m q
-clocked_call m (on_queue.ByHandler h r) token p q mode moment sender begins made at by = clocked_makes m p q (call_by h r) (tokens_of token) sender begins (by_handler h r) made by
+clocked_call m (on_queue.ByHandler h r) token p q mode moment sender begins made at by = clocked_makes m p q (call_by h r) (tokens_of token) sender begins (no_moment_by h r) made by
 clocked_call m (on_queue.PostBarrier u) None p q mode moment sender begins made at by = absurd at
 clocked_call m (on_queue.PostBarrier u) (Some k) p q mode moment sender begins made at by = clocked_at m Barrier p q u mode (λ time at h. h) moment (bars_enter p q u k at) by
 clocked_call m (on_queue.RemoveBarrier k) token p q mode moment sender begins made at by = clocked_makes m p q (Unbarrier k) (tokens_of token) sender begins refl made by
@@ -228,7 +228,7 @@ clocked_call m (on_queue.Quit safe u) token p q mode moment sender begins made a
 -- it is no earlier than it was asked for
 pub no_earlier_call : (m : Mode) (time : ℕ) (c : QueueCall) (token : Option ℕ) (p q : Sender) → IsInMode m p → IfTimed (λ u. IfFree m (time ≤ u)) c
     → (made : Makes p q (call_made c) (tokens_of token)) → IsAtItsMoment c token p q → IsNoEarlier m time made.entry.call
-no_earlier_call m time (on_queue.ByHandler h r) token p q mode late made at = no_moment_early m time made.entry.call (made_moment p q (call_by h r) (tokens_of token) made (by_handler h r))
+no_earlier_call m time (on_queue.ByHandler h r) token p q mode late made at = no_moment_early m time made.entry.call (made_moment p q (call_by h r) (tokens_of token) made (no_moment_by h r))
 no_earlier_call m time (on_queue.PostBarrier u) None p q mode late made at = absurd at
 no_earlier_call m time (on_queue.PostBarrier u) (Some k) p q mode late made at =
     no_earlier_at m Barrier p q u mode time (λ at h. if_free m.lockstep (time ≤ at) h) late (bars_enter p q u k at) made.entry made.made

@@ -19,7 +19,7 @@ use Rattle.frame_phases.specs.declared.entry.FrameEntry.TheVariants as frame
 use Rattle.frame_phases.specs.declared.entry.Scheduling.{Scheduling}
 use Rattle.frame_phases.specs.declared.entry.Scheduling.TheVariants as sched
 use Rattle.frame_phases.specs.State.{Frames, with_entry, next_callback, posted}
-use Rattle.frame_phases.specs.Frames.{pulse}
+use Rattle.frame_phases.specs.Pulses.{pulse}
 use Rattle.looper_run.specs.Holding.{Sender}
 use Rattle.choreographer.specs.declared.kept.Kept.{Kept}
 use Rattle.choreographer.specs.declared.host.Sending.{Sending}

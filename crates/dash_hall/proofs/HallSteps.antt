@@ -11,10 +11,10 @@ use native.Mathlib.Decide.{ℕ_discrete, dec_lt}
 use Rattle.atomic_table.specs.Seated.{TableId}
 use Rattle.dash_script.specs.declared.script.Script.{Script}
 use Rattle.shared_queue.specs.Known.{Shared, IsOf}
-use Rattle.shared_queue.specs.Ends.{AreNew, IsNew}
+use Rattle.shared_queue.specs.Ends.{AreNew, IsNewPoster}
 use Rattle.looper_run.specs.Holding.{Sender}
 use Rattle.choreographer.specs.Known.{Shared as Frames, Known as Pass, IsOf as IsOfFrames}
-use Rattle.choreographer.specs.Ends.{AreNew as AreNewPasses, IsNew as IsNewPass}
+use Rattle.choreographer.specs.Ends.{AreNew as AreNewPasses, IsNewPass}
 use Rattle.dash_hall.specs.declared.kit.Kit.{Kit}
 use Rattle.dash_hall.specs.Kits.{Badge, badge_of, badge_for, FrameBadge, frame_badge_of, frame_badge_for, frames_for}
 use Rattle.dash_hall.specs.Dealing.{Gets, EachGets, nothing, IsEmptyKit, IsUnused, IsUnusedPoster, IsUnusedPass, DealsPosters, DealsPasses, holder_of, given, given_of, AreUsedNowhere}
@@ -54,7 +54,7 @@ new_poster posters yielded rest p place q parts is new =
     let at = at_parts yielded rest posters p place parts is in
     let within = within_parts yielded rest posters p place parts is in
     let of_queue : IsOf p q × (p.sender ≡ place) = subst (λ (x : Sender). IsOf x q × (x.sender ≡ place)) at (new.0 place p within) in
-    let unused : IsNew p = subst (λ (x : Sender). IsNew x) at (new.1 place p within) in
+    let unused : IsNewPoster p = subst (λ (x : Sender). IsNewPoster x) at (new.1 place p within) in
     ((unused.seen, unused.sealed), λ i. record { table = of_queue.0.0 i; constants = of_queue.0.1 i; sender = of_queue.1 i })
 
 pub posters_more : (place : ℕ) (posters yielded rest : List Sender) (p : Sender) (orig a b : List Kit) (e kit : Kit)

@@ -10,7 +10,7 @@ use Rattle.atomic_table.specs.Seated.{TableId}
 use Rattle.loop_model.specs.declared.entry.Entry.{Entry}
 use Rattle.shared_queue.specs.Constants.{made_in}
 use Rattle.loop_model.specs.Lists.{longer}
-use Rattle.shared_queue.specs.Known.{Shared, IsOf, IsSame}
+use Rattle.shared_queue.specs.Known.{Shared, IsOf, IsSamePoster}
 use Rattle.loop_model.proofs.Prefixes.{prefix_self, prefix_trans, longer_first, longer_second}
 use Rattle.shared_queue.proofs.Prefixes.{made_in-append}
 use Rattle.run_model.specs.Asks.{entries_by}
@@ -31,7 +31,7 @@ own_goes_on s xs ys p same =
     ap (entries_by s) (sym whole) ∙ (filter-append (λ (e : Entry). e.sender == s) xs more ∙ (ap (λ (l : List Entry). entries_by s xs ++ l) no_more ∙ append-nil (entries_by s xs)))
 
 -- a poster that is the same and has seen more has heard others
-pub has_heard : (p q : Sender) → IsSame p q × (q.view.rung ≡ p.view.rung) × (q.view.heard ≡ p.view.heard) → IsPrefix p.view.seen q.view.seen → HasHeard p q
+pub has_heard : (p q : Sender) → IsSamePoster p q × (q.view.rung ≡ p.view.rung) × (q.view.heard ≡ p.view.heard) → IsPrefix p.view.seen q.view.seen → HasHeard p q
 has_heard p q is more = record {
   same = is.0;
   more = more;

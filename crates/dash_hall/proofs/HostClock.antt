@@ -23,7 +23,7 @@ use Rattle.handler_post.specs.declared.way.Sent.TheVariants.{Accepted as Took, R
 use Rattle.dash_hall.specs.Growth.{own, GoesOn, Makes, BarsOf}
 use Rattle.dash_hall.specs.Requests.{IfSent}
 use Rattle.dash_hall.specs.ByClock.{is_by, IsInMode, AddsByClock, AddsAt}
-use Rattle.dash_hall.specs.Hosts.{Origin, IsHost}
+use Rattle.dash_hall.specs.Hosts.{HostOrigin, IsHost}
 use Rattle.dash_hall.proofs.Clocking.{where_true, clock_more, clock_others, clock_quiet, EntersAt, bars_enter, its_moment, of_either, made_moment}
 
 -- nothing more was seen
@@ -101,7 +101,7 @@ pub begins_by_clock : (u : ℕ) (p q : Sender) → p ≡ q → AddsAt u p q
 begins_by_clock u p q same = λ m free mode moment. adds_none m p q (ap (λ (z : Sender). z.view.seen) (sym same))
 
 -- what a host added that was made of this poster at this moment
-pub adds_hosted : (o o' : Origin) (u : ℕ) (p q : Sender) (b : Tally) → o' ≡ o → IsHost o' q b → o.poster ≡ p → o.now ≡ u → AddsAt u p q
+pub adds_hosted : (o o' : HostOrigin) (u : ℕ) (p q : Sender) (b : Tally) → o' ≡ o → IsHost o' q b → o.poster ≡ p → o.now ≡ u → AddsAt u p q
 adds_hosted o o' u p q b same is began at =
-    let here : AddsAt o.now o.poster q = subst (λ (z : Origin). AddsAt z.now z.poster q) same is.clocked in
+    let here : AddsAt o.now o.poster q = subst (λ (z : HostOrigin). AddsAt z.now z.poster q) same is.clocked in
     subst (λ (n : ℕ). AddsAt n p q) at (subst (λ (z : Sender). AddsAt o.now z q) began here)

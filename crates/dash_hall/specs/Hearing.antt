@@ -3,7 +3,7 @@ use Rattle.std.specs.Prelude.{◌≡◌, ◌≢◌, ◌<◌, ℕ, List, map, len
 use mathlib.Core.List.{IsPrefix}
 use Rattle.atomic_table.specs.Seated.{TableId}
 use Rattle.loop_model.specs.declared.entry.Entry.{Entry}
-use Rattle.shared_queue.specs.Known.{Shared, IsOf, IsSame}
+use Rattle.shared_queue.specs.Known.{Shared, IsOf, IsSamePoster}
 use Rattle.looper_run.specs.Holding.{Sender}
 use Rattle.dash_hall.specs.Growth.{own}
 
@@ -13,7 +13,7 @@ seen_by posters = map (λ p. p.view.seen) posters
 
 -- the poster has seen what it had seen, and maybe more, and nothing was called by it
 pub record HasHeard (before after : Sender) : Type 0 where
-  pub same : IsSame before after
+  pub same : IsSamePoster before after
   pub more : IsPrefix before.view.seen after.view.seen
   pub called : own after ≡ own before
   pub rung : after.view.rung ≡ before.view.rung

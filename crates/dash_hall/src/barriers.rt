@@ -1,16 +1,12 @@
 //! The calls of a sender that go by no handler: barriers and quits.
-ghost use Rattle.std.specs.Prelude.{◌≡◌, [], ◌∷◌, All, IfOk, OnOk, OnErr};
+ghost use Rattle.std.specs.Prelude.{◌≡◌, [], ◌∷◌, IfOk, OnOk, OnErr};
 ghost use Rattle.loop_model.specs.declared.call.Call.TheVariants.{Barrier, Unbarrier, Quit};
-ghost use Rattle.message_pool.specs.Obtain.{IsNodeOf};
-ghost use Rattle.handler_post.specs.Supply.{BringsBack};
 ghost use Rattle.handler_post.specs.Ways.{IsReady, IsSameWay};
 ghost use Rattle.dash_hall.specs.Growth.{own, WayGoesOn, WayMakes, BarsOf, WayQuits};
 
-use handler_post::Way;
+use handler_post::{Way, recycle_all};
 use loop_model::NoMemory;
-use message_list::NodeList;
-use message_pool::{Obtained, Pool, PoolClaim, PoolPass};
-use message_slot::Message;
+use message_pool::Obtained;
 use queue_state::{BarrierGone, BarrierPosted, Quitting};
 use std::alloc::Global;
 use std::sync::Wait;
@@ -83,17 +79,5 @@ pub fn quit<R: Wait>(rt: &R, way: &mut Way, safe: bool, now: u64) -> Result<(), 
         Quitting::AlreadyQuit { .. } => Ok(()),
         Quitting::NotAllowed => Ok(()),
         Quitting::NoMemory => Err(NoMemory),
-    }
-}
-
-/// Recycles all these messages, which are of the pool (`recycle` of AOSP's `Message`).
-pub fn recycle_all(pool: &Pool, pass: &mut PoolPass, mut nodes: NodeList<Message<PoolClaim>>)
-    requires pass { pass.old.home ≡ pool.now }
-    requires nodes { All (IsNodeOf pool.now) nodes }
-    ensures home { pass.new.home ≡ pool.now }
-    ensures back { BringsBack nodes pass.old pass.new }
-{
-    while let Some(node) = nodes.pop_front() {
-        pool.recycle(pass, node);
     }
 }

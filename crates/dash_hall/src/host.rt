@@ -1,17 +1,18 @@
 //! The looper on which a choreographer runs, as the choreographer sees it.
-ghost use Rattle.std.specs.Prelude.{◌≡◌, ◌<◌, ℕ, ◌==◌, [], ◌∷◌, IfOk, OnOk, OnErr, IsTrue};
+ghost use Rattle.std.specs.Prelude.{◌≡◌, ◌<◌, ℕ, [], ◌∷◌, IfOk, OnOk, OnErr, IsTrue};
 ghost use mathlib.Core.List.{IsPrefix};
 ghost use Rattle.loop_model.specs.declared.call.Call.TheVariants.{Barrier, Unbarrier};
-ghost use Rattle.frame_phases.specs.Frames.{is_pulse_if_any};
+ghost use Rattle.frame_phases.specs.Pulses.{is_pulse_if_any};
 ghost use Rattle.choreographer.specs.Known.{IsOf as IsFrameOf};
 ghost use Rattle.choreographer.specs.Calls.{PulsedBy, DueBy, stamp_in};
 ghost use Rattle.dash_hall.specs.Growth.{own, GoesOn, Makes, BarsOf};
 ghost use Rattle.dash_hall.specs.Kits.{frame_badge_of};
-ghost use Rattle.run_model.specs.FrameRuns.{nanos_of};
-ghost use Rattle.dash_hall.specs.Hosts.{Origin, origin_of, IsHost, sends_by, IsPlaced, IsUnplaced, PlacesBy, PlacesNot};
+ghost use Rattle.dash_hall.specs.Hosts.{HostOrigin, origin_now, IsHostNow, IsSameHost, is_its_moment, sends_of, IsPlaced, IsUnplaced, PlacesBy, PlacesNot};
 
 use crate::barriers::{post_barrier, remove_barrier};
-use choreographer::{Choreographer, FrameHost, FramePass, HostSent, Placed, Pulse};
+use choreographer::{
+    Choreographer, FrameHost, FramePass, HostSent, NANOS_PER_MILLI, Placed, Pulse,
+};
 use handler_post::{Handler, Sent, Way};
 use loop_model::NoMemory;
 use message_pool::{Pool, PoolClaim, PoolPass};
@@ -19,8 +20,6 @@ use shared_queue::{Poster, SharedQueue};
 use std::alloc::Global;
 use std::snapshot::Snapshot;
 use std::sync::Wait;
-
-const NANOS_PER_MILLI: u64 = 1_000_000;
 
 /// A sender's way to a looper's queue, by which the choreographer sends its messages, at a moment in milliseconds.
 #[derive(Drop)]
@@ -48,15 +47,15 @@ pub struct Host<'a, R: Wait> {
 }
 
 impl<'a, R: Wait> FrameHost for Host<'a, R> {
-    ghost Origin = { Origin };
+    ghost Origin = { HostOrigin };
 
-    ghost origin = { λ h. origin_of h.queue.now h.pool.now h.poster.ghost_name h.pass.ghost_name h.began.now.value h.pass_began.now.value h.handler.id h.now };
+    ghost origin = { λ h. origin_now h };
 
-    ghost Ready = { λ h. IsHost (origin_of h.queue.now h.pool.now h.poster.ghost_name h.pass.ghost_name h.began.now.value h.pass_began.now.value h.handler.id h.now) h.poster.now h.pass.now };
+    ghost Ready = { λ h. IsHostNow h };
 
-    ghost is_moment = { λ h n. n == nanos_of h.now };
+    ghost is_moment = { λ h n. is_its_moment h n };
 
-    ghost sends = { λ h. sends_by h.handler.id h.poster.now };
+    ghost sends = { λ h. sends_of h };
 
     ghost Reads = { λ h n k. k ≡ h };
 
@@ -85,9 +84,9 @@ impl<'a, R: Wait> FrameHost for Host<'a, R> {
 impl<'a, R: Wait> Host<'a, R> {
     /// Posts a barrier at the host's moment, and answers its token. NoMemory where it found none.
     pub fn post_barrier(&mut self) -> Result<u64, NoMemory>
-        requires { IsHost (origin_of self.old.queue.now self.old.pool.now self.old.poster.ghost_name self.old.pass.ghost_name self.old.began.now.value self.old.pass_began.now.value self.old.handler.id self.old.now) self.old.poster.now self.old.pass.now }
-        ensures ready { IsHost (origin_of self.new.queue.now self.new.pool.now self.new.poster.ghost_name self.new.pass.ghost_name self.new.began.now.value self.new.pass_began.now.value self.new.handler.id self.new.now) self.new.poster.now self.new.pass.now }
-        ensures origin { origin_of self.new.queue.now self.new.pool.now self.new.poster.ghost_name self.new.pass.ghost_name self.new.began.now.value self.new.pass_began.now.value self.new.handler.id self.new.now ≡ origin_of self.old.queue.now self.old.pool.now self.old.poster.ghost_name self.old.pass.ghost_name self.old.began.now.value self.old.pass_began.now.value self.old.handler.id self.old.now }
+        requires { IsHostNow self.old }
+        ensures ready { IsHostNow self.new }
+        ensures origin { IsSameHost self.old self.new }
         ensures made { IfOk result (λ token. Makes self.old.poster.now self.new.poster.now (Barrier 0) (token ∷ [])) }
         ensures turn { IfOk result (λ token. BarsOf self.old.poster.now self.new.poster.now self.old.now token) }
         ensures none { OnErr result (own self.new.poster.now ≡ own self.old.poster.now) }
@@ -103,9 +102,9 @@ impl<'a, R: Wait> Host<'a, R> {
 
     /// Removes the barrier of the token. Where there is none, the history says so. NoMemory where it found none.
     pub fn remove_barrier(&mut self, token: u64) -> Result<(), NoMemory>
-        requires { IsHost (origin_of self.old.queue.now self.old.pool.now self.old.poster.ghost_name self.old.pass.ghost_name self.old.began.now.value self.old.pass_began.now.value self.old.handler.id self.old.now) self.old.poster.now self.old.pass.now }
-        ensures ready { IsHost (origin_of self.new.queue.now self.new.pool.now self.new.poster.ghost_name self.new.pass.ghost_name self.new.began.now.value self.new.pass_began.now.value self.new.handler.id self.new.now) self.new.poster.now self.new.pass.now }
-        ensures origin { origin_of self.new.queue.now self.new.pool.now self.new.poster.ghost_name self.new.pass.ghost_name self.new.began.now.value self.new.pass_began.now.value self.new.handler.id self.new.now ≡ origin_of self.old.queue.now self.old.pool.now self.old.poster.ghost_name self.old.pass.ghost_name self.old.began.now.value self.old.pass_began.now.value self.old.handler.id self.old.now }
+        requires { IsHostNow self.old }
+        ensures ready { IsHostNow self.new }
+        ensures origin { IsSameHost self.old self.new }
         ensures made { OnOk result (Makes self.old.poster.now self.new.poster.now (Unbarrier token) []) }
         ensures none { OnErr result (own self.new.poster.now ≡ own self.old.poster.now) }
     {
@@ -121,13 +120,13 @@ impl<'a, R: Wait> Host<'a, R> {
     /// Delivers the pulse that is asked for at the choreographer, and answers it. None where none is asked for, or it has not come
     /// yet. The pass is one of the choreographer.
     pub fn deliver(&mut self, c: &Choreographer, pass: &mut FramePass) -> Option<Pulse>
-        requires ready { IsHost (origin_of self.old.queue.now self.old.pool.now self.old.poster.ghost_name self.old.pass.ghost_name self.old.began.now.value self.old.pass_began.now.value self.old.handler.id self.old.now) self.old.poster.now self.old.pass.now }
+        requires ready { IsHostNow self.old }
         requires pass { IsFrameOf pass.old c.now }
-        ensures ready { IsHost (origin_of self.new.queue.now self.new.pool.now self.new.poster.ghost_name self.new.pass.ghost_name self.new.began.now.value self.new.pass_began.now.value self.new.handler.id self.new.now) self.new.poster.now self.new.pass.now }
-        ensures origin { origin_of self.new.queue.now self.new.pool.now self.new.poster.ghost_name self.new.pass.ghost_name self.new.began.now.value self.new.pass_began.now.value self.new.handler.id self.new.now ≡ origin_of self.old.queue.now self.old.pool.now self.old.poster.ghost_name self.old.pass.ghost_name self.old.began.now.value self.old.pass_began.now.value self.old.handler.id self.old.now }
+        ensures ready { IsHostNow self.new }
+        ensures origin { IsSameHost self.old self.new }
         ensures pass { frame_badge_of pass.new ≡ frame_badge_of pass.old }
         ensures is_pulse { IsTrue (is_pulse_if_any c.now.constants.interval (stamp_in result)) }
-        ensures pulse { PulsedBy pass.old pass.new (λ n. n == nanos_of self.old.now) (sends_by self.old.handler.id self.old.poster.now) (sends_by self.new.handler.id self.new.poster.now) result }
+        ensures pulse { PulsedBy pass.old pass.new (is_its_moment self.old) (sends_of self.old) (sends_of self.new) result }
     {
         c.on_vsync(self.rt, pass, self)
     }
@@ -135,14 +134,14 @@ impl<'a, R: Wait> Host<'a, R> {
     /// Schedules a frame where the phase has a due callback and none is scheduled, and answers whether it did (`doScheduleCallback` of
     /// AOSP's `Choreographer`). The pass is one of the choreographer, and the phase one of its phases.
     pub fn on_due(&mut self, c: &Choreographer, pass: &mut FramePass, phase: u32) -> bool
-        requires ready { IsHost (origin_of self.old.queue.now self.old.pool.now self.old.poster.ghost_name self.old.pass.ghost_name self.old.began.now.value self.old.pass_began.now.value self.old.handler.id self.old.now) self.old.poster.now self.old.pass.now }
+        requires ready { IsHostNow self.old }
         requires pass { IsFrameOf pass.old c.now × (phase < c.now.constants.phases) }
-        ensures ready { IsHost (origin_of self.new.queue.now self.new.pool.now self.new.poster.ghost_name self.new.pass.ghost_name self.new.began.now.value self.new.pass_began.now.value self.new.handler.id self.new.now) self.new.poster.now self.new.pass.now }
-        ensures origin { origin_of self.new.queue.now self.new.pool.now self.new.poster.ghost_name self.new.pass.ghost_name self.new.began.now.value self.new.pass_began.now.value self.new.handler.id self.new.now ≡ origin_of self.old.queue.now self.old.pool.now self.old.poster.ghost_name self.old.pass.ghost_name self.old.began.now.value self.old.pass_began.now.value self.old.handler.id self.old.now }
+        ensures ready { IsHostNow self.new }
+        ensures origin { IsSameHost self.old self.new }
         ensures pass { frame_badge_of pass.new ≡ frame_badge_of pass.old }
-        ensures due { DueBy pass.old pass.new (λ n. n == nanos_of self.old.now) phase result }
+        ensures due { DueBy pass.old pass.new (is_its_moment self.old) phase result }
         ensures seen { IsPrefix pass.old.view.seen pass.new.view.seen }
-        ensures sends { sends_by self.new.handler.id self.new.poster.now ≡ sends_by self.old.handler.id self.old.poster.now }
+        ensures sends { sends_of self.new ≡ sends_of self.old }
     {
         c.on_due(self.rt, pass, self, phase)
     }
@@ -157,14 +156,14 @@ impl<'a, R: Wait> Host<'a, R> {
         id: u64,
         delay: u64,
     ) -> Result<(), NoMemory>
-        requires ready { IsHost (origin_of self.old.queue.now self.old.pool.now self.old.poster.ghost_name self.old.pass.ghost_name self.old.began.now.value self.old.pass_began.now.value self.old.handler.id self.old.now) self.old.poster.now self.old.pass.now }
+        requires ready { IsHostNow self.old }
         requires pass { IsFrameOf pass.old c.now × (phase < c.now.constants.phases) }
-        ensures ready { IsHost (origin_of self.new.queue.now self.new.pool.now self.new.poster.ghost_name self.new.pass.ghost_name self.new.began.now.value self.new.pass_began.now.value self.new.handler.id self.new.now) self.new.poster.now self.new.pass.now }
-        ensures origin { origin_of self.new.queue.now self.new.pool.now self.new.poster.ghost_name self.new.pass.ghost_name self.new.began.now.value self.new.pass_began.now.value self.new.handler.id self.new.now ≡ origin_of self.old.queue.now self.old.pool.now self.old.poster.ghost_name self.old.pass.ghost_name self.old.began.now.value self.old.pass_began.now.value self.old.handler.id self.old.now }
+        ensures ready { IsHostNow self.new }
+        ensures origin { IsSameHost self.old self.new }
         ensures pass { frame_badge_of pass.new ≡ frame_badge_of pass.old }
         ensures on { GoesOn self.old.poster.now self.new.poster.now self.old.pass.now self.new.pass.now }
-        ensures turn { OnOk result (PlacesBy pass.old pass.new self.old.now (sends_by self.old.handler.id self.old.poster.now) (sends_by self.new.handler.id self.new.poster.now) phase id delay) }
-        ensures none { OnErr result (PlacesNot pass.old pass.new self.old.now (sends_by self.old.handler.id self.old.poster.now) (sends_by self.new.handler.id self.new.poster.now) phase id delay) }
+        ensures turn { OnOk result (PlacesBy pass.old pass.new self.old.now (sends_of self.old) (sends_of self.new) phase id delay) }
+        ensures none { OnErr result (PlacesNot pass.old pass.new self.old.now (sends_of self.old) (sends_of self.new) phase id delay) }
     {
         let began = Snapshot::of(&*self.poster);
         let pass_began = Snapshot::of(&*self.pass);

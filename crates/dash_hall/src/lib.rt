@@ -12,9 +12,10 @@ mod kit;
 mod stop;
 mod timer;
 
-pub use barriers::{quit, recycle_all};
+pub use barriers::quit;
 pub use calls::{QueueCall, perform_by};
 pub use hall::{Hall, holder, open};
+pub use handler_post::recycle_all;
 pub use handlers::{Request, frame_handler, gauge_handler, handler_of, looper_of, make};
 pub use host::Host;
 pub use kit::Kit;

@@ -1,5 +1,6 @@
 pub mod LooperLists
 pub mod LooperPlaces
+pub mod LooperQueue
 pub mod LooperLent
 pub mod LooperOver
 pub mod LooperTold

@@ -6,7 +6,7 @@ use Rattle.loop_model.specs.declared.post.Post.{Post as PostData}
 use Rattle.loop_model.specs.declared.item.Item.{Item}
 use Rattle.loop_model.specs.declared.item.Item.TheVariants.{Post as Message, Barrier as Fence}
 use Rattle.message_slot.specs.Fields.{handler_of, obj_of}
-use Rattle.shared_queue.specs.Known.{IsSame}
+use Rattle.shared_queue.specs.Known.{IsSamePoster}
 use Rattle.loop_model.specs.declared.entry.Entry.{Entry}
 use Rattle.loop_model.specs.declared.journal.Act.{Act}
 use Rattle.loop_model.specs.declared.journal.Act.TheVariants.{Dispatch}
@@ -125,7 +125,7 @@ intercepted_once q u now (Fence t w) m is taken none not_frame = absurd cc
 -- ---- a bell that was rung behind a delivery
 
 -- what was lent, where the poster rang the bell behind it
-pub lent_rung : (a b : Holding) (p : Sender) → IsLent a b → IsSame b.poster p → p.view.seen ≡ b.poster.view.seen → p.view.heard ≡ b.poster.view.heard → IsLent a (record { poster = p; pass = b.pass; journal = b.journal })
+pub lent_rung : (a b : Holding) (p : Sender) → IsLent a b → IsSamePoster b.poster p → p.view.seen ≡ b.poster.view.seen → p.view.heard ≡ b.poster.view.heard → IsLent a (record { poster = p; pass = b.pass; journal = b.journal })
 lent_rung a b p lent same seen heard = record {
   same = record {
     table = same.table ∙ lent.same.table;
@@ -146,5 +146,5 @@ lent_rung a b p lent same seen heard = record {
 }
 
 -- its calls are the same
-pub calls_rung : (p p' : Sender) → IsSame p p' → p'.view.seen ≡ p.view.seen → calls_of p' ≡ calls_of p
+pub calls_rung : (p p' : Sender) → IsSamePoster p p' → p'.view.seen ≡ p.view.seen → calls_of p' ≡ calls_of p
 calls_rung p p' same seen = λ i. calls_in (same.sender i) (seen i)

@@ -20,12 +20,8 @@ use Rattle.choreographer.specs.Calls.{PulsedBy}
 use Rattle.run_model.specs.Moments.{Mode, has_moment}
 use Rattle.run_model.specs.Senders.{frame_handler}
 use Rattle.run_model.specs.FrameRuns.{nanos_of}
-use Rattle.handler_post.specs.declared.handler.Handler.{Handler}
-use Rattle.dash_hall.specs.declared.handlers.Request.{Request}
-use Rattle.dash_hall.specs.declared.handlers.Request.TheVariants as request
-use Rattle.dash_hall.specs.Requests.{call_by}
 use Rattle.dash_hall.specs.Growth.{own, GoesOn, Makes}
-use Rattle.dash_hall.specs.Hosts.{Origin, IsHost, sends_by}
+use Rattle.dash_hall.specs.Hosts.{HostOrigin, IsHost, sends_by}
 use Rattle.dash_hall.specs.ByClock.{AddsByClock, AddsAt}
 use Rattle.dash_hall.proofs.FramePosts.{accepted, refused, told_one, told_none}
 use Rattle.dash_hall.proofs.HostClock.{adds_none, adds_then, adds_call, adds_nothing, begins_by_clock}
@@ -86,16 +82,6 @@ calls_untimed_from p q a b c same h = record { own = h.own; others = subst (λ (
 
 -- ---- one call
 
--- a call that a handler makes has no moment
-pub no_moment_by : (h : Handler) (r : Request) → has_moment (call_by h r) ≡ false
-no_moment_by h (request.Send what arg obj when) = refl
-no_moment_by h (request.SendAsync what when) = refl
-no_moment_by h (request.SendFront what) = refl
-no_moment_by h (request.PostCallback id now delay) = refl
-no_moment_by h (request.RemoveMessages what) = refl
-no_moment_by h (request.RemoveCallbacks id) = refl
-no_moment_by h request.RemoveAll = refl
-
 -- a call without a moment was made, or none
 pub made_untimed : {A E : Type 0} (p q : Sender) (a b : Tally) (c : Call) (r : Result A E) → GoesOn p q a b → has_moment c ≡ false → OnOk r (Makes p q c []) → OnErr r (own q ≡ own p) → AddsUntimed p q
 made_untimed p q a b c (Ok x) g none made same = λ m. adds_call m p q a b c [] g none made
@@ -114,12 +100,12 @@ pulse_untimed h n p q a b f g None goes (x, y, k, t, moment, (none, left, sends)
 pulse_untimed h n p q a b f g (Some pulse) goes (x, y, k, t, moment, (some, left, sends)) = frame_untimed h (pulse.stamp / 1000000) pulse.sent p q a b goes sends
 
 -- the same by a host that was made of the looper's poster
-pub pulse_untimed_hosted : (o o' : Origin) (p p0 q : Sender) (b : Tally) (f g : Pass) (r : Option Pulse) → o' ≡ o → IsHost o' q b → o.poster ≡ p → p0 ≡ p
+pub pulse_untimed_hosted : (o o' : HostOrigin) (p p0 q : Sender) (b : Tally) (f g : Pass) (r : Option Pulse) → o' ≡ o → IsHost o' q b → o.poster ≡ p → p0 ≡ p
     → PulsedBy f g (λ k. k == nanos_of o.now) (sends_by o.handler p0) (sends_by o'.handler q) r → AddsUntimed p q
 pulse_untimed_hosted o o' p p0 q b f g r same is began at pulse =
     pulse_untimed o.handler o.now p q o.pass b f g r (hosted_on o o' p q b same is began)
     (subst (λ (z : Sender). PulsedBy f g (λ k. k == nanos_of o.now) (sends_by o.handler z) (sends_by o.handler q) r) at
-    (subst (λ (z : Origin). PulsedBy f g (λ k. k == nanos_of o.now) (sends_by o.handler p0) (sends_by z.handler q) r) same pulse))
+    (subst (λ (z : HostOrigin). PulsedBy f g (λ k. k == nanos_of o.now) (sends_by o.handler p0) (sends_by z.handler q) r) same pulse))
 
 -- ---- a message
 

@@ -20,7 +20,7 @@ use Rattle.dash_hall.specs.declared.hall.Hall.{Hall}
 use Rattle.dash_hall.specs.Growth.{GoesOn}
 use Rattle.dash_hall.proofs.Growing.{stays}
 use Rattle.dash_hall.proofs.HostClock.{begins_by_clock}
-use Rattle.dash_hall.specs.Hosts.{Origin, IsHost}
+use Rattle.dash_hall.specs.Hosts.{HostOrigin, IsHost}
 use Rattle.dash_loopers.specs.Loopers.{IsPlaceOf, IsLooperOf}
 use Rattle.dash_loopers.proofs.LooperPlaces.{queue_home}
 
@@ -92,12 +92,12 @@ host_begins s hall n q p a t u b c handler now l at place e f = record {
 }
 
 -- how a host leaves what it was made with
-pub host_leaves : (o k : Origin) (p q : Sender) (t u : Tally) (j : Journal) → o.poster ≡ p → o.pass ≡ t → k ≡ o → IsHost k q u → IsLent (holding p t j) (holding q u j)
+pub host_leaves : (o k : HostOrigin) (p q : Sender) (t u : Tally) (j : Journal) → o.poster ≡ p → o.pass ≡ t → k ≡ o → IsHost k q u → IsLent (holding p t j) (holding q u j)
 host_leaves o k p q t u j is_p is_t e h =
-    lent_on p q t u j (subst (λ (a : Sender). GoesOn a q t u) (ap (λ (x : Origin). x.poster) e ∙ is_p) (subst (λ (a : Tally). GoesOn k.poster q a u) (ap (λ (x : Origin). x.pass) e ∙ is_t) h.on))
+    lent_on p q t u j (subst (λ (a : Sender). GoesOn a q t u) (ap (λ (x : HostOrigin). x.poster) e ∙ is_p) (subst (λ (a : Tally). GoesOn k.poster q a u) (ap (λ (x : HostOrigin). x.pass) e ∙ is_t) h.on))
 
-pub host_rung : (o k : Origin) (p q : Sender) (u : Tally) → o.poster ≡ p → k ≡ o → IsHost k q u → q.view.rung ≡ p.view.rung
-host_rung o k p q u is_p e h = h.on.rung ∙ ap (λ (a : Sender). a.view.rung) (ap (λ (x : Origin). x.poster) e ∙ is_p)
+pub host_rung : (o k : HostOrigin) (p q : Sender) (u : Tally) → o.poster ≡ p → k ≡ o → IsHost k q u → q.view.rung ≡ p.view.rung
+host_rung o k p q u is_p e h = h.on.rung ∙ ap (λ (a : Sender). a.view.rung) (ap (λ (x : HostOrigin). x.poster) e ∙ is_p)
 
 -- what always holds
 pub unless_known : (r : Did) (P : Type 0) → P → Unless r P

@@ -1,13 +1,13 @@
 -- In a loop by a clock the moments of a looper's calls are the clock's, or the queue's time.
-use Rattle.std.proofs.Common.{◌≡◌, ℕ, ◌<◌, ◌≤◌, Bool, true, false, List, [], ◌∷◌, ◌++◌, length, get_or, Option, Some, refl, sym, ap, ◌∙◌, subst, arith, append_assoc, eqb-true, max, inl, inr}
-use Rattle.std.specs.Prelude.{◌==◌, ◌&&◌, not, MatchBool, is_some, ◌⊎◌, if◌then◌else◌}
+use Rattle.std.proofs.Common.{◌≡◌, ℕ, ◌<◌, ◌≤◌, Bool, true, false, List, [], ◌∷◌, ◌++◌, length, get_or, Option, Some, refl, sym, ap, ◌∙◌, subst, arith, append_assoc, eqb-true}
+use Rattle.std.specs.Prelude.{◌==◌, ◌&&◌, not, MatchBool, is_some, ◌⊎◌}
 use Rattle.std.specs.List.{insert, slice_get}
 use Rattle.std.specs.Option.{IsSomeAnd}
 use Rattle.std.proofs.lemmas.Bool.{MatchBool-at_false, and_parts, and_from}
 use Rattle.std.proofs.lemmas.List.{append-nil, append_cancel_left}
 use Rattle.std.proofs.lemmas.List.Edits.{length-insert, get_or-insert_at}
 use mathlib.Core.Logic.{dite}
-use native.Mathlib.Decide.{ℕ_discrete, dec_lt}
+use native.Mathlib.Decide.{ℕ_discrete}
 use Rattle.atomic_table.specs.Seated.{TableId}
 use Rattle.loop_io.specs.Moments.{IsMoment as IsShown}
 use Rattle.loop_model.specs.declared.post.Post.{Post as PostData}
@@ -34,7 +34,7 @@ use Rattle.dash_script.specs.declared.script.Script.{Script}
 use Rattle.run_model.specs.Moments.{Mode, in_free_mode, IsMoment, IsOfClock, AreOfClockAfter}
 use Rattle.dash_hall.specs.declared.hall.Hall.{Hall}
 use Rattle.dash_hall.specs.ByClock.{is_by, IsByClock, IsInMode, AddsByClock}
-use Rattle.dash_hall.proofs.Clocking.{if_free, where_true, clock_more, of_either}
+use Rattle.dash_hall.proofs.Clocking.{if_free, where_true, clock_more, of_either, clock_same, taken}
 use Rattle.dash_loopers.specs.declared.player.Parts.{Parts}
 use Rattle.dash_loopers.specs.declared.looper.StageLooper.{StageLooper}
 use Rattle.dash_loopers.specs.Loopers.{IsLooperOf, IsPlaceOf, others_in, is_given_up}
@@ -151,21 +151,11 @@ in_the_mode m s hall n h mode of place =
 
 -- ---- the looks of a loop
 
--- who counts the senders tells no other time
-clock_same : (n : ℕ) (es : List Entry) → clock (empty_base n) es ≡ clock (empty_base 0) es
-unfolding clock
-clock_same n es = refl
-
--- the moment of a look that names this one: it, or the queue's time
-either_moment : (b : Bool) (u t : ℕ) → b ≡ false → ((if b then t else max u t) ≡ u) ⊎ ((if b then t else max u t) ≡ t)
-either_moment true u t is = absurd cc
-either_moment false u t is = dite (dec_lt u t) (λ less. inr (omega (arith, less))) (λ not. inl (omega (arith, not)))
-
 module _ (shows : ℕ → Bool) (start : ℕ) (set : Setting) (mode : set.lockstep ≡ false) where
   -- the moment of a look is one of the clock, or the queue's time
   look_moment : (past : List Entry) (at : ℕ) → IsLookBy shows start set past (Next at) → IsMoment (in_free_mode shows start) at ⊎ (at ≡ clock (empty_base 0) past)
   look_moment past at (now, shown, is) =
-      let chosen = either_moment set.lockstep now (clock (empty_base set.senders) past) mode in
+      let chosen = (taken set.lockstep now (clock (empty_base set.senders) past) mode).0 in
       let here = of_either (in_free_mode shows start) (clock (empty_base set.senders) past) now (moment_on set past now) chosen (of_shown shows start now shown) in
       subst (λ (t : ℕ). IsMoment (in_free_mode shows start) at ⊎ (at ≡ t)) (clock_same set.senders past)
       (subst (λ (n : ℕ). IsMoment (in_free_mode shows start) n ⊎ (n ≡ clock (empty_base set.senders) past)) (sym is) here)

@@ -16,7 +16,8 @@ use Rattle.loop_model.specs.declared.journal.Act.{Act}
 use Rattle.loop_model.specs.declared.journal.Act.TheVariants.{Dispatch, Vsync}
 use Rattle.loop_model.specs.declared.journal.Route.{Route}
 use Rattle.frame_phases.specs.declared.entry.FrameEntry.{FrameEntry}
-use Rattle.frame_phases.specs.Frames.{is_pulse, is_pulse_if_any}
+use Rattle.frame_phases.specs.Frames.{is_pulse}
+use Rattle.frame_phases.specs.Pulses.{is_pulse_if_any}
 use Rattle.dash_script.specs.declared.script.Script.{Script}
 use Rattle.dash_script.specs.Causes.{phase_count}
 use Rattle.dash_script.specs.Reading.{HasText}

@@ -25,7 +25,7 @@ use Rattle.choreographer.specs.declared.hosted.Pulse.{Pulse}
 use Rattle.choreographer.specs.Host.{sent_by}
 use Rattle.choreographer.specs.Known.{Known as Pass}
 use Rattle.choreographer.specs.Calls.{PulsedBy, stamp_in}
-use Rattle.frame_phases.specs.Frames.{is_pulse_if_any}
+use Rattle.frame_phases.specs.Pulses.{is_pulse_if_any}
 use Rattle.loop_model.proofs.Prefixes.{prefix_self}
 use Rattle.frame_phases.specs.State.{delivered as delivered_at}
 use Rattle.run_model.specs.Asks.{Makes as Asks, Unbars, AreFor, tokens_in}
@@ -36,7 +36,7 @@ use Rattle.run_model.specs.Loopers.{Looper, Gauge, Sent, and_sends, and_posts_fr
 use Rattle.run_model.specs.Acts.{sent_on, IsSent, millis_up}
 use Rattle.run_model.specs.FrameRuns.{nanos_of, place_after}
 use Rattle.dash_hall.specs.Growth.{own, GoesOn, Makes}
-use Rattle.dash_hall.specs.Hosts.{Origin, IsHost, sends_by, asks_of}
+use Rattle.dash_hall.specs.Hosts.{HostOrigin, IsHost, sends_by, asks_of}
 use Rattle.run_model.specs.FrameAsks.{asks_in}
 use Rattle.choreographer.proofs.Recorded.{pulse_records}
 use Rattle.dash_loopers.specs.declared.view_root.Painted.{Painted}
@@ -107,10 +107,10 @@ pulse_delivered s q now p p' a b parts parts' (Some pulse) goes (x, y, n, t, mom
 
 -- ---- by a host that was made of the looper's poster
 
-pub hosted_on : (o o' : Origin) (p p' : Sender) (b : Tally) → o' ≡ o → IsHost o' p' b → o.poster ≡ p → GoesOn p p' o.pass b
-hosted_on o o' p p' b same is began = subst (λ (z : Sender). GoesOn z p' o.pass b) began (subst (λ (z : Origin). IsHost z p' b) same is).on
+pub hosted_on : (o o' : HostOrigin) (p p' : Sender) (b : Tally) → o' ≡ o → IsHost o' p' b → o.poster ≡ p → GoesOn p p' o.pass b
+hosted_on o o' p p' b same is began = subst (λ (z : Sender). GoesOn z p' o.pass b) began (subst (λ (z : HostOrigin). IsHost z p' b) same is).on
 
-pub pulse_hosted : (s : Script) (q now : ℕ) (o o' : Origin) (p p0 p' : Sender) (b : Tally) (parts parts' : Parts) (r : Option Pulse) → o' ≡ o → IsHost o' p' b → o.poster ≡ p → p0 ≡ p → o.now ≡ now → o.handler ≡ frame_handler q
+pub pulse_hosted : (s : Script) (q now : ℕ) (o o' : HostOrigin) (p p0 p' : Sender) (b : Tally) (parts parts' : Parts) (r : Option Pulse) → o' ≡ o → IsHost o' p' b → o.poster ≡ p → p0 ≡ p → o.now ≡ now → o.handler ≡ frame_handler q
     → PulsedBy parts.frames parts'.frames (λ n. n == nanos_of o.now) (sends_by o.handler p0) (sends_by o'.handler p') r → parts'.root ≡ parts.root → parts'.others ≡ parts.others → parts'.fired ≡ parts.fired
     → DeliversPulse s q now (calls_of p) (calls_of p') parts parts' r
 pulse_hosted s q now o o' p p0 p' b parts parts' r same is began at moment mine pulse root others fired =
@@ -118,7 +118,7 @@ pulse_hosted s q now o o' p p0 p' b parts parts' r same is began at moment mine 
     (subst (λ (n : ℕ). PulsedBy parts.frames parts'.frames (λ m. m == nanos_of n) (sends_by (frame_handler q) p) (sends_by (frame_handler q) p') r) moment
     (subst (λ (h : ℕ). PulsedBy parts.frames parts'.frames (λ m. m == nanos_of o.now) (sends_by h p) (sends_by h p') r) mine
     (subst (λ (z : Sender). PulsedBy parts.frames parts'.frames (λ m. m == nanos_of o.now) (sends_by o.handler z) (sends_by o.handler p') r) at
-    (subst (λ (z : Origin). PulsedBy parts.frames parts'.frames (λ m. m == nanos_of o.now) (sends_by o.handler p0) (sends_by z.handler p') r) same pulse))))
+    (subst (λ (z : HostOrigin). PulsedBy parts.frames parts'.frames (λ m. m == nanos_of o.now) (sends_by o.handler p0) (sends_by z.handler p') r) same pulse))))
     root others fired
 
 -- what holds where a call was made holds unless memory was wanting
@@ -136,10 +136,10 @@ pulse_told s q now made made' parts parts' acts acts0 acts' pulse is_one deliver
     record { stamp = Some pulse.stamp; is_pulse = is_one; due = done.2; told = told ∙ ap (λ (l : List Act). l ++ Vsync pulse.stamp ∷ []) same; grew = done.0; asks = done.1; plays = done.3 }
 
 -- such a host's calls that told of nothing
-pub untold_hosted : (o o' : Origin) (p p0 p' : Sender) (b : Tally) → o' ≡ o → IsHost o' p' b → o.poster ≡ p → p0 ≡ p → sends_by o'.handler p' ≡ sends_by o.handler p0 → calls_of p' ≡ calls_of p
+pub untold_hosted : (o o' : HostOrigin) (p p0 p' : Sender) (b : Tally) → o' ≡ o → IsHost o' p' b → o.poster ≡ p → p0 ≡ p → sends_by o'.handler p' ≡ sends_by o.handler p0 → calls_of p' ≡ calls_of p
 untold_hosted o o' p p0 p' b same is began at sends =
     calls_untold o.handler p p' o.pass b (hosted_on o o' p p' b same is began)
-    (subst (λ (z : Sender). sends_by o.handler p' ≡ sends_by o.handler z) at (subst (λ (z : Origin). sends_by z.handler p' ≡ sends_by o.handler p0) same sends))
+    (subst (λ (z : Sender). sends_by o.handler p' ≡ sends_by o.handler z) at (subst (λ (z : HostOrigin). sends_by z.handler p' ≡ sends_by o.handler p0) same sends))
 
 -- ---- what a step leaves as it was
 

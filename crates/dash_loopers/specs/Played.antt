@@ -12,7 +12,8 @@ use Rattle.loop_model.specs.declared.journal.Act.{Act}
 use Rattle.loop_model.specs.declared.journal.Act.TheVariants.{Vsync, Paint}
 use Rattle.loop_model.specs.declared.journal.Journal.{Journal}
 use Rattle.frame_phases.specs.declared.entry.FrameEntry.{FrameEntry}
-use Rattle.frame_phases.specs.Frames.{lawful, is_pulse_if_any}
+use Rattle.frame_phases.specs.Frames.{lawful}
+use Rattle.frame_phases.specs.Pulses.{is_pulse_if_any}
 use Rattle.dash_script.specs.declared.script.GaugeLine.{GaugeLine}
 use Rattle.dash_script.specs.declared.script.Rule.{Rule}
 use Rattle.dash_script.specs.declared.script.Script.{Script}

@@ -1,30 +1,39 @@
 //! A looper that runs by a clock.
 ghost use Rattle.std.specs.Prelude.{◌≡◌, ◌+◌, ◌||◌, ℕ, None, Some, IsTrue, true, false, OnOk};
 ghost use Rattle.loop_io.specs.Moments.{IsMoment};
-ghost use Rattle.looper_run.specs.Holding.{workplace, held, IsSameOwn};
+ghost use Rattle.looper_run.specs.Holding.{held, IsSameOwn};
 ghost use Rattle.looper_run.specs.Tests.{IsLent};
 ghost use Rattle.looper_run.specs.Round.{is_ended};
 ghost use Rattle.run_model.specs.Moments.{in_free_mode};
 ghost use Rattle.dash_hall.specs.Kits.{IsHall};
 ghost use Rattle.dash_loopers.specs.Loopers.{IsLooper, IsLooperOf, posters_of, round_of, is_given_up};
-ghost use Rattle.dash_loopers.specs.Players.{ServesAt, AreSameParts};
-ghost use Rattle.dash_loopers.specs.Played.{calls_of, Delivers, HasPlayedBy};
+ghost use Rattle.dash_loopers.specs.Places.{ServesOn, DeliversOn};
+ghost use Rattle.dash_loopers.specs.Players.{AreSameParts};
+ghost use Rattle.dash_loopers.specs.Played.{HasPlayedBy};
 ghost use Rattle.dash_loopers.specs.Clocked.{goes_to_rules, DeliversAt, ClockOwner, ServesFree, IsPlayingAt, StaysByClock};
 ghost use Rattle.dash_loopers.specs.ClockedLaws.{playing_at_others, playing_at_disposed, playing_at_quiet};
 
 use crate::looper::{StageLooper, close};
 use crate::player::{Parts, Place, did};
+use choreographer::NANOS_PER_MILLI;
 use dash_hall::{Hall, Timer, frame_handler};
 use dash_script::Script;
 use loop_io::{Clock, Gate};
 use loop_model::{NoMemory, Post};
-use looper_run::{Did, Dispatcher, Loop, Own, Round};
+use looper_run::{ByClock, Did, Dispatcher, Loop, Own, Round};
 use message_pool::PoolClaim;
 use message_slot::Message;
 use std::alloc::Global;
 use std::snapshot::Snapshot;
 use std::sync::Wait;
 use std::time;
+
+/// How a loop by a clock is paced.
+#[derive(Drop)]
+struct Pace<'a, G: Gate, C: Clock> {
+    gate: &'a G,
+    timer: &'a Timer<'a, C>,
+}
 
 /// A looper's code, for one loop by a clock.
 #[derive(Drop)]
@@ -56,7 +65,8 @@ impl<'a, R: Wait, G: Gate, C: Clock> Dispatcher for ClockPlayer<'a, R, G, C> {
 
     ghost asked = { λ d. None };
 
-    ghost Meets = { λ d s es acts. IsPlayingAt (in_free_mode (C.shows d.timer.now.clock.now) d.timer.now.start) d.place.script.now d.place.looper d.began.now.value s es acts d.parts };
+    ghost Meets = { λ d s es acts. IsPlayingAt (in_free_mode (C.shows d.timer.now.clock.now) d.timer.now.start)
+        d.place.script.now d.place.looper d.began.now.value s es acts d.parts };
 
     fn before(&mut self, number: u64) {
         self.gate.pass(self.sender, self.parts.passed);
@@ -91,11 +101,17 @@ impl<'a, R: Wait, G: Gate, C: Clock> Dispatcher for ClockPlayer<'a, R, G, C> {
         did(self.place.deliver(&mut self.parts, own, &p, at))
     }
 
-    ghost others = { λ d s es e acts apart meets. playing_at_others (in_free_mode (C.shows d.timer.now.clock.now) d.timer.now.start) d.place.script.now d.place.looper d.began.now.value s es e acts d.parts apart meets };
+    ghost others = { λ d s es e acts apart meets.
+        playing_at_others (in_free_mode (C.shows d.timer.now.clock.now) d.timer.now.start)
+        d.place.script.now d.place.looper d.began.now.value s es e acts d.parts apart meets };
 
-    ghost disposal = { λ d s es e now acts own call reply meets. playing_at_disposed (in_free_mode (C.shows d.timer.now.clock.now) d.timer.now.start) d.place.script.now d.place.looper d.began.now.value s es e now acts d.parts own call reply meets };
+    ghost disposal = { λ d s es e now acts own call reply meets.
+        playing_at_disposed (in_free_mode (C.shows d.timer.now.clock.now) d.timer.now.start)
+        d.place.script.now d.place.looper d.began.now.value s es e now acts d.parts own call reply meets };
 
-    ghost quiet = { λ d s es a acts is meets. playing_at_quiet (in_free_mode (C.shows d.timer.now.clock.now) d.timer.now.start) d.place.script.now d.place.looper d.began.now.value s es a acts d.parts is meets };
+    ghost quiet = { λ d s es a acts is meets.
+        playing_at_quiet (in_free_mode (C.shows d.timer.now.clock.now) d.timer.now.start)
+        d.place.script.now d.place.looper d.began.now.value s es a acts d.parts is meets };
 }
 
 impl<'a, R: Wait> Place<'a, R> {
@@ -123,14 +139,14 @@ impl<'a, R: Wait> Place<'a, R> {
         p: &Post,
         now: u64,
     ) -> Result<(), NoMemory>
-        requires serves { ServesAt self.now.script.now self.now.hall.now self.now.looper parts.old (workplace (held own.old)) }
+        requires serves { ServesOn self.now parts.old own.old }
         requires callback { p.now.callback ≡ None }
         ensures parts { AreSameParts parts.old parts.new }
         ensures own { IsSameOwn own.old own.new }
         ensures lent { IsLent (held own.old) (held own.new) }
         ensures rung { own.new.poster.now.view.rung ≡ own.old.poster.now.view.rung + 1 }
         ensures clocked { DeliversAt self.now.looper now p.now own.old.poster.now own.new.poster.now parts.old parts.new }
-        ensures delivers { OnOk result (Delivers self.now.script.now self.now.looper now p.now (calls_of own.old.poster.now) (calls_of own.new.poster.now) parts.old parts.new own.old.journal.now.acts own.new.journal.now.acts) }
+        ensures delivers { OnOk result (DeliversOn self.now now p.now own.old own.new parts.old parts.new) }
     {
         let done = self.deliver(parts, own, p, now);
         own.poster.nudge(self.rt, self.queue());
@@ -160,6 +176,7 @@ impl StageLooper {
         ensures plays { HasPlayedBy script.now self.old self.new }
         ensures clocked { StaysByClock (in_free_mode (C.shows timer.now.clock.now) timer.now.start) self.old self.new }
     {
+        let pace = Pace { gate, timer };
         for _ in rt.forever() {
             if self.has_ended() {
                 return;
@@ -171,7 +188,7 @@ impl StageLooper {
                 return;
             }
             let cap = earlier(self.next_pulse(rt, hall, script), end);
-            let how = self.run_loop(rt, alloc, hall, script, gate, timer, cap);
+            let how = self.run_loop(rt, alloc, hall, script, &pace, cap);
             if is_at_end(how, end) {
                 return;
             }
@@ -205,7 +222,8 @@ impl StageLooper {
         if self.gave_up() {
             return;
         }
-        self.drain(rt, alloc, hall, script, gate, timer, now);
+        let pace = Pace { gate, timer };
+        self.drain(rt, alloc, hall, script, &pace, now);
     }
 
     /// The pulse that is asked for at its choreographer, in milliseconds, rounded up.
@@ -234,19 +252,18 @@ impl StageLooper {
         alloc: Global,
         hall: &Hall,
         script: &Script,
-        gate: &G,
-        timer: &Timer<C>,
+        pace: &Pace<G, C>,
         now: u64,
     )
         requires hall { IsHall script.now hall.now }
-        requires moment { IsMoment (C.shows timer.now.clock.now) timer.now.start now }
+        requires moment { IsMoment (C.shows pace.now.timer.now.clock.now) pace.now.timer.now.start now }
         requires mode { hall.now.lockstep ≡ false }
         requires looper { IsLooper script.now hall.now self.old }
         requires going { (is_ended self.old.last ≡ false) × (is_given_up self.old.last ≡ false) }
         ensures looper { IsLooper script.now hall.now self.new }
         ensures number { self.new.number ≡ self.old.number }
         ensures plays { HasPlayedBy script.now self.old self.new }
-        ensures clocked { StaysByClock (in_free_mode (C.shows timer.now.clock.now) timer.now.start) self.old self.new }
+        ensures clocked { StaysByClock (in_free_mode (C.shows pace.now.timer.now.clock.now) pace.now.timer.now.start) self.old self.new }
     {
         let began = Snapshot::of(&*self);
         let Some(parts) = self.parts.take() else {
@@ -261,8 +278,8 @@ impl StageLooper {
                 script,
                 looper: self.number,
             },
-            gate,
-            timer,
+            gate: pace.gate,
+            timer: pace.timer,
             sender: self.sender,
             began: &began,
             parts,
@@ -289,8 +306,7 @@ impl StageLooper {
         alloc: Global,
         hall: &Hall,
         script: &Script,
-        gate: &G,
-        timer: &Timer<C>,
+        pace: &Pace<G, C>,
         cap: Option<u64>,
     ) -> Loop
         requires mode { hall.now.lockstep ≡ false }
@@ -301,7 +317,7 @@ impl StageLooper {
         ensures number { self.new.number ≡ self.old.number }
         ensures last { self.new.last ≡ round_of result }
         ensures plays { HasPlayedBy script.now self.old self.new }
-        ensures clocked { StaysByClock (in_free_mode (C.shows timer.now.clock.now) timer.now.start) self.old self.new }
+        ensures clocked { StaysByClock (in_free_mode (C.shows pace.now.timer.now.clock.now) pace.now.timer.now.start) self.old self.new }
     {
         let began = Snapshot::of(&*self);
         let Some(parts) = self.parts.take() else {
@@ -316,8 +332,8 @@ impl StageLooper {
                 script,
                 looper: self.number,
             },
-            gate,
-            timer,
+            gate: pace.gate,
+            timer: pace.timer,
             sender: self.sender,
             began: &began,
             parts,
@@ -329,9 +345,11 @@ impl StageLooper {
             &hall.pool,
             &hall.sources[place],
             &mut player,
-            timer.clock,
-            timer.start,
-            cap,
+            &ByClock {
+                clock: pace.timer.clock,
+                start: pace.timer.start,
+                cap,
+            },
         );
         let mut parts = player.parts;
         self.last = last_of(how);
@@ -357,7 +375,7 @@ fn last_of(how: Loop) -> Round
 
 /// A pulse's stamp in nanoseconds, in milliseconds rounded up.
 fn rounded_up(stamp: Option<u64>) -> Option<u64> {
-    Some(stamp?.div_ceil(1_000_000))
+    Some(stamp?.div_ceil(NANOS_PER_MILLI))
 }
 
 /// Whether a loop ended at a moment that is no earlier than the end.

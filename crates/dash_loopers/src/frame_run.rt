@@ -5,9 +5,10 @@ ghost use Rattle.choreographer.specs.Known.{IsOf};
 ghost use Rattle.choreographer.specs.declared.frame.Framed.TheVariants.{NoMemory as NoRoom};
 ghost use Rattle.dash_script.specs.declared.script.Script.{Script as ScriptData};
 ghost use Rattle.run_model.specs.Loopers.{callback_ran};
-ghost use Rattle.dash_hall.specs.Hosts.{IsHost, origin_of};
+ghost use Rattle.dash_hall.specs.Hosts.{IsHostNow, IsSameHost};
 ghost use Rattle.dash_hall.specs.Kits.{frame_badge_of};
-ghost use Rattle.dash_loopers.specs.Played.{calls_of, RanFrame, Shows, ids_of};
+ghost use Rattle.dash_loopers.specs.Places.{FrameShows, ShowsOn};
+ghost use Rattle.dash_loopers.specs.Played.{RanFrame};
 ghost use Rattle.dash_loopers.specs.Players.{FrameOwner, frame_owner};
 
 use crate::view_root::ViewRoot;
@@ -40,7 +41,7 @@ impl<'a, 'b, R: Wait> FrameClient<Host<'b, R>> for FrameRun<'a> {
 
     ghost ran = { λ l. Some l.ran.now.items };
 
-    ghost Meets = { λ l h. (s : ScriptData) (q : ℕ) → Shows s q (λ a. fold (callback_ran s q h.now) a (ids_of l.ran.now.items)) (calls_of l.poster_began.now.value) l.began.now.value (calls_of h.poster.now) l.root.now };
+    ghost Meets = { λ l h. FrameShows l h };
 
     fn run(
         &mut self,
@@ -58,7 +59,7 @@ impl<'a, 'b, R: Wait> FrameClient<Host<'b, R>> for FrameRun<'a> {
         }
     }
 
-    ghost stays = { λ l h now k reads meets. subst (λ x. (s : ScriptData) (q : ℕ) → Shows s q (λ a. fold (callback_ran s q x.now) a (ids_of l.ran.now.items)) (calls_of l.poster_began.now.value) l.began.now.value (calls_of x.poster.now) l.root.now) (sym reads) meets };
+    ghost stays = { λ l h now k reads meets. subst (λ x. FrameShows l x) (sym reads) meets };
 }
 
 impl ViewRoot {
@@ -69,15 +70,15 @@ impl ViewRoot {
         pass: &mut FramePass,
         host: &mut Host<R>,
     ) -> Result<(), NoMemory>
-        requires ready { IsHost (origin_of host.old.queue.now host.old.pool.now host.old.poster.ghost_name host.old.pass.ghost_name host.old.began.now.value host.old.pass_began.now.value host.old.handler.id host.old.now) host.old.poster.now host.old.pass.now }
+        requires ready { IsHostNow host.old }
         requires pass { IsOf pass.old c.now }
         requires root { IsOf self.old.pass c.now × (3 < c.now.constants.phases) }
-        ensures ready { IsHost (origin_of host.new.queue.now host.new.pool.now host.new.poster.ghost_name host.new.pass.ghost_name host.new.began.now.value host.new.pass_began.now.value host.new.handler.id host.new.now) host.new.poster.now host.new.pass.now }
-        ensures origin { origin_of host.new.queue.now host.new.pool.now host.new.poster.ghost_name host.new.pass.ghost_name host.new.began.now.value host.new.pass_began.now.value host.new.handler.id host.new.now ≡ origin_of host.old.queue.now host.old.pool.now host.old.poster.ghost_name host.old.pass.ghost_name host.old.began.now.value host.old.pass_began.now.value host.old.handler.id host.old.now }
+        ensures ready { IsHostNow host.new }
+        ensures origin { IsSameHost host.old host.new }
         ensures pass { frame_badge_of pass.new ≡ frame_badge_of pass.old }
         ensures root { frame_badge_of self.new.pass ≡ frame_badge_of self.old.pass }
         ensures ran { OnOk result ((ids : List ℕ) × RanFrame c.now.constants.interval c.now.constants.phases host.old.now pass.old pass.new ids
-            × ((s : ScriptData) (q : ℕ) → Shows s q (λ a. fold (callback_ran s q host.old.now) a ids) (calls_of host.old.poster.now) self.old (calls_of host.new.poster.now) self.new)) }
+            × ((s : ScriptData) (q : ℕ) → ShowsOn host.old host.new s q (λ a. fold (callback_ran s q host.old.now) a ids) self.old self.new)) }
     {
         let began = Snapshot::of(&*self);
         let poster_began = Snapshot::of(&*host.poster);

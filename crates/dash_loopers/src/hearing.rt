@@ -64,7 +64,7 @@ impl StageLooper {
 }
 
 /// At which place the poster of another looper's queue stands among the others of the looper of this number.
-fn place_without(number: usize, place: usize) -> usize
+pub(crate) fn place_without(number: usize, place: usize) -> usize
     requires { place ≡ number → ⊥ }
     ensures { PlaceWithout number place result }
 {

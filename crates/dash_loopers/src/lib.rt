@@ -2,10 +2,12 @@
 #![tactic(auto)]
 
 mod by_clock;
+mod frame_messages;
 mod frame_run;
 mod hearing;
 mod looper;
 mod player;
+mod rules;
 mod view_root;
 
 pub use looper::StageLooper;

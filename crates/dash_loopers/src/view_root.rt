@@ -3,9 +3,10 @@ ghost use Rattle.std.specs.Prelude.{◌≡◌, ◌<◌, ◌≤◌, ◌++◌, [],
 ghost use Rattle.std.specs.List.{flat_map, enumerate_from};
 ghost use Rattle.std.specs.Option.{option_map_or};
 ghost use Rattle.choreographer.specs.Known.{IsOf};
-ghost use Rattle.dash_hall.specs.Hosts.{IsHost, origin_of};
+ghost use Rattle.dash_hall.specs.Hosts.{IsHostNow, IsSameHost};
 ghost use Rattle.dash_hall.specs.Kits.{FrameBadge, frame_badge_of};
-ghost use Rattle.dash_loopers.specs.Played.{calls_of, standing, fixed, fixed_by, paint_of, paint_of_gauge, Shows};
+ghost use Rattle.dash_loopers.specs.Places.{ShowsOn};
+ghost use Rattle.dash_loopers.specs.Played.{standing, fixed, fixed_by, paint_of, paint_of_gauge};
 ghost use Rattle.dash_script.specs.declared.script.Script.{Script as ScriptData};
 ghost use Rattle.dash_script.specs.Reading.{HasText};
 ghost use Rattle.run_model.specs.Senders.{traversal_phase};
@@ -73,7 +74,9 @@ impl ViewRoot {
         pass: FramePass,
     ) -> Result<ViewRoot, NoMemory>
         ensures pass { IfOk result (λ v. v.pass ≡ pass) }
-        ensures gauges { IfOk result (λ v. (map standing v.gauges.items ≡ replicate (length script.now.gauges) (record { value = 0; target = 0; animating = false })) × (map fixed v.gauges.items ≡ map (fixed_by script.now looper) script.now.gauges)) }
+        ensures gauges { IfOk result (λ v.
+            (map standing v.gauges.items ≡ replicate (length script.now.gauges) (record { value = 0; target = 0; animating = false }))
+            × (map fixed v.gauges.items ≡ map (fixed_by script.now looper) script.now.gauges)) }
         ensures rest { IfOk result (λ v. (v.barrier ≡ None) × (v.painted.items ≡ []) × (v.edition ≡ script.now.edition)) }
     {
         let mut gauges = Vec::new(alloc);
@@ -103,12 +106,12 @@ impl ViewRoot {
         gauge: u64,
         target: u32,
     ) -> Result<(), NoMemory>
-        requires ready { IsHost (origin_of host.old.queue.now host.old.pool.now host.old.poster.ghost_name host.old.pass.ghost_name host.old.began.now.value host.old.pass_began.now.value host.old.handler.id host.old.now) host.old.poster.now host.old.pass.now }
+        requires ready { IsHostNow host.old }
         requires pass { IsOf self.old.pass c.now × (3 < c.now.constants.phases) }
-        ensures ready { IsHost (origin_of host.new.queue.now host.new.pool.now host.new.poster.ghost_name host.new.pass.ghost_name host.new.began.now.value host.new.pass_began.now.value host.new.handler.id host.new.now) host.new.poster.now host.new.pass.now }
-        ensures origin { origin_of host.new.queue.now host.new.pool.now host.new.poster.ghost_name host.new.pass.ghost_name host.new.began.now.value host.new.pass_began.now.value host.new.handler.id host.new.now ≡ origin_of host.old.queue.now host.old.pool.now host.old.poster.ghost_name host.old.pass.ghost_name host.old.began.now.value host.old.pass_began.now.value host.old.handler.id host.old.now }
+        ensures ready { IsHostNow host.new }
+        ensures origin { IsSameHost host.old host.new }
         ensures pass { frame_badge_of self.new.pass ≡ frame_badge_of self.old.pass }
-        ensures shows { (s : ScriptData) (q : ℕ) → OnOk result (Shows s q (object_set s q host.old.now gauge target) (calls_of host.old.poster.now) self.old (calls_of host.new.poster.now) self.new) }
+        ensures shows { (s : ScriptData) (q : ℕ) → OnOk result (ShowsOn host.old host.new s q (object_set s q host.old.now gauge target) self.old self.new) }
     {
         let Some(x) = self.gauge(gauge) else {
             return Ok(());
@@ -143,7 +146,8 @@ impl ViewRoot {
     fn put(&mut self, gauge: u64, x: Gauge)
         requires { gauge < length self.old.gauges.items }
         ensures gauges { self.new.gauges.items ≡ slice_set self.old.gauges.items gauge x }
-        ensures same { (self.new.barrier ≡ self.old.barrier) × (self.new.pass ≡ self.old.pass) × (self.new.painted ≡ self.old.painted) × (self.new.edition ≡ self.old.edition) }
+        ensures same { (self.new.barrier ≡ self.old.barrier) × (self.new.pass ≡ self.old.pass) × (self.new.painted ≡ self.old.painted)
+            × (self.new.edition ≡ self.old.edition) }
     {
         self.gauges[gauge as usize] = x;
     }
@@ -166,12 +170,12 @@ impl ViewRoot {
         c: &Choreographer,
         host: &mut Host<R>,
     ) -> Result<(), NoMemory>
-        requires ready { IsHost (origin_of host.old.queue.now host.old.pool.now host.old.poster.ghost_name host.old.pass.ghost_name host.old.began.now.value host.old.pass_began.now.value host.old.handler.id host.old.now) host.old.poster.now host.old.pass.now }
+        requires ready { IsHostNow host.old }
         requires pass { IsOf self.old.pass c.now × (3 < c.now.constants.phases) }
-        ensures ready { IsHost (origin_of host.new.queue.now host.new.pool.now host.new.poster.ghost_name host.new.pass.ghost_name host.new.began.now.value host.new.pass_began.now.value host.new.handler.id host.new.now) host.new.poster.now host.new.pass.now }
-        ensures origin { origin_of host.new.queue.now host.new.pool.now host.new.poster.ghost_name host.new.pass.ghost_name host.new.began.now.value host.new.pass_began.now.value host.new.handler.id host.new.now ≡ origin_of host.old.queue.now host.old.pool.now host.old.poster.ghost_name host.old.pass.ghost_name host.old.began.now.value host.old.pass_began.now.value host.old.handler.id host.old.now }
+        ensures ready { IsHostNow host.new }
+        ensures origin { IsSameHost host.old host.new }
         ensures pass { frame_badge_of self.new.pass ≡ frame_badge_of self.old.pass }
-        ensures shows { (s : ScriptData) (q : ℕ) → OnOk result (Shows s q (traversal_requested s q host.old.now) (calls_of host.old.poster.now) self.old (calls_of host.new.poster.now) self.new) }
+        ensures shows { (s : ScriptData) (q : ℕ) → OnOk result (ShowsOn host.old host.new s q (traversal_requested s q host.old.now) self.old self.new) }
     {
         if self.barrier.is_some() {
             return Ok(());
@@ -189,12 +193,13 @@ impl ViewRoot {
         host: &mut Host<R>,
         gauge: u64,
     ) -> Result<(), NoMemory>
-        requires ready { IsHost (origin_of host.old.queue.now host.old.pool.now host.old.poster.ghost_name host.old.pass.ghost_name host.old.began.now.value host.old.pass_began.now.value host.old.handler.id host.old.now) host.old.poster.now host.old.pass.now }
+        requires ready { IsHostNow host.old }
         requires pass { IsOf self.old.pass c.now × (3 < c.now.constants.phases) }
-        ensures ready { IsHost (origin_of host.new.queue.now host.new.pool.now host.new.poster.ghost_name host.new.pass.ghost_name host.new.began.now.value host.new.pass_began.now.value host.new.handler.id host.new.now) host.new.poster.now host.new.pass.now }
-        ensures origin { origin_of host.new.queue.now host.new.pool.now host.new.poster.ghost_name host.new.pass.ghost_name host.new.began.now.value host.new.pass_began.now.value host.new.handler.id host.new.now ≡ origin_of host.old.queue.now host.old.pool.now host.old.poster.ghost_name host.old.pass.ghost_name host.old.began.now.value host.old.pass_began.now.value host.old.handler.id host.old.now }
+        ensures ready { IsHostNow host.new }
+        ensures origin { IsSameHost host.old host.new }
         ensures pass { frame_badge_of self.new.pass ≡ frame_badge_of self.old.pass }
-        ensures shows { (s : ScriptData) (q : ℕ) → OnOk result (Shows s q (λ a. option_map_or (λ x. animation_ran s q host.old.now gauge x a) (slice_get a.gauges gauge) a) (calls_of host.old.poster.now) self.old (calls_of host.new.poster.now) self.new) }
+        ensures shows { (s : ScriptData) (q : ℕ) → OnOk result (ShowsOn host.old host.new s q
+            (λ a. option_map_or (λ x. animation_ran s q host.old.now gauge x a) (slice_get a.gauges gauge) a) self.old self.new) }
     {
         let Some(x) = self.gauge(gauge) else {
             return Ok(());
@@ -221,11 +226,11 @@ impl ViewRoot {
 
     /// The traversal removes its barrier, and paints each gauge of the looper.
     fn traverse<R: Wait>(&mut self, host: &mut Host<R>) -> Result<(), NoMemory>
-        requires { IsHost (origin_of host.old.queue.now host.old.pool.now host.old.poster.ghost_name host.old.pass.ghost_name host.old.began.now.value host.old.pass_began.now.value host.old.handler.id host.old.now) host.old.poster.now host.old.pass.now }
-        ensures ready { IsHost (origin_of host.new.queue.now host.new.pool.now host.new.poster.ghost_name host.new.pass.ghost_name host.new.began.now.value host.new.pass_began.now.value host.new.handler.id host.new.now) host.new.poster.now host.new.pass.now }
-        ensures origin { origin_of host.new.queue.now host.new.pool.now host.new.poster.ghost_name host.new.pass.ghost_name host.new.began.now.value host.new.pass_began.now.value host.new.handler.id host.new.now ≡ origin_of host.old.queue.now host.old.pool.now host.old.poster.ghost_name host.old.pass.ghost_name host.old.began.now.value host.old.pass_began.now.value host.old.handler.id host.old.now }
+        requires { IsHostNow host.old }
+        ensures ready { IsHostNow host.new }
+        ensures origin { IsSameHost host.old host.new }
         ensures pass { frame_badge_of self.new.pass ≡ frame_badge_of self.old.pass }
-        ensures shows { (s : ScriptData) (q : ℕ) → OnOk result (Shows s q (traversal_ran s q host.old.now) (calls_of host.old.poster.now) self.old (calls_of host.new.poster.now) self.new) }
+        ensures shows { (s : ScriptData) (q : ℕ) → OnOk result (ShowsOn host.old host.new s q (traversal_ran s q host.old.now) self.old self.new) }
     {
         let Some(token) = self.barrier else {
             return Ok(());
@@ -253,13 +258,13 @@ impl ViewRoot {
         phase: u32,
         id: u64,
     ) -> Result<(), NoMemory>
-        requires ready { IsHost (origin_of host.old.queue.now host.old.pool.now host.old.poster.ghost_name host.old.pass.ghost_name host.old.began.now.value host.old.pass_began.now.value host.old.handler.id host.old.now) host.old.poster.now host.old.pass.now }
+        requires ready { IsHostNow host.old }
         requires pass { IsOf self.old.pass c.now × (3 < c.now.constants.phases) }
         requires phase { phase ≤ 3 }
-        ensures ready { IsHost (origin_of host.new.queue.now host.new.pool.now host.new.poster.ghost_name host.new.pass.ghost_name host.new.began.now.value host.new.pass_began.now.value host.new.handler.id host.new.now) host.new.poster.now host.new.pass.now }
-        ensures origin { origin_of host.new.queue.now host.new.pool.now host.new.poster.ghost_name host.new.pass.ghost_name host.new.began.now.value host.new.pass_began.now.value host.new.handler.id host.new.now ≡ origin_of host.old.queue.now host.old.pool.now host.old.poster.ghost_name host.old.pass.ghost_name host.old.began.now.value host.old.pass_began.now.value host.old.handler.id host.old.now }
+        ensures ready { IsHostNow host.new }
+        ensures origin { IsSameHost host.old host.new }
         ensures pass { frame_badge_of self.new.pass ≡ frame_badge_of self.old.pass }
-        ensures shows { (s : ScriptData) (q : ℕ) → OnOk result (Shows s q (and_posts_frame host.old.now phase id) (calls_of host.old.poster.now) self.old (calls_of host.new.poster.now) self.new) }
+        ensures shows { (s : ScriptData) (q : ℕ) → OnOk result (ShowsOn host.old host.new s q (and_posts_frame host.old.now phase id) self.old self.new) }
     {
         host.post_callback(c, &mut self.pass, phase, id, 0)
     }
@@ -271,12 +276,12 @@ impl ViewRoot {
         host: &mut Host<R>,
         id: u64,
     ) -> Result<(), NoMemory>
-        requires ready { IsHost (origin_of host.old.queue.now host.old.pool.now host.old.poster.ghost_name host.old.pass.ghost_name host.old.began.now.value host.old.pass_began.now.value host.old.handler.id host.old.now) host.old.poster.now host.old.pass.now }
+        requires ready { IsHostNow host.old }
         requires pass { IsOf self.old.pass c.now × (3 < c.now.constants.phases) }
-        ensures ready { IsHost (origin_of host.new.queue.now host.new.pool.now host.new.poster.ghost_name host.new.pass.ghost_name host.new.began.now.value host.new.pass_began.now.value host.new.handler.id host.new.now) host.new.poster.now host.new.pass.now }
-        ensures origin { origin_of host.new.queue.now host.new.pool.now host.new.poster.ghost_name host.new.pass.ghost_name host.new.began.now.value host.new.pass_began.now.value host.new.handler.id host.new.now ≡ origin_of host.old.queue.now host.old.pool.now host.old.poster.ghost_name host.old.pass.ghost_name host.old.began.now.value host.old.pass_began.now.value host.old.handler.id host.old.now }
+        ensures ready { IsHostNow host.new }
+        ensures origin { IsSameHost host.old host.new }
         ensures pass { frame_badge_of self.new.pass ≡ frame_badge_of self.old.pass }
-        ensures shows { (s : ScriptData) (q : ℕ) → OnOk result (Shows s q (λ a. callback_ran s q host.old.now a id) (calls_of host.old.poster.now) self.old (calls_of host.new.poster.now) self.new) }
+        ensures shows { (s : ScriptData) (q : ℕ) → OnOk result (ShowsOn host.old host.new s q (λ a. callback_ran s q host.old.now a id) self.old self.new) }
     {
         if id == TRAVERSAL_CALLBACK {
             self.traverse(host)
@@ -290,7 +295,8 @@ impl ViewRoot {
 
 /// Paints each of these gauges that is the looper's, by its place.
 fn paint_all(painted: &mut Vec<Painted>, gauges: &[Gauge]) -> Result<(), NoMemory>
-    ensures { length gauges.now ≤ 16 → OnOk result (map paint_of painted.new.items ≡ map paint_of painted.old.items ++ flat_map paint_of_gauge (enumerate_from 0 gauges.now)) }
+    ensures { length gauges.now ≤ 16
+        → OnOk result (map paint_of painted.new.items ≡ map paint_of painted.old.items ++ flat_map paint_of_gauge (enumerate_from 0 gauges.now)) }
 {
     let mut gauge: u32 = 0;
     for state in gauges {

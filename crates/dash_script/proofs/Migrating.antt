@@ -22,7 +22,8 @@ use Rattle.dash_script.specs.Form.{form}
 use Rattle.dash_script.specs.Text.{say, line_of, command_line, handler_line, gauge_line, rule_line, block_lines, first_lines, lines_before_end, lines}
 use Rattle.dash_script.specs.Causes.{commands, each_number, numbers_pass, is_within, is_declared, phase_count, is_label, has_barrier, steps_for}
 use Rattle.dash_script.specs.Reading.{HasText, label_fits, labels_fit, rise}
-use Rattle.dash_script.specs.Editions.{phase_up, command_up, block_up, up, command_from, line_from, block_from}
+use Rattle.dash_script.specs.Editions.{phase_up, command_up, block_up, up}
+use Rattle.dash_script.specs.FromEdition.{command_from, line_from, block_from}
 use Rattle.dash_script.proofs.Holding.{each_kept, all_kept}
 use Rattle.dash_script.proofs.Going.{sections, list_parts}
 

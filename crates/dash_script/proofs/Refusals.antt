@@ -8,7 +8,7 @@ use Rattle.dash_script.specs.declared.refusal.Cause.{Cause}
 use Rattle.dash_script.specs.declared.refusal.Cause.TheVariants as cause
 use Rattle.dash_script.specs.declared.script.Script.{Script}
 use Rattle.dash_script.specs.declared.statement.Statement.{Statement}
-use Rattle.dash_script.specs.Words.{pieces}
+use Rattle.line_words.specs.Words.{pieces}
 use Rattle.dash_script.specs.Statement.{statement_of}
 use Rattle.dash_script.specs.Causes.{Draft, cause_of}
 use Rattle.dash_script.specs.Reading.{IsRefusal, start, is_end, cause_at_stop, with_line, with_said, said_cause, first_cause}

@@ -23,15 +23,3 @@ block_up b = record b { lines = map (λ (l : Line). record l { command = command
 -- the script in edition 2; one that is of edition 2 stays as it is
 abbrev pub up : Script → Script
 up s = if s.edition == 2 then s else record s { edition = 2; blocks = map block_up s.blocks }
-
--- a command of this edition in edition 2
-abbrev pub command_from : ℕ → Command → Command
-command_from edition c = if edition == 2 then c else command_up c
-
--- a line of this edition in edition 2
-abbrev pub line_from : ℕ → Line → Line
-line_from edition l = record l { command = command_from edition l.command }
-
--- a block of this edition in edition 2
-abbrev pub block_from : ℕ → Block → Block
-block_from edition b = record b { lines = map (line_from edition) b.lines }

@@ -6,7 +6,7 @@ use Rattle.dash_script.specs.declared.refusal.Parsed.{Parsed}
 use Rattle.dash_script.specs.declared.refusal.Parsed.TheVariants as parsed
 use Rattle.dash_script.specs.declared.script.Script.{Script}
 use Rattle.dash_script.specs.declared.statement.Statement.{Statement}
-use Rattle.dash_script.specs.Words.{pieces}
+use Rattle.line_words.specs.Words.{pieces}
 use Rattle.dash_script.specs.Statement.{statement_of}
 use Rattle.dash_script.specs.Causes.{Draft, cause_of}
 use Rattle.dash_script.specs.Reading.{IsText, start, with_line, is_end, cause_at_stop, IsRefusal}

@@ -2,7 +2,8 @@
 ghost use Rattle.std.specs.Prelude.{◌≡◌, ◌++◌, map, IfOk, OnOk};
 ghost use Rattle.dash_script.specs.Causes.{phase_count};
 ghost use Rattle.dash_script.specs.Reading.{HasText};
-ghost use Rattle.dash_script.specs.Editions.{block_from, command_from, line_from, phase_up, up};
+ghost use Rattle.dash_script.specs.Editions.{phase_up, up};
+ghost use Rattle.dash_script.specs.FromEdition.{block_from, command_from, line_from};
 
 use crate::script::{Block, Command, Line, Script};
 use loop_model::{NoMemory, Sequence};

@@ -9,6 +9,7 @@ use Rattle.dash_threads.specs.declared.thread.PostingThread.{PostingThread}
 use Rattle.dash_threads.specs.Threads.{IsThread, AreByClock, RunsAll}
 use Rattle.dash_loopers.specs.declared.looper.StageLooper.{StageLooper}
 use Rattle.dash_loopers.specs.Loopers.{IsLooper, posters_of, is_given_up}
+use Rattle.dash_loopers.specs.Played.{HasPlayedBy}
 use Rattle.dash_script.specs.Reading.{HasText}
 use Rattle.dash_hall.specs.Kits.{IsHall}
 use Rattle.dash_hall.specs.Hearing.{AtEach}
@@ -21,10 +22,11 @@ pub record RunsByClock (m : Mode) (s : Script) (hall : Hall) (before after : Pos
   pub number : after.number ≡ before.number
   pub made : after.gave_up ≡ false → RunsAll m s before after
 
--- the looper is the same, and unless memory was wanting the moments of what it called are the clock's, or the queue's time
+-- the looper is the same, and unless memory was wanting it has played on from wherever it stood, and the moments of what it called are the clock's, or the queue's time
 pub record LoopsByClock (m : Mode) (s : Script) (hall : Hall) (before after : StageLooper) : Type 0 where
   pub looper : IsLooper s hall after
   pub number : after.number ≡ before.number
+  pub plays : HasPlayedBy s before after
   pub clocked : is_given_up after.last ≡ false → AreByClock m (posters_of before) → AreByClock m (posters_of after)
 
 -- the poster quit its queue safely at this moment by one call, which may have been refused, or did nothing

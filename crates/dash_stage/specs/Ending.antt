@@ -72,14 +72,14 @@ pub record EachEndsPoster (entries : List Entry) (before after : List Kit) : Typ
   pub each : (k : ℕ) (d : Kit) → k < length before → EndsPoster k entries (slice_index_or before k d) (slice_index_or after k d)
 
 -- the kit has given up so many posters, and nothing else
-pub record HasLeft (given_up : ℕ) (before after : Kit) : Type 0 where
+pub record HasGivenBack (given_up : ℕ) (before after : Kit) : Type 0 where
   pub posters : after.posters.items ≡ drop given_up before.posters.items
   pub frames : after.frames.items ≡ before.frames.items
   pub pass : after.pass.home ≡ before.pass.home
 
 pub record HaveLeft (given_up : ℕ) (before after : List Kit) : Type 0 where
   pub count : length after ≡ length before
-  pub each : (k : ℕ) (d : Kit) → k < length before → HasLeft given_up (slice_index_or before k d) (slice_index_or after k d)
+  pub each : (k : ℕ) (d : Kit) → k < length before → HasGivenBack given_up (slice_index_or before k d) (slice_index_or after k d)
 
 -- the passes and the pass of the pool are as before
 pub record KeepsFrames (before after : Kit) : Type 0 where

@@ -36,13 +36,13 @@ pub record IsFirstDue (senders time : ℕ) (es : List Entry) : Type 0 where
   pub first : option_map when_of (first_eligible (empty_base senders) es) ≡ Some time
 
 -- the queues' times may be moved to this one
-pub data MayCome (s : Script) (time : ℕ) (c : Controller) : Type 0 where
+pub data MayBeMovedTo (s : Script) (time : ℕ) (c : Controller) : Type 0 where
   -- a block has it, or the end
-  IsPlanned : (is : is_planned_time s time ≡ true) → MayCome s time c
+  IsPlanned : (is : is_planned_time s time ≡ true) → MayBeMovedTo s time c
   -- a pulse comes then
-  IsPulse : (is : IsPulseTime s.period time) → MayCome s time c
+  IsPulse : (is : IsPulseTime s.period time) → MayBeMovedTo s time c
   -- a queue's first message is due then
-  IsDue : (q : ℕ) → (known : q < length c.kit.posters.items) → (is : (d : Sender) → IsFirstDue (sender_count s) time (whole_on c q d)) → MayCome s time c
+  IsDue : (q : ℕ) → (known : q < length c.kit.posters.items) → (is : (d : Sender) → IsFirstDue (sender_count s) time (whole_on c q d)) → MayBeMovedTo s time c
 
 -- the looper has not ended, and waits until this time
 abbrev pub WaitsUntil : ℕ → StageLooper → Type 0

@@ -13,7 +13,7 @@ use Rattle.run_model.specs.Loopers.{Looper, first_looper}
 use Rattle.run_model.specs.Acts.{sent_on}
 use Rattle.dash_loopers.specs.declared.looper.StageLooper.{StageLooper}
 use Rattle.dash_loopers.specs.Loopers.{HasRun}
-use Rattle.dash_loopers.specs.Played.{is_disposal, HasCome, HasPlayed}
+use Rattle.dash_loopers.specs.Played.{is_disposal, HasCome, HasPlayed, HasComeBy}
 use Rattle.dash_hall.specs.Kits.{AreUnseen}
 use Rattle.dash_stage.specs.declared.control.Controller.{Controller}
 use Rattle.dash_stage.specs.declared.stage.Stage.{Stage}
@@ -50,6 +50,10 @@ ArePlayed s st = AreSound s st.controller → (k : ℕ) (d : StageLooper) → k 
 -- each looper stands at the state before the first act
 abbrev pub HaveBegun : Script → List StageLooper → Type 0
 HaveBegun s ls = (k : ℕ) (d : StageLooper) → k < length ls → HasCome s (slice_index_or ls k d) (first_looper s)
+
+-- by a clock each looper stands at a state to which its acts lead, and what it did differs from that at most in what free mode leaves open
+abbrev pub HaveComeBy : Script → List StageLooper → Type 0
+HaveComeBy s ls = (k : ℕ) (d : StageLooper) → k < length ls → (did : Looper) × (a : Looper) × HasComeBy s (slice_index_or ls k d) did a
 
 -- the queue's clock shows this time, or its looper has ended and the queue was disposed of by then
 abbrev pub IsInTime : Script → ℕ → StageLooper → List Entry → Type 0

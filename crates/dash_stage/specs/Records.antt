@@ -14,7 +14,7 @@ use Rattle.choreographer.specs.Ends.{AreTheirs}
 use Rattle.run_model.specs.Moments.{Mode}
 use Rattle.std.specs.List.{range_with_len}
 use Rattle.run_model.specs.Asks.{entries_by}
-use Rattle.run_model.specs.Run.{IsHistory, IsFrameRun, all_entries}
+use Rattle.run_model.specs.Run.{IsRecordOf, IsFrameRun, IsLooperRun, EachLooper, all_entries}
 use Rattle.dash_hall.specs.declared.kit.Kit.{Kit}
 use Rattle.dash_hall.specs.Growth.{own}
 use Rattle.dash_hall.specs.ByClock.{IsByClock}
@@ -26,7 +26,7 @@ AreOfLoopers s records = map (λ (q : QueueRecord). q.looper) records ≡ range_
 -- and with the replies that a queue of one thread gives, and in free mode with moments of the clock
 pub record AreQueueRecords (m : Mode) (s : Script) (records : List QueueRecord) : Type 0 where
   pub loopers : AreOfLoopers s records
-  pub histories : AllByRecursion (IsHistory m all_entries s) records
+  pub histories : AllByRecursion (IsRecordOf m all_entries s) records
 
 -- each looper's choreographer has its record, in order
 pub record AreFrameRecords (s : Script) (records : List FrameRecord) : Type 0 where
@@ -64,6 +64,10 @@ HaveSeenOwn threads kits records = (q i : ℕ) (d : Kit) (p : Pass) (r : FrameRe
 -- each looper has its journal, in order
 abbrev pub AreJournals : Script → List Journal → Type 0
 AreJournals s js = map (λ (j : Journal). j.looper) js ≡ range_with_len 0 s.loopers
+
+-- each looper's queue, journal and frame record are those of a run
+abbrev pub AreLooperRuns : Mode → Script → List QueueRecord → List Journal → List FrameRecord → Type 0
+AreLooperRuns m s queues js frames = EachLooper (IsLooperRun m s queues) queues js frames
 
 -- in free mode the moments of what each sender called on each queue are the clock's, or the queue's time
 abbrev pub HaveCalledByClock : Mode → Script → List Kit → Type 0

@@ -1,12 +1,12 @@
 -- What is known of a stage at the end of a run.
-use Rattle.std.specs.Prelude.{ℕ, false, []}
+use Rattle.std.specs.Prelude.{◌≡◌, ℕ, false, []}
 use Rattle.dash_script.specs.declared.script.Script.{Script}
 use Rattle.run_model.specs.Moments.{Mode}
 use Rattle.dash_threads.specs.Threads.{AreByClock}
 use Rattle.dash_stage.specs.declared.stage.Stage.{Stage}
 use Rattle.dash_stage.specs.Controllers.{HasClosed, HasClosedIn, CallsNothingOn, IsClosingBy}
 use Rattle.dash_stage.specs.Moves.{AreMoved}
-use Rattle.dash_stage.specs.Playing.{ArePlayed, HaveComeFirst}
+use Rattle.dash_stage.specs.Playing.{ArePlayed, HaveComeFirst, HaveBegun, HaveComeBy}
 use Rattle.dash_stage.specs.Sharing.{OfSenders, HaveSeenTheSame}
 use Rattle.dash_stage.specs.Stages.{IsStageIn, IsStage, HaveRun, HaveRunBy, OthersHaveEnded, LoopersGoOn}
 use Rattle.dash_stage.specs.Timeliness.{AreTimelyUpTo, HasHaltedLast}
@@ -28,14 +28,15 @@ pub record HasEndedInLockstep (s : Script) (st : Stage) : Type 0 where
   pub first : HaveComeFirst s st
   pub moves : AreMoved s st.controller
 
--- a run by a clock has begun: no thread has run a line, the controller has called nothing, and no moment was asked for
+-- a run by a clock has begun: no thread has run a line, no looper has acted, the controller has called nothing, and no moment was asked for
 pub record HasBegunByClock (m : Mode) (s : Script) (st : Stage) : Type 0 where
   pub stage : IsStageIn false s st
   pub begun : HaveRunBy m s [] st.threads.items
+  pub loopers : HaveBegun s st.loopers.items
   pub clocked : OfSenders (AreByClock m) st
   pub none : (q : ℕ) → CallsNothingOn st.controller q
 
--- the threads have run all blocks, the queues but main were quit, their loopers have ended, and main is still to be halted
+-- the threads have run all blocks, the queues but main were quit, the loopers have played their acts, those but main have ended, and main is still to be halted
 pub record IsClosingByClock (m : Mode) (s : Script) (st : Stage) : Type 0 where
   pub stage : IsStageIn false s st
   pub same : HaveSeenTheSame st
@@ -43,13 +44,16 @@ pub record IsClosingByClock (m : Mode) (s : Script) (st : Stage) : Type 0 where
   pub run : HaveRunBy m s s.blocks st.threads.items
   pub ended : OthersHaveEnded st.loopers.items
   pub on : LoopersGoOn st.loopers.items
+  pub played : HaveComeBy s st.loopers.items
   pub closing : IsClosingBy s st.controller
 
 -- and main was halted
 pub record HasEndedByClock (m : Mode) (s : Script) (st : Stage) : Type 0 where
+  pub free : m.lockstep ≡ false
   pub out : HasEndedBy m s st
   pub run : HaveRunBy m s s.blocks st.threads.items
   pub ended : OthersHaveEnded st.loopers.items
   pub on : LoopersGoOn st.loopers.items
+  pub played : HaveComeBy s st.loopers.items
   pub closed : HasClosedIn m.lockstep s st.controller
   pub halted : HasHaltedLast s st

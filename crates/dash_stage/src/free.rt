@@ -35,7 +35,7 @@ use std::time;
 /// Runs the script by a clock and keeps its records. Each thread runs its blocks at their times, each looper waits for its messages on a
 /// thread of its own, the main one until the script's end. Then the controller quits the others safely, these run until their queues
 /// are disposed of, and the main one drains and is halted. The script has a text. It is refused only for want of memory.
-#[tactic(auto, using(crate::proofs::Limits::playable))]
+#[tactic(auto, using(crate::proofs::BlockTimes::Limits::playable))]
 pub fn run_free<R: Threads + Wait + time::Clock + Sync, C: Clock + Sync, G: Gate + Sync>(
     rt: &R,
     alloc: Global,
@@ -55,7 +55,7 @@ pub fn run_free<R: Threads + Wait + time::Clock + Sync, C: Clock + Sync, G: Gate
 }
 
 /// The stage after the run.
-#[tactic(auto, using(crate::proofs::Limits::playable))]
+#[tactic(auto, using(crate::proofs::BlockTimes::Limits::playable))]
 fn played<R: Threads + Wait + time::Clock + Sync, C: Clock + Sync, G: Gate + Sync>(
     rt: &R,
     alloc: Global,
@@ -147,6 +147,7 @@ impl Stage {
         gate: &G,
         timer: &Timer<C>,
     ) -> Result<(), NoMemory>
+        requires text { HasText script.now }
         requires some { 0 < script.now.loopers }
         requires closing { IsClosingByClock (in_free_mode (C.shows timer.now.clock.now) timer.now.start) script.now self.old }
         ensures closing { OnOk result (IsClosingByClock (in_free_mode (C.shows timer.now.clock.now) timer.now.start) script.now self.new) }

@@ -4,11 +4,11 @@ ghost use Rattle.std.specs.List.{AllByRecursion};
 ghost use Rattle.dash_script.specs.Reading.{HasText};
 ghost use Rattle.loop_model.specs.declared.entry.Entry.{Entry};
 ghost use Rattle.run_model.specs.Moments.{in_lockstep, in_free_mode, Mode};
-ghost use Rattle.run_model.specs.Run.{IsAsPlanned, IsControlled, IsFrameRun, IsLooperRun, EachLooper, IsTimely, main_ends_halted};
+ghost use Rattle.run_model.specs.Run.{IsAsPlanned, IsControlled, IsFrameRun, IsTimely, main_ends_halted};
 ghost use Rattle.dash_stage.specs.Controllers.{HasClosedIn};
 ghost use Rattle.dash_stage.specs.Timeliness.{HasHaltedLast};
 ghost use Rattle.dash_hall.specs.Kits.{IsHall, OthersAreOver};
-ghost use Rattle.dash_stage.specs.Records.{AreQueueRecords, AreFrameRecords, AreJournals};
+ghost use Rattle.dash_stage.specs.Records.{AreQueueRecords, AreFrameRecords, AreJournals, AreLooperRuns};
 ghost use Rattle.dash_loopers.specs.Loopers.{HaveTold};
 ghost use Rattle.dash_stage.specs.Blocks.{AreBlocksFirst, AreBlocksReached};
 ghost use Rattle.dash_stage.specs.Outcomes.{Stages, StagesByClock};
@@ -93,7 +93,8 @@ fn kept(
     ensures controls { (m : Mode) → HasEndedBy m script.now stage → HasClosedIn m.lockstep script.now stage.controller → IfOk result (λ r. AllByRecursion (IsControlled script.now) r.0.items) }
     ensures halted { (m : Mode) → HasEndedBy m script.now stage → HasHaltedLast script.now stage → IfOk result (λ r. main_ends_halted r.0.items ≡ true) }
     ensures timely { HasEndedInLockstep script.now stage → IfOk result (λ r. AllByRecursion (IsTimely script.now) r.0.items) }
-    ensures loopers { HasEndedInLockstep script.now stage → IfOk result (λ r. EachLooper (IsLooperRun in_lockstep script.now r.0.items) r.0.items r.1.items r.2.items) }
+    ensures loopers { HasEndedInLockstep script.now stage → IfOk result (λ r. AreLooperRuns in_lockstep script.now r.0.items r.1.items r.2.items) }
+    ensures by_clock { (m : Mode) → HasEndedByClock m script.now stage → IfOk result (λ r. AreLooperRuns m script.now r.0.items r.1.items r.2.items) }
     ensures journals { IfOk result (λ r. AreJournals script.now r.1.items) }
     ensures frames { IfOk result (λ r. AreFrameRecords script.now r.2.items) }
     ensures run { IfOk result (λ r. AllByRecursion (IsFrameRun script.now) r.2.items) }

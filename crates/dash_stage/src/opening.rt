@@ -22,6 +22,7 @@ pub(crate) fn set_up(alloc: Global, script: &Script, lockstep: bool) -> Result<S
     requires { IsPlayable script.now }
     ensures stage { IfOk result (λ st. IsStageIn lockstep script.now st) }
     ensures begun { (m : Mode) → IfOk result (λ st. HaveRunBy m script.now [] st.threads.items) }
+    ensures loopers { IfOk result (λ st. HaveBegun script.now st.loopers.items) }
     ensures moving { IfOk result (λ st. IsMoving script.now st.controller) }
     ensures by { IfOk result (λ st. AreBy st.time st.controller × (st.time ≡ 0)) }
     ensures timely { IfOk result (λ st. AreTimelyUpTo script.now [] st) }

@@ -14,7 +14,7 @@ ghost use Rattle.choreographer.specs.Known.{Known as Pass};
 ghost use Rattle.dash_hall.specs.Kits.{IsHall, AreUnseen};
 ghost use Rattle.dash_stage.specs.Controllers.{IsMoving, HasReached, IsClosing, HasClosed, CallsNone};
 ghost use Rattle.run_model.specs.Moves.{is_planned_time, IsPulseTime};
-ghost use Rattle.dash_stage.specs.Moves.{AreMoved, MayCome, WaitsUntil};
+ghost use Rattle.dash_stage.specs.Moves.{AreMoved, MayBeMovedTo, WaitsUntil};
 ghost use Rattle.dash_stage.specs.Playing.{ArePlayed, AreAtBlock, HaveComeFirst, IsInStep, LiesAhead};
 ghost use Rattle.dash_stage.specs.Turns.{AwaitTheirTurn};
 ghost use Rattle.dash_stage.specs.Stages.{IsStage, HaveRun, RunOn, OthersHaveEnded, LoopersGoOn};
@@ -47,7 +47,7 @@ pub(crate) struct Stage {
 
 impl Stage {
     /// The whole script: each block at its time, what comes due between two blocks, and the end.
-    #[tactic(auto, using(crate::proofs::Limits::before_end))]
+    #[tactic(auto, using(crate::proofs::BlockTimes::Limits::before_end))]
     pub(crate) fn play<R: Threads + Wait + Sync, G: Gate + Sync>(
         &mut self,
         rt: &R,
@@ -189,7 +189,7 @@ impl Stage {
         ensures loopers { self.new.loopers ≡ self.old.loopers }
         ensures time { self.new.time ≡ self.old.time }
         ensures due { (t : ℕ) → AreRested script.now self.old → NotLater t result → AreDue script.now t self.new }
-        ensures reason { (t : ℕ) → AreRested script.now self.old → result ≡ Some t → MayCome script.now t self.old.controller }
+        ensures reason { (t : ℕ) → AreRested script.now self.old → result ≡ Some t → MayBeMovedTo script.now t self.old.controller }
         ensures look { (k : ℕ) (l : StageLooper) → k < script.now.loopers → is_ended (slice_index_or self.old.loopers.items k l).last ≡ false → NotLaterThanPulse k self.old.controller self.new.controller result }
     {
         let mut next = None;
@@ -240,7 +240,7 @@ impl Stage {
         ensures step { IsInStep script.now self.old → AreRested script.now self.old → AreDue script.now time self.old → OnOk result (IsInStep script.now self.new) }
         ensures moved { IsInStep script.now self.old → AreRested script.now self.old → AreDue script.now time self.old → IfOk result (λ moved. AreSound script.now self.new.controller → (moved ≡ true) × AreSound script.now self.old.controller) }
         ensures at { IsInStep script.now self.old → AreRested script.now self.old → AreDue script.now time self.old → LiesAhead time self.old → OnOk result (AreSound script.now self.new.controller → AreAtBlock script.now time self.new) }
-        ensures moves { IsInStep script.now self.old → AreRested script.now self.old → AreDue script.now time self.old → MayCome script.now time self.old.controller → AreMoved script.now self.old.controller → OnOk result (AreMoved script.now self.new.controller) }
+        ensures moves { IsInStep script.now self.old → AreRested script.now self.old → AreDue script.now time self.old → MayBeMovedTo script.now time self.old.controller → AreMoved script.now self.old.controller → OnOk result (AreMoved script.now self.new.controller) }
     {
         self.time = self.time.max(time);
         let moved = self.controller.advance(rt, &self.hall, script, time)?;

@@ -15,7 +15,7 @@ fn a_made_script_runs(rt: HostRuntime) -> Result<(), Fail> {
 }
 
 /// Once the flag is set no thread makes a command, and as the run is given up each side looper disposes of its queue.
-#[tactic(auto, using(crate::proofs::Limits::playable))]
+#[tactic(auto, using(crate::proofs::BlockTimes::Limits::playable))]
 #[test]
 fn a_run_is_given_up(rt: HostRuntime) -> Result<(), Fail> {
     let alloc = rt.alloc();

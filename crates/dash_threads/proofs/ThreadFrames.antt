@@ -14,18 +14,19 @@ use Rattle.run_model.specs.Moments.{in_lockstep}
 use Rattle.run_model.specs.Planned.{Timed}
 use Rattle.run_model.specs.FrameAsks.{FrameAsk, Posts, Removes, Runs, asked_in, asks_in, as_told, lines_ask}
 use Rattle.dash_hall.specs.Growth.{GoesOn}
-use Rattle.dash_hall.specs.Hosts.{Origin, IsHost, sends_by, PlacesBy, PostsFrame, asks_of, AsksFor}
+use Rattle.dash_hall.specs.Hosts.{HostOrigin, IsHost, sends_by, PlacesBy, PostsFrame, asks_of, AsksFor}
 use Rattle.dash_threads.specs.Threads.{HasAsked}
 use Rattle.dash_hall.proofs.FramePosts.{posts_frame_by}
 
 -- a frame callback was posted by a host that was made of this poster
-pub frame_made : {A E : Type 0} (r : Result A E) (o o' : Origin) (p q q' : Sender) (b : Tally) (f g : Pass) (u phase id delay : ℕ) → o' ≡ o → IsHost o' q b → o.poster ≡ p → q' ≡ q
-    → OnOk r (PlacesBy f g u (sends_by o.handler p) (sends_by o'.handler q) phase id delay) → OnOk r (PostsFrame o.handler u phase id delay p q' f g)
-frame_made (Ok x) o o' p q q' b f g u phase id delay same is began ends turn =
-    let goes : GoesOn p q o.pass b = subst (λ (z : Sender). GoesOn z q o.pass b) began (subst (λ (z : Origin). IsHost z q b) same is).on in
-    let placed_by : PlacesBy f g u (sends_by o.handler p) (sends_by o.handler q) phase id delay = subst (λ (h : ℕ). PlacesBy f g u (sends_by o.handler p) (sends_by h q) phase id delay) (ap (λ (z : Origin). z.handler) same) turn in
-    subst (λ (z : Sender). PostsFrame o.handler u phase id delay p z f g) (sym ends) (posts_frame_by o.handler u phase id delay p q o.pass b f g goes placed_by)
-frame_made (Err e) o o' p q q' b f g u phase id delay same is began ends turn = tt
+pub frame_made : {A E : Type 0} (r : Result A E) (o o' : HostOrigin) (p q q' : Sender) (b : Tally) (f g : Pass) (u phase i id delay : ℕ) → i ≡ id → o' ≡ o → IsHost o' q b → o.poster ≡ p → q' ≡ q
+    → OnOk r (PlacesBy f g u (sends_by o.handler p) (sends_by o'.handler q) phase i delay) → OnOk r (PostsFrame o.handler u phase id delay p q' f g)
+frame_made (Ok x) o o' p q q' b f g u phase i id delay alike same is began ends turn =
+    let goes : GoesOn p q o.pass b = subst (λ (z : Sender). GoesOn z q o.pass b) began (subst (λ (z : HostOrigin). IsHost z q b) same is).on in
+    let placed_by : PlacesBy f g u (sends_by o.handler p) (sends_by o.handler q) phase i delay = subst (λ (h : ℕ). PlacesBy f g u (sends_by o.handler p) (sends_by h q) phase i delay) (ap (λ (z : HostOrigin). z.handler) same) turn in
+    subst (λ (n : ℕ). PostsFrame o.handler u phase n delay p q' f g) alike
+    (subst (λ (z : Sender). PostsFrame o.handler u phase i delay p z f g) (sym ends) (posts_frame_by o.handler u phase i delay p q o.pass b f g goes placed_by))
+frame_made (Err e) o o' p q q' b f g u phase i id delay alike same is began ends turn = tt
 
 -- ---- a frame callback is removed
 

@@ -5,13 +5,20 @@ ghost use Rattle.run_model.specs.Moments.{in_free_mode, IsUptime};
 ghost use Rattle.dash_hall.specs.Kits.{IsHall};
 ghost use Rattle.dash_threads.specs.Threads.{IsThread, TakesAt, Continues, RunsAll, ThreadKeeps, HaveSeenSame};
 
-use crate::thread::PostingThread;
+use crate::thread::{PostingThread, Timed};
 use dash_hall::{Hall, Timer};
 use dash_script::{Block, Command, Script};
 use loop_io::{Clock, Gate};
 use std::alloc::Global;
 use std::sync::Wait;
 use std::time;
+
+/// How a run by a clock is paced.
+#[derive(Drop)]
+struct Pace<'a, G: Gate, C: Clock> {
+    gate: &'a G,
+    timer: &'a Timer<'a, C>,
+}
 
 impl PostingThread {
     /// Runs all its commands, those of a block in the order of their lines and none before the block's time in milliseconds. Each waits
@@ -36,8 +43,9 @@ impl PostingThread {
         ensures stays { self.old.gave_up ≡ true → self.new ≡ self.old }
         ensures made { self.new.gave_up ≡ false → RunsAll (in_free_mode (C.shows timer.now.clock.now) timer.now.start) script.now self.old self.new }
     {
+        let pace = Pace { gate, timer };
         for block in script.blocks.as_slice() {
-            self.run_block_by_clock(rt, alloc, hall, script, gate, timer, block);
+            self.run_block_by_clock(rt, alloc, hall, script, &pace, block);
         }
     }
 
@@ -48,8 +56,7 @@ impl PostingThread {
         alloc: Global,
         hall: &Hall,
         script: &Script,
-        gate: &G,
-        timer: &Timer<C>,
+        pace: &Pace<G, C>,
         block: &Block,
     )
         requires text { HasText script.now }
@@ -60,11 +67,12 @@ impl PostingThread {
         ensures number { self.new.number ≡ self.old.number }
         ensures goes { self.new.gave_up ≡ false → self.old.gave_up ≡ false }
         ensures stays { self.old.gave_up ≡ true → self.new ≡ self.old }
-        ensures made { self.new.gave_up ≡ false → Continues (in_free_mode (C.shows timer.now.clock.now) timer.now.start) script.now block.now self.old self.new }
+        ensures made { self.new.gave_up ≡ false
+            → Continues (in_free_mode (C.shows pace.now.timer.now.clock.now) pace.now.timer.now.start) script.now block.now self.old self.new }
     {
         for line in block.lines.as_slice() {
             if line.thread == self.number {
-                let now = self.wait_for(rt, hall, gate, timer, block.time);
+                let now = self.wait_for(rt, hall, pace, block.time);
                 self.run_at(rt, alloc, hall, script, now, line.command);
             }
         }
@@ -76,21 +84,20 @@ impl PostingThread {
         &mut self,
         rt: &R,
         hall: &Hall,
-        gate: &G,
-        timer: &Timer<C>,
+        pace: &Pace<G, C>,
         time: u64,
     ) -> Option<u64>
         ensures same { self.new ≡ record self.old { passed = self.new.passed } }
         ensures stays { self.old.gave_up ≡ true → self.new ≡ self.old }
-        ensures moment { IfSome result (IsUptime (in_free_mode (C.shows timer.now.clock.now) timer.now.start) time) }
+        ensures moment { IfSome result (IsUptime (in_free_mode (C.shows pace.now.timer.now.clock.now) pace.now.timer.now.start) time) }
     {
         if self.gave_up {
             return None;
         }
-        timer.wait_until(rt, &hall.stop, time)?;
-        gate.pass(self.number, self.passed);
+        pace.timer.wait_until(rt, &hall.stop, time)?;
+        pace.gate.pass(self.number, self.passed);
         self.passed = self.passed.saturating_add(1);
-        timer.wait_until(rt, &hall.stop, time)
+        pace.timer.wait_until(rt, &hall.stop, time)
     }
 
     /// Runs a command at this moment, in milliseconds, unless the run is given up, and rings the bell of the looper that it asks for a frame
@@ -110,7 +117,8 @@ impl PostingThread {
         ensures thread { IsThread script.now hall.now self.new }
         ensures number { self.new.number ≡ self.old.number }
         ensures stays { self.old.gave_up ≡ true → self.new ≡ self.old }
-        ensures made { self.new.gave_up ≡ false → (self.old.gave_up ≡ false) × IsSomeAnd now (λ u. TakesAt hall.now.lockstep script.now u command self.old self.new) }
+        ensures made { self.new.gave_up ≡ false → (self.old.gave_up ≡ false)
+            × IsSomeAnd now (λ u. TakesAt hall.now.lockstep script.now u command self.old self.new) }
     {
         if self.gave_up {
             return;
@@ -120,7 +128,8 @@ impl PostingThread {
             return;
         };
         let look = hall.stop.look(rt);
-        self.run_unless_stopped(rt, alloc, hall, script, now, command, look);
+        let timed = Timed { now, command };
+        self.run_unless_stopped(rt, alloc, hall, script, timed, look);
         self.nudge_for(rt, hall, script, command);
     }
 

@@ -1,5 +1,5 @@
 //! A thread of a script, and its commands.
-ghost use Rattle.std.specs.Prelude.{◌≡◌, ◌<◌, [], length, true, false, is_some, IfOk, OnOk};
+ghost use Rattle.std.specs.Prelude.{◌≡◌, ◌<◌, ℕ, [], length, true, false, is_some, IfOk, OnOk};
 ghost use Rattle.dash_script.specs.declared.script.Script.{Script as TheScript};
 ghost use Rattle.dash_script.specs.declared.script.Command.TheVariants.{Frame, Unframe};
 ghost use Rattle.dash_script.specs.Reading.{HasText};
@@ -25,6 +25,31 @@ use shared_queue::{Poster, SharedQueue};
 use std::alloc::Global;
 use std::snapshot::Snapshot;
 use std::sync::Wait;
+
+/// A command at its uptime, in milliseconds.
+#[derive(Clone, Copy, Debug, PartialEq, Eq)]
+pub(crate) struct Timed {
+    pub(crate) now: u64,
+    pub(crate) command: Command,
+}
+
+/// A frame callback that is to be posted at this uptime, for the moment in `delay` milliseconds.
+#[derive(Clone, Copy, Debug, PartialEq, Eq)]
+struct FramePost {
+    now: u64,
+    phase: u32,
+    id: u32,
+    delay: u64,
+}
+
+/// Where a frame callback is posted: what its message goes by, and the choreographer.
+#[derive(Drop)]
+struct Screen<'a> {
+    handler: Handler,
+    queue: &'a SharedQueue<PoolClaim>,
+    pool: &'a Pool,
+    choreographer: &'a Choreographer,
+}
 
 /// A posting thread: what it needs to work with the queues, the barriers that it posted, and how often it came to the gate.
 #[derive(Drop)]
@@ -94,7 +119,11 @@ impl PostingThread {
     {
         for line in block.lines.as_slice() {
             if line.thread == self.number {
-                self.run_line(rt, alloc, hall, script, gate, block.time, line.command);
+                let timed = Timed {
+                    now: block.time,
+                    command: line.command,
+                };
+                self.run_line(rt, alloc, hall, script, gate, timed);
             }
         }
     }
@@ -107,8 +136,7 @@ impl PostingThread {
         hall: &Hall,
         script: &Script,
         gate: &G,
-        now: u64,
-        command: Command,
+        timed: Timed,
     )
         requires text { HasText script.now }
         requires hall { IsHall script.now hall.now }
@@ -116,7 +144,8 @@ impl PostingThread {
         ensures thread { IsThread script.now hall.now self.new }
         ensures number { self.new.number ≡ self.old.number }
         ensures stays { self.old.gave_up ≡ true → self.new ≡ self.old }
-        ensures made { self.new.gave_up ≡ false → (self.old.gave_up ≡ false) × Takes in_lockstep script.now (record { time = now; command = command }) self.old self.new }
+        ensures made { self.new.gave_up ≡ false → (self.old.gave_up ≡ false)
+            × Takes in_lockstep script.now (record { time = timed.now; command = timed.command }) self.old self.new }
     {
         if self.gave_up {
             return;
@@ -124,7 +153,7 @@ impl PostingThread {
         gate.pass(self.number, self.passed);
         self.passed = self.passed.saturating_add(1);
         let look = hall.stop.look(rt);
-        self.run_unless_stopped(rt, alloc, hall, script, now, command, look);
+        self.run_unless_stopped(rt, alloc, hall, script, timed, look);
     }
 
     /// Runs a command at this uptime, in milliseconds, unless the look found the run given up. Where it finds no memory it gives the run
@@ -135,8 +164,7 @@ impl PostingThread {
         alloc: Global,
         hall: &Hall,
         script: &Script,
-        now: u64,
-        command: Command,
+        timed: Timed,
         look: Look,
     )
         requires text { HasText script.now }
@@ -145,8 +173,9 @@ impl PostingThread {
         ensures thread { IsThread script.now hall.now self.new }
         ensures number { self.new.number ≡ self.old.number }
         ensures heeds { look ≡ true → self.new ≡ record self.old { gave_up = true } }
-        ensures made { self.new.gave_up ≡ false → TakesAt hall.now.lockstep script.now now command self.old self.new }
+        ensures made { self.new.gave_up ≡ false → TakesAt hall.now.lockstep script.now timed.now timed.command self.old self.new }
     {
+        let Timed { now, command } = timed;
         if look.is_stopped() {
             self.gave_up = true;
             return;
@@ -192,9 +221,17 @@ impl PostingThread {
                 phase,
                 id,
                 delay,
-            } => self.post_frame(rt, alloc, hall, script, now, looper, phase, id, delay),
+            } => {
+                let post = FramePost {
+                    now,
+                    phase,
+                    id,
+                    delay,
+                };
+                self.post_frame(rt, alloc, hall, script, looper, post)
+            }
             Command::Unframe { looper, phase, id } => {
-                self.remove_frame(rt, hall, script, now, looper, phase, id)
+                self.remove_frame(rt, hall, script, looper, phase, id)
             }
             Command::Idle { .. } => hand_in(rt, hall, command),
             Command::Watch { .. } => hand_in(rt, hall, command),
@@ -287,18 +324,15 @@ impl PostingThread {
         alloc: Global,
         hall: &Hall,
         script: &Script,
-        now: u64,
         looper: u32,
-        phase: u32,
-        id: u32,
-        delay: u64,
+        post: FramePost,
     ) -> Result<(), NoMemory>
         requires text { HasText script.now }
         requires hall { IsHall script.now hall.now }
         requires thread { IsThread script.now hall.now self.old }
         ensures thread { IsThread script.now hall.now self.new }
         ensures number { self.new.number ≡ self.old.number }
-        ensures made { OnOk result (TakesAt hall.now.lockstep script.now now (Frame looper phase id delay) self.old self.new) }
+        ensures made { OnOk result (TakesAt hall.now.lockstep script.now post.now (Frame looper post.phase post.id post.delay) self.old self.new) }
     {
         let place = looper as usize;
         let phases = phase_count(script.edition);
@@ -306,34 +340,33 @@ impl PostingThread {
             && place < hall.queues.len()
             && place < self.kit.frames.len()
             && place < hall.choreographers.len()
-            && phase < phases
+            && post.phase < phases
         {
+            let screen = Screen {
+                handler: frame_handler(looper),
+                queue: &hall.queues[place],
+                pool: &hall.pool,
+                choreographer: &hall.choreographers[place],
+            };
             return post_frame(
                 rt,
                 alloc,
-                frame_handler(looper),
-                &hall.queues[place],
+                &screen,
                 &mut self.kit.posters[place],
-                &hall.pool,
                 &mut self.kit.pass,
-                &hall.choreographers[place],
                 &mut self.kit.frames[place],
-                now,
-                phase,
-                u64::from(id),
-                delay,
+                post,
             );
         }
         Ok(())
     }
 
-    /// Takes a frame callback out of its phase, at this uptime.
+    /// Takes a frame callback out of its phase.
     fn remove_frame<R: Wait>(
         &mut self,
         rt: &R,
         hall: &Hall,
         script: &Script,
-        now: u64,
         looper: u32,
         phase: u32,
         id: u32,
@@ -343,7 +376,7 @@ impl PostingThread {
         requires thread { IsThread script.now hall.now self.old }
         ensures thread { IsThread script.now hall.now self.new }
         ensures number { self.new.number ≡ self.old.number }
-        ensures made { OnOk result (TakesAt hall.now.lockstep script.now now (Unframe looper phase id) self.old self.new) }
+        ensures made { OnOk result ((now : ℕ) → TakesAt hall.now.lockstep script.now now (Unframe looper phase id) self.old self.new) }
     {
         let place = looper as usize;
         let phases = phase_count(script.edition);
@@ -360,45 +393,40 @@ impl PostingThread {
     }
 }
 
-/// Posts a frame callback at a choreographer, whose message for its due time goes by this handler.
+/// Posts a frame callback at a choreographer, whose message for its due time goes by the choreographer's handler.
 fn post_frame<R: Wait>(
     rt: &R,
     alloc: Global,
-    handler: Handler,
-    queue: &SharedQueue<PoolClaim>,
+    screen: &Screen,
     poster: &mut Poster<PoolClaim>,
-    pool: &Pool,
     pass: &mut PoolPass,
-    choreographer: &Choreographer,
     frames: &mut FramePass,
-    now: u64,
-    phase: u32,
-    id: u64,
-    delay: u64,
+    post: FramePost,
 ) -> Result<(), NoMemory>
-    requires queue { IsOf poster.old queue.now }
-    requires pass { pass.old.home ≡ pool.now }
-    requires home { queue.now.constants.home ≡ pool.now }
-    requires frames { IsFrameOf frames.old choreographer.now × (phase < choreographer.now.constants.phases) }
+    requires queue { IsOf poster.old screen.now.queue.now }
+    requires pass { pass.old.home ≡ screen.now.pool.now }
+    requires home { screen.now.queue.now.constants.home ≡ screen.now.pool.now }
+    requires frames { IsFrameOf frames.old screen.now.choreographer.now × (post.phase < screen.now.choreographer.now.constants.phases) }
     ensures on { GoesOn poster.old poster.new pass.old pass.new }
     ensures frames { frame_badge_of frames.new ≡ frame_badge_of frames.old }
-    ensures made { OnOk result (PostsFrame handler.id now phase id delay poster.old poster.new frames.old frames.new) }
+    ensures made { OnOk result (PostsFrame screen.now.handler.id post.now post.phase post.id post.delay poster.old poster.new frames.old frames.new) }
 {
     let began = Snapshot::of(poster);
     let pass_began = Snapshot::of(pass);
     let mut host = Host {
         rt,
         alloc,
-        handler,
-        queue,
-        pool,
+        handler: screen.handler,
+        queue: screen.queue,
+        pool: screen.pool,
         poster,
         pass,
         began: &began,
         pass_began: &pass_began,
-        now,
+        now: post.now,
     };
-    host.post_callback(choreographer, frames, phase, id, delay)
+    let id = u64::from(post.id);
+    host.post_callback(screen.choreographer, frames, post.phase, id, post.delay)
 }
 
 /// Adds an idle handler, watches a descriptor or hands in an event.

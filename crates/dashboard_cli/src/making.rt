@@ -3,7 +3,8 @@ ghost use Rattle.std.specs.Prelude.{◌≡◌, [], None, IfErr, IfOk};
 ghost use Rattle.dash_script.specs.Reading.{HasText};
 ghost use Rattle.dashboard_cli.specs.Answers.{CountsReads, MakesOf};
 ghost use Rattle.dashboard_cli.specs.Steps.{HasRun, HasRunFree, Stops, IsNone};
-ghost use Rattle.dashboard_cli.specs.Works.{inbox_scripts, plans, scripts, traces, work, work_by, IsInboxRunOf};
+ghost use Rattle.dashboard_cli.specs.Works.{inbox_scripts, plans, scripts, traces, work, work_by};
+ghost use Rattle.dashboard_cli.specs.Makings.{IsInboxRunOf};
 ghost use Rattle.dash_stage.specs.Staged.{IsStaged, IsStagedByClock};
 ghost use Rattle.value_animator.specs.Plans.{AreValues};
 ghost use Rattle.value_animator.specs.Run.{IsRunOf};
@@ -39,7 +40,7 @@ pub(crate) struct Returned {
 
 impl Returned {
     ghost use Rattle.std.specs.Prelude.{◌≡◌};
-    ghost use Rattle.dashboard_cli.specs.Works.{nothing, only_report, only_frames, only_inbox};
+    ghost use Rattle.dashboard_cli.specs.Returns.{nothing, only_report, only_frames, only_inbox};
 
     pub(crate) fn nothing() -> Returned
         ensures { result ≡ nothing }

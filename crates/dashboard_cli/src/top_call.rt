@@ -2,7 +2,8 @@
 ghost use Rattle.std.specs.Prelude.{◌≡◌, ◌≢◌, ◌⊎◌, IsTrue, None};
 ghost use Rattle.loop_io.specs.Causes.{Rose};
 ghost use Rattle.dashboard_cli.specs.Answers.{is_refusal, writes_nothing, AllOf, CountsReads, CountsWrites, HasGoodInput, IsBrokenOff, IsDone, IsOf, IsRefused, IsTooLong, IsWithin};
-ghost use Rattle.dashboard_cli.specs.Works.{returned, work, nothing, work_by};
+ghost use Rattle.dashboard_cli.specs.Works.{work, work_by};
+ghost use Rattle.dashboard_cli.specs.Returns.{returned, nothing};
 ghost use Rattle.dashboard_cli.specs.Words.{texts, IsListed};
 
 use crate::making::{Returned, produce};

@@ -5,7 +5,8 @@ use Rattle.std.proofs.Math.Nat.{mul-mod_left, add-mul, min-eq_left, min-eq_right
 use Rattle.std.proofs.Math.Bool.{or-true}
 use Rattle.std.proofs.lemmas.Nat.{div-add-mod'}
 use Rattle.std.proofs.lemmas.Bool.{eq-eqb, lt-ltb, cases_lt}
-use Rattle.frame_phases.specs.Frames.{pulse, is_pulse}
+use Rattle.frame_phases.specs.Frames.{is_pulse}
+use Rattle.frame_phases.specs.Pulses.{pulse}
 
 -- a positive multiple of the interval is a pulse
 multiple_is : (interval t : ℕ) → 0 < t → t % interval ≡ 0 → is_pulse interval t ≡ true

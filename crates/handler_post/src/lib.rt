@@ -11,4 +11,5 @@ mod tests;
 mod way;
 
 pub use handler::Handler;
+pub use supply::recycle_all;
 pub use way::{Erased, Sent, Way};

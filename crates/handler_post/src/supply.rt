@@ -29,8 +29,8 @@ pub(crate) fn message_of(
     Some(node)
 }
 
-/// Recycles all these messages.
-pub(crate) fn recycle_all(pool: &Pool, pass: &mut PoolPass, mut nodes: NodeList<Message<PoolClaim>>)
+/// Recycles all these messages, which are of the pool (`recycle` of AOSP's `Message`).
+pub fn recycle_all(pool: &Pool, pass: &mut PoolPass, mut nodes: NodeList<Message<PoolClaim>>)
     requires pass { pass.old.home ≡ pool.now }
     requires nodes { All (IsNodeOf pool.now) nodes }
     ensures home { pass.new.home ≡ pool.now }

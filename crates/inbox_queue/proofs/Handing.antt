@@ -7,7 +7,7 @@ use Rattle.loop_model.specs.declared.entry.Entry.{Entry}
 use Rattle.loop_model.specs.declared.post.Post.{Post as PostData}
 use Rattle.loop_model.specs.Lists.{longer}
 use Rattle.loop_model.proofs.Prefixes.{prefix_length, prefix_all, longer_first, longer_second}
-use Rattle.shared_queue.specs.Known.{IsTurn, IsSame}
+use Rattle.shared_queue.specs.Known.{IsTurn, IsSamePoster}
 use Rattle.shared_queue.specs.Calls.{HaltedBy}
 use Rattle.queue_state.specs.declared.answers.Halting.TheVariants as halting
 use Rattle.inbox_queue.specs.declared.main_queue.Place.{Place}
@@ -56,7 +56,7 @@ pub record Kept (before after : Sender) : Type 0 where
 kept_turn : (a b : Sender) (x y : State) → IsTurn a b x y → Kept a b
 kept_turn a b x y t = record { table = t.table; sender = t.sender; constants = t.constants; sealed = t.sealed }
 
-kept_same : (a b : Sender) → IsSame a b → Kept a b
+kept_same : (a b : Sender) → IsSamePoster a b → Kept a b
 kept_same a b t = record { table = t.table; sender = t.sender; constants = t.constants; sealed = t.sealed }
 
 kept_then : (a b c : Sender) → Kept a b → Kept b c → Kept a c
@@ -87,8 +87,8 @@ pub record LooperCalls (place : Place) (h h1 h2 : Hands) : Type 0 where
   pub at : IsAt place h
   pub controller : h1.controller ≡ h.controller
   pub home : h1.pass.home ≡ place.pool
-  pub looper_same : IsSame h1.looper h2.looper
-  pub controller_same : IsSame h1.controller h2.controller
+  pub looper_same : IsSamePoster h1.looper h2.looper
+  pub controller_same : IsSamePoster h1.controller h2.controller
   pub pass : h2.pass ≡ h1.pass
   pub heard : IsPrefix h1.controller.view.seen (seen h1) → (seen h2 ≡ seen h1) × (h2.controller.view.seen ≡ seen h1)
 
@@ -103,14 +103,14 @@ module _ (place : Place) (h h1 h2 : Hands) (k : LooperCalls place h h1 h2) (x y 
     own = k.at.looper.1;
     same = k.at.same;
     heard = (k.heard looper_up).1;
-    kept = subst (λ c. IsSame c h2.controller) k.controller k.controller_same;
+    kept = subst (λ c. IsSamePoster c h2.controller) k.controller k.controller_same;
     who = λ n lt. ⊎_elim (λ a. inl a) (λ b. inr (⊎_elim (λ c. inl c) (λ d. inr (d ∙ sym k.at.number)) b)) (one_of_all (threads_of h) n lt);
   }
 
   pub looper_at : IsAt place h2 × (threads_of h2 ≡ threads_of h)
   looper_at =
       let l = kept_then h.looper h1.looper h2.looper (kept_turn h.looper h1.looper x y turn) (kept_same h1.looper h2.looper k.looper_same) in
-      let c = kept_same h.controller h2.controller (subst (λ c. IsSame c h2.controller) k.controller k.controller_same) in
+      let c = kept_same h.controller h2.controller (subst (λ c. IsSamePoster c h2.controller) k.controller k.controller_same) in
       let u = k.heard looper_up in
       (at_kept place h h2 k.at l c (ap (λ p. p.home) k.pass ∙ k.home) (u.1 ∙ sym u.0), l.sender)
 
@@ -150,8 +150,8 @@ pub record ControllerCalls (place : Place) (h h1 h2 : Hands) : Type 0 where
   pub at : IsAt place h
   pub looper : h1.looper ≡ h.looper
   pub home : h1.pass ≡ h.pass
-  pub looper_same : IsSame h1.looper h2.looper
-  pub controller_same : IsSame h1.controller h2.controller
+  pub looper_same : IsSamePoster h1.looper h2.looper
+  pub controller_same : IsSamePoster h1.controller h2.controller
   pub pass : h2.pass ≡ h1.pass
   pub heard : IsPrefix (seen h1) h1.controller.view.seen → (seen h2 ≡ h1.controller.view.seen) × (h2.controller.view.seen ≡ h1.controller.view.seen)
 
@@ -166,13 +166,13 @@ module _ (place : Place) (h h1 h2 : Hands) (k : ControllerCalls place h h1 h2) (
     own = k.at.controller.1;
     same = sym k.at.same;
     heard = (k.heard controller_up).0;
-    kept = subst (λ c. IsSame c h2.looper) k.looper k.looper_same;
+    kept = subst (λ c. IsSamePoster c h2.looper) k.looper k.looper_same;
     who = λ n lt. ⊎_elim (λ a. inl a) (λ b. inr (⊎_elim (λ c. inl (c ∙ sym k.at.number)) (λ d. inr d) b)) (one_of_both (threads_of h) n lt);
   }
 
   pub controller_at : IsAt place h2 × (threads_of h2 ≡ threads_of h)
   controller_at =
-      let l = kept_same h.looper h2.looper (subst (λ c. IsSame c h2.looper) k.looper k.looper_same) in
+      let l = kept_same h.looper h2.looper (subst (λ c. IsSamePoster c h2.looper) k.looper k.looper_same) in
       let c = kept_then h.controller h1.controller h2.controller (kept_turn h.controller h1.controller x y turn) (kept_same h1.controller h2.controller k.controller_same) in
       let u = k.heard controller_up in
       (at_kept place h h2 k.at l c (ap (λ p. p.home) (k.pass ∙ k.home) ∙ k.at.pass) (u.1 ∙ sym u.0), l.sender)

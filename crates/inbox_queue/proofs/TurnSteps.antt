@@ -31,7 +31,7 @@ use Rattle.queue_state.specs.Queue as queue
 use Rattle.queue_state.specs.declared.answers.Posted.TheVariants as posted
 use Rattle.queue_state.specs.declared.answers.Halting.TheVariants as halting
 use Rattle.shared_queue.specs.Constants.{Constants, made_in, IsStateOf}
-use Rattle.shared_queue.specs.Known.{IsTurn, IsSame}
+use Rattle.shared_queue.specs.Known.{IsTurn, IsSamePoster}
 use Rattle.shared_queue.specs.Calls.{HaltedBy, PostedBy}
 use Rattle.inbox_queue.specs.declared.main_queue.Look.{Look}
 use Rattle.inbox_queue.specs.declared.main_queue.Look.TheVariants.{Taken, Waits, Other}
@@ -85,7 +85,7 @@ pub record Calls (threads : ℕ) (one one' other other' : Sender) (x y : State) 
   pub turn : IsTurn one one' x y
   pub same : other.view.seen ≡ one.view.seen
   pub heard : other'.view.seen ≡ one'.view.seen
-  pub kept : IsSame other other'
+  pub kept : IsSamePoster other other'
   pub who : (k : ℕ) → k < threads + 2 → (k < threads) ⊎ (k ≡ one.sender) ⊎ (k ≡ other.sender)
 
 module _ {threads : ℕ} {one one' other other' : Sender} {x y : State} (c : Calls threads one one' other other' x y) where
@@ -150,7 +150,7 @@ pub record Pair (threads : ℕ) (one one' other other' : Sender) : Type 0 where
   pub own : one.view.constants ≡ Some key
   pub same : other.view.seen ≡ one.view.seen
   pub heard : other'.view.seen ≡ one'.view.seen
-  pub kept : IsSame other other'
+  pub kept : IsSamePoster other other'
   pub who : (k : ℕ) → k < threads + 2 → (k < threads) ⊎ (k ≡ one.sender) ⊎ (k ≡ other.sender)
 
 abbrev calls : {threads : ℕ} {one one' other other' : Sender} (x y : State) → Pair threads one one' other other' → IsTurn one one' x y → Calls threads one one' other other' x y

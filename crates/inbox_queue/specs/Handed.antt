@@ -9,7 +9,8 @@ use Rattle.inbox_queue.specs.declared.sender.Put.{Put}
 use Rattle.inbox_queue.specs.declared.sender.Put.TheVariants.{Put as Lies, NoMemory as Back}
 use Rattle.inbox_queue.specs.declared.admitter.Admit.{Admit}
 use Rattle.inbox_queue.specs.declared.admitter.Admit.TheVariants.{Parcel as Admitted, Empty, NoMemory as NoRoom}
-use Rattle.inbox_queue.specs.Parcels.{parcels_of, from_sender, put_by}
+use Rattle.inbox_queue.specs.Parcels.{parcels_of, from_sender}
+use Rattle.inbox_queue.specs.Taken.{put_by}
 
 -- which inbox it is
 abbrev pub InboxId : Type 0
@@ -37,6 +38,10 @@ IsNewSender inbox number s = (s.inbox ≡ inbox) × (s.number ≡ number) × (s.
 -- the first senders, in order
 abbrev pub AreNewSenders : InboxId → List Sending → Type 0
 AreNewSenders inbox senders = (k : ℕ) (d : Sending) → k < length senders → IsNewSender inbox k (slice_index_or senders k d)
+
+-- so many senders, the first ones
+abbrev pub AreManyNew : InboxId → ℕ → List Sending → Type 0
+AreManyNew inbox count senders = (length senders ≡ count) × AreNewSenders inbox senders
 
 -- the senders of an inbox, in the order of their numbers
 abbrev pub AreSenders : InboxId → List Sending → Type 0

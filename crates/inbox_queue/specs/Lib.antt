@@ -1,4 +1,5 @@
 pub mod Parcels
+pub mod Taken
 pub mod Carried
 pub mod Passes
 pub mod Handed

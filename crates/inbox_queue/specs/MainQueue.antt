@@ -1,6 +1,7 @@
 -- The queue of an inbox run, the two that call it, and what each call adds to its history.
 use Rattle.std.specs.Prelude.{◌≡◌, ◌<◌, ◌≤◌, ◌+◌, ◌⊎◌, ℕ, true, List, [], ◌∷◌, ◌++◌, Option, Some, None, option_map, min}
 use Rattle.std.specs.List.{AllByRecursion}
+use mathlib.Core.List.{IsPrefix}
 use Rattle.loop_model.specs.declared.post.Post.{Post as PostData}
 use Rattle.loop_model.specs.declared.call.Call.TheVariants.{Post, Next, Advance, Halt}
 use Rattle.loop_model.specs.declared.reply.Reply.TheVariants.{Advanced, Halted}
@@ -40,6 +41,15 @@ pub record IsAt (place : Place) (h : Hands) : Type 0 where
   pub home : place.queue.constants.home ≡ place.pool
   pub same : h.controller.view.seen ≡ seen h
   pub whole : h.controller.view.sealed ≡ []
+
+-- where one had seen no more than the other, both have now seen what the other had
+abbrev pub HaveHeard : List Entry → List Entry → List Entry → List Entry → Type 0
+HaveHeard less more looper controller = IsPrefix less more → (looper ≡ more) × (controller ≡ more)
+
+-- the controller is as before, and the looper and the pass are still those of this place
+abbrev pub IsSameButLooper : Place → Hands → Hands → Type 0
+IsSameButLooper place before after =
+    (after.controller ≡ before.controller) × (after.pass.home ≡ place.pool) × IsOf after.looper place.queue × (after.looper.sender ≡ before.looper.sender)
 
 -- no thread has an entry
 abbrev pub AreSilent : ℕ → List Entry → Type 0

@@ -15,7 +15,7 @@ use Rattle.inbox_queue.specs.declared.parcel.Parcel.{Parcel}
 use Rattle.inbox_queue.specs.declared.run.Opened.{Opened}
 use Rattle.inbox_queue.specs.declared.run.InboxRan.{InboxRan}
 use Rattle.inbox_queue.specs.declared.run.InboxRan.TheVariants as ran
-use Rattle.inbox_queue.specs.InboxRun.{posts_made, posts_admitted, IsInboxRun}
+use Rattle.inbox_queue.specs.InboxRun.{AreOfBlocks, posts_made, posts_admitted, IsInboxRun}
 use Rattle.inbox_queue.specs.MainQueue.{IsAt, threads_of, AreSilent, Goes, HasEnded}
 use Rattle.inbox_queue.specs.Turned.{Sender}
 use Rattle.inbox_queue.specs.Bad.{bad_line}
@@ -52,6 +52,10 @@ pub record IsKept (threads : ℕ) (es : List Entry) (r : QueueRecord) : Type 0 w
   pub numbered : AreNumbered (setting_of r) (empty_base r.senders) (history_of r)
   pub silent : AreSilent threads (history_of r)
   pub whole : history_of r ≡ es
+
+-- each thread's posts of each block were admitted, and what is kept is a history in which just these were posted, from the start to the end
+abbrev pub IsWholeRun : Script → QueueRecord → List (List Parcel) → Type 0
+IsWholeRun s r admitted = AreOfBlocks s s.blocks admitted × ((es : List Entry) × IsKept s.threads es r × IsPlayed s s.threads admitted es)
 
 -- where it is said that the script was run, the report is an inbox run of it
 abbrev pub Runs : Script → InboxRan → Type 0

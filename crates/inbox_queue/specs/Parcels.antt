@@ -1,5 +1,5 @@
 -- Parcels, sender by sender.
-use Rattle.std.specs.Prelude.{ℕ, suc, ◌==◌, List, [], ◌∷◌, filter, Option, Some, slice_index_or}
+use Rattle.std.specs.Prelude.{ℕ, suc, ◌==◌, List, [], ◌∷◌, filter}
 use Rattle.loop_model.specs.declared.post.Post.{Post}
 use Rattle.inbox_queue.specs.declared.parcel.Parcel.{Parcel}
 
@@ -15,7 +15,3 @@ parcels_of from posts = parcels_from from 0 posts
 -- those of the parcels that are from this sender, in their order
 abbrev pub from_sender : ℕ → List Parcel → List Parcel
 from_sender from parcels = filter (λ x. x.from == from) parcels
-
--- what the sender of this number had put when it was taken in, or none while it still puts. Nobody else puts anything.
-abbrev pub put_by : List (Option (List Post)) → ℕ → Option (List Post)
-put_by taken from = slice_index_or taken from (Some [])

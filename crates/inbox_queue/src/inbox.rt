@@ -4,7 +4,7 @@ ghost use Rattle.crossbeam_queue.specs.SegTies.{IsSegPassOf};
 ghost use Rattle.inbox_queue.specs.declared.known.Known.TheVariants.{Admits};
 ghost use Rattle.inbox_queue.specs.Carried.{Accounts, taken_of, admitted_of};
 ghost use Rattle.inbox_queue.specs.Passes.{known};
-ghost use Rattle.inbox_queue.specs.Handed.{AreNewSenders, IsNewAdmitter, AreAllTakenIn, AccountsForAll};
+ghost use Rattle.inbox_queue.specs.Handed.{AreManyNew, AreNewSenders, IsNewAdmitter, AreAllTakenIn, AccountsForAll};
 
 use crate::admitter::Admitter;
 use crate::known::Known;
@@ -55,7 +55,7 @@ fn deal(
 ) -> Result<(), NoMemory>
     requires { IsSegPassOf queue.now pass.old × (known pass.old ≡ Admits [] []) × (list.old.items ≡ []) }
     ensures pass { IsSegPassOf queue.now pass.new }
-    ensures ok { IfOk result (λ _. (known pass.new ≡ Admits (replicate senders None) []) × (length list.new.items ≡ senders) × AreNewSenders queue.now.web list.new.items) }
+    ensures ok { IfOk result (λ _. (known pass.new ≡ Admits (replicate senders None) []) × AreManyNew queue.now.web senders list.new.items) }
 {
     for number in 0..senders {
         list.reserve(1)?;

@@ -1,10 +1,9 @@
 //! The queue of the main looper in an inbox run, with the looper's and the controller's way to it.
 ghost use Rattle.std.specs.Prelude.{◌≡◌, ◌+◌, ◌⊎◌, ℕ, true, false, Option, IfSome, OnOk};
-ghost use mathlib.Core.List.{IsPrefix};
 ghost use Rattle.loop_model.specs.Items.{is_barrier};
 ghost use Rattle.message_pool.specs.Obtain.{IsNodeOf};
-ghost use Rattle.shared_queue.specs.Known.{IsOf, IsSame};
-ghost use Rattle.inbox_queue.specs.MainQueue.{IsAt, threads_of, seen, Leads, LooksOn, MovesOn, GrowsBy, IsPostOf, IsHaltAt, HasDrained, HasMoved, HasPosted, HasHalted, IsEarlier, time_of};
+ghost use Rattle.shared_queue.specs.Known.{IsOf, IsSamePoster};
+ghost use Rattle.inbox_queue.specs.MainQueue.{IsAt, HaveHeard, IsSameButLooper, threads_of, seen, Leads, LooksOn, MovesOn, GrowsBy, IsPostOf, IsHaltAt, HasDrained, HasMoved, HasPosted, HasHalted, IsEarlier, time_of};
 ghost use Rattle.inbox_queue.specs.Turned.{LookedBy, MovedBy, PostsBy, HasFields};
 
 use crate::parcel::Parcel;
@@ -70,9 +69,9 @@ impl Place {
     /// Each of the two posters hears the other.
     fn share(&self, hands: &mut Hands)
         requires { IsOf hands.old.looper self.now.queue × IsOf hands.old.controller self.now.queue }
-        ensures same { IsSame hands.old.looper hands.new.looper × IsSame hands.old.controller hands.new.controller × (hands.new.pass ≡ hands.old.pass) }
-        ensures looper { IsPrefix hands.old.controller.view.seen (seen hands.old) → (seen hands.new ≡ seen hands.old) × (hands.new.controller.view.seen ≡ seen hands.old) }
-        ensures controller { IsPrefix (seen hands.old) hands.old.controller.view.seen → (seen hands.new ≡ hands.old.controller.view.seen) × (hands.new.controller.view.seen ≡ hands.old.controller.view.seen) }
+        ensures same { IsSamePoster hands.old.looper hands.new.looper × IsSamePoster hands.old.controller hands.new.controller × (hands.new.pass ≡ hands.old.pass) }
+        ensures looper { HaveHeard hands.old.controller.view.seen (seen hands.old) (seen hands.new) hands.new.controller.view.seen }
+        ensures controller { HaveHeard (seen hands.old) hands.old.controller.view.seen (seen hands.new) hands.new.controller.view.seen }
     {
         hands.controller.hear(&self.queue, &mut hands.looper);
         hands.looper.hear(&self.queue, &mut hands.controller);
@@ -87,7 +86,7 @@ impl Place {
         post: &Post,
     ) -> Result<(), NoMemory>
         requires { IsAt self.now hands.old }
-        ensures kept { (hands.new.controller ≡ hands.old.controller) × (hands.new.pass.home ≡ self.now.pool) × IsOf hands.new.looper self.now.queue × (hands.new.looper.sender ≡ hands.old.looper.sender) }
+        ensures kept { IsSameButLooper self.now hands.old hands.new }
         ensures done { OnOk result (PostsBy post.now hands.old.looper hands.new.looper) }
     {
         let Some(node) = self.message(alloc, &mut hands.pass, post) else {

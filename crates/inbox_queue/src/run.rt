@@ -5,7 +5,7 @@ ghost use Rattle.dash_script.specs.Reading.{HasText};
 ghost use Rattle.message_pool.specs.Obtain.{IsNodeOf};
 ghost use Rattle.inbox_queue.specs.InboxRun.{AreOfBlocks};
 ghost use Rattle.inbox_queue.specs.MainQueue.{IsAt, threads_of, seen, AreSilent};
-ghost use Rattle.inbox_queue.specs.Opened.{IsOpen, IsPlayed, IsKept, Runs, RefusesBad};
+ghost use Rattle.inbox_queue.specs.Opened.{IsWholeRun, IsOpen, IsPlayed, IsKept, Runs, RefusesBad};
 
 use crate::bad::bad_line;
 use crate::gathering::gather;
@@ -147,7 +147,7 @@ fn run<R: Threads + Wait + Sync, G: Gate + Sync>(
     gate: &G,
 ) -> Result<(QueueRecord, Sequence<Sequence<Parcel>>), NoMemory>
     requires { HasText script.now × (0 < script.now.threads) × (script.now.threads ≤ 16) }
-    ensures { IfOk result (λ r. AreOfBlocks script.now script.now.blocks r.1 × ((es : List Entry) × IsKept script.now.threads es r.0 × IsPlayed script.now script.now.threads r.1 es)) }
+    ensures { IfOk result (λ r. IsWholeRun script.now r.0 r.1) }
 {
     let mut opened = open(alloc, script)?;
     let admitted = play(rt, alloc, script, gate, &opened.place, &mut opened.hands)?;

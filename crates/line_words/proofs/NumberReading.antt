@@ -7,7 +7,8 @@ use Rattle.std.specs.Str.Parse.{digits_value_after}
 use Rattle.std.proofs.lemmas.Bool.{cases_Bool, cases_lt, lt-ltb, le-ltb, or_from, or_left, or_right, not_from_true, not_from_false, and_right, and_left, eq-eqb, ne_eqb}
 use Rattle.std.proofs.lemmas.Bool.Decides.{nat_tests}
 use Rattle.std.proofs.lemmas.List.{drop_more, drop_all}
-use Rattle.line_words.specs.Words.{digits_from, number_of}
+use Rattle.line_words.specs.Words.{number_of}
+use Rattle.line_words.specs.Rests.{digits_from}
 
 -- ---- one digit more
 

@@ -3,7 +3,8 @@ use Rattle.std.proofs.Common.{◌≡◌, ◌+◌, ◌<◌, ℕ, true, false, Lis
 use Rattle.std.specs.Prelude.{IfNone}
 use Rattle.std.specs.Option.{option_copied, option_and_then}
 use Rattle.std.proofs.lemmas.Bool.{ne_eqb}
-use Rattle.line_words.specs.Words.{parts_left, pieces}
+use Rattle.line_words.specs.Words.{pieces}
+use Rattle.line_words.specs.Rests.{parts_left}
 use Rattle.line_words.specs.LineReading.{Reading, next_line, goes_on, read_from}
 use Rattle.line_words.proofs.Splitting.{first_part}
 

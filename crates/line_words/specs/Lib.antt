@@ -1,3 +1,4 @@
 pub mod Words
+pub mod Rests
 pub mod LeastBad
 pub mod LineReading

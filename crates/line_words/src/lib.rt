@@ -3,10 +3,12 @@
 //! project's profile).
 #![tactic(auto)]
 
+mod cursor;
 mod reader;
 mod words;
 mod writer;
 
+pub use cursor::Words;
 pub use reader::{ByLines, Stop, read_lines};
 pub use words::{number, split_first};
 pub use writer::push_number;

@@ -1,7 +1,8 @@
 //! The words of a line.
 ghost use Rattle.std.specs.Prelude.{◌≡◌, ◌∷◌, [], ◌<◌, length, MatchOption, IfSome, IfNone};
 ghost use Rattle.std.specs.Option.{option_copied};
-ghost use Rattle.line_words.specs.Words.{digits_from, number_of, parts, parts_left};
+ghost use Rattle.line_words.specs.Words.{number_of, parts};
+ghost use Rattle.line_words.specs.Rests.{digits_from, parts_left};
 
 /// What stands before the first such byte, and what stands after it, where there is one.
 pub fn split_first(bytes: &[u8], byte: u8) -> (&[u8], Option<&[u8]>)

@@ -33,6 +33,17 @@ pub enum Loop {
     NoMemory,
 }
 
+/// The clock by which a loop goes. A moment is its reading less that at the start, in milliseconds.
+#[derive(Drop)]
+pub struct ByClock<'a, C: Clock> {
+    /// The clock.
+    pub clock: &'a C,
+    /// Its reading at the start, in milliseconds.
+    pub start: u64,
+    /// From which moment on the loop waits no more, in milliseconds. None where it waits without limit.
+    pub cap: Option<u64>,
+}
+
 /// Why a looper looks no further.
 #[derive(Clone, Copy, Debug, PartialEq, Eq)]
 pub(crate) enum Pause {
@@ -93,9 +104,9 @@ fn answer_of(waited: Waited<PoolClaim>) -> Result<Nexted<PoolClaim>, Pause>
 
 impl Looper {
     /// The loop by a clock: the dispatcher's pulse, the events that were handed in, and then waits for messages, each of which
-    /// is dispatched, until the queue is over, nothing is due at a moment that is no earlier than `cap`, or nothing is due and
-    /// the bell was rung; then the events that were handed in since. Idle handlers run as in a round. A moment is the clock's
-    /// reading less `start`, in milliseconds. As `loop` of AOSP's `Looper`; the cap and the nudge are this project's profile.
+    /// is dispatched, until the queue is over, nothing is due at a moment that is no earlier than the cap, or nothing is due and
+    /// the bell was rung; then the events that were handed in since. Idle handlers run as in a round. As `loop` of AOSP's
+    /// `Looper`; the cap and the nudge are this project's profile.
     ///
     /// After NoMemory the run is given up.
     pub fn run_loop<R: Wait + time::Clock, D: Dispatcher, C: Clock>(
@@ -105,9 +116,7 @@ impl Looper {
         pool: &Pool,
         sources: &Mutex<Sources>,
         d: &mut D,
-        clock: &C,
-        start: u64,
-        cap: Option<u64>,
+        by: &ByClock<C>,
     ) -> Loop
         requires going { self.old.ended ≡ false }
         requires at { IsAt queue.now pool.now self.old.held }
@@ -119,17 +128,18 @@ impl Looper {
         ensures serves { (w : Workplace) → D.Serves d.old w → D.Serves d.new w }
         ensures origin { D.origin d.new ≡ D.origin d.old }
         ensures nudges { Rings self.old.held.poster self.new.held.poster (D.nudges d.old) (D.nudges d.new) }
-        ensures loops { LoopBy (C.shows clock.now) start cap queue.now.constants.setting self.old.held self.new.held result }
-        ensures steps { IsLoop (λ now heard more. D.asked d.new ≡ with_asked (D.asked d.old) (asked_by_round now heard ++ map Listen more)) (C.shows clock.now) start cap self.old self.new result }
+        ensures loops { LoopBy (C.shows by.now.clock.now) by.now.start by.now.cap queue.now.constants.setting self.old.held self.new.held result }
+        ensures steps { IsLoop (λ now heard more. D.asked d.new ≡ with_asked (D.asked d.old) (asked_by_round now heard ++ map Listen more))
+            (C.shows by.now.clock.now) by.now.start by.now.cap self.old self.new result }
         ensures meets { UnlessLost result (Passes (D.Meets d.new) self.new.held) }
         ensures awaits { UnlessLost result (D.Awaits d.new None) }
         ensures ended { self.new.ended ≡ is_over result }
     {
-        let now = clock.uptime_millis().saturating_sub(start);
+        let now = by.clock.uptime_millis().saturating_sub(by.start);
         let Ok(()) = self.begin(rt, sources, d, now) else {
             return Loop::NoMemory
         };
-        self.go_on(rt, queue, pool, sources, d, clock, start, cap)
+        self.go_on(rt, queue, pool, sources, d, by)
     }
 
     // Waits for messages until the queue is over or the looper is to pause.
@@ -140,9 +150,7 @@ impl Looper {
         pool: &Pool,
         sources: &Mutex<Sources>,
         d: &mut D,
-        clock: &C,
-        start: u64,
-        cap: Option<u64>,
+        by: &ByClock<C>,
     ) -> Loop
         requires going { self.old.ended ≡ false }
         requires at { IsAt queue.now pool.now self.old.held }
@@ -154,14 +162,15 @@ impl Looper {
         ensures serves { (w : Workplace) → D.Serves d.old w → D.Serves d.new w }
         ensures origin { D.origin d.new ≡ D.origin d.old }
         ensures nudges { Rings self.old.held.poster self.new.held.poster (D.nudges d.old) (D.nudges d.new) }
-        ensures loops { LoopBy (C.shows clock.now) start cap queue.now.constants.setting self.old.held self.new.held result }
-        ensures steps { StepsBy (λ more. D.asked d.new ≡ with_asked (D.asked d.old) (map Listen more)) (C.shows clock.now) start cap self.old self.new result }
+        ensures loops { LoopBy (C.shows by.now.clock.now) by.now.start by.now.cap queue.now.constants.setting self.old.held self.new.held result }
+        ensures steps { StepsBy (λ more. D.asked d.new ≡ with_asked (D.asked d.old) (map Listen more))
+            (C.shows by.now.clock.now) by.now.start by.now.cap self.old self.new result }
         ensures meets { UnlessLost result (Passes (D.Meets d.new) self.new.held) }
         ensures awaits { UnlessLost result (D.Awaits d.new None) }
         ensures ended { self.new.ended ≡ is_over result }
     {
         for _ in rt.forever() {
-            match self.pace(rt, queue, pool, sources, d, clock, start, cap) {
+            match self.pace(rt, queue, pool, sources, d, by) {
                 Pace::Goes => {}
                 Pace::Ends => {
                     self.ended = true;
@@ -187,9 +196,7 @@ impl Looper {
         pool: &Pool,
         sources: &Mutex<Sources>,
         d: &mut D,
-        clock: &C,
-        start: u64,
-        cap: Option<u64>,
+        by: &ByClock<C>,
     ) -> Pace
         requires at { IsAt queue.now pool.now self.old.held }
         requires free { queue.now.constants.setting.lockstep ≡ false }
@@ -201,14 +208,14 @@ impl Looper {
         ensures origin { D.origin d.new ≡ D.origin d.old }
         ensures nudges { Rings self.old.held.poster self.new.held.poster (D.nudges d.old) (D.nudges d.new) }
         ensures asked { D.asked d.new ≡ D.asked d.old }
-        ensures paced { HasPaced (C.shows clock.now) start cap self.old self.new result }
+        ensures paced { HasPaced (C.shows by.now.clock.now) by.now.start by.now.cap self.old self.new result }
         ensures meets { UnlessHalted result (Passes (D.Meets d.new) self.new.held) }
         ensures awaits { UnlessHalted result (D.Awaits d.new None) }
         ensures ended { self.new.ended ≡ self.old.ended }
     {
         let waited = self
             .poster
-            .wait_next(rt, queue, clock, start, self.idle_owed, cap);
+            .wait_next(rt, queue, by.clock, by.start, self.idle_owed, by.cap);
         let answer = match answer_of(waited) {
             Ok(answer) => answer,
             Err(pause) => return Pace::Pauses { pause },

@@ -81,7 +81,8 @@ pub trait Dispatcher {
     /// is told no more. None where memory was wanting, and then the run is given up.
     fn listen(&mut self, fd: u32, events: u32, listener: u32) -> Option<u32>
         ensures mask { IfSome result (λ mask. mask ≤ 7) }
-        ensures asked { IfSome result (λ mask. asked self.new ≡ with_asked (asked self.old) (Listen (record { fd = fd; events = events; listener = listener; mask = mask }) ∷ [])) }
+        ensures asked { IfSome result (λ mask. asked self.new ≡ with_asked (asked self.old)
+            (Listen (record { fd = fd; events = events; listener = listener; mask = mask }) ∷ [])) }
         ensures awaits { (awaited : Option ℕ) → Awaits self.old awaited → Awaits self.new awaited }
         ensures serves { (w : Workplace) → Serves self.old w → Serves self.new w }
         ensures origin { origin self.new ≡ origin self.old }
@@ -116,7 +117,8 @@ pub trait Dispatcher {
         ensures lent { IsLent (held own.old) (held own.new) }
         ensures nudges { Rings own.old.poster.now own.new.poster.now (nudges self.old) (nudges self.new) }
         ensures asked { asked self.new ≡ asked self.old }
-        ensures meets { Intercepts result (PassesWith (Meets self.new) (held own.new) m.now now Intercepted) (IsUntouched (held own.old) (held own.new) × HasTaken (Meets self.new) (held own.new) m.now now) };
+        ensures meets { Intercepts result (PassesWith (Meets self.new) (held own.new) m.now now Intercepted)
+            (IsUntouched (held own.old) (held own.new) × HasTaken (Meets self.new) (held own.new) m.now now) };
 
     /// Handles a message that has no callback and was not intercepted. Only NoMemory counts as an answer.
     fn handle(&mut self, own: &mut Own, m: &Message<PoolClaim>, now: u64) -> Did
@@ -137,7 +139,8 @@ pub trait Dispatcher {
     ghost others: { (d : Self) (s : ℕ) (es : List Entry) (e : Entry) (acts : List Act) → ¬ (e.sender ≡ s) → Meets d s es acts → Meets d s (es ++ e ∷ []) acts };
 
     /// It stays true where the looper's look ends the queue.
-    ghost disposal: { (d : Self) (s : ℕ) (es : List Entry) (e : Entry) (now : ℕ) (acts : List Act) → e.sender ≡ s → e.call ≡ Next now → e.reply ≡ Disposed → Meets d s es acts → Meets d s (es ++ e ∷ []) acts };
+    ghost disposal: { (d : Self) (s : ℕ) (es : List Entry) (e : Entry) (now : ℕ) (acts : List Act)
+        → e.sender ≡ s → e.call ≡ Next now → e.reply ≡ Disposed → Meets d s es acts → Meets d s (es ++ e ∷ []) acts };
 
     /// It stays true where an idle handler ran, or a listener was told of an event.
     ghost quiet: { (d : Self) (s : ℕ) (es : List Entry) (a : Act) (acts : List Act) → IsQuiet a → Meets d s es acts → Meets d s es (acts ++ a ∷ []) };

@@ -12,7 +12,7 @@ mod step;
 #[cfg(test)]
 mod tests;
 
-pub use by_clock::Loop;
+pub use by_clock::{ByClock, Loop};
 pub use dispatcher::{Did, Dispatcher};
 pub use looper::{Looper, Round};
 pub use own::Own;

@@ -95,7 +95,8 @@ impl Looper {
         ensures origin { D.origin d.new ≡ D.origin d.old }
         ensures nudges { Rings self.old.held.poster self.new.held.poster (D.nudges d.old) (D.nudges d.new) }
         ensures asked { D.asked d.new ≡ D.asked d.old }
-        ensures step { (p : Sender) (now : ℕ) → NextedBy p self.old.held.poster now self.old.idle_owed answer → StepBy now (by_poster self.old p) self.new result }
+        ensures step { (p : Sender) (now : ℕ) → NextedBy p self.old.held.poster now self.old.idle_owed answer
+            → StepBy now (by_poster self.old p) self.new result }
         ensures meets { UnlessStopped result (Passes (D.Meets d.new) self.new.held) }
         ensures awaits { UnlessStopped result (D.Awaits d.new None) }
         ensures ended { self.new.ended ≡ self.old.ended }

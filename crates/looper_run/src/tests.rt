@@ -10,7 +10,7 @@ ghost use Rattle.looper_run.specs.Holding.{IsAt};
 ghost use Rattle.looper_run.specs.Asked.{Asked, Pulse, Listen};
 ghost use Rattle.looper_run.specs.Tests.{Unless};
 
-use crate::{Did, Dispatcher, Loop, Looper, Own, Round, Sources};
+use crate::{ByClock, Did, Dispatcher, Loop, Looper, Own, Round, Sources};
 use loop_io::StepClock;
 use loop_model::{Act, NoMemory, Post, Route};
 use loop_sources::{FdTable, IdleSet};
@@ -82,7 +82,14 @@ impl Dispatcher for Recorder {
 
     ghost nudges = { λ d. 0 };
 
-    ghost asked = { λ d. Some (filter_map (λ (c : Noted). elim c as (λ x. Option Asked) [ noted.Pulse now ↦ Some (Pulse now) | noted.Before number ↦ None | noted.Listen fd events listener mask ↦ Some (Listen (record { fd = fd; events = events; listener = listener; mask = mask })) | noted.Callback id now told ↦ None | noted.Intercept what now told ↦ None | noted.Handle what now told ↦ None ]) d.calls.items) };
+    ghost asked = { λ d. Some (filter_map (λ (c : Noted). elim c as (λ x. Option Asked) [
+      | noted.Pulse now ↦ Some (Pulse now)
+      | noted.Before number ↦ None
+      | noted.Listen fd events listener mask ↦ Some (Listen (record { fd = fd; events = events; listener = listener; mask = mask }))
+      | noted.Callback id now told ↦ None
+      | noted.Intercept what now told ↦ None
+      | noted.Handle what now told ↦ None
+    ]) d.calls.items) };
 
     ghost Meets = { λ d s es acts. IsTrue true };
 
@@ -148,7 +155,8 @@ struct Opened {
 }
 
 fn set_up(alloc: Global) -> Result<Opened, NoMemory>
-    ensures { IfOk result (λ o. IsOf o.poster o.queue × IsAt o.queue o.pool o.looper.held × (o.looper.ended ≡ false) × (o.queue.constants.setting.lockstep ≡ false)) }
+    ensures { IfOk result (λ o. IsOf o.poster o.queue × IsAt o.queue o.pool o.looper.held × (o.looper.ended ≡ false)
+        × (o.queue.constants.setting.lockstep ≡ false)) }
 {
     let (pool, pass) = Pool::new(alloc)?;
     let (queue, mut posters) = SharedQueue::make(alloc, pool.home(), 0, false, false, 2)?;
@@ -439,28 +447,31 @@ fn a_loop_waits_by_a_clock(rt: HostRuntime) -> Result<(), Fail> {
     let mut d = Recorder {
         calls: Vec::new(alloc),
     };
-    let how = o.looper.run_loop(
-        &rt,
-        &o.queue,
-        &o.pool,
-        &sources,
-        &mut d,
-        &clock,
-        0,
-        Some(20),
-    );
+    let by = ByClock {
+        clock: &clock,
+        start: 0,
+        cap: Some(20),
+    };
+    let how = o
+        .looper
+        .run_loop(&rt, &o.queue, &o.pool, &sources, &mut d, &by);
     assert!(rt; matches!(how, Loop::Cap { .. }));
     assert!(rt; handled_from(d.calls.as_slice(), 5) == 2);
     o.poster.nudge(&rt, &o.queue);
+    let by = ByClock {
+        clock: &clock,
+        start: 0,
+        cap: None,
+    };
     let how = o
         .looper
-        .run_loop(&rt, &o.queue, &o.pool, &sources, &mut d, &clock, 0, None);
+        .run_loop(&rt, &o.queue, &o.pool, &sources, &mut d, &by);
     assert!(rt; how == Loop::Nudged);
     let quit = o.poster.quit(&rt, &o.queue, true, 5);
     assert!(rt; matches!(quit, Quitting::Done(_)));
     let how = o
         .looper
-        .run_loop(&rt, &o.queue, &o.pool, &sources, &mut d, &clock, 0, None);
+        .run_loop(&rt, &o.queue, &o.pool, &sources, &mut d, &by);
     assert!(rt; how == Loop::Ended);
     let (_, _, journal) = o.looper.into_parts();
     assert!(rt; journal.acts.len() == 2);

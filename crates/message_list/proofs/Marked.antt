@@ -5,14 +5,15 @@ use Rattle.std.specs.List.{AllByRecursion}
 use Rattle.std.proofs.lemmas.List.{get_or_default, append-nil}
 use Rattle.std.proofs.lemmas.List.Edits.{map_over_more}
 use Rattle.std.proofs.lemmas.Bool.Decides.{nat_tests}
-use mathlib.Core.Option.{some, some-injective, some-ne-none}
+use mathlib.Core.Option.{some as just, some-injective, some-ne-none}
 use lib.ListN.{get_elem?, length-map}
 use denote.RawPtr.{Ptr}
 use Rattle.message_list.specs.declared.marks.Mark.{Mark}
+use Rattle.message_list.specs.declared.marks.Marks.{Marks}
 use Rattle.message_list.specs.declared.place.Place.{Place}
 use Rattle.message_list.specs.Links.{Placed, places_of, HasOneMore}
 use Rattle.message_list.specs.Store.{Holds}
-use Rattle.message_list.specs.Marks.{raised, lowered, LeadsTo}
+use Rattle.message_list.specs.Marks.{raised, lowered, LeadsTo, Lead}
 
 -- ---- marks in general
 
@@ -91,106 +92,117 @@ long_more xs zero a = omega arith
 long_more [] (suc i) a = omega arith
 long_more (x ∷ xs) (suc i) a = let e = long_more xs i a in omega arith
 
-below : (n i : ℕ) → nat_lt n i ≡ true → n < i
+pub below : (n i : ℕ) → nat_lt n i ≡ true → n < i
 below n i e = grind (arith, nat_tests)
 
 above : (n i : ℕ) → nat_lt n i ≡ false → i ≤ n
 above n i e = grind (arith, nat_tests)
 
-equal : (n i : ℕ) → (n == i) ≡ true → n ≡ i
-equal n i e = grind (arith, nat_tests)
-
-other : (n i : ℕ) → (n == i) ≡ false → i ≤ n → i < n
-other n i e le = grind (arith, nat_tests)
-
 -- marks that are written back are all of them
-written : (P : Mark → Type 0) (n : ℕ) (f : Mark → Mark) (old new : List Mark) → new ≡ map f old → AllByRecursion P new → AllByRecursion P (take n (new ++ drop (length new) old))
+pub written : (P : Mark → Type 0) (n : ℕ) (f : Mark → Mark) (old new : List Mark) → new ≡ map f old → AllByRecursion P new → AllByRecursion P (take n (new ++ drop (length new) old))
 written P n f old new is all =
     let long : length new ≡ length old = ap length is ∙ length-map old f in
     let none : drop (length new) old ≡ [] = ap (λ k. drop k old) long ∙ drop_whole old in
     all_take P (new ++ drop (length new) old) n (subst (AllByRecursion P) (sym (append-nil new) ∙ ap (λ l. new ++ l) (sym none)) all)
 
+-- ---- one mark
+
+-- a node comes before the node i
+raised_leads : (i first : ℕ) (few : List Ptr) (p : Ptr) → i ≤ length few → 0 < first → (m : Mark) → LeadsTo first few m → LeadsTo first (take i few ++ p ∷ drop i few) (record { at = m.at; number = raised (first + i) m.number })
+raised_leads i first few p le some m leads = go (nat_lt m.number (first + i)) refl
+  where
+    end : (b : Bool) → nat_lt m.number (first + i) ≡ false → (m.number == 2 ^ 64 - 1) ≡ b → LeadsTo first (take i few ++ p ∷ drop i few) (record { at = m.at; number = raised (first + i) m.number })
+    end true n e = rw (n, e) (λ k is. absurd (omega (arith, is, some)))
+    end false n e = rw (n, e) (λ k is.
+        let low = above m.number (first + i) n in
+        let whole : k ≡ suc (k - 1) = omega arith in
+        subst (λ j. get_elem? (take i few ++ p ∷ drop i few) j ≡ just m.at.ptr) (sym whole) (kept_behind few i (k - 1) p (omega arith) le ∙ leads (k - 1) (omega arith)))
+
+    go : (b : Bool) → nat_lt m.number (first + i) ≡ b → LeadsTo first (take i few ++ p ∷ drop i few) (record { at = m.at; number = raised (first + i) m.number })
+    go true e = rw e (λ k is. let low = below m.number (first + i) e in kept_before few i k p (omega arith) le ∙ leads k is)
+    go false e = end (m.number == 2 ^ 64 - 1) e refl
+
+-- the node i goes, behind which one lies at q
+lowered_leads : (i first : ℕ) (q : Place) (more : Bool) (few : List Ptr) (p : Ptr) → i ≤ length few → 0 < first → (more ≡ true → get_elem? few i ≡ just q.ptr) → (m : Mark) → LeadsTo first (take i few ++ p ∷ drop i few) m → LeadsTo first few (lowered (first + i) q more m)
+lowered_leads i first q more few p le some next m leads = go (nat_lt m.number (first + i)) refl
+  where
+    at : (b : Bool) → nat_lt m.number (first + i) ≡ false → nat_lt (first + i) m.number ≡ false → more ≡ b → LeadsTo first few (lowered (first + i) q more m)
+    at true n e is = rw (n, e, is) (λ k at. let low = above m.number (first + i) n in let high = above (first + i) m.number e in let same : i ≡ k = omega arith in subst (λ j. get_elem? few j ≡ just q.ptr) same (next is))
+    at false n e is = rw (n, e, is) (λ k at. absurd (omega (arith, at, some)))
+
+    behind : (b : Bool) → nat_lt m.number (first + i) ≡ false → nat_lt (first + i) m.number ≡ b → LeadsTo first few (lowered (first + i) q more m)
+    behind true n e = rw (n, e) (λ k is. let high = below (first + i) m.number e in sym (kept_behind few i k p (omega arith) le) ∙ leads (suc k) (omega arith))
+    behind false n e = at more n e refl
+
+    go : (b : Bool) → nat_lt m.number (first + i) ≡ b → LeadsTo first few (lowered (first + i) q more m)
+    go true e = rw e (λ k is. let low = below m.number (first + i) e in sym (kept_before few i k p (omega arith) le) ∙ leads k is)
+    go false e = behind (nat_lt (first + i) m.number) e refl
+
+-- the first node goes
+passed_leads : (first : ℕ) (few : List Ptr) (p : Ptr) (m : Mark) → LeadsTo first (p ∷ few) m → LeadsTo (first + 1) few m
+passed_leads first few p m leads k is = leads (suc k) (omega (arith, is))
+
+all_passed : (first : ℕ) (few : List Ptr) (p : Ptr) (ms : List Mark) → AllByRecursion (LeadsTo first (p ∷ few)) ms → AllByRecursion (LeadsTo (first + 1) few) ms
+all_passed first few p [] h = tt
+all_passed first few p (m ∷ ms) h = (passed_leads first few p m h.0, all_passed first few p ms h.1)
+
+-- ---- all marks
+
+pub lead_raised : (i n : ℕ) (first : ℕ) (from : ℕ) (few : List Ptr) (p : Ptr) (old mid new : List Mark) → i ≤ length few → from ≡ first + i → new ≡ map (λ m. record { at = m.at; number = raised from m.number }) mid → mid ≡ old → (0 < first) × AllByRecursion (LeadsTo first few) old
+    → (0 < first) × AllByRecursion (LeadsTo first (take i few ++ p ∷ drop i few)) (take n (new ++ drop (length new) old))
+lead_raised i n first from few p old mid new le start is at lead =
+    let f : Mark → Mark = λ m. record { at = m.at; number = raised (first + i) m.number } in
+    let to : new ≡ map f old = is ∙ ap (λ (b : ℕ). map (λ (m : Mark). record { at = m.at; number = raised b m.number }) mid) start ∙ ap (map f) at in
+    let Many : Mark → Type 0 = LeadsTo first (take i few ++ p ∷ drop i few) in
+    (lead.0, written Many n f old new to (subst (AllByRecursion Many) (sym to) (all_mapped (LeadsTo first few) Many f (raised_leads i first few p le lead.0) old lead.1)))
+
+pub lead_lowered : (i n : ℕ) (first : ℕ) (from : ℕ) (q : Place) (more : Bool) (few : List Ptr) (p : Ptr) (old mid new : List Mark) → i ≤ length few → from ≡ first + i → (more ≡ true → get_elem? few i ≡ just q.ptr) → new ≡ map (lowered from q more) mid → mid ≡ old → (0 < first) × AllByRecursion (LeadsTo first (take i few ++ p ∷ drop i few)) old
+    → (0 < first) × AllByRecursion (LeadsTo first few) (take n (new ++ drop (length new) old))
+lead_lowered i n first from q more few p old mid new le start next is at lead =
+    let f : Mark → Mark = lowered (first + i) q more in
+    let to : new ≡ map f old = is ∙ ap (λ (b : ℕ). map (lowered b q more) mid) start ∙ ap (map f) at in
+    let Few : Mark → Type 0 = LeadsTo first few in
+    (lead.0, written Few n f old new to (subst (AllByRecursion Few) (sym to) (all_mapped (LeadsTo first (take i few ++ p ∷ drop i few)) Few f (lowered_leads i first q more few p le lead.0 next) old lead.1)))
+
+-- the first node goes, and the others count from the number behind
+pub lead_passed : (first next : ℕ) (few : List Ptr) (p : Ptr) (ms : List Mark) → next ≡ first + 1 → (0 < first) × AllByRecursion (LeadsTo first (p ∷ few)) ms → (0 < next) × AllByRecursion (LeadsTo next few) ms
+lead_passed first next few p ms is lead = (omega (arith, is), subst (λ n. AllByRecursion (LeadsTo n few) ms) (sym is) (all_passed first few p ms lead.1))
+
+-- a node behind the last changes no mark
+kept_last : (xs : List Ptr) (i k : ℕ) (a q : Ptr) → i ≡ length xs → get_elem? xs k ≡ just q → get_elem? (take i xs ++ a ∷ drop i xs) k ≡ just q
+kept_last [] i k a q e is = absurd (some-ne-none q (sym is))
+kept_last (x ∷ xs) zero k a q e is = absurd (omega (arith, e))
+kept_last (x ∷ xs) (suc i) zero a q e is = is
+kept_last (x ∷ xs) (suc i) (suc k) a q e is = kept_last xs i k a q (omega (arith, e)) is
+
+all_kept : (first : ℕ) (few : List Ptr) (p : Ptr) (i : ℕ) (ms : List Mark) → i ≡ length few → AllByRecursion (LeadsTo first few) ms → AllByRecursion (LeadsTo first (take i few ++ p ∷ drop i few)) ms
+all_kept first few p i [] e h = tt
+all_kept first few p i (m ∷ ms) e h = ((λ k is. kept_last few i k p m.at.ptr e (h.0 k is)), all_kept first few p i ms e h.1)
+
+pub lead_kept : (i : ℕ) (ms : Marks) (few : List Ptr) (p : Ptr) → i ≡ length few → Lead ms few → Lead ms (take i few ++ p ∷ drop i few)
+lead_kept i ms few p e lead = (lead.0, all_kept ms.first few p i ms.list.items e lead.1)
+
+-- no mark
+pub lead_none : (ms : Marks) (places : List Ptr) → 0 < ms.first → ms.list.items ≡ [] → Lead ms places
+lead_none ms places some none = (some, subst (AllByRecursion (LeadsTo ms.first places)) (sym none) tt)
+
+-- a mark that is read
+pub read_leads : (first : ℕ) (places : List Ptr) (ms : List Mark) (k i : ℕ) (m : Mark) → AllByRecursion (LeadsTo first places) ms → k < length ms → m ≡ get_or ms k m → m.number ≡ first + i → get_elem? places i ≡ just m.at.ptr
+read_leads first places ms k i m all lt is at = (subst (LeadsTo first places) (sym is) (all_at (LeadsTo first places) ms k m all lt)) i at
+
 module _ {X : Type 0} where
-  place_held : (cs : List (Placed X)) (k : ℕ) (p : Ptr) → Holds cs k p → get_elem? (places_of cs) k ≡ some p
+  pub place_held : (cs : List (Placed X)) (k : ℕ) (p : Ptr) → Holds cs k p → get_elem? (places_of cs) k ≡ just p
   place_held [] k p h = absurd (some-ne-none (p, h.0) (sym h.1))
-  place_held (c ∷ cs) zero p h = ap (λ (d : Placed X). some d.0) (some-injective c (p, h.0) h.1)
+  place_held (c ∷ cs) zero p h = ap (λ (d : Placed X). just d.0) (some-injective c (p, h.0) h.1)
   place_held (c ∷ cs) (suc k) p h = place_held cs k p h
 
-  held_place : (cs : List (Placed X)) (k : ℕ) (p : Ptr) → get_elem? (places_of cs) k ≡ some p → Holds cs k p
+  pub held_place : (cs : List (Placed X)) (k : ℕ) (p : Ptr) → get_elem? (places_of cs) k ≡ just p → Holds cs k p
   held_place [] k p e = absurd (some-ne-none p (sym e))
-  held_place (c ∷ cs) zero p e = (c.1, ap (λ (q : Ptr). some (q, c.1)) (some-injective c.0 p e))
+  held_place (c ∷ cs) zero p e = (c.1, ap (λ (q : Ptr). just (q, c.1)) (some-injective c.0 p e))
   held_place (c ∷ cs) (suc k) p e = held_place cs k p e
 
-  many_places : (cs : List (Placed X)) → length (places_of cs) ≡ length cs
+  pub many_places : (cs : List (Placed X)) → length (places_of cs) ≡ length cs
   many_places cs = length-map cs (λ d. d.0)
 
   pub one_longer : (i : ℕ) (few many : List (Placed X)) → HasOneMore i few many → length many ≡ length few + 1
   one_longer i few many h = let a = many_places few in let b = many_places many in let c = ap length h.1 in let d = long_more (places_of few) i h.0 in omega arith
-
-  held_before : (i k : ℕ) (few many : List (Placed X)) (p : Ptr) → HasOneMore i few many → i ≤ length few → k < i → Holds few k p → Holds many k p
-  held_before i k few many p h le lt held =
-      let a = many_places few in
-      held_place many k p (ap (λ l. get_elem? l k) h.1 ∙ kept_before (places_of few) i k h.0 lt (omega arith) ∙ place_held few k p held)
-
-  held_behind : (i k : ℕ) (few many : List (Placed X)) (p : Ptr) → HasOneMore i few many → i ≤ length few → i ≤ k → Holds few k p → Holds many (suc k) p
-  held_behind i k few many p h le lt held =
-      let a = many_places few in
-      held_place many (suc k) p (ap (λ l. get_elem? l (suc k)) h.1 ∙ kept_behind (places_of few) i k h.0 lt (omega arith) ∙ place_held few k p held)
-
-  was_before : (i k : ℕ) (few many : List (Placed X)) (p : Ptr) → HasOneMore i few many → i ≤ length few → k < i → Holds many k p → Holds few k p
-  was_before i k few many p h le lt held =
-      let a = many_places few in
-      held_place few k p (sym (kept_before (places_of few) i k h.0 lt (omega arith)) ∙ sym (ap (λ l. get_elem? l k) h.1) ∙ place_held many k p held)
-
-  was_behind : (i k : ℕ) (few many : List (Placed X)) (p : Ptr) → HasOneMore i few many → i ≤ length few → i ≤ k → Holds many (suc k) p → Holds few k p
-  was_behind i k few many p h le lt held =
-      let a = many_places few in
-      held_place few k p (sym (kept_behind (places_of few) i k h.0 lt (omega arith)) ∙ sym (ap (λ l. get_elem? l (suc k)) h.1) ∙ place_held many (suc k) p held)
-
-  -- ---- a mark where a node comes
-  pub raised_leads : (i : ℕ) (few many : List (Placed X)) → HasOneMore i few many → i ≤ length few → length few + 1 < 2 ^ 64 → (m : Mark) → LeadsTo few m → LeadsTo many (raised i m)
-  raised_leads i few many h le room m leads = go (nat_lt m.here i) refl
-    where
-      go : (b : Bool) → nat_lt m.here i ≡ b → LeadsTo many (raised i m)
-      go true e = rw e (λ lt. held_before i m.here few many m.at.ptr h le (below _ _ e) (leads (let low = below m.here i e in omega arith)))
-      go false e = rw e (λ lt.
-          let longer = one_longer i few many h in
-          let next : min (m.here + 1) (2 ^ 64 - 1) ≡ suc m.here = omega arith in
-          subst (λ (k : ℕ). Holds many k m.at.ptr) (sym next) (held_behind i m.here few many m.at.ptr h le (above _ _ e) (leads (omega arith))))
-
-  -- ---- a mark where a node goes
-  pub lowered_leads : (i : ℕ) (p : Place) (few many : List (Placed X)) → HasOneMore i few many → i ≤ length few → (i < length few → Holds few i p.ptr) → (m : Mark) → LeadsTo many m → LeadsTo few (lowered i p m)
-  lowered_leads i p few many h le next m leads = go (nat_lt m.here i) refl
-    where
-      at : (b : Bool) → nat_lt m.here i ≡ false → (m.here == i) ≡ b → LeadsTo few (lowered i p m)
-      at true n e = rw (n, e) next
-      at false n e = rw (n, e) (λ lt.
-          let longer = one_longer i few many h in
-          let low = other m.here i e (above m.here i n) in
-          let is : m.here ≡ suc (m.here - 1) = omega arith in
-          was_behind i (m.here - 1) few many m.at.ptr h le (omega arith) (subst (λ (k : ℕ). Holds many k m.at.ptr) is (leads (omega arith))))
-
-      go : (b : Bool) → nat_lt m.here i ≡ b → LeadsTo few (lowered i p m)
-      go true e = rw e (λ lt. let longer = one_longer i few many h in was_before i m.here few many m.at.ptr h le (below _ _ e) (leads (omega arith)))
-      go false e = at (m.here == i) e refl
-
-  pub all_raised : (i : ℕ) (few many : List (Placed X)) (old new : List Mark) → HasOneMore i few many → i ≤ length few → length few + 1 < 2 ^ 64 → new ≡ map (raised i) old → AllByRecursion (LeadsTo few) old → AllByRecursion (LeadsTo many) new
-  all_raised i few many old new h le room is all = subst (AllByRecursion (LeadsTo many)) (sym is) (all_mapped (LeadsTo few) (LeadsTo many) (raised i) (raised_leads i few many h le room) old all)
-
-  pub all_lowered : (i : ℕ) (p : Place) (few many : List (Placed X)) (old new : List Mark) → HasOneMore i few many → i ≤ length few → (i < length few → Holds few i p.ptr) → new ≡ map (lowered i p) old → AllByRecursion (LeadsTo many) old → AllByRecursion (LeadsTo few) new
-  all_lowered i p few many old new h le next is all = subst (AllByRecursion (LeadsTo few)) (sym is) (all_mapped (LeadsTo many) (LeadsTo few) (lowered i p) (lowered_leads i p few many h le next) old all)
-
-  -- the marks that are written back
-  pub all_put : (i n : ℕ) (few many : List (Placed X)) (old mid new : List Mark) → HasOneMore i few many → i ≤ length few → length few + 1 < 2 ^ 64 → new ≡ map (raised i) mid → mid ≡ old → AllByRecursion (LeadsTo few) old → AllByRecursion (LeadsTo many) (take n (new ++ drop (length new) old))
-  all_put i n few many old mid new h le room is at all =
-      let to : new ≡ map (raised i) old = is ∙ ap (map (raised i)) at in
-      written (LeadsTo many) n (raised i) old new to (all_raised i few many old new h le room to all)
-
-  pub all_gone : (i n : ℕ) (p : Place) (few many : List (Placed X)) (old mid new : List Mark) → HasOneMore i few many → i ≤ length few → (i < length few → Holds few i p.ptr) → new ≡ map (lowered i p) mid → mid ≡ old → AllByRecursion (LeadsTo many) old → AllByRecursion (LeadsTo few) (take n (new ++ drop (length new) old))
-  all_gone i n p few many old mid new h le next is at all =
-      let to : new ≡ map (lowered i p) old = is ∙ ap (map (lowered i p)) at in
-      written (LeadsTo few) n (lowered i p) old new to (all_lowered i p few many old new h le next to all)
-
-  -- a mark that is read
-  pub read_leads : (cs : List (Placed X)) (ms : List Mark) (k : ℕ) (m : Mark) → AllByRecursion (LeadsTo cs) ms → k < length ms → m ≡ get_or ms k m → LeadsTo cs m
-  read_leads cs ms k m all lt is = subst (LeadsTo cs) (sym is) (all_at (LeadsTo cs) ms k m all lt)

@@ -20,7 +20,7 @@ use Rattle.run_model.specs.Asks.{plain, call_of, token_in, entries_by, AreFor}
 use Rattle.run_model.specs.Senders.{sender_count}
 use Rattle.run_model.specs.Moments.{in_lockstep}
 use Rattle.run_model.specs.Planned.{Timed, lines_of, labels_on, lines_on, planned, IsNoEarlier, IsPlanned}
-use Rattle.run_model.specs.Run.{setting_of, IsHistory, all_entries}
+use Rattle.run_model.specs.Run.{setting_of, IsRecordOf, all_entries}
 
 -- the replies that a queue gives, behind these entries
 abbrev pub answers : Setting → Base → List Entry → List Entry → List (Option Reply)
@@ -97,7 +97,7 @@ numbered_after s b past (e ∷ es) h =
 -- a queue's record in lockstep
 pub history_by : (s : Script) (r : QueueRecord) → r.main ≡ (r.looper == 0) → r.lockstep ≡ true → r.senders ≡ sender_count s → IsChainFrom (empty_base r.senders) r.segments
     → answers (setting_of r) (empty_base r.senders) [] (history_of r) ≡ replies (history_of r) → are_timely (setting_of r) (empty_base r.senders) [] (history_of r) ≡ true
-    → are_numbered (setting_of r) (empty_base r.senders) [] (history_of r) ≡ true → IsHistory in_lockstep all_entries s r
+    → are_numbered (setting_of r) (empty_base r.senders) [] (history_of r) ≡ true → IsRecordOf in_lockstep all_entries s r
 unfolding IsLegal AreNumbered
 history_by s r main lockstep senders chain same timely numbered = record {
   main = main;

@@ -22,7 +22,7 @@ use Rattle.run_model.specs.Moments.{Mode, in_free_mode, AreOfClock}
 use Rattle.run_model.specs.Planned.{AreAsPlanned}
 use Rattle.run_model.specs.Acts.{after_act}
 use Rattle.run_model.specs.Loopers.{first_looper}
-use Rattle.run_model.specs.Run.{IsRun, IsHistory, IsControlled, IsFrameRun, IsLooperRun, all_entries, setting_of}
+use Rattle.run_model.specs.Run.{IsRun, IsRecordOf, IsControlled, IsFrameRun, IsLooperRun, all_entries, setting_of}
 use Rattle.run_model.specs.Text.{text, lines}
 use Rattle.run_model.proofs.Below.{each_below}
 use Rattle.run_model.proofs.Table.{led}
@@ -72,7 +72,7 @@ planned : (thread : ℕ) → thread < 1 → AreAsPlanned mode script thread 0 en
 planned =
     each_below 1 (λ thread. AreAsPlanned mode script thread 0 entries) (tt, (record { uptime = 10; allowed = (lit≤ tt, record { reading = 15; shown = refl; since = refl }); call = refl; no_earlier = tt }, (record { uptime = 20; allowed = (lit≤ tt, record { reading = 25; shown = refl; since = refl }); call = refl; no_earlier = tt }, tt)))
 
-history : IsHistory mode all_entries script queue_0
+history : IsRecordOf mode all_entries script queue_0
 history = record { main = refl; lockstep = refl; senders = refl; chain = (refl, tt); legal = legal; numbered = numbered; clocked = clocked }
 
 controlled : IsControlled script queue_0

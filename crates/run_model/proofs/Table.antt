@@ -41,7 +41,7 @@ use Rattle.run_model.specs.Acts.{Lead, IsSent, MayCome, after_act, dispatched, m
 use Rattle.run_model.specs.Moves.{Move, moves, move_times, main_moves, is_planned_time, was_due_at, MayMoveTo}
 use Rattle.run_model.specs.FrameRuns.{is_frame_from, are_run_then, are_whole}
 use Rattle.run_model.specs.FrameAsks.{FrameAsk, Posts, Removes, Runs, as_told, asks_in}
-use Rattle.run_model.specs.Run.{IsRun, IsHistory, IsAsPlanned, IsControlled, IsFrameRun, EachLooper, all_entries, setting_of, caused_on, asked_of, are_in_order, main_ends_halted}
+use Rattle.run_model.specs.Run.{IsRun, IsRecordOf, IsAsPlanned, IsControlled, IsFrameRun, EachLooper, all_entries, setting_of, caused_on, asked_of, are_in_order, main_ends_halted}
 use Rattle.run_model.specs.Text.{text, lines}
 use Rattle.run_model.proofs.Below.{EachBelow, each_below}
 use Rattle.run_model.proofs.ByTests.{answers, replies, are_timely, are_numbered, history_by, planned_calls, made_calls, thread_lines, MakesThem, calls_by}
@@ -447,7 +447,7 @@ wanted_in out s queues n row =
 
 -- what follows for a looper
 record IsLooperOf (out : Clause) (s : Script) (queues : List QueueRecord) (n : ℕ) (row : Row) : Type 0 where
-  history : IsHistory in_lockstep all_entries s (queue_in s n row)
+  history : IsRecordOf in_lockstep all_entries s (queue_in s n row)
   planned : IsAsPlanned in_lockstep s (queue_in s n row)
   controlled : IsControlled s (queue_in s n row)
   frames : IsFrameRun s (frames_in s n row)
@@ -603,7 +603,7 @@ run_but_by out s rows e =
         journals = ap (λ ns. first_or [] (behind_first ns)) numbers;
         frames = ap (λ ns. first_or [] (behind_first (behind_first ns))) numbers;
       };
-      records = record { mode = refl; start = refl; histories = of_queues P s (IsHistory in_lockstep all_entries s) (λ n row l. l.history) 0 rows each };
+      records = record { mode = refl; start = refl; histories = of_queues P s (IsRecordOf in_lockstep all_entries s) (λ n row l. l.history) 0 rows each };
       planned = of_queues P s (IsAsPlanned in_lockstep s) (λ n row l. l.planned) 0 rows each;
       controls = of_queues P s (IsControlled s) (λ n row l. l.controlled) 0 rows each;
       frames = of_frames P s (IsFrameRun s) (λ n row l. l.frames) 0 rows each;

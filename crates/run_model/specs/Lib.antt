@@ -11,3 +11,4 @@ pub mod Acts
 pub mod Moves
 pub mod Run
 pub mod Text
+pub mod Summary

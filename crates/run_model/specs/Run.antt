@@ -40,7 +40,7 @@ pub record IsReportOf (s : Script) (r : Report) : Type 0 where
 -- a queue's record: its constants are those of the run, its parts are a chain, and its entries have the replies that a queue of one thread gives
 -- and the numbers of their senders, the last of whom alone moves the time and halts; in free mode the moments of the entries that pass the test are
 -- the clock's, or the queue's time
-pub record IsHistory (m : Mode) (test : Entry → Bool) (s : Script) (r : QueueRecord) : Type 0 where
+pub record IsRecordOf (m : Mode) (test : Entry → Bool) (s : Script) (r : QueueRecord) : Type 0 where
   pub main : r.main ≡ (r.looper == 0)
   pub lockstep : r.lockstep ≡ m.lockstep
   pub senders : r.senders ≡ sender_count s
@@ -53,7 +53,7 @@ pub record IsHistory (m : Mode) (test : Entry → Bool) (s : Script) (r : QueueR
 pub record AreRecordsOf (m : Mode) (test : Entry → Bool) (s : Script) (r : Report) : Type 0 where
   pub mode : r.start ≡ m.start
   pub start : IsStart m
-  pub histories : AllByRecursion (IsHistory m test s) r.queues
+  pub histories : AllByRecursion (IsRecordOf m test s) r.queues
 
 -- each thread's entries on the queue are as its lines plan them
 abbrev pub IsAsPlanned : Mode → Script → QueueRecord → Type 0

@@ -1,5 +1,5 @@
 -- How a report is printed.
-use Rattle.std.specs.Prelude.{ℕ, Bool, true, false, List, [], ◌∷◌, ◌++◌, Option, Some, None, count_by, sum_by, codes, slice_get}
+use Rattle.std.specs.Prelude.{ℕ, Bool, List, [], ◌∷◌, ◌++◌, Option, Some, None, count_by, codes, length, slice_get}
 use Rattle.std.specs.List.{flat_map, filter_map, join_with_byte, zip}
 use Rattle.std.specs.Option.{option_map_or}
 use Rattle.std.specs.Fmt.{decimal}
@@ -12,7 +12,6 @@ use Rattle.loop_model.specs.declared.entry.Entry.{Entry}
 use Rattle.loop_model.specs.declared.fate.Fate.{Fate}
 use Rattle.loop_model.specs.Posts.{accepted_posts}
 use Rattle.loop_model.specs.Fates.{fates, is_queued, is_dispatched, is_removed, is_dropped, is_stranded}
-use Rattle.std.specs.Prelude.{length}
 use Rattle.frame_phases.specs.declared.entry.Callback.{Callback}
 use Rattle.frame_phases.specs.declared.entry.FrameEntry.{FrameEntry}
 use Rattle.frame_phases.specs.declared.entry.FrameEntry.TheVariants.{Posted, Begin, Ran}
@@ -23,7 +22,6 @@ use Rattle.loop_model.specs.declared.journal.Journal.{Journal}
 use Rattle.loop_model.specs.declared.record.QueueRecord.{QueueRecord}
 use Rattle.run_model.specs.declared.report.Report.{Report}
 use Rattle.run_model.specs.Histories.{history_of}
-use Rattle.run_model.specs.FrameRuns.{is_begin}
 
 -- a line, as its words
 abbrev pub Words : Type 0
@@ -107,28 +105,3 @@ lines r =
 -- the text of a report
 unfoldable pub text : Report → List ℕ
 text r = flat_map line_text (lines r)
-
-abbrev pub is_paint : Act → Bool
-is_paint (Paint gauge value) = true
-is_paint _ = false
-
-abbrev pub accepted_in : List QueueRecord → ℕ
-accepted_in qs = sum_by (λ (q : QueueRecord). length (fates (history_of q))) qs
-
-abbrev pub dispatched_in : List QueueRecord → ℕ
-dispatched_in qs = sum_by (λ (q : QueueRecord). count_by is_dispatched (fates (history_of q))) qs
-
-abbrev pub frames_in : List FrameRecord → ℕ
-frames_in fs = sum_by (λ (f : FrameRecord). count_by is_begin f.entries) fs
-
-abbrev pub paints_in : List Journal → ℕ
-paints_in js = sum_by (λ (j : Journal). count_by is_paint j.acts) js
-
--- the five lines of a summary of the run of script number n
-unfoldable pub summary_lines : ℕ → Report → List Words
-summary_lines n r =
-    (codes "summary" ∷ decimal n ∷ []) ∷ (codes "accepted" ∷ decimal (accepted_in r.queues) ∷ []) ∷ (codes "dispatched" ∷ decimal (dispatched_in r.queues) ∷ [])
-    ∷ (codes "frames" ∷ decimal (frames_in r.frames) ∷ []) ∷ (codes "paints" ∷ decimal (paints_in r.journals) ∷ []) ∷ []
-
-unfoldable pub summary : ℕ → Report → List ℕ
-summary n r = flat_map line_text (summary_lines n r)

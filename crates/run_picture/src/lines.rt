@@ -6,13 +6,13 @@ ghost use Rattle.run_picture.specs.Lines.{line_of, either, fates_of};
 
 use crate::line::Line;
 use crate::report::{Act, Fates, Past, Run};
-use crate::words::Words;
+use crate::words::Cursor;
 
 #[tactic(auto, unfolding(crate::specs::Lines::title))]
 fn title(line: &[u8]) -> Option<Line>
     ensures { result ≡ says.title (words line.now) }
 {
-    let mut words = Words::new(line);
+    let mut words = Cursor::new(line);
     words.fixed(b"report")?;
     let edition = words.short()?;
     if edition == 1 {
@@ -28,7 +28,7 @@ fn title(line: &[u8]) -> Option<Line>
 fn looper(line: &[u8]) -> Option<Line>
     ensures { result ≡ says.looper (words line.now) }
 {
-    let mut words = Words::new(line);
+    let mut words = Cursor::new(line);
     let number = words.counted(b"looper")?;
     words.whole(Line::Looper(number))
 }
@@ -37,7 +37,7 @@ fn looper(line: &[u8]) -> Option<Line>
 fn dispatch(line: &[u8]) -> Option<Line>
     ensures { result ≡ says.dispatch (words line.now) }
 {
-    let mut words = Words::new(line);
+    let mut words = Cursor::new(line);
     let now = words.long()?;
     let number = words.counted(b"dispatch")?;
     let handler = words.short()?;
@@ -54,7 +54,7 @@ fn dispatch(line: &[u8]) -> Option<Line>
 fn refused(line: &[u8]) -> Option<Line>
     ensures { result ≡ says.refused (words line.now) }
 {
-    let mut words = Words::new(line);
+    let mut words = Cursor::new(line);
     words.fixed(b"refused")?;
     let handler = words.short()?;
     let subject = words.subject()?;
@@ -70,7 +70,7 @@ fn refused(line: &[u8]) -> Option<Line>
 fn not_posted(line: &[u8]) -> Option<Line>
     ensures { result ≡ says.not_posted (words line.now) }
 {
-    let mut words = Words::new(line);
+    let mut words = Cursor::new(line);
     let token = words.counted(b"not-posted")?;
     words.whole(Line::Past(Past::NotPosted { token }))
 }
@@ -79,7 +79,7 @@ fn not_posted(line: &[u8]) -> Option<Line>
 fn not_allowed(line: &[u8]) -> Option<Line>
     ensures { result ≡ says.not_allowed (words line.now) }
 {
-    let mut words = Words::new(line);
+    let mut words = Cursor::new(line);
     words.fixed(b"not-allowed")?;
     words.whole(Line::Past(Past::NotAllowed))
 }
@@ -88,14 +88,14 @@ fn not_allowed(line: &[u8]) -> Option<Line>
 fn already_quit(line: &[u8]) -> Option<Line>
     ensures { result ≡ says.already_quit (words line.now) }
 {
-    let mut words = Words::new(line);
+    let mut words = Cursor::new(line);
     let place = words.counted(b"already-quit")?;
     words.whole(Line::Past(Past::AlreadyQuit { place }))
 }
 
 /// The counts of the fates, whether or not they add up.
 #[tactic(auto, unfolding(crate::specs::Lines::fates_of))]
-fn fates_of(words: &mut Words) -> Option<Fates>
+fn fates_of(words: &mut Cursor) -> Option<Fates>
     ensures { says.read result words.new ≡ fates_of words.old }
 {
     words.fixed(b"fates")?;
@@ -131,7 +131,7 @@ fn adds_up(fates: &Fates) -> bool
 fn fates(line: &[u8]) -> Option<Line>
     ensures { result ≡ says.fates (words line.now) }
 {
-    let mut words = Words::new(line);
+    let mut words = Cursor::new(line);
     let fates = fates_of(&mut words)?;
     if adds_up(&fates) {
         words.whole(Line::Fates(fates))
@@ -144,7 +144,7 @@ fn fates(line: &[u8]) -> Option<Line>
 fn idle(line: &[u8]) -> Option<Line>
     ensures { result ≡ says.idle (words line.now) }
 {
-    let mut words = Words::new(line);
+    let mut words = Cursor::new(line);
     words.fixed(b"idle")?;
     let id = words.short()?;
     words.whole(Line::Act(Act::Idle { id }))
@@ -154,7 +154,7 @@ fn idle(line: &[u8]) -> Option<Line>
 fn event(line: &[u8]) -> Option<Line>
     ensures { result ≡ says.event (words line.now) }
 {
-    let mut words = Words::new(line);
+    let mut words = Cursor::new(line);
     words.fixed(b"event")?;
     let fd = words.short()?;
     let events = words.short()?;
@@ -165,7 +165,7 @@ fn event(line: &[u8]) -> Option<Line>
 fn paint(line: &[u8]) -> Option<Line>
     ensures { result ≡ says.paint (words line.now) }
 {
-    let mut words = Words::new(line);
+    let mut words = Cursor::new(line);
     words.fixed(b"paint")?;
     let gauge = words.short()?;
     let value = words.short()?;
@@ -176,7 +176,7 @@ fn paint(line: &[u8]) -> Option<Line>
 fn frame(line: &[u8]) -> Option<Line>
     ensures { result ≡ says.frame (words line.now) }
 {
-    let mut words = Words::new(line);
+    let mut words = Cursor::new(line);
     let time = words.counted(b"frame")?;
     words.whole(Line::Frame(time))
 }
@@ -185,7 +185,7 @@ fn frame(line: &[u8]) -> Option<Line>
 fn run(line: &[u8]) -> Option<Line>
     ensures { result ≡ says.run (words line.now) }
 {
-    let mut words = Words::new(line);
+    let mut words = Cursor::new(line);
     words.fixed(b"run")?;
     let phase = words.short()?;
     let id = words.long()?;
@@ -196,7 +196,7 @@ fn run(line: &[u8]) -> Option<Line>
 fn end(line: &[u8]) -> Option<Line>
     ensures { result ≡ says.end (words line.now) }
 {
-    let mut words = Words::new(line);
+    let mut words = Cursor::new(line);
     words.fixed(b"end")?;
     words.whole(Line::End)
 }

@@ -5,37 +5,37 @@ ghost use Rattle.run_picture.specs.Reading.{callback, counted, fixed, long, read
 
 use crate::line::Line;
 use crate::report::Subject;
-use line_words::{number, split_first};
+use line_words::{Words, number};
 use std::marker::Model;
 
-/// The words of a line that are still to be read.
+/// The words of a line that are still to be read, each by what it should say.
 #[derive(Drop)]
-pub(crate) struct Words<'a> {
-    rest: Option<&'a [u8]>,
+pub(crate) struct Cursor<'a> {
+    words: Words<'a>,
 }
 
-impl<'a> Model for Words<'a> {
+impl<'a> Model for Cursor<'a> {
     ghost use Rattle.std.specs.Prelude.{List, ℕ};
-    ghost use Rattle.std.specs.Option.{option_copied};
-    ghost use Rattle.line_words.specs.Words.{parts_left};
 
     ghost Value = { List (List ℕ) };
 
-    ghost view = { λ s. parts_left 32 (option_copied s.rest) };
+    ghost view = { λ s. s.words };
 }
 
-impl<'a> Words<'a> {
+impl<'a> Cursor<'a> {
     pub(crate) fn new(line: &'a [u8]) -> Self
         ensures { result ≡ words line.now }
     {
-        Words { rest: Some(line) }
+        Cursor {
+            words: Words::new(line),
+        }
     }
 
     /// The line that was read, where no word is left.
-    pub(crate) fn whole(&self, line: Line) -> Option<Line>
-        ensures { result ≡ whole line self.now }
+    pub(crate) fn whole(&mut self, line: Line) -> Option<Line>
+        ensures { result ≡ whole line self.old }
     {
-        match self.rest {
+        match self.words.next() {
             None => Some(line),
             Some(_) => None,
         }
@@ -46,9 +46,7 @@ impl<'a> Words<'a> {
     pub(crate) fn long(&mut self) -> Option<u64>
         ensures { read result self.new ≡ long self.old }
     {
-        let rest = self.rest?;
-        let (word, after) = split_first(rest, b' ');
-        self.rest = after;
+        let word = self.words.next()?;
         number(word)
     }
 
@@ -57,9 +55,7 @@ impl<'a> Words<'a> {
     pub(crate) fn fixed(&mut self, spelling: &[u8]) -> Option<bool>
         ensures { read result self.new ≡ fixed spelling.now self.old }
     {
-        let rest = self.rest?;
-        let (word, after) = split_first(rest, b' ');
-        self.rest = after;
+        let word = self.words.next()?;
         if word == spelling { Some(true) } else { None }
     }
 
@@ -86,9 +82,7 @@ impl<'a> Words<'a> {
     pub(crate) fn subject(&mut self) -> Option<Subject>
         ensures { read result self.new ≡ subject self.old }
     {
-        let rest = self.rest?;
-        let (word, after) = split_first(rest, b' ');
-        self.rest = after;
+        let word = self.words.next()?;
         match number(word) {
             Some(what) => match u32::try_from(what) {
                 Ok(what) => Some(Subject::What(what)),

@@ -17,7 +17,7 @@ use Rattle.message_slot.specs.Letter.{Letter}
 use Rattle.shared_queue.specs.Constants.{Constants, last_of, made_in, IsFor}
 use Rattle.shared_queue.specs.Whole.{whole_of, Leave}
 use Rattle.queue_state.specs.Queue.{Queue, IsSound, part_of}
-use Rattle.shared_queue.specs.Turn.{Counts, holds, Fits, AtHome, Turn}
+use Rattle.shared_queue.specs.Turn.{Counts, holds, Fits, AtHome, QueueTurn}
 use Rattle.shared_queue.specs.Plays.{Sat}
 use Rattle.shared_queue.specs.Known.{Shared, Known, KeepsNone, IsOf}
 use Rattle.shared_queue.specs.Ends.{AreInOrder, HasCalls, number_of, HaveSealed, sealed_by, Gathered, IsSoundEnd}
@@ -59,12 +59,12 @@ module _ {H K : Type 0} (key : Constants H) (q : Shared H) (posters : List (Know
   has_all : (n : ℕ) (d : Known H K) → n < key.setting.senders → 0 < holds n m.0
   has_all n d below = holds_at n m.0.senders n (number_of d) (omega (arith, as_many)) (ap (λ (p : ℕ × ℕ). p.0) (numbers n d (omega arith)) ∙ (order n d (omega arith)).1)
 
-  pub closes : (id : ℕ) (words : List ℕ) (slots : List (Option (Queue H K))) (parts : List Segment) → HaveSealed posters parts → Final (Seen (Turn key) id m.0) words slots
+  pub closes : (id : ℕ) (words : List ℕ) (slots : List (Option (Queue H K))) (parts : List Segment) → HaveSealed posters parts → Final (Seen (QueueTurn key) id m.0) words slots
       → (x : Queue H K) × (get_elem? slots 0 ≡ some (Some x)) × Closes key posters parts x
   closes id words slots parts sealed last =
       let d : Known H K = record { table = q.table; sender = 0; view = m.0 } in
       let s = last.0 in
-      let r : Turn key s = last.1.0 in
+      let r : QueueTurn key s = last.1.0 in
       let at = last.1.1 in
       let home : AtHome key r.course s = all_rest key s r id m.0 at g.0.1 (λ n below. has_all n d below) in
       let f : Fits key r.course m.0 = r.each id m.0 at in
@@ -91,7 +91,7 @@ module _ {H K : Type 0} (key : Constants H) (q : Shared H) (posters : List (Know
       )
 
   -- the state that is taken out of the slot is that one
-  pub closes_with : (id : ℕ) (words : List ℕ) (slots : List (Option (Queue H K))) (parts : List Segment) (y : Queue H K) → HaveSealed posters parts → Final (Seen (Turn key) id m.0) words slots → get_elem? slots 0 ≡ some (Some y) → Closes key posters parts y
+  pub closes_with : (id : ℕ) (words : List ℕ) (slots : List (Option (Queue H K))) (parts : List Segment) (y : Queue H K) → HaveSealed posters parts → Final (Seen (QueueTurn key) id m.0) words slots → get_elem? slots 0 ≡ some (Some y) → Closes key posters parts y
   closes_with id words slots parts y sealed last here =
       let t = closes id words slots parts sealed last in
       let both : some (Some t.0) ≡ some (Some y) = sym t.1 ∙ here in

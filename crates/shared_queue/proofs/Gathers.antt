@@ -14,7 +14,7 @@ use Rattle.shared_queue.specs.declared.view.View.{View}
 use Rattle.shared_queue.specs.Turn.{joined, new_senders}
 use Rattle.shared_queue.specs.Plays.{Sat}
 use Rattle.shared_queue.specs.Known.{Shared, Known, KeepsNone, IsOf, Rests, made_by}
-use Rattle.shared_queue.specs.Ends.{number_of, sealed_by, TakenIn, Gathered, IsNew, AreNew}
+use Rattle.shared_queue.specs.Ends.{number_of, sealed_by, TakenIn, Gathered, IsNewPoster, AreNew}
 use Rattle.loop_model.proofs.Prefixes.{prefix_trans}
 
 -- a seat takes in that of a poster
@@ -49,10 +49,10 @@ gathers {H} {K} q posters p s n g rests t = (
 
 -- a new poster of that number
 abbrev IsNewAt : {H K : Type 0} → Shared H → ℕ → Known H K → Type 0
-IsNewAt q k x = (IsOf x q × (x.sender ≡ k)) × IsNew x
+IsNewAt q k x = (IsOf x q × (x.sender ≡ k)) × IsNewPoster x
 
 -- one poster more, whose sender number comes next
-pub deals_more : {H K : Type 0} (q : Shared H) (posters : List (Known H K)) (p : Known H K) (n : ℕ) → length posters ≡ n → AreNew q posters → IsOf p q → p.sender ≡ n → IsNew p → AreNew q (posters ++ p ∷ [])
+pub deals_more : {H K : Type 0} (q : Shared H) (posters : List (Known H K)) (p : Known H K) (n : ℕ) → length posters ≡ n → AreNew q posters → IsOf p q → p.sender ≡ n → IsNewPoster p → AreNew q (posters ++ p ∷ [])
 deals_more {H} {K} q posters p n long all of_queue number new = ((λ k d l. (at k d l).0), (λ k d l. (at k d l).1))
   where
     at : (k : ℕ) (d : Known H K) → k < length (posters ++ p ∷ []) → IsNewAt q k (get_or (posters ++ p ∷ []) k d)

@@ -9,7 +9,7 @@ use Rattle.shared_queue.specs.declared.desk.Desk.{Desk}
 use Rattle.shared_queue.specs.Constants.{made_in}
 use Rattle.shared_queue.specs.Turn.{fresh, joined}
 use Rattle.shared_queue.specs.Plays.{Sat}
-use Rattle.shared_queue.specs.Known.{IsSame}
+use Rattle.shared_queue.specs.Known.{IsSamePoster}
 use Rattle.shared_queue.specs.Desk.{IsIdle}
 use Rattle.shared_queue.proofs.Desks.{only_sender, still_unsealed}
 use Rattle.shared_queue.proofs.Knows.{known}
@@ -55,7 +55,7 @@ module _ {H K : Type 0} (d : Desk (Queue H K) H) (o : View (Queue H K) H) (m n :
       )
 
   pub heard_same : (e : Desk (Queue H K) H) → e.seat.table_id ≡ d.seat.table_id → e.seat.me ≡ n → e.sender ≡ d.sender
-      → IsSame (known d) (known e) × (e.seat.me.0.rung ≡ v.rung) × (e.seat.me.0.heard ≡ v.heard)
+      → IsSamePoster (known d) (known e) × (e.seat.me.0.rung ≡ v.rung) × (e.seat.me.0.heard ≡ v.heard)
   heard_same e table is_n sender =
       let now : e.seat.me.0 ≡ joined v (fresh o []) = ap (λ (z : Sat H K). z.0) is_n ∙ is_joined in (
         record {

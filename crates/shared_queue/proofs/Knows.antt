@@ -17,10 +17,10 @@ use Rattle.shared_queue.specs.Turn.{taking, giving, handing, seen_with}
 use Rattle.shared_queue.specs.Plays.{Sat}
 use Rattle.shared_queue.specs.Known.{Known, IsTurn, IsTurnWith, StepsBy, made_by}
 use Rattle.shared_queue.specs.Calls.{IsPart}
-use Rattle.shared_queue.specs.Desk.{IsIdle, Began, MayEnd, Ended, HandedOver}
+use Rattle.shared_queue.specs.Desk.{IsIdle, Began, Ended, HandedOver}
 use Rattle.shared_queue.proofs.Courses.{empty_length, take_front, drop_front}
 use Rattle.shared_queue.proofs.Whole.{rest, whole_sound}
-use Rattle.shared_queue.proofs.Desks.{may_end, now_is}
+use Rattle.shared_queue.proofs.Desks.{now_is}
 
 -- what a clause sees of the desk
 abbrev pub known : {H K : Type 0} → Desk (Queue H K) H → Known H K
@@ -146,15 +146,3 @@ module _ {H K : Type 0} (key : Constants H) (d e : Desk (Queue H K) H) (x : Queu
           entries = ap (λ (q : Segment). q.entries) part ∙ sym ((λ i. drop (ap (λ (q : Segment). q.base.length) part i) (seen_now i)) ∙ ((λ i. drop (long i) (b.spans.0 ++ x.entries)) ∙ drop_front b.spans.0 x.entries));
           base = ap (λ (q : Segment). q.base) part ∙ (leave_found.left ∙ ap (after (empty_base x.setting.senders)) (sym ((λ i. take (ap (λ (q : Segment). q.base.length) part i) (seen_now i)) ∙ ((λ i. take (long i) (b.spans.0 ++ x.entries)) ∙ take_front b.spans.0 x.entries))));
         }
-
--- a call between the two ends of a turn, whose clause P speaks of the desk's sender and Q of the whole histories, is that turn
-pub by_turn : {H K : Type 0} (key : Constants H) (d e n : Desk (Queue H K) H) (x y : Queue H K) → IsIdle d → (b : Began key d e x) → (P : ℕ → Type 0) → (Q : Queue H K → Queue H K → Type 0) → P e.sender → (P d.sender → StepsBy d.sender x y)
-    → ((before : List Entry) → Leave x.setting before x.start → d.sender < x.setting.senders → P d.sender → Q (whole_queue before x) (whole_queue before y)) → Ended e n y
-    → IsTurn (known d) (known n) (whole_queue b.spans.0 x) (whole_queue b.spans.0 y) × Q (whole_queue b.spans.0 x) (whole_queue b.spans.0 y)
-by_turn key d e n x y idle b P Q done steps lifts f =
-    let mine : P d.sender = subst P b.same.1 done in
-    (is_turn key d e x idle b n y (steps mine) f, lifts b.spans.0 (leave_found key d e x idle b) b.below mine)
-
--- and its end may come
-pub by_end : {H K : Type 0} (key : Constants H) (d e : Desk (Queue H K) H) (x y : Queue H K) → Began key d e x → (P : ℕ → Type 0) → P e.sender → (P d.sender → StepsBy d.sender x y) → MayEnd key e y
-by_end key d e x y b P done steps = may_end key d e x y b (steps (subst P b.same.1 done))

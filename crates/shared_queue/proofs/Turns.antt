@@ -23,7 +23,7 @@ use Rattle.shared_queue.specs.Constants.{Constants, last_of, made_in, IsFor}
 use Rattle.shared_queue.specs.Whole.{Course, whole_of, Spans}
 use Rattle.queue_state.specs.Queue.{Queue, part_of, sealed}
 use Rattle.shared_queue.specs.declared.view.View.{View}
-use Rattle.shared_queue.specs.Turn.{IsFirst, Board, turn_of, holds, Counts, IsPresent, Fits, AtHome, Turn, new_senders, opening_view, counted, taking, seen_with, giving, part_in, handing, fresh, dealt, keeping, joined, gone}
+use Rattle.shared_queue.specs.Turn.{IsFirst, Board, turn_of, holds, Counts, IsPresent, Fits, AtHome, QueueTurn, new_senders, opening_view, counted, taking, seen_with, giving, part_in, handing, fresh, dealt, keeping, joined, gone}
 use Rattle.shared_queue.proofs.Untold.{untold_before, untold_front, told_one}
 use Rattle.shared_queue.specs.Plays.{Sat, bare, sat, took, gave, handed, MayGive, MayHand, learned, rang, listened}
 use Rattle.loop_model.proofs.Sums.{set_at, has_first, total-append, total-set, total-none, term_le, terms_le}
@@ -89,10 +89,10 @@ module _ {H K : Type 0} (key : Constants H) where
       (at_set views id j w u e)
 
   -- a step of one seat that changes no word, where the view keeps its part of the sums
-  unmoved : (s : Board H K) (r : Turn key s) (i id : ℕ) (cs : List (ℕ × Option (Queue H K))) (v w : View (Queue H K) H) → get_elem? s.views id ≡ some v → turn_of w ≡ turn_of v → w.senders ≡ v.senders → w.rung ≡ v.rung → w.told ≡ v.told
-      → Fits key r.course w → Turn key (stepped s i (get_or s.words i 0) id cs w keeps)
+  unmoved : (s : Board H K) (r : QueueTurn key s) (i id : ℕ) (cs : List (ℕ × Option (Queue H K))) (v w : View (Queue H K) H) → get_elem? s.views id ≡ some v → turn_of w ≡ turn_of v → w.senders ≡ v.senders → w.rung ≡ v.rung → w.told ≡ v.told
+      → Fits key r.course w → QueueTurn key (stepped s i (get_or s.words i 0) id cs w keeps)
   unmoved s r i id cs v w at turns senders rung told mine =
-      subst (λ (ws : List ℕ). Turn key (record { words = ws; homes = s.homes; views = set s.views id w })) (sym (set-get_or s.words i 0)) record {
+      subst (λ (ws : List ℕ). QueueTurn key (record { words = ws; homes = s.homes; views = set s.views id w })) (sym (set-get_or s.words i 0)) record {
         course = r.course;
         chain = r.chain;
         legal = r.legal;
@@ -126,10 +126,10 @@ module _ {H K : Type 0} (key : Constants H) where
       }
 
   abbrev Goes : Board H K → ℕ → ℕ → Sat H K → (ℕ → Sat H K → Type 0) → ℕ → Type 0
-  Goes s i id m then k = (w : View (Queue H K) H) × (a : Act (Option (Queue H K))) × Valid s.homes m.1 a × Turn key (stepped s i k id m.1 w a) × then (get_or s.words i 0) (w, carried_after m.1 a)
+  Goes s i id m then k = (w : View (Queue H K) H) × (a : Act (Option (Queue H K))) × Valid s.homes m.1 a × QueueTurn key (stepped s i k id m.1 w a) × then (get_or s.words i 0) (w, carried_after m.1 a)
 
   -- a seat wins the turn, and takes the state
-  takes_it : (s : Board H K) (r : Turn key s) (id : ℕ) (m : Sat H K) → get_elem? s.views id ≡ some m.0 → 0 < length m.0.senders → get_or s.words 0 0 ≡ 0
+  takes_it : (s : Board H K) (r : QueueTurn key s) (id : ℕ) (m : Sat H K) → get_elem? s.views id ≡ some m.0 → 0 < length m.0.senders → get_or s.words 0 0 ≡ 0
       → Goes s 0 id m (took (step 1 0 0 1 none) m) 1
   takes_it s r id m at some_sender zero_word =
       let home = r.free zero_word in
@@ -180,7 +180,7 @@ module _ {H K : Type 0} (key : Constants H) where
       )
 
   pub takes_turn : (slots id : ℕ) (m : Sat H K) → 0 < length m.0.senders
-      → Allows (Turn key) slots id m 0 (λ n. either (eqb n 0) 1 n) (took (step slots 0 0 1 none) m)
+      → Allows (QueueTurn key) slots id m 0 (λ n. either (eqb n 0) 1 n) (took (step slots 0 0 1 none) m)
   takes_turn slots id m some_sender s r wide at small =
       exchanged (get_or s.words 0 0) 0 1 (Goes s 0 id m (took (step slots 0 0 1 none) m))
       (λ free. takes_it s r id m at some_sender free)
@@ -254,7 +254,7 @@ module _ {H K : Type 0} (key : Constants H) where
       may
 
   -- no other seat's sender gets an entry
-  others_stay : (s : Board H K) (r : Turn key s) (id j : ℕ) (v u : View (Queue H K) H) (es : List Entry) → get_elem? s.views id ≡ some v → get_elem? s.views j ≡ some u → j ≢ id → (es ≡ r.course.since) ⊎ ((e : Entry) × (es ≡ r.course.since ++ e ∷ []) × (0 < holds e.sender v))
+  others_stay : (s : Board H K) (r : QueueTurn key s) (id j : ℕ) (v u : View (Queue H K) H) (es : List Entry) → get_elem? s.views id ≡ some v → get_elem? s.views j ≡ some u → j ≢ id → (es ≡ r.course.since) ⊎ ((e : Entry) × (es ≡ r.course.since ++ e ∷ []) × (0 < holds e.sender v))
       → All (λ (p : ℕ × ℕ). made_in p.0 (whole_of (with_since r.course es)) ≡ made_in p.0 (whole_of r.course)) u.senders
   others_stay s r id j v u es at there apart may = ⊎_elim
       (λ (e : es ≡ r.course.since). λ k d l. ap (λ z. made_in (get_or u.senders k d).0 (entries_of r.course.parts ++ z)) e)
@@ -271,7 +271,7 @@ module _ {H K : Type 0} (key : Constants H) where
       may
 
   pub gives_turn : (slots id : ℕ) (m : Sat H K) (x : Queue H K) → m.1 ≡ (0, Some x) ∷ [] → m.0.has_turn ≡ true → IsFor key x → MayGive m.0 x
-      → Allows (Turn key) slots id m 0 (λ _. 0) (λ _. gave (step slots 0 0 0 none) m 0)
+      → Allows (QueueTurn key) slots id m 0 (λ _. 0) (λ _. gave (step slots 0 0 0 none) m 0)
   gives_turn slots id m x carries has own may s r wide at small =
       let v : View (Queue H K) H = m.0 in
       let w : View (Queue H K) H = giving v x in
@@ -290,7 +290,7 @@ module _ {H K : Type 0} (key : Constants H) where
         w,
         gives,
         tt,
-        subst (λ c. Turn key (record { words = set s.words 0 0; homes = homes_after s.homes c gives; views = set s.views id w })) (sym carries) record {
+        subst (λ c. QueueTurn key (record { words = set s.words 0 0; homes = homes_after s.homes c gives; views = set s.views id w })) (sym carries) record {
           course = next;
           chain = r.chain;
           legal = r.legal;
@@ -313,7 +313,7 @@ module _ {H K : Type 0} (key : Constants H) where
 
   -- the seat of the last sender gives the state back sealed
   pub hands_over : (slots id : ℕ) (m : Sat H K) (y : Queue H K) → m.1 ≡ (0, Some y) ∷ [] → m.0.has_turn ≡ true → IsFor key y → 0 < holds (last_of key) m.0 → MayHand m.0 y
-      → Allows (Turn key) slots id m 0 (λ _. 0) (λ _. handed (step slots 0 0 0 none) m 0)
+      → Allows (QueueTurn key) slots id m 0 (λ _. 0) (λ _. handed (step slots 0 0 0 none) m 0)
   hands_over slots id m y carries has own last may s r wide at small =
       let v : View (Queue H K) H = m.0 in
       let w : View (Queue H K) H = handing v y in
@@ -343,7 +343,7 @@ module _ {H K : Type 0} (key : Constants H) where
         w,
         gives,
         tt,
-        subst (λ c. Turn key (record { words = set s.words 0 0; homes = homes_after s.homes c gives; views = set s.views id w })) (sym carries) record {
+        subst (λ c. QueueTurn key (record { words = set s.words 0 0; homes = homes_after s.homes c gives; views = set s.views id w })) (sym carries) record {
           course = next;
           chain = chain_more nothing r.course.parts (part_of x) tt r.chain base;
           legal = past_legal key.setting r.course.parts x r.legal base setting may.3;
@@ -404,7 +404,7 @@ module _ {H K : Type 0} (key : Constants H) where
   pub splits_off : (id : ℕ) (v : View (Queue H K) H) (had : ℕ) (first second : List (ℕ × ℕ)) → (v.has_turn ≡ true → 0 < length second) → (0 < v.rung → 0 < length v.senders → 0 < length second)
       → ((P : ℕ × ℕ → Type 0) → All P v.senders → All P first × All P second) → ((g : ℕ × ℕ → ℕ) → total g v.senders ≡ total g first + total g second)
       → (holds (last_of key) (keeping v second) ≡ 0 → holds (last_of key) v ≡ 0 ⊎ (v.sealed ≡ [])) → (0 < holds (last_of key) (fresh v first) → v.sealed ≡ [])
-      → Splits (Turn key) id v (keeping v second) (record (fresh v first) { turns = had })
+      → Splits (QueueTurn key) id v (keeping v second) (record (fresh v first) { turns = had })
   splits_off id v had first second some_sender quiet parts sums none_left none_here s r at =
       let w : View (Queue H K) H = keeping v second in
       let u : View (Queue H K) H = record (fresh v first) { turns = had } in
@@ -435,11 +435,11 @@ module _ {H K : Type 0} (key : Constants H) where
         bell = r.bell ∙ ap (λ (n : ℕ). n % 18446744073709551616) (sym rings);
       }
 
-  pub deals : (id : ℕ) (v : View (Queue H K) H) → v.has_turn ≡ false → v.rung ≡ 0 → v.sealed ≡ [] → Splits (Turn key) id v (keeping v (drop 1 v.senders)) (dealt v (take 1 v.senders))
+  pub deals : (id : ℕ) (v : View (Queue H K) H) → v.has_turn ≡ false → v.rung ≡ 0 → v.sealed ≡ [] → Splits (QueueTurn key) id v (keeping v (drop 1 v.senders)) (dealt v (take 1 v.senders))
   deals id v no_turn no_rings no_parts = splits_off id v v.turns (take 1 v.senders) (drop 1 v.senders) (λ has. absurd (true≢false (sym has ∙ no_turn))) (λ rings some_sender. absurd (omega (arith, no_rings, rings)))
       (λ P all. (All-take P 1 v.senders all, All-drop P 1 v.senders all)) (λ g. ap (total g) (sym (take-append-drop 1 v.senders)) ∙ total-append g (take 1 v.senders) (drop 1 v.senders)) (λ _. inr no_parts) (λ _. no_parts)
 
-  pub notes : (id : ℕ) (v : View (Queue H K) H) → v.has_turn ≡ false → Splits (Turn key) id v v (fresh v [])
+  pub notes : (id : ℕ) (v : View (Queue H K) H) → v.has_turn ≡ false → Splits (QueueTurn key) id v v (fresh v [])
   notes id v no_turn = splits_off id v 0 [] v.senders (λ has. absurd (true≢false (sym has ∙ no_turn))) (λ rings some_sender. some_sender) (λ P all. (All-nil P, all)) (λ g. omega arith) (λ none. inl none) (λ (held : 0 < 0). absurd (omega arith))
 
   -- a seat that takes in another has what both had
@@ -485,7 +485,7 @@ module _ {H K : Type 0} (key : Constants H) where
   }
 
   -- two seats hold the last sender at most once
-  few_last : (s : Board H K) (r : Turn key s) (id j : ℕ) (v u : View (Queue H K) H) → j ≢ id → get_elem? s.views id ≡ some v → get_elem? s.views j ≡ some u → holds (last_of key) v + holds (last_of key) u ≤ 1
+  few_last : (s : Board H K) (r : QueueTurn key s) (id j : ℕ) (v u : View (Queue H K) H) → j ≢ id → get_elem? s.views id ≡ some v → get_elem? s.views j ≡ some u → holds (last_of key) v + holds (last_of key) u ≤ 1
   few_last s r id j v u apart at there = dite (dec_lt (last_of key) key.setting.senders)
       (λ below. omega (arith, terms_le (holds (last_of key)) s.views id j v u apart at there, r.placed (last_of key) below))
       (λ above.
@@ -493,7 +493,7 @@ module _ {H K : Type 0} (key : Constants H) where
       let else_ : holds (last_of key) u ≡ 0 = none_held key (last_of key) u.senders (r.each j u there).below above in
       omega arith)
 
-  pub joins_in : (id : ℕ) (v : View (Queue H K) H) (other : ℕ) (w : View (Queue H K) H) → v.has_turn ≡ false → w.has_turn ≡ false → Joins (Turn key) id v other w (joined v w) gone
+  pub joins_in : (id : ℕ) (v : View (Queue H K) H) (other : ℕ) (w : View (Queue H K) H) → v.has_turn ≡ false → w.has_turn ≡ false → Joins (QueueTurn key) id v other w (joined v w) gone
   joins_in id v other w no_turn no_turn' s r at apart there =
       let b : View (Queue H K) H = joined v w in
       let views : List (View (Queue H K) H) = set s.views id b in
@@ -527,18 +527,18 @@ module _ {H K : Type 0} (key : Constants H) where
         bell = r.bell ∙ ap (λ (n : ℕ). n % 18446744073709551616) (sym rings);
       }
 
-  pub learns : (slots i id : ℕ) (m : Sat H K) → Allows (Turn key) slots id m i (λ n. n) (learned (step slots i 0 0 none) m)
+  pub learns : (slots i id : ℕ) (m : Sat H K) → Allows (QueueTurn key) slots id m i (λ n. n) (learned (step slots i 0 0 none) m)
   learns slots i id m s r wide at small =
       let f : Fits key r.course m.0 = r.each id m.0 at in
       (m.0, keeps, tt, unmoved s r i id m.1 m.0 m.0 at refl refl refl refl f, (refl, f.told, All-weaker (Counts (whole_of r.course) m.0.seen) (λ p. made_in p.0 m.0.seen ≡ p.1) (λ p c. c.1) m.0.senders f.mine))
 
-  pub listens : (slots id : ℕ) (m : Sat H K) → Allows (Turn key) slots id m 1 (λ n. n) (listened (step slots 1 0 0 none) m)
+  pub listens : (slots id : ℕ) (m : Sat H K) → Allows (QueueTurn key) slots id m 1 (λ n. n) (listened (step slots 1 0 0 none) m)
   listens slots id m s r wide at small =
       let f : Fits key r.course m.0 = r.each id m.0 at in
       let w : View (Queue H K) H = record m.0 { heard = get_or s.words 1 0; listens = m.0.listens + 1 } in
       (w, keeps, tt, unmoved s r 1 id m.1 m.0 w at refl refl refl refl (record { constants = f.constants; seen = f.seen; told = f.told; below = f.below; mine = f.mine; turn = f.turn; quiet = f.quiet; sealed = f.sealed; unsealed = f.unsealed }), (refl, refl))
 
-  pub rings_it : (slots id : ℕ) (m : Sat H K) → 0 < length m.0.senders → Allows (Turn key) slots id m 1 (λ n. (n + 1) % 18446744073709551616) (rang (step slots 1 1 0 none) m)
+  pub rings_it : (slots id : ℕ) (m : Sat H K) → 0 < length m.0.senders → Allows (QueueTurn key) slots id m 1 (λ n. (n + 1) % 18446744073709551616) (rang (step slots 1 1 0 none) m)
   rings_it slots id m some_sender s r wide at small =
       let f : Fits key r.course m.0 = r.each id m.0 at in
       let w : View (Queue H K) H = record m.0 { rung = m.0.rung + 1 } in
@@ -573,7 +573,7 @@ module _ {H K : Type 0} (key : Constants H) where
       )
 
   -- the table as it is made
-  pub opens : (x : Queue H K) → IsFirst key x → Turn key (opening (0 ∷ 0 ∷ []) (Some x ∷ []) (opening_view key))
+  pub opens : (x : Queue H K) → IsFirst key x → QueueTurn key (opening (0 ∷ 0 ∷ []) (Some x ∷ []) (opening_view key))
   opens x is = record {
     course = record { parts = []; since = [] };
     chain = tt;
@@ -624,7 +624,7 @@ module _ {H K : Type 0} (key : Constants H) where
           (λ apart. let no : cond {A = ℕ} (eqb from n) 1 0 ≡ 0 = ap (λ b. cond {A = ℕ} b 1 0) (ne_eqb from n apart) in ((λ a b. omega (arith, next.0 (omega arith) (omega arith))), λ a. omega (arith, next.1 (omega arith))))
 
   -- where one seat without the turn has all sender numbers, no seat has the turn
-  pub all_rest : (s : Board H K) (r : Turn key s) (id : ℕ) (v : View (Queue H K) H) → get_elem? s.views id ≡ some v → v.has_turn ≡ false → ((n : ℕ) → n < key.setting.senders → 0 < holds n v) → AtHome key r.course s
+  pub all_rest : (s : Board H K) (r : QueueTurn key s) (id : ℕ) (v : View (Queue H K) H) → get_elem? s.views id ≡ some v → v.has_turn ≡ false → ((n : ℕ) → n < key.setting.senders → 0 < holds n v) → AtHome key r.course s
   all_rest s r id v at no_turn has_all = r.free (sym r.turns ∙ total-none turn_of s.views none_of)
     where
       rests : (j : ℕ) (u : View (Queue H K) H) → get_elem? s.views j ≡ some u → j ≢ id → u.has_turn ≡ true → ⊥
@@ -646,7 +646,7 @@ module _ {H K : Type 0} (key : Constants H) where
       none_of j u there = by_cases j u there u.has_turn refl
 
   -- a new seat
-  pub sits : (slots i : ℕ) (m : Sat H K) → m.0 ≡ opening_view key → Enters (Turn key) slots i (λ n w. sat (step slots i 0 0 none) m n (w, []))
+  pub sits : (slots i : ℕ) (m : Sat H K) → m.0 ≡ opening_view key → Enters (QueueTurn key) slots i (λ n w. sat (step slots i 0 0 none) m n (w, []))
   sits slots i m is s r wide small =
       let u : View (Queue H K) H = bare m.0 in
       let rings : total (λ (x : View (Queue H K) H). x.rung) (s.views ++ u ∷ []) ≡ total (λ (x : View (Queue H K) H). x.rung) s.views = omega (arith, total-append (λ (x : View (Queue H K) H). x.rung) s.views (u ∷ [])) in (

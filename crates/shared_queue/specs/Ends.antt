@@ -29,7 +29,7 @@ module _ {H K : Type 0} where
   AreInOrder q posters = (k : ℕ) (d : Known H K) → k < length posters → IsOf (slice_index_or posters k d) q × ((slice_index_or posters k d).sender ≡ k)
 
   -- a poster that has done nothing
-  pub record IsNew (p : Known H K) : Type 0 where
+  pub record IsNewPoster (p : Known H K) : Type 0 where
     pub made : made_by p ≡ 0
     pub seen : p.view.seen ≡ []
     pub turns : p.view.turns ≡ 0
@@ -39,7 +39,7 @@ module _ {H K : Type 0} where
     pub sealed : p.view.sealed ≡ []
 
   abbrev pub AreNew : Shared H → List (Known H K) → Type 0
-  AreNew q posters = AreInOrder q posters × ((k : ℕ) (d : Known H K) → k < length posters → IsNew (slice_index_or posters k d))
+  AreNew q posters = AreInOrder q posters × ((k : ℕ) (d : Known H K) → k < length posters → IsNewPoster (slice_index_or posters k d))
 
   -- the history begins with what each poster has seen, and has the entries of its sender that it has made, and no others
   abbrev pub HasCalls : List Entry → List (Known H K) → Type 0

@@ -86,7 +86,7 @@ module _ {H K : Type 0} where
   IsTurn before after x y = IsTurnWith [] before after x y
 
   -- a call that is no turn leaves all but what was seen, and the numbers of the bell
-  pub record IsSame (before after : Known H K) : Type 0 where
+  pub record IsSamePoster (before after : Known H K) : Type 0 where
     pub table : after.table ≡ before.table
     pub sender : after.sender ≡ before.sender
     pub constants : after.view.constants ≡ before.view.constants

@@ -79,7 +79,7 @@ module _ {H K : Type 0} where
     pub woken : x.woken ≡ false
     pub deadline : x.deadline ≡ None
 
-  pub record Turn (key : Constants H) (s : Board H K) : Type 0 where
+  pub record QueueTurn (key : Constants H) (s : Board H K) : Type 0 where
     -- the parts that were handed out, and the entries since
     pub course : Course
     -- these parts are a chain, whose history is legal and numbered

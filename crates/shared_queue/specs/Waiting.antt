@@ -8,7 +8,7 @@ use Rattle.shared_queue.specs.declared.waiting.Waited.{Waited}
 use Rattle.shared_queue.specs.declared.waiting.Waited.TheVariants as waited
 use Rattle.shared_queue.specs.declared.waiting.Look.{Look}
 use Rattle.shared_queue.specs.declared.waiting.Look.TheVariants as look
-use Rattle.shared_queue.specs.Known.{Known, IsSame}
+use Rattle.shared_queue.specs.Known.{Known, IsSamePoster}
 use Rattle.shared_queue.specs.Calls.{NextedBy}
 
 -- the moment is no earlier than the cap
@@ -26,7 +26,7 @@ module _ {H K : Type 0} where
 
   -- the poster read the bell, and that is all
   pub record HasListened (before after : Known H K) : Type 0 where
-    pub same : IsSame before after
+    pub same : IsSamePoster before after
     pub seen : after.view.seen ≡ before.view.seen
     pub rung : after.view.rung ≡ before.view.rung
     pub listens : after.view.listens ≡ before.view.listens + 1

@@ -6,7 +6,7 @@ ghost use Rattle.shared_queue.specs.Turn.{IsFirst, opening_view};
 ghost use Rattle.shared_queue.specs.Known.{Rests, IsOf};
 ghost use Rattle.loop_model.specs.Base.{empty_base};
 ghost use Rattle.loop_model.specs.Chain.{IsChainFrom, entries_of};
-ghost use Rattle.shared_queue.specs.Ends.{undealt, IsNew, AreNew, AreInOrder, TakenIn, Gathered, HasCalls, IsSoundEnd, HaveSealed};
+ghost use Rattle.shared_queue.specs.Ends.{undealt, IsNewPoster, AreNew, AreInOrder, TakenIn, Gathered, HasCalls, IsSoundEnd, HaveSealed};
 
 use crate::poster::Poster;
 use crate::queue::{Place, SharedQueue};
@@ -83,7 +83,7 @@ impl<K: Claim> SharedQueue<K> {
     fn deal(&self, seat: &mut Place<K>, sender: u32) -> Poster<K>
         requires { (seat.old.table_id ≡ self.now.table) × (sender < self.now.constants.setting.senders) × (seat.old.me ≡ (undealt self.now.constants sender, [])) }
         ensures seat { (seat.new.table_id ≡ seat.old.table_id) × (seat.new.me ≡ (undealt self.now.constants (sender + 1), [])) }
-        ensures poster { IsOf result self.now × (result.sender ≡ sender) × IsNew result }
+        ensures poster { IsOf result self.now × (result.sender ≡ sender) × IsNewPoster result }
     {
         Poster::of(self.table.shared.split_seat::<Deal>(seat), sender)
     }

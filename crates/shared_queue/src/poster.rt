@@ -3,7 +3,7 @@ ghost use Rattle.std.specs.Prelude.{◌≡◌, ◌+◌, false, [], ◌∷◌, le
 ghost use mathlib.Core.List.{IsPrefix};
 ghost use Rattle.loop_model.specs.Lists.{longer};
 ghost use Rattle.shared_queue.specs.Desk.{IsIdle};
-ghost use Rattle.shared_queue.specs.Known.{Known, KeepsNone, IsOf, IsSame, made_by};
+ghost use Rattle.shared_queue.specs.Known.{Known, KeepsNone, IsOf, IsSamePoster, made_by};
 
 use crate::desk::Desk;
 use crate::queue::{Place, SharedQueue};
@@ -85,7 +85,7 @@ impl<K: Claim> Poster<K> {
         requires { IsOf self.old queue.now × IsOf other.old queue.now }
         ensures seen { self.new.view.seen ≡ longer self.old.view.seen other.old.view.seen }
         ensures begins { IsPrefix self.old.view.seen self.new.view.seen × IsPrefix other.old.view.seen self.new.view.seen }
-        ensures same { IsSame self.old self.new × (self.new.view.rung ≡ self.old.view.rung) × (self.new.view.heard ≡ self.old.view.heard) }
+        ensures same { IsSamePoster self.old self.new × (self.new.view.rung ≡ self.old.view.rung) × (self.new.view.heard ≡ self.old.view.heard) }
         ensures listens { self.new.view.listens ≡ self.old.view.listens }
         ensures other { other.new ≡ other.old }
     {
@@ -103,7 +103,7 @@ impl<K: Claim> Poster<K> {
     pub fn nudge<R: Wait>(&mut self, rt: &R, queue: &SharedQueue<K>)
         requires { IsOf self.old queue.now }
         ensures rung { self.new.view.rung ≡ self.old.view.rung + 1 }
-        ensures same { IsSame self.old self.new × (self.new.view.seen ≡ self.old.view.seen) × (self.new.view.heard ≡ self.old.view.heard) }
+        ensures same { IsSamePoster self.old self.new × (self.new.view.seen ≡ self.old.view.seen) × (self.new.view.heard ≡ self.old.view.heard) }
         ensures listens { self.new.view.listens ≡ self.old.view.listens }
     {
         queue
@@ -124,7 +124,7 @@ impl<K: Claim> Poster<K> {
     pub(crate) fn listen(&mut self, queue: &SharedQueue<K>) -> u64
         requires { IsOf self.old queue.now }
         ensures heard { (self.new.view.heard ≡ result) × (self.new.view.listens ≡ self.old.view.listens + 1) }
-        ensures same { IsSame self.old self.new × (self.new.view.seen ≡ self.old.view.seen) × (self.new.view.rung ≡ self.old.view.rung) }
+        ensures same { IsSamePoster self.old self.new × (self.new.view.seen ≡ self.old.view.seen) × (self.new.view.rung ≡ self.old.view.rung) }
     {
         let bell = queue.table.shared.load::<Listen>(&mut self.desk.seat, 1);
         self.desk.heard = bell;

@@ -1,6 +1,6 @@
 // The rule of the table, and the names of its steps.
 ghost use Rattle.std.specs.Prelude.{[], take, drop};
-ghost use Rattle.shared_queue.specs.Turn.{Turn, opening_view, fresh, dealt, keeping, joined, gone};
+ghost use Rattle.shared_queue.specs.Turn.{QueueTurn, opening_view, fresh, dealt, keeping, joined, gone};
 ghost use Rattle.shared_queue.specs.Plays.{sat, took, gave, handed, learned, rang, listened};
 
 use crate::view::{QueueKey, View};
@@ -13,7 +13,7 @@ pub struct OneTurn;
 
 impl<K: Claim> TableRule<Option<QueueState<K>>, View<QueueState<K>, K::Home>, QueueKey<K::Home>>
     for OneTurn {
-    ghost holds = { Turn };
+    ghost holds = { QueueTurn };
 
     ghost first = { opening_view };
 }

@@ -10,7 +10,8 @@ use Rattle.std.proofs.lemmas.Option.{same_Some, none-some}
 use Rattle.std.proofs.lemmas.List.Splits.{join_with_byte-slice_split}
 use Rattle.std.proofs.lemmas.Slice.Eq.{bytes_eq-Decides}
 use Rattle.std.proofs.lemmas.Fmt.{digits_decimal}
-use Rattle.line_words.specs.Words.{number_of, words, parts_left}
+use Rattle.line_words.specs.Words.{number_of, words}
+use Rattle.line_words.specs.Rests.{parts_left}
 use Rattle.line_words.proofs.Spelling.{own, number_taken, number_again}
 use Rattle.line_words.proofs.Splitting.{first_part}
 use Rattle.line_words.proofs.Joining.{is_free, digits_free, AllFree, join_free, words_joined}
@@ -18,7 +19,8 @@ use Rattle.trace_check.specs.declared.keyword.Keyword.{Keyword}
 use Rattle.trace_check.specs.declared.keyword.Keyword.TheVariants as name
 use Rattle.trace_check.specs.declared.word.Word.{Word}
 use Rattle.trace_check.specs.declared.word.Word.TheVariants.{Name, Number, Absent}
-use Rattle.trace_check.specs.Keyword.{spelling, all_keywords}
+use Rattle.trace_check.specs.Keyword.{spelling}
+use Rattle.trace_check.specs.Keywords.{all_keywords}
 use Rattle.trace_check.specs.Word.{spell}
 use Rattle.trace_check.specs.Saying.{mark_or_name, number_or_other, word_of, words_of}
 use Rattle.trace_check.specs.Reading.{is_none_left}

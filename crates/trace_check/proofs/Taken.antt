@@ -23,7 +23,8 @@ use Rattle.trace_check.specs.declared.word.Word.TheVariants.{Name, Number, Absen
 use Rattle.trace_check.specs.declared.line.Head.{Head}
 use Rattle.trace_check.specs.declared.line.Line.{Line}
 use Rattle.trace_check.specs.declared.line.Line.TheVariants.{Title, Queue, Entry, End}
-use Rattle.trace_check.specs.Keyword.{spelling, all_keywords}
+use Rattle.trace_check.specs.Keyword.{spelling}
+use Rattle.trace_check.specs.Keywords.{all_keywords}
 use Rattle.trace_check.proofs.Spelled.{of_keyword, of_these, same_name}
 use Rattle.trace_check.specs.Line as words_of
 use Rattle.trace_check.specs.Line.{IsShort, IsLong, FitsPost, FitsKind, FitsFilter, FitsCall, FitsReply, Fits, maybe, line_words, call_words, reply_words, kind_words, filter_words, post_words}

@@ -1,4 +1,5 @@
 pub mod Keyword
+pub mod Keywords
 pub mod Word
 pub mod Saying
 pub mod Line

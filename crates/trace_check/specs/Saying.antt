@@ -6,7 +6,8 @@ use Rattle.std.specs.Str.{bytes_eq}
 use Rattle.line_words.specs.Words.{number_of, words}
 use Rattle.trace_check.specs.declared.word.Word.{Word}
 use Rattle.trace_check.specs.declared.word.Word.TheVariants.{Name, Number, Absent}
-use Rattle.trace_check.specs.Keyword.{spelling, all_keywords}
+use Rattle.trace_check.specs.Keyword.{spelling}
+use Rattle.trace_check.specs.Keywords.{all_keywords}
 use Rattle.trace_check.specs.Word.{spell}
 
 -- words, each behind a space

@@ -1,7 +1,8 @@
 //! The fixed words of a trace.
 ghost use Rattle.std.specs.Prelude.{◌≡◌, find};
 ghost use Rattle.std.specs.Str.{bytes_eq};
-ghost use Rattle.trace_check.specs.Keyword.{all_keywords, spelling};
+ghost use Rattle.trace_check.specs.Keyword.{spelling};
+ghost use Rattle.trace_check.specs.Keywords.{all_keywords};
 
 /// A word that is written as it is.
 #[derive(Clone, Copy, Debug, PartialEq, Eq)]

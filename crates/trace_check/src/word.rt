@@ -44,7 +44,7 @@ pub(crate) struct Words<'a> {
 impl<'a> Model for Words<'a> {
     ghost use Rattle.std.specs.Prelude.{List, ℕ, Option, map};
     ghost use Rattle.std.specs.Option.{option_copied};
-    ghost use Rattle.line_words.specs.Words.{parts_left};
+    ghost use Rattle.line_words.specs.Rests.{parts_left};
     ghost use Rattle.trace_check.specs.declared.word.Word.{Word};
     ghost use Rattle.trace_check.specs.Saying.{word_of};
 

@@ -11,7 +11,7 @@ use crate::posting::{Sender, post_both};
 use loop_io::Clock;
 use loop_model::NoMemory;
 use loop_sources::{FdTable, IdleSet};
-use looper_run::{Loop, Looper, Sources};
+use looper_run::{ByClock, Loop, Looper, Sources};
 use message_pool::{Pool, PoolClaim};
 use plain_loop::Handling;
 use shared_queue::{Poster, SharedQueue};
@@ -111,7 +111,12 @@ fn handle_all<R: Wait + time::Clock, C: Clock>(
     let mut dispatcher = Handling {
         handlers: Counts::none(),
     };
-    let ended = looper.run_loop(rt, queue, pool, &sources, &mut dispatcher, clock, 0, None);
+    let by = ByClock {
+        clock,
+        start: 0,
+        cap: None,
+    };
+    let ended = looper.run_loop(rt, queue, pool, &sources, &mut dispatcher, &by);
     if ended == Loop::NoMemory {
         return Err(NoMemory);
     }
@@ -122,18 +127,22 @@ fn handle_all<R: Wait + time::Clock, C: Clock>(
 fn side_by_side<R: Threads + Wait + time::Clock + Sync, C: Clock + Sync>(
     rt: &R,
     alloc: Global,
-    queue: &SharedQueue<PoolClaim>,
-    pool: &Pool,
     clock: &C,
-    first: Sender,
-    second: Sender,
-    looper: Looper,
+    opened: Opened,
 ) -> (u64, Result<Counts, NoMemory>)
-    requires first { IsSender queue.now pool.now first }
-    requires second { IsSender queue.now pool.now second }
-    requires looper { IsAt queue.now pool.now looper.held × (looper.ended ≡ false) }
-    requires free { queue.now.constants.setting.lockstep ≡ false }
+    requires first { IsSender opened.queue opened.pool opened.first }
+    requires second { IsSender opened.queue opened.pool opened.second }
+    requires looper { IsAt opened.queue opened.pool opened.looper.held × (opened.looper.ended ≡ false) }
+    requires free { opened.queue.constants.setting.lockstep ≡ false }
 {
+    let Opened {
+        queue,
+        pool,
+        looper,
+        first,
+        second,
+    } = opened;
+    let (queue, pool) = (&queue, &pool);
     join(
         rt,
         ||
@@ -149,13 +158,7 @@ pub fn run<R: Threads + Wait + time::Clock + Sync, C: Clock + Sync>(
     alloc: Global,
     clock: &C,
 ) -> Result<(u64, Counts), NoMemory> {
-    let Opened {
-        queue,
-        pool,
-        looper,
-        first,
-        second,
-    } = open(alloc)?;
-    let (kept, counts) = side_by_side(rt, alloc, &queue, &pool, clock, first, second, looper);
+    let opened = open(alloc)?;
+    let (kept, counts) = side_by_side(rt, alloc, clock, opened);
     Ok((kept, counts?))
 }

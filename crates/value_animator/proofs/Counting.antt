@@ -7,7 +7,7 @@ use Rattle.std.proofs.lemmas.Grind.{flat_map-append}
 use Rattle.std.proofs.lemmas.Bool.Decides.{nat_tests}
 use Rattle.std.proofs.Math.Nat.{mul-div_left, mul-le-mul_left, mul-le-mul_right}
 use Rattle.std.proofs.lemmas.Nat.{mul-le}
-use Rattle.frame_phases.specs.Frames.{pulse}
+use Rattle.frame_phases.specs.Pulses.{pulse}
 use Rattle.countdown.specs.Moments.{latest, elapsed, has_ended}
 use Rattle.countdown.proofs.Spans.{latest-push}
 use Rattle.value_animator.specs.declared.plan.Values.{Values}

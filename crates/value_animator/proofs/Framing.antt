@@ -6,7 +6,8 @@ use Rattle.std.proofs.lemmas.Bool.Decides.{nat_tests}
 use Rattle.frame_phases.specs.declared.entry.Callback.{Callback}
 use Rattle.frame_phases.specs.declared.entry.FrameEntry.{FrameEntry}
 use Rattle.frame_phases.specs.declared.entry.FrameEntry.TheVariants.{Posted, Begin, Take, Ran}
-use Rattle.frame_phases.specs.Frames.{pulse, live, next_phase, last_time, posted_count, taken, take_time, commit_time, is_due, is_undue, in_due_order, before_later}
+use Rattle.frame_phases.specs.Frames.{live, next_phase, last_time, posted_count, taken, take_time, commit_time, is_due, is_undue, in_due_order, before_later}
+use Rattle.frame_phases.specs.Pulses.{pulse}
 use Rattle.frame_phases.specs.State.{Frames, past, ran, delivered}
 use Rattle.value_animator.specs.Framing.{begun, taken_at, posted_again, last_number, IsReady, after_frame}
 use Rattle.value_animator.specs.FrameEntries.{callback, again, frame_entries}

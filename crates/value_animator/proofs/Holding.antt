@@ -9,7 +9,7 @@ use Rattle.std.proofs.lemmas.List.Elements.{All-push, All-nil}
 use Rattle.std.proofs.lemmas.Grind.{flat_map-append}
 use Rattle.dash_script.specs.declared.refusal.Cause.{Cause}
 use Rattle.dash_script.specs.declared.refusal.Cause.TheVariants as cause
-use Rattle.dash_script.specs.Statement.{hole_count}
+use Rattle.dash_script.specs.Writing.{hole_count}
 use Rattle.value_animator.specs.declared.plan.Key.{Key}
 use Rattle.value_animator.specs.declared.plan.Plan.{Plan}
 use Rattle.value_animator.specs.declared.plan.Thing.{Thing}
@@ -22,7 +22,8 @@ use Rattle.value_animator.specs.declared.draft.Stage.{Stage}
 use Rattle.value_animator.specs.declared.draft.Stage.TheVariants.{Start, Headed, Body, Ended}
 use Rattle.value_animator.specs.Plans.{IsKey, IsPlan, IsThing, AreValues, rise, rise_from}
 use Rattle.value_animator.specs.Rows.{form}
-use Rattle.value_animator.specs.Rules.{SoFar, cause_of, with_row, is_ended_stage, values_of, last_place, may_be_placed, key_of, plan_of}
+use Rattle.value_animator.specs.Rules.{SoFar, cause_of, with_row, is_ended_stage, last_place, may_be_placed, key_of, plan_of}
+use Rattle.value_animator.specs.Drafts.{values_of}
 use Rattle.value_animator.specs.Reading.{say, key_row, plan_row, thing_rows, rows}
 use Rattle.value_animator.specs.Parsing.{goes_on, after_cause}
 use Rattle.value_animator.specs.Answering.{run}

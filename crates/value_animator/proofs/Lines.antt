@@ -9,7 +9,8 @@ use Rattle.line_words.proofs.Splitting.{first_part}
 use Rattle.value_animator.specs.declared.plan.Values.{Values}
 use Rattle.value_animator.specs.declared.row.Row.{Row}
 use Rattle.value_animator.specs.Rows.{row_of}
-use Rattle.value_animator.specs.Rules.{SoFar, cause_of, with_row, is_ended_stage, values_of, may_stand, numbers_fit, ways_fit, places_rise, has_room}
+use Rattle.value_animator.specs.Rules.{SoFar, cause_of, with_row, is_ended_stage, may_stand, numbers_fit, ways_fit, places_rise, has_room}
+use Rattle.value_animator.specs.Drafts.{values_of}
 use Rattle.value_animator.specs.Parsing.{next_line, goes_on, values_from}
 
 abbrev pub Read : Type 0

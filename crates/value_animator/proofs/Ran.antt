@@ -8,13 +8,15 @@ use Rattle.std.proofs.lemmas.Option.{same_Some, none-some}
 use Rattle.dash_script.specs.declared.refusal.Cause.{Cause}
 use Rattle.dash_script.specs.declared.refusal.Cause.TheVariants as cause
 use Rattle.line_words.specs.Words.{words}
-use Rattle.dash_script.specs.Statement.{hole_count, numbers_of}
+use Rattle.dash_script.specs.Statement.{numbers_of}
+use Rattle.dash_script.specs.Writing.{hole_count}
 use Rattle.dash_script.proofs.Lines.{numbers_counted}
 use Rattle.value_animator.specs.declared.plan.Values.{Values}
 use Rattle.value_animator.specs.declared.row.RowKind.{RowKind}
 use Rattle.value_animator.specs.declared.row.Row.{Row}
 use Rattle.value_animator.specs.Rows.{form, all_kinds, row_among, row_of, row_text}
-use Rattle.value_animator.specs.Rules.{SoFar, cause_of, with_row, is_ended_stage, values_of}
+use Rattle.value_animator.specs.Rules.{SoFar, cause_of, with_row, is_ended_stage}
+use Rattle.value_animator.specs.Drafts.{values_of}
 use Rattle.value_animator.specs.Parsing.{next_line, goes_on, after_cause, after_row, values_from}
 use Rattle.value_animator.specs.Answering.{run}
 use Rattle.value_animator.proofs.Rows.{row_taken}

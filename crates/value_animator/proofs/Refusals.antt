@@ -10,7 +10,8 @@ use Rattle.dash_script.specs.declared.refusal.Cause.TheVariants as cause
 use Rattle.value_animator.specs.declared.plan.Values.{Values}
 use Rattle.value_animator.specs.declared.row.Row.{Row}
 use Rattle.value_animator.specs.Rows.{row_of}
-use Rattle.value_animator.specs.Rules.{SoFar, nothing, cause_of, with_row, is_ended_stage, values_of}
+use Rattle.value_animator.specs.Rules.{SoFar, nothing, cause_of, with_row, is_ended_stage}
+use Rattle.value_animator.specs.Drafts.{values_of}
 use Rattle.value_animator.specs.Reading.{IsRefusal, with_said, said_cause, first_cause}
 use Rattle.value_animator.specs.Parsing.{after_cause, after_row, next_line, goes_on, values_from, read_values}
 use Rattle.value_animator.proofs.Lines.{failed}

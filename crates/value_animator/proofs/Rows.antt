@@ -6,7 +6,8 @@ use Rattle.std.proofs.lemmas.List.{drop_more, drop_all}
 use Rattle.std.proofs.lemmas.Option.{same_Some, none-some}
 use Rattle.std.proofs.lemmas.List.Splits.{join_with_byte-slice_split}
 use Rattle.line_words.specs.Words.{words, pieces, number_of}
-use Rattle.dash_script.specs.Statement.{filled, numbers_of, hole_count}
+use Rattle.dash_script.specs.Statement.{filled, numbers_of}
+use Rattle.dash_script.specs.Writing.{hole_count}
 use Rattle.dash_script.specs.Laws.{AllSmall}
 use Rattle.dash_script.proofs.Spelling.{numbers_taken}
 use Rattle.dash_script.proofs.Again.{numbers_again, clash, clash_slot, clash_none}

@@ -6,7 +6,8 @@ use Rattle.line_words.specs.Words.{pieces}
 use Rattle.value_animator.specs.declared.plan.Values.{Values}
 use Rattle.value_animator.specs.declared.row.Row.{Row}
 use Rattle.value_animator.specs.Rows.{row_text}
-use Rattle.value_animator.specs.Rules.{SoFar, cause_of, with_row, is_ended_stage, values_of}
+use Rattle.value_animator.specs.Rules.{SoFar, cause_of, with_row, is_ended_stage}
+use Rattle.value_animator.specs.Drafts.{values_of}
 use Rattle.value_animator.specs.Parsing.{next_line, goes_on, after_cause, values_from}
 use Rattle.value_animator.specs.Answering.{run}
 use Rattle.value_animator.proofs.Rows.{IsWhole, row_bytes, row_first, row_again}

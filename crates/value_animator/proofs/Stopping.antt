@@ -11,10 +11,12 @@ use Rattle.dash_script.specs.declared.refusal.Cause.TheVariants as cause
 use Rattle.value_animator.specs.declared.refusal.ParsedValues.TheVariants as parsed
 use Rattle.value_animator.specs.declared.row.Row.{Row}
 use Rattle.value_animator.specs.Rows.{all_kinds, row_of, row_text}
-use Rattle.value_animator.specs.Rules.{SoFar, nothing, cause_of, with_row, is_ended_stage, values_of}
+use Rattle.value_animator.specs.Rules.{SoFar, nothing, cause_of, with_row, is_ended_stage}
+use Rattle.value_animator.specs.Drafts.{values_of}
 use Rattle.value_animator.specs.Parsing.{next_line, goes_on, after_cause, after_row, values_from, read_values}
 use Rattle.line_words.specs.LeastBad.{first_lines}
-use Rattle.value_animator.specs.Least.{Begins, IsLeastBad, NamesLeast}
+use Rattle.value_animator.specs.Least.{IsLeastBad}
+use Rattle.value_animator.specs.Naming.{Begins, NamesLeast}
 use Rattle.value_animator.proofs.Rows.{row_taken}
 use Rattle.value_animator.proofs.Lines.{failed, good_is}
 use Rattle.value_animator.proofs.Ran.{among_counted}

@@ -6,9 +6,8 @@ use Rattle.value_animator.specs.declared.plan.Values.{Values}
 use Rattle.value_animator.specs.declared.row.Row.{Row}
 use Rattle.value_animator.specs.declared.refusal.ParsedValues.{ParsedValues}
 use Rattle.value_animator.specs.declared.refusal.ParsedValues.TheVariants as parsed
-use Rattle.value_animator.specs.declared.reader.Stop.{Stop}
-use Rattle.value_animator.specs.declared.reader.Stop.TheVariants as stop
-use Rattle.value_animator.specs.Rules.{SoFar, cause_of, is_ended_stage, values_of}
+use Rattle.value_animator.specs.Rules.{SoFar, cause_of, is_ended_stage}
+use Rattle.value_animator.specs.Drafts.{values_of}
 use Rattle.value_animator.specs.Reading.{IsText, IsRefusal}
 use Rattle.value_animator.specs.Parsing.{after_cause, goes_on}
 
@@ -27,16 +26,6 @@ Refuses p b = (line : ℕ) (c : Cause) → p ≡ parsed.Bad line c → IsRefusal
 -- the refusal of a text is answered, unless memory ran out
 abbrev pub RefusesAll : ParsedValues → List ℕ → Type 0
 RefusesAll p b = (line : ℕ) (c : Cause) → IsRefusal b line c → (p ≡ parsed.Bad line c) ⊎ (p ≡ parsed.NoMemory)
-
--- reading stopped for this reason, or for want of memory
-abbrev pub Stops : Stop → Result Values (ℕ × Cause) → Type 0
-Stops (stop.Bad line c) read = read ≡ Err (line, c)
-Stops stop.Memory read = Unit {0}
-
--- what was read, or why reading stopped
-abbrev pub Reads : Result Values Stop → Result Values (ℕ × Cause) → Type 0
-Reads (Ok v) read = read ≡ Ok v
-Reads (Err e) read = Stops e read
 
 -- the values of rows from line k on, or the least bad line of them with its first cause
 unfoldable pub run : ℕ → SoFar → List Row → Result Values (ℕ × Cause)

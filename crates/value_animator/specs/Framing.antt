@@ -1,7 +1,8 @@
 -- What frames leave in their choreographer.
 use Rattle.std.specs.Prelude.{◌≡◌, ◌≤◌, ◌<◌, ℕ, ◌-◌, ◌/◌, Bool, true, false, [], ◌∷◌, ◌++◌, map, Some, None}
 use Rattle.frame_phases.specs.declared.entry.FrameEntry.TheVariants.{Begin, Take}
-use Rattle.frame_phases.specs.Frames.{pulse, live, next_phase, last_time, posted_count, taken, take_time}
+use Rattle.frame_phases.specs.Frames.{live, next_phase, last_time, posted_count, taken, take_time}
+use Rattle.frame_phases.specs.Pulses.{pulse}
 use Rattle.frame_phases.specs.State.{Frames, past, next_callback, posted, ran}
 use Rattle.value_animator.specs.FrameEntries.{callback, frame_entries}
 

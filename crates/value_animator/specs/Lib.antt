@@ -14,4 +14,5 @@ pub mod Reading
 pub mod Parsing
 pub mod Answering
 pub mod Least
+pub mod Naming
 pub mod Laws

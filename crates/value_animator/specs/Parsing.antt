@@ -6,7 +6,8 @@ use Rattle.line_words.specs.Words.{pieces}
 use Rattle.value_animator.specs.declared.plan.Values.{Values}
 use Rattle.value_animator.specs.declared.row.Row.{Row}
 use Rattle.value_animator.specs.Rows.{row_of}
-use Rattle.value_animator.specs.Rules.{SoFar, nothing, cause_of, with_row, is_ended_stage, values_of}
+use Rattle.value_animator.specs.Rules.{SoFar, nothing, cause_of, with_row, is_ended_stage}
+use Rattle.value_animator.specs.Drafts.{values_of}
 
 -- a line that has a form, with the cause that cause_of gives
 abbrev pub after_cause : SoFar → Row → Option Cause → Result SoFar Cause

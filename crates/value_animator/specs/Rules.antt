@@ -9,7 +9,6 @@ use Rattle.value_animator.specs.declared.plan.Key.{Key}
 use Rattle.value_animator.specs.declared.plan.Plan.{Plan}
 use Rattle.value_animator.specs.declared.plan.Thing.{Thing}
 use Rattle.value_animator.specs.declared.plan.Thing.TheVariants as thing_of
-use Rattle.value_animator.specs.declared.plan.Values.{Values}
 use Rattle.value_animator.specs.declared.row.RowKind.{RowKind}
 use Rattle.value_animator.specs.declared.row.RowKind.TheVariants as kind
 use Rattle.value_animator.specs.declared.row.Row.{Row}
@@ -172,7 +171,3 @@ is_ended_stage Ended = true
 is_ended_stage Start = false
 is_ended_stage Headed = false
 is_ended_stage Body = false
-
--- the values that were read
-abbrev pub values_of : SoFar → Values
-values_of d = record { period = d.period; things = d.things }

@@ -1,36 +1,17 @@
 //! The values of a text.
 ghost use Rattle.std.specs.Prelude.{◌≡◌};
-ghost use Rattle.value_animator.specs.Least.{NamesLeast};
+ghost use Rattle.dash_script.specs.Stops.{Reads};
+ghost use Rattle.value_animator.specs.Naming.{NamesLeast};
 ghost use Rattle.value_animator.specs.Parsing.{read_values};
-ghost use Rattle.value_animator.specs.Answering.{Refuses, RefusesAll, Finds, FindsAll, Reads};
+ghost use Rattle.value_animator.specs.Answering.{Refuses, RefusesAll, Finds, FindsAll};
 
 use crate::draft::Draft;
 use crate::plan::Values;
 use crate::refusal::ParsedValues;
 use crate::row::row_of;
-use dash_script::Cause;
+use dash_script::{Cause, Stop};
 use line_words::split_first;
-use loop_model::NoMemory;
 use std::alloc::Global;
-
-/// Why reading stops.
-#[derive(Drop)]
-enum Stop {
-    /// This line is bad, for this cause.
-    Bad(u64, Cause),
-    Memory,
-}
-
-impl From<NoMemory> for Stop {
-    ghost use Rattle.std.specs.Prelude.{◌≡◌};
-    ghost use Rattle.value_animator.specs.declared.reader.Stop.TheVariants.{Memory};
-
-    ghost from_gives = { λ _ e. e ≡ Memory };
-
-    fn from(_e: NoMemory) -> Stop {
-        Stop::Memory
-    }
-}
 
 /// Reads line by line until the first bad one.
 fn read(alloc: Global, bytes: &[u8]) -> Result<Values, Stop>

@@ -229,10 +229,10 @@ module _ {X : Type 0} where
       go true e h rest = absurd (let bad : suc s ≤ 0 = rw e at h in omega arith)
       go false e h rest = let more : suc s ≤ 1 + position_or_len p xs = rw e at h in let is = rest (omega arith) in rw e (omega arith)
 
-  pub skip_put : (p : X → Bool) (xs ys : List X) (i s t : ℕ) (x : X) (b : Bool) → p x ≡ b → t ≡ (if b then min s i else (if nat_lt s i then s else s + 1)) → ys ≡ insert xs i x → s ≤ position_or_len p xs → t ≤ position_or_len p ys
+  pub skip_put : (p : X → Bool) (xs ys : List X) (i s t : ℕ) (x : X) (b : Bool) → p x ≡ b → t ≡ (if b then min s i else s) → ys ≡ insert xs i x → s ≤ position_or_len p xs → t ≤ position_or_len p ys
   skip_put p xs ys i s t x true e is at h =
       subst (λ l. t ≤ position_or_len p l) (sym at) (before_put p xs i t x (omega arith) (omega arith))
-  skip_put p xs ys i s t x false e is at h = subst (λ l. t ≤ position_or_len p l) (sym at) (go (nat_lt s i) refl is)
+  skip_put p xs ys i s t x false e is at h = subst (λ l. t ≤ position_or_len p l) (sym at) (subst (λ n. n ≤ position_or_len p (insert xs i x)) (sym is) (go (nat_lt s i) refl))
     where
       below : (u v : ℕ) → nat_lt u v ≡ true → u < v
       below u v e = grind (arith, nat_tests)
@@ -240,9 +240,9 @@ module _ {X : Type 0} where
       above : (u v : ℕ) → nat_lt u v ≡ false → v ≤ u
       above u v e = grind (arith, nat_tests)
 
-      go : (c : Bool) → nat_lt s i ≡ c → t ≡ (if nat_lt s i then s else s + 1) → t ≤ position_or_len p (insert xs i x)
-      go true c is = let lt = below s i c in let same : t ≡ s = rw c at is in subst (λ n. n ≤ position_or_len p (insert xs i x)) (sym same) (before_put p xs i s x h (omega arith))
-      go false c is = let same : t ≡ s + 1 = rw c at is in subst (λ n. n ≤ position_or_len p (insert xs i x)) (sym same) (among_put p xs i s x h (above s i c) e)
+      go : (c : Bool) → nat_lt s i ≡ c → s ≤ position_or_len p (insert xs i x)
+      go true c = let lt = below s i c in before_put p xs i s x h (omega arith)
+      go false c = let more = among_put p xs i s x h (above s i c) e in omega arith
 
   -- one that goes
   fewer_before : (p : X → Bool) (xs : List X) (i s : ℕ) (x : X) → s ≤ position_or_len p (insert xs i x) → s - 1 ≤ position_or_len p xs

@@ -121,6 +121,14 @@ impl Tally {
         if self.is_off() {
             return;
         }
+        self.count_in(message);
+    }
+
+    #[inline(never)]
+    fn count_in<K: Claim>(&mut self, message: &Message<K>)
+        ensures whats { self.new.whats.items ≡ with_more (what_place message.now.item) self.old.whats.items }
+        ensures callbacks { self.new.callbacks.items ≡ with_more (callback_place message.now.item) self.old.callbacks.items }
+    {
         count_more(&mut self.whats, what_place(message));
         count_more(&mut self.callbacks, callback_place(message));
     }
@@ -134,6 +142,14 @@ impl Tally {
         if self.is_off() {
             return;
         }
+        self.count_out(message);
+    }
+
+    #[inline(never)]
+    fn count_out<K: Claim>(&mut self, message: &Message<K>)
+        ensures whats { self.new.whats.items ≡ with_fewer (what_place message.now.item) self.old.whats.items }
+        ensures callbacks { self.new.callbacks.items ≡ with_fewer (callback_place message.now.item) self.old.callbacks.items }
+    {
         count_fewer(&mut self.whats, what_place(message));
         count_fewer(&mut self.callbacks, callback_place(message));
     }

@@ -1,5 +1,5 @@
 use Rattle.std.proofs.Common.{◌≡◌, take}
-use Rattle.run_model.specs.Text.{paints_in}
+use Rattle.run_model.specs.Summary.{paints_in}
 use Rattle.dash_report.proofs.summary.count_paints.Given as goal
 
 abbrev pub invariant-loop-journal : goal.invariant-loop-journal

@@ -1,5 +1,5 @@
 use Rattle.std.proofs.Common.{◌≡◌, take}
-use Rattle.run_model.specs.Text.{accepted_in, dispatched_in}
+use Rattle.run_model.specs.Summary.{accepted_in, dispatched_in}
 use Rattle.dash_report.proofs.summary.count_posts.Given as goal
 
 abbrev pub invariant-loop-queue : goal.invariant-loop-queue

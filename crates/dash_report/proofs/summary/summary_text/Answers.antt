@@ -1,5 +1,5 @@
 use Rattle.std.proofs.Common.{◌∙◌, ap}
-use Rattle.run_model.specs.Text.{accepted_in, dispatched_in, frames_in, paints_in}
+use Rattle.run_model.specs.Summary.{accepted_in, dispatched_in, frames_in, paints_in}
 use Rattle.dash_report.proofs.Written.{summary_written}
 use Rattle.dash_report.proofs.summary.summary_text.Goals as goal
 

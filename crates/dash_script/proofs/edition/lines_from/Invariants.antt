@@ -1,5 +1,5 @@
 use Rattle.std.proofs.Common.{◌≡◌, take, map}
-use Rattle.dash_script.specs.Editions.{line_from}
+use Rattle.dash_script.specs.FromEdition.{line_from}
 use Rattle.dash_script.proofs.edition.lines_from.Given as goal
 
 abbrev pub invariant-loop-line : goal.invariant-loop-line

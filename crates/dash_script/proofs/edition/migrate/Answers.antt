@@ -1,5 +1,5 @@
 use Rattle.std.proofs.Common.{◌∙◌, sym, ap, map, subst}
-use Rattle.dash_script.specs.Editions.{block_from}
+use Rattle.dash_script.specs.FromEdition.{block_from}
 use Rattle.dash_script.specs.Reading.{HasText}
 use Rattle.dash_script.proofs.Migrating.{migrated, up_has_text}
 use Rattle.dash_script.proofs.edition.migrate.Goals as goal

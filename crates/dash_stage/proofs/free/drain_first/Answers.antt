@@ -5,7 +5,7 @@ use Rattle.looper_run.specs.Round.{is_ended}
 use Rattle.run_model.specs.Moments.{Mode, in_free_mode}
 use Rattle.dash_loopers.specs.declared.looper.StageLooper.{StageLooper}
 use Rattle.dash_stage.specs.ByClock.{LoopsByClock}
-use Rattle.dash_stage.proofs.ClockEnds.{each_set, loops_still}
+use Rattle.dash_stage.proofs.ByClock.ClockEnds.{each_set, loops_still}
 use Rattle.dash_stage.proofs.free.drain_first.Goals as goal
 
 pub returns-clause-loopers : goal.returns-clause-loopers
@@ -17,7 +17,7 @@ returns-clause-loopers g c =
     let it : StageLooper = slice_index_or ls 0 c.index-loopers-0.result in
     let some : 0 < length ls = subst (λ (n : ℕ). 0 < n) (sym c.requires.loopers.0) c.requires.some in
     each_set (LoopsByClock m s hall) ls it c.drain_by_clock.new.self (get_or_default ls 0 c.index-loopers-0.result it some) some (loops_still m s hall ls (λ k d lt. (c.requires.loopers.1 k d lt).0))
-    (record { looper = c.drain_by_clock.ensures.looper; number = c.drain_by_clock.ensures.number; clocked = c.drain_by_clock.ensures.clocked })
+    (record { looper = c.drain_by_clock.ensures.looper; number = c.drain_by_clock.ensures.number; plays = c.drain_by_clock.ensures.plays; clocked = c.drain_by_clock.ensures.clocked })
 
 pub returns-clause-others : goal.returns-clause-others
 returns-clause-others g c ended k d some lt =

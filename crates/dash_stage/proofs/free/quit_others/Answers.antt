@@ -1,10 +1,10 @@
-use Rattle.std.proofs.Common.{◌≡◌, ◌≤◌, ◌<◌, true, length, sym, ◌∙◌, subst, arith}
+use Rattle.std.proofs.Common.{◌≡◌, ◌≤◌, ◌<◌, length, sym, ◌∙◌, arith}
 use Rattle.std.proofs.lemmas.Bool.{and_parts}
-use Rattle.run_model.specs.Moments.{Mode, in_free_mode, IsMoment}
-use Rattle.dash_stage.proofs.Controlling.{poster_count}
+use Rattle.run_model.specs.Moments.{Mode, in_free_mode}
+use Rattle.dash_stage.proofs.Controller.Controlling.{poster_count}
 use Rattle.dash_loopers.proofs.LooperMoments.{of_shown}
-use Rattle.dash_stage.proofs.ClockEnds.{in_free, in_its_mode}
-use Rattle.dash_stage.proofs.ClockTurns.{quits_more, quits_clocked, quitting_begins, quitting_ends}
+use Rattle.dash_stage.proofs.ByClock.ClockEnds.{in_free, in_its_mode}
+use Rattle.dash_stage.proofs.ByClock.ClockTurns.{quits_more, quits_clocked, quitting_begins, quitting_ends}
 use Rattle.dash_stage.proofs.free.quit_others.Goals as goal
 
 pub give_up-requires-clause-controller : goal.give_up-requires-clause-controller

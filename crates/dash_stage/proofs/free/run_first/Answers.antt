@@ -4,7 +4,7 @@ use Rattle.std.proofs.lemmas.List.{get_or_default}
 use Rattle.dash_loopers.specs.declared.looper.StageLooper.{StageLooper}
 use Rattle.run_model.specs.Moments.{Mode, in_free_mode}
 use Rattle.dash_stage.specs.ByClock.{LoopsByClock}
-use Rattle.dash_stage.proofs.ClockEnds.{each_set, loops_still}
+use Rattle.dash_stage.proofs.ByClock.ClockEnds.{each_set, loops_still}
 use Rattle.dash_stage.proofs.free.run_first.Goals as goal
 
 pub returns : goal.returns
@@ -17,5 +17,5 @@ returns g c =
     let some : 0 < length ls = omega (arith, c.requires.one) in
     record {
       loopers = each_set (LoopsByClock m s hall) ls it c.run_by_clock.new.self (get_or_default ls 0 c.index-loopers-0.result it some) some (loops_still m s hall ls c.requires.loopers)
-          (record { looper = c.run_by_clock.ensures.looper; number = c.run_by_clock.ensures.number; clocked = c.run_by_clock.ensures.clocked });
+          (record { looper = c.run_by_clock.ensures.looper; number = c.run_by_clock.ensures.number; plays = c.run_by_clock.ensures.plays; clocked = c.run_by_clock.ensures.clocked });
     }

@@ -3,7 +3,7 @@ use Rattle.run_model.specs.Moments.{Mode, in_free_mode}
 use Rattle.dash_hall.specs.Hearing.{AtEach}
 use Rattle.dash_loopers.specs.declared.looper.StageLooper.{StageLooper}
 use Rattle.dash_stage.specs.ByClock.{LoopsByClock}
-use Rattle.dash_stage.proofs.ClockEnds.{each_append}
+use Rattle.dash_stage.proofs.ByClock.ClockEnds.{each_append}
 use Rattle.dash_stage.proofs.free.run_side_by_side.Goals as goal
 
 pub returns-clause-loopers : goal.returns-clause-loopers

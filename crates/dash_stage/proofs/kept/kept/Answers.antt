@@ -1,17 +1,18 @@
-use Rattle.std.proofs.Common.{◌≡◌, ◌≤◌, ◌+◌, ◌∙◌, refl, sym, ap, length, arith}
-use Rattle.dash_stage.proofs.Casting.{all_kits}
+use Rattle.std.proofs.Common.{◌≡◌, ◌≤◌, ◌+◌, ◌∙◌, Bool, refl, sym, ap, subst, length, arith}
+use Rattle.dash_stage.proofs.Sharing.Casting.{all_kits}
 use Rattle.run_model.specs.Senders.{controller}
-use Rattle.dash_stage.proofs.Carried.{run_kept, planned_records, numbered_count, called_by_clock}
+use Rattle.dash_stage.proofs.Ends.Carried.{run_kept, planned_records, numbered_count, called_by_clock}
 use Rattle.loop_model.specs.declared.journal.Journal.{Journal}
-use Rattle.dash_stage.proofs.PlayedRecords.{loopers_of_records}
-use Rattle.dash_stage.proofs.LoopersGive.{given_kept}
-use Rattle.dash_stage.proofs.KitsTold.{told_kept}
-use Rattle.dash_stage.proofs.KitsOver.{over_kept, last_kit}
-use Rattle.dash_stage.proofs.Controls.{controls_of_records}
+use Rattle.dash_stage.proofs.Played.PlayedRecords.{loopers_of_records}
+use Rattle.dash_stage.proofs.Played.Standing.{StandsAt, stands_in_step, stands_by_clock}
+use Rattle.dash_stage.proofs.Played.LoopersGive.{given_kept}
+use Rattle.dash_stage.proofs.Played.KitsTold.{told_kept}
+use Rattle.dash_stage.proofs.Played.KitsOver.{over_kept, last_kit}
+use Rattle.dash_stage.proofs.Controller.Controls.{controls_of_records}
 use Rattle.dash_hall.specs.Hearing.{seen_by, HaveSeenAll}
-use Rattle.dash_stage.proofs.TimelyRecords.{kit_more, first_of_records, reached_of_records, timely_of_records, halted_of_records, ended_in_step}
-use Rattle.dash_stage.proofs.MovesRecords.{moves_of_records}
-use Rattle.dash_stage.proofs.SealedEnds.{all_sealed}
+use Rattle.dash_stage.proofs.Ends.TimelyRecords.{kit_more, first_of_records, reached_of_records, timely_of_records, halted_of_records, ended_in_step, all_sound}
+use Rattle.dash_stage.proofs.Moves.MovesRecords.{moves_of_records}
+use Rattle.dash_stage.proofs.Controller.SealedEnds.{all_sealed}
 use Rattle.dash_stage.proofs.kept.kept.Goals as goal
 use Rattle.run_model.specs.Moments.{in_lockstep}
 use Rattle.dash_threads.specs.Threads.{AreByClock}
@@ -73,17 +74,51 @@ returns-clause-loopers c out =
     let journals = c.in_ok-journals.journals.items in
     let ls = c.args.stage.loopers.items in
     let whole = seen_by mine.posters.items in
+    let is_hall = c.requires.stage.hall in
+    let are = all_kits s hall kits kits' c.args.stage.controller c.in_ok-journals.ensures.kits c.requires.stage.controller grown in
+    let held = last_kit kits kits' mine (controller s) count grown in
     let same = out.timely.same in
+    let by = ended_in_step s c.args.stage out in
     let many : length journals ≡ s.loopers = numbered_count (λ (z : Journal). z.looper) s.loopers journals c.in_ok-journals.ensures.journals in
     let place = count ∙ ap (λ n. s.threads + n) (sym many) in
-    loopers_of_records s hall kits' c.in_ok-queues.queues.items c.requires.stage.hall (all_kits s hall kits kits' c.args.stage.controller c.in_ok-journals.ensures.kits c.requires.stage.controller grown)
-    c.args.stage.controller (last_kit kits kits' mine (controller s) count grown) (returns-clause-queues c in_lockstep (ended_in_step c.args.script.now c.args.stage out)) c.in_ok-queues.ensures.all
-    (kit_more (HaveSeenAll whole) kits kits' mine grown refl (c.in_ok-journals.ensures.seen whole same.loopers (c.in_ok-kits.ensures.seen whole same.threads))) c.requires.playable.few
+    let recs = returns-clause-queues c in_lockstep by in
+    let seen = kit_more (HaveSeenAll whole) kits kits' mine grown refl (c.in_ok-journals.ensures.seen whole same.loopers (c.in_ok-kits.ensures.seen whole same.threads)) in
+    let given = given_kept s ls journals kits kits' mine place grown c.in_ok-journals.ensures.left in
+    loopers_of_records in_lockstep s hall kits' c.in_ok-queues.queues.items is_hall are c.args.stage.controller held recs c.in_ok-queues.ensures.all seen c.requires.playable.few
     journals c.in_ok-queues.frames.items ls c.in_ok-journals.ensures.journals c.in_ok-queues.ensures.frames c.in_ok-queues.ensures.own
-    (told_kept s journals kits kits' mine place grown (c.in_ok-journals.ensures.told c.requires.on))
-    (given_kept s ls journals kits kits' mine place grown c.in_ok-journals.ensures.left) c.requires.on c.requires.stage.loopers.0 (λ k d lt. (c.requires.stage.loopers.1 k d lt).1) out.played
-    (returns-clause-planned c in_lockstep out.run) (returns-clause-controls c in_lockstep (ended_in_step s c.args.stage out) out.closed) out.stage.controller
+    (told_kept s journals kits kits' mine place grown (c.in_ok-journals.ensures.told c.requires.on)) given c.requires.on c.requires.stage.loopers.0
+    (stands_in_step s c.args.stage.controller journals kits' ls given c.requires.stage.loopers.0 many (λ k d lt. (c.requires.stage.loopers.1 k d lt).1)
+    (out.played (all_sound s hall kits' c.in_ok-queues.queues.items is_hall are c.args.stage.controller held recs c.in_ok-queues.ensures.all seen)))
+    (returns-clause-planned c in_lockstep out.run) (returns-clause-controls c in_lockstep by out.closed) out.stage.controller
     (run_kept s hall in_lockstep kits kits' mine (omega (arith, count)) grown (c.in_ok-journals.ensures.run in_lockstep (c.in_ok-kits.ensures.run in_lockstep out.run))) c.in_ok-queues.ensures.theirs
+
+pub returns-clause-by_clock : goal.returns-clause-by_clock
+returns-clause-by_clock c m out =
+    let s = c.args.script.now in
+    let hall = c.args.stage.hall in
+    let kits = c.looper_kits.new.kits.items in
+    let kits' = c.push.new.self.items in
+    let grown = c.in_ok-push.ensures.items in
+    let mine = c.args.stage.controller.kit in
+    let count = c.in_ok-journals.ensures.kits.0 in
+    let journals = c.in_ok-journals.journals.items in
+    let ls = c.args.stage.loopers.items in
+    let whole = seen_by mine.posters.items in
+    let is_hall = c.requires.stage.hall in
+    let are = all_kits s hall kits kits' c.args.stage.controller c.in_ok-journals.ensures.kits c.requires.stage.controller grown in
+    let held = last_kit kits kits' mine (controller s) count grown in
+    let same = out.out.same in
+    let many : length journals ≡ s.loopers = numbered_count (λ (z : Journal). z.looper) s.loopers journals c.in_ok-journals.ensures.journals in
+    let place = count ∙ ap (λ n. s.threads + n) (sym many) in
+    let recs = returns-clause-queues c m out.out in
+    let seen = kit_more (HaveSeenAll whole) kits kits' mine grown refl (c.in_ok-journals.ensures.seen whole same.loopers (c.in_ok-kits.ensures.seen whole same.threads)) in
+    let given = given_kept s ls journals kits kits' mine place grown c.in_ok-journals.ensures.left in
+    loopers_of_records m s hall kits' c.in_ok-queues.queues.items is_hall are c.args.stage.controller held recs c.in_ok-queues.ensures.all seen c.requires.playable.few
+    journals c.in_ok-queues.frames.items ls c.in_ok-journals.ensures.journals c.in_ok-queues.ensures.frames c.in_ok-queues.ensures.own
+    (told_kept s journals kits kits' mine place grown (c.in_ok-journals.ensures.told c.requires.on)) given c.requires.on c.requires.stage.loopers.0
+    (λ k lt. subst (λ (b : Bool). StandsAt b s c.args.stage.controller journals kits' k) (sym out.free) (stands_by_clock s c.args.stage.controller journals kits' ls given c.requires.stage.loopers.0 many out.played k lt))
+    (returns-clause-planned c m out.run) (returns-clause-controls c m out.out out.closed) out.out.stage.controller
+    (run_kept s hall m kits kits' mine (omega (arith, count)) grown (c.in_ok-journals.ensures.run m (c.in_ok-kits.ensures.run m out.run))) c.in_ok-queues.ensures.theirs
 
 pub returns-clause-timely : goal.returns-clause-timely
 returns-clause-timely c out =

@@ -1,12 +1,12 @@
 use Rattle.std.proofs.Common.{rules, ◌≤◌, ◌<◌, ◌∙◌, ap, length, arith}
 use Rattle.dash_loopers.specs.declared.looper.StageLooper.{StageLooper}
-use Rattle.dash_stage.proofs.Casting.{looper_back, first_looper}
-use Rattle.dash_stage.proofs.Carried.{run_kept}
-use Rattle.dash_stage.proofs.KitsOver.{over_back}
-use Rattle.dash_stage.proofs.KitsTold.{told_back}
-use Rattle.dash_stage.proofs.LoopersGive.{given_back}
+use Rattle.dash_stage.proofs.Sharing.Casting.{looper_back, first_looper}
+use Rattle.dash_stage.proofs.Ends.Carried.{run_kept}
+use Rattle.dash_stage.proofs.Played.KitsOver.{over_back}
+use Rattle.dash_stage.proofs.Played.KitsTold.{told_back}
+use Rattle.dash_stage.proofs.Played.LoopersGive.{given_back}
 use Rattle.dash_hall.specs.Hearing.{HaveSeenAll}
-use Rattle.dash_stage.proofs.TimelyRecords.{looper_gives}
+use Rattle.dash_stage.proofs.Ends.TimelyRecords.{looper_gives}
 use Rattle.dash_stage.proofs.kept.looper_kits.Goals as goal
 use Rattle.dash_threads.specs.Threads.{AreByClock}
 
@@ -22,7 +22,7 @@ each-preserved c =
     let all : s.threads ≤ length at.kits.items = omega (arith, count) in
     let number = ap (λ (z : StageLooper). z.number) c.remove.ensures.value ∙ (first_looper s hall (length at.journals.items) at.loopers.items c.remove.result at.invariant.0 some).1 in
     let given = given_back s c.args.loopers.items at.journals.items c.push.new.self.items at.loopers.items c.remove.new.self.items at.kits.items c.push-in-each.new.self.items c.remove.result c.in_ok-journal.journal c.in_ok-journal.kit
-    some c.remove.ensures.value c.remove.ensures.items at.invariant.1 number c.in_ok-journal.ensures.left c.in_ok-journal.ensures.disposes c.in_ok-push.ensures.items c.in_ok-push-2.ensures.items at.invariant.8 at.invariant.9 in (
+    some c.remove.ensures.value c.remove.ensures.items at.invariant.1 number c.in_ok-journal.ensures.left c.in_ok-journal.ensures.left_by c.in_ok-journal.ensures.disposes c.in_ok-push.ensures.items c.in_ok-push-2.ensures.items at.invariant.8 at.invariant.9 in (
       back.0,
       back.1,
       back.2,

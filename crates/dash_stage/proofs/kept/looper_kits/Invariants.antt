@@ -8,7 +8,7 @@ use Rattle.dash_stage.specs.Sharing.{OfLoopers, OfKits}
 use Rattle.dash_loopers.specs.Loopers.{HaveTold}
 use Rattle.dash_stage.specs.Leaving.{HaveGiven}
 use Rattle.dash_stage.specs.Stages.{AreLoopersFrom, AreFirstKits, OthersHaveEnded, LoopersGoOn}
-use Rattle.dash_stage.proofs.KitsOver.{HaveEndedFrom, AreOverAmong}
+use Rattle.dash_stage.proofs.Played.KitsOver.{HaveEndedFrom, AreOverAmong}
 use Rattle.dash_stage.proofs.kept.looper_kits.Given as goal
 use Rattle.run_model.specs.Moments.{Mode}
 use Rattle.dash_threads.specs.Threads.{AreByClock}

@@ -11,8 +11,8 @@ use Rattle.run_model.specs.Moves.{moves, AreMovedTogether}
 use Rattle.dash_stage.specs.Blocks.{AreBlocksFirst, AreBlocksReached}
 use Rattle.dash_stage.specs.Records.{AreQueueRecords, AreJournals, AreFrameRecords}
 use Rattle.dash_stage.proofs.kept.report.Goals as goal
-use Rattle.dash_stage.proofs.TimelyRecords.{ended_in_step}
-use Rattle.dash_stage.proofs.StageShares.{stage_in_its_mode}
+use Rattle.dash_stage.proofs.Ends.TimelyRecords.{ended_in_step}
+use Rattle.dash_stage.proofs.Sharing.StageShares.{stage_in_its_mode}
 
 pub returns-in-Ok : goal.returns-in-Ok
 returns-in-Ok c =

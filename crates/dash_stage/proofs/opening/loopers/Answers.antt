@@ -8,8 +8,8 @@ use Rattle.run_model.specs.Loopers.{first_looper}
 use Rattle.dash_loopers.specs.Played.{HasCome}
 use Rattle.dash_stage.specs.Timeliness.{WaitForNothing}
 use Rattle.dash_stage.specs.Playing.{HaveBegun}
-use Rattle.dash_stage.proofs.Casting.{looper_made, first_more}
-use Rattle.dash_stage.proofs.Carried.{other_unused}
+use Rattle.dash_stage.proofs.Sharing.Casting.{looper_made, first_more}
+use Rattle.dash_stage.proofs.Ends.Carried.{other_unused}
 use Rattle.dash_stage.proofs.opening.loopers.Goals as goal
 
 pub new-requires-clause-unused : goal.new-requires-clause-unused

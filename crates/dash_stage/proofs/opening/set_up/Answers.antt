@@ -1,11 +1,11 @@
 use Rattle.std.proofs.Common.{◌<◌, length, refl, sym, subst, arith}
 use Rattle.dash_stage.specs.declared.stage.Stage.{Stage}
 use Rattle.dash_hall.specs.Kits.{IsKitOf, IsUnusedKit}
-use Rattle.dash_stage.proofs.Carried.{unused_kits}
+use Rattle.dash_stage.proofs.Ends.Carried.{unused_kits}
 use Rattle.run_model.specs.Senders.{controller}
-use Rattle.dash_stage.proofs.Casting.{controller_of, first_kit}
-use Rattle.dash_stage.proofs.StageControls.{unused_by, unused_moves}
-use Rattle.dash_stage.proofs.StageBegins.{begins_timely, begins_rested, begins_in_step}
+use Rattle.dash_stage.proofs.Sharing.Casting.{controller_of, first_kit}
+use Rattle.dash_stage.proofs.Controller.StageControls.{unused_by, unused_moves}
+use Rattle.dash_stage.proofs.Stages.StageBegins.{begins_timely, begins_rested, begins_in_step}
 use Rattle.dash_stage.proofs.opening.set_up.Goals as goal
 
 pub threads-requires-clause-unused : goal.threads-requires-clause-unused

@@ -3,8 +3,8 @@ use Rattle.dash_hall.specs.declared.kit.Kit.{Kit}
 use Rattle.dash_threads.specs.declared.thread.PostingThread.{PostingThread}
 use Rattle.dash_hall.specs.Kits.{IsKitOf, AreUnseen, IsUnusedKit}
 use Rattle.dash_stage.specs.Sharing.{OfThreads}
-use Rattle.dash_stage.proofs.Casting.{thread_of, first_kit, first_more}
-use Rattle.dash_stage.proofs.Carried.{thread_made}
+use Rattle.dash_stage.proofs.Sharing.Casting.{thread_of, first_kit, first_more}
+use Rattle.dash_stage.proofs.Ends.Carried.{thread_made}
 use Rattle.dash_stage.proofs.opening.threads.Goals as goal
 
 pub loop-number-preserved : goal.loop-number-preserved

@@ -2,7 +2,7 @@ use Rattle.std.proofs.Common.{◌≡◌, ◌+◌, ◌<◌, [], ◌∷◌, ◌++�
 use Rattle.dash_hall.specs.declared.kit.Kit.{Kit}
 use Rattle.dash_hall.specs.Dealing.{GivesPass}
 use Rattle.dash_hall.proofs.HallSteps.{holder_within}
-use Rattle.dash_stage.proofs.HallFrames.{has_pass, takes_more, taken_own, taken_theirs}
+use Rattle.dash_stage.proofs.Ends.HallFrames.{has_pass, takes_more, taken_own, taken_theirs}
 use Rattle.dash_stage.proofs.records.frame_record.Goals as goal
 
 pub next_pass-requires : goal.next_pass-requires

@@ -1,5 +1,5 @@
 use Rattle.std.proofs.Common.{◌≡◌, length}
-use Rattle.dash_stage.proofs.HallFrames.{AreTaken}
+use Rattle.dash_stage.proofs.Ends.HallFrames.{AreTaken}
 use Rattle.dash_stage.proofs.records.frame_record.Given as goal
 
 abbrev pub invariant-loop-number : goal.invariant-loop-number

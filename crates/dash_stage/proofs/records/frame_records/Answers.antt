@@ -8,7 +8,7 @@ use Rattle.shared_queue.proofs.Gathers.{regrouped}
 use Rattle.dash_hall.specs.Kits.{frame_key, frame_constants}
 use Rattle.dash_stage.specs.Ending.{HaveAllPasses}
 use Rattle.dash_hall.proofs.HallPasses.{given_all, given_are}
-use Rattle.dash_stage.proofs.HallFrames.{HaveEnded, ended_none, next_passes, next_constants, ends_more, ended_all}
+use Rattle.dash_stage.proofs.Ends.HallFrames.{HaveEnded, ended_none, next_passes, next_constants, ends_more, ended_all}
 use Rattle.dash_stage.proofs.records.frame_records.Goals as goal
 
 pub loop-choreographer-init : goal.loop-choreographer-init

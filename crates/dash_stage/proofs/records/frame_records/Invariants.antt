@@ -1,6 +1,6 @@
 use Rattle.std.proofs.Common.{◌≡◌, ◌++◌, length}
 use Rattle.std.specs.Vec.Iter.{into_iter_items, into_iter_len}
-use Rattle.dash_stage.proofs.HallFrames.{HaveEnded}
+use Rattle.dash_stage.proofs.Ends.HallFrames.{HaveEnded}
 use Rattle.dash_stage.proofs.records.frame_records.Given as goal
 
 abbrev pub invariant-loop-choreographer : goal.invariant-loop-choreographer

@@ -1,7 +1,7 @@
 use Rattle.std.proofs.Common.{rules, ◌≡◌, ◌<◌, [], ◌∷◌, ◌++◌, length, refl, ap, subst, arith, length-append}
 use Rattle.dash_hall.specs.declared.kit.Kit.{Kit}
 use Rattle.dash_hall.specs.Dealing.{GivesPoster}
-use Rattle.dash_stage.proofs.HallEnds.{gave_more}
+use Rattle.dash_stage.proofs.Ends.HallEnds.{gave_more}
 use Rattle.dash_stage.proofs.records.posters.Goals as goal
 
 pub loop-place-preserved : goal.loop-place-preserved

@@ -1,5 +1,5 @@
 use Rattle.std.proofs.Common.{◌≡◌, length}
-use Rattle.dash_stage.proofs.HallEnds.{SomeGave}
+use Rattle.dash_stage.proofs.Ends.HallEnds.{SomeGave}
 use Rattle.dash_stage.proofs.records.posters.Given as goal
 
 abbrev pub invariant-loop-place : goal.invariant-loop-place

@@ -2,11 +2,11 @@ use Rattle.std.proofs.Common.{◌≡◌, ◌++◌, length}
 use Rattle.std.specs.List.{AllByRecursion}
 use Rattle.std.specs.Vec.Iter.{into_iter_items, into_iter_len}
 use Rattle.run_model.specs.Moments.{Mode}
-use Rattle.run_model.specs.Run.{IsHistory, all_entries}
+use Rattle.run_model.specs.Run.{IsRecordOf, all_entries}
 use Rattle.dash_hall.specs.Kits.{AreQueuesOf}
 use Rattle.dash_stage.specs.Ending.{AreSealed}
 use Rattle.dash_stage.specs.Records.{HaveCalledByClock}
-use Rattle.dash_stage.proofs.HallEnds.{AreRetired}
+use Rattle.dash_stage.proofs.Ends.HallEnds.{AreRetired}
 use Rattle.dash_stage.proofs.records.queue_records.Given as goal
 
 abbrev pub invariant-loop-queue : goal.invariant-loop-queue
@@ -17,5 +17,5 @@ invariant-loop-queue l = record {
   count : length l.records.items ≡ length l.yielded;
   sealed : AreSealed l.kits.items l.sealed.items;
   retired : AreRetired l.initial.kits.items l.records.items l.kits.items;
-  histories : (m : Mode) → AreQueuesOf m.lockstep l.script l.pool (into_iter_items l.initial.queue-iterator) → HaveCalledByClock m l.script l.initial.kits.items → AllByRecursion (IsHistory m all_entries l.script) l.records.items;
+  histories : (m : Mode) → AreQueuesOf m.lockstep l.script l.pool (into_iter_items l.initial.queue-iterator) → HaveCalledByClock m l.script l.initial.kits.items → AllByRecursion (IsRecordOf m all_entries l.script) l.records.items;
 }

@@ -2,8 +2,8 @@ use Rattle.std.proofs.Common.{◌≡◌, ◌+◌, ◌<◌, List, length, get_or,
 use mathlib.Core.List.{IsPrefix}
 use Rattle.choreographer.specs.Known.{Known as Pass}
 use Rattle.frame_phases.specs.declared.entry.FrameRecord.{FrameRecord}
-use Rattle.dash_stage.proofs.Carried.{numbered_count}
-use Rattle.dash_stage.proofs.HallFrames.{frames_kept}
+use Rattle.dash_stage.proofs.Ends.Carried.{numbered_count}
+use Rattle.dash_stage.proofs.Ends.HallFrames.{frames_kept}
 use Rattle.dash_stage.proofs.records.records.Goals as goal
 use Rattle.dash_hall.specs.Kits.{AreQueuesOf}
 

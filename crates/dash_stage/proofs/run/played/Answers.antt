@@ -1,4 +1,4 @@
-use Rattle.dash_stage.proofs.Limits.{playable}
+use Rattle.dash_stage.proofs.BlockTimes.Limits.{playable}
 use Rattle.dash_stage.proofs.run.played.Goals as goal
 use Rattle.run_model.specs.Moments.{in_lockstep}
 

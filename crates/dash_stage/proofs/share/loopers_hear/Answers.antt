@@ -4,7 +4,7 @@ use Rattle.dash_hall.specs.Hearing.{AreKnown, HaveHeardAt}
 use Rattle.dash_loopers.specs.Loopers.{LooperKeeps}
 use Rattle.dash_stage.specs.Sharing.{OfLoopers}
 use Rattle.dash_hall.proofs.Sharing.{first_more}
-use Rattle.dash_stage.proofs.LooperShares.{of_next_looper}
+use Rattle.dash_stage.proofs.Sharing.LooperShares.{of_next_looper}
 use Rattle.dash_stage.proofs.share.loopers_hear.Goals as goal
 
 pub hear-requires-clause-known : goal.hear-requires-clause-known

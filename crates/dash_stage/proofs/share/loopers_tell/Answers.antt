@@ -1,7 +1,7 @@
 use Rattle.std.proofs.Common.{◌<◌, ◌≤◌, length, arith}
 use Rattle.dash_hall.proofs.Hearing.{heard_then}
 use Rattle.dash_hall.proofs.Sharing.{first_more, first_all, first_weaker}
-use Rattle.dash_stage.proofs.LooperShares.{LooperTells, looper_tells_more}
+use Rattle.dash_stage.proofs.Sharing.LooperShares.{LooperTells, looper_tells_more}
 use Rattle.dash_stage.proofs.share.loopers_tell.Goals as goal
 
 pub loop-k-preserved : goal.loop-k-preserved

@@ -1,6 +1,6 @@
 use Rattle.dash_hall.specs.Hearing.{HasHeard}
 use Rattle.dash_hall.proofs.Sharing.{FirstAre}
-use Rattle.dash_stage.proofs.LooperShares.{LooperTells}
+use Rattle.dash_stage.proofs.Sharing.LooperShares.{LooperTells}
 use Rattle.dash_stage.proofs.share.loopers_tell.Given as goal
 
 abbrev pub invariant-loop-k : goal.invariant-loop-k

@@ -4,8 +4,8 @@ use Rattle.looper_run.specs.Holding.{Sender}
 use Rattle.dash_hall.specs.Hearing.{AreKept, AreReady, AreKnown}
 use Rattle.dash_stage.specs.Sharing.{OfLoopers}
 use Rattle.dash_hall.proofs.Hearing.{ready_kept, known_kept}
-use Rattle.dash_stage.proofs.ThreadShares.{of_threads_then}
-use Rattle.dash_stage.proofs.LooperShares.{of_loopers_then, loopers_within}
+use Rattle.dash_stage.proofs.Sharing.ThreadShares.{of_threads_then}
+use Rattle.dash_stage.proofs.Sharing.LooperShares.{of_loopers_then, loopers_within}
 use Rattle.dash_stage.proofs.share.share_by.Goals as goal
 
 pub threads_hear-requires-clause-ready : goal.threads_hear-requires-clause-ready

@@ -4,7 +4,7 @@ use Rattle.dash_hall.specs.Hearing.{AreKnown, HaveHeardAt}
 use Rattle.dash_threads.specs.Threads.{ThreadKeeps}
 use Rattle.dash_stage.specs.Sharing.{OfThreads}
 use Rattle.dash_hall.proofs.Sharing.{first_more}
-use Rattle.dash_stage.proofs.ThreadShares.{of_next}
+use Rattle.dash_stage.proofs.Sharing.ThreadShares.{of_next}
 use Rattle.dash_stage.proofs.share.threads_hear.Goals as goal
 
 pub hear-requires-clause-known : goal.hear-requires-clause-known

@@ -2,7 +2,7 @@ use Rattle.std.specs.Prelude.{slice_index_or, true, false}
 use Rattle.std.proofs.Common.{sym, ◌∙◌}
 use Rattle.dash_loopers.specs.Loopers.{HasRun, ComesToWait}
 use Rattle.dash_stage.specs.Playing.{PlaysOn}
-use Rattle.dash_stage.proofs.Turns.{of_same, turn_at}
+use Rattle.dash_stage.proofs.Sharing.Turns.{of_same, turn_at}
 use Rattle.dash_stage.proofs.side.run_loopers.Goals as goal
 
 pub returns-then-some_gave_up-clause-waits : goal.returns-then-some_gave_up-clause-waits

@@ -5,9 +5,10 @@ use Rattle.dash_threads.proofs.thread.post_frame.Goals as goal
 
 pub post_callback-requires-clause-ready : goal.post_callback-requires-clause-ready
 post_callback-requires-clause-ready g c =
-    record { of_queue = c.requires.queue; of_pool = c.requires.pass; home = c.requires.home; on = (search rules); clocked = begins_by_clock c.args.now _ c.args.poster.now c.of-began.ensures }
+    record { of_queue = c.requires.queue; of_pool = c.requires.pass; home = c.requires.home; on = (search rules); clocked = begins_by_clock c.args.post.now _ c.args.poster.now c.of-began.ensures }
 
 pub returns-clause-made : goal.returns-clause-made
 returns-clause-made g c =
-    frame_made c.post_callback.result _ _ c.args.poster.now c.post_callback.new.self.poster.now _ _ _ _ c.args.now c.args.phase c.args.id c.args.delay
+    let post = c.args.post in
+    frame_made c.post_callback.result _ _ c.args.poster.now c.post_callback.new.self.poster.now _ _ _ _ post.now post.phase c.from-id.result post.id post.delay c.from-id.ensures
     c.post_callback.ensures.origin c.post_callback.ensures.ready c.of-began.ensures (search rules) c.post_callback.ensures.turn

@@ -1,6 +1,6 @@
 use Rattle.std.proofs.Common.{◌≡◌, ℕ, Bool, true, false, arith, ap, ◌∙◌, refl}
 use Rattle.std.specs.Prelude.{if◌then◌else◌, Some}
-use Rattle.frame_phases.specs.Frames.{pulse}
+use Rattle.frame_phases.specs.Pulses.{pulse}
 use Rattle.frame_phases.specs.State.{Frames, scheduled_at}
 use Rattle.frame_phases.proofs.tests.late_frames_are_moved_up_by_whole_intervals.Goals as goal
 

@@ -1,5 +1,5 @@
 use Rattle.std.proofs.Common.{◌≡◌, drop}
-use Rattle.line_words.specs.Words.{digits_from}
+use Rattle.line_words.specs.Rests.{digits_from}
 use Rattle.line_words.proofs.words.digits.Given as goal
 
 abbrev pub invariant-loop-digit : goal.invariant-loop-digit

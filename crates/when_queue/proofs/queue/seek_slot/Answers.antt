@@ -1,7 +1,6 @@
 use Rattle.std.proofs.Common.{◌≡◌, ◌≤◌, ◌+◌, ◌-◌, ap, sym, ◌∙◌, arith, length, false, if◌then◌else◌}
-use Rattle.std.specs.Prelude.{nat_lt, not, ◌==◌}
+use Rattle.std.specs.Prelude.{◌==◌}
 use Rattle.std.specs.List.{position_or_len}
-use Rattle.std.proofs.lemmas.List.Sums.{prefix_len-le-length}
 use Rattle.loop_model.specs.Items.{when_of}
 use Rattle.when_queue.specs.Queue.{is_later}
 use Rattle.when_queue.proofs.Lists.{behind_all, not_zero}
@@ -17,15 +16,7 @@ returns-then-when-clause-place g c =
     let all = behind_all c.args.when c.args.list.now (c.len-len.result - 1) c.get.result.now c.requires end c.get.ensures last in
     c.len-len.ensures ∙ (sym all ∙ sym (ap (λ b. if b then 0 else position_or_len (is_later c.args.when) c.args.list.now) test))
 
-pub returns-clause-within : goal.returns-clause-within
-returns-clause-within g c =
-    let le = prefix_len-le-length (λ m. not (nat_lt c.args.when (when_of m.item))) c.seek_start-from.new.list in
-    let at : c.seek_from-place.result ≡ position_or_len (λ m. nat_lt c.args.when (when_of m.item)) c.seek_start-from.new.list = c.seek_from-place.ensures.index in
-    let same = ap length c.seek_start-from.ensures.same in
-    omega arith
-
 pub returns-clause-place : goal.returns-clause-place
 returns-clause-place g c =
     let test : (c.args.when == 0) ≡ false = not_zero c.args.when c.if-when-eq0.false in
-    let at : c.seek_from-place.result ≡ position_or_len (is_later c.args.when) c.seek_start-from.new.list = c.seek_from-place.ensures.index in
-    at ∙ (ap (position_or_len (is_later c.args.when)) c.seek_start-from.ensures.same ∙ sym (ap (λ b. if b then 0 else position_or_len (is_later c.args.when) c.args.list.now) test))
+    c.seek_between.ensures.place ∙ sym (ap (λ b. if b then 0 else position_or_len (is_later c.args.when) c.args.list.now) test)

@@ -1,12 +1,12 @@
 use Rattle.std.proofs.Common.{◌≡◌, false, Some, ap, ◌∙◌, arith}
-use Rattle.std.proofs.lemmas.Option.{slice_get_read}
 use Rattle.looper_run.specs.Holding.{Workplace}
 use Rattle.looper_run.proofs.Rounds.{round_any}
 use Rattle.run_model.specs.Moments.{in_free_mode}
 use Rattle.dash_loopers.specs.Loopers.{is_given_up}
 use Rattle.dash_loopers.specs.Players.{ServesAt}
 use Rattle.dash_loopers.specs.Clocked.{ClockOwner}
-use Rattle.dash_loopers.proofs.LooperPlaces.{queue_count, queue_home, serves_with}
+use Rattle.dash_loopers.proofs.LooperPlaces.{serves_with}
+use Rattle.dash_loopers.proofs.LooperQueue.{within_queues, queue_read, at_queue}
 use Rattle.dash_loopers.proofs.LooperKits.{looper_of, parts_of, parts_left, looper_then}
 use Rattle.dash_loopers.proofs.LooperPlayed.{unless}
 use Rattle.dash_loopers.proofs.LooperLoops.{played_by, played_left_by}
@@ -18,23 +18,15 @@ pub index-requires : goal.index-requires
 index-requires g c =
     let hall = c.args.hall.now in
     let l = c.args.self.now in
-    let count = queue_count c.args.script.now hall l.number (looper_of c.args.script.now hall l c.requires.hall c.requires.looper) in
-    let one = c.requires.looper.number in
-    omega (arith, count, one, hall.queues.ok.0)
+    let near = within_queues c.args.script.now hall l c.requires.hall c.requires.looper in
+    omega (arith, near, hall.queues.ok.0)
 
 pub run_round-last-requires-clause-at : goal.run_round-last-requires-clause-at
 run_round-last-requires-clause-at g c =
     let hall = c.args.hall.now in
     let l = c.args.self.now in
-    let of = looper_of c.args.script.now hall l c.requires.hall c.requires.looper in
-    let count = queue_count c.args.script.now hall l.number of in
-    let one = c.requires.looper.number in
-    let at = slice_get_read hall.queues.items hall.queues.len l.number c.index.result.now (omega (arith, hall.queues.ok.0)) (omega (arith, count, one, hall.queues.ok.0)) c.index.ensures in
-    record {
-      poster = c.requires.looper.place.queue c.index.result.now at;
-      pass = c.requires.looper.place.pool;
-      home = queue_home c.args.script.now hall l.number of l.number c.index.result.now at;
-    }
+    let at = queue_read c.args.script.now hall l c.requires.hall c.requires.looper hall.queues.len c.index.result.now (omega (arith, hall.queues.ok.0)) c.index.ensures in
+    at_queue c.args.script.now hall l c.requires.hall c.requires.looper c.index.result.now at
 
 pub run_round-last-requires-clause-serves : goal.run_round-last-requires-clause-serves
 run_round-last-requires-clause-serves g c =
@@ -51,7 +43,7 @@ pub run_round-last-requires-clause-meets : goal.run_round-last-requires-clause-m
 run_round-last-requires-clause-meets g c =
     let l = c.args.self.now in
     let is : l.parts ≡ Some c.in-Some.parts = cc in
-    let m = in_free_mode (g.C.Clock.shows c.args.timer.now.clock.now) c.args.timer.now.start in
+    let m = in_free_mode (g.C.Clock.shows c.args.pace.now.timer.now.clock.now) c.args.pace.now.timer.now.start in
     playing_at_start m c.args.script.now l _ c.in-Some.parts c.of-began.ensures is c.requires.looper.own
 
 pub close-requires-clause-parts : goal.close-requires-clause-parts
@@ -66,9 +58,7 @@ returns-clause-looper g c =
     let hall = c.args.hall.now in
     let l = c.args.self.now in
     let is : l.parts ≡ Some c.in-Some.parts = cc in
-    let count = queue_count c.args.script.now hall l.number (looper_of c.args.script.now hall l c.requires.hall c.requires.looper) in
-    let one = c.requires.looper.number in
-    let at = slice_get_read hall.queues.items hall.queues.len l.number c.index.result.now (omega (arith, hall.queues.ok.0)) (omega (arith, count, one, hall.queues.ok.0)) c.index.ensures in
+    let at = queue_read c.args.script.now hall l c.requires.hall c.requires.looper hall.queues.len c.index.result.now (omega (arith, hall.queues.ok.0)) c.index.ensures in
     let d = c.run_round-last.new.d in
     let last = c.run_round-last.result in
     let left = λ (w : Workplace) (first : ServesAt c.args.script.now hall l.number c.in-Some.parts w).
@@ -83,7 +73,7 @@ returns-clause-plays g c =
     let last = c.run_round-last.result in
     let after = c.run_round-last.new.self in
     let parts = c.run_round-last.new.d.parts in
-    let m = in_free_mode (g.C.Clock.shows c.args.timer.now.clock.now) c.args.timer.now.start in
+    let m = in_free_mode (g.C.Clock.shows c.args.pace.now.timer.now.clock.now) c.args.pace.now.timer.now.start in
     played_left_by s l after last parts c.close.new.parts (λ going. c.close.ensures.same (c.gave_up.ensures ∙ going))
     (played_by s l parts after last (c.run_round-last.ensures.same.sender ∙ c.requires.looper.own)
     (λ going. (playing_at_end m s c.args.hall.now l _ _ parts after c.of-began.ensures c.run_round-last.ensures.origin (unless last _ going c.run_round-last.ensures.meets)).plays))
@@ -96,14 +86,12 @@ returns-clause-clocked g c =
     let last = c.run_round-last.result in
     let after = c.run_round-last.new.self in
     let parts = c.run_round-last.new.d.parts in
-    let shows = g.C.Clock.shows c.args.timer.now.clock.now in
-    let start = c.args.timer.now.start in
+    let shows = g.C.Clock.shows c.args.pace.now.timer.now.clock.now in
+    let start = c.args.pace.now.timer.now.start in
     let m = in_free_mode shows start in
     let q = c.index.result.now in
     let of = looper_of s hall l c.requires.hall c.requires.looper in
-    let count = queue_count s hall l.number of in
-    let one = c.requires.looper.number in
-    let at = slice_get_read hall.queues.items hall.queues.len l.number q (omega (arith, hall.queues.ok.0)) (omega (arith, count, one, hall.queues.ok.0)) c.index.ensures in
+    let at = queue_read s hall l c.requires.hall c.requires.looper hall.queues.len q (omega (arith, hall.queues.ok.0)) c.index.ensures in
     let ends = λ (going : is_given_up last ≡ false). playing_at_end m s hall l _ _ parts after c.of-began.ensures c.run_round-last.ensures.origin (unless last _ going c.run_round-last.ensures.meets) in
     stays_left m l after parts c.close.new.parts last (λ going. c.close.ensures.same (c.gave_up.ensures ∙ going))
     (stays_by_clock m l after parts last (looper_within s hall l c.requires.hall c.requires.looper) (λ going. (ends going).others)

@@ -1,12 +1,12 @@
 use Rattle.std.proofs.Common.{◌≡◌, ◌||◌, Some, true, false, sym, ap₂, ◌∙◌, arith}
-use Rattle.std.proofs.lemmas.Option.{slice_get_read}
 use Rattle.looper_run.specs.Round.{is_ended}
 use Rattle.looper_run.proofs.Rounds.{round_any}
 use Rattle.dash_loopers.specs.Loopers.{is_given_up}
 use Rattle.looper_run.specs.Holding.{Workplace}
 use Rattle.dash_loopers.specs.Players.{ServesAt}
-use Rattle.dash_loopers.proofs.LooperPlaces.{queue_count, queue_home, serves_with}
-use Rattle.dash_loopers.proofs.LooperKits.{looper_of, looper_then, parts_left, ran_on, comes_to_wait}
+use Rattle.dash_loopers.proofs.LooperPlaces.{serves_with}
+use Rattle.dash_loopers.proofs.LooperQueue.{within_queues, queue_read, at_queue}
+use Rattle.dash_loopers.proofs.LooperKits.{looper_then, parts_left, ran_on, comes_to_wait}
 use Rattle.dash_loopers.proofs.LooperPlayed.{played_round, played_left}
 use Rattle.dash_loopers.proofs.looper.StageLooper.run_round.Goals as goal
 
@@ -14,23 +14,15 @@ pub index-requires : goal.index-requires
 index-requires g c =
     let hall = c.args.hall.now in
     let l = c.args.self.now in
-    let count = queue_count c.args.script.now hall l.number (looper_of c.args.script.now hall l c.requires.hall c.requires.looper) in
-    let one = c.requires.looper.number in
-    omega (arith, count, one, hall.queues.ok.0)
+    let near = within_queues c.args.script.now hall l c.requires.hall c.requires.looper in
+    omega (arith, near, hall.queues.ok.0)
 
 pub run_round-self-requires-clause-at : goal.run_round-self-requires-clause-at
 run_round-self-requires-clause-at g c =
     let hall = c.args.hall.now in
     let l = c.args.self.now in
-    let of = looper_of c.args.script.now hall l c.requires.hall c.requires.looper in
-    let count = queue_count c.args.script.now hall l.number of in
-    let one = c.requires.looper.number in
-    let at = slice_get_read hall.queues.items hall.queues.len l.number c.index.result.now (omega (arith, hall.queues.ok.0)) (omega (arith, count, one, hall.queues.ok.0)) c.index.ensures in
-    record {
-      poster = c.requires.looper.place.queue c.index.result.now at;
-      pass = c.requires.looper.place.pool;
-      home = queue_home c.args.script.now hall l.number of l.number c.index.result.now at;
-    }
+    let at = queue_read c.args.script.now hall l c.requires.hall c.requires.looper hall.queues.len c.index.result.now (omega (arith, hall.queues.ok.0)) c.index.ensures in
+    at_queue c.args.script.now hall l c.requires.hall c.requires.looper c.index.result.now at
 
 pub close-requires-clause-parts : goal.close-requires-clause-parts
 close-requires-clause-parts g c =
@@ -43,9 +35,7 @@ returns-clause-looper g c =
     let hall = c.args.hall.now in
     let l = c.args.self.now in
     let is : l.parts ≡ Some c.in-Some.parts = cc in
-    let count = queue_count c.args.script.now hall l.number (looper_of c.args.script.now hall l c.requires.hall c.requires.looper) in
-    let one = c.requires.looper.number in
-    let at = slice_get_read hall.queues.items hall.queues.len l.number c.index.result.now (omega (arith, hall.queues.ok.0)) (omega (arith, count, one, hall.queues.ok.0)) c.index.ensures in
+    let at = queue_read c.args.script.now hall l c.requires.hall c.requires.looper hall.queues.len c.index.result.now (omega (arith, hall.queues.ok.0)) c.index.ensures in
     let d = c.run_round-self.new.d in
     let left = λ (w : Workplace) (first : ServesAt c.args.script.now hall l.number c.in-Some.parts w). serves_with d.place.script.now d.place.hall.now d.place.looper d.parts c.close.new.parts w c.close.ensures.parts (c.run_round-self.ensures.serves w first) in
     looper_then c.args.script.now hall c.args.now c.args.now _ l c.index.result.now _ c.in-Some.parts c.close.new.parts c.run_round-self.new.self c.run_round-self.result c.requires.hall c.requires.looper is at
@@ -55,9 +45,7 @@ pub returns-clause-round : goal.returns-clause-round
 returns-clause-round g c =
     let hall = c.args.hall.now in
     let l = c.args.self.now in
-    let count = queue_count c.args.script.now hall l.number (looper_of c.args.script.now hall l c.requires.hall c.requires.looper) in
-    let one = c.requires.looper.number in
-    let at = slice_get_read hall.queues.items hall.queues.len l.number c.index.result.now (omega (arith, hall.queues.ok.0)) (omega (arith, count, one, hall.queues.ok.0)) c.index.ensures in
+    let at = queue_read c.args.script.now hall l c.requires.hall c.requires.looper hall.queues.len c.index.result.now (omega (arith, hall.queues.ok.0)) c.index.ensures in
     let no_end : is_ended l.last ≡ false = sym c.has_ended.ensures ∙ c.if-has_ended.false in
     let no_want : is_given_up l.last ≡ false = sym c.gave_up.ensures ∙ c.if-gave_up.false in
     let going : (is_ended l.last || is_given_up l.last) ≡ false = ap₂ (λ a b. a || b) no_end no_want in
@@ -71,9 +59,7 @@ pub returns-clause-waits : goal.returns-clause-waits
 returns-clause-waits g c =
     let hall = c.args.hall.now in
     let l = c.args.self.now in
-    let count = queue_count c.args.script.now hall l.number (looper_of c.args.script.now hall l c.requires.hall c.requires.looper) in
-    let one = c.requires.looper.number in
-    let at = slice_get_read hall.queues.items hall.queues.len l.number c.index.result.now (omega (arith, hall.queues.ok.0)) (omega (arith, count, one, hall.queues.ok.0)) c.index.ensures in
+    let at = queue_read c.args.script.now hall l c.requires.hall c.requires.looper hall.queues.len c.index.result.now (omega (arith, hall.queues.ok.0)) c.index.ensures in
     comes_to_wait c.args.script.now hall c.requires.mode c.args.now l c.index.result.now c.run_round-self.new.self c.run_round-self.result c.requires.hall c.requires.looper at c.run_round-self.ensures.same c.run_round-self.ensures.round
 
 pub returns-clause-plays : goal.returns-clause-plays

@@ -1,6 +1,6 @@
 use Rattle.std.proofs.Common.{◌≡◌, ℕ, true, subst, refl}
 use Rattle.dash_hall.specs.Hosts.{origin_of}
-use Rattle.frame_phases.specs.Frames.{is_pulse_if_any}
+use Rattle.frame_phases.specs.Pulses.{is_pulse_if_any}
 use Rattle.choreographer.specs.Calls.{stamp_in}
 use Rattle.dash_loopers.proofs.LooperPlaces.{its_period}
 use Rattle.dash_loopers.proofs.PlaySteps.{pulse_hosted}

@@ -3,7 +3,8 @@ use Rattle.looper_run.specs.Holding.{Sender}
 use Rattle.dash_loopers.specs.Clocked.{AddsUntimed}
 use Rattle.dash_loopers.proofs.LooperLent.{lent_pass}
 use Rattle.dash_hall.specs.Requests.{call_by}
-use Rattle.dash_loopers.proofs.LooperClock.{no_moment_by, made_untimed}
+use Rattle.dash_hall.proofs.Clocking.{no_moment_by}
+use Rattle.dash_loopers.proofs.LooperClock.{made_untimed}
 use Rattle.dash_loopers.proofs.player.Place.send_by.Goals as goal
 
 pub returns-clause-lent : goal.returns-clause-lent

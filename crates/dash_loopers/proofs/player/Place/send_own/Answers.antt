@@ -2,7 +2,8 @@ use Rattle.dash_loopers.proofs.LooperPlaces.{queue_home}
 use Rattle.choreographer.proofs.Phases.{on_ok}
 use Rattle.dash_loopers.proofs.RuleSteps.{called_here}
 use Rattle.dash_hall.specs.Requests.{call_by}
-use Rattle.dash_loopers.proofs.LooperClock.{no_moment_by, made_untimed}
+use Rattle.dash_hall.proofs.Clocking.{no_moment_by}
+use Rattle.dash_loopers.proofs.LooperClock.{made_untimed}
 use Rattle.dash_loopers.proofs.player.Place.send_own.Goals as goal
 
 pub make-requires : goal.make-requires

@@ -1,8 +1,8 @@
 use Rattle.std.proofs.Common.{arith, rules, sym, ◌∙◌}
 use Rattle.std.proofs.lemmas.Bool.{and_parts}
 use Rattle.dash_stage.specs.Timeliness.{MovesTo}
-use Rattle.dash_stage.proofs.Controlling.{poster_count}
-use Rattle.dash_stage.proofs.ControlWhole.{stuck_more, below_more, come_more}
+use Rattle.dash_stage.proofs.Controller.Controlling.{poster_count}
+use Rattle.dash_stage.proofs.Controller.ControlWhole.{stuck_more, below_more, come_more}
 use Rattle.dash_stage.proofs.control.Controller.advance.Goals as goal
 
 pub returns-clause-come : goal.returns-clause-come

@@ -2,7 +2,7 @@ use Rattle.std.proofs.Common.{◌≡◌, ◌<◌, ◌≤◌, ℕ, true, false}
 use Rattle.dash_stage.specs.Controllers.{IsController, IsMoving, HasReached}
 use Rattle.dash_stage.specs.Timeliness.{AreBy, MovesTo}
 use Rattle.dash_stage.specs.Playing.{AreStuck}
-use Rattle.dash_stage.proofs.ControlWhole.{TurnsBelow, ComeBelow}
+use Rattle.dash_stage.proofs.Controller.ControlWhole.{TurnsBelow, ComeBelow}
 use Rattle.dash_stage.proofs.control.Controller.advance.Given as goal
 
 abbrev pub invariant-loop-place : goal.invariant-loop-place

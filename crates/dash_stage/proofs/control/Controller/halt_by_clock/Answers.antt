@@ -2,11 +2,11 @@ use Rattle.std.proofs.Common.{ap, refl}
 use Rattle.loop_model.specs.declared.call.Call.TheVariants.{Halt}
 use Rattle.loop_model.specs.declared.reply.Reply.TheVariants.{Halted}
 use Rattle.looper_run.specs.Holding.{State}
-use Rattle.dash_stage.proofs.Controlling.{has_poster, after_turn}
-use Rattle.dash_stage.proofs.ControlKept.{closing_by_kept}
-use Rattle.dash_stage.proofs.ControlTurns.{turned_none, turned_over}
-use Rattle.dash_stage.proofs.ControlWhole.{turns_none, turns_one, each_turns, ends_with}
-use Rattle.dash_stage.proofs.ClockTurns.{nothing_moves, halts_closing, halts_clocked, still_clocked}
+use Rattle.dash_stage.proofs.Controller.Controlling.{has_poster, after_turn}
+use Rattle.dash_stage.proofs.Controller.ControlKept.{closing_by_kept}
+use Rattle.dash_stage.proofs.Controller.ControlTurns.{turned_none, turned_over}
+use Rattle.dash_stage.proofs.Controller.ControlWhole.{turns_none, turns_one, each_turns, ends_with}
+use Rattle.dash_stage.proofs.ByClock.ClockTurns.{nothing_moves, halts_closing, halts_clocked, still_clocked}
 use Rattle.dash_stage.proofs.control.Controller.halt_by_clock.Goals as goal
 
 pub returns-in-Halted : goal.returns-in-Halted

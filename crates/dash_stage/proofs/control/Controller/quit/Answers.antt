@@ -1,6 +1,6 @@
 use Rattle.std.proofs.Common.{◌≤◌, ℕ, subst}
-use Rattle.dash_stage.proofs.ControlKept.{quitting_kept, quitting_skips}
-use Rattle.dash_stage.proofs.ControlWhole.{turns_behind}
+use Rattle.dash_stage.proofs.Controller.ControlKept.{quitting_kept, quitting_skips}
+use Rattle.dash_stage.proofs.Controller.ControlWhole.{turns_behind}
 use Rattle.dash_threads.proofs.ThreadSteps.{on_ok}
 use Rattle.dash_stage.proofs.control.Controller.quit.Goals as goal
 

@@ -1,7 +1,7 @@
 use Rattle.dash_hall.specs.Growth.{QuitsOf}
 use Rattle.looper_run.specs.Holding.{Sender}
-use Rattle.dash_stage.proofs.Controlling.{in_queues, in_posters, has_poster, own_poster, in_pool, after_call}
-use Rattle.dash_stage.proofs.GivingUp.{stands_there}
+use Rattle.dash_stage.proofs.Controller.Controlling.{in_queues, in_posters, has_poster, own_poster, in_pool, after_call}
+use Rattle.dash_stage.proofs.Controller.GivingUp.{stands_there}
 use Rattle.dash_stage.proofs.control.Controller.quit_now.Goals as goal
 
 pub index-requires : goal.index-requires

@@ -1,12 +1,12 @@
 use Rattle.std.proofs.Common.{◌+◌, true}
-use Rattle.dash_stage.proofs.Controlling.{in_queues, in_posters, has_poster, own_poster, in_pool, after_call}
+use Rattle.dash_stage.proofs.Controller.Controlling.{in_queues, in_posters, has_poster, own_poster, in_pool, after_call}
 use Rattle.dash_stage.specs.Controllers.{IsQuitting}
 use Rattle.dash_threads.proofs.ThreadSteps.{on_ok}
 use Rattle.dash_stage.specs.Timeliness.{TurnsOn, MovesNot}
 use Rattle.looper_run.specs.Holding.{Sender}
 use Rattle.std.specs.Prelude.{slice_index_or}
-use Rattle.dash_stage.proofs.ControlTurns.{turned_quit}
-use Rattle.dash_stage.proofs.ControlWhole.{turns_quit, turns_here, turns_elsewhere}
+use Rattle.dash_stage.proofs.Controller.ControlTurns.{turned_quit}
+use Rattle.dash_stage.proofs.Controller.ControlWhole.{turns_quit, turns_here, turns_elsewhere}
 use Rattle.dash_stage.proofs.control.Controller.quit_one.Goals as goal
 
 pub index-requires : goal.index-requires

@@ -1,8 +1,8 @@
 use Rattle.std.proofs.Common.{refl, sym, ◌∙◌}
 use Rattle.dash_stage.specs.Timeliness.{IsNone}
-use Rattle.dash_stage.proofs.ControlKept.{none_after}
-use Rattle.dash_stage.proofs.Controlling.{poster_count}
-use Rattle.dash_stage.proofs.StageTurns.{turns_none, turns_more}
+use Rattle.dash_stage.proofs.Controller.ControlKept.{none_after}
+use Rattle.dash_stage.proofs.Controller.Controlling.{poster_count}
+use Rattle.dash_stage.proofs.Stages.StageTurns.{turns_none, turns_more}
 use Rattle.dash_stage.proofs.control.Controller.seal.Goals as goal
 
 pub loop-place-init : goal.loop-place-init

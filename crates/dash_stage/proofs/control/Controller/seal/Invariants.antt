@@ -1,6 +1,6 @@
 use Rattle.dash_stage.specs.Controllers.{IsController, CallsNone}
 use Rattle.dash_stage.specs.Timeliness.{EachTurnsOn, IsNone}
-use Rattle.dash_stage.proofs.StageTurns.{AreKeptFrom}
+use Rattle.dash_stage.proofs.Stages.StageTurns.{AreKeptFrom}
 use Rattle.dash_stage.proofs.control.Controller.seal.Given as goal
 
 abbrev pub invariant-loop-place : goal.invariant-loop-place

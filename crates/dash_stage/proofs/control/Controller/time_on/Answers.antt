@@ -1,7 +1,7 @@
 use Rattle.std.proofs.Common.{refl, ◌∙◌}
-use Rattle.dash_stage.proofs.Controlling.{in_queues, in_posters, has_poster, own_poster, after_turn}
-use Rattle.dash_stage.proofs.ControlTurns.{turned_none, turned_time}
-use Rattle.dash_stage.proofs.ControlWhole.{turns_none, turns_here, turns_elsewhere}
+use Rattle.dash_stage.proofs.Controller.Controlling.{in_queues, in_posters, has_poster, own_poster, after_turn}
+use Rattle.dash_stage.proofs.Controller.ControlTurns.{turned_none, turned_time}
+use Rattle.dash_stage.proofs.Controller.ControlWhole.{turns_none, turns_here, turns_elsewhere}
 use Rattle.dash_stage.proofs.control.Controller.time_on.Goals as goal
 
 pub index_mut-requires : goal.index_mut-requires

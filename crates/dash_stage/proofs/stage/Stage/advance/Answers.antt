@@ -1,9 +1,9 @@
 use Rattle.std.proofs.Common.{ℕ, ◌∙◌, sym, subst, arith}
 use Rattle.dash_stage.specs.Timeliness.{AreBy}
-use Rattle.dash_stage.proofs.StageMoves.{by_later, advanced_timely}
-use Rattle.dash_stage.proofs.PlayedTurns.{advanced_in_step, advanced_sound, advanced_at_block}
-use Rattle.dash_stage.proofs.ControlKept.{by_kept}
-use Rattle.dash_stage.proofs.MovesKept.{advanced_moves}
+use Rattle.dash_stage.proofs.Moves.StageMoves.{by_later, advanced_timely}
+use Rattle.dash_stage.proofs.Played.PlayedTurns.{advanced_in_step, advanced_sound, advanced_at_block}
+use Rattle.dash_stage.proofs.Controller.ControlKept.{by_kept}
+use Rattle.dash_stage.proofs.Moves.MovesKept.{advanced_moves}
 use Rattle.dash_stage.proofs.stage.Stage.advance.Goals as goal
 
 pub returns-in_err-moved-clause-by : goal.returns-in_err-moved-clause-by

@@ -1,13 +1,14 @@
-use Rattle.std.proofs.Common.{◌≡◌, ◌<◌, ◌∙◌, List, length, sym, subst, arith}
+use Rattle.std.proofs.Common.{◌∙◌, List, sym, subst, arith}
 use Rattle.std.proofs.lemmas.List.{with_items_is}
 use Rattle.run_model.specs.Moments.{Mode, in_free_mode}
 use Rattle.dash_hall.specs.Hearing.{AtEach}
 use Rattle.dash_threads.specs.Threads.{AreByClock}
 use Rattle.dash_loopers.specs.declared.looper.StageLooper.{StageLooper}
 use Rattle.dash_stage.specs.ByClock.{LoopsByClock}
+use Rattle.dash_stage.specs.Playing.{HaveComeBy}
 use Rattle.dash_stage.specs.Sharing.{OfLoopers}
-use Rattle.dash_stage.specs.Stages.{OthersHaveEnded, LoopersGoOn}
-use Rattle.dash_stage.proofs.ClockEnds.{loopers_clocked, closing_heard}
+use Rattle.dash_stage.specs.Stages.{AreLoopers, OthersHaveEnded, LoopersGoOn}
+use Rattle.dash_stage.proofs.ByClock.ClockEnds.{loopers_ran, loopers_clocked, loopers_played, closing_heard}
 use Rattle.dash_stage.proofs.stage.Stage.drain.Goals as goal
 
 pub returns : goal.returns
@@ -22,12 +23,14 @@ returns g c =
     let ended = subst (λ (xs : List StageLooper). OthersHaveEnded xs → OthersHaveEnded ls) c.as_mut_slice.ensures.value c.drain_first.ensures.others was.ended in
     let wrote = with_items_is st.loopers ls (omega (arith, looped.long, st.loopers.ok.0)) in
     let on : LoopersGoOn ls = subst LoopersGoOn (c.as_slice.ensures.value ∙ wrote) (c.some_gave_up.ensures c.if-some_gave_up.false) in
+    let played : HaveComeBy s ls = loopers_played m s hall st.loopers.items ls c.requires.text was.stage.loopers looped on was.played in
     record {
       closing = closing_heard m s _ c.share_by_clock.new.self c.share_by_clock.ensures.stage c.share_by_clock.ensures.shared c.share_by_clock.ensures.kept
+          was.stage.hall (subst (AreLoopers s hall) (sym wrote) (loopers_ran m s hall st.loopers.items ls was.stage.loopers looped))
           (record {
             threads = was.clocked.threads;
             loopers = subst (OfLoopers (AreByClock m)) (sym wrote) (loopers_clocked m s hall st.loopers.items ls looped on was.clocked.loopers);
             controller = was.clocked.controller;
           })
-          was.run (subst OthersHaveEnded (sym wrote) ended) (subst LoopersGoOn (sym wrote) on) was.closing;
+          was.run (subst OthersHaveEnded (sym wrote) ended) (subst LoopersGoOn (sym wrote) on) (subst (HaveComeBy s) (sym wrote) played) was.closing;
     }

@@ -1,10 +1,10 @@
 use Rattle.dash_hall.specs.Hearing.{HaveHeard}
-use Rattle.dash_stage.proofs.ControlKept.{closing_kept, closed_kept}
+use Rattle.dash_stage.proofs.Controller.ControlKept.{closing_kept, closed_kept}
 use Rattle.dash_stage.specs.Timeliness.{Halts}
-use Rattle.dash_stage.proofs.StageTurns.{halted_stays, go_on_kept}
-use Rattle.dash_stage.proofs.StageQuits.{halts_move_not, halted_timely}
-use Rattle.dash_stage.proofs.PlayedTurns.{turned_in_step}
-use Rattle.dash_stage.proofs.MovesKept.{moved_turned}
+use Rattle.dash_stage.proofs.Stages.StageTurns.{halted_stays, go_on_kept}
+use Rattle.dash_stage.proofs.Stages.StageQuits.{halts_move_not, halted_timely}
+use Rattle.dash_stage.proofs.Played.PlayedTurns.{turned_in_step}
+use Rattle.dash_stage.proofs.Moves.MovesKept.{moved_turned}
 use Rattle.dash_stage.proofs.stage.Stage.end.Goals as goal
 
 pub loop-init : goal.loop-init

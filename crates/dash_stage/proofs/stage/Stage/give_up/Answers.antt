@@ -5,7 +5,7 @@ use Rattle.dash_loopers.specs.declared.looper.StageLooper.{StageLooper}
 use Rattle.dash_loopers.specs.Loopers.{HasRun}
 use Rattle.dash_stage.specs.declared.side.Turn.TheVariants.{Others}
 use Rattle.dash_stage.specs.Turns.{has_turn}
-use Rattle.dash_stage.proofs.Turns.{others_have_turn}
+use Rattle.dash_stage.proofs.Sharing.Turns.{others_have_turn}
 use Rattle.dash_stage.proofs.stage.Stage.give_up.Goals as goal
 use Rattle.dash_stage.specs.Controllers.{IsControllerIn}
 use Rattle.dash_stage.specs.Stages.{AreLoopers}

@@ -1,12 +1,12 @@
-use Rattle.std.proofs.Common.{ℕ, max, true≢false, refl, sym, ap, ◌∙◌, subst, arith}
+use Rattle.std.proofs.Common.{ℕ, max, true≢false, sym, ap, ◌∙◌, subst, arith}
 use Rattle.dash_stage.specs.Stages.{HaveRun}
 use Rattle.dash_stage.specs.Timeliness.{AreBy}
-use Rattle.dash_stage.proofs.ControlKept.{moving_kept}
-use Rattle.dash_stage.proofs.ControlKept.{by_kept}
-use Rattle.dash_stage.proofs.StageDue.{timely_same, rested_same}
-use Rattle.dash_stage.proofs.MovesKept.{moved_same}
-use Rattle.dash_stage.proofs.MovesDue.{may_come_at, may_come_same}
-use Rattle.dash_stage.proofs.PlayedTurns.{step_same, sound_same, ahead_same, ahead_on}
+use Rattle.dash_stage.proofs.Controller.ControlKept.{moving_kept}
+use Rattle.dash_stage.proofs.Controller.ControlKept.{by_kept}
+use Rattle.dash_stage.proofs.Moves.StageDue.{timely_same, rested_same}
+use Rattle.dash_stage.proofs.Moves.MovesKept.{moved_same}
+use Rattle.dash_stage.proofs.Moves.MovesDue.{may_come_at, may_come_same}
+use Rattle.dash_stage.proofs.Played.PlayedTurns.{step_same, sound_same, ahead_same, ahead_on}
 use Rattle.dash_stage.specs.Playing.{AreAtBlock, LiesAhead}
 use Rattle.dash_stage.proofs.stage.Stage.go_to.Goals as goal
 use Rattle.dash_stage.proofs.stage.Stage.go_to.Goals.{else-moved-via-then-moved+else-next-time, else-moved-via-else-moved}

@@ -1,7 +1,7 @@
 use Rattle.std.proofs.Common.{refl}
 use Rattle.run_model.specs.Moments.{Mode, in_free_mode}
 use Rattle.dash_loopers.proofs.LooperMoments.{of_shown}
-use Rattle.dash_stage.proofs.ClockEnds.{closing_heard, ended_heard}
+use Rattle.dash_stage.proofs.ByClock.ClockEnds.{closing_heard, ended_heard}
 use Rattle.dash_stage.proofs.stage.Stage.halt_by_clock.Goals as goal
 
 pub returns-clause-closing : goal.returns-clause-closing
@@ -9,8 +9,8 @@ returns-clause-closing g c = λ going.
     let m : Mode = in_free_mode (g.C.Clock.shows c.args.timer.now.clock.now) c.args.timer.now.start in
     let was = c.requires.closing in
     let halt = c.halt_by_clock-halted.ensures in
-    closing_heard m c.args.script.now _ c.share_by_clock.new.self c.share_by_clock.ensures.stage c.share_by_clock.ensures.shared c.share_by_clock.ensures.kept
-    (record { threads = was.clocked.threads; loopers = was.clocked.loopers; controller = halt.clocked m (of_shown (g.C.Clock.shows c.args.timer.now.clock.now) c.args.timer.now.start c.in-Some.now c.in-Some.ensures.moment) was.clocked.controller }) was.run was.ended was.on (halt.closing going)
+    closing_heard m c.args.script.now _ c.share_by_clock.new.self c.share_by_clock.ensures.stage c.share_by_clock.ensures.shared c.share_by_clock.ensures.kept was.stage.hall was.stage.loopers
+    (record { threads = was.clocked.threads; loopers = was.clocked.loopers; controller = halt.clocked m (of_shown (g.C.Clock.shows c.args.timer.now.clock.now) c.args.timer.now.start c.in-Some.now c.in-Some.ensures.moment) was.clocked.controller }) was.run was.ended was.on was.played (halt.closing going)
 
 pub returns-clause-out : goal.returns-clause-out
 returns-clause-out g c = λ halted.
@@ -18,5 +18,5 @@ returns-clause-out g c = λ halted.
     let was = c.requires.closing in
     let halt = c.halt_by_clock-halted.ensures in
     ended_heard m c.args.script.now _ c.share_by_clock.new.self c.share_by_clock.ensures.stage c.share_by_clock.ensures.shared c.share_by_clock.ensures.kept
-    c.args.self.now was.stage was.same refl refl refl
-    (record { threads = was.clocked.threads; loopers = was.clocked.loopers; controller = halt.clocked m (of_shown (g.C.Clock.shows c.args.timer.now.clock.now) c.args.timer.now.start c.in-Some.now c.in-Some.ensures.moment) was.clocked.controller }) was.run was.ended was.on (halt.closed halted) halt.turns (halt.halted halted)
+    c.args.self.now was.stage was.same refl refl refl was.stage.hall was.stage.loopers
+    (record { threads = was.clocked.threads; loopers = was.clocked.loopers; controller = halt.clocked m (of_shown (g.C.Clock.shows c.args.timer.now.clock.now) c.args.timer.now.start c.in-Some.now c.in-Some.ensures.moment) was.clocked.controller }) was.run was.ended was.on was.played (halt.closed halted) halt.turns (halt.halted halted)

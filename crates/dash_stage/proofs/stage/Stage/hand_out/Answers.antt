@@ -1,11 +1,11 @@
 use Rattle.std.proofs.Common.{inr}
 use Rattle.dash_stage.specs.Timeliness.{IsNone}
-use Rattle.dash_stage.proofs.ControlKept.{none_after}
-use Rattle.dash_stage.proofs.StageMoves.{sound_by_turns}
-use Rattle.dash_stage.proofs.StageTurns.{turned_timely}
-use Rattle.dash_stage.proofs.PlayedTurns.{turned_in_step}
-use Rattle.dash_stage.proofs.MovesKept.{moved_turned}
-use Rattle.dash_stage.proofs.Sealing.{none_moves_not}
+use Rattle.dash_stage.proofs.Controller.ControlKept.{none_after}
+use Rattle.dash_stage.proofs.Moves.StageMoves.{sound_by_turns}
+use Rattle.dash_stage.proofs.Stages.StageTurns.{turned_timely}
+use Rattle.dash_stage.proofs.Played.PlayedTurns.{turned_in_step}
+use Rattle.dash_stage.proofs.Moves.MovesKept.{moved_turned}
+use Rattle.dash_stage.proofs.Controller.Sealing.{none_moves_not}
 use Rattle.dash_stage.proofs.stage.Stage.hand_out.Goals as goal
 
 pub returns-clause-none : goal.returns-clause-none

@@ -3,10 +3,10 @@ use Rattle.looper_run.specs.Round.{is_ended}
 use Rattle.dash_loopers.specs.declared.looper.StageLooper.{StageLooper}
 use Rattle.dash_loopers.specs.Loopers.{until_of}
 use Rattle.dash_stage.specs.Timeliness.{NotLater}
-use Rattle.dash_stage.proofs.ControlKept.{none_after}
-use Rattle.dash_stage.proofs.MovesDue.{one_waits, may_come}
-use Rattle.dash_stage.proofs.PulseTimes.{one_look_more}
-use Rattle.dash_stage.proofs.StageDue.{one_waits_more, due_of_rest, rested_same}
+use Rattle.dash_stage.proofs.Controller.ControlKept.{none_after}
+use Rattle.dash_stage.proofs.Moves.MovesDue.{one_waits, may_come}
+use Rattle.dash_stage.proofs.Moves.PulseTimes.{one_look_more}
+use Rattle.dash_stage.proofs.Moves.StageDue.{one_waits_more, due_of_rest, rested_same}
 use Rattle.dash_stage.proofs.stage.Stage.next_due.Goals as goal
 
 pub loop-looper-preserved : goal.loop-looper-preserved

@@ -2,9 +2,9 @@ use Rattle.std.proofs.Common.{◌≡◌, ℕ, Some}
 use Rattle.dash_stage.specs.Controllers.{CallsNone}
 use Rattle.dash_stage.specs.Stages.{IsStage}
 use Rattle.dash_stage.specs.Timeliness.{NotLater}
-use Rattle.dash_stage.proofs.MovesDue.{OneWaits}
-use Rattle.dash_stage.proofs.PulseTimes.{HaveLooked}
-use Rattle.dash_stage.proofs.StageDue.{WaitAfter}
+use Rattle.dash_stage.proofs.Moves.MovesDue.{OneWaits}
+use Rattle.dash_stage.proofs.Moves.PulseTimes.{HaveLooked}
+use Rattle.dash_stage.proofs.Moves.StageDue.{WaitAfter}
 use Rattle.dash_stage.proofs.stage.Stage.next_due.Given as goal
 
 abbrev pub invariant-loop-looper : goal.invariant-loop-looper

@@ -1,4 +1,4 @@
-use Rattle.std.proofs.Common.{◌≡◌, inl, ◌<◌, ◌≤◌, ◌+◌, ◌∙◌, ℕ, List, refl, sym, subst, length, take, drop, arith}
+use Rattle.std.proofs.Common.{◌≡◌, inl, ◌<◌, ◌≤◌, ◌+◌, ◌∙◌, ℕ, List, sym, subst, length, take, drop, arith}
 use Rattle.std.specs.Prelude.{slice_index_or}
 use Rattle.std.proofs.lemmas.List.{take_all}
 use Rattle.dash_script.specs.declared.script.Block.{Block}
@@ -6,13 +6,13 @@ use Rattle.dash_stage.specs.declared.stage.Stage.{Stage}
 use Rattle.dash_stage.specs.Stages.{HaveRun}
 use Rattle.dash_stage.specs.Timeliness.{AreBy, AreTimelyUpTo}
 use Rattle.dash_stage.specs.Playing.{LiesAhead}
-use Rattle.dash_stage.proofs.MovesDue.{block_is_planned, end_is_planned}
-use Rattle.dash_stage.proofs.MovesRecords.{moved_at_start}
-use Rattle.dash_stage.proofs.PlayedTurns.{ahead_of_zero}
-use Rattle.dash_stage.proofs.Blocks.{blocks_next, blocks_past, run_one_more}
-use Rattle.dash_stage.proofs.Limits.{before_end, before_next}
-use Rattle.dash_stage.proofs.ControlKept.{none_after, moving_kept, reached_kept}
-use Rattle.dash_stage.proofs.ControlKept.{by_kept}
+use Rattle.dash_stage.proofs.Moves.MovesDue.{block_is_planned, end_is_planned}
+use Rattle.dash_stage.proofs.Moves.MovesRecords.{moved_at_start}
+use Rattle.dash_stage.proofs.Played.PlayedTurns.{ahead_of_zero}
+use Rattle.dash_stage.proofs.BlockTimes.Blocks.{blocks_next, blocks_past, run_one_more}
+use Rattle.dash_stage.proofs.BlockTimes.Limits.{before_end, before_next}
+use Rattle.dash_stage.proofs.Controller.ControlKept.{none_after, moving_kept, reached_kept}
+use Rattle.dash_stage.proofs.Controller.ControlKept.{by_kept}
 use Rattle.dash_stage.proofs.stage.Stage.play.Goals as goal
 
 pub loop-block-init : goal.loop-block-init

@@ -10,14 +10,14 @@ use Rattle.dash_threads.specs.Threads.{ThreadKeeps}
 use Rattle.dash_loopers.specs.Loopers.{LooperKeeps}
 use Rattle.dash_stage.specs.Stages.{IsStage, HaveRun}
 use Rattle.dash_stage.specs.Timeliness.{EachTurnsOn, MovesNot}
-use Rattle.dash_stage.proofs.Controlling.{poster_count}
-use Rattle.dash_stage.proofs.ControlKept.{quitting_starts, quitting_skips, closing_kept}
-use Rattle.dash_stage.proofs.StageControls.{quitting_ends}
+use Rattle.dash_stage.proofs.Controller.Controlling.{poster_count}
+use Rattle.dash_stage.proofs.Controller.ControlKept.{quitting_starts, quitting_skips, closing_kept}
+use Rattle.dash_stage.proofs.Controller.StageControls.{quitting_ends}
 use Rattle.looper_run.specs.Round.{is_ended}
-use Rattle.dash_stage.proofs.StageTurns.{AreKeptFrom, turns_none, turns_more}
-use Rattle.dash_stage.proofs.StageQuits.{AreKeptWhereEnded, kept_where_ended, quit_timely}
-use Rattle.dash_stage.proofs.PlayedTurns.{turned_in_step}
-use Rattle.dash_stage.proofs.MovesKept.{moved_turned}
+use Rattle.dash_stage.proofs.Stages.StageTurns.{AreKeptFrom, turns_none, turns_more}
+use Rattle.dash_stage.proofs.Stages.StageQuits.{AreKeptWhereEnded, kept_where_ended, quit_timely}
+use Rattle.dash_stage.proofs.Played.PlayedTurns.{turned_in_step}
+use Rattle.dash_stage.proofs.Moves.MovesKept.{moved_turned}
 use Rattle.dash_stage.proofs.stage.Stage.quit_others.Goals as goal
 use Rattle.dash_stage.proofs.stage.Stage.quit_others.Goals.{then-not-has_ended+in_ok-quit, else-not-has_ended}
 

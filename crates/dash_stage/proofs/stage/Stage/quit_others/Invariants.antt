@@ -2,8 +2,8 @@ use Rattle.std.proofs.Common.{◌≡◌, ◌<◌}
 use Rattle.dash_stage.specs.Controllers.{IsQuitting}
 use Rattle.dash_stage.specs.Stages.{IsStage}
 use Rattle.dash_stage.specs.Timeliness.{EachTurnsOn, MovesNot}
-use Rattle.dash_stage.proofs.StageTurns.{AreKeptFrom}
-use Rattle.dash_stage.proofs.StageQuits.{AreKeptWhereEnded}
+use Rattle.dash_stage.proofs.Stages.StageTurns.{AreKeptFrom}
+use Rattle.dash_stage.proofs.Stages.StageQuits.{AreKeptWhereEnded}
 use Rattle.dash_stage.proofs.stage.Stage.quit_others.Given as goal
 
 abbrev pub invariant-loop-looper : goal.invariant-loop-looper

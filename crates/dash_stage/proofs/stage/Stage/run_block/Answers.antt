@@ -4,11 +4,11 @@ use Rattle.dash_threads.specs.declared.thread.PostingThread.{PostingThread}
 use Rattle.dash_hall.specs.Hearing.{AtEach, HaveHeard}
 use Rattle.dash_threads.specs.Threads.{ThreadKeeps}
 use Rattle.dash_stage.specs.Stages.{HaveRun, RunOn}
-use Rattle.dash_stage.proofs.ControlKept.{none_same}
-use Rattle.dash_stage.proofs.Blocks.{run_one_more}
-use Rattle.dash_stage.proofs.MovesKept.{moved_heard}
-use Rattle.dash_stage.proofs.StageTurns.{block_timely, continues_kept}
-use Rattle.dash_stage.proofs.PlayedTurns.{block_first, block_in_step}
+use Rattle.dash_stage.proofs.Controller.ControlKept.{none_same}
+use Rattle.dash_stage.proofs.BlockTimes.Blocks.{run_one_more}
+use Rattle.dash_stage.proofs.Moves.MovesKept.{moved_heard}
+use Rattle.dash_stage.proofs.Stages.StageTurns.{block_timely, continues_kept}
+use Rattle.dash_stage.proofs.Played.PlayedTurns.{block_first, block_in_step}
 use Rattle.dash_stage.proofs.stage.Stage.run_block.Goals as goal
 
 pub returns-in_err-run_threads-clause-none : goal.returns-in_err-run_threads-clause-none

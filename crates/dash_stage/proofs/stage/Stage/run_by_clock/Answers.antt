@@ -1,4 +1,4 @@
-use Rattle.std.proofs.Common.{◌≡◌, ◌<◌, ◌∙◌, false, List, length, sym, subst, arith}
+use Rattle.std.proofs.Common.{◌∙◌, List, sym, subst, arith}
 use Rattle.std.proofs.lemmas.List.{with_items_is}
 use Rattle.run_model.specs.Moments.{Mode, in_free_mode}
 use Rattle.dash_hall.specs.Hearing.{AtEach}
@@ -6,9 +6,10 @@ use Rattle.dash_threads.specs.declared.thread.PostingThread.{PostingThread}
 use Rattle.dash_threads.specs.Threads.{AreByClock}
 use Rattle.dash_loopers.specs.declared.looper.StageLooper.{StageLooper}
 use Rattle.dash_stage.specs.ByClock.{RunsByClock, LoopsByClock}
+use Rattle.dash_stage.specs.Playing.{HaveComeBy}
 use Rattle.dash_stage.specs.Sharing.{OfThreads, OfLoopers}
-use Rattle.dash_stage.specs.Stages.{AreThreads, AreLoopers, HaveRunBy, GoOn, OthersHaveEnded, LoopersGoOn}
-use Rattle.dash_stage.proofs.ClockEnds.{threads_ran, threads_ran_all, threads_clocked, loopers_ran, loopers_clocked, closing_heard}
+use Rattle.dash_stage.specs.Stages.{AreLoopers, HaveRunBy, GoOn, OthersHaveEnded, LoopersGoOn}
+use Rattle.dash_stage.proofs.ByClock.ClockEnds.{threads_ran_all, threads_clocked, loopers_ran, loopers_clocked, loopers_played, begins_played, closing_heard}
 use Rattle.dash_stage.proofs.stage.Stage.run_by_clock.Goals as goal
 
 pub returns : goal.returns
@@ -28,12 +29,14 @@ returns g c =
     let going : GoOn ts = subst GoOn (c.as_slice.ensures.value ∙ wrote) (c.has_given_up.ensures c.if-has_given_up.false) in
     let on : LoopersGoOn ls = subst LoopersGoOn (c.as_slice-2.ensures.value ∙ wrote') (c.some_gave_up.ensures c.if-some_gave_up.false) in
     let run = threads_ran_all m s hall st.threads.items ts begun.stage.threads ran going begun.begun in
+    let played : HaveComeBy s ls = loopers_played m s hall st.loopers.items ls c.requires.text begun.stage.loopers looped on (begins_played s st.loopers.items begun.loopers) in
     record {
       closing = closing_heard m s _ c.share_by_clock.new.self c.share_by_clock.ensures.stage c.share_by_clock.ensures.shared c.share_by_clock.ensures.kept
+          begun.stage.hall (subst (AreLoopers s hall) (sym wrote') (loopers_ran m s hall st.loopers.items ls begun.stage.loopers looped))
           (record {
             threads = subst (OfThreads (AreByClock m)) (sym wrote) (threads_clocked m s hall ts run);
             loopers = subst (OfLoopers (AreByClock m)) (sym wrote') (loopers_clocked m s hall st.loopers.items ls looped on begun.clocked.loopers);
             controller = quit.clocked begun.clocked.controller;
           })
-          (subst (HaveRunBy m s s.blocks) (sym wrote) run) (subst OthersHaveEnded c.as_slice-3.ensures.value (c.all_but_main_have_ended.ensures c.if-not-all_but_main_have_ended.false)) (subst LoopersGoOn (sym wrote') on) quit.closing;
+          (subst (HaveRunBy m s s.blocks) (sym wrote) run) (subst OthersHaveEnded c.as_slice-3.ensures.value (c.all_but_main_have_ended.ensures c.if-not-all_but_main_have_ended.false)) (subst LoopersGoOn (sym wrote') on) (subst (HaveComeBy s) (sym wrote') played) quit.closing;
     }

@@ -4,13 +4,13 @@ use Rattle.dash_loopers.specs.declared.looper.StageLooper.{StageLooper}
 use Rattle.dash_hall.specs.Hearing.{AtEach, HaveHeard}
 use Rattle.dash_loopers.specs.Loopers.{LooperKeeps, HasRun, ComesToWait}
 use Rattle.dash_stage.specs.Playing.{PlaysOn}
-use Rattle.dash_stage.proofs.PlayedRounds.{round_in_step}
-use Rattle.dash_stage.proofs.PlayedTurns.{sound_heard}
-use Rattle.dash_stage.proofs.MovesKept.{moved_heard}
-use Rattle.dash_stage.proofs.StageWhole.{threads_heard, kept_timely}
-use Rattle.dash_stage.proofs.StageDue.{heard_grown, come_to_rest}
+use Rattle.dash_stage.proofs.Played.PlayedRounds.{round_in_step}
+use Rattle.dash_stage.proofs.Played.PlayedTurns.{sound_heard}
+use Rattle.dash_stage.proofs.Moves.MovesKept.{moved_heard}
+use Rattle.dash_stage.proofs.Stages.StageWhole.{threads_heard, kept_timely}
+use Rattle.dash_stage.proofs.Moves.StageDue.{heard_grown, come_to_rest}
 use Rattle.dash_stage.specs.Turns.{has_turn}
-use Rattle.dash_stage.proofs.Turns.{all_have_turn, awaited_heard}
+use Rattle.dash_stage.proofs.Sharing.Turns.{all_have_turn, awaited_heard}
 use Rattle.dash_stage.proofs.stage.Stage.run_round.Goals as goal
 
 pub returns-clause-timely : goal.returns-clause-timely

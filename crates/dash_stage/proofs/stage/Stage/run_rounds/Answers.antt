@@ -1,8 +1,8 @@
 use Rattle.std.proofs.Common.{refl, sym, ◌∙◌}
 use Rattle.dash_hall.specs.Hearing.{seen_by}
-use Rattle.dash_stage.proofs.ControlKept.{none_same, none_after}
-use Rattle.dash_stage.proofs.StageDue.{grown_none}
-use Rattle.dash_stage.proofs.Turns.{awaited_self, awaited_then}
+use Rattle.dash_stage.proofs.Controller.ControlKept.{none_same, none_after}
+use Rattle.dash_stage.proofs.Moves.StageDue.{grown_none}
+use Rattle.dash_stage.proofs.Sharing.Turns.{awaited_self, awaited_then}
 use Rattle.dash_stage.proofs.stage.Stage.run_rounds.Goals as goal
 
 pub loop-init : goal.loop-init

@@ -1,5 +1,5 @@
 use Rattle.std.proofs.Common.{arith}
-use Rattle.dash_stage.proofs.StageShares.{stage_self, stage_weaker, stage_then, stage_kept, share_none, share_more, share_all, run_kept, calls_none, ended_kept, stage_in_its_mode}
+use Rattle.dash_stage.proofs.Sharing.StageShares.{stage_self, stage_weaker, stage_then, stage_kept, share_none, share_more, share_all, run_kept, calls_none, ended_kept, stage_in_its_mode}
 use Rattle.dash_hall.specs.Hearing.{HaveHeard}
 use Rattle.run_model.specs.Moments.{in_lockstep}
 use Rattle.dash_stage.proofs.stage.Stage.share.Goals as goal

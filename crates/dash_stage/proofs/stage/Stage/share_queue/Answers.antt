@@ -6,9 +6,9 @@ use Rattle.dash_hall.specs.Hearing.{HaveHeardAt, AtEach, AreReady}
 use Rattle.dash_stage.specs.Sharing.{AreWithin, OfThreads, OfLoopers}
 use Rattle.dash_threads.specs.Threads.{ThreadKeeps}
 use Rattle.dash_loopers.specs.Loopers.{LooperKeeps}
-use Rattle.dash_stage.proofs.Controlling.{in_queues, in_posters}
+use Rattle.dash_stage.proofs.Controller.Controlling.{in_queues, in_posters}
 use Rattle.dash_hall.proofs.Hearing.{ready_is, heard_at}
-use Rattle.dash_stage.proofs.StageShares.{threads_ready, loopers_ready, controller_ready, are_within}
+use Rattle.dash_stage.proofs.Sharing.StageShares.{threads_ready, loopers_ready, controller_ready, are_within}
 use Rattle.dash_stage.proofs.stage.Stage.share_queue.Goals as goal
 
 pub index-requires : goal.index-requires

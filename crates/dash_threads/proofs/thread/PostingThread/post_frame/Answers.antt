@@ -1,4 +1,4 @@
-use Rattle.std.proofs.Common.{◌<◌, ◌+◌, ◌∙◌, ℕ, sym, subst, length, arith, ap}
+use Rattle.std.proofs.Common.{◌<◌, ◌∙◌, sym, subst, length, arith, ap}
 use Rattle.dash_hall.specs.Kits.{badge_of, badge_for, frame_badge_of, frame_badge_for}
 use Rattle.dash_threads.proofs.ThreadSteps.{on_ok}
 use Rattle.dash_threads.proofs.ThreadFrameRuns.{frame_progress, frame_within}
@@ -6,7 +6,7 @@ use Rattle.dash_threads.proofs.ThreadText.{few_loopers}
 use Rattle.dash_hall.proofs.Badges.{alike_length, posters_kept, gone_badge, passes_kept, queue_count, choreographer_count}
 use Rattle.dash_threads.proofs.ThreadPlaces.{its_poster, its_home, its_pass, its_phases, its_mode}
 use Rattle.dash_threads.proofs.thread.PostingThread.post_frame.Goals as goal
-use Rattle.dash_threads.proofs.thread.PostingThread.post_frame.Goals.{else-place-len-via-then-place-len+then-place-len-2+then-place-len-3+then-place-len-4+else-phase-phases, else-place-len-via-then-place-len+then-place-len-2+then-place-len-3+else-place-len-4, else-place-len-via-then-place-len+then-place-len-2+else-place-len-3, else-place-len-via-then-place-len+else-place-len-2, else-place-len-via-else-place-len}
+use Rattle.dash_threads.proofs.thread.PostingThread.post_frame.Goals.{else-place-len-via-then-place-len+then-place-len-2+then-place-len-3+then-place-len-4+else-post-phases, else-place-len-via-then-place-len+then-place-len-2+then-place-len-3+else-place-len-4, else-place-len-via-then-place-len+then-place-len-2+else-place-len-3, else-place-len-via-then-place-len+else-place-len-2, else-place-len-via-else-place-len}
 use Rattle.handler_post.specs.declared.handler.Handler.{Handler}
 use Rattle.dash_hall.specs.Hosts.{PostsFrame}
 
@@ -33,36 +33,35 @@ pub post_frame-requires-clause-frames : goal.post_frame-requires-clause-frames
 post_frame-requires-clause-frames g c =
     let t = c.args.self.now in
     let hall = c.args.hall.now in
-    let q = c.index-then-phase-phases.result.now in
+    let q = c.index-then-post-phases.result.now in
     let near : c.args.looper < length t.kit.frames.items = omega (arith, c.len-then-place-len-2.ensures, c.if-place-len-3.true) in
     let near' : c.args.looper < length hall.choreographers.items = omega (arith, c.len-then-place-len-3.ensures, c.if-place-len-4.true) in
-    let phases = its_phases c.args.script.now hall t c.requires.hall c.requires.thread c.args.looper q c.index-then-phase-phases.ensures near' in
-    (its_pass c.args.script.now hall t c.requires.hall c.requires.thread c.args.looper q c.index_mut-then-phase-phases.result.now c.index-then-phase-phases.ensures c.index_mut-then-phase-phases.ensures.value near, omega (arith, phases, c.phase_count-phases.ensures, c.if-phase-phases.true))
+    let phases = its_phases c.args.script.now hall t c.requires.hall c.requires.thread c.args.looper q c.index-then-post-phases.ensures near' in
+    (its_pass c.args.script.now hall t c.requires.hall c.requires.thread c.args.looper q c.index_mut-then-post-phases.result.now c.index-then-post-phases.ensures c.index_mut-then-post-phases.ensures.value near, omega (arith, phases, c.phase_count-phases.ensures, c.if-post-phases.true))
 
-pub returns-then-phase-phases-clause-thread : goal.returns-then-phase-phases-clause-thread
-returns-then-phase-phases-clause-thread g c =
+pub returns-then-post-phases-clause-thread : goal.returns-then-post-phases-clause-thread
+returns-then-post-phases-clause-thread g c =
     let t = c.args.self.now in
     record {
       number = c.requires.thread.number;
       posters = posters_kept t.number c.args.hall.now.queues.items t.kit.posters.items c.requires.thread.posters c.args.looper c.post_frame.new.poster c.index_mut.result.now (gone_badge _ _ _ _ c.post_frame.ensures.on ∙ ap badge_of c.index_mut.ensures.value);
-      frames = passes_kept t.number c.args.hall.now.choreographers.items t.kit.frames.items c.requires.thread.frames c.args.looper c.post_frame.new.frames c.index_mut-then-phase-phases.result.now (c.post_frame.ensures.frames ∙ ap frame_badge_of c.index_mut-then-phase-phases.ensures.value);
+      frames = passes_kept t.number c.args.hall.now.choreographers.items t.kit.frames.items c.requires.thread.frames c.args.looper c.post_frame.new.frames c.index_mut-then-post-phases.result.now (c.post_frame.ensures.frames ∙ ap frame_badge_of c.index_mut-then-post-phases.ensures.value);
       pass = c.post_frame.ensures.on.home ∙ c.requires.thread.pass;
     }
 
-pub returns-then-phase-phases-clause-made : goal.returns-then-phase-phases-clause-made
-returns-then-phase-phases-clause-made g c =
+pub returns-then-post-phases-clause-made : goal.returns-then-post-phases-clause-made
+returns-then-post-phases-clause-made g c =
     let t = c.args.self.now in
     let s = c.args.script.now in
     let p = c.index_mut.result.now in
     let q = c.post_frame.new.poster in
-    let f = c.index_mut-then-phase-phases.result.now in
+    let f = c.index_mut-then-post-phases.result.now in
     let h = c.post_frame.new.frames in
     let near : c.args.looper < length t.kit.posters.items = omega (arith, c.len.ensures, c.if-place-len.true) in
     let near' : c.args.looper < length t.kit.frames.items = omega (arith, c.len-then-place-len-2.ensures, c.if-place-len-3.true) in
     on_ok c.post_frame.result _ _
-    (λ made. λ m time mode allowed past rest are up. frame_progress m s time c.args.now c.args.looper c.args.phase c.args.id c.args.delay t.number t.barriers.items t.kit.posters.items t.kit.frames.items p q f h past allowed (its_mode m s c.args.hall.now t c.requires.hall c.requires.thread mode) c.index_mut.ensures.value c.index_mut-then-phase-phases.ensures.value near near' c.post_frame.ensures.on.sender (c.post_frame.ensures.on.more, sym c.post_frame.ensures.on.seen)
-    (subst (λ (i : ℕ). PostsFrame (64 + c.args.looper) c.args.now c.args.phase i c.args.delay p q f h) c.from.ensures
-    (subst (λ (x : Handler). PostsFrame x.id c.args.now c.args.phase c.from.result c.args.delay p q f h) c.frame_handler.ensures made)) up)
+    (λ made. λ m time mode allowed past rest are up. frame_progress m s time c.args.post.now c.args.looper c.args.post.phase c.args.post.id c.args.post.delay t.number t.barriers.items t.kit.posters.items t.kit.frames.items p q f h past allowed (its_mode m s c.args.hall.now t c.requires.hall c.requires.thread mode) c.index_mut.ensures.value c.index_mut-then-post-phases.ensures.value near near' c.post_frame.ensures.on.sender (c.post_frame.ensures.on.more, sym c.post_frame.ensures.on.seen)
+    (subst (λ (x : Handler). PostsFrame x.id c.args.post.now c.args.post.phase c.args.post.id c.args.post.delay p q f h) c.frame_handler.ensures made) up)
     c.post_frame.ensures.made
 
 pub returns-clause-made : goal.returns-clause-made
@@ -70,7 +69,7 @@ returns-clause-made g c = λ m time mode allowed past rest are up. (
     let t = c.args.self.now in
     let s = c.args.script.now in
     let hall = c.args.hall.now in
-    let within = frame_within s t.number time c.args.looper c.args.phase c.args.id c.args.delay past rest c.requires.text are in
+    let within = frame_within s t.number time c.args.looper c.args.post.phase c.args.post.id c.args.post.delay past rest c.requires.text are in
     let lt = within.0 in
     let ph = within.1 in
     let queues = queue_count hall.lockstep s hall.pool hall.queues.items c.requires.hall.queues in
@@ -78,7 +77,7 @@ returns-clause-made g c = λ m time mode allowed past rest are up. (
     let cs = choreographer_count s hall.choreographers.items c.requires.hall.choreographers in
     let frames = alike_length frame_badge_of (frame_badge_for t.number) t.kit.frames.items hall.choreographers.items c.requires.thread.frames in
     elim c.else-place-len.branch [
-      | else-place-len-via-then-place-len+then-place-len-2+then-place-len-3+then-place-len-4+else-phase-phases w ↦ absurd (omega (arith, ph, c.phase_count-phases.ensures, w.if-phase-phases.false))
+      | else-place-len-via-then-place-len+then-place-len-2+then-place-len-3+then-place-len-4+else-post-phases w ↦ absurd (omega (arith, ph, c.phase_count-phases.ensures, w.if-post-phases.false))
       | else-place-len-via-then-place-len+then-place-len-2+then-place-len-3+else-place-len-4 w ↦ absurd (omega (arith, lt, cs, w.len-then-place-len-3.ensures, w.if-place-len-4.false))
       | else-place-len-via-then-place-len+then-place-len-2+else-place-len-3 w ↦ absurd (omega (arith, lt, cs, frames, w.len-then-place-len-2.ensures, w.if-place-len-3.false))
       | else-place-len-via-then-place-len+else-place-len-2 w ↦ absurd (omega (arith, lt, queues, w.len-then-place-len.ensures, w.if-place-len-2.false))

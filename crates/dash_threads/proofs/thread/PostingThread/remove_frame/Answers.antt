@@ -39,17 +39,17 @@ returns-in_ok-remove_callbacks-clause-thread g c =
     }
 
 pub returns-in_ok-remove_callbacks-clause-made : goal.returns-in_ok-remove_callbacks-clause-made
-returns-in_ok-remove_callbacks-clause-made g c = λ m time mode allowed past rest are up. (
+returns-in_ok-remove_callbacks-clause-made g c = λ now m time mode allowed past rest are up. (
     let t = c.args.self.now in
     let f = c.index_mut.result.now in
     let h = c.remove_callbacks.new.pass in
     let turn = c.in_ok-remove_callbacks.ensures in
     let near : c.args.looper < length t.kit.frames.items = omega (arith, c.len.ensures, c.if-place-len.true) in
-    unframe_progress m c.args.script.now time c.args.now c.args.looper c.args.phase c.args.id t.number t.barriers.items t.kit.posters.items t.kit.frames.items f h past allowed c.index_mut.ensures.value near
+    unframe_progress m c.args.script.now time now c.args.looper c.args.phase c.args.id t.number t.barriers.items t.kit.posters.items t.kit.frames.items f h past allowed c.index_mut.ensures.value near
     (subst (λ (i : ℕ). AsksFor (Removes c.args.phase i None) f h) c.from.ensures (removal_asks c.args.phase c.from.result f h turn.0 turn.1 turn.2 turn.4)) turn.2.turns up)
 
 pub returns-else-place-len-clause-made : goal.returns-else-place-len-clause-made
-returns-else-place-len-clause-made g c = λ m time mode allowed past rest are up. (
+returns-else-place-len-clause-made g c = λ now m time mode allowed past rest are up. (
     let t = c.args.self.now in
     let s = c.args.script.now in
     let hall = c.args.hall.now in

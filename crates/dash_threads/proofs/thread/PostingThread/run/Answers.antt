@@ -40,4 +40,4 @@ returns-in-Frame-clause-made g c =
 
 pub returns-in-Unframe-clause-made : goal.returns-in-Unframe-clause-made
 returns-in-Unframe-clause-made g c =
-    subst (λ (z : Command). OnOk c.remove_frame.result (TakesAt c.args.hall.now.lockstep c.args.script.now c.args.now z c.args.self.now c.remove_frame.new.self)) (sym c.in-Unframe.is) c.remove_frame.ensures.made
+    subst (λ (z : Command). OnOk c.remove_frame.result (TakesAt c.args.hall.now.lockstep c.args.script.now c.args.now z c.args.self.now c.remove_frame.new.self)) (sym c.in-Unframe.is) (on_ok c.remove_frame.result _ _ (λ made. made c.args.now) c.remove_frame.ensures.made)

@@ -20,7 +20,7 @@ loop-line-preserved g c =
     let hall = c.args.hall.now in
     let t = c.args.self.now in
     let b = c.args.block.now in
-    let m : Mode = in_free_mode (g.C.Clock.shows c.args.timer.now.clock.now) c.args.timer.now.start in
+    let m : Mode = in_free_mode (g.C.Clock.shows c.args.pace.now.timer.now.clock.now) c.args.pace.now.timer.now.start in
     let i = c.loop-line.line-index in
     let l : Line = get_or c.as_slice-line-items.result.now i no_line in
     let is : l ≡ get_or b.lines i no_line = ap (λ (ls : List Line). get_or ls i no_line) c.as_slice-line-items.ensures in
@@ -55,6 +55,6 @@ pub returns-clause-made : goal.returns-clause-made
 returns-clause-made g c = λ going past rest are up. (
     let t = c.args.self.now in
     let b = c.args.block.now in
-    let m : Mode = in_free_mode (g.C.Clock.shows c.args.timer.now.clock.now) c.args.timer.now.start in
+    let m : Mode = in_free_mode (g.C.Clock.shows c.args.pace.now.timer.now.clock.now) c.args.pace.now.timer.now.start in
     let far : length b.lines ≤ c.loop-line.line-index = omega (arith, ap (λ (ls : List Line). length ls) c.as_slice-line-items.ensures, c.loop-line-test.false) in
     subst (λ (ls : List Line). IsUpTo m c.args.script.now (past ++ timed_in t.number b.time ls) c.loop-line.self) (take_all c.loop-line.line-index b.lines far) (c.loop-line.invariant.made going past rest are up))

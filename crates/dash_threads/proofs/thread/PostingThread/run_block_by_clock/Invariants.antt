@@ -9,5 +9,5 @@ invariant-loop-line g l = record {
   number : l.self.number ≡ l.fn.self.number;
   goes : l.self.gave_up ≡ false → l.fn.self.gave_up ≡ false;
   stays : l.fn.self.gave_up ≡ true → l.self ≡ l.fn.self;
-  made : l.self.gave_up ≡ false → HasRun (in_free_mode (g.C.Clock.shows l.timer.clock.now) l.timer.start) l.script l.block.time l.block.lines (take l.line-index l.block.lines) l.fn.self l.self;
+  made : l.self.gave_up ≡ false → HasRun (in_free_mode (g.C.Clock.shows l.pace.timer.now.clock.now) l.pace.timer.now.start) l.script l.block.time l.block.lines (take l.line-index l.block.lines) l.fn.self l.self;
 }

@@ -10,5 +10,5 @@ invariant-loop-block g l = record {
   number : l.self.number ≡ l.fn.self.number;
   goes : l.self.gave_up ≡ false → l.fn.self.gave_up ≡ false;
   stays : l.fn.self.gave_up ≡ true → l.self ≡ l.fn.self;
-  made : l.self.gave_up ≡ false → IsUpTo (in_free_mode (g.C.Clock.shows l.timer.clock.now) l.timer.start) l.script [] l.fn.self → IsUpTo (in_free_mode (g.C.Clock.shows l.timer.clock.now) l.timer.start) l.script (lines_of l.fn.self.number (take l.block-index l.script.blocks)) l.self;
+  made : l.self.gave_up ≡ false → IsUpTo (in_free_mode (g.C.Clock.shows l.fn.timer.clock.now) l.fn.timer.start) l.script [] l.fn.self → IsUpTo (in_free_mode (g.C.Clock.shows l.fn.timer.clock.now) l.fn.timer.start) l.script (lines_of l.fn.self.number (take l.block-index l.script.blocks)) l.self;
 }

@@ -14,7 +14,7 @@ use Rattle.looper_run.proofs.looper.Looper.go_on.Goals as goal
 
 pub loop-init : goal.loop-init
 loop-init g c = record {
-  goes = goes_self (g.C.Clock.shows c.args.clock.now) c.args.start c.args.queue.now c.args.self.now.held;
+  goes = goes_self (g.C.Clock.shows c.args.by.now.clock.now) c.args.by.now.start c.args.queue.now c.args.self.now.held;
   steps = (0, refl);
   serves = λ w h. h;
   origin = refl;
@@ -27,14 +27,14 @@ loop-init g c = record {
 
 pub loop-preserved : goal.loop-preserved
 loop-preserved g c =
-    let shows = g.C.Clock.shows c.args.clock.now in
+    let shows = g.C.Clock.shows c.args.by.now.clock.now in
     let here = c.loop.invariant in
     let q = c.args.queue.now in
     let a = c.args.self.now in
     let of = of_still q a.held c.loop.self.held here.goes.works.still c.requires.at.poster in
     let went = c.in-Goes.ensures.paced in
     record {
-      goes = goes_then shows c.args.start q a.held c.loop.self.held c.pace.new.self.held here.goes (goes_step shows c.args.start q c.loop.self c.pace.new.self went.0 of went.1 went.2);
+      goes = goes_then shows c.args.by.now.start q a.held c.loop.self.held c.pace.new.self.held here.goes (goes_step shows c.args.by.now.start q c.loop.self c.pace.new.self went.0 of went.1 went.2);
       steps = (suc here.steps.0, (c.loop.self, here.steps.1, went.0, went.1, went.2));
       serves = λ w h. c.pace.ensures.serves w (here.serves w h);
       origin = c.pace.ensures.origin ∙ here.origin;
@@ -52,15 +52,15 @@ returns-in-Ends-clause-nudges g c =
 
 pub returns-in-Ends-clause-loops : goal.returns-in-Ends-clause-loops
 returns-in-Ends-clause-loops g c =
-    let shows = g.C.Clock.shows c.args.clock.now in
-    subst (λ (l : Looping). LoopBy shows c.args.start c.args.cap c.args.queue.now.constants.setting c.args.self.now.held l.held Ended) (sym c.self.view_is)
-    (loop_ends shows c.args.start c.args.cap c.args.queue.now c.args.self.now c.loop.self c.pace.new.self c.requires.at.poster c.loop.invariant.goes c.in-Ends.ensures.paced)
+    let shows = g.C.Clock.shows c.args.by.now.clock.now in
+    subst (λ (l : Looping). LoopBy shows c.args.by.now.start c.args.by.now.cap c.args.queue.now.constants.setting c.args.self.now.held l.held Ended) (sym c.self.view_is)
+    (loop_ends shows c.args.by.now.start c.args.by.now.cap c.args.queue.now c.args.self.now c.loop.self c.pace.new.self c.requires.at.poster c.loop.invariant.goes c.in-Ends.ensures.paced)
 
 pub returns-in-Ends-clause-steps : goal.returns-in-Ends-clause-steps
 returns-in-Ends-clause-steps g c =
-    let shows = g.C.Clock.shows c.args.clock.now in
-    let marked = subst (λ (l : Looping). HasStepped shows c.args.start c.loop.self (record { held = l.held; idle_owed = l.idle_owed; ended = true }) Ends) (sym c.self.view_is)
-    (steps_marked shows c.args.start c.loop.self c.pace.new.self c.in-Ends.ensures.paced) in
+    let shows = g.C.Clock.shows c.args.by.now.clock.now in
+    let marked = subst (λ (l : Looping). HasStepped shows c.args.by.now.start c.loop.self (record { held = l.held; idle_owed = l.idle_owed; ended = true }) Ends) (sym c.self.view_is)
+    (steps_marked shows c.args.by.now.start c.loop.self c.pace.new.self c.in-Ends.ensures.paced) in
     (c.loop.invariant.steps.0, c.loop.self, c.loop.invariant.steps.1, marked, (c.pace.ensures.asked ∙ c.loop.invariant.asked) ∙ with_none (g.D.Dispatcher.asked c.args.d.now))
 
 pub returns-in-NoMemory-clause-nudges : goal.returns-in-NoMemory-clause-nudges
@@ -89,16 +89,16 @@ returns-in-Pauses-clause-nudges g c =
 
 pub returns-in-Pauses-clause-loops : goal.returns-in-Pauses-clause-loops
 returns-in-Pauses-clause-loops g c =
-    let shows = g.C.Clock.shows c.args.clock.now in
-    subst (λ (r : Loop). LoopBy shows c.args.start c.args.cap c.args.queue.now.constants.setting c.args.self.now.held c.close.new.self.held r) (sym c.as_loop.ensures)
-    (loop_pauses shows c.args.start c.args.cap c.args.queue.now _ c.in-Pauses.pause c.args.self.now c.loop.self c.pace.new.self c.close.new.self c.requires.at.poster c.loop.invariant.goes c.in-Pauses.ensures.paced c.close.ensures.closed)
+    let shows = g.C.Clock.shows c.args.by.now.clock.now in
+    subst (λ (r : Loop). LoopBy shows c.args.by.now.start c.args.by.now.cap c.args.queue.now.constants.setting c.args.self.now.held c.close.new.self.held r) (sym c.as_loop.ensures)
+    (loop_pauses shows c.args.by.now.start c.args.by.now.cap c.args.queue.now _ c.in-Pauses.pause c.args.self.now c.loop.self c.pace.new.self c.close.new.self c.requires.at.poster c.loop.invariant.goes c.in-Pauses.ensures.paced c.close.ensures.closed)
 
 pub returns-in-Pauses-clause-steps : goal.returns-in-Pauses-clause-steps
 returns-in-Pauses-clause-steps g c =
-    let shows = g.C.Clock.shows c.args.clock.now in
+    let shows = g.C.Clock.shows c.args.by.now.clock.now in
     let asked = g.D.Dispatcher.asked in
     let same : asked c.pace.new.d ≡ asked c.args.d.now = c.pace.ensures.asked ∙ c.loop.invariant.asked in
     let Q : List Listening → Type 0 = λ more. asked c.close.new.d ≡ with_asked (asked c.args.d.now) (map Listen more) in
     let closed : IsClosed Q c.pace.new.self c.close.new.self = closed_as _ Q c.pace.new.self c.close.new.self (λ more is. is ∙ ap (λ (t : Option (List Asked)). with_asked t (map Listen more)) same) c.in-Ok.ensures.closed in
-    subst (λ (r : Loop). StepsBy Q shows c.args.start c.args.cap c.args.self.now c.close.new.self r) (sym c.as_loop.ensures)
-    (steps_pause Q shows c.args.start c.args.cap c.loop.invariant.steps.0 c.args.self.now c.loop.self c.pace.new.self c.close.new.self c.in-Pauses.pause c.loop.invariant.steps.1 c.in-Pauses.ensures.paced closed)
+    subst (λ (r : Loop). StepsBy Q shows c.args.by.now.start c.args.by.now.cap c.args.self.now c.close.new.self r) (sym c.as_loop.ensures)
+    (steps_pause Q shows c.args.by.now.start c.args.by.now.cap c.loop.invariant.steps.0 c.args.self.now c.loop.self c.pace.new.self c.close.new.self c.in-Pauses.pause c.loop.invariant.steps.1 c.in-Pauses.ensures.paced closed)

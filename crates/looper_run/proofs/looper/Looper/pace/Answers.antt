@@ -13,13 +13,13 @@ use Rattle.looper_run.proofs.looper.Looper.pace.Goals as goal
 pub act-step-requires-clause-look : goal.act-step-requires-clause-look
 act-step-requires-clause-look g c =
     let M = g.D.Dispatcher.Meets c.args.d.now in
-    let shows = g.C.Clock.shows c.args.clock.now in
+    let shows = g.C.Clock.shows c.args.by.now.clock.now in
     let l : Looping = record { held = record { poster = c.self.inside.poster; pass = c.self.inside.pass; journal = c.self.inside.journal }; idle_owed = c.self.inside.idle_owed; ended = c.self.inside.ended } in
     let at = subst (λ (x : Looping). IsAt c.args.queue.now c.args.pool.now x.held) (sym c.self.view_is) c.requires.at in
     let passes = subst (λ (x : Looping). Passes M x.held) (sym c.self.view_is) c.requires.meets in
     let w = c.wait_next-waited.ensures.done in
-    let got = c.in-Ok.ensures.answer shows c.args.start l.idle_owed c.args.cap w.1 c.wait_next-waited.new.self w.3 in
-    may_act M (g.met.D.Dispatcher.others c.args.d.now) (g.met.D.Dispatcher.quiet c.args.d.now) shows c.args.start c.args.queue.now c.args.pool.now l c.wait_next-waited.new.self w.0 w.1 got.0 c.in-Ok.answer at passes w.2 got.1
+    let got = c.in-Ok.ensures.answer shows c.args.by.now.start l.idle_owed c.args.by.now.cap w.1 c.wait_next-waited.new.self w.3 in
+    may_act M (g.met.D.Dispatcher.others c.args.d.now) (g.met.D.Dispatcher.quiet c.args.d.now) shows c.args.by.now.start c.args.queue.now c.args.pool.now l c.wait_next-waited.new.self w.0 w.1 got.0 c.in-Ok.answer at passes w.2 got.1
 
 pub act-step-requires-clause-home : goal.act-step-requires-clause-home
 act-step-requires-clause-home g c =
@@ -27,27 +27,27 @@ act-step-requires-clause-home g c =
 
 pub returns-clause-paced : goal.returns-clause-paced
 returns-clause-paced g c =
-    let shows = g.C.Clock.shows c.args.clock.now in
+    let shows = g.C.Clock.shows c.args.by.now.clock.now in
     let l : Looping = record { held = record { poster = c.self.inside.poster; pass = c.self.inside.pass; journal = c.self.inside.journal }; idle_owed = c.self.inside.idle_owed; ended = c.self.inside.ended } in
     let w = c.wait_next-waited.ensures.done in
-    let got = c.in-Ok.ensures.answer shows c.args.start l.idle_owed c.args.cap w.1 c.wait_next-waited.new.self w.3 in
-    let stepped : HasStepped shows c.args.start l c.act-step.new.self c.act-step.result = (by_poster l w.1, (w.1, w.0, w.2, refl), got.0, got.1.moment, c.act-step.ensures.step w.1 got.0 got.1.look) in
-    subst (λ (r : Pace). HasPaced shows c.args.start c.args.cap c.args.self.now c.act-step.new.self r) (sym c.paced.ensures)
-    (subst (λ (x : Looping). HasPaced shows c.args.start c.args.cap x c.act-step.new.self (pace_of c.act-step.result)) c.self.view_is (paces shows c.args.start c.args.cap l c.act-step.new.self c.act-step.result stepped))
+    let got = c.in-Ok.ensures.answer shows c.args.by.now.start l.idle_owed c.args.by.now.cap w.1 c.wait_next-waited.new.self w.3 in
+    let stepped : HasStepped shows c.args.by.now.start l c.act-step.new.self c.act-step.result = (by_poster l w.1, (w.1, w.0, w.2, refl), got.0, got.1.moment, c.act-step.ensures.step w.1 got.0 got.1.look) in
+    subst (λ (r : Pace). HasPaced shows c.args.by.now.start c.args.by.now.cap c.args.self.now c.act-step.new.self r) (sym c.paced.ensures)
+    (subst (λ (x : Looping). HasPaced shows c.args.by.now.start c.args.by.now.cap x c.act-step.new.self (pace_of c.act-step.result)) c.self.view_is (paces shows c.args.by.now.start c.args.by.now.cap l c.act-step.new.self c.act-step.result stepped))
 
 pub returns-in-Err-clause-paced : goal.returns-in-Err-clause-paced
 returns-in-Err-clause-paced g c =
-    let shows = g.C.Clock.shows c.args.clock.now in
+    let shows = g.C.Clock.shows c.args.by.now.clock.now in
     let l : Looping = record { held = record { poster = c.self.inside.poster; pass = c.self.inside.pass; journal = c.self.inside.journal }; idle_owed = c.self.inside.idle_owed; ended = c.self.inside.ended } in
-    subst (λ (x : Looping). HasPaused shows c.args.start c.args.cap x (by_poster l c.wait_next-waited.new.self) c.in-Err.pause) c.self.view_is
-    (pauses shows c.args.start c.args.cap l c.wait_next-waited.new.self c.wait_next-waited.result c.in-Err.pause c.wait_next-waited.ensures.done c.in-Err.ensures.pause)
+    subst (λ (x : Looping). HasPaused shows c.args.by.now.start c.args.by.now.cap x (by_poster l c.wait_next-waited.new.self) c.in-Err.pause) c.self.view_is
+    (pauses shows c.args.by.now.start c.args.by.now.cap l c.wait_next-waited.new.self c.wait_next-waited.result c.in-Err.pause c.wait_next-waited.ensures.done c.in-Err.ensures.pause)
 
 pub returns-in-Err-clause-meets : goal.returns-in-Err-clause-meets
 returns-in-Err-clause-meets g c =
     let M = g.D.Dispatcher.Meets c.args.d.now in
     let l : Looping = record { held = record { poster = c.self.inside.poster; pass = c.self.inside.pass; journal = c.self.inside.journal }; idle_owed = c.self.inside.idle_owed; ended = c.self.inside.ended } in
     let passes = subst (λ (x : Looping). Passes M x.held) (sym c.self.view_is) c.requires.meets in
-    passes_pause M (g.met.D.Dispatcher.others c.args.d.now) (g.met.D.Dispatcher.quiet c.args.d.now) (g.C.Clock.shows c.args.clock.now) c.args.start c.args.cap l c.wait_next-waited.new.self c.wait_next-waited.result c.in-Err.pause passes c.wait_next-waited.ensures.done c.in-Err.ensures.pause
+    passes_pause M (g.met.D.Dispatcher.others c.args.d.now) (g.met.D.Dispatcher.quiet c.args.d.now) (g.C.Clock.shows c.args.by.now.clock.now) c.args.by.now.start c.args.by.now.cap l c.wait_next-waited.new.self c.wait_next-waited.result c.in-Err.pause passes c.wait_next-waited.ensures.done c.in-Err.ensures.pause
 
 pub returns-clause-meets : goal.returns-clause-meets
 returns-clause-meets g c =

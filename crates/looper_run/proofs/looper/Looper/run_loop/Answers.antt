@@ -16,19 +16,19 @@ returns-clause-nudges g c =
 
 pub returns-clause-loops : goal.returns-clause-loops
 returns-clause-loops g c =
-    let shows = g.C.Clock.shows c.args.clock.now in
+    let shows = g.C.Clock.shows c.args.by.now.clock.now in
     let now = c.saturating_sub-now.result in
-    let moment : IsMoment shows c.args.start now = record { reading = c.uptime_millis.result; shown = c.uptime_millis.ensures; since = c.saturating_sub-now.ensures } in
-    loop_begun shows c.args.start c.args.cap c.args.queue.now c.args.self.now.held c.begin.new.self.held c.go_on.new.self.held c.go_on.result
-    (goes_by shows c.args.start c.args.queue.now now 0 c.args.self.now.held c.begin.new.self.held moment (works_beginning _ c.args.queue.now.constants.setting now c.args.self.now c.begin.new.self c.begin.ensures.begun))
+    let moment : IsMoment shows c.args.by.now.start now = record { reading = c.uptime_millis.result; shown = c.uptime_millis.ensures; since = c.saturating_sub-now.ensures } in
+    loop_begun shows c.args.by.now.start c.args.by.now.cap c.args.queue.now c.args.self.now.held c.begin.new.self.held c.go_on.new.self.held c.go_on.result
+    (goes_by shows c.args.by.now.start c.args.queue.now now 0 c.args.self.now.held c.begin.new.self.held moment (works_beginning _ c.args.queue.now.constants.setting now c.args.self.now c.begin.new.self c.begin.ensures.begun))
     c.go_on.ensures.loops
 
 pub returns-clause-steps : goal.returns-clause-steps
 returns-clause-steps g c =
-    let shows = g.C.Clock.shows c.args.clock.now in
+    let shows = g.C.Clock.shows c.args.by.now.clock.now in
     let now = c.saturating_sub-now.result in
     let asked = g.D.Dispatcher.asked in
-    let moment : IsMoment shows c.args.start now = record { reading = c.uptime_millis.result; shown = c.uptime_millis.ensures; since = c.saturating_sub-now.ensures } in
+    let moment : IsMoment shows c.args.by.now.start now = record { reading = c.uptime_millis.result; shown = c.uptime_millis.ensures; since = c.saturating_sub-now.ensures } in
     begins (λ heard. asked c.begin.new.d ≡ with_asked (asked c.args.d.now) (asked_by_round now heard)) (λ more. asked c.go_on.new.d ≡ with_asked (asked c.begin.new.d) (map Listen more))
-    (λ at heard more. asked c.go_on.new.d ≡ with_asked (asked c.args.d.now) (asked_by_round at heard ++ map Listen more)) shows c.args.start c.args.cap now c.args.self.now c.begin.new.self c.go_on.new.self c.go_on.result
+    (λ at heard more. asked c.go_on.new.d ≡ with_asked (asked c.args.d.now) (asked_by_round at heard ++ map Listen more)) shows c.args.by.now.start c.args.by.now.cap now c.args.self.now c.begin.new.self c.go_on.new.self c.go_on.result
     moment c.in-Ok.ensures.begun (λ heard more x y. asks_both (asked c.args.d.now) (asked c.begin.new.d) (asked c.go_on.new.d) now heard more x y) c.go_on.ensures.steps

@@ -1,29 +1,10 @@
-use Rattle.std.proofs.Common.{subst}
-use Rattle.queue_state.specs.Queue.{Queue}
-use Rattle.queue_state.specs.Calls.{Halts}
-use Rattle.shared_queue.specs.Known.{Known}
-use Rattle.shared_queue.specs.Whole.{whole_queue}
-use Rattle.shared_queue.proofs.Whole.{halts_whole}
-use Rattle.shared_queue.specs.Calls.{HaltedBy}
-use Rattle.shared_queue.proofs.Knows.{known, by_turn, by_end}
-use Rattle.shared_queue.proofs.Steps.{halts}
+use Rattle.shared_queue.proofs.TurnCalls.{halting, end_may_come, is_one_turn}
 use Rattle.shared_queue.proofs.poster.Poster.halt.Goals as goal
 
 pub end-requires-clause-turn : goal.end-requires-clause-turn
 end-requires-clause-turn g c κs within =
-    let d = c.self.inside.desk in
-    let x : Queue g.row.K-Home.Denot g.row.K.Denot = c.begin-state.result in
-    let y : Queue g.row.K-Home.Denot g.row.K.Denot = c.halt-answer.new.self in
-    let r = c.halt-answer.result in
-    by_end c.args.queue.now.constants d c.begin-state.new.self x y c.begin-state.ensures (λ s. Halts x s c.args.now r y) c.halt-answer.ensures (halts x y d.sender c.args.now r)
+    end_may_come (halting c.args.now c.halt-answer.result) c.args.queue.now.constants c.self.inside.desk c.begin-state.new.self c.begin-state.result c.halt-answer.new.self c.begin-state.ensures c.halt-answer.ensures
 
 pub returns : goal.returns
 returns g c =
-    let d = c.self.inside.desk in
-    let x : Queue g.row.K-Home.Denot g.row.K.Denot = c.begin-state.result in
-    let y : Queue g.row.K-Home.Denot g.row.K.Denot = c.halt-answer.new.self in
-    let r = c.halt-answer.result in
-    let n = c.end.new.self in
-    let past = c.begin-state.ensures.spans.0 in
-    let t = by_turn c.args.queue.now.constants d c.begin-state.new.self n x y c.self.invariant c.begin-state.ensures (λ s. Halts x s c.args.now r y) (λ v w. Halts v d.sender c.args.now r w) c.halt-answer.ensures (halts x y d.sender c.args.now r) (λ before l below p. halts_whole before x l d.sender below c.args.now y r p) c.end.ensures in
-    subst (λ (before : Known g.row.K-Home.Denot g.row.K.Denot). HaltedBy before (known n) c.args.now r) c.self.view_is (whole_queue past x, whole_queue past y, t.0, t.1)
+    is_one_turn (halting c.args.now c.halt-answer.result) c.args.queue.now.constants c.self.inside.desk c.begin-state.new.self c.begin-state.result c.halt-answer.new.self c.begin-state.ensures c.halt-answer.ensures c.end.new.self c.self.view_is c.self.invariant c.end.ensures

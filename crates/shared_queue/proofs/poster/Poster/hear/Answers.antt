@@ -2,7 +2,7 @@ use Rattle.std.proofs.Common.{rules, ◌≡◌, ℕ, max, false, refl, ap, sym, 
 use mathlib.Core.List.{IsPrefix}
 use Rattle.queue_state.specs.Queue.{Queue}
 use Rattle.shared_queue.specs.declared.desk.Desk.{Desk}
-use Rattle.shared_queue.specs.Known.{Known, IsSame}
+use Rattle.shared_queue.specs.Known.{Known, IsSamePoster}
 use Rattle.shared_queue.specs.Plays.{Sat}
 use Rattle.shared_queue.proofs.Knows.{known}
 use Rattle.shared_queue.proofs.Hears.{heard_idle, heard_begins, heard_same}
@@ -43,5 +43,5 @@ returns-clause-same g c =
     let d = c.self.inside.desk in
     let l = c.load-self-inside.ensures.2 in
     let e : Desk (Queue g.row.K-Home.Denot g.row.K.Denot) g.row.K-Home.Denot = record { seat = c.load-self-inside.new.seat; sender = d.sender; made = d.made; seen = c.max-self-inside.result; heard = d.heard } in
-    subst (λ (before : P). IsSame before (known e) × (e.seat.me.0.rung ≡ before.view.rung) × (e.seat.me.0.heard ≡ before.view.heard)) c.self.view_is
+    subst (λ (before : P). IsSamePoster before (known e) × (e.seat.me.0.rung ≡ before.view.rung) × (e.seat.me.0.heard ≡ before.view.heard)) c.self.view_is
     (heard_same d c.other.inside.desk.seat.me.0 c.join_seat.new.seat.me c.load-self-inside.new.seat.me c.self.invariant (search rules) l.0 l.1 l.2 e (search rules) refl refl)

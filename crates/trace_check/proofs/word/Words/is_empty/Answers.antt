@@ -1,6 +1,6 @@
 use Rattle.std.proofs.Common.{◌∙◌, sym, ap, map}
 use Rattle.std.specs.Option.{option_copied}
-use Rattle.line_words.specs.Words.{parts_left}
+use Rattle.line_words.specs.Rests.{parts_left}
 use Rattle.trace_check.specs.Saying.{word_of}
 use Rattle.trace_check.specs.Reading.{is_none_left}
 use Rattle.trace_check.proofs.Spelled.{some_left}

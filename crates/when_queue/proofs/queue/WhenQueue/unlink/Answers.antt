@@ -1,4 +1,4 @@
-use Rattle.std.proofs.Common.{◌≤◌, length, ap, sym, subst, ◌∙◌, arith}
+use Rattle.std.proofs.Common.{◌≡◌, ◌≤◌, Some, length, ap, sym, subst, ◌∙◌, arith}
 use Rattle.loop_model.specs.Items.{is_asynchronous}
 use Rattle.message_slot.specs.Letter.{Letter}
 use Rattle.when_queue.specs.Queue.{IsRising}
@@ -10,7 +10,8 @@ use Rattle.when_queue.proofs.queue.WhenQueue.unlink.Goals as goal
 pub invariant_of-self : goal.invariant_of-self
 invariant_of-self g c =
     let at = rw (← c.self.view_is) at c.requires in
-    let is = c.item.ensures in
+    let back : Some c.get.result.now ≡ Some c.remove_at-node.result = sym c.get.ensures ∙ got_back c.self.inside.list c.remove_at-node.new.self c.args.index c.remove_at-node.result at c.remove_at-node.ensures in
+    let is : c.get.result.now ≡ c.remove_at-node.result = cc in
     let fewer = ap length c.remove_at-node.ensures ∙ length_put c.remove_at-node.new.self c.args.index c.remove_at-node.result in
     let within : c.args.index ≤ length c.remove_at-node.new.self = omega arith in (
       subst IsRising (sym (removed_is c.self.inside.list c.remove_at-node.new.self c.args.index c.remove_at-node.result at c.remove_at-node.ensures)) (rising_removed c.self.inside.list c.args.index c.self.invariant.0),

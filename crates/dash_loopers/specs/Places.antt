@@ -1,0 +1,46 @@
+-- What a looper's code serves, and what its steps do, by the place where it runs.
+use Rattle.std.specs.Prelude.{ℕ, Option, fold}
+use Rattle.loop_model.specs.declared.post.Post.{Post as PostData}
+use Rattle.looper_run.specs.declared.own.Own.{Own}
+use Rattle.looper_run.specs.Holding.{workplace, held}
+use Rattle.choreographer.specs.declared.hosted.Pulse.{Pulse}
+use Rattle.run_model.specs.Loopers.{Looper, callback_ran}
+use Rattle.dash_hall.specs.declared.host.Host.{Host}
+use Rattle.dash_script.specs.declared.script.Script.{Script}
+use Rattle.dash_loopers.specs.declared.frame_run.FrameRun.{FrameRun}
+use Rattle.dash_loopers.specs.declared.player.Parts.{Parts}
+use Rattle.dash_loopers.specs.declared.player.Place.{Place}
+use Rattle.dash_loopers.specs.declared.view_root.ViewRoot.{ViewRoot}
+use Rattle.dash_loopers.specs.Players.{ServesAt}
+use Rattle.dash_loopers.specs.Played.{calls_of, ids_of, Shows, Plays, Delivers, DeliversPulse, Pulses}
+
+-- the code works at the queue of the place's looper, with what it is lent, and these are the looper's parts
+abbrev pub ServesOn : {R : Type 0} → Place R → Parts → Own → Type 0
+ServesOn place parts own = ServesAt place.script.now place.hall.now place.looper parts (workplace (held own))
+
+-- a step of all that the place's looper has
+abbrev pub PlaysOn : {R : Type 0} → Place R → (Looper → Looper) → Own → Own → Parts → Parts → Type 0
+PlaysOn place step own own' parts parts' = Plays place.script.now place.looper step (calls_of own.poster.now) parts (calls_of own'.poster.now) parts'
+
+-- a message was delivered at this moment
+abbrev pub DeliversOn : {R : Type 0} → Place R → ℕ → PostData → Own → Own → Parts → Parts → Type 0
+DeliversOn place now m own own' parts parts' =
+    Delivers place.script.now place.looper now m (calls_of own.poster.now) (calls_of own'.poster.now) parts parts' own.journal.now.acts own'.journal.now.acts
+
+-- what came of a pulse at this moment
+abbrev pub DeliversPulseOn : {R : Type 0} → Place R → ℕ → Own → Own → Parts → Parts → Option Pulse → Type 0
+DeliversPulseOn place now own own' parts parts' pulse = DeliversPulse place.script.now place.looper now (calls_of own.poster.now) (calls_of own'.poster.now) parts parts' pulse
+
+-- a pulse was delivered at this moment and told, or none came
+abbrev pub PulsesOn : {R : Type 0} → Place R → ℕ → Own → Own → Parts → Parts → Type 0
+PulsesOn place now own own' parts parts' =
+    Pulses place.script.now place.looper now (calls_of own.poster.now) (calls_of own'.poster.now) parts parts' own.journal.now.acts own'.journal.now.acts
+
+-- a step of the view root, by what its host has called
+abbrev pub ShowsOn : {R : Type 0} → Host R → Host R → Script → ℕ → (Looper → Looper) → ViewRoot → ViewRoot → Type 0
+ShowsOn host host' s q step root root' = Shows s q step (calls_of host.poster.now) root (calls_of host'.poster.now) root'
+
+-- the view root of a frame that is under way has run the callbacks that are told, by what its host has called
+abbrev pub FrameShows : {R : Type 0} → FrameRun → Host R → Type 0
+FrameShows run host = (s : Script) (q : ℕ)
+    → Shows s q (λ a. fold (callback_ran s q host.now) a (ids_of run.ran.now.items)) (calls_of run.poster_began.now.value) run.began.now.value (calls_of host.poster.now) run.root.now

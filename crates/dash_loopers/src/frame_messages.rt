@@ -1,0 +1,263 @@
+//! What a looper does with the messages of its choreographer and of its gauges.
+ghost use Rattle.std.specs.Prelude.{◌≡◌, ℕ, List, [], ◌∷◌, ◌++◌, map, fold, None, IsTrue, true, false, OnOk};
+ghost use mathlib.Core.List.{IsPrefix};
+ghost use Rattle.frame_phases.specs.Pulses.{is_pulse_if_any};
+ghost use Rattle.looper_run.specs.Holding.{held, IsSameOwn};
+ghost use Rattle.looper_run.specs.Acts.{IsOfDispatcher, GrowsBy};
+ghost use Rattle.looper_run.specs.Tests.{IsLent};
+ghost use Rattle.dash_hall.specs.Hosts.{IsHostNow, asks_of};
+ghost use Rattle.dash_hall.specs.ByClock.{AddsAt};
+ghost use Rattle.dash_loopers.specs.Clocked.{CallsUntimed};
+ghost use Rattle.dash_loopers.specs.Loopers.{IsPlaceOf, IsLooperOf};
+ghost use Rattle.dash_loopers.specs.Players.{AreSameParts};
+ghost use Rattle.dash_script.specs.Causes.{phase_count};
+ghost use Rattle.dash_loopers.specs.Played.{calls_of, RanFrame, paint_of};
+ghost use Rattle.loop_model.specs.declared.post.Post.{Post as PostData};
+ghost use Rattle.run_model.specs.Senders.{frame_handler as the_frame_handler};
+ghost use Rattle.run_model.specs.Loopers.{starts_frame, callback_ran, object_set};
+ghost use Rattle.looper_run.specs.Tests.{Unless};
+ghost use Rattle.choreographer.specs.declared.host.HostSent.TheVariants.{NoMemory as NoRoom};
+ghost use Rattle.choreographer.specs.Calls.{stamp_in};
+ghost use Rattle.dash_loopers.specs.Places.{ServesOn, PlaysOn, DeliversOn, DeliversPulseOn, PulsesOn};
+
+use crate::player::{Parts, Place, did};
+use crate::view_root::Painted;
+use choreographer::{DUE_MESSAGE, FRAME_MESSAGE, HostSent, Pulse};
+use dash_hall::{Host, frame_handler};
+use dash_script::phase_count;
+use loop_model::{Act, Journal, NoMemory, Post};
+use looper_run::{Did, Own};
+use message_pool::{PoolClaim, PoolPass};
+use shared_queue::Poster;
+use std::snapshot::Snapshot;
+use std::sync::Wait;
+
+impl<'a, R: Wait> Place<'a, R> {
+    /// The looper's queue as its choreographer sees it, at this moment in milliseconds.
+    fn host<'b>(
+        &'b self,
+        poster: &'b mut Poster<PoolClaim>,
+        pass: &'b mut PoolPass,
+        began: &'b Snapshot<Poster<PoolClaim>>,
+        pass_began: &'b Snapshot<PoolPass>,
+        now: u64,
+    ) -> Host<'b, R>
+        requires looper { IsLooperOf self.now.script.now self.now.hall.now self.now.looper }
+        requires place { IsPlaceOf self.now.hall.now self.now.looper
+            (record { table = poster.old.table; constants = poster.old.view.constants; pool = pass.old.home }) }
+        requires began { (began.now.value ≡ poster.old) × (pass_began.now.value ≡ pass.old) }
+        ensures poster { (result.poster.ghost_name ≡ poster.entry.ghost_name) × (result.poster.now ≡ poster.old) }
+        ensures pass { (result.pass.ghost_name ≡ pass.entry.ghost_name) × (result.pass.now ≡ pass.old) }
+        ensures began { (result.began.now.value ≡ poster.old) × (result.pass_began.now.value ≡ pass.old) }
+        ensures moment { (result.now ≡ now) × (result.handler.id ≡ the_frame_handler self.now.looper) }
+        ensures ready { IsHostNow result }
+    {
+        Host {
+            rt: self.rt,
+            alloc: self.alloc,
+            handler: frame_handler(self.looper),
+            queue: self.queue(),
+            pool: &self.hall.pool,
+            poster,
+            pass,
+            began,
+            pass_began,
+            now,
+        }
+    }
+
+    /// Delivers the pulse that is asked for, if it came.
+    fn deliver_pulse(&self, parts: &mut Parts, own: &mut Own, now: u64) -> Option<Pulse>
+        requires serves { ServesOn self.now parts.old own.old }
+        ensures parts { AreSameParts parts.old parts.new }
+        ensures own { IsSameOwn own.old own.new }
+        ensures lent { IsLent (held own.old) (held own.new) }
+        ensures rung { own.new.poster.now.view.rung ≡ own.old.poster.now.view.rung }
+        ensures untimed { CallsUntimed own.old.poster.now own.new.poster.now parts.old parts.new }
+        ensures is_pulse { IsTrue (is_pulse_if_any self.now.script.now.period (stamp_in result)) }
+        ensures pulses { DeliversPulseOn self.now now own.old own.new parts.old parts.new result }
+        ensures acts { own.new.journal.now.acts ≡ own.old.journal.now.acts }
+    {
+        let began = Snapshot::of(&*own.poster);
+        let pass_began = Snapshot::of(&*own.pass);
+        let mut host = self.host(own.poster, own.pass, &began, &pass_began, now);
+        host.deliver(self.choreographer(), &mut parts.frames)
+    }
+
+    /// Delivers the pulse that is asked for, if it came, and tells it.
+    pub(crate) fn pulse(&self, parts: &mut Parts, own: &mut Own, now: u64) -> Did
+        requires serves { ServesOn self.now parts.old own.old }
+        ensures parts { AreSameParts parts.old parts.new }
+        ensures own { IsSameOwn own.old own.new }
+        ensures lent { IsLent (held own.old) (held own.new) }
+        ensures rung { own.new.poster.now.view.rung ≡ own.old.poster.now.view.rung }
+        ensures untimed { CallsUntimed own.old.poster.now own.new.poster.now parts.old parts.new }
+        ensures pulses { Unless result (PulsesOn self.now now own.old own.new parts.old parts.new) }
+    {
+        match self.deliver_pulse(parts, own, now) {
+            None => Did::No,
+            Some(pulse) => {
+                if is_wanting(pulse.sent) {
+                    return Did::NoMemory;
+                }
+                did(tell(own.journal, Act::Vsync { stamp: pulse.stamp }))
+            }
+        }
+    }
+
+    /// The frame's message begins a frame, where one is scheduled, and runs its callbacks.
+    fn run_frame(&self, parts: &mut Parts, own: &mut Own, now: u64) -> Result<(), NoMemory>
+        requires serves { ServesOn self.now parts.old own.old }
+        ensures parts { AreSameParts parts.old parts.new }
+        ensures own { IsSameOwn own.old own.new }
+        ensures lent { IsLent (held own.old) (held own.new) }
+        ensures rung { own.new.poster.now.view.rung ≡ own.old.poster.now.view.rung }
+        ensures clocked { AddsAt now own.old.poster.now own.new.poster.now }
+        ensures others { parts.new.others ≡ parts.old.others }
+        ensures ran { OnOk result ((ids : List ℕ)
+            × RanFrame self.now.script.now.period (phase_count self.now.script.now.edition) now parts.old.frames parts.new.frames ids
+            × PlaysOn self.now (λ a. fold (callback_ran self.now.script.now self.now.looper now) a ids) own.old own.new parts.old parts.new) }
+        ensures acts { own.new.journal.now.acts ≡ own.old.journal.now.acts }
+    {
+        let began = Snapshot::of(&*own.poster);
+        let pass_began = Snapshot::of(&*own.pass);
+        let mut host = self.host(own.poster, own.pass, &began, &pass_began, now);
+        parts
+            .root
+            .do_frame(self.choreographer(), &mut parts.frames, &mut host)
+    }
+
+    /// The frame's message begins a frame, where one is scheduled, runs its callbacks, and tells what they painted.
+    fn do_frame(&self, parts: &mut Parts, own: &mut Own, now: u64) -> Result<(), NoMemory>
+        requires serves { ServesOn self.now parts.old own.old }
+        ensures parts { AreSameParts parts.old parts.new }
+        ensures own { IsSameOwn own.old own.new }
+        ensures lent { IsLent (held own.old) (held own.new) }
+        ensures rung { own.new.poster.now.view.rung ≡ own.old.poster.now.view.rung }
+        ensures clocked { AddsAt now own.old.poster.now own.new.poster.now }
+        ensures others { parts.new.others ≡ parts.old.others }
+        ensures delivers { (m : PostData) → starts_frame self.now.looper m ≡ true
+            → OnOk result (DeliversOn self.now now m own.old own.new parts.old parts.new) }
+    {
+        self.run_frame(parts, own, now)?;
+        tell_painted(own.journal, parts.root.painted.as_slice())?;
+        parts.root.painted.clear();
+        Ok(())
+    }
+
+    /// The message of a callback's due time schedules a frame, where the phase has a due callback and none is scheduled.
+    fn on_due(&self, parts: &mut Parts, own: &mut Own, phase: u32, now: u64)
+        requires serves { ServesOn self.now parts.old own.old }
+        ensures parts { AreSameParts parts.old parts.new }
+        ensures own { IsSameOwn own.old own.new }
+        ensures lent { IsLent (held own.old) (held own.new) }
+        ensures rung { own.new.poster.now.view.rung ≡ own.old.poster.now.view.rung }
+        ensures clocked { AddsAt now own.old.poster.now own.new.poster.now }
+        ensures others { parts.new.others ≡ parts.old.others }
+        ensures plays { PlaysOn self.now (λ a. a) own.old own.new parts.old parts.new }
+        ensures acts { own.new.journal.now.acts ≡ own.old.journal.now.acts }
+        ensures seen { IsPrefix parts.old.frames.view.seen parts.new.frames.view.seen }
+        ensures asks { asks_of parts.new.frames ≡ asks_of parts.old.frames }
+        ensures calls { calls_of own.new.poster.now ≡ calls_of own.old.poster.now }
+    {
+        let phases = phase_count(self.script.edition);
+        if phase >= phases {
+            return;
+        }
+        let began = Snapshot::of(&*own.poster);
+        let pass_began = Snapshot::of(&*own.pass);
+        let mut host = self.host(own.poster, own.pass, &began, &pass_began, now);
+        host.on_due(self.choreographer(), &mut parts.frames, phase);
+    }
+
+    /// A message with an object sets the target of that gauge, where it is one of this looper.
+    pub(crate) fn set_target(
+        &self,
+        parts: &mut Parts,
+        own: &mut Own,
+        object: u64,
+        target: u32,
+        now: u64,
+    ) -> Result<(), NoMemory>
+        requires serves { ServesOn self.now parts.old own.old }
+        ensures parts { AreSameParts parts.old parts.new }
+        ensures own { IsSameOwn own.old own.new }
+        ensures lent { IsLent (held own.old) (held own.new) }
+        ensures rung { own.new.poster.now.view.rung ≡ own.old.poster.now.view.rung }
+        ensures clocked { AddsAt now own.old.poster.now own.new.poster.now }
+        ensures others { parts.new.others ≡ parts.old.others }
+        ensures plays { OnOk result (PlaysOn self.now (object_set self.now.script.now self.now.looper now object target) own.old own.new parts.old parts.new) }
+        ensures acts { own.new.journal.now.acts ≡ own.old.journal.now.acts }
+        ensures frames { parts.new.frames ≡ parts.old.frames }
+    {
+        let began = Snapshot::of(&*own.poster);
+        let pass_began = Snapshot::of(&*own.pass);
+        let mut host = self.host(own.poster, own.pass, &began, &pass_began, now);
+        parts
+            .root
+            .set_target(self.choreographer(), &mut host, object, target)
+    }
+
+    /// A message by the choreographer's handler, which begins a frame or says that a callback came due.
+    pub(crate) fn on_frame(
+        &self,
+        parts: &mut Parts,
+        own: &mut Own,
+        p: &Post,
+        now: u64,
+    ) -> Result<(), NoMemory>
+        requires callback { p.now.callback ≡ None }
+        requires handler { p.now.handler ≡ the_frame_handler self.now.looper }
+        requires serves { ServesOn self.now parts.old own.old }
+        ensures parts { AreSameParts parts.old parts.new }
+        ensures own { IsSameOwn own.old own.new }
+        ensures lent { IsLent (held own.old) (held own.new) }
+        ensures rung { own.new.poster.now.view.rung ≡ own.old.poster.now.view.rung }
+        ensures clocked { AddsAt now own.old.poster.now own.new.poster.now }
+        ensures others { parts.new.others ≡ parts.old.others }
+        ensures delivers { OnOk result (DeliversOn self.now now p.now own.old own.new parts.old parts.new) }
+    {
+        match p.what {
+            FRAME_MESSAGE => self.do_frame(parts, own, now),
+            DUE_MESSAGE => {
+                self.on_due(parts, own, p.arg, now);
+                Ok(())
+            }
+            _ => Ok(()),
+        }
+    }
+}
+
+/// Tells what was painted, in order.
+fn tell_painted(journal: &mut Journal, painted: &[Painted]) -> Result<(), NoMemory>
+    ensures looper { journal.new.looper ≡ journal.old.looper }
+    ensures grew { GrowsBy IsOfDispatcher journal.old.acts journal.new.acts }
+    ensures told { OnOk result (journal.new.acts ≡ journal.old.acts ++ map paint_of painted.now) }
+{
+    for paint in painted {
+        let act = Act::Paint {
+            gauge: paint.gauge,
+            value: paint.value,
+        };
+        tell(journal, act)?;
+    }
+    Ok(())
+}
+
+/// Appends one act of the dispatcher's own.
+fn tell(journal: &mut Journal, act: Act) -> Result<(), NoMemory>
+    requires { IsOfDispatcher act }
+    ensures looper { journal.new.looper ≡ journal.old.looper }
+    ensures told { OnOk result (journal.new.acts ≡ journal.old.acts ++ act ∷ []) }
+    ensures grew { GrowsBy IsOfDispatcher journal.old.acts journal.new.acts }
+{
+    journal.acts.push(act)?;
+    Ok(())
+}
+
+/// Whether memory was wanting for a message.
+fn is_wanting(sent: HostSent) -> bool
+    ensures { result ≡ false → sent ≡ NoRoom → ⊥ }
+{
+    matches!(sent, HostSent::NoMemory)
+}

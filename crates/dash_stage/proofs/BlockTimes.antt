@@ -1,0 +1,6 @@
+-- When the blocks come, and in which order.
+pub mod Blocks
+pub mod BlocksFirst
+pub mod BlocksReached
+pub mod BlockOrder
+pub mod Limits

@@ -1,0 +1,4 @@
+-- A stage in a run by a clock.
+pub mod Clocked
+pub mod ClockTurns
+pub mod ClockEnds

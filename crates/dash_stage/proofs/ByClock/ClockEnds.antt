@@ -1,0 +1,219 @@
+-- A stage in a run by a clock, from its beginning to its end.
+use Rattle.std.proofs.Common.{◌≡◌, ◌<◌, ◌+◌, ◌++◌, ◌∷◌, ℕ, zero, suc, Bool, true, false, List, [], length, set, Option, None, Some, refl, sym, ap, ◌∙◌, subst, arith}
+use Rattle.std.specs.Prelude.{slice_index_or}
+use Rattle.std.specs.Option.{IsSomeAnd}
+use Rattle.std.proofs.lemmas.List.{length-set, get_or-set_same, get_or-set_other, get_or_default}
+use mathlib.Core.Logic.{dite}
+use native.Mathlib.Decide.{ℕ_discrete}
+use Rattle.loop_model.specs.declared.journal.Act.{Act}
+use Rattle.dash_script.specs.declared.script.Script.{Script}
+use Rattle.dash_script.specs.Reading.{HasText}
+use Rattle.looper_run.specs.Holding.{Sender}
+use Rattle.run_model.specs.Moments.{Mode}
+use Rattle.run_model.specs.Planned.{lines_of}
+use Rattle.run_model.specs.Control.{ends_halted}
+use Rattle.run_model.specs.Loopers.{Looper, first_looper}
+use Rattle.dash_hall.specs.declared.hall.Hall.{Hall}
+use Rattle.dash_hall.specs.Hearing.{AtEach, HaveHeard}
+use Rattle.dash_hall.specs.Kits.{AreUnseen, IsHall}
+use Rattle.dash_hall.specs.ByClock.{is_by}
+use Rattle.loop_model.specs.declared.entry.Entry.{Entry}
+use Rattle.run_model.specs.Moments.{AreOfClock, AreOfClockAfter}
+use Rattle.run_model.specs.Asks.{entries_by}
+use Rattle.dash_hall.proofs.Clocking.{clocked_same, if_free}
+use Rattle.dash_threads.specs.declared.thread.PostingThread.{PostingThread}
+use Rattle.dash_threads.specs.Threads.{IsUpTo, AreByClock, ThreadKeeps}
+use Rattle.dash_loopers.specs.declared.looper.StageLooper.{StageLooper}
+use Rattle.dash_loopers.specs.declared.player.Parts.{Parts}
+use Rattle.dash_loopers.specs.Loopers.{posters_of, LooperKeeps}
+use Rattle.dash_loopers.specs.Played.{AreAlike, StandsBy, ComesBy}
+use Rattle.dash_loopers.proofs.LooperNext.{played_self}
+use Rattle.dash_loopers.proofs.OpenTimes.{alike_self}
+use Rattle.dash_stage.specs.declared.control.Controller.{Controller}
+use Rattle.dash_stage.specs.declared.stage.Stage.{Stage}
+use Rattle.dash_stage.specs.ByClock.{RunsByClock, LoopsByClock, EachIsLooper}
+use Rattle.dash_stage.specs.Controllers.{IsControllerIn, IsClosingBy, HasClosedIn}
+use Rattle.dash_stage.specs.Playing.{HaveBegun, HaveComeBy}
+use Rattle.dash_stage.specs.RunEnds.{HasBegunByClock, IsClosingByClock, HasEndedByClock}
+use Rattle.dash_stage.specs.Sharing.{OfThreads, OfLoopers, OfSenders, StageKeeps, HaveSeenTheSame}
+use Rattle.dash_stage.specs.Stages.{IsStageIn, AreThreads, AreLoopers, HaveRunBy, GoOn, OthersHaveEnded, LoopersGoOn}
+use Rattle.dash_stage.specs.Timeliness.{EachTurnsOn, Halts, whole_on}
+use Rattle.dash_stage.proofs.Controller.ControlKept.{closing_by_kept, closed_kept}
+use Rattle.dash_stage.proofs.Played.PlayedStage.{heard_come_by}
+use Rattle.dash_stage.proofs.Sharing.StageShares.{run_kept, ended_kept, calls_none, of_senders_then}
+use Rattle.dash_stage.proofs.Stages.StageTurns.{halted_stays, go_on_kept}
+
+-- ---- the free mode of a controller's hall
+
+pub in_free : (s : Script) (hall : Hall) (c : Controller) → hall.lockstep ≡ false → IsControllerIn hall.lockstep s hall c → IsControllerIn false s hall c
+in_free s hall c mode k = subst (λ (b : Bool). IsControllerIn b s hall c) mode k
+
+pub in_its_mode : (s : Script) (hall : Hall) (c : Controller) → hall.lockstep ≡ false → IsControllerIn false s hall c → IsControllerIn hall.lockstep s hall c
+in_its_mode s hall c mode k = subst (λ (b : Bool). IsControllerIn b s hall c) (sym mode) k
+
+-- ---- lists of senders
+
+-- what is so of both parts of a list, before and after
+pub each_append : {X : Type 0} (R : X → X → Type 0) (xs xs' ys ys' : List X) → AtEach R xs xs' → AtEach R ys ys' → AtEach R (xs ++ ys) (xs' ++ ys')
+each_append R [] [] ys ys' a b = b
+each_append R [] (x' ∷ xs') ys ys' a b = absurd (omega (arith, a.long))
+each_append R (x ∷ xs) [] ys ys' a b = absurd (omega (arith, a.long))
+each_append R (x ∷ xs) (x' ∷ xs') ys ys' a b =
+    let long = a.long in
+    let rest = each_append R xs xs' ys ys' (record { long = omega (arith, long); each = λ k d lt. a.each (suc k) d (omega (arith, lt)) }) b in
+    let more = rest.long in
+    record {
+      long = omega (arith, more);
+      each = each_of (a.each 0 x (omega arith)) rest;
+    }
+  where
+    each_of : R x x' → AtEach R (xs ++ ys) (xs' ++ ys') → (k : ℕ) (d : _) → k < length (x ∷ (xs ++ ys)) → R (slice_index_or (x ∷ (xs ++ ys)) k d) (slice_index_or (x' ∷ (xs' ++ ys')) k d)
+    each_of first rest zero d lt = first
+    each_of first rest (suc k) d lt = rest.each k d (omega (arith, lt))
+
+-- one of them was written
+pub each_set : {X : Type 0} (R : X → X → Type 0) (xs : List X) (x y : X) → x ≡ slice_index_or xs 0 x → 0 < length xs → ((k : ℕ) (d : X) → k < length xs → R (slice_index_or xs k d) (slice_index_or xs k d)) → R x y → AtEach R xs (set xs 0 y)
+each_set R xs x y is some still one = record {
+  long = length-set xs 0 y;
+  each = λ k d lt. dite (ℕ_discrete k 0)
+      (λ at. subst (λ (n : ℕ). R (slice_index_or xs n d) (slice_index_or (set xs 0 y) n d)) (sym at)
+      (subst (λ z. R z (slice_index_or (set xs 0 y) 0 d)) (is ∙ get_or_default xs 0 x d some) (subst (R x) (sym (get_or-set_same xs 0 y d some)) one)))
+      (λ apart. subst (R (slice_index_or xs k d)) (sym (get_or-set_other xs 0 k y d apart)) (still k d lt));
+}
+
+-- a looper as it is
+pub loops_still : (m : Mode) (s : Script) (hall : Hall) (ls : List StageLooper) → EachIsLooper s hall ls → (k : ℕ) (d : StageLooper) → k < length ls → LoopsByClock m s hall (slice_index_or ls k d) (slice_index_or ls k d)
+loops_still m s hall ls are k d lt = record { looper = are k d lt; number = refl; plays = played_self s (slice_index_or ls k d); clocked = λ on by. by }
+
+-- where a looper stands that has gone on
+came_by : (s : Script) (q k : ℕ) (es : List Entry) (acts : List Act) (o : Option Parts) → IsSomeAnd o (ComesBy s q k es acts)
+    → (did : Looper) × (a : Looper) × (AreAlike did a × IsSomeAnd o (λ parts. StandsBy s q k es acts parts did a))
+came_by s q k es acts None h = absurd h
+came_by s q k es acts (Some parts) h = (h.did, h.state, (h.alike, h.stands))
+
+module _ (m : Mode) (s : Script) (hall : Hall) where
+  -- the threads of the script have run all their lines, unless one gave up
+  pub threads_ran : (ts ts' : List PostingThread) → AreThreads s hall ts → AtEach (RunsByClock m s hall) ts ts' → AreThreads s hall ts'
+  threads_ran ts ts' are ran = (
+    ran.long ∙ are.0,
+    λ k d lt. (
+        let within : k < length ts = subst (λ (n : ℕ). k < n) ran.long lt in
+        let one = ran.each k d within in
+        (one.thread, one.number ∙ (are.1 k d within).1)),
+  )
+
+  pub threads_ran_all : (ts ts' : List PostingThread) → AreThreads s hall ts → AtEach (RunsByClock m s hall) ts ts' → GoOn ts' → HaveRunBy m s [] ts → HaveRunBy m s s.blocks ts'
+  threads_ran_all ts ts' are ran going begun k d lt =
+      let within : k < length ts = subst (λ (n : ℕ). k < n) ran.long lt in
+      let number = (are.1 k d within).1 in
+      subst (λ (n : ℕ). IsUpTo m s (lines_of n s.blocks) (slice_index_or ts' k d)) number ((ran.each k d within).made (going k d lt) (begun k d within))
+
+  -- whose moments are the clock's
+  pub threads_clocked : (ts : List PostingThread) → HaveRunBy m s s.blocks ts → OfThreads (AreByClock m) ts
+  threads_clocked ts run k d lt = (run k d lt).clocked
+
+  -- the loopers of the script, at moments of the clock
+  pub loopers_ran : (ls ls' : List StageLooper) → AreLoopers s hall ls → AtEach (LoopsByClock m s hall) ls ls' → AreLoopers s hall ls'
+  loopers_ran ls ls' are ran = (
+    ran.long ∙ are.0,
+    λ k d lt. (
+        let within : k < length ls = subst (λ (n : ℕ). k < n) ran.long lt in
+        let one = ran.each k d within in
+        (one.looper, one.number ∙ (are.1 k d within).1)),
+  )
+
+  pub loopers_clocked : (ls ls' : List StageLooper) → AtEach (LoopsByClock m s hall) ls ls' → LoopersGoOn ls' → OfLoopers (AreByClock m) ls → OfLoopers (AreByClock m) ls'
+  loopers_clocked ls ls' ran on by k d lt =
+      let within : k < length ls = subst (λ (n : ℕ). k < n) ran.long lt in
+      (ran.each k d within).clocked (on k d lt) (by k d within)
+
+  -- which have played on from where they stood
+  pub loopers_played : (ls ls' : List StageLooper) → HasText s → AreLoopers s hall ls → AtEach (LoopsByClock m s hall) ls ls' → LoopersGoOn ls' → HaveComeBy s ls → HaveComeBy s ls'
+  loopers_played ls ls' text are ran on come k d lt =
+      let within : k < length ls = subst (λ (n : ℕ). k < n) ran.long lt in
+      let x : StageLooper = slice_index_or ls k d in
+      let y : StageLooper = slice_index_or ls' k d in
+      let one = ran.each k d within in
+      let was = come k d within in
+      let sender : y.sender ≡ x.sender = one.looper.sender ∙ (ap (λ (n : ℕ). s.threads + n) one.number ∙ sym (are.1 k d within).0.sender) in
+      came_by s y.number y.sender y.looper.held.poster.view.seen y.looper.held.journal.acts y.parts
+      (subst (λ (n : ℕ). IsSomeAnd y.parts (ComesBy s n y.sender y.looper.held.poster.view.seen y.looper.held.journal.acts)) (sym one.number)
+      (subst (λ (n : ℕ). IsSomeAnd y.parts (ComesBy s x.number n y.looper.held.poster.view.seen y.looper.held.journal.acts)) (sym sender) (one.plays (on k d lt) text was.0 was.1 was.2)))
+
+-- ---- before the first call
+
+-- a poster that has seen nothing has called nothing
+pub unseen_clocked : (m : Mode) (ps : List Sender) → AreUnseen ps → AreByClock m ps
+unseen_clocked m ps unseen q d lt =
+    let p = slice_index_or ps q d in
+    subst (λ (es : List Entry). AreOfClock m (is_by p.sender) es) (sym (unseen q d lt)) (if_free m.lockstep (AreOfClockAfter m (is_by p.sender) [] []) (λ free. tt))
+
+pub begins_by_clock : (m : Mode) (s : Script) (st : Stage) → IsStageIn false s st → HaveRunBy m s [] st.threads.items → HaveBegun s st.loopers.items → OfSenders AreUnseen st → HasBegunByClock m s st
+begins_by_clock m s st is begun loopers unseen = record {
+  stage = is;
+  begun = begun;
+  loopers = loopers;
+  clocked = record {
+    threads = λ k d lt. unseen_clocked m (slice_index_or st.threads.items k d).kit.posters.items (unseen.threads k d lt);
+    loopers = λ k d lt. unseen_clocked m (posters_of (slice_index_or st.loopers.items k d)) (unseen.loopers k d lt);
+    controller = unseen_clocked m st.controller.kit.posters.items unseen.controller;
+  };
+  none = λ q d lt. ap (entries_by (slice_index_or st.controller.kit.posters.items q d).sender) (unseen.controller q d lt);
+}
+
+-- the loopers stand at the state before the first act
+pub begins_played : (s : Script) (ls : List StageLooper) → HaveBegun s ls → HaveComeBy s ls
+begins_played s ls begun k d lt = (first_looper s, first_looper s, (alike_self (first_looper s), begun k d lt))
+
+-- ---- all hear each other
+
+heard_clocked : (m : Mode) (ps qs : List Sender) → HaveHeard ps qs → AreByClock m ps → AreByClock m qs
+heard_clocked m ps qs heard by q d lt =
+    let within : q < length ps = subst (λ (n : ℕ). q < n) heard.long lt in
+    let h = heard.each q d within in
+    clocked_same m (slice_index_or ps q d) (slice_index_or qs q d) h.same.sender h.more h.called (by q d within)
+
+-- from a stage to one in which all have heard each other
+module _ (m : Mode) (s : Script) (st st' : Stage) (is' : IsStageIn false s st') (same' : HaveSeenTheSame st') (kept : StageKeeps HaveHeard st st') where
+  pub clocked_heard : OfSenders (AreByClock m) st → OfSenders (AreByClock m) st'
+  clocked_heard = of_senders_then (AreByClock m) (AreByClock m) HaveHeard (heard_clocked m) st st' kept
+
+  -- each looper stands where it stood
+  played_heard : IsHall s st.hall → AreLoopers s st.hall st.loopers.items → HaveComeBy s st.loopers.items → HaveComeBy s st'.loopers.items
+  played_heard is_hall are come k d lt =
+      let within : k < length st.loopers.items = subst (λ (n : ℕ). k < n) kept.loopers.long lt in
+      let was = come k d within in
+      (was.0, was.1, heard_come_by s st.hall is_hall (slice_index_or st.loopers.items k d) (are.1 k d within).0 (slice_index_or st'.loopers.items k d) (kept.loopers.each k d within) was.0 was.1 was.2)
+
+  -- the threads have run and the loopers but main have ended
+  pub closing_heard : IsHall s st.hall → AreLoopers s st.hall st.loopers.items → OfSenders (AreByClock m) st → HaveRunBy m s s.blocks st.threads.items → OthersHaveEnded st.loopers.items → LoopersGoOn st.loopers.items
+      → HaveComeBy s st.loopers.items → IsClosingBy s st.controller → IsClosingByClock m s st'
+  closing_heard is_hall are by run ended on come closing = record {
+    stage = is';
+    same = same';
+    clocked = clocked_heard by;
+    run = run_kept m s s.blocks st.threads.items st'.threads.items kept.threads run;
+    ended = ended_kept HaveHeard st.loopers.items st'.loopers.items kept.loopers ended;
+    on = go_on_kept HaveHeard st.loopers.items st'.loopers.items kept.loopers on;
+    played = played_heard is_hall are come;
+    closing = closing_by_kept s st.controller st'.controller (calls_none st.controller st'.controller kept.controller) closing;
+  }
+
+  -- and main was halted
+  pub ended_heard : (was : Stage) → IsStageIn false s was → HaveSeenTheSame was → was.threads ≡ st.threads → was.loopers ≡ st.loopers → m.lockstep ≡ false
+      → IsHall s st.hall → AreLoopers s st.hall st.loopers.items → OfSenders (AreByClock m) st → HaveRunBy m s s.blocks st.threads.items → OthersHaveEnded st.loopers.items → LoopersGoOn st.loopers.items
+      → HaveComeBy s st.loopers.items → HasClosedIn false s st.controller
+      → EachTurnsOn Halts was.controller st.controller → ((d : Sender) → ends_halted (whole_on st.controller 0 d) ≡ true) → HasEndedByClock m s st'
+  ended_heard was is same threads loopers free is_hall are by run ended on come closed turns halted = record {
+    free = free;
+    out = record { stage = subst (λ (b : Bool). IsStageIn b s st') (sym free) is'; same = same'; clocked = clocked_heard by };
+    run = run_kept m s s.blocks st.threads.items st'.threads.items kept.threads run;
+    ended = ended_kept HaveHeard st.loopers.items st'.loopers.items kept.loopers ended;
+    on = go_on_kept HaveHeard st.loopers.items st'.loopers.items kept.loopers on;
+    played = played_heard is_hall are come;
+    closed = subst (λ (b : Bool). HasClosedIn b s st'.controller) (sym free) (closed_kept s st.controller st'.controller (calls_none st.controller st'.controller kept.controller) closed);
+    halted = halted_stays s was st.controller st' is is' same same'
+        (subst (λ v. AtEach (ThreadKeeps HaveHeard) v.items st'.threads.items) (sym threads) kept.threads)
+        (subst (λ v. AtEach (LooperKeeps HaveHeard) v.items st'.loopers.items) (sym loopers) kept.loopers)
+        kept.controller.posters Halts turns halted;
+  }

@@ -1,0 +1,63 @@
+-- What the controller leaves of its posters as it gives a run up.
+use Rattle.std.proofs.Common.{◌≡◌, ◌≢◌, ◌<◌, ◌≤◌, ◌+◌, ℕ, false, List, length, set, sym, ap, ◌∙◌, subst, arith, Bool}
+use Rattle.std.specs.Prelude.{slice_index_or}
+use Rattle.std.specs.Vec.{with_item}
+use Rattle.std.proofs.lemmas.List.{get_or-set_same, get_or_default}
+use Rattle.std.proofs.Math.Seq.{map-set_same}
+use mathlib.Core.Logic.{dite}
+use native.Mathlib.Decide.{ℕ_discrete}
+use Rattle.dash_script.specs.declared.script.Script.{Script}
+use Rattle.shared_queue.specs.Known.{IsSamePoster}
+use Rattle.looper_run.specs.Holding.{Sender}
+use Rattle.run_model.specs.Asks.{entries_by}
+use Rattle.run_model.specs.Senders.{controller}
+use Rattle.dash_hall.specs.declared.hall.Hall.{Hall}
+use Rattle.dash_hall.specs.Growth.{own, QuitsOf}
+use Rattle.dash_hall.specs.Kits.{badge_of}
+use Rattle.dash_hall.proofs.Badges.{posters_kept}
+use Rattle.dash_stage.specs.declared.control.Controller.{Controller}
+use Rattle.dash_stage.specs.Controllers.{IsControllerIn}
+use Rattle.dash_stage.specs.GivingUp.{AreQuitBelow, IsNudged}
+
+-- a poster at a place, and another one there
+module _ (xs : List Sender) (i : ℕ) (p p' : Sender) (within : i < length xs) (is_p : p ≡ slice_index_or xs i p) where
+  -- what holds between the two holds between what stands there
+  pub stands_there : (R : Sender → Sender → Type 0) → R p p' → (d : Sender) → R (slice_index_or xs i d) (slice_index_or (set xs i p') i d)
+  stands_there R h d =
+      subst (λ (z : Sender). R z (slice_index_or (set xs i p') i d)) (is_p ∙ get_or_default xs i p d within)
+      (subst (R p) (sym (get_or-set_same xs i p' d within)) h)
+
+-- a poster of the controller that called nothing, and handed nothing out, leaves it the controller
+pub after_bell : {lockstep : Bool} (s : Script) (hall : Hall) (i : ℕ) (c : Controller) (p p' : Sender) → IsControllerIn lockstep s hall c → p ≡ slice_index_or c.kit.posters.items i p → IsSamePoster p p'
+    → IsControllerIn lockstep s hall (record { kit = record { posters = with_item c.kit.posters i p'; pass = c.kit.pass; frames = c.kit.frames }; sealed = c.sealed })
+after_bell s hall i c p p' k is_p same = record {
+  posters = posters_kept (controller s) hall.queues.items c.kit.posters.items k.posters i p' p ((λ j. record { table = same.table j; constants = same.constants j; sender = same.sender j }) ∙ ap badge_of is_p);
+  frames = k.frames;
+  pass = k.pass;
+  mode = k.mode;
+  idle = k.idle;
+  sealed = map-set_same (λ (z : Sender). z.view.sealed) c.kit.posters.items i p' p (same.sealed ∙ ap (λ (z : Sender). z.view.sealed) is_p) ∙ k.sealed;
+}
+
+-- the same calls stand behind it
+pub none_by_bell : (p p' : Sender) → IsSamePoster p p' → p'.view.seen ≡ p.view.seen → own p' ≡ own p
+none_by_bell p p' same seen = ap (λ (n : ℕ). entries_by n p'.view.seen) same.sender ∙ ap (entries_by p.sender) seen
+
+-- one queue more was quit, and those behind it are as they were
+module _ (now n : ℕ) (a b c : Controller) (rest : (q : ℕ) (d : Sender) → n ≤ q → slice_index_or b.kit.posters.items q d ≡ slice_index_or a.kit.posters.items q d)
+    (elsewhere : (q : ℕ) (d : Sender) → q ≢ n → slice_index_or c.kit.posters.items q d ≡ slice_index_or b.kit.posters.items q d) where
+  pub quit_more : AreQuitBelow n now a b → ((d : Sender) → QuitsOf (slice_index_or b.kit.posters.items n d) (slice_index_or c.kit.posters.items n d) false now) → AreQuitBelow (n + 1) now a c
+  quit_more quit here q d some below = dite (ℕ_discrete q n)
+      (λ at. subst (λ (m : ℕ). QuitsOf (slice_index_or a.kit.posters.items m d) (slice_index_or c.kit.posters.items m d) false now) (sym at)
+      (subst (λ (z : Sender). QuitsOf z (slice_index_or c.kit.posters.items n d) false now) (rest n d (omega arith)) (here d)))
+      (λ apart. subst (λ (z : Sender). QuitsOf (slice_index_or a.kit.posters.items q d) z false now) (sym (elsewhere q d apart)) (quit q d some (omega (arith, apart, below))))
+
+  pub rest_less : (q : ℕ) (d : Sender) → n + 1 ≤ q → slice_index_or c.kit.posters.items q d ≡ slice_index_or a.kit.posters.items q d
+  rest_less q d le = elsewhere q d (λ e. absurd (omega (arith, e, le))) ∙ rest q d (omega (arith, le))
+
+-- what was so of main stays so where it is as it was
+pub nudged_kept : (a b c : Controller) → IsNudged a b → ((d : Sender) → slice_index_or c.kit.posters.items 0 d ≡ slice_index_or b.kit.posters.items 0 d) → IsNudged a c
+nudged_kept a b c h same = record {
+  rung = λ d. ap (λ (z : Sender). z.view.rung) (same d) ∙ h.rung d;
+  none = λ d. ap own (same d) ∙ h.none d;
+}

@@ -1,0 +1,103 @@
+-- Where the loopers of a run stand at its end, told by their journals and kits, in each mode.
+use Rattle.std.proofs.Common.{◌≡◌, ◌≢◌, ◌<◌, ◌+◌, ℕ, Bool, true, false, List, [], length, sym, ap, subst, slice_index_or, map}
+use Rattle.std.specs.Prelude.{MatchBool}
+use mathlib.Core.List.{IsPrefix}
+use Rattle.loop_model.specs.declared.journal.Journal.{Journal}
+use Rattle.frame_phases.specs.declared.entry.FrameEntry.{FrameEntry}
+use Rattle.frame_phases.specs.Frames.{lawful}
+use Rattle.dash_script.specs.declared.script.Script.{Script}
+use Rattle.dash_script.specs.Causes.{phase_count}
+use Rattle.choreographer.specs.Known.{Known as Pass}
+use Rattle.looper_run.specs.Holding.{Sender}
+use Rattle.run_model.specs.Asks.{AreFor}
+use Rattle.run_model.specs.Acts.{Lead, sent_on, IsSent}
+use Rattle.run_model.specs.Loopers.{Looper, first_looper}
+use Rattle.run_model.specs.FrameRuns.{are_run_then, are_whole}
+use Rattle.run_model.specs.FrameAsks.{as_told, asks_to_run}
+use Rattle.dash_hall.specs.declared.kit.Kit.{Kit}
+use Rattle.dash_hall.specs.Growth.{own}
+use Rattle.dash_hall.specs.Hosts.{asks_of}
+use Rattle.dash_loopers.specs.declared.looper.StageLooper.{StageLooper}
+use Rattle.dash_loopers.specs.Played.{calls_of, HasLeft, HasLeftBy}
+use Rattle.dash_stage.specs.declared.control.Controller.{Controller}
+use Rattle.dash_stage.specs.Leaving.{HaveGiven}
+use Rattle.dash_stage.specs.Playing.{AreCallsOnTime, IsTimelyLooper, HaveComeBy}
+use Rattle.dash_stage.proofs.Ends.HallEnds.{some_of}
+
+-- each frame that the looper ran started at the time that the state tells, by whatever its frame record comes to
+abbrev pub HasStarted : Script → Kit → Looper → Type 0
+HasStarted s kit a = (p : Pass) (fs : List FrameEntry) → IsPrefix (slice_index_or kit.frames.items 0 p).view.seen fs → lawful s.period (phase_count s.edition) fs ≡ true → are_run_then fs a.frames ≡ true
+
+-- where a looper stood, told in lockstep or by a clock by its journal and what it worked with
+pub record HasLeftIn (lockstep : Bool) (s : Script) (q : ℕ) (j : Journal) (kit : Kit) (a : Looper) : Type 0 where
+  pub led : (d : Sender) (p : Pass) (fs : List FrameEntry) → IsPrefix (slice_index_or kit.frames.items 0 p).view.seen fs → lawful s.period (phase_count s.edition) fs ≡ true
+      → Lead s q (slice_index_or kit.posters.items q d).view.seen fs (first_looper s) j.acts a
+  pub moments : MatchBool lockstep (HasStarted s kit a) (Unit {0})
+  pub whole : (p : Pass) (fs : List FrameEntry) → IsPrefix (slice_index_or kit.frames.items 0 p).view.seen fs → lawful s.period (phase_count s.edition) fs ≡ true → are_whole (phase_count s.edition) fs a.frames ≡ true
+  pub settled : a.painted ≡ []
+  pub calls : (d : Sender) → AreFor IsSent [] (sent_on q a.sent) (calls_of (slice_index_or kit.posters.items q d))
+  pub elsewhere : (k : ℕ) (d : Sender) → k ≢ q → k < length kit.posters.items → AreFor IsSent [] (sent_on k a.sent) (own (slice_index_or kit.posters.items k d))
+  pub asked : (p : Pass) → map (as_told lockstep) (asks_of (slice_index_or kit.frames.items 1 p)) ≡ map (as_told lockstep) a.posted
+  pub ran : (p : Pass) → map (as_told lockstep) (asks_of (slice_index_or kit.frames.items 0 p)) ≡ map (as_told lockstep) (asks_to_run a.frames)
+
+-- the looper at this place stands at a state that its journal and its kit tell, whose calls came at their times in lockstep
+pub record StandsAt (lockstep : Bool) (s : Script) (c : Controller) (js : List Journal) (kits : List Kit) (k : ℕ) : Type 0 where
+  pub state : Looper
+  pub left : (j : Journal) (d : Kit) → HasLeftIn lockstep s k (slice_index_or js k j) (slice_index_or kits (s.threads + k) d) state
+  pub on_time : MatchBool lockstep (AreCallsOnTime s c k state) (Unit {0})
+
+-- in lockstep
+left_in_step : (s : Script) (q : ℕ) (j : Journal) (kit : Kit) (a : Looper) → HasLeft s q j kit a → HasLeftIn true s q j kit a
+left_in_step s q j kit a h = record {
+  led = h.led;
+  moments = h.moments;
+  whole = h.whole;
+  settled = h.settled;
+  calls = h.calls;
+  elsewhere = h.elsewhere;
+  asked = λ p. ap (map (as_told true)) (h.asked p);
+  ran = λ p. ap (map (as_told true)) (h.ran p);
+}
+
+-- by a clock
+left_by_clock : (s : Script) (q : ℕ) (j : Journal) (kit : Kit) (a : Looper) → HasLeftBy s q j kit a → HasLeftIn false s q j kit a
+left_by_clock s q j kit a h = record {
+  led = h.led;
+  moments = tt;
+  whole = h.whole;
+  settled = h.settled;
+  calls = h.calls;
+  elsewhere = h.elsewhere;
+  asked = h.asked;
+  ran = h.ran;
+}
+
+module _ (s : Script) (c : Controller) (js : List Journal) (kits : List Kit) (ls : List StageLooper) (given : HaveGiven s ls js kits) (many : length ls ≡ s.loopers) (told : length js ≡ s.loopers) where
+  in_loopers : (k : ℕ) → k < s.loopers → k < length ls
+  in_loopers k lt = subst (λ (n : ℕ). k < n) (sym many) lt
+
+  in_journals : (k : ℕ) → k < s.loopers → k < length js
+  in_journals k lt = subst (λ (n : ℕ). k < n) (sym told) lt
+
+  pub stands_in_step : ((k : ℕ) (d : StageLooper) → k < length ls → (slice_index_or ls k d).number ≡ k) → ((k : ℕ) (d : StageLooper) → k < length ls → IsTimelyLooper s c (slice_index_or ls k d))
+      → (k : ℕ) → k < s.loopers → StandsAt true s c js kits k
+  stands_in_step places played k lt =
+      let near = in_loopers k lt in
+      let l = some_of ls k near in
+      let st = played k l near in
+      record {
+        state = st.state;
+        left = λ j d. left_in_step s k (slice_index_or js k j) (slice_index_or kits (s.threads + k) d) st.state ((given k l j d (in_journals k lt)).left st.state st.come);
+        on_time = subst (λ (n : ℕ). AreCallsOnTime s c n st.state) (places k l near) st.on_time;
+      }
+
+  pub stands_by_clock : HaveComeBy s ls → (k : ℕ) → k < s.loopers → StandsAt false s c js kits k
+  stands_by_clock come k lt =
+      let near = in_loopers k lt in
+      let l = some_of ls k near in
+      let st = come k l near in
+      record {
+        state = st.1;
+        left = λ j d. left_by_clock s k (slice_index_or js k j) (slice_index_or kits (s.threads + k) d) st.1 ((given k l j d (in_journals k lt)).left_by st.0 st.1 st.2);
+        on_time = tt;
+      }

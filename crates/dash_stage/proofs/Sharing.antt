@@ -1,0 +1,6 @@
+-- How all senders hear each other.
+pub mod ThreadShares
+pub mod LooperShares
+pub mod StageShares
+pub mod Casting
+pub mod Turns

@@ -1,0 +1,6 @@
+-- What is known of a stage between its steps.
+pub mod Timely
+pub mod StageWhole
+pub mod StageTurns
+pub mod StageQuits
+pub mod StageBegins

@@ -1,0 +1,146 @@
+-- The controller's turns at the end: its quits and its halt are in time.
+use Rattle.std.proofs.Common.{◌≡◌, ◌≢◌, ◌<◌, ◌⊎◌, inl, inr, ℕ, Bool, true, false, true≢false, List, [], ◌∷◌, ◌++◌, length, Option, Some, refl, sym, ap, ◌∙◌, subst, arith}
+use Rattle.std.specs.Prelude.{slice_index_or, is_some, not, if◌then◌else◌}
+use Rattle.std.proofs.lemmas.Bool.{cases_Bool, and_from, ne_eqb}
+use Rattle.std.proofs.lemmas.List.{get_or_default}
+use mathlib.Core.Logic.{dite}
+use native.Mathlib.Decide.{ℕ_discrete}
+use Rattle.loop_model.specs.declared.call.Call.{Call}
+use Rattle.loop_model.specs.declared.call.Call.TheVariants.{Post, Barrier, Unbarrier, Remove, Quit, Next, Advance, Halt}
+use Rattle.loop_model.specs.declared.entry.Entry.{Entry}
+use Rattle.loop_model.specs.declared.reply.Reply.{Reply}
+use Rattle.loop_model.specs.declared.reply.Reply.TheVariants.{QuitDone, NotAllowed}
+use Rattle.loop_model.specs.Base.{empty_base}
+use Rattle.loop_model.specs.Entries.{is_quit_done}
+use Rattle.loop_model.specs.Live.{live}
+use Rattle.loop_model.specs.Pick.{first_eligible, pick}
+use Rattle.loop_model.specs.Answers.{Setting, answer, clock, quit_place, quit_reply}
+use Rattle.loop_model.specs.Legal.{IsTimely}
+use Rattle.loop_model.proofs.LegalLaws.{IsLegal-last}
+use Rattle.dash_script.specs.declared.script.Block.{Block}
+use Rattle.dash_script.specs.declared.script.Script.{Script}
+use Rattle.looper_run.specs.Holding.{Sender}
+use Rattle.looper_run.specs.Round.{is_ended}
+use Rattle.run_model.specs.Senders.{sender_count}
+use Rattle.run_model.specs.Control.{is_advance, is_halt, is_in_time}
+use Rattle.dash_hall.specs.Hearing.{AtEach, HaveHeard}
+use Rattle.dash_threads.specs.Threads.{ThreadKeeps}
+use Rattle.dash_loopers.specs.declared.looper.StageLooper.{StageLooper}
+use Rattle.dash_loopers.specs.Loopers.{setting_for, LooperKeeps, HasNoneDue}
+use Rattle.dash_stage.specs.declared.control.Controller.{Controller}
+use Rattle.dash_stage.specs.declared.stage.Stage.{Stage}
+use Rattle.dash_stage.specs.Sharing.{HaveSeenTheSame}
+use Rattle.dash_stage.specs.Stages.{IsStage}
+use Rattle.dash_stage.specs.Timeliness.{whole_on, AreTimelyUpTo, AreRested, EachTurnsOn, MovesNot, Halts}
+use Rattle.dash_stage.proofs.Ends.HallEnds.{some_of}
+use Rattle.dash_stage.proofs.Stages.StageTurns.{IsInTimeBy, turned_timely}
+use Rattle.dash_stage.proofs.Stages.StageWhole.{queues_count}
+
+-- ---- the halt
+
+-- a halt is in time
+halt_in_time : (es : List Entry) (c : Call) (r : Reply) → is_halt c ≡ true → is_in_time es c r ≡ true
+halt_in_time es (Halt now) r h = refl
+halt_in_time es (Post p) r h = absurd cc
+halt_in_time es (Barrier now) r h = absurd cc
+halt_in_time es (Unbarrier t) r h = absurd cc
+halt_in_time es (Remove f) r h = absurd cc
+halt_in_time es (Quit safe now) r h = absurd cc
+halt_in_time es (Next now) r h = absurd cc
+halt_in_time es (Advance now) r h = absurd cc
+
+-- and moves no time
+halt_moves_not : (c : Call) → is_halt c ≡ true → is_advance c ≡ false
+halt_moves_not (Halt now) h = refl
+halt_moves_not (Post p) h = absurd cc
+halt_moves_not (Barrier now) h = absurd cc
+halt_moves_not (Unbarrier t) h = absurd cc
+halt_moves_not (Remove f) h = absurd cc
+halt_moves_not (Quit safe now) h = absurd cc
+halt_moves_not (Next now) h = absurd cc
+halt_moves_not (Advance now) h = absurd cc
+
+-- an entry that halts is one that moves no time
+halting : (n : ℕ) (found left : List Entry) → (left ≡ found) ⊎ ((e : Entry) × (left ≡ found ++ e ∷ []) × Halts e × (e.sender ≡ n)) → (left ≡ found) ⊎ ((e : Entry) × (left ≡ found ++ e ∷ []) × MovesNot e × (e.sender ≡ n))
+halting n found left (inl same) = inl same
+halting n found left (inr t) = let e : Entry = t.0 in inr (e, t.1, halt_moves_not e.call t.2, t.3)
+
+pub halts_move_not : (c c' : Controller) → EachTurnsOn Halts c c' → EachTurnsOn MovesNot c c'
+halts_move_not c c' turns = record {
+  long = turns.long;
+  each = λ q d lt. let t = turns.each q d lt in record { found = t.found; begins = t.begins; made = t.made; sender = t.sender; step = halting (slice_index_or c.kit.posters.items q d).sender t.found _ t.step };
+}
+
+-- ---- the quits
+
+-- the number of senders changes nothing of what is due
+pick_same : (m now : ℕ) (es : List Entry) → pick (empty_base m) es now ≡ pick (empty_base 0) es now
+unfolding pick first_eligible live
+pick_same m now es = refl
+
+module _ (set : Setting) (m : ℕ) (es : List Entry) (side : set.main ≡ false) (lockstep : set.lockstep ≡ true) (quiet : HasNoneDue (empty_base m) es (clock (empty_base m) es)) where
+  -- a quit of a queue that isn't quitting is done
+  quit_done : (safe : Bool) (now : ℕ) (r : Reply) → answer set (empty_base m) es (Quit safe now) ≡ Some r → is_quit_done r ≡ true
+  unfolding answer
+  quit_done safe now r is =
+      let said : Some (if set.main then NotAllowed else quit_reply (quit_place (empty_base m) es)) ≡ Some QuitDone =
+      ap (λ (b : Bool). Some (if b then NotAllowed else quit_reply (quit_place (empty_base m) es))) side ∙ ap (λ (o : Option ℕ). Some (quit_reply o)) quiet.not_quitting in
+      let same : Some QuitDone ≡ Some r = sym said ∙ is in
+      let reply : QuitDone ≡ r = cc in
+      ap is_quit_done (sym reply)
+
+  -- and none is due at its moment
+  none_due : (now : ℕ) → now ≡ clock (empty_base m) es → is_some (pick (empty_base 0) es now) ≡ false
+  none_due now at = ap is_some (sym (pick_same m now es) ∙ (ap (pick (empty_base m) es) at ∙ quiet.none))
+
+  -- so a call that moves no time is in time
+  in_time_by_call : (c : Call) (r : Reply) → answer set (empty_base m) es c ≡ Some r → IsTimely true (clock (empty_base m) es) c → is_advance c ≡ false → is_in_time es c r ≡ true
+  in_time_by_call (Quit safe now) r is at h = and_from _ _ (quit_done safe now r is) (ap not (none_due now at))
+  in_time_by_call (Halt now) r is at h = refl
+  in_time_by_call (Post p) r is at h = refl
+  in_time_by_call (Barrier now) r is at h = refl
+  in_time_by_call (Unbarrier t) r is at h = refl
+  in_time_by_call (Remove f) r is at h = refl
+  in_time_by_call (Next now) r is at h = refl
+  in_time_by_call (Advance now) r is at h = absurd cc
+
+-- on a side queue that has none due, what moves no time is in time
+quit_in_time : (s : Script) (q : ℕ) (es : List Entry) → 0 < q → HasNoneDue (empty_base (sender_count s)) es (clock (empty_base (sender_count s)) es) → IsInTimeBy MovesNot s q es
+quit_in_time s q es side quiet e sound moves_not =
+    let may = IsLegal-last (setting_for s q) (empty_base (sender_count s)) es e sound.legal in
+    in_time_by_call (setting_for s q) (sender_count s) es (ne_eqb q 0 (λ z. absurd (omega (arith, z, side)))) refl quiet e.call e.reply may.reply may.timely moves_not
+
+-- main's queue, and each whose looper has ended, is as it was
+abbrev pub AreKeptWhereEnded : List StageLooper → Controller → Controller → Type 0
+AreKeptWhereEnded ls first now = (q : ℕ) (d : Sender) → (0 ≡ q) ⊎ ((l : StageLooper) → is_ended (slice_index_or ls q l).last ≡ true) → slice_index_or now.kit.posters.items q d ≡ slice_index_or first.kit.posters.items q d
+
+-- so it is after a turn on the queue of a looper that hasn't ended
+pub kept_where_ended : (ls : List StageLooper) (first now after : Controller) (n : ℕ) (l : StageLooper) → 0 < n → is_ended (slice_index_or ls n l).last ≡ false → AreKeptWhereEnded ls first now
+    → ((q : ℕ) (d : Sender) → q ≢ n → slice_index_or after.kit.posters.items q d ≡ slice_index_or now.kit.posters.items q d) → AreKeptWhereEnded ls first after
+kept_where_ended ls first now after n l side going kept elsewhere q d why = elsewhere q d (apart why) ∙ kept q d why
+  where
+    apart : (0 ≡ q) ⊎ ((l : StageLooper) → is_ended (slice_index_or ls q l).last ≡ true) → q ≢ n
+    apart (inl main) at = absurd (omega (arith, main, at, side))
+    apart (inr ended) at = true≢false (sym (subst (λ (m : ℕ). is_ended (slice_index_or ls m l).last ≡ true) at (ended l)) ∙ going)
+
+-- from a stage, over the controller's turns at the end, to one in which all have seen the same again, and nobody else called anything
+module _ (s : Script) (st : Stage) (c : Controller) (st' : Stage) (is : IsStage s st) (is' : IsStage s st') (same : HaveSeenTheSame st) (same' : HaveSeenTheSame st')
+    (threads : AtEach (ThreadKeeps HaveHeard) st.threads.items st'.threads.items) (loopers : AtEach (LooperKeeps HaveHeard) st.loopers.items st'.loopers.items)
+    (heard : HaveHeard c.kit.posters.items st'.controller.kit.posters.items) where
+  -- the histories stay timely over a halt
+  pub halted_timely : EachTurnsOn Halts st.controller c → (past : List Block) → AreTimelyUpTo s past st → AreTimelyUpTo s past st'
+  halted_timely turns past timely =
+      turned_timely s st c st' is is' same same' threads loopers heard Halts turns past (λ q d lt. inr (λ e sound halts. halt_in_time (whole_on st.controller q d) e.call e.reply halts)) timely
+
+  -- and over the quits of loopers that have come to rest and haven't ended
+  pub quit_timely : EachTurnsOn MovesNot st.controller c → AreKeptWhereEnded st.loopers.items st.controller c → AreRested s st → (past : List Block) → AreTimelyUpTo s past st → AreTimelyUpTo s past st'
+  quit_timely turns kept rested past timely =
+      turned_timely s st c st' is is' same same' threads loopers heard MovesNot turns past (λ q d lt. dite (ℕ_discrete q 0)
+      (λ main. inl (kept q d (inl (sym main))))
+      (λ side.
+      let in_loopers : q < length st.loopers.items = subst (λ (n : ℕ). q < n) (queues_count s st is) lt in
+      let l : StageLooper = some_of st.loopers.items q in_loopers in
+      elim (cases_Bool (is_ended (slice_index_or st.loopers.items q l).last)) [
+        | inl ended ↦ inl (kept q d (inr (λ k. subst (λ (z : StageLooper). is_ended z.last ≡ true) (get_or_default st.loopers.items q l k in_loopers) ended)))
+        | inr going ↦ inr (quit_in_time s q (whole_on st.controller q d) (omega (arith, side)) ((rested q l d in_loopers).quiet going))
+      ])) timely

@@ -1,0 +1,278 @@
+-- What a block of the threads, and the controller's turns that move no time, make of what all senders have seen of each queue.
+use Rattle.std.proofs.Common.{◌≡◌, ◌≢◌, ◌<◌, ◌≤◌, ◌+◌, ◌==◌, ◌⊎◌, inl, inr, ℕ, Bool, suc, true, ◌-◌, false, List, [], ◌∷◌, ◌++◌, map, length, filter, refl, sym, ap, ◌∙◌, subst, arith}
+use Rattle.std.specs.Prelude.{slice_index_or, IsTrue}
+use Rattle.std.specs.List.{AllByRecursion}
+use Rattle.std.proofs.lemmas.Bool.{ne_eqb}
+use Rattle.std.proofs.lemmas.List.{length-append, length-replicate}
+use mathlib.Core.List.{IsPrefix}
+use mathlib.Core.Logic.{dite}
+use native.Mathlib.Decide.{ℕ_discrete, dec_lt}
+use Rattle.loop_model.specs.declared.entry.Entry.{Entry}
+use Rattle.loop_model.specs.Base.{empty_base}
+use Rattle.loop_model.specs.Entries.{is_next, is_disposed}
+use Rattle.loop_model.specs.Legal.{IsLegal, AreNumbered}
+use Rattle.loop_model.proofs.NumberLaws.{AreNumbered-known}
+use Rattle.loop_model.proofs.Prefixes.{prefix_self}
+use Rattle.dash_script.specs.declared.script.Block.{Block}
+use Rattle.dash_script.specs.declared.script.Line.{Line}
+use Rattle.dash_script.specs.declared.script.Script.{Script}
+use Rattle.dash_script.specs.Reading.{rise}
+use Rattle.looper_run.specs.Holding.{Sender}
+use Rattle.run_model.specs.Senders.{controller, sender_count}
+use Rattle.run_model.specs.Asks.{AreFor, entries_by, token_in}
+use Rattle.run_model.specs.Moments.{in_lockstep}
+use Rattle.run_model.specs.Planned.{Timed, lines_in, lines_of, labels_on, lines_on}
+use Rattle.run_model.specs.Control.{is_in_time, is_called_in_time, are_before_quit, ends_halted, befores, before, InBlock, is_on_time, are_on_time}
+use Rattle.run_model.specs.Run.{are_in_order}
+use Rattle.run_model.proofs.RunLaws.{entries_by-append, entries_by-others, lines_on-append}
+use Rattle.dash_threads.specs.declared.thread.PostingThread.{PostingThread}
+use Rattle.dash_loopers.specs.declared.looper.StageLooper.{StageLooper}
+use Rattle.dash_stage.specs.declared.control.Controller.{Controller}
+use Rattle.dash_stage.specs.declared.stage.Stage.{Stage}
+use Rattle.dash_hall.specs.Growth.{own}
+use Rattle.dash_stage.specs.Controllers.{are_advances, IsMoving}
+use Rattle.dash_threads.specs.Threads.{IsUpTo, HasCalled, ThreadKeeps}
+use Rattle.dash_loopers.specs.Loopers.{IsSoundOn, is_disposal, setting_for, is_given_up, LooperKeeps}
+use Rattle.dash_stage.specs.Stages.{IsStage, IsStageIn, HaveRun, RunOn, LoopersGoOn}
+use Rattle.dash_hall.specs.Hearing.{AtEach, HaveHeard}
+use Rattle.dash_stage.specs.Sharing.{HaveSeenTheSame}
+use Rattle.dash_stage.specs.Timeliness.{whole_on, AreSound, IsTimelyUpTo, AreTimelyUpTo, TurnsOn, EachTurnsOn, HasHaltedLast}
+use Rattle.dash_stage.specs.Blocks.{AreReached}
+use Rattle.dash_stage.specs.Playing.{AreAtBlock}
+use Rattle.dash_stage.proofs.Played.OwnLooks.{NoneDisposes}
+use Rattle.dash_stage.proofs.Played.Disposing.{lines_dispose_nothing, none_of_all, none_answered}
+use Rattle.dash_stage.proofs.Controller.Controls.{looks_dispose}
+use Rattle.dash_stage.proofs.BlockTimes.Blocks.{lines_more}
+use Rattle.dash_stage.proofs.BlockTimes.BlocksReached.{all_reached_on, one_reached, main_reached}
+use Rattle.dash_stage.proofs.BlockTimes.BlockOrder.{called_in, in_order_block, in_order_one}
+use Rattle.dash_stage.proofs.Stages.Timely.{back_all, in_time_one, in_time_more, before_quit_one, before_quit_block, moves_quit_not, timely_others, timely_block}
+use Rattle.dash_stage.proofs.Ends.HallEnds.{some_of}
+use Rattle.dash_stage.proofs.Sharing.ThreadShares.{up_to_kept}
+use Rattle.dash_stage.proofs.Stages.StageWhole.{as_many, controller_entries, thread_entries, looper_made_none, sound_front, sound_grown, none_behind}
+use Rattle.dash_stage.proofs.Moves.StageMoves.{controls_above, turned_on, turned_left, sound_by_turns}
+
+-- ---- lists and histories
+
+-- the entries for lines are as many as the lines
+pub for_count : {X : Type 0} (P : List ℕ → X → Entry → Type 0) (tokens : List ℕ) (xs : List X) (es : List Entry) → AreFor P tokens xs es → length xs ≡ length es
+for_count P tokens [] [] h = refl
+for_count P tokens [] (e ∷ es) h = absurd h
+for_count P tokens (x ∷ xs) [] h = absurd h
+for_count P tokens (x ∷ xs) (e ∷ es) h = ap suc (for_count P (tokens ++ token_in e.reply) xs es h.1)
+
+all_same : (time : ℕ) (ls : List Line) → AllByRecursion (λ (t : Timed). t.time ≡ time) (map (λ (l : Line). record { time = time; command = l.command }) ls)
+all_same time [] = tt
+all_same time (l ∷ ls) = (refl, all_same time ls)
+
+-- a thread's lines in a block have the block's time
+lines_at : (k : ℕ) (b : Block) → AllByRecursion (λ (t : Timed). t.time ≡ b.time) (lines_in k b)
+lines_at k b = all_same b.time (filter (λ l. l.thread == k) b.lines)
+
+-- ---- a block
+
+-- a thread that has come so far has made a call for each of its lines there
+called_count : (s : Script) (bs : List Block) (k : ℕ) (t : PostingThread) → t.number ≡ k → IsUpTo in_lockstep s (lines_of k bs) t → (q : ℕ) (d : Sender) → q < length t.kit.posters.items
+    → length (lines_on s (labels_on q (lines_of k s.blocks)) q (lines_of k bs)) ≡ length (own (slice_index_or t.kit.posters.items q d))
+called_count s bs k t number up q d lt = for_count _ [] _ _ (subst (λ n. HasCalled in_lockstep s (lines_of k bs) n t.kit.posters.items) number up.called q d lt)
+
+-- and it has disposed of nothing there
+called_none : (s : Script) (bs : List Block) (k : ℕ) (t : PostingThread) → t.number ≡ k → IsUpTo in_lockstep s (lines_of k bs) t → (q : ℕ) (d : Sender) → q < length t.kit.posters.items
+    → NoneDisposes (own (slice_index_or t.kit.posters.items q d))
+called_none s bs k t number up q d lt =
+    lines_dispose_nothing in_lockstep s (labels_on q (lines_of k s.blocks)) q [] _ _ (subst (λ n. HasCalled in_lockstep s (lines_of k bs) n t.kit.posters.items) number up.called q d lt)
+
+module _ (s : Script) (q : ℕ) (es whole : List Entry) (front : IsPrefix es whole) (sound : IsSoundOn s q whole) (controlled : entries_by (controller s) whole ≡ entries_by (controller s) es) where
+  -- the controller called nothing
+  in_time_behind : is_called_in_time (controller s) whole ≡ is_called_in_time (controller s) es
+  in_time_behind = ap (is_called_in_time (controller s)) (sym front.1) ∙ in_time_more (controller s) es front.0 (none_behind (controller s) es whole front controlled)
+
+  -- nothing disposed of the queue where only threads called, and none of them did
+  none_disposed_on : ((k : ℕ) → k < s.threads → NoneDisposes (entries_by k whole)) → ((k : ℕ) → k < sender_count s → s.threads ≤ k → entries_by k whole ≡ entries_by k es) → AllByRecursion (λ e. is_disposed e.reply ≡ false) front.0
+  none_disposed_on theirs none =
+      let set = setting_for s q in
+      let base = empty_base (sender_count s) in
+      let legal = subst (IsLegal set base) (sym front.1) sound.legal in
+      let numbered = subst (AreNumbered set base) (sym front.1) sound.numbered in
+      let known : AllByRecursion (λ (e : Entry). e.sender < sender_count s) front.0 =
+      back_all (λ e. e.sender < sender_count s) es front.0 (subst (λ n. AllByRecursion (λ (e : Entry). e.sender < n) (es ++ front.0)) (length-replicate (sender_count s) 0) (AreNumbered-known set base (es ++ front.0) (length-replicate (sender_count s) 0) numbered)) in
+      let by_each : (k : ℕ) → k < sender_count s → NoneDisposes (entries_by k front.0) = λ k below. dite (dec_lt k s.threads)
+      (λ thread. back_all (λ e. is_disposal e ≡ false) (entries_by k es) (entries_by k front.0) (subst NoneDisposes (sym (ap (entries_by k) front.1) ∙ entries_by-append k es front.0) (theirs k thread)))
+      (λ other. subst NoneDisposes (sym (none_behind k es whole front (none k below (omega (arith, other))))) tt) in
+      none_answered front.0 (back_all (λ e. is_disposed e.reply ≡ true → is_next e.call ≡ true) es front.0 (looks_dispose set (sender_count s) (es ++ front.0) legal)) (none_of_all (sender_count s) front.0 known by_each)
+
+  -- a thread that has made the calls of one block more, while nothing disposed of the queue, is on time
+  block_on_time : (past : List Block) (b : Block) (k : ℕ) → AllByRecursion (λ e. is_disposed e.reply ≡ false) front.0 → is_on_time (InBlock b.time) (before es) ≡ true → (let labels = labels_on q (lines_of k s.blocks) in
+      length (lines_on s labels q (lines_of k past)) ≡ length (entries_by k es) → length (lines_on s labels q (lines_of k (past ++ b ∷ []))) ≡ length (entries_by k whole)
+      → are_on_time (map (λ l. InBlock l.time) (lines_on s labels q (lines_of k past))) (befores k es) ≡ true
+      → are_on_time (map (λ l. InBlock l.time) (lines_on s labels q (lines_of k (past ++ b ∷ [])))) (befores k whole) ≡ true)
+  block_on_time past b k keeps at were are h =
+      let set = setting_for s q in
+      let base = empty_base (sender_count s) in
+      let labels = labels_on q (lines_of k s.blocks) in
+      let numbered = subst (AreNumbered set base) (sym front.1) sound.numbered in
+      let legal = subst (IsLegal set base) (sym front.1) sound.legal in
+      let more = lines_more k past b in
+      let lines : length (lines_on s labels q (lines_of k (past ++ b ∷ []))) ≡ length (lines_on s labels q (lines_of k past)) + length (lines_on s labels q (lines_in k b)) =
+      ap (λ l. length (lines_on s labels q l)) (sym more) ∙ ap length (lines_on-append s labels q (lines_of k past) (lines_in k b)) ∙ length-append (lines_on s labels q (lines_of k past)) (lines_on s labels q (lines_in k b)) in
+      let entries : length (entries_by k whole) ≡ length (entries_by k es) + length (entries_by k front.0) =
+      ap (λ l. length (entries_by k l)) (sym front.1) ∙ ap length (entries_by-append k es front.0) ∙ length-append (entries_by k es) (entries_by k front.0) in
+      let long : length (entries_by k front.0) ≡ length (lines_on s labels q (lines_in k b)) = omega (arith, were, are, lines, entries) in
+      subst (λ (ls : List Timed). are_on_time (map (λ l. InBlock l.time) (lines_on s labels q ls)) (befores k whole) ≡ true) more
+      (subst (λ (l : List Entry). are_on_time (map (λ l. InBlock l.time) (lines_on s labels q (lines_of k past ++ lines_in k b))) (befores k l) ≡ true) front.1
+      (timely_block set (controller s) refl refl s labels q k b.time (lines_of k past) (lines_in k b) es front.0 legal numbered (none_behind (controller s) es whole front controlled) keeps at (lines_at k b) long h))
+
+-- the controller's posters, which have heard others, have its entries as before
+pub heard_entries : (s : Script) (st st' : Stage) → IsStage s st → IsStage s st' → HaveHeard st.controller.kit.posters.items st'.controller.kit.posters.items → (q : ℕ) (d : Sender) → q < length st.controller.kit.posters.items
+    → entries_by (controller s) (whole_on st'.controller q d) ≡ entries_by (controller s) (whole_on st.controller q d)
+heard_entries s st st' is is' heard q d lt =
+    controller_entries s st' is' q d (subst (λ (n : ℕ). q < n) (sym heard.long) lt) ∙ (heard.each q d lt).called ∙ sym (controller_entries s st is q d lt)
+
+-- where the loopers only heard others, no sender but the threads has made anything
+pub only_threads : (s : Script) (st st' : Stage) → IsStage s st → IsStage s st' → HaveSeenTheSame st → HaveSeenTheSame st' → AtEach (LooperKeeps HaveHeard) st.loopers.items st'.loopers.items
+    → HaveHeard st.controller.kit.posters.items st'.controller.kit.posters.items → (q : ℕ) (d : Sender) → q < length st.controller.kit.posters.items
+    → (k : ℕ) → k < sender_count s → s.threads ≤ k → entries_by k (whole_on st'.controller q d) ≡ entries_by k (whole_on st.controller q d)
+only_threads s st st' is is' same same' kept heard q d lt k known above = dite (ℕ_discrete k (controller s))
+    (λ at. subst (λ (m : ℕ). entries_by m (whole_on st'.controller q d) ≡ entries_by m (whole_on st.controller q d)) (sym at) (heard_entries s st st' is is' heard q d lt))
+    (λ apart.
+    let at : s.threads + (k - s.threads) ≡ k = omega (arith, above) in
+    let looper : k - s.threads < s.loopers = omega (arith, above, known, apart) in
+    subst (λ (m : ℕ). entries_by m (whole_on st'.controller q d) ≡ entries_by m (whole_on st.controller q d)) at (looper_made_none s st st' is is' same same' kept heard.long q (k - s.threads) d lt looper))
+
+-- the next block, which the threads have run at its time, where the controller has only moved the time so far
+pub block_timely : (s : Script) (st st' : Stage) (b : Block) (past rest : List Block) → past ++ b ∷ rest ≡ s.blocks → IsTrue (rise s.blocks) → IsMoving s st.controller → IsStage s st → IsStage s st' → HaveRun s past st.threads.items → HaveRun s (past ++ b ∷ []) st'.threads.items
+    → AtEach (LooperKeeps HaveHeard) st.loopers.items st'.loopers.items → HaveHeard st.controller.kit.posters.items st'.controller.kit.posters.items → HaveSeenTheSame st' → (AreSound s st.controller → AreAtBlock s b.time st)
+    → AreTimelyUpTo s past st → AreTimelyUpTo s (past ++ b ∷ []) st'
+block_timely s st st' b past rest next rising moving is is' run run' kept heard same' at timely = record {
+  same = same';
+  timely = λ sounds q d lt'.
+      let sound' = sounds q d lt' in
+      let sounds_before = sound_grown s st.controller st'.controller heard.long (λ r e here. (heard.each r e here).more) sounds in
+      let lt : q < length st.controller.kit.posters.items = subst (λ (n : ℕ). q < n) heard.long lt' in
+      let es = whole_on st.controller q d in
+      let whole = whole_on st'.controller q d in
+      let front : IsPrefix es whole = (heard.each q d lt).more in
+      let controlled = heard_entries s st st' is is' heard q d lt in
+      let was = timely.timely sounds_before q d lt in
+      let theirs : (k : ℕ) → k < s.threads → NoneDisposes (entries_by k whole) = λ k few.
+      let in_st' : k < length st'.threads.items = subst (λ (n : ℕ). k < n) (sym is'.threads.0) few in
+      let z' = some_of st'.threads.items k in_st' in
+      let t' : PostingThread = slice_index_or st'.threads.items k z' in
+      let here' : q < length t'.kit.posters.items = subst (λ (n : ℕ). q < n) (sym (as_many t'.kit.posters.items st'.controller.kit.posters.items (same'.threads k z' in_st'))) lt' in
+      subst NoneDisposes (sym (thread_entries s st' is' same' k q z' d d in_st' lt')) (called_none s (past ++ b ∷ []) k t' (is'.threads.1 k z' in_st').1 (run' k z' in_st') q d here') in
+      let were : (k : ℕ) → k < s.threads → called_in s q k past ≡ length (entries_by k es) = λ k few.
+      let in_st : k < length st.threads.items = subst (λ (n : ℕ). k < n) (sym is.threads.0) few in
+      let z = some_of st.threads.items k in_st in
+      let t : PostingThread = slice_index_or st.threads.items k z in
+      let here : q < length t.kit.posters.items = subst (λ (n : ℕ). q < n) (sym (as_many t.kit.posters.items st.controller.kit.posters.items (timely.same.threads k z in_st))) lt in
+      called_count s past k t (is.threads.1 k z in_st).1 (run k z in_st) q d here ∙ ap length (sym (thread_entries s st is timely.same k q z d d in_st lt)) in
+      let are : (k : ℕ) → k < s.threads → called_in s q k (past ++ b ∷ []) ≡ length (entries_by k whole) = λ k few.
+      let in_st' : k < length st'.threads.items = subst (λ (n : ℕ). k < n) (sym is'.threads.0) few in
+      let z' = some_of st'.threads.items k in_st' in
+      let t' : PostingThread = slice_index_or st'.threads.items k z' in
+      let here' : q < length t'.kit.posters.items = subst (λ (n : ℕ). q < n) (sym (as_many t'.kit.posters.items st'.controller.kit.posters.items (same'.threads k z' in_st'))) lt' in
+      called_count s (past ++ b ∷ []) k t' (is'.threads.1 k z' in_st').1 (run' k z' in_st') q d here' ∙ ap length (sym (thread_entries s st' is' same' k q z' d d in_st' lt')) in
+      let keeps = none_disposed_on s q es whole front sound' controlled theirs (only_threads s st st' is is' timely.same same' kept heard q d lt) in record {
+        controls = in_time_behind s q es whole front sound' controlled ∙ was.controls;
+        before_quit = subst (λ (l : List Entry). are_before_quit s.threads (controller s) l ≡ true) front.1
+            (before_quit_block s.threads (controller s) es front.0 (none_behind (controller s) es whole front controlled)
+            (moves_quit_not s.end (controller s) es (ap (are_advances s.end) (controller_entries s st is q d lt) ∙ moving q d lt)) was.before_quit);
+        threads = λ k few. block_on_time s q es whole front sound' controlled past b k keeps (at sounds_before q d lt).on_time (were k few) (are k few) (was.threads k few);
+        in_order = subst (λ (l : List Entry). are_in_order s q l ≡ true) front.1
+            (in_order_block s q past rest b next rising es front.0 were (λ k few. are k few ∙ ap (λ (l : List Entry). length (entries_by k l)) (sym front.1)) was.in_order);
+        reached = λ main. subst (AreReached (controller s) (past ++ b ∷ [])) front.1
+            (all_reached_on (controller s) (past ++ b ∷ []) es front.0 (one_reached (controller s) past b es (was.reached main)
+            (main_reached s b.time es (subst (λ (n : ℕ). IsSoundOn s n es) main (sounds_before q d lt)) (ap (are_advances s.end) (controller_entries s st is q d lt) ∙ moving q d lt) (at sounds_before q d lt).on_time)));
+      };
+}
+
+-- ---- turns of the controller that move no time
+
+-- a history stays timely by one entry of the controller that is in time
+timely_other : (s : Script) (past : List Block) (q : ℕ) (es : List Entry) (e : Entry) → is_in_time es e.call e.reply ≡ true → e.sender ≡ controller s → IsTimelyUpTo s past q es → IsTimelyUpTo s past q (es ++ e ∷ [])
+timely_other s past q es e in_time sender timely = record {
+  controls = in_time_one (controller s) es e in_time timely.controls;
+  before_quit = before_quit_one s.threads (controller s) es e (controls_above s e sender) timely.before_quit;
+  threads = λ k lt. timely_others k _ es (e ∷ []) (entries_by-others k (e ∷ []) (ne_eqb e.sender k (λ at. absurd (omega (arith, at, sender, lt))), tt)) (timely.threads k lt);
+  in_order = in_order_one s q es e (controls_above s e sender) timely.in_order;
+  reached = λ main. all_reached_on (controller s) past es (e ∷ []) (timely.reached main);
+}
+
+-- what the controller's turn left is in time
+abbrev pub IsInTimeBy : (Entry → Type 0) → Script → ℕ → List Entry → Type 0
+IsInTimeBy P s q es = (e : Entry) → IsSoundOn s q (es ++ e ∷ []) → P e → is_in_time es e.call e.reply ≡ true
+
+-- a history stays timely by a turn of the controller that is in time
+timely_turned : (P : Entry → Type 0) (s : Script) (past : List Block) (q : ℕ) (es whole : List Entry) → IsInTimeBy P s q es → IsSoundOn s q whole
+    → (whole ≡ es) ⊎ ((e : Entry) × (whole ≡ es ++ e ∷ []) × P e × (e.sender ≡ controller s)) → (IsSoundOn s q es → IsTimelyUpTo s past q es) → IsTimelyUpTo s past q whole
+timely_turned P s past q es whole in_time sound (inl same) timely = subst (IsTimelyUpTo s past q) (sym same) (timely (subst (IsSoundOn s q) same sound))
+timely_turned P s past q es whole in_time sound (inr t) timely =
+    let e : Entry = t.0 in
+    let before = sound_front s q es whole (e ∷ [], sym t.1) sound in
+    subst (IsTimelyUpTo s past q) (sym t.1) (timely_other s past q es e (in_time e (subst (IsSoundOn s q) t.1 sound) t.2) t.3 (timely before))
+
+-- a controller that has taken no turn
+pub turns_none : (P : Entry → Type 0) (c : Controller) → EachTurnsOn P c c
+turns_none P c = record {
+  long = refl;
+  each = λ q d lt. record { found = (slice_index_or c.kit.posters.items q d).view.seen; begins = prefix_self (slice_index_or c.kit.posters.items q d).view.seen; made = refl; sender = refl; step = inl refl };
+}
+
+-- the queues from this one on are as they were
+abbrev pub AreKeptFrom : ℕ → Controller → Controller → Type 0
+AreKeptFrom n first now = (q : ℕ) (d : Sender) → n ≤ q → slice_index_or now.kit.posters.items q d ≡ slice_index_or first.kit.posters.items q d
+
+-- one queue more had its turn, and the others none
+pub turns_more : (P : Entry → Type 0) (first now after : Controller) (n : ℕ) → EachTurnsOn P first now → AreKeptFrom n first now → length after.kit.posters.items ≡ length now.kit.posters.items
+    → ((d : Sender) → TurnsOn P (slice_index_or now.kit.posters.items n d) (slice_index_or after.kit.posters.items n d))
+    → ((q : ℕ) (d : Sender) → q ≢ n → slice_index_or after.kit.posters.items q d ≡ slice_index_or now.kit.posters.items q d)
+    → EachTurnsOn P first after × AreKeptFrom (n + 1) first after
+turns_more P first now after n turns kept long here elsewhere = (
+  record {
+    long = long ∙ turns.long;
+    each = λ q d lt. dite (ℕ_discrete q n)
+        (λ at. subst (λ (m : ℕ). TurnsOn P (slice_index_or first.kit.posters.items m d) (slice_index_or after.kit.posters.items m d)) (sym at)
+        (subst (λ (p : Sender). TurnsOn P p (slice_index_or after.kit.posters.items n d)) (kept n d (omega arith)) (here d)))
+        (λ apart. subst (λ (p : Sender). TurnsOn P (slice_index_or first.kit.posters.items q d) p) (sym (elsewhere q d apart)) (turns.each q d lt));
+  },
+  λ q d le. elsewhere q d (λ at. absurd (omega (arith, at, le))) ∙ kept q d (omega (arith, le)),
+)
+
+-- from a stage, over the controller's turns, to one in which all have seen the same again, and nobody else called anything
+module _ {lockstep : Bool} (s : Script) (st : Stage) (c : Controller) (st' : Stage) (is : IsStageIn lockstep s st) (is' : IsStageIn lockstep s st') (same : HaveSeenTheSame st) (same' : HaveSeenTheSame st')
+    (threads : AtEach (ThreadKeeps HaveHeard) st.threads.items st'.threads.items) (loopers : AtEach (LooperKeeps HaveHeard) st.loopers.items st'.loopers.items)
+    (heard : HaveHeard c.kit.posters.items st'.controller.kit.posters.items) (P : Entry → Type 0) (turns : EachTurnsOn P st.controller c) where
+  -- the histories stay timely, where on each queue no turn was taken, or what it left is in time
+  pub turned_timely : (past : List Block) → ((q : ℕ) (d : Sender) → q < length st.controller.kit.posters.items → (slice_index_or c.kit.posters.items q d ≡ slice_index_or st.controller.kit.posters.items q d) ⊎ IsInTimeBy P s q (whole_on st.controller q d))
+      → AreTimelyUpTo s past st → AreTimelyUpTo s past st'
+  turned_timely past in_time timely = record {
+    same = same';
+    timely = λ sounds q d lt'.
+        let sound = sounds q d lt' in
+        let lt : q < length st.controller.kit.posters.items = subst (λ (n : ℕ). q < n) (heard.long ∙ turns.long) lt' in
+        let es = whole_on st.controller q d in
+        let whole = whole_on st'.controller q d in
+        let was = timely.timely (sound_by_turns s st c st' is is' same same' threads loopers heard P turns sounds) q d lt in
+        elim (in_time q d lt) [
+          | inl kept ↦
+              let stays : whole ≡ es = turned_left s st c st' is is' same same' threads loopers heard P turns q d lt sound.numbered ∙ ap (λ (p : Sender). p.view.seen) kept in
+              subst (IsTimelyUpTo s past q) (sym stays) was
+          | inr one ↦ timely_turned P s past q es whole one sound (turned_on s st c st' is is' same same' threads loopers heard P turns q d lt sound.numbered) (λ so. was)
+        ];
+  }
+
+  -- where the controller halted main, main's history ends with the halt
+  pub halted_stays : ((d : Sender) → ends_halted (whole_on c 0 d) ≡ true) → HasHaltedLast s st'
+  halted_stays halted d lt numbered = ap ends_halted (turned_left s st c st' is is' same same' threads loopers heard P turns 0 d (subst (λ (n : ℕ). 0 < n) (heard.long ∙ turns.long) lt) numbered) ∙ halted d
+
+-- ---- what stays while others are heard
+
+-- the loopers go on
+pub go_on_kept : (R : List Sender → List Sender → Type 0) (ls ls' : List StageLooper) → AtEach (LooperKeeps R) ls ls' → LoopersGoOn ls → LoopersGoOn ls'
+go_on_kept R ls ls' kept on k d lt =
+    let within : k < length ls = subst (λ (n : ℕ). k < n) kept.long lt in
+    ap is_given_up (kept.each k d within).last ∙ on k d within
+
+-- what a thread does with a block, where others are heard after it
+pub continues_kept : (s : Script) (b : Block) (ts ms us : List PostingThread) → length ms ≡ length ts → RunOn s b ts ms → AtEach (ThreadKeeps HaveHeard) ms us → RunOn s b ts us
+continues_kept s b ts ms us long on kept k d lt past rest whole up =
+    up_to_kept in_lockstep s (past ++ lines_in (slice_index_or ts k d).number b) (slice_index_or ms k d) (slice_index_or us k d) (kept.each k d (subst (λ (n : ℕ). k < n) (sym long) lt)) (on k d lt past rest whole up)

@@ -1,7 +1,0 @@
-use Rattle.std.proofs.Common.{refl}
-use Rattle.message_list.specs.Marks.{raised}
-use Rattle.message_list.proofs.Marked.{moved_more}
-use Rattle.message_list.proofs.marks.raise.Goals as goal
-
-pub loop-mark-preserved : goal.loop-mark-preserved
-loop-mark-preserved c = moved_more (raised c.args.i) c.args.marks.now c.loop-mark.marks c.loop-mark.mark-index _ _ c.raised.result c.loop-mark-test.true c.loop-mark.invariant refl c.raised.ensures
