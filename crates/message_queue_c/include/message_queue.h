@@ -2,7 +2,8 @@
  * asynchronous messages pass, removal by a filter, and a quit.
  *
  * LOCK AND WAIT. The queue takes no lock, never waits, starts no thread and reads no clock. The caller holds one lock of its own
- * round every call on a handle, also round those that only look, hands in the time, and waits by its own means:
+ * for each handle round every call on it, also round those that only look, hands in the time, and waits by its own means. One thread
+ * at a time looks for messages:
  *
  *     - after a call that answers `wake`, wake the thread that waits for messages: one that waits since its last look has to look
  *       again, since what comes first has changed. The wake may be given before or after the lock is let go. Where `wake` is false
@@ -56,7 +57,7 @@ typedef struct {
 
 /* A message (android.os.Message). */
 typedef struct {
-    uint64_t when;     /* when it is due, in milliseconds; at 0 it goes to the front */
+    uint64_t when;     /* the moment when it is due, in milliseconds, and no delay; at 0 it goes to the front */
     uint64_t obj;      /* counts only where `has_obj` is set */
     uint64_t callback; /* counts only where `has_callback` is set */
     uint32_t handler;  /* whom it is for */
@@ -79,11 +80,11 @@ typedef struct {
     bool has_obj;
 } mq_filter;
 
-/* The kinds of an answer. */
+/* The kinds of an answer. Some of their numbers are kinds of a look too. */
 enum {
     MQ_DONE = 0,
     MQ_NO_MEMORY = 1,    /* all is as before */
-    MQ_REFUSED = 2,      /* a post after a quit: `number` is the place of the quit among all recorded calls, from 0 */
+    MQ_REFUSED = 2,      /* a post after a quit: `number` is the place of the quit among all recorded calls, from 0; what was forgotten counts too */
     MQ_NOT_POSTED = 3,   /* no barrier has the token */
     MQ_ALREADY_QUIT = 4, /* `number` is the place of the quit that was done, counted as there */
     MQ_NOT_ALLOWED = 5,  /* the queue may not quit; no queue of `mq_open` answers it */
@@ -141,8 +142,8 @@ mq_answer mq_barrier(mq_queue *queue, uint64_t now);
  * MQ_NOT_OPEN. */
 mq_answer mq_remove_barrier(mq_queue *queue, uint64_t token);
 
-/* Removes the messages that the filter names (removeMessages and its kin). MQ_DONE: `number` is how many; they wait to be handed
- * out. MQ_NO_MEMORY, MQ_NOT_OPEN. */
+/* Removes the messages that the filter names (removeMessages and its kin). It never wakes. MQ_DONE: `number` is how many; they wait to
+ * be handed out. MQ_NO_MEMORY, MQ_NOT_OPEN. */
 mq_answer mq_remove(mq_queue *queue, const mq_filter *filter);
 
 /* Whether the filter names a message that stands in the queue (hasMessages). Nothing changes. False where no queue is open. */
@@ -152,7 +153,8 @@ bool mq_has(mq_queue *queue, const mq_filter *filter);
 uint64_t mq_live(mq_queue *queue);
 
 /* Looks for the first message that is due at the moment `now` and that no barrier holds back, and takes it out (next).
- * `idle_owed` says whether the caller still has idle work for this wait. At MQ_END what was left waits to be handed out.
+ * `idle_owed` says whether the caller still has idle work for this wait: true until MQ_IDLE was answered and that work done without
+ * the lock, then false, and true again once a message was taken. At MQ_END what was left waits to be handed out.
  * MQ_OVER where MQ_END was answered before, else MQ_TAKEN, else MQ_END where it has quit, else MQ_IDLE where an idle turn is owed
  * and the head is later or missing, else MQ_WAIT or MQ_WAIT_FOREVER; MQ_NOT_OPEN. */
 mq_look mq_next(mq_queue *queue, uint64_t now, bool idle_owed);
@@ -171,9 +173,10 @@ mq_look mq_next_dropped(mq_queue *queue);
  * in the queue. False, and nothing changes, where there is no memory or no queue is open. */
 bool mq_forget(mq_queue *queue);
 
-/* What the program provides: a heap. `heap.c` of examples/embed has it over malloc, and so has the toolchain's liblibc_c.a. A
- * block is aligned to `align`, a power of two up to 16. Where there is no memory `ok` is false, `at` is not null, and in
- * `rattle_realloc` the block is as it was. */
+/* What the program provides: a heap. `heap.c` of examples/embed has it over malloc, and so has the toolchain's liblibc_c.a. It is
+ * called only from within calls of this file, so with several handles maybe by several threads at once. A block is aligned to
+ * `align`, a power of two up to 16. `kept` is how many bytes of the old block have to stay. Where there is no memory `ok` is false,
+ * `at` is the address of anything but not null, and in `rattle_realloc` the block is as it was. */
 typedef struct {
     bool ok;
     void *at;
