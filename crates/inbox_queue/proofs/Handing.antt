@@ -16,7 +16,7 @@ use Rattle.inbox_queue.specs.declared.main_queue.Look.{Look}
 use Rattle.inbox_queue.specs.declared.main_queue.Look.TheVariants.{Taken, Waits, Other}
 use Rattle.inbox_queue.specs.declared.main_queue.Move.{Move}
 use Rattle.inbox_queue.specs.declared.main_queue.Move.TheVariants.{There, Stays, NoMemory}
-use Rattle.inbox_queue.specs.MainQueue.{IsAt, threads_of, seen, AreSilent, GrowsBy, IsPostOf, IsHaltAt, LooksOn, MovesOn, time_of}
+use Rattle.inbox_queue.specs.MainQueue.{IsAt, AreSameHands, threads_of, seen, AreSilent, GrowsBy, IsPostOf, IsHaltAt, LooksOn, MovesOn, time_of}
 use Rattle.inbox_queue.specs.Turned.{Sender, LookedBy, MovedBy, PostsBy}
 use Rattle.inbox_queue.proofs.TurnSteps.{State, Pair, looked, moved, halted, not_halted_over, not_halted_due, posted_one, goes_on_turn}
 use Rattle.inbox_queue.proofs.Driving.{Led}
@@ -85,16 +85,13 @@ one_of_both threads k lt = dite (dec_lt k threads) (λ below. inl below) (λ not
 -- what the looper's call and the hearing leave
 pub record LooperCalls (place : Place) (h h1 h2 : Hands) : Type 0 where
   pub at : IsAt place h
-  pub controller : h1.controller ≡ h.controller
-  pub home : h1.pass.home ≡ place.pool
-  pub looper_same : IsSamePoster h1.looper h2.looper
-  pub controller_same : IsSamePoster h1.controller h2.controller
-  pub pass : h2.pass ≡ h1.pass
+  pub kept : (h1.controller ≡ h.controller) × (h1.pass.home ≡ place.pool)
+  pub same : AreSameHands h1 h2
   pub heard : IsPrefix h1.controller.view.seen (seen h1) → (seen h2 ≡ seen h1) × (h2.controller.view.seen ≡ seen h1)
 
 module _ (place : Place) (h h1 h2 : Hands) (k : LooperCalls place h h1 h2) (x y : State) (turn : IsTurn h.looper h1.looper x y) where
   looper_up : IsPrefix h1.controller.view.seen (seen h1)
-  looper_up = subst (λ (z : List Entry × List Entry). IsPrefix z.0 z.1) (λ i. ((sym k.at.same ∙ ap (λ (c : Sender). c.view.seen) (sym k.controller)) i, sym turn.seen i)) (goes_on_turn h.looper h1.looper x y turn)
+  looper_up = subst (λ (z : List Entry × List Entry). IsPrefix z.0 z.1) (λ i. ((sym k.at.same ∙ ap (λ (c : Sender). c.view.seen) (sym k.kept.0)) i, sym turn.seen i)) (goes_on_turn h.looper h1.looper x y turn)
 
   looper_pair : Pair (threads_of h) h.looper h1.looper h.controller h2.controller
   looper_pair = record {
@@ -103,16 +100,16 @@ module _ (place : Place) (h h1 h2 : Hands) (k : LooperCalls place h h1 h2) (x y 
     own = k.at.looper.1;
     same = k.at.same;
     heard = (k.heard looper_up).1;
-    kept = subst (λ c. IsSamePoster c h2.controller) k.controller k.controller_same;
+    kept = subst (λ c. IsSamePoster c h2.controller) k.kept.0 k.same.1;
     who = λ n lt. ⊎_elim (λ a. inl a) (λ b. inr (⊎_elim (λ c. inl c) (λ d. inr (d ∙ sym k.at.number)) b)) (one_of_all (threads_of h) n lt);
   }
 
   pub looper_at : IsAt place h2 × (threads_of h2 ≡ threads_of h)
   looper_at =
-      let l = kept_then h.looper h1.looper h2.looper (kept_turn h.looper h1.looper x y turn) (kept_same h1.looper h2.looper k.looper_same) in
-      let c = kept_same h.controller h2.controller (subst (λ c. IsSamePoster c h2.controller) k.controller k.controller_same) in
+      let l = kept_then h.looper h1.looper h2.looper (kept_turn h.looper h1.looper x y turn) (kept_same h1.looper h2.looper k.same.0) in
+      let c = kept_same h.controller h2.controller (subst (λ c. IsSamePoster c h2.controller) k.kept.0 k.same.1) in
       let u = k.heard looper_up in
-      (at_kept place h h2 k.at l c (ap (λ p. p.home) k.pass ∙ k.home) (u.1 ∙ sym u.0), l.sender)
+      (at_kept place h h2 k.at l c (ap (λ p. p.home) k.same.2 ∙ k.kept.1) (u.1 ∙ sym u.0), l.sender)
 
   pub looper_led : (R : List Entry → List Entry → Type 0) → Led (threads_of h) R (seen h) (seen h1) → Led (threads_of h) R (seen h) (seen h2)
   looper_led R = subst (Led (threads_of h) R (seen h)) (sym (k.heard looper_up).0)
@@ -148,16 +145,13 @@ post_done place h h1 h2 post k done =
 
 pub record ControllerCalls (place : Place) (h h1 h2 : Hands) : Type 0 where
   pub at : IsAt place h
-  pub looper : h1.looper ≡ h.looper
-  pub home : h1.pass ≡ h.pass
-  pub looper_same : IsSamePoster h1.looper h2.looper
-  pub controller_same : IsSamePoster h1.controller h2.controller
-  pub pass : h2.pass ≡ h1.pass
+  pub kept : (h1.looper ≡ h.looper) × (h1.pass ≡ h.pass)
+  pub same : AreSameHands h1 h2
   pub heard : IsPrefix (seen h1) h1.controller.view.seen → (seen h2 ≡ h1.controller.view.seen) × (h2.controller.view.seen ≡ h1.controller.view.seen)
 
 module _ (place : Place) (h h1 h2 : Hands) (k : ControllerCalls place h h1 h2) (x y : State) (turn : IsTurn h.controller h1.controller x y) where
   controller_up : IsPrefix (seen h1) h1.controller.view.seen
-  controller_up = subst (λ (z : List Entry × List Entry). IsPrefix z.0 z.1) (λ i. ((k.at.same ∙ ap (λ (c : Sender). c.view.seen) (sym k.looper)) i, sym turn.seen i)) (goes_on_turn h.controller h1.controller x y turn)
+  controller_up = subst (λ (z : List Entry × List Entry). IsPrefix z.0 z.1) (λ i. ((k.at.same ∙ ap (λ (c : Sender). c.view.seen) (sym k.kept.0)) i, sym turn.seen i)) (goes_on_turn h.controller h1.controller x y turn)
 
   controller_pair : Pair (threads_of h) h.controller h1.controller h.looper h2.looper
   controller_pair = record {
@@ -166,16 +160,16 @@ module _ (place : Place) (h h1 h2 : Hands) (k : ControllerCalls place h h1 h2) (
     own = k.at.controller.1;
     same = sym k.at.same;
     heard = (k.heard controller_up).0;
-    kept = subst (λ c. IsSamePoster c h2.looper) k.looper k.looper_same;
+    kept = subst (λ c. IsSamePoster c h2.looper) k.kept.0 k.same.0;
     who = λ n lt. ⊎_elim (λ a. inl a) (λ b. inr (⊎_elim (λ c. inl (c ∙ sym k.at.number)) (λ d. inr d) b)) (one_of_both (threads_of h) n lt);
   }
 
   pub controller_at : IsAt place h2 × (threads_of h2 ≡ threads_of h)
   controller_at =
-      let l = kept_same h.looper h2.looper (subst (λ c. IsSamePoster c h2.looper) k.looper k.looper_same) in
-      let c = kept_then h.controller h1.controller h2.controller (kept_turn h.controller h1.controller x y turn) (kept_same h1.controller h2.controller k.controller_same) in
+      let l = kept_same h.looper h2.looper (subst (λ c. IsSamePoster c h2.looper) k.kept.0 k.same.0) in
+      let c = kept_then h.controller h1.controller h2.controller (kept_turn h.controller h1.controller x y turn) (kept_same h1.controller h2.controller k.same.1) in
       let u = k.heard controller_up in
-      (at_kept place h h2 k.at l c (ap (λ p. p.home) (k.pass ∙ k.home) ∙ k.at.pass) (u.1 ∙ sym u.0), l.sender)
+      (at_kept place h h2 k.at l c (ap (λ p. p.home) (k.same.2 ∙ k.kept.1) ∙ k.at.pass) (u.1 ∙ sym u.0), l.sender)
 
   pub controller_led : (R : List Entry → List Entry → Type 0) → (AreSilent (threads_of h) h1.controller.view.seen → AreSilent (threads_of h) h.controller.view.seen × R h.controller.view.seen h1.controller.view.seen) → Led (threads_of h) R (seen h) (seen h2)
   controller_led R led = subst (λ (z : List Entry × List Entry). Led (threads_of h) R z.0 z.1) (λ i. (k.at.same i, sym (k.heard controller_up).0 i)) led

@@ -10,7 +10,7 @@ use Rattle.loop_model.specs.Base.{empty_base}
 use Rattle.loop_model.specs.Answers.{clock, quit_place}
 use Rattle.loop_model.specs.Items.{when_of}
 use Rattle.loop_model.specs.Pick.{first_eligible}
-use Rattle.shared_queue.specs.Known.{IsOf}
+use Rattle.shared_queue.specs.Known.{IsOf, IsSamePoster}
 use Rattle.run_model.specs.Asks.{entries_by}
 use Rattle.run_model.specs.Control.{is_called_in_time, is_controlled, ends_halted, is_advance}
 use Rattle.loop_model.specs.Entries.{moment_of}
@@ -50,6 +50,11 @@ HaveHeard less more looper controller = IsPrefix less more → (looper ≡ more)
 abbrev pub IsSameButLooper : Place → Hands → Hands → Type 0
 IsSameButLooper place before after =
     (after.controller ≡ before.controller) × (after.pass.home ≡ place.pool) × IsOf after.looper place.queue × (after.looper.sender ≡ before.looper.sender)
+
+-- the posters are the same but for what they have seen, and so is the pass
+abbrev pub AreSameHands : Hands → Hands → Type 0
+AreSameHands before after =
+    IsSamePoster before.looper after.looper × IsSamePoster before.controller after.controller × (after.pass ≡ before.pass)
 
 -- no thread has an entry
 abbrev pub AreSilent : ℕ → List Entry → Type 0

@@ -2,8 +2,8 @@
 ghost use Rattle.std.specs.Prelude.{◌≡◌, ◌+◌, ◌⊎◌, ℕ, true, false, Option, IfSome, OnOk};
 ghost use Rattle.loop_model.specs.Items.{is_barrier};
 ghost use Rattle.message_pool.specs.Obtain.{IsNodeOf};
-ghost use Rattle.shared_queue.specs.Known.{IsOf, IsSamePoster};
-ghost use Rattle.inbox_queue.specs.MainQueue.{IsAt, HaveHeard, IsSameButLooper, threads_of, seen, Leads, LooksOn, MovesOn, GrowsBy, IsPostOf, IsHaltAt, HasDrained, HasMoved, HasPosted, HasHalted, IsEarlier, time_of};
+ghost use Rattle.shared_queue.specs.Known.{IsOf};
+ghost use Rattle.inbox_queue.specs.MainQueue.{IsAt, HaveHeard, AreSameHands, IsSameButLooper, threads_of, seen, Leads, LooksOn, MovesOn, GrowsBy, IsPostOf, IsHaltAt, HasDrained, HasMoved, HasPosted, HasHalted, IsEarlier, time_of};
 ghost use Rattle.inbox_queue.specs.Turned.{LookedBy, MovedBy, PostsBy, HasFields};
 
 use crate::parcel::Parcel;
@@ -69,7 +69,7 @@ impl Place {
     /// Each of the two posters hears the other.
     fn share(&self, hands: &mut Hands)
         requires { IsOf hands.old.looper self.now.queue × IsOf hands.old.controller self.now.queue }
-        ensures same { IsSamePoster hands.old.looper hands.new.looper × IsSamePoster hands.old.controller hands.new.controller × (hands.new.pass ≡ hands.old.pass) }
+        ensures same { AreSameHands hands.old hands.new }
         ensures looper { HaveHeard hands.old.controller.view.seen (seen hands.old) (seen hands.new) hands.new.controller.view.seen }
         ensures controller { HaveHeard (seen hands.old) hands.old.controller.view.seen (seen hands.new) hands.new.controller.view.seen }
     {

@@ -2,23 +2,7 @@ use Rattle.inbox_queue.proofs.Handing.{move_done}
 use Rattle.inbox_queue.proofs.main_queue.Place.advance.Goals as goal
 
 pub returns-clause-at : goal.returns-clause-at
-returns-clause-at g c = (move_done c.args.self.now c.args.hands.now c.advance_once-moved.new.hands c.share.new.hands c.args.time _ (record {
-  at = c.requires;
-  looper = c.advance_once-moved.ensures.kept.0;
-  home = c.advance_once-moved.ensures.kept.1;
-  looper_same = c.share.ensures.same.0;
-  controller_same = c.share.ensures.same.1;
-  pass = c.share.ensures.same.2;
-  heard = c.share.ensures.controller;
-}) c.advance_once-moved.ensures.done).0
+returns-clause-at g c = (move_done c.args.self.now c.args.hands.now c.advance_once-moved.new.hands c.share.new.hands c.args.time _ (record { at = c.requires; kept = c.advance_once-moved.ensures.kept; same = c.share.ensures.same; heard = c.share.ensures.controller }) c.advance_once-moved.ensures.done).0
 
 pub returns-clause-made : goal.returns-clause-made
-returns-clause-made g c = (move_done c.args.self.now c.args.hands.now c.advance_once-moved.new.hands c.share.new.hands c.args.time _ (record {
-  at = c.requires;
-  looper = c.advance_once-moved.ensures.kept.0;
-  home = c.advance_once-moved.ensures.kept.1;
-  looper_same = c.share.ensures.same.0;
-  controller_same = c.share.ensures.same.1;
-  pass = c.share.ensures.same.2;
-  heard = c.share.ensures.controller;
-}) c.advance_once-moved.ensures.done).1
+returns-clause-made g c = (move_done c.args.self.now c.args.hands.now c.advance_once-moved.new.hands c.share.new.hands c.args.time _ (record { at = c.requires; kept = c.advance_once-moved.ensures.kept; same = c.share.ensures.same; heard = c.share.ensures.controller }) c.advance_once-moved.ensures.done).1
