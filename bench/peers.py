@@ -5,8 +5,9 @@
 
 It builds what is in bench/peers over crates/message_queue_c/out/libmessage_queue_c.a (rt lib in crates/message_queue_c makes it), and
 skips with a line what isn't installed. Each round runs every case once on each program in turn, so that all meet the same machine;
-what counts is the least of all rounds. A case that takes a program too long is left out. Programs of the crate
-loop_bench are measured by bench/queue.py."""
+what counts is the least of all rounds. A case that takes a program too long is left out. A handler with a pool and a shared queue takes
+part by crates/loop_bench/out/loop_bench (rt run in crates/loop_bench makes it), by the processor time of the whole process; its other
+modes are measured by bench/queue.py."""
 import os
 import pathlib
 import shutil
@@ -35,6 +36,11 @@ PROGRAMS = [
     ("libevent", ["libevent.c"], [], "libevent_pthreads", "libevent-dev"),
 ]
 JAVA = "Java"
+
+# the queue of the library for threads, through a handler with messages of a pool: its cases as modes of loop_bench
+HANDLER = "handler and pool"
+BENCH = HERE.parent / "crates" / "loop_bench" / "out" / "loop_bench"
+HANDLED = {("chain", 200_000): "handled", ("burst", 1_000): "handled_burst"}
 
 # so many seconds a run may take
 LIMIT = 20
@@ -93,6 +99,10 @@ def commands(room):
             skipped(name, f"install {wanted} and pkg-config")
         else:
             yield name, build(room, number, sources, flags, package)
+    if BENCH.is_file():
+        yield HANDLER, [str(BENCH)]
+    else:
+        skipped(HANDLER, f"there is no {BENCH}: run rt run in {BENCH.parent.parent}")
     if shutil.which("javac") is None:
         skipped(JAVA, "install a JDK")
     else:
@@ -100,8 +110,20 @@ def commands(room):
         yield JAVA, ["java", "-cp", room, "JavaQueue"]
 
 
+def processor_time(words):
+    """The processor seconds of one run, system and user together."""
+    child = os.posix_spawn(words[0], words, os.environ, file_actions=[(os.POSIX_SPAWN_OPEN, 1, os.devnull, os.O_WRONLY, 0)])
+    _, status, usage = os.wait4(child, 0)
+    if os.waitstatus_to_exitcode(status) != 0:
+        raise SystemExit(f"{words} failed")
+    return usage.ru_utime + usage.ru_stime
+
+
 def measured(command, mode, count, rounds):
     """The nanoseconds a message of one run, or None where it takes longer than LIMIT."""
+    if command[0] == str(BENCH):
+        messages = count * rounds
+        return processor_time([*command, HANDLED[mode, count], str(messages)]) / messages * 1e9
     try:
         ran = subprocess.run([*command, mode, str(count), str(rounds)], capture_output=True, text=True, timeout=LIMIT)
     except subprocess.TimeoutExpired:
@@ -118,6 +140,8 @@ def measure(programs, rounds, end):
         for mode, count, times, absent in CASES:
             for name, command in programs:
                 key = (mode, count, name)
+                if name == HANDLER and (mode, count) not in HANDLED:
+                    continue
                 if name in absent or key in slow or (number > 0 and time.time() > end):
                     continue
                 value = measured(command, mode, count, times)

@@ -8,15 +8,19 @@ Where threads race, NAME.reports holds the lawful reports, parted by lines %%: e
 told how many of them were seen.
 Inputs that are too large to be kept are made here, and so is what `make N` and the longest script must write. What `trace` writes
 of each script must be legal, and no longer where a dispatch is told of another message. One script is also run by the real clock.
+At the end it prints how long a run of each script takes; no time is a failure.
 """
 import difflib
 import pathlib
 import re
 import subprocess
 import sys
+import time
 
 HERE = pathlib.Path(__file__).resolve().parent
 RUNS = 200
+# on a free machine a run of an example script is to take less, in milliseconds
+AIM = 20
 HEAD = "dashboard 1\nloopers 1\nthreads 1\nhandler 0 0\nvsync 16666667\n"
 MADE = {
     "input_too_long": lambda: b"x" * 1_048_577,
@@ -283,6 +287,29 @@ def faults(program, words, given, code, report, error):
     return found
 
 
+def wall_times(program):
+    """The wall time of each example script's run, with the program's start, and its name, the longest first: the least of up to
+    five rounds, of which none begins after half a second."""
+    names = [name for name, words, *_ in listed() if words == "run" and (HERE / f"{name}.script").exists()]
+    least, end = dict.fromkeys(names, float("inf")), time.perf_counter() + 0.5
+    for number in range(5):
+        for name in names:
+            script, start = given_to(name), time.perf_counter()
+            if number == 0 or start < end:
+                run(program, ["run"], script)
+                least[name] = min(least[name], time.perf_counter() - start)
+    return sorted(((taken * 1000, name) for name, taken in least.items()), reverse=True)
+
+
+def print_times(program):
+    """The wall times in a table of three columns, the longest, and how many are above what is aimed at."""
+    times = wall_times(program)
+    print("milliseconds of a run of each script:")
+    for at in range(0, len(times), 3):
+        print("".join(f"{taken:7.1f} {name:33}" for taken, name in times[at : at + 3]).rstrip())
+    print(f"the longest takes {times[0][0]:.1f} ms; above {AIM} ms: {sum(taken > AIM for taken, _ in times)} of {len(times)} scripts")
+
+
 def main():
     if len(sys.argv) != 2:
         sys.exit("usage: check.py PROGRAM")
@@ -298,6 +325,7 @@ def main():
     for name, found in [*races(program), *quit_races(program), *by_clock(program), *summaries(program), *whole(program), *counts_stay(program), *traces(program)]:
         failed += 1
         print(f"FAILED {name}: {found}")
+    print_times(program)
     print(f"examples: {passed} passed, {failed} failed")
     sys.exit(1 if failed else 0)
 

@@ -2,6 +2,7 @@
 #![tactic(auto)]
 
 mod calls;
+mod handled;
 mod modes;
 mod words;
 
@@ -9,6 +10,7 @@ use crate::modes::{Counts, run};
 use crate::words::{ALL, Asked, Mode, asked_by, word};
 use std::env;
 use std::process::ExitCode;
+use std::sync::Wait;
 use std::time::Instant;
 
 fn main(rt: HostRuntime) -> ExitCode {
@@ -17,7 +19,7 @@ fn main(rt: HostRuntime) -> ExitCode {
         return ExitCode::from(2);
     };
     for mode in &ALL {
-        if !measure(&rt, *mode, &wanted) {
+        if !measure(&rt, &rt, *mode, &wanted) {
             return ExitCode::from(1);
         }
     }
@@ -36,15 +38,16 @@ fn read(rt: &HostRuntime) -> Option<Asked> {
     asked_by(words.as_slice())
 }
 
-/// Measures the mode, where it is asked for, and prints what came of it. It fails where there is no memory or no output.
-fn measure(rt: &HostRuntime, mode: Mode, wanted: &Asked) -> bool {
+/// Measures the mode, where it is asked for, and prints what came of it. It fails where there is no memory or no output. The calls
+/// that wait are given the runtime as `waits`.
+fn measure<R: Wait>(rt: &HostRuntime, waits: &R, mode: Mode, wanted: &Asked) -> bool {
     if let Some(one) = wanted.mode {
         if one != mode {
             return true;
         }
     }
     let start = Instant::now(rt);
-    let Ok(counts) = run(rt.alloc(), mode, wanted.count) else {
+    let Ok(counts) = run(waits, rt.alloc(), mode, wanted.count) else {
         return false;
     };
     if !print(rt, mode, &counts) {

@@ -3,17 +3,22 @@
 ghost use Rattle.std.specs.Prelude.{◌≡◌, ◌<◌, ◌^◌, IfOk};
 
 use crate::calls::{forget, message, new_queue, post, post_barrier, quit_safely, remove, take};
+use crate::handled::handled;
 use crate::words::Mode;
 use loop_model::{Filter, Kind, NoMemory, Post};
 use message_slot::NoClaim;
 use queue_state::QueueState;
 use std::alloc::Global;
+use std::sync::Wait;
 
 /// The time of what is posted for later, in milliseconds.
 const LATE: u64 = 1_000_000_000_000;
 
 /// So many entries a queue makes before it hands them out.
 const PART: usize = 4_096;
+
+/// So many messages a burst has.
+const BURST: u64 = 1_000;
 
 /// How many messages were posted, taken, removed and dropped, and how many looks took none.
 #[derive(Clone, Copy, Debug, PartialEq, Eq)]
@@ -33,8 +38,18 @@ const NONE: Counts = Counts {
     dropped: 0,
 };
 
+/// Nothing has happened yet.
+pub(crate) fn no_counts() -> Counts {
+    NONE
+}
+
 /// Makes the calls of the mode for this many messages.
-pub(crate) fn run(alloc: Global, mode: Mode, count: u64) -> Result<Counts, NoMemory> {
+pub(crate) fn run<R: Wait>(
+    rt: &R,
+    alloc: Global,
+    mode: Mode,
+    count: u64,
+) -> Result<Counts, NoMemory> {
     match mode {
         Mode::Chain => chain(alloc, count),
         Mode::Burst => burst(alloc, count),
@@ -47,6 +62,8 @@ pub(crate) fn run(alloc: Global, mode: Mode, count: u64) -> Result<Counts, NoMem
         Mode::Removals => removals(alloc, count),
         Mode::RemoveAll => remove_all(alloc, count),
         Mode::SafeQuit => safe_quit(alloc, count),
+        Mode::Handled => handled(rt, alloc, count, 1),
+        Mode::HandledBurst => handled(rt, alloc, count, BURST),
     }
 }
 
@@ -260,7 +277,7 @@ fn named(what: u32) -> Filter {
 }
 
 /// One more.
-fn more(count: u64) -> u64 {
+pub(crate) fn more(count: u64) -> u64 {
     count.saturating_add(1)
 }
 

@@ -16,10 +16,12 @@ pub(crate) enum Mode {
     Removals,
     RemoveAll,
     SafeQuit,
+    Handled,
+    HandledBurst,
 }
 
 /// All modes, in the order in which they are printed.
-pub(crate) const ALL: [Mode; 11] = [
+pub(crate) const ALL: [Mode; 13] = [
     Mode::Chain,
     Mode::Burst,
     Mode::Sealed,
@@ -31,6 +33,8 @@ pub(crate) const ALL: [Mode; 11] = [
     Mode::Removals,
     Mode::RemoveAll,
     Mode::SafeQuit,
+    Mode::Handled,
+    Mode::HandledBurst,
 ];
 
 /// The word of a mode.
@@ -47,6 +51,8 @@ pub(crate) fn word(mode: Mode) -> &'static str {
         Mode::Removals => "removals",
         Mode::RemoveAll => "remove_all",
         Mode::SafeQuit => "safe_quit",
+        Mode::Handled => "handled",
+        Mode::HandledBurst => "handled_burst",
     }
 }
 

@@ -1,0 +1,7 @@
+-- the way stays ready, and the same
+use Rattle.std.proofs.Common.{◌≡◌}
+use Rattle.handler_post.specs.Ways.{IsReady, IsSameWay}
+use Rattle.loop_bench.proofs.handled.post_each.Given as goal
+
+abbrev pub invariant-loop : goal.invariant-loop
+invariant-loop g l = IsReady l.way × IsSameWay l.initial.way l.way
