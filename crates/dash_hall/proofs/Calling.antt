@@ -36,7 +36,7 @@ entries_are x y z same = ap (λ (w : State). w.entries) same
 
 pub obtained_back : (home : TableId) (claim : Option Claimed) (a b : Tally) → Obtains home claim a b → a.back ≤ b.back
 obtained_back home None a b o = omega (arith, o.2)
-obtained_back home (Some c) a b o = omega (arith, ap (λ (t : Tally). t.back) o.2)
+obtained_back home (Some c) a b (at, near, taken) = let back : b.back ≡ a.back = taken.3 in omega (arith, back)
 
 pub in_vain_back : (home : TableId) (claim : Option Claimed) (a b : Tally) → ObtainsInVain home claim a b → a.back ≤ b.back
 in_vain_back home None a b o = omega (arith, o.2)
@@ -128,10 +128,10 @@ by_erase v w f r res ready ready' same erased ok err =
 
 -- obtaining a message, and recycling one, lose no slot
 pub answers_back : (home : TableId) (a b : Tally) (r : Obtained) → Answers home a b r → a.back ≤ b.back
-answers_back home a b (Pooled node) (is, same) = omega (arith, ap (λ (t : Tally). t.back) same)
+answers_back home a b (Pooled node) (is, taken) = let back : b.back ≡ a.back = taken.3 in omega (arith, back)
 answers_back home a b (Fresh node look lost) (blank, free) = (let back : b.back ≡ a.back = free.3 in omega (arith, back))
 answers_back home a b NoMemory (look, lost, free) = (let back : b.back ≡ a.back = free.3 in omega (arith, back))
 
 pub returned_back : (claim : Option Claimed) (a b : Tally) → Returned claim a b → a.back ≤ b.back
 returned_back None a b same = omega (arith, ap (λ (t : Tally). t.back) same)
-returned_back (Some c) a b (back, looks, lost) = omega (arith, back)
+returned_back (Some c) a b one = omega (arith, ap (λ (t : Tally). t.back) one)

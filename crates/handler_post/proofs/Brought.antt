@@ -11,22 +11,25 @@ pub record IsOnTheWay (nodes rest : List Node) (before after : Tally) : Type 0 w
   pub back : after.back + slots_in rest ≡ before.back + slots_in nodes
   pub looks : before.looks ≤ after.looks
   pub lost : before.lost ≤ after.lost
+  pub taken : after.taken ≡ before.taken
+  pub share : after.share ≡ before.share
 
 one_back : (claim : Option Claimed) (n : ℕ) (before after : Tally) → Returned claim before after → after.back + n ≡ before.back + (cond {A = ℕ} (is_some claim) 1 0 + n)
 one_back None n before after same = let e : after.back ≡ before.back = ap (λ (x : Tally). x.back) same in let all : after.back + n ≡ before.back + (0 + n) = omega (arith, e) in all
-one_back (Some c) n before after (more, looks, lost) = let all : after.back + n ≡ before.back + (1 + n) = omega (arith, more) in all
+one_back (Some c) n before after one = let more : after.back ≡ before.back + 1 = ap (λ (x : Tally). x.back) one in let all : after.back + n ≡ before.back + (1 + n) = omega (arith, more) in all
 
-never_less : (claim : Option Claimed) (before after : Tally) → Returned claim before after → (before.looks ≤ after.looks) × (before.lost ≤ after.lost)
-never_less None before after same = (subst (λ (x : Tally). before.looks ≤ x.looks) (sym same) (omega arith), subst (λ (x : Tally). before.lost ≤ x.lost) (sym same) (omega arith))
-never_less (Some c) before after (more, looks, lost) = (looks, lost)
+-- nothing else of the pass changes
+rest_kept : (claim : Option Claimed) (before after : Tally) → Returned claim before after → (after.looks ≡ before.looks) × (after.lost ≡ before.lost) × (after.taken ≡ before.taken) × (after.share ≡ before.share)
+rest_kept None before after same = (ap (λ (x : Tally). x.looks) same, ap (λ (x : Tally). x.lost) same, ap (λ (x : Tally). x.taken) same, ap (λ (x : Tally). x.share) same)
+rest_kept (Some c) before after one = (ap (λ (x : Tally). x.looks) one, ap (λ (x : Tally). x.lost) one, ap (λ (x : Tally). x.taken) one, ap (λ (x : Tally). x.share) one)
 
 pub one_more : (nodes old rest : List Node) (node : Node) (start before after : Tally) → old ≡ node ∷ rest → IsOnTheWay nodes old start before → Returned node.claim before after → IsOnTheWay nodes rest start after
 one_more nodes old rest node start before after e way back =
     let one = one_back node.claim (slots_in rest) before after back in
-    let less = never_less node.claim before after back in
+    let kept = rest_kept node.claim before after back in
     let was : before.back + slots_in (node ∷ rest) ≡ start.back + slots_in nodes = subst (λ xs. before.back + slots_in xs ≡ start.back + slots_in nodes) e way.back in
     let cons : slots_in (node ∷ rest) ≡ cond {A = ℕ} (is_some node.claim) 1 0 + slots_in rest = sum_by-cons (λ (m : Node). cond {A = ℕ} (is_some m.claim) 1 0) node rest in
-    record { back = one ∙ ap (λ (k : ℕ). before.back + k) (sym cons) ∙ was; looks = omega (arith, way.looks, less.0); lost = omega (arith, way.lost, less.1) }
+    record { back = one ∙ ap (λ (k : ℕ). before.back + k) (sym cons) ∙ was; looks = omega (arith, way.looks, kept.0); lost = omega (arith, way.lost, kept.1); taken = kept.2 ∙ way.taken; share = kept.3 ∙ way.share }
 
 -- what holds of all elements holds of the first, and of those behind it
 pub tail_all : (P : Node → Type 0) (node : Node) (old rest : List Node) → old ≡ node ∷ rest → All P old → P node × All P rest

@@ -1,0 +1,6 @@
+use Rattle.std.proofs.Common.{arith}
+use Rattle.message_pool.proofs.Keeps.{lends}
+use Rattle.message_pool.proofs.steps.lend.Goals as goal
+
+pub split_seat-requires : goal.split_seat-requires
+split_seat-requires c = (c.requires.0, omega (arith, c.requires.1.0), lends _ _)
