@@ -92,7 +92,10 @@ impl<'a, R: Wait, G: Gate, C: Clock> Dispatcher for ClockPlayer<'a, R, G, C> {
         let p = m.as_post();
         let at = self.place.moment_for(self.timer, &p, now);
         self.nudged = self.nudged.wrapping_add(1);
-        did(self.place.deliver_and_ring(&mut self.parts, own, &p, at, self.timer))
+        did(
+            self.place
+                .deliver_and_ring(&mut self.parts, own, &p, at, self.timer),
+        )
     }
 
     fn handle(&mut self, own: &mut Own, m: &Message<PoolClaim>, now: u64) -> Did {

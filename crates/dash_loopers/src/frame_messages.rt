@@ -126,7 +126,7 @@ impl<'a, R: Wait> Place<'a, R> {
         ensures others { parts.new.others ≡ parts.old.others }
         ensures ran { OnOk result ((ids : List ℕ)
             × RanFrame self.now.script.now.period (phase_count self.now.script.now.edition) (U.is_moment uptime.now)
-                parts.old.frames parts.new.frames ids
+            parts.old.frames parts.new.frames ids
             × PlaysOn self.now (λ a. fold (callback_ran self.now.script.now self.now.looper now) a ids) own.old own.new parts.old parts.new) }
         ensures acts { own.new.journal.now.acts ≡ own.old.journal.now.acts }
     {

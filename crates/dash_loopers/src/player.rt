@@ -106,11 +106,17 @@ impl<'a, R: Wait, G: Gate> Dispatcher for Player<'a, R, G> {
         if !self.place.intercepts(m) {
             return Did::No;
         }
-        did(self.place.deliver(&mut self.parts, own, &m.as_post(), now, &Still { now }))
+        did(
+            self.place
+                .deliver(&mut self.parts, own, &m.as_post(), now, &Still { now }),
+        )
     }
 
     fn handle(&mut self, own: &mut Own, m: &Message<PoolClaim>, now: u64) -> Did {
-        did(self.place.deliver(&mut self.parts, own, &m.as_post(), now, &Still { now }))
+        did(
+            self.place
+                .deliver(&mut self.parts, own, &m.as_post(), now, &Still { now }),
+        )
     }
 
     ghost others = { λ d s es e acts apart meets. playing_others d.place.script.now d.place.looper d.now d.began.now.value s es e acts d.parts apart meets };

@@ -6,7 +6,8 @@ use loop_io::{OpenGate, StepClock};
 use std::test::Fail;
 
 /// One frame callback in the commit phase.
-const COMMIT: &str = "dashboard 1\nloopers 1\nthreads 1\nhandler 0 0\nvsync 16666667\nat 0\n0 frame 0 3 7 0\nend 400\n";
+const COMMIT: &str =
+    "dashboard 1\nloopers 1\nthreads 1\nhandler 0 0\nvsync 16666667\nat 0\n0 frame 0 3 7 0\nend 400\n";
 
 #[test]
 fn a_made_script_runs(rt: HostRuntime) -> Result<(), Fail> {
