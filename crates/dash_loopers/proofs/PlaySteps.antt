@@ -305,6 +305,8 @@ frame_delivered s q now is_moment m made made' parts mid parts' acts acts0 acts'
   ids = ids;
   ran = record {
     frame = ran.frame;
+    start = ran.start;
+    started = ran.started;
     framed = subst (λ (f : Pass). IsFrameBy s.period (phase_count s.edition) is_moment parts.frames f ran.frame ids) (sym frames) ran.framed;
     within = subst (λ (f : Pass). place_after 0 ran.frame ≤ length f.view.seen) (sym frames) ran.within;
     grew = subst (λ (f : Pass). IsPrefix parts.frames.view.seen f.view.seen) (sym frames) ran.grew;

@@ -1,5 +1,4 @@
 use Rattle.std.proofs.Common.{ap}
-use Rattle.dash_hall.specs.Hosts.{HostOrigin}
 use Rattle.dash_loopers.proofs.FrameSteps.{ran_more}
 use Rattle.dash_loopers.proofs.frame_run.FrameRunFrameClientHost.run.Goals as goal
 

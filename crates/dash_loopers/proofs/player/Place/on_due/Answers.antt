@@ -45,7 +45,7 @@ returns-clause-calls g c =
     untold_hosted o o' c.args.own.now.poster.now h.poster.now k.poster.now k.pass.now c.on_due.ensures.origin c.on_due.ensures.ready c.host-host.ensures.began.0 c.host-host.ensures.poster.1 c.on_due.ensures.sends
 
 pub returns-clause-asks : goal.returns-clause-asks
-returns-clause-asks g c = ap asks_in (due_records c.args.parts.now.frames c.on_due.new.pass (λ n. n == nanos_of c.host-host.result.now) c.args.phase c.on_due.result c.on_due.ensures.due)
+returns-clause-asks g c = ap asks_in (due_records c.args.parts.now.frames c.on_due.new.pass (λ n. n == nanos_of c.host-host.result.uptime.now.now) c.args.phase c.on_due.result c.on_due.ensures.due)
 
 pub returns-clause-clocked : goal.returns-clause-clocked
 returns-clause-clocked g c =

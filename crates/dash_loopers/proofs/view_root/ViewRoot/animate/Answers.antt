@@ -2,7 +2,6 @@ use Rattle.std.proofs.Common.{sym, ◌∙◌, ap}
 use Rattle.std.proofs.lemmas.Bool.{not-false, not-true}
 use Rattle.std.proofs.lemmas.Option.{slice_get_within}
 use Rattle.std.proofs.lemmas.Result.{on_ok_weaker}
-use Rattle.dash_hall.specs.Hosts.{HostOrigin}
 use Rattle.dash_loopers.specs.Played.{calls_of}
 use Rattle.dash_loopers.proofs.ViewSteps.{animates_none, animates_last, animates_on}
 use Rattle.dash_loopers.proofs.view_root.ViewRoot.animate.Goals as goal

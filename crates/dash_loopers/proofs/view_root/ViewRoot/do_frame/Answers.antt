@@ -1,5 +1,4 @@
 use Rattle.std.proofs.Common.{rules, ap, ◌∙◌, ◌<◌, arith}
-use Rattle.dash_hall.specs.Hosts.{HostOrigin}
 use Rattle.dash_loopers.specs.Players.{FrameOwner}
 use Rattle.dash_loopers.proofs.FrameSteps.{frame_shown}
 use Rattle.dash_loopers.proofs.view_root.ViewRoot.do_frame.Goals as goal

@@ -1,6 +1,5 @@
 use Rattle.std.proofs.Common.{ap}
 use Rattle.std.proofs.lemmas.Result.{on_ok_weaker}
-use Rattle.dash_hall.specs.Hosts.{HostOrigin}
 use Rattle.dash_loopers.proofs.ViewSteps.{frame_placed}
 use Rattle.dash_loopers.proofs.view_root.ViewRoot.post.Goals as goal
 

@@ -1,6 +1,5 @@
 use Rattle.std.proofs.Common.{sym, ◌∙◌, ap}
 use Rattle.std.proofs.lemmas.Result.{on_ok_weaker}
-use Rattle.dash_hall.specs.Hosts.{HostOrigin}
 use Rattle.dash_loopers.specs.Played.{calls_of}
 use Rattle.dash_loopers.proofs.ViewSteps.{requested_anew}
 use Rattle.dash_loopers.proofs.view_root.ViewRoot.request_traversal.Goals as goal
