@@ -1,5 +1,5 @@
 -- The frame callbacks that a thread posts and removes.
-use Rattle.std.proofs.Common.{◌≡◌, ℕ, ◌<◌, true, List, [], ◌∷◌, ◌++◌, map, length, None, refl, sym, ap, ◌∙◌, subst}
+use Rattle.std.proofs.Common.{◌≡◌, ℕ, ◌<◌, List, [], ◌∷◌, ◌++◌, length, None, sym, ap, ◌∙◌, subst}
 use Rattle.std.proofs.lemmas.List.Elements.{filter_map-append}
 use Rattle.std.specs.Prelude.{Result, Ok, Err, OnOk, slice_index_or}
 use Rattle.message_pool.specs.Passes.{Tally}
@@ -12,7 +12,7 @@ use Rattle.choreographer.specs.Known.{Known as Pass, IsTurn}
 use Rattle.choreographer.proofs.Recorded.{turn_records}
 use Rattle.run_model.specs.Moments.{in_lockstep}
 use Rattle.run_model.specs.Planned.{Timed}
-use Rattle.run_model.specs.FrameAsks.{FrameAsk, Posts, Removes, Runs, asked_in, asks_in, as_told, lines_ask}
+use Rattle.run_model.specs.FrameAsks.{Removes, asked_in, asks_in, lines_ask}
 use Rattle.dash_hall.specs.Growth.{GoesOn}
 use Rattle.dash_hall.specs.Hosts.{HostOrigin, IsHost, sends_by, PlacesBy, PostsFrame, asks_of, AsksFor}
 use Rattle.dash_threads.specs.Threads.{HasAsked}
