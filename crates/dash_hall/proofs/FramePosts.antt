@@ -32,7 +32,7 @@ use Rattle.choreographer.proofs.Recorded.{turn_records}
 use Rattle.run_model.specs.Asks.{plain, token_in, entries_by}
 use Rattle.run_model.specs.Planned.{frame_due}
 use Rattle.run_model.specs.FrameRuns.{nanos_of}
-use Rattle.run_model.specs.FrameAsks.{Posts, asked_in, asks_in}
+use Rattle.run_model.specs.FrameAsks.{FrameAsk, Posts, Removes, Runs, asked_in, asks_in, as_told}
 use Rattle.loop_model.proofs.Options.{none_is}
 use Rattle.dash_hall.specs.Growth.{own, GoesOn, Makes}
 use Rattle.dash_hall.specs.Hosts.{is_sending, not_sent, sent_as, told_by, sends_by, AsksFor, PlacesBy, PostsFrame}
@@ -233,3 +233,11 @@ posts_frame_by h u phase id delay p q a b f g goes (placed.Sent, is, (x, y, now,
 posts_frame_by h u phase id delay p q a b f g goes (placed.Refused, is, (x, y, now, t, moment, (sch, post, sent))) =
     for_later h u phase id delay p q a b f g x y now host.Refused goes t moment post (if_later _ _ _ _ sch) refused sent
 posts_frame_by h u phase id delay p q a b f g goes (placed.NoMemory, is, more) = absurd is
+
+-- ---- what is told in lockstep is all that was asked for
+
+pub told_whole : (xs : List FrameAsk) → map (as_told true) xs ≡ xs
+told_whole [] = refl
+told_whole (Posts phase due id token ∷ xs) = ap (λ (l : List FrameAsk). Posts phase due id token ∷ l) (told_whole xs)
+told_whole (Removes phase id token ∷ xs) = ap (λ (l : List FrameAsk). Removes phase id token ∷ l) (told_whole xs)
+told_whole (Runs start ∷ xs) = ap (λ (l : List FrameAsk). Runs start ∷ l) (told_whole xs)

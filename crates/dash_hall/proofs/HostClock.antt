@@ -1,5 +1,5 @@
 -- A host's calls by a clock: their moments are the host's, or the queue's time.
-use Rattle.std.proofs.Common.{◌≡◌, ℕ, Bool, true, false, List, [], ◌∷◌, ◌++◌, Option, Some, refl, sym, ap, ◌∙◌, subst, append_assoc}
+use Rattle.std.proofs.Common.{◌≡◌, ℕ, false, List, [], ◌∷◌, ◌++◌, Option, Some, refl, sym, ap, ◌∙◌, subst, append_assoc}
 use Rattle.std.specs.Prelude.{◌==◌, Result, Ok, Err, IfOk, OnOk, OnErr}
 use Rattle.std.specs.List.{AllByRecursion}
 use Rattle.std.proofs.lemmas.List.{append-nil, append_cancel_left}
@@ -101,7 +101,7 @@ pub begins_by_clock : (u : ℕ) (p q : Sender) → p ≡ q → AddsAt u p q
 begins_by_clock u p q same = λ m free mode moment. adds_none m p q (ap (λ (z : Sender). z.view.seen) (sym same))
 
 -- what a host added that was made of this poster at this moment
-pub adds_hosted : (o o' : HostOrigin) (u : ℕ) (p q : Sender) (b : Tally) → o' ≡ o → IsHost o' q b → o.poster ≡ p → o.now ≡ u → AddsAt u p q
+pub adds_hosted : {U : Type 0} (o o' : HostOrigin U) (u : ℕ) (p q : Sender) (b : Tally) → o' ≡ o → IsHost o' q b → o.poster ≡ p → o.now ≡ u → AddsAt u p q
 adds_hosted o o' u p q b same is began at =
-    let here : AddsAt o.now o.poster q = subst (λ (z : HostOrigin). AddsAt z.now z.poster q) same is.clocked in
+    let here : AddsAt o.now o.poster q = subst (λ z. AddsAt z.now z.poster q) same is.clocked in
     subst (λ (n : ℕ). AddsAt n p q) at (subst (λ (z : Sender). AddsAt o.now z q) began here)

@@ -10,3 +10,4 @@ pub mod Hearing
 pub mod FramePosts
 pub mod Clocking
 pub mod HostClock
+pub mod Shown

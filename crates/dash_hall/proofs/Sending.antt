@@ -31,7 +31,7 @@ use Rattle.dash_hall.proofs.Calling.{sends, same_home}
 use Rattle.dash_hall.proofs.HostClock.{adds_then, sent_adds, in_mode_then}
 
 -- a host whose poster and pass went on is one still, where what the poster called was at the host's moment
-pub hosted : (o : HostOrigin) (p q : Sender) (a b : Tally) → IsHost o p a → GoesOn p q a b → AddsAt o.now p q → IsHost o q b
+pub hosted : {U : Type 0} (o : HostOrigin U) (p q : Sender) (a b : Tally) → IsHost o p a → GoesOn p q a b → AddsAt o.now p q → IsHost o q b
 hosted o p q a b h g adds = record {
   of_queue = (g.table ∙ h.of_queue.0, g.constants ∙ h.of_queue.1);
   of_pool = g.home ∙ h.of_pool;
@@ -68,7 +68,7 @@ told id home m p q a b NoRoom is (claim, none, o) =
     ap (map (λ (x : Entry). told_by id x.call x.reply)) same ∙ sym (append-nil (sends_by id p))
 
 -- what a host's sending leaves
-pub sends_on : (o : HostOrigin) (h : Handler) (v w : Way) (what arg when : ℕ) (r : Sent) → IsHost o v.poster.now v.pass.now → IsReady v → IsReady w → IsSameWay v w → Sends (record (message_by h what arg None when) { asynchronous = true }) v w r
+pub sends_on : {U : Type 0} (o : HostOrigin U) (h : Handler) (v w : Way) (what arg when : ℕ) (r : Sent) → IsHost o v.poster.now v.pass.now → IsReady v → IsReady w → IsSameWay v w → Sends (record (message_by h what arg None when) { asynchronous = true }) v w r
     → IsHost o w.poster.now w.pass.now × (sends_by h.id w.poster.now ≡ sends_by h.id v.poster.now ++ sent_by what arg when (answer_by r))
 sends_on o h v w what arg when r is ready ready' same sent =
     let m = record (message_by h what arg None when) { asynchronous = true } in

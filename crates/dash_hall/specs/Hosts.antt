@@ -23,8 +23,8 @@ use Rattle.dash_hall.specs.declared.host.Host.{Host}
 use Rattle.dash_hall.specs.Growth.{own, GoesOn, Makes}
 use Rattle.dash_hall.specs.ByClock.{AddsAt}
 
--- what a host keeps through all its calls: its queue and pool, its poster and its pass by their references, what these were when it was made, and its handler's number and moment
-pub record HostOrigin : Type 0 where
+-- what a host keeps through all its calls: its queue and pool, its poster and its pass by their references, what these were when it was made, and its handler's number, its moment and its uptime
+pub record HostOrigin (U : Type 0) : Type 0 where
   pub queue : Shared TableId
   pub pool : TableId
   pub poster_name : ℕ
@@ -33,9 +33,10 @@ pub record HostOrigin : Type 0 where
   pub pass : Tally
   pub handler : ℕ
   pub now : ℕ
+  pub uptime : U
 
 -- the poster is one of the queue, the pass is one of the pool, the queue's messages are the pool's, and both have gone on since the host was made; what the poster has called since, it called at the host's moment
-pub record IsHost (o : HostOrigin) (poster : Sender) (pass : Tally) : Type 0 where
+pub record IsHost {U : Type 0} (o : HostOrigin U) (poster : Sender) (pass : Tally) : Type 0 where
   pub of_queue : IsOf poster o.queue
   pub of_pool : pass.home ≡ o.pool
   pub home : o.queue.constants.home ≡ o.pool
@@ -66,28 +67,24 @@ abbrev pub sends_by : ℕ → Sender → List Sending
 sends_by handler p = map (λ (e : Entry). told_by handler e.call e.reply) (own p)
 
 -- the origin that a host has, by its parts
-abbrev pub origin_of : Shared TableId → TableId → ℕ → ℕ → Sender → Tally → ℕ → ℕ → HostOrigin
-origin_of queue pool poster_name pass_name poster pass handler now =
-    record { queue = queue; pool = pool; poster_name = poster_name; pass_name = pass_name; poster = poster; pass = pass; handler = handler; now = now }
+abbrev pub origin_of : {U : Type 0} → Shared TableId → TableId → ℕ → ℕ → Sender → Tally → ℕ → ℕ → U → HostOrigin U
+origin_of queue pool poster_name pass_name poster pass handler now uptime =
+    record { queue = queue; pool = pool; poster_name = poster_name; pass_name = pass_name; poster = poster; pass = pass; handler = handler; now = now; uptime = uptime }
 
 -- the origin of a host
-abbrev pub origin_now : {R : Type 0} → Host R → HostOrigin
-origin_now h = origin_of h.queue.now h.pool.now h.poster.ghost_name h.pass.ghost_name h.began.now.value h.pass_began.now.value h.handler.id h.now
+abbrev pub origin_now : {R U : Type 0} → Host R U → HostOrigin U
+origin_now h = origin_of h.queue.now h.pool.now h.poster.ghost_name h.pass.ghost_name h.began.now.value h.pass_began.now.value h.handler.id h.now h.uptime.now
 
 -- the host's poster and pass are those of its origin, and have gone on
-abbrev pub IsHostNow : {R : Type 0} → Host R → Type 0
+abbrev pub IsHostNow : {R U : Type 0} → Host R U → Type 0
 IsHostNow h = IsHost (origin_now h) h.poster.now h.pass.now
 
 -- the same host
-abbrev pub IsSameHost : {R : Type 0} → Host R → Host R → Type 0
+abbrev pub IsSameHost : {R U : Type 0} → Host R U → Host R U → Type 0
 IsSameHost before after = origin_now after ≡ origin_now before
 
--- whether it is the host's moment, in nanoseconds
-abbrev pub is_its_moment : {R : Type 0} → Host R → ℕ → Bool
-is_its_moment h n = n == nanos_of h.now
-
 -- all calls that the host's poster has made, as a choreographer is told of them
-abbrev pub sends_of : {R : Type 0} → Host R → List Sending
+abbrev pub sends_of : {R U : Type 0} → Host R U → List Sending
 sends_of h = sends_by h.handler.id h.poster.now
 
 -- a callback was placed, with memory for all that it takes

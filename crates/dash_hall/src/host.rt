@@ -7,9 +7,10 @@ ghost use Rattle.choreographer.specs.Known.{IsOf as IsFrameOf};
 ghost use Rattle.choreographer.specs.Calls.{PulsedBy, DueBy, stamp_in};
 ghost use Rattle.dash_hall.specs.Growth.{own, GoesOn, Makes, BarsOf};
 ghost use Rattle.dash_hall.specs.Kits.{frame_badge_of};
-ghost use Rattle.dash_hall.specs.Hosts.{HostOrigin, origin_now, IsHostNow, IsSameHost, is_its_moment, sends_of, IsPlaced, IsUnplaced, PlacesBy, PlacesNot};
+ghost use Rattle.dash_hall.specs.Hosts.{HostOrigin, origin_now, IsHostNow, IsSameHost, sends_of, IsPlaced, IsUnplaced, PlacesBy, PlacesNot};
 
 use crate::barriers::{post_barrier, remove_barrier};
+use crate::uptime::{Still, Uptime};
 use choreographer::{
     Choreographer, FrameHost, FramePass, HostSent, NANOS_PER_MILLI, Placed, Pulse,
 };
@@ -21,9 +22,10 @@ use std::alloc::Global;
 use std::snapshot::Snapshot;
 use std::sync::Wait;
 
-/// A sender's way to a looper's queue, by which the choreographer sends its messages, at a moment in milliseconds.
+/// A sender's way to a looper's queue, by which the choreographer sends its messages, at a moment in milliseconds, and an uptime that the
+/// choreographer reads.
 #[derive(Drop)]
-pub struct Host<'a, R: Wait> {
+pub struct Host<'a, R: Wait, U: Uptime> {
     /// What locks and waits go through.
     pub rt: &'a R,
     /// Where memory comes from.
@@ -42,25 +44,27 @@ pub struct Host<'a, R: Wait> {
     pub began: &'a Snapshot<Poster<PoolClaim>>,
     /// The pass as it was when the host was made.
     pub pass_began: &'a Snapshot<PoolPass>,
-    /// The uptime, in milliseconds.
+    /// The moment of its calls on the queue, in milliseconds.
     pub now: u64,
+    /// The uptime that the choreographer reads.
+    pub uptime: &'a U,
 }
 
-impl<'a, R: Wait> FrameHost for Host<'a, R> {
-    ghost Origin = { HostOrigin };
+impl<'a, R: Wait, U: Uptime> FrameHost for Host<'a, R, U> {
+    ghost Origin = { HostOrigin U };
 
     ghost origin = { λ h. origin_now h };
 
     ghost Ready = { λ h. IsHostNow h };
 
-    ghost is_moment = { λ h n. is_its_moment h n };
+    ghost is_moment = { λ h. U.is_moment h.uptime.now };
 
     ghost sends = { λ h. sends_of h };
 
     ghost Reads = { λ h n k. k ≡ h };
 
     fn now_nanos(&mut self) -> u64 {
-        self.now.saturating_mul(NANOS_PER_MILLI)
+        self.uptime.now_millis().saturating_mul(NANOS_PER_MILLI)
     }
 
     fn send(&mut self, what: u32, arg: u32, when: u64) -> HostSent {
@@ -81,7 +85,7 @@ impl<'a, R: Wait> FrameHost for Host<'a, R> {
     }
 }
 
-impl<'a, R: Wait> Host<'a, R> {
+impl<'a, R: Wait, U: Uptime> Host<'a, R, U> {
     /// Posts a barrier at the host's moment, and answers its token. NoMemory where it found none.
     pub fn post_barrier(&mut self) -> Result<u64, NoMemory>
         requires { IsHostNow self.old }
@@ -126,7 +130,7 @@ impl<'a, R: Wait> Host<'a, R> {
         ensures origin { IsSameHost self.old self.new }
         ensures pass { frame_badge_of pass.new ≡ frame_badge_of pass.old }
         ensures is_pulse { IsTrue (is_pulse_if_any c.now.constants.interval (stamp_in result)) }
-        ensures pulse { PulsedBy pass.old pass.new (is_its_moment self.old) (sends_of self.old) (sends_of self.new) result }
+        ensures pulse { PulsedBy pass.old pass.new (U.is_moment self.old.uptime.now) (sends_of self.old) (sends_of self.new) result }
     {
         c.on_vsync(self.rt, pass, self)
     }
@@ -139,7 +143,7 @@ impl<'a, R: Wait> Host<'a, R> {
         ensures ready { IsHostNow self.new }
         ensures origin { IsSameHost self.old self.new }
         ensures pass { frame_badge_of pass.new ≡ frame_badge_of pass.old }
-        ensures due { DueBy pass.old pass.new (is_its_moment self.old) phase result }
+        ensures due { DueBy pass.old pass.new (U.is_moment self.old.uptime.now) phase result }
         ensures seen { IsPrefix pass.old.view.seen pass.new.view.seen }
         ensures sends { sends_of self.new ≡ sends_of self.old }
     {
@@ -167,6 +171,7 @@ impl<'a, R: Wait> Host<'a, R> {
     {
         let began = Snapshot::of(&*self.poster);
         let pass_began = Snapshot::of(&*self.pass);
+        let still = Still { now: self.now };
         let mut here = Host {
             rt: self.rt,
             alloc: self.alloc,
@@ -178,6 +183,7 @@ impl<'a, R: Wait> Host<'a, R> {
             began: &began,
             pass_began: &pass_began,
             now: self.now,
+            uptime: &still,
         };
         placed(c.post_callback(self.rt, pass, &mut here, phase, id, None, delay))
     }

@@ -11,6 +11,7 @@ mod host;
 mod kit;
 mod stop;
 mod timer;
+mod uptime;
 
 pub use barriers::quit;
 pub use calls::{QueueCall, perform_by};
@@ -21,3 +22,4 @@ pub use host::Host;
 pub use kit::Kit;
 pub use stop::{Look, Stop};
 pub use timer::Timer;
+pub use uptime::{Still, Uptime};

@@ -1,8 +1,10 @@
 //! The uptime of a run by a clock.
 ghost use Rattle.std.specs.Prelude.{◌≡◌, ◌≤◌, true, IfSome};
 ghost use Rattle.loop_io.specs.Moments.{IsMoment};
+ghost use Rattle.dash_hall.specs.Uptimes.{is_shown};
 
 use crate::stop::Stop;
+use crate::uptime::Uptime;
 use loop_io::Clock;
 use std::sync::Wait;
 use std::time;
@@ -51,5 +53,13 @@ impl<'a, C: Clock> Timer<'a, C> {
             stop.wait(rt, time - now);
         }
         unreachable!()
+    }
+}
+
+impl<'a, C: Clock> Uptime for Timer<'a, C> {
+    ghost is_moment = { λ timer. is_shown (C.shows timer.clock.now) timer.start };
+
+    fn now_millis(&self) -> u64 {
+        self.clock.uptime_millis().saturating_sub(self.start)
     }
 }

@@ -25,7 +25,7 @@ use Rattle.choreographer.specs.Frame.{Batch, begin_place, ran_since, batches_sin
 use Rattle.choreographer.specs.Done.{runs, runs_of, numbers_of, AreBatches, AddsFrame, FramedBy, RecordsBy, UnlessNoMemory}
 use Rattle.choreographer.proofs.Recorded.{frame_tells}
 use Rattle.loop_model.proofs.Prefixes.{prefix_trans, prefix_length}
-use Rattle.run_model.specs.FrameRuns.{nanos_of, frame_ids, is_frame_from, is_begin, posted_id, ran_id, moment_in, frame_moments, frames_after, are_run_then, are_whole}
+use Rattle.run_model.specs.FrameRuns.{frame_ids, is_frame_from, is_begin, posted_id, ran_id, moment_in, frame_moments}
 use Rattle.run_model.proofs.FrameKeeping.{all-reverse, all-in_due_order, posted_in, posted-reverse, before_first-step, told_before, KeepsFrames-lawful}
 use Rattle.run_model.specs.FrameAsks.{Runs, asked_in, asks_in}
 use Rattle.dash_hall.specs.Hosts.{asks_of}
@@ -251,17 +251,24 @@ added_at xs ys zs more e place is long whole =
 pub turn_grew : (f g : Pass) (x y : Kept) → IsTurn f g x y → IsPrefix f.view.seen g.view.seen
 turn_grew f g x y t = prefix_trans f.view.seen x.frames.entries g.view.seen t.begins.0 (subst (IsPrefix x.frames.entries) (sym t.seen) t.grows)
 
-pub no_frame : (interval phases now : ℕ) (before after : Pass) (told : List Run) → told ≡ [] → IsPrefix before.view.seen after.view.seen → after.view.own ≡ before.view.own → RanFrame interval phases now before after (ids_of told)
-no_frame interval phases now before after told none grew own = record { frame = None; framed = λ fs begins is. (refl, ap ids_of (sym none), refl, refl); within = omega arith; grew = grew; asks = ap asks_in own ∙ sym (append-nil (asks_of before)) }
+pub no_frame : (interval phases : ℕ) (is_moment : ℕ → Bool) (before after : Pass) (told : List Run) → told ≡ [] → IsPrefix before.view.seen after.view.seen → after.view.own ≡ before.view.own → RanFrame interval phases is_moment before after (ids_of told)
+no_frame interval phases is_moment before after told none grew own = record {
+  frame = None;
+  start = 0;
+  framed = λ fs begins is. (refl, ap ids_of (sym none), refl, refl);
+  started = refl;
+  within = omega arith;
+  grew = grew;
+  asks = ap asks_in own ∙ sym (append-nil (asks_of before));
+}
 
 -- a frame that was run was asked for by its start
-frame_asks : (now : ℕ) (before after : Pass) → AddsFrame (λ n. n == nanos_of now) before after → asks_of after ≡ asks_of before ++ Runs (nanos_of now) ∷ []
-frame_asks now before after adds =
-    frame_tells asked_in (λ p n t. refl) (λ n. refl) (λ n. n == nanos_of now) before after adds ∙ ap (λ (n : ℕ). asks_of before ++ Runs n ∷ []) (eqb-true adds.1 (nanos_of now) adds.4)
+frame_asks : (is_moment : ℕ → Bool) (before after : Pass) (adds : AddsFrame is_moment before after) → asks_of after ≡ asks_of before ++ Runs adds.1 ∷ []
+frame_asks is_moment before after adds = frame_tells asked_in (λ p n t. refl) (λ n. refl) is_moment before after adds
 
--- a frame ran the callbacks that its client tells, at the host's time
-pub framed_ran : (interval phases now : ℕ) (before after : Pass) (told : List Run) (r : Framed) → 0 < phases → FramedBy phases before after (λ n. n == nanos_of now) (Some []) (Some told) r → RecordsBy (λ n. n == nanos_of now) before after r → UnlessNoMemory r (RanFrame interval phases now before after (ids_of told))
-framed_ran interval phases now before after told Done some (start, time, middle, moment, turn, (batches, told_is, long, are, (y, left, numbers, batches_are, at, near, none, settled, seen_is), turns, grew)) records =
+-- a frame ran the callbacks that its client tells, at moments of the host
+pub framed_ran : (interval phases : ℕ) (is_moment : ℕ → Bool) (before after : Pass) (told : List Run) (r : Framed) → 0 < phases → FramedBy phases before after is_moment (Some []) (Some told) r → RecordsBy is_moment before after r → UnlessNoMemory r (RanFrame interval phases is_moment before after (ids_of told))
+framed_ran interval phases is_moment before after told Done some (start, time, middle, moment, turn, (batches, told_is, long, are, (y, left, numbers, batches_are, at, near, none, settled, seen_is), turns, grew)) records =
     let same : told ≡ runs_of batches = cc (told_is) in
     let many : length batches ≡ length (batches_since (past_of y.frames)) = ap length batches_are in
     let few : 0 < length (batches_since (past_of y.frames)) = omega (arith, some, long, many) in
@@ -270,9 +277,11 @@ framed_ran interval phases now before after told Done some (start, time, middle,
     let ids : ids_of (runs_of (batches_since (past_of y.frames))) ≡ ids_of told = ap (λ (bs : List Batch). ids_of (runs_of bs)) (sym batches_are) ∙ ap ids_of (sym same) in
     let x : Kept = turn.0 in
     let began : middle.view.seen ≡ x.frames.entries ++ Begin x.stamp start time ∷ [] = turn.2.seen ∙ ap (λ (f : Frames). f.entries) turn.3.4 in
-    let taken : list_all (λ n. n == nanos_of now) (map now_of (batches_since (past_of y.frames))) ≡ true = ap (λ (bs : List Batch). list_all (λ n. n == nanos_of now) (map now_of bs)) (sym batches_are) ∙ taken_then (λ n. n == nanos_of now) 0 batches are in
+    let taken : list_all is_moment (map now_of (batches_since (past_of y.frames))) ≡ true = ap (λ (bs : List Batch). list_all is_moment (map now_of bs)) (sym batches_are) ∙ taken_then is_moment 0 batches are in
     record {
       frame = Some place;
+      start = records.1;
+      started = records.4;
       framed = λ fs begins is. (
           let whole : y.frames.entries ++ begins.0 ≡ fs = ap (λ l. l ++ begins.0) seen_is ∙ begins.1 in
           let law = subst (λ (l : List FrameEntry). lawful interval phases l ≡ true) (sym whole) is in
@@ -280,19 +289,19 @@ framed_ran interval phases now before after told Done some (start, time, middle,
           let stood = added_at x.frames.entries middle.view.seen (y.frames.entries ++ begins.0) (grew.0 ++ begins.0) (Begin x.stamp start time) place began at
           (sym (append_assoc middle.view.seen grew.0 begins.0) ∙ ap (λ l. l ++ begins.0) (grew.1 ∙ sym seen_is)) in
           let moments = frame_then interval phases x.stamp start time y.frames.entries begins.0 law none settled few stood in
-          let all = ap (list_all (λ n. n == nanos_of now)) moments ∙ and_from (start == nanos_of now) _ moment taken in
+          let all = ap (list_all is_moment) moments ∙ and_from (is_moment start) _ moment taken in
           let as_many = ap length moments ∙ moments_count phases start batches (batches_since (past_of y.frames)) long batches_are in
           subst (λ (l : List FrameEntry).
-          (is_frame_from l first (Some place) ≡ true) × (frame_ids l (Some place) ≡ ids_of told) × (are_run_then l (frames_after [] (Some place) now) ≡ true) × (are_whole phases l (frames_after [] (Some place) now) ≡ true)) whole
-          (ran.0, ran.1 ∙ ids, and_from _ true all refl, and_from _ true (eq-eqb _ (phases + 1) as_many) refl));
+          (is_frame_from l first (Some place) ≡ true) × (frame_ids l (Some place) ≡ ids_of told) × (list_all is_moment (frame_moments l place) ≡ true) × ((length (frame_moments l place) == phases + 1) ≡ true)) whole
+          (ran.0, ran.1 ∙ ids, all, eq-eqb _ (phases + 1) as_many));
       within = omega (arith, at, prefix_length middle.view.seen after.view.seen grew);
       grew = prefix_trans before.view.seen middle.view.seen after.view.seen (turn_grew before middle turn.0 turn.1 turn.2) grew;
-      asks = frame_asks now before after records;
+      asks = frame_asks is_moment before after records;
     }
-framed_ran interval phases now before after told (Elsewhere next) some (start, moment, turn, told_is) own = no_frame interval phases now before after told (let same : told ≡ [] = cc (told_is) in same) (turn_grew before after turn.0 turn.1 turn.2) own
-framed_ran interval phases now before after told Unscheduled some (start, moment, turn, told_is) own = no_frame interval phases now before after told (let same : told ≡ [] = cc (told_is) in same) (turn_grew before after turn.0 turn.1 turn.2) own
-framed_ran interval phases now before after told (Backwards last) some (start, moment, turn, told_is) own = no_frame interval phases now before after told (let same : told ≡ [] = cc (told_is) in same) (turn_grew before after turn.0 turn.1 turn.2) own
-framed_ran interval phases now before after told NoMemory some t records = tt
+framed_ran interval phases is_moment before after told (Elsewhere next) some (start, moment, turn, told_is) own = no_frame interval phases is_moment before after told (let same : told ≡ [] = cc (told_is) in same) (turn_grew before after turn.0 turn.1 turn.2) own
+framed_ran interval phases is_moment before after told Unscheduled some (start, moment, turn, told_is) own = no_frame interval phases is_moment before after told (let same : told ≡ [] = cc (told_is) in same) (turn_grew before after turn.0 turn.1 turn.2) own
+framed_ran interval phases is_moment before after told (Backwards last) some (start, moment, turn, told_is) own = no_frame interval phases is_moment before after told (let same : told ≡ [] = cc (told_is) in same) (turn_grew before after turn.0 turn.1 turn.2) own
+framed_ran interval phases is_moment before after told NoMemory some t records = tt
 
 -- what holds where memory was not wanting
 pub not_wanting : (r : Framed) (P : Type 0) → (r ≡ NoMemory → ⊥) → UnlessNoMemory r P → P

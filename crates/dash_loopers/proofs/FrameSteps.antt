@@ -1,6 +1,6 @@
 -- What the steps of a frame show, one after another.
 use Rattle.std.proofs.Common.{◌≡◌, ℕ, ◌<◌, List, [], ◌∷◌, ◌++◌, Some, Result, Ok, Err, OnOk, sym, ap, ◌∙◌, subst}
-use Rattle.std.specs.Prelude.{◌==◌, fold}
+use Rattle.std.specs.Prelude.{Bool, fold}
 use Rattle.std.proofs.lemmas.List.{map-append}
 use Rattle.std.proofs.lemmas.List.Sums.{fold-append}
 use Rattle.frame_phases.specs.declared.entry.Callback.{Callback}
@@ -12,7 +12,6 @@ use Rattle.choreographer.specs.Client.{Run}
 use Rattle.choreographer.specs.Done.{FramedBy, RecordsBy, UnlessNoMemory}
 use Rattle.dash_script.specs.declared.script.Script.{Script}
 use Rattle.run_model.specs.Loopers.{Looper, callback_ran}
-use Rattle.run_model.specs.FrameRuns.{nanos_of}
 use Rattle.dash_loopers.specs.declared.view_root.ViewRoot.{ViewRoot}
 use Rattle.dash_loopers.specs.Played.{RanFrame, calls_of, ids_of, IsShown, Shows}
 use Rattle.dash_loopers.proofs.FrameIds.{framed_ran, not_wanting}
@@ -38,16 +37,16 @@ abbrev pub FrameShows : ℕ → List ℕ → Sender → ViewRoot → Sender → 
 FrameShows now ids p root p' root' = (s : Script) (q : ℕ) → Shows s q (λ a. fold (callback_ran s q now) a ids) (calls_of p) root (calls_of p') root'
 
 -- a frame's callbacks ran, and show what they do
-pub frame_shown : {E : Type 0} (r : Result Unit E) (how : Framed) (interval phases now now' : ℕ) (before after : Pass) (first told : List Run) (p began p' : Sender) (root began_root root' given : ViewRoot)
-    → OnOk r (how ≡ NoMemory → ⊥) → 0 < phases → first ≡ [] → FramedBy phases before after (λ n. n == nanos_of now) (Some first) (Some told) how → RecordsBy (λ n. n == nanos_of now) before after how → UnlessNoMemory how (FrameShows now' (ids_of told) began began_root p' root')
+pub frame_shown : {E : Type 0} (r : Result Unit E) (how : Framed) (interval phases now now' : ℕ) (is_moment : ℕ → Bool) (before after : Pass) (first told : List Run) (p began p' : Sender) (root began_root root' given : ViewRoot)
+    → OnOk r (how ≡ NoMemory → ⊥) → 0 < phases → first ≡ [] → FramedBy phases before after is_moment (Some first) (Some told) how → RecordsBy is_moment before after how → UnlessNoMemory how (FrameShows now' (ids_of told) began began_root p' root')
     → now' ≡ now → began ≡ p → began_root ≡ root → given ≡ root'
-    → OnOk r ((ids : List ℕ) × RanFrame interval phases now before after ids × FrameShows now ids p root p' given)
-frame_shown (Ok u) how interval phases now now' before after first told p began p' root began_root root' given had some none framed records shows e f g h =
-    let ran = not_wanting how (RanFrame interval phases now before after (ids_of told)) had (framed_ran interval phases now before after told how some (subst (λ (l : List Run). FramedBy phases before after (λ n. n == nanos_of now) (Some l) (Some told) how) none framed) records) in
+    → OnOk r ((ids : List ℕ) × RanFrame interval phases is_moment before after ids × FrameShows now ids p root p' given)
+frame_shown (Ok u) how interval phases now now' is_moment before after first told p began p' root began_root root' given had some none framed records shows e f g h =
+    let ran = not_wanting how (RanFrame interval phases is_moment before after (ids_of told)) had (framed_ran interval phases is_moment before after told how some (subst (λ (l : List Run). FramedBy phases before after is_moment (Some l) (Some told) how) none framed) records) in
     let shown = not_wanting how (FrameShows now' (ids_of told) began began_root p' root') had shows in (
       ids_of told,
       ran,
       subst (λ (v : ViewRoot). FrameShows now (ids_of told) p root p' v) (sym h)
           (subst (λ (v : ViewRoot). FrameShows now (ids_of told) p v p' root') g (subst (λ (z : Sender). FrameShows now (ids_of told) z began_root p' root') f (subst (λ (n : ℕ). FrameShows n (ids_of told) began began_root p' root') e shown))),
     )
-frame_shown (Err x) how interval phases now now' before after first told p began p' root began_root root' given had some none framed records shows e f g h = tt
+frame_shown (Err x) how interval phases now now' is_moment before after first told p began p' root began_root root' given had some none framed records shows e f g h = tt

@@ -1,5 +1,5 @@
 -- In a loop by a clock a looper goes on from where it stood: what keeps that it has.
-use Rattle.std.proofs.Common.{◌≡◌, ℕ, true, false, List, [], ◌∷◌, ◌++◌, Some, None, refl, sym, ap, ◌∙◌, subst, arith}
+use Rattle.std.proofs.Common.{◌≡◌, ℕ, Bool, true, false, List, [], ◌∷◌, ◌++◌, Some, None, refl, sym, ap, ◌∙◌, subst, arith}
 use Rattle.std.specs.Prelude.{◌==◌, ◌||◌, is_some, Result, Ok, Err, is_ok, OnOk}
 use Rattle.std.specs.Option.{option_map_or}
 use Rattle.loop_model.specs.declared.post.Post.{Post as PostData}
@@ -66,31 +66,31 @@ module _ (s : Script) (q : ℕ) (began : StageLooper) where
       pulsed_by now before.poster.sender after.poster.sender before.poster.view.seen after.poster.view.seen lent.more before.journal.acts after.journal.acts parts parts' lent.same.sender lent.seen p meets
 
   -- a message that was taken is dispatched, and delivered at a moment that was read
-  dispatched_by : (k k' n time u : ℕ) (m : PostData) (past es es' more : List Entry) (e : Entry) (acts acts' : List Act) (route : Route) (parts parts' : Parts) → k' ≡ k → es ≡ past ++ e ∷ [] → es' ≡ es ++ more
-      → IsTake k time n e → post_at past n ≡ Some m → IsAtOnce q m u time → Delivers s q u m (calls_in k es) (calls_in k' es') parts parts' acts acts'
+  dispatched_by : (k k' n time u : ℕ) (is_moment : ℕ → Bool) (m : PostData) (past es es' more : List Entry) (e : Entry) (acts acts' : List Act) (route : Route) (parts parts' : Parts) → k' ≡ k → es ≡ past ++ e ∷ [] → es' ≡ es ++ more
+      → IsTake k time n e → post_at past n ≡ Some m → IsAtOnce q m u time → Delivers s q u is_moment m (calls_in k es) (calls_in k' es') parts parts' acts acts'
       → IsPlayingBy s q began k past acts parts → IsPlayingBy s q began k' es' (acts' ++ Dispatch n time route ∷ []) parts'
-  dispatched_by k k' n time u m past es es' more e acts acts' route parts parts' same seen saw take post once d meets =
+  dispatched_by k k' n time u is_moment m past es es' more e acts acts' route parts parts' same seen saw take post once d meets =
       let whole : es' ≡ (past ++ e ∷ []) ++ more = saw ∙ ap (λ (l : List Entry). l ++ more) seen in
-      let here : Delivers s q u m (calls_in k (past ++ e ∷ [])) (calls_in k ((past ++ e ∷ []) ++ more)) parts parts' acts acts' =
-      subst (λ l. Delivers s q u m l (calls_in k ((past ++ e ∷ []) ++ more)) parts parts' acts acts') (ap (calls_in k) seen) (subst (λ l. Delivers s q u m (calls_in k es) l parts parts' acts acts') (λ i. calls_in (same i) (whole i)) d) in
+      let here : Delivers s q u is_moment m (calls_in k (past ++ e ∷ [])) (calls_in k ((past ++ e ∷ []) ++ more)) parts parts' acts acts' =
+      subst (λ l. Delivers s q u is_moment m l (calls_in k ((past ++ e ∷ []) ++ more)) parts parts' acts acts') (ap (calls_in k) seen) (subst (λ l. Delivers s q u is_moment m (calls_in k es) l parts parts' acts acts') (λ i. calls_in (same i) (whole i)) d) in
       subst (λ (j : ℕ). IsPlayingBy s q began j es' (acts' ++ Dispatch n time route ∷ []) parts') (sym same)
       (subst (λ (l : List Entry). IsPlayingBy s q began k l (acts' ++ Dispatch n time route ∷ []) parts') (sym whole) (λ text did a come.
       (let c = meets text did a come in
       let frame = here.ran.frame in
       let alike = delivered_alike s q u time here.ids m (taken q n time u frame c.did) (taken q n time time frame c.state) once (taken_alike q n time u time frame c.did c.state c.alike) in
       record {
-        did = by_reading s q k n time u m past more e take acts acts' parts parts' here c.did c.state;
-        state = by_dispatch s q k n time u m past more e take acts acts' parts parts' here c.did c.state;
+        did = by_reading s q k n time u is_moment m past more e take acts acts' parts parts' here c.did c.state;
+        state = by_dispatch s q k n time u is_moment m past more e take acts acts' parts parts' here c.did c.state;
         alike = cleared _ _ alike;
-        stands = stands_dispatch s q k n time u m past more e take acts acts' parts parts' here c.did c.state route text post (c.alike.painted ∙ c.stands.settled) alike.painted c.stands;
+        stands = stands_dispatch s q k n time u is_moment m past more e take acts acts' parts parts' here c.did c.state route (λ is. absurd (let wrong : false ≡ true = is in cc)) text post (c.alike.painted ∙ c.stands.settled) alike.painted c.stands;
       })))
 
-  pub by_delivery : (time u : ℕ) (node : Node) (route : Route) (before after : Holding) (parts parts' : Parts) → IsLent before after
+  pub by_delivery : (time u : ℕ) (is_moment : ℕ → Bool) (node : Node) (route : Route) (before after : Holding) (parts parts' : Parts) → IsLent before after
       → HasTaken (λ k es acts. IsPlayingBy s q began k es acts parts) before node time → IsAtOnce q (post_of node.item) u time
-      → Delivers s q u (post_of node.item) (calls_of before.poster) (calls_of after.poster) parts parts' before.journal.acts after.journal.acts
+      → Delivers s q u is_moment (post_of node.item) (calls_of before.poster) (calls_of after.poster) parts parts' before.journal.acts after.journal.acts
       → PassesWith (λ k es acts. IsPlayingBy s q began k es acts parts') after node time route
-  by_delivery time u node route before after parts parts' lent t once d =
-      dispatched_by before.poster.sender after.poster.sender (number_in node.item) time u (post_of node.item) t.past before.poster.view.seen after.poster.view.seen lent.more t.take before.journal.acts after.journal.acts route parts parts' lent.same.sender t.seen lent.seen t.is_take t.post once d t.passes
+  by_delivery time u is_moment node route before after parts parts' lent t once d =
+      dispatched_by before.poster.sender after.poster.sender (number_in node.item) time u is_moment (post_of node.item) t.past before.poster.view.seen after.poster.view.seen lent.more t.take before.journal.acts after.journal.acts route parts parts' lent.same.sender t.seen lent.seen t.is_take t.post once d t.passes
 
   -- a pulse was delivered, or none came, unless memory was wanting
   pub pulse_or_none_by : (now : ℕ) (d : Did) (before after : Holding) (parts parts' : Parts) → IsLent before after → Unless d (Pulses s q now (calls_of before.poster) (calls_of after.poster) parts parts' before.journal.acts after.journal.acts)
@@ -100,15 +100,15 @@ module _ (s : Script) (q : ℕ) (began : StageLooper) where
   pulse_or_none_by now NoMemory before after parts parts' lent p meets = tt
 
   -- a message was dispatched, unless memory was wanting
-  pub dispatches_well_by : {A E : Type 0} (time u : ℕ) (node : Node) (route : Route) (m : PostData) (r : Result A E) (d : Did) (before after : Holding) (parts parts' : Parts) → m ≡ post_of node.item → IsAtOnce q m u time → IsLent before after
+  pub dispatches_well_by : {A E : Type 0} (time u : ℕ) (is_moment : ℕ → Bool) (node : Node) (route : Route) (m : PostData) (r : Result A E) (d : Did) (before after : Holding) (parts parts' : Parts) → m ≡ post_of node.item → IsAtOnce q m u time → IsLent before after
       → HasTaken (λ k es acts. IsPlayingBy s q began k es acts parts) before node time
-      → OnOk r (Delivers s q u m (calls_of before.poster) (calls_of after.poster) parts parts' before.journal.acts after.journal.acts)
+      → OnOk r (Delivers s q u is_moment m (calls_of before.poster) (calls_of after.poster) parts parts' before.journal.acts after.journal.acts)
       → (d ≡ No → ⊥) → (d ≡ Yes → is_ok r ≡ true)
       → Unless d (PassesWith (λ k es acts. IsPlayingBy s q began k es acts parts') after node time route)
-  dispatches_well_by time u node route m r d before after parts parts' is once lent t done never well = did_well r d _ never well (by_end r done)
+  dispatches_well_by time u is_moment node route m r d before after parts parts' is once lent t done never well = did_well r d _ never well (by_end r done)
     where
-      by_end : {A E : Type 0} (r : Result A E) → OnOk r (Delivers s q u m (calls_of before.poster) (calls_of after.poster) parts parts' before.journal.acts after.journal.acts) → OnOk r (PassesWith (λ k es acts. IsPlayingBy s q began k es acts parts') after node time route)
-      by_end (Ok x) h = by_delivery time u node route before after parts parts' lent t (subst (λ (p : PostData). IsAtOnce q p u time) is once) (subst (λ (p : PostData). Delivers s q u p (calls_of before.poster) (calls_of after.poster) parts parts' before.journal.acts after.journal.acts) is h)
+      by_end : {A E : Type 0} (r : Result A E) → OnOk r (Delivers s q u is_moment m (calls_of before.poster) (calls_of after.poster) parts parts' before.journal.acts after.journal.acts) → OnOk r (PassesWith (λ k es acts. IsPlayingBy s q began k es acts parts') after node time route)
+      by_end (Ok x) h = by_delivery time u is_moment node route before after parts parts' lent t (subst (λ (p : PostData). IsAtOnce q p u time) is once) (subst (λ (p : PostData). Delivers s q u is_moment p (calls_of before.poster) (calls_of after.poster) parts parts' before.journal.acts after.journal.acts) is h)
       by_end (Err e) h = tt
 
 -- ---- what a message tells by itself

@@ -19,7 +19,6 @@ use Rattle.choreographer.specs.Known.{Known as Pass}
 use Rattle.choreographer.specs.Calls.{PulsedBy}
 use Rattle.run_model.specs.Moments.{Mode, has_moment}
 use Rattle.run_model.specs.Senders.{frame_handler}
-use Rattle.run_model.specs.FrameRuns.{nanos_of}
 use Rattle.dash_hall.specs.Growth.{own, GoesOn, Makes}
 use Rattle.dash_hall.specs.Hosts.{HostOrigin, IsHost, sends_by}
 use Rattle.dash_hall.specs.ByClock.{AddsByClock, AddsAt}
@@ -95,17 +94,17 @@ frame_untimed h w host.Refused p q a b goes sends = λ m.
 frame_untimed h w host.NoMemory p q a b goes sends = λ m. adds_nothing m p q a b goes (told_none h p q a b goes (sends ∙ append-nil (sends_by h p)))
 
 -- a pulse sends its frame message, or nothing
-pulse_untimed : (h n : ℕ) (p q : Sender) (a b : Tally) (f g : Pass) (r : Option Pulse) → GoesOn p q a b → PulsedBy f g (λ k. k == nanos_of n) (sends_by h p) (sends_by h q) r → AddsUntimed p q
-pulse_untimed h n p q a b f g None goes (x, y, k, t, moment, (none, left, sends)) = λ m. adds_nothing m p q a b goes (told_none h p q a b goes sends)
-pulse_untimed h n p q a b f g (Some pulse) goes (x, y, k, t, moment, (some, left, sends)) = frame_untimed h (pulse.stamp / 1000000) pulse.sent p q a b goes sends
+pulse_untimed : (h : ℕ) (is_moment : ℕ → Bool) (p q : Sender) (a b : Tally) (f g : Pass) (r : Option Pulse) → GoesOn p q a b → PulsedBy f g is_moment (sends_by h p) (sends_by h q) r → AddsUntimed p q
+pulse_untimed h is_moment p q a b f g None goes (x, y, k, t, moment, (none, left, sends)) = λ m. adds_nothing m p q a b goes (told_none h p q a b goes sends)
+pulse_untimed h is_moment p q a b f g (Some pulse) goes (x, y, k, t, moment, (some, left, sends)) = frame_untimed h (pulse.stamp / 1000000) pulse.sent p q a b goes sends
 
 -- the same by a host that was made of the looper's poster
-pub pulse_untimed_hosted : (o o' : HostOrigin) (p p0 q : Sender) (b : Tally) (f g : Pass) (r : Option Pulse) → o' ≡ o → IsHost o' q b → o.poster ≡ p → p0 ≡ p
-    → PulsedBy f g (λ k. k == nanos_of o.now) (sends_by o.handler p0) (sends_by o'.handler q) r → AddsUntimed p q
-pulse_untimed_hosted o o' p p0 q b f g r same is began at pulse =
-    pulse_untimed o.handler o.now p q o.pass b f g r (hosted_on o o' p q b same is began)
-    (subst (λ (z : Sender). PulsedBy f g (λ k. k == nanos_of o.now) (sends_by o.handler z) (sends_by o.handler q) r) at
-    (subst (λ (z : HostOrigin). PulsedBy f g (λ k. k == nanos_of o.now) (sends_by o.handler p0) (sends_by z.handler q) r) same pulse))
+pub pulse_untimed_hosted : {U : Type 0} (o o' : HostOrigin U) (is_moment : ℕ → Bool) (p p0 q : Sender) (b : Tally) (f g : Pass) (r : Option Pulse) → o' ≡ o → IsHost o' q b → o.poster ≡ p → p0 ≡ p
+    → PulsedBy f g is_moment (sends_by o.handler p0) (sends_by o'.handler q) r → AddsUntimed p q
+pulse_untimed_hosted o o' is_moment p p0 q b f g r same is began at pulse =
+    pulse_untimed o.handler is_moment p q o.pass b f g r (hosted_on o o' p q b same is began)
+    (subst (λ (z : Sender). PulsedBy f g is_moment (sends_by o.handler z) (sends_by o.handler q) r) at
+    (subst (λ z. PulsedBy f g is_moment (sends_by o.handler p0) (sends_by z.handler q) r) same pulse))
 
 -- ---- a message
 

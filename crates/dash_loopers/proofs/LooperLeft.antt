@@ -95,14 +95,14 @@ left_by_clock s hall l parts j kit is_hall is e posters frames journal did a com
   asked = λ p. ap (λ (ps : List Pass). map (as_told false) (asks_of (slice_index_or ps 1 p))) frames ∙ (ap (map (as_told false)) st.played.shown.asked ∙ alike.posted);
   turns = λ p. ap (λ (ps : List Pass). (slice_index_or ps 1 p).view.turns) frames
       ∙ (st.played.shown.turns ∙ (sym (length-map did.posted (as_told false)) ∙ (ap length alike.posted ∙ length-map a.posted (as_told false))));
-  ran = λ p. ap (λ (ps : List Pass). map (as_told false) (asks_of (slice_index_or ps 0 p))) frames ∙ (ap (map (as_told false)) st.ran ∙ runs_alike did.frames a.frames alike.frames);
+  ran = λ p. ap (λ (ps : List Pass). map (as_told false) (asks_of (slice_index_or ps 0 p))) frames ∙ (st.ran ∙ runs_alike did.frames a.frames alike.frames);
 }
   where
     alike : AreAlike did a
     alike = come.0
 
-    st : StandsBy s l.number l.sender l.looper.held.poster.view.seen l.looper.held.journal.acts parts did a
-    st = subst (λ (o : Option Parts). IsSomeAnd o (λ ps. StandsBy s l.number l.sender l.looper.held.poster.view.seen l.looper.held.journal.acts ps did a)) e come.1
+    st : StandsBy false s l.number l.sender l.looper.held.poster.view.seen l.looper.held.journal.acts parts did a
+    st = subst (λ (o : Option Parts). IsSomeAnd o (λ ps. StandsBy false s l.number l.sender l.looper.held.poster.view.seen l.looper.held.journal.acts ps did a)) e come.1
 
     many : l.number ≤ length parts.others.items
     many = others_many s hall l.number (looper_of s hall l is_hall is) parts (parts_of s hall l parts is e)

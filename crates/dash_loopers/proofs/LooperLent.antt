@@ -80,10 +80,10 @@ pub grows_then : (a b c : List Act) → GrowsBy IsOfDispatcher a b → GrowsBy I
 grows_then a b c p q = (p.0 ++ q.0, behind a b c p.0 q.0 p.1 q.1, All-append IsOfDispatcher p.0 q.0 p.2 q.2)
 
 -- a host as it begins
-pub host_begins : (s : Script) (hall : Hall) (n : ℕ) (q : Shared TableId) (p a : Sender) (t u : Tally) (b c handler now : ℕ) → IsLooperOf s hall n → slice_get hall.queues.items n ≡ Some q
+pub host_begins : {U : Type 0} (s : Script) (hall : Hall) (n : ℕ) (q : Shared TableId) (p a : Sender) (t u : Tally) (b c handler now : ℕ) (uptime : U) → IsLooperOf s hall n → slice_get hall.queues.items n ≡ Some q
     → IsPlaceOf hall n (record { table = p.table; constants = p.view.constants; pool = t.home }) → a ≡ p → u ≡ t
-    → IsHost (record { queue = q; pool = hall.pool; poster_name = b; pass_name = c; poster = a; pass = u; handler = handler; now = now }) p t
-host_begins s hall n q p a t u b c handler now l at place e f = record {
+    → IsHost (record { queue = q; pool = hall.pool; poster_name = b; pass_name = c; poster = a; pass = u; handler = handler; now = now; uptime = uptime }) p t
+host_begins s hall n q p a t u b c handler now uptime l at place e f = record {
   of_queue = place.queue q at;
   of_pool = place.pool;
   home = queue_home s hall n l n q at;
@@ -92,12 +92,12 @@ host_begins s hall n q p a t u b c handler now l at place e f = record {
 }
 
 -- how a host leaves what it was made with
-pub host_leaves : (o k : HostOrigin) (p q : Sender) (t u : Tally) (j : Journal) → o.poster ≡ p → o.pass ≡ t → k ≡ o → IsHost k q u → IsLent (holding p t j) (holding q u j)
+pub host_leaves : {U : Type 0} (o k : HostOrigin U) (p q : Sender) (t u : Tally) (j : Journal) → o.poster ≡ p → o.pass ≡ t → k ≡ o → IsHost k q u → IsLent (holding p t j) (holding q u j)
 host_leaves o k p q t u j is_p is_t e h =
-    lent_on p q t u j (subst (λ (a : Sender). GoesOn a q t u) (ap (λ (x : HostOrigin). x.poster) e ∙ is_p) (subst (λ (a : Tally). GoesOn k.poster q a u) (ap (λ (x : HostOrigin). x.pass) e ∙ is_t) h.on))
+    lent_on p q t u j (subst (λ (a : Sender). GoesOn a q t u) (ap (λ x. x.poster) e ∙ is_p) (subst (λ (a : Tally). GoesOn k.poster q a u) (ap (λ x. x.pass) e ∙ is_t) h.on))
 
-pub host_rung : (o k : HostOrigin) (p q : Sender) (u : Tally) → o.poster ≡ p → k ≡ o → IsHost k q u → q.view.rung ≡ p.view.rung
-host_rung o k p q u is_p e h = h.on.rung ∙ ap (λ (a : Sender). a.view.rung) (ap (λ (x : HostOrigin). x.poster) e ∙ is_p)
+pub host_rung : {U : Type 0} (o k : HostOrigin U) (p q : Sender) (u : Tally) → o.poster ≡ p → k ≡ o → IsHost k q u → q.view.rung ≡ p.view.rung
+host_rung o k p q u is_p e h = h.on.rung ∙ ap (λ (a : Sender). a.view.rung) (ap (λ x. x.poster) e ∙ is_p)
 
 -- what always holds
 pub unless_known : (r : Did) (P : Type 0) → P → Unless r P

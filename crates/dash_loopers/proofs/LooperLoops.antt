@@ -214,15 +214,15 @@ plays_then s a b c number sender going first next = λ on text did x come. (
     (subst (λ (k : ℕ). IsSomeAnd c.parts (ComesBy s b.number k c.looper.held.poster.view.seen c.looper.held.journal.acts)) sender (next on text here.0 here.1 here.2)))
   where
     from : (o : Option Parts) → IsSomeAnd o (ComesBy s a.number a.sender b.looper.held.poster.view.seen b.looper.held.journal.acts)
-        → (did : Looper) × (x : Looper) × (AreAlike did x × IsSomeAnd o (λ parts. StandsBy s b.number b.sender b.looper.held.poster.view.seen b.looper.held.journal.acts parts did x))
+        → (did : Looper) × (x : Looper) × (AreAlike did x × IsSomeAnd o (λ parts. StandsBy false s b.number b.sender b.looper.held.poster.view.seen b.looper.held.journal.acts parts did x))
     from None h = absurd h
     from (Some parts) h = (
       h.did,
       h.state,
       (
         h.alike,
-        subst (λ (n : ℕ). StandsBy s n b.sender b.looper.held.poster.view.seen b.looper.held.journal.acts parts h.did h.state) (sym number)
-            (subst (λ (k : ℕ). StandsBy s a.number k b.looper.held.poster.view.seen b.looper.held.journal.acts parts h.did h.state) (sym sender) h.stands),
+        subst (λ (n : ℕ). StandsBy false s n b.sender b.looper.held.poster.view.seen b.looper.held.journal.acts parts h.did h.state) (sym number)
+            (subst (λ (k : ℕ). StandsBy false s a.number k b.looper.held.poster.view.seen b.looper.held.journal.acts parts h.did h.state) (sym sender) h.stands),
       ),
     )
 

@@ -253,8 +253,8 @@ playing_at_start m s l began parts same e mine = subst (λ (b : StageLooper). Is
     did = did;
     state = a;
     alike = come.0;
-    stands = subst (λ (k : ℕ). StandsBy s l.number k l.looper.held.poster.view.seen l.looper.held.journal.acts parts did a) (sym mine)
-        (subst (λ (o : Option Parts). IsSomeAnd o (λ ps. StandsBy s l.number l.sender l.looper.held.poster.view.seen l.looper.held.journal.acts ps did a)) e come.1);
+    stands = subst (λ (k : ℕ). StandsBy false s l.number k l.looper.held.poster.view.seen l.looper.held.journal.acts parts did a) (sym mine)
+        (subst (λ (o : Option Parts). IsSomeAnd o (λ ps. StandsBy false s l.number l.sender l.looper.held.poster.view.seen l.looper.held.journal.acts ps did a)) e come.1);
   };
   calls = record { more = []; seen = sym (append-nil l.looper.held.poster.view.seen); clocked = tt };
   others = untimed_same (others_in l.parts) parts.others.items (sym (ap others_in e));

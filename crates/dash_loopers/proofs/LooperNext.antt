@@ -2,7 +2,7 @@
 use Rattle.std.proofs.Common.{◌≡◌, ℕ, ◌<◌, ◌≤◌, Bool, true, false, List, length, get_or, Option, Some, None, refl, sym, ap, ◌∙◌, subst, arith}
 use Rattle.std.specs.List.{insert}
 use Rattle.std.specs.Option.{IsSomeAnd}
-use Rattle.std.specs.Prelude.{◌+◌, ◌||◌}
+use Rattle.std.specs.Prelude.{◌+◌, ◌||◌, map}
 use mathlib.Core.List.{IsPrefix}
 use Rattle.loop_model.proofs.Prefixes.{prefix_trans, prefix_length}
 use Rattle.dash_script.specs.declared.script.Script.{Script}
@@ -12,7 +12,7 @@ use Rattle.choreographer.specs.Known.{Known as Pass}
 use Rattle.choreographer.specs.Calls.{AskedBy}
 use Rattle.choreographer.proofs.Recorded.{asked_records}
 use Rattle.run_model.specs.Loopers.{Looper}
-use Rattle.run_model.specs.FrameAsks.{asks_in}
+use Rattle.run_model.specs.FrameAsks.{asks_in, as_told}
 use Rattle.run_model.specs.Moments.{Mode}
 use Rattle.dash_hall.specs.declared.hall.Hall.{Hall}
 use Rattle.dash_hall.specs.Kits.{IsHall}
@@ -55,15 +55,15 @@ played_asked s l parts g r e asked = λ going text did a come. record {
   state = a;
   alike = come.0;
   stands =
-      (let st : StandsBy s l.number l.sender l.looper.held.poster.view.seen l.looper.held.journal.acts parts did a =
-      subst (λ (o : Option Parts). IsSomeAnd o (λ ps. StandsBy s l.number l.sender l.looper.held.poster.view.seen l.looper.held.journal.acts ps did a)) e come.1 in
+      (let st : StandsBy false s l.number l.sender l.looper.held.poster.view.seen l.looper.held.journal.acts parts did a =
+      subst (λ (o : Option Parts). IsSomeAnd o (λ ps. StandsBy false s l.number l.sender l.looper.held.poster.view.seen l.looper.held.journal.acts ps did a)) e come.1 in
       let grew : IsPrefix parts.frames.view.seen g.view.seen = turn_grew parts.frames g asked.0 asked.0 asked.1 in
       record {
         led = λ fs begins law. st.led fs (prefix_trans parts.frames.view.seen g.view.seen fs grew begins) law;
         place = (let le = st.place in let longer = prefix_length parts.frames.view.seen g.view.seen grew in omega (arith, le, longer));
-        moments = λ fs begins law. st.moments fs (prefix_trans parts.frames.view.seen g.view.seen fs grew begins) law;
+        moments = λ is fs begins law. st.moments is fs (prefix_trans parts.frames.view.seen g.view.seen fs grew begins) law;
         whole = λ fs begins law. st.whole fs (prefix_trans parts.frames.view.seen g.view.seen fs grew begins) law;
-        ran = ap asks_in (asked_records parts.frames g r asked) ∙ st.ran;
+        ran = ap (λ l. map (as_told false) (asks_in l)) (asked_records parts.frames g r asked) ∙ st.ran;
         settled = st.settled;
         played = record { shown = st.played.shown; elsewhere = st.played.elsewhere; fired = st.played.fired; counts = st.played.counts };
       });
@@ -79,7 +79,7 @@ posters_asked l parts e = ap (λ (o : Option Parts). insert (others_in o) l.numb
 pub played_self : (s : Script) (l : StageLooper) → HasPlayedBy s l l
 played_self s l = λ going text did a come. from l.parts did a come.0 come.1
   where
-    from : (o : Option Parts) (did a : Looper) → AreAlike did a → IsSomeAnd o (λ parts. StandsBy s l.number l.sender l.looper.held.poster.view.seen l.looper.held.journal.acts parts did a)
+    from : (o : Option Parts) (did a : Looper) → AreAlike did a → IsSomeAnd o (λ parts. StandsBy false s l.number l.sender l.looper.held.poster.view.seen l.looper.held.journal.acts parts did a)
         → IsSomeAnd o (ComesBy s l.number l.sender l.looper.held.poster.view.seen l.looper.held.journal.acts)
     from None did a alike h = absurd h
     from (Some parts) did a alike h = record { did = did; state = a; alike = alike; stands = h }

@@ -1,5 +1,5 @@
 -- Where a looper stands as it begins, as a round of it begins and ends, and at its end.
-use Rattle.std.proofs.Common.{◌≡◌, ℕ, ◌<◌, ◌≤◌, ◌⊎◌, inl, inr, false, List, [], ◌∷◌, ◌+◌, map, length, get_or, replicate, Option, Some, None, refl, sym, ap, ◌∙◌, subst, arith}
+use Rattle.std.proofs.Common.{◌≡◌, ℕ, ◌<◌, ◌≤◌, ◌⊎◌, inl, inr, true, false, List, [], ◌∷◌, ◌+◌, map, length, get_or, replicate, Option, Some, None, refl, sym, ap, ◌∙◌, subst, arith}
 use Rattle.std.specs.Prelude.{slice_index_or}
 use Rattle.std.specs.List.{insert, remove}
 use Rattle.std.specs.Option.{IsSomeAnd}
@@ -25,12 +25,14 @@ use Rattle.dash_hall.specs.declared.kit.Kit.{Kit}
 use Rattle.dash_hall.specs.Kits.{IsHall, AreUnseen}
 use Rattle.dash_hall.specs.Growth.{own}
 use Rattle.dash_hall.specs.Hosts.{asks_of}
-use Rattle.run_model.specs.FrameAsks.{asks_in}
+use Rattle.run_model.specs.FrameAsks.{asks_in, as_told, asks_to_run}
+use Rattle.dash_hall.proofs.FramePosts.{told_whole}
 use Rattle.dash_loopers.specs.declared.player.Parts.{Parts}
 use Rattle.dash_loopers.specs.declared.looper.StageLooper.{StageLooper}
 use Rattle.dash_loopers.specs.Players.{Owner}
 use Rattle.dash_loopers.specs.Loopers.{IsLooper, is_given_up}
-use Rattle.dash_loopers.specs.Played.{standing, fixed, fixed_by, IsBarrierOf, paint_of, calls_in, calls_of, IsPlayed, Stands, HasCome, ComesTo, IsPlaying, HasPlayed, HasLeft}
+use Rattle.dash_loopers.specs.Played.{standing, fixed, fixed_by, IsBarrierOf, paint_of, calls_in, calls_of, IsPlayed, StandsBy, Stands, HasCome, HasComeBy, ComesTo, IsPlaying, HasPlayed, HasLeft}
+use Rattle.dash_loopers.proofs.OpenTimes.{alike_self}
 use Rattle.dash_loopers.proofs.LooperSeats.{its_place, at_other, within_others}
 use Rattle.dash_loopers.proofs.LooperKits.{looper_of, parts_of, others_many, own_again}
 
@@ -51,9 +53,9 @@ pub stands_first : (s : Script) (q k : ℕ) (seen : List Entry) (acts : List Act
 stands_first s q k seen acts parts none still gauges lines barrier painted edition unseen fired unasked untaken unrun = record {
   led = λ fs begins law. subst (λ (xs : List Act). Lead s q seen fs (first_looper s) xs (first_looper s)) (sym still) refl;
   place = omega arith;
-  moments = λ fs begins law. refl;
+  moments = λ is fs begins law. refl;
   whole = λ fs begins law. refl;
-  ran = ap asks_in unrun;
+  ran = ap (λ l. map (as_told true) (asks_in l)) unrun;
   settled = refl;
   played = subst (λ (es : List Entry). IsPlayed s q (calls_in k es) parts (first_looper s)) (sym none) (record {
     shown = record {
@@ -74,6 +76,26 @@ stands_first s q k seen acts parts none still gauges lines barrier painted editi
     counts = ap length fired ∙ length-replicate (length s.rules) 0;
   });
 }
+
+-- where a looper stands in lockstep it stands as free mode tells it
+pub stands_free : (s : Script) (q k : ℕ) (es : List Entry) (acts : List Act) (parts : Parts) (a : Looper) → Stands s q k es acts parts a → StandsBy false s q k es acts parts a a
+stands_free s q k es acts parts a st = record {
+  led = st.led;
+  place = st.place;
+  moments = λ is. absurd (let wrong : false ≡ true = is in cc);
+  whole = st.whole;
+  ran = ap (map (as_told false)) (sym (told_whole (asks_of parts.frames)) ∙ (st.ran ∙ told_whole (asks_to_run a.frames)));
+  settled = st.settled;
+  played = st.played;
+}
+
+pub comes_free : (s : Script) (l : StageLooper) (a : Looper) → HasCome s l a → HasComeBy s l a a
+comes_free s l a come = (alike_self a, from l.parts come)
+  where
+    from : (o : Option Parts) → IsSomeAnd o (λ parts. Stands s l.number l.sender l.looper.held.poster.view.seen l.looper.held.journal.acts parts a)
+        → IsSomeAnd o (λ parts. StandsBy false s l.number l.sender l.looper.held.poster.view.seen l.looper.held.journal.acts parts a a)
+    from None h = absurd h
+    from (Some parts) h = stands_free s l.number l.sender l.looper.held.poster.view.seen l.looper.held.journal.acts parts a h
 
 -- ---- a round
 
@@ -112,7 +134,7 @@ left_by s hall l parts j kit is_hall is e posters frames journal a come = record
       subst (λ (x : Sender). Lead s l.number x.view.seen fs (first_looper s) j.acts a) (sym (mine d))
       (subst (λ (x : Journal). Lead s l.number l.looper.held.poster.view.seen fs (first_looper s) x.acts a) (sym journal)
       (st.led fs (subst (λ (ps : List Pass). IsPrefix (slice_index_or ps 0 p).view.seen fs) frames begins) law));
-  moments = λ p fs begins law. st.moments fs (subst (λ (ps : List Pass). IsPrefix (slice_index_or ps 0 p).view.seen fs) frames begins) law;
+  moments = λ p fs begins law. st.moments refl fs (subst (λ (ps : List Pass). IsPrefix (slice_index_or ps 0 p).view.seen fs) frames begins) law;
   whole = λ p fs begins law. st.whole fs (subst (λ (ps : List Pass). IsPrefix (slice_index_or ps 0 p).view.seen fs) frames begins) law;
   settled = st.settled;
   calls = λ d. subst (λ (x : Sender). AreFor IsSent [] (sent_on l.number a.sent) (calls_of x)) (sym (mine d))
@@ -124,7 +146,7 @@ left_by s hall l parts j kit is_hall is e posters frames journal a come = record
       (st.played.elsewhere k w.0 d w.1 (within_others parts.others.items l.number many l.looper.held.poster k w.0 w.1 within));
   asked = λ p. ap (λ (ps : List Pass). asks_of (slice_index_or ps 1 p)) frames ∙ st.played.shown.asked;
   turns = λ p. ap (λ (ps : List Pass). (slice_index_or ps 1 p).view.turns) frames ∙ st.played.shown.turns;
-  ran = λ p. ap (λ (ps : List Pass). asks_of (slice_index_or ps 0 p)) frames ∙ st.ran;
+  ran = λ p. ap (λ (ps : List Pass). asks_of (slice_index_or ps 0 p)) frames ∙ (sym (told_whole (asks_of parts.frames)) ∙ (st.ran ∙ told_whole (asks_to_run a.frames)));
 }
   where
     st : Stands s l.number l.sender l.looper.held.poster.view.seen l.looper.held.journal.acts parts a

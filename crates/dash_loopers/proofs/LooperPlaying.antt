@@ -1,6 +1,6 @@
 -- In a round a looper goes on from where it stood: what keeps that it has, and what a round leaves of it.
 use Rattle.std.proofs.Common.{◌≡◌, ℕ, ◌≤◌, true, false, List, [], ◌∷◌, ◌++◌, Option, Some, None, refl, sym, ap, ◌∙◌, subst, arith, append_assoc}
-use Rattle.std.specs.Prelude.{Result, Ok, Err, is_ok, OnOk}
+use Rattle.std.specs.Prelude.{◌==◌, Bool, Result, Ok, Err, is_ok, OnOk}
 use Rattle.std.specs.List.{AllByRecursion, Contains}
 use Rattle.std.proofs.lemmas.List.{append-nil}
 use Rattle.std.proofs.lemmas.List.Elements.{All-cons, All-nil, Contains-append_left, Contains-push}
@@ -22,6 +22,7 @@ use Rattle.looper_run.specs.declared.dispatcher.Did.{Did}
 use Rattle.looper_run.specs.declared.dispatcher.Did.TheVariants.{Yes, No, NoMemory}
 use Rattle.loop_model.proofs.Prefixes.{prefix_self}
 use Rattle.run_model.specs.Control.{At}
+use Rattle.run_model.specs.FrameRuns.{nanos_of}
 use Rattle.run_model.specs.Loopers.{Looper, Sent, delivered}
 use Rattle.dash_hall.specs.Hosts.{asks_of}
 use Rattle.dash_loopers.specs.declared.player.Parts.{Parts}
@@ -67,32 +68,32 @@ module _ (s : Script) (q now : ℕ) (began : StageLooper) where
 
   -- a message that was taken is dispatched
   dispatched_on : (k k' n time : ℕ) (m : PostData) (past es es' more : List Entry) (e : Entry) (acts acts' : List Act) (route : Route) (parts parts' : Parts) → k' ≡ k → es ≡ past ++ e ∷ [] → es' ≡ es ++ more
-      → IsTake k time n e → post_at past n ≡ Some m → Delivers s q time m (calls_in k es) (calls_in k' es') parts parts' acts acts'
+      → IsTake k time n e → post_at past n ≡ Some m → Delivers s q time (λ x. x == nanos_of time) m (calls_in k es) (calls_in k' es') parts parts' acts acts'
       → IsPlaying s q now began k past acts parts → IsPlaying s q now began k' es' (acts' ++ Dispatch n time route ∷ []) parts'
   dispatched_on k k' n time m past es es' more e acts acts' route parts parts' same seen saw take post d meets =
       let whole : es' ≡ (past ++ e ∷ []) ++ more = saw ∙ ap (λ (l : List Entry). l ++ more) seen in
-      let here : Delivers s q time m (calls_in k (past ++ e ∷ [])) (calls_in k ((past ++ e ∷ []) ++ more)) parts parts' acts acts' =
-      subst (λ l. Delivers s q time m l (calls_in k ((past ++ e ∷ []) ++ more)) parts parts' acts acts') (ap (calls_in k) seen) (subst (λ l. Delivers s q time m (calls_in k es) l parts parts' acts acts') (λ i. calls_in (same i) (whole i)) d) in
+      let here : Delivers s q time (λ x. x == nanos_of time) m (calls_in k (past ++ e ∷ [])) (calls_in k ((past ++ e ∷ []) ++ more)) parts parts' acts acts' =
+      subst (λ l. Delivers s q time (λ x. x == nanos_of time) m l (calls_in k ((past ++ e ∷ []) ++ more)) parts parts' acts acts') (ap (calls_in k) seen) (subst (λ l. Delivers s q time (λ x. x == nanos_of time) m (calls_in k es) l parts parts' acts acts') (λ i. calls_in (same i) (whole i)) d) in
       subst (λ (j : ℕ). IsPlaying s q now began j es' (acts' ++ Dispatch n time route ∷ []) parts') (sym same)
       (subst (λ (l : List Entry). IsPlaying s q now began k l (acts' ++ Dispatch n time route ∷ []) parts') (sym (whole ∙ append_assoc past (e ∷ []) more)) (λ text a come.
       (let c = meets text a come in
-      comes_on s q now a k began.looper.held.poster.view.seen past (e ∷ more) acts (acts' ++ Dispatch n time route ∷ []) parts parts' c (by_dispatch s q k n time time m past more e take acts acts' parts parts' here c.state c.state)
-      (subst (λ (l : List Entry). Stands s q k l (acts' ++ Dispatch n time route ∷ []) parts' (by_dispatch s q k n time time m past more e take acts acts' parts parts' here c.state c.state)) (append_assoc past (e ∷ []) more)
-      (stands_dispatch s q k n time time m past more e take acts acts' parts parts' here c.state c.state route text post c.stands.settled refl c.stands))
-      (goes_looked q k (e ∷ more) now time e c.state _ (Contains-append_left (e ∷ []) more e (Contains-push [] e)) take.sender_is take.call (sends_dispatch s q k n time time m past more e take acts acts' parts parts' here c.state c.state)))))
+      comes_on s q now a k began.looper.held.poster.view.seen past (e ∷ more) acts (acts' ++ Dispatch n time route ∷ []) parts parts' c (by_dispatch s q k n time time (λ x. x == nanos_of time) m past more e take acts acts' parts parts' here c.state c.state)
+      (subst (λ (l : List Entry). Stands s q k l (acts' ++ Dispatch n time route ∷ []) parts' (by_dispatch s q k n time time (λ x. x == nanos_of time) m past more e take acts acts' parts parts' here c.state c.state)) (append_assoc past (e ∷ []) more)
+      (stands_dispatch s q k n time time (λ x. x == nanos_of time) m past more e take acts acts' parts parts' here c.state c.state route (λ is. refl) text post c.stands.settled refl c.stands))
+      (goes_looked q k (e ∷ more) now time e c.state _ (Contains-append_left (e ∷ []) more e (Contains-push [] e)) take.sender_is take.call (sends_dispatch s q k n time time (λ x. x == nanos_of time) m past more e take acts acts' parts parts' here c.state c.state)))))
 
   pub playing_dispatch : (time : ℕ) (node : Node) (route : Route) (before after : Holding) (parts parts' : Parts) → IsLent before after
       → HasTaken (λ k es acts. IsPlaying s q now began k es acts parts) before node time
-      → Delivers s q time (post_of node.item) (calls_of before.poster) (calls_of after.poster) parts parts' before.journal.acts after.journal.acts
+      → Delivers s q time (λ x. x == nanos_of time) (post_of node.item) (calls_of before.poster) (calls_of after.poster) parts parts' before.journal.acts after.journal.acts
       → PassesWith (λ k es acts. IsPlaying s q now began k es acts parts') after node time route
   playing_dispatch time node route before after parts parts' lent t d =
       dispatched_on before.poster.sender after.poster.sender (number_in node.item) time (post_of node.item) t.past before.poster.view.seen after.poster.view.seen lent.more t.take before.journal.acts after.journal.acts route parts parts' lent.same.sender t.seen lent.seen t.is_take t.post d t.passes
 
   -- a message with a callback causes nothing
-  pub delivers_none : (time : ℕ) (m : PostData) (id : ℕ) (made : List Entry) (parts : Parts) (acts : List Act) → m.callback ≡ Some id → Delivers s q time m made made parts parts acts acts
-  delivers_none time m id made parts acts callback = record {
+  pub delivers_none : (time : ℕ) (is_moment : ℕ → Bool) (m : PostData) (id : ℕ) (made : List Entry) (parts : Parts) (acts : List Act) → m.callback ≡ Some id → Delivers s q time is_moment m made made parts parts acts acts
+  delivers_none time is_moment m id made parts acts callback = record {
     ids = [];
-    ran = record { frame = None; framed = λ fs begins law. (refl, refl, refl, refl); within = omega arith; grew = prefix_self parts.frames.view.seen; asks = sym (append-nil (asks_of parts.frames)) };
+    ran = record { frame = None; start = 0; started = refl; framed = λ fs begins law. (refl, refl, refl, refl); within = omega arith; grew = prefix_self parts.frames.view.seen; asks = sym (append-nil (asks_of parts.frames)) };
     starts = refl;
     plays = λ text a settled played. (subst (IsPlayed s q made parts) (sym (same a settled)) played, sym (ap (λ (l : List Act). acts ++ l) (ap (λ (b : Looper). b.painted) (nothing a) ∙ settled) ∙ append-nil acts));
   }
@@ -132,11 +133,11 @@ module _ (s : Script) (q now : ℕ) (began : StageLooper) where
   -- a message was dispatched, unless memory was wanting
   pub dispatches_well : {A E : Type 0} (time : ℕ) (node : Node) (route : Route) (m : PostData) (r : Result A E) (d : Did) (before after : Holding) (parts parts' : Parts) → m ≡ post_of node.item → IsLent before after
       → HasTaken (λ k es acts. IsPlaying s q now began k es acts parts) before node time
-      → OnOk r (Delivers s q time m (calls_of before.poster) (calls_of after.poster) parts parts' before.journal.acts after.journal.acts)
+      → OnOk r (Delivers s q time (λ x. x == nanos_of time) m (calls_of before.poster) (calls_of after.poster) parts parts' before.journal.acts after.journal.acts)
       → (d ≡ No → ⊥) → (d ≡ Yes → is_ok r ≡ true)
       → Unless d (PassesWith (λ k es acts. IsPlaying s q now began k es acts parts') after node time route)
   dispatches_well time node route m r d before after parts parts' is lent t done never well = did_well r d _ never well (by_end r done)
     where
-      by_end : {A E : Type 0} (r : Result A E) → OnOk r (Delivers s q time m (calls_of before.poster) (calls_of after.poster) parts parts' before.journal.acts after.journal.acts) → OnOk r (PassesWith (λ k es acts. IsPlaying s q now began k es acts parts') after node time route)
-      by_end (Ok x) h = playing_dispatch s q now began time node route before after parts parts' lent t (subst (λ (p : PostData). Delivers s q time p (calls_of before.poster) (calls_of after.poster) parts parts' before.journal.acts after.journal.acts) is h)
+      by_end : {A E : Type 0} (r : Result A E) → OnOk r (Delivers s q time (λ x. x == nanos_of time) m (calls_of before.poster) (calls_of after.poster) parts parts' before.journal.acts after.journal.acts) → OnOk r (PassesWith (λ k es acts. IsPlaying s q now began k es acts parts') after node time route)
+      by_end (Ok x) h = playing_dispatch s q now began time node route before after parts parts' lent t (subst (λ (p : PostData). Delivers s q time (λ x. x == nanos_of time) p (calls_of before.poster) (calls_of after.poster) parts parts' before.journal.acts after.journal.acts) is h)
       by_end (Err e) h = tt

@@ -1,12 +1,12 @@
 -- Where a looper stands, as entries and acts are added: entries of others, its look that ends the queue, acts that cause
 -- nothing, a pulse, and a dispatch.
 use Rattle.std.proofs.Common.{◌≡◌, ℕ, ◌≤◌, Bool, true, false, List, [], ◌∷◌, ◌++◌, length, Option, Some, None, refl, sym, ap, ◌∙◌, subst, arith, append_assoc, eq-eqb}
-use Rattle.std.specs.Prelude.{◌==◌, ◌||◌, not, is_some, nat_le, slice_index_or}
+use Rattle.std.specs.Prelude.{◌==◌, ◌+◌, ◌||◌, not, is_some, is_none, map, nat_le, slice_index_or}
 use Rattle.std.specs.List.{AllByRecursion, list_all}
 use Rattle.std.specs.Option.{option_map_or}
 use Rattle.std.proofs.lemmas.List.{append-nil, map-append}
 use Rattle.std.proofs.lemmas.Bool.Decides.{nat_tests}
-use Rattle.std.proofs.lemmas.Bool.{and_parts, and_from}
+use Rattle.std.proofs.lemmas.Bool.{and_parts, and_from, eqb-true}
 use Rattle.std.proofs.lemmas.List.Folds.{list_all-append}
 use Rattle.loop_model.specs.declared.post.Post.{Post as PostData}
 use Rattle.loop_model.specs.declared.call.Call.TheVariants.{Next}
@@ -29,13 +29,14 @@ use Rattle.run_model.specs.Asks.{Makes, plain, token_in, tokens_in, AreFor}
 use Rattle.run_model.specs.Loopers.{Looper, Sent, first_looper, starts_frame, delivered, and_takes}
 use Rattle.run_model.specs.Acts.{running, dispatched, after_act, MayDispatch, Lead, sent_on, IsSent}
 use Rattle.run_model.specs.FrameRuns.{FrameAt, nanos_of, frame_ids, is_frame_from, place_after, frames_after, is_run_then, are_run_then, is_whole, are_whole}
-use Rattle.run_model.specs.FrameAsks.{Runs, asks_to_run}
+use Rattle.run_model.specs.FrameAsks.{FrameAsk, Runs, asks_to_run, as_told}
 use Rattle.run_model.proofs.RunLaws.{AreFor-snoc, Lead-snoc, ArePaints, Lead-paints}
 use Rattle.run_model.proofs.Growth.{Lead-entries, post_at-grows}
 use Rattle.dash_loopers.specs.declared.player.Parts.{Parts}
 use Rattle.dash_hall.specs.Growth.{own}
+use Rattle.dash_hall.specs.Hosts.{asks_of}
 use Rattle.dash_loopers.specs.Players.{PlaceWithout}
-use Rattle.dash_loopers.specs.Played.{IsRootOf, calls_in, IsPlayed, Delivers, pulse_acts, pulsed, Pulses, StandsBy}
+use Rattle.dash_loopers.specs.Played.{IsRootOf, calls_in, IsPlayed, moments_of, asks_for, Delivers, pulse_acts, pulsed, Pulses, StandsBy}
 use Rattle.dash_loopers.specs.PlayingLaws.{calls_more}
 use Rattle.dash_loopers.proofs.LooperSteps.{AddsAt, delivers}
 use Rattle.dash_loopers.proofs.MoreCalls.{tokens_more, sent_here, sent_else, without_self}
@@ -55,18 +56,18 @@ vsynced s q es fs acts a stamp is_one settled lead = Lead-snoc s q es fs None (f
 
 -- ---- what stays as entries and acts are added that cause nothing
 
-module _ (s : Script) (q k : ℕ) where
+module _ {lockstep : Bool} (s : Script) (q k : ℕ) where
   -- a pulse, or none
   pub stands_pulse : (now : ℕ) (es more : List Entry) (acts acts' : List Act) (parts parts' : Parts) (did a : Looper) → HasText s
-      → (p : Pulses s q now (calls_in k es) (calls_in k (es ++ more)) parts parts' acts acts') → StandsBy s q k es acts parts did a → StandsBy s q k (es ++ more) acts' parts' (pulsed q p.stamp did) (pulsed q p.stamp a)
+      → (p : Pulses s q now (calls_in k es) (calls_in k (es ++ more)) parts parts' acts acts') → StandsBy lockstep s q k es acts parts did a → StandsBy lockstep s q k (es ++ more) acts' parts' (pulsed q p.stamp did) (pulsed q p.stamp a)
   stands_pulse now es more acts acts' parts parts' did a text p st = record {
     led = λ fs begins law.
         subst (λ l. Lead s q (es ++ more) fs (first_looper s) l (pulsed q p.stamp a)) (sym p.told)
         (by_stamp fs p.stamp p.is_pulse (Lead-entries s q es fs more (first_looper s) acts a (st.led fs (prefix_trans parts.frames.view.seen parts'.frames.view.seen fs p.grew begins) law)));
     place = (let at : (pulsed q p.stamp a).place ≡ a.place = placed p.stamp in let le = st.place in let longer = prefix_length parts.frames.view.seen parts'.frames.view.seen p.grew in omega (arith, at, le, longer));
-    moments = λ fs begins law. ap (are_run_then fs) (ran p.stamp) ∙ st.moments fs (prefix_trans parts.frames.view.seen parts'.frames.view.seen fs p.grew begins) law;
+    moments = λ is fs begins law. ap (are_run_then fs) (ran p.stamp) ∙ st.moments is fs (prefix_trans parts.frames.view.seen parts'.frames.view.seen fs p.grew begins) law;
     whole = λ fs begins law. ap (are_whole (phase_count s.edition) fs) (ran p.stamp) ∙ st.whole fs (prefix_trans parts.frames.view.seen parts'.frames.view.seen fs p.grew begins) law;
-    ran = p.asks ∙ (st.ran ∙ ap asks_to_run (sym (ran p.stamp)));
+    ran = ap (map (as_told lockstep)) p.asks ∙ (st.ran ∙ ap (λ (l : List FrameAt). map (as_told lockstep) (asks_to_run l)) (sym (ran p.stamp)));
     settled = painted p.stamp;
     played = p.plays text did st.played;
   }
@@ -94,9 +95,29 @@ abbrev pub taken : ℕ → ℕ → ℕ → ℕ → Option ℕ → Looper → Loo
 taken q n now u frame a = and_takes q n now (running frame u a)
 
 -- the frames so far pass a test, and so does this one, or there is none
-one_more : (test : FrameAt → Bool) (xs : List FrameAt) (frame : Option ℕ) (now : ℕ) → list_all test xs ≡ true → list_all test (frames_after [] frame now) ≡ true → list_all test (frames_after xs frame now) ≡ true
+one_more : (test : FrameAt → Bool) (xs : List FrameAt) (frame : Option ℕ) (now : ℕ) → list_all test xs ≡ true → ((place : ℕ) → frame ≡ Some place → test (record { place = place; now = now }) ≡ true) → list_all test (frames_after xs frame now) ≡ true
 one_more test xs None now before this = before
-one_more test xs (Some place) now before this = list_all-append test xs (frames_after [] (Some place) now) ∙ and_from _ _ before this
+one_more test xs (Some place) now before this = list_all-append test xs (record { place = place; now = now } ∷ []) ∙ and_from _ _ before (and_from _ true (this place refl) refl)
+
+-- the moments of a frame that ran are this one, where those that pass the test are
+run_then : (fs : List FrameEntry) (is_moment : ℕ → Bool) (u place : ℕ) (frame : Option ℕ) → is_moment ≡ (λ n. n == nanos_of u) → list_all is_moment (moments_of fs frame) ≡ true → frame ≡ Some place → is_run_then fs (record { place = place; now = u }) ≡ true
+run_then fs is_moment u place frame at all is = subst (λ o. list_all (λ n. n == nanos_of u) (moments_of fs o) ≡ true) is (subst (λ (f : ℕ → Bool). list_all f (moments_of fs frame) ≡ true) at all)
+
+run_whole : (phases : ℕ) (fs : List FrameEntry) (u place : ℕ) (frame : Option ℕ) → (is_none frame || length (moments_of fs frame) == phases + 1) ≡ true → frame ≡ Some place → is_whole phases fs (record { place = place; now = u }) ≡ true
+run_whole phases fs u place frame many is = subst (λ o. (is_none o || length (moments_of fs o) == phases + 1) ≡ true) is many
+
+-- it was asked for as it is told in the mode
+ran_told : (lockstep : Bool) (is_moment : ℕ → Bool) (u start : ℕ) (xs : List FrameAt) (frame : Option ℕ) → (lockstep ≡ true → is_moment ≡ (λ n. n == nanos_of u)) → (is_none frame || is_moment start) ≡ true
+    → map (as_told lockstep) (asks_to_run xs ++ asks_for frame start) ≡ map (as_told lockstep) (asks_to_run (frames_after xs frame u))
+ran_told lockstep is_moment u start xs None at started = ap (map (as_told lockstep)) (append-nil (asks_to_run xs))
+ran_told lockstep is_moment u start xs (Some place) at started =
+    map-append (as_told lockstep) (asks_to_run xs) (Runs start ∷ [])
+    ∙ (ap (λ (x : FrameAsk). map (as_told lockstep) (asks_to_run xs) ++ x ∷ []) (one lockstep at)
+    ∙ (sym (map-append (as_told lockstep) (asks_to_run xs) (Runs (nanos_of u) ∷ [])) ∙ ap (map (as_told lockstep)) (sym (map-append (λ (x : FrameAt). Runs (nanos_of x.now)) xs (record { place = place; now = u } ∷ [])))))
+  where
+    one : (b : Bool) → (b ≡ true → is_moment ≡ (λ n. n == nanos_of u)) → as_told b (Runs start) ≡ as_told b (Runs (nanos_of u))
+    one true at = ap Runs (eqb-true start (nanos_of u) (subst (λ (f : ℕ → Bool). f start ≡ true) (at refl) started))
+    one false at = refl
 
 sooner : (fs : List FrameEntry) (first later : ℕ) (frame : Option ℕ) → first ≤ later → is_frame_from fs later frame ≡ true → is_frame_from fs first frame ≡ true
 sooner fs first later None le h = refl
@@ -166,7 +187,7 @@ module _ (s : Script) (q k n now u : ℕ) (es : List Entry) (e : Entry) (take : 
       is_look : IsSent (tokens_in (calls_in k es)) look e
       is_look = record { call = ap plain take.call; reply = take.reply }
 
-module _ (s : Script) (q k n now u : ℕ) (m : PostData) (es more : List Entry) (e : Entry) (take : IsTake k now n e) (acts acts' : List Act) (parts parts' : Parts) (d : Delivers s q u m (calls_in k (es ++ e ∷ [])) (calls_in k ((es ++ e ∷ []) ++ more)) parts parts' acts acts') (did a : Looper) where
+module _ (s : Script) (q k n now u : ℕ) (is_moment : ℕ → Bool) (m : PostData) (es more : List Entry) (e : Entry) (take : IsTake k now n e) (acts acts' : List Act) (parts parts' : Parts) (d : Delivers s q u is_moment m (calls_in k (es ++ e ∷ [])) (calls_in k ((es ++ e ∷ []) ++ more)) parts parts' acts acts') (did a : Looper) where
   -- what the dispatch leads to by its own moment, and what was done at the moment that was read
   abbrev pub by_dispatch : Looper
   by_dispatch = record (delivered s q now d.ids m (taken q n now now d.ran.frame a)) { painted = [] }
@@ -187,9 +208,9 @@ module _ (s : Script) (q k n now u : ℕ) (m : PostData) (es more : List Entry) 
       look : Sent
       look = record { queue = q; ask = Makes (Next now); reply = Some (Dispatched n); timing = At now }
 
-  pub stands_dispatch : (route : Route) → HasText s → post_at es n ≡ Some m → did.painted ≡ [] → (delivered s q u d.ids m (taken q n now u d.ran.frame did)).painted ≡ (delivered s q now d.ids m (taken q n now now d.ran.frame a)).painted
-      → StandsBy s q k es acts parts did a → StandsBy s q k ((es ++ e ∷ []) ++ more) (acts' ++ Dispatch n now route ∷ []) parts' by_reading by_dispatch
-  stands_dispatch route text post still alike st = record {
+  pub stands_dispatch : {lockstep : Bool} (route : Route) → (lockstep ≡ true → is_moment ≡ (λ n. n == nanos_of u)) → HasText s → post_at es n ≡ Some m → did.painted ≡ [] → (delivered s q u d.ids m (taken q n now u d.ran.frame did)).painted ≡ (delivered s q now d.ids m (taken q n now now d.ran.frame a)).painted
+      → StandsBy lockstep s q k es acts parts did a → StandsBy lockstep s q k ((es ++ e ∷ []) ++ more) (acts' ++ Dispatch n now route ∷ []) parts' by_reading by_dispatch
+  stands_dispatch {lockstep} route at text post still alike st = record {
     led = λ fs begins law.
         let framed = d.ran.framed fs begins law in
         subst (λ l. Lead s q ((es ++ e ∷ []) ++ more) fs (first_looper s) (l ++ Dispatch n now route ∷ []) by_dispatch) (sym (done.1 ∙ ap (λ (l : List Act). acts ++ l) alike))
@@ -197,23 +218,26 @@ module _ (s : Script) (q k n now u : ℕ) (m : PostData) (es more : List Entry) 
         (Lead-entries s q (es ++ e ∷ []) fs more (first_looper s) acts a (Lead-entries s q es fs (e ∷ []) (first_looper s) acts a (st.led fs (prefix_trans parts.frames.view.seen parts'.frames.view.seen fs d.ran.grew begins) law)))
         posts d.starts (sooner fs a.place (length parts.frames.view.seen) d.ran.frame st.place framed.0) framed.1 (adds.paints tt) refl);
     place = (let at = adds.place in let le = st.place in let longer = prefix_length parts.frames.view.seen parts'.frames.view.seen d.ran.grew in placed d.ran.frame by_dispatch.place at le longer d.ran.within);
-    moments = λ fs begins law.
+    moments = λ is fs begins law.
         ap (are_run_then fs) adds_read.frames
-        ∙ one_more (is_run_then fs) did.frames d.ran.frame u (st.moments fs (prefix_trans parts.frames.view.seen parts'.frames.view.seen fs d.ran.grew begins) law) (d.ran.framed fs begins law).2;
+        ∙ one_more (is_run_then fs) did.frames d.ran.frame u (st.moments is fs (prefix_trans parts.frames.view.seen parts'.frames.view.seen fs d.ran.grew begins) law)
+        (λ place. run_then fs is_moment u place d.ran.frame (at is) (d.ran.framed fs begins law).2);
     whole = λ fs begins law.
         ap (are_whole (phase_count s.edition) fs) adds_read.frames
-        ∙ one_more (is_whole (phase_count s.edition) fs) did.frames d.ran.frame u (st.whole fs (prefix_trans parts.frames.view.seen parts'.frames.view.seen fs d.ran.grew begins) law) (d.ran.framed fs begins law).3;
-    ran = d.ran.asks ∙ ((λ i. st.ran i ++ asks_to_run (frames_after [] d.ran.frame u)) ∙ (runs_more did.frames d.ran.frame ∙ ap asks_to_run (sym adds_read.frames)));
+        ∙ one_more (is_whole (phase_count s.edition) fs) did.frames d.ran.frame u (st.whole fs (prefix_trans parts.frames.view.seen parts'.frames.view.seen fs d.ran.grew begins) law)
+        (λ place. run_whole (phase_count s.edition) fs u place d.ran.frame (d.ran.framed fs begins law).3);
+    ran = ap (map (as_told lockstep)) d.ran.asks
+        ∙ (map-append (as_told lockstep) (asks_of parts.frames) (asks_for d.ran.frame d.ran.start)
+        ∙ (ap (λ (l : List FrameAsk). l ++ map (as_told lockstep) (asks_for d.ran.frame d.ran.start)) st.ran
+        ∙ (sym (map-append (as_told lockstep) (asks_to_run did.frames) (asks_for d.ran.frame d.ran.start))
+        ∙ (ran_told lockstep is_moment u d.ran.start did.frames d.ran.frame at d.ran.started
+        ∙ ap (λ (l : List FrameAt). map (as_told lockstep) (asks_to_run l)) (sym adds_read.frames)))));
     settled = refl;
     played = done.0;
   }
     where
       done : IsPlayed s q (calls_in k ((es ++ e ∷ []) ++ more)) parts' by_reading × (acts' ≡ acts ++ (delivered s q u d.ids m (taken q n now u d.ran.frame did)).painted)
       done = d.plays text (taken q n now u d.ran.frame did) refl (played_taken s q k n now u es e take parts did still d.ran.frame st.played)
-
-      runs_more : (xs : List FrameAt) (frame : Option ℕ) → asks_to_run xs ++ asks_to_run (frames_after [] frame u) ≡ asks_to_run (frames_after xs frame u)
-      runs_more xs None = append-nil (asks_to_run xs)
-      runs_more xs (Some place) = sym (map-append (λ (x : FrameAt). Runs (nanos_of x.now)) xs (record { place = place; now = u } ∷ []))
 
       found : post_at es n ≡ Some m
       found = post

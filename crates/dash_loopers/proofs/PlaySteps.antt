@@ -107,18 +107,18 @@ pulse_delivered s q now p p' a b parts parts' (Some pulse) goes (x, y, n, t, mom
 
 -- ---- by a host that was made of the looper's poster
 
-pub hosted_on : (o o' : HostOrigin) (p p' : Sender) (b : Tally) → o' ≡ o → IsHost o' p' b → o.poster ≡ p → GoesOn p p' o.pass b
-hosted_on o o' p p' b same is began = subst (λ (z : Sender). GoesOn z p' o.pass b) began (subst (λ (z : HostOrigin). IsHost z p' b) same is).on
+pub hosted_on : {U : Type 0} (o o' : HostOrigin U) (p p' : Sender) (b : Tally) → o' ≡ o → IsHost o' p' b → o.poster ≡ p → GoesOn p p' o.pass b
+hosted_on o o' p p' b same is began = subst (λ (z : Sender). GoesOn z p' o.pass b) began (subst (λ z. IsHost z p' b) same is).on
 
-pub pulse_hosted : (s : Script) (q now : ℕ) (o o' : HostOrigin) (p p0 p' : Sender) (b : Tally) (parts parts' : Parts) (r : Option Pulse) → o' ≡ o → IsHost o' p' b → o.poster ≡ p → p0 ≡ p → o.now ≡ now → o.handler ≡ frame_handler q
-    → PulsedBy parts.frames parts'.frames (λ n. n == nanos_of o.now) (sends_by o.handler p0) (sends_by o'.handler p') r → parts'.root ≡ parts.root → parts'.others ≡ parts.others → parts'.fired ≡ parts.fired
+pub pulse_hosted : {U : Type 0} (s : Script) (q now u : ℕ) (o o' : HostOrigin U) (p p0 p' : Sender) (b : Tally) (parts parts' : Parts) (r : Option Pulse) → o' ≡ o → IsHost o' p' b → o.poster ≡ p → p0 ≡ p → u ≡ now → o.handler ≡ frame_handler q
+    → PulsedBy parts.frames parts'.frames (λ n. n == nanos_of u) (sends_by o.handler p0) (sends_by o'.handler p') r → parts'.root ≡ parts.root → parts'.others ≡ parts.others → parts'.fired ≡ parts.fired
     → DeliversPulse s q now (calls_of p) (calls_of p') parts parts' r
-pulse_hosted s q now o o' p p0 p' b parts parts' r same is began at moment mine pulse root others fired =
+pulse_hosted s q now u o o' p p0 p' b parts parts' r same is began at moment mine pulse root others fired =
     pulse_delivered s q now p p' o.pass b parts parts' r (hosted_on o o' p p' b same is began)
     (subst (λ (n : ℕ). PulsedBy parts.frames parts'.frames (λ m. m == nanos_of n) (sends_by (frame_handler q) p) (sends_by (frame_handler q) p') r) moment
-    (subst (λ (h : ℕ). PulsedBy parts.frames parts'.frames (λ m. m == nanos_of o.now) (sends_by h p) (sends_by h p') r) mine
-    (subst (λ (z : Sender). PulsedBy parts.frames parts'.frames (λ m. m == nanos_of o.now) (sends_by o.handler z) (sends_by o.handler p') r) at
-    (subst (λ (z : HostOrigin). PulsedBy parts.frames parts'.frames (λ m. m == nanos_of o.now) (sends_by o.handler p0) (sends_by z.handler p') r) same pulse))))
+    (subst (λ (h : ℕ). PulsedBy parts.frames parts'.frames (λ m. m == nanos_of u) (sends_by h p) (sends_by h p') r) mine
+    (subst (λ (z : Sender). PulsedBy parts.frames parts'.frames (λ m. m == nanos_of u) (sends_by o.handler z) (sends_by o.handler p') r) at
+    (subst (λ z. PulsedBy parts.frames parts'.frames (λ m. m == nanos_of u) (sends_by o.handler p0) (sends_by z.handler p') r) same pulse))))
     root others fired
 
 -- what holds where a call was made holds unless memory was wanting
@@ -136,10 +136,10 @@ pulse_told s q now made made' parts parts' acts acts0 acts' pulse is_one deliver
     record { stamp = Some pulse.stamp; is_pulse = is_one; due = done.2; told = told ∙ ap (λ (l : List Act). l ++ Vsync pulse.stamp ∷ []) same; grew = done.0; asks = done.1; plays = done.3 }
 
 -- such a host's calls that told of nothing
-pub untold_hosted : (o o' : HostOrigin) (p p0 p' : Sender) (b : Tally) → o' ≡ o → IsHost o' p' b → o.poster ≡ p → p0 ≡ p → sends_by o'.handler p' ≡ sends_by o.handler p0 → calls_of p' ≡ calls_of p
+pub untold_hosted : {U : Type 0} (o o' : HostOrigin U) (p p0 p' : Sender) (b : Tally) → o' ≡ o → IsHost o' p' b → o.poster ≡ p → p0 ≡ p → sends_by o'.handler p' ≡ sends_by o.handler p0 → calls_of p' ≡ calls_of p
 untold_hosted o o' p p0 p' b same is began at sends =
     calls_untold o.handler p p' o.pass b (hosted_on o o' p p' b same is began)
-    (subst (λ (z : Sender). sends_by o.handler p' ≡ sends_by o.handler z) at (subst (λ (z : HostOrigin). sends_by z.handler p' ≡ sends_by o.handler p0) same sends))
+    (subst (λ (z : Sender). sends_by o.handler p' ≡ sends_by o.handler z) at (subst (λ z. sends_by z.handler p' ≡ sends_by o.handler p0) same sends))
 
 -- ---- what a step leaves as it was
 
@@ -248,17 +248,17 @@ set_hosted (Ok u) s q now now' g target p p0 made' parts parts' shows at same ot
 set_hosted (Err e) s q now now' g target p p0 made' parts parts' shows at same others fired = tt
 
 -- a frame ran by such a host
-pub frame_hosted : {E : Type 0} (r : Result Unit E) (s : Script) (q now now' interval phases : ℕ) (p p0 p' : Sender) (parts parts' : Parts)
-    → OnOk r ((ids : List ℕ) × RanFrame interval phases now' parts.frames parts'.frames ids × FrameShows now' ids p0 parts.root p' parts'.root) → interval ≡ s.period → phases ≡ phase_count s.edition → now' ≡ now → p0 ≡ p → parts'.others ≡ parts.others → parts'.fired ≡ parts.fired
-    → OnOk r ((ids : List ℕ) × RanFrame s.period (phase_count s.edition) now parts.frames parts'.frames ids × Plays s q (λ a. fold (callback_ran s q now) a ids) (calls_of p) parts (calls_of p') parts')
-frame_hosted (Ok u) s q now now' interval phases p p0 p' parts parts' (ids, ran, shows) period four at same others fired = (
+pub frame_hosted : {E : Type 0} (r : Result Unit E) (s : Script) (q now now' interval phases : ℕ) (is_moment is_moment' : ℕ → Bool) (p p0 p' : Sender) (parts parts' : Parts)
+    → OnOk r ((ids : List ℕ) × RanFrame interval phases is_moment' parts.frames parts'.frames ids × FrameShows now' ids p0 parts.root p' parts'.root) → interval ≡ s.period → phases ≡ phase_count s.edition → now' ≡ now → is_moment' ≡ is_moment → p0 ≡ p → parts'.others ≡ parts.others → parts'.fired ≡ parts.fired
+    → OnOk r ((ids : List ℕ) × RanFrame s.period (phase_count s.edition) is_moment parts.frames parts'.frames ids × Plays s q (λ a. fold (callback_ran s q now) a ids) (calls_of p) parts (calls_of p') parts')
+frame_hosted (Ok u) s q now now' interval phases is_moment is_moment' p p0 p' parts parts' (ids, ran, shows) period four at uptime same others fired = (
   ids,
-  subst (λ (n : ℕ). RanFrame s.period (phase_count s.edition) n parts.frames parts'.frames ids) at (subst (λ (n : ℕ). RanFrame s.period n now' parts.frames parts'.frames ids) four (subst (λ (n : ℕ). RanFrame n phases now' parts.frames parts'.frames ids) period ran)),
+  subst (λ (f : ℕ → Bool). RanFrame s.period (phase_count s.edition) f parts.frames parts'.frames ids) uptime (subst (λ (n : ℕ). RanFrame s.period n is_moment' parts.frames parts'.frames ids) four (subst (λ (n : ℕ). RanFrame n phases is_moment' parts.frames parts'.frames ids) period ran)),
   played_shown s q (λ a. fold (callback_ran s q now) a ids) (calls_of p) (calls_of p') parts parts'
       (subst (λ (n : ℕ). Shows s q (λ a. fold (callback_ran s q n) a ids) (calls_of p) parts.root (calls_of p') parts'.root) at (subst (λ (z : Sender). Shows s q (λ a. fold (callback_ran s q now') a ids) (calls_of z) parts.root (calls_of p') parts'.root) same (shows s q)))
       (stays_ran s q now ids) others fired,
 )
-frame_hosted (Err e) s q now now' interval phases p p0 p' parts parts' h period four at same others fired = tt
+frame_hosted (Err e) s q now now' interval phases is_moment is_moment' p p0 p' parts parts' h period four at uptime same others fired = tt
 
 -- ---- a message was delivered
 
@@ -298,14 +298,16 @@ delivered_plain s q now m a none other nothing =
     if_other (is_some m.callback) (m.handler == frame_handler q) a _ _ (ap is_some none) (ne_eqb m.handler (frame_handler q) other) ∙ ap (λ (o : Option ℕ). option_map_or (λ g. object_set s q now g m.arg a) o (reacted s now m a)) nothing
 
 -- what a frame painted was told, and is painted no more
-pub frame_delivered : (s : Script) (q now : ℕ) (m : PostData) (made made' : List Entry) (parts mid parts' : Parts) (acts acts0 acts' : List Act) (ids : List ℕ) → starts_frame q m ≡ true → RanFrame s.period (phase_count s.edition) now parts.frames mid.frames ids
+pub frame_delivered : (s : Script) (q now : ℕ) (is_moment : ℕ → Bool) (m : PostData) (made made' : List Entry) (parts mid parts' : Parts) (acts acts0 acts' : List Act) (ids : List ℕ) → starts_frame q m ≡ true → RanFrame s.period (phase_count s.edition) is_moment parts.frames mid.frames ids
     → Plays s q (λ a. fold (callback_ran s q now) a ids) made parts made' mid → acts0 ≡ acts → acts' ≡ acts0 ++ map paint_of mid.root.painted.items → parts'.frames ≡ mid.frames → parts'.others ≡ mid.others → parts'.fired ≡ mid.fired
-    → parts'.root.gauges ≡ mid.root.gauges → parts'.root.barrier ≡ mid.root.barrier → parts'.root.pass ≡ mid.root.pass → parts'.root.edition ≡ mid.root.edition → parts'.root.painted.items ≡ [] → Delivers s q now m made made' parts parts' acts acts'
-frame_delivered s q now m made made' parts mid parts' acts acts0 acts' ids starts ran plays same told frames others fired gauges barrier pass edition none = record {
+    → parts'.root.gauges ≡ mid.root.gauges → parts'.root.barrier ≡ mid.root.barrier → parts'.root.pass ≡ mid.root.pass → parts'.root.edition ≡ mid.root.edition → parts'.root.painted.items ≡ [] → Delivers s q now is_moment m made made' parts parts' acts acts'
+frame_delivered s q now is_moment m made made' parts mid parts' acts acts0 acts' ids starts ran plays same told frames others fired gauges barrier pass edition none = record {
   ids = ids;
   ran = record {
     frame = ran.frame;
-    framed = subst (λ (f : Pass). IsFrameBy s.period (phase_count s.edition) now parts.frames f ran.frame ids) (sym frames) ran.framed;
+    start = ran.start;
+    started = ran.started;
+    framed = subst (λ (f : Pass). IsFrameBy s.period (phase_count s.edition) is_moment parts.frames f ran.frame ids) (sym frames) ran.framed;
     within = subst (λ (f : Pass). place_after 0 ran.frame ≤ length f.view.seen) (sym frames) ran.within;
     grew = subst (λ (f : Pass). IsPrefix parts.frames.view.seen f.view.seen) (sym frames) ran.grew;
     asks = ap asks_of frames ∙ ran.asks;
@@ -339,11 +341,11 @@ frame_delivered s q now m made made' parts mid parts' acts acts0 acts' ids start
 }
 
 -- a message that begins no frame and paints nothing
-pub step_delivered : (s : Script) (q now : ℕ) (m : PostData) (made made' : List Entry) (parts parts' : Parts) (acts acts' : List Act) (step : Looper → Looper) → IsPrefix parts.frames.view.seen parts'.frames.view.seen → asks_of parts'.frames ≡ asks_of parts.frames
-    → ((a : Looper) → delivered s q now [] m a ≡ step a) → ((a : Looper) → (step a).painted ≡ a.painted) → Plays s q step made parts made' parts' → acts' ≡ acts → Delivers s q now m made made' parts parts' acts acts'
-step_delivered s q now m made made' parts parts' acts acts' step grew asks is_step still plays same = record {
+pub step_delivered : (s : Script) (q now : ℕ) (is_moment : ℕ → Bool) (m : PostData) (made made' : List Entry) (parts parts' : Parts) (acts acts' : List Act) (step : Looper → Looper) → IsPrefix parts.frames.view.seen parts'.frames.view.seen → asks_of parts'.frames ≡ asks_of parts.frames
+    → ((a : Looper) → delivered s q now [] m a ≡ step a) → ((a : Looper) → (step a).painted ≡ a.painted) → Plays s q step made parts made' parts' → acts' ≡ acts → Delivers s q now is_moment m made made' parts parts' acts acts'
+step_delivered s q now is_moment m made made' parts parts' acts acts' step grew asks is_step still plays same = record {
   ids = [];
-  ran = record { frame = None; framed = λ fs begins is. (refl, refl, refl, refl); within = omega arith; grew = grew; asks = asks ∙ sym (append-nil (asks_of parts.frames)) };
+  ran = record { frame = None; start = 0; started = refl; framed = λ fs begins is. (refl, refl, refl, refl); within = omega arith; grew = grew; asks = asks ∙ sym (append-nil (asks_of parts.frames)) };
   starts = refl;
   plays = λ text a unpainted is. (
       let b : Looper = step a in
@@ -355,10 +357,10 @@ step_delivered s q now m made made' parts parts' acts acts' step grew asks is_st
 }
 
 -- the same where the pass of frames is as it was
-pub still_delivered : (s : Script) (q now : ℕ) (m : PostData) (made made' : List Entry) (parts parts' : Parts) (acts acts' : List Act) (step : Looper → Looper) → parts'.frames ≡ parts.frames
-    → ((a : Looper) → delivered s q now [] m a ≡ step a) → ((a : Looper) → (step a).painted ≡ a.painted) → Plays s q step made parts made' parts' → acts' ≡ acts → Delivers s q now m made made' parts parts' acts acts'
-still_delivered s q now m made made' parts parts' acts acts' step frames is_step still plays same =
-    step_delivered s q now m made made' parts parts' acts acts' step (subst (λ (f : Pass). IsPrefix parts.frames.view.seen f.view.seen) (sym frames) (prefix_self parts.frames.view.seen)) (ap asks_of frames) is_step still plays same
+pub still_delivered : (s : Script) (q now : ℕ) (is_moment : ℕ → Bool) (m : PostData) (made made' : List Entry) (parts parts' : Parts) (acts acts' : List Act) (step : Looper → Looper) → parts'.frames ≡ parts.frames
+    → ((a : Looper) → delivered s q now [] m a ≡ step a) → ((a : Looper) → (step a).painted ≡ a.painted) → Plays s q step made parts made' parts' → acts' ≡ acts → Delivers s q now is_moment m made made' parts parts' acts acts'
+still_delivered s q now is_moment m made made' parts parts' acts acts' step frames is_step still plays same =
+    step_delivered s q now is_moment m made made' parts parts' acts acts' step (subst (λ (f : Pass). IsPrefix parts.frames.view.seen f.view.seen) (sym frames) (prefix_self parts.frames.view.seen)) (ap asks_of frames) is_step still plays same
 
 -- one paint more was told
 pub painted_more : (acts0 acts : List Act) (ps : List Painted) (i : ℕ) (d : Painted) → i < length ps → acts ≡ acts0 ++ map paint_of (take i ps) → acts ++ paint_of (get_or ps i d) ∷ [] ≡ acts0 ++ map paint_of (take (i + 1) ps)

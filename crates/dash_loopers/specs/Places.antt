@@ -1,5 +1,5 @@
 -- What a looper's code serves, and what its steps do, by the place where it runs.
-use Rattle.std.specs.Prelude.{ℕ, Option, fold}
+use Rattle.std.specs.Prelude.{ℕ, Bool, Option, fold}
 use Rattle.loop_model.specs.declared.post.Post.{Post as PostData}
 use Rattle.looper_run.specs.declared.own.Own.{Own}
 use Rattle.looper_run.specs.Holding.{workplace, held}
@@ -22,10 +22,10 @@ ServesOn place parts own = ServesAt place.script.now place.hall.now place.looper
 abbrev pub PlaysOn : {R : Type 0} → Place R → (Looper → Looper) → Own → Own → Parts → Parts → Type 0
 PlaysOn place step own own' parts parts' = Plays place.script.now place.looper step (calls_of own.poster.now) parts (calls_of own'.poster.now) parts'
 
--- a message was delivered at this moment
-abbrev pub DeliversOn : {R : Type 0} → Place R → ℕ → PostData → Own → Own → Parts → Parts → Type 0
-DeliversOn place now m own own' parts parts' =
-    Delivers place.script.now place.looper now m (calls_of own.poster.now) (calls_of own'.poster.now) parts parts' own.journal.now.acts own'.journal.now.acts
+-- a message was delivered at this moment, and a frame that it began read an uptime whose answers pass this test
+abbrev pub DeliversOn : {R : Type 0} → Place R → ℕ → (ℕ → Bool) → PostData → Own → Own → Parts → Parts → Type 0
+DeliversOn place now is_moment m own own' parts parts' =
+    Delivers place.script.now place.looper now is_moment m (calls_of own.poster.now) (calls_of own'.poster.now) parts parts' own.journal.now.acts own'.journal.now.acts
 
 -- what came of a pulse at this moment
 abbrev pub DeliversPulseOn : {R : Type 0} → Place R → ℕ → Own → Own → Parts → Parts → Option Pulse → Type 0
@@ -37,10 +37,10 @@ PulsesOn place now own own' parts parts' =
     Pulses place.script.now place.looper now (calls_of own.poster.now) (calls_of own'.poster.now) parts parts' own.journal.now.acts own'.journal.now.acts
 
 -- a step of the view root, by what its host has called
-abbrev pub ShowsOn : {R : Type 0} → Host R → Host R → Script → ℕ → (Looper → Looper) → ViewRoot → ViewRoot → Type 0
+abbrev pub ShowsOn : {R U : Type 0} → Host R U → Host R U → Script → ℕ → (Looper → Looper) → ViewRoot → ViewRoot → Type 0
 ShowsOn host host' s q step root root' = Shows s q step (calls_of host.poster.now) root (calls_of host'.poster.now) root'
 
 -- the view root of a frame that is under way has run the callbacks that are told, by what its host has called
-abbrev pub FrameShows : {R : Type 0} → FrameRun → Host R → Type 0
+abbrev pub FrameShows : {R U : Type 0} → FrameRun → Host R U → Type 0
 FrameShows run host = (s : Script) (q : ℕ)
     → Shows s q (λ a. fold (callback_ran s q host.now) a (ids_of run.ran.now.items)) (calls_of run.poster_began.now.value) run.began.now.value (calls_of host.poster.now) run.root.now

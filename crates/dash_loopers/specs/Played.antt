@@ -1,7 +1,7 @@
 -- What a looper has come to, told by what it works with: the calls and the frame callbacks that its acts cause are made, and
 -- its gauges, its barrier and its rule counts stand as its acts lead to.
-use Rattle.std.specs.Prelude.{◌≡◌, ◌≢◌, ◌<◌, ◌≤◌, ◌==◌, ◌||◌, ℕ, Bool, true, false, not, All, List, [], ◌∷◌, ◌++◌, map, length, slice_get, slice_set, slice_index_or, Option, Some, None, is_some, IsSomeAnd, if◌then◌else◌, ◌+◌, ◌/◌}
-use Rattle.std.specs.List.{Contains}
+use Rattle.std.specs.Prelude.{◌≡◌, ◌≢◌, ◌<◌, ◌≤◌, ◌==◌, ◌||◌, ℕ, Bool, true, false, not, All, List, [], ◌∷◌, ◌++◌, map, length, slice_get, slice_set, slice_index_or, Option, Some, None, is_some, is_none, IsSomeAnd, if◌then◌else◌, ◌+◌, ◌/◌}
+use Rattle.std.specs.List.{Contains, list_all}
 use Rattle.std.specs.Option.{option_map_or}
 use mathlib.Core.List.{IsPrefix}
 use Rattle.loop_model.specs.declared.post.Post.{Post as PostData}
@@ -30,8 +30,8 @@ use Rattle.run_model.specs.Planned.{frame_message}
 use Rattle.run_model.specs.Control.{Timing, At, InBlock, NotBefore}
 use Rattle.run_model.specs.Loopers.{Looper, Gauge, Sent, first_looper, starts_frame, delivered, fires, reaction}
 use Rattle.run_model.specs.Acts.{Lead, sent_on, IsSent, millis_up}
-use Rattle.run_model.specs.FrameRuns.{FrameAt, frame_ids, is_frame_from, place_after, frames_after, are_run_then, are_whole}
-use Rattle.run_model.specs.FrameAsks.{asks_to_run, as_told}
+use Rattle.run_model.specs.FrameRuns.{FrameAt, frame_ids, is_frame_from, frame_moments, place_after, are_run_then, are_whole}
+use Rattle.run_model.specs.FrameAsks.{FrameAsk, Runs, asks_to_run, as_told}
 use Rattle.dash_hall.specs.declared.kit.Kit.{Kit}
 use Rattle.dash_loopers.specs.declared.view_root.Gauge.{Gauge as ViewGauge}
 use Rattle.dash_loopers.specs.declared.view_root.Painted.{Painted}
@@ -141,24 +141,36 @@ abbrev pub rule_met : Script → ℕ → PostData → ℕ → Rule → Looper �
 rule_met s now m place r a =
     option_map_or (λ n. if fires m r n then record a { fired = slice_set a.fired place (n + 1); sent = a.sent ++ reaction s now r ∷ [] } else a) (slice_get a.fired place) a
 
--- by whatever the frame record comes to, a frame began behind all that the pass had seen before, started at this time and took all phases then, and ran callbacks of these identities, or none began and none ran
-abbrev pub IsFrameBy : ℕ → ℕ → ℕ → Pass → Pass → Option ℕ → List ℕ → Type 0
-IsFrameBy interval phases now before after frame ids = (fs : List FrameEntry) → IsPrefix after.view.seen fs → lawful interval phases fs ≡ true
-    → (is_frame_from fs (length before.view.seen) frame ≡ true) × (frame_ids fs frame ≡ ids) × (are_run_then fs (frames_after [] frame now) ≡ true)
-    × (are_whole phases fs (frames_after [] frame now) ≡ true)
+-- the moments of a frame that began there, or none where there is no frame
+abbrev pub moments_of : List FrameEntry → Option ℕ → List ℕ
+moments_of fs None = []
+moments_of fs (Some place) = frame_moments fs place
 
--- callbacks of these identities ran at this time, of a frame whose beginning the pass has seen, or of none, and the pass asked for that frame and for nothing else
-pub record RanFrame (interval phases now : ℕ) (before after : Pass) (ids : List ℕ) : Type 0 where
+-- by whatever the frame record comes to, a frame began behind all that the pass had seen before, and ran callbacks of these identities; its start and the moments of its phases, one for each phase, pass the test; or none began and none ran
+abbrev pub IsFrameBy : ℕ → ℕ → (ℕ → Bool) → Pass → Pass → Option ℕ → List ℕ → Type 0
+IsFrameBy interval phases is_moment before after frame ids = (fs : List FrameEntry) → IsPrefix after.view.seen fs → lawful interval phases fs ≡ true
+    → (is_frame_from fs (length before.view.seen) frame ≡ true) × (frame_ids fs frame ≡ ids) × (list_all is_moment (moments_of fs frame) ≡ true)
+    × ((is_none frame || length (moments_of fs frame) == phases + 1) ≡ true)
+
+-- what a frame is asked for by that starts at this moment, or nothing where there is no frame
+abbrev pub asks_for : Option ℕ → ℕ → List FrameAsk
+asks_for None start = []
+asks_for (Some place) start = Runs start ∷ []
+
+-- callbacks of these identities ran, of a frame whose beginning the pass has seen, or of none, and the pass asked for that frame, by its start, and for nothing else; its moments pass the test
+pub record RanFrame (interval phases : ℕ) (is_moment : ℕ → Bool) (before after : Pass) (ids : List ℕ) : Type 0 where
   pub frame : Option ℕ
-  pub framed : IsFrameBy interval phases now before after frame ids
+  pub start : ℕ
+  pub framed : IsFrameBy interval phases is_moment before after frame ids
+  pub started : (is_none frame || is_moment start) ≡ true
   pub within : place_after 0 frame ≤ length after.view.seen
   pub grew : IsPrefix before.view.seen after.view.seen
-  pub asks : asks_of after ≡ asks_of before ++ asks_to_run (frames_after [] frame now)
+  pub asks : asks_of after ≡ asks_of before ++ asks_for frame start
 
--- a message was delivered: its frame, where it began one, ran, and what was painted is told
-pub record Delivers (s : Script) (q now : ℕ) (m : PostData) (made made' : List Entry) (parts parts' : Parts) (acts acts' : List Act) : Type 0 where
+-- a message was delivered at this moment: its frame, where it began one, ran at moments that pass the test, and what was painted is told
+pub record Delivers (s : Script) (q now : ℕ) (is_moment : ℕ → Bool) (m : PostData) (made made' : List Entry) (parts parts' : Parts) (acts acts' : List Act) : Type 0 where
   pub ids : List ℕ
-  pub ran : RanFrame s.period (phase_count s.edition) now parts.frames parts'.frames ids
+  pub ran : RanFrame s.period (phase_count s.edition) is_moment parts.frames parts'.frames ids
   pub starts : (not (is_some ran.frame) || starts_frame q m) ≡ true
   pub plays : HasText s → (a : Looper) → a.painted ≡ [] → IsPlayed s q made parts a
       → IsPlayed s q made' parts' (record (delivered s q now ids m a) { painted = [] }) × (acts' ≡ acts ++ (delivered s q now ids m a).painted)
@@ -217,19 +229,19 @@ pub record AreAlike (a b : Looper) : Type 0 where
 
 -- ---- between two acts
 
--- the looper's acts lead to the one state, by whatever its frame record comes to, and all that the other state says is so: each frame that it ran started at its time and took all phases then, and its own pass asked for these frames, in order and for nothing else
-pub record StandsBy (s : Script) (q sender : ℕ) (es : List Entry) (acts : List Act) (parts : Parts) (did a : Looper) : Type 0 where
+-- the looper's acts lead to the one state, by whatever its frame record comes to, and all that the other state says is so: each frame that it ran took all phases, in lockstep at its time, at which it started, and its own pass asked for these frames, as it is told in the mode, in order and for nothing else
+pub record StandsBy (lockstep : Bool) (s : Script) (q sender : ℕ) (es : List Entry) (acts : List Act) (parts : Parts) (did a : Looper) : Type 0 where
   pub led : (fs : List FrameEntry) → IsPrefix parts.frames.view.seen fs → lawful s.period (phase_count s.edition) fs ≡ true → Lead s q es fs (first_looper s) acts a
   pub place : a.place ≤ length parts.frames.view.seen
-  pub moments : (fs : List FrameEntry) → IsPrefix parts.frames.view.seen fs → lawful s.period (phase_count s.edition) fs ≡ true → are_run_then fs did.frames ≡ true
+  pub moments : lockstep ≡ true → (fs : List FrameEntry) → IsPrefix parts.frames.view.seen fs → lawful s.period (phase_count s.edition) fs ≡ true → are_run_then fs did.frames ≡ true
   pub whole : (fs : List FrameEntry) → IsPrefix parts.frames.view.seen fs → lawful s.period (phase_count s.edition) fs ≡ true → are_whole (phase_count s.edition) fs did.frames ≡ true
-  pub ran : asks_of parts.frames ≡ asks_to_run did.frames
+  pub ran : map (as_told lockstep) (asks_of parts.frames) ≡ map (as_told lockstep) (asks_to_run did.frames)
   pub settled : a.painted ≡ []
   pub played : IsPlayed s q (calls_in sender es) parts did
 
--- the same of one state: each frame that its dispatches ran started at the time of its dispatch
+-- in lockstep, of one state: each frame that its dispatches ran started at the time of its dispatch
 abbrev pub Stands : Script → ℕ → ℕ → List Entry → List Act → Parts → Looper → Type 0
-Stands s q sender es acts parts a = StandsBy s q sender es acts parts a a
+Stands s q sender es acts parts a = StandsBy true s q sender es acts parts a a
 
 -- a call is timed by a look of the sender among these entries, or it is one on the looper's own queue that may come no later than at this moment; a looper makes no call in a block
 abbrev pub IsTimedBy : ℕ → ℕ → List Entry → ℕ → ℕ → Timing → Type 0
@@ -268,14 +280,14 @@ HasPlayed s now before after = is_given_up after.last ≡ false → HasText s �
 
 -- where a looper stands between two loops: its acts lead to the one state, it did what the other says, and the two are alike
 abbrev pub HasComeBy : Script → StageLooper → Looper → Looper → Type 0
-HasComeBy s l did a = AreAlike did a × IsSomeAnd l.parts (λ parts. StandsBy s l.number l.sender l.looper.held.poster.view.seen l.looper.held.journal.acts parts did a)
+HasComeBy s l did a = AreAlike did a × IsSomeAnd l.parts (λ parts. StandsBy false s l.number l.sender l.looper.held.poster.view.seen l.looper.held.journal.acts parts did a)
 
 -- it went on to such states
 pub record ComesBy (s : Script) (q sender : ℕ) (es : List Entry) (acts : List Act) (parts : Parts) : Type 0 where
   pub did : Looper
   pub state : Looper
   pub alike : AreAlike did state
-  pub stands : StandsBy s q sender es acts parts did state
+  pub stands : StandsBy false s q sender es acts parts did state
 
 -- in a loop by a clock: from whatever states it began it has gone on
 abbrev pub IsPlayingBy : Script → ℕ → StageLooper → ℕ → List Entry → List Act → Parts → Type 0

@@ -44,9 +44,9 @@ calls_disposed k es e now is call reply =
 
 -- ---- where it stands, as entries and acts are added
 
-module _ (s : Script) (q k : ℕ) where
+module _ {lockstep : Bool} (s : Script) (q k : ℕ) where
   -- entries that are no calls of the looper
-  pub stands_beside : (es more : List Entry) (acts : List Act) (parts : Parts) (did a : Looper) → calls_in k (es ++ more) ≡ calls_in k es → StandsBy s q k es acts parts did a → StandsBy s q k (es ++ more) acts parts did a
+  pub stands_beside : (es more : List Entry) (acts : List Act) (parts : Parts) (did a : Looper) → calls_in k (es ++ more) ≡ calls_in k es → StandsBy lockstep s q k es acts parts did a → StandsBy lockstep s q k (es ++ more) acts parts did a
   stands_beside es more acts parts did a same st = record {
     led = λ fs begins is. Lead-entries s q es fs more (first_looper s) acts a (st.led fs begins is);
     place = st.place;
@@ -58,7 +58,7 @@ module _ (s : Script) (q k : ℕ) where
   }
 
   -- an act of an idle handler or an event
-  pub stands_quiet : (es : List Entry) (x : Act) (acts : List Act) (parts : Parts) (did a : Looper) → IsQuiet x → StandsBy s q k es acts parts did a → StandsBy s q k es (acts ++ x ∷ []) parts did a
+  pub stands_quiet : (es : List Entry) (x : Act) (acts : List Act) (parts : Parts) (did a : Looper) → IsQuiet x → StandsBy lockstep s q k es acts parts did a → StandsBy lockstep s q k es (acts ++ x ∷ []) parts did a
   unfolding after_act
   stands_quiet es (Idle i t) acts parts did a is st = record {
     led = λ fs begins law. Lead-snoc s q es fs None (first_looper s) acts a (Idle i t) (st.led fs begins law) (refl, st.settled);

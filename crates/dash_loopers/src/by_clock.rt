@@ -16,7 +16,7 @@ ghost use Rattle.dash_loopers.specs.ClockedLaws.{playing_at_others, playing_at_d
 use crate::looper::{StageLooper, close};
 use crate::player::{Parts, Place, did};
 use choreographer::NANOS_PER_MILLI;
-use dash_hall::{Hall, Timer, frame_handler};
+use dash_hall::{Hall, Timer, Uptime, frame_handler};
 use dash_script::Script;
 use loop_io::{Clock, Gate};
 use loop_model::{NoMemory, Post};
@@ -92,13 +92,16 @@ impl<'a, R: Wait, G: Gate, C: Clock> Dispatcher for ClockPlayer<'a, R, G, C> {
         let p = m.as_post();
         let at = self.place.moment_for(self.timer, &p, now);
         self.nudged = self.nudged.wrapping_add(1);
-        did(self.place.deliver_and_ring(&mut self.parts, own, &p, at))
+        did(
+            self.place
+                .deliver_and_ring(&mut self.parts, own, &p, at, self.timer),
+        )
     }
 
     fn handle(&mut self, own: &mut Own, m: &Message<PoolClaim>, now: u64) -> Did {
         let p = m.as_post();
         let at = self.place.moment_for(self.timer, &p, now);
-        did(self.place.deliver(&mut self.parts, own, &p, at))
+        did(self.place.deliver(&mut self.parts, own, &p, at, self.timer))
     }
 
     ghost others = { λ d s es e acts apart meets.
@@ -132,12 +135,13 @@ impl<'a, R: Wait> Place<'a, R> {
     }
 
     /// Delivers a message as `deliver` does, and rings the bell of its own queue, since a frame may be asked for.
-    fn deliver_and_ring(
+    fn deliver_and_ring<U: Uptime>(
         &self,
         parts: &mut Parts,
         own: &mut Own,
         p: &Post,
         now: u64,
+        uptime: &U,
     ) -> Result<(), NoMemory>
         requires serves { ServesOn self.now parts.old own.old }
         requires callback { p.now.callback ≡ None }
@@ -146,9 +150,9 @@ impl<'a, R: Wait> Place<'a, R> {
         ensures lent { IsLent (held own.old) (held own.new) }
         ensures rung { own.new.poster.now.view.rung ≡ own.old.poster.now.view.rung + 1 }
         ensures clocked { DeliversAt self.now.looper now p.now own.old.poster.now own.new.poster.now parts.old parts.new }
-        ensures delivers { OnOk result (DeliversOn self.now now p.now own.old own.new parts.old parts.new) }
+        ensures delivers { OnOk result (DeliversOn self.now now (U.is_moment uptime.now) p.now own.old own.new parts.old parts.new) }
     {
-        let done = self.deliver(parts, own, p, now);
+        let done = self.deliver(parts, own, p, now, uptime);
         own.poster.nudge(self.rt, self.queue());
         done
     }

@@ -23,7 +23,7 @@ ghost use Rattle.dash_loopers.specs.Places.{ServesOn, PlaysOn, DeliversOn, Deliv
 use crate::player::{Parts, Place, did};
 use crate::view_root::Painted;
 use choreographer::{DUE_MESSAGE, FRAME_MESSAGE, HostSent, Pulse};
-use dash_hall::{Host, frame_handler};
+use dash_hall::{Host, Still, Uptime, frame_handler};
 use dash_script::phase_count;
 use loop_model::{Act, Journal, NoMemory, Post};
 use looper_run::{Did, Own};
@@ -33,15 +33,16 @@ use std::snapshot::Snapshot;
 use std::sync::Wait;
 
 impl<'a, R: Wait> Place<'a, R> {
-    /// The looper's queue as its choreographer sees it, at this moment in milliseconds.
-    fn host<'b>(
+    /// The looper's queue as its choreographer sees it, at this moment in milliseconds and with this uptime.
+    fn host<'b, U: Uptime>(
         &'b self,
         poster: &'b mut Poster<PoolClaim>,
         pass: &'b mut PoolPass,
         began: &'b Snapshot<Poster<PoolClaim>>,
         pass_began: &'b Snapshot<PoolPass>,
         now: u64,
-    ) -> Host<'b, R>
+        uptime: &'b U,
+    ) -> Host<'b, R, U>
         requires looper { IsLooperOf self.now.script.now self.now.hall.now self.now.looper }
         requires place { IsPlaceOf self.now.hall.now self.now.looper
             (record { table = poster.old.table; constants = poster.old.view.constants; pool = pass.old.home }) }
@@ -50,6 +51,7 @@ impl<'a, R: Wait> Place<'a, R> {
         ensures pass { (result.pass.ghost_name ≡ pass.entry.ghost_name) × (result.pass.now ≡ pass.old) }
         ensures began { (result.began.now.value ≡ poster.old) × (result.pass_began.now.value ≡ pass.old) }
         ensures moment { (result.now ≡ now) × (result.handler.id ≡ the_frame_handler self.now.looper) }
+        ensures uptime { result.uptime.now ≡ uptime.now }
         ensures ready { IsHostNow result }
     {
         Host {
@@ -63,6 +65,7 @@ impl<'a, R: Wait> Place<'a, R> {
             began,
             pass_began,
             now,
+            uptime,
         }
     }
 
@@ -80,7 +83,8 @@ impl<'a, R: Wait> Place<'a, R> {
     {
         let began = Snapshot::of(&*own.poster);
         let pass_began = Snapshot::of(&*own.pass);
-        let mut host = self.host(own.poster, own.pass, &began, &pass_began, now);
+        let still = Still { now };
+        let mut host = self.host(own.poster, own.pass, &began, &pass_began, now, &still);
         host.deliver(self.choreographer(), &mut parts.frames)
     }
 
@@ -105,8 +109,14 @@ impl<'a, R: Wait> Place<'a, R> {
         }
     }
 
-    /// The frame's message begins a frame, where one is scheduled, and runs its callbacks.
-    fn run_frame(&self, parts: &mut Parts, own: &mut Own, now: u64) -> Result<(), NoMemory>
+    /// The frame's message begins a frame, where one is scheduled, and runs its callbacks. The uptime is read for its start and for each phase.
+    fn run_frame<U: Uptime>(
+        &self,
+        parts: &mut Parts,
+        own: &mut Own,
+        now: u64,
+        uptime: &U,
+    ) -> Result<(), NoMemory>
         requires serves { ServesOn self.now parts.old own.old }
         ensures parts { AreSameParts parts.old parts.new }
         ensures own { IsSameOwn own.old own.new }
@@ -115,20 +125,27 @@ impl<'a, R: Wait> Place<'a, R> {
         ensures clocked { AddsAt now own.old.poster.now own.new.poster.now }
         ensures others { parts.new.others ≡ parts.old.others }
         ensures ran { OnOk result ((ids : List ℕ)
-            × RanFrame self.now.script.now.period (phase_count self.now.script.now.edition) now parts.old.frames parts.new.frames ids
+            × RanFrame self.now.script.now.period (phase_count self.now.script.now.edition) (U.is_moment uptime.now)
+            parts.old.frames parts.new.frames ids
             × PlaysOn self.now (λ a. fold (callback_ran self.now.script.now self.now.looper now) a ids) own.old own.new parts.old parts.new) }
         ensures acts { own.new.journal.now.acts ≡ own.old.journal.now.acts }
     {
         let began = Snapshot::of(&*own.poster);
         let pass_began = Snapshot::of(&*own.pass);
-        let mut host = self.host(own.poster, own.pass, &began, &pass_began, now);
+        let mut host = self.host(own.poster, own.pass, &began, &pass_began, now, uptime);
         parts
             .root
             .do_frame(self.choreographer(), &mut parts.frames, &mut host)
     }
 
     /// The frame's message begins a frame, where one is scheduled, runs its callbacks, and tells what they painted.
-    fn do_frame(&self, parts: &mut Parts, own: &mut Own, now: u64) -> Result<(), NoMemory>
+    fn do_frame<U: Uptime>(
+        &self,
+        parts: &mut Parts,
+        own: &mut Own,
+        now: u64,
+        uptime: &U,
+    ) -> Result<(), NoMemory>
         requires serves { ServesOn self.now parts.old own.old }
         ensures parts { AreSameParts parts.old parts.new }
         ensures own { IsSameOwn own.old own.new }
@@ -137,9 +154,9 @@ impl<'a, R: Wait> Place<'a, R> {
         ensures clocked { AddsAt now own.old.poster.now own.new.poster.now }
         ensures others { parts.new.others ≡ parts.old.others }
         ensures delivers { (m : PostData) → starts_frame self.now.looper m ≡ true
-            → OnOk result (DeliversOn self.now now m own.old own.new parts.old parts.new) }
+            → OnOk result (DeliversOn self.now now (U.is_moment uptime.now) m own.old own.new parts.old parts.new) }
     {
-        self.run_frame(parts, own, now)?;
+        self.run_frame(parts, own, now, uptime)?;
         tell_painted(own.journal, parts.root.painted.as_slice())?;
         parts.root.painted.clear();
         Ok(())
@@ -166,7 +183,8 @@ impl<'a, R: Wait> Place<'a, R> {
         }
         let began = Snapshot::of(&*own.poster);
         let pass_began = Snapshot::of(&*own.pass);
-        let mut host = self.host(own.poster, own.pass, &began, &pass_began, now);
+        let still = Still { now };
+        let mut host = self.host(own.poster, own.pass, &began, &pass_began, now, &still);
         host.on_due(self.choreographer(), &mut parts.frames, phase);
     }
 
@@ -192,19 +210,21 @@ impl<'a, R: Wait> Place<'a, R> {
     {
         let began = Snapshot::of(&*own.poster);
         let pass_began = Snapshot::of(&*own.pass);
-        let mut host = self.host(own.poster, own.pass, &began, &pass_began, now);
+        let still = Still { now };
+        let mut host = self.host(own.poster, own.pass, &began, &pass_began, now, &still);
         parts
             .root
             .set_target(self.choreographer(), &mut host, object, target)
     }
 
     /// A message by the choreographer's handler, which begins a frame or says that a callback came due.
-    pub(crate) fn on_frame(
+    pub(crate) fn on_frame<U: Uptime>(
         &self,
         parts: &mut Parts,
         own: &mut Own,
         p: &Post,
         now: u64,
+        uptime: &U,
     ) -> Result<(), NoMemory>
         requires callback { p.now.callback ≡ None }
         requires handler { p.now.handler ≡ the_frame_handler self.now.looper }
@@ -215,10 +235,10 @@ impl<'a, R: Wait> Place<'a, R> {
         ensures rung { own.new.poster.now.view.rung ≡ own.old.poster.now.view.rung }
         ensures clocked { AddsAt now own.old.poster.now own.new.poster.now }
         ensures others { parts.new.others ≡ parts.old.others }
-        ensures delivers { OnOk result (DeliversOn self.now now p.now own.old own.new parts.old parts.new) }
+        ensures delivers { OnOk result (DeliversOn self.now now (U.is_moment uptime.now) p.now own.old own.new parts.old parts.new) }
     {
         match p.what {
-            FRAME_MESSAGE => self.do_frame(parts, own, now),
+            FRAME_MESSAGE => self.do_frame(parts, own, now, uptime),
             DUE_MESSAGE => {
                 self.on_due(parts, own, p.arg, now);
                 Ok(())

@@ -13,7 +13,7 @@ ghost use Rattle.dash_loopers.specs.Players.{FrameOwner, frame_owner};
 
 use crate::view_root::ViewRoot;
 use choreographer::{Choreographer, ClientRan, FrameClient, FramePass, Framed};
-use dash_hall::Host;
+use dash_hall::{Host, Uptime};
 use frame_phases::Callback;
 use loop_model::NoMemory;
 use message_pool::PoolClaim;
@@ -32,7 +32,7 @@ pub(crate) struct FrameRun<'a> {
     pub(crate) ran: &'a mut Vec<(Callback, u64)>,
 }
 
-impl<'a, 'b, R: Wait> FrameClient<Host<'b, R>> for FrameRun<'a> {
+impl<'a, 'b, R: Wait, U: Uptime> FrameClient<Host<'b, R, U>> for FrameRun<'a> {
     ghost Serves = { λ l c. IsOf l.root.now.pass c × (3 < c.constants.phases) };
 
     ghost Origin = { FrameOwner };
@@ -46,7 +46,7 @@ impl<'a, 'b, R: Wait> FrameClient<Host<'b, R>> for FrameRun<'a> {
     fn run(
         &mut self,
         c: &Choreographer,
-        host: &mut Host<'b, R>,
+        host: &mut Host<'b, R, U>,
         callback: &Callback,
         time: u64,
     ) -> ClientRan {
@@ -64,11 +64,11 @@ impl<'a, 'b, R: Wait> FrameClient<Host<'b, R>> for FrameRun<'a> {
 
 impl ViewRoot {
     /// Begins a frame, where one is scheduled, and runs its callbacks.
-    pub(crate) fn do_frame<R: Wait>(
+    pub(crate) fn do_frame<R: Wait, U: Uptime>(
         &mut self,
         c: &Choreographer,
         pass: &mut FramePass,
-        host: &mut Host<R>,
+        host: &mut Host<R, U>,
     ) -> Result<(), NoMemory>
         requires ready { IsHostNow host.old }
         requires pass { IsOf pass.old c.now }
@@ -77,7 +77,7 @@ impl ViewRoot {
         ensures origin { IsSameHost host.old host.new }
         ensures pass { frame_badge_of pass.new ≡ frame_badge_of pass.old }
         ensures root { frame_badge_of self.new.pass ≡ frame_badge_of self.old.pass }
-        ensures ran { OnOk result ((ids : List ℕ) × RanFrame c.now.constants.interval c.now.constants.phases host.old.now pass.old pass.new ids
+        ensures ran { OnOk result ((ids : List ℕ) × RanFrame c.now.constants.interval c.now.constants.phases (U.is_moment host.old.uptime.now) pass.old pass.new ids
             × ((s : ScriptData) (q : ℕ) → ShowsOn host.old host.new s q (λ a. fold (callback_ran s q host.old.now) a ids) self.old self.new)) }
     {
         let began = Snapshot::of(&*self);

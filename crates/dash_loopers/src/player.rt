@@ -17,7 +17,7 @@ ghost use Rattle.dash_loopers.specs.Places.{ServesOn, DeliversOn};
 use crate::looper::StageLooper;
 use crate::view_root::ViewRoot;
 use choreographer::{Choreographer, FramePass};
-use dash_hall::{Hall, frame_handler};
+use dash_hall::{Hall, Still, Uptime, frame_handler};
 use dash_script::Script;
 use loop_io::Gate;
 use loop_model::{NoMemory, Post};
@@ -106,11 +106,17 @@ impl<'a, R: Wait, G: Gate> Dispatcher for Player<'a, R, G> {
         if !self.place.intercepts(m) {
             return Did::No;
         }
-        did(self.place.deliver(&mut self.parts, own, &m.as_post(), now))
+        did(
+            self.place
+                .deliver(&mut self.parts, own, &m.as_post(), now, &Still { now }),
+        )
     }
 
     fn handle(&mut self, own: &mut Own, m: &Message<PoolClaim>, now: u64) -> Did {
-        did(self.place.deliver(&mut self.parts, own, &m.as_post(), now))
+        did(
+            self.place
+                .deliver(&mut self.parts, own, &m.as_post(), now, &Still { now }),
+        )
     }
 
     ghost others = { λ d s es e acts apart meets. playing_others d.place.script.now d.place.looper d.now d.began.now.value s es e acts d.parts apart meets };
@@ -147,13 +153,14 @@ impl<'a, R: Wait> Place<'a, R> {
     }
 
     /// Delivers a message that has no callback: one of the choreographer to it, one with an object to the gauge of that number, and
-    /// any other to the rules. Where the run is given up it delivers none.
-    pub(crate) fn deliver(
+    /// any other to the rules. Where the run is given up it delivers none. A frame that it begins reads the uptime.
+    pub(crate) fn deliver<U: Uptime>(
         &self,
         parts: &mut Parts,
         own: &mut Own,
         p: &Post,
         now: u64,
+        uptime: &U,
     ) -> Result<(), NoMemory>
         requires serves { ServesOn self.now parts.old own.old }
         requires callback { p.now.callback ≡ None }
@@ -162,13 +169,13 @@ impl<'a, R: Wait> Place<'a, R> {
         ensures lent { IsLent (held own.old) (held own.new) }
         ensures rung { own.new.poster.now.view.rung ≡ own.old.poster.now.view.rung }
         ensures clocked { DeliversAt self.now.looper now p.now own.old.poster.now own.new.poster.now parts.old parts.new }
-        ensures delivers { OnOk result (DeliversOn self.now now p.now own.old own.new parts.old parts.new) }
+        ensures delivers { OnOk result (DeliversOn self.now now (U.is_moment uptime.now) p.now own.old own.new parts.old parts.new) }
     {
         if self.hall.stop.is_stopped(self.rt) {
             return Err(NoMemory);
         }
         if p.handler == frame_handler(self.looper).id {
-            return self.on_frame(parts, own, p, now);
+            return self.on_frame(parts, own, p, now, uptime);
         }
         match p.obj {
             Some(object) => self.set_target(parts, own, object, p.arg, now),

@@ -13,7 +13,7 @@ ghost use Rattle.run_model.specs.Senders.{traversal_phase};
 ghost use Rattle.run_model.specs.Loopers.{object_set, traversal_requested, animation_ran, traversal_ran, callback_ran, and_posts_frame, paints, moved as moved_by};
 
 use choreographer::{Choreographer, FramePass};
-use dash_hall::{Host, looper_of};
+use dash_hall::{Host, Uptime, looper_of};
 use dash_script::Script;
 use loop_model::NoMemory;
 use std::alloc::Global;
@@ -99,10 +99,10 @@ impl ViewRoot {
     }
 
     /// A message sets the target of a gauge, where it is one of this looper. It begins to animate where its value is another.
-    pub(crate) fn set_target<R: Wait>(
+    pub(crate) fn set_target<R: Wait, U: Uptime>(
         &mut self,
         c: &Choreographer,
-        host: &mut Host<R>,
+        host: &mut Host<R, U>,
         gauge: u64,
         target: u32,
     ) -> Result<(), NoMemory>
@@ -165,10 +165,10 @@ impl ViewRoot {
     }
 
     /// Posts a barrier and the traversal's callback, unless a traversal is under way.
-    fn request_traversal<R: Wait>(
+    fn request_traversal<R: Wait, U: Uptime>(
         &mut self,
         c: &Choreographer,
-        host: &mut Host<R>,
+        host: &mut Host<R, U>,
     ) -> Result<(), NoMemory>
         requires ready { IsHostNow host.old }
         requires pass { IsOf self.old.pass c.now × (3 < c.now.constants.phases) }
@@ -187,10 +187,10 @@ impl ViewRoot {
     }
 
     /// The animation of a gauge moves it by a step, requests a traversal, and goes on until the target is reached.
-    fn animate<R: Wait>(
+    fn animate<R: Wait, U: Uptime>(
         &mut self,
         c: &Choreographer,
-        host: &mut Host<R>,
+        host: &mut Host<R, U>,
         gauge: u64,
     ) -> Result<(), NoMemory>
         requires ready { IsHostNow host.old }
@@ -225,7 +225,7 @@ impl ViewRoot {
     }
 
     /// The traversal removes its barrier, and paints each gauge of the looper.
-    fn traverse<R: Wait>(&mut self, host: &mut Host<R>) -> Result<(), NoMemory>
+    fn traverse<R: Wait, U: Uptime>(&mut self, host: &mut Host<R, U>) -> Result<(), NoMemory>
         requires { IsHostNow host.old }
         ensures ready { IsHostNow host.new }
         ensures origin { IsSameHost host.old host.new }
@@ -251,10 +251,10 @@ impl ViewRoot {
     }
 
     /// Posts a frame callback that is due at once.
-    fn post<R: Wait>(
+    fn post<R: Wait, U: Uptime>(
         &mut self,
         c: &Choreographer,
-        host: &mut Host<R>,
+        host: &mut Host<R, U>,
         phase: u32,
         id: u64,
     ) -> Result<(), NoMemory>
@@ -270,10 +270,10 @@ impl ViewRoot {
     }
 
     /// Runs a frame callback, by its identity.
-    pub(crate) fn run_callback<R: Wait>(
+    pub(crate) fn run_callback<R: Wait, U: Uptime>(
         &mut self,
         c: &Choreographer,
-        host: &mut Host<R>,
+        host: &mut Host<R, U>,
         id: u64,
     ) -> Result<(), NoMemory>
         requires ready { IsHostNow host.old }

@@ -1,5 +1,5 @@
 -- The frame callbacks that a thread posts and removes.
-use Rattle.std.proofs.Common.{◌≡◌, ℕ, ◌<◌, true, List, [], ◌∷◌, ◌++◌, map, length, None, refl, sym, ap, ◌∙◌, subst}
+use Rattle.std.proofs.Common.{◌≡◌, ℕ, ◌<◌, List, [], ◌∷◌, ◌++◌, length, None, sym, ap, ◌∙◌, subst}
 use Rattle.std.proofs.lemmas.List.Elements.{filter_map-append}
 use Rattle.std.specs.Prelude.{Result, Ok, Err, OnOk, slice_index_or}
 use Rattle.message_pool.specs.Passes.{Tally}
@@ -12,18 +12,18 @@ use Rattle.choreographer.specs.Known.{Known as Pass, IsTurn}
 use Rattle.choreographer.proofs.Recorded.{turn_records}
 use Rattle.run_model.specs.Moments.{in_lockstep}
 use Rattle.run_model.specs.Planned.{Timed}
-use Rattle.run_model.specs.FrameAsks.{FrameAsk, Posts, Removes, Runs, asked_in, asks_in, as_told, lines_ask}
+use Rattle.run_model.specs.FrameAsks.{Removes, asked_in, asks_in, lines_ask}
 use Rattle.dash_hall.specs.Growth.{GoesOn}
 use Rattle.dash_hall.specs.Hosts.{HostOrigin, IsHost, sends_by, PlacesBy, PostsFrame, asks_of, AsksFor}
 use Rattle.dash_threads.specs.Threads.{HasAsked}
-use Rattle.dash_hall.proofs.FramePosts.{posts_frame_by}
+use Rattle.dash_hall.proofs.FramePosts.{posts_frame_by, told_whole}
 
 -- a frame callback was posted by a host that was made of this poster
-pub frame_made : {A E : Type 0} (r : Result A E) (o o' : HostOrigin) (p q q' : Sender) (b : Tally) (f g : Pass) (u phase i id delay : ℕ) → i ≡ id → o' ≡ o → IsHost o' q b → o.poster ≡ p → q' ≡ q
+pub frame_made : {A E U : Type 0} (r : Result A E) (o o' : HostOrigin U) (p q q' : Sender) (b : Tally) (f g : Pass) (u phase i id delay : ℕ) → i ≡ id → o' ≡ o → IsHost o' q b → o.poster ≡ p → q' ≡ q
     → OnOk r (PlacesBy f g u (sends_by o.handler p) (sends_by o'.handler q) phase i delay) → OnOk r (PostsFrame o.handler u phase id delay p q' f g)
 frame_made (Ok x) o o' p q q' b f g u phase i id delay alike same is began ends turn =
-    let goes : GoesOn p q o.pass b = subst (λ (z : Sender). GoesOn z q o.pass b) began (subst (λ (z : HostOrigin). IsHost z q b) same is).on in
-    let placed_by : PlacesBy f g u (sends_by o.handler p) (sends_by o.handler q) phase i delay = subst (λ (h : ℕ). PlacesBy f g u (sends_by o.handler p) (sends_by h q) phase i delay) (ap (λ (z : HostOrigin). z.handler) same) turn in
+    let goes : GoesOn p q o.pass b = subst (λ (z : Sender). GoesOn z q o.pass b) began (subst (λ z. IsHost z q b) same is).on in
+    let placed_by : PlacesBy f g u (sends_by o.handler p) (sends_by o.handler q) phase i delay = subst (λ (h : ℕ). PlacesBy f g u (sends_by o.handler p) (sends_by h q) phase i delay) (ap (λ z. z.handler) same) turn in
     subst (λ (n : ℕ). PostsFrame o.handler u phase n delay p q' f g) alike
     (subst (λ (z : Sender). PostsFrame o.handler u phase i delay p z f g) (sym ends) (posts_frame_by o.handler u phase i delay p q o.pass b f g goes placed_by))
 frame_made (Err e) o o' p q q' b f g u phase i id delay alike same is began ends turn = tt
@@ -37,12 +37,6 @@ removal_asks phase id f g x y t is =
     ap asks_in (turn_records f g x y (e ∷ []) t left) ∙ filter_map-append asked_in f.view.own (e ∷ [])
 
 -- ---- what is told in lockstep is all that was asked for
-
-told_whole : (xs : List FrameAsk) → map (as_told true) xs ≡ xs
-told_whole [] = refl
-told_whole (Posts phase due id token ∷ xs) = ap (λ (l : List FrameAsk). Posts phase due id token ∷ l) (told_whole xs)
-told_whole (Removes phase id token ∷ xs) = ap (λ (l : List FrameAsk). Removes phase id token ∷ l) (told_whole xs)
-told_whole (Runs start ∷ xs) = ap (λ (l : List FrameAsk). Runs start ∷ l) (told_whole xs)
 
 pub asked_in_lockstep : (past : List Timed) (fs : List Pass) → HasAsked in_lockstep past fs → (q : ℕ) (d : Pass) → q < length fs → asks_of (slice_index_or fs q d) ≡ lines_ask q past
 asked_in_lockstep past fs has q d near = sym (told_whole (asks_of (slice_index_or fs q d))) ∙ (has q d near ∙ told_whole (lines_ask q past))

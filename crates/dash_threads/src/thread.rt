@@ -15,7 +15,7 @@ ghost use Rattle.dash_threads.specs.Threads.{IsThread, CallsAt, with_barrier, Ma
 use crate::labels::Labelled;
 use crate::planned::call_for;
 use choreographer::{Choreographer, FramePass};
-use dash_hall::{Hall, Host, Kit, Look, QueueCall, frame_handler, perform_by};
+use dash_hall::{Hall, Host, Kit, Look, QueueCall, Still, frame_handler, perform_by};
 use dash_script::{Block, Command, Script, phase_count};
 use handler_post::Handler;
 use loop_io::Gate;
@@ -413,6 +413,7 @@ fn post_frame<R: Wait>(
 {
     let began = Snapshot::of(poster);
     let pass_began = Snapshot::of(pass);
+    let still = Still { now: post.now };
     let mut host = Host {
         rt,
         alloc,
@@ -424,6 +425,7 @@ fn post_frame<R: Wait>(
         began: &began,
         pass_began: &pass_began,
         now: post.now,
+        uptime: &still,
     };
     let id = u64::from(post.id);
     host.post_callback(screen.choreographer, frames, post.phase, id, post.delay)

@@ -28,7 +28,7 @@ use Rattle.dash_loopers.specs.declared.player.Parts.{Parts}
 use Rattle.dash_loopers.specs.Loopers.{posters_of, LooperKeeps}
 use Rattle.dash_loopers.specs.Played.{AreAlike, StandsBy, ComesBy}
 use Rattle.dash_loopers.proofs.LooperNext.{played_self}
-use Rattle.dash_loopers.proofs.OpenTimes.{alike_self}
+use Rattle.dash_loopers.proofs.LooperPlayed.{comes_free}
 use Rattle.dash_stage.specs.declared.control.Controller.{Controller}
 use Rattle.dash_stage.specs.declared.stage.Stage.{Stage}
 use Rattle.dash_stage.specs.ByClock.{RunsByClock, LoopsByClock, EachIsLooper}
@@ -87,7 +87,7 @@ loops_still m s hall ls are k d lt = record { looper = are k d lt; number = refl
 
 -- where a looper stands that has gone on
 came_by : (s : Script) (q k : ℕ) (es : List Entry) (acts : List Act) (o : Option Parts) → IsSomeAnd o (ComesBy s q k es acts)
-    → (did : Looper) × (a : Looper) × (AreAlike did a × IsSomeAnd o (λ parts. StandsBy s q k es acts parts did a))
+    → (did : Looper) × (a : Looper) × (AreAlike did a × IsSomeAnd o (λ parts. StandsBy false s q k es acts parts did a))
 came_by s q k es acts None h = absurd h
 came_by s q k es acts (Some parts) h = (h.did, h.state, (h.alike, h.stands))
 
@@ -163,7 +163,7 @@ begins_by_clock m s st is begun loopers unseen = record {
 
 -- the loopers stand at the state before the first act
 pub begins_played : (s : Script) (ls : List StageLooper) → HaveBegun s ls → HaveComeBy s ls
-begins_played s ls begun k d lt = (first_looper s, first_looper s, (alike_self (first_looper s), begun k d lt))
+begins_played s ls begun k d lt = (first_looper s, first_looper s, comes_free s (slice_index_or ls k d) (first_looper s) (begun k d lt))
 
 -- ---- all hear each other
 

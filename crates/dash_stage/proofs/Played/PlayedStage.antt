@@ -1,5 +1,5 @@
 -- Loopers that only heard others have played as far, and each of their calls is as timely.
-use Rattle.std.proofs.Common.{◌≡◌, ◌≢◌, ◌<◌, ◌≤◌, ◌+◌, ◌-◌, inl, inr, ℕ, List, [], map, length, Option, Some, refl, sym, ap, ◌∙◌, subst, arith}
+use Rattle.std.proofs.Common.{◌≡◌, ◌≢◌, ◌<◌, ◌≤◌, ◌+◌, ◌-◌, inl, inr, ℕ, Bool, true, List, [], map, length, Option, Some, refl, sym, ap, ◌∙◌, subst, arith}
 use Rattle.std.specs.Prelude.{filter, not, slice_index_or}
 use Rattle.std.specs.List.{insert}
 use Rattle.std.specs.Option.{IsSomeAnd}
@@ -41,7 +41,7 @@ use Rattle.dash_stage.proofs.Stages.StageTurns.{for_count}
 use Rattle.dash_stage.proofs.Stages.StageWhole.{as_many, looper_entries, looper_sees, looper_made_none, sound_grown, none_behind}
 use Rattle.dash_stage.proofs.Stages.Timely.{timely_others}
 use Rattle.dash_stage.proofs.Played.RoundTimes.{befores_called_of_others}
-use Rattle.run_model.specs.FrameAsks.{asks_to_run}
+use Rattle.run_model.specs.FrameAsks.{as_told, asks_to_run}
 
 -- ---- one looper
 
@@ -65,18 +65,18 @@ others_called n xs ys p p' le le' heard =
     )
 
 -- a looper stands where it stood, whatever more it has seen of others
-stands_heard : (s : Script) (q k : ℕ) (es es' : List Entry) (acts : List Act) (parts parts' : Parts) (did a : Looper) → IsPrefix es es' → calls_in k es' ≡ calls_in k es
+stands_heard : {lockstep : Bool} (s : Script) (q k : ℕ) (es es' : List Entry) (acts : List Act) (parts parts' : Parts) (did a : Looper) → IsPrefix es es' → calls_in k es' ≡ calls_in k es
     → parts'.frames ≡ parts.frames → parts'.root ≡ parts.root → parts'.fired.items ≡ parts.fired.items → length parts'.others.items ≡ length parts.others.items
     → ((j : ℕ) (d : Sender) → j < length parts.others.items → own (slice_index_or parts'.others.items j d) ≡ own (slice_index_or parts.others.items j d))
-    → StandsBy s q k es acts parts did a → StandsBy s q k es' acts parts' did a
-stands_heard s q k es es' acts parts parts' did a more calls frames root fired long called st = record {
+    → StandsBy lockstep s q k es acts parts did a → StandsBy lockstep s q k es' acts parts' did a
+stands_heard {lockstep} s q k es es' acts parts parts' did a more calls frames root fired long called st = record {
   led = λ fs begins law.
       subst (λ l. Lead s q l fs (first_looper s) acts a) more.1
       (Lead-entries s q es fs more.0 (first_looper s) acts a (st.led fs (subst (λ (p : Pass). IsPrefix p.view.seen fs) frames begins) law));
   place = subst (λ (p : Pass). a.place ≤ length p.view.seen) (sym frames) st.place;
-  moments = λ fs begins law. st.moments fs (subst (λ (p : Pass). IsPrefix p.view.seen fs) frames begins) law;
+  moments = λ is fs begins law. st.moments is fs (subst (λ (p : Pass). IsPrefix p.view.seen fs) frames begins) law;
   whole = λ fs begins law. st.whole fs (subst (λ (p : Pass). IsPrefix p.view.seen fs) frames begins) law;
-  ran = subst (λ (p : Pass). asks_of p ≡ asks_to_run did.frames) (sym frames) st.ran;
+  ran = subst (λ (p : Pass). map (as_told lockstep) (asks_of p) ≡ map (as_told lockstep) (asks_to_run did.frames)) (sym frames) st.ran;
   settled = st.settled;
   played = record {
     shown = subst (λ (r : ViewRoot). IsShown s q (calls_in k es') r did) (sym root) (subst (λ l. IsShown s q l parts.root did) (sym calls) st.played.shown);
@@ -90,9 +90,9 @@ stands_heard s q k es es' acts parts parts' did a more calls frames root fired l
 
 module _ (s : Script) (hall : Hall) (is_hall : IsHall s hall) (l : StageLooper) (is : IsLooper s hall l) (b : StageLooper) (k : LooperKeeps HaveHeard l b) where
   -- a looper that only heard others stands where it stood
-  heard_stands : (did a : Looper) → IsSomeAnd l.parts (λ parts. StandsBy s l.number l.sender l.looper.held.poster.view.seen l.looper.held.journal.acts parts did a)
-      → IsSomeAnd b.parts (λ parts. StandsBy s b.number b.sender b.looper.held.poster.view.seen b.looper.held.journal.acts parts did a)
-  heard_stands did a come =
+  heard_stands : {lockstep : Bool} (did a : Looper) → IsSomeAnd l.parts (λ parts. StandsBy lockstep s l.number l.sender l.looper.held.poster.view.seen l.looper.held.journal.acts parts did a)
+      → IsSomeAnd b.parts (λ parts. StandsBy lockstep s b.number b.sender b.looper.held.poster.view.seen b.looper.held.journal.acts parts did a)
+  heard_stands {lockstep} did a come =
       let p = looper_parts s hall is_hall l is in
       let r : Rest = record { frames = p.0.frames; root = p.0.root; fired = p.0.fired.items; passed = p.0.passed } in
       let q = with_rest b.parts r (k.rest ∙ ap rest_in p.1) in
@@ -108,14 +108,14 @@ module _ (s : Script) (hall : Hall) (is_hall : IsHall s hall) (l : StageLooper) 
       let mine : b.looper.held.poster.sender ≡ l.sender = heard.same.sender ∙ is.own in
       let calls : calls_in l.sender b.looper.held.poster.view.seen ≡ calls_in l.sender l.looper.held.poster.view.seen =
       ap (filter (λ e. not (is_disposal e))) (ap (λ (m : ℕ). entries_by m b.looper.held.poster.view.seen) (sym mine) ∙ heard.called ∙ ap (λ (m : ℕ). entries_by m l.looper.held.poster.view.seen) is.own) in
-      let before : StandsBy s n l.sender l.looper.held.poster.view.seen l.looper.held.journal.acts p.0 did a = subst (λ (o : Option Parts). IsSomeAnd o (λ parts. StandsBy s n l.sender l.looper.held.poster.view.seen l.looper.held.journal.acts parts did a)) p.1 come in
-      let after : StandsBy s n l.sender b.looper.held.poster.view.seen l.looper.held.journal.acts q.0 did a =
+      let before : StandsBy lockstep s n l.sender l.looper.held.poster.view.seen l.looper.held.journal.acts p.0 did a = subst (λ (o : Option Parts). IsSomeAnd o (λ parts. StandsBy lockstep s n l.sender l.looper.held.poster.view.seen l.looper.held.journal.acts parts did a)) p.1 come in
+      let after : StandsBy lockstep s n l.sender b.looper.held.poster.view.seen l.looper.held.journal.acts q.0 did a =
       stands_heard s n l.sender l.looper.held.poster.view.seen b.looper.held.poster.view.seen l.looper.held.journal.acts p.0 q.0 did a heard.more calls
       (ap (λ (z : Rest). z.frames) rest) (ap (λ (z : Rest). z.root) rest) (ap (λ (z : Rest). z.fired) rest) others.0 others.1 before in
-      subst (λ (o : Option Parts). IsSomeAnd o (λ parts. StandsBy s b.number b.sender b.looper.held.poster.view.seen b.looper.held.journal.acts parts did a)) (sym q.1)
-      (subst (λ (m : ℕ). StandsBy s m b.sender b.looper.held.poster.view.seen b.looper.held.journal.acts q.0 did a) (sym k.number)
-      (subst (λ (m : ℕ). StandsBy s n m b.looper.held.poster.view.seen b.looper.held.journal.acts q.0 did a) (sym k.sender)
-      (subst (λ (j : Journal). StandsBy s n l.sender b.looper.held.poster.view.seen j.acts q.0 did a) (sym k.beside.journal) after)))
+      subst (λ (o : Option Parts). IsSomeAnd o (λ parts. StandsBy lockstep s b.number b.sender b.looper.held.poster.view.seen b.looper.held.journal.acts parts did a)) (sym q.1)
+      (subst (λ (m : ℕ). StandsBy lockstep s m b.sender b.looper.held.poster.view.seen b.looper.held.journal.acts q.0 did a) (sym k.number)
+      (subst (λ (m : ℕ). StandsBy lockstep s n m b.looper.held.poster.view.seen b.looper.held.journal.acts q.0 did a) (sym k.sender)
+      (subst (λ (j : Journal). StandsBy lockstep s n l.sender b.looper.held.poster.view.seen j.acts q.0 did a) (sym k.beside.journal) after)))
 
   -- it has come as far, in lockstep and by a clock
   pub heard_come : (a : Looper) → HasCome s l a → HasCome s b a
@@ -134,7 +134,7 @@ module _ (s : Script) (st : Stage) (is : IsStage s st) (same : HaveSeenTheSame s
   come_parts =
       let one = is.loopers.1 k l lt in
       let p = looper_parts s st.hall is.hall looper one.0 in
-      let stands = subst (λ (o : Option Parts). IsSomeAnd o (λ parts. StandsBy s looper.number looper.sender looper.looper.held.poster.view.seen looper.looper.held.journal.acts parts a a)) p.1 come in (
+      let stands = subst (λ (o : Option Parts). IsSomeAnd o (λ parts. StandsBy true s looper.number looper.sender looper.looper.held.poster.view.seen looper.looper.held.journal.acts parts a a)) p.1 come in (
         p.0,
         p.1,
         subst (λ (m : ℕ). IsPlayed s m (calls_in (looper_sender s m) looper.looper.held.poster.view.seen) p.0 a) one.1

@@ -1,7 +1,6 @@
-use Rattle.std.proofs.Common.{rules, sym, refl}
+use Rattle.std.proofs.Common.{rules, refl}
 use Rattle.dash_hall.proofs.Sending.{hosted}
 use Rattle.dash_hall.proofs.HostClock.{begins_by_clock, adds_hosted}
-use Rattle.dash_hall.proofs.Growing.{stays}
 use Rattle.dash_hall.proofs.host.Host.post_callback.Goals as goal
 
 pub post_callback-requires-clause-ready : goal.post_callback-requires-clause-ready

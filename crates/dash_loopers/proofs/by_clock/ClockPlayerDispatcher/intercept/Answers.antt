@@ -3,6 +3,7 @@ use Rattle.looper_run.specs.Holding.{held}
 use Rattle.looper_run.proofs.Working.{lent_self}
 use Rattle.loop_model.specs.declared.journal.Route.TheVariants.{Intercepted}
 use Rattle.run_model.specs.Moments.{in_free_mode}
+use Rattle.dash_hall.specs.Uptimes.{is_shown}
 use Rattle.dash_loopers.proofs.LooperPlaying.{intercepted}
 use Rattle.dash_loopers.proofs.LooperByClock.{dispatches_well_by}
 use Rattle.dash_loopers.proofs.LooperMoments.{rules_at_once, delivered_adds, of_shown, in_the_mode, taken_plays, dispatch_at}
@@ -29,6 +30,6 @@ returns-clause-meets g c =
     let adds = delivered_adds m q at letter h.poster k.poster p.parts c.deliver_and_ring.new.parts refl (in_the_mode m s p.place.hall.now q h c.requires.serves.mode serves.looper serves.place) (λ isnt. of_shown shows start at (c.moment_for-at.ensures.read isnt)) done.clocked in
     intercepted c.did.result _ _ c.did.ensures.no
     (dispatch_at m s q b c.did.result h k c.args.m.now c.args.now Intercepted p.parts c.deliver_and_ring.new.parts done.lent adds done.clocked.others c.requires.taken
-    (dispatches_well_by s q b c.args.now at c.args.m.now Intercepted letter c.deliver_and_ring.result c.did.result h k p.parts c.deliver_and_ring.new.parts c.as_post-p.ensures (rules_at_once q at c.args.now letter c.moment_for-at.ensures.rules)
+    (dispatches_well_by s q b c.args.now at (is_shown shows start) c.args.m.now Intercepted letter c.deliver_and_ring.result c.did.result h k p.parts c.deliver_and_ring.new.parts c.as_post-p.ensures (rules_at_once q at c.args.now letter c.moment_for-at.ensures.rules)
     done.lent (taken_plays m s q b h c.args.m.now c.args.now p.parts c.requires.taken) done.delivers
     c.did.ensures.no c.did.ensures.yes))

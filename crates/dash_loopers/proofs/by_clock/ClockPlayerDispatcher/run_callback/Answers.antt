@@ -1,4 +1,4 @@
-use Rattle.std.proofs.Common.{refl}
+use Rattle.std.proofs.Common.{true, refl}
 use Rattle.looper_run.specs.Holding.{held}
 use Rattle.loop_model.specs.declared.journal.Route.TheVariants.{Callback}
 use Rattle.message_slot.specs.Letter.{post_of}
@@ -24,5 +24,5 @@ returns-clause-meets g c =
     let b = p.began.now.value in
     let h = held c.args.own.now in
     dispatched_at m s q b h h c.args.m.now c.args.now (Callback c.args.id) p.parts p.parts (lent_self h) (adds_none m h.poster h.poster refl) (untimed_same p.parts.others.items p.parts.others.items refl) c.requires.taken
-    (by_delivery s q b c.args.now c.args.now c.args.m.now (Callback c.args.id) h h p.parts p.parts (lent_self h) (taken_plays m s q b h c.args.m.now c.args.now p.parts c.requires.taken) (λ none not_frame. refl)
-    (delivers_none s q 0 b c.args.now (post_of c.args.m.now.item) c.args.id (calls_of h.poster) p.parts h.journal.acts c.requires.callback))
+    (by_delivery s q b c.args.now c.args.now (λ n. true) c.args.m.now (Callback c.args.id) h h p.parts p.parts (lent_self h) (taken_plays m s q b h c.args.m.now c.args.now p.parts c.requires.taken) (λ none not_frame. refl)
+    (delivers_none s q 0 b c.args.now (λ n. true) (post_of c.args.m.now.item) c.args.id (calls_of h.poster) p.parts h.journal.acts c.requires.callback))

@@ -19,7 +19,7 @@ nudge-requires-after_bounds g c κs within =
 pub returns-clause-delivers : goal.returns-clause-delivers
 returns-clause-delivers g c =
     let place = c.args.self.now in
-    subst (λ (es : List Entry). OnOk c.deliver-done.result (Delivers place.script.now place.looper c.args.now c.args.p.now (calls_of c.args.own.now.poster.now) es c.args.parts.now c.deliver-done.new.parts c.args.own.now.journal.now.acts c.deliver-done.new.own.journal.now.acts))
+    subst (λ (es : List Entry). OnOk c.deliver-done.result (Delivers place.script.now place.looper c.args.now (g.U.Uptime.is_moment c.args.uptime.now) c.args.p.now (calls_of c.args.own.now.poster.now) es c.args.parts.now c.deliver-done.new.parts c.args.own.now.journal.now.acts c.deliver-done.new.own.journal.now.acts))
     (sym (calls_rung c.deliver-done.new.own.poster.now c.nudge.new.self c.nudge.ensures.same.0 c.nudge.ensures.same.1)) c.deliver-done.ensures.delivers
 
 pub returns-clause-clocked : goal.returns-clause-clocked

@@ -31,8 +31,8 @@ pub returns-clause-plays : goal.returns-clause-plays
 returns-clause-plays g c = λ text a is.
     (let h = c.host-host.result in
     let k = c.on_due.new.self in
-    let o = origin_of h.queue.now h.pool.now h.poster.ghost_name h.pass.ghost_name h.began.now.value h.pass_began.now.value h.handler.id h.now in
-    let o' = origin_of k.queue.now k.pool.now k.poster.ghost_name k.pass.ghost_name k.began.now.value k.pass_began.now.value k.handler.id k.now in
+    let o = origin_of h.queue.now h.pool.now h.poster.ghost_name h.pass.ghost_name h.began.now.value h.pass_began.now.value h.handler.id h.now h.uptime.now in
+    let o' = origin_of k.queue.now k.pool.now k.poster.ghost_name k.pass.ghost_name k.began.now.value k.pass_began.now.value k.handler.id k.now k.uptime.now in
     let calls = untold_hosted o o' c.args.own.now.poster.now h.poster.now k.poster.now k.pass.now c.on_due.ensures.origin c.on_due.ensures.ready c.host-host.ensures.began.0 c.host-host.ensures.poster.1 c.on_due.ensures.sends in
     played_with c.args.self.now.script.now c.args.self.now.looper (calls_of c.args.own.now.poster.now) (calls_of k.poster.now) c.args.parts.now _ a calls refl refl refl is)
 
@@ -40,19 +40,19 @@ pub returns-clause-calls : goal.returns-clause-calls
 returns-clause-calls g c =
     let h = c.host-host.result in
     let k = c.on_due.new.self in
-    let o = origin_of h.queue.now h.pool.now h.poster.ghost_name h.pass.ghost_name h.began.now.value h.pass_began.now.value h.handler.id h.now in
-    let o' = origin_of k.queue.now k.pool.now k.poster.ghost_name k.pass.ghost_name k.began.now.value k.pass_began.now.value k.handler.id k.now in
+    let o = origin_of h.queue.now h.pool.now h.poster.ghost_name h.pass.ghost_name h.began.now.value h.pass_began.now.value h.handler.id h.now h.uptime.now in
+    let o' = origin_of k.queue.now k.pool.now k.poster.ghost_name k.pass.ghost_name k.began.now.value k.pass_began.now.value k.handler.id k.now k.uptime.now in
     untold_hosted o o' c.args.own.now.poster.now h.poster.now k.poster.now k.pass.now c.on_due.ensures.origin c.on_due.ensures.ready c.host-host.ensures.began.0 c.host-host.ensures.poster.1 c.on_due.ensures.sends
 
 pub returns-clause-asks : goal.returns-clause-asks
-returns-clause-asks g c = ap asks_in (due_records c.args.parts.now.frames c.on_due.new.pass (λ n. n == nanos_of c.host-host.result.now) c.args.phase c.on_due.result c.on_due.ensures.due)
+returns-clause-asks g c = ap asks_in (due_records c.args.parts.now.frames c.on_due.new.pass (λ n. n == nanos_of c.host-host.result.uptime.now.now) c.args.phase c.on_due.result c.on_due.ensures.due)
 
 pub returns-clause-clocked : goal.returns-clause-clocked
 returns-clause-clocked g c =
     let h = c.host-host.result in
     let k = c.on_due.new.self in
-    let o = origin_of h.queue.now h.pool.now h.poster.ghost_name h.pass.ghost_name h.began.now.value h.pass_began.now.value h.handler.id h.now in
-    let o' = origin_of k.queue.now k.pool.now k.poster.ghost_name k.pass.ghost_name k.began.now.value k.pass_began.now.value k.handler.id k.now in
+    let o = origin_of h.queue.now h.pool.now h.poster.ghost_name h.pass.ghost_name h.began.now.value h.pass_began.now.value h.handler.id h.now h.uptime.now in
+    let o' = origin_of k.queue.now k.pool.now k.poster.ghost_name k.pass.ghost_name k.began.now.value k.pass_began.now.value k.handler.id k.now k.uptime.now in
     adds_hosted o o' c.args.now c.args.own.now.poster.now k.poster.now k.pass.now c.on_due.ensures.origin c.on_due.ensures.ready c.host-host.ensures.began.0 c.host-host.ensures.moment.0
 
 pub returns-then-phase-phases-clause-clocked : goal.returns-then-phase-phases-clause-clocked

@@ -23,6 +23,6 @@ pub returns-clause-clocked : goal.returns-clause-clocked
 returns-clause-clocked g c =
     let h = c.host-host.result in
     let k = c.set_target.new.host in
-    let o = origin_of h.queue.now h.pool.now h.poster.ghost_name h.pass.ghost_name h.began.now.value h.pass_began.now.value h.handler.id h.now in
-    let o' = origin_of k.queue.now k.pool.now k.poster.ghost_name k.pass.ghost_name k.began.now.value k.pass_began.now.value k.handler.id k.now in
+    let o = origin_of h.queue.now h.pool.now h.poster.ghost_name h.pass.ghost_name h.began.now.value h.pass_began.now.value h.handler.id h.now h.uptime.now in
+    let o' = origin_of k.queue.now k.pool.now k.poster.ghost_name k.pass.ghost_name k.began.now.value k.pass_began.now.value k.handler.id k.now k.uptime.now in
     adds_hosted o o' c.args.now c.args.own.now.poster.now k.poster.now k.pass.now c.set_target.ensures.origin c.set_target.ensures.ready c.host-host.ensures.began.0 c.host-host.ensures.moment.0

@@ -1,4 +1,6 @@
+use Rattle.std.specs.Prelude.{◌==◌}
 use Rattle.looper_run.specs.Holding.{held}
+use Rattle.run_model.specs.FrameRuns.{nanos_of}
 use Rattle.loop_model.specs.declared.journal.Route.TheVariants.{Callback}
 use Rattle.message_slot.specs.Letter.{post_of}
 use Rattle.dash_loopers.specs.Played.{calls_of}
@@ -17,4 +19,4 @@ returns-clause-meets g c =
     let p = c.args.self.now in
     let h = held c.args.own.now in
     playing_dispatch p.place.script.now p.place.looper p.now p.began.now.value c.args.now c.args.m.now (Callback c.args.id) h h p.parts p.parts (lent_self h) c.requires.taken
-    (delivers_none p.place.script.now p.place.looper p.now p.began.now.value c.args.now (post_of c.args.m.now.item) c.args.id (calls_of h.poster) p.parts h.journal.acts c.requires.callback)
+    (delivers_none p.place.script.now p.place.looper p.now p.began.now.value c.args.now (λ n. n == nanos_of c.args.now) (post_of c.args.m.now.item) c.args.id (calls_of h.poster) p.parts h.journal.acts c.requires.callback)

@@ -1,5 +1,4 @@
 use Rattle.std.proofs.Common.{rules, ap, ◌∙◌, ◌<◌, arith}
-use Rattle.dash_hall.specs.Hosts.{HostOrigin}
 use Rattle.dash_loopers.specs.Players.{FrameOwner}
 use Rattle.dash_loopers.proofs.FrameSteps.{frame_shown}
 use Rattle.dash_loopers.proofs.view_root.ViewRoot.do_frame.Goals as goal
@@ -9,7 +8,7 @@ returns-clause-ran g c =
     let key = c.args.c.now.constants in
     let client = c.do_frame.new.client in
     let some : 0 < key.phases = omega (arith, c.requires.root.1) in
-    frame_shown c.framed.result c.do_frame.result key.interval key.phases c.args.host.now.now c.do_frame.new.host.now c.args.pass.now c.do_frame.new.pass c.new-ran.result.items client.ran.now.items
+    frame_shown c.framed.result c.do_frame.result key.interval key.phases c.args.host.now.now c.do_frame.new.host.now (g.U.Uptime.is_moment c.args.host.now.uptime.now) c.args.pass.now c.do_frame.new.pass c.new-ran.result.items client.ran.now.items
     c.args.host.now.poster.now client.poster_began.now.value c.do_frame.new.host.poster.now c.args.self.now client.began.now.value client.root.now _
     c.framed.ensures.ok some c.new-ran.ensures.items c.do_frame.ensures.framed c.do_frame.ensures.records c.do_frame.ensures.meets
-    (ap (λ (o : HostOrigin). o.now) c.do_frame.ensures.origin) (ap (λ (o : FrameOwner). o.poster) c.do_frame.ensures.own ∙ c.of-poster_began.ensures) (ap (λ (o : FrameOwner). o.root) c.do_frame.ensures.own ∙ c.of-began.ensures) (search rules)
+    (ap (λ o. o.now) c.do_frame.ensures.origin) (ap (λ (o : FrameOwner). o.poster) c.do_frame.ensures.own ∙ c.of-poster_began.ensures) (ap (λ (o : FrameOwner). o.root) c.do_frame.ensures.own ∙ c.of-began.ensures) (search rules)

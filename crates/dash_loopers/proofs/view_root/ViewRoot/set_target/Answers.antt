@@ -2,7 +2,6 @@ use Rattle.std.proofs.Common.{sym, ◌∙◌, ap}
 use Rattle.std.proofs.lemmas.Bool.{not-false, not-true}
 use Rattle.std.proofs.lemmas.Option.{slice_get_within}
 use Rattle.std.proofs.lemmas.Result.{on_ok_weaker}
-use Rattle.dash_hall.specs.Hosts.{HostOrigin}
 use Rattle.dash_loopers.specs.Played.{calls_of}
 use Rattle.dash_loopers.proofs.ViewSteps.{sets_no_other, sets_target, sets_off}
 use Rattle.dash_loopers.proofs.view_root.ViewRoot.set_target.Goals as goal
@@ -25,5 +24,5 @@ returns-clause-shows g c s q =
     let host = c.args.host.now in
     on_ok_weaker c.request_traversal.result
     (sets_off s q host.now c.post.new.host.now c.args.gauge c.args.target c.saturating_add.result c.in-Some.x (calls_of host.poster.now) (calls_of c.post.new.host.poster.now) (calls_of c.request_traversal.new.host.poster.now) c.args.self.now c.put.new.self c.post.new.self c.request_traversal.new.self
-    (sym c.gauge.ensures ∙ c.in-Some.is) (not-false c.in-Some.x.own c.if-not-x.false) c.if-not-starts.false (record { gauges = c.put.ensures.gauges; same = c.put.ensures.same }) c.saturating_add.ensures (ap (λ (o : HostOrigin). o.now) c.in_ok-post.ensures.origin) (c.in_ok-post.ensures.shows s q))
+    (sym c.gauge.ensures ∙ c.in-Some.is) (not-false c.in-Some.x.own c.if-not-x.false) c.if-not-starts.false (record { gauges = c.put.ensures.gauges; same = c.put.ensures.same }) c.saturating_add.ensures (ap (λ o. o.now) c.in_ok-post.ensures.origin) (c.in_ok-post.ensures.shows s q))
     (c.request_traversal.ensures.shows s q)
