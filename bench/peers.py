@@ -29,6 +29,7 @@ PROGRAMS = [
     ("ours", ["ours.c", HEAP, LIBRARY], [], None, None),
     ("ours, record let go", ["ours.c", HEAP, LIBRARY], ["-DFORGET=1000"], None, None),
     ("and nodes kept", ["ours.c", "heap_kept.c", LIBRARY], ["-DFORGET=1000"], None, None),
+    ("no queue", ["no_queue.c"], [], None, None),
     ("plain C list", ["plain_list.c"], [], None, None),
     ("GLib", ["glib.c"], [], "glib-2.0", "libglib2.0-dev"),
     ("Qt", ["qt.cpp"], ["-fPIC"], "Qt5Core", "qtbase5-dev"),
