@@ -2,8 +2,9 @@
 use Rattle.std.specs.Prelude.{◌≡◌, ◌⊎◌, ℕ, Bool, true, false, ◌<◌, List, length, slice_index_or}
 use Rattle.dash_script.specs.declared.script.Script.{Script}
 use Rattle.looper_run.specs.Holding.{Sender}
-use Rattle.run_model.specs.Moments.{Mode}
+use Rattle.run_model.specs.Moments.{Mode, in_free_mode}
 use Rattle.dash_hall.specs.declared.hall.Hall.{Hall}
+use Rattle.dash_hall.specs.declared.timer.Timer.{Timer}
 use Rattle.dash_hall.specs.Growth.{QuitsOf}
 use Rattle.dash_threads.specs.declared.thread.PostingThread.{PostingThread}
 use Rattle.dash_threads.specs.Threads.{IsThread, AreByClock, RunsAll}
@@ -46,20 +47,28 @@ EachIsThread s hall ts = (k : ℕ) (d : PostingThread) → k < length ts → IsT
 abbrev pub EachIsLooper : Script → Hall → List StageLooper → Type 0
 EachIsLooper s hall ls = (k : ℕ) (d : StageLooper) → k < length ls → IsLooper s hall (slice_index_or ls k d)
 
+-- the hall is the script's, by a clock
+abbrev pub IsFreeHall : Script → Hall → Type 0
+IsFreeHall s hall = IsHall s hall × (hall.lockstep ≡ false)
+
+-- the mode of a run by a clock that shows such numbers, from where this timer started
+abbrev pub by_timer : {C : Type 0} → (C → ℕ → Bool) → Timer C → Mode
+by_timer shows timer = in_free_mode (shows timer.clock.now) timer.start
+
+-- so it is with each thread, or with each looper
+abbrev pub EachRuns : Mode → Script → Hall → List PostingThread → List PostingThread → Type 0
+EachRuns m s hall before after = AtEach (RunsByClock m s hall) before after
+
+abbrev pub EachLoops : Mode → Script → Hall → List StageLooper → List StageLooper → Type 0
+EachLoops m s hall before after = AtEach (LoopsByClock m s hall) before after
+
 -- what the main looper and the threads need to run, and the controller behind them
 pub record CanRunMain (s : Script) (h : Hall) (ls : List StageLooper) (ts : List PostingThread) (c : Controller) : Type 0 where
   pub text : HasText s
   pub some : 0 < s.loopers
-  pub hall : IsHall s h
-  pub mode : h.lockstep ≡ false
+  pub hall : IsFreeHall s h
   pub one : length ls ≡ 1
   pub loopers : EachIsLooper s h ls
   pub threads : EachIsThread s h ts
   pub controller : IsControllerIn false s h c
   pub none : (q : ℕ) → CallsNothingOn c q
-
--- they have run, and the controller has quit the others unless this says that it could not
-pub record HasRunMain (m : Mode) (s : Script) (hall : Hall) (ls ls' : List StageLooper) (ts ts' : List PostingThread) (c c' : Controller) (done : Bool) : Type 0 where
-  pub threads : AtEach (RunsByClock m s hall) ts ts'
-  pub loopers : AtEach (LoopsByClock m s hall) ls ls'
-  pub quit : done ≡ true → QuitsOthers m s hall c c'

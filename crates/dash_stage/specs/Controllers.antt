@@ -1,5 +1,5 @@
 -- The controller of a run, and what it has called so far.
-use Rattle.std.specs.Prelude.{◌≡◌, ◌<◌, ◌≤◌, ◌+◌, ◌&&◌, nat_le, ℕ, Bool, true, false, List, [], ◌∷◌, map, length, slice_index_or, Option}
+use Rattle.std.specs.Prelude.{◌≡◌, ◌≢◌, ◌<◌, ◌≤◌, ◌+◌, ◌&&◌, nat_le, ℕ, Bool, true, false, List, [], ◌∷◌, map, length, slice_index_or, Option}
 use Rattle.std.specs.Global.{Vec}
 use Rattle.std.specs.Option.{option_map}
 use Rattle.loop_model.specs.declared.entry.Entry.{Entry}
@@ -120,3 +120,15 @@ pub record LooksFor (looper : ℕ) (before after : Controller) (pulse : Option �
   pub stamp : Option ℕ
   pub turn : (p : Pass) → AskedBy (slice_index_or before.kit.frames.items looper p) (slice_index_or after.kit.frames.items looper p) stamp
   pub rounded : pulse ≡ option_map millis_up stamp
+
+-- the controller's poster of this queue before and after are so
+abbrev pub AtPoster : (Sender → Sender → Type 0) → ℕ → Controller → Controller → Type 0
+AtPoster R place before after = (d : Sender) → R (slice_index_or before.kit.posters.items place d) (slice_index_or after.kit.posters.items place d)
+
+-- its posters of all other queues are as before
+abbrev pub OtherPostersStay : ℕ → Controller → Controller → Type 0
+OtherPostersStay place before after = (q : ℕ) (d : Sender) → q ≢ place → slice_index_or after.kit.posters.items q d ≡ slice_index_or before.kit.posters.items q d
+
+-- its passes of all other choreographers are as before
+abbrev pub OtherPassesStay : ℕ → Controller → Controller → Type 0
+OtherPassesStay place before after = (q : ℕ) (p : Pass) → q ≢ place → slice_index_or after.kit.frames.items q p ≡ slice_index_or before.kit.frames.items q p

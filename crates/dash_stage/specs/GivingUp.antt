@@ -1,7 +1,10 @@
 -- How the controller ends the queues of a run that is given up.
-use Rattle.std.specs.Prelude.{◌≡◌, ◌<◌, ◌+◌, ℕ, false, length, slice_index_or}
+use Rattle.std.specs.Prelude.{◌≡◌, ◌<◌, ◌+◌, ℕ, false, List, length, slice_index_or}
+use Rattle.dash_script.specs.declared.script.Script.{Script}
 use Rattle.looper_run.specs.Holding.{Sender}
 use Rattle.dash_hall.specs.Growth.{own, QuitsOf}
+use Rattle.dash_loopers.specs.declared.looper.StageLooper.{StageLooper}
+use Rattle.dash_loopers.specs.Loopers.{HasRun}
 use Rattle.dash_stage.specs.declared.control.Controller.{Controller}
 
 -- each of the first n queues but main's was quit plainly at this time by one call, which may have been refused
@@ -16,3 +19,7 @@ AreQuit now before after = AreQuitBelow (length before.kit.posters.items) now be
 pub record IsNudged (before after : Controller) : Type 0 where
   pub rung : (d : Sender) → (slice_index_or after.kit.posters.items 0 d).view.rung ≡ (slice_index_or before.kit.posters.items 0 d).view.rung + 1
   pub none : (d : Sender) → own (slice_index_or after.kit.posters.items 0 d) ≡ own (slice_index_or before.kit.posters.items 0 d)
+
+-- each looper but the main one has run a round at this moment
+abbrev pub OthersHaveRun : Script → ℕ → List StageLooper → List StageLooper → Type 0
+OthersHaveRun s now before after = (k : ℕ) (d : StageLooper) → 0 < k → k < length before → HasRun s now (slice_index_or before k d) (slice_index_or after k d)

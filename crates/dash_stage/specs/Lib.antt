@@ -16,3 +16,5 @@ pub mod Leaving
 pub mod Moves
 pub mod RunEnds
 pub mod ByClock
+pub mod Steps
+pub mod Keeping

@@ -1,5 +1,5 @@
 -- How all queues' times were moved together so far, and to which time they may be moved next.
-use Rattle.std.specs.Prelude.{◌≡◌, ◌<◌, ℕ, true, false, List, map, length, Some}
+use Rattle.std.specs.Prelude.{◌≡◌, ◌<◌, ◌⊎◌, ℕ, true, false, List, map, length, slice_index_or, Some}
 use Rattle.std.specs.Option.{option_map}
 use Rattle.loop_model.specs.declared.entry.Entry.{Entry}
 use Rattle.loop_model.specs.Base.{empty_base}
@@ -47,3 +47,7 @@ pub data MayBeMovedTo (s : Script) (time : ℕ) (c : Controller) : Type 0 where
 -- the looper has not ended, and waits until this time
 abbrev pub WaitsUntil : ℕ → StageLooper → Type 0
 WaitsUntil time l = (is_ended l.last ≡ false) × (until_of l.last ≡ Some time)
+
+-- this looper waits until this time, or a pulse may come then
+abbrev pub IsAwaited : Script → ℕ → ℕ → List StageLooper → Type 0
+IsAwaited s time looper ls = ((l : StageLooper) → WaitsUntil time (slice_index_or ls looper l)) ⊎ IsPulseTime s.period time

@@ -82,6 +82,10 @@ pub record IsInStep (s : Script) (st : Stage) : Type 0 where
   pub played : ArePlayed s st
   pub first : HaveComeFirst s st
 
+-- so it is, where each queue's history is one that it may have
+abbrev pub AreAtBlockIfSound : Script → ℕ → Stage → Type 0
+AreAtBlockIfSound s time st = AreSound s st.controller → AreAtBlock s time st
+
 -- the looper is as it was, or ran a round at this moment and played on
 abbrev pub PlaysOn : Script → ℕ → StageLooper → StageLooper → Type 0
 PlaysOn s now before after = (after ≡ before) ⊎ (HasRun s now before after × HasPlayed s now before after)
@@ -95,3 +99,7 @@ pub record IsStuck (s : Script) (now : ℕ) (es : List Entry) : Type 0 where
 -- so it is on one of the first queues
 abbrev pub AreStuck : Script → ℕ → ℕ → Controller → Type 0
 AreStuck s now n c = (q : ℕ) × (q < n) × ((d : Sender) → IsStuck s now (whole_on c q d))
+
+-- so it is with each looper
+abbrev pub EachPlaysOn : Script → ℕ → List StageLooper → List StageLooper → Type 0
+EachPlaysOn s now before after = (k : ℕ) (d : StageLooper) → k < length before → PlaysOn s now (slice_index_or before k d) (slice_index_or after k d)

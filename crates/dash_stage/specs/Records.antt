@@ -72,3 +72,7 @@ AreLooperRuns m s queues js frames = EachLooper (IsLooperRun m s queues) queues 
 -- in free mode the moments of what each sender called on each queue are the clock's, or the queue's time
 abbrev pub HaveCalledByClock : Mode → Script → List Kit → Type 0
 HaveCalledByClock m s kits = (k q : ℕ) (d : Kit) (p : Sender) → k < length kits → q < s.loopers → IsByClock m (slice_index_or (slice_index_or kits k d).posters.items q p)
+
+-- where the kits' senders called so, these are the records of the queues
+abbrev pub AreRecordsBy : Mode → Script → List Kit → List QueueRecord → Type 0
+AreRecordsBy m s kits records = HaveCalledByClock m s kits → AreQueueRecords m s records

@@ -49,6 +49,10 @@ SharesAt place before after = (whole : List Entry) × StageKeeps (HaveHeardAt pl
 abbrev pub OfKits : (List Sender → Type 0) → List Kit → Type 0
 OfKits P kits = (k : ℕ) (d : Kit) → k < length kits → P (slice_index_or kits k d).posters.items
 
+-- what holds of the posters of each of these loopers and of each kit before holds of each kit after
+abbrev pub CarriesOver : (List Sender → Type 0) → List StageLooper → List Kit → List Kit → Type 0
+CarriesOver P ls before after = OfLoopers P ls → OfKits P before → OfKits P after
+
 -- all senders have seen the same of each queue's history
 abbrev pub HaveSeenTheSame : Stage → Type 0
 HaveSeenTheSame st = OfSenders (HaveSeenAll (seen_by st.controller.kit.posters.items)) st

@@ -54,6 +54,10 @@ HaveRun s bs ts = HaveRunBy in_lockstep s bs ts
 abbrev pub RunOn : Script → Block → List PostingThread → List PostingThread → Type 0
 RunOn s b before after = (k : ℕ) (d : PostingThread) → k < length before → Continues in_lockstep s b (slice_index_or before k d) (slice_index_or after k d)
 
+-- the thread is the same, and unless it gave up it has run its lines of this block
+abbrev pub RunsBlock : Script → Hall → Block → PostingThread → PostingThread → Type 0
+RunsBlock s hall b before after = IsThread s hall after × (after.number ≡ before.number) × (after.gave_up ≡ false → Continues in_lockstep s b before after)
+
 -- none has given up
 abbrev pub GoOn : List PostingThread → Type 0
 GoOn ts = (k : ℕ) (d : PostingThread) → k < length ts → (slice_index_or ts k d).gave_up ≡ false

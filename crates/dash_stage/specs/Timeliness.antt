@@ -94,6 +94,14 @@ pub record NotLaterThanPulse (looper : ℕ) (before after : Controller) (next : 
   pub look : LooksFor looper before after pulse
   pub early : (t : ℕ) → NotLater t next → NotLater t pulse
 
+-- unless this looper has ended, the answer is not later than the time until which it waits
+abbrev pub NotLaterThanWait : ℕ → List StageLooper → Option ℕ → Type 0
+NotLaterThanWait looper ls next = (t : ℕ) (l : StageLooper) → NotLater t next → is_ended (slice_index_or ls looper l).last ≡ false → NotLater t (until_of (slice_index_or ls looper l).last)
+
+-- unless this looper has ended, the controller looked for its pulse, and the answer is not later
+abbrev pub LooksUnlessEnded : ℕ → List StageLooper → Controller → Controller → Option ℕ → Type 0
+LooksUnlessEnded looper ls before after next = (l : StageLooper) → is_ended (slice_index_or ls looper l).last ≡ false → NotLaterThanPulse looper before after next
+
 -- by some turns a poster found a history, and left it as it was or made one entry more, which is such
 pub record TurnsOn (P : Entry → Type 0) (before after : Sender) : Type 0 where
   pub found : List Entry
@@ -134,6 +142,10 @@ pub record HandsOut (before after : Sender) (had has : List Segment) : Type 0 wh
 -- each queue's time has come to this one, or the queue is over
 abbrev pub HaveCome : Script → ℕ → Controller → Type 0
 HaveCome s now c = (q : ℕ) (d : Sender) → q < length c.kit.posters.items → (now ≤ time_in (calls_on c q d)) ⊎ (is_over (empty_base (sender_count s)) (whole_on c q d) ≡ true)
+
+-- so it is with this queue
+abbrev pub HasComeOn : Script → ℕ → ℕ → Controller → Type 0
+HasComeOn s now place c = (d : Sender) → (now ≤ time_in (calls_on c place d)) ⊎ (is_over (empty_base (sender_count s)) (whole_on c place d) ≡ true)
 
 -- main's history ends with its halt
 abbrev pub HasHaltedLast : Script → Stage → Type 0

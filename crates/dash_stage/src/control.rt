@@ -1,21 +1,18 @@
 //! The controller of a run.
-ghost use Rattle.std.specs.Prelude.{◌≡◌, ◌≢◌, ◌<◌, ◌≤◌, ◌+◌, ◌⊎◌, ℕ, true, false, length, slice_index_or, sum_by, Some, IfOk, OnOk};
+ghost use Rattle.std.specs.Prelude.{◌≡◌, ◌<◌, ◌≤◌, ◌+◌, ℕ, true, false, length, sum_by, Some, IfOk, OnOk};
 ghost use Rattle.shared_queue.specs.Known.{IsOf};
-ghost use Rattle.choreographer.specs.Known.{Known as Pass};
 ghost use Rattle.dash_hall.specs.Growth.{GoesOn, QuitsOf};
 ghost use Rattle.dash_hall.specs.Kits.{IsHall};
 ghost use Rattle.dash_threads.specs.Threads.{AreByClock};
 ghost use Rattle.dash_stage.specs.ByClock.{MayQuit};
 ghost use Rattle.run_model.specs.Moments.{Mode, IsMoment};
-ghost use Rattle.dash_stage.specs.Controllers.{IsController, IsControllerIn, IsMoving, HasReached, IsQuitting, IsClosing, IsClosingBy, HasClosed, HasClosedIn, CallsNone, LooksFor, calls_on, time_in};
-ghost use Rattle.loop_model.specs.Base.{empty_base};
-ghost use Rattle.loop_model.specs.Answers.{is_over};
+ghost use Rattle.dash_stage.specs.Controllers.{IsController, IsControllerIn, IsMoving, HasReached, IsQuitting, IsClosing, IsClosingBy, HasClosed, HasClosedIn};
+ghost use Rattle.dash_stage.specs.Controllers.{CallsNone, LooksFor, AtPoster, OtherPostersStay, OtherPassesStay, calls_on, time_in};
 ghost use Rattle.looper_run.specs.Holding.{Sender};
 ghost use Rattle.run_model.specs.Control.{ends_halted};
 ghost use Rattle.run_model.specs.Moves.{IsPulseTime};
-ghost use Rattle.run_model.specs.Senders.{sender_count};
 ghost use Rattle.dash_hall.specs.Hearing.{seen_by};
-ghost use Rattle.dash_stage.specs.Timeliness.{AreBy, TurnsOn, EachTurnsOn, MovesTo, MovesNot, Halts, IsNone, HandsOut, HaveCome, whole_on};
+ghost use Rattle.dash_stage.specs.Timeliness.{AreBy, TurnsOn, EachTurnsOn, MovesTo, MovesNot, Halts, IsNone, HandsOut, HaveCome, HasComeOn, whole_on};
 ghost use Rattle.dash_stage.specs.Playing.{IsStuck, AreStuck};
 
 use dash_hall::{Hall, Kit, quit};
@@ -86,9 +83,9 @@ impl Controller {
         ensures reached { IfOk result (λ drained. drained ≡ true → place ≡ 0 → HasReached now self.new) }
         ensures kept { HasReached now self.old → HasReached now self.new }
         ensures by { (t : ℕ) → now ≤ t → AreBy t self.old → AreBy t self.new }
-        ensures here { OnOk result ((d : Sender) → TurnsOn (MovesTo now) (slice_index_or self.old.kit.posters.items place d) (slice_index_or self.new.kit.posters.items place d)) }
-        ensures elsewhere { (q : ℕ) (d : Sender) → q ≢ place → slice_index_or self.new.kit.posters.items q d ≡ slice_index_or self.old.kit.posters.items q d }
-        ensures come { IfOk result (λ drained. drained ≡ true → (d : Sender) → (now ≤ time_in (calls_on self.new place d)) ⊎ (is_over (empty_base (sender_count script.now)) (whole_on self.new place d) ≡ true)) }
+        ensures here { OnOk result (AtPoster (TurnsOn (MovesTo now)) place self.old self.new) }
+        ensures elsewhere { OtherPostersStay place self.old self.new }
+        ensures come { IfOk result (λ drained. drained ≡ true → HasComeOn script.now now place self.new) }
         ensures stuck { IfOk result (λ drained. drained ≡ false → (d : Sender) → IsStuck script.now now (whole_on self.new place d)) }
     {
         match self.kit.posters[place].advance(rt, &hall.queues[place], now) {
@@ -142,8 +139,8 @@ impl Controller {
         requires place { place < script.now.loopers }
         ensures controller { IsController script.now hall.now self.new }
         ensures none { CallsNone self.old self.new }
-        ensures here { (d : Sender) → TurnsOn IsNone (slice_index_or self.old.kit.posters.items place d) (slice_index_or self.new.kit.posters.items place d) }
-        ensures elsewhere { (q : ℕ) (d : Sender) → q ≢ place → slice_index_or self.new.kit.posters.items q d ≡ slice_index_or self.old.kit.posters.items q d }
+        ensures here { AtPoster (TurnsOn IsNone) place self.old self.new }
+        ensures elsewhere { OtherPostersStay place self.old self.new }
     {
         hand_out(
             rt,
@@ -180,7 +177,7 @@ impl Controller {
         ensures posters { self.new.kit.posters ≡ self.old.kit.posters }
         ensures pulse { (time : ℕ) → result ≡ Some time → IsPulseTime script.now.period time }
         ensures look { LooksFor looper self.old self.new result }
-        ensures elsewhere { (q : ℕ) (p : Pass) → q ≢ looper → slice_index_or self.new.kit.frames.items q p ≡ slice_index_or self.old.kit.frames.items q p }
+        ensures elsewhere { OtherPassesStay looper self.old self.new }
     {
         let place = looper as usize;
         let stamp = hall.choreographers[place].asked(rt, &mut self.kit.frames[place])?;
@@ -202,8 +199,8 @@ impl Controller {
         requires quitting { IsQuitting script.now looper self.old }
         ensures controller { IsController script.now hall.now self.new }
         ensures quitting { OnOk result (IsQuitting script.now (looper + 1) self.new) }
-        ensures here { OnOk result ((d : Sender) → TurnsOn MovesNot (slice_index_or self.old.kit.posters.items looper d) (slice_index_or self.new.kit.posters.items looper d)) }
-        ensures elsewhere { (q : ℕ) (d : Sender) → q ≢ looper → slice_index_or self.new.kit.posters.items q d ≡ slice_index_or self.old.kit.posters.items q d }
+        ensures here { OnOk result (AtPoster (TurnsOn MovesNot) looper self.old self.new) }
+        ensures elsewhere { OtherPostersStay looper self.old self.new }
     {
         if self.time_on(rt, hall, script, looper as usize) < script.end {
             return Ok(());
@@ -219,8 +216,8 @@ impl Controller {
         ensures controller { IsController script.now hall.now self.new }
         ensures none { CallsNone self.old self.new }
         ensures time { (d : Sender) → result ≡ time_in (calls_on self.new place d) }
-        ensures here { (d : Sender) → TurnsOn IsNone (slice_index_or self.old.kit.posters.items place d) (slice_index_or self.new.kit.posters.items place d) }
-        ensures elsewhere { (q : ℕ) (d : Sender) → q ≢ place → slice_index_or self.new.kit.posters.items q d ≡ slice_index_or self.old.kit.posters.items q d }
+        ensures here { AtPoster (TurnsOn IsNone) place self.old self.new }
+        ensures elsewhere { OtherPostersStay place self.old self.new }
     {
         self.kit.posters[place].time(rt, &hall.queues[place])
     }
@@ -241,8 +238,8 @@ impl Controller {
         requires time { (d : Sender) → script.now.end ≤ time_in (calls_on self.old place d) }
         ensures controller { IsController script.now hall.now self.new }
         ensures quitting { OnOk result (IsQuitting script.now (place + 1) self.new) }
-        ensures here { OnOk result ((d : Sender) → TurnsOn MovesNot (slice_index_or self.old.kit.posters.items place d) (slice_index_or self.new.kit.posters.items place d)) }
-        ensures elsewhere { (q : ℕ) (d : Sender) → q ≢ place → slice_index_or self.new.kit.posters.items q d ≡ slice_index_or self.old.kit.posters.items q d }
+        ensures here { OnOk result (AtPoster (TurnsOn MovesNot) place self.old self.new) }
+        ensures elsewhere { OtherPostersStay place self.old self.new }
     {
         quit_by(
             rt,
@@ -288,8 +285,8 @@ impl Controller {
         requires controller { IsControllerIn hall.now.lockstep script.now hall.now self.old }
         requires place { place < script.now.loopers }
         ensures controller { IsControllerIn hall.now.lockstep script.now hall.now self.new }
-        ensures here { result ≡ true → (d : Sender) → MayQuit (slice_index_or self.old.kit.posters.items place d) (slice_index_or self.new.kit.posters.items place d) now }
-        ensures elsewhere { (q : ℕ) (d : Sender) → q ≢ place → slice_index_or self.new.kit.posters.items q d ≡ slice_index_or self.old.kit.posters.items q d }
+        ensures here { result ≡ true → AtPoster (λ before after. MayQuit before after now) place self.old self.new }
+        ensures elsewhere { OtherPostersStay place self.old self.new }
     {
         if has_ended {
             return true;

@@ -3,12 +3,12 @@ ghost use Rattle.std.specs.Prelude.{◌≡◌, ◌<◌, ◌≤◌, ℕ, false, t
 ghost use Rattle.std.specs.Thread.{IsSync};
 ghost use Rattle.loop_io.specs.Moments.{IsMoment};
 ghost use Rattle.dash_script.specs.Reading.{HasText};
-ghost use Rattle.run_model.specs.Moments.{in_free_mode};
-ghost use Rattle.dash_hall.specs.Hearing.{AtEach, HaveHeard};
+ghost use Rattle.dash_hall.specs.Hearing.{HaveHeard};
 ghost use Rattle.dash_hall.specs.Kits.{IsHall};
 ghost use Rattle.dash_threads.specs.Threads.{IsThread};
 ghost use Rattle.dash_loopers.specs.Loopers.{IsLooper};
-ghost use Rattle.dash_stage.specs.ByClock.{RunsByClock, LoopsByClock, QuitsOthers, EachIsThread, EachIsLooper, CanRunMain, HasRunMain};
+ghost use Rattle.dash_stage.specs.ByClock.{IsFreeHall, by_timer, RunsByClock, LoopsByClock, EachRuns, EachLoops, QuitsOthers};
+ghost use Rattle.dash_stage.specs.ByClock.{EachIsThread, EachIsLooper, CanRunMain};
 ghost use Rattle.dash_stage.specs.Controllers.{IsControllerIn, CallsNothingOn};
 ghost use Rattle.dash_stage.specs.RunEnds.{HasBegunByClock, IsClosingByClock, HasEndedByClock};
 ghost use Rattle.dash_stage.specs.Sharing.{StageKeeps, HaveSeenTheSame};
@@ -17,6 +17,7 @@ ghost use Rattle.dash_stage.specs.Stages.{IsStageIn, AreThreads, AreLoopers, Oth
 
 use crate::control::Controller;
 use crate::kept::report_by_clock;
+use crate::means::Means;
 use crate::opening::set_up;
 use crate::run::Ran;
 use crate::side::{has_given_up, some_gave_up};
@@ -47,7 +48,8 @@ pub fn run_free<R: Threads + Wait + time::Clock + Sync, C: Clock + Sync, G: Gate
     ensures { StagesByClock (C.shows clock.now) script result }
 {
     let timer = Timer::new(clock);
-    let stage = match played(rt, alloc, &script, gate, &timer) {
+    let means = Means { rt, alloc, gate };
+    let stage = match played(&means, &script, &timer) {
         Ok(stage) => stage,
         Err(NoMemory) => return Ran::NoMemory,
     };
@@ -57,17 +59,15 @@ pub fn run_free<R: Threads + Wait + time::Clock + Sync, C: Clock + Sync, G: Gate
 /// The stage after the run.
 #[tactic(auto, using(crate::proofs::BlockTimes::Limits::playable))]
 fn played<R: Threads + Wait + time::Clock + Sync, C: Clock + Sync, G: Gate + Sync>(
-    rt: &R,
-    alloc: Global,
+    means: &Means<R, G>,
     script: &Script,
-    gate: &G,
     timer: &Timer<C>,
 ) -> Result<Stage, NoMemory>
     requires { HasText script.now }
-    ensures out { IfOk result (HasEndedByClock (in_free_mode (C.shows timer.now.clock.now) timer.now.start) script.now) }
+    ensures out { IfOk result (HasEndedByClock (by_timer C.shows timer.now) script.now) }
 {
-    let mut stage = set_up(alloc, script, false)?;
-    stage.play_by_clock(rt, alloc, script, gate, timer)?;
+    let mut stage = set_up(means.alloc, script, false)?;
+    stage.play_by_clock(means, script, timer)?;
     Ok(stage)
 }
 
@@ -75,21 +75,19 @@ impl Stage {
     /// The whole script, by the clock.
     fn play_by_clock<R: Threads + Wait + time::Clock + Sync, C: Clock + Sync, G: Gate + Sync>(
         &mut self,
-        rt: &R,
-        alloc: Global,
+        means: &Means<R, G>,
         script: &Script,
-        gate: &G,
         timer: &Timer<C>,
     ) -> Result<(), NoMemory>
         requires text { HasText script.now }
         requires some { 0 < script.now.loopers }
-        requires begun { HasBegunByClock (in_free_mode (C.shows timer.now.clock.now) timer.now.start) script.now self.old }
-        ensures out { OnOk result (HasEndedByClock (in_free_mode (C.shows timer.now.clock.now) timer.now.start) script.now self.new) }
+        requires begun { HasBegunByClock (by_timer C.shows timer.now) script.now self.old }
+        ensures out { OnOk result (HasEndedByClock (by_timer C.shows timer.now) script.now self.new) }
     {
-        self.run_by_clock(rt, alloc, script, gate, timer)?;
-        for _ in rt.forever() {
-            self.drain(rt, alloc, script, gate, timer)?;
-            let halted = self.halt_by_clock(rt, script, timer)?;
+        self.run_by_clock(means, script, timer)?;
+        for _ in means.rt.forever() {
+            self.drain(means, script, timer)?;
+            let halted = self.halt_by_clock(means.rt, script, timer)?;
             if halted {
                 return Ok(());
             }
@@ -100,23 +98,19 @@ impl Stage {
     /// The threads run their blocks beside the loopers, the main one up to the end, and the others are quit there.
     fn run_by_clock<R: Threads + Wait + time::Clock + Sync, C: Clock + Sync, G: Gate + Sync>(
         &mut self,
-        rt: &R,
-        alloc: Global,
+        means: &Means<R, G>,
         script: &Script,
-        gate: &G,
         timer: &Timer<C>,
     ) -> Result<(), NoMemory>
         requires text { HasText script.now }
         requires some { 0 < script.now.loopers }
-        requires begun { HasBegunByClock (in_free_mode (C.shows timer.now.clock.now) timer.now.start) script.now self.old }
-        ensures closing { OnOk result (IsClosingByClock (in_free_mode (C.shows timer.now.clock.now) timer.now.start) script.now self.new) }
+        requires begun { HasBegunByClock (by_timer C.shows timer.now) script.now self.old }
+        ensures closing { OnOk result (IsClosingByClock (by_timer C.shows timer.now) script.now self.new) }
     {
         let quit = run_side_by_side(
-            rt,
-            alloc,
+            means,
             &self.hall,
             script,
-            gate,
             timer,
             self.threads.as_mut_slice(),
             self.loopers.as_mut_slice(),
@@ -141,26 +135,22 @@ impl Stage {
     /// The main looper drains, at the end of the script or later, and all hear of it.
     fn drain<R: Wait + time::Clock, C: Clock, G: Gate>(
         &mut self,
-        rt: &R,
-        alloc: Global,
+        means: &Means<R, G>,
         script: &Script,
-        gate: &G,
         timer: &Timer<C>,
     ) -> Result<(), NoMemory>
         requires text { HasText script.now }
         requires some { 0 < script.now.loopers }
-        requires closing { IsClosingByClock (in_free_mode (C.shows timer.now.clock.now) timer.now.start) script.now self.old }
-        ensures closing { OnOk result (IsClosingByClock (in_free_mode (C.shows timer.now.clock.now) timer.now.start) script.now self.new) }
+        requires closing { IsClosingByClock (by_timer C.shows timer.now) script.now self.old }
+        ensures closing { OnOk result (IsClosingByClock (by_timer C.shows timer.now) script.now self.new) }
     {
-        let Some(now) = timer.wait_until(rt, &self.hall.stop, script.end) else {
+        let Some(now) = timer.wait_until(means.rt, &self.hall.stop, script.end) else {
             return Err(NoMemory);
         };
         drain_first(
-            rt,
-            alloc,
+            means,
             &self.hall,
             script,
-            gate,
             timer,
             now,
             self.loopers.as_mut_slice(),
@@ -180,9 +170,9 @@ impl Stage {
         timer: &Timer<C>,
     ) -> Result<bool, NoMemory>
         requires some { 0 < script.now.loopers }
-        requires closing { IsClosingByClock (in_free_mode (C.shows timer.now.clock.now) timer.now.start) script.now self.old }
-        ensures closing { IfOk result (λ halted. halted ≡ false → IsClosingByClock (in_free_mode (C.shows timer.now.clock.now) timer.now.start) script.now self.new) }
-        ensures out { IfOk result (λ halted. halted ≡ true → HasEndedByClock (in_free_mode (C.shows timer.now.clock.now) timer.now.start) script.now self.new) }
+        requires closing { IsClosingByClock (by_timer C.shows timer.now) script.now self.old }
+        ensures closing { IfOk result (λ halted. halted ≡ false → IsClosingByClock (by_timer C.shows timer.now) script.now self.new) }
+        ensures out { IfOk result (λ halted. halted ≡ true → HasEndedByClock (by_timer C.shows timer.now) script.now self.new) }
     {
         let Some(now) = timer.wait_until(rt, &self.hall.stop, script.end) else {
             return Err(NoMemory);
@@ -208,11 +198,9 @@ impl Stage {
 /// The threads run their blocks beside the loopers, each on a thread of its own, the main looper up to the end; then the controller quits
 /// the other loopers. Answers false where a sender found no memory or the run was given up.
 fn run_side_by_side<R: Threads + Wait + time::Clock + Sync, C: Clock + Sync, G: Gate + Sync>(
-    rt: &R,
-    alloc: Global,
+    means: &Means<R, G>,
     hall: &Hall,
     script: &Script,
-    gate: &G,
     timer: &Timer<C>,
     threads: &mut [PostingThread],
     loopers: &mut [StageLooper],
@@ -220,31 +208,31 @@ fn run_side_by_side<R: Threads + Wait + time::Clock + Sync, C: Clock + Sync, G: 
 ) -> bool
     requires text { HasText script.now }
     requires some { 0 < script.now.loopers }
-    requires hall { IsHall script.now hall.now }
-    requires mode { hall.now.lockstep ≡ false }
+    requires hall { IsFreeHall script.now hall.now }
     requires threads { AreThreads script.now hall.now threads.old }
     requires loopers { AreLoopers script.now hall.now loopers.old }
     requires controller { IsControllerIn false script.now hall.now controller.old }
     requires none { (q : ℕ) → CallsNothingOn controller.old q }
-    ensures threads { AtEach (RunsByClock (in_free_mode (C.shows timer.now.clock.now) timer.now.start) script.now hall.now) threads.old threads.new }
-    ensures loopers { AtEach (LoopsByClock (in_free_mode (C.shows timer.now.clock.now) timer.now.start) script.now hall.now) loopers.old loopers.new }
-    ensures quit { result ≡ true → QuitsOthers (in_free_mode (C.shows timer.now.clock.now) timer.now.start) script.now hall.now controller.old controller.new }
+    ensures threads { EachRuns (by_timer C.shows timer.now) script.now hall.now threads.old threads.new }
+    ensures loopers { EachLoops (by_timer C.shows timer.now) script.now hall.now loopers.old loopers.new }
+    ensures quit { result ≡ true → QuitsOthers (by_timer C.shows timer.now) script.now hall.now controller.old controller.new }
 {
-    let ended = Mutex::new(Vec::new(alloc));
+    let ended = Mutex::new(Vec::new(means.alloc));
     let (main, others) = loopers.split_at_mut(1);
     let ((), quit) = join_mut(
-        rt,
+        means.rt,
         &mut ||
-            requires { IsSync R.row × IsSync C.row × IsSync G.row × IsHall script.now hall.now × (hall.now.lockstep ≡ false) × EachIsLooper script.now hall.now others.now }
-            ensures { AtEach (LoopsByClock (in_free_mode (C.shows timer.entry.now.clock.now) timer.entry.now.start) script.entry.now hall.entry.now) others.entry.now others.exit.now }
-        { run_others(rt, alloc, hall, script, gate, timer, &ended, others) },
+            requires { IsSync R.row × IsSync C.row × IsSync G.row × IsFreeHall script.now hall.now × EachIsLooper script.now hall.now others.now }
+            ensures { EachLoops (by_timer C.shows timer.entry.now) script.entry.now hall.entry.now others.entry.now others.exit.now }
+        { run_others(means, hall, script, timer, &ended, others) },
         &mut ||
             requires { CanRunMain script.now hall.now main.now threads.now controller.now × IsSync R.row × IsSync C.row × IsSync G.row }
-            ensures { HasRunMain (in_free_mode (C.shows timer.entry.now.clock.now) timer.entry.now.start) script.entry.now hall.entry.now main.entry.now main.exit.now threads.entry.now threads.exit.now controller.entry.now controller.exit.now result }
+            ensures threads { EachRuns (by_timer C.shows timer.entry.now) script.entry.now hall.entry.now threads.entry.now threads.exit.now }
+            ensures main { EachLoops (by_timer C.shows timer.entry.now) script.entry.now hall.entry.now main.entry.now main.exit.now }
+            ensures quit { result ≡ true → QuitsOthers (by_timer C.shows timer.entry.now) script.entry.now hall.entry.now controller.entry.now controller.exit.now }
         {
-            run_main(
-                rt, alloc, hall, script, gate, timer, &ended, main, threads, controller,
-            )
+            run_main(means, hall, script, timer, main, threads);
+            quit_others(means.rt, hall, script, timer, &ended, controller)
         },
     );
     quit
@@ -252,51 +240,45 @@ fn run_side_by_side<R: Threads + Wait + time::Clock + Sync, C: Clock + Sync, G: 
 
 /// The loopers but the main one run until their queues are disposed of, each on a thread of its own. Which have ended is told.
 fn run_others<R: Threads + Wait + time::Clock + Sync, C: Clock + Sync, G: Gate + Sync>(
-    rt: &R,
-    alloc: Global,
+    means: &Means<R, G>,
     hall: &Hall,
     script: &Script,
-    gate: &G,
     timer: &Timer<C>,
     ended: &Mutex<Vec<u32>>,
     others: &mut [StageLooper],
 )
-    requires hall { IsHall script.now hall.now }
-    requires mode { hall.now.lockstep ≡ false }
+    requires hall { IsFreeHall script.now hall.now }
     requires loopers { EachIsLooper script.now hall.now others.old }
-    ensures loopers { AtEach (LoopsByClock (in_free_mode (C.shows timer.now.clock.now) timer.now.start) script.now hall.now) others.old others.new }
+    ensures loopers { EachLoops (by_timer C.shows timer.now) script.now hall.now others.old others.new }
 {
     let count = others.len().max(1);
     for_each_mut(
-        rt,
+        means.rt,
         others,
         count,
         &|_, looper: &mut StageLooper|
-            requires { IsSync R.row × IsSync C.row × IsSync G.row × IsHall script.now hall.now × (hall.now.lockstep ≡ false) × IsLooper script.now hall.now looper.old }
-            ensures { LoopsByClock (in_free_mode (C.shows timer.entry.now.clock.now) timer.entry.now.start) script.entry.now hall.entry.now looper.old looper.new }
-        { run_one(rt, alloc, hall, script, gate, timer, ended, looper) },
+            requires { IsSync R.row × IsSync C.row × IsSync G.row × IsFreeHall script.now hall.now × IsLooper script.now hall.now looper.old }
+            ensures { LoopsByClock (by_timer C.shows timer.entry.now) script.entry.now hall.entry.now looper.old looper.new }
+        { run_one(means, hall, script, timer, ended, looper) },
     );
 }
 
 /// A looper runs until its queue is disposed of, and tells that it has ended.
 fn run_one<R: Wait + time::Clock, C: Clock, G: Gate>(
-    rt: &R,
-    alloc: Global,
+    means: &Means<R, G>,
     hall: &Hall,
     script: &Script,
-    gate: &G,
     timer: &Timer<C>,
     ended: &Mutex<Vec<u32>>,
     looper: &mut StageLooper,
 )
-    requires hall { IsHall script.now hall.now }
-    requires mode { hall.now.lockstep ≡ false }
+    requires hall { IsFreeHall script.now hall.now }
     requires looper { IsLooper script.now hall.now looper.old }
-    ensures { LoopsByClock (in_free_mode (C.shows timer.now.clock.now) timer.now.start) script.now hall.now looper.old looper.new }
+    ensures { LoopsByClock (by_timer C.shows timer.now) script.now hall.now looper.old looper.new }
 {
-    looper.run_by_clock(rt, alloc, hall, script, gate, timer, None);
+    looper.run_by_clock(means.rt, means.alloc, hall, script, means.gate, timer, None);
     if looper.has_ended() {
-        tell(rt, hall, ended, looper.number);
+        tell(means.rt, hall, ended, looper.number);
     }
 }
 
@@ -307,81 +289,82 @@ fn tell<R: Wait>(rt: &R, hall: &Hall, ended: &Mutex<Vec<u32>>, number: u32) {
     }
 }
 
-/// The main looper runs until the script's end, beside the threads; then the controller quits the other loopers. Answers false where a
-/// quit found no memory or the run was given up.
+/// The main looper runs until the script's end, beside the threads.
 fn run_main<R: Threads + Wait + time::Clock + Sync, C: Clock + Sync, G: Gate + Sync>(
-    rt: &R,
-    alloc: Global,
+    means: &Means<R, G>,
     hall: &Hall,
     script: &Script,
-    gate: &G,
     timer: &Timer<C>,
-    ended: &Mutex<Vec<u32>>,
     main: &mut [StageLooper],
     threads: &mut [PostingThread],
-    controller: &mut Controller,
-) -> bool
-    requires { CanRunMain script.now hall.now main.old threads.old controller.old }
-    ensures { HasRunMain (in_free_mode (C.shows timer.now.clock.now) timer.now.start) script.now hall.now main.old main.new threads.old threads.new controller.old controller.new result }
+)
+    requires text { HasText script.now }
+    requires hall { IsFreeHall script.now hall.now }
+    requires one { length main.old ≡ 1 }
+    requires main { EachIsLooper script.now hall.now main.old }
+    requires threads { EachIsThread script.now hall.now threads.old }
+    ensures threads { EachRuns (by_timer C.shows timer.now) script.now hall.now threads.old threads.new }
+    ensures main { EachLoops (by_timer C.shows timer.now) script.now hall.now main.old main.new }
 {
     join_mut(
-        rt,
+        means.rt,
         &mut ||
-            requires { IsSync R.row × IsSync C.row × IsSync G.row × HasText script.now × IsHall script.now hall.now × (hall.now.lockstep ≡ false) × EachIsThread script.now hall.now threads.now }
-            ensures { AtEach (RunsByClock (in_free_mode (C.shows timer.entry.now.clock.now) timer.entry.now.start) script.entry.now hall.entry.now) threads.entry.now threads.exit.now }
-        { run_threads(rt, alloc, hall, script, gate, timer, threads) },
+            requires { IsSync R.row × IsSync C.row × IsSync G.row × HasText script.now × IsFreeHall script.now hall.now × EachIsThread script.now hall.now threads.now }
+            ensures { EachRuns (by_timer C.shows timer.entry.now) script.entry.now hall.entry.now threads.entry.now threads.exit.now }
+        { run_threads(means, hall, script, timer, threads) },
         &mut ||
-            requires { IsSync R.row × IsSync C.row × IsSync G.row × IsHall script.now hall.now × (hall.now.lockstep ≡ false) × (length main.now ≡ 1) × EachIsLooper script.now hall.now main.now }
-            ensures { AtEach (LoopsByClock (in_free_mode (C.shows timer.entry.now.clock.now) timer.entry.now.start) script.entry.now hall.entry.now) main.entry.now main.exit.now }
-        { run_first(rt, alloc, hall, script, gate, timer, main) },
+            requires { IsSync R.row × IsSync C.row × IsSync G.row × IsFreeHall script.now hall.now × (length main.now ≡ 1) × EachIsLooper script.now hall.now main.now }
+            ensures { EachLoops (by_timer C.shows timer.entry.now) script.entry.now hall.entry.now main.entry.now main.exit.now }
+        { run_first(means, hall, script, timer, main) },
     );
-    quit_others(rt, hall, script, timer, ended, controller)
 }
 
 /// The first of these loopers runs until the script's end.
 fn run_first<R: Wait + time::Clock, C: Clock, G: Gate>(
-    rt: &R,
-    alloc: Global,
+    means: &Means<R, G>,
     hall: &Hall,
     script: &Script,
-    gate: &G,
     timer: &Timer<C>,
     loopers: &mut [StageLooper],
 )
-    requires hall { IsHall script.now hall.now }
-    requires mode { hall.now.lockstep ≡ false }
+    requires hall { IsFreeHall script.now hall.now }
     requires one { length loopers.old ≡ 1 }
     requires loopers { EachIsLooper script.now hall.now loopers.old }
-    ensures loopers { AtEach (LoopsByClock (in_free_mode (C.shows timer.now.clock.now) timer.now.start) script.now hall.now) loopers.old loopers.new }
+    ensures loopers { EachLoops (by_timer C.shows timer.now) script.now hall.now loopers.old loopers.new }
 {
-    loopers[0].run_by_clock(rt, alloc, hall, script, gate, timer, Some(script.end));
+    loopers[0].run_by_clock(
+        means.rt,
+        means.alloc,
+        hall,
+        script,
+        means.gate,
+        timer,
+        Some(script.end),
+    );
 }
 
 /// The threads run their blocks, each on a thread of its own.
 fn run_threads<R: Threads + Wait + time::Clock + Sync, C: Clock + Sync, G: Gate + Sync>(
-    rt: &R,
-    alloc: Global,
+    means: &Means<R, G>,
     hall: &Hall,
     script: &Script,
-    gate: &G,
     timer: &Timer<C>,
     threads: &mut [PostingThread],
 )
     requires text { HasText script.now }
-    requires hall { IsHall script.now hall.now }
-    requires mode { hall.now.lockstep ≡ false }
+    requires hall { IsFreeHall script.now hall.now }
     requires threads { EachIsThread script.now hall.now threads.old }
-    ensures threads { AtEach (RunsByClock (in_free_mode (C.shows timer.now.clock.now) timer.now.start) script.now hall.now) threads.old threads.new }
+    ensures threads { EachRuns (by_timer C.shows timer.now) script.now hall.now threads.old threads.new }
 {
     let count = threads.len().max(1);
     for_each_mut(
-        rt,
+        means.rt,
         threads,
         count,
         &|_, thread: &mut PostingThread|
-            requires { IsSync R.row × IsSync C.row × IsSync G.row × HasText script.now × IsHall script.now hall.now × (hall.now.lockstep ≡ false) × IsThread script.now hall.now thread.old }
-            ensures { RunsByClock (in_free_mode (C.shows timer.entry.now.clock.now) timer.entry.now.start) script.entry.now hall.entry.now thread.old thread.new }
-        { thread.run_by_clock(rt, alloc, hall, script, gate, timer) },
+            requires { IsSync R.row × IsSync C.row × IsSync G.row × HasText script.now × IsFreeHall script.now hall.now × IsThread script.now hall.now thread.old }
+            ensures { RunsByClock (by_timer C.shows timer.entry.now) script.entry.now hall.entry.now thread.old thread.new }
+        { thread.run_by_clock(means.rt, means.alloc, hall, script, means.gate, timer) },
     );
 }
 
@@ -396,11 +379,10 @@ fn quit_others<R: Wait + time::Clock, C: Clock>(
     controller: &mut Controller,
 ) -> bool
     requires some { 0 < script.now.loopers }
-    requires hall { IsHall script.now hall.now }
-    requires mode { hall.now.lockstep ≡ false }
+    requires hall { IsFreeHall script.now hall.now }
     requires controller { IsControllerIn false script.now hall.now controller.old }
     requires none { (q : ℕ) → CallsNothingOn controller.old q }
-    ensures { result ≡ true → QuitsOthers (in_free_mode (C.shows timer.now.clock.now) timer.now.start) script.now hall.now controller.old controller.new }
+    ensures { result ≡ true → QuitsOthers (by_timer C.shows timer.now) script.now hall.now controller.old controller.new }
 {
     let Some(now) = timer.wait_until(rt, &hall.stop, script.end) else {
         controller.give_up(rt, hall, script, timer.now());
@@ -429,24 +411,21 @@ fn is_among(numbers: &[u32], number: u32) -> bool {
 
 /// The first of the loopers, main, drains at this moment, in milliseconds.
 fn drain_first<R: Wait + time::Clock, C: Clock, G: Gate>(
-    rt: &R,
-    alloc: Global,
+    means: &Means<R, G>,
     hall: &Hall,
     script: &Script,
-    gate: &G,
     timer: &Timer<C>,
     now: u64,
     loopers: &mut [StageLooper],
 )
     requires some { 0 < script.now.loopers }
-    requires hall { IsHall script.now hall.now }
-    requires mode { hall.now.lockstep ≡ false }
+    requires hall { IsFreeHall script.now hall.now }
     requires loopers { AreLoopers script.now hall.now loopers.old }
     requires moment { IsMoment (C.shows timer.now.clock.now) timer.now.start now }
-    ensures loopers { AtEach (LoopsByClock (in_free_mode (C.shows timer.now.clock.now) timer.now.start) script.now hall.now) loopers.old loopers.new }
+    ensures loopers { EachLoops (by_timer C.shows timer.now) script.now hall.now loopers.old loopers.new }
     ensures others { OthersHaveEnded loopers.old → OthersHaveEnded loopers.new }
 {
-    loopers[0].drain_by_clock(rt, alloc, hall, script, gate, timer, now);
+    loopers[0].drain_by_clock(means.rt, means.alloc, hall, script, means.gate, timer, now);
 }
 
 /// Whether each of these loopers but the first has ended.

@@ -1,22 +1,19 @@
 //! How a run is given up.
-ghost use Rattle.std.specs.Prelude.{◌≡◌, ◌≢◌, ◌<◌, ℕ, true, false, length, slice_index_or};
-ghost use Rattle.looper_run.specs.Holding.{Sender};
+ghost use Rattle.std.specs.Prelude.{◌≡◌, ◌<◌, true};
 ghost use Rattle.dash_hall.specs.Growth.{QuitsOf};
 ghost use Rattle.dash_hall.specs.Kits.{IsHall};
-ghost use Rattle.dash_loopers.specs.declared.looper.StageLooper.{StageLooper};
-ghost use Rattle.dash_loopers.specs.Loopers.{HasRun};
-ghost use Rattle.dash_stage.specs.Controllers.{IsControllerIn};
-ghost use Rattle.dash_stage.specs.GivingUp.{AreQuit, IsNudged};
+ghost use Rattle.dash_stage.specs.Controllers.{IsControllerIn, AtPoster, OtherPostersStay};
+ghost use Rattle.dash_stage.specs.GivingUp.{AreQuit, IsNudged, OthersHaveRun};
 ghost use Rattle.dash_stage.specs.Stages.{IsStage};
 
 use crate::control::{Controller, quit_by};
+use crate::means::Means;
 use crate::side::{Turn, run_loopers};
 use crate::stage::Stage;
 use dash_hall::Hall;
 use dash_script::Script;
 use loop_io::Gate;
 use loop_model::NoMemory;
-use std::alloc::Global;
 use std::sync::Wait;
 use std::thread::Threads;
 
@@ -26,25 +23,23 @@ impl Stage {
     /// false where a quit found no memory.
     pub(crate) fn give_up<R: Threads + Wait + Sync, G: Gate + Sync>(
         &mut self,
-        rt: &R,
-        alloc: Global,
+        means: &Means<R, G>,
         script: &Script,
-        gate: &G,
     ) -> bool
         requires some { 0 < script.now.loopers }
         requires stage { IsStage script.now self.old }
         ensures stage { IsStage script.now self.new }
         ensures nudged { IsNudged self.old.controller self.new.controller }
         ensures quit { result ≡ true → AreQuit self.old.time self.old.controller self.new.controller }
-        ensures run { (k : ℕ) (d : StageLooper) → 0 < k → k < length self.old.loopers.items → HasRun script.now self.old.time (slice_index_or self.old.loopers.items k d) (slice_index_or self.new.loopers.items k d) }
+        ensures run { OthersHaveRun script.now self.old.time self.old.loopers.items self.new.loopers.items }
     {
-        let quit = self.controller.give_up(rt, &self.hall, script, self.time);
+        let quit = self
+            .controller
+            .give_up(means.rt, &self.hall, script, self.time);
         let _ = run_loopers(
-            rt,
-            alloc,
+            means,
             &self.hall,
             script,
-            gate,
             self.time,
             Turn::Others,
             1,
@@ -87,7 +82,7 @@ impl Controller {
         requires controller { IsControllerIn hall.now.lockstep script.now hall.now self.old }
         ensures controller { IsControllerIn hall.now.lockstep script.now hall.now self.new }
         ensures nudged { IsNudged self.old self.new }
-        ensures elsewhere { (q : ℕ) (d : Sender) → q ≢ 0 → slice_index_or self.new.kit.posters.items q d ≡ slice_index_or self.old.kit.posters.items q d }
+        ensures elsewhere { OtherPostersStay 0 self.old self.new }
     {
         self.kit.posters[0].nudge(rt, &hall.queues[0]);
     }
@@ -106,8 +101,8 @@ impl Controller {
         requires controller { IsControllerIn hall.now.lockstep script.now hall.now self.old }
         requires place { place < script.now.loopers }
         ensures controller { IsControllerIn hall.now.lockstep script.now hall.now self.new }
-        ensures here { result ≡ true → (d : Sender) → QuitsOf (slice_index_or self.old.kit.posters.items place d) (slice_index_or self.new.kit.posters.items place d) safe now }
-        ensures elsewhere { (q : ℕ) (d : Sender) → q ≢ place → slice_index_or self.new.kit.posters.items q d ≡ slice_index_or self.old.kit.posters.items q d }
+        ensures here { result ≡ true → AtPoster (λ before after. QuitsOf before after safe now) place self.old self.new }
+        ensures elsewhere { OtherPostersStay place self.old self.new }
     {
         let Ok(()) = quit_by(
             rt,

@@ -1,27 +1,20 @@
 //! The report of a run.
-ghost use Rattle.std.specs.Prelude.{◌≡◌, ℕ, Bool, true, map, IfOk, OnOk, List};
-ghost use Rattle.std.specs.List.{AllByRecursion};
+ghost use Rattle.std.specs.Prelude.{◌≡◌, ℕ, Bool, true, IfOk, OnOk, List};
 ghost use Rattle.dash_script.specs.Reading.{HasText};
 ghost use Rattle.loop_model.specs.declared.entry.Entry.{Entry};
-ghost use Rattle.run_model.specs.Moments.{in_lockstep, in_free_mode, Mode};
-ghost use Rattle.run_model.specs.Run.{IsAsPlanned, IsControlled, IsFrameRun, IsTimely, main_ends_halted};
-ghost use Rattle.dash_stage.specs.Controllers.{HasClosedIn};
-ghost use Rattle.dash_stage.specs.Timeliness.{HasHaltedLast};
+ghost use Rattle.run_model.specs.Moments.{in_free_mode, Mode};
 ghost use Rattle.dash_hall.specs.Kits.{IsHall, OthersAreOver};
-ghost use Rattle.dash_stage.specs.Records.{AreQueueRecords, AreFrameRecords, AreJournals, AreLooperRuns};
+ghost use Rattle.dash_stage.specs.Keeping.{AreKeptOf};
+ghost use Rattle.dash_stage.specs.Records.{AreJournals};
 ghost use Rattle.dash_loopers.specs.Loopers.{HaveTold};
-ghost use Rattle.dash_stage.specs.Blocks.{AreBlocksFirst, AreBlocksReached};
 ghost use Rattle.dash_stage.specs.Outcomes.{Stages, StagesByClock};
 ghost use Rattle.dash_stage.specs.Leaving.{HaveGiven};
 ghost use Rattle.dash_stage.specs.Runs.{HaveRunAll};
 ghost use Rattle.dash_hall.specs.Hearing.{HaveSeenAll};
-ghost use Rattle.dash_stage.specs.Sharing.{OfThreads, OfLoopers, OfKits};
-ghost use Rattle.run_model.specs.Senders.{controller};
-ghost use Rattle.run_model.specs.Histories.{history_of};
-ghost use Rattle.run_model.specs.Moves.{moves, AreMovedTogether};
+ghost use Rattle.dash_stage.specs.Sharing.{OfThreads, OfKits, CarriesOver};
 ghost use Rattle.dash_stage.specs.Stages.{IsPlayable, AreThreads, AreLoopers, AreThreadKits, AreSenderKits, OthersHaveEnded, LoopersGoOn, IsStageIn, HaveRunBy};
 ghost use Rattle.dash_threads.specs.Threads.{AreByClock};
-ghost use Rattle.dash_stage.specs.RunEnds.{HasEndedBy, HasEndedByClock, HasEndedInLockstep};
+ghost use Rattle.dash_stage.specs.RunEnds.{HasEndedByClock, HasEndedInLockstep};
 
 use crate::records::records;
 use crate::run::Ran;
@@ -40,8 +33,6 @@ pub(crate) fn report(alloc: Global, script: Script, stage: Stage) -> Ran
     requires playable { IsPlayable script }
     requires text { HasText script }
     requires out { HasEndedInLockstep script stage }
-    requires ended { OthersHaveEnded stage.loopers.items }
-    requires on { LoopersGoOn stage.loopers.items }
     ensures { Stages script result }
 {
     match kept(alloc, &script, stage) {
@@ -88,19 +79,7 @@ fn kept(
     requires text { HasText script.now }
     requires ended { OthersHaveEnded stage.loopers.items }
     requires on { LoopersGoOn stage.loopers.items }
-    ensures queues { (m : Mode) → HasEndedBy m script.now stage → IfOk result (λ r. AreQueueRecords m script.now r.0.items) }
-    ensures planned { (m : Mode) → HaveRunBy m script.now script.now.blocks stage.threads.items → IfOk result (λ r. AllByRecursion (IsAsPlanned m script.now) r.0.items) }
-    ensures controls { (m : Mode) → HasEndedBy m script.now stage → HasClosedIn m.lockstep script.now stage.controller → IfOk result (λ r. AllByRecursion (IsControlled script.now) r.0.items) }
-    ensures halted { (m : Mode) → HasEndedBy m script.now stage → HasHaltedLast script.now stage → IfOk result (λ r. main_ends_halted r.0.items ≡ true) }
-    ensures timely { HasEndedInLockstep script.now stage → IfOk result (λ r. AllByRecursion (IsTimely script.now) r.0.items) }
-    ensures loopers { HasEndedInLockstep script.now stage → IfOk result (λ r. AreLooperRuns in_lockstep script.now r.0.items r.1.items r.2.items) }
-    ensures by_clock { (m : Mode) → HasEndedByClock m script.now stage → IfOk result (λ r. AreLooperRuns m script.now r.0.items r.1.items r.2.items) }
-    ensures journals { IfOk result (λ r. AreJournals script.now r.1.items) }
-    ensures frames { IfOk result (λ r. AreFrameRecords script.now r.2.items) }
-    ensures run { IfOk result (λ r. AllByRecursion (IsFrameRun script.now) r.2.items) }
-    ensures first { HasEndedInLockstep script.now stage → IfOk result (λ r. AreBlocksFirst script.now r.0.items) }
-    ensures reached { HasEndedInLockstep script.now stage → IfOk result (λ r. AreBlocksReached script.now r.0.items) }
-    ensures moves { HasEndedInLockstep script.now stage → IfOk result (λ r. AreMovedTogether script.now (map (λ q. moves (controller script.now) (history_of q)) r.0.items)) }
+    ensures { IfOk result (λ r. AreKeptOf script.now stage r.0.items r.1.items r.2.items) }
 {
     let Stage {
         hall,
@@ -151,11 +130,11 @@ fn looper_kits(
     ensures journals { IfOk result (λ v. AreJournals script.now v.items) }
     ensures kits { OnOk result (AreSenderKits script.now hall.now kits.new.items) }
     ensures run { OnOk result ((m : Mode) → HaveRunAll m script.now kits.old.items → HaveRunAll m script.now kits.new.items) }
-    ensures clocked { OnOk result ((m : Mode) → OfLoopers (AreByClock m) loopers.items → OfKits (AreByClock m) kits.old.items → OfKits (AreByClock m) kits.new.items) }
+    ensures clocked { OnOk result ((m : Mode) → CarriesOver (AreByClock m) loopers.items kits.old.items kits.new.items) }
     ensures told { IfOk result (λ v. LoopersGoOn loopers.items → HaveTold script.now v.items kits.new.items) }
     ensures left { IfOk result (λ v. HaveGiven script.now loopers.items v.items kits.new.items) }
     ensures over { OnOk result (OthersHaveEnded loopers.items → OthersAreOver script.now kits.new.items) }
-    ensures seen { OnOk result ((whole : List (List Entry)) → OfLoopers (HaveSeenAll whole) loopers.items → OfKits (HaveSeenAll whole) kits.old.items → OfKits (HaveSeenAll whole) kits.new.items) }
+    ensures seen { OnOk result ((whole : List (List Entry)) → CarriesOver (HaveSeenAll whole) loopers.items kits.old.items kits.new.items) }
 {
     let mut journals = Vec::new(alloc);
     'each: while !loopers.is_empty() {

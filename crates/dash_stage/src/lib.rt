@@ -6,6 +6,7 @@ mod control;
 mod free;
 mod give_up;
 mod kept;
+mod means;
 mod opening;
 mod records;
 mod run;

@@ -5,8 +5,9 @@ ghost use Rattle.run_model.specs.Histories.{history_of};
 ghost use Rattle.run_model.specs.Senders.{sender_count};
 ghost use Rattle.dash_hall.specs.Kits.{IsHall, AreKitsOf, AreQueuesOf, AreChoreographersOf, frame_constants, frames_for};
 ghost use Rattle.dash_hall.specs.Dealing.{EachGivesPoster, given_of};
-ghost use Rattle.dash_stage.specs.Ending.{HavePosters, AreNext, AreSealed, HasSealedNext, HaveAllPosters, IsKeptOf, EachEndsPoster, KeepFrames, BeginWithPasses, HaveAllPasses, HaveFramesLeft, AreOfNext, BeginWithOwn, AreOfPool};
-ghost use Rattle.dash_stage.specs.Records.{AreQueueRecords, AreFrameRecords, AreAllTheirs, HaveAll, HaveSeenOwn, HaveCalledByClock, AreOfLoopers};
+ghost use Rattle.dash_stage.specs.Ending.{HavePosters, AreNext, AreSealed, HasSealedNext, HaveAllPosters, IsKeptOf, EachEndsPoster};
+ghost use Rattle.dash_stage.specs.Ending.{KeepFrames, BeginWithPasses, HaveAllPasses, HaveFramesLeft, AreOfNext, BeginWithOwn, AreOfPool};
+ghost use Rattle.dash_stage.specs.Records.{AreRecordsBy, AreFrameRecords, AreAllTheirs, HaveAll, HaveSeenOwn, AreOfLoopers};
 ghost use Rattle.run_model.specs.Run.{IsFrameRun};
 ghost use Rattle.run_model.specs.Moments.{Mode};
 
@@ -34,7 +35,7 @@ pub(crate) fn records(
     requires kits { AreKitsOf script.now hall kits.items }
     requires sealed { AreSealed kits.items sealed.items }
     requires pass { pass.home ≡ hall.pool }
-    ensures queues { (m : Mode) → m.lockstep ≡ hall.lockstep → HaveCalledByClock m script.now kits.items → IfOk result (λ r. AreQueueRecords m script.now r.0.items) }
+    ensures queues { (m : Mode) → m.lockstep ≡ hall.lockstep → IfOk result (λ r. AreRecordsBy m script.now kits.items r.0.items) }
     ensures frames { IfOk result (λ r. AreFrameRecords script.now r.1.items) }
     ensures loopers { IfOk result (λ r. AreOfLoopers script.now r.0.items) }
     ensures all { IfOk result (λ r. HaveAll kits.items r.0.items) }
@@ -71,7 +72,7 @@ fn queue_records(
     requires kits { HaveAllPosters queues.items kits.old.items }
     requires sealed { AreSealed kits.old.items sealed.items }
     ensures pass { OnOk result (pass.new.home ≡ pool.now) }
-    ensures records { (m : Mode) → AreQueuesOf m.lockstep script.now pool.now queues.items → HaveCalledByClock m script.now kits.old.items → IfOk result (λ v. AreQueueRecords m script.now v.items) }
+    ensures records { (m : Mode) → AreQueuesOf m.lockstep script.now pool.now queues.items → IfOk result (λ v. AreRecordsBy m script.now kits.old.items v.items) }
     ensures loopers { IfOk result (λ v. AreOfLoopers script.now v.items) }
     ensures all { IfOk result (λ v. HaveAll kits.old.items v.items) }
     ensures kits { OnOk result (KeepFrames kits.old.items kits.new.items) }

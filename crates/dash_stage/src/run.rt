@@ -3,9 +3,9 @@ ghost use Rattle.std.specs.Prelude.{IfOk};
 ghost use Rattle.dash_script.specs.Reading.{HasText};
 ghost use Rattle.dash_stage.specs.Outcomes.{Stages};
 ghost use Rattle.dash_stage.specs.RunEnds.{HasEndedInLockstep};
-ghost use Rattle.dash_stage.specs.Stages.{OthersHaveEnded, LoopersGoOn};
 
 use crate::kept::report;
+use crate::means::Means;
 use crate::opening::set_up;
 use crate::stage::Stage;
 use dash_script::Script;
@@ -39,7 +39,8 @@ pub fn run_script<R: Threads + Wait + Sync, G: Gate + Sync>(
     requires { HasText script }
     ensures { Stages script result }
 {
-    let stage = match played(rt, alloc, &script, gate) {
+    let means = Means { rt, alloc, gate };
+    let stage = match played(&means, &script) {
         Ok(stage) => stage,
         Err(NoMemory) => return Ran::NoMemory,
     };
@@ -49,19 +50,15 @@ pub fn run_script<R: Threads + Wait + Sync, G: Gate + Sync>(
 /// The stage after the run.
 #[tactic(auto, using(crate::proofs::BlockTimes::Limits::playable))]
 fn played<R: Threads + Wait + Sync, G: Gate + Sync>(
-    rt: &R,
-    alloc: Global,
+    means: &Means<R, G>,
     script: &Script,
-    gate: &G,
 ) -> Result<Stage, NoMemory>
     requires { HasText script.now }
-    ensures out { IfOk result (λ st. HasEndedInLockstep script.now st) }
-    ensures ended { IfOk result (λ st. OthersHaveEnded st.loopers.items) }
-    ensures on { IfOk result (λ st. LoopersGoOn st.loopers.items) }
+    ensures out { IfOk result (HasEndedInLockstep script.now) }
 {
-    let mut stage = set_up(alloc, script, true)?;
-    let Ok(()) = stage.play(rt, alloc, script, gate) else {
-        let _ = stage.give_up(rt, alloc, script, gate);
+    let mut stage = set_up(means.alloc, script, true)?;
+    let Ok(()) = stage.play(means, script) else {
+        let _ = stage.give_up(means, script);
         return Err(NoMemory);
     };
     Ok(stage)

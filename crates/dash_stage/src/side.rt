@@ -1,25 +1,22 @@
 //! Senders that work side by side, those that have work each on a thread of its own.
-ghost use Rattle.std.specs.Prelude.{◌≡◌, ◌<◌, ℕ, true, false, OnOk, length, slice_index_or};
+ghost use Rattle.std.specs.Prelude.{◌≡◌, ◌<◌, true, false, OnOk};
 ghost use Rattle.std.specs.Thread.{IsSync};
 ghost use Rattle.dash_script.specs.Reading.{HasText};
-ghost use Rattle.looper_run.specs.Round.{is_ended};
 ghost use Rattle.dash_hall.specs.Kits.{IsHall};
-ghost use Rattle.run_model.specs.Moments.{in_lockstep};
-ghost use Rattle.dash_threads.specs.Threads.{IsThread, Continues};
+ghost use Rattle.dash_threads.specs.Threads.{IsThread};
 ghost use Rattle.dash_loopers.specs.Loopers.{IsLooper, HasRun, ComesToWait};
-ghost use Rattle.dash_loopers.specs.declared.looper.StageLooper.{StageLooper};
-ghost use Rattle.dash_stage.specs.Stages.{AreThreads, AreLoopers, RunOn, GoOn, OthersHaveEnded, LoopersGoOn};
-ghost use Rattle.dash_stage.specs.Turns.{has_turn};
-ghost use Rattle.dash_stage.specs.Playing.{PlaysOn};
+ghost use Rattle.dash_stage.specs.Stages.{AreThreads, AreLoopers, RunOn, RunsBlock, GoOn, OthersHaveEnded, LoopersGoOn};
+ghost use Rattle.dash_stage.specs.Turns.{has_turn, AtTurn, IsTheSame, RunsInTurn};
+ghost use Rattle.dash_stage.specs.Playing.{EachPlaysOn};
 
 use crate::agenda::Spread;
+use crate::means::Means;
 use dash_hall::Hall;
 use dash_loopers::StageLooper;
 use dash_script::{Block, Script};
 use dash_threads::PostingThread;
 use loop_io::Gate;
 use loop_model::NoMemory;
-use std::alloc::Global;
 use std::sync::Wait;
 use std::thread::{Threads, for_each_mut};
 
@@ -45,11 +42,9 @@ impl Turn {
 
 /// The threads run their commands of a block.
 pub(crate) fn run_threads<R: Threads + Wait + Sync, G: Gate + Sync>(
-    rt: &R,
-    alloc: Global,
+    means: &Means<R, G>,
     hall: &Hall,
     script: &Script,
-    gate: &G,
     block: &Block,
     threads: &mut [PostingThread],
 ) -> Result<(), NoMemory>
@@ -61,13 +56,13 @@ pub(crate) fn run_threads<R: Threads + Wait + Sync, G: Gate + Sync>(
 {
     let count = threads_for(block, threads);
     for_each_mut(
-        rt,
+        means.rt,
         threads,
         count,
         &|_, thread: &mut PostingThread|
             requires { IsSync R.row × IsSync G.row × HasText script.now × IsHall script.now hall.now × IsThread script.now hall.now thread.old }
-            ensures { IsThread script.entry.now hall.entry.now thread.new × (thread.new.number ≡ thread.old.number) × (thread.new.gave_up ≡ false → Continues in_lockstep script.entry.now block.entry.now thread.old thread.new) }
-        { thread.run_block(rt, alloc, hall, script, gate, block) },
+            ensures { RunsBlock script.entry.now hall.entry.now block.entry.now thread.old thread.new }
+        { thread.run_block(means.rt, means.alloc, hall, script, means.gate, block) },
     );
     if has_given_up(threads) {
         return Err(NoMemory);
@@ -111,11 +106,9 @@ pub(crate) fn has_given_up(threads: &[PostingThread]) -> bool
 
 /// These loopers run a round, on so many threads.
 pub(crate) fn run_loopers<R: Threads + Wait + Sync, G: Gate + Sync>(
-    rt: &R,
-    alloc: Global,
+    means: &Means<R, G>,
     hall: &Hall,
     script: &Script,
-    gate: &G,
     now: u64,
     turn: Turn,
     count: usize,
@@ -128,21 +121,21 @@ pub(crate) fn run_loopers<R: Threads + Wait + Sync, G: Gate + Sync>(
     ensures loopers { AreLoopers script.now hall.now loopers.new }
     ensures ended { OthersHaveEnded loopers.old → OthersHaveEnded loopers.new }
     ensures on { OnOk result (LoopersGoOn loopers.new) }
-    ensures waits { (k : ℕ) (d : StageLooper) → k < length loopers.old → has_turn turn k ≡ true → ComesToWait script.now (slice_index_or loopers.old k d) (slice_index_or loopers.new k d) }
-    ensures rounds { (k : ℕ) (d : StageLooper) → k < length loopers.old → has_turn turn k ≡ true → HasRun script.now now (slice_index_or loopers.old k d) (slice_index_or loopers.new k d) }
-    ensures others { (k : ℕ) (d : StageLooper) → k < length loopers.old → has_turn turn k ≡ false → slice_index_or loopers.new k d ≡ slice_index_or loopers.old k d }
-    ensures plays { (k : ℕ) (d : StageLooper) → k < length loopers.old → PlaysOn script.now now (slice_index_or loopers.old k d) (slice_index_or loopers.new k d) }
+    ensures waits { AtTurn turn true (ComesToWait script.now) loopers.old loopers.new }
+    ensures rounds { AtTurn turn true (HasRun script.now now) loopers.old loopers.new }
+    ensures others { AtTurn turn false IsTheSame loopers.old loopers.new }
+    ensures plays { EachPlaysOn script.now now loopers.old loopers.new }
 {
     for_each_mut(
-        rt,
+        means.rt,
         loopers,
         count,
         &|_, looper: &mut StageLooper|
             requires { IsSync R.row × IsSync G.row × IsHall script.now hall.now × (hall.now.lockstep ≡ true) × IsLooper script.now hall.now looper.old }
-            ensures { IsLooper script.entry.now hall.entry.now looper.new × (looper.new.number ≡ looper.old.number) × (is_ended looper.old.last ≡ true → is_ended looper.new.last ≡ true) × (has_turn turn looper.old.number ≡ true → ComesToWait script.entry.now looper.old looper.new) × (has_turn turn looper.old.number ≡ true → HasRun script.entry.now now looper.old looper.new) × (has_turn turn looper.old.number ≡ false → looper.new ≡ looper.old) × PlaysOn script.entry.now now looper.old looper.new }
+            ensures { RunsInTurn turn script.entry.now hall.entry.now now looper.old looper.new }
         {
             if turn.has(looper.number) {
-                looper.run_round(rt, alloc, hall, script, gate, now)
+                looper.run_round(means.rt, means.alloc, hall, script, means.gate, now)
             }
         },
     );

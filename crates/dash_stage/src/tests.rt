@@ -1,3 +1,4 @@
+use crate::means::Means;
 use crate::opening::set_up;
 use crate::{Ran, run_free, run_script};
 use dash_script::{Parsed, make_script, parse};
@@ -27,14 +28,19 @@ fn a_run_is_given_up(rt: HostRuntime) -> Result<(), Fail> {
     let script = make_script(alloc, 0)?;
     let mut stage = set_up(alloc, &script, true)?;
     stage.hall.stop.stop(&rt);
+    let means = Means {
+        rt: &rt,
+        alloc,
+        gate: &OpenGate,
+    };
     let Some(block) = script.blocks.as_slice().first() else {
         panic!(rt; "no block")
     };
-    let run = stage.run_block(&rt, alloc, &script, &OpenGate, block);
+    let run = stage.run_block(&means, &script, block);
     assert!(rt; run.is_err());
     stage.share(&script);
     assert!(rt; stage.controller.entries_seen() == 0);
-    assert!(rt; stage.give_up(&rt, alloc, &script, &OpenGate));
+    assert!(rt; stage.give_up(&means, &script));
     assert!(rt; stage.others_have_ended(&script));
     Ok(())
 }

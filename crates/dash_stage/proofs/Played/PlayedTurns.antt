@@ -46,7 +46,8 @@ use Rattle.dash_stage.proofs.Ends.HallEnds.{some_of}
 use Rattle.dash_stage.proofs.Stages.StageWhole.{queues_count, controller_entries, sound_grown, none_behind}
 use Rattle.dash_stage.proofs.Moves.StageMoves.{controls_above, moved_is_open, turned_on, turned_left, grown_by_turns, sound_by_turns, over_is_disposed}
 use Rattle.dash_stage.proofs.Stages.StageTurns.{heard_entries, only_threads}
-use Rattle.dash_stage.proofs.Moves.StageDue.{seen_same}
+use Rattle.dash_stage.specs.Steps.{IsReadyFor}
+use Rattle.dash_stage.proofs.Moves.StageDue.{seen_same, rested_same}
 use Rattle.dash_stage.proofs.Sharing.LooperShares.{looper_self}
 use Rattle.dash_hall.proofs.Hearing.{have_heard_self}
 use Rattle.dash_hall.proofs.Sharing.{each_self}
@@ -202,6 +203,15 @@ step_same s st st' is is' threads loopers posters now step =
     (subst (λ z. AtEach (LooperKeeps HaveHeard) st.loopers.items z.items) (sym loopers) (each_self (LooperKeeps HaveHeard) st.loopers.items (looper_self HaveHeard have_heard_self)))
     (subst (λ z. HaveHeard st.controller.kit.posters.items z.items) (sym posters) (have_heard_self st.controller.kit.posters.items)) step
     (subst (λ z. FirstBy s z.items) (sym posters) step.first)
+
+-- where nothing changed but what it is ready for
+pub ready_same : (s : Script) (next : ℕ) (st st' : Stage) → IsStage s st → IsStage s st' → st'.threads.items ≡ st.threads.items → st'.loopers ≡ st.loopers → st'.controller.kit.posters ≡ st.controller.kit.posters → st'.time ≡ st.time
+    → IsInStep s st → AreRested s st → AreDue s next st' → IsReadyFor s next st'
+ready_same s next st st' is is' threads loopers posters now step rested due = record {
+  step = step_same s st st' is is' threads loopers posters now step;
+  rested = rested_same s st st' loopers posters rested;
+  due = due;
+}
 
 -- over the controller's turns, after which all heard each other
 module _ (s : Script) (st : Stage) (c : Controller) (st' : Stage) (is : IsStage s st) (is' : IsStage s st') (same' : HaveSeenTheSame st')

@@ -8,11 +8,11 @@ use Rattle.dash_stage.proofs.ByClock.ClockTurns.{quits_more, quits_clocked, quit
 use Rattle.dash_stage.proofs.free.quit_others.Goals as goal
 
 pub give_up-requires-clause-controller : goal.give_up-requires-clause-controller
-give_up-requires-clause-controller g c = in_its_mode c.args.script.now c.args.hall.now c.args.controller.now c.requires.mode c.requires.controller
+give_up-requires-clause-controller g c = in_its_mode c.args.script.now c.args.hall.now c.args.controller.now c.requires.hall.1 c.requires.controller
 
 pub loop-looper-init : goal.loop-looper-init
 loop-looper-init g c = record {
-  controller = in_its_mode c.args.script.now c.args.hall.now c.args.controller.now c.requires.mode c.requires.controller;
+  controller = in_its_mode c.args.script.now c.args.hall.now c.args.controller.now c.requires.hall.1 c.requires.controller;
   some = omega arith;
   quitting = λ done. quitting_begins c.args.script.now c.args.controller.now c.requires.none;
   clocked = λ done m moment by. by;
@@ -22,9 +22,9 @@ pub loop-looper-preserved : goal.loop-looper-preserved
 loop-looper-preserved g c =
     let s = c.args.script.now in
     let hall = c.args.hall.now in
-    let h = c.requires.hall in
+    let h = c.requires.hall.0 in
     let at = c.loop-looper in
-    let was = in_free s hall at.controller c.requires.mode at.invariant.controller in
+    let was = in_free s hall at.controller c.requires.hall.1 at.invariant.controller in
     let next = c.quit_unless-done.new.self in
     let here = c.quit_unless-done.ensures.here in
     let elsewhere = c.quit_unless-done.ensures.elsewhere in
@@ -46,10 +46,10 @@ returns-then-not-done g c done =
     let hall = c.args.hall.now in
     let at = c.loop-looper in
     let m : Mode = in_free_mode (g.C.Clock.shows c.args.timer.now.clock.now) c.args.timer.now.start in
-    let count = poster_count s hall at.controller c.requires.hall at.invariant.controller in
+    let count = poster_count s hall at.controller c.requires.hall.0 at.invariant.controller in
     let all : length at.controller.kit.posters.items ≤ at.looper = omega (arith, count, c.loop-looper-test.false) in
     record {
-      controller = in_free s hall at.controller c.requires.mode at.invariant.controller;
+      controller = in_free s hall at.controller c.requires.hall.1 at.invariant.controller;
       closing = quitting_ends s at.controller at.looper all (at.invariant.quitting done);
       clocked = at.invariant.clocked done m (of_shown (g.C.Clock.shows c.args.timer.now.clock.now) c.args.timer.now.start c.in-Some.now c.in-Some.ensures.moment);
     }
@@ -60,10 +60,10 @@ returns-else-not-done g c done =
     let hall = c.args.hall.now in
     let at = c.loop-looper in
     let m : Mode = in_free_mode (g.C.Clock.shows c.args.timer.now.clock.now) c.args.timer.now.start in
-    let count = poster_count s hall at.controller c.requires.hall at.invariant.controller in
+    let count = poster_count s hall at.controller c.requires.hall.0 at.invariant.controller in
     let all : length at.controller.kit.posters.items ≤ at.looper = omega (arith, count, c.loop-looper-test.false) in
     record {
-      controller = in_free s hall at.controller c.requires.mode at.invariant.controller;
+      controller = in_free s hall at.controller c.requires.hall.1 at.invariant.controller;
       closing = quitting_ends s at.controller at.looper all (at.invariant.quitting done);
       clocked = at.invariant.clocked done m (of_shown (g.C.Clock.shows c.args.timer.now.clock.now) c.args.timer.now.start c.in-Some.now c.in-Some.ensures.moment);
     }

@@ -49,3 +49,9 @@ returns-in-Ok c =
 
 pub kept-requires-clause-stage : goal.kept-requires-clause-stage
 kept-requires-clause-stage c = stage_in_its_mode c.args.script c.args.stage c.requires.out.stage
+
+pub kept-requires-clause-ended : goal.kept-requires-clause-ended
+kept-requires-clause-ended c = c.requires.out.ended
+
+pub kept-requires-clause-on : goal.kept-requires-clause-on
+kept-requires-clause-on c = c.requires.out.on

@@ -8,17 +8,17 @@ play-requires-clause-some g c κs within = (playable c.args.script.now c.require
 pub give_up-requires-clause-some : goal.give_up-requires-clause-some
 give_up-requires-clause-some g c κs within = (playable c.args.script.now c.requires).loopers
 
-pub returns-clause-out : goal.returns-clause-out
-returns-clause-out g c = record {
-  stage = c.play.ensures.stage;
-  run = c.in-Ok.ensures.run;
-  closed = c.in-Ok.ensures.closed;
-  timely = c.in-Ok.ensures.timely;
-  halted = c.in-Ok.ensures.halted;
-  played = c.in-Ok.ensures.played;
-  first = c.in-Ok.ensures.first;
-  moves = c.in-Ok.ensures.moves;
-}
-
 pub play-requires-clause-begun : goal.play-requires-clause-begun
-play-requires-clause-begun g c κs within = c.in_ok-stage.ensures.begun in_lockstep
+play-requires-clause-begun g c κs within =
+    let opened = c.in_ok-stage.ensures in
+    record {
+      stage = opened.stage;
+      run = opened.begun in_lockstep;
+      moving = opened.moving;
+      by = opened.by.0;
+      timely = opened.timely;
+      rested = opened.rested;
+      zero = opened.by.1;
+      step = opened.step;
+      unseen = opened.unseen;
+    }

@@ -18,43 +18,52 @@ returns-clause-by g c =
     subst (λ (t : ℕ). AreBy t c.share.new.self.controller) (sym c.share.ensures.kept.time) (by_kept c.advance.new.self c.share.new.self.controller c.share.ensures.none c.max-self.result moved)
 
 pub returns-clause-timely : goal.returns-clause-timely
-returns-clause-timely g c past timely due =
+returns-clause-timely g c due past timely =
     let kept = c.share.ensures.kept in
     advanced_timely c.args.script.now c.args.self.now c.advance.new.self c.share.new.self c.requires.stage c.share.ensures.stage timely.same c.share.ensures.shared kept.threads kept.loopers kept.controller.posters
     c.args.time past c.in_ok-moved.ensures.turns due timely
 
 pub returns-clause-step : goal.returns-clause-step
-returns-clause-step g c step rested due =
+returns-clause-step g c ready =
     let kept = c.share.ensures.kept in
     let m = c.max-self.ensures in
     let now = kept.time ∙ m in
     let by = c.advance.ensures.by c.share.new.self.time (omega (arith, now)) (by_later c.args.self.now.time c.share.new.self.time c.args.self.now.controller (omega (arith, now)) c.requires.by) in
-    advanced_in_step c.args.script.now c.args.self.now c.advance.new.self c.share.new.self c.requires.stage c.share.ensures.stage c.share.ensures.shared kept.threads kept.loopers kept.controller.posters step
-    c.args.time c.in_ok-moved.ensures.turns now by rested due _ c.in_ok-moved.ensures.come c.in_ok-moved.ensures.stuck
+    advanced_in_step c.args.script.now c.args.self.now c.advance.new.self c.share.new.self c.requires.stage c.share.ensures.stage c.share.ensures.shared kept.threads kept.loopers kept.controller.posters ready.step
+    c.args.time c.in_ok-moved.ensures.turns now by ready.rested ready.due _ c.in_ok-moved.ensures.come c.in_ok-moved.ensures.stuck
 
 pub returns-clause-moved : goal.returns-clause-moved
-returns-clause-moved g c step rested due =
+returns-clause-moved g c ready sound =
     let kept = c.share.ensures.kept in
     let m = c.max-self.ensures in
     let now = kept.time ∙ m in
     let by = c.advance.ensures.by c.share.new.self.time (omega (arith, now)) (by_later c.args.self.now.time c.share.new.self.time c.args.self.now.controller (omega (arith, now)) c.requires.by) in
-    advanced_sound c.args.script.now c.args.self.now c.advance.new.self c.share.new.self c.requires.stage c.share.ensures.stage c.share.ensures.shared kept.threads kept.loopers kept.controller.posters step
-    c.args.time c.in_ok-moved.ensures.turns now by rested due _ c.in_ok-moved.ensures.come c.in_ok-moved.ensures.stuck
+    (advanced_sound c.args.script.now c.args.self.now c.advance.new.self c.share.new.self c.requires.stage c.share.ensures.stage c.share.ensures.shared kept.threads kept.loopers kept.controller.posters ready.step
+    c.args.time c.in_ok-moved.ensures.turns now by ready.rested ready.due _ c.in_ok-moved.ensures.come c.in_ok-moved.ensures.stuck sound).0
+
+pub returns-clause-sound : goal.returns-clause-sound
+returns-clause-sound g c ready sound =
+    let kept = c.share.ensures.kept in
+    let m = c.max-self.ensures in
+    let now = kept.time ∙ m in
+    let by = c.advance.ensures.by c.share.new.self.time (omega (arith, now)) (by_later c.args.self.now.time c.share.new.self.time c.args.self.now.controller (omega (arith, now)) c.requires.by) in
+    (advanced_sound c.args.script.now c.args.self.now c.advance.new.self c.share.new.self c.requires.stage c.share.ensures.stage c.share.ensures.shared kept.threads kept.loopers kept.controller.posters ready.step
+    c.args.time c.in_ok-moved.ensures.turns now by ready.rested ready.due _ c.in_ok-moved.ensures.come c.in_ok-moved.ensures.stuck sound).1
 
 pub returns-clause-at : goal.returns-clause-at
-returns-clause-at g c step rested due ahead =
+returns-clause-at g c ready ahead =
     let kept = c.share.ensures.kept in
     let m = c.max-self.ensures in
     let now = kept.time ∙ m in
     let by = c.advance.ensures.by c.share.new.self.time (omega (arith, now)) (by_later c.args.self.now.time c.share.new.self.time c.args.self.now.controller (omega (arith, now)) c.requires.by) in
-    advanced_at_block c.args.script.now c.args.self.now c.advance.new.self c.share.new.self c.requires.stage c.share.ensures.stage c.share.ensures.shared kept.threads kept.loopers kept.controller.posters step
-    c.args.time c.in_ok-moved.ensures.turns now by rested due _ c.in_ok-moved.ensures.come c.in_ok-moved.ensures.stuck ahead
+    advanced_at_block c.args.script.now c.args.self.now c.advance.new.self c.share.new.self c.requires.stage c.share.ensures.stage c.share.ensures.shared kept.threads kept.loopers kept.controller.posters ready.step
+    c.args.time c.in_ok-moved.ensures.turns now by ready.rested ready.due _ c.in_ok-moved.ensures.come c.in_ok-moved.ensures.stuck ahead
 
 pub returns-clause-moves : goal.returns-clause-moves
-returns-clause-moves g c step rested due may before =
+returns-clause-moves g c ready may before =
     let kept = c.share.ensures.kept in
     let m = c.max-self.ensures in
     let now = kept.time ∙ m in
     let by = c.advance.ensures.by c.share.new.self.time (omega (arith, now)) (by_later c.args.self.now.time c.share.new.self.time c.args.self.now.controller (omega (arith, now)) c.requires.by) in
-    advanced_moves c.args.script.now c.args.self.now c.advance.new.self c.share.new.self c.requires.stage c.share.ensures.stage step.same c.share.ensures.shared kept.threads kept.loopers kept.controller.posters step
-    c.args.time c.in_ok-moved.ensures.turns now by rested due _ c.in_ok-moved.ensures.come c.in_ok-moved.ensures.stuck c.requires.some may before
+    advanced_moves c.args.script.now c.args.self.now c.advance.new.self c.share.new.self c.requires.stage c.share.ensures.stage ready.step.same c.share.ensures.shared kept.threads kept.loopers kept.controller.posters ready.step
+    c.args.time c.in_ok-moved.ensures.turns now by ready.rested ready.due _ c.in_ok-moved.ensures.come c.in_ok-moved.ensures.stuck c.requires.some may before

@@ -16,7 +16,7 @@ loop-preserved g c =
       c.run_round.ensures.stage,
       λ past run. c.run_round.ensures.run past (at.invariant.1 past run),
       closing_kept c.args.script.now at.self.controller c.run_round.new.self.controller c.run_round.ensures.none at.invariant.2,
-      λ past timely rested. c.in_ok-run_round.ensures.timely past (at.invariant.3 past timely rested),
+      λ rested past timely. c.in_ok-run_round.ensures.timely past (at.invariant.3 rested past timely),
       λ step. c.in_ok-run_round.ensures.step (at.invariant.4 step),
       λ same before. c.in_ok-run_round.ensures.moves (at.invariant.5 same before),
     )
@@ -44,10 +44,10 @@ pub returns-then-halted-clause-on : goal.returns-then-halted-clause-on
 returns-then-halted-clause-on g c = go_on_kept HaveHeard c.run_rounds.new.self.loopers.items c.share.new.self.loopers.items c.share.ensures.kept.loopers c.in_ok-run_rounds.ensures.on
 
 pub returns-then-halted-clause-timely : goal.returns-then-halted-clause-timely
-returns-then-halted-clause-timely g c past timely rested =
+returns-then-halted-clause-timely g c rested past timely =
     let kept = c.share.ensures.kept in
     halted_timely c.args.script.now c.run_rounds.new.self c.halt-halted.new.self c.share.new.self c.run_rounds.ensures.stage c.share.ensures.stage c.in_ok-run_rounds.ensures.same c.share.ensures.shared
-    kept.threads kept.loopers kept.controller.posters c.halt-halted.ensures.turns past (c.in_ok-run_rounds.ensures.timely past (c.loop-2.invariant.3 past timely rested))
+    kept.threads kept.loopers kept.controller.posters c.halt-halted.ensures.turns past (c.in_ok-run_rounds.ensures.timely past (c.loop-2.invariant.3 rested past timely))
 
 pub returns-then-halted-clause-halted : goal.returns-then-halted-clause-halted
 returns-then-halted-clause-halted g c =
@@ -75,8 +75,8 @@ loop-2-preserved g c =
       c.share.ensures.stage,
       λ past run. c.share.ensures.run past (c.run_rounds.ensures.run past (at.1 past run)),
       closing_kept s c.halt-halted.new.self c.share.new.self.controller c.share.ensures.none (c.halt-halted.ensures.closing c.if-halted.false),
-      λ past timely rested. halted_timely s c.run_rounds.new.self c.halt-halted.new.self c.share.new.self c.run_rounds.ensures.stage c.share.ensures.stage c.in_ok-run_rounds.ensures.same c.share.ensures.shared
-          kept.threads kept.loopers kept.controller.posters c.halt-halted.ensures.turns past (c.in_ok-run_rounds.ensures.timely past (at.3 past timely rested)),
+      λ rested past timely. halted_timely s c.run_rounds.new.self c.halt-halted.new.self c.share.new.self c.run_rounds.ensures.stage c.share.ensures.stage c.in_ok-run_rounds.ensures.same c.share.ensures.shared
+          kept.threads kept.loopers kept.controller.posters c.halt-halted.ensures.turns past (c.in_ok-run_rounds.ensures.timely past (at.3 rested past timely)),
       c.share.ensures.ended (c.run_rounds.ensures.ended at.4),
       λ step. turned_in_step s c.run_rounds.new.self c.halt-halted.new.self c.share.new.self c.run_rounds.ensures.stage c.share.ensures.stage c.share.ensures.shared
           kept.threads kept.loopers kept.controller.posters (c.in_ok-run_rounds.ensures.step (at.5 step)) (halts_move_not _ _ c.halt-halted.ensures.turns) kept.time,

@@ -41,4 +41,4 @@ pub returns-clause-reason : goal.returns-clause-reason
 returns-clause-reason g c t rest is = may_come c.args.script.now t c.args.self.now c.requires.stage rest (c.loop-looper.invariant.7 t is)
 
 pub returns-clause-look : goal.returns-clause-look
-returns-clause-look g c k l lt going = c.loop-looper.invariant.8.looked k l (let past = c.loop-looper-test.false in omega (arith, past, lt)) going
+returns-clause-look g c k lt l going = c.loop-looper.invariant.8.looked k l (let past = c.loop-looper-test.false in omega (arith, past, lt)) going

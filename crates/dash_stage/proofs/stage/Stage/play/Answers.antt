@@ -17,18 +17,19 @@ use Rattle.dash_stage.proofs.stage.Stage.play.Goals as goal
 
 pub loop-block-init : goal.loop-block-init
 loop-block-init g c =
-    let zero_time = c.requires.zero in (
-      c.requires.stage,
-      c.requires.begun,
-      c.requires.moving,
-      c.requires.by,
-      c.requires.begun_timely,
-      c.requires.rested,
+    let begun = c.requires.begun in
+    let zero_time = begun.zero in (
+      begun.stage,
+      begun.run,
+      begun.moving,
+      begun.by,
+      begun.timely,
+      begun.rested,
       omega (arith, zero_time),
       λ d some. omega (arith, zero_time),
-      c.requires.step,
-      λ d some. ahead_of_zero _ c.args.self.now zero_time c.requires.unseen,
-      moved_at_start c.args.script.now c.args.self.now.controller c.requires.unseen,
+      begun.step,
+      λ d some. ahead_of_zero _ c.args.self.now zero_time begun.unseen,
+      moved_at_start c.args.script.now c.args.self.now.controller begun.unseen,
     )
 
 pub go_to-requires-clause-end : goal.go_to-requires-clause-end
@@ -78,7 +79,7 @@ loop-block-preserved g c =
     let run = c.go_to.ensures.run (take i bs) at.1 in
     let ahead = subst (λ (z : Block). LiesAhead z.time c.loop-block.self) (sym is) (at.9 b lt) in
     let begins = c.in_ok-go_to.ensures.at at.8 at.5 ahead in
-    let timely = c.in_ok-run_block.ensures.timely (take i bs) (drop (i + 1) bs) next c.go_to.ensures.moving run begins (c.in_ok-go_to.ensures.timely (take i bs) at.4 at.5) in
+    let timely = c.in_ok-run_block.ensures.timely (take i bs) (drop (i + 1) bs) (record { next = next; moving = c.go_to.ensures.moving; run = run; at = begins; timely = c.in_ok-go_to.ensures.timely at.5 (take i bs) at.4 }) in
     let more = subst (λ (l : List Block). HaveRun s l blocked.threads.items) grown
     (run_one_more s (take i bs) (drop (i + 1) bs) b next gone.threads.items blocked.threads.items (λ k d within. (c.go_to.ensures.stage.threads.1 k d within).1)
     (c.run_block.ensures.stage.threads.0 ∙ sym c.go_to.ensures.stage.threads.0) c.in_ok-run_block.ensures.run run) in
@@ -105,33 +106,28 @@ pub end-requires-clause-reached : goal.end-requires-clause-reached
 end-requires-clause-reached g c κs within =
     reached_kept c.args.script.now c.go_to-2.new.self.controller c.settle-2.new.self.controller c.settle-2.ensures.none c.args.script.now.end c.in_ok-go_to-2.ensures.reached
 
-pub returns-clause-run : goal.returns-clause-run
-returns-clause-run g c =
+pub returns-clause-out : goal.returns-clause-out
+returns-clause-out g c =
     let s = c.args.script.now in
     let i = c.loop-block.block-index in
+    let at = c.loop-block.invariant in
+    let went = c.in_ok-go_to-2.ensures in
+    let settled = c.in_ok-settle-2.ensures in
+    let done = c.in_ok-end.ensures in
     let all = subst (λ (l : List Block). length l ≤ i) c.as_slice-block-items.ensures c.loop-block-test.false in
-    c.end.ensures.run s.blocks (c.settle-2.ensures.run s.blocks (c.go_to-2.ensures.run s.blocks (subst (λ (l : List Block). HaveRun s l c.loop-block.self.threads.items) (take_all i s.blocks all) c.loop-block.invariant.1)))
-
-pub returns-clause-timely : goal.returns-clause-timely
-returns-clause-timely g c =
-    let s = c.args.script.now in
-    let i = c.loop-block.block-index in
-    let all = subst (λ (l : List Block). length l ≤ i) c.as_slice-block-items.ensures c.loop-block-test.false in
-    let before = subst (λ (l : List Block). AreTimelyUpTo s l c.loop-block.self) (take_all i s.blocks all) c.loop-block.invariant.4 in
-    let gone = c.in_ok-go_to-2.ensures.timely s.blocks before c.loop-block.invariant.5 in
-    c.in_ok-end.ensures.timely s.blocks (c.in_ok-settle-2.ensures.timely s.blocks gone) (c.in_ok-settle-2.ensures.rested gone.same)
-
-pub returns-clause-played : goal.returns-clause-played
-returns-clause-played g c =
-    let at = c.loop-block.invariant in
-    (c.in_ok-end.ensures.step (c.in_ok-settle-2.ensures.step (c.in_ok-go_to-2.ensures.step at.8 at.5))).played
-
-pub returns-clause-first : goal.returns-clause-first
-returns-clause-first g c =
-    let at = c.loop-block.invariant in
-    (c.in_ok-end.ensures.step (c.in_ok-settle-2.ensures.step (c.in_ok-go_to-2.ensures.step at.8 at.5))).first
-
-pub returns-clause-moves : goal.returns-clause-moves
-returns-clause-moves g c =
-    let at = c.loop-block.invariant in
-    c.in_ok-end.ensures.moves c.in_ok-settle-2.ensures.same (c.in_ok-settle-2.ensures.moves (c.in_ok-go_to-2.ensures.moves at.8 at.5 at.10))
+    let whole = take_all i s.blocks all in
+    let run = subst (λ (l : List Block). HaveRun s l c.loop-block.self.threads.items) whole at.1 in
+    let gone = went.timely at.5 s.blocks (subst (λ (l : List Block). AreTimelyUpTo s l c.loop-block.self) whole at.4) in
+    let step = done.step (settled.step (went.step at.8 at.5)) in
+    record {
+      stage = c.end.ensures.stage;
+      run = c.end.ensures.run s.blocks (c.settle-2.ensures.run s.blocks (c.go_to-2.ensures.run s.blocks run));
+      closed = done.closed;
+      ended = done.ended;
+      on = done.on;
+      timely = done.timely (settled.rested gone.same) s.blocks (settled.timely s.blocks gone);
+      halted = done.halted;
+      played = step.played;
+      first = step.first;
+      moves = done.moves settled.same (settled.moves (went.moves at.8 at.5 at.10));
+    }

@@ -69,7 +69,7 @@ returns-clause-closing g c =
     closing_kept c.args.script.now c.loop-looper.self.controller c.share.new.self.controller c.share.ensures.none (quitting_ends c.args.script.now c.loop-looper.looper c.loop-looper.self.controller c.loop-looper.invariant.4)
 
 pub returns-clause-timely : goal.returns-clause-timely
-returns-clause-timely g c past timely rested =
+returns-clause-timely g c rested past timely =
     let at = c.loop-looper in
     let st = c.args.self.now in
     let st' = c.share.new.self in

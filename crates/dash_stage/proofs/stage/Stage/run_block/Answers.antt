@@ -30,7 +30,7 @@ pub returns-clause-time : goal.returns-clause-time
 returns-clause-time g c = c.share.ensures.kept.time
 
 pub returns-clause-timely : goal.returns-clause-timely
-returns-clause-timely g c past rest whole moving run at timely =
+returns-clause-timely g c past rest was =
     let s = c.args.script.now in
     let b = c.args.block.now in
     let st = c.args.self.now in
@@ -39,9 +39,9 @@ returns-clause-timely g c past rest whole moving run at timely =
     let many = c.run_threads.ensures.threads.0 ∙ sym stage.threads.0 in
     let written = with_items_is st.threads ran (omega (arith, many, st.threads.ok.0)) in
     let on = subst (λ (l : List PostingThread). RunOn s b l ran) c.as_mut_slice.ensures.value c.in_ok-run_threads.ensures.run in
-    let more = run_one_more s past rest b whole st.threads.items ran (λ k d lt. (stage.threads.1 k d lt).1) many on run in
-    block_timely s st c.share.new.self b past rest whole c.requires.text.times moving stage c.share.ensures.stage run (c.share.ensures.run (past ++ b ∷ []) (subst (HaveRun s (past ++ b ∷ [])) (sym written) more))
-    c.share.ensures.kept.loopers c.share.ensures.kept.controller.posters c.share.ensures.shared at timely
+    let more = run_one_more s past rest b was.next st.threads.items ran (λ k d lt. (stage.threads.1 k d lt).1) many on was.run in
+    block_timely s st c.share.new.self b past rest was.next c.requires.text.times was.moving stage c.share.ensures.stage was.run (c.share.ensures.run (past ++ b ∷ []) (subst (HaveRun s (past ++ b ∷ [])) (sym written) more))
+    c.share.ensures.kept.loopers c.share.ensures.kept.controller.posters c.share.ensures.shared was.at was.timely
 
 pub returns-clause-step : goal.returns-clause-step
 returns-clause-step g c step at =
