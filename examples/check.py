@@ -11,6 +11,7 @@ of each script must be legal, and no longer where a dispatch is told of another 
 At the end it prints how long a run of each script takes; no time is a failure.
 """
 import difflib
+import os
 import pathlib
 import re
 import subprocess
@@ -289,9 +290,9 @@ def faults(program, words, given, code, report, error):
 
 def wall_times(program):
     """The wall time of each example script's run, with the program's start, and its name, the longest first: the least of up to
-    five rounds, of which none begins after half a second."""
+    five rounds, which end after a second, but for the first."""
     names = [name for name, words, *_ in listed() if words == "run" and (HERE / f"{name}.script").exists()]
-    least, end = dict.fromkeys(names, float("inf")), time.perf_counter() + 0.5
+    least, end = dict.fromkeys(names, float("inf")), time.perf_counter() + 1
     for number in range(5):
         for name in names:
             script, start = given_to(name), time.perf_counter()
@@ -307,7 +308,8 @@ def print_times(program):
     print("milliseconds of a run of each script:")
     for at in range(0, len(times), 3):
         print("".join(f"{taken:7.1f} {name:33}" for taken, name in times[at : at + 3]).rstrip())
-    print(f"the longest takes {times[0][0]:.1f} ms; above {AIM} ms: {sum(taken > AIM for taken, _ in times)} of {len(times)} scripts")
+    above, load = sum(taken > AIM for taken, _ in times), os.getloadavg()[0]
+    print(f"the longest takes {times[0][0]:.1f} ms; above {AIM} ms: {above} of {len(times)} scripts, at a load of {load:.0f}")
 
 
 def main():
