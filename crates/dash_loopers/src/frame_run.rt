@@ -77,7 +77,8 @@ impl ViewRoot {
         ensures origin { IsSameHost host.old host.new }
         ensures pass { frame_badge_of pass.new ≡ frame_badge_of pass.old }
         ensures root { frame_badge_of self.new.pass ≡ frame_badge_of self.old.pass }
-        ensures ran { OnOk result ((ids : List ℕ) × RanFrame c.now.constants.interval c.now.constants.phases (U.is_moment host.old.uptime.now) pass.old pass.new ids
+        ensures ran { OnOk result ((ids : List ℕ)
+            × RanFrame c.now.constants.interval c.now.constants.phases (U.is_moment host.old.uptime.now) pass.old pass.new ids
             × ((s : ScriptData) (q : ℕ) → ShowsOn host.old host.new s q (λ a. fold (callback_ran s q host.old.now) a ids) self.old self.new)) }
     {
         let began = Snapshot::of(&*self);

@@ -1,5 +1,5 @@
 -- Loopers that only heard others have played as far, and each of their calls is as timely.
-use Rattle.std.proofs.Common.{◌≡◌, ◌≢◌, ◌<◌, ◌≤◌, ◌+◌, ◌-◌, inl, inr, ℕ, Bool, true, List, [], map, length, Option, Some, refl, sym, ap, ◌∙◌, subst, arith}
+use Rattle.std.proofs.Common.{◌≡◌, ◌≢◌, ◌<◌, ◌≤◌, ◌+◌, ◌-◌, inl, inr, ℕ, Bool, true, false, List, [], map, length, Option, Some, refl, sym, ap, ◌∙◌, subst, arith}
 use Rattle.std.specs.Prelude.{filter, not, slice_index_or}
 use Rattle.std.specs.List.{insert}
 use Rattle.std.specs.Option.{IsSomeAnd}
@@ -90,9 +90,9 @@ stands_heard {lockstep} s q k es es' acts parts parts' did a more calls frames r
 
 module _ (s : Script) (hall : Hall) (is_hall : IsHall s hall) (l : StageLooper) (is : IsLooper s hall l) (b : StageLooper) (k : LooperKeeps HaveHeard l b) where
   -- a looper that only heard others stands where it stood
-  heard_stands : {lockstep : Bool} (did a : Looper) → IsSomeAnd l.parts (λ parts. StandsBy lockstep s l.number l.sender l.looper.held.poster.view.seen l.looper.held.journal.acts parts did a)
+  heard_stands : (lockstep : Bool) (did a : Looper) → IsSomeAnd l.parts (λ parts. StandsBy lockstep s l.number l.sender l.looper.held.poster.view.seen l.looper.held.journal.acts parts did a)
       → IsSomeAnd b.parts (λ parts. StandsBy lockstep s b.number b.sender b.looper.held.poster.view.seen b.looper.held.journal.acts parts did a)
-  heard_stands {lockstep} did a come =
+  heard_stands lockstep did a come =
       let p = looper_parts s hall is_hall l is in
       let r : Rest = record { frames = p.0.frames; root = p.0.root; fired = p.0.fired.items; passed = p.0.passed } in
       let q = with_rest b.parts r (k.rest ∙ ap rest_in p.1) in
@@ -119,10 +119,10 @@ module _ (s : Script) (hall : Hall) (is_hall : IsHall s hall) (l : StageLooper) 
 
   -- it has come as far, in lockstep and by a clock
   pub heard_come : (a : Looper) → HasCome s l a → HasCome s b a
-  heard_come a come = heard_stands a a come
+  heard_come a come = heard_stands true a a come
 
   pub heard_come_by : (did a : Looper) → HasComeBy s l did a → HasComeBy s b did a
-  heard_come_by did a come = (come.0, heard_stands did a come.1)
+  heard_come_by did a come = (come.0, heard_stands false did a come.1)
 
 -- the entries that were seen of the looper's calls are as many as the state tells
 module _ (s : Script) (st : Stage) (is : IsStage s st) (same : HaveSeenTheSame st) (k : ℕ) (l : StageLooper) (lt : k < length st.loopers.items) (a : Looper) (come : HasCome s (slice_index_or st.loopers.items k l) a) where
