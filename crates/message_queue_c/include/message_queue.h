@@ -30,8 +30,8 @@
  *             free((void *)(uintptr_t)d.message.obj);
  *
  * MEMORY comes from the three functions at the end of this file. Where a call answers MQ_NO_MEMORY all is as before it. `mq_next`,
- * `mq_next_dropped`, `mq_has`, `mq_live`, `mq_close` and the first `mq_quit` take no memory: each post keeps the room that its
- * later entries need. The queue records its calls, about 200 bytes for a message that is posted and taken; `mq_forget` lets that go.
+ * `mq_next_dropped`, `mq_has`, `mq_live`, `mq_close` and the first `mq_quit` take no memory: each post and each barrier keeps
+ * the room that its later entries need. The queue records its calls, about 200 bytes for a message that is posted and taken; `mq_forget` lets that go.
  *
  * Rules of order, barriers, quits and wakes are those of AOSP's android.os.MessageQueue; where a call follows one of its methods,
  * the method is named. The rest is this library's own.
@@ -120,7 +120,7 @@ typedef struct {
  * handle is open or messages still wait to be handed out. */
 bool mq_open(mq_queue *queue);
 
-/* Closes the handle: no more is posted or taken. MQ_DONE: `number` is how many messages and barriers wait for
+/* Closes the handle: no more is posted or taken. It wakes nobody: quit first, and let the thread that waits for messages end. MQ_DONE: `number` is how many messages and barriers wait for
  * `mq_next_dropped`: what earlier calls dropped, then what stood in the queue, in order. Once the last is handed out, or at once
  * where there is none, nothing is left of the queue, and the handle may be opened anew.
  * MQ_NOT_OPEN: the handle is not open; what still waits is freed and not handed out. So two calls free all. */
