@@ -7,8 +7,8 @@ Each post has a `what` of its own, so a dispatch tells of which line it comes. O
 - a thread's posts without delay to one handler come in their order, and so do its asynchronous ones, which may pass the others at a barrier; but for those of a block
   at 0: a post for time 0 goes before all others, as one at the front does;
 - each post was accepted or refused, and the fates of what was accepted add up;
-- frame times of a looper rise, each frame runs its callbacks by phase, and none runs before its block's time or more often than posted;
-- a gauge never moves by more than its step in a frame, nor past its target, and a frame paints what is under way;
+- frame times of a looper rise, each frame runs its callbacks by phase, and none runs more often than posted;
+- a gauge never moves by more than its step between two paints, nor past its targets;
 - the run ends within a second of the script's end.
 """
 import argparse
