@@ -40,7 +40,7 @@ pub struct Host<'a, R: Wait, U: Uptime> {
     pub poster: &'a mut Poster<PoolClaim>,
     /// The sender's pass of the pool.
     pub pass: &'a mut PoolPass,
-    /// The poster and the pass as they were when the host was made.
+    /// The poster as it was when the host was made.
     pub began: &'a Snapshot<Poster<PoolClaim>>,
     /// The pass as it was when the host was made.
     pub pass_began: &'a Snapshot<PoolPass>,
@@ -150,7 +150,7 @@ impl<'a, R: Wait, U: Uptime> Host<'a, R, U> {
         c.on_due(self.rt, pass, self, phase)
     }
 
-    /// Posts a frame callback for the moment in `delay` milliseconds. A refused message for its due time stands in the history. The pass
+    /// Posts a frame callback for `delay` milliseconds after the host's moment, by which it goes in place of its uptime. A refused message for its due time stands in the history. The pass
     /// is one of the choreographer, and the phase one of its phases. NoMemory where it found none: then it sent no message.
     pub fn post_callback(
         &mut self,

@@ -82,6 +82,9 @@ impl<'a, R: Wait, G: Gate, C: Clock> Dispatcher for ClockPlayer<'a, R, G, C> {
     }
 
     fn run_callback(&mut self, own: &mut Own, id: u64, m: &Message<PoolClaim>, now: u64) -> Did {
+        if self.place.hall.stop.is_stopped(self.place.rt) {
+            return Did::NoMemory;
+        }
         Did::Yes
     }
 

@@ -21,7 +21,7 @@ use std::thread::Threads;
 pub enum Ran {
     /// The whole script was run.
     Ok(Report),
-    /// A sender found no memory, and the run was given up.
+    /// No memory was found, by a sender, at the opening or for the records: the run was given up.
     NoMemory,
 }
 

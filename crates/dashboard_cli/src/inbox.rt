@@ -52,7 +52,7 @@ fn write_admitted(
 
 /// The text of what came of a run through an inbox, as the program prints it: the dispatches, refusals and other answers of the main
 /// looper's queue in order, the counts of the fates of its accepted posts, and for each thread how many of its parcels were
-/// admitted. It is refused only for want of memory. The form is this project's profile.
+/// admitted. It is refused for want of memory, or where a count is past the greatest `u64`. The form is this project's profile.
 pub fn inbox_text(alloc: Global, report: &InboxReport) -> Result<Vec<u8>, NoMemory>
     ensures { IfOk result (λ bytes. bytes.items ≡ inbox_text report.now) }
 {

@@ -25,7 +25,7 @@ use std::time;
 pub struct Outcome {
     /// How it ended.
     pub status: Status,
-    /// It is there for `run`, for `trace`, and for `make` with `--run`, at `Ok` and at `WriteFault`.
+    /// It is there for `run`, with `--free` or without, for `trace`, and for `make` with `--run`, at `Ok` and at `WriteFault`.
     pub report: Option<Report>,
     /// The frames in which values were told. They are there for `animate`, at `Ok` and at `WriteFault`.
     pub frames: Option<FrameRecord>,
@@ -40,6 +40,7 @@ pub struct Outcome {
 /// | `run` | reads a script, runs it in lockstep, writes the report |
 /// | `run --free` | reads a script, runs it by the clock, writes the report |
 /// | `text` | reads a script, writes it |
+/// | `text --to 2` | reads a script, writes it as one of edition 2 |
 /// | `make N` | writes the script that the generator makes from N |
 /// | `make N --run`, `make --run N` | makes it, runs it in lockstep, writes the summary |
 /// | `trace` | reads a script, runs it in lockstep, writes the histories of its queues |

@@ -53,8 +53,8 @@ impl InboxSender {
         self.count
     }
 
-    /// Puts a post into the inbox, and answers how many this sender had put before it. NoMemory where none was found: then
-    /// nothing is put (this project's profile).
+    /// Puts a post into the inbox, and answers how many this sender had put before it. NoMemory where none was found, or where
+    /// this sender's count is at its type's end: then nothing is put (this project's profile).
     pub fn put<R: Wait>(&mut self, rt: &R, inbox: &Inbox, post: Post) -> Put
         requires { self.old.inbox ≡ inbox.now }
         ensures { MatchPut result (λ index. (index ≡ length self.old.put) × (self.new ≡ with_post self.old post)) (λ back. (back ≡ post) × (self.new ≡ self.old)) }

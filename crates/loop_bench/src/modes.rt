@@ -114,7 +114,7 @@ fn sealed(alloc: Global, count: u64) -> Result<Counts, NoMemory> {
     })
 }
 
-/// Posts all messages for later: what the modes `rising`, `removals`, `remove_all` and `safe_quit` begin with.
+/// Posts all messages for later: what the modes `removals` and `remove_all` begin with.
 fn late(alloc: Global, count: u64) -> Result<Counts, NoMemory> {
     let mut state = new_queue(alloc)?;
     post_each(alloc, &mut state, LATE, count)?;

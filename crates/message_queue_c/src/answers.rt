@@ -55,9 +55,9 @@ pub struct MqAnswer {
 pub struct MqNext {
     /// The message that was taken; all is 0 where none was.
     pub message: MqMessage,
-    /// Its number among the accepted messages, counted from 0.
+    /// Its number among the accepted messages, counted from 0; of a dropped barrier its token; at an end how many were dropped; else 0.
     pub number: u64,
-    /// The moment that was used, or until which to wait, in milliseconds.
+    /// The moment that was used, until which to wait, or of a dropped barrier, in milliseconds; else 0.
     pub time: u64,
     /// Which answer it is.
     pub kind: u32,

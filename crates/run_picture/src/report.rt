@@ -71,7 +71,7 @@ pub enum Act {
 pub struct Run {
     /// The number of its phase.
     pub phase: u32,
-    /// Its code.
+    /// Its identity.
     pub id: u64,
 }
 

@@ -12,6 +12,7 @@ pub struct ShakenGate {
 }
 
 impl ShakenGate {
+    /// A gate whose yields hang on this seed.
     pub fn new(seed: u64) -> ShakenGate {
         ShakenGate { seed }
     }

@@ -17,6 +17,7 @@ pub struct Counts {
 }
 
 impl Counts {
+    /// Nothing was counted.
     pub fn none() -> Counts {
         Counts {
             messages: 0,
