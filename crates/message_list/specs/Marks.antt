@@ -1,5 +1,5 @@
 -- Marks on the nodes of a list.
-use Rattle.std.specs.Prelude.{◌≡◌, ℕ, ◌+◌, ◌-◌, ◌<◌, ◌==◌, ◌^◌, Bool, List, Contains, nat_lt, if◌then◌else◌}
+use Rattle.std.specs.Prelude.{◌≡◌, ℕ, ◌+◌, ◌-◌, ◌<◌, ◌≤◌, ◌==◌, ◌^◌, Bool, List, length, Contains, nat_lt, if◌then◌else◌}
 use Rattle.std.specs.List.{AllByRecursion}
 use denote.RawPtr.{Ptr}
 use mathlib.Core.Option.{some}
@@ -23,6 +23,10 @@ LeadsTo n places m = (k : ℕ) → m.number ≡ n + k → get_elem? places k ≡
 -- the marks lead to their nodes, of which the first has a number above 0
 abbrev pub Lead : Marks → List Ptr → Type 0
 Lead ms places = (0 < ms.first) × AllByRecursion (LeadsTo ms.first places) ms.list.items
+
+-- before the place i of these, which are `len` many, something was taken out, and there lies now p, if anything does
+abbrev pub IsBehind : List Ptr → ℕ → ℕ → Ptr → Type 0
+IsBehind few i len p = (len ≡ length few) × (i ≤ length few) × (i < length few → get_elem? few i ≡ some p)
 
 -- the mark stands among these
 abbrev pub IsOneOf : List Mark → Mark → Type 0

@@ -4,7 +4,7 @@ ghost use Rattle.std.specs.List.{AllByRecursion};
 ghost use denote.RawPtr.{Ptr};
 ghost use mathlib.Core.Option.{some};
 ghost use lib.ListN.{get_elem?};
-ghost use Rattle.message_list.specs.Marks.{raised, lowered, IsOneOf, Lead};
+ghost use Rattle.message_list.specs.Marks.{raised, lowered, IsOneOf, Lead, IsBehind};
 
 use crate::place::Place;
 use std::alloc::Global;
@@ -168,7 +168,7 @@ impl Marks {
     /// The node `i` has gone, so that `len` are left, and of these the node `i` lies at `next`, if there is one.
     #[inline(never)]
     pub(crate) fn lower(&mut self, i: usize, next: Place, len: usize)
-        ensures { (few : List Ptr) (p : Ptr) → len ≡ length few → i ≤ length few → (i < length few → get_elem? few i ≡ some next.ptr) → Lead self.old (take i few ++ p ∷ drop i few) → Lead self.new few }
+        ensures { (few : List Ptr) (p : Ptr) → IsBehind few i len next.ptr → Lead self.old (take i few ++ p ∷ drop i few) → Lead self.new few }
     {
         let Some(from) = self.first.checked_add(i) else {
             self.clear();

@@ -20,6 +20,7 @@ invariant_of-self g c =
     let longer = one_longer c.args.i few c.self.inside.chain c.take_behind-linked.ensures.places in
     let places : length (places_of few) ≡ length few = many_places few in let long = c.len.ensures in (
       c.take_behind-linked.ensures.next,
-      c.lower.ensures (places_of few) c.take_behind-linked.ensures.places.0 (omega arith) (omega arith) (λ lt. place_held few c.args.i c.take_behind-linked.result.0.next.ptr (c.take_behind-linked.ensures.next (omega arith)))
+      c.lower.ensures (places_of few) c.take_behind-linked.ensures.places.0
+          (omega arith, omega arith, λ lt. place_held few c.args.i c.take_behind-linked.result.0.next.ptr (c.take_behind-linked.ensures.next (omega arith)))
           (subst (λ (l : List Ptr). Lead c.self.inside.marks l) c.take_behind-linked.ensures.places.1 c.self.invariant.1),
     )
