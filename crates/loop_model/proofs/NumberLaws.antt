@@ -1,7 +1,6 @@
 -- The numbering of the senders' entries in a history that is kept in parts.
-use Rattle.std.proofs.Common.{◌≡◌, ◌+◌, ◌<◌, ℕ, suc, List, [], ◌∷◌, ◌++◌, length, refl, sym, ap, ◌∙◌, subst, arith, append_assoc}
+use Rattle.std.proofs.Common.{◌≡◌, ◌+◌, ◌<◌, ℕ, suc, List, [], ◌∷◌, ◌++◌, length, refl, sym, ap, ◌∙◌, subst, arith}
 use Rattle.std.specs.List.{AllByRecursion}
-use Rattle.std.proofs.lemmas.List.{append-nil}
 use Rattle.loop_model.specs.declared.entry.Entry.{Entry}
 use Rattle.loop_model.specs.declared.base.Base.{Base}
 use Rattle.loop_model.specs.declared.segment.Segment.{Segment}
@@ -9,7 +8,8 @@ use Rattle.loop_model.specs.Answers.{Setting}
 use Rattle.loop_model.specs.Legal.{IsNextOfSender, AreNumberedAfter, AreNumbered}
 use Rattle.loop_model.specs.Chain.{raised, after, IsChainFrom, entries_of}
 use Rattle.loop_model.specs.Parts.{ArePartsNumbered}
-use Rattle.loop_model.proofs.LegalLaws.{AreNumberedAfter-append, AreNumbered-none, made_count_from_after}
+use Rattle.loop_model.proofs.Following.{follows-front, follows-last, follows-join, follows-rest}
+use Rattle.loop_model.proofs.LegalLaws.{AreNumbered-none, made_count_from_after}
 
 -- a history leaves one count per sender
 raised_length : (k : ℕ) (ms : List ℕ) (es : List Entry) → length (raised k ms es) ≡ length ms
@@ -37,44 +37,23 @@ IsNextOfSender-to_after s b es fs e m h =
       controller = h.controller;
     }
 
-AreNumberedAfter-front : (s : Setting) (b : Base) (es fs gs : List Entry) → AreNumberedAfter s b es (fs ++ gs) → AreNumberedAfter s b es fs
-AreNumberedAfter-front s b es [] gs h = tt
-AreNumberedAfter-front s b es (f ∷ fs) gs h = (h.0, AreNumberedAfter-front s b (es ++ f ∷ []) fs gs h.1)
-
-AreNumberedAfter-back : (s : Setting) (b : Base) (es fs gs : List Entry) → AreNumberedAfter s b es (fs ++ gs) → AreNumberedAfter s b (es ++ fs) gs
-AreNumberedAfter-back s b es [] gs h = subst (λ l. AreNumberedAfter s b l gs) (sym (append-nil es)) h
-AreNumberedAfter-back s b es (f ∷ fs) gs h =
-    subst (λ l. AreNumberedAfter s b l gs) (append_assoc es (f ∷ []) fs) (AreNumberedAfter-back s b (es ++ f ∷ []) fs gs h.1)
-
 -- a beginning of a numbered history is numbered, and its last entry was the next of its sender
 pub AreNumbered-front : (s : Setting) (b : Base) (es fs : List Entry) → AreNumbered s b (es ++ fs) → AreNumbered s b es
 unfolding AreNumbered
-AreNumbered-front s b es fs h = AreNumberedAfter-front s b [] es fs h
+AreNumbered-front s b es fs h = follows-front (IsNextOfSender s b) [] es fs h
 
 pub AreNumbered-last : (s : Setting) (b : Base) (es : List Entry) (e : Entry) → AreNumbered s b (es ++ e ∷ []) → IsNextOfSender s b es e
 unfolding AreNumbered
-AreNumbered-last s b es e h = (AreNumberedAfter-back s b [] es (e ∷ []) h).0
-
-numbered_to_after : (s : Setting) (b : Base) (es gs fs : List Entry) → length b.made ≡ s.senders → AreNumberedAfter s b (es ++ gs) fs → AreNumberedAfter s (after b es) gs fs
-numbered_to_after s b es gs [] m h = tt
-numbered_to_after s b es gs (f ∷ fs) m h =
-    (IsNextOfSender-to_after s b es gs f m h.0, numbered_to_after s b es (gs ++ f ∷ []) fs m (subst (λ l. AreNumberedAfter s b l fs) (append_assoc es gs (f ∷ [])) h.1))
-
-numbered_from_after : (s : Setting) (b : Base) (es gs fs : List Entry) → length b.made ≡ s.senders → AreNumberedAfter s (after b es) gs fs → AreNumberedAfter s b (es ++ gs) fs
-numbered_from_after s b es gs [] m h = tt
-numbered_from_after s b es gs (f ∷ fs) m h =
-    (IsNextOfSender-from_after s b es gs f m h.0, subst (λ l. AreNumberedAfter s b l fs) (sym (append_assoc es gs (f ∷ []))) (numbered_from_after s b es (gs ++ f ∷ []) fs m h.1))
+AreNumbered-last s b es e h = follows-last (IsNextOfSender s b) es e h
 
 -- a history is numbered where its beginning is, and the rest is after what the beginning leaves
 pub AreNumbered-join : (s : Setting) (b : Base) (es fs : List Entry) → length b.made ≡ s.senders → AreNumbered s b es → AreNumbered s (after b es) fs → AreNumbered s b (es ++ fs)
 unfolding AreNumbered
-AreNumbered-join s b es fs m h k =
-    AreNumberedAfter-append s b [] es fs h (subst (λ l. AreNumberedAfter s b l fs) (append-nil es) (numbered_from_after s b es [] fs m k))
+AreNumbered-join s b es fs m h k = follows-join (IsNextOfSender s b) (IsNextOfSender s (after b es)) es (λ gs e. IsNextOfSender-from_after s b es gs e m) fs h k
 
 pub AreNumbered-rest : (s : Setting) (b : Base) (es fs : List Entry) → length b.made ≡ s.senders → AreNumbered s b (es ++ fs) → AreNumbered s (after b es) fs
 unfolding AreNumbered
-AreNumbered-rest s b es fs m h =
-    numbered_to_after s b es [] fs m (subst (λ l. AreNumberedAfter s b l fs) (sym (append-nil es)) (AreNumberedAfter-back s b [] es fs h))
+AreNumbered-rest s b es fs m h = follows-rest (IsNextOfSender s b) (IsNextOfSender s (after b es)) es (λ gs e. IsNextOfSender-to_after s b es gs e m) fs h
 
 -- the senders of numbered entries have counts
 known_after : (s : Setting) (b : Base) (es fs : List Entry) → length b.made ≡ s.senders → AreNumberedAfter s b es fs → AllByRecursion (λ e. e.sender < length b.made) fs
