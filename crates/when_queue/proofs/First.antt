@@ -8,7 +8,7 @@ use Rattle.loop_model.specs.declared.item.Item.{Item}
 use Rattle.loop_model.specs.declared.item.Item.TheVariants.{Post as Message, Barrier as Fence}
 use Rattle.loop_model.specs.Items.{is_barrier, is_asynchronous}
 use Rattle.loop_model.specs.Listed.{first_index}
-use Rattle.when_queue.specs.First.{IsEligibleAt, IsFirst}
+use Rattle.when_queue.specs.First.{IsEligibleAt, IsFirst, place_within}
 
 -- the first place that passes has an item that does
 record Passing {X : Type 0} (p : X → Bool) (xs : List X) (i : ℕ) : Type 0 where
@@ -76,3 +76,10 @@ first_is (x ∷ q) =
 -- so is what a call answers that answers its place
 pub first_by : (q : List Item) (at : Option ℕ) → at ≡ first_index q → IsFirst q at
 first_by q at is = subst (IsFirst q) (sym is) (first_is q)
+
+-- the place within a length
+pub within_not : (i n : ℕ) → n ≤ i → place_within i n ≡ None
+within_not i n h = rw (le-ltb i n h) refl
+
+pub within_is : (i n : ℕ) → i < n → place_within i n ≡ Some i
+within_is i n h = rw (lt-ltb i n h) refl

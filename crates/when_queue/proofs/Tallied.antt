@@ -179,6 +179,14 @@ module _ {K : Type 0} where
   all_other P Q step [] h = tt
   all_other P Q step (x ∷ xs) h = (step x h.0, all_other P Q step xs h.1)
 
+  -- none passes a test that shows its place, where none is counted there
+  none_passes : (place : Item → Option ℕ) (ns : List ℕ) (k : ℕ) (p : Letter K → Bool) (xs : List (Letter K)) → counts_none ns k ≡ true → IsCounted place ns xs
+      → ((m : Letter K) → is_just (place m.item) k ≡ false → p m ≡ false) → AllByRecursion (λ m. p m ≡ false) xs
+  none_passes place ns k p xs e h shows =
+      let at = not_counted ns k e in
+      let low = h k at.0 in let none = at.1 in
+      all_other (λ m. is_just (place m.item) k ≡ false) (λ m. p m ≡ false) shows xs (none_at place k xs (omega arith))
+
   pub none_any : (p : Letter K → Bool) (xs : List (Letter K)) → AllByRecursion (λ m. p m ≡ false) xs → list_any p xs ≡ false
   none_any p [] h = refl
   none_any p (x ∷ xs) h = rw h.0 (none_any p xs h.1)
@@ -188,19 +196,11 @@ module _ {K : Type 0} where
     where
       go : (kind : Kind) → f.kind ≡ kind → AllByRecursion (λ m. is_named f m ≡ false) xs
       go (What w) is =
-          let k = place_of f.handler w in
-          let at = not_counted ws k (ap (rules_out_kind ws cs f.handler) (sym is) ∙ e) in
-          let low = h.0 k at.0 in let none = at.1 in
-          all_other (λ m. is_just (what_place m.item) k ≡ false) (λ m. is_named f m ≡ false)
+          none_passes what_place ws (place_of f.handler w) (is_named f) xs (ap (rules_out_kind ws cs f.handler) (sym is) ∙ e) h.0
           (λ m other. ap (λ q. matches (record { handler = f.handler; kind = q; obj = f.obj }) m.item) is ∙ other_what f.handler w f.obj m.item other)
-          xs (none_at what_place k xs (omega arith))
       go (Callback c) is =
-          let k = place_of f.handler c in
-          let at = not_counted cs k (ap (rules_out_kind ws cs f.handler) (sym is) ∙ e) in
-          let low = h.1 k at.0 in let none = at.1 in
-          all_other (λ m. is_just (callback_place m.item) k ≡ false) (λ m. is_named f m ≡ false)
+          none_passes callback_place cs (place_of f.handler c) (is_named f) xs (ap (rules_out_kind ws cs f.handler) (sym is) ∙ e) h.1
           (λ m other. ap (λ q. matches (record { handler = f.handler; kind = q; obj = f.obj }) m.item) is ∙ other_callback f.handler c f.obj m.item other)
-          xs (none_at callback_place k xs (omega arith))
       go AnyKind is = let never : false ≡ true = ap (rules_out_kind ws cs f.handler) (sym is) ∙ e in absurd (cc)
 
 -- ---- the place up to which none passes

@@ -1,5 +1,5 @@
 -- Which message of a list in order is the first that may be dispatched.
-use Rattle.std.specs.Prelude.{◌≡◌, ◌<◌, ◌⊎◌, ℕ, true, false, List, Option, Some, None, slice_get, take}
+use Rattle.std.specs.Prelude.{◌≡◌, ◌<◌, ◌⊎◌, ℕ, true, false, List, Option, Some, None, slice_get, take, nat_lt, if◌then◌else◌}
 use Rattle.std.specs.List.{list_any}
 use Rattle.loop_model.specs.declared.item.Item.{Item}
 use Rattle.loop_model.specs.Items.{is_barrier, is_asynchronous}
@@ -15,3 +15,7 @@ pub record IsEligibleAt (q : List Item) (i : ℕ) : Type 0 where
 abbrev pub IsFirst : List Item → Option ℕ → Type 0
 IsFirst q None = (i : ℕ) → IsEligibleAt q i → ⊥
 IsFirst q (Some i) = IsEligibleAt q i × ((j : ℕ) → j < i → IsEligibleAt q j → ⊥)
+
+-- the place, where so many have one of that number
+abbrev pub place_within : ℕ → ℕ → Option ℕ
+place_within i n = if nat_lt i n then Some i else None

@@ -3,7 +3,7 @@ use Rattle.message_slot.specs.Letter.{Letter}
 use Rattle.when_queue.specs.declared.tally.Tally.{Tally}
 use Rattle.when_queue.specs.Wanted.{is_wanted}
 use Rattle.when_queue.specs.Tally.{IsTallied, what_place, callback_place, with_fewer}
-use Rattle.when_queue.proofs.Lists.{HasGone, cut_off, long_cut, goes_taking, goes_past, put_last, all_taken_out}
+use Rattle.when_queue.proofs.Lists.{HasGone, long_cut, goes_taking, goes_past, put_last, all_cut_out}
 use Rattle.when_queue.proofs.Tallied.{tallied_fewer}
 use Rattle.when_queue.proofs.queue.take_wanted.Goals as goal
 use Rattle.when_queue.proofs.queue.take_wanted.Goals.{then-is_met_by, else-is_met_by}
@@ -59,20 +59,10 @@ loop-preserved g c =
 
 pub returns-clause-taken : goal.returns-clause-taken
 returns-clause-taken g c =
-    let L : Type 0 = List (Letter g.row.K.Denot) in
-    let p : Letter g.row.K.Denot → Bool = λ m. is_wanted c.args.wanted.now m.item in
-    let n : ℕ = c.count_first-first.result in
     let most = c.loop.invariant.0.1 in let long = c.loop.invariant.0.2 in let end = c.loop-test.false in
-    let same : c.count_first-first.new.list ≡ c.args.list.now = c.count_first-first.ensures.same in
-    let cut = cut_off p c.args.list.now c.split_front-taken.result c.rewind.new.self n c.count_first-first.ensures.wanted (c.split_front-taken.ensures.front ∙ ap (λ (l : L). take n l) same) (c.rewind.ensures ∙ c.split_front-taken.ensures.rest ∙ ap (λ (l : L). drop n l) same) in
-    (all_taken_out p c.split_front-taken.result c.rewind.new.self c.loop.list c.loop.taken c.loop.index (omega arith) c.loop.invariant.0.0).0 ∙ cut.0
+    (all_cut_out (λ m. is_wanted c.args.wanted.now m.item) c.args.list.now c.count_first-first.new.list c.split_front-taken.result c.rewind.new.self c.loop.list c.loop.taken c.count_first-first.result c.loop.index c.count_first-first.ensures.same c.count_first-first.ensures.wanted c.split_front-taken.ensures.front (c.rewind.ensures ∙ c.split_front-taken.ensures.rest) (omega arith) c.loop.invariant.0.0).0
 
 pub returns-clause-kept : goal.returns-clause-kept
 returns-clause-kept g c =
-    let L : Type 0 = List (Letter g.row.K.Denot) in
-    let p : Letter g.row.K.Denot → Bool = λ m. is_wanted c.args.wanted.now m.item in
-    let n : ℕ = c.count_first-first.result in
     let most = c.loop.invariant.0.1 in let long = c.loop.invariant.0.2 in let end = c.loop-test.false in
-    let same : c.count_first-first.new.list ≡ c.args.list.now = c.count_first-first.ensures.same in
-    let cut = cut_off p c.args.list.now c.split_front-taken.result c.rewind.new.self n c.count_first-first.ensures.wanted (c.split_front-taken.ensures.front ∙ ap (λ (l : L). take n l) same) (c.rewind.ensures ∙ c.split_front-taken.ensures.rest ∙ ap (λ (l : L). drop n l) same) in
-    (all_taken_out p c.split_front-taken.result c.rewind.new.self c.loop.list c.loop.taken c.loop.index (omega arith) c.loop.invariant.0.0).1 ∙ cut.1
+    (all_cut_out (λ m. is_wanted c.args.wanted.now m.item) c.args.list.now c.count_first-first.new.list c.split_front-taken.result c.rewind.new.self c.loop.list c.loop.taken c.count_first-first.result c.loop.index c.count_first-first.ensures.same c.count_first-first.ensures.wanted c.split_front-taken.ensures.front (c.rewind.ensures ∙ c.split_front-taken.ensures.rest) (omega arith) c.loop.invariant.0.0).1
