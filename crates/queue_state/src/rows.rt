@@ -2,29 +2,44 @@
 
 use loop_model::{Call, Filter, Kind, Post, Reply};
 
-/// What is asked of a queue. Each message is for handler 0.
+/// What is asked of a queue: a message by its what or its callback, and its time; else by the kind of its messages, its token, or
+/// its moment. Each message is for handler 0.
 #[derive(Clone, Copy)]
 pub(crate) enum Ask {
-    Post { what: u32, when: u64 },
-    Asynchronous { what: u32, when: u64 },
-    Callback { callback: u64, when: u64 },
+    Post(u32, u64),
+    Asynchronous(u32, u64),
+    Callback(u64, u64),
     Remove(Kind),
-    Make(Call),
+    Barrier(u64),
+    Unbarrier(u64),
+    Quit(u64),
+    QuitSafely(u64),
+    Next(u64),
+    Advance(u64),
+    Halt(u64),
 }
 
-/// What is asked, the reply, and whether it wakes.
-pub(crate) type Row = (Ask, Option<Reply>, bool);
+/// The reply, and whether the call wakes; Nothing where no entry is left.
+#[derive(Clone, Copy)]
+pub(crate) enum Said {
+    Nothing,
+    Quiet(Reply),
+    Wakes(Reply),
+}
+
+/// What is asked, and what is said to it.
+pub(crate) type Row = (Ask, Said);
 
 impl Ask {
     pub(crate) fn call(self) -> Call {
         match self {
-            Ask::Post { what, when } => Call::Post(message(what, when)),
-            Ask::Asynchronous { what, when } => {
+            Ask::Post(what, when) => Call::Post(message(what, when)),
+            Ask::Asynchronous(what, when) => {
                 let mut post = message(what, when);
                 post.asynchronous = true;
                 Call::Post(post)
             }
-            Ask::Callback { callback, when } => {
+            Ask::Callback(callback, when) => {
                 let mut post = message(0, when);
                 post.callback = Some(callback);
                 Call::Post(post)
@@ -34,8 +49,28 @@ impl Ask {
                 kind,
                 obj: None,
             }),
-            Ask::Make(call) => call,
+            Ask::Barrier(now) => Call::Barrier { now },
+            Ask::Unbarrier(token) => Call::Unbarrier { token },
+            Ask::Quit(now) => Call::Quit { safe: false, now },
+            Ask::QuitSafely(now) => Call::Quit { safe: true, now },
+            Ask::Next(now) => Call::Next { now },
+            Ask::Advance(now) => Call::Advance { now },
+            Ask::Halt(now) => Call::Halt { now },
         }
+    }
+}
+
+impl Said {
+    pub(crate) fn reply(self) -> Option<Reply> {
+        match self {
+            Said::Nothing => None,
+            Said::Quiet(reply) => Some(reply),
+            Said::Wakes(reply) => Some(reply),
+        }
+    }
+
+    pub(crate) fn wakes(self) -> bool {
+        matches!(self, Said::Wakes(_))
     }
 }
 
@@ -52,525 +87,181 @@ pub(crate) fn message(what: u32, when: u64) -> Post {
     }
 }
 
-pub(crate) const IN_ORDER: [Row; 10] = [
-    (
-        Ask::Make(Call::Advance { now: 10 }),
-        Some(Reply::Advanced),
-        false,
-    ),
-    (
-        Ask::Post { what: 7, when: 15 },
-        Some(Reply::Accepted { number: 0 }),
-        false,
-    ),
-    (
-        Ask::Post { what: 8, when: 10 },
-        Some(Reply::Accepted { number: 1 }),
-        false,
-    ),
-    (
-        Ask::Make(Call::Next { now: 10 }),
-        Some(Reply::Dispatched { number: 1 }),
-        false,
-    ),
-    (Ask::Make(Call::Next { now: 10 }), None, false),
-    (
-        Ask::Make(Call::Advance { now: 15 }),
-        Some(Reply::Advanced),
-        false,
-    ),
-    (
-        Ask::Make(Call::Next { now: 15 }),
-        Some(Reply::Dispatched { number: 0 }),
-        false,
-    ),
-    (
-        Ask::Make(Call::Advance { now: 20 }),
-        Some(Reply::Advanced),
-        false,
-    ),
-    (
-        Ask::Make(Call::Halt { now: 20 }),
-        Some(Reply::Halted),
-        false,
-    ),
-    (Ask::Make(Call::Next { now: 20 }), None, false),
+const IN_ORDER: [Row; 10] = [
+    (Ask::Advance(10), Said::Quiet(Reply::Advanced)),
+    (Ask::Post(7, 15), Said::Quiet(Reply::Accepted { number: 0 })),
+    (Ask::Post(8, 10), Said::Quiet(Reply::Accepted { number: 1 })),
+    (Ask::Next(10), Said::Quiet(Reply::Dispatched { number: 1 })),
+    (Ask::Next(10), Said::Nothing),
+    (Ask::Advance(15), Said::Quiet(Reply::Advanced)),
+    (Ask::Next(15), Said::Quiet(Reply::Dispatched { number: 0 })),
+    (Ask::Advance(20), Said::Quiet(Reply::Advanced)),
+    (Ask::Halt(20), Said::Quiet(Reply::Halted)),
+    (Ask::Next(20), Said::Nothing),
 ];
 
-pub(crate) const AT_THE_FRONT: [Row; 13] = [
-    (
-        Ask::Post { what: 1, when: 0 },
-        Some(Reply::Accepted { number: 0 }),
-        false,
-    ),
-    (
-        Ask::Post { what: 2, when: 0 },
-        Some(Reply::Accepted { number: 1 }),
-        false,
-    ),
-    (
-        Ask::Make(Call::Next { now: 0 }),
-        Some(Reply::Dispatched { number: 1 }),
-        false,
-    ),
-    (
-        Ask::Make(Call::Next { now: 0 }),
-        Some(Reply::Dispatched { number: 0 }),
-        false,
-    ),
-    (Ask::Make(Call::Next { now: 0 }), None, false),
-    (
-        Ask::Make(Call::Advance { now: 10 }),
-        Some(Reply::Advanced),
-        false,
-    ),
-    (
-        Ask::Post { what: 1, when: 10 },
-        Some(Reply::Accepted { number: 2 }),
-        true,
-    ),
-    (
-        Ask::Post { what: 2, when: 0 },
-        Some(Reply::Accepted { number: 3 }),
-        true,
-    ),
-    (
-        Ask::Post { what: 3, when: 10 },
-        Some(Reply::Accepted { number: 4 }),
-        false,
-    ),
-    (
-        Ask::Make(Call::Next { now: 10 }),
-        Some(Reply::Dispatched { number: 3 }),
-        false,
-    ),
-    (
-        Ask::Make(Call::Next { now: 10 }),
-        Some(Reply::Dispatched { number: 2 }),
-        false,
-    ),
-    (
-        Ask::Make(Call::Next { now: 10 }),
-        Some(Reply::Dispatched { number: 4 }),
-        false,
-    ),
-    (
-        Ask::Make(Call::Halt { now: 10 }),
-        Some(Reply::Halted),
-        false,
-    ),
+const AT_THE_FRONT: [Row; 13] = [
+    (Ask::Post(1, 0), Said::Quiet(Reply::Accepted { number: 0 })),
+    (Ask::Post(2, 0), Said::Quiet(Reply::Accepted { number: 1 })),
+    (Ask::Next(0), Said::Quiet(Reply::Dispatched { number: 1 })),
+    (Ask::Next(0), Said::Quiet(Reply::Dispatched { number: 0 })),
+    (Ask::Next(0), Said::Nothing),
+    (Ask::Advance(10), Said::Quiet(Reply::Advanced)),
+    (Ask::Post(1, 10), Said::Wakes(Reply::Accepted { number: 2 })),
+    (Ask::Post(2, 0), Said::Wakes(Reply::Accepted { number: 3 })),
+    (Ask::Post(3, 10), Said::Quiet(Reply::Accepted { number: 4 })),
+    (Ask::Next(10), Said::Quiet(Reply::Dispatched { number: 3 })),
+    (Ask::Next(10), Said::Quiet(Reply::Dispatched { number: 2 })),
+    (Ask::Next(10), Said::Quiet(Reply::Dispatched { number: 4 })),
+    (Ask::Halt(10), Said::Quiet(Reply::Halted)),
 ];
 
-pub(crate) const EQUAL_TIMES: [Row; 10] = [
-    (
-        Ask::Make(Call::Advance { now: 10 }),
-        Some(Reply::Advanced),
-        false,
-    ),
-    (
-        Ask::Post { what: 1, when: 15 },
-        Some(Reply::Accepted { number: 0 }),
-        false,
-    ),
-    (
-        Ask::Post { what: 2, when: 15 },
-        Some(Reply::Accepted { number: 1 }),
-        false,
-    ),
-    (
-        Ask::Post { what: 3, when: 15 },
-        Some(Reply::Accepted { number: 2 }),
-        false,
-    ),
-    (Ask::Make(Call::Next { now: 10 }), None, false),
-    (
-        Ask::Make(Call::Advance { now: 15 }),
-        Some(Reply::Advanced),
-        false,
-    ),
-    (
-        Ask::Make(Call::Next { now: 15 }),
-        Some(Reply::Dispatched { number: 0 }),
-        false,
-    ),
-    (
-        Ask::Make(Call::Next { now: 15 }),
-        Some(Reply::Dispatched { number: 1 }),
-        false,
-    ),
-    (
-        Ask::Make(Call::Next { now: 15 }),
-        Some(Reply::Dispatched { number: 2 }),
-        false,
-    ),
-    (
-        Ask::Make(Call::Halt { now: 15 }),
-        Some(Reply::Halted),
-        false,
-    ),
+const EQUAL_TIMES: [Row; 10] = [
+    (Ask::Advance(10), Said::Quiet(Reply::Advanced)),
+    (Ask::Post(1, 15), Said::Quiet(Reply::Accepted { number: 0 })),
+    (Ask::Post(2, 15), Said::Quiet(Reply::Accepted { number: 1 })),
+    (Ask::Post(3, 15), Said::Quiet(Reply::Accepted { number: 2 })),
+    (Ask::Next(10), Said::Nothing),
+    (Ask::Advance(15), Said::Quiet(Reply::Advanced)),
+    (Ask::Next(15), Said::Quiet(Reply::Dispatched { number: 0 })),
+    (Ask::Next(15), Said::Quiet(Reply::Dispatched { number: 1 })),
+    (Ask::Next(15), Said::Quiet(Reply::Dispatched { number: 2 })),
+    (Ask::Halt(15), Said::Quiet(Reply::Halted)),
 ];
 
-pub(crate) const BEHIND_A_BARRIER: [Row; 12] = [
+const BEHIND_A_BARRIER: [Row; 12] = [
+    (Ask::Advance(10), Said::Quiet(Reply::Advanced)),
+    (Ask::Post(3, 10), Said::Quiet(Reply::Accepted { number: 0 })),
+    (Ask::Barrier(10), Said::Quiet(Reply::Token { token: 0 })),
+    (Ask::Post(1, 10), Said::Quiet(Reply::Accepted { number: 1 })),
     (
-        Ask::Make(Call::Advance { now: 10 }),
-        Some(Reply::Advanced),
-        false,
+        Ask::Asynchronous(2, 10),
+        Said::Quiet(Reply::Accepted { number: 2 }),
     ),
-    (
-        Ask::Post { what: 3, when: 10 },
-        Some(Reply::Accepted { number: 0 }),
-        false,
-    ),
-    (
-        Ask::Make(Call::Barrier { now: 10 }),
-        Some(Reply::Token { token: 0 }),
-        false,
-    ),
-    (
-        Ask::Post { what: 1, when: 10 },
-        Some(Reply::Accepted { number: 1 }),
-        false,
-    ),
-    (
-        Ask::Asynchronous { what: 2, when: 10 },
-        Some(Reply::Accepted { number: 2 }),
-        false,
-    ),
-    (
-        Ask::Make(Call::Next { now: 10 }),
-        Some(Reply::Dispatched { number: 0 }),
-        false,
-    ),
-    (
-        Ask::Make(Call::Next { now: 10 }),
-        Some(Reply::Dispatched { number: 2 }),
-        false,
-    ),
-    (Ask::Make(Call::Next { now: 10 }), None, false),
-    (
-        Ask::Make(Call::Advance { now: 12 }),
-        Some(Reply::Advanced),
-        false,
-    ),
-    (
-        Ask::Make(Call::Unbarrier { token: 0 }),
-        Some(Reply::Unbarriered),
-        true,
-    ),
-    (
-        Ask::Make(Call::Next { now: 12 }),
-        Some(Reply::Dispatched { number: 1 }),
-        false,
-    ),
-    (
-        Ask::Make(Call::Halt { now: 12 }),
-        Some(Reply::Halted),
-        false,
-    ),
+    (Ask::Next(10), Said::Quiet(Reply::Dispatched { number: 0 })),
+    (Ask::Next(10), Said::Quiet(Reply::Dispatched { number: 2 })),
+    (Ask::Next(10), Said::Nothing),
+    (Ask::Advance(12), Said::Quiet(Reply::Advanced)),
+    (Ask::Unbarrier(0), Said::Wakes(Reply::Unbarriered)),
+    (Ask::Next(12), Said::Quiet(Reply::Dispatched { number: 1 })),
+    (Ask::Halt(12), Said::Quiet(Reply::Halted)),
 ];
 
-pub(crate) const REMOVALS: [Row; 12] = [
+const REMOVALS: [Row; 12] = [
     (
-        Ask::Callback {
-            callback: 9,
-            when: 10,
-        },
-        Some(Reply::Accepted { number: 0 }),
-        false,
+        Ask::Callback(9, 10),
+        Said::Quiet(Reply::Accepted { number: 0 }),
     ),
-    (
-        Ask::Post { what: 0, when: 10 },
-        Some(Reply::Accepted { number: 1 }),
-        false,
-    ),
-    (
-        Ask::Post { what: 1, when: 10 },
-        Some(Reply::Accepted { number: 2 }),
-        false,
-    ),
+    (Ask::Post(0, 10), Said::Quiet(Reply::Accepted { number: 1 })),
+    (Ask::Post(1, 10), Said::Quiet(Reply::Accepted { number: 2 })),
     (
         Ask::Remove(Kind::What(0)),
-        Some(Reply::Removed { count: 2 }),
-        false,
+        Said::Quiet(Reply::Removed { count: 2 }),
     ),
     (
-        Ask::Callback {
-            callback: 9,
-            when: 10,
-        },
-        Some(Reply::Accepted { number: 3 }),
-        false,
+        Ask::Callback(9, 10),
+        Said::Quiet(Reply::Accepted { number: 3 }),
     ),
-    (
-        Ask::Post { what: 0, when: 10 },
-        Some(Reply::Accepted { number: 4 }),
-        false,
-    ),
+    (Ask::Post(0, 10), Said::Quiet(Reply::Accepted { number: 4 })),
     (
         Ask::Remove(Kind::Callback(9)),
-        Some(Reply::Removed { count: 1 }),
-        false,
+        Said::Quiet(Reply::Removed { count: 1 }),
     ),
-    (
-        Ask::Make(Call::Advance { now: 10 }),
-        Some(Reply::Advanced),
-        false,
-    ),
-    (
-        Ask::Make(Call::Next { now: 10 }),
-        Some(Reply::Dispatched { number: 2 }),
-        false,
-    ),
+    (Ask::Advance(10), Said::Quiet(Reply::Advanced)),
+    (Ask::Next(10), Said::Quiet(Reply::Dispatched { number: 2 })),
     (
         Ask::Remove(Kind::All),
-        Some(Reply::Removed { count: 1 }),
-        false,
+        Said::Quiet(Reply::Removed { count: 1 }),
     ),
-    (Ask::Make(Call::Next { now: 10 }), None, false),
-    (
-        Ask::Make(Call::Halt { now: 10 }),
-        Some(Reply::Halted),
-        false,
-    ),
+    (Ask::Next(10), Said::Nothing),
+    (Ask::Halt(10), Said::Quiet(Reply::Halted)),
 ];
 
-pub(crate) const SAFE_QUIT: [Row; 10] = [
-    (
-        Ask::Post { what: 1, when: 9 },
-        Some(Reply::Accepted { number: 0 }),
-        false,
-    ),
-    (
-        Ask::Post { what: 2, when: 10 },
-        Some(Reply::Accepted { number: 1 }),
-        false,
-    ),
-    (
-        Ask::Post { what: 3, when: 11 },
-        Some(Reply::Accepted { number: 2 }),
-        false,
-    ),
-    (
-        Ask::Make(Call::Advance { now: 9 }),
-        Some(Reply::Advanced),
-        false,
-    ),
-    (
-        Ask::Make(Call::Next { now: 9 }),
-        Some(Reply::Dispatched { number: 0 }),
-        false,
-    ),
-    (
-        Ask::Make(Call::Advance { now: 10 }),
-        Some(Reply::Advanced),
-        false,
-    ),
-    (
-        Ask::Make(Call::Quit {
-            safe: true,
-            now: 10,
-        }),
-        Some(Reply::QuitDone),
-        true,
-    ),
-    (
-        Ask::Make(Call::Next { now: 10 }),
-        Some(Reply::Dispatched { number: 1 }),
-        false,
-    ),
-    (
-        Ask::Make(Call::Next { now: 10 }),
-        Some(Reply::Disposed),
-        false,
-    ),
-    (Ask::Make(Call::Next { now: 10 }), None, false),
+const SAFE_QUIT: [Row; 10] = [
+    (Ask::Post(1, 9), Said::Quiet(Reply::Accepted { number: 0 })),
+    (Ask::Post(2, 10), Said::Quiet(Reply::Accepted { number: 1 })),
+    (Ask::Post(3, 11), Said::Quiet(Reply::Accepted { number: 2 })),
+    (Ask::Advance(9), Said::Quiet(Reply::Advanced)),
+    (Ask::Next(9), Said::Quiet(Reply::Dispatched { number: 0 })),
+    (Ask::Advance(10), Said::Quiet(Reply::Advanced)),
+    (Ask::QuitSafely(10), Said::Wakes(Reply::QuitDone)),
+    (Ask::Next(10), Said::Quiet(Reply::Dispatched { number: 1 })),
+    (Ask::Next(10), Said::Quiet(Reply::Disposed)),
+    (Ask::Next(10), Said::Nothing),
 ];
 
-pub(crate) const STRANDED: [Row; 5] = [
-    (
-        Ask::Make(Call::Advance { now: 10 }),
-        Some(Reply::Advanced),
-        false,
-    ),
-    (
-        Ask::Make(Call::Barrier { now: 10 }),
-        Some(Reply::Token { token: 0 }),
-        false,
-    ),
-    (
-        Ask::Post { what: 1, when: 10 },
-        Some(Reply::Accepted { number: 0 }),
-        false,
-    ),
-    (
-        Ask::Make(Call::Quit {
-            safe: true,
-            now: 10,
-        }),
-        Some(Reply::QuitDone),
-        true,
-    ),
-    (
-        Ask::Make(Call::Next { now: 10 }),
-        Some(Reply::Disposed),
-        false,
-    ),
+const STRANDED: [Row; 5] = [
+    (Ask::Advance(10), Said::Quiet(Reply::Advanced)),
+    (Ask::Barrier(10), Said::Quiet(Reply::Token { token: 0 })),
+    (Ask::Post(1, 10), Said::Quiet(Reply::Accepted { number: 0 })),
+    (Ask::QuitSafely(10), Said::Wakes(Reply::QuitDone)),
+    (Ask::Next(10), Said::Quiet(Reply::Disposed)),
 ];
 
-pub(crate) const FREED_BEFORE_DISPOSAL: [Row; 7] = [
-    (
-        Ask::Make(Call::Advance { now: 10 }),
-        Some(Reply::Advanced),
-        false,
-    ),
-    (
-        Ask::Make(Call::Barrier { now: 10 }),
-        Some(Reply::Token { token: 0 }),
-        false,
-    ),
-    (
-        Ask::Post { what: 1, when: 10 },
-        Some(Reply::Accepted { number: 0 }),
-        false,
-    ),
-    (
-        Ask::Make(Call::Quit {
-            safe: true,
-            now: 10,
-        }),
-        Some(Reply::QuitDone),
-        true,
-    ),
-    (
-        Ask::Make(Call::Unbarrier { token: 0 }),
-        Some(Reply::Unbarriered),
-        false,
-    ),
-    (
-        Ask::Make(Call::Next { now: 10 }),
-        Some(Reply::Dispatched { number: 0 }),
-        false,
-    ),
-    (
-        Ask::Make(Call::Next { now: 10 }),
-        Some(Reply::Disposed),
-        false,
-    ),
+const FREED_BEFORE_DISPOSAL: [Row; 7] = [
+    (Ask::Advance(10), Said::Quiet(Reply::Advanced)),
+    (Ask::Barrier(10), Said::Quiet(Reply::Token { token: 0 })),
+    (Ask::Post(1, 10), Said::Quiet(Reply::Accepted { number: 0 })),
+    (Ask::QuitSafely(10), Said::Wakes(Reply::QuitDone)),
+    (Ask::Unbarrier(0), Said::Quiet(Reply::Unbarriered)),
+    (Ask::Next(10), Said::Quiet(Reply::Dispatched { number: 0 })),
+    (Ask::Next(10), Said::Quiet(Reply::Disposed)),
 ];
 
-pub(crate) const QUITS_ONCE: [Row; 9] = [
-    (
-        Ask::Make(Call::Advance { now: 10 }),
-        Some(Reply::Advanced),
-        false,
-    ),
-    (
-        Ask::Post { what: 5, when: 10 },
-        Some(Reply::Accepted { number: 0 }),
-        false,
-    ),
-    (
-        Ask::Make(Call::Quit {
-            safe: false,
-            now: 10,
-        }),
-        Some(Reply::QuitDone),
-        true,
-    ),
-    (
-        Ask::Make(Call::Quit {
-            safe: false,
-            now: 10,
-        }),
-        Some(Reply::AlreadyQuit { place: 2 }),
-        false,
-    ),
-    (
-        Ask::Post { what: 5, when: 10 },
-        Some(Reply::Refused { place: 2 }),
-        false,
-    ),
-    (
-        Ask::Make(Call::Next { now: 10 }),
-        Some(Reply::Disposed),
-        false,
-    ),
-    (
-        Ask::Make(Call::Barrier { now: 10 }),
-        Some(Reply::Token { token: 0 }),
-        false,
-    ),
+const QUITS_ONCE: [Row; 9] = [
+    (Ask::Advance(10), Said::Quiet(Reply::Advanced)),
+    (Ask::Post(5, 10), Said::Quiet(Reply::Accepted { number: 0 })),
+    (Ask::Quit(10), Said::Wakes(Reply::QuitDone)),
+    (Ask::Quit(10), Said::Quiet(Reply::AlreadyQuit { place: 2 })),
+    (Ask::Post(5, 10), Said::Quiet(Reply::Refused { place: 2 })),
+    (Ask::Next(10), Said::Quiet(Reply::Disposed)),
+    (Ask::Barrier(10), Said::Quiet(Reply::Token { token: 0 })),
     (
         Ask::Remove(Kind::All),
-        Some(Reply::Removed { count: 0 }),
-        false,
+        Said::Quiet(Reply::Removed { count: 0 }),
     ),
-    (Ask::Make(Call::Next { now: 10 }), None, false),
+    (Ask::Next(10), Said::Nothing),
 ];
 
-pub(crate) const MAIN_MAY_NOT_QUIT: [Row; 5] = [
-    (
-        Ask::Make(Call::Advance { now: 10 }),
-        Some(Reply::Advanced),
-        false,
-    ),
-    (
-        Ask::Make(Call::Quit {
-            safe: false,
-            now: 10,
-        }),
-        Some(Reply::NotAllowed),
-        false,
-    ),
-    (
-        Ask::Post { what: 1, when: 15 },
-        Some(Reply::Accepted { number: 0 }),
-        false,
-    ),
-    (
-        Ask::Make(Call::Advance { now: 12 }),
-        Some(Reply::Advanced),
-        false,
-    ),
-    (
-        Ask::Make(Call::Halt { now: 12 }),
-        Some(Reply::Halted),
-        false,
-    ),
+const MAIN_MAY_NOT_QUIT: [Row; 5] = [
+    (Ask::Advance(10), Said::Quiet(Reply::Advanced)),
+    (Ask::Quit(10), Said::Quiet(Reply::NotAllowed)),
+    (Ask::Post(1, 15), Said::Quiet(Reply::Accepted { number: 0 })),
+    (Ask::Advance(12), Said::Quiet(Reply::Advanced)),
+    (Ask::Halt(12), Said::Quiet(Reply::Halted)),
 ];
 
-pub(crate) const WAKES: [Row; 7] = [
-    (Ask::Make(Call::Next { now: 0 }), None, false),
+const WAKES: [Row; 7] = [
+    (Ask::Next(0), Said::Nothing),
+    (Ask::Barrier(0), Said::Quiet(Reply::Token { token: 0 })),
+    (Ask::Post(1, 5), Said::Quiet(Reply::Accepted { number: 0 })),
     (
-        Ask::Make(Call::Barrier { now: 0 }),
-        Some(Reply::Token { token: 0 }),
-        false,
+        Ask::Asynchronous(1, 5),
+        Said::Wakes(Reply::Accepted { number: 1 }),
     ),
     (
-        Ask::Post { what: 1, when: 5 },
-        Some(Reply::Accepted { number: 0 }),
-        false,
+        Ask::Asynchronous(1, 6),
+        Said::Quiet(Reply::Accepted { number: 2 }),
     ),
-    (
-        Ask::Asynchronous { what: 1, when: 5 },
-        Some(Reply::Accepted { number: 1 }),
-        true,
-    ),
-    (
-        Ask::Asynchronous { what: 1, when: 6 },
-        Some(Reply::Accepted { number: 2 }),
-        false,
-    ),
-    (
-        Ask::Make(Call::Unbarrier { token: 0 }),
-        Some(Reply::Unbarriered),
-        true,
-    ),
-    (
-        Ask::Make(Call::Unbarrier { token: 0 }),
-        Some(Reply::NotPosted),
-        false,
-    ),
+    (Ask::Unbarrier(0), Said::Wakes(Reply::Unbarriered)),
+    (Ask::Unbarrier(0), Said::Quiet(Reply::NotPosted)),
+];
+
+/// Whether a queue is main, and in lockstep, and the table that is tried on it.
+pub(crate) type Example = (bool, bool, &'static [Row]);
+
+pub(crate) const EXAMPLES: [Example; 11] = [
+    (true, true, &IN_ORDER),
+    (true, true, &AT_THE_FRONT),
+    (true, true, &EQUAL_TIMES),
+    (true, true, &BEHIND_A_BARRIER),
+    (true, true, &REMOVALS),
+    (false, true, &SAFE_QUIT),
+    (false, true, &STRANDED),
+    (false, true, &FREED_BEFORE_DISPOSAL),
+    (false, true, &QUITS_ONCE),
+    (true, true, &MAIN_MAY_NOT_QUIT),
+    (false, false, &WAKES),
 ];
 
 /// What a look answers, by name: the number that is taken, until when it waits, how many items are left at the end.
@@ -583,73 +274,34 @@ pub(crate) enum Look {
     Over,
 }
 
-/// A call that is made, a look at a moment with what it answers, or whether a message is there.
+/// A call that is made, a look at a moment with what it answers, the same where an idle turn is owed, or whether a message is there.
 #[derive(Clone, Copy)]
 pub(crate) enum Step {
     Make(Ask),
-    Look { now: u64, idle: bool, wanted: Look },
+    Look(u64, Look),
+    Idling(u64, Look),
     Has(bool),
 }
 
 pub(crate) const LOOKS: [Step; 19] = [
-    Step::Look {
-        now: 0,
-        idle: true,
-        wanted: Look::Idle,
-    },
-    Step::Look {
-        now: 0,
-        idle: false,
-        wanted: Look::Wait(None),
-    },
+    Step::Idling(0, Look::Idle),
+    Step::Look(0, Look::Wait(None)),
     Step::Has(false),
-    Step::Make(Ask::Post { what: 1, when: 5 }),
+    Step::Make(Ask::Post(1, 5)),
     Step::Has(true),
-    Step::Look {
-        now: 4,
-        idle: true,
-        wanted: Look::Idle,
-    },
-    Step::Look {
-        now: 4,
-        idle: false,
-        wanted: Look::Wait(Some(5)),
-    },
-    Step::Look {
-        now: 5,
-        idle: true,
-        wanted: Look::Taken(0),
-    },
-    Step::Make(Ask::Make(Call::Barrier { now: 5 })),
-    Step::Make(Ask::Post { what: 2, when: 5 }),
+    Step::Idling(4, Look::Idle),
+    Step::Look(4, Look::Wait(Some(5))),
+    Step::Idling(5, Look::Taken(0)),
+    Step::Make(Ask::Barrier(5)),
+    Step::Make(Ask::Post(2, 5)),
     // the head is due and a barrier, so no idle turn
-    Step::Look {
-        now: 6,
-        idle: true,
-        wanted: Look::Wait(None),
-    },
-    Step::Make(Ask::Asynchronous { what: 3, when: 9 }),
-    Step::Look {
-        now: 6,
-        idle: true,
-        wanted: Look::Wait(Some(9)),
-    },
-    Step::Look {
-        now: 9,
-        idle: true,
-        wanted: Look::Taken(2),
-    },
-    Step::Make(Ask::Make(Call::Quit { safe: true, now: 9 })),
+    Step::Idling(6, Look::Wait(None)),
+    Step::Make(Ask::Asynchronous(3, 9)),
+    Step::Idling(6, Look::Wait(Some(9))),
+    Step::Idling(9, Look::Taken(2)),
+    Step::Make(Ask::QuitSafely(9)),
     Step::Has(true),
-    Step::Look {
-        now: 9,
-        idle: true,
-        wanted: Look::End(2),
-    },
+    Step::Idling(9, Look::End(2)),
     Step::Has(false),
-    Step::Look {
-        now: 9,
-        idle: true,
-        wanted: Look::Over,
-    },
+    Step::Idling(9, Look::Over),
 ];
