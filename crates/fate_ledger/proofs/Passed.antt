@@ -15,11 +15,10 @@ use Rattle.loop_model.specs.declared.entry.Entry.{Entry}
 use Rattle.loop_model.specs.declared.fate.Fate.{Fate}
 use Rattle.loop_model.specs.declared.item.Item.TheVariants.{Post as Message}
 use Rattle.loop_model.specs.Entries.{is_accepted, is_disposed, is_unbarriered, is_quit_done, posts_in, barriers_in, dispatches, made_by, ends_by, ends}
-use Rattle.loop_model.specs.Order.{Made, Placed}
 use Rattle.loop_model.specs.Live.{placed, made_items}
 use Rattle.loop_model.specs.Fates.{fate_of, fate_in, fates}
 use Rattle.loop_model.specs.Posts.{accepted_by}
-use Rattle.loop_model.proofs.FateLaws.{is_message}
+use Rattle.loop_model.proofs.FateLaws.{is_message, posted_message, made_message}
 use Rattle.fate_ledger.specs.declared.cause.Cause.TheVariants.{Everything, SafeQuit, Nothing}
 use Rattle.fate_ledger.specs.Causes.{cause_of, cause_of_look}
 use Rattle.fate_ledger.specs.Behind.{ends_post, first_at}
@@ -65,25 +64,6 @@ ended_by n p (Halt now) r = refl
 pub found_behind : (n : ℕ) (p : PostData) (front es : List Entry) → slice_get (front ++ es) (first_at (ends_post n p) (length front) (causes_of es)) ≡ find (λ e. ends e (Message n p)) es
 found_behind n p front es = first_found (ends_post n p) (λ (e : Entry). cause_of e.call e.reply) (λ e. ends e (Message n p)) (λ e. ended_by n p e.call e.reply) front es
 
--- the message that a post makes
-abbrev posted_message : Option PostData → ℕ → ℕ → List Placed
-posted_message None n k = []
-posted_message (Some p) n k = record { item = Message n p; origin = Made k } ∷ []
-
-made_message : (n t k : ℕ) (c : Call) (r : Reply) → filter is_message (placed k (made_by n t c r)) ≡ posted_message (accepted_by c r) n k
-made_message n t k (Post p) r = go (is_accepted r)
-  where
-    go : (b : Bool) → filter is_message (placed k (if b then Some (Message n p) else None)) ≡ posted_message (if b then Some p else None) n k
-    go true = refl
-    go false = refl
-made_message n t k (Barrier now) r = refl
-made_message n t k (Unbarrier u) r = refl
-made_message n t k (Remove f) r = refl
-made_message n t k (Quit safe now) r = refl
-made_message n t k (Next now) r = refl
-made_message n t k (Advance now) r = refl
-made_message n t k (Halt now) r = refl
-
 -- its fate is that by the entries behind it
 message_fate : (whole es : List Entry) (o : Option PostData) (n k : ℕ) → drop (k + 1) whole ≡ es → map (fate_in whole) (posted_message o n k) ≡ posted_fate n o es
 message_fate whole es None n k h = refl
@@ -99,7 +79,7 @@ fates_of_rest front (e ∷ es) n t =
     let made = placed k (made_by n t e.call e.reply) in
     let later = made_items n' t' (k + 1) es in
     let behind : drop (k + 1) whole ≡ es = drop-append-add front (e ∷ es) 1 in
-    let first : map (fate_in whole) (filter is_message made) ≡ posted_fate n (accepted_by e.call e.reply) es = ap (map (fate_in whole)) (made_message n t k e.call e.reply) ∙ message_fate whole es (accepted_by e.call e.reply) n k behind in
+    let first : map (fate_in whole) (filter is_message made) ≡ posted_fate n (accepted_by e.call e.reply) es = ap (map (fate_in whole)) (made_message n t k e.call e.reply).0 ∙ message_fate whole es (accepted_by e.call e.reply) n k behind in
     let place : length (front ++ e ∷ []) ≡ k + 1 = length-append front (e ∷ []) in
     let rest : map (fate_in whole) (filter is_message later) ≡ fates_from n' es = subst (λ j. map (fate_in whole) (filter is_message (made_items n' t' j es)) ≡ fates_from n' es) place (subst (λ l. map (fate_in l) (filter is_message (made_items n' t' (length (front ++ e ∷ [])) es)) ≡ fates_from n' es) (append_assoc front (e ∷ []) es) (fates_of_rest (front ++ e ∷ []) es n' t')) in
     ap (map (fate_in whole)) (filter-append is_message made later) ∙ (map-append (fate_in whole) (filter is_message made) (filter is_message later) ∙ (ap (λ l. l ++ map (fate_in whole) (filter is_message later)) first ∙ ap (λ l. posted_fate n (accepted_by e.call e.reply) es ++ l) rest))

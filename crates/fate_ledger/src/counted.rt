@@ -2,6 +2,7 @@
 
 ghost use Rattle.std.specs.Prelude.{◌≡◌, ◌+◌, count_by, length};
 ghost use Rattle.loop_model.specs.Fates.{is_dispatched, is_removed, is_dropped, is_stranded, is_queued};
+ghost use Rattle.fate_ledger.specs.Counts.{is_fate};
 
 use loop_model::{Fate, Sequence};
 
@@ -35,57 +36,32 @@ impl Fates {
         ensures together { result.dispatched + result.removed + result.dropped + result.stranded + result.queued ≡ length list.items }
     {
         Fates {
-            dispatched: dispatched(&list),
-            removed: removed(&list),
-            dropped: dropped(&list),
-            stranded: stranded(&list),
-            queued: queued(&list),
+            dispatched: count(&list, Fate::Dispatched),
+            removed: count(&list, Fate::Removed),
+            dropped: count(&list, Fate::Dropped),
+            stranded: count(&list, Fate::Stranded),
+            queued: count(&list, Fate::Queued),
             list: Sequence::from_vec(list),
         }
     }
 }
 
-/// How many posts were dispatched.
-fn dispatched(list: &[Fate]) -> u64
-    ensures { result ≡ count_by is_dispatched list.now }
+/// How many posts had this fate.
+fn count(list: &[Fate], wanted: Fate) -> u64
+    ensures { result ≡ count_by (is_fate wanted) list.now }
 {
-    list.iter()
-        .filter(|fate| matches!(fate, Fate::Dispatched))
-        .count() as u64
+    list.iter().filter(|fate| is_fate(fate, wanted)).count() as u64
 }
 
-/// How many posts were removed.
-fn removed(list: &[Fate]) -> u64
-    ensures { result ≡ count_by is_removed list.now }
+/// Whether it is the wanted fate.
+fn is_fate(fate: &Fate, wanted: Fate) -> bool
+    ensures { result ≡ is_fate wanted fate.now }
 {
-    list.iter()
-        .filter(|fate| matches!(fate, Fate::Removed))
-        .count() as u64
-}
-
-/// How many posts a quit dropped.
-fn dropped(list: &[Fate]) -> u64
-    ensures { result ≡ count_by is_dropped list.now }
-{
-    list.iter()
-        .filter(|fate| matches!(fate, Fate::Dropped))
-        .count() as u64
-}
-
-/// How many posts a disposal stranded.
-fn stranded(list: &[Fate]) -> u64
-    ensures { result ≡ count_by is_stranded list.now }
-{
-    list.iter()
-        .filter(|fate| matches!(fate, Fate::Stranded))
-        .count() as u64
-}
-
-/// How many posts are queued.
-fn queued(list: &[Fate]) -> u64
-    ensures { result ≡ count_by is_queued list.now }
-{
-    list.iter()
-        .filter(|fate| matches!(fate, Fate::Queued))
-        .count() as u64
+    match wanted {
+        Fate::Queued => matches!(fate, Fate::Queued),
+        Fate::Dispatched => matches!(fate, Fate::Dispatched),
+        Fate::Removed => matches!(fate, Fate::Removed),
+        Fate::Dropped => matches!(fate, Fate::Dropped),
+        Fate::Stranded => matches!(fate, Fate::Stranded),
+    }
 }

@@ -1,7 +1,7 @@
 // The safe quits that stand behind a place of a history.
 
 ghost use Rattle.std.specs.Prelude.{◌≡◌, ◌≤◌, [], cond, nat_lt, length, ℕ, OnOk};
-ghost use Rattle.fate_ledger.specs.Quits.{IsRising, IsBoundAt, first_quit};
+ghost use Rattle.fate_ledger.specs.Quits.{IsRising, IsBoundAt, first_quit, IsAddedBefore};
 
 use loop_model::NoMemory;
 use std::alloc::Global;
@@ -48,7 +48,7 @@ impl SafeQuits {
     pub(crate) fn add(&mut self, now: u64, place: usize) -> Result<(), NoMemory>
         requires { IsRising self.old.list.items }
         ensures rising { OnOk result (IsRising self.new.list.items) }
-        ensures first { OnOk result ((moment end : ℕ) → first_quit moment end self.new.list.items ≡ cond (nat_lt now moment) place (first_quit moment end self.old.list.items)) }
+        ensures first { OnOk result (IsAddedBefore now place self.old.list.items self.new.list.items) }
     {
         let kept = count_before(&self.list, now);
         self.list.truncate(kept);
