@@ -3,6 +3,7 @@ pub mod Examples
 pub mod RunBut
 pub mod ByTests
 pub mod Table
+pub mod OneFault
 pub mod WorkedPosts
 pub mod WorkedRemovals
 pub mod WorkedQuits

@@ -1,21 +1,17 @@
 -- Reports that are no runs of their script: a side looper ends before a call of its time.
-use Rattle.std.proofs.Common.{◌≡◌, ℕ, refl, true, false, List, [], ◌∷◌, None, lit<}
+use Rattle.std.proofs.Common.{ℕ, refl, false, List, [], ◌∷◌, None}
+use Rattle.std.specs.List.{AllByRecursion}
 use Rattle.loop_model.specs.declared.call.Call.TheVariants as call
 use Rattle.loop_model.specs.declared.reply.Reply.TheVariants as reply
 use Rattle.loop_model.specs.declared.entry.Entry.{Entry}
-use Rattle.loop_model.specs.Answers.{clock, has_disposed}
 use Rattle.dash_script.specs.declared.script.Command.TheVariants as command
 use Rattle.dash_script.specs.declared.script.Block.{Block}
 use Rattle.dash_script.specs.declared.script.Line.{Line}
 use Rattle.dash_script.specs.declared.script.Script.{Script}
-use Rattle.run_model.specs.declared.report.Report.{Report}
-use Rattle.run_model.specs.Moments.{in_lockstep}
-use Rattle.run_model.specs.Control.{befores}
-use Rattle.run_model.specs.Run.{IsRun}
 use Rattle.run_model.proofs.Examples.{entry, halted_at, handler_on, block, by, plain_script, message}
-use Rattle.run_model.proofs.RunBut.{IsRunBut}
 use Rattle.run_model.proofs.RunBut as but
-use Rattle.run_model.proofs.Table.{Row, quiet, report_of, run_but_by, computing}
+use Rattle.run_model.proofs.Table.{Row, quiet, computing}
+use Rattle.run_model.proofs.OneFault.{Faulty, faulty, Fails, each_untimely}
 
 -- thread 1 quits the side looper
 abbrev pub quits_side : Line
@@ -41,34 +37,15 @@ quit_rows when =
     ∷ quiet (quit_then_post when) 10
     ∷ []
 
-abbrev two_script : Script
-two_script = quit_script (block 5 (posts_side ∷ []) ∷ block 10 (quits_side ∷ []) ∷ [])
+-- the side looper ends too early
+abbrev early_ends : List Faulty
+early_ends =
+    -- it is driven to the end and disposed of before a thread's earlier call
+    faulty but.Blocks (quit_script (block 5 (posts_side ∷ []) ∷ block 10 (quits_side ∷ []) ∷ [])) (quit_rows 5)
+    -- a thread's call comes behind the disposal at its own time: the looper ran a round before the block was through
+    ∷ faulty but.Threads (quit_script (block 10 (quits_side ∷ posts_side ∷ []) ∷ [])) (quit_rows 10)
+    ∷ []
 
-abbrev two_report : Report
-two_report = report_of two_script (quit_rows 5)
-
--- the side looper is driven to the end and disposed of before a thread's earlier call
-pub ends_before_a_call : IsRun in_lockstep two_script two_report → ⊥
-unfolding befores clock has_disposed
-ends_before_a_call r = let on_time : false ≡ true = r.timely.histories.1.0.threads 0 (lit< tt) in cc
-
--- all else of it is right
-pub ends_before_a_call_else : IsRunBut but.Blocks two_script two_report
+pub early_ends_fail : AllByRecursion Fails early_ends
 unfolding computing
-ends_before_a_call_else = run_but_by but.Blocks two_script (quit_rows 5) refl
-
-abbrev one_script : Script
-one_script = quit_script (block 10 (quits_side ∷ posts_side ∷ []) ∷ [])
-
-abbrev one_report : Report
-one_report = report_of one_script (quit_rows 10)
-
--- a thread's call comes behind the disposal at its own time: the looper ran a round before the block was through
-pub ends_within_a_block : IsRun in_lockstep one_script one_report → ⊥
-unfolding befores clock has_disposed
-ends_within_a_block r = let on_time : false ≡ true = r.timely.histories.1.0.threads 0 (lit< tt) in cc
-
--- all else of it is right
-pub ends_within_a_block_else : IsRunBut but.Threads one_script one_report
-unfolding computing
-ends_within_a_block_else = run_but_by but.Threads one_script (quit_rows 10) refl
+early_ends_fail = each_untimely early_ends refl refl

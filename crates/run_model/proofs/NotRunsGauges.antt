@@ -1,6 +1,6 @@
 -- Reports that are no runs of their script: the frames, pulses and callbacks of a gauge, with one fault.
-use Rattle.std.proofs.Common.{◌≡◌, ℕ, zero, suc, refl, true, false, List, [], ◌∷◌, ◌++◌, Some, None, sym, ap, subst, length, arith}
-use Rattle.std.specs.Prelude.{Bool, map, count_by, drop, nat_le, slice_get}
+use Rattle.std.proofs.Common.{◌≡◌, ℕ, zero, suc, refl, true, false, List, [], ◌∷◌, ◌++◌, Some, None, sym, ap, subst, ◌∙◌, length, arith}
+use Rattle.std.specs.Prelude.{Bool, ◌&&◌, map, count_by, drop, nat_le, slice_get}
 use Rattle.std.specs.List.{AllByRecursion}
 use Rattle.std.specs.Option.{option_map_or}
 use Rattle.std.proofs.lemmas.Bool.{and_parts}
@@ -14,7 +14,6 @@ use Rattle.frame_phases.specs.declared.entry.FrameEntry.{FrameEntry}
 use Rattle.frame_phases.specs.declared.entry.FrameEntry.TheVariants as frame
 use Rattle.dash_script.specs.declared.script.Command.TheVariants as command
 use Rattle.dash_script.specs.declared.script.Script.{Script}
-use Rattle.run_model.specs.declared.report.Report.{Report}
 use Rattle.run_model.specs.Moments.{in_lockstep}
 use Rattle.run_model.specs.Loopers.{Looper, first_looper}
 use Rattle.run_model.specs.FrameAsks.{FrameAsk, as_told}
@@ -22,9 +21,10 @@ use Rattle.run_model.specs.FrameRuns.{are_run_then, are_whole, is_begin, is_fram
 use Rattle.run_model.specs.Acts.{after_act, Lead}
 use Rattle.run_model.specs.Run.{IsRun, asked_of}
 use Rattle.run_model.proofs.Examples.{entry, handler_on, block, by, plain_script, message, frame_message, callback}
-use Rattle.run_model.proofs.RunBut.{IsRunBut}
+use Rattle.run_model.proofs.RunBut.{Clause}
 use Rattle.run_model.proofs.RunBut as but
-use Rattle.run_model.proofs.Table.{led, Row, acting, report_of, run_but_by, computing}
+use Rattle.run_model.proofs.Table.{led, Row, acting, report_of, computing}
+use Rattle.run_model.proofs.OneFault.{FailsBy, fails_by}
 use Rattle.run_model.proofs.NotRuns.{dispatch, advance, look, halt}
 
 -- one looper, with this history, these acts and this frame record; the frame that begins at place 2 is run by the fourth act
@@ -102,60 +102,37 @@ gauge_frames start taken fs =
 abbrev last_phase : List FrameEntry
 last_phase = frame.Take 3 17000000 16666667 ∷ []
 
--- its report
 abbrev gauge_rows : List FrameEntry → List Row
 gauge_rows fs = frame_rows gauge_entries gauge_acts fs
 
-abbrev gauge_report : List FrameEntry → Report
-gauge_report fs = report_of (gauge_script 20) (gauge_rows fs)
+-- the frame of this record is whole, and starts and takes its phases at the times of its dispatch
+abbrev runs_whole : List FrameEntry → Bool
+runs_whole fs = are_whole 4 fs (after_frame fs 2).frames && are_run_then fs (after_frame fs 2).frames
 
-abbrev starts_late_frames : List FrameEntry
-starts_late_frames = gauge_frames 17500000 17000000 last_phase
-
--- a frame starts half a millisecond behind its dispatch
-pub starts_late : IsRun in_lockstep (gauge_script 20) (gauge_report starts_late_frames) → ⊥
-unfolding after_act
-starts_late r =
-    let now = gauge_led _ _ _ _ _ (drop 3 starts_late_frames) (refl, (refl, (refl, (refl, (refl, (refl, tt)))))) _ r.loopers.0.acts in
-    let late : false ≡ true = subst (λ (b : Looper). are_run_then starts_late_frames b.frames ≡ true) (sym now) r.loopers.0.moments in
+no_gauge_run : (start taken : ℕ) (behind : List FrameEntry) → AllByRecursion (λ e. is_begin e ≡ false) behind → runs_whole (gauge_frames start taken behind) ≡ false
+    → IsRun in_lockstep (gauge_script 20) (report_of (gauge_script 20) (gauge_rows (gauge_frames start taken behind))) → ⊥
+no_gauge_run start taken behind none fails r =
+    let fs = gauge_frames start taken behind in
+    let now = gauge_led _ _ _ _ _ (drop 3 fs) (refl, (refl, (refl, (refl, (refl, none))))) _ r.loopers.0.acts in
+    let whole : are_whole 4 fs (after_frame fs 2).frames ≡ true = subst (λ (b : Looper). are_whole 4 fs b.frames ≡ true) (sym now) r.loopers.0.whole in
+    let moments : are_run_then fs (after_frame fs 2).frames ≡ true = subst (λ (b : Looper). are_run_then fs b.frames ≡ true) (sym now) r.loopers.0.moments in
+    let runs : runs_whole fs ≡ true = rw (whole, moments) refl in
+    let wrong : false ≡ true = sym fails ∙ runs in
     cc
 
--- all else of it is right
-pub starts_late_else : IsRunBut but.Starts (gauge_script 20) (gauge_report starts_late_frames)
+-- a gauge's run, with these moments and phases of its frame
+abbrev gauge_frame_fault : Clause → ℕ → ℕ → List FrameEntry → Type 0
+gauge_frame_fault clause start taken behind = FailsBy clause (gauge_script 20) (gauge_rows (gauge_frames start taken behind))
+
+-- a frame starts half a millisecond behind its dispatch; one takes its first phase so much behind it; and the last one ends behind its third phase of four
+pub wrong_frames_fail :
+    gauge_frame_fault but.Starts 17500000 17000000 last_phase × gauge_frame_fault but.Moments 17000000 17500000 last_phase × gauge_frame_fault but.Whole 17000000 17000000 []
 unfolding computing
-starts_late_else = run_but_by but.Starts (gauge_script 20) (gauge_rows starts_late_frames) refl
-
-abbrev takes_phase_late_frames : List FrameEntry
-takes_phase_late_frames = gauge_frames 17000000 17500000 last_phase
-
--- a frame takes its first phase half a millisecond behind its dispatch
-pub takes_phase_late : IsRun in_lockstep (gauge_script 20) (gauge_report takes_phase_late_frames) → ⊥
-unfolding after_act
-takes_phase_late r =
-    let now = gauge_led _ _ _ _ _ (drop 3 takes_phase_late_frames) (refl, (refl, (refl, (refl, (refl, (refl, tt)))))) _ r.loopers.0.acts in
-    let late : false ≡ true = subst (λ (b : Looper). are_run_then takes_phase_late_frames b.frames ≡ true) (sym now) r.loopers.0.moments in
-    cc
-
--- all else of it is right
-pub takes_phase_late_else : IsRunBut but.Moments (gauge_script 20) (gauge_report takes_phase_late_frames)
-unfolding computing
-takes_phase_late_else = run_but_by but.Moments (gauge_script 20) (gauge_rows takes_phase_late_frames) refl
-
-abbrev leaves_a_phase_out_frames : List FrameEntry
-leaves_a_phase_out_frames = gauge_frames 17000000 17000000 []
-
--- the last frame ends behind its third phase of four
-pub leaves_a_phase_out : IsRun in_lockstep (gauge_script 20) (gauge_report leaves_a_phase_out_frames) → ⊥
-unfolding after_act
-leaves_a_phase_out r =
-    let now = gauge_led _ _ _ _ _ (drop 3 leaves_a_phase_out_frames) (refl, (refl, (refl, (refl, (refl, tt))))) _ r.loopers.0.acts in
-    let whole : false ≡ true = subst (λ (b : Looper). are_whole 4 leaves_a_phase_out_frames b.frames ≡ true) (sym now) r.loopers.0.whole in
-    cc
-
--- all else of it is right
-pub leaves_a_phase_out_else : IsRunBut but.Whole (gauge_script 20) (gauge_report leaves_a_phase_out_frames)
-unfolding computing
-leaves_a_phase_out_else = run_but_by but.Whole (gauge_script 20) (gauge_rows leaves_a_phase_out_frames) refl
+wrong_frames_fail = (
+  fails_by but.Starts (gauge_script 20) (gauge_rows (gauge_frames 17500000 17000000 last_phase)) (no_gauge_run 17500000 17000000 last_phase (refl, tt) refl) refl,
+  fails_by but.Moments (gauge_script 20) (gauge_rows (gauge_frames 17000000 17500000 last_phase)) (no_gauge_run 17000000 17500000 last_phase (refl, tt) refl) refl,
+  fails_by but.Whole (gauge_script 20) (gauge_rows (gauge_frames 17000000 17000000 [])) (no_gauge_run 17000000 17000000 [] tt refl) refl,
+)
 
 abbrev pulse_entries : List Entry
 pulse_entries = gauge_start ++ gauge_frame 16 16 ++ entry 2 1 (call.Halt 16) reply.Halted ∷ []
@@ -168,21 +145,13 @@ pulse_frames =
 abbrev pulse_rows : List Row
 pulse_rows = frame_rows pulse_entries (moves_gauge 16000000 16) pulse_frames
 
-abbrev pulse_report : Report
-pulse_report = report_of (gauge_script 16) pulse_rows
-
 -- a pulse comes at 16 milliseconds, where no multiple of the period is
-pub pulse_between : IsRun in_lockstep (gauge_script 16) pulse_report → ⊥
-unfolding after_act
-pulse_between r = let pulse : false ≡ true = r.loopers.0.acts.1.1.1.0.2 in cc
-
--- all else of it is right
-pub pulse_between_else : IsRunBut but.Pulses (gauge_script 16) pulse_report
+pub pulse_between : FailsBy but.Pulses (gauge_script 16) pulse_rows
 unfolding computing
-pulse_between_else = run_but_by but.Pulses (gauge_script 16) pulse_rows refl
+pulse_between = fails_by but.Pulses (gauge_script 16) pulse_rows (λ r. let pulse : false ≡ true = r.loopers.0.acts.1.1.1.0.2 in cc) refl
 
 -- how many of what is asked of the looper's choreographer pass a test
-abbrev pub asked : Script → (FrameAsk → Bool) → Looper → ℕ
+abbrev asked : Script → (FrameAsk → Bool) → Looper → ℕ
 asked s test b = count_by test (map (as_told true) (asked_of s 0 b))
 
 -- the run ends before the pulse, and of the gauge's two callbacks that of the traversal alone is posted
@@ -198,21 +167,14 @@ short_acts = dispatch 0 0 ∷ []
 abbrev short_rows : List Row
 short_rows = record (acting short_entries short_acts 0) { frames = short_frames } ∷ []
 
-abbrev short_report : Report
-short_report = report_of (gauge_script 10) short_rows
+few_asked : (b : Looper) → Lead (gauge_script 10) 0 short_entries short_frames (first_looper (gauge_script 10)) short_acts b → 1 ≡ asked (gauge_script 10) (λ x. true) b → ⊥
+unfolding after_act
+few_asked b (Some p, (comes, rest)) counts = let starts : false ≡ true = comes.starts in cc
+few_asked b (None, (comes, is)) counts =
+    let two : 1 ≡ 2 = subst (λ c. 1 ≡ asked (gauge_script 10) (λ x. true) c) (sym is) counts in
+    omega (arith, two)
 
 -- a gauge animates, and its callback is not posted
-pub posts_no_frame : IsRun in_lockstep (gauge_script 10) short_report → ⊥
-unfolding after_act
-posts_no_frame r = of_acts r.loopers.0.final r.loopers.0.acts (r.loopers.0.asked (λ x. true))
-  where
-    of_acts : (b : Looper) → Lead (gauge_script 10) 0 short_entries short_frames (first_looper (gauge_script 10)) short_acts b → 1 ≡ asked (gauge_script 10) (λ x. true) b → ⊥
-    of_acts b (Some p, (comes, rest)) counts = let starts : false ≡ true = comes.starts in cc
-    of_acts b (None, (comes, is)) counts =
-        let two : 1 ≡ 2 = subst (λ c. 1 ≡ asked (gauge_script 10) (λ x. true) c) (sym is) counts in
-        omega (arith, two)
-
--- all else of it is right
-pub posts_no_frame_else : IsRunBut but.Asked (gauge_script 10) short_report
+pub posts_no_frame : FailsBy but.Asked (gauge_script 10) short_rows
 unfolding computing
-posts_no_frame_else = run_but_by but.Asked (gauge_script 10) short_rows refl
+posts_no_frame = fails_by but.Asked (gauge_script 10) short_rows (λ r. few_asked r.loopers.0.final r.loopers.0.acts (r.loopers.0.asked (λ x. true))) refl

@@ -1,6 +1,7 @@
 -- Reports that are no runs of their script: calls that come too early, too late or in another order.
-use Rattle.std.proofs.Common.{◌≡◌, ℕ, refl, true, false, List, [], ◌∷◌, Some, None, sym, ap, subst, arith, lit<}
+use Rattle.std.proofs.Common.{◌≡◌, ℕ, refl, true, false, List, [], ◌∷◌, Some, None, sym, ap, subst, arith}
 use Rattle.std.specs.Prelude.{map}
+use Rattle.std.specs.List.{AllByRecursion}
 use Rattle.loop_model.specs.declared.call.Call.TheVariants as call
 use Rattle.loop_model.specs.declared.reply.Reply.TheVariants as reply
 use Rattle.loop_model.specs.declared.entry.Entry.{Entry}
@@ -8,16 +9,15 @@ use Rattle.loop_model.specs.declared.journal.Act.{Act}
 use Rattle.loop_model.specs.Answers.{clock, has_disposed}
 use Rattle.dash_script.specs.declared.script.Command.TheVariants as command
 use Rattle.dash_script.specs.declared.script.Script.{Script}
-use Rattle.run_model.specs.declared.report.Report.{Report}
 use Rattle.run_model.specs.Moments.{in_lockstep}
 use Rattle.run_model.specs.Control.{befores, are_on_time}
 use Rattle.run_model.specs.Loopers.{Looper, first_looper}
 use Rattle.run_model.specs.Acts.{after_act, Lead}
-use Rattle.run_model.specs.Run.{IsRun, caused_on, are_in_order}
+use Rattle.run_model.specs.Run.{IsRun, caused_on}
 use Rattle.run_model.proofs.Examples.{entry, handler_on, block, by, plain_script, message}
-use Rattle.run_model.proofs.RunBut.{IsRunBut}
 use Rattle.run_model.proofs.RunBut as but
-use Rattle.run_model.proofs.Table.{Row, acting, quiet, report_of, run_but_by, computing}
+use Rattle.run_model.proofs.Table.{Row, acting, quiet, report_of, computing}
+use Rattle.run_model.proofs.OneFault.{FailsBy, fails_by, Faulty, faulty, Fails, each_untimely}
 use Rattle.run_model.proofs.NotRuns.{dispatch, advance, look}
 use Rattle.run_model.proofs.NotRunsEnds.{quits_side, posts_side, quit_script}
 
@@ -35,32 +35,6 @@ post when = entry 0 0 (call.Post (message 0 7 when None)) (reply.Accepted 0)
 abbrev halt : ℕ → ℕ → Entry
 halt seq now = entry 2 seq (call.Halt now) reply.Halted
 
-abbrev early_rows : List Row
-early_rows = main_rows (post 10 ∷ advance 0 10 ∷ look 0 10 0 ∷ halt 1 10 ∷ []) (dispatch 0 10 ∷ [])
-
--- a thread's call comes before the time of its block
-pub calls_early : IsRun in_lockstep (post_script 0 10) (report_of (post_script 0 10) early_rows) → ⊥
-unfolding befores clock has_disposed
-calls_early r = let on_time : false ≡ true = r.timely.histories.0.threads 0 (lit< tt) in cc
-
--- all else of it is right
-pub calls_early_else : IsRunBut but.Threads (post_script 0 10) (report_of (post_script 0 10) early_rows)
-unfolding computing
-calls_early_else = run_but_by but.Threads (post_script 0 10) early_rows refl
-
-abbrev late_rows : List Row
-late_rows = main_rows (advance 0 10 ∷ advance 1 15 ∷ post 15 ∷ look 0 15 0 ∷ halt 2 15 ∷ []) (dispatch 0 15 ∷ [])
-
--- a thread's call comes behind the next move of the time
-pub calls_late : IsRun in_lockstep (post_script 5 15) (report_of (post_script 5 15) late_rows) → ⊥
-unfolding befores clock has_disposed
-calls_late r = let on_time : false ≡ true = r.timely.histories.0.threads 0 (lit< tt) in cc
-
--- all else of it is right
-pub calls_late_else : IsRunBut but.Threads (post_script 5 15) (report_of (post_script 5 15) late_rows)
-unfolding computing
-calls_late_else = run_but_by but.Threads (post_script 5 15) late_rows refl
-
 abbrev taken_rows : List Row
 taken_rows = main_rows (advance 0 10 ∷ post 15 ∷ advance 1 15 ∷ look 0 15 0 ∷ halt 2 15 ∷ []) (dispatch 0 10 ∷ [])
 
@@ -69,15 +43,12 @@ moment_first ((number, now) ∷ xs) = now
 moment_first [] = 0
 
 -- a message is dispatched at a later time than the journal tells
-pub takes_late : IsRun in_lockstep (post_script 5 15) (report_of (post_script 5 15) taken_rows) → ⊥
-takes_late r =
-    let now : 10 ≡ 15 = ap moment_first r.loopers.0.dispatches in
-    omega (arith, now)
-
--- all else of it is right
-pub takes_late_else : IsRunBut but.Takes (post_script 5 15) (report_of (post_script 5 15) taken_rows)
+pub takes_late : FailsBy but.Takes (post_script 5 15) taken_rows
 unfolding computing
-takes_late_else = run_but_by but.Takes (post_script 5 15) taken_rows refl
+takes_late = fails_by but.Takes (post_script 5 15) taken_rows no_run refl
+  where
+    no_run : IsRun in_lockstep (post_script 5 15) (report_of (post_script 5 15) taken_rows) → ⊥
+    no_run r = let now : 10 ≡ 15 = ap moment_first r.loopers.0.dispatches in omega (arith, now)
 
 -- a script whose rule sends another message, due 5 later
 abbrev rule_script : Script
@@ -90,27 +61,20 @@ reacted_entries =
 abbrev reacted_acts : List Act
 reacted_acts = dispatch 0 10 ∷ dispatch 1 15 ∷ []
 
-abbrev reacted_report : Report
-reacted_report = report_of rule_script (main_rows reacted_entries reacted_acts)
-
 -- when this looper's calls are to come, and what stood before them
 abbrev AreItsOnTime : Looper → Type 0
 AreItsOnTime b = are_on_time (map (λ x. x.timing) (caused_on 0 b 0 0)) (befores 1 reacted_entries) ≡ true
 
--- a rule's message is sent when the time was moved on
-pub reacts_late : IsRun in_lockstep rule_script reacted_report → ⊥
+late_by_acts : (b : Looper) → Lead rule_script 0 reacted_entries [] (first_looper rule_script) reacted_acts b → AreItsOnTime b → ⊥
 unfolding after_act befores clock has_disposed
-reacts_late r = of_acts r.loopers.0.final r.loopers.0.acts r.loopers.0.on_time.0
-  where
-    of_acts : (b : Looper) → Lead rule_script 0 reacted_entries [] (first_looper rule_script) reacted_acts b → AreItsOnTime b → ⊥
-    of_acts b (Some p, (comes, rest)) on_time = let starts : false ≡ true = comes.starts in cc
-    of_acts b (None, (first, (Some p, (may, is)))) on_time = let starts : false ≡ true = may.starts in cc
-    of_acts b (None, (first, (None, (may, is)))) on_time = let late : false ≡ true = subst AreItsOnTime (sym is) on_time in cc
+late_by_acts b (Some p, (comes, rest)) on_time = let starts : false ≡ true = comes.starts in cc
+late_by_acts b (None, (first, (Some p, (may, is)))) on_time = let starts : false ≡ true = may.starts in cc
+late_by_acts b (None, (first, (None, (may, is)))) on_time = let late : false ≡ true = subst AreItsOnTime (sym is) on_time in cc
 
--- all else of it is right
-pub reacts_late_else : IsRunBut but.OnTime rule_script reacted_report
+-- a rule's message is sent when the time was moved on
+pub reacts_late : FailsBy but.OnTime rule_script (main_rows reacted_entries reacted_acts)
 unfolding computing
-reacts_late_else = run_but_by but.OnTime rule_script (main_rows reacted_entries reacted_acts) refl
+reacts_late = fails_by but.OnTime rule_script (main_rows reacted_entries reacted_acts) (λ r. late_by_acts r.loopers.0.final r.loopers.0.acts r.loopers.0.on_time.0) refl
 
 -- thread 1 quits the side looper and then posts to it, and later thread 0 posts to it
 abbrev order_script : Script
@@ -126,15 +90,17 @@ order_side =
     entry 4 0 (call.Advance 5) reply.Advanced ∷ entry 1 0 (call.Quit false 5) reply.QuitDone ∷ entry 3 0 (call.Next 5) reply.Disposed
     ∷ entry 0 0 (call.Post (message 1 7 10 None)) (reply.Refused 1) ∷ entry 1 1 (call.Post (message 1 7 8 None)) (reply.Refused 1) ∷ []
 
-abbrev order_rows : List Row
-order_rows = quiet order_main 0 ∷ quiet order_side 5 ∷ []
+-- threads call at a wrong time
+abbrev wrong_calls : List Faulty
+wrong_calls =
+    -- before the time of a block
+    faulty but.Threads (post_script 0 10) (main_rows (post 10 ∷ advance 0 10 ∷ look 0 10 0 ∷ halt 1 10 ∷ []) (dispatch 0 10 ∷ []))
+    -- behind the next move of the time
+    ∷ faulty but.Threads (post_script 5 15) (main_rows (advance 0 10 ∷ advance 1 15 ∷ post 15 ∷ look 0 15 0 ∷ halt 2 15 ∷ []) (dispatch 0 15 ∷ []))
+    -- behind the disposal, and for the block at 10 before another's call for the block at 8
+    ∷ faulty but.Order order_script (quiet order_main 0 ∷ quiet order_side 5 ∷ [])
+    ∷ []
 
--- behind the disposal a thread's post of the block at 10 comes before another's of the block at 8
-pub calls_out_of_order : IsRun in_lockstep order_script (report_of order_script order_rows) → ⊥
-unfolding are_in_order
-calls_out_of_order r = let in_order : false ≡ true = r.timely.histories.1.0.in_order in cc
-
--- all else of it is right
-pub calls_out_of_order_else : IsRunBut but.Order order_script (report_of order_script order_rows)
+pub wrong_calls_fail : AllByRecursion Fails wrong_calls
 unfolding computing
-calls_out_of_order_else = run_but_by but.Order order_script order_rows refl
+wrong_calls_fail = each_untimely wrong_calls refl refl

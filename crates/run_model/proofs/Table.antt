@@ -1,6 +1,6 @@
 -- Reports as data: a report in lockstep is a run, or one but for a clause, where one equation computes.
 use Rattle.std.proofs.Common.{◌≡◌, ◌<◌, ℕ, zero, suc, Bool, true, false, List, [], ◌∷◌, ◌++◌, Option, Some, None, refl, sym, ap, ◌∙◌, inl, inr, arith}
-use Rattle.std.specs.Prelude.{◌+◌, ◌*◌, ◌/◌, ◌==◌, ◌&&◌, ◌||◌, not, is_some, map, drop, length, count_by, cond, MatchBool, if◌then◌else◌}
+use Rattle.std.specs.Prelude.{codes, ◌+◌, ◌*◌, ◌/◌, ◌==◌, ◌&&◌, ◌||◌, not, is_some, map, drop, length, count_by, cond, MatchBool, if◌then◌else◌}
 use Rattle.std.specs.Fmt.{digits}
 use Rattle.std.specs.List.{AllByRecursion, filter_map, list_all, list_any, range_with_len, enumerate_from}
 use Rattle.std.specs.Option.{option_map, option_map_or, MatchOption}
@@ -27,6 +27,7 @@ use Rattle.loop_model.specs.Dispatches.{act_dispatch, call_dispatch}
 use Rattle.frame_phases.specs.declared.entry.FrameEntry.{FrameEntry}
 use Rattle.frame_phases.specs.declared.entry.FrameRecord.{FrameRecord}
 use Rattle.frame_phases.specs.Frames.{lawful, is_pulse, all_allowed, is_allowed, owed, next_phase, last_time, in_due_order, before_later, live as live_callbacks, posted_count}
+use Rattle.dash_script.specs.declared.script.Block.{Block}
 use Rattle.dash_script.specs.declared.script.Script.{Script}
 use Rattle.dash_script.specs.Causes.{phase_count}
 use Rattle.run_model.specs.declared.report.Report.{Report}
@@ -45,7 +46,7 @@ use Rattle.run_model.specs.Run.{IsRun, IsRecordOf, IsAsPlanned, IsControlled, Is
 use Rattle.run_model.specs.Text.{text, lines}
 use Rattle.run_model.proofs.Below.{EachBelow, each_below}
 use Rattle.run_model.proofs.ByTests.{answers, replies, are_timely, are_numbered, history_by, planned_calls, made_calls, thread_lines, MakesThem, calls_by}
-use Rattle.run_model.proofs.Examples.{queue, journal, page}
+use Rattle.run_model.proofs.Examples.{queue, journal, page, handler_on, plain_script}
 use Rattle.run_model.proofs.RunBut.{Clause, Nothing, Asked, Whole, Moments, Starts, OnTime, Takes, Controls, BeforeQuit, Threads, Order, Blocks, Due, Together, number_of, Unless, with_pulses, IsLooperRunBut, IsTimelyBut, AreMovedBut, IsRunBut}
 use Rattle.run_model.proofs.RunBut as but
 
@@ -101,10 +102,10 @@ module _ {X : Type 0} where
   behind_first [] = []
   behind_first (x ∷ xs) = xs
 
-  firsts : (x y : X) (xs ys : List X) → x ∷ xs ≡ y ∷ ys → x ≡ y
+  pub firsts : (x y : X) (xs ys : List X) → x ∷ xs ≡ y ∷ ys → x ≡ y
   firsts x y xs ys e = ap (first_or x) e
 
-  others : (x y : X) (xs ys : List X) → x ∷ xs ≡ y ∷ ys → xs ≡ ys
+  pub others : (x y : X) (xs ys : List X) → x ∷ xs ≡ y ∷ ys → xs ≡ ys
   others x y xs ys e = ap behind_first e
 
   -- what passes each test
@@ -113,7 +114,7 @@ module _ {X : Type 0} where
   all_by P t sound (x ∷ xs) h = let p = and_parts (t x) (list_all t xs) h in (sound x p.0, all_by P t sound xs p.1)
 
   -- of each number below a number, the greatest first
-  abbrev down_from : ℕ → (ℕ → X) → List X
+  abbrev pub down_from : ℕ → (ℕ → X) → List X
   down_from zero f = []
   down_from (suc n) f = f n ∷ down_from n f
 
@@ -269,13 +270,13 @@ sent_by_table tokens (x ∷ xs) (e ∷ es) same =
 
 -- ---- what is asked of a choreographer
 
-abbrev same_token : Option ℕ → Option ℕ → Bool
+abbrev pub same_token : Option ℕ → Option ℕ → Bool
 same_token None None = true
 same_token None (Some n) = false
 same_token (Some n) None = false
 same_token (Some n) (Some m) = n == m
 
-abbrev same_ask : FrameAsk → FrameAsk → Bool
+abbrev pub same_ask : FrameAsk → FrameAsk → Bool
 same_ask (Posts p d i t) (Posts q e j u) = p == q && d == e && i == j && same_token t u
 same_ask (Posts p d i t) (Removes q j u) = false
 same_ask (Posts p d i t) (Runs n) = false
@@ -311,12 +312,12 @@ ask_same (Runs n) (Removes q j u) h = cc
 ask_same (Runs n) (Runs m) h = ap Runs (eqb-true n m h)
 
 -- these without the first that is equal to it, where one is
-abbrev without : FrameAsk → List FrameAsk → Option (List FrameAsk)
+abbrev pub without : FrameAsk → List FrameAsk → Option (List FrameAsk)
 without a [] = None
 without a (b ∷ bs) = if same_ask a b then Some bs else option_map (λ rest. b ∷ rest) (without a bs)
 
 -- each stands in the one list as often as in the other
-abbrev same_asks : List FrameAsk → List FrameAsk → Bool
+abbrev pub same_asks : List FrameAsk → List FrameAsk → Bool
 same_asks [] [] = true
 same_asks [] (b ∷ bs) = false
 same_asks (a ∷ xs) bs = option_map_or (same_asks xs) (without a bs) false
@@ -350,14 +351,14 @@ as_often_later : (test : FrameAsk → Bool) (a : FrameAsk) (xs bs : List FrameAs
 as_often_later test a xs bs None is each same = cc
 as_often_later test a xs bs (Some rest) is each same = counted test a xs ∙ ap (λ n. cond (test a) 1 0 + n) (each rest same) ∙ sym (taken_out test a bs rest is)
 
-as_often : (test : FrameAsk → Bool) (xs bs : List FrameAsk) → same_asks xs bs ≡ true → count_by test xs ≡ count_by test bs
+pub as_often : (test : FrameAsk → Bool) (xs bs : List FrameAsk) → same_asks xs bs ≡ true → count_by test xs ≡ count_by test bs
 as_often test [] [] h = refl
 as_often test [] (b ∷ bs) h = cc
 as_often test (a ∷ xs) bs h = as_often_later test a xs bs (without a bs) refl (λ rest same. as_often test xs rest same) h
 
 -- ---- one looper
 
-abbrev has_called_then : Script → QueueRecord → ℕ → Bool
+abbrev pub has_called_then : Script → QueueRecord → ℕ → Bool
 has_called_then s r thread = are_on_time (map (λ l. InBlock l.time) (thread_lines s r.looper thread)) (befores thread (history_of r))
 
 -- what is tested of a looper
@@ -644,6 +645,24 @@ pub record Holds (w : Worked) : Type 0 where
 
 pub holds : (w : Worked) → found Nothing w.script w.rows ≡ wanted Nothing w.script w.rows → text (report_of w.script w.rows) ≡ page w.printed → Holds w
 holds w same text_is = record { runs = run_by w.script w.rows same; prints = text_is }
+
+pub all_hold : (ws : List Worked) → map (λ w. found Nothing w.script w.rows) ws ≡ map (λ w. wanted Nothing w.script w.rows) ws
+    → map (λ w. text (report_of w.script w.rows)) ws ≡ map (λ w. page w.printed) ws → AllByRecursion Holds ws
+all_hold [] same prints = tt
+all_hold (w ∷ ws) same prints =
+    let first = firsts (found Nothing w.script w.rows) (wanted Nothing w.script w.rows) (map (λ v. found Nothing v.script v.rows) ws) (map (λ v. wanted Nothing v.script v.rows) ws) same in
+    let rest = others (found Nothing w.script w.rows) (wanted Nothing w.script w.rows) (map (λ v. found Nothing v.script v.rows) ws) (map (λ v. wanted Nothing v.script v.rows) ws) same in
+    let first_text = firsts (text (report_of w.script w.rows)) (page w.printed) (map (λ v. text (report_of v.script v.rows)) ws) (map (λ v. page v.printed) ws) prints in
+    let texts = others (text (report_of w.script w.rows)) (page w.printed) (map (λ v. text (report_of v.script v.rows)) ws) (map (λ v. page v.printed) ws) prints in
+    (holds w first first_text, all_hold ws rest texts)
+
+-- one looper that runs no frame: the blocks of the script and its end, the queue's entries, the acts, and the lines behind the looper's number
+abbrev pub one_looper : List Block → ℕ → List Entry → List Act → List (List ℕ) → Worked
+one_looper blocks end es acts printed = record {
+  script = plain_script 1 1 (handler_on 0 ∷ []) blocks end;
+  rows = acting es acts 0 ∷ [];
+  printed = codes "report 1" ∷ codes "looper 0" ∷ printed ++ codes "end" ∷ [];
+}
 
 -- all with which both equations compute
 unfoldable pub printing : Unit {0}
