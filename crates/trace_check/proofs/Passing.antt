@@ -246,6 +246,6 @@ fault_at q b made i d c xs m f e me lt base counts h =
     subst (λ y. IsFaultAfter q (take i q.entries) y f) (get_or_default xs i d c lt ∙ ap (λ x. get_or x i c) e) there
 
 pub fault_by : (q : TraceQueue) (b : Base) (made : ℕ) (e : Entry) (o : Option Fault) → listed_answer (setting q.main q.lockstep) b e.call ≡ Some e.reply → IsTimely q.lockstep b.time e.call
-    → IsSenderFault o q (listed_answer (setting q.main q.lockstep) b e.call) b.time made e → IsFaultBy o q b made e
+    → IsSenderFault o q made e → IsFaultBy o q b made e
 fault_by q b made e None reply timely h = record { reply = reply; timely = timely; numbered = h }
-fault_by q b made e (Some f) reply timely h = h
+fault_by q b made e (Some f) reply timely h = subst (λ wanted. IsFault q wanted b.time made e f) (sym reply) (h b.time timely)

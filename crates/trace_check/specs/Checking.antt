@@ -108,7 +108,7 @@ abbrev pub IsFaultBy : Option Fault → TraceQueue → Base → ℕ → Entry �
 IsFaultBy None q b made e = Follows q b made e
 IsFaultBy (Some f) q b made e = IsFault q (listed_answer (setting q.main q.lockstep) b e.call) b.time made e f
 
--- what is wrong with the sender, or its number, where anything is
-abbrev pub IsSenderFault : Option Fault → TraceQueue → Option Reply → ℕ → ℕ → Entry → Type 0
-IsSenderFault None q wanted time made e = IsNumberedSo q.senders made e
-IsSenderFault (Some f) q wanted time made e = IsFault q wanted time made e f
+-- what is wrong with the sender, or its number, where anything is, and all else is right
+abbrev pub IsSenderFault : Option Fault → TraceQueue → ℕ → Entry → Type 0
+IsSenderFault None q made e = IsNumberedSo q.senders made e
+IsSenderFault (Some f) q made e = (time : ℕ) → IsTimely q.lockstep time e.call → IsFault q (Some e.reply) time made e f

@@ -1,6 +1,5 @@
 //! Whether a queue's history is one that a queue could have.
-ghost use Rattle.std.specs.Prelude.{◌≡◌, ◌↔◌, ℕ, IsTrue, Option, Some};
-ghost use Rattle.loop_model.specs.declared.reply.Reply.{Reply as ReplyOf};
+ghost use Rattle.std.specs.Prelude.{◌≡◌, ◌↔◌, IsTrue, Some};
 ghost use Rattle.loop_model.specs.Legal.{IsMoment, IsTimely, is_control};
 ghost use Rattle.trace_check.specs.Checking.{AllFirst, AllLegal, IsCheckedFirst, IsCheckedLegal, IsExplained, IsFaultBy, IsSenderFault, base_by, checked_of};
 ghost use Rattle.trace_check.specs.Ranks.{AreIndexed};
@@ -75,8 +74,7 @@ fn is_control(call: &Call) -> bool
 
 /// What is wrong with the entry's sender, which has made so many entries, or with its number. The reply and the moment fit.
 fn sender_fault(queue: &TraceQueue, made: u64, entry: &Entry) -> Option<Fault>
-    ensures { (wanted : Option ReplyOf) (time : ℕ) → wanted ≡ Some entry.now.reply → IsTimely queue.now.lockstep time entry.now.call
-        → IsSenderFault result queue.now wanted time made entry.now }
+    ensures { IsSenderFault result queue.now made entry.now }
 {
     if entry.sender >= queue.senders {
         return Some(Fault::Sender);

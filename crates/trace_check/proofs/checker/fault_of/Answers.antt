@@ -1,7 +1,6 @@
 use Rattle.std.proofs.Common.{◌∙◌, sym, refl, subst}
 use Rattle.loop_model.specs.Legal.{IsTimely}
-use Rattle.loop_model.specs.Listed.{listed_answer}
-use Rattle.trace_check.specs.Checking.{base_by, setting}
+use Rattle.trace_check.specs.Checking.{base_by}
 use Rattle.trace_check.proofs.Passing.{fault_by}
 use Rattle.trace_check.proofs.checker.fault_of.Goals as goal
 
@@ -12,4 +11,4 @@ returns c =
     let b = base_by c.args.past.now in
     let reply = sym c.answer-wanted.ensures ∙ c.if-not-is_reply.ensures.0 refl in
     let timely = subst (λ t. IsTimely q.lockstep t e.call) c.time-time.ensures (c.if-not-is_timely.ensures.0 refl) in
-    fault_by q b c.args.made e c.sender_fault.result reply timely (c.sender_fault.ensures (listed_answer (setting q.main q.lockstep) b e.call) b.time reply timely)
+    fault_by q b c.args.made e c.sender_fault.result reply timely c.sender_fault.ensures
