@@ -17,8 +17,6 @@ mod report;
 mod scale;
 mod shape;
 mod svg;
-#[cfg(test)]
-mod tests;
 mod words;
 
 pub use group::{Group, Place, Row, Scale, groups};

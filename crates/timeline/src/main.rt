@@ -1,6 +1,9 @@
 //! The program: a report on standard input becomes a picture on standard output.
 #![tactic(auto)]
 
+#[cfg(test)]
+mod tests;
+
 use run_picture::{Form, Picture, picture_of};
 use std::io::{Read, Write};
 use std::process::ExitCode;

@@ -1,5 +1,5 @@
 //! Tables: reports with their marks, and texts that are no reports.
-use crate::{
+use run_picture::{
     Form, Kind, Mark, Moment, ParsedReport, Picture, Run, Subject, marks, parse_report, picture_of,
 };
 use std::alloc::Global;
