@@ -14,9 +14,9 @@ use Rattle.value_animator.specs.declared.row.Row.{Row}
 use Rattle.value_animator.specs.declared.draft.Stage.{Stage}
 use Rattle.value_animator.specs.declared.draft.Stage.TheVariants.{Start, Headed, Body, Ended}
 use Rattle.value_animator.specs.Plans.{IsKey, IsPlan, IsThing, AreValues}
-use Rattle.value_animator.specs.Rows.{row_text}
+use Rattle.value_animator.specs.Rows.{row_text, say}
 use Rattle.value_animator.specs.Rules.{SoFar, may_be_placed, last_place}
-use Rattle.value_animator.specs.Reading.{say, key_row, plan_row, thing_rows, rows}
+use Rattle.value_animator.specs.Reading.{key_row, plan_row, thing_rows, rows}
 use Rattle.value_animator.specs.Naming.{Begins}
 use Rattle.value_animator.proofs.Leading.{lt_test}
 use Rattle.value_animator.proofs.Holding.{rows_in, body_rows, upto, make, SoundIn, Limits, IsOpen, rising, rising_push, rising_rise, more_thing}

@@ -21,10 +21,10 @@ use Rattle.value_animator.specs.declared.row.Row.{Row}
 use Rattle.value_animator.specs.declared.draft.Stage.{Stage}
 use Rattle.value_animator.specs.declared.draft.Stage.TheVariants.{Start, Headed, Body, Ended}
 use Rattle.value_animator.specs.Plans.{IsKey, IsPlan, IsThing, AreValues, rise, rise_from}
-use Rattle.value_animator.specs.Rows.{form}
+use Rattle.value_animator.specs.Rows.{form, say}
 use Rattle.value_animator.specs.Rules.{SoFar, cause_of, with_row, is_ended_stage, last_place, may_be_placed, key_of, plan_of}
 use Rattle.value_animator.specs.Drafts.{values_of}
-use Rattle.value_animator.specs.Reading.{say, key_row, plan_row, thing_rows, rows}
+use Rattle.value_animator.specs.Reading.{key_row, plan_row, thing_rows, rows}
 use Rattle.value_animator.specs.Parsing.{goes_on, after_cause}
 use Rattle.value_animator.specs.Answering.{run}
 use Rattle.value_animator.proofs.Limits.{key_fits, countdown_fits, restart_fits, reverse_fits, period_fits, WayFits}

@@ -16,7 +16,8 @@ use Rattle.value_animator.specs.declared.row.Row.{Row}
 use Rattle.value_animator.specs.declared.draft.Stage.TheVariants.{Headed, Body, Ended}
 use Rattle.value_animator.specs.Plans.{IsKey, IsPlan, IsThing, AreValues, rise, rise_from}
 use Rattle.value_animator.specs.Rules.{SoFar, nothing, with_row, numbers_fit, last_place, may_be_placed, key_has_room}
-use Rattle.value_animator.specs.Reading.{say, key_row, thing_rows, rows, values_text}
+use Rattle.value_animator.specs.Reading.{key_row, thing_rows, rows, values_text}
+use Rattle.value_animator.specs.Rows.{say}
 use Rattle.value_animator.specs.Parsing.{read_values}
 use Rattle.value_animator.specs.Answering.{run}
 use Rattle.value_animator.proofs.Lines.{IsGood}

@@ -1,20 +1,17 @@
 -- A text that is read is the text of rows that run.
 use Rattle.std.proofs.Common.{◌≡◌, ◌+◌, ℕ, true, false, Bool, List, [], ◌∷◌, ◌++◌, length, Option, Some, None, Ok, refl, sym, ap, subst, ◌∙◌, append_assoc, cond, ◌==◌}
 use Rattle.std.specs.List.{flat_map, join_with_byte}
-use Rattle.std.specs.Option.{option_map, option_or}
 use Rattle.std.proofs.lemmas.Bool.{eqb-true}
 use Rattle.std.proofs.lemmas.List.{nil_from_length}
-use Rattle.std.proofs.lemmas.Option.{same_Some, none-some}
 use Rattle.dash_script.specs.declared.refusal.Cause.{Cause}
 use Rattle.dash_script.specs.declared.refusal.Cause.TheVariants as cause
 use Rattle.line_words.specs.Words.{words}
-use Rattle.dash_script.specs.Statement.{numbers_of}
 use Rattle.dash_script.specs.Writing.{hole_count}
 use Rattle.dash_script.proofs.Lines.{numbers_counted}
 use Rattle.value_animator.specs.declared.plan.Values.{Values}
-use Rattle.value_animator.specs.declared.row.RowKind.{RowKind}
 use Rattle.value_animator.specs.declared.row.Row.{Row}
-use Rattle.value_animator.specs.Rows.{form, all_kinds, row_among, row_of, row_text}
+use Rattle.value_animator.specs.Rows.{form, all_kinds, say, row_among, row_of, row_text}
+use Rattle.dash_script.proofs.Forms.{among_said}
 use Rattle.value_animator.specs.Rules.{SoFar, cause_of, with_row, is_ended_stage}
 use Rattle.value_animator.specs.Drafts.{values_of}
 use Rattle.value_animator.specs.Parsing.{next_line, goes_on, after_cause, after_row, values_from}
@@ -24,17 +21,10 @@ use Rattle.value_animator.proofs.Lines.{failed}
 
 -- ---- a row has a number for each hole of its form
 
-first_counted : (k : RowKind) (others : Option Row) (r : Row) (o : Option (List ℕ)) → ((ns : List ℕ) → o ≡ Some ns → hole_count (form k) ≡ length ns) → (others ≡ Some r → hole_count (form r.kind) ≡ length r.numbers)
-    → option_or (option_map (λ ns. record { kind = k; numbers = ns }) o) others ≡ Some r → hole_count (form r.kind) ≡ length r.numbers
-first_counted k others r None here there e = there e
-first_counted k others r (Some ns) here there e =
-    let made : Row = record { kind = k; numbers = ns } in
-    subst (λ (x : Row). hole_count (form x.kind) ≡ length x.numbers) (same_Some made r e) (here ns refl)
-
-pub among_counted : (ks : List RowKind) (ws : List (List ℕ)) (r : Row) → row_among ks ws ≡ Some r → hole_count (form r.kind) ≡ length r.numbers
-unfolding row_among
-among_counted [] ws r e = absurd (none-some r e)
-among_counted (k ∷ ks) ws r e = first_counted k (row_among ks ws) r (numbers_of (form k) ws) (λ ns h. numbers_counted (form k) ws ns h) (λ h. among_counted ks ws r h) e
+pub among_counted : (ws : List (List ℕ)) (r : Row) → row_among all_kinds ws ≡ Some r → hole_count (form r.kind) ≡ length r.numbers
+among_counted ws r e =
+    let p = among_said form say all_kinds ws r e in
+    subst (λ (x : Row). hole_count (form x.kind) ≡ length x.numbers) p.2 (numbers_counted (form p.0) ws p.1 p.3)
 
 -- each row is counted
 abbrev pub AllCounted : List Row → Type 0
@@ -72,7 +62,7 @@ row_ran k d v line piece more r None some good later h =
       rows = r ∷ rest.rows;
       text = sym (append_assoc line (10 ∷ []) (join_with_byte 10 (piece ∷ more))) ∙ (ap (λ l. l ++ join_with_byte 10 (piece ∷ more)) (row_taken line r some) ∙ ap (λ l. row_text r ++ l) rest.text);
       runs = rw good rest.runs;
-      counted = (among_counted all_kinds (words line) r some, rest.counted);
+      counted = (among_counted (words line) r some, rest.counted);
     }
 
 line_ran : (k : ℕ) (d : SoFar) (v : Values) (line piece : List ℕ) (more : List (List ℕ)) (o : Option Row) → row_of line ≡ o

@@ -10,7 +10,7 @@ use Rattle.dash_script.specs.declared.refusal.Cause.{Cause}
 use Rattle.dash_script.specs.declared.refusal.Cause.TheVariants as cause
 use Rattle.value_animator.specs.declared.refusal.ParsedValues.TheVariants as parsed
 use Rattle.value_animator.specs.declared.row.Row.{Row}
-use Rattle.value_animator.specs.Rows.{all_kinds, row_of, row_text}
+use Rattle.value_animator.specs.Rows.{row_of, row_text}
 use Rattle.value_animator.specs.Rules.{SoFar, nothing, cause_of, with_row, is_ended_stage}
 use Rattle.value_animator.specs.Drafts.{values_of}
 use Rattle.value_animator.specs.Parsing.{next_line, goes_on, after_cause, after_row, values_from, read_values}
@@ -91,7 +91,7 @@ holds_row done d m p r (Some c) h read is e = absurd cc
 holds_row done d m p r None h read good e =
     let made : SoFar = with_row d r.kind r.numbers in
     let same : made ≡ m = cc in
-    let one = step d.stage d.open_plan r.kind d.period d.things r.numbers (among_counted all_kinds (words p) r read) (good_is d r good) h.sound in
+    let one = step d.stage d.open_plan r.kind d.period d.things r.numbers (among_counted (words p) r read) (good_is d r good) h.sound in
     let here : Holds (done ++ p ∷ []) made = record {
       sound = one.sound;
       text = flat_map-append (λ p. p ++ 10 ∷ []) done (p ∷ []) ∙ ap (λ l. fed done ++ l) (append-nil (p ++ 10 ∷ []) ∙ row_taken p r read)

@@ -9,18 +9,13 @@ use Rattle.value_animator.specs.declared.plan.Plan.{Plan}
 use Rattle.value_animator.specs.declared.plan.Thing.{Thing}
 use Rattle.value_animator.specs.declared.plan.Thing.TheVariants as thing_of
 use Rattle.value_animator.specs.declared.plan.Values.{Values}
-use Rattle.value_animator.specs.declared.row.RowKind.{RowKind}
 use Rattle.value_animator.specs.declared.row.RowKind.TheVariants as kind
 use Rattle.value_animator.specs.declared.row.Row.{Row}
 use Rattle.value_animator.specs.Plans.{AreValues}
-use Rattle.value_animator.specs.Rows.{row_of, row_text}
+use Rattle.value_animator.specs.Rows.{row_of, row_text, say}
 use Rattle.value_animator.specs.Rules.{SoFar, nothing, cause_of, with_row, is_ended_stage}
 
 -- ---- the text of values
-
--- a line of this kind with these numbers
-abbrev pub say : RowKind → List ℕ → Row
-say k ns = record { kind = k; numbers = ns }
 
 -- the line of a key
 abbrev pub key_row : Key → Row

@@ -1,13 +1,12 @@
 -- The lines of a plan of values.
-use Rattle.std.specs.Prelude.{ℕ, List, [], ◌∷◌, ◌++◌, Option, None}
+use Rattle.std.specs.Prelude.{ℕ, List, [], ◌∷◌, ◌++◌, Option}
 use Rattle.std.specs.List.{join_with_byte}
-use Rattle.std.specs.Option.{option_map, option_or}
 use Rattle.dash_script.specs.declared.form.Keyword.TheVariants as word
 use Rattle.dash_script.specs.declared.form.Role.TheVariants as role
 use Rattle.dash_script.specs.declared.form.Slot.{Slot}
 use Rattle.dash_script.specs.declared.form.Slot.TheVariants.{Word, Number}
 use Rattle.line_words.specs.Words.{words}
-use Rattle.dash_script.specs.Statement.{filled, numbers_of}
+use Rattle.dash_script.specs.Statement.{filled, said_among}
 use Rattle.value_animator.specs.declared.row.RowKind.{RowKind}
 use Rattle.value_animator.specs.declared.row.RowKind.TheVariants as kind
 use Rattle.value_animator.specs.declared.row.Row.{Row}
@@ -34,10 +33,13 @@ form kind.End = Word word.End ∷ []
 abbrev pub all_kinds : List RowKind
 all_kinds = kind.Head ∷ kind.Period ∷ kind.Countdown ∷ kind.Restart ∷ kind.Reverse ∷ kind.Key ∷ kind.End ∷ []
 
+-- a line of this kind with these numbers
+abbrev pub say : RowKind → List ℕ → Row
+say k ns = record { kind = k; numbers = ns }
+
 -- what a line of one of the kinds says
-unfoldable pub row_among : List RowKind → List (List ℕ) → Option Row
-row_among [] ws = None
-row_among (k ∷ ks) ws = option_or (option_map (λ ns. record { kind = k; numbers = ns }) (numbers_of (form k) ws)) (row_among ks ws)
+abbrev pub row_among : List RowKind → List (List ℕ) → Option Row
+row_among ks ws = said_among form say ks ws
 
 -- what a line says, where it has the form of some kind
 abbrev pub row_of : List ℕ → Option Row

@@ -1,5 +1,6 @@
 -- The state of what runs, by the times that it was given.
-use Rattle.std.specs.Prelude.{ℕ, Bool, true, false, List, if◌then◌else◌}
+use Rattle.std.specs.Prelude.{◌≡◌, ℕ, Bool, true, false, List, [], ◌∷◌, ◌++◌, map, if◌then◌else◌}
+use Rattle.std.specs.List.{flat_map, enumerate_from}
 use Rattle.countdown.specs.Moments.{has_ended}
 use Rattle.countdown.specs.Given.{span_of}
 use Rattle.value_animator.specs.declared.plan.Thing.{Thing}
@@ -7,6 +8,7 @@ use Rattle.value_animator.specs.declared.plan.Thing.TheVariants as thing_of
 use Rattle.value_animator.specs.declared.runner.Runner.{Runner}
 use Rattle.value_animator.specs.declared.runner.Runner.TheVariants as runner
 use Rattle.value_animator.specs.Valuing.{end_of}
+use Rattle.value_animator.specs.Running.{line_text, thing_lines}
 
 -- a thing that was given these times
 abbrev pub runner_at : Thing → List ℕ → Runner
@@ -20,3 +22,14 @@ runner_at (thing_of.Countdown total interval) times =
 abbrev pub is_ended : Runner → Bool
 is_ended runner.Ended = true
 is_ended _ = false
+
+-- whichever things these are, and whichever times they were given, they are given this one more
+abbrev pub AreAsked : List Runner → ℕ → List Runner → Type 0
+AreAsked before time after =
+    (list : List Thing) (times : List ℕ) → before ≡ map (λ t. runner_at t times) list → after ≡ map (λ t. runner_at t (times ++ time ∷ [])) list
+
+-- whichever things these are, and whichever times they were given, what they tell at this one is written behind what was written
+abbrev pub HaveTold : List Runner → ℕ → List ℕ → List ℕ → Type 0
+HaveTold before time written now =
+    (list : List Thing) (times : List ℕ) → before ≡ map (λ t. runner_at t times) list
+    → now ≡ written ++ flat_map line_text (flat_map (thing_lines times time) (enumerate_from 0 list))

@@ -1,13 +1,11 @@
 //! The frames of a choreographer of its own, in which all things are asked.
-ghost use Rattle.std.specs.Prelude.{◌≡◌, ◌++◌, ◌∷◌, [], ◌<◌, List, ℕ, OnOk, IfOk, Some, map, string_bytes};
-ghost use Rattle.std.specs.List.{flat_map, enumerate_from, list_all};
+ghost use Rattle.std.specs.Prelude.{◌≡◌, ◌<◌, OnOk, IfOk, Some, string_bytes};
+ghost use Rattle.std.specs.List.{list_all};
 ghost use Rattle.frame_phases.specs.Frames.{next_phase};
 ghost use Rattle.frame_phases.specs.State.{past};
 ghost use Rattle.value_animator.specs.Framing.{after_frame, begun, CanBegin, IsReady, posted_again, taken_at};
-ghost use Rattle.value_animator.specs.Runners.{is_ended, runner_at};
-ghost use Rattle.value_animator.specs.Running.{line_text, thing_lines};
+ghost use Rattle.value_animator.specs.Runners.{is_ended, AreAsked, HaveTold};
 
-use crate::plan::Thing;
 use crate::runner::{Runner, ask_all, have_ended};
 use frame_phases::{Beginning, FrameState, Took};
 use loop_model::NoMemory;
@@ -72,10 +70,8 @@ pub(crate) fn run_frame(
     pulse: u64,
 ) -> Result<bool, NoMemory>
     requires { IsReady frames.old pulse }
-    ensures told { OnOk result ((list : List Thing) (times : List ℕ) → things.old ≡ map (λ t. runner_at t times) list
-        → string_bytes out.new ≡ string_bytes out.old ++ flat_map line_text (flat_map (thing_lines times pulse) (enumerate_from 0 list))) }
-    ensures asked { OnOk result ((list : List Thing) (times : List ℕ) → things.old ≡ map (λ t. runner_at t times) list
-        → things.new ≡ map (λ t. runner_at t (times ++ pulse ∷ [])) list) }
+    ensures told { OnOk result (HaveTold things.old pulse (string_bytes out.old) (string_bytes out.new)) }
+    ensures asked { OnOk result (AreAsked things.old pulse things.new) }
     ensures ended { IfOk result (λ ended. ended ≡ list_all is_ended things.new) }
     ensures frames { IfOk result (λ ended. frames.new ≡ after_frame frames.old pulse ended) }
 {

@@ -1,9 +1,9 @@
 //! What runs over frames, and what it tells.
 ghost use Rattle.std.specs.Prelude.{◌≡◌, ◌++◌, ◌∷◌, [], List, ℕ, OnOk, IfOk, All, map, string_bytes};
-ghost use Rattle.std.specs.List.{flat_map, enumerate_from, list_all};
+ghost use Rattle.std.specs.List.{flat_map, list_all};
 ghost use Rattle.value_animator.specs.Plans.{IsThing};
-ghost use Rattle.value_animator.specs.Runners.{is_ended, runner_at};
-ghost use Rattle.value_animator.specs.Running.{line_text, telling_lines, thing_lines, told};
+ghost use Rattle.value_animator.specs.Runners.{is_ended, runner_at, AreAsked, HaveTold};
+ghost use Rattle.value_animator.specs.Running.{line_text, telling_lines, told};
 
 use crate::animator::{Animator, Valued};
 use crate::plan::{Plan, Thing};
@@ -134,10 +134,8 @@ fn write_telling(
 
 /// Asks all things at a frame of this time, and writes their lines by rising number.
 pub(crate) fn ask_all(out: &mut String, things: &mut [Runner], time: u64) -> Result<(), NoMemory>
-    ensures told { OnOk result ((list : List Thing) (times : List ℕ) → things.old ≡ map (λ t. runner_at t times) list
-        → string_bytes out.new ≡ string_bytes out.old ++ flat_map line_text (flat_map (thing_lines times time) (enumerate_from 0 list))) }
-    ensures after { OnOk result ((list : List Thing) (times : List ℕ) → things.old ≡ map (λ t. runner_at t times) list
-        → things.new ≡ map (λ t. runner_at t (times ++ time ∷ [])) list) }
+    ensures told { OnOk result (HaveTold things.old time (string_bytes out.old) (string_bytes out.new)) }
+    ensures after { OnOk result (AreAsked things.old time things.new) }
 {
     for place in 0..things.len() {
         let telling = things[place].ask(time);
