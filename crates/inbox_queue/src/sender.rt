@@ -57,7 +57,8 @@ impl InboxSender {
     /// this sender's count is at its type's end: then nothing is put (this project's profile).
     pub fn put<R: Wait>(&mut self, rt: &R, inbox: &Inbox, post: Post) -> Put
         requires { self.old.inbox ≡ inbox.now }
-        ensures { MatchPut result (λ index. (index ≡ length self.old.put) × (self.new ≡ with_post self.old post)) (λ back. (back ≡ post) × (self.new ≡ self.old)) }
+        ensures { MatchPut result (λ index. (index ≡ length self.old.put) × (self.new ≡ with_post self.old post))
+            (λ back. (back ≡ post) × (self.new ≡ self.old)) }
     {
         if self.count == u64::MAX {
             return Put::NoMemory(post);

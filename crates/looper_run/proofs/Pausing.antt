@@ -18,8 +18,8 @@ use Rattle.looper_run.specs.declared.by_clock.Pause.TheVariants as pause
 use Rattle.looper_run.specs.Holding.{Sender, Holding, Looping, IsAt}
 use Rattle.looper_run.specs.Asked.{Asked, Listening, Listen, TellsOf, any_heard, with_asked, asked_by_round}
 use Rattle.looper_run.specs.Tests.{Test, Passes}
-use Rattle.looper_run.specs.Looks.{looked_by, by_poster, HasAnswer, HasEnded, IsBegun}
-use Rattle.looper_run.specs.Loops.{IsStill, WorksOn, HasWaitedLong, HasStepped, HasPaused, Stepped, GoesOn, IsClosed, StepsBy, IsLoop, LastWait, LoopBy, Pauses, loop_of, pace_of, HasPaced, UnlessHalted}
+use Rattle.looper_run.specs.Looks.{looked_by, by_poster, HasAnswer, HasEnded, IsBegun, WaitsAsTold}
+use Rattle.looper_run.specs.Loops.{IsStill, WorksOn, HasWaitedLong, HasStepped, HasPaused, Stepped, GoesOn, IsClosed, StepsBy, IsLoop, LastWait, LoopBy, Pauses, loop_of, pace_of, HasPaced, UnlessHalted, IsNoWait}
 use Rattle.looper_run.specs.Round.{UnlessStopped}
 use Rattle.looper_run.proofs.Asking.{tells_as, with_more}
 use Rattle.looper_run.proofs.Quiet.{quiet_events}
@@ -176,13 +176,13 @@ pub steps_pause : (called : List Listening → Type 0) (shows : ℕ → Bool) (s
 steps_pause called shows start cap n a l b c (pause.Cap now) st h k = (n, l, b, st, h, k)
 steps_pause called shows start cap n a l b c pause.Nudged st h k = (n, l, b, st, h, k)
 
--- what a step comes to
-pub paces : (shows : ℕ → Bool) (start : ℕ) (cap : Option ℕ) (a b : Looping) (r : Step) → HasStepped shows start a b r → HasPaced shows start cap a b (pace_of r)
-paces shows start cap a b step.Dispatched h = (step.Dispatched, tt, h)
-paces shows start cap a b step.Idled h = (step.Idled, tt, h)
-paces shows start cap a b (step.Waits until) h = (step.Waits until, tt, h)
-paces shows start cap a b step.Ends h = h
-paces shows start cap a b step.NoMemory h = h
+-- what a step comes to, where its look was not answered to wait
+pub paces : (shows : ℕ → Bool) (start : ℕ) (cap : Option ℕ) (a b : Looping) (answer : Nexted Claimed TableId) (r : Step) → IsNoWait answer → WaitsAsTold answer r → HasStepped shows start a b r → HasPaced shows start cap a b (pace_of r)
+paces shows start cap a b answer step.Dispatched found told h = (step.Dispatched, tt, h)
+paces shows start cap a b answer step.Idled found told h = (step.Idled, tt, h)
+paces shows start cap a b answer (step.Waits until) found told h = absurd (subst IsNoWait told found)
+paces shows start cap a b answer step.Ends found told h = h
+paces shows start cap a b answer step.NoMemory found told h = h
 
 pub unless_paced : (P : Type 0) (r : Step) → UnlessStopped r P → UnlessHalted (pace_of r) P
 unless_paced P step.Dispatched h = h

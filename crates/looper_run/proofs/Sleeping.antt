@@ -1,26 +1,24 @@
 -- A looper that sleeps by a clock, and the steps of its loop as parts of it.
 use Rattle.std.proofs.Common.{◌≡◌, ℕ, zero, suc, ◌≤◌, Bool, List, [], ◌∷◌, ◌++◌, Option, refl, sym, ap, ◌∙◌, subst, arith, append_assoc}
 use Rattle.std.proofs.lemmas.List.{append-nil}
-use Rattle.std.proofs.lemmas.List.Elements.{filter_map-append}
 use Rattle.atomic_table.specs.Seated.{TableId}
 use Rattle.loop_io.specs.Moments.{IsMoment}
 use Rattle.loop_model.specs.declared.call.Call.{Call}
 use Rattle.loop_model.specs.declared.call.Call.TheVariants.{Post, Barrier, Unbarrier, Remove, Quit, Next, Advance, Halt}
 use Rattle.loop_model.specs.declared.entry.Entry.{Entry}
 use Rattle.loop_model.specs.Answers.{Setting}
-use Rattle.loop_model.specs.Dispatches.{act_dispatch, dispatches}
 use Rattle.queue_state.specs.declared.answers.Nexted.TheVariants as nexted
 use Rattle.shared_queue.specs.Known.{Shared, IsOf}
 use Rattle.shared_queue.specs.Waiting.{HasListened, HasLooked, HasSlept, Slept}
 use Rattle.looper_run.specs.declared.step.Step.{Step}
 use Rattle.looper_run.specs.declared.step.Step.TheVariants as step
 use Rattle.looper_run.specs.Holding.{Sender, Holding, Looping}
-use Rattle.looper_run.specs.Acts.{entry_dispatch, taken_by, moment_on, IsLookAt, AreLooksAt}
+use Rattle.looper_run.specs.Acts.{moment_on, IsLookAt, AreLooksAt}
 use Rattle.looper_run.specs.Tests.{Test, Passes, IsSameLooper}
 use Rattle.looper_run.specs.Looks.{looked_by, by_poster, HasWaited}
 use Rattle.looper_run.specs.Round.{Works}
 use Rattle.looper_run.specs.Loops.{IsStill, IsLookBy, AreLooksBy, WorksOn, HasWaitedLong, HasStepped, GoesOn}
-use Rattle.looper_run.proofs.Working.{behind}
+use Rattle.looper_run.proofs.Working.{behind, told_then}
 use Rattle.looper_run.proofs.Steps.{KeepsOthers, KeepsQuiet}
 use Rattle.looper_run.proofs.Looking.{works_dispatching, works_idling, works_waiting, passes_wait}
 
@@ -83,18 +81,13 @@ module _ (shows : ℕ → Bool) (start : ℕ) (s : Setting) where
 
   pub works_on_then : (a b c : Holding) → WorksOn shows start s a b → WorksOn shows start s b c → WorksOn shows start s a c
   works_on_then a b c p q =
-      let told : dispatches (p.did ++ q.did) ≡ taken_by a.poster.sender (p.more ++ q.more) =
-      filter_map-append act_dispatch p.did q.did
-      ∙ (ap (λ (l : List (ℕ × ℕ)). l ++ dispatches q.did) p.told
-      ∙ (ap (λ (l : List (ℕ × ℕ)). taken_by a.poster.sender p.more ++ l) (q.told ∙ ap (λ (k : ℕ). taken_by k q.more) p.still.sender)
-      ∙ sym (filter_map-append (entry_dispatch a.poster.sender) p.more q.more))) in
       record {
         still = still_then a b c p.still q.still;
         more = p.more ++ q.more;
         did = p.did ++ q.did;
         seen = behind a.poster.view.seen b.poster.view.seen c.poster.view.seen p.more q.more p.seen q.seen;
         acts = behind a.journal.acts b.journal.acts c.journal.acts p.did q.did p.acts q.acts;
-        told = told;
+        told = told_then a.poster.sender b.poster.sender p.did q.did p.more q.more p.still.sender p.told q.told;
         looks = looks_by_append a.poster.sender a.poster.view.seen p.more q.more p.looks
             (subst (λ (l : List Entry). AreLooksBy shows start s a.poster.sender l q.more) p.seen (subst (λ (k : ℕ). AreLooksBy shows start s k b.poster.view.seen q.more) p.still.sender q.looks));
       }
@@ -155,9 +148,7 @@ module _ (shows : ℕ → Bool) (start : ℕ) (q : Shared TableId) where
   goes_step a b step.Idled of on h =
       let slept = waits_long a h.0 of h.1 in
       goes_then a.held h.0.held b.held slept (goes_by h.2 0 h.0.held b.held h.3 (works_idling q h.2 h.0 b (of_still q a.held h.0.held slept.works.still of) h.4))
-  goes_step a b (step.Waits until) of on h =
-      let slept = waits_long a h.0 of h.1 in
-      goes_then a.held h.0.held b.held slept (goes_by h.2 0 h.0.held b.held h.3 (works_waiting q h.2 h.0 b (of_still q a.held h.0.held slept.works.still of) until h.4))
+  goes_step a b (step.Waits until) of on h = absurd on
   goes_step a b step.Ends of on h = absurd on
   goes_step a b step.NoMemory of on h = absurd on
 

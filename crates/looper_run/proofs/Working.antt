@@ -129,24 +129,27 @@ pub takes_none : (sender : ℕ) (more : List Entry) → All (IsNoLookOf sender) 
 takes_none sender [] none = refl
 takes_none sender (e ∷ more) none = let parts = first_all (IsNoLookOf sender) e more none in rw (no_take sender e parts.0) (takes_none sender more parts.1)
 
+-- what two parts told and took, one behind the other
+pub told_then : (sender sender' : ℕ) (did did' : List Act) (more more' : List Entry) → sender' ≡ sender → dispatches did ≡ taken_by sender more → dispatches did' ≡ taken_by sender' more' → dispatches (did ++ did') ≡ taken_by sender (more ++ more')
+told_then sender sender' did did' more more' same first second =
+    filter_map-append act_dispatch did did'
+    ∙ (ap (λ (l : List (ℕ × ℕ)). l ++ dispatches did') first
+    ∙ (ap (λ (l : List (ℕ × ℕ)). taken_by sender more ++ l) (second ∙ ap (λ (k : ℕ). taken_by k more') same)
+    ∙ sym (filter_map-append (entry_dispatch sender) more more')))
+
 module _ (s : Setting) (now : ℕ) where
   pub works_none : (h : Holding) → Works s now h h 0
   works_none h = record { same = same_self h; more = []; did = []; seen = sym (append-nil h.poster.view.seen); acts = sym (append-nil h.journal.acts); told = refl; count_is = refl; looks = tt }
 
   pub works_then : (a b c : Holding) (m n : ℕ) → Works s now a b m → Works s now b c n → Works s now a c (m + n)
   works_then a b c m n p q =
-      let told : dispatches (p.did ++ q.did) ≡ taken_by a.poster.sender (p.more ++ q.more) =
-      filter_map-append act_dispatch p.did q.did
-      ∙ (ap (λ (l : List (ℕ × ℕ)). l ++ dispatches q.did) p.told
-      ∙ (ap (λ (l : List (ℕ × ℕ)). taken_by a.poster.sender p.more ++ l) (q.told ∙ ap (λ (k : ℕ). taken_by k q.more) p.same.sender)
-      ∙ sym (filter_map-append (entry_dispatch a.poster.sender) p.more q.more))) in
       record {
         same = same_then a b c p.same q.same;
         more = p.more ++ q.more;
         did = p.did ++ q.did;
         seen = behind a.poster.view.seen b.poster.view.seen c.poster.view.seen p.more q.more p.seen q.seen;
         acts = behind a.journal.acts b.journal.acts c.journal.acts p.did q.did p.acts q.acts;
-        told = told;
+        told = told_then a.poster.sender b.poster.sender p.did q.did p.more q.more p.same.sender p.told q.told;
         count_is = ap length (filter_map-append act_dispatch p.did q.did) ∙ (length-append (dispatches p.did) (dispatches q.did) ∙ (λ i. p.count_is i + q.count_is i));
         looks = looks_append s a.poster.sender now a.poster.view.seen p.more q.more p.looks
             (subst (λ (l : List Entry). AreLooksAt s a.poster.sender now l q.more) p.seen (subst (λ (k : ℕ). AreLooksAt s k now b.poster.view.seen q.more) p.same.sender q.looks));

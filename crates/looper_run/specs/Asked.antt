@@ -26,6 +26,10 @@ with_asked (Some told) more = Some (told ++ more)
 abbrev pub asked_by_round : ℕ → List Listening → List Asked
 asked_by_round now heard = Pulse now ∷ map Listen heard
 
+-- a list that is told grew by what a loop asks: a pulse at this moment, these listenings, and more of them at its end
+abbrev pub AsksByLoop : Option (List Asked) → Option (List Asked) → ℕ → List Listening → List Listening → Type 0
+AsksByLoop before after now heard more = after ≡ with_asked before (asked_by_round now heard ++ map Listen more)
+
 -- a mask that a listener may answer
 abbrev pub IsMask : Listening → Type 0
 IsMask h = h.mask ≤ 7

@@ -88,6 +88,14 @@ StepBy now before after (step.Waits until) = HasWaited now before after until
 StepBy now before after step.Ends = HasEnded now before after
 StepBy now before after step.NoMemory = GivesUp now before after
 
+-- a step waits only where its look was answered so
+abbrev pub WaitsAsTold : Nexted Claimed TableId → Step → Type 0
+WaitsAsTold answer step.Dispatched = Unit {0}
+WaitsAsTold answer step.Idled = Unit {0}
+WaitsAsTold answer (step.Waits until) = answer ≡ nexted.Wait until
+WaitsAsTold answer step.Ends = Unit {0}
+WaitsAsTold answer step.NoMemory = Unit {0}
+
 -- looks one after another, of which each dispatched a message or, where it is false, used the idle turn; the last stands first
 abbrev pub Looked : ℕ → List Bool → Looping → Looping → Type 0
 Looked now [] before after = after ≡ before

@@ -71,11 +71,11 @@ HasPaused shows start cap before after (pause.Cap now) =
 HasPaused shows start cap before after pause.Nudged =
     (slept : Looping) × HasWaitedLong shows start before slept × (p : Sender) × HasNudged shows start before.idle_owed slept.held.poster p × (after ≡ by_poster slept p)
 
--- after this step the looper looks again
+-- after this step of a looper that waits by a clock it looks again; its last look is never answered to wait
 abbrev pub GoesOn : Step → Type 0
 GoesOn step.Dispatched = Unit {0}
 GoesOn step.Idled = Unit {0}
-GoesOn (step.Waits until) = Unit {0}
+GoesOn (step.Waits until) = ⊥
 GoesOn step.Ends = ⊥
 GoesOn step.NoMemory = ⊥
 
@@ -169,6 +169,14 @@ UnlessLost loop.NoMemory P = Unit {0}
 -- an answer of a wait that is one of a look, as the look's
 abbrev pub Answers : Waited Claimed TableId → Nexted Claimed TableId → Type 0
 Answers waiting answer = (shows : ℕ → Bool) (start : ℕ) (idle : Bool) (cap : Option ℕ) (p q : Sender) → EndsBy shows start idle cap p q waiting → (now : ℕ) × HasLooked shows start idle now answer p q
+
+-- an answer that is none of waiting
+abbrev pub IsNoWait : Nexted Claimed TableId → Type 0
+IsNoWait (nexted.Taken number at node) = Unit {0}
+IsNoWait nexted.Idle = Unit {0}
+IsNoWait (nexted.Wait until) = ⊥
+IsNoWait (nexted.End left) = Unit {0}
+IsNoWait nexted.Over = Unit {0}
 
 -- any other as a pause
 abbrev pub Pauses : Waited Claimed TableId → Pause → Type 0

@@ -78,6 +78,10 @@ pub record IsUntouched (before after : Holding) : Type 0 where
   pub turns : after.poster.view.turns ≡ before.poster.view.turns
   pub acts : after.journal.acts ≡ before.journal.acts
 
+-- nothing was touched, and the message that was taken is still to be handled
+abbrev pub LeavesTaken : Test → Holding → Holding → Node → ℕ → Type 0
+LeavesTaken M before after m now = IsUntouched before after × HasTaken M after m now
+
 -- the first where the message was intercepted, and the second where it is to be handled
 abbrev pub Intercepts : Did → Type 0 → Type 0 → Type 0
 Intercepts Yes P Q = P

@@ -1,11 +1,11 @@
 //! A looper that waits by a clock.
-ghost use Rattle.std.specs.Prelude.{◌≡◌, ℕ, ◌++◌, false, map, List, None, OnOk, IfOk, IfErr};
+ghost use Rattle.std.specs.Prelude.{◌≡◌, ℕ, false, map, None, OnOk, IfOk, IfErr};
 ghost use Rattle.atomic_table.specs.Seated.{TableId};
 ghost use Rattle.looper_run.specs.Holding.{Workplace, workplace, IsAt};
-ghost use Rattle.looper_run.specs.Asked.{Listening, Listen, with_asked, asked_by_round};
+ghost use Rattle.looper_run.specs.Asked.{Listen, with_asked, asked_by_round, AsksByLoop};
 ghost use Rattle.looper_run.specs.Tests.{Passes, Rings};
 ghost use Rattle.looper_run.specs.Looks.{IsAnswerOf};
-ghost use Rattle.looper_run.specs.Loops.{IsStill, HasPaced, pace_of, UnlessHalted, IsClosed, StepsBy, IsLoop, LoopBy, is_over, UnlessLost, Answers, Pauses, loop_of};
+ghost use Rattle.looper_run.specs.Loops.{IsStill, HasPaced, pace_of, UnlessHalted, IsClosed, StepsBy, IsLoop, LoopBy, is_over, UnlessLost, Answers, IsNoWait, Pauses, loop_of};
 ghost use Rattle.shared_queue.specs.Waiting.{WaitsAtHome};
 
 use crate::dispatcher::Dispatcher;
@@ -89,6 +89,7 @@ impl Pause {
 // What a wait was answered: the answer of a look, or a pause.
 fn answer_of(waited: Waited<PoolClaim>) -> Result<Nexted<PoolClaim>, Pause>
     ensures answer { IfOk result (Answers waited) }
+    ensures found { IfOk result IsNoWait }
     ensures pause { IfErr result (Pauses waited) }
     ensures home { (pool : TableId) → WaitsAtHome (λ c. c.home) pool waited → IfOk result (IsAnswerOf pool) }
 {
@@ -129,8 +130,7 @@ impl Looper {
         ensures origin { D.origin d.new ≡ D.origin d.old }
         ensures nudges { Rings self.old.held.poster self.new.held.poster (D.nudges d.old) (D.nudges d.new) }
         ensures loops { LoopBy (C.shows by.now.clock.now) by.now.start by.now.cap queue.now.constants.setting self.old.held self.new.held result }
-        ensures steps { IsLoop (λ now heard more. D.asked d.new ≡ with_asked (D.asked d.old) (asked_by_round now heard ++ map Listen more))
-            (C.shows by.now.clock.now) by.now.start by.now.cap self.old self.new result }
+        ensures steps { IsLoop (AsksByLoop (D.asked d.old) (D.asked d.new)) (C.shows by.now.clock.now) by.now.start by.now.cap self.old self.new result }
         ensures meets { UnlessLost result (Passes (D.Meets d.new) self.new.held) }
         ensures awaits { UnlessLost result (D.Awaits d.new None) }
         ensures ended { self.new.ended ≡ is_over result }

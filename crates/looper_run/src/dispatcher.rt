@@ -10,7 +10,7 @@ ghost use Rattle.message_slot.specs.Fields.{callback_of};
 ghost use Rattle.looper_run.specs.Holding.{Workplace, workplace, held, IsSameOwn};
 ghost use Rattle.looper_run.specs.Acts.{IsQuiet};
 ghost use Rattle.looper_run.specs.Asked.{Asked, Pulse, Listen, with_asked};
-ghost use Rattle.looper_run.specs.Tests.{Passes, PassesWith, IsLent, Rings, HasTaken, Unless, Intercepts, IsUntouched};
+ghost use Rattle.looper_run.specs.Tests.{Passes, PassesWith, IsLent, Rings, HasTaken, Unless, Intercepts, LeavesTaken};
 
 use crate::own::Own;
 use message_pool::PoolClaim;
@@ -118,7 +118,7 @@ pub trait Dispatcher {
         ensures nudges { Rings own.old.poster.now own.new.poster.now (nudges self.old) (nudges self.new) }
         ensures asked { asked self.new ≡ asked self.old }
         ensures meets { Intercepts result (PassesWith (Meets self.new) (held own.new) m.now now Intercepted)
-            (IsUntouched (held own.old) (held own.new) × HasTaken (Meets self.new) (held own.new) m.now now) };
+            (LeavesTaken (Meets self.new) (held own.old) (held own.new) m.now now) };
 
     /// Handles a message that has no callback and was not intercepted. Only NoMemory counts as an answer.
     fn handle(&mut self, own: &mut Own, m: &Message<PoolClaim>, now: u64) -> Did

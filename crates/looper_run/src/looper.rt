@@ -2,7 +2,7 @@
 ghost use Rattle.std.specs.Prelude.{◌≡◌, true, false, [], OnOk, None};
 ghost use mathlib.Core.List.{IsPrefix};
 ghost use Rattle.loop_model.specs.Lists.{longer};
-ghost use Rattle.shared_queue.specs.Known.{IsOf, IsSamePoster};
+ghost use Rattle.shared_queue.specs.Known.{IsOf, HasOnlyHeard};
 ghost use Rattle.looper_run.specs.Holding.{Workplace, workplace, IsAt, IsBeside};
 ghost use Rattle.looper_run.specs.Asked.{with_asked, asked_by_round};
 ghost use Rattle.looper_run.specs.Tests.{Passes, IsSameLooper, Rings};
@@ -87,8 +87,7 @@ impl Looper {
         requires { IsOf self.old.held.poster queue.now × IsOf other.old queue.now }
         ensures seen { self.new.held.poster.view.seen ≡ longer self.old.held.poster.view.seen other.old.view.seen }
         ensures begins { IsPrefix self.old.held.poster.view.seen self.new.held.poster.view.seen × IsPrefix other.old.view.seen self.new.held.poster.view.seen }
-        ensures same { IsSamePoster self.old.held.poster self.new.held.poster × (self.new.held.poster.view.rung ≡ self.old.held.poster.view.rung)
-            × (self.new.held.poster.view.heard ≡ self.old.held.poster.view.heard) }
+        ensures same { HasOnlyHeard self.old.held.poster self.new.held.poster }
         ensures beside { IsBeside self.old self.new }
         ensures other { other.new ≡ other.old }
     {
@@ -100,7 +99,7 @@ impl Looper {
         requires { IsOf self.old.held.poster queue.now × IsOf other.old queue.now }
         ensures seen { other.new.view.seen ≡ longer other.old.view.seen self.old.held.poster.view.seen }
         ensures begins { IsPrefix other.old.view.seen other.new.view.seen × IsPrefix self.old.held.poster.view.seen other.new.view.seen }
-        ensures same { IsSamePoster other.old other.new × (other.new.view.rung ≡ other.old.view.rung) × (other.new.view.heard ≡ other.old.view.heard) }
+        ensures same { HasOnlyHeard other.old other.new }
         ensures looper { self.new ≡ self.old }
     {
         other.hear(queue, &mut self.poster);

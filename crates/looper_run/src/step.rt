@@ -5,7 +5,7 @@ ghost use Rattle.shared_queue.specs.Calls.{NextedBy};
 ghost use Rattle.looper_run.specs.Holding.{Sender, Workplace, workplace, IsAt};
 ghost use Rattle.looper_run.specs.Tests.{Passes, IsSameLooper, Rings};
 ghost use Rattle.looper_run.specs.Told.{AreRecycled};
-ghost use Rattle.looper_run.specs.Looks.{StepBy, by_poster, IsAnswerOf, HasAnswer};
+ghost use Rattle.looper_run.specs.Looks.{StepBy, WaitsAsTold, by_poster, IsAnswerOf, HasAnswer};
 ghost use Rattle.looper_run.specs.Round.{UnlessStopped};
 
 use crate::dispatch::dispatch;
@@ -97,6 +97,7 @@ impl Looper {
         ensures asked { D.asked d.new ≡ D.asked d.old }
         ensures step { (p : Sender) (now : ℕ) → NextedBy p self.old.held.poster now self.old.idle_owed answer
             → StepBy now (by_poster self.old p) self.new result }
+        ensures waits { WaitsAsTold answer result }
         ensures meets { UnlessStopped result (Passes (D.Meets d.new) self.new.held) }
         ensures awaits { UnlessStopped result (D.Awaits d.new None) }
         ensures ended { self.new.ended ≡ self.old.ended }

@@ -1,7 +1,9 @@
 //! A host that keeps what it is to send, and a client over drawing code that states nothing.
 ghost use Rattle.std.specs.Prelude.{◌≡◌, ◌==◌, [], IsTrue, true, None};
 
-use choreographer::{Choreographer, ClientRan, FrameClient, FrameHost, HostSent, Sending};
+use choreographer::{
+    Choreographer, ClientRan, FrameClient, FrameHost, HostSent, Sending, keep_sent,
+};
 use frame_phases::Callback;
 use loop_model::NoMemory;
 use std::alloc::Global;
@@ -45,16 +47,7 @@ impl FrameHost for Outbox {
     }
 
     fn send(&mut self, what: u32, arg: u32, when: u64) -> HostSent {
-        let sending = Sending {
-            what,
-            arg,
-            when,
-            answer: HostSent::Accepted,
-        };
-        match self.sent.push(sending) {
-            Ok(()) => HostSent::Accepted,
-            Err(_) => HostSent::NoMemory,
-        }
+        keep_sent(&mut self.sent, what, arg, when)
     }
 }
 

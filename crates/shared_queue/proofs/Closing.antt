@@ -1,5 +1,5 @@
 -- A queue whose posters all came back.
-use Rattle.std.proofs.Common.{◌≡◌, ℕ, suc, ◌+◌, ◌<◌, List, [], ◌∷◌, ◌++◌, length, get_or, refl, sym, ap, ◌∙◌, subst, arith, append-nil, Option, Some}
+use Rattle.std.proofs.Common.{◌≡◌, ℕ, suc, ◌+◌, ◌<◌, List, [], ◌∷◌, ◌++◌, length, get_or, refl, sym, ap, ◌∙◌, subst, arith, append-nil, Option, Some, All}
 use Rattle.std.proofs.lemmas.List.{get_or-map, length-map}
 use mathlib.Core.Option.{some}
 use mathlib.Core.List.{IsPrefix}
@@ -13,14 +13,14 @@ use Rattle.loop_model.specs.Live.{live_in_order}
 use Rattle.loop_model.specs.declared.segment.Segment.{Segment}
 use Rattle.loop_model.specs.Chain.{after, IsChainFrom, entries_of}
 use Rattle.when_queue.specs.Queue.{items_of}
-use Rattle.message_slot.specs.Letter.{Letter}
+use Rattle.message_slot.specs.Letter.{Letter, IsAtHome}
 use Rattle.shared_queue.specs.Constants.{Constants, last_of, made_in, IsFor}
 use Rattle.shared_queue.specs.Whole.{whole_of, Leave}
 use Rattle.queue_state.specs.Queue.{Queue, IsSound, part_of}
-use Rattle.shared_queue.specs.Turn.{Counts, holds, Fits, AtHome, QueueTurn}
+use Rattle.shared_queue.specs.Turn.{ArePast, Counts, holds, Fits, AtHome, QueueTurn}
 use Rattle.shared_queue.specs.Plays.{Sat}
 use Rattle.shared_queue.specs.Known.{Shared, Known, KeepsNone, IsOf}
-use Rattle.shared_queue.specs.Ends.{AreInOrder, HasCalls, number_of, HaveSealed, sealed_by, Gathered, IsSoundEnd}
+use Rattle.shared_queue.specs.Ends.{AreInOrder, HasCalls, number_of, HaveSealed, sealed_by, Gathered, IsSoundEnd, IsWholeEnd}
 use Rattle.loop_model.proofs.Prefixes.{prefix_trans}
 use Rattle.shared_queue.proofs.Courses.{entries_more, chain_more}
 use Rattle.shared_queue.proofs.Whole.{whole_sound}
@@ -44,9 +44,7 @@ sealed_from {H} {K} q from (p ∷ p' ∷ posters) parts order keeps all some_pos
 pub record Closes {H K : Type 0} (key : Constants H) (posters : List (Known H K)) (parts : List Segment) (x : Queue H K) : Type 0 where
   pub own : IsFor key x
   pub start : x.start ≡ after (empty_base key.setting.senders) (entries_of parts)
-  pub chain : IsChainFrom (empty_base key.setting.senders) parts
-  pub legal : IsLegal key.setting (empty_base key.setting.senders) (entries_of parts)
-  pub numbered : AreNumbered key.setting (empty_base key.setting.senders) (entries_of parts)
+  pub past : ArePast key.setting parts
   pub calls : HasCalls (entries_of parts ++ x.entries) posters
 
 module _ {H K : Type 0} (key : Constants H) (q : Shared H) (posters : List (Known H K)) (m : Sat H K) (is_key : q.constants ≡ key) (some_sender : 0 < key.setting.senders) (all : length posters ≡ key.setting.senders) (order : AreInOrder q posters) (g : Gathered q posters m) where
@@ -78,9 +76,7 @@ module _ {H K : Type 0} (key : Constants H) (q : Shared H) (posters : List (Know
         record {
           own = home.2;
           start = home.3.0 ∙ ap (λ (ps : List Segment). after (empty_base key.setting.senders) (entries_of ps)) these;
-          chain = subst (IsChainFrom (empty_base key.setting.senders)) these r.chain;
-          legal = subst (λ (ps : List Segment). IsLegal key.setting (empty_base key.setting.senders) (entries_of ps)) these r.legal;
-          numbered = subst (λ (ps : List Segment). AreNumbered key.setting (empty_base key.setting.senders) (entries_of ps)) these r.numbered;
+          past = subst (ArePast key.setting) these r.past;
           calls = λ k e l.
               let p : Known H K = get_or posters k e in
               let c : Counts (whole_of r.course) m.0.seen (number_of p) = subst (Counts (whole_of r.course) m.0.seen) (numbers k e l) (f.mine k (number_of e) (omega (arith, as_many))) in (
@@ -103,19 +99,28 @@ module _ {H K : Type 0} (key : Constants H) (posters : List (Known H K)) (parts 
   all_entries : entries_of segments ≡ entries_of parts ++ x.entries
   all_entries = ap entries_of are ∙ entries_more parts (part_of x)
 
-  pub ends_chain : IsChainFrom (empty_base key.setting.senders) segments
-  ends_chain = subst (IsChainFrom (empty_base key.setting.senders)) (sym are) (chain_more (empty_base key.setting.senders) parts (part_of x) tt c.chain c.start)
+  ends_chain : IsChainFrom (empty_base key.setting.senders) segments
+  ends_chain = subst (IsChainFrom (empty_base key.setting.senders)) (sym are) (chain_more (empty_base key.setting.senders) parts (part_of x) tt c.past.chain c.start)
 
-  pub ends_calls : HasCalls (entries_of segments) posters
+  ends_calls : HasCalls (entries_of segments) posters
   ends_calls = subst (λ l. HasCalls l posters) (sym all_entries) c.calls
 
-  pub ends_sound : (left : List (Letter K)) → left ≡ x.messages → IsSoundEnd key.setting (entries_of segments) left
+  ends_sound : (left : List (Letter K)) → left ≡ x.messages → IsSoundEnd key.setting (entries_of segments) left
   ends_sound left same =
       let before : List Entry = entries_of parts in
-      let leaves : Leave x.setting before x.start = subst (λ (s : Setting). Leave s before x.start) (sym c.own.setting) (record { legal = c.legal; numbered = c.numbered; left = c.start }) in
+      let leaves : Leave x.setting before x.start = subst (λ (s : Setting). Leave s before x.start) (sym c.own.setting) (record { legal = c.past.legal; numbered = c.past.numbered; left = c.start }) in
       let whole = whole_sound before x leaves sound in
       record {
         legal = subst (IsLegal key.setting (empty_base key.setting.senders)) (sym all_entries) (subst (λ (s : Setting). IsLegal s (empty_base s.senders) (before ++ x.entries)) c.own.setting whole.legal);
         numbered = subst (AreNumbered key.setting (empty_base key.setting.senders)) (sym all_entries) (subst (λ (s : Setting). AreNumbered s (empty_base s.senders) (before ++ x.entries)) c.own.setting whole.numbered);
         live = ap items_of same ∙ (whole.live ∙ ((λ i. live_in_order (empty_base (c.own.setting i).senders) (before ++ x.entries)) ∙ ap (live_in_order (empty_base key.setting.senders)) (sym all_entries)));
       }
+
+  pub ends : (of : K → H) (left : List (Letter K)) → left ≡ x.messages → All (IsAtHome of x.home) left → IsWholeEnd of key posters parts segments left
+  ends of left same home = record {
+    last = (part_of x, are);
+    chain = ends_chain;
+    sound = ends_sound left same;
+    calls = ends_calls;
+    home = subst (λ (h : H). All (IsAtHome of h) left) c.own.home home;
+  }

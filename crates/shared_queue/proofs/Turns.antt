@@ -3,6 +3,7 @@ use Rattle.std.proofs.Common.{◌≡◌, ℕ, zero, suc, ◌+◌, ◌%◌, ◌<�
 use Rattle.std.specs.Prelude.{All, ◌⊎◌}
 use Rattle.std.proofs.lemmas.List.Elements.{All-nil, All-cons, All-append, All-weaker, All-map, All-take, All-drop}
 use Rattle.std.proofs.lemmas.List.{take-append-drop, length-map, append-nil}
+use Rattle.std.proofs.lemmas.List.FromFn.{get_or-map-range_with_len, length-map-range_with_len}
 use mathlib.Core.Logic.{dite}
 use mathlib.Core.Option.{some, none, some-ne-none, some-injective}
 use mathlib.Core.List.{IsPrefix}
@@ -23,7 +24,7 @@ use Rattle.shared_queue.specs.Constants.{Constants, last_of, made_in, IsFor}
 use Rattle.shared_queue.specs.Whole.{Course, whole_of, Spans}
 use Rattle.queue_state.specs.Queue.{Queue, part_of, sealed}
 use Rattle.shared_queue.specs.declared.view.View.{View}
-use Rattle.shared_queue.specs.Turn.{IsFirst, Board, turn_of, holds, Counts, IsPresent, Fits, AtHome, QueueTurn, new_senders, opening_view, counted, taking, seen_with, giving, part_in, handing, fresh, dealt, keeping, joined, gone}
+use Rattle.shared_queue.specs.Turn.{IsFirst, Board, ArePast, turn_of, holds, Counts, IsPresent, Fits, AtHome, QueueTurn, new_senders, opening_view, counted, taking, seen_with, giving, part_in, handing, fresh, dealt, keeping, joined, gone}
 use Rattle.shared_queue.proofs.Untold.{untold_before, untold_front, told_one}
 use Rattle.shared_queue.specs.Plays.{Sat, bare, sat, took, gave, handed, MayGive, MayHand, learned, rang, listened}
 use Rattle.loop_model.proofs.Sums.{set_at, has_first, total-append, total-set, total-none, term_le, terms_le}
@@ -94,9 +95,7 @@ module _ {H K : Type 0} (key : Constants H) where
   unmoved s r i id cs v w at turns senders rung told mine =
       subst (λ (ws : List ℕ). QueueTurn key (record { words = ws; homes = s.homes; views = set s.views id w })) (sym (set-get_or s.words i 0)) record {
         course = r.course;
-        chain = r.chain;
-        legal = r.legal;
-        numbered = r.numbered;
+        past = r.past;
         wide = r.wide;
         deep = r.deep;
         turns = omega (arith, total-set turn_of s.views id v w at, r.turns, turns);
@@ -148,9 +147,7 @@ module _ {H K : Type 0} (key : Constants H) where
         home.1,
         record {
           course = r.course;
-          chain = r.chain;
-          legal = r.legal;
-          numbered = r.numbered;
+          past = r.past;
           wide = length-set s.words 0 1 ∙ r.wide;
           deep = length-set s.homes 0 none ∙ r.deep;
           turns = omega (arith, total-set turn_of s.views id v w at, r.turns, now);
@@ -168,7 +165,7 @@ module _ {H K : Type 0} (key : Constants H) where
             refl,
             λ c e. subst (λ (k : Constants H). IsFor k x × Spans k.setting whole x) (sym (f.constants c e)) (
               home.2,
-              (entries_of r.course.parts, ap (λ l. entries_of r.course.parts ++ l) (sym home.3.1), record { legal = r.legal; numbered = r.numbered; left = home.3.0 }),
+              (entries_of r.course.parts, ap (λ l. entries_of r.course.parts ++ l) (sym home.3.1), record { legal = r.past.legal; numbered = r.past.numbered; left = home.3.0 }),
             ),
             (
               f.seen,
@@ -270,6 +267,32 @@ module _ {H K : Type 0} (key : Constants H) where
       ap (made_in n) is ∙ (made_in_push n (whole_of r.course) e ∙ (omega (arith, one_of-no n e other))))
       may
 
+  -- a seat gives the turn back with the state x, from which on the history goes as `next`
+  gives_back : (s : Board H K) (r : QueueTurn key s) (id : ℕ) (v w : View (Queue H K) H) (x : Queue H K) (next : Course) → get_elem? s.views id ≡ some v → v.has_turn ≡ true → turn_of w ≡ 0 → w.told ≡ v.seen ∷ v.told → w.rung ≡ v.rung → ((n : ℕ) → holds n w ≡ holds n v)
+      → ArePast key.setting next.parts → IsFor key x → IsPresent key next x → Fits key next w → ((j : ℕ) (u : View (Queue H K) H) → j ≢ id → get_elem? s.views j ≡ some u → u.has_turn ≡ false → Fits key next u)
+      → QueueTurn key (record { words = set s.words 0 0; homes = set s.homes 0 (some (Some x)); views = set s.views id w })
+  gives_back s r id v w x next at has rest told rung holding past own present mine others =
+      let one : turn_of v ≡ 1 = ap (λ b. cond b 1 0) has in
+      let words_wide = r.wide in
+      let deep = r.deep in
+      let once = r.once in
+      let now : get_or (set s.words 0 0) 0 0 ≡ 0 = get_or-set_same s.words 0 0 0 (omega arith) in
+      let apart : get_or (set s.words 0 0) 1 0 ≡ get_or s.words 1 0 = get_or-set_other s.words 0 1 0 0 (λ e. omega arith) in
+      let rings : total (λ (u : View (Queue H K) H). u.rung) (set s.views id w) ≡ total (λ (u : View (Queue H K) H). u.rung) s.views = omega (arith, total-set (λ (u : View (Queue H K) H). u.rung) s.views id v w at, rung) in
+      record {
+        course = next;
+        past = past;
+        wide = length-set s.words 0 0 ∙ r.wide;
+        deep = length-set s.homes 0 (some (Some x)) ∙ r.deep;
+        turns = omega (arith, total-set turn_of s.views id v w at, r.turns, now, rest);
+        once = omega (arith, now);
+        free = λ _. (x, set_here s.homes 0 (some (Some x)) (omega arith), own, present);
+        first = λ untold. absurd (told_one s.views id v w v.seen v.told at told untold);
+        each = each_set next s.views id w mine (λ j u other there. others j u other there (held_by u (omega (arith, terms_le turn_of s.views id j v u other at there, r.turns))));
+        placed = λ n below. omega (arith, total-set (holds n) s.views id v w at, r.placed n below, holding n);
+        bell = apart ∙ (r.bell ∙ ap (λ (n : ℕ). n % 18446744073709551616) (sym rings));
+      }
+
   pub gives_turn : (slots id : ℕ) (m : Sat H K) (x : Queue H K) → m.1 ≡ (0, Some x) ∷ [] → m.0.has_turn ≡ true → IsFor key x → MayGive m.0 x
       → Allows (QueueTurn key) slots id m 0 (λ _. 0) (λ _. gave (step slots 0 0 0 none) m 0)
   gives_turn slots id m x carries has own may s r wide at small =
@@ -278,36 +301,14 @@ module _ {H K : Type 0} (key : Constants H) where
       let f : Fits key r.course v = r.each id v at in
       let g = goes_on r.course v x f has may in
       let next : Course = with_since r.course x.entries in
-      let whole_seen = (f.turn has).0 in
-      let one : turn_of v ≡ 1 = ap (λ b. cond b 1 0) has in
-      let words_wide = r.wide in
-      let deep = r.deep in
-      let once = r.once in
-      let now : get_or (set s.words 0 0) 0 0 ≡ 0 = get_or-set_same s.words 0 0 0 (omega arith) in
-      let apart : get_or (set s.words 0 0) 1 0 ≡ get_or s.words 1 0 = get_or-set_other s.words 0 1 0 0 (λ e. omega arith) in
-      let rings : total (λ (u : View (Queue H K) H). u.rung) (set s.views id w) ≡ total (λ (u : View (Queue H K) H). u.rung) s.views = omega (arith, total-set (λ (u : View (Queue H K) H). u.rung) s.views id v w at) in
       let more : IsPrefix (whole_of r.course) (whole_of next) = gives_more r.course v x.entries g.2 in (
         w,
         gives,
         tt,
-        subst (λ c. QueueTurn key (record { words = set s.words 0 0; homes = homes_after s.homes c gives; views = set s.views id w })) (sym carries) record {
-          course = next;
-          chain = r.chain;
-          legal = r.legal;
-          numbered = r.numbered;
-          wide = length-set s.words 0 0 ∙ r.wide;
-          deep = length-set s.homes 0 (some (Some x)) ∙ r.deep;
-          turns = omega (arith, total-set turn_of s.views id v w at, r.turns, now);
-          once = omega (arith, now);
-          free = λ _. (x, set_here s.homes 0 (some (Some x)) (omega arith), own, g.0);
-          first = λ untold. absurd (told_one s.views id v w v.seen v.told at refl untold);
-          each = each_set next s.views id w (given_fits next v x v.sealed g.1 f.constants (subst (λ l. IsPrefix l (whole_of next)) (sym whole_seen) more) f.told f.below f.quiet f.sealed f.unsealed)
-              (λ j u other there. others_fit r.course next u (r.each j u there)
-              (held_by u (omega (arith, terms_le turn_of s.views id j v u other at there, r.turns))) more
-              (others_stay s r id j v u x.entries at there other g.2) (λ _. refl));
-          placed = λ n below. omega (arith, total-set (holds n) s.views id v w at, r.placed n below, holds-counted n (seen_with v x) v.senders);
-          bell = apart ∙ (r.bell ∙ ap (λ (n : ℕ). n % 18446744073709551616) (sym rings));
-        },
+        subst (λ c. QueueTurn key (record { words = set s.words 0 0; homes = homes_after s.homes c gives; views = set s.views id w })) (sym carries)
+            (gives_back s r id v w x next at has refl refl refl (λ n. holds-counted n (seen_with v x) v.senders) r.past own g.0
+            (given_fits next v x v.sealed g.1 f.constants (subst (λ l. IsPrefix l (whole_of next)) (sym (f.turn has).0) more) f.told f.below f.quiet f.sealed f.unsealed)
+            (λ j u other there rests. others_fit r.course next u (r.each j u there) rests more (others_stay s r id j v u x.entries at there other g.2) (λ _. refl))),
         λ y carries'. let same : x ≡ y = ap (carried_or x) (sym carries ∙ carries') in (λ i. (giving v (same i), ap rest carries i)),
       )
 
@@ -332,42 +333,22 @@ module _ {H K : Type 0} (key : Constants H) where
       let whole : whole_of next ≡ whole_of r.course = append-nil (entries_of next.parts) ∙ (all ∙ ap (λ l. before ++ l) since) in
       let seen : seen_with v y ≡ whole_of next = sealed_seen key.setting.senders before r.course.since v.seen x y may.2 base since t.0 ∙ (t.0 ∙ sym whole) in
       let below : last_of key < key.setting.senders = held_below key (last_of key) v.senders f.below last in
-      let one : turn_of v ≡ 1 = ap (λ b. cond b 1 0) has in
-      let words_wide = r.wide in
-      let deep = r.deep in
-      let once = r.once in
-      let now : get_or (set s.words 0 0) 0 0 ≡ 0 = get_or-set_same s.words 0 0 0 (omega arith) in
-      let apart : get_or (set s.words 0 0) 1 0 ≡ get_or s.words 1 0 = get_or-set_other s.words 0 1 0 0 (λ e. omega arith) in
-      let rings : total (λ (u : View (Queue H K) H). u.rung) (set s.views id w) ≡ total (λ (u : View (Queue H K) H). u.rung) s.views = omega (arith, total-set (λ (u : View (Queue H K) H). u.rung) s.views id v w at) in
       let parts : v.sealed ++ part_in v.found ≡ next.parts = ap (λ (o : Option (Queue H K)). v.sealed ++ part_in o) may.1 ∙ ap (λ l. l ++ part_of x ∷ []) (f.sealed last) in (
         w,
         gives,
         tt,
-        subst (λ c. QueueTurn key (record { words = set s.words 0 0; homes = homes_after s.homes c gives; views = set s.views id w })) (sym carries) record {
-          course = next;
-          chain = chain_more nothing r.course.parts (part_of x) tt r.chain base;
-          legal = past_legal key.setting r.course.parts x r.legal base setting may.3;
-          numbered = past_numbered key.setting r.course.parts x r.numbered base setting may.4;
-          wide = length-set s.words 0 0 ∙ r.wide;
-          deep = length-set s.homes 0 (some (Some y)) ∙ r.deep;
-          turns = omega (arith, total-set turn_of s.views id v w at, r.turns, now);
-          once = omega (arith, now);
-          free = λ _. (
-            y,
-            set_here s.homes 0 (some (Some y)) (omega arith),
-            own,
-            (ap (λ (z : Queue H K). z.start) may.2 ∙ (ap (λ (b : Base). after b x.entries) base ∙ (after-after nothing before x.entries ∙ ap (after nothing) (sym all))), ap (λ (z : Queue H K). z.entries) may.2),
-          );
-          first = λ untold. absurd (told_one s.views id v w v.seen v.told at refl untold);
-          each = each_set next s.views id w
-              (given_fits next v y (v.sealed ++ part_in v.found) seen f.constants (subst (IsPrefix v.seen) (sym whole) f.seen) f.told f.below f.quiet (λ _. parts) (λ none. absurd (omega (arith, none, last))))
-              (λ j u other there. others_fit r.course next u (r.each j u there)
-              (held_by u (omega (arith, terms_le turn_of s.views id j v u other at there, r.turns))) (subst (IsPrefix (whole_of r.course)) (sym whole) (prefix_self (whole_of r.course)))
-              (λ k d l. ap (made_in (get_or u.senders k d).0) whole)
-              (λ held. absurd (omega (arith, terms_le (holds (last_of key)) s.views id j v u other at there, r.placed (last_of key) below, held, last))));
-          placed = λ n below. omega (arith, total-set (holds n) s.views id v w at, r.placed n below, holds-counted n (seen_with v y) v.senders);
-          bell = apart ∙ (r.bell ∙ ap (λ (n : ℕ). n % 18446744073709551616) (sym rings));
-        },
+        subst (λ c. QueueTurn key (record { words = set s.words 0 0; homes = homes_after s.homes c gives; views = set s.views id w })) (sym carries)
+            (gives_back s r id v w y next at has refl refl refl (λ n. holds-counted n (seen_with v y) v.senders)
+            (record {
+              chain = chain_more nothing r.course.parts (part_of x) tt r.past.chain base;
+              legal = past_legal key.setting r.course.parts x r.past.legal base setting may.3;
+              numbered = past_numbered key.setting r.course.parts x r.past.numbered base setting may.4;
+            }) own
+            (ap (λ (z : Queue H K). z.start) may.2 ∙ (ap (λ (b : Base). after b x.entries) base ∙ (after-after nothing before x.entries ∙ ap (after nothing) (sym all))), ap (λ (z : Queue H K). z.entries) may.2)
+            (given_fits next v y (v.sealed ++ part_in v.found) seen f.constants (subst (IsPrefix v.seen) (sym whole) f.seen) f.told f.below f.quiet (λ _. parts) (λ none. absurd (omega (arith, none, last))))
+            (λ j u other there rests. others_fit r.course next u (r.each j u there) rests (subst (IsPrefix (whole_of r.course)) (sym whole) (prefix_self (whole_of r.course)))
+            (λ k d l. ap (made_in (get_or u.senders k d).0) whole)
+            (λ held. absurd (omega (arith, terms_le (holds (last_of key)) s.views id j v u other at there, r.placed (last_of key) below, held, last))))),
         λ z carries'. let same : y ≡ z = ap (carried_or y) (sym carries ∙ carries') in (λ i. (handing v (same i), ap rest carries i)),
       )
 
@@ -386,11 +367,12 @@ module _ {H K : Type 0} (key : Constants H) where
     unsealed = no_part;
   }
 
-  fits_fresh : (whole : Course) (v : View (Queue H K) H) (had : ℕ) (senders : List (ℕ × ℕ)) → Fits key whole v → All (IsBelow key) senders → All (Counts (whole_of whole) v.seen) senders
+  -- a view with these senders that was told nothing and keeps no parts
+  fits_fresh : (whole : Course) (v : View (Queue H K) H) (had : ℕ) (senders : List (ℕ × ℕ)) → ((c : Constants H) → v.constants ≡ Some c → c ≡ key) → IsPrefix v.seen (whole_of whole) → All (IsBelow key) senders → All (Counts (whole_of whole) v.seen) senders
       → (0 < holds (last_of key) (fresh v senders) → [] ≡ whole.parts) → Fits key whole (record (fresh v senders) { turns = had })
-  fits_fresh whole v had senders f below mine no_part = record {
-    constants = f.constants;
-    seen = f.seen;
+  fits_fresh whole v had senders constants seen below mine no_part = record {
+    constants = constants;
+    seen = seen;
     told = All-nil (λ t. IsPrefix t v.seen);
     below = below;
     mine = mine;
@@ -418,9 +400,7 @@ module _ {H K : Type 0} (key : Constants H) where
       omega (arith, total-append (λ (x : View (Queue H K) H). x.rung) (set s.views id w) (u ∷ []), total-set (λ (x : View (Queue H K) H). x.rung) s.views id v w at) in
       record {
         course = r.course;
-        chain = r.chain;
-        legal = r.legal;
-        numbered = r.numbered;
+        past = r.past;
         wide = r.wide;
         deep = r.deep;
         turns = omega (arith, total-append turn_of (set s.views id w) (u ∷ []), total-set turn_of s.views id v w at, r.turns);
@@ -429,7 +409,7 @@ module _ {H K : Type 0} (key : Constants H) where
         first = λ untold. r.first (untold_before s.views id v w at (λ e. e) (untold_front (set s.views id w) (u ∷ []) untold));
         each = λ j x e. ⊎_elim
             (λ (t : get_elem? (set s.views id w) j ≡ some x). each_set r.course s.views id w (fits_with r.course v second f some_sender (λ rings. quiet rings (f.quiet rings)) below.1 mine.1 (λ held. omega (arith, last_sum, held)) left_none) (λ i y _ e'. r.each i y e') j x t)
-            (λ (t : u ≡ x). subst (Fits key r.course) t (fits_fresh r.course v had first f below.0 mine.0 right_none))
+            (λ (t : u ≡ x). subst (Fits key r.course) t (fits_fresh r.course v had first f.constants f.seen below.0 mine.0 right_none))
             (at_snoc (set s.views id w) u x j e);
         placed = λ n below. omega (arith, total-append (holds n) (set s.views id w) (u ∷ []), total-set (holds n) s.views id v w at, r.placed n below, sums (λ (p : ℕ × ℕ). cond (eqb p.0 n) 1 0));
         bell = r.bell ∙ ap (λ (n : ℕ). n % 18446744073709551616) (sym rings);
@@ -471,18 +451,9 @@ module _ {H K : Type 0} (key : Constants H) where
         unsealed = λ none. ap (λ l. l ++ w.sealed) (f.unsealed (omega (arith, last_sum, none))) ∙ h.unsealed (omega (arith, last_sum, none));
       }
 
-  gone_fits : (whole : Course) → Fits {H = H} {K = K} key whole gone
-  gone_fits whole = record {
-    constants = λ c e. absurd (cc (e));
-    seen = (whole_of whole, refl);
-    told = All-nil (λ t. IsPrefix t []);
-    below = All-nil (IsBelow key);
-    mine = All-nil (Counts (whole_of whole) []);
-    turn = λ e. absurd (true≢false (sym e));
-    quiet = λ (rings : 0 < 0). absurd (omega arith);
-    sealed = λ (held : 0 < 0). absurd (omega arith);
-    unsealed = λ _. refl;
-  }
+  -- so too where it has seen nothing and has no senders
+  fits_empty : (whole : Course) (v : View (Queue H K) H) → ((c : Constants H) → v.constants ≡ Some c → c ≡ key) → Fits key whole (bare v)
+  fits_empty whole v constants = fits_fresh whole (bare v) 0 [] constants (whole_of whole, refl) (All-nil (IsBelow key)) (All-nil (Counts (whole_of whole) [])) (λ (held : 0 < 0). absurd (omega arith))
 
   -- two seats hold the last sender at most once
   few_last : (s : Board H K) (r : QueueTurn key s) (id j : ℕ) (v u : View (Queue H K) H) → j ≢ id → get_elem? s.views id ≡ some v → get_elem? s.views j ≡ some u → holds (last_of key) v + holds (last_of key) u ≤ 1
@@ -506,16 +477,14 @@ module _ {H K : Type 0} (key : Constants H) where
       omega (arith, total-set (λ (x : View (Queue H K) H). x.rung) views other w gone there, total-set (λ (x : View (Queue H K) H). x.rung) s.views id v b at) in
       record {
         course = r.course;
-        chain = r.chain;
-        legal = r.legal;
-        numbered = r.numbered;
+        past = r.past;
         wide = r.wide;
         deep = r.deep;
         turns = omega (arith, total-set turn_of views other w gone there, total-set turn_of s.views id v b at, r.turns, none_w);
         once = r.once;
         free = r.free;
         first = λ untold. absurd (has_first v.seen (w.seen ∷ v.told) (untold id b (set_else views other id gone (λ e. apart (sym e)) ∙ set_at s.views id v b at)));
-        each = each_set r.course views other gone (gone_fits r.course)
+        each = each_set r.course views other gone (fits_empty r.course gone (λ c e. absurd (cc (e))))
             (λ j u _ e. each_set r.course s.views id b (joined_fits r.course v w no_turn f h few) (λ i y _ e'. r.each i y e') j u e);
         placed = λ n below. omega (
           arith,
@@ -556,9 +525,7 @@ module _ {H K : Type 0} (key : Constants H) where
         tt,
         record {
           course = r.course;
-          chain = r.chain;
-          legal = r.legal;
-          numbered = r.numbered;
+          past = r.past;
           wide = length-set s.words 1 new ∙ r.wide;
           deep = r.deep;
           turns = omega (arith, total-set turn_of s.views id m.0 w at, r.turns, apart);
@@ -576,9 +543,7 @@ module _ {H K : Type 0} (key : Constants H) where
   pub opens : (x : Queue H K) → IsFirst key x → QueueTurn key (opening (0 ∷ 0 ∷ []) (Some x ∷ []) (opening_view key))
   opens x is = record {
     course = record { parts = []; since = [] };
-    chain = tt;
-    legal = IsLegal-none key.setting (empty_base key.setting.senders);
-    numbered = AreNumbered-none key.setting (empty_base key.setting.senders);
+    past = record { chain = tt; legal = IsLegal-none key.setting (empty_base key.setting.senders); numbered = AreNumbered-none key.setting (empty_base key.setting.senders) };
     wide = refl;
     deep = refl;
     turns = refl;
@@ -590,26 +555,14 @@ module _ {H K : Type 0} (key : Constants H) where
     bell = refl;
   }
     where
-      fits : Fits {H = H} {K = K} key (record { parts = []; since = [] }) (opening_view key)
-      fits = record {
-        constants = λ c e. cc (e);
-        seen = prefix_self [];
-        told = All-nil (λ t. IsPrefix t []);
-        below = all_below 0 key.setting.senders (omega arith);
-        mine = no_calls 0 key.setting.senders;
-        turn = λ e. absurd (true≢false (sym e));
-        quiet = λ (rings : 0 < 0). absurd (omega arith);
-        sealed = λ _. refl;
-        unsealed = λ _. refl;
-      }
-        where
-          all_below : (from count : ℕ) → from + count ≤ key.setting.senders → All (IsBelow key) (new_senders from count)
-          all_below from zero le = All-nil (IsBelow key)
-          all_below from (suc count) le = All-cons (IsBelow key) (from, 0) (new_senders (from + 1) count) (omega arith) (all_below (from + 1) count (omega arith))
+      new_at : (k : ℕ) (d : ℕ × ℕ) → k < length (new_senders 0 key.setting.senders) → (k < key.setting.senders) × (get_or (new_senders 0 key.setting.senders) k d ≡ (k, 0))
+      new_at k d l =
+          let within : k < key.setting.senders = omega (arith, l, length-map-range_with_len {X = ℕ × ℕ} (λ (n : ℕ). (n, 0)) 0 key.setting.senders) in
+          (within, get_or-map-range_with_len {X = ℕ × ℕ} (λ (n : ℕ). (n, 0)) 0 key.setting.senders k k d within (omega arith))
 
-          no_calls : (from count : ℕ) → All (Counts [] []) (new_senders from count)
-          no_calls from zero = All-nil (Counts [] [])
-          no_calls from (suc count) = All-cons (Counts [] []) (from, 0) (new_senders (from + 1) count) (refl, refl) (no_calls (from + 1) count)
+      fits : Fits {H = H} {K = K} key (record { parts = []; since = [] }) (opening_view key)
+      fits = fits_fresh (record { parts = []; since = [] }) (opening_view key) 0 (new_senders 0 key.setting.senders) (λ c e. cc (e)) (prefix_self [])
+          (λ k d l. subst (IsBelow key) (sym (new_at k d l).1) (new_at k d l).0) (λ k d l. subst (Counts [] []) (sym (new_at k d l).1) (refl, refl)) (λ _. refl)
 
       first_only : (j : ℕ) (v : View (Queue H K) H) → get_elem? (opening_view key ∷ []) j ≡ some v → Fits key (record { parts = []; since = [] }) v
       first_only zero v e = subst (Fits key (record { parts = []; since = [] })) (some-injective (opening_view key) v e) fits
@@ -653,31 +606,16 @@ module _ {H K : Type 0} (key : Constants H) where
         u,
         record {
           course = r.course;
-          chain = r.chain;
-          legal = r.legal;
-          numbered = r.numbered;
+          past = r.past;
           wide = r.wide;
           deep = r.deep;
           turns = omega (arith, total-append turn_of s.views (u ∷ []), r.turns);
           once = r.once;
           free = r.free;
           first = λ untold. r.first (untold_front s.views (u ∷ []) untold);
-          each = λ j x e. ⊎_elim (λ (t : get_elem? s.views j ≡ some x). r.each j x t) (λ (t : u ≡ x). subst (Fits key r.course) t (bare_fits r.course m.0 (ap (λ (v : View (Queue H K) H). v.constants) is))) (at_snoc s.views u x j e);
+          each = λ j x e. ⊎_elim (λ (t : get_elem? s.views j ≡ some x). r.each j x t) (λ (t : u ≡ x). subst (Fits key r.course) t (fits_empty r.course m.0 (λ c e. let key_is = ap (λ (v : View (Queue H K) H). v.constants) is in cc (e, key_is)))) (at_snoc s.views u x j e);
           placed = λ n below. omega (arith, total-append (holds n) s.views (u ∷ []), r.placed n below);
           bell = r.bell ∙ ap (λ (n : ℕ). n % 18446744073709551616) (sym rings);
         },
         refl,
       )
-    where
-      bare_fits : (whole : Course) (v : View (Queue H K) H) → v.constants ≡ Some key → Fits key whole (bare v)
-      bare_fits whole v constants = record {
-        constants = λ c e. cc (e, constants);
-        seen = (whole_of whole, refl);
-        told = All-nil (λ t. IsPrefix t []);
-        below = All-nil (IsBelow key);
-        mine = All-nil (Counts (whole_of whole) []);
-        turn = λ e. absurd (true≢false (sym e));
-        quiet = λ (rings : 0 < 0). absurd (omega arith);
-        sealed = λ (held : 0 < 0). absurd (omega arith);
-        unsealed = λ _. refl;
-      }

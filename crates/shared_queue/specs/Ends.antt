@@ -1,14 +1,15 @@
 -- All posters of a queue, as it is made and as it ends.
-use Rattle.std.specs.Prelude.{◌≡◌, ℕ, ◌+◌, ◌-◌, ◌<◌, List, [], ◌∷◌, ◌++◌, map, length, slice_index_or, Option}
+use Rattle.std.specs.Prelude.{◌≡◌, ℕ, ◌+◌, ◌-◌, ◌<◌, List, [], ◌∷◌, ◌++◌, map, length, slice_index_or, All, Option}
 use mathlib.Core.List.{IsPrefix}
 use Rattle.atomic_table.specs.Table.{Me}
 use Rattle.loop_model.specs.declared.entry.Entry.{Entry}
 use Rattle.loop_model.specs.declared.segment.Segment.{Segment}
 use Rattle.loop_model.specs.Base.{empty_base}
+use Rattle.loop_model.specs.Chain.{IsChainFrom, entries_of}
 use Rattle.loop_model.specs.Legal.{IsLegal, AreNumbered}
 use Rattle.loop_model.specs.Live.{live_in_order}
 use Rattle.loop_model.specs.Answers.{Setting}
-use Rattle.message_slot.specs.Letter.{Letter}
+use Rattle.message_slot.specs.Letter.{Letter, IsAtHome}
 use Rattle.when_queue.specs.Queue.{items_of}
 use Rattle.queue_state.specs.Queue.{Queue}
 use Rattle.shared_queue.specs.declared.view.View.{View}
@@ -45,6 +46,14 @@ module _ {H K : Type 0} where
   abbrev pub HasCalls : List Entry → List (Known H K) → Type 0
   HasCalls entries posters = (k : ℕ) (d : Known H K) → k < length posters
       → IsPrefix (slice_index_or posters k d).view.seen entries × (made_in (slice_index_or posters k d).sender entries ≡ made_by (slice_index_or posters k d))
+
+  -- the parts that were handed out with the last one, whose whole history has these posters' calls, and the messages that it leaves
+  pub record IsWholeEnd (of : K → H) (c : Constants H) (posters : List (Known H K)) (parts segments : List Segment) (left : List (Letter K)) : Type 0 where
+    pub last : (p : Segment) × (segments ≡ parts ++ p ∷ [])
+    pub chain : IsChainFrom (empty_base c.setting.senders) segments
+    pub sound : IsSoundEnd c.setting (entries_of segments) left
+    pub calls : HasCalls (entries_of segments) posters
+    pub home : All (IsAtHome of c.home) left
 
   -- the first seat, once the sender numbers below `sender` have seats of their own
   abbrev pub undealt : Constants H → ℕ → View (Queue H K) H

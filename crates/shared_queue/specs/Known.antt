@@ -95,3 +95,7 @@ module _ {H K : Type 0} where
     pub left : after.view.left ≡ before.view.left
     pub sealed : after.view.sealed ≡ before.view.sealed
     pub made : made_by after ≡ made_by before
+
+  -- a call that only hears leaves the rings and the last reading of the bell too
+  abbrev pub HasOnlyHeard : Known H K → Known H K → Type 0
+  HasOnlyHeard before after = IsSamePoster before after × (after.view.rung ≡ before.view.rung) × (after.view.heard ≡ before.view.heard)

@@ -8,6 +8,7 @@ use Rattle.atomic_table.specs.Table.{State}
 use Rattle.loop_model.specs.declared.entry.Entry.{Entry}
 use Rattle.loop_model.specs.declared.segment.Segment.{Segment}
 use Rattle.loop_model.specs.Base.{empty_base}
+use Rattle.loop_model.specs.Answers.{Setting}
 use Rattle.loop_model.specs.Legal.{IsLegal, AreNumbered}
 use Rattle.loop_model.specs.Chain.{after, IsChainFrom, entries_of}
 use Rattle.loop_model.specs.Lists.{total, longer}
@@ -18,6 +19,12 @@ use Rattle.shared_queue.specs.Whole.{Course, whole_of}
 
 abbrev pub Board : Type 0 → Type 0 → Type 0
 Board H K = State (Option (Queue H K)) (View (Queue H K) H)
+
+-- these parts are a chain from an empty start, whose history is legal and numbered
+pub record ArePast (s : Setting) (parts : List Segment) : Type 0 where
+  pub chain : IsChainFrom (empty_base s.senders) parts
+  pub legal : IsLegal s (empty_base s.senders) (entries_of parts)
+  pub numbered : AreNumbered s (empty_base s.senders) (entries_of parts)
 
 -- the sender's entries in the history are those counted, and they all stand in what was seen
 abbrev pub Counts : List Entry → List Entry → ℕ × ℕ → Type 0
@@ -82,10 +89,7 @@ module _ {H K : Type 0} where
   pub record QueueTurn (key : Constants H) (s : Board H K) : Type 0 where
     -- the parts that were handed out, and the entries since
     pub course : Course
-    -- these parts are a chain, whose history is legal and numbered
-    pub chain : IsChainFrom (empty_base key.setting.senders) course.parts
-    pub legal : IsLegal key.setting (empty_base key.setting.senders) (entries_of course.parts)
-    pub numbered : AreNumbered key.setting (empty_base key.setting.senders) (entries_of course.parts)
+    pub past : ArePast key.setting course.parts
     pub wide : length s.words ≡ 2
     pub deep : length s.homes ≡ 1
     -- the turn word counts the views that have the turn, and at most one has it

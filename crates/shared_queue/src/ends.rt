@@ -6,7 +6,7 @@ ghost use Rattle.shared_queue.specs.Turn.{IsFirst, opening_view};
 ghost use Rattle.shared_queue.specs.Known.{Rests, IsOf};
 ghost use Rattle.loop_model.specs.Base.{empty_base};
 ghost use Rattle.loop_model.specs.Chain.{IsChainFrom, entries_of};
-ghost use Rattle.shared_queue.specs.Ends.{undealt, IsNewPoster, AreNew, AreInOrder, TakenIn, Gathered, HasCalls, IsSoundEnd, HaveSealed};
+ghost use Rattle.shared_queue.specs.Ends.{undealt, IsNewPoster, AreNew, AreInOrder, TakenIn, Gathered, HasCalls, IsSoundEnd, IsWholeEnd, HaveSealed};
 
 use crate::poster::Poster;
 use crate::queue::{Place, SharedQueue};
@@ -44,7 +44,8 @@ impl<K: Claim> SharedQueue<K> {
         senders: u32,
     ) -> Result<(SharedQueue<K>, Vec<Poster<K>>), NoMemory>
         requires { 0 < senders }
-        ensures constants { IfOk result (λ r. r.0.constants ≡ record { home = home; looper = looper; setting = record { main = main; lockstep = lockstep; senders = senders } }) }
+        ensures constants { IfOk result (λ r. r.0.constants
+            ≡ record { home = home; looper = looper; setting = record { main = main; lockstep = lockstep; senders = senders } }) }
         ensures posters { IfOk result (λ r. (length r.1.items ≡ senders) × AreNew r.0 r.1.items) }
     {
         let traits = Traits {
@@ -81,7 +82,9 @@ impl<K: Claim> SharedQueue<K> {
 
     // The next sender number moves to a seat of its own.
     fn deal(&self, seat: &mut Place<K>, sender: u32) -> Poster<K>
-        requires { (seat.old.table_id ≡ self.now.table) × (sender < self.now.constants.setting.senders) × (seat.old.me ≡ (undealt self.now.constants sender, [])) }
+        requires table { seat.old.table_id ≡ self.now.table }
+        requires sender { sender < self.now.constants.setting.senders }
+        requires seat { seat.old.me ≡ (undealt self.now.constants sender, []) }
         ensures seat { (seat.new.table_id ≡ seat.old.table_id) × (seat.new.me ≡ (undealt self.now.constants (sender + 1), [])) }
         ensures poster { IsOf result self.now × (result.sender ≡ sender) × IsNewPoster result }
     {
@@ -97,7 +100,8 @@ impl<K: Claim> SharedQueue<K> {
     ) -> Result<(SharedQueue<K>, Place<K>), NoMemory>
         requires state { IsFirst (constants_of home.value traits) state }
         requires senders { 0 < traits.senders }
-        ensures { IfOk result (λ r. (r.0.constants ≡ constants_of home.value traits) × (r.1.table_id ≡ r.0.table) × (r.1.me ≡ (opening_view (constants_of home.value traits), []))) }
+        ensures constants { IfOk result (λ r. r.0.constants ≡ constants_of home.value traits) }
+        ensures seat { IfOk result (λ r. (r.1.table_id ≡ r.0.table) × (r.1.me ≡ (opening_view (constants_of home.value traits), []))) }
     {
         let key = QueueKey { home, traits };
         let Ok(mut slots) = Vec::with_capacity(alloc, 1) else {
@@ -126,7 +130,7 @@ impl<K: Claim> SharedQueue<K> {
     pub fn retire(
         self,
         posters: Vec<Poster<K>>,
-        mut sealed: Vec<Segment>,
+        sealed: Vec<Segment>,
     ) -> Result<Retired<K>, NoMemory>
         requires posters { (length posters.items ≡ self.constants.setting.senders) × AreInOrder self posters.items }
         requires sealed { HaveSealed posters.items sealed.items }
@@ -138,10 +142,28 @@ impl<K: Claim> SharedQueue<K> {
         ensures posters { IfOk result (λ r. HasCalls (entries_of r.kept.segments) posters.items) }
         ensures home { IfOk result (λ r. All (IsAtHome K.home self.constants.home) r.left) }
     {
+        let traits = self.traits;
+        let (segments, left) = self.close(posters, sealed)?;
+        Ok(Retired {
+            kept: traits.with_history(Sequence::from_vec(segments)),
+            left,
+        })
+    }
+
+    // All parts of the history, and the messages that are left.
+    fn close(
+        self,
+        posters: Vec<Poster<K>>,
+        mut sealed: Vec<Segment>,
+    ) -> Result<(Vec<Segment>, MsgList<K>), NoMemory>
+        requires posters { (length posters.items ≡ self.constants.setting.senders) × AreInOrder self posters.items }
+        requires sealed { HaveSealed posters.items sealed.items }
+        ensures { IfOk result (λ r. IsWholeEnd K.home self.constants posters.items sealed.items r.0.items r.1) }
+    {
         let seat = self.gather(posters);
         let SharedQueue {
             table,
-            traits,
+            traits: _,
             rings: _,
         } = self;
         let mut closed = table.close_with(seat);
@@ -153,10 +175,7 @@ impl<K: Claim> SharedQueue<K> {
         let Ok(()) = sealed.push(last) else {
             return Err(NoMemory)
         };
-        Ok(Retired {
-            kept: traits.with_history(Sequence::from_vec(sealed)),
-            left,
-        })
+        Ok((sealed, left))
     }
 
     // One seat that has what all posters had.

@@ -3,7 +3,7 @@ ghost use Rattle.std.specs.Prelude.{◌≡◌, ◌+◌, false, [], ◌∷◌, le
 ghost use mathlib.Core.List.{IsPrefix};
 ghost use Rattle.loop_model.specs.Lists.{longer};
 ghost use Rattle.shared_queue.specs.Desk.{IsIdle};
-ghost use Rattle.shared_queue.specs.Known.{Known, KeepsNone, IsOf, IsSamePoster, made_by};
+ghost use Rattle.shared_queue.specs.Known.{Known, KeepsNone, IsOf, IsSamePoster, HasOnlyHeard, made_by};
 
 use crate::desk::Desk;
 use crate::queue::{Place, SharedQueue};
@@ -46,7 +46,10 @@ impl<K: Claim> Poster<K> {
     }
 
     pub(crate) fn into_seat(self) -> Place<K>
-        ensures { (result.table_id ≡ self.table) × (result.me.0 ≡ self.view) × (result.me.0.has_turn ≡ false) × (result.me.1 ≡ []) × (result.me.0.senders ≡ (self.sender, made_by self) ∷ []) × KeepsNone self }
+        ensures table { result.table_id ≡ self.table }
+        ensures view { (result.me.0 ≡ self.view) × KeepsNone self }
+        ensures rests { (result.me.0.has_turn ≡ false) × (result.me.1 ≡ []) }
+        ensures senders { result.me.0.senders ≡ (self.sender, made_by self) ∷ [] }
     {
         let Poster { desk } = self;
         let Desk {
@@ -85,7 +88,7 @@ impl<K: Claim> Poster<K> {
         requires { IsOf self.old queue.now × IsOf other.old queue.now }
         ensures seen { self.new.view.seen ≡ longer self.old.view.seen other.old.view.seen }
         ensures begins { IsPrefix self.old.view.seen self.new.view.seen × IsPrefix other.old.view.seen self.new.view.seen }
-        ensures same { IsSamePoster self.old self.new × (self.new.view.rung ≡ self.old.view.rung) × (self.new.view.heard ≡ self.old.view.heard) }
+        ensures same { HasOnlyHeard self.old self.new }
         ensures listens { self.new.view.listens ≡ self.old.view.listens }
         ensures other { other.new ≡ other.old }
     {

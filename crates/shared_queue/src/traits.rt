@@ -15,7 +15,9 @@ pub struct Traits {
 impl Traits {
     // What is kept of a queue with a history in these parts.
     pub(crate) fn with_history(self, segments: Sequence<Segment>) -> QueueRecord
-        ensures { (result.looper ≡ self.looper) × (result.main ≡ self.main) × (result.lockstep ≡ self.lockstep) × (result.senders ≡ self.senders) × (result.segments ≡ segments) }
+        ensures looper { result.looper ≡ self.looper }
+        ensures marks { (result.main ≡ self.main) × (result.lockstep ≡ self.lockstep) × (result.senders ≡ self.senders) }
+        ensures segments { result.segments ≡ segments }
     {
         QueueRecord {
             looper: self.looper,

@@ -7,7 +7,7 @@ use Rattle.looper_run.specs.Holding.{Looping, held}
 use Rattle.looper_run.specs.Acts.{IsIdle, GrowsBy}
 use Rattle.looper_run.specs.Told.{Dispatches, GivesBack}
 use Rattle.looper_run.specs.Tests.{Passes, HasTaken}
-use Rattle.looper_run.specs.Looks.{StepBy, HasDispatched, GivesUp, looked_by, by_poster}
+use Rattle.looper_run.specs.Looks.{StepBy, WaitsAsTold, HasDispatched, GivesUp, looked_by, by_poster}
 use Rattle.looper_run.specs.Round.{UnlessStopped}
 use Rattle.looper_run.specs.declared.step.Step.{Step}
 use Rattle.looper_run.proofs.Looking.{fits_dispatches}
@@ -42,6 +42,18 @@ returns-after-dispatch-clause-step g c p now look =
           let up : GivesUp now before after = inl (l.held.poster, c.in-Taken.number, c.in-Taken.now, c.in-Taken.node, took, back) in
           subst (λ (r : Step). StepBy now before after r) (sym w.result-is) up)
     ]
+
+pub returns-after-dispatch-clause-waits : goal.returns-after-dispatch-clause-waits
+returns-after-dispatch-clause-waits g c = elim c.match-dispatch.branch [
+  | in-Ok w ↦ subst (λ (r : Step). WaitsAsTold c.args.answer r) (sym w.result-is) tt
+  | in-Err w ↦ subst (λ (r : Step). WaitsAsTold c.args.answer r) (sym w.result-is) tt
+]
+
+pub returns-after-run_idle-clause-waits : goal.returns-after-run_idle-clause-waits
+returns-after-run_idle-clause-waits g c = elim c.match-run_idle.branch [
+  | in-Ok-run_idle w ↦ subst (λ (r : Step). WaitsAsTold c.args.answer r) (sym w.result-is) tt
+  | in-Err-run_idle w ↦ subst (λ (r : Step). WaitsAsTold c.args.answer r) (sym w.result-is) tt
+]
 
 pub returns-after-run_idle-clause-meets : goal.returns-after-run_idle-clause-meets
 returns-after-run_idle-clause-meets g c =

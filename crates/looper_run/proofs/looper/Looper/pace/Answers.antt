@@ -33,7 +33,7 @@ returns-clause-paced g c =
     let got = c.in-Ok.ensures.answer shows c.args.by.now.start l.idle_owed c.args.by.now.cap w.1 c.wait_next-waited.new.self w.3 in
     let stepped : HasStepped shows c.args.by.now.start l c.act-step.new.self c.act-step.result = (by_poster l w.1, (w.1, w.0, w.2, refl), got.0, got.1.moment, c.act-step.ensures.step w.1 got.0 got.1.look) in
     subst (λ (r : Pace). HasPaced shows c.args.by.now.start c.args.by.now.cap c.args.self.now c.act-step.new.self r) (sym c.paced.ensures)
-    (subst (λ (x : Looping). HasPaced shows c.args.by.now.start c.args.by.now.cap x c.act-step.new.self (pace_of c.act-step.result)) c.self.view_is (paces shows c.args.by.now.start c.args.by.now.cap l c.act-step.new.self c.act-step.result stepped))
+    (subst (λ (x : Looping). HasPaced shows c.args.by.now.start c.args.by.now.cap x c.act-step.new.self (pace_of c.act-step.result)) c.self.view_is (paces shows c.args.by.now.start c.args.by.now.cap l c.act-step.new.self c.in-Ok.answer c.act-step.result c.in-Ok.ensures.found c.act-step.ensures.waits stepped))
 
 pub returns-in-Err-clause-paced : goal.returns-in-Err-clause-paced
 returns-in-Err-clause-paced g c =
