@@ -4,12 +4,16 @@ use Rattle.std.specs.Prelude.{codes, count_by, min}
 use Rattle.std.specs.List.{flat_map}
 use Rattle.std.specs.Fmt.{decimal}
 use Rattle.std.proofs.lemmas.Grind.{flat_map-append}
+use Rattle.std.proofs.Math.Seq.{take-length}
 use Rattle.loop_model.specs.declared.entry.Entry.{Entry}
 use Rattle.loop_model.specs.declared.fate.Fate.{Fate}
 use Rattle.loop_model.specs.declared.journal.Act.{Act}
 use Rattle.loop_model.specs.declared.journal.Journal.{Journal}
 use Rattle.loop_model.specs.declared.record.QueueRecord.{QueueRecord}
+use Rattle.loop_model.specs.declared.segment.Segment.{Segment}
+use Rattle.loop_model.specs.Chain.{entries_of}
 use Rattle.loop_model.specs.Fates.{fates, is_dispatched, is_removed, is_dropped, is_stranded, is_queued}
+use Rattle.fate_ledger.proofs.Parts.{entries_taken}
 use Rattle.frame_phases.specs.declared.entry.FrameEntry.{FrameEntry}
 use Rattle.frame_phases.specs.declared.entry.FrameRecord.{FrameRecord}
 use Rattle.run_model.specs.Histories.{history_of}
@@ -25,6 +29,14 @@ fates_written fs a d r x s q ha hd hr hx hs hq = rw (ha, hd, hr, hx, hs, hq) ref
 
 regrouped : (a b c d e : List ℕ) → ((a ++ b) ++ (c ++ d)) ++ e ≡ a ++ (b ++ (c ++ (d ++ e)))
 regrouped a b c d e = append_assoc (a ++ b) (c ++ d) e ∙ (append_assoc a b ((c ++ d) ++ e) ∙ ap (λ l. a ++ (b ++ l)) (append_assoc c d e))
+
+-- the entries of the first parts with one part more, which is this one
+pub one_part_more : (ps : List Segment) (i : ℕ) (p : Segment) → i < length ps → p ≡ get_or ps i p → entries_of (take (i + 1) ps) ≡ entries_of (take i ps) ++ p.entries
+one_part_more ps i p lt is = entries_taken ps i p lt ∙ ap (λ (q : Segment). entries_of (take i ps) ++ q.entries) (sym is)
+
+-- the entries of as many parts as there are
+pub all_parts : (ps : List Segment) (i : ℕ) → i ≡ length ps → entries_of (take i ps) ≡ entries_of ps
+all_parts ps i all = ap (λ n. entries_of (take n ps)) all ∙ ap entries_of (take-length ps)
 
 -- what more entries have written
 pub entries_written : (f : Entry → List Words) (out : List ℕ) (es more : List Entry)

@@ -1,28 +1,24 @@
-use Rattle.std.proofs.Common.{◌≡◌, ◌+◌, ◌++◌, List, ap, sym, ◌∙◌, take, length, arith}
+use Rattle.std.proofs.Common.{◌≡◌, ◌++◌, List, ap, sym, ◌∙◌, take, length, arith}
 use Rattle.std.specs.Prelude.{string_bytes}
 use Rattle.std.specs.List.{flat_map}
-use Rattle.std.proofs.Math.Seq.{take-length}
 use Rattle.loop_model.specs.declared.entry.Entry.{Entry}
 use Rattle.loop_model.specs.declared.post.Post.{Post}
-use Rattle.loop_model.specs.declared.segment.Segment.{Segment}
 use Rattle.loop_model.specs.Chain.{entries_of}
 use Rattle.run_model.specs.Text.{Words, line_text, call_lines}
-use Rattle.fate_ledger.proofs.Parts.{entries_taken}
-use Rattle.dash_report.proofs.Written.{entries_written}
+use Rattle.dash_report.proofs.Written.{entries_written, one_part_more, all_parts}
 use Rattle.dash_report.proofs.history.write_history.Goals as goal
 
 pub loop-segment-preserved : goal.loop-segment-preserved
 loop-segment-preserved c =
-    let ps = c.args.segments.now in
     let i = c.loop-segment.segment-index in
     let p = c.segment-item.result in
-    let before : List Entry = entries_of (take i ps) in
     let lines : Entry → List Words = λ e. call_lines c.as_slice-posts.result.now e.call e.reply in
-    let more : entries_of (take (i + 1) ps) ≡ before ++ p.entries = entries_taken ps i p c.loop-segment-test.true ∙ ap (λ (q : Segment). before ++ q.entries) (sym c.segment-item.is) in
+    let more = one_part_more c.args.segments.now i p c.loop-segment-test.true c.segment-item.is in
     c.in_ok-write_entries.ensures
     ∙ (ap (λ (es : List Entry). string_bytes c.loop-segment.out ++ flat_map line_text (flat_map lines es)) c.as_slice.ensures
     ∙ (ap (λ l. l ++ flat_map line_text (flat_map lines p.entries)) c.loop-segment.invariant
-    ∙ (entries_written lines (string_bytes c.args.out.now) before p.entries ∙ ap (λ (es : List Entry). string_bytes c.args.out.now ++ flat_map line_text (flat_map lines es)) (sym more))))
+    ∙ (entries_written lines (string_bytes c.args.out.now) (entries_of (take i c.args.segments.now)) p.entries
+    ∙ ap (λ (es : List Entry). string_bytes c.args.out.now ++ flat_map line_text (flat_map lines es)) (sym more))))
 
 pub returns : goal.returns
 returns c =
@@ -30,6 +26,5 @@ returns c =
     let all : c.loop-segment.segment-index ≡ length ps = omega arith in
     let lines : List Post → Entry → List Words = λ posts e. call_lines posts e.call e.reply in
     c.loop-segment.invariant
-    ∙ (ap (λ i. string_bytes c.args.out.now ++ flat_map line_text (flat_map (lines c.as_slice-posts.result.now) (entries_of (take i ps)))) all
-    ∙ (ap (λ (l : List Segment). string_bytes c.args.out.now ++ flat_map line_text (flat_map (lines c.as_slice-posts.result.now) (entries_of l))) (take-length ps)
-    ∙ ap (λ (posts : List Post). string_bytes c.args.out.now ++ flat_map line_text (flat_map (lines posts) (entries_of ps))) (c.as_slice-posts.ensures.value ∙ c.in_ok-accepted.ensures)))
+    ∙ (ap (λ (es : List Entry). string_bytes c.args.out.now ++ flat_map line_text (flat_map (lines c.as_slice-posts.result.now) es)) (all_parts ps c.loop-segment.segment-index all)
+    ∙ ap (λ (posts : List Post). string_bytes c.args.out.now ++ flat_map line_text (flat_map (lines posts) (entries_of ps))) (c.as_slice-posts.ensures.value ∙ c.in_ok-accepted.ensures))
