@@ -8,6 +8,7 @@ pub mod Taken
 pub mod Desks
 pub mod Knows
 pub mod Steps
+pub mod Still
 pub mod TurnCalls
 pub mod Hears
 pub mod Gathers

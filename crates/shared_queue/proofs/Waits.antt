@@ -1,6 +1,5 @@
 -- A wait, look by look.
-use Rattle.std.proofs.Common.{◌≡◌, ℕ, zero, suc, ◌∙◌, ◌≤◌, Bool, Option, refl, sym, ap, subst, arith}
-use Rattle.message_slot.specs.Letter.{Letter}
+use Rattle.std.proofs.Common.{◌≡◌, ℕ, zero, suc, ◌∙◌, ◌≤◌, Bool, Option, refl, sym, subst, arith}
 use Rattle.queue_state.specs.declared.answers.Nexted.{Nexted}
 use Rattle.queue_state.specs.declared.answers.Nexted.TheVariants as nexted
 use Rattle.shared_queue.specs.declared.waiting.Waited.{Waited}
@@ -8,7 +7,6 @@ use Rattle.shared_queue.specs.declared.waiting.Waited.TheVariants as waited
 use Rattle.shared_queue.specs.declared.waiting.Look.{Look}
 use Rattle.shared_queue.specs.declared.waiting.Look.TheVariants as look
 use Rattle.shared_queue.specs.Known.{Known, Shared, IsOf}
-use Rattle.shared_queue.specs.Calls.{NextedBy}
 use Rattle.shared_queue.specs.Waiting.{HasStayed, HasLooked, HasListened, HasSlept, Slept, EndsBy, Stays, LooksOnce}
 
 module _ {H K : Type 0} (shows : ℕ → Bool) (start : ℕ) (idle : Bool) where

@@ -1,7 +1,7 @@
 -- What a wait for a message does: looks that are answered to wait, and then the last one.
 use Rattle.std.specs.Prelude.{◌≡◌, ◌≢◌, ℕ, zero, suc, ◌+◌, ◌≤◌, ◌<◌, Bool, Option, Some, All}
 use Rattle.loop_io.specs.Moments.{IsMoment}
-use Rattle.message_slot.specs.Letter.{Letter, IsAtHome}
+use Rattle.message_slot.specs.Letter.{IsAtHome}
 use Rattle.queue_state.specs.declared.answers.Nexted.{Nexted}
 use Rattle.queue_state.specs.declared.answers.Nexted.TheVariants as nexted
 use Rattle.shared_queue.specs.declared.waiting.Waited.{Waited}

@@ -46,7 +46,8 @@ impl<K: Claim> Model for SharedQueue<K> {
 
     ghost view = { λ s. record { table = s.table.shared.table_id; constants = s.table.shared.key } };
 
-    ghost invariant = { λ s. (s.table.shared.table_id.words ≡ 2) × (s.table.shared.table_id.slots ≡ 1) × (s.traits.looper ≡ s.table.shared.key.looper) × (setting_of s.traits ≡ s.table.shared.key.setting) × (0 < s.traits.senders) };
+    ghost invariant = { λ s. (s.table.shared.table_id.words ≡ 2) × (s.table.shared.table_id.slots ≡ 1)
+        × (s.traits.looper ≡ s.table.shared.key.looper) × (setting_of s.traits ≡ s.table.shared.key.setting) × (0 < s.traits.senders) };
 }
 
 impl<K: Claim> SharedQueue<K> {

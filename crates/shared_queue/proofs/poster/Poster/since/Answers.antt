@@ -1,23 +1,17 @@
-use Rattle.std.proofs.Common.{rules, ◌≡◌, length, refl, inl, subst}
+use Rattle.std.proofs.Common.{rules, ◌≡◌, length, Some, refl, inl}
 use Rattle.queue_state.specs.Queue.{Queue}
-use Rattle.shared_queue.specs.Known.{Known}
-use Rattle.shared_queue.specs.Whole.{whole_queue}
-use Rattle.shared_queue.specs.Calls.{CountedBy}
-use Rattle.shared_queue.proofs.Desks.{may_end}
-use Rattle.shared_queue.proofs.Knows.{known, is_turn, found_is}
+use Rattle.shared_queue.proofs.Knows.{known, found_is}
+use Rattle.shared_queue.proofs.Still.{still_may_end, is_still_turn}
 use Rattle.shared_queue.proofs.poster.Poster.since.Goals as goal
 
 pub end-requires-clause-turn : goal.end-requires-clause-turn
-end-requires-clause-turn g c κs within = may_end c.args.queue.now.constants c.self.inside.desk c.begin-state.new.self c.begin-state.result c.begin-state.result c.begin-state.ensures (refl, refl, refl, inl refl)
+end-requires-clause-turn g c κs within = still_may_end c.args.queue.now.constants c.self.inside.desk c.begin-state.new.self c.begin-state.result c.begin-state.ensures
 
 pub returns : goal.returns
 returns g c =
-    let d = c.self.inside.desk in
-    let n = c.end.new.self in
     let key = c.args.queue.now.constants in
     let x : Queue g.row.K-Home.Denot g.row.K.Denot = c.begin-state.result in
-    let begun = c.begin-state.ensures in
-    let turn = is_turn key d c.begin-state.new.self x c.self.invariant begun n x (refl, refl, refl, inl refl) c.end.ensures in
-    let found = found_is key d c.begin-state.new.self x c.self.invariant begun n x (refl, refl, refl, inl refl) c.end.ensures in
+    let found = found_is key c.self.inside.desk c.begin-state.new.self x c.self.invariant c.begin-state.ensures c.end.new.self x (refl, refl, refl, inl refl) c.end.ensures in
     let answer : length c.entries.result.now ≡ length x.entries = search rules in
-    subst (λ (before : Known g.row.K-Home.Denot g.row.K.Denot). CountedBy before (known n) (length c.entries.result.now)) c.self.view_is (whole_queue begun.spans.0 x, turn, (x, found, answer))
+    is_still_turn key c.self.inside.desk c.begin-state.new.self x c.begin-state.ensures c.end.new.self c.self.view_is c.self.invariant c.end.ensures
+    (λ v. (state : Queue g.row.K-Home.Denot g.row.K.Denot) × ((known c.end.new.self).view.found ≡ Some state) × (length c.entries.result.now ≡ length state.entries)) (λ past leave. (x, found, answer))

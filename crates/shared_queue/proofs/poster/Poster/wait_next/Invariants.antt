@@ -1,4 +1,4 @@
-use Rattle.std.proofs.Common.{◌≡◌, ℕ}
+use Rattle.std.proofs.Common.{ℕ}
 use Rattle.shared_queue.specs.Known.{IsOf}
 use Rattle.shared_queue.specs.Waiting.{Slept}
 use Rattle.shared_queue.proofs.poster.Poster.wait_next.Given as goal
