@@ -1,5 +1,5 @@
 -- What a look was answered, and what a looper may do with it.
-use Rattle.std.proofs.Common.{◌≡◌, ℕ, List, Option, subst, sym}
+use Rattle.std.proofs.Common.{◌≡◌, ℕ, List, Option, subst}
 use Rattle.atomic_table.specs.Seated.{TableId}
 use Rattle.message_slot.specs.Letter.{number_in}
 use Rattle.message_pool.specs.Passes.{Node, Claimed}

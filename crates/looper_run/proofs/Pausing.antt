@@ -1,5 +1,5 @@
 -- How a loop by a clock ends.
-use Rattle.std.proofs.Common.{◌≡◌, ◌⊎◌, ℕ, suc, ◌≤◌, Bool, true, List, [], ◌∷◌, ◌++◌, map, Option, refl, sym, ap, ◌∙◌, subst, inl, inr, arith}
+use Rattle.std.proofs.Common.{◌≡◌, ◌⊎◌, ℕ, Bool, true, List, [], ◌++◌, map, Option, refl, sym, ap, ◌∙◌, subst, inl, inr, arith}
 use Rattle.atomic_table.specs.Seated.{TableId}
 use Rattle.loop_io.specs.Moments.{IsMoment}
 use Rattle.message_pool.specs.Passes.{Claimed, Tally, Node}
@@ -8,7 +8,7 @@ use Rattle.queue_state.specs.declared.answers.Nexted.TheVariants as nexted
 use Rattle.shared_queue.specs.declared.waiting.Waited.{Waited}
 use Rattle.shared_queue.specs.declared.waiting.Waited.TheVariants as waited
 use Rattle.shared_queue.specs.Known.{Shared, IsOf}
-use Rattle.shared_queue.specs.Waiting.{IsCap, HasLooked, HasNudged, Slept, EndsBy, WaitedBy}
+use Rattle.shared_queue.specs.Waiting.{IsCap, HasLooked, HasNudged, Slept, WaitedBy}
 use Rattle.looper_run.specs.declared.step.Step.{Step}
 use Rattle.looper_run.specs.declared.step.Step.TheVariants as step
 use Rattle.looper_run.specs.declared.by_clock.Loop.{Loop}
@@ -16,10 +16,10 @@ use Rattle.looper_run.specs.declared.by_clock.Loop.TheVariants as loop
 use Rattle.looper_run.specs.declared.by_clock.Pause.{Pause}
 use Rattle.looper_run.specs.declared.by_clock.Pause.TheVariants as pause
 use Rattle.looper_run.specs.Holding.{Sender, Holding, Looping, IsAt}
-use Rattle.looper_run.specs.Asked.{Asked, Listening, Listen, TellsOf, any_heard, with_asked, asked_by_round}
+use Rattle.looper_run.specs.Asked.{Asked, Listening, Listen, with_asked, asked_by_round}
 use Rattle.looper_run.specs.Tests.{Test, Passes}
 use Rattle.looper_run.specs.Looks.{looked_by, by_poster, HasAnswer, HasEnded, IsBegun, WaitsAsTold}
-use Rattle.looper_run.specs.Loops.{IsStill, WorksOn, HasWaitedLong, HasStepped, HasPaused, Stepped, GoesOn, IsClosed, StepsBy, IsLoop, LastWait, LoopBy, Pauses, loop_of, pace_of, HasPaced, UnlessHalted, IsNoWait}
+use Rattle.looper_run.specs.Loops.{WorksOn, HasStepped, HasPaused, Stepped, IsClosed, StepsBy, IsLoop, LastWait, LoopBy, Pauses, loop_of, pace_of, HasPaced, UnlessHalted, IsNoWait}
 use Rattle.looper_run.specs.Round.{UnlessStopped}
 use Rattle.looper_run.proofs.Asking.{tells_as, with_more}
 use Rattle.looper_run.proofs.Quiet.{quiet_events}

@@ -22,7 +22,7 @@ use Rattle.looper_run.specs.declared.by_clock.Pause.{Pause}
 use Rattle.looper_run.specs.declared.by_clock.Pause.TheVariants as pause
 use Rattle.looper_run.specs.declared.step.Step.{Step}
 use Rattle.looper_run.specs.declared.step.Step.TheVariants as step
-use Rattle.looper_run.specs.Holding.{Sender, Holding, Looping, IsBeside}
+use Rattle.looper_run.specs.Holding.{Sender, Holding, Looping}
 use Rattle.looper_run.specs.Acts.{taken_by, moment_on}
 use Rattle.looper_run.specs.Asked.{Listening, TellsOf, any_heard}
 use Rattle.looper_run.specs.Looks.{by_poster, StepBy, IsBegun}

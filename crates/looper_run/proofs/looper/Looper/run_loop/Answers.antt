@@ -1,6 +1,6 @@
-use Rattle.std.proofs.Common.{◌≡◌, ℕ, refl, inl, List, ◌++◌, map}
+use Rattle.std.proofs.Common.{◌≡◌, refl, inl, ◌++◌, map}
 use Rattle.loop_io.specs.Moments.{IsMoment}
-use Rattle.looper_run.specs.Asked.{Listening, Listen, with_asked, asked_by_round}
+use Rattle.looper_run.specs.Asked.{Listen, with_asked, asked_by_round}
 use Rattle.looper_run.proofs.Rings.{rings_then}
 use Rattle.looper_run.proofs.Rounds.{works_beginning, begun_any}
 use Rattle.looper_run.proofs.Sleeping.{goes_by}
