@@ -1,12 +1,15 @@
 -- What each entry of the looper and of the controller keeps, and how a run of them goes on.
-use Rattle.std.proofs.Common.{◌≡◌, ◌≢◌, ◌<◌, ◌≤◌, ◌+◌, inl, inr, ℕ, Bool, true, false, List, [], ◌∷◌, ◌++◌, length, refl, sym, ap, ◌∙◌, subst, arith, append_assoc, Option, Some, None, max, take, get_or}
-use Rattle.std.specs.Prelude.{◌==◌, ◌&&◌, not, is_some, if◌then◌else◌, option_map}
+use Rattle.std.proofs.Common.{◌≡◌, ◌≢◌, ◌<◌, ◌≤◌, ◌+◌, ◌⊎◌, inl, inr, ℕ, Bool, true, false, List, [], ◌∷◌, ◌++◌, length, refl, sym, ap, ◌∙◌, subst, arith, append_assoc, Option, Some, None, max, take, get_or}
+use Rattle.std.specs.Prelude.{◌==◌, ◌&&◌, ◌||◌, not, is_some, if◌then◌else◌, option_map, min}
 use Rattle.std.specs.List.{AllByRecursion}
 use Rattle.std.proofs.lemmas.Bool.{and_from, or_left, or_right, eq-eqb, ne_eqb, le-leb}
 use Rattle.std.proofs.lemmas.List.{append-nil, take_more, take_all}
+use Rattle.std.proofs.lemmas.List.Sums.{fold-append}
+use mathlib.Core.Logic.{dite}
+use native.Mathlib.Decide.{dec_lt}
 use Rattle.loop_model.specs.declared.post.Post.{Post as PostData}
 use Rattle.loop_model.specs.declared.call.Call.{Call}
-use Rattle.loop_model.specs.declared.call.Call.TheVariants.{Advance, Halt}
+use Rattle.loop_model.specs.declared.call.Call.TheVariants.{Post, Advance, Halt}
 use Rattle.loop_model.specs.declared.reply.Reply.TheVariants.{Halted}
 use Rattle.loop_model.specs.declared.item.Item.{Item}
 use Rattle.loop_model.specs.declared.entry.Entry.{Entry}
@@ -17,6 +20,8 @@ use Rattle.loop_model.specs.Answers.{quit_place}
 use Rattle.loop_model.specs.Pick.{first_eligible}
 use Rattle.loop_model.proofs.AfterLaws.{clock-snoc}
 use Rattle.run_model.specs.Asks.{entries_by}
+use Rattle.dash_script.specs.declared.script.Script.{Script}
+use Rattle.run_model.specs.Moves.{is_planned_time}
 use Rattle.run_model.specs.Control.{is_advance, is_halt, are_controls, is_controlled, is_quit_by_others, is_none_before, is_in_time, comes_in_time, is_called_in_time, ends_halted}
 use Rattle.run_model.proofs.ControlLaws.{are_advances, are_controls-last, each_behind-snoc}
 use Rattle.run_model.proofs.RunLaws.{entries_by-own, entries_by-unchanged}
@@ -25,8 +30,8 @@ use Rattle.inbox_queue.specs.declared.main_queue.Look.{Look}
 use Rattle.inbox_queue.specs.declared.main_queue.Look.TheVariants.{Taken, Waits, Other}
 use Rattle.inbox_queue.specs.declared.main_queue.Move.{Move}
 use Rattle.inbox_queue.specs.declared.main_queue.Move.TheVariants.{There, Stays, NoMemory}
-use Rattle.inbox_queue.specs.InboxRun.{unslotted, IsPostOrLook, post_at_time, posts_after, posts_made, posts_at}
-use Rattle.inbox_queue.specs.MainQueue.{AreSilent, time_of, GrowsBy, IsLookAt, IsMoveTo, IsHaltAt, IsPostOf, LooksOn, MovesOn, Goes, WaitsFor, HasLooked, HasDrained, HasDriven, HasMoved, HasPosted, HasEnded, HasHalted, IsEarlier}
+use Rattle.inbox_queue.specs.InboxRun.{unslotted, IsPostOrLook, post_at_time, posts_after, posts_made, posts_at, is_post, fresh_behind, is_fresh, comes_first, is_due_at, moves_as_planned}
+use Rattle.inbox_queue.specs.MainQueue.{AreSilent, time_of, GrowsBy, IsLookAt, IsMoveTo, IsHaltAt, IsPostOf, LooksOn, MovesOn, Goes, WaitsFor, HasLooked, HasDrained, HasDriven, IsUnderWay, HasMoved, HasPosted, HasEnded, HasHalted, IsEarlier}
 
 -- ---- one entry more
 
@@ -64,27 +69,47 @@ posts_other n k es e is apart = posts_after-snoc k [] es e ∙ ap (λ b. posts_m
 time_more : (es : List Entry) (e : Entry) → time_of (es ++ e ∷ []) ≡ max (time_of es) (moment_of e.call)
 time_more es e = clock-snoc (empty_base 0) es e
 
--- an entry of the looper
-goes_own : (threads end : ℕ) (es : List Entry) (e : Entry) → e.sender ≡ threads → IsPostOrLook e.call → Goes threads end es → Goes threads end (es ++ e ∷ [])
+-- one more entry behind the last move of the time
+fresh-snoc : (es : List Entry) (e : Entry) → is_fresh (es ++ e ∷ []) ≡ fresh_behind (is_fresh es) e
+unfolding is_fresh
+fresh-snoc es e = fold-append fresh_behind true es (e ∷ [])
+
+pub nothing_fresh : is_fresh [] ≡ true
+unfolding is_fresh
+nothing_fresh = refl
+
+fresh_moved : (es : List Entry) (e : Entry) (time : ℕ) → e.call ≡ Advance time → is_fresh (es ++ e ∷ []) ≡ true
+fresh_moved es e time call = fresh-snoc es e ∙ or_left (is_advance e.call) _ (ap is_advance call)
+
+fresh_posted : (es : List Entry) (e : Entry) (p : PostData) → e.call ≡ Post p → is_fresh es ≡ true → is_fresh (es ++ e ∷ []) ≡ true
+fresh_posted es e p call fresh = fresh-snoc es e ∙ or_right (is_advance e.call) _ (and_from _ _ fresh (ap is_post call))
+
+-- an entry of the looper, which posts only where nothing else has come since the time was moved
+goes_own : (threads : ℕ) (s : Script) (es : List Entry) (e : Entry) → e.sender ≡ threads → IsPostOrLook e.call → comes_first es e ≡ true → is_advance e.call ≡ false → Goes threads s es → Goes threads s (es ++ e ∷ [])
 unfolding is_called_in_time
-goes_own threads end es e is one h = record {
+goes_own threads s es e is one first no_move h = record {
   looks = subst (AllByRecursion (λ (f : Entry). IsPostOrLook f.call)) (sym (entries_by-own threads es e (own threads e is))) (all_more (λ (f : Entry). IsPostOrLook f.call) (entries_by threads es) e h.looks one);
-  moves = subst (AllByRecursion (λ (f : Entry). (is_advance f.call ≡ true) × (moment_of f.call ≤ end))) (sym (entries_by-unchanged (threads + 1) es (e ∷ []) (not_mine, tt))) h.moves;
+  moves = subst (AllByRecursion (λ (f : Entry). (is_advance f.call ≡ true) × (moment_of f.call ≤ s.end))) (sym (entries_by-unchanged (threads + 1) es (e ∷ []) (not_mine, tt))) h.moves;
   timely = each_behind-snoc (comes_in_time (threads + 1)) [] es e h.timely (or_left _ _ (ap not not_mine));
+  first = each_behind-snoc comes_first [] es e h.first first;
+  planned = each_behind-snoc (moves_as_planned s) [] es e h.planned (or_left _ _ (ap not no_move));
 }
   where
     not_mine : (e.sender == threads + 1) ≡ false
     not_mine = other threads (threads + 1) e is (apart_up threads)
 
 -- a move of the time
-goes_move : (threads end time : ℕ) (es : List Entry) (e : Entry) → e.sender ≡ threads + 1 → e.call ≡ Advance time → time ≤ end → is_none_before time (first_eligible (empty_base 0) es) ≡ true → quit_place (empty_base 0) es ≡ None
-    → Goes threads end es → Goes threads end (es ++ e ∷ [])
+goes_move : (threads time : ℕ) (s : Script) (es : List Entry) (e : Entry) → e.sender ≡ threads + 1 → e.call ≡ Advance time → time ≤ s.end → is_none_before time (first_eligible (empty_base 0) es) ≡ true → quit_place (empty_base 0) es ≡ None
+    → (is_planned_time s time || is_due_at time (first_eligible (empty_base 0) es)) ≡ true → Goes threads s es → Goes threads s (es ++ e ∷ [])
 unfolding is_called_in_time
-goes_move threads end time es e is call within none quiet h = record {
+goes_move threads time s es e is call within none quiet planned h = record {
   looks = subst (AllByRecursion (λ (f : Entry). IsPostOrLook f.call)) (sym (entries_by-unchanged threads es (e ∷ []) (other (threads + 1) threads e is (apart_down threads), tt))) h.looks;
-  moves = subst (AllByRecursion (λ (f : Entry). (is_advance f.call ≡ true) × (moment_of f.call ≤ end))) (sym (entries_by-own (threads + 1) es e (own (threads + 1) e is)))
-      (all_more (λ (f : Entry). (is_advance f.call ≡ true) × (moment_of f.call ≤ end)) (entries_by (threads + 1) es) e h.moves (subst (λ (c : Call). (is_advance c ≡ true) × (moment_of c ≤ end)) (sym call) (refl, within)));
+  moves = subst (AllByRecursion (λ (f : Entry). (is_advance f.call ≡ true) × (moment_of f.call ≤ s.end))) (sym (entries_by-own (threads + 1) es e (own (threads + 1) e is)))
+      (all_more (λ (f : Entry). (is_advance f.call ≡ true) × (moment_of f.call ≤ s.end)) (entries_by (threads + 1) es) e h.moves (subst (λ (c : Call). (is_advance c ≡ true) × (moment_of c ≤ s.end)) (sym call) (refl, within)));
   timely = each_behind-snoc (comes_in_time (threads + 1)) [] es e h.timely (or_right _ _ (subst (λ (c : Call). is_in_time es c e.reply ≡ true) (sym call) (and_from _ _ none (ap (λ o. not (is_some o)) quiet))));
+  first = each_behind-snoc comes_first [] es e h.first (or_left _ _ (ap (λ (c : Call). not (is_post c)) call));
+  planned = each_behind-snoc (moves_as_planned s) [] es e h.planned
+      (or_right _ _ (subst (λ (c : Call). (is_planned_time s (moment_of c) || is_due_at (moment_of c) (first_eligible (empty_base 0) es)) ≡ true) (sym call) planned));
 }
 
 -- the halt
@@ -97,14 +122,16 @@ ends_halted-snoc [] e = refl
 ends_halted-snoc (f ∷ []) e = refl
 ends_halted-snoc (f ∷ g ∷ es) e = ends_halted-snoc (g ∷ es) e
 
-ends : (threads end : ℕ) (es : List Entry) (e : Entry) → e.sender ≡ threads + 1 → e.call ≡ Halt end → e.reply ≡ Halted → Goes threads end es → HasEnded threads end (es ++ e ∷ [])
+ends : (threads : ℕ) (s : Script) (es : List Entry) (e : Entry) → e.sender ≡ threads + 1 → e.call ≡ Halt s.end → e.reply ≡ Halted → Goes threads s es → HasEnded threads s (es ++ e ∷ [])
 unfolding is_called_in_time is_controlled
-ends threads end es e is call reply h = record {
+ends threads s es e is call reply h = record {
   looks = subst (AllByRecursion (λ (f : Entry). IsPostOrLook f.call)) (sym (entries_by-unchanged threads es (e ∷ []) (other (threads + 1) threads e is (apart_down threads), tt))) h.looks;
-  controlled = and_from _ _ (ap (are_controls true true end (is_quit_by_others (threads + 1) (es ++ e ∷ []))) (entries_by-own (threads + 1) es e (own (threads + 1) e is))
-      ∙ are_controls-last true true end (is_quit_by_others (threads + 1) (es ++ e ∷ [])) (entries_by (threads + 1) es) e (advances end (entries_by (threads + 1) es) h.moves) (ap is_advance call)
-      (subst (λ (z : Call × (Bool)). ((is_halt z.0 && z.1) && (moment_of z.0 == end)) ≡ true) (λ i. (sym call i, sym (ap is_halted reply) i)) (and_from _ _ refl (eq-eqb end end refl)))) refl;
+  controlled = and_from _ _ (ap (are_controls true true s.end (is_quit_by_others (threads + 1) (es ++ e ∷ []))) (entries_by-own (threads + 1) es e (own (threads + 1) e is))
+      ∙ are_controls-last true true s.end (is_quit_by_others (threads + 1) (es ++ e ∷ [])) (entries_by (threads + 1) es) e (advances s.end (entries_by (threads + 1) es) h.moves) (ap is_advance call)
+      (subst (λ (z : Call × (Bool)). ((is_halt z.0 && z.1) && (moment_of z.0 == s.end)) ≡ true) (λ i. (sym call i, sym (ap is_halted reply) i)) (and_from _ _ refl (eq-eqb s.end s.end refl)))) refl;
   timely = each_behind-snoc (comes_in_time (threads + 1)) [] es e h.timely (or_right _ _ (subst (λ (c : Call). is_in_time es c e.reply ≡ true) (sym call) refl));
+  first = each_behind-snoc comes_first [] es e h.first (or_left _ _ (ap (λ (c : Call). not (is_post c)) call));
+  planned = each_behind-snoc (moves_as_planned s) [] es e h.planned (or_left _ _ (ap (λ (c : Call). not (is_advance c)) call));
   halted = ends_halted-snoc es e ∙ ap is_halted reply;
 }
 
@@ -115,16 +142,16 @@ same_time t = omega arith
 
 looked_one : (threads : ℕ) (past now : List Entry) → GrowsBy threads (IsLookAt (time_of past)) past now → HasLooked threads past now
 looked_one threads past now g = subst (HasLooked threads past) (sym g.1) (record {
-  goes = λ end h. goes_own threads end past g.0 g.2 (subst IsPostOrLook (sym g.3) tt) h;
+  goes = λ s h. goes_own threads s past g.0 g.2 (subst IsPostOrLook (sym g.3) tt) (or_left _ _ (ap (λ (c : Call). not (is_post c)) g.3)) (ap is_advance g.3) h;
   posts = posts_own threads past g.0 g.2 ∙ ap (λ (c : Call). posts_made threads past ++ post_at_time (time_of past) c) g.3 ∙ append-nil (posts_made threads past);
   time = time_more past g.0 ∙ ap (λ (c : Call). max (time_of past) (moment_of c)) g.3 ∙ same_time (time_of past);
 })
 
 looked_none : (threads : ℕ) (past : List Entry) → HasLooked threads past past
-looked_none threads past = record { goes = λ end h. h; posts = refl; time = refl }
+looked_none threads past = record { goes = λ s h. h; posts = refl; time = refl }
 
 looked_then : (threads : ℕ) (a b c : List Entry) → HasLooked threads a b → HasLooked threads b c → HasLooked threads a c
-looked_then threads a b c p q = record { goes = λ end h. q.goes end (p.goes end h); posts = q.posts ∙ p.posts; time = q.time ∙ p.time }
+looked_then threads a b c p q = record { goes = λ s h. q.goes s (p.goes s h); posts = q.posts ∙ p.posts; time = q.time ∙ p.time }
 
 looked_by : (threads : ℕ) (look : Look) (past now : List Entry) → LooksOn threads look past now → HasLooked threads past now
 looked_by threads Taken past now g = looked_one threads past now g
@@ -165,19 +192,33 @@ earlier_within : (until : Option ℕ) (limit time : ℕ) → IsEarlier until lim
 earlier_within None limit time is = omega (arith, is)
 earlier_within (Some u) limit time is = omega (arith, is)
 
+-- it is the limit, or the first message that may be dispatched is due then
+earlier_planned : (s : Script) (until : Option ℕ) (first : Option Item) (limit time : ℕ) → until ≡ option_map when_of first → IsEarlier until limit time → is_planned_time s limit ≡ true → (is_planned_time s time || is_due_at time first) ≡ true
+earlier_planned s None first limit time is early planned = or_left _ _ (ap (is_planned_time s) early ∙ planned)
+earlier_planned s (Some u) None limit time is early planned = absurd (let wrong : Some u ≡ None = is in cc wrong)
+earlier_planned s (Some u) (Some x) limit time is early planned =
+    let same : u ≡ when_of x = (let e : Some u ≡ Some (when_of x) = is in cc e) in
+    elim (one_of u limit) [
+      | inl at ↦ or_right _ _ (eq-eqb (when_of x) time (sym same ∙ sym at ∙ sym early))
+      | inr at ↦ or_left _ _ (ap (is_planned_time s) (early ∙ at) ∙ planned)
+    ]
+  where
+    one_of : (a b : ℕ) → (min a b ≡ a) ⊎ (min a b ≡ b)
+    one_of a b = dite (dec_lt a b) (λ lt. inl (let r : min a b ≡ a = omega (arith, lt) in r)) (λ no_less. inr (let r : min a b ≡ b = omega arith in r))
+
 driven_none : (threads time : ℕ) (a : List Entry) → HasDriven threads time a a
-driven_none threads time a = record { goes = λ end le h. h; posts = refl; within = λ h. h }
+driven_none threads time a = record { goes = λ s le planned h. h; posts = refl; within = λ h. h }
 
 driven_then : (threads time : ℕ) (a b c : List Entry) → HasDriven threads time a b → HasDriven threads time b c → HasDriven threads time a c
-driven_then threads time a b c p q = record { goes = λ end le h. q.goes end le (p.goes end le h); posts = q.posts ∙ p.posts; within = λ h. q.within (p.within h) }
+driven_then threads time a b c p q = record { goes = λ s le planned h. q.goes s le planned (p.goes s le planned h); posts = q.posts ∙ p.posts; within = λ h. q.within (p.within h) }
 
 driven_looked : (threads time : ℕ) (a b : List Entry) → HasLooked threads a b → HasDriven threads time a b
-driven_looked threads time a b p = record { goes = λ end le h. p.goes end h; posts = p.posts; within = λ h. subst (λ t. t ≤ time) (sym p.time) h }
+driven_looked threads time a b p = record { goes = λ s le planned h. p.goes s h; posts = p.posts; within = λ h. subst (λ t. t ≤ time) (sym p.time) h }
 
 driven_moved : (threads limit time : ℕ) (until : Option ℕ) (past now : List Entry) → IsEarlier until limit time → WaitsFor until past → GrowsBy (threads + 1) (IsMoveTo time) past now → HasDriven threads limit past now
 driven_moved threads limit time until past now early waits g = subst (HasDriven threads limit past) (sym g.1) (record {
-  goes = λ end le h. goes_move threads end time past g.0 g.2 g.3.0 (let w = earlier_within until limit time early in let r : time ≤ end = omega (arith, w, le) in r)
-      (none_passed until (first_eligible (empty_base 0) past) limit time waits.0 early) waits.1 h;
+  goes = λ s le planned h. goes_move threads time s past g.0 g.2 g.3.0 (let w = earlier_within until limit time early in let r : time ≤ s.end = omega (arith, w, le) in r)
+      (none_passed until (first_eligible (empty_base 0) past) limit time waits.0 early) waits.1 (earlier_planned s until (first_eligible (empty_base 0) past) limit time waits.0 early planned) h;
   posts = posts_other (threads + 1) threads past g.0 g.2 (apart_down threads);
   within = λ h. let w = earlier_within until limit time early in
       let t : time_of (past ++ g.0 ∷ []) ≡ max (time_of past) time = time_more past g.0 ∙ ap (λ (c : Call). max (time_of past) (moment_of c)) g.3.0 in
@@ -197,31 +238,82 @@ reached threads time b c (inl q) = subst (λ es. time ≤ time_of es) (sym q.0) 
 reached threads time b c (inr q) = let g = q.0 in
     let t : time_of c ≡ max (time_of b) time = ap time_of g.1 ∙ time_more b g.0 ∙ ap (λ (x : Call). max (time_of b) (moment_of x)) g.3.0 in let r : time ≤ time_of c = omega (arith, t) in r
 
-pub drive_none : (threads time : ℕ) (a : List Entry) → Led threads (HasDriven threads time) a a
-drive_none threads time a silent = (silent, driven_none threads time a)
+-- a move no further than before a time leaves the time before that
+still_before : (threads limit time : ℕ) (move : Move) (c d : List Entry) → time < limit → MovesOn threads time move c d → time_of c < limit → time_of d < limit
+still_before threads limit time There c d lt (inl q) h = subst (λ es. time_of es < limit) (sym q.0) h
+still_before threads limit time There c d lt (inr q) h = let g = q.0 in
+    let t : time_of d ≡ max (time_of c) time = ap time_of g.1 ∙ time_more c g.0 ∙ ap (λ (x : Call). max (time_of c) (moment_of x)) g.3.0 in let r : time_of d < limit = omega (arith, t, lt, h) in r
+still_before threads limit time Stays c d lt q h = subst (λ es. time_of es < limit) (sym q) h
+still_before threads limit time NoMemory c d lt q h = subst (λ es. time_of es < limit) (sym q) h
+
+-- where the time was before the one that it went to, the move was the last that came
+moved_fresh : (threads time : ℕ) (c d : List Entry) → MovesOn threads time There c d → time_of c < time → is_fresh d ≡ true
+moved_fresh threads time c d (inl q) h = absurd (let le = q.1 in let wrong : ⊥ = omega (arith, le, h) in wrong)
+moved_fresh threads time c d (inr q) h = let g = q.0 in ap is_fresh g.1 ∙ fresh_moved c g.0 time g.3.0
+
+pub drive_none : (threads time : ℕ) (a : List Entry) → Led threads (IsUnderWay threads time) a a
+drive_none threads time a silent = (silent, (driven_none threads time a, λ h. h))
+
+-- for the time 0 nothing is to be done
+pub drive_start : (n limit : ℕ) (a d : List Entry) → limit ≡ 0 → d ≡ a → Led n (HasMoved n limit) a d
+drive_start n limit a d start is silent = subst (λ l. AreSilent n l × HasMoved n limit l d) is (
+  silent,
+  record {
+    driven = driven_none n limit d;
+    least = let r : limit ≤ time_of d = omega (arith, start) in r;
+    fresh = λ h. absurd (let wrong : ⊥ = omega (arith, start, h) in wrong);
+    start = λ zero. refl;
+  },
+)
 
 -- one turn of the loop: drained, and moved or not
-pub drive_more : (n m k limit time : ℕ) (until : Option ℕ) (move : Move) (a b c d : List Entry) → m ≡ n → k ≡ n → IsEarlier until limit time → Led n (HasDriven n limit) a b → Led m (HasDrained m until) b c → Led k (MovesOn k time move) c d → Led n (HasDriven n limit) a d
-drive_more n m k limit time until move a b c d is is' early p q r silent =
+driven_more : (n m k limit time : ℕ) (until : Option ℕ) (move : Move) (a b c d : List Entry) → m ≡ n → k ≡ n → IsEarlier until limit time → Led n (IsUnderWay n limit) a b → Led m (HasDrained m until) b c → Led k (MovesOn k time move) c d
+    → AreSilent n d → AreSilent n a × HasDriven n limit a d × (time_of a < limit → time_of c < limit) × MovesOn n time move c d
+driven_more n m k limit time until move a b c d is is' early p q r silent =
     let r' = r (subst (λ t. AreSilent t d) (sym is') silent) in
     let q' = q (subst (λ t. AreSilent t c) (is' ∙ sym is) r'.0) in
-    let p' = p (subst (λ t. AreSilent t b) is q'.0) in
-    (p'.0, driven_then n limit a b d p'.1 (move_by n limit time until move b c d early (subst (λ t. HasDrained t until b c) is q'.1) (subst (λ t. MovesOn t time move c d) is' r'.1)))
+    let p' = p (subst (λ t. AreSilent t b) is q'.0) in (
+      p'.0,
+      driven_then n limit a b d p'.1.0 (move_by n limit time until move b c d early (subst (λ t. HasDrained t until b c) is q'.1) (subst (λ t. MovesOn t time move c d) is' r'.1)),
+      λ h. subst (λ t. t < limit) (sym q'.1.0.time) (p'.1.1 h),
+      subst (λ t. MovesOn t time move c d) is' r'.1,
+    )
 
-pub drive_last : (n m k limit time : ℕ) (until : Option ℕ) (a b c d : List Entry) → m ≡ n → k ≡ n → time ≡ limit → IsEarlier until limit time → Led n (HasDriven n limit) a b → Led m (HasDrained m until) b c → Led k (MovesOn k time There) c d → Led n (HasMoved n limit) a d
-drive_last n m k limit time until a b c d is is' there early p q r silent =
-    let all = drive_more n m k limit time until There a b c d is is' early p q r silent in
-    let r' = r (subst (λ t. AreSilent t d) (sym is') silent) in
-    (all.0, (all.1, subst (λ t. t ≤ time_of d) there (reached k time c d r'.1)))
+pub drive_more : (n m k limit time : ℕ) (until : Option ℕ) (move : Move) (a b c d : List Entry) → m ≡ n → k ≡ n → time ≢ limit → IsEarlier until limit time → Led n (IsUnderWay n limit) a b → Led m (HasDrained m until) b c → Led k (MovesOn k time move) c d → Led n (IsUnderWay n limit) a d
+drive_more n m k limit time until move a b c d is is' apart early p q r silent =
+    let all = driven_more n m k limit time until move a b c d is is' early p q r silent in
+    let within = earlier_within until limit time early in
+    let less : time < limit = omega (arith, within, apart) in
+    (all.0, (all.1, λ h. still_before n limit time move c d less all.3 (all.2 h)))
+
+-- where the time stays, the loop goes on
+pub drive_stays : (n m k limit time : ℕ) (until : Option ℕ) (a b c d : List Entry) → m ≡ n → k ≡ n → IsEarlier until limit time → Led n (IsUnderWay n limit) a b → Led m (HasDrained m until) b c → Led k (MovesOn k time Stays) c d → Led n (IsUnderWay n limit) a d
+drive_stays n m k limit time until a b c d is is' early p q r silent =
+    let all = driven_more n m k limit time until Stays a b c d is is' early p q r silent in
+    (all.0, (all.1, λ h. subst (λ es. time_of es < limit) (sym all.3) (all.2 h)))
+
+pub drive_last : (n m k limit time : ℕ) (until : Option ℕ) (a b c d : List Entry) → limit ≢ 0 → m ≡ n → k ≡ n → time ≡ limit → IsEarlier until limit time → Led n (IsUnderWay n limit) a b → Led m (HasDrained m until) b c → Led k (MovesOn k time There) c d → Led n (HasMoved n limit) a d
+drive_last n m k limit time until a b c d some is is' there early p q r silent =
+    let all = driven_more n m k limit time until There a b c d is is' early p q r silent in
+    let move : MovesOn n limit There c d = subst (λ t. MovesOn n t There c d) there all.3 in (
+      all.0,
+      record {
+        driven = all.1;
+        least = reached n limit c d move;
+        fresh = λ h. moved_fresh n limit c d move (all.2 h);
+        start = λ zero. absurd (some zero);
+      },
+    )
 
 -- ---- the looper's posts
 
 posted_none : (threads : ℕ) (a : List Entry) → HasPosted threads [] a a
-posted_none threads a = record { goes = λ end h. h; posts = sym (append-nil (posts_made threads a)); time = refl }
+posted_none threads a = record { goes = λ s fresh h. h; fresh = λ h. h; posts = sym (append-nil (posts_made threads a)); time = refl }
 
 posted_one : (threads : ℕ) (parcels : List Parcel) (x : Parcel) (a b c : List Entry) → HasPosted threads parcels a b → GrowsBy threads (IsPostOf x.post) b c → HasPosted threads (parcels ++ x ∷ []) a c
 posted_one threads parcels x a b c p g = subst (HasPosted threads (parcels ++ x ∷ []) a) (sym g.1) (record {
-  goes = λ end h. goes_own threads end b g.0 g.2 (subst IsPostOrLook (sym g.3.1) tt) (p.goes end h);
+  goes = λ s fresh h. goes_own threads s b g.0 g.2 (subst IsPostOrLook (sym g.3.1) tt) (or_right _ _ (p.fresh fresh)) (ap is_advance g.3.1) (p.goes s fresh h);
+  fresh = λ h. fresh_posted b g.0 g.3.0 g.3.1 (p.fresh h);
   posts = posts_own threads b g.0 g.2 ∙ ap (λ (q : Call). posts_made threads b ++ post_at_time (time_of b) q) g.3.1
       ∙ (λ i. p.posts i ++ (p.time i, g.3.2 i) ∷ []) ∙ append_assoc (posts_made threads a) (posts_at (time_of a) parcels) ((time_of a, unslotted x.post) ∷ [])
       ∙ ap (λ l. posts_made threads a ++ l) (sym (posts_at-snoc (time_of a) parcels x));
@@ -248,7 +340,7 @@ post_all n parcels i a b no_more p = subst (λ l. Led n (HasPosted n l) a b) (ta
 
 halted_one : (threads : ℕ) (a b c : List Entry) → HasLooked threads a b → GrowsBy (threads + 1) (IsHaltAt (time_of b)) b c → HasHalted threads a c
 halted_one threads a b c p g = subst (HasHalted threads a) (sym g.1) (record {
-  ends = λ h. ends threads (time_of a) b g.0 g.2 (g.3.0 ∙ ap Halt p.time) g.3.1 (p.goes (time_of a) h);
+  ends = λ s at h. ends threads s b g.0 g.2 (g.3.0 ∙ ap Halt (p.time ∙ at)) g.3.1 (p.goes s h);
   posts = posts_other (threads + 1) threads b g.0 g.2 (apart_down threads) ∙ p.posts;
 })
 

@@ -1,10 +1,13 @@
 -- An inbox run from block to block.
-use Rattle.std.proofs.Common.{◌≡◌, ◌<◌, ◌≤◌, ◌+◌, ℕ, zero, suc, Bool, true, List, [], ◌∷◌, ◌++◌, length, take, drop, get_or, refl, sym, ap, ◌∙◌, subst, arith, append_assoc}
-use Rattle.std.specs.Prelude.{nat_le, nat_lt}
+use Rattle.std.proofs.Common.{◌≡◌, ◌<◌, ◌≤◌, ◌+◌, ◌⊎◌, inl, inr, ℕ, zero, suc, Bool, true, List, [], ◌∷◌, ◌++◌, length, take, drop, get_or, refl, sym, ap, ◌∙◌, subst, arith, append_assoc}
+use Rattle.std.specs.Prelude.{nat_le, nat_lt, ◌==◌}
 use Rattle.std.specs.List.{AllByRecursion, list_all}
 use Rattle.std.proofs.Math.Seq.{drop-cons}
 use Rattle.std.proofs.lemmas.List.{append-nil, take_more, take_all, drop_all}
-use Rattle.std.proofs.lemmas.Bool.{and_parts, leb-true, ltb-true}
+use Rattle.std.proofs.lemmas.Bool.{and_parts, leb-true, ltb-true, or_left, or_right, eq-eqb}
+use Rattle.std.proofs.lemmas.List.Folds.{list_any_at}
+use mathlib.Core.Logic.{dite}
+use native.Mathlib.Decide.{dec_lt}
 use Rattle.loop_model.specs.declared.entry.Entry.{Entry}
 use Rattle.loop_model.specs.Base.{empty_base}
 use Rattle.loop_model.specs.Answers.{clock}
@@ -12,34 +15,54 @@ use Rattle.dash_script.specs.declared.script.Block.{Block}
 use Rattle.dash_script.specs.declared.script.Script.{Script}
 use Rattle.dash_script.specs.Reading.{HasText, rise}
 use Rattle.run_model.specs.Control.{is_called_in_time}
+use Rattle.run_model.specs.Moves.{is_planned_time}
 use Rattle.inbox_queue.specs.declared.parcel.Parcel.{Parcel}
-use Rattle.inbox_queue.specs.InboxRun.{posts_made, posts_at, posts_admitted, IsOfBlock, AreOfBlocks}
-use Rattle.inbox_queue.specs.MainQueue.{AreSilent, time_of, Goes, HasMoved, HasPosted, HasEnded, HasHalted}
+use Rattle.inbox_queue.specs.InboxRun.{posts_made, posts_at, posts_admitted, IsOfBlock, AreOfBlocks, is_fresh}
+use Rattle.inbox_queue.specs.MainQueue.{AreSilent, time_of, Goes, HasMoved, HasPosted, HasHalted}
 use Rattle.inbox_queue.specs.Opened.{IsPlayed}
-use Rattle.inbox_queue.proofs.Driving.{Led}
+use Rattle.inbox_queue.proofs.Driving.{Led, nothing_fresh}
 
--- what was run of the blocks, and that the time is none later than what is to come
+-- the time is before a block's, or nothing has come yet
+abbrev pub IsAhead : List Entry → Block → Type 0
+IsAhead es b = (time_of es < b.time) ⊎ (es ≡ [])
+
+-- what was run of the blocks, and that the time is before what is to come
 pub record Ran (s : Script) (threads : ℕ) (done rest : List Block) (admitted : List (List Parcel)) (es : List Entry) : Type 0 where
-  pub goes : Goes threads s.end es
+  pub goes : Goes threads s es
   pub posts : posts_made threads es ≡ posts_admitted done admitted
-  pub ahead : AllByRecursion (λ (b : Block). time_of es ≤ b.time) rest
+  pub ahead : AllByRecursion (IsAhead es) rest
   pub within : time_of es ≤ s.end
 
 clock_none : clock (empty_base 0) [] ≡ 0
 unfolding clock
 clock_none = refl
 
-all_ahead : (t : ℕ) (bs : List Block) → t ≡ 0 → AllByRecursion (λ (b : Block). t ≤ b.time) bs
-all_ahead t [] is = tt
-all_ahead t (b ∷ bs) is = ((let r : t ≤ b.time = omega (arith, is) in r), all_ahead t bs is)
+all_ahead : (bs : List Block) → AllByRecursion (IsAhead []) bs
+all_ahead [] = tt
+all_ahead (b ∷ bs) = (inr refl, all_ahead bs)
+
+-- a time that is ahead is reached, and nothing has come since then
+arrived : (threads time : ℕ) (past now : List Entry) → (time_of past < time) ⊎ (past ≡ []) → HasMoved threads time past now → (time_of now ≡ time) × (is_fresh now ≡ true)
+arrived threads time past now (inl before) moved =
+    let most = moved.driven.within (let r : time_of past ≤ time = omega (arith, before) in r) in
+    let least = moved.least in
+    ((let r : time_of now ≡ time = omega (arith, most, least) in r), moved.fresh before)
+arrived threads time past now (inr is) moved =
+    let z : time_of past ≡ 0 = ap time_of is ∙ clock_none in
+    let most = moved.driven.within (let r : time_of past ≤ time = omega (arith, z) in r) in
+    let least = moved.least in (
+      (let r : time_of now ≡ time = omega (arith, most, least) in r),
+      dite (dec_lt 0 time) (λ some. moved.fresh (let r : time_of past < time = omega (arith, z, some) in r))
+          (λ no_more. ap is_fresh (moved.start (let r : time ≡ 0 = omega arith in r) ∙ is) ∙ nothing_fresh),
+    )
 
 -- at the start
 pub ran_none : (s : Script) (threads : ℕ) (es : List Entry) → es ≡ [] → Ran s threads [] s.blocks [] es
 unfolding is_called_in_time
 ran_none s threads es is = subst (Ran s threads [] s.blocks []) (sym is) (record {
-  goes = record { looks = tt; moves = tt; timely = refl };
+  goes = record { looks = tt; moves = tt; timely = refl; first = refl; planned = refl };
   posts = refl;
-  ahead = all_ahead (time_of []) s.blocks clock_none;
+  ahead = all_ahead s.blocks;
   within = let z = clock_none in let r : time_of [] ≤ s.end = omega (arith, z) in r;
 })
 
@@ -55,48 +78,47 @@ of_blocks-snoc s [] (l ∷ ls) b parcels h one = absurd h
 of_blocks-snoc s (c ∷ cs) [] b parcels h one = absurd h
 of_blocks-snoc s (c ∷ cs) (l ∷ ls) b parcels h one = (h.0, of_blocks-snoc s cs ls b parcels h.1 one)
 
-later_all : (t time : ℕ) (bs : List Block) → t ≡ time → list_all (λ (later : Block). nat_lt time later.time) bs ≡ true → AllByRecursion (λ (c : Block). t ≤ c.time) bs
-later_all t time [] is h = tt
-later_all t time (c ∷ cs) is h =
+later_all : (es : List Entry) (time : ℕ) (bs : List Block) → time_of es ≡ time → list_all (λ (later : Block). nat_lt time later.time) bs ≡ true → AllByRecursion (IsAhead es) bs
+later_all es time [] is h = tt
+later_all es time (c ∷ cs) is h =
     let parts = and_parts (nat_lt time c.time) (list_all (λ (later : Block). nat_lt time later.time) cs) h in
     let lt = ltb-true time c.time parts.0 in
-    ((let r : t ≤ c.time = omega (arith, lt, is) in r), later_all t time cs is parts.1)
+    (inl (let r : time_of es < c.time = omega (arith, lt, is) in r), later_all es time cs is parts.1)
 
 -- a block more
-pub ran_more : (s : Script) (threads : ℕ) (done rest : List Block) (b : Block) (lists : List (List Parcel)) (parcels : List Parcel) (w0 w1 w2 : List Entry) → AreOfBlocks s done lists → rise (b ∷ rest) ≡ true → nat_le b.time s.end ≡ true
+pub ran_more : (s : Script) (threads : ℕ) (done rest : List Block) (b : Block) (lists : List (List Parcel)) (parcels : List Parcel) (w0 w1 w2 : List Entry) → AreOfBlocks s done lists → rise (b ∷ rest) ≡ true → nat_le b.time s.end ≡ true → is_planned_time s b.time ≡ true
     → Ran s threads done (b ∷ rest) lists w0 → HasMoved threads b.time w0 w1 → HasPosted threads parcels w1 w2 → Ran s threads (done ++ b ∷ []) rest (lists ++ parcels ∷ []) w2
-ran_more s threads done rest b lists parcels w0 w1 w2 blocks rises early ran moved posted =
+ran_more s threads done rest b lists parcels w0 w1 w2 blocks rises early planned ran moved posted =
     let le : b.time ≤ s.end = leb-true b.time s.end early in
-    let most = moved.0.within ran.ahead.0 in
-    let least = moved.1 in
-    let at : time_of w1 ≡ b.time = omega (arith, most, least) in
+    let there = arrived threads b.time w0 w1 ran.ahead.0 moved in
+    let at : time_of w1 ≡ b.time = there.0 in
     let now : time_of w2 ≡ b.time = posted.time ∙ at in
     record {
-      goes = posted.goes s.end (moved.0.goes s.end le ran.goes);
-      posts = posted.posts ∙ (λ i. (moved.0.posts ∙ ran.posts) i ++ posts_at (at i) parcels) ∙ sym (posts_admitted-snoc s done lists b parcels blocks);
-      ahead = later_all (time_of w2) b.time rest now (and_parts (list_all (λ (later : Block). nat_lt b.time later.time) rest) (rise rest) rises).0;
+      goes = posted.goes s there.1 (moved.driven.goes s le planned ran.goes);
+      posts = posted.posts ∙ (λ i. (moved.driven.posts ∙ ran.posts) i ++ posts_at (at i) parcels) ∙ sym (posts_admitted-snoc s done lists b parcels blocks);
+      ahead = later_all w2 b.time rest now (and_parts (list_all (λ (later : Block). nat_lt b.time later.time) rest) (rise rest) rises).0;
       within = let r : time_of w2 ≤ s.end = omega (arith, now, le) in r;
     }
 
 -- the end
 pub ran_all : (s : Script) (threads : ℕ) (lists : List (List Parcel)) (w0 w1 w2 : List Entry) → Ran s threads s.blocks [] lists w0 → HasMoved threads s.end w0 w1 → HasHalted threads w1 w2 → IsPlayed s threads lists w2
 ran_all s threads lists w0 w1 w2 ran moved halted =
-    let most = moved.0.within ran.within in
-    let least = moved.1 in
+    let most = moved.driven.within ran.within in
+    let least = moved.least in
     let at : time_of w1 ≡ s.end = omega (arith, most, least) in
     let le : s.end ≤ s.end = omega arith in
     record {
-      ended = subst (λ t. HasEnded threads t w2) at (halted.ends (subst (λ t. Goes threads t w1) (sym at) (moved.0.goes s.end le ran.goes)));
-      posts = halted.posts ∙ moved.0.posts ∙ ran.posts;
+      ended = halted.ends s at (moved.driven.goes s le (or_left _ _ (eq-eqb s.end s.end refl)) ran.goes);
+      posts = halted.posts ∙ moved.driven.posts ∙ ran.posts;
     }
 
 -- with what is known of threads that are silent
-pub play_more : (s : Script) (n m k : ℕ) (done rest : List Block) (b : Block) (lists : List (List Parcel)) (parcels : List Parcel) (w0 w1 w2 : List Entry) → m ≡ n → k ≡ n → AreOfBlocks s done lists → rise (b ∷ rest) ≡ true → nat_le b.time s.end ≡ true
+pub play_more : (s : Script) (n m k : ℕ) (done rest : List Block) (b : Block) (lists : List (List Parcel)) (parcels : List Parcel) (w0 w1 w2 : List Entry) → m ≡ n → k ≡ n → AreOfBlocks s done lists → rise (b ∷ rest) ≡ true → nat_le b.time s.end ≡ true → is_planned_time s b.time ≡ true
     → (AreSilent n w0 → Ran s n done (b ∷ rest) lists w0) → Led m (HasMoved m b.time) w0 w1 → Led k (HasPosted k parcels) w1 w2 → AreSilent n w2 → Ran s n (done ++ b ∷ []) rest (lists ++ parcels ∷ []) w2
-play_more s n m k done rest b lists parcels w0 w1 w2 is is' blocks rises early ran moved posted silent =
+play_more s n m k done rest b lists parcels w0 w1 w2 is is' blocks rises early planned ran moved posted silent =
     let p = posted (subst (λ t. AreSilent t w2) (sym is') silent) in
     let q = moved (subst (λ t. AreSilent t w1) (is' ∙ sym is) p.0) in
-    ran_more s n done rest b lists parcels w0 w1 w2 blocks rises early (ran (subst (λ t. AreSilent t w0) is q.0)) (subst (λ t. HasMoved t b.time w0 w1) is q.1) (subst (λ t. HasPosted t parcels w1 w2) is' p.1)
+    ran_more s n done rest b lists parcels w0 w1 w2 blocks rises early planned (ran (subst (λ t. AreSilent t w0) is q.0)) (subst (λ t. HasMoved t b.time w0 w1) is q.1) (subst (λ t. HasPosted t parcels w1 w2) is' p.1)
 
 pub play_all : (s : Script) (n m k : ℕ) (lists : List (List Parcel)) (w0 w1 w2 : List Entry) → m ≡ n → k ≡ n → (AreSilent n w0 → Ran s n s.blocks [] lists w0) → Led m (HasMoved m s.end) w0 w1 → Led k (HasHalted k) w1 w2 → AreSilent n w2 → IsPlayed s n lists w2
 play_all s n m k lists w0 w1 w2 is is' ran moved halted silent =
@@ -127,8 +149,9 @@ play_next s n m k i d lists parcels w0 w1 w2 lt text is is' blocks ran moved pos
     let next : drop i s.blocks ≡ b ∷ drop (i + 1) s.blocks = drop_next s.blocks i d lt in
     let rises : rise (b ∷ drop (i + 1) s.blocks) ≡ true = ap rise (sym next) ∙ rise_drop i s.blocks text.times in
     let early : list_all (λ (c : Block). nat_le c.time s.end) (b ∷ drop (i + 1) s.blocks) ≡ true = ap (list_all (λ (c : Block). nat_le c.time s.end)) (sym next) ∙ all_drop (λ (c : Block). nat_le c.time s.end) i s.blocks text.end in
+    let planned : is_planned_time s b.time ≡ true = or_right (b.time == s.end) _ (list_any_at (λ (z : Block). z.time == b.time) s.blocks i d lt (eq-eqb b.time b.time refl)) in
     subst (λ l. AreSilent n w2 → Ran s n l (drop (i + 1) s.blocks) (lists ++ parcels ∷ []) w2) (sym (take_more s.blocks i d lt))
-    (play_more s n m k (take i s.blocks) (drop (i + 1) s.blocks) b lists parcels w0 w1 w2 is is' blocks rises (and_parts _ _ early).0 (λ silent. subst (λ l. Ran s n (take i s.blocks) l lists w0) next (ran silent)) moved posted)
+    (play_more s n m k (take i s.blocks) (drop (i + 1) s.blocks) b lists parcels w0 w1 w2 is is' blocks rises (and_parts _ _ early).0 planned (λ silent. subst (λ l. Ran s n (take i s.blocks) l lists w0) next (ran silent)) moved posted)
 
 pub of_blocks_next : (s : Script) (i : ℕ) (d : Block) (lists : List (List Parcel)) (parcels : List Parcel) → i < length s.blocks → AreOfBlocks s (take i s.blocks) lists → IsOfBlock s (get_or s.blocks i d) parcels → AreOfBlocks s (take (i + 1) s.blocks) (lists ++ parcels ∷ [])
 of_blocks_next s i d lists parcels lt blocks one = subst (λ l. AreOfBlocks s l (lists ++ parcels ∷ [])) (sym (take_more s.blocks i d lt)) (of_blocks-snoc s (take i s.blocks) lists (get_or s.blocks i d) parcels blocks one)

@@ -1,19 +1,25 @@
 -- When a report is an inbox run of a script.
-use Rattle.std.specs.Prelude.{◌≡◌, ◌<◌, ◌≤◌, ◌+◌, ℕ, ◌==◌, true, List, [], ◌∷◌, ◌++◌, map, None, if◌then◌else◌}
-use Rattle.std.specs.List.{AllByRecursion}
+use Rattle.std.specs.Prelude.{◌≡◌, ◌<◌, ◌≤◌, ◌+◌, ℕ, ◌==◌, ◌&&◌, ◌||◌, not, Bool, true, false, List, [], ◌∷◌, ◌++◌, map, Option, None, if◌then◌else◌}
+use Rattle.std.specs.List.{AllByRecursion, fold}
+use Rattle.std.specs.Option.{option_map_or}
 use Rattle.loop_model.specs.declared.post.Post.{Post as PostData}
 use Rattle.loop_model.specs.declared.call.Call.{Call}
 use Rattle.loop_model.specs.declared.call.Call.TheVariants.{Post, Next}
 use Rattle.loop_model.specs.declared.entry.Entry.{Entry}
+use Rattle.loop_model.specs.declared.item.Item.{Item}
+use Rattle.loop_model.specs.Items.{when_of}
+use Rattle.loop_model.specs.Entries.{moment_of}
 use Rattle.loop_model.specs.Base.{empty_base}
 use Rattle.loop_model.specs.Answers.{clock}
+use Rattle.loop_model.specs.Pick.{first_eligible}
 use Rattle.loop_model.specs.Chain.{IsChainFrom}
 use Rattle.loop_model.specs.Legal.{IsLegal, AreNumbered}
 use Rattle.dash_script.specs.declared.script.Block.{Block}
 use Rattle.dash_script.specs.declared.script.Script.{Script}
 use Rattle.run_model.specs.Histories.{history_of}
 use Rattle.run_model.specs.Asks.{entries_by}
-use Rattle.run_model.specs.Control.{is_controlled, is_called_in_time, ends_halted}
+use Rattle.run_model.specs.Control.{is_advance, is_controlled, is_called_in_time, ends_halted, each_behind}
+use Rattle.run_model.specs.Moves.{is_planned_time}
 use Rattle.run_model.specs.Run.{setting_of}
 use Rattle.inbox_queue.specs.declared.parcel.Parcel.{Parcel}
 use Rattle.inbox_queue.specs.declared.run.InboxReport.{InboxReport}
@@ -74,6 +80,35 @@ IsPostOrLook (Post p) = Unit {0}
 IsPostOrLook (Next now) = Unit {0}
 IsPostOrLook _ = ⊥
 
+-- the call posts a message
+abbrev pub is_post : Call → Bool
+is_post (Post p) = true
+is_post _ = false
+
+-- the entry moves the time; or only posts had come since it was last moved, and the entry is one more
+abbrev pub fresh_behind : Bool → Entry → Bool
+fresh_behind fresh e = is_advance e.call || (fresh && is_post e.call)
+
+-- since the time was last moved, or from the start, only posts have come
+unfoldable pub is_fresh : List Entry → Bool
+is_fresh es = fold fresh_behind true es
+
+-- no post; or one before which only posts have come since the time was last moved
+abbrev pub comes_first : List Entry → Entry → Bool
+comes_first past e = not (is_post e.call) || is_fresh past
+
+-- the message, if there is one, is due at this time
+abbrev pub is_due_at : ℕ → Option Item → Bool
+is_due_at time first = option_map_or (λ x. when_of x == time) first false
+
+-- it is the time of a block, the end, or when the first message that might be dispatched behind these entries is due
+abbrev pub may_be_moved_to : Script → List Entry → ℕ → Bool
+may_be_moved_to s past time = is_planned_time s time || is_due_at time (first_eligible (empty_base 0) past)
+
+-- no move of the time; or one to such a time
+abbrev pub moves_as_planned : Script → List Entry → Entry → Bool
+moves_as_planned s past e = not (is_advance e.call) || may_be_moved_to s past (moment_of e.call)
+
 -- the report is an inbox run of the script
 pub record IsInboxRun (s : Script) (r : InboxReport) : Type 0 where
   pub script : r.script ≡ s
@@ -91,6 +126,10 @@ pub record IsInboxRun (s : Script) (r : InboxReport) : Type 0 where
   -- the looper's posts are, one for one and in order, those of what was admitted, each at the time of its block; its other entries are looks
   pub posts : posts_made (main_sender s) (history_of r.kept) ≡ posts_admitted s.blocks r.admitted
   pub looks : AllByRecursion (λ e. IsPostOrLook e.call) (entries_by (main_sender s) (history_of r.kept))
+  -- the looper posts what a block brings before it looks for a message at that time
+  pub first : each_behind comes_first [] (history_of r.kept) ≡ true
+  -- each move goes to the time of a block, to the end, or to when the first message that might then be dispatched is due
+  pub planned : each_behind (moves_as_planned s) [] (history_of r.kept) ≡ true
   -- the controller moves the time on, past no message that may be dispatched, and halts the queue at the end, which is the last entry
   pub controlled : is_controlled true true (control_sender s) s.end (history_of r.kept) ≡ true
   pub timely : is_called_in_time (control_sender s) (history_of r.kept) ≡ true

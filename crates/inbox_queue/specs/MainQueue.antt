@@ -12,7 +12,9 @@ use Rattle.loop_model.specs.Items.{when_of}
 use Rattle.loop_model.specs.Pick.{first_eligible}
 use Rattle.shared_queue.specs.Known.{IsOf, IsSamePoster}
 use Rattle.run_model.specs.Asks.{entries_by}
-use Rattle.run_model.specs.Control.{is_called_in_time, is_controlled, ends_halted, is_advance}
+use Rattle.dash_script.specs.declared.script.Script.{Script}
+use Rattle.run_model.specs.Control.{is_called_in_time, is_controlled, ends_halted, is_advance, each_behind}
+use Rattle.run_model.specs.Moves.{is_planned_time}
 use Rattle.loop_model.specs.Entries.{moment_of}
 use Rattle.inbox_queue.specs.declared.parcel.Parcel.{Parcel}
 use Rattle.inbox_queue.specs.declared.main_queue.Place.{Place}
@@ -21,7 +23,7 @@ use Rattle.inbox_queue.specs.declared.main_queue.Look.{Look}
 use Rattle.inbox_queue.specs.declared.main_queue.Look.TheVariants.{Taken, Waits, Other}
 use Rattle.inbox_queue.specs.declared.main_queue.Move.{Move}
 use Rattle.inbox_queue.specs.declared.main_queue.Move.TheVariants.{There, Stays, NoMemory}
-use Rattle.inbox_queue.specs.InboxRun.{unslotted, IsPostOrLook, posts_made, posts_at}
+use Rattle.inbox_queue.specs.InboxRun.{unslotted, IsPostOrLook, posts_made, posts_at, is_fresh, comes_first, moves_as_planned}
 
 -- how many threads there are: their senders' numbers are below that of the looper
 abbrev pub threads_of : Hands → ℕ
@@ -97,11 +99,13 @@ MovesOn threads time There past now = ((now ≡ past) × (time ≤ time_of past)
 MovesOn threads time Stays past now = now ≡ past
 MovesOn threads time NoMemory past now = now ≡ past
 
--- the looper's calls are posts and looks, and the controller's moves of the time, none past the end, nor past a message that may be dispatched
-pub record Goes (threads end : ℕ) (es : List Entry) : Type 0 where
+-- the looper's calls are posts and looks, and the controller's moves of the time, none past the end, nor past a message that may be dispatched; each move is planned, and posts come first at their time
+pub record Goes (threads : ℕ) (s : Script) (es : List Entry) : Type 0 where
   pub looks : AllByRecursion (λ e. IsPostOrLook e.call) (entries_by threads es)
-  pub moves : AllByRecursion (λ e. (is_advance e.call ≡ true) × (moment_of e.call ≤ end)) (entries_by (threads + 1) es)
+  pub moves : AllByRecursion (λ e. (is_advance e.call ≡ true) × (moment_of e.call ≤ s.end)) (entries_by (threads + 1) es)
   pub timely : is_called_in_time (threads + 1) es ≡ true
+  pub first : each_behind comes_first [] es ≡ true
+  pub planned : each_behind (moves_as_planned s) [] es ≡ true
 
 -- the looper waits for the first message that may be dispatched, if there is one
 abbrev pub WaitsFor : Option ℕ → List Entry → Type 0
@@ -109,7 +113,7 @@ WaitsFor until es = (until ≡ option_map when_of (first_eligible (empty_base 0)
 
 -- the looper has looked for messages, and nothing else happened
 pub record HasLooked (threads : ℕ) (past now : List Entry) : Type 0 where
-  pub goes : (end : ℕ) → Goes threads end past → Goes threads end now
+  pub goes : (s : Script) → Goes threads s past → Goes threads s now
   pub posts : posts_made threads now ≡ posts_made threads past
   pub time : time_of now ≡ time_of past
 
@@ -119,30 +123,41 @@ HasDrained threads until past now = HasLooked threads past now × WaitsFor until
 
 -- the looper has looked for messages, and the time was moved on, no further than to this one
 pub record HasDriven (threads time : ℕ) (past now : List Entry) : Type 0 where
-  pub goes : (end : ℕ) → time ≤ end → Goes threads end past → Goes threads end now
+  pub goes : (s : Script) → time ≤ s.end → is_planned_time s time ≡ true → Goes threads s past → Goes threads s now
   pub posts : posts_made threads now ≡ posts_made threads past
   pub within : time_of past ≤ time → time_of now ≤ time
 
--- the time was moved on to this one, if it wasn't later, and what was due on the way was taken
-abbrev pub HasMoved : ℕ → ℕ → List Entry → List Entry → Type 0
-HasMoved threads time past now = HasDriven threads time past now × (time ≤ time_of now)
+-- the same, and the time is still before this one where it was
+abbrev pub IsUnderWay : ℕ → ℕ → List Entry → List Entry → Type 0
+IsUnderWay threads time past now = HasDriven threads time past now × (time_of past < time → time_of now < time)
+
+-- the time was moved on to this one, if it wasn't later, and what was due on the way was taken; where it was before this one, nothing
+-- has come since that move, and for the time 0 nothing was done
+pub record HasMoved (threads time : ℕ) (past now : List Entry) : Type 0 where
+  pub driven : HasDriven threads time past now
+  pub least : time ≤ time_of now
+  pub fresh : time_of past < time → is_fresh now ≡ true
+  pub start : time ≡ 0 → now ≡ past
 
 -- the looper has posted what these parcels hold, in order
 pub record HasPosted (threads : ℕ) (parcels : List Parcel) (past now : List Entry) : Type 0 where
-  pub goes : (end : ℕ) → Goes threads end past → Goes threads end now
+  pub goes : (s : Script) → is_fresh past ≡ true → Goes threads s past → Goes threads s now
+  pub fresh : is_fresh past ≡ true → is_fresh now ≡ true
   pub posts : posts_made threads now ≡ posts_made threads past ++ posts_at (time_of past) parcels
   pub time : time_of now ≡ time_of past
 
 -- the history is at its end
-pub record HasEnded (threads end : ℕ) (es : List Entry) : Type 0 where
+pub record HasEnded (threads : ℕ) (s : Script) (es : List Entry) : Type 0 where
   pub looks : AllByRecursion (λ e. IsPostOrLook e.call) (entries_by threads es)
-  pub controlled : is_controlled true true (threads + 1) end es ≡ true
+  pub controlled : is_controlled true true (threads + 1) s.end es ≡ true
   pub timely : is_called_in_time (threads + 1) es ≡ true
+  pub first : each_behind comes_first [] es ≡ true
+  pub planned : each_behind (moves_as_planned s) [] es ≡ true
   pub halted : ends_halted es ≡ true
 
 -- what was due was taken, and the queue was halted at its time
 pub record HasHalted (threads : ℕ) (past now : List Entry) : Type 0 where
-  pub ends : Goes threads (time_of past) past → HasEnded threads (time_of past) now
+  pub ends : (s : Script) → time_of past ≡ s.end → Goes threads s past → HasEnded threads s now
   pub posts : posts_made threads now ≡ posts_made threads past
 
 -- the time is that one or the moment, whichever comes first

@@ -5,7 +5,6 @@ use Rattle.loop_model.specs.declared.record.QueueRecord.{QueueRecord}
 use Rattle.loop_model.specs.Base.{empty_base}
 use Rattle.loop_model.specs.Chain.{IsChainFrom}
 use Rattle.loop_model.specs.Legal.{IsLegal, AreNumbered}
-use Rattle.dash_script.specs.declared.script.Block.{Block}
 use Rattle.dash_script.specs.declared.script.Script.{Script}
 use Rattle.shared_queue.specs.Known.{Shared, IsOf, made_by}
 use Rattle.atomic_table.specs.Seated.{TableId}
@@ -16,7 +15,7 @@ use Rattle.inbox_queue.specs.declared.run.Opened.{Opened}
 use Rattle.inbox_queue.specs.declared.run.InboxRan.{InboxRan}
 use Rattle.inbox_queue.specs.declared.run.InboxRan.TheVariants as ran
 use Rattle.inbox_queue.specs.InboxRun.{AreOfBlocks, posts_made, posts_admitted, IsInboxRun}
-use Rattle.inbox_queue.specs.MainQueue.{IsAt, threads_of, AreSilent, Goes, HasEnded}
+use Rattle.inbox_queue.specs.MainQueue.{IsAt, threads_of, AreSilent, HasEnded}
 use Rattle.inbox_queue.specs.Turned.{Sender}
 use Rattle.inbox_queue.specs.Bad.{bad_line}
 
@@ -33,14 +32,9 @@ pub record IsOpen (threads : ℕ) (o : Opened) : Type 0 where
   pub idle : AreIdle o.place.queue o.threads.items
   pub posters : length o.threads.items ≡ threads
 
--- the blocks so far were run, and these parcels were admitted
-pub record HasRun (threads end : ℕ) (blocks : List Block) (admitted : List (List Parcel)) (es : List Entry) : Type 0 where
-  pub goes : Goes threads end es
-  pub posts : posts_made threads es ≡ posts_admitted blocks admitted
-
 -- the whole run, with what was admitted
 pub record IsPlayed (s : Script) (threads : ℕ) (admitted : List (List Parcel)) (es : List Entry) : Type 0 where
-  pub ended : HasEnded threads s.end es
+  pub ended : HasEnded threads s es
   pub posts : posts_made threads es ≡ posts_admitted s.blocks admitted
 
 -- what is kept of the queue, where this was seen of its history

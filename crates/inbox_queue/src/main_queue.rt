@@ -209,7 +209,8 @@ impl Place {
         moved
     }
 
-    /// The time is moved on to this one, in milliseconds; whatever comes due before it is taken at its own time.
+    /// The time is moved on to this one, in milliseconds; whatever comes due before it is taken at its own time. It begins at 0, so for 0
+    /// nothing is done.
     pub(crate) fn move_to<R: Wait>(
         &self,
         rt: &R,
@@ -220,6 +221,9 @@ impl Place {
         ensures at { OnOk result (IsAt self.now hands.new × (threads_of hands.new ≡ threads_of hands.old)) }
         ensures made { OnOk result (Leads (HasMoved (threads_of hands.old) time) hands.old hands.new) }
     {
+        if time == 0 {
+            return Ok(());
+        }
         for _ in rt.forever() {
             let next = at_most(self.drain(rt, hands), time);
             match self.advance(rt, hands, next) {
