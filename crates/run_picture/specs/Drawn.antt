@@ -6,7 +6,7 @@ use Rattle.run_picture.specs.declared.group.Group.{Group}
 use Rattle.run_picture.specs.declared.group.Scale.{Scale}
 use Rattle.run_picture.specs.declared.report.Report.{Report}
 use Rattle.run_picture.specs.Marks.{marks}
-use Rattle.run_picture.specs.Groups.{IsOfPlace, marks_of}
+use Rattle.run_picture.specs.Groups.{IsOfPlace, HasMarks, marks_of}
 use Rattle.run_picture.specs.Labels.{entity, group_text}
 
 -- an element that stands so many pixels from the left edge of the lanes and from the picture's upper edge
@@ -23,8 +23,8 @@ abbrev pub AreElements : List Group → List ℕ → List ℕ → Type 0
 AreElements [] before after = after ≡ before
 AreElements (g ∷ gs) before after = (y : ℕ) × (shape : List ℕ) × (between : List ℕ) × IsElement g y shape before between × AreElements gs between after
 
--- behind the background stands one element for each group of marks; the groups have each mark of the report exactly once, and
--- all marks of a group stand at its place, by the scale of the picture
+-- behind the background stands one element for each group of marks; the groups have each mark of the report exactly once, none is
+-- without marks, and all marks of a group stand at its place, by the scale of the picture
 pub record Draws (r : Report) (text : List ℕ) : Type 0 where
   pub scale : Scale
   pub groups : List Group
@@ -32,5 +32,6 @@ pub record Draws (r : Report) (text : List ℕ) : Type 0 where
   pub drawn : List ℕ
   pub marked : IsPermutation (marks r) (flat_map marks_of groups)
   pub placed : AllByRecursion (IsOfPlace scale) groups
+  pub some : AllByRecursion HasMarks groups
   pub elements : AreElements groups background drawn
   pub whole : text ≡ drawn ++ codes "</g>\n</svg>\n"

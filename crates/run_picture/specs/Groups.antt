@@ -1,5 +1,5 @@
 -- Marks that fall on one place of the picture are one group.
-use Rattle.std.specs.Prelude.{◌≡◌, ℕ, ◌+◌, ◌-◌, ◌*◌, ◌/◌, ◌%◌, ◌^◌, min, max, List, []}
+use Rattle.std.specs.Prelude.{◌≡◌, ℕ, ◌<◌, ◌+◌, ◌-◌, ◌*◌, ◌/◌, ◌%◌, ◌^◌, min, max, List, [], length}
 use Rattle.std.specs.List.{AllByRecursion}
 use Rattle.run_picture.specs.declared.mark.Kind.{Kind}
 use Rattle.run_picture.specs.declared.mark.Kind.TheVariants as kind_of
@@ -51,6 +51,10 @@ StandsAt s p m = p ≡ place s m
 -- all marks of the group stand at its place
 abbrev pub IsOfPlace : Scale → Group → Type 0
 IsOfPlace s g = AllByRecursion (StandsAt s g.place) g.marks
+
+-- the group has a mark
+abbrev pub HasMarks : Group → Type 0
+HasMarks g = 0 < length g.marks
 
 -- a place without marks yet
 abbrev pub begun : Place → Group

@@ -1,7 +1,7 @@
 //! Marks that fall on one place of the picture are one group.
 ghost use Rattle.std.specs.Prelude.{◌≡◌, ◌<◌, ◌≤◌, ◌^◌, ◌++◌, IfOk, OnOk, IsPermutation};
 ghost use Rattle.std.specs.List.{flat_map, AllByRecursion};
-ghost use Rattle.run_picture.specs.Groups.{IsOfPlace, begun, column, marks_of, nanos, pixels, place, row_of, shift};
+ghost use Rattle.run_picture.specs.Groups.{HasMarks, IsOfPlace, begun, column, marks_of, nanos, pixels, place, row_of, shift};
 
 use crate::mark::{Kind, Mark, Moment, NANOS_PER_MILLI};
 use crate::shape::LANE_WIDTH;
@@ -147,8 +147,10 @@ fn begun(alloc: Global, place: Place) -> Group
 fn settle(scale: Scale, groups: &mut Vec<Group>, whole: Group) -> Result<(), NoMemory>
     requires whole { IsOfPlace scale whole }
     requires before { AllByRecursion (IsOfPlace scale) groups.old.items }
+    requires marked { AllByRecursion HasMarks groups.old.items }
     ensures all { OnOk result (flat_map marks_of groups.new.items ≡ flat_map marks_of groups.old.items ++ whole.marks) }
     ensures places { OnOk result (AllByRecursion (IsOfPlace scale) groups.new.items) }
+    ensures marked { OnOk result (AllByRecursion HasMarks groups.new.items) }
 {
     if !whole.marks.is_empty() {
         groups.push(whole)?;
@@ -160,6 +162,7 @@ fn settle(scale: Scale, groups: &mut Vec<Group>, whole: Group) -> Result<(), NoM
 fn cut(alloc: Global, scale: Scale, marks: &[Mark]) -> Result<Vec<Group>, NoMemory>
     ensures all { IfOk result (λ found. flat_map marks_of found.items ≡ marks.now) }
     ensures places { IfOk result (λ found. AllByRecursion (IsOfPlace scale) found.items) }
+    ensures marked { IfOk result (λ found. AllByRecursion HasMarks found.items) }
 {
     let mut groups = Vec::new(alloc);
     let mut current = begun(alloc, NOWHERE);
@@ -176,10 +179,11 @@ fn cut(alloc: Global, scale: Scale, marks: &[Mark]) -> Result<Vec<Group>, NoMemo
 }
 
 /// The marks of a picture by the places where they stand: each mark is in one group, that of its place, and the groups are in
-/// the order of the lanes, their rows and the pixels. `NoMemory` where there was none.
+/// the order of the lanes, their rows and the pixels. None is without marks. `NoMemory` where there was none.
 pub fn groups(alloc: Global, scale: Scale, marks: Vec<Mark>) -> Result<Vec<Group>, NoMemory>
     ensures all { IfOk result (λ found. IsPermutation marks.items (flat_map marks_of found.items)) }
     ensures places { IfOk result (λ found. AllByRecursion (IsOfPlace scale) found.items) }
+    ensures marked { IfOk result (λ found. AllByRecursion HasMarks found.items) }
 {
     let marks = sorted(scale, marks)?;
     cut(alloc, scale, &marks)

@@ -13,6 +13,7 @@ returns c = record {
   drawn = c.push_elements.new.out.items;
   marked = subst (λ ms. IsPermutation ms (flat_map marks_of c.in_ok-groups.groups.items)) c.in_ok-marks.ensures c.in_ok-groups.ensures.all;
   placed = c.in_ok-groups.ensures.places;
+  some = c.in_ok-groups.ensures.marked;
   elements = subst (λ gs. AreElements gs c.extend_from_slice-2.new.self.items c.push_elements.new.out.items) c.deref-5.ensures.value c.in_ok-push_elements.ensures;
   whole = c.in_ok-extend_from_slice-3.ensures.items;
 }
