@@ -12,6 +12,9 @@ use Rattle.dash_loopers.proofs.LooperClock.{untimed_same}
 use Rattle.dash_loopers.proofs.LooperMoments.{taken_plays, dispatched_at}
 use Rattle.dash_loopers.proofs.by_clock.ClockPlayerDispatcher.run_callback.Goals as goal
 
+pub returns-then-is_stopped-clause-lent : goal.returns-then-is_stopped-clause-lent
+returns-then-is_stopped-clause-lent g c = lent_self (held c.args.own.now)
+
 pub returns-clause-lent : goal.returns-clause-lent
 returns-clause-lent g c = lent_self (held c.args.own.now)
 
