@@ -25,3 +25,4 @@ pub mod LooperClock
 pub mod LooperMoments
 pub mod LooperNext
 pub mod LooperLeft
+pub mod LooperLooped

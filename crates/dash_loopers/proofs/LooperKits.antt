@@ -102,32 +102,46 @@ second_is f [] x a b e is = absurd cc
 second_is f (y ∷ []) x a b e is = absurd cc
 second_is f (y ∷ z ∷ ys) x a b e is = let head : f z ≡ b = cc in ap f is ∙ head
 
+-- its code serves its queue
+pub serves_now : (s : Script) (hall : Hall) (l : StageLooper) (parts : Parts) → IsHall s hall → IsLooper s hall l → l.parts ≡ Some parts → ServesAt s hall l.number parts (workplace l.looper.held)
+serves_now s hall l parts is_hall is e = record { looper = looper_of s hall l is_hall is; place = is.place; are_parts = parts_of s hall l parts is e }
+
+-- it is the looper with other parts that are its own
+pub looper_with : (s : Script) (hall : Hall) (l : StageLooper) (parts : Parts) → ArePartsOf s hall l.number parts → IsLooper s hall l
+    → IsLooper s hall (record { number = l.number; sender = l.sender; looper = l.looper; parts = Some parts; last = l.last })
+looper_with s hall l parts are is = record {
+  few = is.few;
+  number = is.number;
+  sender = is.sender;
+  parts = are;
+  place = is.place;
+  own = is.own;
+  journal = is.journal;
+  ended = is.ended;
+  told = is.told;
+  over = is.over;
+  disposes = is.disposes;
+}
+
 -- the parts that a round leaves are still the looper's
 pub parts_left : (s : Script) (hall : Hall) (now : ℕ) (began l : StageLooper) (o : Owner) (parts parts' : Parts) → IsHall s hall → IsLooper s hall l
     → l.parts ≡ Some parts → o ≡ record { script = s; hall = hall; number = l.number; now = now; began = began }
     → ((w : Workplace) → ServesAt s hall l.number parts w → ServesAt o.script o.hall o.number parts' w) → ArePartsOf s hall l.number parts'
 parts_left s hall now began l o parts parts' is_hall is e origin serves =
-    let w : Workplace = workplace l.looper.held in
-    let first : ServesAt s hall l.number parts w = record { looper = looper_of s hall l is_hall is; place = is.place; are_parts = parts_of s hall l parts is e } in
-    (subst (λ (x : Owner). ServesAt x.script x.hall x.number parts' w) origin (serves w first)).are_parts
+    (subst (λ (x : Owner). ServesAt x.script x.hall x.number parts' (workplace l.looper.held)) origin (serves (workplace l.looper.held) (serves_now s hall l parts is_hall is e))).are_parts
 
 -- what a round leaves is still the looper
-pub looper_then : (s : Script) (hall : Hall) (now moment : ℕ) (began l : StageLooper) (q : Shared TableId) (o : Owner) (parts parts' : Parts) (after : Looping) (last : Round) → IsHall s hall → IsLooper s hall l
-    → l.parts ≡ Some parts → slice_get hall.queues.items l.number ≡ Some q
-    → o ≡ record { script = s; hall = hall; number = l.number; now = moment; began = began }
-    → ((w : Workplace) → ServesAt s hall l.number parts w → ServesAt o.script o.hall o.number parts' w)
+pub looper_then : (s : Script) (hall : Hall) (now : ℕ) (l : StageLooper) (q : Shared TableId) (parts' : Parts) (after : Looping) (last : Round) → IsHall s hall → IsLooper s hall l
+    → slice_get hall.queues.items l.number ≡ Some q → ArePartsOf s hall l.number parts'
     → IsSameLooper l.looper.held after.held → after.ended ≡ is_ended last → RoundBy q.constants.setting now l.looper.held after.held last → IsRound any_heard now l.looper after last → is_ended l.last ≡ false → is_given_up l.last ≡ false
     → IsLooper s hall (record { number = l.number; sender = l.sender; looper = after; parts = Some parts'; last = last })
-looper_then s hall now moment began l q o parts parts' after last is_hall is e at origin serves same ended round looks unended going =
-    let w : Workplace = workplace l.looper.held in
+looper_then s hall now l q parts' after last is_hall is at are same ended round looks unended going =
     let of = looper_of s hall l is_hall is in
-    let first : ServesAt s hall l.number parts w = record { looper = of; place = is.place; are_parts = parts_of s hall l parts is e } in
-    let left : ServesAt s hall l.number parts' w = subst (λ (x : Owner). ServesAt x.script x.hall x.number parts' w) origin (serves w first) in
     record {
       few = is.few;
       number = is.number;
       sender = is.sender;
-      parts = left.are_parts;
+      parts = are;
       place = subst (λ (v : Workplace). IsPlaceOf hall l.number v) (sym (workplace_same l.looper.held after.held same)) is.place;
       own = same.sender ∙ is.own;
       journal = same.looper ∙ is.journal;

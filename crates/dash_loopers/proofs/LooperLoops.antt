@@ -40,7 +40,7 @@ use Rattle.dash_hall.specs.declared.hall.Hall.{Hall}
 use Rattle.dash_hall.specs.Kits.{IsHall}
 use Rattle.dash_loopers.specs.declared.player.Parts.{Parts}
 use Rattle.dash_loopers.specs.declared.looper.StageLooper.{StageLooper}
-use Rattle.dash_loopers.specs.Loopers.{IsLooper, IsPlaceOf}
+use Rattle.dash_loopers.specs.Loopers.{ArePartsOf, IsLooper, IsPlaceOf}
 use Rattle.dash_loopers.specs.Players.{Owner, ServesAt}
 use Rattle.dash_loopers.proofs.LooperPlaces.{queue_is}
 use Rattle.dash_loopers.proofs.LooperKits.{looper_of, parts_of}
@@ -154,23 +154,18 @@ ends_same (loop.Cap now) = refl
 ends_same loop.Nudged = refl
 ends_same loop.NoMemory = refl
 
-pub looper_by_loop : (shows : ℕ → Bool) (start : ℕ) (cap : Option ℕ) (called : ℕ → List Listening → List Listening → Type 0) (s : Script) (hall : Hall) (began l : StageLooper) (q : Shared TableId) (o : Owner) (parts parts' : Parts) (after : Looping) (how : Loop)
-    → IsHall s hall → IsLooper s hall l → l.parts ≡ Some parts → slice_get hall.queues.items l.number ≡ Some q
-    → o ≡ record { script = s; hall = hall; number = l.number; now = 0; began = began }
-    → ((w : Workplace) → ServesAt s hall l.number parts w → ServesAt o.script o.hall o.number parts' w)
+pub looper_by_loop : (shows : ℕ → Bool) (start : ℕ) (cap : Option ℕ) (called : ℕ → List Listening → List Listening → Type 0) (s : Script) (hall : Hall) (l : StageLooper) (q : Shared TableId) (parts' : Parts) (after : Looping) (how : Loop)
+    → IsHall s hall → IsLooper s hall l → slice_get hall.queues.items l.number ≡ Some q → ArePartsOf s hall l.number parts'
     → IsStill l.looper.held after.held → after.ended ≡ ends how → LoopBy shows start cap q.constants.setting l.looper.held after.held how → IsLoop called shows start cap l.looper after how → is_ended l.last ≡ false → is_given_up l.last ≡ false
     → IsLooper s hall (record { number = l.number; sender = l.sender; looper = after; parts = Some parts'; last = round_of how })
-looper_by_loop shows start cap called s hall began l q o parts parts' after how is_hall is e at origin serves still ended loops steps unended going =
-    let w : Workplace = workplace l.looper.held in
+looper_by_loop shows start cap called s hall l q parts' after how is_hall is at are still ended loops steps unended going =
     let of = looper_of s hall l is_hall is in
-    let first : ServesAt s hall l.number parts w = record { looper = of; place = is.place; are_parts = parts_of s hall l parts is e } in
-    let left : ServesAt s hall l.number parts' w = subst (λ (x : Owner). ServesAt x.script x.hall x.number parts' w) origin (serves w first) in
-    let same : w ≡ workplace after.held = λ i. record { table = sym still.table i; constants = sym still.constants i; pool = sym still.home i } in
+    let same : workplace l.looper.held ≡ workplace after.held = λ i. record { table = sym still.table i; constants = sym still.constants i; pool = sym still.home i } in
     record {
       few = is.few;
       number = is.number;
       sender = is.sender;
-      parts = left.are_parts;
+      parts = are;
       place = subst (λ (v : Workplace). IsPlaceOf hall l.number v) same is.place;
       own = still.sender ∙ is.own;
       journal = still.looper ∙ is.journal;
@@ -225,10 +220,3 @@ plays_then s a b c number sender going first next = λ on text did x come. (
             (subst (λ (k : ℕ). StandsBy false s a.number k b.looper.held.poster.view.seen b.looper.held.journal.acts parts h.did h.state) (sym sender) h.stands),
       ),
     )
-
--- what was done with its parts behind the loop changed nothing, unless memory was wanting
-pub played_left_by : (s : Script) (l : StageLooper) (after : Looping) (last : Round) (p q : Parts) → (is_given_up last ≡ false → q ≡ p)
-    → HasPlayedBy s l (record { number = l.number; sender = l.sender; looper = after; parts = Some p; last = last })
-    → HasPlayedBy s l (record { number = l.number; sender = l.sender; looper = after; parts = Some q; last = last })
-played_left_by s l after last p q same h = λ going.
-    subst (λ (z : Parts). HasPlayedBy s l (record { number = l.number; sender = l.sender; looper = after; parts = Some z; last = last })) (sym (same going)) h going

@@ -1,6 +1,6 @@
 -- In a loop by a clock the moments of a looper's calls are the clock's, or the queue's time.
 use Rattle.std.proofs.Common.{◌≡◌, ℕ, ◌<◌, ◌≤◌, Bool, true, false, List, [], ◌∷◌, ◌++◌, length, get_or, Option, Some, refl, sym, ap, ◌∙◌, subst, arith, append_assoc, eqb-true}
-use Rattle.std.specs.Prelude.{◌==◌, ◌&&◌, not, MatchBool, is_some, ◌⊎◌}
+use Rattle.std.specs.Prelude.{◌==◌, ◌&&◌, not, MatchBool, is_some, is_ok, ◌⊎◌, Result, OnOk}
 use Rattle.std.specs.List.{insert, slice_get}
 use Rattle.std.specs.Option.{IsSomeAnd}
 use Rattle.std.proofs.lemmas.Bool.{MatchBool-at_false, and_parts, and_from}
@@ -15,9 +15,11 @@ use Rattle.loop_model.specs.declared.call.Call.{Call}
 use Rattle.loop_model.specs.declared.call.Call.TheVariants.{Post, Barrier, Unbarrier, Remove, Quit, Next, Advance, Halt}
 use Rattle.loop_model.specs.declared.entry.Entry.{Entry}
 use Rattle.loop_model.specs.declared.journal.Route.{Route}
+use Rattle.loop_model.specs.declared.journal.Route.TheVariants.{Callback}
 use Rattle.loop_model.specs.Entries.{is_next}
 use Rattle.loop_model.specs.Base.{empty_base}
 use Rattle.loop_model.specs.Answers.{Setting, clock}
+use Rattle.message_slot.specs.Letter.{post_of}
 use Rattle.message_pool.specs.Passes.{Node}
 use Rattle.shared_queue.specs.Known.{Shared}
 use Rattle.shared_queue.specs.Constants.{Constants}
@@ -29,19 +31,23 @@ use Rattle.looper_run.specs.declared.dispatcher.Did.TheVariants.{Yes, No, NoMemo
 use Rattle.looper_run.specs.Holding.{Sender, Holding, Looping, workplace}
 use Rattle.looper_run.specs.Acts.{moment_on, IsLookAt, AreLooksAt}
 use Rattle.looper_run.specs.Loops.{IsLookBy, AreLooksBy}
+use Rattle.looper_run.proofs.Working.{lent_self}
 use Rattle.looper_run.specs.Tests.{Passes, PassesWith, IsLent, HasTaken, Unless, Intercepts}
 use Rattle.dash_script.specs.declared.script.Script.{Script}
 use Rattle.run_model.specs.Moments.{Mode, in_free_mode, IsMoment, IsOfClock, AreOfClockAfter}
 use Rattle.dash_hall.specs.declared.hall.Hall.{Hall}
 use Rattle.dash_hall.specs.ByClock.{is_by, IsByClock, IsInMode, AddsByClock}
+use Rattle.dash_hall.specs.Uptimes.{is_shown}
 use Rattle.dash_hall.proofs.Clocking.{if_free, where_true, clock_more, of_either, clock_same, taken}
 use Rattle.dash_loopers.specs.declared.player.Parts.{Parts}
 use Rattle.dash_loopers.specs.declared.looper.StageLooper.{StageLooper}
 use Rattle.dash_loopers.specs.Loopers.{IsLooperOf, IsPlaceOf, others_in, is_given_up}
-use Rattle.dash_loopers.specs.Played.{StandsBy, IsPlayingBy}
-use Rattle.dash_loopers.specs.Clocked.{ClockOwner, AddsUntimed, AreUntimed, CallsUntimed, goes_to_rules, DeliversAt, is_call_by, CallsByClock, IsPlayingAt, StaysByClock}
+use Rattle.dash_loopers.specs.Played.{calls_of, Delivers, StandsBy, IsPlayingBy}
+use Rattle.dash_loopers.specs.Clocked.{ServesFree, AddsUntimed, AreUntimed, CallsUntimed, goes_to_rules, DeliversAt, is_call_by, CallsByClock, IsPlayingAt, StaysByClock}
 use Rattle.dash_loopers.specs.ClockedLaws.{calls_beside, no_call_by_look}
-use Rattle.dash_loopers.proofs.LooperByClock.{IsAtOnce}
+use Rattle.dash_hall.proofs.HostClock.{adds_none}
+use Rattle.dash_loopers.proofs.LooperPlaying.{delivers_none}
+use Rattle.dash_loopers.proofs.LooperByClock.{IsAtOnce, by_delivery, dispatches_well_by}
 use Rattle.dash_loopers.proofs.LooperClock.{untimed_same, untimed_then, untimed_length, sender_at}
 use Rattle.dash_loopers.proofs.LooperKits.{its_queue}
 use Rattle.dash_loopers.proofs.LooperPlaces.{queue_is}
@@ -148,6 +154,29 @@ in_the_mode m s hall n h mode of place =
     let q = its_queue s hall n of in
     if_free m.lockstep ((c : Constants TableId) × (h.poster.view.constants ≡ Some c) × (c.setting.lockstep ≡ false))
     (λ free. (q.0.constants, (place.queue q.0 q.1).1, ap (λ (c : Constants TableId). c.setting.lockstep) (queue_is s hall n of n q.0 q.1) ∙ mode))
+
+-- a message was delivered, at the moment of its dispatch or at one that the clock showed
+pub delivery_at : {A E : Type 0} (shows : ℕ → Bool) (start : ℕ) (s : Script) (hall : Hall) (q : ℕ) (began : StageLooper) (node : Node) (now at : ℕ) (route : Route) (letter : PostData) (r : Result A E) (d : Did) (h k : Holding) (parts parts' : Parts)
+    → ServesFree s hall q parts (workplace h) → letter ≡ post_of node.item → (goes_to_rules q letter ≡ true → at ≡ now) → (goes_to_rules q letter ≡ false → IsShown shows start at)
+    → IsLent h k → DeliversAt q at letter h.poster k.poster parts parts' → OnOk r (Delivers s q at (is_shown shows start) letter (calls_of h.poster) (calls_of k.poster) parts parts' h.journal.acts k.journal.acts)
+    → HasTaken (λ n es acts. IsPlayingAt (in_free_mode shows start) s q began n es acts parts) h node now → (d ≡ No → ⊥) → (d ≡ Yes → is_ok r ≡ true)
+    → Unless d (PassesWith (λ n es acts. IsPlayingAt (in_free_mode shows start) s q began n es acts parts') k node now route)
+delivery_at shows start s hall q began node now at route letter r d h k parts parts' serves is rules read lent clocked delivers taken never well =
+    let m = in_free_mode shows start in
+    let mode = in_the_mode m s hall q h serves.mode serves.serves.looper serves.serves.place in
+    let adds = delivered_adds m q at letter h.poster k.poster parts parts' refl mode (λ isnt. of_shown shows start at (read isnt)) clocked in
+    dispatch_at m s q began d h k node now route parts parts' lent adds clocked.others taken
+    (dispatches_well_by s q began now at (is_shown shows start) node route letter r d h k parts parts' is (rules_at_once q at now letter rules)
+    lent (taken_plays m s q began h node now parts taken) delivers never well)
+
+-- a message's own callback ran, and called nothing
+pub callback_at : (shows : ℕ → Bool) (start : ℕ) (s : Script) (q : ℕ) (began : StageLooper) (node : Node) (now id : ℕ) (h : Holding) (parts : Parts) → HasTaken (λ n es acts. IsPlayingAt (in_free_mode shows start) s q began n es acts parts) h node now
+    → (post_of node.item).callback ≡ Some id → PassesWith (λ n es acts. IsPlayingAt (in_free_mode shows start) s q began n es acts parts) h node now (Callback id)
+callback_at shows start s q began node now id h parts taken is =
+    let m = in_free_mode shows start in
+    dispatched_at m s q began h h node now (Callback id) parts parts (lent_self h) (adds_none m h.poster h.poster refl) (untimed_same parts.others.items parts.others.items refl) taken
+    (by_delivery s q began now now (λ n. true) node (Callback id) h h parts parts (lent_self h) (taken_plays m s q began h node now parts taken) (λ none not_frame. refl)
+    (delivers_none s q 0 began now (λ n. true) (post_of node.item) id (calls_of h.poster) parts h.journal.acts is))
 
 -- ---- the looks of a loop
 
@@ -260,24 +289,9 @@ playing_at_start m s l began parts same e mine = subst (λ (b : StageLooper). Is
   others = untimed_same (others_in l.parts) parts.others.items (sym (ap others_in e));
 })
 
--- as it ends, by whose code it was
-pub playing_at_end : (m : Mode) (s : Script) (hall : Hall) (l began : StageLooper) (o : ClockOwner) (parts' : Parts) (after : Looping) → began ≡ l → o ≡ record { owner = record { script = s; hall = hall; number = l.number; now = 0; began = began }; mode = m }
-    → IsPlayingAt o.mode o.owner.script o.owner.number o.owner.began after.held.poster.sender after.held.poster.view.seen after.held.journal.acts parts'
-    → IsPlayingAt m s l.number l after.held.poster.sender after.held.poster.view.seen after.held.journal.acts parts'
-playing_at_end m s hall l began o parts' after same origin at =
-    subst (λ (b : StageLooper). IsPlayingAt m s l.number b after.held.poster.sender after.held.poster.view.seen after.held.journal.acts parts') same
-    (subst (λ (x : ClockOwner). IsPlayingAt x.mode x.owner.script x.owner.number x.owner.began after.held.poster.sender after.held.poster.view.seen after.held.journal.acts parts') origin at)
-
 -- the setting of its queue is the hall's mode
 pub setting_free : (s : Script) (hall : Hall) (n : ℕ) (q : Shared TableId) → hall.lockstep ≡ false → IsLooperOf s hall n → slice_get hall.queues.items n ≡ Some q → q.constants.setting.lockstep ≡ false
 setting_free s hall n q mode of at = ap (λ (c : Constants TableId). c.setting.lockstep) (queue_is s hall n of n q at) ∙ mode
-
--- what a loop left, with other parts that are the same unless memory was wanting
-pub stays_left : (m : Mode) (l : StageLooper) (after : Looping) (p q : Parts) (last : Round) → (is_given_up last ≡ false → q ≡ p)
-    → StaysByClock m l (record { number = l.number; sender = l.sender; looper = after; parts = Some p; last = last })
-    → StaysByClock m l (record { number = l.number; sender = l.sender; looper = after; parts = Some q; last = last })
-stays_left m l after p q last same h = λ going.
-    subst (λ (z : Parts). StaysByClock m l (record { number = l.number; sender = l.sender; looper = after; parts = Some z; last = last })) (sym (same going)) h going
 
 -- what a round did, unless memory was wanting
 pub round_worked : (set : Setting) (now : ℕ) (before after : Holding) (last : Round) → is_given_up last ≡ false → RoundBy set now before after last → RoundWorked set now before after

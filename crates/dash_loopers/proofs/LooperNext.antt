@@ -25,7 +25,7 @@ use Rattle.dash_loopers.specs.Played.{AreAlike, StandsBy, ComesBy, HasPlayedBy}
 use Rattle.dash_loopers.specs.Clocked.{AreByClockOf}
 use Rattle.dash_loopers.proofs.FrameIds.{turn_grew}
 use Rattle.dash_loopers.proofs.LooperLoops.{plays_then}
-use Rattle.dash_loopers.proofs.LooperKits.{parts_of, others_many, looper_of}
+use Rattle.dash_loopers.proofs.LooperKits.{parts_of, others_many, looper_of, looper_with}
 
 -- it is the looper still
 pub looper_asked : (s : Script) (hall : Hall) (l : StageLooper) (parts : Parts) (g : Pass) (r : Option ℕ) → IsLooper s hall l → l.parts ≡ Some parts → AskedBy parts.frames g r
@@ -33,19 +33,7 @@ pub looper_asked : (s : Script) (hall : Hall) (l : StageLooper) (parts : Parts) 
 looper_asked s hall l parts g r is e asked =
     let are = parts_of s hall l parts is e in
     let badge = frame_turn_badge _ _ _ _ asked.1 in
-    record {
-      few = is.few;
-      number = is.number;
-      sender = is.sender;
-      parts = record { others = are.others; frames = λ c at. badge ∙ are.frames c at; client = are.client };
-      place = is.place;
-      own = is.own;
-      journal = is.journal;
-      ended = is.ended;
-      told = is.told;
-      over = is.over;
-      disposes = is.disposes;
-    }
+    looper_with s hall l (record parts { frames = g }) (record { others = are.others; frames = λ c at. badge ∙ are.frames c at; client = are.client }) is
 
 -- and stands where it stood
 pub played_asked : (s : Script) (l : StageLooper) (parts : Parts) (g : Pass) (r : Option ℕ) → l.parts ≡ Some parts → AskedBy parts.frames g r

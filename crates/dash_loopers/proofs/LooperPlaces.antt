@@ -1,10 +1,10 @@
 -- A looper's place in its hall, and its parts.
-use Rattle.std.proofs.Common.{◌≡◌, ℕ, Bool, true, false, ◌+◌, ◌<◌, map, length, set, Some, refl, sym, ap, ◌∙◌, subst, arith}
+use Rattle.std.proofs.Common.{◌≡◌, ℕ, Bool, true, false, ◌+◌, ◌<◌, map, length, set, get_or, Some, refl, sym, ap, ◌∙◌, subst, arith}
 use Rattle.std.specs.List.{slice_get}
 use Rattle.std.specs.Prelude.{◌==◌, if◌then◌else◌}
 use Rattle.std.specs.Option.{option_map}
 use Rattle.std.proofs.lemmas.List.{length-map}
-use Rattle.std.proofs.lemmas.Option.{slice_get-map, slice_get_within, get_or_from_slice_get}
+use Rattle.std.proofs.lemmas.Option.{slice_get-map, slice_get_read, slice_get_within, get_or_from_slice_get}
 use Rattle.atomic_table.specs.Seated.{TableId}
 use Rattle.dash_script.specs.declared.script.Script.{Script}
 use Rattle.dash_script.specs.Causes.{phase_count}
@@ -15,6 +15,7 @@ use Rattle.looper_run.proofs.Steps.{workplace_same}
 use Rattle.choreographer.specs.Known.{Shared as Frames, Known as Pass, IsOf as IsFrameOf}
 use Rattle.dash_hall.specs.declared.hall.Hall.{Hall}
 use Rattle.dash_loopers.specs.declared.player.Parts.{Parts}
+use Rattle.dash_loopers.specs.declared.player.Place.{Place}
 use Rattle.dash_hall.specs.Kits.{Badge, FrameBadge, badge_of, badge_for, frame_badge_of, frame_badge_for, queue_constants, frame_constants}
 use Rattle.dash_hall.proofs.Badges.{queue_count as queues_counted, queue_is as queue_read, choreographer_count, choreographer_at}
 use Rattle.dash_loopers.specs.Loopers.{ArePartsOf, IsLooperOf}
@@ -33,6 +34,16 @@ module _ (s : Script) (hall : Hall) (n : ℕ) (l : IsLooperOf s hall n) where
 
   pub frames_count : length hall.choreographers.items ≡ s.loopers
   frames_count = choreographer_count s hall.choreographers.items l.is_hall.choreographers
+
+  -- the looper and main have a queue, and the looper has a choreographer
+  pub queue_near : n < length hall.queues.items
+  queue_near = let one = l.one in omega (arith, one, queue_count)
+
+  pub main_near : 0 < length hall.queues.items
+  main_near = let one = l.one in omega (arith, one, queue_count)
+
+  pub frames_near : n < length hall.choreographers.items
+  frames_near = let one = l.one in omega (arith, one, frames_count)
 
   pub queue_is : (i : ℕ) (q : Shared TableId) → slice_get hall.queues.items i ≡ Some q → q.constants ≡ queue_constants hall.lockstep s hall.pool i
   queue_is i q at =
@@ -105,6 +116,15 @@ other_within s hall n place j parts l are near w =
     let near' : place < length (map (badge_for k) hall.queues.items) = omega (arith, near, many) in
     omega (arith, within_removed (map badge_of parts.others.items) (map (badge_for k) hall.queues.items) n place j are.others within near' w, length-map parts.others.items badge_of)
 
+-- a poster that was read among the others, in the place of a looper of the hall
+module _ (s : Script) (hall : Hall) (n place j : ℕ) (parts : Parts) (l : IsLooperOf s hall n) (are : ArePartsOf s hall n parts) (near : place < length hall.queues.items) (w : PlaceWithout n place j) where
+  pub other_read : (k : ℕ) (p : Sender) → k ≡ length parts.others.items → p ≡ get_or parts.others.items j p → slice_get parts.others.items j ≡ Some p
+  other_read k p long read = slice_get_read parts.others.items k j p long (subst (λ (m : ℕ). j < m) (sym long) (other_within s hall n place j parts l are near w)) read
+
+  -- it is one of the queue that was read there
+  pub other_of_read : (p : Sender) (q : Shared TableId) (k : ℕ) → slice_get parts.others.items j ≡ Some p → k ≡ length hall.queues.items → q ≡ get_or hall.queues.items place q → IsOf p q
+  other_of_read p q k at long read = other_of s hall n place j parts p q l are w at (slice_get_read hall.queues.items k place q long (subst (λ (m : ℕ). place < m) (sym long) near) read)
+
 -- the parts are the same with another poster of the same badge
 pub parts_with : (a : Parts) (j : ℕ) (p q : Sender) (b : Parts) → slice_get a.others.items j ≡ Some p → badge_of q ≡ badge_of p → b.others.items ≡ set a.others.items j q → b.frames ≡ a.frames → b.root ≡ a.root → AreSameParts a b
 parts_with a j p q b at e others frames root = record {
@@ -112,3 +132,13 @@ parts_with a j p q b at e others frames root = record {
   frames = ap frame_badge_of frames;
   client = ap (λ r. frame_badge_of r.pass) root;
 }
+
+-- ---- by the place where its code runs
+
+module _ {R : Type 0} (place : Place R) (parts : Parts) (w : Workplace) (serves : ServesAt place.script.now place.hall.now place.looper parts w) where
+  -- the view root's pass is one of its choreographer, which has the phases up to 3
+  pub client_on : (c : Frames) → slice_get place.hall.now.choreographers.items place.looper ≡ Some c → IsFrameOf parts.root.pass c × (3 < c.constants.phases)
+  client_on c at = (
+    frame_of_badge (place.script.now.threads + 1) parts.root.pass c (serves.are_parts.client c at),
+    (let phases = its_phases place.script.now place.hall.now place.looper serves.looper c at in omega (arith, phases, up_to_three place.script.now.edition)),
+  )

@@ -1,7 +1,6 @@
--- The queue that is read at a looper's number is its own.
-use Rattle.std.proofs.Common.{◌≡◌, ◌<◌, ℕ, length, get_or, Some, sym, subst, arith}
+-- The queue that a looper finds at its number is its own.
+use Rattle.std.proofs.Common.{◌≡◌, ◌<◌, length, Some, None, sym, subst, arith}
 use Rattle.std.specs.Prelude.{slice_get}
-use Rattle.std.proofs.lemmas.Option.{slice_get_read}
 use Rattle.atomic_table.specs.Seated.{TableId}
 use Rattle.shared_queue.specs.Known.{Shared}
 use Rattle.looper_run.specs.Holding.{IsAt}
@@ -10,24 +9,26 @@ use Rattle.dash_hall.specs.declared.hall.Hall.{Hall}
 use Rattle.dash_hall.specs.Kits.{IsHall}
 use Rattle.dash_loopers.specs.declared.looper.StageLooper.{StageLooper}
 use Rattle.dash_loopers.specs.Loopers.{IsLooper}
-use Rattle.dash_loopers.proofs.LooperPlaces.{queue_count, queue_home}
+use Rattle.dash_loopers.proofs.LooperPlaces.{queue_near, frames_near, queue_home}
 use Rattle.dash_loopers.proofs.LooperKits.{looper_of}
 
 module _ (s : Script) (hall : Hall) (l : StageLooper) (is_hall : IsHall s hall) (is : IsLooper s hall l) where
   -- it is there
   pub within_queues : l.number < length hall.queues.items
-  within_queues =
-      let count = queue_count s hall l.number (looper_of s hall l is_hall is) in
-      let one = is.number in
-      omega (arith, count, one)
+  within_queues = queue_near s hall l.number (looper_of s hall l is_hall is)
 
-  pub queue_read : (n : ℕ) (q : Shared TableId) → n ≡ length hall.queues.items → q ≡ get_or hall.queues.items l.number q → slice_get hall.queues.items l.number ≡ Some q
-  queue_read n q long read = slice_get_read hall.queues.items n l.number q long (subst (λ (m : ℕ). l.number < m) (sym long) within_queues) read
+  pub within_frames : l.number < length hall.choreographers.items
+  within_frames = frames_near s hall l.number (looper_of s hall l is_hall is)
 
-  -- the looper stands at it
-  pub at_queue : (q : Shared TableId) → slice_get hall.queues.items l.number ≡ Some q → IsAt q hall.pool l.looper.held
-  at_queue q at = record {
-    poster = is.place.queue q at;
-    pass = is.place.pool;
-    home = queue_home s hall l.number (looper_of s hall l is_hall is) l.number q at;
-  }
+  module _ (q : Shared TableId) (at : slice_get hall.queues.items l.number ≡ Some q) where
+    -- the looper stands at it
+    pub at_queue : IsAt q hall.pool l.looper.held
+    at_queue = record {
+      poster = is.place.queue q at;
+      pass = is.place.pool;
+      home = queue_home s hall l.number (looper_of s hall l is_hall is) l.number q at;
+    }
+
+    -- and so does the looper without its parts
+    pub at_queue_here : (x : StageLooper) → x ≡ record l { parts = None } → IsAt q hall.pool x.looper.held
+    at_queue_here x taken = subst (λ (y : StageLooper). IsAt q hall.pool y.looper.held) (sym taken) at_queue

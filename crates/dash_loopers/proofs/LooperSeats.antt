@@ -6,14 +6,16 @@ use Rattle.std.proofs.lemmas.List.Edits.{length-insert, get_or-insert_at, get_or
 use Rattle.std.proofs.lemmas.Bool.{cases_lt}
 use mathlib.Core.Logic.{dite}
 use native.Mathlib.Decide.{ℕ_discrete}
+use Rattle.atomic_table.specs.Seated.{TableId}
 use Rattle.loop_model.specs.declared.entry.Entry.{Entry}
+use Rattle.shared_queue.specs.Known.{Shared, IsOf}
 use Rattle.looper_run.specs.Holding.{Sender, Looping}
 use Rattle.dash_loopers.specs.declared.player.Parts.{Parts}
 use Rattle.dash_loopers.specs.declared.looper.StageLooper.{StageLooper}
 use Rattle.dash_loopers.specs.Players.{PlaceWithout}
-use Rattle.dash_hall.specs.Hearing.{HasHeard, HaveHeardAt}
+use Rattle.dash_hall.specs.Hearing.{HasHeard, HaveHeardAt, AreReady}
 use Rattle.dash_loopers.specs.Loopers.{others_in, posters_of, IsWithin}
-use Rattle.dash_hall.proofs.Hearing.{heard_at}
+use Rattle.dash_hall.proofs.Hearing.{heard_at, ready_is}
 
 -- another place than the one at n has a place without that one
 pub its_place : (n place : ℕ) → place ≢ n → (j : ℕ) × PlaceWithout n place j
@@ -88,6 +90,10 @@ own_is l le = sym (get_or-insert_at (others_in l.parts) l.number l.looper.held.p
 -- the same by the queue's place
 pub own_at : (l : StageLooper) (place : ℕ) → IsWithin l → place ≡ l.number → l.looper.held.poster ≡ get_or (posters_of l) place l.looper.held.poster
 own_at l place le at = subst (λ (n : ℕ). l.looper.held.poster ≡ get_or (posters_of l) n l.looper.held.poster) (sym at) (own_is l le)
+
+-- it is one of the queue at its place
+pub own_ready : (l : StageLooper) (place : ℕ) (queue : Shared TableId) → AreReady place queue (posters_of l) → IsWithin l → place ≡ l.number → IsOf l.looper.held.poster queue
+own_ready l place queue ready le at = ready_is (posters_of l) place l.looper.held.poster queue ready (own_at l place le at)
 
 -- one of the others as one of all
 pub other_is : (l : StageLooper) (parts : Parts) (place j : ℕ) (p : Sender) → IsWithin l → l.parts ≡ Some parts → PlaceWithout l.number place j → p ≡ get_or parts.others.items j p → p ≡ get_or (posters_of l) place p

@@ -3,7 +3,7 @@ use Rattle.std.proofs.Common.{◌≡◌, ◌≢◌, ℕ, suc, ◌+◌, ◌-◌, 
 use Rattle.std.specs.Prelude.{◌||◌, replicate, slice_get, slice_index, slice_index_or, slice_set, take, Result, Ok, Err, OnOk, nat_le, if◌then◌else◌}
 use Rattle.std.specs.List.{flat_map, filter_map, cons_option, enumerate_from}
 use Rattle.std.specs.Option.{option_map, option_map_or}
-use Rattle.std.proofs.lemmas.List.{append-nil, map-set, length-append, length-map, length-take-le, take_more, flat_map_more, get_or_default}
+use Rattle.std.proofs.lemmas.List.{append-nil, map-set, length-append, length-map, length-take-le, take_all, take_more, flat_map_more, get_or_default}
 use Rattle.std.proofs.lemmas.Option.{slice_get-map, get_or_from_slice_get, slice_get_within}
 use Rattle.std.proofs.Math.Seq.{map-set_same}
 use Rattle.std.proofs.lemmas.Bool.{le-leb}
@@ -298,6 +298,9 @@ unmoved s q line = record { own = looper_of s line.handler == q; step = line.ste
 pub made_unmoved : (s : Script) (q : ℕ) (ls : List GaugeLine) → (map standing (map (unmoved s q) ls) ≡ replicate (length ls) (record { value = 0; target = 0; animating = false })) × (map fixed (map (unmoved s q) ls) ≡ map (fixed_by s q) ls)
 made_unmoved s q [] = (refl, refl)
 made_unmoved s q (l ∷ ls) = (let rest = made_unmoved s q ls in (ap (λ (xs : List Gauge). record { value = 0; target = 0; animating = false } ∷ xs) rest.0, ap (λ (xs : List (Bool × ℕ)). fixed_by s q l ∷ xs) rest.1))
+
+pub all_unmoved : (s : Script) (q : ℕ) (ls : List GaugeLine) (i : ℕ) (read : List GaugeLine) (gs : List ViewGauge) → length read ≤ i → read ≡ ls → gs ≡ map (unmoved s q) (take i read) → gs ≡ map (unmoved s q) ls
+all_unmoved s q ls i read gs far same are = are ∙ ap (map (unmoved s q)) (take_all i read far ∙ same)
 
 -- ---- paints
 

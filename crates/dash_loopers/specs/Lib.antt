@@ -5,3 +5,4 @@ pub mod Places
 pub mod PlayingLaws
 pub mod Clocked
 pub mod ClockedLaws
+pub mod Looped

@@ -1,18 +1,21 @@
 -- What a looper's code serves, and what its steps do, by the place where it runs.
-use Rattle.std.specs.Prelude.{ℕ, Bool, Option, fold}
+use Rattle.std.specs.Prelude.{◌≡◌, ◌++◌, ℕ, Bool, Option, List, map, fold, slice_get}
+use Rattle.std.specs.Option.{option_map_or}
 use Rattle.loop_model.specs.declared.post.Post.{Post as PostData}
 use Rattle.looper_run.specs.declared.own.Own.{Own}
 use Rattle.looper_run.specs.Holding.{workplace, held}
 use Rattle.choreographer.specs.declared.hosted.Pulse.{Pulse}
-use Rattle.run_model.specs.Loopers.{Looper, callback_ran}
+use Rattle.choreographer.specs.Known.{Shared as Frames, Known as Pass}
+use Rattle.run_model.specs.Loopers.{Looper, callback_ran, animation_ran, paints}
 use Rattle.dash_hall.specs.declared.host.Host.{Host}
 use Rattle.dash_script.specs.declared.script.Script.{Script}
+use Rattle.dash_script.specs.Causes.{phase_count}
 use Rattle.dash_loopers.specs.declared.frame_run.FrameRun.{FrameRun}
 use Rattle.dash_loopers.specs.declared.player.Parts.{Parts}
 use Rattle.dash_loopers.specs.declared.player.Place.{Place}
 use Rattle.dash_loopers.specs.declared.view_root.ViewRoot.{ViewRoot}
 use Rattle.dash_loopers.specs.Players.{ServesAt}
-use Rattle.dash_loopers.specs.Played.{calls_of, ids_of, Shows, Plays, Delivers, DeliversPulse, Pulses}
+use Rattle.dash_loopers.specs.Played.{calls_of, ids_of, standing, fixed, fixed_by, paint_of, RanFrame, Shows, Plays, Delivers, DeliversPulse, Pulses}
 
 -- the code works at the queue of the place's looper, with what it is lent, and these are the looper's parts
 abbrev pub ServesOn : {R : Type 0} → Place R → Parts → Own → Type 0
@@ -39,6 +42,30 @@ PulsesOn place now own own' parts parts' =
 -- a step of the view root, by what its host has called
 abbrev pub ShowsOn : {R U : Type 0} → Host R U → Host R U → Script → ℕ → (Looper → Looper) → ViewRoot → ViewRoot → Type 0
 ShowsOn host host' s q step root root' = Shows s q step (calls_of host.poster.now) root (calls_of host'.poster.now) root'
+
+-- the frame's callbacks ran, where one began, and the looper's state tells which
+abbrev pub RunsOn : {R : Type 0} → Place R → ℕ → (ℕ → Bool) → Own → Own → Parts → Parts → Type 0
+RunsOn place now is_moment own own' parts parts' = (ids : List ℕ)
+    × RanFrame place.script.now.period (phase_count place.script.now.edition) is_moment parts.frames parts'.frames ids
+    × PlaysOn place (λ a. fold (callback_ran place.script.now place.looper now) a ids) own own' parts parts'
+
+-- the same of the view root, by what its host has called
+abbrev pub RootRuns : {R U : Type 0} → Frames → (ℕ → Bool) → Pass → Pass → Host R U → Host R U → ViewRoot → ViewRoot → Type 0
+RootRuns c is_moment pass pass' host host' root root' = (ids : List ℕ)
+    × RanFrame c.constants.interval c.constants.phases is_moment pass pass' ids
+    × ((s : Script) (q : ℕ) → ShowsOn host host' s q (λ a. fold (callback_ran s q host.now) a ids) root root')
+
+-- the animation of this gauge ran at this moment, where there is one of this number
+abbrev pub animated : Script → ℕ → ℕ → ℕ → Looper → Looper
+animated s q now gauge a = option_map_or (λ x. animation_ran s q now gauge x a) (slice_get a.gauges gauge) a
+
+-- the gauges are those of the script, as this looper has them
+abbrev pub HasGauges : Script → ℕ → ViewRoot → Type 0
+HasGauges s q root = map fixed root.gauges.items ≡ map (fixed_by s q) s.gauges
+
+-- it has painted its gauges too, as they stand
+abbrev pub HasPainted : Script → ℕ → ViewRoot → ViewRoot → Type 0
+HasPainted s q root root' = map paint_of root'.painted.items ≡ map paint_of root.painted.items ++ paints s q (map standing root.gauges.items)
 
 -- the view root of a frame that is under way has run the callbacks that are told, by what its host has called
 abbrev pub FrameShows : {R U : Type 0} → FrameRun → Host R U → Type 0

@@ -11,10 +11,11 @@ ghost use Rattle.dash_loopers.specs.Places.{ServesOn, DeliversOn};
 ghost use Rattle.dash_loopers.specs.Players.{AreSameParts};
 ghost use Rattle.dash_loopers.specs.Played.{HasPlayedBy};
 ghost use Rattle.dash_loopers.specs.Clocked.{goes_to_rules, DeliversAt, ClockOwner, ServesFree, IsPlayingAt, StaysByClock};
+ghost use Rattle.dash_loopers.specs.Looped.{clock_mode, HasLooped, with_parts, owner_of, owner_in, PlayerServes, PlayerPlays, PlayerLooped};
 ghost use Rattle.dash_loopers.specs.ClockedLaws.{playing_at_others, playing_at_disposed, playing_at_quiet};
 
 use crate::looper::{StageLooper, close};
-use crate::player::{Parts, Place, did};
+use crate::player::{Parts, Place, did, of_looper};
 use choreographer::NANOS_PER_MILLI;
 use dash_hall::{Hall, Timer, Uptime, frame_handler};
 use dash_script::Script;
@@ -37,19 +38,19 @@ struct Pace<'a, G: Gate, C: Clock> {
 
 /// A looper's code, for one loop by a clock.
 #[derive(Drop)]
-pub(crate) struct ClockPlayer<'a, R: Wait, G: Gate, C: Clock> {
+pub(crate) struct ClockPlayer<'a, 'b, R: Wait, G: Gate, C: Clock> {
     pub(crate) place: Place<'a, R>,
     pub(crate) gate: &'a G,
     pub(crate) timer: &'a Timer<'a, C>,
     pub(crate) sender: u32,
     /// The looper as it was when the loop began.
-    pub(crate) began: &'a Snapshot<StageLooper>,
+    pub(crate) began: &'b Snapshot<StageLooper>,
     pub(crate) parts: Parts,
     /// How often it rang the bell of its own queue, wrapping.
     pub(crate) nudged: u64,
 }
 
-impl<'a, R: Wait, G: Gate, C: Clock> Dispatcher for ClockPlayer<'a, R, G, C> {
+impl<'a, 'b, R: Wait, G: Gate, C: Clock> Dispatcher for ClockPlayer<'a, 'b, R, G, C> {
     ghost Serves = { λ d w. ServesFree d.place.script.now d.place.hall.now d.place.looper d.parts w };
 
     ghost Origin = { ClockOwner };
@@ -243,114 +244,72 @@ impl StageLooper {
         ensures plays { HasPlayedBy script.now self.old self.new }
         ensures posters { posters_of self.new ≡ posters_of self.old }
     {
-        let place = self.number as usize;
         let Some(mut parts) = self.parts.take() else {
             unreachable!()
         };
-        let stamp = hall.choreographers[place].asked(rt, &mut parts.frames);
+        let choreographer = of_looper(&hall.choreographers, self.number);
+        let stamp = choreographer.asked(rt, &mut parts.frames);
         self.parts = Some(parts);
         rounded_up(stamp)
     }
 
     /// One round at this moment. It has neither ended nor given up.
-    fn drain<R: Wait, C: Clock, G: Gate>(
+    fn drain<'a, R: Wait, C: Clock, G: Gate>(
         &mut self,
-        rt: &R,
+        rt: &'a R,
         alloc: Global,
-        hall: &Hall,
-        script: &Script,
-        pace: &Pace<G, C>,
+        hall: &'a Hall,
+        script: &'a Script,
+        pace: &Pace<'a, G, C>,
         now: u64,
     )
+        requires mode { hall.now.lockstep ≡ false }
         requires hall { IsHall script.now hall.now }
         requires moment { IsMoment (C.shows pace.now.timer.now.clock.now) pace.now.timer.now.start now }
-        requires mode { hall.now.lockstep ≡ false }
         requires looper { IsLooper script.now hall.now self.old }
         requires going { (is_ended self.old.last ≡ false) × (is_given_up self.old.last ≡ false) }
-        ensures looper { IsLooper script.now hall.now self.new }
         ensures number { self.new.number ≡ self.old.number }
-        ensures plays { HasPlayedBy script.now self.old self.new }
-        ensures clocked { StaysByClock (in_free_mode (C.shows pace.now.timer.now.clock.now) pace.now.timer.now.start) self.old self.new }
+        ensures looped { HasLooped (clock_mode C.shows pace.now.timer.now) script.now hall.now self.old self.new }
     {
         let began = Snapshot::of(&*self);
-        let Some(parts) = self.parts.take() else {
-            unreachable!()
-        };
-        let place = self.number as usize;
-        let mut player = ClockPlayer {
-            place: Place {
-                rt,
-                alloc,
-                hall,
-                script,
-                looper: self.number,
-            },
-            gate: pace.gate,
-            timer: pace.timer,
-            sender: self.sender,
-            began: &began,
-            parts,
-            nudged: 0,
-        };
+        let queue = of_looper(&hall.queues, self.number);
+        let mut player = self.player(rt, alloc, hall, script, pace, &began);
         let last = self.looper.run_round(
             rt,
-            &hall.queues[place],
+            queue,
             &hall.pool,
-            &hall.sources[place],
+            of_looper(&hall.sources, self.number),
             &mut player,
             now,
         );
-        let mut parts = player.parts;
-        self.last = last;
-        close(rt, hall, script, self.number, self.gave_up(), &mut parts);
-        self.parts = Some(parts);
+        self.take_back(player, last);
     }
 
     /// One loop by the clock. It has neither ended nor given up.
-    fn run_loop<R: Wait + time::Clock, C: Clock, G: Gate>(
+    fn run_loop<'a, R: Wait + time::Clock, C: Clock, G: Gate>(
         &mut self,
-        rt: &R,
+        rt: &'a R,
         alloc: Global,
-        hall: &Hall,
-        script: &Script,
-        pace: &Pace<G, C>,
+        hall: &'a Hall,
+        script: &'a Script,
+        pace: &Pace<'a, G, C>,
         cap: Option<u64>,
     ) -> Loop
         requires mode { hall.now.lockstep ≡ false }
         requires hall { IsHall script.now hall.now }
         requires looper { IsLooper script.now hall.now self.old }
         requires going { (is_ended self.old.last ≡ false) × (is_given_up self.old.last ≡ false) }
-        ensures looper { IsLooper script.now hall.now self.new }
-        ensures number { self.new.number ≡ self.old.number }
         ensures last { self.new.last ≡ round_of result }
-        ensures plays { HasPlayedBy script.now self.old self.new }
-        ensures clocked { StaysByClock (in_free_mode (C.shows pace.now.timer.now.clock.now) pace.now.timer.now.start) self.old self.new }
+        ensures looped { HasLooped (clock_mode C.shows pace.now.timer.now) script.now hall.now self.old self.new }
     {
         let began = Snapshot::of(&*self);
-        let Some(parts) = self.parts.take() else {
-            unreachable!()
-        };
-        let place = self.number as usize;
-        let mut player = ClockPlayer {
-            place: Place {
-                rt,
-                alloc,
-                hall,
-                script,
-                looper: self.number,
-            },
-            gate: pace.gate,
-            timer: pace.timer,
-            sender: self.sender,
-            began: &began,
-            parts,
-            nudged: 0,
-        };
+        let queue = of_looper(&hall.queues, self.number);
+        let mut player = self.player(rt, alloc, hall, script, pace, &began);
         let how = self.looper.run_loop(
             rt,
-            &hall.queues[place],
+            queue,
             &hall.pool,
-            &hall.sources[place],
+            of_looper(&hall.sources, self.number),
             &mut player,
             &ByClock {
                 clock: pace.timer.clock,
@@ -358,11 +317,68 @@ impl StageLooper {
                 cap,
             },
         );
-        let mut parts = player.parts;
-        self.last = last_of(how);
-        close(rt, hall, script, self.number, self.gave_up(), &mut parts);
-        self.parts = Some(parts);
+        self.take_back(player, last_of(how));
         how
+    }
+
+    /// Its code for one loop by a clock, which takes its parts.
+    fn player<'a, 'b, R: Wait, G: Gate, C: Clock>(
+        &mut self,
+        rt: &'a R,
+        alloc: Global,
+        hall: &'a Hall,
+        script: &'a Script,
+        pace: &Pace<'a, G, C>,
+        began: &'b Snapshot<StageLooper>,
+    ) -> ClockPlayer<'a, 'b, R, G, C>
+        requires mode { hall.now.lockstep ≡ false }
+        requires hall { IsHall script.now hall.now }
+        requires looper { IsLooper script.now hall.now self.old }
+        requires began { began.now.value ≡ self.old }
+        ensures same { self.new ≡ record self.old { parts = None } }
+        ensures owner { owner_in (clock_mode C.shows result.timer.now) result ≡ owner_of (clock_mode C.shows pace.now.timer.now) script.now hall.now self.old }
+        ensures serves { PlayerServes result self.new.looper }
+        ensures begins { PlayerPlays (clock_mode C.shows result.timer.now) result self.new.looper }
+    {
+        let Some(parts) = self.parts.take() else {
+            unreachable!()
+        };
+        ClockPlayer {
+            place: Place {
+                rt,
+                alloc,
+                hall,
+                script,
+                looper: self.number,
+            },
+            gate: pace.gate,
+            timer: pace.timer,
+            sender: self.sender,
+            began,
+            parts,
+            nudged: 0,
+        }
+    }
+
+    /// Takes its parts back behind a loop that ended so. Where that found no memory it gives the run up, and nudges main.
+    fn take_back<R: Wait, G: Gate, C: Clock>(&mut self, player: ClockPlayer<R, G, C>, last: Round)
+        requires hall { IsHall player.place.script.now player.place.hall.now }
+        requires looped { PlayerLooped (clock_mode C.shows player.timer.now) player (with_parts self.old last player.parts) }
+        ensures last { self.new.last ≡ last }
+        ensures looped { PlayerLooped (clock_mode C.shows player.entry.timer.now) player.entry self.new }
+    {
+        let place = player.place;
+        let mut parts = player.parts;
+        self.last = last;
+        close(
+            place.rt,
+            place.hall,
+            place.script,
+            self.number,
+            self.gave_up(),
+            &mut parts,
+        );
+        self.parts = Some(parts);
     }
 }
 

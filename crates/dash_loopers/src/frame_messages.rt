@@ -18,7 +18,7 @@ ghost use Rattle.run_model.specs.Loopers.{starts_frame, callback_ran, object_set
 ghost use Rattle.looper_run.specs.Tests.{Unless};
 ghost use Rattle.choreographer.specs.declared.host.HostSent.TheVariants.{NoMemory as NoRoom};
 ghost use Rattle.choreographer.specs.Calls.{stamp_in};
-ghost use Rattle.dash_loopers.specs.Places.{ServesOn, PlaysOn, DeliversOn, DeliversPulseOn, PulsesOn};
+ghost use Rattle.dash_loopers.specs.Places.{ServesOn, PlaysOn, RunsOn, DeliversOn, DeliversPulseOn, PulsesOn};
 
 use crate::player::{Parts, Place, did};
 use crate::view_root::Painted;
@@ -124,10 +124,7 @@ impl<'a, R: Wait> Place<'a, R> {
         ensures rung { own.new.poster.now.view.rung ≡ own.old.poster.now.view.rung }
         ensures clocked { AddsAt now own.old.poster.now own.new.poster.now }
         ensures others { parts.new.others ≡ parts.old.others }
-        ensures ran { OnOk result ((ids : List ℕ)
-            × RanFrame self.now.script.now.period (phase_count self.now.script.now.edition) (U.is_moment uptime.now)
-            parts.old.frames parts.new.frames ids
-            × PlaysOn self.now (λ a. fold (callback_ran self.now.script.now self.now.looper now) a ids) own.old own.new parts.old parts.new) }
+        ensures ran { OnOk result (RunsOn self.now now (U.is_moment uptime.now) own.old own.new parts.old parts.new) }
         ensures acts { own.new.journal.now.acts ≡ own.old.journal.now.acts }
     {
         let began = Snapshot::of(&*own.poster);

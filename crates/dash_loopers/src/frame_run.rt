@@ -7,7 +7,7 @@ ghost use Rattle.dash_script.specs.declared.script.Script.{Script as ScriptData}
 ghost use Rattle.run_model.specs.Loopers.{callback_ran};
 ghost use Rattle.dash_hall.specs.Hosts.{IsHostNow, IsSameHost};
 ghost use Rattle.dash_hall.specs.Kits.{frame_badge_of};
-ghost use Rattle.dash_loopers.specs.Places.{FrameShows, ShowsOn};
+ghost use Rattle.dash_loopers.specs.Places.{FrameShows, RootRuns};
 ghost use Rattle.dash_loopers.specs.Played.{RanFrame};
 ghost use Rattle.dash_loopers.specs.Players.{FrameOwner, frame_owner};
 
@@ -77,9 +77,7 @@ impl ViewRoot {
         ensures origin { IsSameHost host.old host.new }
         ensures pass { frame_badge_of pass.new ≡ frame_badge_of pass.old }
         ensures root { frame_badge_of self.new.pass ≡ frame_badge_of self.old.pass }
-        ensures ran { OnOk result ((ids : List ℕ)
-            × RanFrame c.now.constants.interval c.now.constants.phases (U.is_moment host.old.uptime.now) pass.old pass.new ids
-            × ((s : ScriptData) (q : ℕ) → ShowsOn host.old host.new s q (λ a. fold (callback_ran s q host.old.now) a ids) self.old self.new)) }
+        ensures ran { OnOk result (RootRuns c.now (U.is_moment host.old.uptime.now) pass.old pass.new host.old host.new self.old self.new) }
     {
         let began = Snapshot::of(&*self);
         let poster_began = Snapshot::of(&*host.poster);

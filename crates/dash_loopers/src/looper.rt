@@ -7,7 +7,7 @@ ghost use Rattle.dash_loopers.specs.Players.{AreSameParts};
 ghost use Rattle.dash_loopers.specs.Played.{HasCome, HasPlayed, HasLeft, HasComeBy, HasLeftBy};
 ghost use Rattle.run_model.specs.Loopers.{Looper as LooperState, first_looper};
 
-use crate::player::{Parts, Place, Player};
+use crate::player::{Parts, Place, Player, of_looper};
 use crate::view_root::ViewRoot;
 use dash_hall::{Hall, Kit};
 use dash_script::Script;
@@ -138,7 +138,6 @@ impl StageLooper {
         let Some(parts) = self.parts.take() else {
             unreachable!()
         };
-        let place = self.number as usize;
         let mut player = Player {
             place: Place {
                 rt,
@@ -155,9 +154,9 @@ impl StageLooper {
         };
         self.last = self.looper.run_round(
             rt,
-            &hall.queues[place],
+            of_looper(&hall.queues, self.number),
             &hall.pool,
-            &hall.sources[place],
+            of_looper(&hall.sources, self.number),
             &mut player,
             now,
         );

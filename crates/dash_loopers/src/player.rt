@@ -1,5 +1,5 @@
 //! What a looper does with its messages.
-ghost use Rattle.std.specs.Prelude.{◌≡◌, slice_get, Some, None, IsTrue, true, false, OnOk, is_ok, is_some, ◌==◌, ◌||◌};
+ghost use Rattle.std.specs.Prelude.{◌≡◌, ◌<◌, length, slice_get, Some, None, IsTrue, true, false, OnOk, is_ok, is_some, ◌==◌, ◌||◌};
 ghost use Rattle.std.specs.Option.{option_map_or};
 ghost use Rattle.message_slot.specs.Fields.{handler_of, obj_of};
 ghost use Rattle.looper_run.specs.declared.dispatcher.Did.TheVariants.{No};
@@ -133,7 +133,7 @@ impl<'a, R: Wait> Place<'a, R> {
         requires { IsLooperOf self.now.script.now self.now.hall.now self.now.looper }
         ensures { slice_get self.now.hall.now.queues.items self.now.looper ≡ Some result.now }
     {
-        &self.hall.queues[self.looper as usize]
+        of_looper(&self.hall.queues, self.looper)
     }
 
     /// The looper's choreographer.
@@ -141,7 +141,7 @@ impl<'a, R: Wait> Place<'a, R> {
         requires { IsLooperOf self.now.script.now self.now.hall.now self.now.looper }
         ensures { slice_get self.now.hall.now.choreographers.items self.now.looper ≡ Some result.now }
     {
-        &self.hall.choreographers[self.looper as usize]
+        of_looper(&self.hall.choreographers, self.looper)
     }
 
     /// Whether the message is one of the choreographer, or has an object: the handler's callback object takes it then.
@@ -182,6 +182,14 @@ impl<'a, R: Wait> Place<'a, R> {
             None => self.react(parts, own, p, now),
         }
     }
+}
+
+/// What a list with one for each looper has for the looper of this number.
+pub(crate) fn of_looper<T>(list: &Vec<T>, looper: u32) -> &T
+    requires { looper < length list.now.items }
+    ensures { slice_get list.now.items looper ≡ Some result.now }
+{
+    &list[looper as usize]
 }
 
 pub(crate) fn did(done: Result<(), NoMemory>) -> Did

@@ -5,7 +5,7 @@ ghost use Rattle.std.specs.Option.{option_map_or};
 ghost use Rattle.choreographer.specs.Known.{IsOf};
 ghost use Rattle.dash_hall.specs.Hosts.{IsHostNow, IsSameHost};
 ghost use Rattle.dash_hall.specs.Kits.{FrameBadge, frame_badge_of};
-ghost use Rattle.dash_loopers.specs.Places.{ShowsOn};
+ghost use Rattle.dash_loopers.specs.Places.{ShowsOn, HasGauges, HasPainted, animated};
 ghost use Rattle.dash_loopers.specs.Played.{standing, fixed, fixed_by, paint_of, paint_of_gauge};
 ghost use Rattle.dash_script.specs.declared.script.Script.{Script as ScriptData};
 ghost use Rattle.dash_script.specs.Reading.{HasText};
@@ -74,9 +74,8 @@ impl ViewRoot {
         pass: FramePass,
     ) -> Result<ViewRoot, NoMemory>
         ensures pass { IfOk result (λ v. v.pass ≡ pass) }
-        ensures gauges { IfOk result (λ v.
-            (map standing v.gauges.items ≡ replicate (length script.now.gauges) (record { value = 0; target = 0; animating = false }))
-            × (map fixed v.gauges.items ≡ map (fixed_by script.now looper) script.now.gauges)) }
+        ensures still { IfOk result (λ v. map standing v.gauges.items ≡ replicate (length script.now.gauges) (record { value = 0; target = 0; animating = false })) }
+        ensures gauges { IfOk result (λ v. HasGauges script.now looper v) }
         ensures rest { IfOk result (λ v. (v.barrier ≡ None) × (v.painted.items ≡ []) × (v.edition ≡ script.now.edition)) }
     {
         let mut gauges = Vec::new(alloc);
@@ -198,8 +197,7 @@ impl ViewRoot {
         ensures ready { IsHostNow host.new }
         ensures origin { IsSameHost host.old host.new }
         ensures pass { frame_badge_of self.new.pass ≡ frame_badge_of self.old.pass }
-        ensures shows { (s : ScriptData) (q : ℕ) → OnOk result (ShowsOn host.old host.new s q
-            (λ a. option_map_or (λ x. animation_ran s q host.old.now gauge x a) (slice_get a.gauges gauge) a) self.old self.new) }
+        ensures shows { (s : ScriptData) (q : ℕ) → OnOk result (ShowsOn host.old host.new s q (animated s q host.old.now gauge) self.old self.new) }
     {
         let Some(x) = self.gauge(gauge) else {
             return Ok(());
@@ -243,8 +241,7 @@ impl ViewRoot {
     /// Paints each gauge of the looper, by rising number.
     fn paint(&mut self) -> Result<(), NoMemory>
         ensures pass { self.new.pass ≡ self.old.pass }
-        ensures painted { (s : ScriptData) (q : ℕ) → HasText s → map fixed self.old.gauges.items ≡ map (fixed_by s q) s.gauges
-            → OnOk result (map paint_of self.new.painted.items ≡ map paint_of self.old.painted.items ++ paints s q (map standing self.old.gauges.items)) }
+        ensures painted { (s : ScriptData) (q : ℕ) → HasText s → HasGauges s q self.old → OnOk result (HasPainted s q self.old self.new) }
         ensures same { (self.new.gauges ≡ self.old.gauges) × (self.new.barrier ≡ self.old.barrier) × (self.new.edition ≡ self.old.edition) }
     {
         paint_all(&mut self.painted, self.gauges.as_slice())

@@ -1,28 +1,11 @@
-use Rattle.std.proofs.Common.{refl}
 use Rattle.looper_run.specs.Holding.{held}
 use Rattle.loop_model.specs.declared.journal.Route.TheVariants.{Handled}
-use Rattle.run_model.specs.Moments.{in_free_mode}
-use Rattle.dash_hall.specs.Uptimes.{is_shown}
-use Rattle.dash_loopers.proofs.LooperByClock.{dispatches_well_by}
-use Rattle.dash_loopers.proofs.LooperMoments.{rules_at_once, delivered_adds, of_shown, in_the_mode, taken_plays, dispatch_at}
+use Rattle.dash_loopers.proofs.LooperMoments.{delivery_at}
 use Rattle.dash_loopers.proofs.by_clock.ClockPlayerDispatcher.handle.Goals as goal
 
 pub returns-clause-meets : goal.returns-clause-meets
 returns-clause-meets g c =
     let p = c.args.self.now in
-    let shows = g.C.Clock.shows p.timer.now.clock.now in
-    let start = p.timer.now.start in
-    let m = in_free_mode shows start in
-    let s = p.place.script.now in
-    let q = p.place.looper in
-    let b = p.began.now.value in
-    let h = held c.args.own.now in
-    let k = held c.deliver.new.own in
-    let serves = c.requires.serves.serves in
-    let letter = c.as_post-p.result in
-    let at = c.moment_for-at.result in
-    let adds = delivered_adds m q at letter h.poster k.poster p.parts c.deliver.new.parts refl (in_the_mode m s p.place.hall.now q h c.requires.serves.mode serves.looper serves.place) (λ isnt. of_shown shows start at (c.moment_for-at.ensures.read isnt)) c.deliver.ensures.clocked in
-    dispatch_at m s q b c.did.result h k c.args.m.now c.args.now Handled p.parts c.deliver.new.parts c.deliver.ensures.lent adds c.deliver.ensures.clocked.others c.requires.taken
-    (dispatches_well_by s q b c.args.now at (is_shown shows start) c.args.m.now Handled letter c.deliver.result c.did.result h k p.parts c.deliver.new.parts c.as_post-p.ensures (rules_at_once q at c.args.now letter c.moment_for-at.ensures.rules)
-    c.deliver.ensures.lent (taken_plays m s q b h c.args.m.now c.args.now p.parts c.requires.taken) c.deliver.ensures.delivers
-    c.did.ensures.no c.did.ensures.yes)
+    let done = c.deliver.ensures in
+    delivery_at (g.C.Clock.shows p.timer.now.clock.now) p.timer.now.start p.place.script.now p.place.hall.now p.place.looper p.began.now.value c.args.m.now c.args.now c.moment_for-at.result Handled c.as_post-p.result c.deliver.result c.did.result
+    (held c.args.own.now) (held c.deliver.new.own) p.parts c.deliver.new.parts c.requires.serves c.as_post-p.ensures c.moment_for-at.ensures.rules c.moment_for-at.ensures.read done.lent done.clocked done.delivers c.requires.taken c.did.ensures.no c.did.ensures.yes

@@ -1,14 +1,11 @@
 use Rattle.std.proofs.Common.{◌≡◌, Some, refl, sym, ap, ◌∙◌, arith}
 use Rattle.dash_loopers.specs.Loopers.{posters_of, rest_in}
 use Rattle.dash_hall.proofs.Hearing.{has_heard, ready_is, known_is, longer_whole}
-use Rattle.dash_loopers.proofs.LooperSeats.{own_at, other_is, looper_own_heard, looper_other_heard}
+use Rattle.dash_loopers.proofs.LooperSeats.{own_at, own_ready, other_is, looper_own_heard, looper_other_heard}
 use Rattle.dash_loopers.proofs.looper.StageLooper.hear.Goals as goal
 
 pub hear-requires : goal.hear-requires
-hear-requires c =
-    let l = c.args.self.now in
-    let at : c.args.place ≡ l.number = omega (arith, c.if-place-number.true) in
-    (ready_is (posters_of l) c.args.place l.looper.held.poster c.args.queue.now c.requires.ready (own_at l c.args.place c.requires.within at), c.requires.other)
+hear-requires c = (own_ready c.args.self.now c.args.place c.args.queue.now c.requires.ready c.requires.within (omega (arith, c.if-place-number.true)), c.requires.other)
 
 pub returns-then-place-number-clause-kept : goal.returns-then-place-number-clause-kept
 returns-then-place-number-clause-kept c =

@@ -53,7 +53,7 @@ returns-clause-begun c =
     let unrun = subst (λ (p : Pass). p.view.own ≡ []) (sym c.remove-own_frames.ensures.value) (c.requires.unused.own 0 c.remove-own_frames.result (omega (arith, two))) in
     let none = subst (λ (p : Sender). p.view.seen ≡ []) (sym c.remove-poster.ensures.value) (c.requires.unused.posters c.args.number c.remove-poster.result many) in
     stands_first c.args.script.now c.args.number _ _ _ _ (ap (λ (h : Holding). h.poster.view.seen) c.make.ensures.held ∙ none) (ap (λ (h : Holding). h.journal.acts) c.make.ensures.held)
-    c.in_ok-new.ensures.gauges.0 c.in_ok-new.ensures.gauges.1 c.in_ok-new.ensures.rest.0 c.in_ok-new.ensures.rest.1 c.in_ok-new.ensures.rest.2
+    c.in_ok-new.ensures.still c.in_ok-new.ensures.gauges c.in_ok-new.ensures.rest.0 c.in_ok-new.ensures.rest.1 c.in_ok-new.ensures.rest.2
     (subst AreUnseen (sym c.remove-poster.ensures.items) (unseen_without c.args.kit.posters.items c.args.number many c.requires.unused.posters))
     (c.in_ok-vec.ensures.items_if_clones_equal (λ y same. same) ∙ ap (λ (n : ℕ). replicate n 0) c.len.ensures)
     (ap (λ (p : Pass). p.view.own) c.in_ok-new.ensures.pass ∙ unasked) (ap (λ (p : Pass). p.view.turns) c.in_ok-new.ensures.pass ∙ untaken) unrun

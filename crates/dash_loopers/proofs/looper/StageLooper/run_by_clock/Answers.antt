@@ -26,7 +26,7 @@ loop-preserved g c =
     let hall = c.args.hall.now in
     let here = c.loop.invariant in
     let next = c.next_pulse.ensures in
-    let ran = c.run_loop-how.ensures in
+    let ran = c.run_loop-how.ensures.looped in
     let going = sym c.gave_up.ensures ∙ c.if-gave_up.false in
     let m = in_free_mode (g.C.Clock.shows c.args.timer.now.clock.now) c.args.timer.now.start in
     record {
@@ -38,7 +38,7 @@ loop-preserved g c =
     }
 
 pub returns-then-is_at_end-clause-number : goal.returns-then-is_at_end-clause-number
-returns-then-is_at_end-clause-number g c = c.run_loop-how.ensures.number ∙ (c.next_pulse.ensures.number ∙ c.loop.invariant.number)
+returns-then-is_at_end-clause-number g c = c.run_loop-how.ensures.looped.number ∙ (c.next_pulse.ensures.number ∙ c.loop.invariant.number)
 
 pub returns-then-is_at_end-clause-stays : goal.returns-then-is_at_end-clause-stays
 returns-then-is_at_end-clause-stays g c =
@@ -48,9 +48,9 @@ pub returns-then-is_at_end-clause-plays : goal.returns-then-is_at_end-clause-pla
 returns-then-is_at_end-clause-plays g c =
     let here = c.loop.invariant in
     let next = c.next_pulse.ensures in
-    plays_on c.args.script.now c.args.hall.now c.args.self.now c.loop.self c.next_pulse.new.self c.run_loop-how.new.self c.requires.looper here.looper next.looper here.number next.number next.last (sym c.gave_up.ensures ∙ c.if-gave_up.false) here.plays next.plays c.run_loop-how.ensures.plays
+    plays_on c.args.script.now c.args.hall.now c.args.self.now c.loop.self c.next_pulse.new.self c.run_loop-how.new.self c.requires.looper here.looper next.looper here.number next.number next.last (sym c.gave_up.ensures ∙ c.if-gave_up.false) here.plays next.plays c.run_loop-how.ensures.looped.plays
 
 pub returns-then-is_at_end-clause-clocked : goal.returns-then-is_at_end-clause-clocked
 returns-then-is_at_end-clause-clocked g c =
     let m = in_free_mode (g.C.Clock.shows c.args.timer.now.clock.now) c.args.timer.now.start in
-    λ end had. c.run_loop-how.ensures.clocked end (by_clock_same m c.loop.self c.next_pulse.new.self c.next_pulse.ensures.posters (c.loop.invariant.clocked (sym c.gave_up.ensures ∙ c.if-gave_up.false) had))
+    λ end had. c.run_loop-how.ensures.looped.clocked end (by_clock_same m c.loop.self c.next_pulse.new.self c.next_pulse.ensures.posters (c.loop.invariant.clocked (sym c.gave_up.ensures ∙ c.if-gave_up.false) had))

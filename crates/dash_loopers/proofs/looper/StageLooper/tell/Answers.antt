@@ -3,14 +3,11 @@ use Rattle.std.specs.List.{insert}
 use Rattle.looper_run.specs.Holding.{Sender}
 use Rattle.dash_loopers.specs.Loopers.{posters_of, others_in, rest_in}
 use Rattle.dash_hall.proofs.Hearing.{has_heard, ready_is, known_at, kept_at}
-use Rattle.dash_loopers.proofs.LooperSeats.{own_at, other_is}
+use Rattle.dash_loopers.proofs.LooperSeats.{own_at, own_ready, other_is}
 use Rattle.dash_loopers.proofs.looper.StageLooper.tell.Goals as goal
 
 pub tell-requires : goal.tell-requires
-tell-requires c =
-    let l = c.args.self.now in
-    let at : c.args.place ≡ l.number = omega (arith, c.if-place-number.true) in
-    (ready_is (posters_of l) c.args.place l.looper.held.poster c.args.queue.now c.requires.ready (own_at l c.args.place c.requires.within at), c.requires.other)
+tell-requires c = (own_ready c.args.self.now c.args.place c.args.queue.now c.requires.ready c.requires.within (omega (arith, c.if-place-number.true)), c.requires.other)
 
 pub returns-then-place-number-clause-heard : goal.returns-then-place-number-clause-heard
 returns-then-place-number-clause-heard c = has_heard c.args.other.now c.tell.new.other c.tell.ensures.same c.tell.ensures.begins.0

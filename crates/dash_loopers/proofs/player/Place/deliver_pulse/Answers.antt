@@ -1,7 +1,7 @@
 use Rattle.std.proofs.Common.{◌≡◌, ◌==◌, ℕ, true, ap, subst, refl}
 use Rattle.run_model.specs.FrameRuns.{nanos_of}
 use Rattle.dash_hall.specs.declared.uptime.Still.{Still}
-use Rattle.dash_hall.specs.Hosts.{origin_of}
+use Rattle.dash_hall.specs.Hosts.{origin_now}
 use Rattle.frame_phases.specs.Pulses.{is_pulse_if_any}
 use Rattle.choreographer.specs.Calls.{stamp_in}
 use Rattle.dash_loopers.proofs.LooperPlaces.{its_period}
@@ -13,9 +13,7 @@ pub returns-clause-pulses : goal.returns-clause-pulses
 returns-clause-pulses g c =
     let h = c.host-host.result in
     let k = c.deliver.new.self in
-    let o = origin_of h.queue.now h.pool.now h.poster.ghost_name h.pass.ghost_name h.began.now.value h.pass_began.now.value h.handler.id h.now h.uptime.now in
-    let o' = origin_of k.queue.now k.pool.now k.poster.ghost_name k.pass.ghost_name k.began.now.value k.pass_began.now.value k.handler.id k.now k.uptime.now in
-    pulse_hosted c.args.self.now.script.now c.args.self.now.looper c.args.now h.uptime.now.now o o' c.args.own.now.poster.now h.poster.now k.poster.now k.pass.now c.args.parts.now _ c.deliver.result
+    pulse_hosted c.args.self.now.script.now c.args.self.now.looper c.args.now h.uptime.now.now (origin_now h) (origin_now k) c.args.own.now.poster.now h.poster.now k.poster.now k.pass.now c.args.parts.now _ c.deliver.result
     c.deliver.ensures.origin c.deliver.ensures.ready c.host-host.ensures.began.0 c.host-host.ensures.poster.1 (ap (λ (x : Still). x.now) c.host-host.ensures.uptime) c.host-host.ensures.moment.1 c.deliver.ensures.pulse refl refl refl
 
 pub returns-clause-is_pulse : goal.returns-clause-is_pulse
@@ -28,9 +26,7 @@ pub returns-clause-untimed : goal.returns-clause-untimed
 returns-clause-untimed g c =
     let h = c.host-host.result in
     let k = c.deliver.new.self in
-    let o = origin_of h.queue.now h.pool.now h.poster.ghost_name h.pass.ghost_name h.began.now.value h.pass_began.now.value h.handler.id h.now h.uptime.now in
-    let o' = origin_of k.queue.now k.pool.now k.poster.ghost_name k.pass.ghost_name k.began.now.value k.pass_began.now.value k.handler.id k.now k.uptime.now in
     record {
-      own = pulse_untimed_hosted o o' (λ n. n == nanos_of h.uptime.now.now) c.args.own.now.poster.now h.poster.now k.poster.now k.pass.now c.args.parts.now.frames c.deliver.new.pass c.deliver.result c.deliver.ensures.origin c.deliver.ensures.ready c.host-host.ensures.began.0 c.host-host.ensures.poster.1 c.deliver.ensures.pulse;
+      own = pulse_untimed_hosted (origin_now h) (origin_now k) (λ n. n == nanos_of h.uptime.now.now) c.args.own.now.poster.now h.poster.now k.poster.now k.pass.now c.args.parts.now.frames c.deliver.new.pass c.deliver.result c.deliver.ensures.origin c.deliver.ensures.ready c.host-host.ensures.began.0 c.host-host.ensures.poster.1 c.deliver.ensures.pulse;
       others = untimed_same c.args.parts.now.others.items c.args.parts.now.others.items refl;
     }

@@ -4,7 +4,7 @@ use Rattle.choreographer.proofs.Recorded.{due_records}
 use Rattle.run_model.specs.FrameAsks.{asks_in}
 use Rattle.run_model.specs.FrameRuns.{nanos_of}
 use Rattle.loop_model.proofs.Prefixes.{prefix_self}
-use Rattle.dash_hall.specs.Hosts.{origin_of}
+use Rattle.dash_hall.specs.Hosts.{origin_now}
 use Rattle.dash_loopers.specs.Played.{calls_of}
 use Rattle.dash_loopers.proofs.PlaySteps.{untold_hosted, played_with}
 use Rattle.looper_run.specs.Holding.{held}
@@ -31,18 +31,14 @@ pub returns-clause-plays : goal.returns-clause-plays
 returns-clause-plays g c = λ text a is.
     (let h = c.host-host.result in
     let k = c.on_due.new.self in
-    let o = origin_of h.queue.now h.pool.now h.poster.ghost_name h.pass.ghost_name h.began.now.value h.pass_began.now.value h.handler.id h.now h.uptime.now in
-    let o' = origin_of k.queue.now k.pool.now k.poster.ghost_name k.pass.ghost_name k.began.now.value k.pass_began.now.value k.handler.id k.now k.uptime.now in
-    let calls = untold_hosted o o' c.args.own.now.poster.now h.poster.now k.poster.now k.pass.now c.on_due.ensures.origin c.on_due.ensures.ready c.host-host.ensures.began.0 c.host-host.ensures.poster.1 c.on_due.ensures.sends in
+    let calls = untold_hosted (origin_now h) (origin_now k) c.args.own.now.poster.now h.poster.now k.poster.now k.pass.now c.on_due.ensures.origin c.on_due.ensures.ready c.host-host.ensures.began.0 c.host-host.ensures.poster.1 c.on_due.ensures.sends in
     played_with c.args.self.now.script.now c.args.self.now.looper (calls_of c.args.own.now.poster.now) (calls_of k.poster.now) c.args.parts.now _ a calls refl refl refl is)
 
 pub returns-clause-calls : goal.returns-clause-calls
 returns-clause-calls g c =
     let h = c.host-host.result in
     let k = c.on_due.new.self in
-    let o = origin_of h.queue.now h.pool.now h.poster.ghost_name h.pass.ghost_name h.began.now.value h.pass_began.now.value h.handler.id h.now h.uptime.now in
-    let o' = origin_of k.queue.now k.pool.now k.poster.ghost_name k.pass.ghost_name k.began.now.value k.pass_began.now.value k.handler.id k.now k.uptime.now in
-    untold_hosted o o' c.args.own.now.poster.now h.poster.now k.poster.now k.pass.now c.on_due.ensures.origin c.on_due.ensures.ready c.host-host.ensures.began.0 c.host-host.ensures.poster.1 c.on_due.ensures.sends
+    untold_hosted (origin_now h) (origin_now k) c.args.own.now.poster.now h.poster.now k.poster.now k.pass.now c.on_due.ensures.origin c.on_due.ensures.ready c.host-host.ensures.began.0 c.host-host.ensures.poster.1 c.on_due.ensures.sends
 
 pub returns-clause-asks : goal.returns-clause-asks
 returns-clause-asks g c = ap asks_in (due_records c.args.parts.now.frames c.on_due.new.pass (λ n. n == nanos_of c.host-host.result.uptime.now.now) c.args.phase c.on_due.result c.on_due.ensures.due)
@@ -51,9 +47,7 @@ pub returns-clause-clocked : goal.returns-clause-clocked
 returns-clause-clocked g c =
     let h = c.host-host.result in
     let k = c.on_due.new.self in
-    let o = origin_of h.queue.now h.pool.now h.poster.ghost_name h.pass.ghost_name h.began.now.value h.pass_began.now.value h.handler.id h.now h.uptime.now in
-    let o' = origin_of k.queue.now k.pool.now k.poster.ghost_name k.pass.ghost_name k.began.now.value k.pass_began.now.value k.handler.id k.now k.uptime.now in
-    adds_hosted o o' c.args.now c.args.own.now.poster.now k.poster.now k.pass.now c.on_due.ensures.origin c.on_due.ensures.ready c.host-host.ensures.began.0 c.host-host.ensures.moment.0
+    adds_hosted (origin_now h) (origin_now k) c.args.now c.args.own.now.poster.now k.poster.now k.pass.now c.on_due.ensures.origin c.on_due.ensures.ready c.host-host.ensures.began.0 c.host-host.ensures.moment.0
 
 pub returns-then-phase-phases-clause-clocked : goal.returns-then-phase-phases-clause-clocked
 returns-then-phase-phases-clause-clocked g c = begins_by_clock c.args.now c.args.own.now.poster.now c.args.own.now.poster.now refl
