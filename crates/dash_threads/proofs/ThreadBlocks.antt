@@ -1,16 +1,18 @@
 -- A thread that runs the lines of a block, one after another.
-use Rattle.std.proofs.Common.{◌≡◌, ◌≢◌, ℕ, ◌+◌, ◌<◌, ◌==◌, Bool, cond, List, [], ◌∷◌, ◌++◌, map, length, take, drop, get_or, sym, ap, ◌∙◌, subst, append_assoc, eq-eqb, ne_eqb}
+use Rattle.std.proofs.Common.{◌≡◌, ◌≢◌, ℕ, ◌+◌, ◌<◌, ◌≤◌, ◌==◌, Bool, true, false, cond, List, [], ◌∷◌, ◌++◌, map, length, take, drop, get_or, sym, ap, ◌∙◌, subst, append_assoc, eq-eqb, ne_eqb}
 use Rattle.std.specs.Prelude.{filter}
-use Rattle.std.proofs.lemmas.List.{append-nil, map-append, take_more, drop_more, take-append-drop, flat_map_more}
+use Rattle.std.proofs.lemmas.List.{append-nil, map-append, take_all, take_more, drop_more, take-append-drop, flat_map_more}
 use Rattle.std.proofs.lemmas.List.Elements.{filter-append}
 use Rattle.dash_script.specs.declared.script.Line.{Line}
+use Rattle.dash_script.specs.declared.script.Command.TheVariants.{Post}
 use Rattle.dash_script.specs.declared.script.Script.{Script}
 use Rattle.run_model.specs.Moments.{Mode}
 use Rattle.run_model.specs.Planned.{Timed, lines_in, lines_of}
 use Rattle.dash_script.specs.declared.script.Block.{Block}
 use Rattle.std.proofs.lemmas.Grind.{flat_map-append}
+use Rattle.dash_hall.specs.declared.hall.Hall.{Hall}
 use Rattle.dash_threads.specs.declared.thread.PostingThread.{PostingThread}
-use Rattle.dash_threads.specs.Threads.{IsUpTo, Takes, Continues, HasRun, timed_in}
+use Rattle.dash_threads.specs.Threads.{IsThread, IsUpTo, Takes, Continues, HasRun, timed_in}
 use Rattle.dash_threads.proofs.ThreadLabels.{at_time}
 
 timed_append : (n time : ℕ) (xs ys : List Line) → timed_in n time (xs ++ ys) ≡ timed_in n time xs ++ timed_in n time ys
@@ -66,6 +68,50 @@ goes_on m s time all i d l t u v near is own number has takes = λ past rest are
 pub goes_by : (m : Mode) (s : Script) (time : ℕ) (all : List Line) (i : ℕ) (d l : Line) (t u : PostingThread) → i < length all → l ≡ get_or all i d → l.thread ≢ t.number → HasRun m s time all (take i all) t u → HasRun m s time all (take (i + 1) all) t u
 goes_by m s time all i d l t u near is other has = λ past rest are up.
     subst (λ (ls : List Timed). IsUpTo m s (past ++ ls) u) (sym (other_more t.number time all i d l near is other)) (has past rest are up)
+
+-- how far a thread has come in the lines of a block: it is the thread still, goes only where it went, and stays as it was where it had given up
+pub record IsAtLine (m : Mode) (s : Script) (hall : Hall) (b : Block) (i : ℕ) (t z : PostingThread) : Type 0 where
+  pub thread : IsThread s hall z
+  pub number : z.number ≡ t.number
+  pub goes : z.gave_up ≡ false → t.gave_up ≡ false
+  pub stays : t.gave_up ≡ true → z ≡ t
+  pub made : z.gave_up ≡ false → HasRun m s b.time b.lines (take i b.lines) t z
+
+abbrev pub no_line : Line
+no_line = record { thread = 0; command = Post 0 0 0 }
+
+module _ (m : Mode) (s : Script) (hall : Hall) (b : Block) (i : ℕ) (t z : PostingThread) (ls : List Line) (same : ls ≡ b.lines) (near : i < length ls) (at : IsAtLine m s hall b i t z) where
+  within : i < length b.lines
+  within = subst (λ (xs : List Line). i < length xs) same near
+
+  is_line : get_or ls i no_line ≡ get_or b.lines i no_line
+  is_line = ap (λ (xs : List Line). get_or xs i no_line) same
+
+  -- the next line is another's
+  pub by_line : (get_or ls i no_line).thread ≢ z.number → IsAtLine m s hall b (i + 1) t z
+  by_line other = record {
+    thread = at.thread;
+    number = at.number;
+    goes = at.goes;
+    stays = at.stays;
+    made = λ going. goes_by m s b.time b.lines i no_line (get_or ls i no_line) t z within is_line (λ own. other (own ∙ sym at.number)) (at.made going);
+  }
+
+  -- the next line is its own
+  pub on_line : (v : PostingThread) → (get_or ls i no_line).thread ≡ z.number → IsThread s hall v → v.number ≡ z.number → (z.gave_up ≡ true → v ≡ z)
+      → (v.gave_up ≡ false → (z.gave_up ≡ false) × Takes m s (at_time b.time (get_or ls i no_line)) z v) → IsAtLine m s hall b (i + 1) t v
+  on_line v own thread number stays takes = record {
+    thread = thread;
+    number = number ∙ at.number;
+    goes = λ going. at.goes (takes going).0;
+    stays = λ gone. (let still = at.stays gone in stays (ap (λ (x : PostingThread). x.gave_up) still ∙ gone) ∙ still);
+    made = λ going. (let k = takes going in goes_on m s b.time b.lines i no_line (get_or ls i no_line) t z v within is_line (own ∙ at.number) at.number (at.made k.0) k.1);
+  }
+
+-- all lines of the block
+pub past_lines : (m : Mode) (s : Script) (hall : Hall) (b : Block) (i : ℕ) (t z : PostingThread) (ls : List Line) → ls ≡ b.lines → length ls ≤ i → IsAtLine m s hall b i t z → z.gave_up ≡ false → Continues m s b t z
+past_lines m s hall b i t z ls same far at going = λ past rest are up.
+    subst (λ (xs : List Line). IsUpTo m s (past ++ timed_in t.number b.time xs) z) (take_all i b.lines (subst (λ (xs : List Line). length xs ≤ i) same far)) (at.made going past rest are up)
 
 -- one block more of all
 pub block_goes_on : (m : Mode) (s : Script) (i : ℕ) (d b : Block) (t u v : PostingThread) → i < length s.blocks → b ≡ get_or s.blocks i d → u.number ≡ t.number

@@ -1,5 +1,5 @@
 -- A thread that rang bells has run what it had run.
-use Rattle.std.proofs.Common.{◌≡◌, ℕ, ◌<◌, false, List, length, get_or, Option, Some, None, refl, sym, ap, ◌∙◌, subst, arith}
+use Rattle.std.proofs.Common.{◌≡◌, ℕ, ◌<◌, Bool, true, false, List, length, get_or, Option, Some, None, refl, sym, ap, ◌∙◌, subst, arith}
 use Rattle.std.specs.Prelude.{IfSome, IsSomeAnd}
 use Rattle.loop_model.specs.declared.entry.Entry.{Entry}
 use Rattle.dash_script.specs.declared.script.Script.{Script}
@@ -8,6 +8,7 @@ use Rattle.choreographer.specs.Known.{Known as Pass}
 use Rattle.run_model.specs.Asks.{entries_by, tokens_in}
 use Rattle.run_model.specs.Moments.{Mode, IsUptime, AreOfClock}
 use Rattle.run_model.specs.Planned.{Timed, lines_of, labels_on, MakeCalls}
+use Rattle.dash_hall.specs.declared.hall.Hall.{Hall}
 use Rattle.dash_hall.specs.Growth.{own}
 use Rattle.dash_hall.specs.Kits.{Badge}
 use Rattle.dash_hall.specs.ByClock.{is_by, IsByClock}
@@ -61,3 +62,17 @@ pub takes_at : (m : Mode) (s : Script) (time : ℕ) (c : Command) (u v w : Posti
     → IsSomeAnd now (λ n. TakesAt false s n c v w) → Takes m s (record { time = time; command = c }) u w
 takes_at m s time c u v w None passed free same may at = absurd at
 takes_at m s time c u v w (Some n) passed free same may at = subst (λ (z : PostingThread). Takes m s (record { time = time; command = c }) z w) same (at m time (if_free m.lockstep (false ≡ false) (λ h. refl)) may)
+
+-- one that has given up waits for nothing and runs nothing
+pub stays_waited : (u v w : PostingThread) → (u.gave_up ≡ true → v ≡ u) → (v.gave_up ≡ true → w ≡ v) → u.gave_up ≡ true → w ≡ u
+stays_waited u v w waited ran up = ran (ap (λ (z : PostingThread). z.gave_up) (waited up) ∙ up) ∙ waited up
+
+-- what was run behind a wait is the line's
+pub takes_waited : (m : Mode) (s : Script) (hall : Hall) (time : ℕ) (c : Command) (u v w : PostingThread) (now : Option ℕ) → m.lockstep ≡ false → hall.lockstep ≡ false → v ≡ record u { passed = v.passed } → IfSome now (IsUptime m time)
+    → (w.gave_up ≡ false → (v.gave_up ≡ false) × IsSomeAnd now (λ n. TakesAt hall.lockstep s n c v w)) → w.gave_up ≡ false → (u.gave_up ≡ false) × Takes m s (record { time = time; command = c }) u w
+takes_waited m s hall time c u v w now free mode same may made going =
+    let k = made going in
+    (
+      sym (ap (λ (z : PostingThread). z.gave_up) same) ∙ k.0,
+      takes_at m s time c u v w now v.passed free same may (subst (λ (f : Bool). IsSomeAnd now (λ n. TakesAt f s n c v w)) mode k.1),
+    )

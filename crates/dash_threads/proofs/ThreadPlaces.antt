@@ -1,5 +1,5 @@
 -- The posters and passes of a thread, by the place of their looper.
-use Rattle.std.proofs.Common.{◌≡◌, ℕ, ◌<◌, false, length, get_or, Some, ap, ◌∙◌, arith}
+use Rattle.std.proofs.Common.{◌≡◌, ℕ, ◌<◌, false, List, length, set, get_or, Some, sym, ap, ◌∙◌, subst, arith}
 use Rattle.dash_script.specs.declared.script.Script.{Script}
 use Rattle.dash_script.specs.Causes.{phase_count}
 use Rattle.atomic_table.specs.Seated.{TableId}
@@ -13,9 +13,9 @@ use Rattle.dash_hall.specs.Kits.{IsHall}
 use Rattle.run_model.specs.Moments.{Mode, IfFree}
 use Rattle.std.proofs.lemmas.Bool.{MatchBool-at_false}
 use Rattle.dash_hall.proofs.Clocking.{if_free}
-use Rattle.dash_hall.specs.Kits.{badge_of, badge_for, queue_constants}
+use Rattle.dash_hall.specs.Kits.{badge_of, badge_for, frame_badge_of, queue_constants, ArePostersOf, ArePassesOf}
 use Rattle.dash_threads.proofs.ThreadRuns.{AreInMode}
-use Rattle.dash_hall.proofs.Badges.{alike_length, poster_at, queue_at, poster_is, pass_is, queue_count, queue_is, choreographer_count, choreographer_at}
+use Rattle.dash_hall.proofs.Badges.{alike_length, poster_at, queue_at, poster_is, pass_is, passes_kept, queue_count, queue_is, choreographer_count, choreographer_at}
 use Rattle.dash_threads.specs.declared.thread.PostingThread.{PostingThread}
 use Rattle.dash_threads.specs.Threads.{IsThread}
 
@@ -45,3 +45,14 @@ its_mode m s hall t h own mode = λ q d near. (
     let of_queue = (poster_at t.number hall.queues.items t.kit.posters.items own.posters q d other near).0 in
     let is = queue_at hall.lockstep s hall.pool hall.queues.items h.queues q other within in
     if_free m.lockstep _ (λ free. (queue_constants hall.lockstep s hall.pool q, of_queue.1 ∙ ap Some is, MatchBool-at_false (Unit {0}) (hall.lockstep ≡ false) free mode)))
+
+-- a thread whose pass at a place took a turn is the thread still
+pub thread_with_pass : (s : Script) (hall : Hall) (t t' : PostingThread) → IsThread s hall t → t'.number ≡ t.number → t'.kit.posters.items ≡ t.kit.posters.items → t'.kit.pass.home ≡ t.kit.pass.home
+    → (i : ℕ) (f h : Pass) → t'.kit.frames.items ≡ set t.kit.frames.items i h → f ≡ get_or t.kit.frames.items i f → frame_badge_of h ≡ frame_badge_of f → IsThread s hall t'
+thread_with_pass s hall t t' is number posters pass i f h frames read same = record {
+  number = subst (λ (n : ℕ). n < s.threads) (sym number) is.number;
+  posters = subst (λ (n : ℕ). ArePostersOf n hall.queues.items t'.kit.posters.items) (sym number) (subst (λ (ps : List Sender). ArePostersOf t.number hall.queues.items ps) (sym posters) is.posters);
+  frames = subst (λ (n : ℕ). ArePassesOf n hall.choreographers.items t'.kit.frames.items) (sym number)
+      (subst (λ (fs : List Pass). ArePassesOf t.number hall.choreographers.items fs) (sym frames) (passes_kept t.number hall.choreographers.items t.kit.frames.items is.frames i h f (same ∙ ap frame_badge_of read)));
+  pass = pass ∙ is.pass;
+}

@@ -1,6 +1,6 @@
 -- A thread that runs one line more.
 use Rattle.std.proofs.Common.{◌≡◌, ◌≢◌, ℕ, ◌<◌, ◌≤◌, ◌==◌, Bool, true, false, List, [], ◌∷◌, ◌++◌, map, length, get_or, Option, Some, None, refl, sym, ap, ◌∙◌, subst, arith, inl, inr, eq-eqb}
-use Rattle.std.specs.Prelude.{is_some, if◌then◌else◌}
+use Rattle.std.specs.Prelude.{is_some, if◌then◌else◌, Result, Ok, Err, OnOk}
 use Rattle.std.specs.List.{cons_option}
 use Rattle.std.specs.Option.{option_map}
 use Rattle.std.proofs.lemmas.Bool.{and_parts, eqb-true, ltb-true}
@@ -28,7 +28,7 @@ use Rattle.dash_hall.specs.ByClock.{IsByClock, IsInMode, IfTimed}
 use Rattle.dash_hall.specs.Requests.{call_made, tokens_of, posts_barrier}
 use Rattle.dash_hall.proofs.Clocking.{clocked_call, no_earlier_call}
 use Rattle.dash_threads.specs.Planning.{removal_of}
-use Rattle.dash_threads.specs.Threads.{HasCalled, AreByClock, HasAsked, HasTurned, labels_kept, tokens_kept, KeepsBarriers, IsUpTo, Takes, Performs, CallsAt, with_barrier, Called, CalledIf, MakesPlanned}
+use Rattle.dash_threads.specs.Threads.{HasCalled, AreByClock, HasAsked, HasTurned, labels_kept, tokens_kept, KeepsBarriers, IsUpTo, Takes, TakesAt, Performs, CallsAt, with_barrier, Called, CalledIf, MakesPlanned}
 use Rattle.dash_threads.proofs.ThreadText.{line_passes}
 use Rattle.dash_threads.proofs.ThreadPlans.{call_at, as_planned}
 use Rattle.dash_threads.proofs.ThreadSteps.{StepOn, step_calls, late_of, moment_of_uptime}
@@ -262,3 +262,8 @@ watch_takes m s time u c t l f n a is allowed = subst (λ (z : Command). Takes m
 
 pub event_takes : (m : Mode) (s : Script) (time u : ℕ) (c : Command) (t : PostingThread) (l f n : ℕ) → c ≡ Event l f n → IsUptime m time u → Takes m s (line time c) t t
 event_takes m s time u c t l f n is allowed = subst (λ (z : Command). Takes m s (line time z) t t) (sym is) (λ past rest are up. nothing_more m s time u (Event l f n) t past allowed up (λ q labels. refl) (λ q. refl) (λ q. refl))
+
+-- a command that hands something to its looper makes no call
+pub hands_in : {A E : Type 0} (r : Result A E) (lockstep : Bool) (s : Script) (u : ℕ) (c : Command) (t : PostingThread) → ((m : Mode) (time : ℕ) → IsUptime m time u → Takes m s (line time c) t t) → OnOk r (TakesAt lockstep s u c t t)
+hands_in (Ok x) lockstep s u c t takes = λ m time mode allowed. takes m time allowed
+hands_in (Err e) lockstep s u c t takes = tt

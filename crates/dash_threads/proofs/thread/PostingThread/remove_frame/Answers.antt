@@ -1,8 +1,8 @@
-use Rattle.std.proofs.Common.{None, ◌<◌, ℕ, subst, length, arith, ◌∙◌, ap}
+use Rattle.std.proofs.Common.{None, ◌<◌, ℕ, subst, length, arith, refl}
 use Rattle.dash_threads.proofs.ThreadFrames.{removal_asks}
 use Rattle.dash_threads.proofs.ThreadFrameRuns.{unframe_progress, unframe_within}
-use Rattle.dash_threads.proofs.ThreadPlaces.{its_pass, its_phases}
-use Rattle.dash_hall.proofs.Badges.{alike_length, passes_kept, frame_turn_badge, choreographer_count}
+use Rattle.dash_threads.proofs.ThreadPlaces.{its_pass, its_phases, thread_with_pass}
+use Rattle.dash_hall.proofs.Badges.{alike_length, frame_turn_badge, choreographer_count}
 use Rattle.dash_threads.proofs.thread.PostingThread.remove_frame.Goals as goal
 use Rattle.dash_threads.proofs.thread.PostingThread.remove_frame.Goals.{else-place-len-via-then-place-len+then-place-len-2+else-phase-phases, else-place-len-via-then-place-len+else-place-len-2, else-place-len-via-else-place-len}
 use Rattle.run_model.specs.FrameAsks.{Removes}
@@ -20,23 +20,11 @@ remove_callbacks-requires g c =
 
 pub returns-in_err-remove_callbacks-clause-thread : goal.returns-in_err-remove_callbacks-clause-thread
 returns-in_err-remove_callbacks-clause-thread g c =
-    let t = c.args.self.now in
-    record {
-      number = c.requires.thread.number;
-      posters = c.requires.thread.posters;
-      frames = passes_kept t.number c.args.hall.now.choreographers.items t.kit.frames.items c.requires.thread.frames c.args.looper c.remove_callbacks.new.pass c.index_mut.result.now (frame_turn_badge _ _ _ _ c.remove_callbacks.ensures.2 ∙ ap frame_badge_of c.index_mut.ensures.value);
-      pass = c.requires.thread.pass;
-    }
+    thread_with_pass c.args.script.now c.args.hall.now c.args.self.now _ c.requires.thread refl refl refl c.args.looper c.index_mut.result.now c.remove_callbacks.new.pass refl c.index_mut.ensures.value (frame_turn_badge _ _ _ _ c.remove_callbacks.ensures.2)
 
 pub returns-in_ok-remove_callbacks-clause-thread : goal.returns-in_ok-remove_callbacks-clause-thread
 returns-in_ok-remove_callbacks-clause-thread g c =
-    let t = c.args.self.now in
-    record {
-      number = c.requires.thread.number;
-      posters = c.requires.thread.posters;
-      frames = passes_kept t.number c.args.hall.now.choreographers.items t.kit.frames.items c.requires.thread.frames c.args.looper c.remove_callbacks.new.pass c.index_mut.result.now (frame_turn_badge _ _ _ _ c.remove_callbacks.ensures.2 ∙ ap frame_badge_of c.index_mut.ensures.value);
-      pass = c.requires.thread.pass;
-    }
+    thread_with_pass c.args.script.now c.args.hall.now c.args.self.now _ c.requires.thread refl refl refl c.args.looper c.index_mut.result.now c.remove_callbacks.new.pass refl c.index_mut.ensures.value (frame_turn_badge _ _ _ _ c.remove_callbacks.ensures.2)
 
 pub returns-in_ok-remove_callbacks-clause-made : goal.returns-in_ok-remove_callbacks-clause-made
 returns-in_ok-remove_callbacks-clause-made g c = λ now m time mode allowed past rest are up. (

@@ -3,8 +3,8 @@ use Rattle.std.specs.Prelude.{OnOk}
 use Rattle.dash_script.specs.declared.script.Command.{Command}
 use Rattle.dash_hall.specs.Kits.{badge_of, badge_for}
 use Rattle.dash_hall.proofs.Badges.{alike_length, queue_count}
-use Rattle.dash_threads.proofs.ThreadSteps.{on_ok, ok_from}
-use Rattle.dash_threads.proofs.ThreadRuns.{made_takes, idle_takes, watch_takes, event_takes}
+use Rattle.dash_threads.proofs.ThreadSteps.{on_ok}
+use Rattle.dash_threads.proofs.ThreadRuns.{made_takes, idle_takes, watch_takes, event_takes, hands_in}
 use Rattle.dash_threads.specs.Threads.{TakesAt}
 use Rattle.dash_threads.proofs.ThreadPlaces.{its_mode}
 use Rattle.dash_threads.proofs.thread.PostingThread.run.Goals as goal
@@ -18,21 +18,15 @@ returns-in_default-clause-made g c =
 
 pub returns-in-Idle-clause-made : goal.returns-in-Idle-clause-made
 returns-in-Idle-clause-made g c =
-    let takes : TakesAt c.args.hall.now.lockstep c.args.script.now c.args.now c.args.command c.args.self.now c.args.self.now =
-    λ m time mode allowed. idle_takes m c.args.script.now time c.args.now c.args.command c.args.self.now _ _ _ c.in-Idle.is allowed in
-    ok_from _ _ takes
+    hands_in _ _ c.args.script.now c.args.now c.args.command c.args.self.now (λ m time. idle_takes m c.args.script.now time c.args.now c.args.command c.args.self.now _ _ _ c.in-Idle.is)
 
 pub returns-in-Watch-clause-made : goal.returns-in-Watch-clause-made
 returns-in-Watch-clause-made g c =
-    let takes : TakesAt c.args.hall.now.lockstep c.args.script.now c.args.now c.args.command c.args.self.now c.args.self.now =
-    λ m time mode allowed. watch_takes m c.args.script.now time c.args.now c.args.command c.args.self.now _ _ _ _ c.in-Watch.is allowed in
-    ok_from _ _ takes
+    hands_in _ _ c.args.script.now c.args.now c.args.command c.args.self.now (λ m time. watch_takes m c.args.script.now time c.args.now c.args.command c.args.self.now _ _ _ _ c.in-Watch.is)
 
 pub returns-in-Event-clause-made : goal.returns-in-Event-clause-made
 returns-in-Event-clause-made g c =
-    let takes : TakesAt c.args.hall.now.lockstep c.args.script.now c.args.now c.args.command c.args.self.now c.args.self.now =
-    λ m time mode allowed. event_takes m c.args.script.now time c.args.now c.args.command c.args.self.now _ _ _ c.in-Event.is allowed in
-    ok_from _ _ takes
+    hands_in _ _ c.args.script.now c.args.now c.args.command c.args.self.now (λ m time. event_takes m c.args.script.now time c.args.now c.args.command c.args.self.now _ _ _ c.in-Event.is)
 
 pub returns-in-Frame-clause-made : goal.returns-in-Frame-clause-made
 returns-in-Frame-clause-made g c =

@@ -1,16 +1,9 @@
-use Rattle.std.proofs.Common.{◌≡◌, ◌<◌, ◌≤◌, ◌+◌, ◌++◌, ◌∙◌, List, length, take, get_or, true, false, sym, ap, subst, arith}
-use Rattle.std.proofs.lemmas.List.{take_all}
-use Rattle.dash_script.specs.declared.script.Line.{Line}
-use Rattle.dash_script.specs.declared.script.Command.TheVariants.{Post}
-use Rattle.dash_threads.specs.declared.thread.PostingThread.{PostingThread}
+use Rattle.std.proofs.Common.{◌+◌, sym, subst, arith}
 use Rattle.run_model.specs.Moments.{in_lockstep}
-use Rattle.dash_threads.specs.Threads.{IsThread, IsUpTo, HasRun, timed_in}
-use Rattle.dash_threads.proofs.ThreadBlocks.{goes_on, goes_by}
+use Rattle.dash_threads.specs.declared.thread.PostingThread.{PostingThread}
+use Rattle.dash_threads.proofs.ThreadBlocks.{IsAtLine, by_line, on_line, past_lines}
 use Rattle.dash_threads.proofs.thread.PostingThread.run_block.Goals as goal
 use Rattle.dash_threads.proofs.thread.PostingThread.run_block.Goals.{then-line-self, else-line-self}
-
-abbrev no_line : Line
-no_line = record { thread = 0; command = Post 0 0 0 }
 
 pub loop-line-preserved : goal.loop-line-preserved
 loop-line-preserved g c =
@@ -18,30 +11,15 @@ loop-line-preserved g c =
     let hall = c.args.hall.now in
     let t = c.args.self.now in
     let b = c.args.block.now in
-    let i = c.loop-line.line-index in
-    let l : Line = get_or c.as_slice-line-items.result.now i no_line in
-    let is : l ≡ get_or b.lines i no_line = ap (λ (ls : List Line). get_or ls i no_line) c.as_slice-line-items.ensures in
-    let near : i < length b.lines = omega (arith, ap (λ (ls : List Line). length ls) c.as_slice-line-items.ensures, c.loop-line-test.true) in
+    let here = c.loop-line in
+    let lines = c.as_slice-line-items in
     elim c.if-line-self.branch [
-      | then-line-self w ↦ subst (λ (z : PostingThread). record { thread : IsThread s hall z; number : z.number ≡ t.number; goes : z.gave_up ≡ false → t.gave_up ≡ false; stays : t.gave_up ≡ true → z ≡ t; made : z.gave_up ≡ false → HasRun in_lockstep s b.time b.lines (take (i + 1) b.lines) t z }) (sym w.self-is) (record {
-        thread = w.run_line.ensures.thread;
-        number = w.run_line.ensures.number ∙ c.loop-line.invariant.number;
-        goes = λ going. c.loop-line.invariant.goes (w.run_line.ensures.made going).0;
-        stays = λ gone. (let same = c.loop-line.invariant.stays gone in w.run_line.ensures.stays (ap (λ (z : PostingThread). z.gave_up) same ∙ gone) ∙ same);
-        made = λ going. (let k = w.run_line.ensures.made going in goes_on in_lockstep s b.time b.lines i no_line l t c.loop-line.self w.run_line.new.self near is (w.if-line-self.true ∙ c.loop-line.invariant.number) c.loop-line.invariant.number (c.loop-line.invariant.made k.0) k.1);
-      })
-      | else-line-self w ↦ subst (λ (z : PostingThread). record { thread : IsThread s hall z; number : z.number ≡ t.number; goes : z.gave_up ≡ false → t.gave_up ≡ false; stays : t.gave_up ≡ true → z ≡ t; made : z.gave_up ≡ false → HasRun in_lockstep s b.time b.lines (take (i + 1) b.lines) t z }) (sym w.self-is) (record {
-        thread = c.loop-line.invariant.thread;
-        number = c.loop-line.invariant.number;
-        goes = c.loop-line.invariant.goes;
-        stays = c.loop-line.invariant.stays;
-        made = λ going. goes_by in_lockstep s b.time b.lines i no_line l t c.loop-line.self near is (λ own. w.if-line-self.false (own ∙ sym c.loop-line.invariant.number)) (c.loop-line.invariant.made going);
-      })
+      | then-line-self w ↦ subst (λ (z : PostingThread). IsAtLine in_lockstep s hall b (here.line-index + 1) t z) (sym w.self-is)
+          (on_line in_lockstep s hall b here.line-index t here.self lines.result.now lines.ensures (omega (arith, c.loop-line-test.true)) here.invariant w.run_line.new.self w.if-line-self.true w.run_line.ensures.thread w.run_line.ensures.number w.run_line.ensures.stays w.run_line.ensures.made)
+      | else-line-self w ↦ subst (λ (z : PostingThread). IsAtLine in_lockstep s hall b (here.line-index + 1) t z) (sym w.self-is)
+          (by_line in_lockstep s hall b here.line-index t here.self lines.result.now lines.ensures (omega (arith, c.loop-line-test.true)) here.invariant w.if-line-self.false)
     ]
 
 pub returns-clause-made : goal.returns-clause-made
-returns-clause-made g c = λ going past rest are up. (
-    let t = c.args.self.now in
-    let b = c.args.block.now in
-    let far : length b.lines ≤ c.loop-line.line-index = omega (arith, ap (λ (ls : List Line). length ls) c.as_slice-line-items.ensures, c.loop-line-test.false) in
-    subst (λ (ls : List Line). IsUpTo in_lockstep c.args.script.now (past ++ timed_in t.number b.time ls) c.loop-line.self) (take_all c.loop-line.line-index b.lines far) (c.loop-line.invariant.made going past rest are up))
+returns-clause-made g c =
+    past_lines in_lockstep c.args.script.now c.args.hall.now c.args.block.now c.loop-line.line-index c.args.self.now c.loop-line.self c.as_slice-line-items.result.now c.as_slice-line-items.ensures (omega (arith, c.loop-line-test.false)) c.loop-line.invariant
