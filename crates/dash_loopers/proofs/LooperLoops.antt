@@ -41,9 +41,8 @@ use Rattle.dash_hall.specs.Kits.{IsHall}
 use Rattle.dash_loopers.specs.declared.player.Parts.{Parts}
 use Rattle.dash_loopers.specs.declared.looper.StageLooper.{StageLooper}
 use Rattle.dash_loopers.specs.Loopers.{ArePartsOf, IsLooper, IsPlaceOf}
-use Rattle.dash_loopers.specs.Players.{Owner, ServesAt}
 use Rattle.dash_loopers.proofs.LooperPlaces.{queue_is}
-use Rattle.dash_loopers.proofs.LooperKits.{looper_of, parts_of}
+use Rattle.dash_loopers.proofs.LooperKits.{looper_of}
 
 module _ (shows : ℕ → Bool) (start : ℕ) where
   -- ---- what was taken is told

@@ -1,5 +1,5 @@
 -- The queue that a looper finds at its number is its own.
-use Rattle.std.proofs.Common.{◌≡◌, ◌<◌, length, Some, None, sym, subst, arith}
+use Rattle.std.proofs.Common.{◌≡◌, ◌<◌, length, Some, None, sym, subst}
 use Rattle.std.specs.Prelude.{slice_get}
 use Rattle.atomic_table.specs.Seated.{TableId}
 use Rattle.shared_queue.specs.Known.{Shared}

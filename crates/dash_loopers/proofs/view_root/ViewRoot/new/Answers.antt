@@ -1,5 +1,4 @@
-use Rattle.std.proofs.Common.{◌≡◌, map, ap, ◌∙◌}
-use Rattle.std.proofs.lemmas.List.{take_all}
+use Rattle.std.proofs.Common.{map, ap, ◌∙◌}
 use Rattle.dash_loopers.specs.Played.{standing, fixed}
 use Rattle.dash_loopers.proofs.ViewSteps.{made_unmoved, all_unmoved}
 use Rattle.dash_loopers.proofs.view_root.ViewRoot.new.Goals as goal
