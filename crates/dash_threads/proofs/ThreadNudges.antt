@@ -71,8 +71,7 @@ stays_waited u v w waited ran up = ran (ap (λ (z : PostingThread). z.gave_up) (
 pub takes_waited : (m : Mode) (s : Script) (hall : Hall) (time : ℕ) (c : Command) (u v w : PostingThread) (now : Option ℕ) → m.lockstep ≡ false → hall.lockstep ≡ false → v ≡ record u { passed = v.passed } → IfSome now (IsUptime m time)
     → (w.gave_up ≡ false → (v.gave_up ≡ false) × IsSomeAnd now (λ n. TakesAt hall.lockstep s n c v w)) → w.gave_up ≡ false → (u.gave_up ≡ false) × Takes m s (record { time = time; command = c }) u w
 takes_waited m s hall time c u v w now free mode same may made going =
-    let k = made going in
-    (
+    let k = made going in (
       sym (ap (λ (z : PostingThread). z.gave_up) same) ∙ k.0,
       takes_at m s time c u v w now v.passed free same may (subst (λ (f : Bool). IsSomeAnd now (λ n. TakesAt f s n c v w)) mode k.1),
     )
