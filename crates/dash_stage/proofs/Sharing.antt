@@ -1,5 +1,6 @@
 -- How all senders hear each other.
 pub mod ThreadShares
+pub mod OneByOne
 pub mod LooperShares
 pub mod StageShares
 pub mod Casting

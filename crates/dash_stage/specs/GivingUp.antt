@@ -15,10 +15,18 @@ AreQuitBelow n now before after = (q : ℕ) (d : Sender) → 0 < q → q < n →
 abbrev pub AreQuit : ℕ → Controller → Controller → Type 0
 AreQuit now before after = AreQuitBelow (length before.kit.posters.items) now before after
 
--- main's bell was rung, and no call was made on its queue
-pub record IsNudged (before after : Controller) : Type 0 where
-  pub rung : (d : Sender) → (slice_index_or after.kit.posters.items 0 d).view.rung ≡ (slice_index_or before.kit.posters.items 0 d).view.rung + 1
-  pub none : (d : Sender) → own (slice_index_or after.kit.posters.items 0 d) ≡ own (slice_index_or before.kit.posters.items 0 d)
+-- the bell of this looper was rung once, and no call was made on its queue
+pub record IsRung (q : ℕ) (before after : Controller) : Type 0 where
+  pub rung : (d : Sender) → (slice_index_or after.kit.posters.items q d).view.rung ≡ (slice_index_or before.kit.posters.items q d).view.rung + 1
+  pub none : (d : Sender) → own (slice_index_or after.kit.posters.items q d) ≡ own (slice_index_or before.kit.posters.items q d)
+
+-- so it was with main
+abbrev pub IsNudged : Controller → Controller → Type 0
+IsNudged before after = IsRung 0 before after
+
+-- so it was with each of the first n loopers
+abbrev pub AreRung : ℕ → Controller → Controller → Type 0
+AreRung n before after = (q : ℕ) → q < n → IsRung q before after
 
 -- each looper but the main one has run a round at this moment
 abbrev pub OthersHaveRun : Script → ℕ → List StageLooper → List StageLooper → Type 0

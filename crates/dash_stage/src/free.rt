@@ -189,9 +189,7 @@ impl Stage {
         ensures kept { StageKeeps HaveHeard self.old self.new }
         ensures shared { HaveSeenTheSame self.new }
     {
-        for looper in 0..script.loopers {
-            self.share_queue(script, looper as usize);
-        }
+        self.share_each(script);
     }
 }
 
@@ -217,7 +215,7 @@ fn run_side_by_side<R: Threads + Wait + time::Clock + Sync, C: Clock + Sync, G: 
     ensures loopers { EachLoops (by_timer C.shows timer.now) script.now hall.now loopers.old loopers.new }
     ensures quit { result ≡ true → QuitsOthers (by_timer C.shows timer.now) script.now hall.now controller.old controller.new }
 {
-    let ended = Mutex::new(Vec::new(means.alloc));
+    let ended = Mutex::new(0);
     let (main, others) = loopers.split_at_mut(1);
     let ((), quit) = join_mut(
         means.rt,
@@ -244,7 +242,7 @@ fn run_others<R: Threads + Wait + time::Clock + Sync, C: Clock + Sync, G: Gate +
     hall: &Hall,
     script: &Script,
     timer: &Timer<C>,
-    ended: &Mutex<Vec<u32>>,
+    ended: &Mutex<u128>,
     others: &mut [StageLooper],
 )
     requires hall { IsFreeHall script.now hall.now }
@@ -269,7 +267,7 @@ fn run_one<R: Wait + time::Clock, C: Clock, G: Gate>(
     hall: &Hall,
     script: &Script,
     timer: &Timer<C>,
-    ended: &Mutex<Vec<u32>>,
+    ended: &Mutex<u128>,
     looper: &mut StageLooper,
 )
     requires hall { IsFreeHall script.now hall.now }
@@ -278,15 +276,23 @@ fn run_one<R: Wait + time::Clock, C: Clock, G: Gate>(
 {
     looper.run_by_clock(means.rt, means.alloc, hall, script, means.gate, timer, None);
     if looper.has_ended() {
-        tell(means.rt, hall, ended, looper.number);
+        tell(means.rt, ended, looper.number);
     }
 }
 
-/// Tells that the looper of this number has ended. Where there is no room the run is given up.
-fn tell<R: Wait>(rt: &R, hall: &Hall, ended: &Mutex<Vec<u32>>, number: u32) {
-    if ended.lock(rt).push(number).is_err() {
-        hall.stop.stop(rt);
-    }
+/// Tells that the looper of this number has ended. Each has a bit, since there are fewer than a hundred, so this wants no memory.
+fn tell<R: Wait>(rt: &R, ended: &Mutex<u128>, number: u32) {
+    *ended.lock(rt) |= bit(number);
+}
+
+/// Whether the looper of this number has told that it ended.
+fn has_told<R: Wait>(rt: &R, ended: &Mutex<u128>, number: u32) -> bool {
+    *ended.lock(rt) & bit(number) != 0
+}
+
+/// The bit of the looper of this number.
+fn bit(number: u32) -> u128 {
+    1u128.wrapping_shl(number)
 }
 
 /// The main looper runs until the script's end, beside the threads.
@@ -369,13 +375,14 @@ fn run_threads<R: Threads + Wait + time::Clock + Sync, C: Clock + Sync, G: Gate 
 }
 
 /// At the script's end or later the controller quits safely each looper but the main one that has not told that it ended. Where the run is
-/// given up it quits them plainly. Answers false there, and where a quit found no memory.
+/// given up it quits them plainly. Answers false there, and where a quit found no memory: then the run is given up too. Either way all
+/// bells are rung behind the flag, since a quit that found no memory wakes no looper.
 fn quit_others<R: Wait + time::Clock, C: Clock>(
     rt: &R,
     hall: &Hall,
     script: &Script,
     timer: &Timer<C>,
-    ended: &Mutex<Vec<u32>>,
+    ended: &Mutex<u128>,
     controller: &mut Controller,
 ) -> bool
     requires some { 0 < script.now.loopers }
@@ -386,27 +393,19 @@ fn quit_others<R: Wait + time::Clock, C: Clock>(
 {
     let Some(now) = timer.wait_until(rt, &hall.stop, script.end) else {
         controller.give_up(rt, hall, script, timer.now());
+        controller.ring_all(rt, hall, script);
         return false;
     };
     let mut done = true;
     for looper in 1..script.loopers {
-        let has_ended = is_among(ended.lock(rt).as_slice(), looper);
+        let has_ended = has_told(rt, ended, looper);
         done &= controller.quit_unless(rt, hall, script, looper as usize, has_ended, now);
     }
     if !done {
         hall.stop.stop(rt);
+        controller.ring_all(rt, hall, script);
     }
     done
-}
-
-/// Whether the number stands in the list.
-fn is_among(numbers: &[u32], number: u32) -> bool {
-    for one in numbers {
-        if *one == number {
-            return true;
-        }
-    }
-    false
 }
 
 /// The first of the loopers, main, drains at this moment, in milliseconds.

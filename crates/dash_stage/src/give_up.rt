@@ -3,7 +3,7 @@ ghost use Rattle.std.specs.Prelude.{◌≡◌, ◌<◌, true};
 ghost use Rattle.dash_hall.specs.Growth.{QuitsOf};
 ghost use Rattle.dash_hall.specs.Kits.{IsHall};
 ghost use Rattle.dash_stage.specs.Controllers.{IsControllerIn, AtPoster, OtherPostersStay};
-ghost use Rattle.dash_stage.specs.GivingUp.{AreQuit, IsNudged, OthersHaveRun};
+ghost use Rattle.dash_stage.specs.GivingUp.{AreQuit, AreRung, IsNudged, IsRung, OthersHaveRun};
 ghost use Rattle.dash_stage.specs.Stages.{IsStage};
 
 use crate::control::{Controller, quit_by};
@@ -67,7 +67,7 @@ impl Controller {
         ensures quit { result ≡ true → AreQuit now self.old self.new }
     {
         hall.stop.stop(rt);
-        self.nudge_main(rt, hall, script);
+        self.ring(rt, hall, script, 0);
         let mut done = true;
         for looper in 1..script.loopers {
             done &= self.quit_now(rt, hall, script, looper as usize, false, now);
@@ -75,16 +75,28 @@ impl Controller {
         done
     }
 
-    /// Rings main's bell.
-    fn nudge_main<R: Wait>(&mut self, rt: &R, hall: &Hall, script: &Script)
-        requires some { 0 < script.now.loopers }
+    /// Rings the bell of each looper, which looks at the flag then.
+    pub(crate) fn ring_all<R: Wait>(&mut self, rt: &R, hall: &Hall, script: &Script)
         requires hall { IsHall script.now hall.now }
         requires controller { IsControllerIn hall.now.lockstep script.now hall.now self.old }
         ensures controller { IsControllerIn hall.now.lockstep script.now hall.now self.new }
-        ensures nudged { IsNudged self.old self.new }
-        ensures elsewhere { OtherPostersStay 0 self.old self.new }
+        ensures rung { AreRung script.now.loopers self.old self.new }
     {
-        self.kit.posters[0].nudge(rt, &hall.queues[0]);
+        for looper in 0..script.loopers {
+            self.ring(rt, hall, script, looper as usize);
+        }
+    }
+
+    /// Rings the bell of a looper.
+    fn ring<R: Wait>(&mut self, rt: &R, hall: &Hall, script: &Script, place: usize)
+        requires hall { IsHall script.now hall.now }
+        requires controller { IsControllerIn hall.now.lockstep script.now hall.now self.old }
+        requires place { place < script.now.loopers }
+        ensures controller { IsControllerIn hall.now.lockstep script.now hall.now self.new }
+        ensures rung { IsRung place self.old self.new }
+        ensures elsewhere { OtherPostersStay place self.old self.new }
+    {
+        self.kit.posters[place].nudge(rt, &hall.queues[place]);
     }
 
     /// Quits a looper at this moment, in milliseconds, safely or plainly. Answers false where it found no memory.

@@ -16,6 +16,3 @@ mod stage;
 
 pub use free::run_free;
 pub use run::{Ran, run_script};
-
-#[cfg(test)]
-mod tests;

@@ -1,5 +1,5 @@
 //! All senders come to have seen the same of each queue's history.
-ghost use Rattle.std.specs.Prelude.{◌≡◌, ◌<◌, List};
+ghost use Rattle.std.specs.Prelude.{◌≡◌, ◌<◌, Bool, List};
 ghost use Rattle.dash_script.specs.declared.script.Block.{Block};
 ghost use Rattle.shared_queue.specs.Known.{IsOf};
 ghost use Rattle.dash_stage.specs.Controllers.{CallsNone};
@@ -27,13 +27,23 @@ impl Stage {
         ensures none { CallsNone self.old.controller self.new.controller }
         ensures ended { OthersHaveEnded self.old.loopers.items → OthersHaveEnded self.new.loopers.items }
     {
+        self.share_each(script);
+    }
+
+    /// All senders come to have seen the same of each queue's history, in lockstep or by a clock.
+    pub(crate) fn share_each(&mut self, script: &Script)
+        requires stage { IsStageIn self.old.hall.lockstep script.now self.old }
+        ensures stage { (lockstep : Bool) → IsStageIn lockstep script.now self.old → IsStageIn lockstep script.now self.new }
+        ensures kept { StageKeeps HaveHeard self.old self.new }
+        ensures shared { HaveSeenTheSame self.new }
+    {
         for looper in 0..script.loopers {
             self.share_queue(script, looper as usize);
         }
     }
 
     /// All senders come to have seen the same of the history of the queue at this place.
-    pub(crate) fn share_queue(&mut self, script: &Script, place: usize)
+    fn share_queue(&mut self, script: &Script, place: usize)
         requires stage { IsStageIn self.old.hall.lockstep script.now self.old }
         requires place { place < script.now.loopers }
         ensures shares { SharesAt place self.old self.new }

@@ -91,16 +91,25 @@ came_by : (s : Script) (q k : ℕ) (es : List Entry) (acts : List Act) (o : Opti
 came_by s q k es acts None h = absurd h
 came_by s q k es acts (Some parts) h = (h.did, h.state, (h.alike, h.stands))
 
+-- so many, each of its kind and with its place as its number
+abbrev AreNumberedOf : {X : Type 0} → (X → Type 0) → (X → ℕ) → ℕ → List X → Type 0
+AreNumberedOf {X} Is number n xs = (length xs ≡ n) × ((k : ℕ) (d : X) → k < length xs → Is (slice_index_or xs k d) × (number (slice_index_or xs k d) ≡ k))
+
+-- they are so still where each is of its kind still, and has its number
+numbered_still : {X : Type 0} (Is : X → Type 0) (number : X → ℕ) (n : ℕ) (R : X → X → Type 0) → ((x y : X) → R x y → Is y × (number y ≡ number x)) → (xs ys : List X)
+    → AreNumberedOf Is number n xs → AtEach R xs ys → AreNumberedOf Is number n ys
+numbered_still Is number n R still xs ys are each = (
+  each.long ∙ are.0,
+  λ k d lt. (
+      let within : k < length xs = subst (λ (j : ℕ). k < j) each.long lt in
+      let one = still (slice_index_or xs k d) (slice_index_or ys k d) (each.each k d within) in
+      (one.0, one.1 ∙ (are.1 k d within).1)),
+)
+
 module _ (m : Mode) (s : Script) (hall : Hall) where
   -- the threads of the script have run all their lines, unless one gave up
   pub threads_ran : (ts ts' : List PostingThread) → AreThreads s hall ts → AtEach (RunsByClock m s hall) ts ts' → AreThreads s hall ts'
-  threads_ran ts ts' are ran = (
-    ran.long ∙ are.0,
-    λ k d lt. (
-        let within : k < length ts = subst (λ (n : ℕ). k < n) ran.long lt in
-        let one = ran.each k d within in
-        (one.thread, one.number ∙ (are.1 k d within).1)),
-  )
+  threads_ran = numbered_still (IsThread s hall) (λ t. t.number) s.threads (RunsByClock m s hall) (λ x y one. (one.thread, one.number))
 
   pub threads_ran_all : (ts ts' : List PostingThread) → AreThreads s hall ts → AtEach (RunsByClock m s hall) ts ts' → GoOn ts' → HaveRunBy m s [] ts → HaveRunBy m s s.blocks ts'
   threads_ran_all ts ts' are ran going begun k d lt =
@@ -114,13 +123,7 @@ module _ (m : Mode) (s : Script) (hall : Hall) where
 
   -- the loopers of the script, at moments of the clock
   pub loopers_ran : (ls ls' : List StageLooper) → AreLoopers s hall ls → AtEach (LoopsByClock m s hall) ls ls' → AreLoopers s hall ls'
-  loopers_ran ls ls' are ran = (
-    ran.long ∙ are.0,
-    λ k d lt. (
-        let within : k < length ls = subst (λ (n : ℕ). k < n) ran.long lt in
-        let one = ran.each k d within in
-        (one.looper, one.number ∙ (are.1 k d within).1)),
-  )
+  loopers_ran = numbered_still (IsLooper s hall) (λ l. l.number) s.loopers (LoopsByClock m s hall) (λ x y one. (one.looper, one.number))
 
   pub loopers_clocked : (ls ls' : List StageLooper) → AtEach (LoopsByClock m s hall) ls ls' → LoopersGoOn ls' → OfLoopers (AreByClock m) ls → OfLoopers (AreByClock m) ls'
   loopers_clocked ls ls' ran on by k d lt =

@@ -113,9 +113,9 @@ halts_at_end end es e h reached is halted =
     are_controls-last true true end false es e (advances_in_lockstep end es h) (ap is_advance is)
     (and_from _ _ (and_from _ _ (ap is_halt is) (ap is_halted halted)) (eq-eqb (moment_of e.call) end (ap moment_of is ∙ time)))
 
--- an Advance neither halts nor quits
-advance_alone : (call : Call) → is_advance call ≡ true → (is_halt call ≡ false) × (is_quit call ≡ false)
-advance_alone (Advance now) h = (refl, refl)
+-- an Advance neither halts nor quits, and it is no look
+pub advance_alone : (call : Call) → is_advance call ≡ true → (is_halt call ≡ false) × (is_quit call ≡ false) × (is_next call ≡ false)
+advance_alone (Advance now) h = (refl, refl, refl)
 advance_alone (Post p) h = absurd cc
 advance_alone (Barrier now) h = absurd cc
 advance_alone (Unbarrier t) h = absurd cc

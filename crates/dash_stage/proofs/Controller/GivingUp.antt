@@ -17,7 +17,7 @@ use Rattle.dash_hall.specs.Kits.{badge_of}
 use Rattle.dash_hall.proofs.Badges.{posters_kept}
 use Rattle.dash_stage.specs.declared.control.Controller.{Controller}
 use Rattle.dash_stage.specs.Controllers.{IsControllerIn}
-use Rattle.dash_stage.specs.GivingUp.{AreQuitBelow, IsNudged}
+use Rattle.dash_stage.specs.GivingUp.{AreQuitBelow, AreRung, IsNudged, IsRung}
 
 -- a poster at a place, and another one there
 module _ (xs : List Sender) (i : ℕ) (p p' : Sender) (within : i < length xs) (is_p : p ≡ slice_index_or xs i p) where
@@ -55,9 +55,23 @@ module _ (now n : ℕ) (a b c : Controller) (rest : (q : ℕ) (d : Sender) → n
   pub rest_less : (q : ℕ) (d : Sender) → n + 1 ≤ q → slice_index_or c.kit.posters.items q d ≡ slice_index_or a.kit.posters.items q d
   rest_less q d le = elsewhere q d (λ e. absurd (omega (arith, e, le))) ∙ rest q d (omega (arith, le))
 
--- what was so of main stays so where it is as it was
-pub nudged_kept : (a b c : Controller) → IsNudged a b → ((d : Sender) → slice_index_or c.kit.posters.items 0 d ≡ slice_index_or b.kit.posters.items 0 d) → IsNudged a c
-nudged_kept a b c h same = record {
+-- a looper that was rung is so where its poster is as it was
+rung_kept : (q : ℕ) (a b c : Controller) → IsRung q a b → ((d : Sender) → slice_index_or c.kit.posters.items q d ≡ slice_index_or b.kit.posters.items q d) → IsRung q a c
+rung_kept q a b c h same = record {
   rung = λ d. ap (λ (z : Sender). z.view.rung) (same d) ∙ h.rung d;
   none = λ d. ap own (same d) ∙ h.none d;
 }
+
+-- as main
+pub nudged_kept : (a b c : Controller) → IsNudged a b → ((d : Sender) → slice_index_or c.kit.posters.items 0 d ≡ slice_index_or b.kit.posters.items 0 d) → IsNudged a c
+nudged_kept = rung_kept 0
+
+-- one looper more was rung, whose poster was as it had been
+pub rung_more : (n : ℕ) (a b c : Controller) → ((q : ℕ) (d : Sender) → n ≤ q → slice_index_or b.kit.posters.items q d ≡ slice_index_or a.kit.posters.items q d)
+    → ((q : ℕ) (d : Sender) → q ≢ n → slice_index_or c.kit.posters.items q d ≡ slice_index_or b.kit.posters.items q d) → AreRung n a b → IsRung n b c → AreRung (n + 1) a c
+rung_more n a b c rest elsewhere rung here q below = dite (ℕ_discrete q n)
+    (λ at. subst (λ (m : ℕ). IsRung m a c) (sym at) (record {
+      rung = λ d. here.rung d ∙ ap (λ (z : Sender). z.view.rung + 1) (rest n d (omega arith));
+      none = λ d. here.none d ∙ ap own (rest n d (omega arith));
+    }))
+    (λ apart. rung_kept q a b c (rung q (omega (arith, apart, below))) (λ d. elsewhere q d apart))

@@ -21,6 +21,7 @@ use Rattle.run_model.specs.Planned.{Timed, planned, lines_of, labels_on, lines_o
 use Rattle.run_model.specs.Control.{is_advance, is_halt, is_safe_quit, is_empty, is_closing, are_controls, disposed_count, Before, before, befores, befores_from, befores_after, NotBefore}
 use Rattle.run_model.specs.Acts.{IsSent}
 use Rattle.dash_loopers.specs.Loopers.{is_disposal, calls_among}
+use Rattle.dash_stage.proofs.Controller.Controls.{advance_alone}
 use Rattle.dash_stage.specs.Playing.{befores_called}
 use Rattle.dash_stage.proofs.Played.RoundTimes.{is_call_of}
 use Rattle.dash_stage.proofs.Played.OwnLooks.{NoneDisposes, asks_look, no_look_made}
@@ -81,16 +82,6 @@ thread_disposes_nothing m s thread q es h =
     lines_dispose_nothing m s (labels_on q (lines_of thread s.blocks)) q [] (lines_on s (labels_on q (lines_of thread s.blocks)) q (lines_of thread s.blocks)) (entries_by thread es) h
 
 -- the controller's calls are no looks
-advance_is_no_look : (c : Call) → is_advance c ≡ true → is_next c ≡ false
-advance_is_no_look (Post p) h = absurd cc
-advance_is_no_look (Barrier now) h = absurd cc
-advance_is_no_look (Unbarrier t) h = absurd cc
-advance_is_no_look (Remove f) h = absurd cc
-advance_is_no_look (Quit safe now) h = absurd cc
-advance_is_no_look (Next now) h = absurd cc
-advance_is_no_look (Advance now) h = refl
-advance_is_no_look (Halt now) h = absurd cc
-
 closing_is_no_look : (main : Bool) (c : Call) (halted : Bool) → (if main then is_halt c && halted else is_safe_quit c) ≡ true → is_next c ≡ false
 closing_is_no_look main (Post p) halted h = refl
 closing_is_no_look main (Barrier now) halted h = refl
@@ -116,7 +107,7 @@ controls_dispose_nothing main lockstep end quit (e ∷ es) h = go (is_advance e.
   where
     go : (t : Bool) → is_advance e.call ≡ t → (if t then lockstep && nat_le (moment_of e.call) end && are_controls main lockstep end quit es else is_empty es && is_closing main lockstep end e) ≡ true
         → (are_controls main lockstep end quit es ≡ true → NoneDisposes es) → NoneDisposes (e ∷ es)
-    go true moves h rest = (no_look_disposes e (advance_is_no_look e.call moves), rest (and_parts (lockstep && nat_le (moment_of e.call) end) _ h).1)
+    go true moves h rest = (no_look_disposes e (advance_alone e.call moves).2, rest (and_parts (lockstep && nat_le (moment_of e.call) end) _ h).1)
     go false other h rest =
         let parts = and_parts (is_empty es) _ h in
         (no_look_disposes e (closing_is_no_look main e.call _ (and_parts _ _ parts.1).0), none_empty es parts.0)

@@ -16,7 +16,7 @@ use Rattle.dash_hall.specs.declared.kit.Kit.{Kit}
 use Rattle.dash_threads.specs.declared.thread.PostingThread.{PostingThread}
 use Rattle.dash_loopers.specs.declared.looper.StageLooper.{StageLooper}
 use Rattle.dash_stage.specs.declared.control.Controller.{Controller}
-use Rattle.dash_hall.specs.Kits.{badge_of, badge_for, frame_badge_of, frame_badge_for, frames_for, looper_frames, ArePostersOf, IsHall, IsKitOf, AreKitsOf, IsUnusedKit}
+use Rattle.dash_hall.specs.Kits.{badge_of, badge_for, frame_badge_of, frame_badge_for, frames_for, looper_frames, ArePostersOf, IsHall, IsKitOf, AreKitsOf, AreUnusedKits, IsUnusedKit}
 use Rattle.dash_threads.specs.Threads.{IsThread}
 use Rattle.dash_loopers.specs.Loopers.{IsLooper}
 use Rattle.dash_stage.specs.Controllers.{handed_out, parts_in, IsControllerIn}
@@ -88,6 +88,13 @@ module _ (s : Script) (hall : Hall) where
   -- the first of the kits that are left, and the others
   pub first_kit : (n : ℕ) (kits : List Kit) (d : Kit) → AreKitsFrom s hall n kits → 0 < length kits → IsKitOf s hall n (slice_index_or kits 0 d)
   first_kit n kits d are some = subst (λ k. IsKitOf s hall k (slice_index_or kits 0 d)) (omega arith) (are.each 0 d some)
+
+  -- the last kit, which nobody has used and which is the controller's
+  pub last_kit : (kits : List Kit) (kit : Kit) → kit ≡ slice_index_or kits 0 kit → AreKitsFrom s hall (s.threads + s.loopers) kits → AreUnusedKits kits → IsUnusedKit kit × IsKitOf s hall (controller s) kit
+  last_kit kits kit is are unused =
+      let count = are.count in
+      let some : 0 < length kits = omega (arith, count) in
+      (subst IsUnusedKit (sym is) (unused 0 kit some), subst (IsKitOf s hall (controller s)) (sym is) (first_kit (controller s) kits kit are some))
 
   pub other_kits : (n : ℕ) (kits : List Kit) → AreKitsFrom s hall n kits → 0 < length kits → AreKitsFrom s hall (n + 1) (remove kits 0)
   other_kits n [] are some = absurd (omega (arith, some))

@@ -26,27 +26,14 @@ use Rattle.dash_loopers.specs.declared.player.Parts.{Parts}
 use Rattle.dash_loopers.specs.declared.looper.StageLooper.{StageLooper}
 use Rattle.dash_hall.specs.Kits.{badge_of, badge_for, frame_badge_of, IsHall, ArePostersOf}
 use Rattle.dash_loopers.specs.Loopers.{ArePartsOf, IsLooper, is_given_up, Rest, LooperKeeps, posters_of, others_in, rest_in, IsWithin}
-use Rattle.dash_hall.specs.Hearing.{HasHeard, HaveHeard, AtEach, AreKept, AreKnown}
+use Rattle.dash_hall.specs.Hearing.{HasHeard, HaveHeard, AtEach, AreKept}
 use Rattle.dash_stage.specs.Sharing.{OfLoopers, AreWithin}
 use Rattle.dash_loopers.proofs.LooperLists.{map-insert, insert_removed}
 use Rattle.dash_loopers.proofs.LooperDisposes.{disposes_same}
 use Rattle.dash_loopers.proofs.LooperTold.{told_same}
 use Rattle.dash_loopers.proofs.LooperKits.{looper_of, others_many, its_queue}
-use Rattle.dash_hall.proofs.Hearing.{known_more, heard_badges}
-use Rattle.dash_hall.proofs.Sharing.{FirstAre, next_within}
-
--- a looper that is kept, and whose poster at this place is known
-pub record LooperTells (place : ℕ) (whole : List Entry) (before after : StageLooper) : Type 0 where
-  pub kept : LooperKeeps AreKept before after
-  pub told : AreKnown place whole (posters_of before)
-
--- more is known
-pub looper_tells_more : (place : ℕ) (xs ys : List Entry) → IsPrefix xs ys → (a b : StageLooper) → LooperTells place xs a b → LooperTells place ys a b
-looper_tells_more place xs ys p a b t = record { kept = t.kept; told = known_more (posters_of a) place xs ys p t.told }
-
--- what holds of the next looper's posters, where the loop reads it
-pub of_next_looper : (P : List Sender → Type 0) (R : StageLooper → StageLooper → Type 0) (xs ys : List StageLooper) (k : ℕ) (e : StageLooper) → OfLoopers P xs → FirstAre R k xs ys → k < length ys → P (posters_of (get_or ys k e))
-of_next_looper P R xs ys k e of f lt = subst (λ (l : StageLooper). P (posters_of l)) (sym (f.rest k e (omega arith))) (of k e (next_within R xs ys k f lt))
+use Rattle.dash_hall.proofs.Hearing.{heard_badges}
+use Rattle.dash_stage.proofs.Sharing.OneByOne.{of_then}
 
 -- one after the other
 pub looper_then : (R S T : List Sender → List Sender → Type 0) → ((a b c : List Sender) → R a b → S b c → T a c) → (x y z : StageLooper) → LooperKeeps R x y → LooperKeeps S y z → LooperKeeps T x z
@@ -81,10 +68,7 @@ looper_weaker R S h x y f = record {
 
 -- what holds of the loopers' posters before holds of them after
 pub of_loopers_then : (P Q : List Sender → Type 0) (R : List Sender → List Sender → Type 0) → ((a b : List Sender) → R a b → P a → Q b) → (xs ys : List StageLooper) → AtEach (LooperKeeps R) xs ys → OfLoopers P xs → OfLoopers Q ys
-of_loopers_then P Q R h xs ys e of = λ k d lt.
-    let long = e.long in
-    let within : k < length xs = omega (arith, lt) in
-    h (posters_of (get_or xs k d)) (posters_of (get_or ys k d)) (e.each k d within).posters (of k d within)
+of_loopers_then P Q R h xs ys e of = of_then posters_of (LooperKeeps R) P Q (λ x y k. h (posters_of x) (posters_of y) k.posters) xs ys e of
 
 -- what holds of one of two facts holds of one of three
 or_more : (a x y : Bool) → (a || x) ≡ true → (a || (x || y)) ≡ true

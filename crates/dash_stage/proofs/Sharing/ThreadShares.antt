@@ -1,10 +1,9 @@
 -- A thread whose posters hear others.
 use Rattle.std.proofs.Common.{◌≡◌, ℕ, ◌<◌, List, map, length, get_or, refl, sym, ap, ◌∙◌, subst, arith}
-use mathlib.Core.List.{IsPrefix}
 use Rattle.loop_model.specs.declared.entry.Entry.{Entry}
 use Rattle.looper_run.specs.Holding.{Sender}
 use Rattle.dash_threads.specs.declared.thread.PostingThread.{PostingThread}
-use Rattle.dash_hall.specs.Hearing.{HaveHeard, AtEach, AreKept, AreKnown}
+use Rattle.dash_hall.specs.Hearing.{HaveHeard, AtEach}
 use Rattle.dash_threads.specs.Threads.{ThreadKeeps, IsThread, IsUpTo, labels_kept, tokens_kept, HasAsked, HasTurned}
 use Rattle.dash_stage.specs.Sharing.{OfThreads}
 use Rattle.dash_script.specs.declared.script.Script.{Script}
@@ -16,21 +15,8 @@ use Rattle.dash_hall.specs.declared.hall.Hall.{Hall}
 use Rattle.dash_hall.specs.Growth.{own}
 use Rattle.dash_hall.specs.Kits.{frame_badge_of, ArePostersOf, ArePassesOf}
 use Rattle.dash_hall.proofs.Clocking.{clocked_same}
-use Rattle.dash_hall.proofs.Hearing.{known_more, heard_badges}
-use Rattle.dash_hall.proofs.Sharing.{FirstAre, next_within}
-
--- a thread that is kept, and whose poster at this place is known
-pub record ThreadTells (place : ℕ) (whole : List Entry) (before after : PostingThread) : Type 0 where
-  pub kept : ThreadKeeps AreKept before after
-  pub told : AreKnown place whole before.kit.posters.items
-
--- more is known
-pub thread_tells_more : (place : ℕ) (xs ys : List Entry) → IsPrefix xs ys → (a b : PostingThread) → ThreadTells place xs a b → ThreadTells place ys a b
-thread_tells_more place xs ys p a b t = record { kept = t.kept; told = known_more a.kit.posters.items place xs ys p t.told }
-
--- what holds of the next thread's posters, where the loop reads it
-pub of_next : (P : List Sender → Type 0) (R : PostingThread → PostingThread → Type 0) (xs ys : List PostingThread) (k : ℕ) (e : PostingThread) → OfThreads P xs → FirstAre R k xs ys → k < length ys → P ((get_or ys k e).kit.posters.items)
-of_next P R xs ys k e of f lt = subst (λ (t : PostingThread). P (t.kit.posters.items)) (sym (f.rest k e (omega arith))) (of k e (next_within R xs ys k f lt))
+use Rattle.dash_hall.proofs.Hearing.{heard_badges}
+use Rattle.dash_stage.proofs.Sharing.OneByOne.{of_then}
 
 -- one after the other
 pub thread_then : (R S T : List Sender → List Sender → Type 0) → ((a b c : List Sender) → R a b → S b c → T a c) → (x y z : PostingThread) → ThreadKeeps R x y → ThreadKeeps S y z → ThreadKeeps T x z
@@ -62,10 +48,7 @@ thread_weaker R S h x y f = record {
 
 -- what holds of the threads' posters before holds of them after
 pub of_threads_then : (P Q : List Sender → Type 0) (R : List Sender → List Sender → Type 0) → ((a b : List Sender) → R a b → P a → Q b) → (xs ys : List PostingThread) → AtEach (ThreadKeeps R) xs ys → OfThreads P xs → OfThreads Q ys
-of_threads_then P Q R h xs ys e of = λ k d lt.
-    let long = e.long in
-    let within : k < length xs = omega (arith, lt) in
-    h (get_or xs k d).kit.posters.items (get_or ys k d).kit.posters.items (e.each k d within).posters (of k d within)
+of_threads_then P Q R h xs ys e of = of_then (λ (t : PostingThread). t.kit.posters.items) (ThreadKeeps R) P Q (λ x y k. h x.kit.posters.items y.kit.posters.items k.posters) xs ys e of
 
 -- a thread stays one
 pub thread_kept : (s : Script) (hall : Hall) (a b : PostingThread) → ThreadKeeps HaveHeard a b → IsThread s hall a → IsThread s hall b

@@ -1,7 +1,7 @@
 -- The controller's turns at the end: its quits and its halt are in time.
 use Rattle.std.proofs.Common.{◌≡◌, ◌≢◌, ◌<◌, ◌⊎◌, inl, inr, ℕ, Bool, true, false, true≢false, List, [], ◌∷◌, ◌++◌, length, Option, Some, refl, sym, ap, ◌∙◌, subst, arith}
 use Rattle.std.specs.Prelude.{slice_index_or, is_some, not, if◌then◌else◌}
-use Rattle.std.proofs.lemmas.Bool.{cases_Bool, and_from, ne_eqb}
+use Rattle.std.proofs.lemmas.Bool.{cases_Bool, and_from, false_from_ne_true, ne_eqb}
 use Rattle.std.proofs.lemmas.List.{get_or_default}
 use mathlib.Core.Logic.{dite}
 use native.Mathlib.Decide.{ℕ_discrete}
@@ -32,6 +32,7 @@ use Rattle.dash_stage.specs.declared.stage.Stage.{Stage}
 use Rattle.dash_stage.specs.Sharing.{HaveSeenTheSame}
 use Rattle.dash_stage.specs.Stages.{IsStage}
 use Rattle.dash_stage.specs.Timeliness.{whole_on, AreTimelyUpTo, AreRested, EachTurnsOn, MovesNot, Halts}
+use Rattle.dash_stage.proofs.Controller.Controls.{advance_alone}
 use Rattle.dash_stage.proofs.Ends.HallEnds.{some_of}
 use Rattle.dash_stage.proofs.Stages.StageTurns.{IsInTimeBy, turned_timely}
 use Rattle.dash_stage.proofs.Stages.StageWhole.{queues_count}
@@ -51,14 +52,7 @@ halt_in_time es (Advance now) r h = absurd cc
 
 -- and moves no time
 halt_moves_not : (c : Call) → is_halt c ≡ true → is_advance c ≡ false
-halt_moves_not (Halt now) h = refl
-halt_moves_not (Post p) h = absurd cc
-halt_moves_not (Barrier now) h = absurd cc
-halt_moves_not (Unbarrier t) h = absurd cc
-halt_moves_not (Remove f) h = absurd cc
-halt_moves_not (Quit safe now) h = absurd cc
-halt_moves_not (Next now) h = absurd cc
-halt_moves_not (Advance now) h = absurd cc
+halt_moves_not c halts = false_from_ne_true (is_advance c) (λ moves. true≢false (sym halts ∙ (advance_alone c moves).0))
 
 -- an entry that halts is one that moves no time
 halting : (n : ℕ) (found left : List Entry) → (left ≡ found) ⊎ ((e : Entry) × (left ≡ found ++ e ∷ []) × Halts e × (e.sender ≡ n)) → (left ≡ found) ⊎ ((e : Entry) × (left ≡ found ++ e ∷ []) × MovesNot e × (e.sender ≡ n))

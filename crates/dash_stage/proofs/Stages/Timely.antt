@@ -29,7 +29,7 @@ use Rattle.run_model.proofs.ControlLaws.{each_behind-snoc, each_behind-append}
 use Rattle.run_model.proofs.RunLaws.{AreOfOthers, entries_by-append, entries_by-others, entries_by-unchanged, befores_after-append, befores-others, lines_on-append}
 use Rattle.dash_stage.specs.Timeliness.{IsAtTime}
 use Rattle.dash_stage.specs.Controllers.{are_advances, time_in}
-use Rattle.dash_stage.proofs.Controller.Controls.{own_advances, time_by_controller}
+use Rattle.dash_stage.proofs.Controller.Controls.{advance_alone, own_advances, time_by_controller}
 
 -- what holds of all members of a list holds of those behind
 pub back_all : {X : Type 0} (P : X → Type 0) (xs ys : List X) → AllByRecursion P (xs ++ ys) → AllByRecursion P ys
@@ -198,17 +198,6 @@ unfolding are_before_quit
 before_quit_block threads n es more none quit h =
     each_behind-append (comes_before_quit threads n) [] es more ∙ and_from _ _ h (before_quit_while threads n es more (of_others n more none) quit)
 
--- an Advance is no quit
-advance_quits_not : (c : Call) → is_advance c ≡ true → is_quit c ≡ false
-advance_quits_not (Advance now) h = refl
-advance_quits_not (Post p) h = absurd cc
-advance_quits_not (Barrier now) h = absurd cc
-advance_quits_not (Unbarrier t) h = absurd cc
-advance_quits_not (Remove f) h = absurd cc
-advance_quits_not (Quit safe now) h = absurd cc
-advance_quits_not (Next now) h = absurd cc
-advance_quits_not (Halt now) h = absurd cc
-
 quits_not : (own quits : Bool) → (own ≡ true → quits ≡ false) → (own && quits || false) ≡ false
 quits_not true quits h = ap (λ t. t || false) (h refl)
 quits_not false quits h = refl
@@ -219,7 +208,7 @@ moves_quit_not end n = entry_by_entry (λ es. are_advances end (entries_by n es)
     (λ h. refl)
     (λ es e before h.
     let moved = own_advances end n es e h in
-    list_any-append (λ e. e.sender == n && is_quit e.call) es (e ∷ []) ∙ or_from _ _ (before moved.0) (quits_not (e.sender == n) (is_quit e.call) (λ own. advance_quits_not e.call (moved.1 own))))
+    list_any-append (λ e. e.sender == n && is_quit e.call) es (e ∷ []) ∙ or_from _ _ (before moved.0) (quits_not (e.sender == n) (is_quit e.call) (λ own. (advance_alone e.call (moved.1 own)).1)))
 
 -- ---- the time of a call
 

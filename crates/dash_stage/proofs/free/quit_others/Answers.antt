@@ -1,4 +1,4 @@
-use Rattle.std.proofs.Common.{◌≡◌, ◌≤◌, ◌<◌, length, sym, ◌∙◌, arith}
+use Rattle.std.proofs.Common.{◌≡◌, ◌≤◌, ◌<◌, false, true≢false, length, sym, ◌∙◌, arith}
 use Rattle.std.proofs.lemmas.Bool.{and_parts}
 use Rattle.run_model.specs.Moments.{Mode, in_free_mode}
 use Rattle.dash_stage.proofs.Controller.Controlling.{poster_count}
@@ -41,18 +41,7 @@ loop-looper-preserved g c =
     }
 
 pub returns-then-not-done : goal.returns-then-not-done
-returns-then-not-done g c done =
-    let s = c.args.script.now in
-    let hall = c.args.hall.now in
-    let at = c.loop-looper in
-    let m : Mode = in_free_mode (g.C.Clock.shows c.args.timer.now.clock.now) c.args.timer.now.start in
-    let count = poster_count s hall at.controller c.requires.hall.0 at.invariant.controller in
-    let all : length at.controller.kit.posters.items ≤ at.looper = omega (arith, count, c.loop-looper-test.false) in
-    record {
-      controller = in_free s hall at.controller c.requires.hall.1 at.invariant.controller;
-      closing = quitting_ends s at.controller at.looper all (at.invariant.quitting done);
-      clocked = at.invariant.clocked done m (of_shown (g.C.Clock.shows c.args.timer.now.clock.now) c.args.timer.now.start c.in-Some.now c.in-Some.ensures.moment);
-    }
+returns-then-not-done g c done = let at = c.loop-looper in let wrong : at.done ≡ false = c.if-not-done.true in absurd (true≢false (sym done ∙ wrong))
 
 pub returns-else-not-done : goal.returns-else-not-done
 returns-else-not-done g c done =

@@ -1,24 +1,18 @@
 use Rattle.std.proofs.Common.{◌<◌, ◌≤◌, length, arith}
-use Rattle.dash_hall.proofs.Hearing.{heard_then}
-use Rattle.dash_hall.proofs.Sharing.{first_more, first_all, first_weaker}
-use Rattle.dash_stage.proofs.Sharing.LooperShares.{LooperTells, looper_tells_more}
+use Rattle.dash_hall.specs.Hearing.{AreKept}
+use Rattle.dash_loopers.specs.Loopers.{LooperKeeps, posters_of}
+use Rattle.dash_stage.proofs.Sharing.OneByOne.{told_next, all_told}
 use Rattle.dash_stage.proofs.share.loopers_tell.Goals as goal
 
 pub loop-k-preserved : goal.loop-k-preserved
 loop-k-preserved c =
     let at = c.loop-k in
-    let xs = c.args.loopers.now in
-    let was = at.other.view.seen in
-    let is = c.tell.new.other.view.seen in
     let long = at.invariant.0.long in
     let lt : at.k < length at.loopers = omega (arith, c.loop-k-test.true) in
-    let tells = first_weaker (LooperTells c.args.place was) (LooperTells c.args.place is) xs at.loopers at.k (looper_tells_more c.args.place was is c.tell.ensures.heard.more) at.invariant.0 in (
-      first_more (LooperTells c.args.place is) xs at.loopers at.k c.index-loopers-k.result c.tell.new.self tells lt (record { kept = c.tell.ensures.kept; told = c.tell.ensures.told }),
-      heard_then c.args.other.now at.other c.tell.new.other at.invariant.1 c.tell.ensures.heard,
-    )
+    told_next posters_of (LooperKeeps AreKept) c.args.place c.args.loopers.now at.loopers at.k c.index-loopers-k.result c.tell.new.self c.args.other.now at.other c.tell.new.other at.invariant lt c.tell.ensures.heard c.tell.ensures.kept c.tell.ensures.told
 
 pub returns-clause-told : goal.returns-clause-told
-returns-clause-told c = λ k d lt.
+returns-clause-told c =
     let at = c.loop-k in
     let all : length c.args.loopers.now ≤ at.k = omega (arith, c.loop-k-test.false) in
-    ((first_all (LooperTells c.args.place at.other.view.seen) c.args.loopers.now at.loopers at.k all at.invariant.0).each k d lt).told
+    all_told posters_of (LooperKeeps AreKept) c.args.place c.args.loopers.now at.loopers at.k at.other.view.seen all at.invariant.0

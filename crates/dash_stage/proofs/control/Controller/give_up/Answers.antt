@@ -6,11 +6,11 @@ use Rattle.dash_stage.proofs.control.Controller.give_up.Goals as goal
 
 pub loop-looper-init : goal.loop-looper-init
 loop-looper-init g c = record {
-  controller = c.nudge_main.ensures.controller;
+  controller = c.ring.ensures.controller;
   some = omega arith;
-  nudged = c.nudge_main.ensures.nudged;
+  nudged = c.ring.ensures.rung;
   quit = λ done q d some below. absurd (omega (arith, some, below));
-  rest = λ q d le. c.nudge_main.ensures.elsewhere q d (λ e. absurd (omega (arith, e, le)));
+  rest = λ q d le. c.ring.ensures.elsewhere q d (λ e. absurd (omega (arith, e, le)));
 }
 
 pub loop-looper-preserved : goal.loop-looper-preserved
