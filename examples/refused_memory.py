@@ -1,17 +1,19 @@
 #!/usr/bin/env python3
-"""refused_memory.py PROGRAM [--plain]: runs worked examples again and again, and refuses one request for memory or for a thread in
+"""refused_memory.py PROGRAM [--plain] [--first]: runs worked examples again and again, and refuses one request for memory or for a thread in
 each run: the first, the second, and so on, until a run has fewer.
 
 Each run must write a lawful report and end with status 0, or write nothing and end with status 6 and its line. Two random scripts run
 by the real clock too, and their reports are judged as free.py judges them. refuse.c does the refusing: it is compiled by cc and laid before the program, and behind it the address sanitizer of that compiler, which finds
 what is not freed, freed twice or freed wrongly, and then ends the program with status 99. Of a program that it didn't build it sees
-no more: `rt try` builds one with reads and writes watched too. --plain leaves it away. A run that takes ten seconds counts as
+no more: `rt try` builds one with reads and writes watched too. --plain leaves it away. --first runs one example in lockstep and a short script
+by the clock alone, and where there is no C compiler it skips them with a line. A run that takes ten seconds counts as
 a hang. The last line tells how many runs there were, how they ended, and how many faults.
 """
 import argparse
 import collections
 import os
 import pathlib
+import shutil
 import subprocess
 import sys
 import tempfile
@@ -21,17 +23,24 @@ from free import Script
 
 HERE = pathlib.Path(__file__).resolve().parent
 FREE = (27, 38)
+FIRST = ("post_after_quit_refused",)
 EXAMPLES = ("posts_by_delay", "post_after_quit_refused", "post_races_quit", "gauge_runs_to_its_target", "inbox_keeps_each_senders_order")
 
 
-def examples():
+# A side looper gets a message by the clock, and is quit at the end.
+SHORT = b"dashboard 1\nloopers 2\nthreads 1\nhandler 0 0\nhandler 1 1\nvsync 16666667\nat 0\n0 post 1 5 0\nend 20\n"
+DISPATCHED = b"\nlooper 1\n", b"\nfates accepted 1 dispatched 1 removed 0 dropped 0 stranded 0 queued 0\nend\n"
+
+
+def examples(first):
     """Of each example its name, its words, what it reads and what tells whether a report is lawful."""
     index = dict(line.split("\t")[:2] for line in (HERE / "INDEX.txt").read_text().splitlines())
-    for name in EXAMPLES:
+    for name in FIRST if first else EXAMPLES:
         one, many = HERE / f"{name}.report", HERE / f"{name}.reports"
         lawful = [one.read_text()] if one.exists() else many.read_text().split("%%\n")
         yield name, index[name].split(), (HERE / f"{name}.script").read_bytes(), [text.encode() for text in lawful].__contains__
-    for seed in FREE:
+    yield "a short script by the clock", ["run", "--free"], SHORT, lambda report: DISPATCHED[0] in report and report.endswith(DISPATCHED[1])
+    for seed in () if first else FREE:
         script = Script(seed)
         yield f"random script {seed} by the clock", ["run", "--free"], script.text.encode(), lambda report, of=script: not list(of.faults(report.decode()))
 
@@ -70,13 +79,17 @@ def main():
     words = argparse.ArgumentParser(description="refuses each request of worked examples for memory or a thread in turn")
     words.add_argument("program")
     words.add_argument("--plain", action="store_true", help="without the address sanitizer")
+    words.add_argument("--first", action="store_true", help="two examples alone")
     asked = words.parse_args()
+    if asked.first and not shutil.which("cc"):
+        print("refused memory: skipped, there is no C compiler")
+        return
     program = str(pathlib.Path(asked.program).resolve())
     ends, faults = collections.Counter(), 0
     with tempfile.TemporaryDirectory() as folder:
         before, watched = laid(folder, asked.plain)
         count = f"{folder}/count"
-        for name, words, given, lawful in examples():
+        for name, words, given, lawful in examples(asked.first):
             number = 0
             while True:
                 got = run(program, words, given, before, number, count)

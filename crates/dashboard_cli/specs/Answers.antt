@@ -1,13 +1,15 @@
 -- What the statuses of the top call say of the words, the source and the sink.
-use Rattle.std.specs.Prelude.{◌≡◌, ℕ, ◌+◌, ◌≤◌, List, [], Bool, true, false, Option, Some, None, length}
+use Rattle.std.specs.Prelude.{◌≡◌, ◌⊎◌, ℕ, ◌+◌, ◌≤◌, List, [], Bool, true, false, Option, Some, None, length}
 use Rattle.std.specs.Io.KnownBytes.{Appends, Consumes, Keeps}
-use Rattle.loop_io.specs.Causes.{one_more, AppendsFront}
+use Rattle.loop_io.specs.Causes.{one_more, AppendsFront, Rose}
 use Rattle.dashboard_cli.specs.Streams.{Known, ReadsWhole}
 use Rattle.dashboard_cli.specs.Words.{IsAsked}
-use Rattle.dashboard_cli.specs.Works.{Input, Work}
+use Rattle.dashboard_cli.specs.Works.{Input, Work, work, work_by}
+use Rattle.dashboard_cli.specs.Returns.{returned}
 use Rattle.dashboard_cli.specs.declared.making.Returned.{Returned}
 use Rattle.dashboard_cli.specs.declared.status.Status.{Status}
-use Rattle.dashboard_cli.specs.declared.status.Status.TheVariants.{Ok, Script, ReadFault, WriteFault, Trace}
+use Rattle.dashboard_cli.specs.declared.status.Status.TheVariants.{Ok, Script, ReadFault, WriteFault, NoMemory, Trace}
+use Rattle.dashboard_cli.specs.declared.top_call.Outcome.{Outcome}
 use Rattle.dashboard_cli.specs.declared.words.Command.{Command}
 
 -- the words are a command of which this holds
@@ -42,6 +44,16 @@ pub record IsBrokenOff (work : Work) (before after held holds : Known) (given : 
   pub out : List ℕ
   pub made : MakesOf work before after out given
   pub written : AppendsFront held holds out
+
+-- at Ok the words are a command whose text is written whole, by the numbers that the clock shows
+abbrev pub WritesWholeAtOk : (ℕ → Bool) → List (List ℕ) → Known → Known → Known → Known → Outcome → Type 0
+WritesWholeAtOk shows words before after held holds outcome =
+    outcome.status ≡ Ok → IsOf words (λ command. IsDone (work_by shows command) before after held holds (returned outcome))
+
+-- at WriteFault they are one of whose text a front is written
+abbrev pub WritesFrontAtFault : (ℕ → Bool) → List (List ℕ) → Known → Known → Known → Known → Outcome → Type 0
+WritesFrontAtFault shows words before after held holds outcome =
+    outcome.status ≡ WriteFault → IsOf words (λ command. IsBrokenOff (work_by shows command) before after held holds (returned outcome))
 
 -- the whole input is refused with this status, and it is none that is taken
 pub record IsRefused (wanted : Input) (before after : Known) (status : Status) : Type 0 where
@@ -78,6 +90,11 @@ pub record HasGoodInput (wanted : Input) (before : Known) : Type 0 where
   pub input : List ℕ
   pub told : IsTold wanted.most before input
   pub good : wanted.Takes input
+
+-- where the words are a command whose input is good, and the source counts no fault, the status is Ok, or there was no memory
+abbrev pub Completes : List (List ℕ) → Known → ℕ → ℕ → Status → Type 0
+Completes words before counted now status =
+    IsOf words (λ command. HasGoodInput (work command).reads before) → (Rose counted now → ⊥) → (status ≡ Ok) ⊎ (status ≡ NoMemory)
 
 -- at this status nothing was written
 abbrev pub writes_nothing : Status → Bool

@@ -10,7 +10,7 @@ ghost use Rattle.value_animator.specs.Reading.{IsText as IsValuesText};
 
 use crate::reading::{ReadError, read_whole};
 use crate::status::{Cause, Status};
-use dash_script::{Parsed, Script, parse};
+use dash_script::{Cause as TextCause, Parsed, Script, parse};
 use loop_io::Source;
 use std::alloc::Global;
 use trace_check::{ParsedTrace, Trace, parse_trace};
@@ -36,6 +36,16 @@ pub(crate) fn read_input<S: Source>(
     }
 }
 
+/// The status of a text whose least bad line is this one.
+fn bad_text(line: u64, cause: TextCause) -> Status
+    ensures { result ≡ Status.Script line (Cause.Text cause) }
+{
+    Status::Script {
+        line,
+        cause: Cause::Text(cause),
+    }
+}
+
 /// The script of a text.
 pub(crate) fn read_script(alloc: Global, input: &[u8]) -> Result<Script, Status>
     ensures read { IfOk result (λ script. IsText input.now script) }
@@ -43,10 +53,7 @@ pub(crate) fn read_script(alloc: Global, input: &[u8]) -> Result<Script, Status>
 {
     match parse(alloc, input) {
         Parsed::Ok(script) => Ok(script),
-        Parsed::Bad { line, cause } => Err(Status::Script {
-            line,
-            cause: Cause::Text(cause),
-        }),
+        Parsed::Bad { line, cause } => Err(bad_text(line, cause)),
         Parsed::NoMemory => Err(Status::NoMemory),
     }
 }
@@ -58,10 +65,7 @@ pub(crate) fn read_plan(alloc: Global, input: &[u8]) -> Result<Values, Status>
 {
     match parse_values(alloc, input) {
         ParsedValues::Ok(values) => Ok(values),
-        ParsedValues::Bad { line, cause } => Err(Status::Script {
-            line,
-            cause: Cause::Text(cause),
-        }),
+        ParsedValues::Bad { line, cause } => Err(bad_text(line, cause)),
         ParsedValues::NoMemory => Err(Status::NoMemory),
     }
 }

@@ -1,8 +1,9 @@
 // The top call: the words, then the reading, then the work, then the writing.
-ghost use Rattle.std.specs.Prelude.{◌≡◌, ◌≢◌, ◌⊎◌, IsTrue, None};
+ghost use Rattle.std.specs.Prelude.{◌≡◌, ◌≢◌, IsTrue, None};
 ghost use Rattle.loop_io.specs.Causes.{Rose};
-ghost use Rattle.dashboard_cli.specs.Answers.{is_refusal, writes_nothing, AllOf, CountsReads, CountsWrites, HasGoodInput, IsBrokenOff, IsDone, IsOf, IsRefused, IsTooLong, IsWithin};
-ghost use Rattle.dashboard_cli.specs.Works.{work, work_by};
+ghost use Rattle.dashboard_cli.specs.Answers.{is_refusal, writes_nothing, AllOf, Completes, CountsReads, CountsWrites, IsOf, IsRefused, IsTooLong, IsWithin};
+ghost use Rattle.dashboard_cli.specs.Answers.{WritesWholeAtOk, WritesFrontAtFault};
+ghost use Rattle.dashboard_cli.specs.Works.{work};
 ghost use Rattle.dashboard_cli.specs.Returns.{returned, nothing};
 ghost use Rattle.dashboard_cli.specs.Words.{texts, IsListed};
 
@@ -74,10 +75,10 @@ pub fn dashboard<
     ensures unread { ¬ (IsOf (texts words.now) (λ command. (work command).reads.most ≢ None)) → source.new ≡ source.old }
 
     // The text is written whole at Ok, and a front of it at WriteFault. At every other status nothing is written.
-    ensures ok { result.status ≡ Status.Ok → IsOf (texts words.now) (λ command. IsDone (work_by (C.shows clock.now) command)
-        (S.left source.old) (S.left source.new) (K.holds sink.old) (K.holds sink.new) (returned result)) }
-    ensures broken_off { result.status ≡ Status.WriteFault → IsOf (texts words.now) (λ command. IsBrokenOff (work_by (C.shows clock.now) command)
-        (S.left source.old) (S.left source.new) (K.holds sink.old) (K.holds sink.new) (returned result)) }
+    ensures ok { WritesWholeAtOk (C.shows clock.now) (texts words.now)
+        (S.left source.old) (S.left source.new) (K.holds sink.old) (K.holds sink.new) result }
+    ensures broken_off { WritesFrontAtFault (C.shows clock.now) (texts words.now)
+        (S.left source.old) (S.left source.new) (K.holds sink.old) (K.holds sink.new) result }
     ensures nothing { IsTrue (writes_nothing result.status) → sink.new ≡ sink.old }
     ensures none_returned { IsTrue (writes_nothing result.status) → returned result ≡ nothing }
 
@@ -96,9 +97,8 @@ pub fn dashboard<
         → IsOf (texts words.now) (λ command. IsRefused (work command).reads (S.left source.old) (S.left source.new) result.status) }
 
     // It doesn't give up by itself.
-    ensures complete { IsOf (texts words.now) (λ command. HasGoodInput (work command).reads (S.left source.old))
-        → ¬ (Rose (S.faults source.old) (S.faults source.new)) → ¬ (Rose (K.faults sink.old) (K.faults sink.new))
-        → (result.status ≡ Status.Ok) ⊎ (result.status ≡ Status.NoMemory) }
+    ensures complete { ¬ (Rose (K.faults sink.old) (K.faults sink.new))
+        → Completes (texts words.now) (S.left source.old) (S.faults source.old) (S.faults source.new) result.status }
 {
     let command = match read_words(alloc, words) {
         Ok(Some(command)) => command,

@@ -1,5 +1,5 @@
 //! Which words name which command.
-use super::{Given, NEVER, come_of, words_of};
+use super::{Case, Wants, words_of};
 use crate::*;
 use std::alloc::{AllocError, Global};
 use std::process::Abort;
@@ -67,28 +67,38 @@ fn words_name_a_command(rt: HostRuntime) -> Result<(), Fail> {
     Ok(())
 }
 
-/// Words that name no command are refused. Nothing is read, so a source that fails is no fault, and nothing is written.
-#[test]
-fn other_words_are_refused(rt: HostRuntime) -> Result<(), Fail> {
-    let alloc = rt.alloc();
+/// Adds the words that name no command, which are refused, and `make`. None of them reads, so a source that fails is no fault.
+pub(super) fn add<'a>(alloc: Global, cases: &mut Vec<Case<'a>>) -> Result<(), AllocError> {
     for &(line, command) in &NAMED {
         if command.is_none() {
-            let came = come_of(&rt, alloc, line, Vec::new(alloc), 1, 0, NEVER)?;
-            assert!(rt; came.status == Status::Usage, "at {line:?}");
-            assert!(rt; came.given == Given::Nothing && came.written.is_empty());
+            add_unread(alloc, cases, line, Status::Usage, Wants::Text("", ""))?;
         }
     }
+    add_unread(alloc, cases, "make 0", Status::Ok, Wants::Made)?;
+    add_unread(alloc, cases, "make 0 --run", Status::Ok, Wants::Ran)
+}
+
+fn add_unread<'a>(
+    alloc: Global,
+    cases: &mut Vec<Case<'a>>,
+    line: &'a str,
+    status: Status,
+    wants: Wants<'a>,
+) -> Result<(), AllocError> {
+    let mut case = Case::new(line, Vec::new(alloc), status, wants);
+    case.read = 0;
+    cases.push(case)?;
     Ok(())
 }
 
-/// `make` reads nothing either.
-#[test]
-fn a_script_is_made(rt: HostRuntime) -> Result<(), Fail> {
-    let alloc = rt.alloc();
-    let came = come_of(&rt, alloc, "make 0", Vec::new(alloc), 1, 0, NEVER)?;
-    assert!(rt; came.status == Status::Ok);
-    let lines = came.written.iter().filter(|byte| **byte == b'\n').count();
-    assert!(rt; lines == 2_525);
-    assert!(rt; came.written.as_slice().ends_with(b"\nend 6000\n"));
-    Ok(())
+/// Whether the text is the script that is made from 0: its length and its end.
+pub(super) fn is_made(text: &[u8]) -> bool {
+    let lines = text.iter().filter(|byte| **byte == b'\n').count();
+    lines == 2_525 && text.ends_with(b"\nend 6000\n")
+}
+
+/// Whether the text is the summary of a run of that script: its first words, and five lines.
+pub(super) fn is_summary(text: &[u8]) -> bool {
+    let lines = text.iter().filter(|byte| **byte == b'\n').count();
+    lines == 5 && text.starts_with(b"summary 0\naccepted ")
 }

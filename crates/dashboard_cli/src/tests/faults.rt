@@ -1,8 +1,8 @@
 //! Faults of the source and of the sink, and inputs that are too long.
-use super::{Given, NEVER, come_of, joined};
+use super::{Case, NEVER, Wants, joined};
 use crate::*;
 use dash_script::Cause as TextCause;
-use std::test::Fail;
+use std::alloc::{AllocError, Global};
 
 /// A gauge that moves to its target, in 93 bytes.
 const SCRIPT: &str =
@@ -23,34 +23,6 @@ fn row(number: u64) -> (u8, u64, u64, Status, u64) {
     }
 }
 
-#[test]
-fn each_fault_is_answered(rt: HostRuntime) -> Result<(), Fail> {
-    let alloc = rt.alloc();
-    for number in 0..28 {
-        let (most, read, write, status, length) = row(number);
-        let came = come_of(
-            &rt,
-            alloc,
-            "run",
-            joined(alloc, SCRIPT, "")?,
-            most,
-            read,
-            write,
-        )?;
-        assert!(rt; came.status == status, "in row {number}");
-        assert!(rt;
-            (came.given == Given::Report) == (status != Status::ReadFault),
-            "in row {number}"
-        );
-        assert!(rt; came.written.len() as u64 == length, "in row {number}");
-        assert!(rt;
-            REPORT.as_bytes().starts_with(came.written.as_slice()),
-            "in row {number}"
-        );
-    }
-    Ok(())
-}
-
 /// Words, how many bytes of no text they are given, and their status.
 const LENGTHS: [(&str, usize, Status); 3] = [
     (
@@ -65,21 +37,27 @@ const LENGTHS: [(&str, usize, Status); 3] = [
     ("check", MOST_BYTES + 1, Status::Trace { line: 1 }),
 ];
 
-#[test]
-fn a_byte_too_many_is_too_long(rt: HostRuntime) -> Result<(), Fail> {
-    let alloc = rt.alloc();
+/// Adds the runs of the script, and the inputs of no text.
+pub(super) fn add<'a>(alloc: Global, cases: &mut Vec<Case<'a>>) -> Result<(), AllocError> {
+    for number in 0..28 {
+        let (most, read, write, status, length) = row(number);
+        let input = joined(alloc, SCRIPT, "")?;
+        let mut case = Case::new("run", input, status, Wants::Front(REPORT, length));
+        case.most = most;
+        case.read = read;
+        case.write = write;
+        cases.push(case)?;
+    }
     for &(line, length, status) in &LENGTHS {
-        let came = come_of(
-            &rt,
-            alloc,
-            line,
-            vec![in alloc; b'x'; length]?,
-            255,
-            NEVER,
-            NEVER,
-        )?;
-        assert!(rt; came.status == status, "{line} at {length}");
-        assert!(rt; came.given == Given::Nothing && came.written.is_empty());
+        let input = vec![in alloc; b'x'; length]?;
+        let mut case = Case::new(line, input, status, Wants::Text("", ""));
+        case.most = 255;
+        cases.push(case)?;
     }
     Ok(())
+}
+
+/// Whether the text is so many bytes of this one, from its front.
+pub(super) fn is_front(text: &[u8], whole: &str, length: u64) -> bool {
+    text.len() as u64 == length && whole.as_bytes().starts_with(text)
 }

@@ -1,12 +1,8 @@
 //! Runs whose threads race.
-use super::{Given, NEVER, come_of, joined, run_at, wanted};
+use super::{Case, Wants, joined};
 use crate::*;
-use loop_io::{MeetGate, MemSource};
+use loop_io::MeetGate;
 use std::alloc::{AllocError, Global};
-use std::process::Abort;
-use std::sync::Wait;
-use std::test::Fail;
-use std::thread::Threads;
 
 /// A post of one thread that races the quit of another.
 const QUIT: &str =
@@ -55,29 +51,14 @@ fn is_lawful(text: &[u8], front: &str, end: &str, middles: &[&str]) -> bool {
     middles.iter().any(|lawful| middle == lawful.as_bytes())
 }
 
-#[test]
-fn races_have_lawful_texts(rt: HostRuntime) -> Result<(), Fail> {
-    let alloc = rt.alloc();
-    for turn in 0..20 {
-        for &(line, script, front, end, middles) in &RACES {
-            let came = come_of(
-                &rt,
-                alloc,
-                line,
-                joined(alloc, script, "")?,
-                64,
-                NEVER,
-                NEVER,
-            )?;
-            assert!(rt; came.status == Status::Ok && came.given == wanted(line));
-            let text = came.written.as_slice();
-            assert!(rt;
-                is_lawful(text, front, end, middles.as_slice()),
-                "{line} in turn {turn}"
-            );
+/// Whether the text is lawful for the race in this row.
+pub(super) fn is_of_race(text: &[u8], row: usize) -> bool {
+    for (place, &(_, _, front, end, middles)) in RACES.iter().enumerate() {
+        if place == row {
+            return is_lawful(text, front, end, middles.as_slice());
         }
     }
-    Ok(())
+    false
 }
 
 /// Three loopers, four threads and six gauges over two seconds.
@@ -97,7 +78,7 @@ const BUSY_LINES: [&str; 7] = [
 ];
 
 /// Whether the text has this line.
-fn has_line(text: &[u8], wanted: &[u8]) -> bool {
+pub(super) fn has_line(text: &[u8], wanted: &[u8]) -> bool {
     text.split(|byte| *byte == b'\n').any(|line| line == wanted)
 }
 
@@ -108,72 +89,32 @@ fn lines_with(text: &[u8], front: &[u8]) -> usize {
         .count()
 }
 
-#[test]
-fn a_busy_run_comes_to_its_counts(rt: HostRuntime) -> Result<(), Fail> {
-    let alloc = rt.alloc();
-    let came = come_of(
-        &rt,
-        alloc,
-        "run",
-        joined(alloc, BUSY, "")?,
-        255,
-        NEVER,
-        NEVER,
-    )?;
-    assert!(rt; came.status == Status::Ok && came.given == Given::Report);
-    let text = came.written.as_slice();
-    for &line in &BUSY_LINES {
-        assert!(rt; has_line(text, line.as_bytes()), "{line}");
-    }
-    assert!(rt; lines_with(text, b"refused 2 4 quit ") == 1);
-    Ok(())
-}
-
-/// Two posts, of which the later line is due first.
-const BY_CLOCK: &str =
-    "dashboard 1\nloopers 1\nthreads 1\nhandler 0 0\nvsync 16666667\nat 10\n0 post 0 7 5\n0 post 0 8 0\nend 20\n";
-
-/// Each reading of the clock is 5 milliseconds later, so both posts are due by the end.
-#[test]
-fn a_run_by_a_clock_dispatches_what_is_due(rt: HostRuntime) -> Result<(), Fail> {
-    let alloc = rt.alloc();
-    let came = come_of(
-        &rt,
-        alloc,
-        "run --free",
-        joined(alloc, BY_CLOCK, "")?,
-        255,
-        NEVER,
-        NEVER,
-    )?;
-    assert!(rt; came.status == Status::Ok && came.given == Given::Report);
-    let text = came.written.as_slice();
-    assert!(rt;
-        has_line(
-            text,
-            b"fates accepted 2 dispatched 2 removed 0 dropped 0 stranded 0 queued 0"
-        )
-    );
-    Ok(())
+/// Whether the text says of the busy run what it has to, and that one post of a rule came behind the quit.
+pub(super) fn is_busy(text: &[u8]) -> bool {
+    BUSY_LINES
+        .iter()
+        .all(|line| has_line(text, line.as_bytes()))
+        && lines_with(text, b"refused 2 4 quit ") == 1
 }
 
 /// A script of two threads, which are the senders 0 and 1; its loopers are the senders 2 and 3.
 const MEETING: &str =
     "dashboard 1\nloopers 2\nthreads 2\nhandler 0 0\nhandler 1 1\nvsync 16666667\nat 10\n0 post 0 1 0\n1 post 1 2 0\nend 10\n";
 
-/// Two senders are held at the gate until both are there, so they run side by side.
-#[test]
-fn threads_and_loopers_run_side_by_side(rt: HostRuntime) -> Result<(), Fail> {
-    let alloc = rt.alloc();
+/// Adds each race twenty times, the busy run, and two senders that are held at the gate until both are there, so that they run side by
+/// side: the threads, and the loopers.
+pub(super) fn add<'a>(alloc: Global, cases: &mut Vec<Case<'a>>) -> Result<(), AllocError> {
+    for _ in 0..20 {
+        for (row, &(line, script, _, _, _)) in RACES.iter().enumerate() {
+            let input = joined(alloc, script, "")?;
+            cases.push(Case::new(line, input, Status::Ok, Wants::Race(row)))?;
+        }
+    }
+    cases.push(Case::new("run", joined(alloc, BUSY, "")?, Status::Ok, Wants::Busy))?;
     for &(first, second) in &[(0, 1), (2, 3)] {
-        let mut source = MemSource::new(joined(alloc, MEETING, "")?, 64, Vec::new(alloc));
-        let gate = MeetGate::new(first, second, 0, 10_000_000);
-        let (outcome, _) = run_at(&rt, alloc, "run", &mut source, NEVER, &gate)?;
-        assert!(rt;
-            outcome.status == Status::Ok,
-            "senders {first} and {second}"
-        );
-        assert!(rt; !gate.missed(), "senders {first} and {second}");
+        let mut case = Case::new("run", joined(alloc, MEETING, "")?, Status::Ok, Wants::Met);
+        case.gate = MeetGate::new(first, second, 0, 10_000_000);
+        cases.push(case)?;
     }
     Ok(())
 }

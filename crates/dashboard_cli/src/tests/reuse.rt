@@ -1,9 +1,8 @@
 //! What a long run uses again, and what it hands out.
-use super::{NEVER, ONE, joined, run_at};
-use loop_io::{MemSource, OpenGate};
-use loop_model::{Call, Entry};
+use super::{Case, ONE, Wants, joined};
+use crate::*;
+use loop_model::{Call, Entry, Segment};
 use std::alloc::{AllocError, Global};
-use std::test::Fail;
 
 /// Fifty-one posts at once.
 fn posts(script: &mut Vec<u8>) -> Result<(), AllocError> {
@@ -29,45 +28,47 @@ fn are_all_slots(slots: &[Option<u32>]) -> bool {
     (0..50).all(|slot| slots.contains(&Some(slot))) && slots.last() == Some(&None)
 }
 
-/// What is posted again has the slots again that the first messages gave back.
-#[test]
-fn slots_are_used_again(rt: HostRuntime) -> Result<(), Fail> {
-    let alloc = rt.alloc();
-    let mut script = joined(alloc, ONE, "at 1\n")?;
-    posts(&mut script)?;
-    script.extend_from_slice(b"at 2\n")?;
-    posts(&mut script)?;
-    script.extend_from_slice(b"end 2\n")?;
-    let mut source = MemSource::new(script, 64, Vec::new(alloc));
-    let (outcome, _) = run_at(&rt, alloc, "run", &mut source, NEVER, &OpenGate)?;
-    let report = outcome.report.expect(&rt, "a report");
-    let queue = report.queues.as_slice().first().expect(&rt, "a queue");
-    let part = queue.segments.as_slice().first().expect(&rt, "a part");
-    let slots = slots(alloc, part.entries.as_slice())?;
-    assert!(rt; slots.len() == 102);
-    let (first, second) = slots.as_slice().split_at(51);
-    assert!(rt; are_all_slots(first));
-    assert!(rt; are_all_slots(second));
+/// Adds fifty-one posts, and as many more once these are dispatched; and a history of so many posts that it comes in parts.
+pub(super) fn add<'a>(alloc: Global, cases: &mut Vec<Case<'a>>) -> Result<(), AllocError> {
+    let mut twice = joined(alloc, ONE, "at 1\n")?;
+    posts(&mut twice)?;
+    twice.extend_from_slice(b"at 2\n")?;
+    posts(&mut twice)?;
+    twice.extend_from_slice(b"end 2\n")?;
+    cases.push(Case::new("run", twice, Status::Ok, Wants::UsedAgain))?;
+    let mut many = joined(alloc, ONE, "at 0\n")?;
+    for _ in 0..41 {
+        posts(&mut many)?;
+    }
+    many.extend_from_slice(b"end 0\n")?;
+    cases.push(Case::new("run", many, Status::Ok, Wants::Parts))?;
     Ok(())
 }
 
-/// A queue with many entries hands them out after its rounds: the last part has the halt alone.
-#[test]
-fn a_long_history_has_parts(rt: HostRuntime) -> Result<(), Fail> {
-    let alloc = rt.alloc();
-    let mut script = joined(alloc, ONE, "at 0\n")?;
-    for _ in 0..41 {
-        posts(&mut script)?;
+/// The parts of the first queue's history.
+fn parts(report: &Report) -> Option<&[Segment]> {
+    let queue = report.queues.as_slice().first()?;
+    Some(queue.segments.as_slice())
+}
+
+/// Whether what was posted again has the slots again that the first messages gave back.
+pub(super) fn are_used_again(alloc: Global, report: &Report) -> Result<bool, AllocError> {
+    let Some([part, ..]) = parts(report) else {
+        return Ok(false);
+    };
+    let slots = slots(alloc, part.entries.as_slice())?;
+    if slots.len() != 102 {
+        return Ok(false);
     }
-    script.extend_from_slice(b"end 0\n")?;
-    let mut source = MemSource::new(script, 64, Vec::new(alloc));
-    let (outcome, _) = run_at(&rt, alloc, "run", &mut source, NEVER, &OpenGate)?;
-    let report = outcome.report.expect(&rt, "a report");
-    let queue = report.queues.as_slice().first().expect(&rt, "a queue");
-    let [first, last] = queue.segments.as_slice() else {
-        panic!(rt; "two parts were handed out")
+    let (first, second) = slots.as_slice().split_at(51);
+    Ok(are_all_slots(first) && are_all_slots(second))
+}
+
+/// Whether the queue with many entries handed them out after its rounds: the last part has the halt alone.
+pub(super) fn has_parts(report: &Report) -> bool {
+    let Some([first, last]) = parts(report) else {
+        return false;
     };
     let whole = first.entries.len() == 4_182 && last.base.length == 4_182;
-    assert!(rt; whole && last.entries.len() == 1);
-    Ok(())
+    whole && last.entries.len() == 1
 }

@@ -14,7 +14,7 @@ returns-in-Err-produce-clause-within g c = λ other.
     all_stops _ c.in-Ok-Some.command _ _ c.in-Err-produce.status asked c.in-Err-produce.ensures.stopped (λ is. other (same ∙ is))
 
 pub returns-in-Err-produce-clause-complete : goal.returns-in-Err-produce-clause-complete
-returns-in-Err-produce-clause-complete g c = λ good sound _.
+returns-in-Err-produce-clause-complete g c = λ _ good sound.
     let asked : IsAsked (texts c.args.words.now) c.in-Ok-Some.command = search rules in
     let same : c.ended-in-Err-produce.result.status ≡ c.in-Err-produce.status = ap (λ (o : Outcome). o.status) c.ended-in-Err-produce.ensures in
     subst (λ (s : Status). (s ≡ status.Ok) ⊎ (s ≡ status.NoMemory)) (sym same)
