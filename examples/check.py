@@ -164,6 +164,30 @@ def by_clock(program):
     print(f"posts_by_delay by the clock: {first} of {RUNS // 10} runs hand out the post without delay, and then the other")
 
 
+BELLS = """dashboard 1
+loopers 2
+threads 1
+handler 0 0
+handler 1 1
+gauge 0 1 10
+vsync 16666667
+at 200
+0 frame 0 0 5 0
+0 frame 1 0 6 0
+0 set 0 10
+end 2500
+"""
+
+
+def bells(program):
+    """By the real clock a looper that waits is woken where a frame is asked for: what is asked at 200 comes long before the end at 2500."""
+    got = run(program, ["run", "--free"], BELLS.encode())
+    came = [int(now) for now in re.findall(r"^(\d+) dispatch \d+ 6[45] 0$", got, re.M)]
+    ran = [got.count(line) for line in ("\nrun 0 5\n", "\nrun 0 6\n", "\npaint 0 10\n")]
+    if len(came) < 2 or max(came) > 2000 or ran != [1, 1, 1]:
+        yield "frames by the clock", got
+
+
 def scripts():
     """The examples' scripts that are run, and some larger ones."""
     for file in sorted(HERE.glob("*.script")):

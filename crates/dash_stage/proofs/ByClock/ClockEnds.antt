@@ -22,10 +22,10 @@ use Rattle.run_model.specs.Moments.{AreOfClock, AreOfClockAfter}
 use Rattle.run_model.specs.Asks.{entries_by}
 use Rattle.dash_hall.proofs.Clocking.{clocked_same, if_free}
 use Rattle.dash_threads.specs.declared.thread.PostingThread.{PostingThread}
-use Rattle.dash_threads.specs.Threads.{IsUpTo, AreByClock, ThreadKeeps}
+use Rattle.dash_threads.specs.Threads.{IsThread, IsUpTo, AreByClock, ThreadKeeps}
 use Rattle.dash_loopers.specs.declared.looper.StageLooper.{StageLooper}
 use Rattle.dash_loopers.specs.declared.player.Parts.{Parts}
-use Rattle.dash_loopers.specs.Loopers.{posters_of, LooperKeeps}
+use Rattle.dash_loopers.specs.Loopers.{IsLooper, posters_of, LooperKeeps}
 use Rattle.dash_loopers.specs.Played.{AreAlike, StandsBy, ComesBy}
 use Rattle.dash_loopers.proofs.LooperNext.{played_self}
 use Rattle.dash_loopers.proofs.LooperPlayed.{comes_free}
