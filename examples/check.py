@@ -7,7 +7,7 @@ get; a file that is not there stands for nothing.
 Where threads race, NAME.reports holds the lawful reports, parted by lines %%: each run must write one of them, and it is
 told how many of them were seen.
 Inputs that are too large to be kept are made here, and so is what `make N` and the longest script must write. What `trace` writes
-of each script must be legal, and no longer where a dispatch is told of another message. One script is also run by the real clock.
+of each script must be legal, and no longer where a dispatch is told of another message. Two scripts are also run by the real clock.
 At the end it prints how long a run of each script takes; no time is a failure.
 """
 import difflib
@@ -348,7 +348,7 @@ def main():
             print("\n".join([f"FAILED {name}: {shows}", *found]))
         else:
             passed += 1
-    for name, found in [*races(program), *quit_races(program), *by_clock(program), *summaries(program), *whole(program), *counts_stay(program), *traces(program)]:
+    for name, found in [*races(program), *quit_races(program), *by_clock(program), *bells(program), *summaries(program), *whole(program), *counts_stay(program), *traces(program)]:
         failed += 1
         print(f"FAILED {name}: {found}")
     print_times(program)
