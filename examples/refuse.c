@@ -1,6 +1,6 @@
 /* Laid before a program (LD_PRELOAD) it refuses one request: the one whose number, counted from 1, stands in REFUSE. At the end it
-   writes how many there were to the file that COUNT names. A request is a call of malloc, of realloc or of pthread_create out of the
-   program's own code, by any of its threads. */
+   writes how many there were to the file that COUNT names, and how many of them in the first second. A request is a call of malloc, of
+   realloc or of pthread_create out of the program's own code, by any of its threads. */
 #define _GNU_SOURCE
 #include <dlfcn.h>
 #include <errno.h>
@@ -11,11 +11,13 @@
 #include <stdint.h>
 #include <stdio.h>
 #include <stdlib.h>
+#include <time.h>
 
 typedef void *Start(void *);
 
-static atomic_ulong asked;
+static atomic_ulong asked, soon;
 static atomic_ulong refused;
+static struct timespec began;
 static uintptr_t own_begin, own_end;
 static void *(*next_malloc)(size_t), *(*next_realloc)(void *, size_t);
 static void (*next_free)(void *);
@@ -38,6 +40,7 @@ static int find_own(struct dl_phdr_info *image, size_t size, void *data) {
 
 __attribute__((constructor)) static void begin(void) {
     const char *number = getenv("REFUSE");
+    clock_gettime(CLOCK_MONOTONIC, &began);
     dl_iterate_phdr(find_own, NULL);
     next_free = dlsym(RTLD_NEXT, "free");
     next_realloc = dlsym(RTLD_NEXT, "realloc");
@@ -53,7 +56,7 @@ void _exit(int status) {
     void (*look)(void) = (void (*)(void))dlsym(RTLD_DEFAULT, "__lsan_do_leak_check");
     FILE *file = name ? fopen(name, "w") : NULL;
     if (file) {
-        fprintf(file, "%lu\n", atomic_load(&asked));
+        fprintf(file, "%lu %lu\n", atomic_load(&asked), atomic_load(&soon));
         fclose(file);
     }
     if (look) look();
@@ -63,7 +66,10 @@ void _exit(int status) {
 
 static int is_refused(const void *caller) {
     uintptr_t at = (uintptr_t)caller;
+    struct timespec now;
     if (at < own_begin || at >= own_end) return 0;
+    clock_gettime(CLOCK_MONOTONIC, &now);
+    if ((now.tv_sec - began.tv_sec) * 1000000000 + now.tv_nsec - began.tv_nsec < 1000000000) atomic_fetch_add(&soon, 1);
     return atomic_fetch_add(&asked, 1) + 1 == refused;
 }
 

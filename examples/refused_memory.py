@@ -7,7 +7,7 @@ by the real clock too, and their reports are judged as free.py judges them. refu
 what is not freed, freed twice or freed wrongly, and then ends the program with status 99. Of a program that it didn't build it sees
 no more: `rt try` builds one with reads and writes watched too. --plain leaves it away. --first runs one example in lockstep and a short script
 by the clock alone, and where there is no C compiler it skips them with a line. A run that takes ten seconds counts as
-a hang. The last line tells how many runs there were, how they ended, and how many faults.
+a hang, and so does one of the short script that is refused what it asks for at its beginning, and goes on to the script's end to say so. The last line tells how many runs there were, how they ended, and how many faults.
 """
 import argparse
 import collections
@@ -17,6 +17,7 @@ import shutil
 import subprocess
 import sys
 import tempfile
+import time
 
 sys.dont_write_bytecode = True
 from free import Script
@@ -27,11 +28,11 @@ FIRST = ("post_after_quit_refused",)
 EXAMPLES = ("posts_by_delay", "post_after_quit_refused", "post_races_quit", "gauge_runs_to_its_target", "inbox_keeps_each_senders_order")
 
 
-# A side looper gets a message by the clock, and is quit at the end: a thread that is late finds the message dropped, or refused.
-SHORT = b"dashboard 1\nloopers 2\nthreads 1\nhandler 0 0\nhandler 1 1\nvsync 16666667\nat 0\n0 post 1 5 0\nend 20\n"
-FATES = tuple(
-    b"\nfates accepted %d dispatched %d removed 0 dropped %d stranded 0 queued 0\nend\n" % counts for counts in ((1, 1, 0), (1, 0, 1), (0, 0, 0))
-)
+# A side looper gets a message by the clock, and both wait then for the end.
+SHORT = b"dashboard 1\nloopers 2\nthreads 1\nhandler 0 0\nhandler 1 1\nvsync 16666667\nat 0\n0 post 1 5 0\nend 1500\n"
+DISPATCHED = b"\nfates accepted 1 dispatched 1 removed 0 dropped 0 stranded 0 queued 0\nend\n"
+# A run that is given up at its beginning ends within these seconds.
+EARLY = 1.3
 
 
 def examples(first):
@@ -41,7 +42,7 @@ def examples(first):
         one, many = HERE / f"{name}.report", HERE / f"{name}.reports"
         lawful = [one.read_text()] if one.exists() else many.read_text().split("%%\n")
         yield name, index[name].split(), (HERE / f"{name}.script").read_bytes(), [text.encode() for text in lawful].__contains__
-    yield "a short script by the clock", ["run", "--free"], SHORT, lambda report: b"\nlooper 1\n" in report and report.endswith(FATES)
+    yield "a short script by the clock", ["run", "--free"], SHORT, lambda report: report.endswith(DISPATCHED)
     for seed in () if first else FREE:
         script = Script(seed)
         yield f"random script {seed} by the clock", ["run", "--free"], script.text.encode(), lambda report, of=script: not list(of.faults(report.decode()))
@@ -92,15 +93,21 @@ def main():
         before, watched = laid(folder, asked.plain)
         count = f"{folder}/count"
         for name, words, given, lawful in examples(asked.first):
-            number = 0
-            while True:
+            number, most, early = 0, None, given is SHORT
+            while most is None or number <= most:
+                began = time.monotonic()
                 got = run(program, words, given, before, number, count)
                 wrong, end = fault(got, lawful)
+                if early and end == "without memory" and time.monotonic() - began > EARLY:
+                    wrong = "it is given up at its end alone"
                 if wrong:
                     faults += 1
                     print(f"FAILED {name}, request {number} refused: {wrong}")
                 ends[end] += 1
-                if number and int(pathlib.Path(count).read_text()) < number:
+                asked_for, soon = map(int, pathlib.Path(count).read_text().split())
+                if early and number == 0:
+                    most = soon
+                elif not early and number and asked_for < number:
                     break
                 number += 1
             print(f"{name}: {number} runs")
