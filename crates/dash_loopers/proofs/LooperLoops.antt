@@ -79,43 +79,43 @@ module _ (shows : ℕ → Bool) (start : ℕ) where
   calls_listened : (a b : Sender) → HasListened a b → Calls a b
   calls_listened a b h = record { more = []; seen = h.seen ∙ sym (append-nil a.view.seen); sender = h.same.sender; none = refl }
 
-  calls_slept : (idle : Bool) (n : ℕ) (a b : Sender) → Slept shows start idle n a b → Calls a b
-  calls_slept idle zero a b h = calls_none a b h
-  calls_slept idle (suc n) a b (between, before, one) =
+  calls_slept : (idle : Bool) (cap : Option ℕ) (n : ℕ) (a b : Sender) → Slept shows start idle cap n a b → Calls a b
+  calls_slept idle cap zero a b h = calls_none a b h
+  calls_slept idle cap (suc n) a b (between, before, one) =
       let look = one.look.look in
-      calls_then a between b (calls_slept idle n a between before)
+      calls_then a between b (calls_slept idle cap n a between before)
       (calls_then between one.looked b (calls_still between one.looked look.0 look.1 look.2 (ap (λ (s : State). s.entries) look.3.3)) (calls_listened one.looked b one.listened))
 
-  calls_waited : (a b : Looping) → HasWaitedLong shows start a b → Calls a.held.poster b.held.poster
-  calls_waited a b (p, n, slept, is) = calls_then a.held.poster p b.held.poster (calls_slept a.idle_owed n a.held.poster p slept) (calls_none p b.held.poster (ap (λ (l : Looping). l.held.poster) is))
+  calls_waited : (cap : Option ℕ) (a b : Looping) → HasWaitedLong shows start cap a b → Calls a.held.poster b.held.poster
+  calls_waited cap a b (p, n, slept, is) = calls_then a.held.poster p b.held.poster (calls_slept a.idle_owed cap n a.held.poster p slept) (calls_none p b.held.poster (ap (λ (l : Looping). l.held.poster) is))
 
-  calls_step : (r : Step) (a b : Looping) → GoesOn r → HasStepped shows start a b r → Calls a.held.poster b.held.poster
-  calls_step step.Dispatched a b goes (slept, waited, now, moment, done) = calls_then a.held.poster slept.held.poster b.held.poster (calls_waited a slept waited) (calls_taken now slept b done.0)
-  calls_step step.Idled a b goes (slept, waited, now, moment, done) = calls_then a.held.poster slept.held.poster b.held.poster (calls_waited a slept waited) (calls_idle now slept b done)
-  calls_step (step.Waits until) a b goes (slept, waited, now, moment, done) =
+  calls_step : (cap : Option ℕ) (r : Step) (a b : Looping) → GoesOn r → HasStepped shows start cap a b r → Calls a.held.poster b.held.poster
+  calls_step cap step.Dispatched a b goes (slept, waited, now, moment, done) = calls_then a.held.poster slept.held.poster b.held.poster (calls_waited cap a slept waited) (calls_taken now slept b done.0)
+  calls_step cap step.Idled a b goes (slept, waited, now, moment, done) = calls_then a.held.poster slept.held.poster b.held.poster (calls_waited cap a slept waited) (calls_idle now slept b done)
+  calls_step cap (step.Waits until) a b goes (slept, waited, now, moment, done) =
       let look = done.look in
-      calls_then a.held.poster slept.held.poster b.held.poster (calls_waited a slept waited) (calls_still slept.held.poster b.held.poster look.0 look.1 look.2 (ap (λ (s : State). s.entries) look.3.3))
-  calls_step step.Ends a b goes h = absurd goes
-  calls_step step.NoMemory a b goes h = absurd goes
+      calls_then a.held.poster slept.held.poster b.held.poster (calls_waited cap a slept waited) (calls_still slept.held.poster b.held.poster look.0 look.1 look.2 (ap (λ (s : State). s.entries) look.3.3))
+  calls_step cap step.Ends a b goes h = absurd goes
+  calls_step cap step.NoMemory a b goes h = absurd goes
 
-  calls_steps : (n : ℕ) (a b : Looping) → Stepped shows start n a b → Calls a.held.poster b.held.poster
-  calls_steps zero a b same = calls_none a.held.poster b.held.poster (ap (λ (l : Looping). l.held.poster) same)
-  calls_steps (suc n) a b (between, before, r, goes, one) = calls_then a.held.poster between.held.poster b.held.poster (calls_steps n a between before) (calls_step r between b goes one)
+  calls_steps : (cap : Option ℕ) (n : ℕ) (a b : Looping) → Stepped shows start cap n a b → Calls a.held.poster b.held.poster
+  calls_steps cap zero a b same = calls_none a.held.poster b.held.poster (ap (λ (l : Looping). l.held.poster) same)
+  calls_steps cap (suc n) a b (between, before, r, goes, one) = calls_then a.held.poster between.held.poster b.held.poster (calls_steps cap n a between before) (calls_step cap r between b goes one)
 
   -- the last wait, answered at its cap
   calls_capped : (cap : Option ℕ) (at : ℕ) (a b : Looping)
-      → (slept : Looping) × HasWaitedLong shows start a slept × (p : Sender) × (until : Option ℕ) × HasLooked shows start a.idle_owed at (nexted.Wait until) slept.held.poster p × IsCap cap at × (b ≡ by_poster slept p)
+      → (slept : Looping) × HasWaitedLong shows start cap a slept × (p : Sender) × (until : Option ℕ) × HasLooked shows start a.idle_owed at (nexted.Wait until) slept.held.poster p × IsCap cap at × (b ≡ by_poster slept p)
       → Calls a.held.poster b.held.poster
   calls_capped cap at a b (slept, waited, p, until, looked, is_cap, is) =
       let look = looked.look in
-      calls_then a.held.poster slept.held.poster b.held.poster (calls_waited a slept waited)
+      calls_then a.held.poster slept.held.poster b.held.poster (calls_waited cap a slept waited)
       (calls_then slept.held.poster p b.held.poster (calls_still slept.held.poster p look.0 look.1 look.2 (ap (λ (s : State). s.entries) look.3.3)) (calls_none p b.held.poster (ap (λ (l : Looping). l.held.poster) is)))
 
   -- or since the bell was another
-  calls_nudged : (a b : Looping) → (slept : Looping) × HasWaitedLong shows start a slept × (p : Sender) × HasNudged shows start a.idle_owed slept.held.poster p × (b ≡ by_poster slept p) → Calls a.held.poster b.held.poster
-  calls_nudged a b (slept, waited, p, nudged, is) =
+  calls_nudged : (cap : Option ℕ) (a b : Looping) → (slept : Looping) × HasWaitedLong shows start cap a slept × (p : Sender) × HasNudged shows start a.idle_owed cap slept.held.poster p × (b ≡ by_poster slept p) → Calls a.held.poster b.held.poster
+  calls_nudged cap a b (slept, waited, p, nudged, is) =
       let look = nudged.look.look in
-      calls_then a.held.poster slept.held.poster b.held.poster (calls_waited a slept waited)
+      calls_then a.held.poster slept.held.poster b.held.poster (calls_waited cap a slept waited)
       (calls_then slept.held.poster p b.held.poster
       (calls_then slept.held.poster nudged.looked p (calls_still slept.held.poster nudged.looked look.0 look.1 look.2 (ap (λ (s : State). s.entries) look.3.3)) (calls_listened nudged.looked p nudged.listened))
       (calls_none p b.held.poster (ap (λ (l : Looping). l.held.poster) is)))
@@ -125,24 +125,24 @@ module _ (shows : ℕ → Bool) (start : ℕ) where
 
   module _ (k : ℕ) (cap : Option ℕ) (a b : Looping) (own : a.held.poster.sender ≡ k) (none : calls_among (entries_by k a.held.poster.view.seen) ≡ entries_by k a.held.poster.view.seen) where
     -- it paused behind these
-    paused_none : (begun last paused : Looping) (n : ℕ) → Calls a.held.poster begun.held.poster → Stepped shows start n begun last → Calls last.held.poster paused.held.poster → b.held.poster ≡ paused.held.poster
+    paused_none : (begun last paused : Looping) (n : ℕ) → Calls a.held.poster begun.held.poster → Stepped shows start cap n begun last → Calls last.held.poster paused.held.poster → b.held.poster ≡ paused.held.poster
         → calls_among (entries_by k b.held.poster.view.seen) ≡ entries_by k b.held.poster.view.seen
     paused_none begun last paused n first steps pauses closed =
         none_now k a.held.poster b.held.poster
         (calls_then a.held.poster begun.held.poster b.held.poster first
-        (calls_then begun.held.poster last.held.poster b.held.poster (calls_steps n begun last steps)
+        (calls_then begun.held.poster last.held.poster b.held.poster (calls_steps cap n begun last steps)
         (calls_then last.held.poster paused.held.poster b.held.poster pauses (calls_none paused.held.poster b.held.poster closed)))) own none
 
     pub disposes_by_loop : (called : ℕ → List Listening → List Listening → Type 0) (how : Loop) → IsLoop called shows start cap a b how → DisposesAtEnd (round_of how) (entries_by k b.held.poster.view.seen)
     disposes_by_loop called loop.Ended (now, moment, heard, begun, first, (n, last, steps, (slept, waited, at, shown, ended), told)) =
         let until : Calls a.held.poster slept.held.poster =
         calls_then a.held.poster begun.held.poster slept.held.poster (calls_started (λ h. h ≡ heard) a begun first)
-        (calls_then begun.held.poster last.held.poster slept.held.poster (calls_steps n begun last steps) (calls_waited last slept waited)) in
+        (calls_then begun.held.poster last.held.poster slept.held.poster (calls_steps cap n begun last steps) (calls_waited cap last slept waited)) in
         disposes_last k at slept b ended (until.sender ∙ own) (none_now k a.held.poster slept.held.poster until own none)
     disposes_by_loop called (loop.Cap at) (now, moment, heard, begun, first, (n, last, paused, steps, pauses, closed)) =
         paused_none begun last paused n (calls_started (λ h. h ≡ heard) a begun first) steps (calls_capped cap at last paused pauses) closed.poster
     disposes_by_loop called loop.Nudged (now, moment, heard, begun, first, (n, last, paused, steps, pauses, closed)) =
-        paused_none begun last paused n (calls_started (λ h. h ≡ heard) a begun first) steps (calls_nudged last paused pauses) closed.poster
+        paused_none begun last paused n (calls_started (λ h. h ≡ heard) a begun first) steps (calls_nudged cap last paused pauses) closed.poster
     disposes_by_loop called loop.NoMemory l = tt
 
 -- ---- what a loop leaves is still the looper

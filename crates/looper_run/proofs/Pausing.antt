@@ -33,7 +33,7 @@ module _ (shows : ℕ → Bool) (start : ℕ) (cap : Option ℕ) (q : Shared Tab
   last_wait : (a b : Holding) (idle : Bool) (c : Sender) (answer : Waited Claimed TableId) → Goes shows start q.constants.setting a b → WaitedBy shows start idle cap b.poster c answer → LastWait shows start cap a.poster c answer
   last_wait a b idle c answer g w = (b.poster, idle, g.works.still.turns, g.heard, w)
 
-  ends_from : (a l : Looping) (p : Sender) (n now : ℕ) (c : Looping) → Goes shows start q.constants.setting a.held l.held → Slept shows start l.idle_owed n l.held.poster p → IsMoment shows start now → HasEnded now (by_poster l p) c
+  ends_from : (a l : Looping) (p : Sender) (n now : ℕ) (c : Looping) → Goes shows start q.constants.setting a.held l.held → Slept shows start l.idle_owed cap n l.held.poster p → IsMoment shows start now → HasEnded now (by_poster l p) c
       → ((left : List Node) × LastWait shows start cap a.held.poster c.held.poster (waited.End left)) ⊎ LastWait shows start cap a.held.poster c.held.poster waited.Over
   ends_from a l p n now c g s m h = elim h.look [
     | inl end ↦ inl (end.0, last_wait a.held l.held l.idle_owed c.held.poster (waited.End end.0) g (n, p, s, (now, record { moment = m; look = end.1 })))
@@ -41,10 +41,10 @@ module _ (shows : ℕ → Bool) (start : ℕ) (cap : Option ℕ) (q : Shared Tab
   ]
 
   -- the queue is over
-  pub loop_ends : (a l c : Looping) → IsOf a.held.poster q → Goes shows start q.constants.setting a.held l.held → HasStepped shows start l c step.Ends → LoopBy shows start cap q.constants.setting a.held c.held loop.Ended
+  pub loop_ends : (a l c : Looping) → IsOf a.held.poster q → Goes shows start q.constants.setting a.held l.held → HasStepped shows start cap l c step.Ends → LoopBy shows start cap q.constants.setting a.held c.held loop.Ended
   loop_ends a l c of g h =
       let of_last = of_still q a.held l.held g.works.still of in
-      let slept = waits_long shows start q l h.0 of_last h.1 in
+      let slept = waits_long shows start cap q l h.0 of_last h.1 in
       let ended = goes_by shows start q h.2 0 h.0.held c.held h.3 (works_ending q h.2 h.0 c (of_still q l.held h.0.held slept.works.still of_last) h.4) in (
         (goes_then shows start q a.held l.held c.held g (goes_then shows start q l.held h.0.held c.held slept ended)).works,
         ends_from a l h.1.0 h.1.1 h.2 c g h.1.2 h.3 (subst (λ (x : Looping). HasEnded h.2 x c) h.1.3 h.4),
@@ -59,7 +59,7 @@ module _ (shows : ℕ → Bool) (start : ℕ) (cap : Option ℕ) (q : Shared Tab
   pub loop_pauses : (called : List Listening → Type 0) (p : Pause) (a l b c : Looping) → IsOf a.held.poster q → Goes shows start q.constants.setting a.held l.held → HasPaused shows start cap l b p → IsClosed called b c → LoopBy shows start cap q.constants.setting a.held c.held (loop_of p)
   loop_pauses called (pause.Cap now) a l b c of g h k =
       let of_last = of_still q a.held l.held g.works.still of in
-      let slept = waits_long shows start q l h.0 of_last h.1 in
+      let slept = waits_long shows start cap q l h.0 of_last h.1 in
       let of_slept = of_still q l.held h.0.held slept.works.still of_last in
       let idle : h.0.idle_owed ≡ l.idle_owed = ap (λ (x : Looping). x.idle_owed) h.1.3 in
       let looked = looking shows start q h.0 h.0.held.poster h.2 now h.3 of_slept (subst (λ i. HasLooked shows start i now (nexted.Wait h.3) h.0.held.poster h.2) (sym idle) h.4) in
@@ -72,7 +72,7 @@ module _ (shows : ℕ → Bool) (start : ℕ) (cap : Option ℕ) (q : Shared Tab
       )
   loop_pauses called pause.Nudged a l b c of g h k =
       let of_last = of_still q a.held l.held g.works.still of in
-      let slept = waits_long shows start q l h.0 of_last h.1 in
+      let slept = waits_long shows start cap q l h.0 of_last h.1 in
       let of_slept = of_still q l.held h.0.held slept.works.still of_last in
       let idle : h.0.idle_owed ≡ l.idle_owed = ap (λ (x : Looping). x.idle_owed) h.1.3 in
       let n = h.3 in
@@ -83,7 +83,7 @@ module _ (shows : ℕ → Bool) (start : ℕ) (cap : Option ℕ) (q : Shared Tab
       let here : b.held.poster ≡ h.2 = ap (λ (x : Looping). x.held.poster) h.4 in
       let at : h.0.held.poster ≡ h.1.0 = ap (λ (x : Looping). x.held.poster) h.1.3 in (
         works_on_then shows start q.constants.setting a.held b.held c.held all (closes called n.now b c n.look.moment k).works,
-        last_wait a.held l.held l.idle_owed c.held.poster waited.Nudged g (h.1.1, h.1.0, h.1.2, subst (λ (x : Sender × Sender). HasNudged shows start l.idle_owed x.0 x.1) (λ i. (at i, sym (k.poster ∙ here) i)) n),
+        last_wait a.held l.held l.idle_owed c.held.poster waited.Nudged g (h.1.1, h.1.0, h.1.2, subst (λ (x : Sender × Sender). HasNudged shows start l.idle_owed cap x.0 x.1) (λ i. (at i, sym (k.poster ∙ here) i)) n),
       )
 
   earlier : (a b : Holding) (c : Sender) (answer : Waited Claimed TableId) → Goes shows start q.constants.setting a b → LastWait shows start cap b.poster c answer → LastWait shows start cap a.poster c answer
@@ -132,28 +132,28 @@ pub asks_both : (old mid new : Option (List Asked)) (now : ℕ) (heard more : Li
 asks_both old mid new now heard more first last = last ∙ (ap (λ t. with_asked t (map Listen more)) first ∙ with_more old (asked_by_round now heard) (map Listen more))
 
 -- a wait that was answered, as what a looper may act on
-pub may_act : (M : Test) (others : KeepsOthers M) (quiet : KeepsQuiet M) (shows : ℕ → Bool) (start : ℕ) (q : Shared TableId) (pool : TableId) (l : Looping) (p : Sender) (n : ℕ) (between : Sender) (now : ℕ) (answer : Nexted Claimed TableId)
-    → IsAt q pool l.held → Passes M l.held → Slept shows start l.idle_owed n l.held.poster between → HasLooked shows start l.idle_owed now answer between p → HasAnswer M (by_poster l p) answer
-may_act M others quiet shows start q pool l p n between now answer at passes slept looked =
-    let long = sleeps_on shows start q n l between at.poster slept in
+pub may_act : (M : Test) (others : KeepsOthers M) (quiet : KeepsQuiet M) (shows : ℕ → Bool) (start : ℕ) (cap : Option ℕ) (q : Shared TableId) (pool : TableId) (l : Looping) (p : Sender) (n : ℕ) (between : Sender) (now : ℕ) (answer : Nexted Claimed TableId)
+    → IsAt q pool l.held → Passes M l.held → Slept shows start l.idle_owed cap n l.held.poster between → HasLooked shows start l.idle_owed now answer between p → HasAnswer M (by_poster l p) answer
+may_act M others quiet shows start cap q pool l p n between now answer at passes slept looked =
+    let long = sleeps_on shows start cap q n l between at.poster slept in
     record {
       queue = q;
       poster = between;
       now = now;
       of = long;
       look = looked.look;
-      passes = passes_slept M others quiet shows start l.idle_owed l.held n l.held.poster between slept passes;
+      passes = passes_slept M others quiet shows start l.idle_owed l.held cap n l.held.poster between slept passes;
     }
 
 -- what a pause leaves of a test
 pub passes_pause : (M : Test) (others : KeepsOthers M) (quiet : KeepsQuiet M) (shows : ℕ → Bool) (start : ℕ) (cap : Option ℕ) (l : Looping) (p : Sender) (w : Waited Claimed TableId) (r : Pause)
     → Passes M l.held → WaitedBy shows start l.idle_owed cap l.held.poster p w → Pauses w r → Passes M (looked_by l.held p)
 passes_pause M others quiet shows start cap l p (waited.Cap at) r passes h is =
-    passes_look M others quiet shows start l.idle_owed l.held h.1 p at h.3.0 h.3.1 (passes_slept M others quiet shows start l.idle_owed l.held h.0 l.held.poster h.1 h.2 passes)
+    passes_look M others quiet shows start l.idle_owed l.held h.1 p at h.3.0 h.3.1 (passes_slept M others quiet shows start l.idle_owed l.held cap h.0 l.held.poster h.1 h.2 passes)
 passes_pause M others quiet shows start cap l p waited.Nudged r passes h is =
     let n = h.3 in
     passes_listening M others quiet shows start l.idle_owed l.held n.looked p n.listened
-    (passes_look M others quiet shows start l.idle_owed l.held h.1 n.looked n.now n.until n.look (passes_slept M others quiet shows start l.idle_owed l.held h.0 l.held.poster h.1 h.2 passes))
+    (passes_look M others quiet shows start l.idle_owed l.held h.1 n.looked n.now n.until n.look (passes_slept M others quiet shows start l.idle_owed l.held cap h.0 l.held.poster h.1 h.2 passes))
 passes_pause M others quiet shows start cap l p (waited.Taken n at node) r passes h is = absurd is
 passes_pause M others quiet shows start cap l p waited.Idle r passes h is = absurd is
 passes_pause M others quiet shows start cap l p (waited.End list) r passes h is = absurd is
@@ -172,12 +172,12 @@ pauses shows start cap l p (waited.End list) r h is = absurd is
 pauses shows start cap l p waited.Over r h is = absurd is
 
 -- a pause, and events behind it, end the steps
-pub steps_pause : (called : List Listening → Type 0) (shows : ℕ → Bool) (start : ℕ) (cap : Option ℕ) (n : ℕ) (a l b c : Looping) (p : Pause) → Stepped shows start n a l → HasPaused shows start cap l b p → IsClosed called b c → StepsBy called shows start cap a c (loop_of p)
+pub steps_pause : (called : List Listening → Type 0) (shows : ℕ → Bool) (start : ℕ) (cap : Option ℕ) (n : ℕ) (a l b c : Looping) (p : Pause) → Stepped shows start cap n a l → HasPaused shows start cap l b p → IsClosed called b c → StepsBy called shows start cap a c (loop_of p)
 steps_pause called shows start cap n a l b c (pause.Cap now) st h k = (n, l, b, st, h, k)
 steps_pause called shows start cap n a l b c pause.Nudged st h k = (n, l, b, st, h, k)
 
 -- what a step comes to, where its look was not answered to wait
-pub paces : (shows : ℕ → Bool) (start : ℕ) (cap : Option ℕ) (a b : Looping) (answer : Nexted Claimed TableId) (r : Step) → IsNoWait answer → WaitsAsTold answer r → HasStepped shows start a b r → HasPaced shows start cap a b (pace_of r)
+pub paces : (shows : ℕ → Bool) (start : ℕ) (cap : Option ℕ) (a b : Looping) (answer : Nexted Claimed TableId) (r : Step) → IsNoWait answer → WaitsAsTold answer r → HasStepped shows start cap a b r → HasPaced shows start cap a b (pace_of r)
 paces shows start cap a b answer step.Dispatched found told h = (step.Dispatched, tt, h)
 paces shows start cap a b answer step.Idled found told h = (step.Idled, tt, h)
 paces shows start cap a b answer (step.Waits until) found told h = absurd (subst IsNoWait told found)
@@ -192,5 +192,5 @@ unless_paced P step.Ends h = h
 unless_paced P step.NoMemory h = tt
 
 -- that the looper is marked as ended is no part of a step
-pub steps_marked : (shows : ℕ → Bool) (start : ℕ) (a b : Looping) → HasStepped shows start a b step.Ends → HasStepped shows start a (record { held = b.held; idle_owed = b.idle_owed; ended = true }) step.Ends
-steps_marked shows start a b h = (h.0, h.1, h.2, h.3, ends_marked h.2 h.0 b h.4)
+pub steps_marked : (shows : ℕ → Bool) (start : ℕ) (cap : Option ℕ) (a b : Looping) → HasStepped shows start cap a b step.Ends → HasStepped shows start cap a (record { held = b.held; idle_owed = b.idle_owed; ended = true }) step.Ends
+steps_marked shows start cap a b h = (h.0, h.1, h.2, h.3, ends_marked h.2 h.0 b h.4)

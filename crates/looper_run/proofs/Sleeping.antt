@@ -120,34 +120,35 @@ module _ (shows : ℕ → Bool) (start : ℕ) (q : Shared TableId) where
       let w : HasWaited now (by_poster l p) (by_poster l r) until = record { look = h.look; pass = refl; journal = refl; idle_owed = refl } in
       goes_by now 0 (by_poster l p).held (by_poster l r).held h.moment (works_waiting q now (by_poster l p) (by_poster l r) of until w)
 
-  sleeping : (l : Looping) (p r : Sender) → IsOf p q → HasSlept shows start l.idle_owed p r → Goes shows start q.constants.setting (by_poster l p).held (by_poster l r).held
+module _ (shows : ℕ → Bool) (start : ℕ) (cap : Option ℕ) (q : Shared TableId) where
+  sleeping : (l : Looping) (p r : Sender) → IsOf p q → HasSlept shows start l.idle_owed cap p r → Goes shows start q.constants.setting (by_poster l p).held (by_poster l r).held
   sleeping l p r of h = record {
-    works = works_on_then shows start q.constants.setting (by_poster l p).held (by_poster l h.looked).held (by_poster l r).held (looking l p h.looked h.now h.until of h.look).works (listening l h.looked r h.listened);
+    works = works_on_then shows start q.constants.setting (by_poster l p).held (by_poster l h.looked).held (by_poster l r).held (looking shows start q l p h.looked h.now h.until of h.look).works (listening shows start q l h.looked r h.listened);
     heard = h.heard;
   }
 
-  sleeping_long : (n : ℕ) (l : Looping) (p r : Sender) → IsOf p q → Slept shows start l.idle_owed n p r → Goes shows start q.constants.setting (by_poster l p).held (by_poster l r).held
-  sleeping_long zero l p r of h = subst (λ (x : Sender). Goes shows start q.constants.setting (by_poster l p).held (by_poster l x).held) (sym h) (goes_self (by_poster l p).held)
+  sleeping_long : (n : ℕ) (l : Looping) (p r : Sender) → IsOf p q → Slept shows start l.idle_owed cap n p r → Goes shows start q.constants.setting (by_poster l p).held (by_poster l r).held
+  sleeping_long zero l p r of h = subst (λ (x : Sender). Goes shows start q.constants.setting (by_poster l p).held (by_poster l x).held) (sym h) (goes_self shows start q (by_poster l p).held)
   sleeping_long (suc n) l p r of h =
       let before = sleeping_long n l p h.0 of h.1 in
-      goes_then (by_poster l p).held (by_poster l h.0).held (by_poster l r).held before (sleeping l h.0 r (of_still q (by_poster l p).held (by_poster l h.0).held before.works.still of) h.2)
+      goes_then shows start q (by_poster l p).held (by_poster l h.0).held (by_poster l r).held before (sleeping l h.0 r (of_still q (by_poster l p).held (by_poster l h.0).held before.works.still of) h.2)
 
   -- the poster that slept is still one of the queue
-  pub sleeps_on : (n : ℕ) (l : Looping) (p : Sender) → IsOf l.held.poster q → Slept shows start l.idle_owed n l.held.poster p → IsOf p q
+  pub sleeps_on : (n : ℕ) (l : Looping) (p : Sender) → IsOf l.held.poster q → Slept shows start l.idle_owed cap n l.held.poster p → IsOf p q
   sleeps_on n l p of h = of_still q l.held (by_poster l p).held (sleeping_long n l l.held.poster p of h).works.still of
 
   -- a looper that slept
-  pub waits_long : (a b : Looping) → IsOf a.held.poster q → HasWaitedLong shows start a b → Goes shows start q.constants.setting a.held b.held
+  pub waits_long : (a b : Looping) → IsOf a.held.poster q → HasWaitedLong shows start cap a b → Goes shows start q.constants.setting a.held b.held
   waits_long a b of h = subst (λ (x : Looping). Goes shows start q.constants.setting a.held x.held) (sym h.3) (sleeping_long h.1 a a.held.poster h.0 of h.2)
 
   -- a step after which the looper goes on
-  pub goes_step : (a b : Looping) (r : Step) → IsOf a.held.poster q → GoesOn r → HasStepped shows start a b r → Goes shows start q.constants.setting a.held b.held
+  pub goes_step : (a b : Looping) (r : Step) → IsOf a.held.poster q → GoesOn r → HasStepped shows start cap a b r → Goes shows start q.constants.setting a.held b.held
   goes_step a b step.Dispatched of on h =
       let slept = waits_long a h.0 of h.1 in
-      goes_then a.held h.0.held b.held slept (goes_by h.2 1 h.0.held b.held h.3 (works_dispatching q h.2 h.0 b (of_still q a.held h.0.held slept.works.still of) h.4.0))
+      goes_then shows start q a.held h.0.held b.held slept (goes_by shows start q h.2 1 h.0.held b.held h.3 (works_dispatching q h.2 h.0 b (of_still q a.held h.0.held slept.works.still of) h.4.0))
   goes_step a b step.Idled of on h =
       let slept = waits_long a h.0 of h.1 in
-      goes_then a.held h.0.held b.held slept (goes_by h.2 0 h.0.held b.held h.3 (works_idling q h.2 h.0 b (of_still q a.held h.0.held slept.works.still of) h.4))
+      goes_then shows start q a.held h.0.held b.held slept (goes_by shows start q h.2 0 h.0.held b.held h.3 (works_idling q h.2 h.0 b (of_still q a.held h.0.held slept.works.still of) h.4))
   goes_step a b (step.Waits until) of on h = absurd on
   goes_step a b step.Ends of on h = absurd on
   goes_step a b step.NoMemory of on h = absurd on
@@ -160,8 +161,8 @@ module _ (M : Test) (others : KeepsOthers M) (quiet : KeepsQuiet M) (shows : ℕ
   pub passes_look : (p r : Sender) (now : ℕ) (until : Option ℕ) → HasLooked shows start idle now (nexted.Wait until) p r → Passes M (looked_by h p) → Passes M (looked_by h r)
   passes_look p r now until look passes = passes_wait M others now (looked_by h p) r idle quiet until look.look passes
 
-  pub passes_slept : (n : ℕ) (p r : Sender) → Slept shows start idle n p r → Passes M (looked_by h p) → Passes M (looked_by h r)
-  passes_slept zero p r s passes = subst (λ (x : Sender). Passes M (looked_by h x)) (sym s) passes
-  passes_slept (suc n) p r s passes =
+  pub passes_slept : (cap : Option ℕ) (n : ℕ) (p r : Sender) → Slept shows start idle cap n p r → Passes M (looked_by h p) → Passes M (looked_by h r)
+  passes_slept cap zero p r s passes = subst (λ (x : Sender). Passes M (looked_by h x)) (sym s) passes
+  passes_slept cap (suc n) p r s passes =
       let last = s.2 in
-      passes_listening last.looked r last.listened (passes_look s.0 last.looked last.now last.until last.look (passes_slept n p s.0 s.1 passes))
+      passes_listening last.looked r last.listened (passes_look s.0 last.looked last.now last.until last.look (passes_slept cap n p s.0 s.1 passes))

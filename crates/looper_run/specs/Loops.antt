@@ -56,20 +56,20 @@ pub record WorksOn (shows : ℕ → Bool) (start : ℕ) (s : Setting) (before af
   pub told : dispatches did ≡ taken_by before.poster.sender more
   pub looks : AreLooksBy shows start s before.poster.sender before.poster.view.seen more
 
--- looks that were answered to wait, one after another, and that is all
-abbrev pub HasWaitedLong : (ℕ → Bool) → ℕ → Looping → Looping → Type 0
-HasWaitedLong shows start before after = (p : Sender) × (n : ℕ) × Slept shows start before.idle_owed n before.held.poster p × (after ≡ by_poster before p)
+-- looks before the cap that were answered to wait, one after another, and that is all
+abbrev pub HasWaitedLong : (ℕ → Bool) → ℕ → Option ℕ → Looping → Looping → Type 0
+HasWaitedLong shows start cap before after = (p : Sender) × (n : ℕ) × Slept shows start before.idle_owed cap n before.held.poster p × (after ≡ by_poster before p)
 
 -- the looper slept, and then a look at a moment of the clock was answered, and this came of it
-abbrev pub HasStepped : (ℕ → Bool) → ℕ → Looping → Looping → Step → Type 0
-HasStepped shows start before after r = (slept : Looping) × HasWaitedLong shows start before slept × (now : ℕ) × IsMoment shows start now × StepBy now slept after r
+abbrev pub HasStepped : (ℕ → Bool) → ℕ → Option ℕ → Looping → Looping → Step → Type 0
+HasStepped shows start cap before after r = (slept : Looping) × HasWaitedLong shows start cap before slept × (now : ℕ) × IsMoment shows start now × StepBy now slept after r
 
--- the looper slept, and then a look was answered to wait at the cap, or the bell was another behind it
+-- the looper slept, and then a look was answered to wait at the cap, or before the cap, and the bell was another behind it
 abbrev pub HasPaused : (ℕ → Bool) → ℕ → Option ℕ → Looping → Looping → Pause → Type 0
 HasPaused shows start cap before after (pause.Cap now) =
-    (slept : Looping) × HasWaitedLong shows start before slept × (p : Sender) × (until : Option ℕ) × HasLooked shows start before.idle_owed now (nexted.Wait until) slept.held.poster p × IsCap cap now × (after ≡ by_poster slept p)
+    (slept : Looping) × HasWaitedLong shows start cap before slept × (p : Sender) × (until : Option ℕ) × HasLooked shows start before.idle_owed now (nexted.Wait until) slept.held.poster p × IsCap cap now × (after ≡ by_poster slept p)
 HasPaused shows start cap before after pause.Nudged =
-    (slept : Looping) × HasWaitedLong shows start before slept × (p : Sender) × HasNudged shows start before.idle_owed slept.held.poster p × (after ≡ by_poster slept p)
+    (slept : Looping) × HasWaitedLong shows start cap before slept × (p : Sender) × HasNudged shows start before.idle_owed cap slept.held.poster p × (after ≡ by_poster slept p)
 
 -- after this step of a looper that waits by a clock it looks again; its last look is never answered to wait
 abbrev pub GoesOn : Step → Type 0
@@ -89,9 +89,9 @@ pace_of step.NoMemory = pace.NoMemory
 
 -- what came of a wait: a step, or a pause
 abbrev pub HasPaced : (ℕ → Bool) → ℕ → Option ℕ → Looping → Looping → Pace → Type 0
-HasPaced shows start cap before after pace.Goes = (r : Step) × GoesOn r × HasStepped shows start before after r
-HasPaced shows start cap before after pace.Ends = HasStepped shows start before after step.Ends
-HasPaced shows start cap before after pace.NoMemory = HasStepped shows start before after step.NoMemory
+HasPaced shows start cap before after pace.Goes = (r : Step) × GoesOn r × HasStepped shows start cap before after r
+HasPaced shows start cap before after pace.Ends = HasStepped shows start cap before after step.Ends
+HasPaced shows start cap before after pace.NoMemory = HasStepped shows start cap before after step.NoMemory
 HasPaced shows start cap before after (pace.Pauses p) = HasPaused shows start cap before after p
 
 -- what holds unless memory was wanting
@@ -102,9 +102,9 @@ UnlessHalted pace.NoMemory P = Unit {0}
 UnlessHalted (pace.Pauses p) P = P
 
 -- so many steps, one after another
-abbrev pub Stepped : (ℕ → Bool) → ℕ → ℕ → Looping → Looping → Type 0
-Stepped shows start zero before after = after ≡ before
-Stepped shows start (suc n) before after = (between : Looping) × Stepped shows start n before between × (r : Step) × GoesOn r × HasStepped shows start between after r
+abbrev pub Stepped : (ℕ → Bool) → ℕ → Option ℕ → ℕ → Looping → Looping → Type 0
+Stepped shows start cap zero before after = after ≡ before
+Stepped shows start cap (suc n) before after = (between : Looping) × Stepped shows start cap n before between × (r : Step) × GoesOn r × HasStepped shows start cap between after r
 
 -- listeners were told of events, of which this holds, and that is all
 pub record IsClosed (called : List Listening → Type 0) (before after : Looping) : Type 0 where
@@ -116,13 +116,13 @@ pub record IsClosed (called : List Listening → Type 0) (before after : Looping
 
 -- steps, to the last one, by the answer; where a pause ended them, listeners were told of events behind it
 abbrev pub StepsBy : (List Listening → Type 0) → (ℕ → Bool) → ℕ → Option ℕ → Looping → Looping → Loop → Type 0
-StepsBy called shows start cap before after loop.Ended = (n : ℕ) × (last : Looping) × Stepped shows start n before last × HasStepped shows start last after step.Ends × called []
+StepsBy called shows start cap before after loop.Ended = (n : ℕ) × (last : Looping) × Stepped shows start cap n before last × HasStepped shows start cap last after step.Ends × called []
 StepsBy called shows start cap before after (loop.Cap now) =
-    (n : ℕ) × (last : Looping) × (paused : Looping) × Stepped shows start n before last × HasPaused shows start cap last paused (pause.Cap now) × IsClosed called paused after
+    (n : ℕ) × (last : Looping) × (paused : Looping) × Stepped shows start cap n before last × HasPaused shows start cap last paused (pause.Cap now) × IsClosed called paused after
 StepsBy called shows start cap before after loop.Nudged =
-    (n : ℕ) × (last : Looping) × (paused : Looping) × Stepped shows start n before last × HasPaused shows start cap last paused pause.Nudged × IsClosed called paused after
+    (n : ℕ) × (last : Looping) × (paused : Looping) × Stepped shows start cap n before last × HasPaused shows start cap last paused pause.Nudged × IsClosed called paused after
 StepsBy called shows start cap before after loop.NoMemory =
-    (n : ℕ) × (last : Looping) × Stepped shows start n before last × (HasStepped shows start last after step.NoMemory ⊎ ((paused : Looping) × (p : Pause) × HasPaused shows start cap last paused p × IsClosed any_heard paused after))
+    (n : ℕ) × (last : Looping) × Stepped shows start cap n before last × (HasStepped shows start cap last after step.NoMemory ⊎ ((paused : Looping) × (p : Pause) × HasPaused shows start cap last paused p × IsClosed any_heard paused after))
 
 -- a loop: the dispatcher had its pulse at a moment of the clock, listeners were told of events, and then the looper went on, unless memory was wanting before; unless memory was wanting, this holds of that moment and of what the listeners were asked at the start and at the end
 abbrev pub IsLoop : (ℕ → List Listening → List Listening → Type 0) → (ℕ → Bool) → ℕ → Option ℕ → Looping → Looping → Loop → Type 0

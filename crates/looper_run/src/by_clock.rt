@@ -27,7 +27,7 @@ pub enum Loop {
     Ended,
     /// Nothing was due at this moment in milliseconds, which is no earlier than the cap.
     Cap { now: u64 },
-    /// Nothing was due, and the bell was rung.
+    /// Nothing was due, the cap had not come, and the bell was rung.
     Nudged,
     /// No memory was found. What was done till then stands in the journal.
     NoMemory,

@@ -9,31 +9,31 @@ use Rattle.shared_queue.specs.declared.waiting.Look.TheVariants as look
 use Rattle.shared_queue.specs.Known.{Known, Shared, IsOf}
 use Rattle.shared_queue.specs.Waiting.{HasStayed, HasLooked, HasListened, HasSlept, Slept, EndsBy, Stays, LooksOnce}
 
-module _ {H K : Type 0} (shows : ℕ → Bool) (start : ℕ) (idle : Bool) where
+module _ {H K : Type 0} (shows : ℕ → Bool) (start : ℕ) (idle : Bool) (cap : Option ℕ) where
   -- what follows a look that was answered to wait, by what comes of it
-  pub look_stays : (cap : Option ℕ) (now : ℕ) (until : Option ℕ) (before looked after : Known H K) (r : Look K H)
+  pub look_stays : (now : ℕ) (until : Option ℕ) (before looked after : Known H K) (r : Look K H)
       → HasLooked shows start idle now (nexted.Wait until) before looked → Stays cap now looked after r → LooksOnce shows start idle cap before after r
-  look_stays cap now until before looked after (look.Ends (waited.Cap at)) h s =
+  look_stays now until before looked after (look.Ends (waited.Cap at)) h s =
       subst (λ (n : ℕ). LooksOnce shows start idle cap before after (look.Ends (waited.Cap n))) (sym s.0)
       (until, subst (λ (p : Known H K). HasLooked shows start idle now (nexted.Wait until) before p) (sym s.2) h, s.1)
-  look_stays cap now until before looked after (look.Ends waited.Nudged) h s =
-      record { now = now; until = until; looked = looked; look = h; listened = s.0; heard = λ same. s.1 (same ∙ sym h.look.2.heard) }
-  look_stays cap now until before looked after (look.Sleeps limit) h s =
-      record { now = now; until = until; looked = looked; look = h; listened = s.0; heard = s.1 ∙ h.look.2.heard }
-  look_stays cap now until before looked after (look.Ends (waited.Taken n at node)) h s = absurd s
-  look_stays cap now until before looked after (look.Ends waited.Idle) h s = absurd s
-  look_stays cap now until before looked after (look.Ends (waited.End list)) h s = absurd s
-  look_stays cap now until before looked after (look.Ends waited.Over) h s = absurd s
+  look_stays now until before looked after (look.Ends waited.Nudged) h s =
+      record { now = now; until = until; looked = looked; look = h; early = s.0; listened = s.1; heard = λ same. s.2 (same ∙ sym h.look.2.heard) }
+  look_stays now until before looked after (look.Sleeps limit) h s =
+      record { now = now; until = until; looked = looked; look = h; early = s.0; listened = s.1; heard = s.2 ∙ h.look.2.heard }
+  look_stays now until before looked after (look.Ends (waited.Taken n at node)) h s = absurd s
+  look_stays now until before looked after (look.Ends waited.Idle) h s = absurd s
+  look_stays now until before looked after (look.Ends (waited.End list)) h s = absurd s
+  look_stays now until before looked after (look.Ends waited.Over) h s = absurd s
 
   -- a poster that has slept is one of the same queue
-  pub slept_of : (q : Shared H) (before after : Known H K) → HasSlept shows start idle before after → IsOf before q → IsOf after q
+  pub slept_of : (q : Shared H) (before after : Known H K) → HasSlept shows start idle cap before after → IsOf before q → IsOf after q
   slept_of q before after s of = (
     s.listened.same.table ∙ (s.look.look.2.table ∙ of.0),
     s.listened.same.constants ∙ (s.look.look.2.constants ∙ of.1),
   )
 
   -- one look more
-  pub slept_more : (before between after : Known H K) → (n : ℕ) × Slept shows start idle n before between → HasSlept shows start idle between after → (n : ℕ) × Slept shows start idle n before after
+  pub slept_more : (before between after : Known H K) → (n : ℕ) × Slept shows start idle cap n before between → HasSlept shows start idle cap between after → (n : ℕ) × Slept shows start idle cap n before after
   slept_more before between after h s = (suc h.0, (between, h.1, s))
 
   -- the same poster, with no turn less and no ring
@@ -68,19 +68,19 @@ module _ {H K : Type 0} (shows : ℕ → Bool) (start : ℕ) (idle : Bool) where
   rests : (p q : Known H K) → HasStayed p q → Rests p q
   rests p q h = record { table = h.table; sender = h.sender; constants = h.constants; turns = (let more = h.turns in omega (arith, more)); rung = h.rung }
 
-  slept_rests : (n : ℕ) (p q : Known H K) → Slept shows start idle n p q → Rests p q
+  slept_rests : (n : ℕ) (p q : Known H K) → Slept shows start idle cap n p q → Rests p q
   slept_rests zero p q s = subst (λ (x : Known H K). Rests p x) (sym s) (rests_self p)
   slept_rests (suc n) p q s =
       let h = s.2 in
       rests_then p s.0 q (slept_rests n p s.0 s.1) (rests s.0 q (still s.0 h.looked q (looked h.now (nexted.Wait h.until) s.0 h.looked h.look) (listened h.looked q h.listened)))
 
-  ends_stayed : (cap : Option ℕ) (p q : Known H K) (r : Waited K H) → EndsBy shows start idle cap p q r → HasStayed p q
-  ends_stayed cap p q (waited.Taken n at node) h = looked h.0 (nexted.Taken n at node) p q h.1
-  ends_stayed cap p q waited.Idle h = looked h.0 nexted.Idle p q h.1
-  ends_stayed cap p q (waited.End list) h = looked h.0 (nexted.End list) p q h.1
-  ends_stayed cap p q waited.Over h = looked h.0 nexted.Over p q h.1
-  ends_stayed cap p q (waited.Cap now) h = looked now (nexted.Wait h.0) p q h.1
-  ends_stayed cap p q waited.Nudged h = still p h.looked q (looked h.now (nexted.Wait h.until) p h.looked h.look) (listened h.looked q h.listened)
+  ends_stayed : (p q : Known H K) (r : Waited K H) → EndsBy shows start idle cap p q r → HasStayed p q
+  ends_stayed p q (waited.Taken n at node) h = looked h.0 (nexted.Taken n at node) p q h.1
+  ends_stayed p q waited.Idle h = looked h.0 nexted.Idle p q h.1
+  ends_stayed p q (waited.End list) h = looked h.0 (nexted.End list) p q h.1
+  ends_stayed p q waited.Over h = looked h.0 nexted.Over p q h.1
+  ends_stayed p q (waited.Cap now) h = looked now (nexted.Wait h.0) p q h.1
+  ends_stayed p q waited.Nudged h = still p h.looked q (looked h.now (nexted.Wait h.until) p h.looked h.look) (listened h.looked q h.listened)
 
-  pub wait_stays : (cap : Option ℕ) (p q r : Known H K) (w : Waited K H) → (n : ℕ) × Slept shows start idle n p q → EndsBy shows start idle cap q r w → HasStayed p r
-  wait_stays cap p q r w h e = stayed p q r (slept_rests h.0 p q h.1) (ends_stayed cap q r w e)
+  pub wait_stays : (p q r : Known H K) (w : Waited K H) → (n : ℕ) × Slept shows start idle cap n p q → EndsBy shows start idle cap q r w → HasStayed p r
+  wait_stays p q r w h e = stayed p q r (slept_rests h.0 p q h.1) (ends_stayed q r w e)

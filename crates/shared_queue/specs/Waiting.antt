@@ -15,6 +15,10 @@ use Rattle.shared_queue.specs.Calls.{NextedBy}
 abbrev pub IsCap : Option ℕ → ℕ → Type 0
 IsCap cap now = (at : ℕ) × (cap ≡ Some at) × (at ≤ now)
 
+-- the moment is earlier than the cap, or there is none
+abbrev pub IsBeforeCap : Option ℕ → ℕ → Type 0
+IsBeforeCap cap now = IsCap cap now → ⊥
+
 module _ {H K : Type 0} where
   -- the same poster of the same queue, which took turns and rang no bell
   pub record HasStayed (before after : Known H K) : Type 0 where
@@ -36,26 +40,28 @@ module _ {H K : Type 0} where
     pub moment : IsMoment shows start now
     pub look : NextedBy before after now idle answer
 
-  -- a look was answered to wait, and then the bell was as before
-  pub record HasSlept (shows : ℕ → Bool) (start : ℕ) (idle : Bool) (before after : Known H K) : Type 0 where
+  -- a look before the cap was answered to wait, and then the bell was as before
+  pub record HasSlept (shows : ℕ → Bool) (start : ℕ) (idle : Bool) (cap : Option ℕ) (before after : Known H K) : Type 0 where
     pub now : ℕ
     pub until : Option ℕ
     pub looked : Known H K
     pub look : HasLooked shows start idle now (nexted.Wait until) before looked
+    pub early : IsBeforeCap cap now
     pub listened : HasListened looked after
     pub heard : after.view.heard ≡ before.view.heard
 
   -- so many looks, one after another
-  abbrev pub Slept : (ℕ → Bool) → ℕ → Bool → ℕ → Known H K → Known H K → Type 0
-  Slept shows start idle zero before after = after ≡ before
-  Slept shows start idle (suc n) before after = (between : Known H K) × Slept shows start idle n before between × HasSlept shows start idle between after
+  abbrev pub Slept : (ℕ → Bool) → ℕ → Bool → Option ℕ → ℕ → Known H K → Known H K → Type 0
+  Slept shows start idle cap zero before after = after ≡ before
+  Slept shows start idle cap (suc n) before after = (between : Known H K) × Slept shows start idle cap n before between × HasSlept shows start idle cap between after
 
-  -- the bell was rung since the last reading before: a look was answered to wait, and then the bell was another
-  pub record HasNudged (shows : ℕ → Bool) (start : ℕ) (idle : Bool) (before after : Known H K) : Type 0 where
+  -- the bell was rung since the last reading before: a look before the cap was answered to wait, and then the bell was another
+  pub record HasNudged (shows : ℕ → Bool) (start : ℕ) (idle : Bool) (cap : Option ℕ) (before after : Known H K) : Type 0 where
     pub now : ℕ
     pub until : Option ℕ
     pub looked : Known H K
     pub look : HasLooked shows start idle now (nexted.Wait until) before looked
+    pub early : IsBeforeCap cap now
     pub listened : HasListened looked after
     pub heard : after.view.heard ≢ before.view.heard
 
@@ -66,22 +72,22 @@ module _ {H K : Type 0} where
   EndsBy shows start idle cap before after (waited.End list) = (now : ℕ) × HasLooked shows start idle now (nexted.End list) before after
   EndsBy shows start idle cap before after waited.Over = (now : ℕ) × HasLooked shows start idle now nexted.Over before after
   EndsBy shows start idle cap before after (waited.Cap now) = (until : Option ℕ) × HasLooked shows start idle now (nexted.Wait until) before after × IsCap cap now
-  EndsBy shows start idle cap before after waited.Nudged = HasNudged shows start idle before after
+  EndsBy shows start idle cap before after waited.Nudged = HasNudged shows start idle cap before after
 
   -- a wait: looks that were answered to wait, and then the last one, by its answer
   abbrev pub WaitedBy : (ℕ → Bool) → ℕ → Bool → Option ℕ → Known H K → Known H K → Waited K H → Type 0
-  WaitedBy shows start idle cap before after result = (n : ℕ) × (between : Known H K) × Slept shows start idle n before between × EndsBy shows start idle cap between after result
+  WaitedBy shows start idle cap before after result = (n : ℕ) × (between : Known H K) × Slept shows start idle cap n before between × EndsBy shows start idle cap between after result
 
   -- one look, and what comes of it
   abbrev pub LooksOnce : (ℕ → Bool) → ℕ → Bool → Option ℕ → Known H K → Known H K → Look K H → Type 0
   LooksOnce shows start idle cap before after (look.Ends result) = EndsBy shows start idle cap before after result
-  LooksOnce shows start idle cap before after (look.Sleeps limit) = HasSlept shows start idle before after
+  LooksOnce shows start idle cap before after (look.Sleeps limit) = HasSlept shows start idle cap before after
 
   -- what comes after a look that was answered to wait
   abbrev pub Stays : Option ℕ → ℕ → Known H K → Known H K → Look K H → Type 0
   Stays cap now before after (look.Ends (waited.Cap at)) = (at ≡ now) × IsCap cap now × (after ≡ before)
-  Stays cap now before after (look.Ends waited.Nudged) = HasListened before after × (after.view.heard ≢ before.view.heard)
-  Stays cap now before after (look.Sleeps limit) = HasListened before after × (after.view.heard ≡ before.view.heard)
+  Stays cap now before after (look.Ends waited.Nudged) = IsBeforeCap cap now × HasListened before after × (after.view.heard ≢ before.view.heard)
+  Stays cap now before after (look.Sleeps limit) = IsBeforeCap cap now × HasListened before after × (after.view.heard ≡ before.view.heard)
   Stays cap now before after _ = ⊥
 
   -- what is handed out is of the home

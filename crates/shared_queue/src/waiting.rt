@@ -1,7 +1,7 @@
 // How the looper's poster waits for a message by a clock.
 ghost use Rattle.std.specs.Prelude.{◌≡◌, true, false};
 ghost use Rattle.shared_queue.specs.Known.{IsOf};
-ghost use Rattle.shared_queue.specs.Waiting.{IsCap, HasStayed, Stays, LooksOnce, LooksOnceAtHome, WaitedBy, WaitsAtHome};
+ghost use Rattle.shared_queue.specs.Waiting.{IsBeforeCap, IsCap, HasStayed, Stays, LooksOnce, LooksOnceAtHome, WaitedBy, WaitsAtHome};
 
 use crate::poster::Poster;
 use crate::queue::SharedQueue;
@@ -31,7 +31,7 @@ pub enum Waited<K: Claim> {
     Cap {
         now: u64,
     },
-    /// Nothing was due, and the bell was rung since the poster read it last.
+    /// Nothing was due, the cap had not come, and the bell was rung since the poster read it last.
     Nudged,
 }
 
@@ -45,7 +45,8 @@ pub(crate) enum Look<K: Claim> {
 
 // Whether the cap has come.
 fn has_come(cap: Option<u64>, now: u64) -> bool
-    ensures { result ≡ true → IsCap cap now }
+    ensures come { result ≡ true → IsCap cap now }
+    ensures not_yet { result ≡ false → IsBeforeCap cap now }
 {
     match cap {
         Some(cap) => cap <= now,
@@ -67,9 +68,9 @@ fn until_earlier(now: u64, until: Option<u64>, cap: Option<u64>) -> Option<u64> 
 impl<K: Claim> Poster<K> {
     /// Waits for the first message that is due by the clock: looks, and sleeps as long as the answer is to wait, until the
     /// message that it waits for is due, a call on the queue wakes it, or another poster rings the bell. A moment is the
-    /// clock's reading less `start`, in milliseconds. Cap where nothing is due at a moment that is no earlier than `cap`,
-    /// Nudged where nothing is due and the bell was rung since it was read last; the other answers are those of `next`. It
-    /// takes no memory. As `next` of AOSP's `MessageQueue`; the cap and the nudge are this project's profile.
+    /// clock's reading less `start`, in milliseconds. Where nothing is due at a look's moment, Cap if it is no earlier than
+    /// `cap`, else Nudged if the bell was rung since it was read last; the other answers are those of `next`. It takes no
+    /// memory. As `next` of AOSP's `MessageQueue`; the cap and the nudge are this project's profile.
     pub fn wait_next<R: Wait + time::Clock, C: Clock>(
         &mut self,
         rt: &R,

@@ -34,7 +34,7 @@ loop-preserved g c =
     let of = of_still q a.held c.loop.self.held here.goes.works.still c.requires.at.poster in
     let went = c.in-Goes.ensures.paced in
     record {
-      goes = goes_then shows c.args.by.now.start q a.held c.loop.self.held c.pace.new.self.held here.goes (goes_step shows c.args.by.now.start q c.loop.self c.pace.new.self went.0 of went.1 went.2);
+      goes = goes_then shows c.args.by.now.start q a.held c.loop.self.held c.pace.new.self.held here.goes (goes_step shows c.args.by.now.start c.args.by.now.cap q c.loop.self c.pace.new.self went.0 of went.1 went.2);
       steps = (suc here.steps.0, (c.loop.self, here.steps.1, went.0, went.1, went.2));
       serves = λ w h. c.pace.ensures.serves w (here.serves w h);
       origin = c.pace.ensures.origin ∙ here.origin;
@@ -59,8 +59,8 @@ returns-in-Ends-clause-loops g c =
 pub returns-in-Ends-clause-steps : goal.returns-in-Ends-clause-steps
 returns-in-Ends-clause-steps g c =
     let shows = g.C.Clock.shows c.args.by.now.clock.now in
-    let marked = subst (λ (l : Looping). HasStepped shows c.args.by.now.start c.loop.self (record { held = l.held; idle_owed = l.idle_owed; ended = true }) Ends) (sym c.self.view_is)
-    (steps_marked shows c.args.by.now.start c.loop.self c.pace.new.self c.in-Ends.ensures.paced) in
+    let marked = subst (λ (l : Looping). HasStepped shows c.args.by.now.start c.args.by.now.cap c.loop.self (record { held = l.held; idle_owed = l.idle_owed; ended = true }) Ends) (sym c.self.view_is)
+    (steps_marked shows c.args.by.now.start c.args.by.now.cap c.loop.self c.pace.new.self c.in-Ends.ensures.paced) in
     (c.loop.invariant.steps.0, c.loop.self, c.loop.invariant.steps.1, marked, (c.pace.ensures.asked ∙ c.loop.invariant.asked) ∙ with_none (g.D.Dispatcher.asked c.args.d.now))
 
 pub returns-in-NoMemory-clause-nudges : goal.returns-in-NoMemory-clause-nudges

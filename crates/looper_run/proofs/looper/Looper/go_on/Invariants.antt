@@ -8,7 +8,7 @@ use Rattle.looper_run.proofs.looper.Looper.go_on.Given as goal
 abbrev pub invariant-loop : goal.invariant-loop
 invariant-loop g l = record {
   goes : Goes (g.C.Clock.shows l.by.clock.now) l.by.start l.queue.constants.setting l.initial.self.held l.self.held;
-  steps : (n : ℕ) × Stepped (g.C.Clock.shows l.by.clock.now) l.by.start n l.initial.self l.self;
+  steps : (n : ℕ) × Stepped (g.C.Clock.shows l.by.clock.now) l.by.start l.by.cap n l.initial.self l.self;
   serves : (w : Workplace) → g.D.Dispatcher.Serves l.initial.d w → g.D.Dispatcher.Serves l.d w;
   origin : g.D.Dispatcher.origin l.d ≡ g.D.Dispatcher.origin l.initial.d;
   nudges : Rings l.initial.self.held.poster l.self.held.poster (g.D.Dispatcher.nudges l.initial.d) (g.D.Dispatcher.nudges l.d);

@@ -19,7 +19,7 @@ act-step-requires-clause-look g c =
     let passes = subst (λ (x : Looping). Passes M x.held) (sym c.self.view_is) c.requires.meets in
     let w = c.wait_next-waited.ensures.done in
     let got = c.in-Ok.ensures.answer shows c.args.by.now.start l.idle_owed c.args.by.now.cap w.1 c.wait_next-waited.new.self w.3 in
-    may_act M (g.met.D.Dispatcher.others c.args.d.now) (g.met.D.Dispatcher.quiet c.args.d.now) shows c.args.by.now.start c.args.queue.now c.args.pool.now l c.wait_next-waited.new.self w.0 w.1 got.0 c.in-Ok.answer at passes w.2 got.1
+    may_act M (g.met.D.Dispatcher.others c.args.d.now) (g.met.D.Dispatcher.quiet c.args.d.now) shows c.args.by.now.start c.args.by.now.cap c.args.queue.now c.args.pool.now l c.wait_next-waited.new.self w.0 w.1 got.0 c.in-Ok.answer at passes w.2 got.1
 
 pub act-step-requires-clause-home : goal.act-step-requires-clause-home
 act-step-requires-clause-home g c =
@@ -31,7 +31,7 @@ returns-clause-paced g c =
     let l : Looping = record { held = record { poster = c.self.inside.poster; pass = c.self.inside.pass; journal = c.self.inside.journal }; idle_owed = c.self.inside.idle_owed; ended = c.self.inside.ended } in
     let w = c.wait_next-waited.ensures.done in
     let got = c.in-Ok.ensures.answer shows c.args.by.now.start l.idle_owed c.args.by.now.cap w.1 c.wait_next-waited.new.self w.3 in
-    let stepped : HasStepped shows c.args.by.now.start l c.act-step.new.self c.act-step.result = (by_poster l w.1, (w.1, w.0, w.2, refl), got.0, got.1.moment, c.act-step.ensures.step w.1 got.0 got.1.look) in
+    let stepped : HasStepped shows c.args.by.now.start c.args.by.now.cap l c.act-step.new.self c.act-step.result = (by_poster l w.1, (w.1, w.0, w.2, refl), got.0, got.1.moment, c.act-step.ensures.step w.1 got.0 got.1.look) in
     subst (λ (r : Pace). HasPaced shows c.args.by.now.start c.args.by.now.cap c.args.self.now c.act-step.new.self r) (sym c.paced.ensures)
     (subst (λ (x : Looping). HasPaced shows c.args.by.now.start c.args.by.now.cap x c.act-step.new.self (pace_of c.act-step.result)) c.self.view_is (paces shows c.args.by.now.start c.args.by.now.cap l c.act-step.new.self c.in-Ok.answer c.act-step.result c.in-Ok.ensures.found c.act-step.ensures.waits stepped))
 

@@ -8,7 +8,7 @@ loop-init g c = record { queue = c.requires.queue; slept = (0, refl) }
 pub loop-preserved : goal.loop-preserved
 loop-preserved g c = record {
   queue = c.look.ensures.queue;
-  slept = slept_more (g.C.Clock.shows c.args.clock.now) c.args.start c.args.idle_owed c.args.self.now c.loop.self c.look.new.self c.loop.invariant.slept c.in-Sleeps.ensures.done;
+  slept = slept_more (g.C.Clock.shows c.args.clock.now) c.args.start c.args.idle_owed c.args.cap c.args.self.now c.loop.self c.look.new.self c.loop.invariant.slept c.in-Sleeps.ensures.done;
 }
 
 pub returns-in-Ends-clause-same : goal.returns-in-Ends-clause-same
