@@ -1,5 +1,5 @@
 -- How the controller ends the queues of a run that is given up.
-use Rattle.std.specs.Prelude.{◌≡◌, ◌<◌, ◌+◌, ℕ, false, List, length, slice_index_or}
+use Rattle.std.specs.Prelude.{◌≡◌, ◌<◌, ◌≤◌, ◌+◌, ℕ, false, List, length, slice_index_or}
 use Rattle.dash_script.specs.declared.script.Script.{Script}
 use Rattle.looper_run.specs.Holding.{Sender}
 use Rattle.dash_hall.specs.Growth.{own, QuitsOf}
@@ -27,6 +27,22 @@ IsNudged before after = IsRung 0 before after
 -- so it was with each of the first n loopers
 abbrev pub AreRung : ℕ → Controller → Controller → Type 0
 AreRung n before after = (q : ℕ) → q < n → IsRung q before after
+
+-- how often the controller has rung the bell of this looper
+abbrev pub rings : Controller → ℕ → Sender → ℕ
+rings c q d = (slice_index_or c.kit.posters.items q d).view.rung
+
+-- no bell was rung
+abbrev pub RingsNone : Controller → Controller → Type 0
+RingsNone before after = (q : ℕ) (d : Sender) → rings after q d ≡ rings before q d
+
+-- each bell has been rung as often as before, or more often
+abbrev pub RingsNoLess : Controller → Controller → Type 0
+RingsNoLess before after = (q : ℕ) (d : Sender) → rings before q d ≤ rings after q d
+
+-- the bell of each of the first n loopers was rung, once or more often
+abbrev pub HaveBeenRung : ℕ → Controller → Controller → Type 0
+HaveBeenRung n before after = (q : ℕ) (d : Sender) → q < n → rings before q d < rings after q d
 
 -- each looper but the main one has run a round at this moment
 abbrev pub OthersHaveRun : Script → ℕ → List StageLooper → List StageLooper → Type 0

@@ -5,6 +5,7 @@ ghost use Rattle.dash_hall.specs.Growth.{GoesOn, QuitsOf};
 ghost use Rattle.dash_hall.specs.Kits.{IsHall};
 ghost use Rattle.dash_threads.specs.Threads.{AreByClock};
 ghost use Rattle.dash_stage.specs.ByClock.{MayQuit};
+ghost use Rattle.dash_stage.specs.GivingUp.{RingsNone};
 ghost use Rattle.run_model.specs.Moments.{Mode, IsMoment};
 ghost use Rattle.dash_stage.specs.Controllers.{IsController, IsControllerIn, IsMoving, HasReached, IsQuitting, IsClosing, IsClosingBy, HasClosed, HasClosedIn};
 ghost use Rattle.dash_stage.specs.Controllers.{CallsNone, LooksFor, AtPoster, OtherPostersStay, OtherPassesStay, calls_on, time_in};
@@ -286,6 +287,7 @@ impl Controller {
         requires place { place < script.now.loopers }
         ensures controller { IsControllerIn hall.now.lockstep script.now hall.now self.new }
         ensures here { result ≡ true → AtPoster (λ before after. MayQuit before after now) place self.old self.new }
+        ensures bells { RingsNone self.old self.new }
         ensures elsewhere { OtherPostersStay place self.old self.new }
     {
         if has_ended {

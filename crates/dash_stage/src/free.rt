@@ -10,6 +10,7 @@ ghost use Rattle.dash_loopers.specs.Loopers.{IsLooper};
 ghost use Rattle.dash_stage.specs.ByClock.{IsFreeHall, by_timer, RunsByClock, LoopsByClock, EachRuns, EachLoops, QuitsOthers};
 ghost use Rattle.dash_stage.specs.ByClock.{EachIsThread, EachIsLooper, CanRunMain};
 ghost use Rattle.dash_stage.specs.Controllers.{IsControllerIn, CallsNothingOn};
+ghost use Rattle.dash_stage.specs.GivingUp.{HaveBeenRung};
 ghost use Rattle.dash_stage.specs.RunEnds.{HasBegunByClock, IsClosingByClock, HasEndedByClock};
 ghost use Rattle.dash_stage.specs.Sharing.{StageKeeps, HaveSeenTheSame};
 ghost use Rattle.dash_stage.specs.Outcomes.{StagesByClock};
@@ -214,6 +215,7 @@ fn run_side_by_side<R: Threads + Wait + time::Clock + Sync, C: Clock + Sync, G: 
     ensures threads { EachRuns (by_timer C.shows timer.now) script.now hall.now threads.old threads.new }
     ensures loopers { EachLoops (by_timer C.shows timer.now) script.now hall.now loopers.old loopers.new }
     ensures quit { result ≡ true → QuitsOthers (by_timer C.shows timer.now) script.now hall.now controller.old controller.new }
+    ensures rung { result ≡ false → HaveBeenRung script.now.loopers controller.old controller.new }
 {
     let ended = Mutex::new(0);
     let (main, others) = loopers.split_at_mut(1);
@@ -228,6 +230,7 @@ fn run_side_by_side<R: Threads + Wait + time::Clock + Sync, C: Clock + Sync, G: 
             ensures threads { EachRuns (by_timer C.shows timer.entry.now) script.entry.now hall.entry.now threads.entry.now threads.exit.now }
             ensures main { EachLoops (by_timer C.shows timer.entry.now) script.entry.now hall.entry.now main.entry.now main.exit.now }
             ensures quit { result ≡ true → QuitsOthers (by_timer C.shows timer.entry.now) script.entry.now hall.entry.now controller.entry.now controller.exit.now }
+            ensures rung { result ≡ false → HaveBeenRung script.entry.now.loopers controller.entry.now controller.exit.now }
         {
             run_main(means, hall, script, timer, main, threads);
             quit_others(means.rt, hall, script, timer, &ended, controller)
@@ -389,7 +392,8 @@ fn quit_others<R: Wait + time::Clock, C: Clock>(
     requires hall { IsFreeHall script.now hall.now }
     requires controller { IsControllerIn false script.now hall.now controller.old }
     requires none { (q : ℕ) → CallsNothingOn controller.old q }
-    ensures { result ≡ true → QuitsOthers (by_timer C.shows timer.now) script.now hall.now controller.old controller.new }
+    ensures quit { result ≡ true → QuitsOthers (by_timer C.shows timer.now) script.now hall.now controller.old controller.new }
+    ensures rung { result ≡ false → HaveBeenRung script.now.loopers controller.old controller.new }
 {
     let Some(now) = timer.wait_until(rt, &hall.stop, script.end) else {
         controller.give_up(rt, hall, script, timer.now());

@@ -3,7 +3,7 @@ ghost use Rattle.std.specs.Prelude.{◌≡◌, ◌<◌, true};
 ghost use Rattle.dash_hall.specs.Growth.{QuitsOf};
 ghost use Rattle.dash_hall.specs.Kits.{IsHall};
 ghost use Rattle.dash_stage.specs.Controllers.{IsControllerIn, AtPoster, OtherPostersStay};
-ghost use Rattle.dash_stage.specs.GivingUp.{AreQuit, AreRung, IsNudged, IsRung, OthersHaveRun};
+ghost use Rattle.dash_stage.specs.GivingUp.{AreQuit, AreRung, IsNudged, IsRung, OthersHaveRun, RingsNone, RingsNoLess};
 ghost use Rattle.dash_stage.specs.Stages.{IsStage};
 
 use crate::control::{Controller, quit_by};
@@ -64,6 +64,7 @@ impl Controller {
         requires controller { IsControllerIn hall.now.lockstep script.now hall.now self.old }
         ensures controller { IsControllerIn hall.now.lockstep script.now hall.now self.new }
         ensures nudged { IsNudged self.old self.new }
+        ensures bells { RingsNoLess self.old self.new }
         ensures quit { result ≡ true → AreQuit now self.old self.new }
     {
         hall.stop.stop(rt);
@@ -114,6 +115,7 @@ impl Controller {
         requires place { place < script.now.loopers }
         ensures controller { IsControllerIn hall.now.lockstep script.now hall.now self.new }
         ensures here { result ≡ true → AtPoster (λ before after. QuitsOf before after safe now) place self.old self.new }
+        ensures bells { RingsNone self.old self.new }
         ensures elsewhere { OtherPostersStay place self.old self.new }
     {
         let Ok(()) = quit_by(

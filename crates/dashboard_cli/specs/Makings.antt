@@ -112,9 +112,9 @@ pub record WritesValues (input out : List ℕ) (given : Returned) : Type 0 where
   pub runs : IsRunOf values out frames
   pub given_is : given ≡ only_frames frames
 
--- the input is the text of the report's script, of which the report is a run through an inbox
+-- the input is the text of the report's script, each line of which a run through an inbox knows, and the report is such a run of it
 abbrev pub IsInboxRunOf : List ℕ → InboxReport → Type 0
-IsInboxRunOf input report = IsText input report.script × IsInboxRun report.script report
+IsInboxRunOf input report = IsText input report.script × (bad_line report.script ≡ None) × IsInboxRun report.script report
 
 -- what came of a run through an inbox is written
 pub record WritesInbox (input out : List ℕ) (given : Returned) : Type 0 where

@@ -21,6 +21,3 @@ pub use status::{Cause, Status, status_text};
 pub use top_call::{Outcome, dashboard};
 pub use words::{Command, read_words};
 pub use writing::write_whole;
-
-#[cfg(test)]
-mod tests;

@@ -23,6 +23,3 @@ pub use fault::Fault;
 pub use reader::parse_trace;
 pub use trace::{ParsedTrace, Trace, TraceQueue};
 pub use writer::{print_records, print_trace};
-
-#[cfg(test)]
-mod tests;

@@ -16,8 +16,8 @@ use Rattle.dash_hall.specs.Growth.{own, QuitsOf}
 use Rattle.dash_hall.specs.Kits.{badge_of}
 use Rattle.dash_hall.proofs.Badges.{posters_kept}
 use Rattle.dash_stage.specs.declared.control.Controller.{Controller}
-use Rattle.dash_stage.specs.Controllers.{IsControllerIn}
-use Rattle.dash_stage.specs.GivingUp.{AreQuitBelow, AreRung, IsNudged, IsRung}
+use Rattle.dash_stage.specs.Controllers.{IsControllerIn, OtherPostersStay}
+use Rattle.dash_stage.specs.GivingUp.{rings, AreQuitBelow, AreRung, HaveBeenRung, IsNudged, IsRung, RingsNone, RingsNoLess}
 
 -- a poster at a place, and another one there
 module _ (xs : List Sender) (i : ℕ) (p p' : Sender) (within : i < length xs) (is_p : p ≡ slice_index_or xs i p) where
@@ -75,3 +75,25 @@ rung_more n a b c rest elsewhere rung here q below = dite (ℕ_discrete q n)
       none = λ d. here.none d ∙ ap own (rest n d (omega arith));
     }))
     (λ apart. rung_kept q a b c (rung q (omega (arith, apart, below))) (λ d. elsewhere q d apart))
+
+-- one poster changed
+module _ (place : ℕ) (a b : Controller) (elsewhere : OtherPostersStay place a b) where
+  -- and rang as often as before
+  pub none_rung : ((d : Sender) → rings b place d ≡ rings a place d) → RingsNone a b
+  none_rung here q d = dite (ℕ_discrete q place)
+      (λ at. subst (λ (m : ℕ). rings b m d ≡ rings a m d) (sym at) (here d))
+      (λ apart. ap (λ (z : Sender). z.view.rung) (elsewhere q d apart))
+
+  -- and rang once
+  pub one_rung : IsRung place a b → RingsNoLess a b
+  one_rung here q d = dite (ℕ_discrete q place)
+      (λ at. subst (λ (m : ℕ). rings a m d ≤ rings b m d) (sym at) (omega (arith, here.rung d)))
+      (λ apart. omega (arith, ap (λ (z : Sender). z.view.rung) (elsewhere q d apart)))
+
+-- no bell rings less often by a call that rings none
+pub still_no_less : (a b c : Controller) → RingsNoLess a b → RingsNone b c → RingsNoLess a c
+still_no_less a b c less none q d = omega (arith, less q d, none q d)
+
+-- where each of the first n bells rang once more, and none less often before
+pub all_rung : (n : ℕ) (a b c : Controller) → RingsNoLess a b → AreRung n b c → HaveBeenRung n a c
+all_rung n a b c less rung q d below = omega (arith, less q d, (rung q below).rung d)

@@ -2,6 +2,7 @@ use Rattle.std.proofs.Common.{◌≡◌, ◌≤◌, ◌<◌, false, true≢false
 use Rattle.std.proofs.lemmas.Bool.{and_parts}
 use Rattle.run_model.specs.Moments.{Mode, in_free_mode}
 use Rattle.dash_stage.proofs.Controller.Controlling.{poster_count}
+use Rattle.dash_stage.proofs.Controller.GivingUp.{all_rung, still_no_less}
 use Rattle.dash_loopers.proofs.LooperMoments.{of_shown}
 use Rattle.dash_stage.proofs.ByClock.ClockEnds.{in_free, in_its_mode}
 use Rattle.dash_stage.proofs.ByClock.ClockTurns.{quits_more, quits_clocked, quitting_begins, quitting_ends}
@@ -15,6 +16,7 @@ loop-looper-init g c = record {
   controller = in_its_mode c.args.script.now c.args.hall.now c.args.controller.now c.requires.hall.1 c.requires.controller;
   some = omega arith;
   quitting = λ done. quitting_begins c.args.script.now c.args.controller.now c.requires.none;
+  bells = λ q d. omega arith;
   clocked = λ done m moment by. by;
 }
 
@@ -36,15 +38,25 @@ loop-looper-preserved g c =
       some = omega arith;
       quitting = λ done. (let both = and_parts at.done _ done in
           quits_more s hall h at.looper lt at.controller was next c.in-Some.now long (here both.1) elsewhere at.invariant.some c.in-Some.ensures.late (at.invariant.quitting both.0));
+      bells = still_no_less c.args.controller.now at.controller next at.invariant.bells c.quit_unless-done.ensures.bells;
       clocked = λ done m moment by. (let both = and_parts at.done _ done in
           quits_clocked s hall h at.looper lt at.controller was next c.in-Some.now long (here both.1) elsewhere m moment (at.invariant.clocked both.0 m moment by));
     }
 
-pub returns-then-not-done : goal.returns-then-not-done
-returns-then-not-done g c done = let at = c.loop-looper in let wrong : at.done ≡ false = c.if-not-done.true in absurd (true≢false (sym done ∙ wrong))
+pub returns-in_default-clause-rung : goal.returns-in_default-clause-rung
+returns-in_default-clause-rung g c = λ given. all_rung c.args.script.now.loopers c.args.controller.now c.give_up.new.self c.ring_all.new.self c.give_up.ensures.bells c.ring_all.ensures.rung
 
-pub returns-else-not-done : goal.returns-else-not-done
-returns-else-not-done g c done =
+pub returns-then-not-done-clause-rung : goal.returns-then-not-done-clause-rung
+returns-then-not-done-clause-rung g c = λ given. (let at = c.loop-looper in all_rung c.args.script.now.loopers c.args.controller.now at.controller c.ring_all.new.self at.invariant.bells c.ring_all.ensures.rung)
+
+pub returns-else-not-done-clause-rung : goal.returns-else-not-done-clause-rung
+returns-else-not-done-clause-rung g c given = absurd (true≢false (sym c.if-not-done.false ∙ given))
+
+pub returns-then-not-done-clause-quit : goal.returns-then-not-done-clause-quit
+returns-then-not-done-clause-quit g c done = let at = c.loop-looper in let wrong : at.done ≡ false = c.if-not-done.true in absurd (true≢false (sym done ∙ wrong))
+
+pub returns-else-not-done-clause-quit : goal.returns-else-not-done-clause-quit
+returns-else-not-done-clause-quit g c done =
     let s = c.args.script.now in
     let hall = c.args.hall.now in
     let at = c.loop-looper in

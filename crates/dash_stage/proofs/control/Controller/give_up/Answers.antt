@@ -1,7 +1,7 @@
 use Rattle.std.proofs.Common.{arith}
 use Rattle.std.proofs.lemmas.Bool.{and_parts}
 use Rattle.dash_stage.proofs.Controller.Controlling.{poster_count}
-use Rattle.dash_stage.proofs.Controller.GivingUp.{quit_more, rest_less, nudged_kept}
+use Rattle.dash_stage.proofs.Controller.GivingUp.{quit_more, rest_less, nudged_kept, one_rung, still_no_less}
 use Rattle.dash_stage.proofs.control.Controller.give_up.Goals as goal
 
 pub loop-looper-init : goal.loop-looper-init
@@ -9,6 +9,7 @@ loop-looper-init g c = record {
   controller = c.ring.ensures.controller;
   some = omega arith;
   nudged = c.ring.ensures.rung;
+  bells = one_rung 0 c.args.self.now c.ring.new.self c.ring.ensures.elsewhere c.ring.ensures.rung;
   quit = λ done q d some below. absurd (omega (arith, some, below));
   rest = λ q d le. c.ring.ensures.elsewhere q d (λ e. absurd (omega (arith, e, le)));
 }
@@ -22,6 +23,7 @@ loop-looper-preserved g c =
       controller = c.quit_now-done.ensures.controller;
       some = omega arith;
       nudged = nudged_kept first at.self after at.invariant.nudged (λ d. c.quit_now-done.ensures.elsewhere 0 d (λ e. let one = at.invariant.some in absurd (omega (arith, e, one))));
+      bells = still_no_less first at.self after at.invariant.bells c.quit_now-done.ensures.bells;
       quit = λ done. (let both = and_parts at.done _ done in
           quit_more c.args.now at.looper first at.self after at.invariant.rest c.quit_now-done.ensures.elsewhere (at.invariant.quit both.0) (c.quit_now-done.ensures.here both.1));
       rest = rest_less c.args.now at.looper first at.self after at.invariant.rest c.quit_now-done.ensures.elsewhere;

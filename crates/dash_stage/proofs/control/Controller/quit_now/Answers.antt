@@ -1,7 +1,9 @@
+use Rattle.std.proofs.Common.{◌≡◌}
 use Rattle.dash_hall.specs.Growth.{QuitsOf}
 use Rattle.looper_run.specs.Holding.{Sender}
 use Rattle.dash_stage.proofs.Controller.Controlling.{in_queues, in_posters, has_poster, own_poster, in_pool, after_call}
-use Rattle.dash_stage.proofs.Controller.GivingUp.{stands_there}
+use Rattle.dash_stage.proofs.Controller.ControlWhole.{turns_elsewhere}
+use Rattle.dash_stage.proofs.Controller.GivingUp.{stands_there, none_rung}
 use Rattle.dash_stage.proofs.control.Controller.quit_now.Goals as goal
 
 pub index-requires : goal.index-requires
@@ -30,3 +32,21 @@ returns-clause-here g c done =
     let me = c.args.self.now in
     let within = has_poster c.args.script.now c.args.hall.now c.requires.hall c.args.place c.requires.place me c.requires.controller in
     stands_there me.kit.posters.items c.args.place c.index_mut.result.now c.quit_by.new.poster within c.index_mut.ensures.value (λ (a b : Sender). QuitsOf a b c.args.safe c.args.now) c.in-Ok.ensures.quit
+
+pub returns-in_default-clause-bells : goal.returns-in_default-clause-bells
+returns-in_default-clause-bells g c =
+    let me = c.args.self.now in
+    let within = has_poster c.args.script.now c.args.hall.now c.requires.hall c.args.place c.requires.place me c.requires.controller in
+    let p = c.index_mut.result.now in
+    let p' = c.quit_by.new.poster in
+    none_rung c.args.place me _ (turns_elsewhere me c.args.place p p' c.quit_by.new.pass within c.index_mut.ensures.value)
+    (stands_there me.kit.posters.items c.args.place p p' within c.index_mut.ensures.value (λ (a b : Sender). b.view.rung ≡ a.view.rung) c.quit_by.ensures.on.rung)
+
+pub returns-clause-bells : goal.returns-clause-bells
+returns-clause-bells g c =
+    let me = c.args.self.now in
+    let within = has_poster c.args.script.now c.args.hall.now c.requires.hall c.args.place c.requires.place me c.requires.controller in
+    let p = c.index_mut.result.now in
+    let p' = c.quit_by.new.poster in
+    none_rung c.args.place me _ (turns_elsewhere me c.args.place p p' c.quit_by.new.pass within c.index_mut.ensures.value)
+    (stands_there me.kit.posters.items c.args.place p p' within c.index_mut.ensures.value (λ (a b : Sender). b.view.rung ≡ a.view.rung) c.quit_by.ensures.on.rung)

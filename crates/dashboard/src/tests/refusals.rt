@@ -1,5 +1,5 @@
 //! Inputs that are refused, each with its least bad line.
-use crate::*;
+use dashboard_cli::*;
 use dash_script::Cause as TextCause;
 
 pub(super) const OF_SCRIPTS: [(&str, &str, &str, Status, &str, &str); 11] = [

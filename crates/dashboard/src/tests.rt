@@ -1,6 +1,6 @@
 //! Tests of the top call, over sources and sinks in memory. What may wait is dear to prove, so one function makes the call and one test
 //! runs all cases; what is wanted of each is judged by functions that don't wait.
-use crate::*;
+use dashboard_cli::*;
 use loop_io::{MeetGate, MemSink, MemSource, StepClock};
 use std::alloc::{AllocError, Global};
 use std::process::Abort;
@@ -18,6 +18,7 @@ mod refusals;
 mod reports;
 mod reuse;
 mod statuses;
+mod traces;
 
 /// The head of a script with one looper, one thread and one handler.
 const ONE: &str = "dashboard 1\nloopers 1\nthreads 1\nhandler 0 0\nvsync 16666667\n";

@@ -1,5 +1,5 @@
 //! Statuses, with their codes and texts.
-use crate::*;
+use dashboard_cli::*;
 use dash_script::Cause as TextCause;
 use std::alloc::Global;
 use std::process::Abort;

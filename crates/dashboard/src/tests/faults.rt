@@ -1,6 +1,6 @@
 //! Faults of the source and of the sink, and inputs that are too long.
 use super::{Case, NEVER, Wants, joined};
-use crate::*;
+use dashboard_cli::*;
 use dash_script::Cause as TextCause;
 use std::alloc::{AllocError, Global};
 

@@ -1,6 +1,6 @@
 //! Which words name which command.
 use super::{Case, Wants, words_of};
-use crate::*;
+use dashboard_cli::*;
 use std::alloc::{AllocError, Global};
 use std::process::Abort;
 use std::test::Fail;

@@ -1,6 +1,6 @@
 //! What a long run uses again, and what it hands out.
 use super::{Case, ONE, Wants, joined};
-use crate::*;
+use dashboard_cli::*;
 use loop_model::{Call, Entry, Segment};
 use std::alloc::{AllocError, Global};
 

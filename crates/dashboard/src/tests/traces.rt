@@ -1,7 +1,8 @@
-use super::*;
+//! Printed histories: what is read, printed again, judged and explained.
 use loop_model::{Base, Call, Entry, QueueRecord, Reply, Segment, Sequence};
 use std::process::Abort;
 use std::test::Fail;
+use trace_check::*;
 
 const HALTED: &[u8] = b"trace 1\nqueue 0 main lockstep 3 1\n2 0 halt 0 halted\nend\n";
 

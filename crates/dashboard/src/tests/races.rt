@@ -1,6 +1,6 @@
 //! Runs whose threads race.
 use super::{Case, Wants, joined};
-use crate::*;
+use dashboard_cli::*;
 use loop_io::MeetGate;
 use std::alloc::{AllocError, Global};
 

@@ -1,7 +1,7 @@
 //! Runs by a clock that goes on from reading to reading.
 use super::races::has_line;
 use super::{Case, Wants, joined};
-use crate::*;
+use dashboard_cli::*;
 use frame_phases::FrameEntry;
 use std::alloc::{AllocError, Global};
 

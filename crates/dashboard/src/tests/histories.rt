@@ -1,6 +1,6 @@
 //! Histories of queues, written and judged, and other texts.
 use super::ONE;
-use crate::*;
+use dashboard_cli::*;
 
 /// The histories of a run: a post that is dispatched, a removal that takes nothing, and the end.
 const HISTORY: &str =

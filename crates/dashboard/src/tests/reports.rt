@@ -1,6 +1,6 @@
 //! Scripts and their reports.
 use super::{FIRST, ONE, SECOND, TWO};
-use crate::*;
+use dashboard_cli::*;
 
 /// Calls on queues, with the first and the last lines of the reports.
 pub(super) const OF_QUEUES: [(&str, &str, &str, Status, &str, &str); 18] = [
