@@ -193,7 +193,7 @@ fn is_wanted(alloc: Global, case: &Case<'_>, came: &Ended) -> Result<bool, Alloc
         Wants::Made => commands::is_made(text),
         Wants::Ran => commands::is_summary(text),
         Wants::Busy => races::is_busy(text),
-        Wants::Met => !case.gate.missed(),
+        Wants::Met => case.gate.has_met() && !case.gate.missed(),
         Wants::Dispatched => by_clock::are_dispatched(text),
         Wants::MovedOn => came
             .outcome

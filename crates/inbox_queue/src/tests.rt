@@ -285,6 +285,6 @@ fn the_threads_put_side_by_side(rt: HostRuntime) -> Result<(), Fail> {
         panic!(rt; "the history has one part")
     };
     assert!(rt; part.entries.len() == 8);
-    assert!(rt; !gate.missed());
+    assert!(rt; gate.has_met() && !gate.missed());
     Ok(())
 }
