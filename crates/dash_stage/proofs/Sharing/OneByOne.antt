@@ -1,6 +1,5 @@
 -- Senders of one kind, of which each is told of a poster, or hears it, one after the other.
 use Rattle.std.proofs.Common.{◌≡◌, ℕ, ◌+◌, ◌<◌, ◌≤◌, List, length, set, get_or, sym, ◌∙◌, subst, arith}
-use mathlib.Core.List.{IsPrefix}
 use Rattle.loop_model.specs.declared.entry.Entry.{Entry}
 use Rattle.looper_run.specs.Holding.{Sender}
 use Rattle.dash_hall.specs.Hearing.{HasHeard, AtEach, AreKnown}

@@ -8,8 +8,6 @@ use Rattle.std.proofs.lemmas.List.Folds.{list_any-append}
 use Rattle.std.proofs.lemmas.List.{append-nil, append_cancel_left, map-append}
 use mathlib.Core.List.{IsPrefix}
 use Rattle.dash_script.specs.declared.script.Script.{Script}
-use Rattle.loop_model.specs.declared.call.Call.{Call}
-use Rattle.loop_model.specs.declared.call.Call.TheVariants.{Post, Barrier, Unbarrier, Remove, Quit, Next, Advance, Halt}
 use Rattle.loop_model.specs.declared.reply.Reply.TheVariants.{Halted}
 use Rattle.loop_model.specs.declared.base.Base.{Base}
 use Rattle.loop_model.specs.declared.entry.Entry.{Entry}
@@ -24,7 +22,7 @@ use Rattle.loop_model.proofs.NumberLaws.{AreNumbered-front, AreNumbered-last}
 use Rattle.loop_model.proofs.Sorting.{AllByRecursion-filter, AllByRecursion-weaker}
 use Rattle.run_model.specs.Asks.{entries_by}
 use Rattle.run_model.specs.Planned.{Timed, lines_on}
-use Rattle.run_model.specs.Control.{is_advance, is_quit, is_in_time, each_behind, comes_in_time, is_called_in_time, has_quit_by, comes_before_quit, are_before_quit, ends_halted, Before, before, befores, befores_from, befores_after, Timing, At, InBlock, is_on_time, are_on_time}
+use Rattle.run_model.specs.Control.{is_quit, is_in_time, each_behind, comes_in_time, is_called_in_time, has_quit_by, comes_before_quit, are_before_quit, ends_halted, Before, before, befores, befores_from, befores_after, Timing, At, InBlock, is_on_time, are_on_time}
 use Rattle.run_model.proofs.ControlLaws.{each_behind-snoc, each_behind-append}
 use Rattle.run_model.proofs.RunLaws.{AreOfOthers, entries_by-append, entries_by-others, entries_by-unchanged, befores_after-append, befores-others, lines_on-append}
 use Rattle.dash_stage.specs.Timeliness.{IsAtTime}

@@ -47,7 +47,7 @@ pub returns-in_default-clause-rung : goal.returns-in_default-clause-rung
 returns-in_default-clause-rung g c = λ given. all_rung c.args.script.now.loopers c.args.controller.now c.give_up.new.self c.ring_all.new.self c.give_up.ensures.bells c.ring_all.ensures.rung
 
 pub returns-then-not-done-clause-rung : goal.returns-then-not-done-clause-rung
-returns-then-not-done-clause-rung g c = λ given. (let at = c.loop-looper in all_rung c.args.script.now.loopers c.args.controller.now at.controller c.ring_all.new.self at.invariant.bells c.ring_all.ensures.rung)
+returns-then-not-done-clause-rung g c = λ given. (let at = c.loop-looper in all_rung c.args.script.now.loopers c.args.controller.now at.controller c.ring_all-then-not-done.new.self at.invariant.bells c.ring_all-then-not-done.ensures.rung)
 
 pub returns-else-not-done-clause-rung : goal.returns-else-not-done-clause-rung
 returns-else-not-done-clause-rung g c given = absurd (true≢false (sym c.if-not-done.false ∙ given))

@@ -1,4 +1,4 @@
-use Rattle.std.proofs.Common.{◌≡◌, ◌≤◌, ◌+◌, ◌∙◌, Bool, refl, sym, ap, subst, length, arith}
+use Rattle.std.proofs.Common.{◌≡◌, ◌+◌, ◌∙◌, Bool, refl, sym, ap, subst, length, arith}
 use Rattle.std.specs.List.{AllByRecursion}
 use Rattle.loop_model.specs.declared.journal.Journal.{Journal}
 use Rattle.run_model.specs.Moments.{Mode, in_lockstep}
