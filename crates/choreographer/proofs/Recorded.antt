@@ -1,5 +1,5 @@
 -- What the turns of a pass record.
-use Rattle.std.proofs.Common.{◌≡◌, ℕ, ◌+◌, Bool, true, false, Option, Some, None, List, [], ◌∷◌, ◌++◌, map, refl, sym, ap, ◌∙◌, append_assoc, append-nil}
+use Rattle.std.proofs.Common.{◌≡◌, ℕ, ◌+◌, Bool, true, false, Option, Some, None, List, [], ◌∷◌, ◌++◌, map, refl, sym, ap, ◌∙◌, arith, append_assoc, append-nil}
 use Rattle.std.specs.Prelude.{count_by, if◌then◌else◌}
 use Rattle.frame_phases.specs.declared.entry.Callback.{Callback}
 use Rattle.frame_phases.specs.declared.entry.FrameEntry.{FrameEntry}
@@ -14,7 +14,7 @@ use Rattle.choreographer.specs.declared.host.Sending.{Sending}
 use Rattle.choreographer.specs.declared.hosted.Pulse.{Pulse}
 use Rattle.choreographer.specs.Known.{Known, IsTurn}
 use Rattle.choreographer.specs.Calls.{BeginTurn, AskedBy, SendsPulse, PulsedBy, DueBy}
-use Rattle.choreographer.specs.Done.{AreOfPhases, AddsPhases, AddsFrame}
+use Rattle.choreographer.specs.Done.{AreOfPhases, AddsPhases, AddsFrame, hands_out, HandsOutNone}
 use Rattle.choreographer.specs.Within.{TakeTurn}
 use Rattle.std.specs.List.{filter_map, cons_option}
 use Rattle.std.proofs.lemmas.List.Elements.{filter_map-append}
@@ -94,6 +94,28 @@ take_adds before after phase now took.NoMemory t = adds_nothing before after t.0
 pub turn_counts : (test : FrameEntry → Bool) (before after : Known) (x y : Kept) (more : List FrameEntry) → IsTurn before after x y → x.frames.entries ++ more ≡ y.frames.entries
     → count_by test after.view.own ≡ count_by test before.view.own + count_by test more
 turn_counts test before after x y more turn is = ap (count_by test) (turn_records before after x y more turn is) ∙ count_both test before.view.own more
+
+-- the turn that begins a frame hands no callback out, so the turns behind it hand out all
+pub begin_hands : (before middle after : Known) (start time : ℕ) → BeginTurn before middle start (begin.Began time) → HandsOutNone before after → HandsOutNone middle after
+begin_hands before middle after start time t none =
+    let began = turn_counts hands_out before middle t.0 t.1 (Begin t.0.stamp start time ∷ []) t.2 (sym (ap (λ (f : Frames). f.entries) t.3.4)) in omega (arith, began, none)
+
+-- a turn that takes a phase and hands none out takes no callback
+pub take_hands : (before after : Known) (phase now time : ℕ) (cs : List Callback) → TakeTurn before after phase now (took.Batch time cs) → HandsOutNone before after → cs ≡ []
+take_hands before after phase now time [] t none = refl
+take_hands before after phase now time (c ∷ cs) t none =
+    let more : List FrameEntry = map ran cs in
+    let took = turn_counts hands_out before after t.0 t.1 (Take phase now time ∷ ran c ∷ more) t.2 (sym (ap (λ (f : Frames). f.entries) t.3.3)) in
+    let handed : count_by hands_out (Take phase now time ∷ ran c ∷ more) ≡ 1 + count_by hands_out more = count_both hands_out (Take phase now time ∷ ran c ∷ []) more in
+    absurd (omega (arith, took, handed, none))
+
+-- what stays the same in each of two parts of a frame that hands no callback out stays so in both
+pub same_by_both : {X : Type 0} (before middle after : Known) (a b c : X) → AddsPhases before middle → AddsPhases middle after → (HandsOutNone before middle → b ≡ a) → (HandsOutNone middle after → c ≡ b)
+    → HandsOutNone before after → c ≡ a
+same_by_both before middle after a b c f g one other none =
+    let early = ap (count_by hands_out) f.1 ∙ count_both hands_out before.view.own f.0 in
+    let late = ap (count_by hands_out) g.1 ∙ count_both hands_out middle.view.own g.0 in
+    other (omega (arith, early, late, none)) ∙ one (omega (arith, early, late, none))
 
 -- a map that leaves phases out tells of a frame what it tells of its Begin
 module _ {X : Type 0} (f : FrameEntry → Option X) (takes : (p n t : ℕ) → f (Take p n t) ≡ None) (runs : (n : ℕ) → f (Ran n) ≡ None) where

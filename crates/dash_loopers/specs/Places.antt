@@ -9,7 +9,6 @@ use Rattle.choreographer.specs.Known.{Shared as Frames, Known as Pass}
 use Rattle.run_model.specs.Loopers.{Looper, callback_ran, animation_ran, paints}
 use Rattle.dash_hall.specs.declared.host.Host.{Host}
 use Rattle.dash_script.specs.declared.script.Script.{Script}
-use Rattle.dash_script.specs.Causes.{phase_count}
 use Rattle.dash_loopers.specs.declared.frame_run.FrameRun.{FrameRun}
 use Rattle.dash_loopers.specs.declared.player.Parts.{Parts}
 use Rattle.dash_loopers.specs.declared.player.Place.{Place}
@@ -43,13 +42,7 @@ PulsesOn place now own own' parts parts' =
 abbrev pub ShowsOn : {R U : Type 0} → Host R U → Host R U → Script → ℕ → (Looper → Looper) → ViewRoot → ViewRoot → Type 0
 ShowsOn host host' s q step root root' = Shows s q step (calls_of host.poster.now) root (calls_of host'.poster.now) root'
 
--- the frame's callbacks ran, where one began, and the looper's state tells which
-abbrev pub RunsOn : {R : Type 0} → Place R → ℕ → (ℕ → Bool) → Own → Own → Parts → Parts → Type 0
-RunsOn place now is_moment own own' parts parts' = (ids : List ℕ)
-    × RanFrame place.script.now.period (phase_count place.script.now.edition) is_moment parts.frames parts'.frames ids
-    × PlaysOn place (λ a. fold (callback_ran place.script.now place.looper now) a ids) own own' parts parts'
-
--- the same of the view root, by what its host has called
+-- the frame's callbacks ran, where one began, and the view root's calls tell which
 abbrev pub RootRuns : {R U : Type 0} → Frames → (ℕ → Bool) → Pass → Pass → Host R U → Host R U → ViewRoot → ViewRoot → Type 0
 RootRuns c is_moment pass pass' host host' root root' = (ids : List ℕ)
     × RanFrame c.constants.interval c.constants.phases is_moment pass pass' ids

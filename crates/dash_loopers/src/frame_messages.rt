@@ -1,5 +1,5 @@
 //! What a looper does with the messages of its choreographer and of its gauges.
-ghost use Rattle.std.specs.Prelude.{◌≡◌, ℕ, List, [], ◌∷◌, ◌++◌, map, fold, None, IsTrue, true, false, OnOk};
+ghost use Rattle.std.specs.Prelude.{◌≡◌, [], ◌∷◌, ◌++◌, map, None, IsTrue, true, false, OnOk};
 ghost use mathlib.Core.List.{IsPrefix};
 ghost use Rattle.frame_phases.specs.Pulses.{is_pulse_if_any};
 ghost use Rattle.looper_run.specs.Holding.{held, IsSameOwn};
@@ -11,14 +11,14 @@ ghost use Rattle.dash_loopers.specs.Clocked.{CallsUntimed};
 ghost use Rattle.dash_loopers.specs.Loopers.{IsPlaceOf, IsLooperOf};
 ghost use Rattle.dash_loopers.specs.Players.{AreSameParts};
 ghost use Rattle.dash_script.specs.Causes.{phase_count};
-ghost use Rattle.dash_loopers.specs.Played.{calls_of, RanFrame, paint_of};
+ghost use Rattle.dash_loopers.specs.Played.{calls_of, paint_of};
 ghost use Rattle.loop_model.specs.declared.post.Post.{Post as PostData};
 ghost use Rattle.run_model.specs.Senders.{frame_handler as the_frame_handler};
-ghost use Rattle.run_model.specs.Loopers.{starts_frame, callback_ran, object_set};
+ghost use Rattle.run_model.specs.Loopers.{starts_frame, object_set};
 ghost use Rattle.looper_run.specs.Tests.{Unless};
 ghost use Rattle.choreographer.specs.declared.host.HostSent.TheVariants.{NoMemory as NoRoom};
 ghost use Rattle.choreographer.specs.Calls.{stamp_in};
-ghost use Rattle.dash_loopers.specs.Places.{ServesOn, PlaysOn, RunsOn, DeliversOn, DeliversPulseOn, PulsesOn};
+ghost use Rattle.dash_loopers.specs.Places.{ServesOn, PlaysOn, DeliversOn, DeliversPulseOn, PulsesOn};
 
 use crate::player::{Parts, Place, did};
 use crate::view_root::Painted;
@@ -109,33 +109,8 @@ impl<'a, R: Wait> Place<'a, R> {
         }
     }
 
-    /// The frame's message begins a frame, where one is scheduled, and runs its callbacks. The uptime is read for its start and for each phase.
-    fn run_frame<U: Uptime>(
-        &self,
-        parts: &mut Parts,
-        own: &mut Own,
-        now: u64,
-        uptime: &U,
-    ) -> Result<(), NoMemory>
-        requires serves { ServesOn self.now parts.old own.old }
-        ensures parts { AreSameParts parts.old parts.new }
-        ensures own { IsSameOwn own.old own.new }
-        ensures lent { IsLent (held own.old) (held own.new) }
-        ensures rung { own.new.poster.now.view.rung ≡ own.old.poster.now.view.rung }
-        ensures clocked { AddsAt now own.old.poster.now own.new.poster.now }
-        ensures others { parts.new.others ≡ parts.old.others }
-        ensures ran { OnOk result (RunsOn self.now now (U.is_moment uptime.now) own.old own.new parts.old parts.new) }
-        ensures acts { own.new.journal.now.acts ≡ own.old.journal.now.acts }
-    {
-        let began = Snapshot::of(&*own.poster);
-        let pass_began = Snapshot::of(&*own.pass);
-        let mut host = self.host(own.poster, own.pass, &began, &pass_began, now, uptime);
-        parts
-            .root
-            .do_frame(self.choreographer(), &mut parts.frames, &mut host)
-    }
-
-    /// The frame's message begins a frame, where one is scheduled, runs its callbacks, and tells what they painted.
+    /// The frame's message begins a frame, where one is scheduled, runs its callbacks, and tells what they painted. The uptime is
+    /// read for its start and for each phase.
     fn do_frame<U: Uptime>(
         &self,
         parts: &mut Parts,
@@ -153,7 +128,12 @@ impl<'a, R: Wait> Place<'a, R> {
         ensures delivers { (m : PostData) → starts_frame self.now.looper m ≡ true
             → OnOk result (DeliversOn self.now now (U.is_moment uptime.now) m own.old own.new parts.old parts.new) }
     {
-        self.run_frame(parts, own, now, uptime)?;
+        let began = Snapshot::of(&*own.poster);
+        let pass_began = Snapshot::of(&*own.pass);
+        let mut host = self.host(own.poster, own.pass, &began, &pass_began, now, uptime);
+        parts
+            .root
+            .do_frame(self.choreographer(), &mut parts.frames, &mut host)?;
         tell_painted(own.journal, parts.root.painted.as_slice())?;
         parts.root.painted.clear();
         Ok(())

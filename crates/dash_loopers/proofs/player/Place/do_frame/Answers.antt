@@ -1,14 +1,24 @@
-use Rattle.std.proofs.Common.{◌++◌, List, map, refl, ap, ◌∙◌}
+use Rattle.std.proofs.Common.{◌++◌, ℕ, List, map, refl, ap, ◌∙◌, Ok}
+use Rattle.dash_loopers.specs.declared.player.Parts.{Parts}
 use Rattle.dash_loopers.specs.declared.view_root.Painted.{Painted}
 use Rattle.dash_loopers.specs.Played.{calls_of, paint_of}
-use Rattle.dash_loopers.proofs.PlaySteps.{frame_delivered}
+use Rattle.dash_loopers.proofs.LooperPlaces.{client_on, its_phases, its_period}
+use Rattle.dash_loopers.proofs.PlaySteps.{frame_hosted, frame_delivered}
 use Rattle.dash_loopers.proofs.player.Place.do_frame.Goals as goal
+
+pub do_frame-requires-clause-root : goal.do_frame-requires-clause-root
+do_frame-requires-clause-root g c = client_on c.args.self.now c.args.parts.now _ c.requires.serves c.choreographer.result.now c.choreographer.ensures
 
 pub returns-clause-delivers : goal.returns-clause-delivers
 returns-clause-delivers g c = λ m starts.
     (let place = c.args.self.now in
     let old = c.args.own.now in
-    let own = c.run_frame.new.own in
-    let ran = c.in_ok-run_frame.ensures.ran in
-    frame_delivered place.script.now place.looper c.args.now (g.U.Uptime.is_moment c.args.uptime.now) m (calls_of old.poster.now) (calls_of own.poster.now) c.args.parts.now c.run_frame.new.parts _ old.journal.now.acts own.journal.now.acts c.tell_painted.new.journal.acts ran.0 starts ran.1 ran.2
-    c.run_frame.ensures.acts (c.in_ok-tell_painted.ensures.told ∙ ap (λ (l : List Painted). own.journal.now.acts ++ map paint_of l) c.as_slice.ensures.value) refl refl refl refl refl refl refl c.clear.ensures.items)
+    let made = calls_of c.do_frame.new.host.poster.now in
+    let frames = c.choreographer.result.now in
+    let phases = its_phases place.script.now place.hall.now place.looper c.requires.serves.looper frames c.choreographer.ensures in
+    let period = its_period place.script.now place.hall.now place.looper c.requires.serves.looper frames c.choreographer.ensures in
+    let mid : Parts = record c.args.parts.now { frames = c.do_frame.new.pass; root = c.do_frame.new.self } in
+    let ran = frame_hosted {E = ℕ} (Ok tt) place.script.now place.looper c.args.now c.host-host.result.now frames.constants.interval frames.constants.phases (g.U.Uptime.is_moment c.args.uptime.now) (g.U.Uptime.is_moment c.host-host.result.uptime.now) old.poster.now c.host-host.result.poster.now c.do_frame.new.host.poster.now c.args.parts.now mid
+    c.in_ok-do_frame.ensures.ran period phases c.host-host.ensures.moment.0 (ap g.U.Uptime.is_moment c.host-host.ensures.uptime) c.host-host.ensures.poster.1 refl refl in
+    frame_delivered place.script.now place.looper c.args.now (g.U.Uptime.is_moment c.args.uptime.now) m (calls_of old.poster.now) made c.args.parts.now mid _ old.journal.now.acts old.journal.now.acts c.tell_painted.new.journal.acts ran.0 starts ran.1 ran.2
+    refl (c.in_ok-tell_painted.ensures.told ∙ ap (λ (l : List Painted). old.journal.now.acts ++ map paint_of l) c.as_slice.ensures.value) refl refl refl refl refl refl refl c.clear.ensures.items)
