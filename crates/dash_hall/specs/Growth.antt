@@ -40,7 +40,7 @@ pub record GoesOn (before after : Sender) (pass pass' : Tally) : Type 0 where
 abbrev pub TurnsOnce : Sender → Sender → Type 0
 TurnsOnce before after = after.view.turns ≤ before.view.turns + 1
 
--- the same of the poster and the pass of a way
+-- both of the poster and the pass of a way
 abbrev pub WayGoesOn : Way → Way → Type 0
 WayGoesOn before after = GoesOn before.poster.now after.poster.now before.pass.now after.pass.now
 
