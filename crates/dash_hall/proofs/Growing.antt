@@ -1,5 +1,5 @@
 -- A turn of a sender, as its own entries go on.
-use Rattle.std.proofs.Common.{◌≡◌, ℕ, ◌≤◌, ◌==◌, cond, Bool, false, List, [], ◌∷◌, ◌++◌, All, refl, sym, ap, ◌∙◌, subst, arith, append_assoc, inl, inr, eq-eqb, ne_eqb}
+use Rattle.std.proofs.Common.{◌≡◌, ℕ, zero, suc, ◌≤◌, ◌==◌, cond, Bool, false, List, [], ◌∷◌, ◌++◌, All, refl, sym, ap, ◌∙◌, subst, arith, append_assoc, inl, inr, eq-eqb, ne_eqb}
 use Rattle.std.proofs.lemmas.List.{append-nil}
 use Rattle.std.proofs.lemmas.List.Elements.{filter-append, All-append}
 use Rattle.loop_model.specs.declared.call.Call.{Call}
@@ -16,7 +16,9 @@ use Rattle.looper_run.proofs.Working.{first_all}
 use Rattle.looper_run.proofs.Turning.{IsOther, found, all_first, no_looks}
 use Rattle.run_model.specs.Asks.{plain, token_in, entries_by}
 use Rattle.handler_post.specs.Ways.{MadeNone}
-use Rattle.dash_hall.specs.Growth.{own, GoesOn, Makes}
+use Rattle.dash_hall.specs.Slots.{GivesBackAll, KeepsSlots}
+use Rattle.dash_hall.specs.Growth.{own, GoesOn, TurnsOnce, Makes}
+use Rattle.dash_hall.proofs.Slots.{same_messages, slots_then}
 
 -- what a sender's calls keep of its pass
 pub record Keeps (before after : Tally) : Type 0 where
@@ -33,8 +35,8 @@ pub own_of_one : (s : ℕ) (e : Entry) → e.sender ≡ s → entries_by s (e �
 own_of_one s e is = ap (λ (b : Bool). cond b (e ∷ []) []) (eq-eqb e.sender s is)
 
 -- nothing happened but at the pass
-pub stays : (p : Sender) (a b : Tally) → Keeps a b → GoesOn p p a b
-stays p a b k = record {
+pub stays : (p : Sender) (a b : Tally) → Keeps a b → GivesBackAll a b → GoesOn p p a b
+stays p a b k given = record {
   table = refl;
   sender = refl;
   constants = refl;
@@ -47,13 +49,22 @@ stays p a b k = record {
   no_looks = λ n d near. absurd (omega (arith, near));
   home = k.home;
   back = k.back;
+  steps = zero;
+  slots = (refl, given);
 }
+
+-- nothing was done with them
+pub goes_nowhere : (p q : Sender) (a b : Tally) → p ≡ q → a ≡ b → GoesOn p q a b
+goes_nowhere p q a b e f =
+    let here : GoesOn p p a a = stays p a a (record { home = refl; back = omega arith }) refl in
+    subst (λ (z : Sender). GoesOn p z a b) e (subst (λ (t : Tally). GoesOn p p a t) f here)
 
 -- one after the other
 pub goes_on_then : (p q r : Sender) (a b c : Tally) → GoesOn p q a b → GoesOn q r b c → GoesOn p r a c
 goes_on_then p q r a b c f g =
     let turns : p.view.turns ≤ r.view.turns = omega (arith, f.turns, g.turns) in
     let back : a.back ≤ c.back = omega (arith, f.back, g.back) in
+    let slots = slots_then f.steps g.steps p q r a b c f.slots g.slots in
     record {
       table = g.table ∙ f.table;
       sender = g.sender ∙ f.sender;
@@ -67,6 +78,8 @@ goes_on_then p q r a b c f g =
       no_looks = All-append (IsNoLookOf p.sender) f.more g.more f.no_looks (subst (λ (s : ℕ). All (IsNoLookOf s) g.more) f.sender g.no_looks);
       home = g.home ∙ f.home;
       back = back;
+      steps = slots.0;
+      slots = slots.1;
     }
 
 -- a turn by which the sender left these entries of its own, none of which is a look
@@ -80,9 +93,9 @@ module _ {parts : List Segment} (p q : Sender) (x y : State) (tail : List Entry)
       let f = found p q x y t in
       t.seen ∙ (left ∙ (ap (λ (l : List Entry). l ++ tail) f.entries ∙ append_assoc p.view.seen f.others tail))
 
-  pub turn_goes_on : (a b : Tally) → Keeps a b → q.view.sealed ≡ p.view.sealed → All (IsNoLookOf p.sender) tail → GoesOn p q a b
+  pub turn_goes_on : (a b : Tally) → Keeps a b → IsTurn p q x y → KeepsSlots x y a b → All (IsNoLookOf p.sender) tail → GoesOn p q a b
   unfolding more
-  turn_goes_on a b k kept quiet =
+  turn_goes_on a b k turn slots quiet =
       let f = found p q x y t in
       record {
         table = t.table;
@@ -90,13 +103,15 @@ module _ {parts : List Segment} (p q : Sender) (x y : State) (tail : List Entry)
         constants = t.constants;
         heard = t.heard;
         rung = t.rung;
-        sealed = kept;
+        sealed = turn.sealed;
         turns = omega (arith, t.turns);
         more = more;
         seen = seen_is;
         no_looks = All-append (IsNoLookOf p.sender) f.others tail (no_looks p.sender f.others f.all) quiet;
         home = k.home;
         back = k.back;
+        steps = suc zero;
+        slots = (q, b, x, y, turn, slots, (refl, refl));
       }
 
   pub turn_makes : entries_by p.sender tail ≡ tail → own q ≡ own p ++ tail
@@ -108,24 +123,32 @@ module _ {parts : List Segment} (p q : Sender) (x y : State) (tail : List Entry)
       ∙ (ap (λ (l : List Entry). own p ++ l) (filter-append (λ (e : Entry). e.sender == p.sender) f.others tail)
       ∙ (λ i. own p ++ (own_of_others p.sender f.others f.all i ++ mine i))))
 
+pub one_turn : (p q : Sender) (x y : State) → IsTurn p q x y → TurnsOnce p q
+one_turn p q x y t = omega (arith, t.turns)
+
+pub turns_none : (p q : Sender) → MadeNone p q → TurnsOnce p q
+turns_none p q (inl same) = omega (arith, ap (λ (z : Sender). z.view.turns) same)
+turns_none p q (inr turn) = one_turn p q turn.0 turn.0 turn.1
+
 -- a turn that entered one call of the sender, which is no look
-pub enters : (p q : Sender) (x y : State) (c : Call) (r : Reply) (a b : Tally) → IsTurn p q x y → y.entries ≡ x.entries ++ entry_of x p.sender c r ∷ [] → is_next c ≡ false → Keeps a b
+pub enters : (p q : Sender) (x y : State) (c : Call) (r : Reply) (a b : Tally) → IsTurn p q x y → y.entries ≡ x.entries ++ entry_of x p.sender c r ∷ [] → is_next c ≡ false → Keeps a b → KeepsSlots x y a b
     → GoesOn p q a b × Makes p q (plain c) (token_in r)
-enters p q x y c r a b t left quiet k =
+enters p q x y c r a b t left quiet k slots =
     let e = entry_of x p.sender c r in (
-      turn_goes_on p q x y (e ∷ []) t left a b k t.sealed (all_first (IsNoLookOf p.sender) e [] (λ _. quiet) (λ n d near. absurd (omega (arith, near)))),
+      turn_goes_on p q x y (e ∷ []) t left a b k t slots (all_first (IsNoLookOf p.sender) e [] (λ _. quiet) (λ n d near. absurd (omega (arith, near)))),
       record { entry = e; made = turn_makes p q x y (e ∷ []) t left (own_of_one p.sender e refl); makes = refl; answered = refl },
     )
 
 -- a turn that left what it found
-pub leaves : (p q : Sender) (x y : State) (a b : Tally) → IsTurn p q x y → y ≡ x → Keeps a b → GoesOn p q a b × (own q ≡ own p)
-leaves p q x y a b t same k =
+pub leaves : (p q : Sender) (x y : State) (a b : Tally) → IsTurn p q x y → y ≡ x → Keeps a b → GivesBackAll a b → GoesOn p q a b × (own q ≡ own p)
+leaves p q x y a b t same k given =
+    let slots : KeepsSlots x y a b = same_messages x y a b (ap (λ (z : State). z.messages) same) given in
     let left : y.entries ≡ x.entries ++ [] = ap (λ (z : State). z.entries) same ∙ sym (append-nil x.entries) in (
-      turn_goes_on p q x y [] t left a b k t.sealed (λ n d near. absurd (omega (arith, near))),
+      turn_goes_on p q x y [] t left a b k t slots (λ n d near. absurd (omega (arith, near))),
       turn_makes p q x y [] t left refl ∙ append-nil (own p),
     )
 
 -- no entry was made
-pub makes_none : (p q : Sender) (a b : Tally) → MadeNone p q → Keeps a b → GoesOn p q a b × (own q ≡ own p)
-makes_none p q a b (inl same) k = subst (λ (z : Sender). GoesOn p z a b × (own z ≡ own p)) (sym same) (stays p a b k, refl)
-makes_none p q a b (inr turn) k = leaves p q turn.0 turn.0 a b turn.1 refl k
+pub makes_none : (p q : Sender) (a b : Tally) → MadeNone p q → Keeps a b → GivesBackAll a b → GoesOn p q a b × (own q ≡ own p)
+makes_none p q a b (inl same) k given = subst (λ (z : Sender). GoesOn p z a b × (own z ≡ own p)) (sym same) (stays p a b k given, refl)
+makes_none p q a b (inr turn) k given = leaves p q turn.0 turn.0 a b turn.1 refl k given

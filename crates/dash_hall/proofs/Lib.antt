@@ -1,5 +1,6 @@
 pub mod Sharing
 pub mod Badges
+pub mod Slots
 pub mod Growing
 pub mod Calling
 pub mod HallGets

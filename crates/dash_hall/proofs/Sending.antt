@@ -1,6 +1,6 @@
 -- A host's sends, and what its calls keep.
-use Rattle.std.proofs.Common.{◌≡◌, ℕ, Bool, true, [], ◌∷◌, ◌++◌, map, None, refl, sym, ap, ◌∙◌, arith, eq-eqb}
-use Rattle.std.specs.Prelude.{◌&&◌, if◌then◌else◌}
+use Rattle.std.proofs.Common.{◌≡◌, ℕ, Bool, true, [], ◌∷◌, ◌++◌, map, None, refl, sym, ap, ◌∙◌, subst, arith, eq-eqb}
+use Rattle.std.specs.Prelude.{◌==◌, ◌&&◌, if◌then◌else◌, Result, Ok, Err, OnOk, OnErr}
 use Rattle.std.proofs.lemmas.List.{append-nil, map-append}
 use Rattle.atomic_table.specs.Seated.{TableId}
 use Rattle.loop_model.specs.declared.post.Post.{Post as PostData}
@@ -15,6 +15,10 @@ use Rattle.choreographer.specs.declared.host.Sending.{Sending as Told}
 use Rattle.choreographer.specs.declared.host.HostSent.{HostSent}
 use Rattle.choreographer.specs.declared.host.HostSent.TheVariants as host
 use Rattle.choreographer.specs.Host.{sent_by}
+use Rattle.choreographer.specs.declared.hosted.Placed.{Placed}
+use Rattle.choreographer.specs.Known.{Known as Pass}
+use Rattle.choreographer.specs.Calls.{PostedBy as CallbackPostedBy}
+use Rattle.run_model.specs.FrameRuns.{nanos_of}
 use Rattle.handler_post.specs.declared.way.Sent.{Sent}
 use Rattle.handler_post.specs.declared.way.Sent.TheVariants.{Accepted as Took, Refused as Turned, NoMemory as NoRoom}
 use Rattle.handler_post.specs.Supply.{letter_of}
@@ -25,7 +29,7 @@ use Rattle.handler_post.specs.Ways.{IsReady, IsSameWay}
 use Rattle.handler_post.specs.Sends.{Sending, Sends}
 use Rattle.dash_hall.specs.Growth.{own, GoesOn}
 use Rattle.dash_hall.specs.ByClock.{AddsAt}
-use Rattle.dash_hall.specs.Hosts.{HostOrigin, IsHost, is_sending, told_by, sends_by}
+use Rattle.dash_hall.specs.Hosts.{HostOrigin, IsHost, is_sending, told_by, sends_by, IsPlaced, IsUnplaced, PlacesBy, PlacesNot}
 use Rattle.dash_hall.proofs.Growing.{goes_on_then, turn_makes, makes_none, own_of_one}
 use Rattle.dash_hall.proofs.Calling.{sends, same_home}
 use Rattle.dash_hall.proofs.HostClock.{adds_then, sent_adds, in_mode_then}
@@ -64,7 +68,7 @@ told id home m p q a b (Turned place) is (claim, (x, y, t, posts), o) =
     let left : y.entries ≡ x.entries ++ e ∷ [] = ap (λ (w : State). w.entries) posts.2 in
     one_more id p q e (turn_makes p q x y (e ∷ []) t left (own_of_one p.sender e refl)) ∙ ap (λ (s : Told). sends_by id p ++ s ∷ []) (if_so (is_sending id m) _ _ is)
 told id home m p q a b NoRoom is (claim, none, o) =
-    let same : own q ≡ own p = (makes_none p q a a none (record { home = refl; back = omega arith })).1 in
+    let same : own q ≡ own p = (makes_none p q a a none (record { home = refl; back = omega arith }) refl).1 in
     ap (map (λ (x : Entry). told_by id x.call x.reply)) same ∙ sym (append-nil (sends_by id p))
 
 -- what a host's sending leaves
@@ -77,3 +81,14 @@ sends_on o h v w what arg when r is ready ready' same sent =
       hosted o v.poster.now w.poster.now v.pass.now w.pass.now is done.0 (sent_adds o.now v.poster.now w.poster.now v.pass.now w.pass.now m r done.0 done.1),
       told h.id v.pool.now m v.poster.now w.poster.now v.pass.now w.pass.now r mine sent,
     )
+
+-- a callback that was placed by a host of this handler, and one for which memory was wanting
+pub placed_by : {A E : Type 0} (r : Placed) (res : Result A E) (f g : Pass) (u h k : ℕ) (p q : Sender) (phase id delay : ℕ) → k ≡ h → OnOk res (IsPlaced r) → CallbackPostedBy f g (λ n. n == nanos_of u) (sends_by h p) (sends_by k q) phase id None delay r
+    → OnOk res (PlacesBy f g u (sends_by h p) (sends_by h q) phase id delay)
+placed_by r (Ok x) f g u h k p q phase id delay same ok turn = (r, ok, subst (λ (n : ℕ). CallbackPostedBy f g (λ m. m == nanos_of u) (sends_by h p) (sends_by n q) phase id None delay r) same turn)
+placed_by r (Err x) f g u h k p q phase id delay same ok turn = tt
+
+pub unplaced_by : {A E : Type 0} (r : Placed) (res : Result A E) (f g : Pass) (u h k : ℕ) (p q : Sender) (phase id delay : ℕ) → k ≡ h → OnErr res (IsUnplaced r) → CallbackPostedBy f g (λ n. n == nanos_of u) (sends_by h p) (sends_by k q) phase id None delay r
+    → OnErr res (PlacesNot f g u (sends_by h p) (sends_by h q) phase id delay)
+unplaced_by r (Ok x) f g u h k p q phase id delay same err turn = tt
+unplaced_by r (Err x) f g u h k p q phase id delay same err turn = (r, err, subst (λ (n : ℕ). CallbackPostedBy f g (λ m. m == nanos_of u) (sends_by h p) (sends_by n q) phase id None delay r) same turn)

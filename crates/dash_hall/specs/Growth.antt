@@ -1,5 +1,5 @@
 -- What a sender's calls do to its poster and its pass.
-use Rattle.std.specs.Prelude.{◌≡◌, ◌≢◌, ◌≤◌, ℕ, Bool, List, [], ◌∷◌, ◌++◌, All}
+use Rattle.std.specs.Prelude.{◌≡◌, ◌≢◌, ◌+◌, ◌≤◌, ℕ, Bool, List, [], ◌∷◌, ◌++◌, All}
 use Rattle.atomic_table.specs.Seated.{TableId}
 use Rattle.loop_model.specs.declared.call.Call.{Call}
 use Rattle.loop_model.specs.declared.entry.Entry.{Entry}
@@ -13,12 +13,13 @@ use Rattle.looper_run.specs.Holding.{Sender}
 use Rattle.looper_run.specs.Acts.{IsNoLookOf}
 use Rattle.run_model.specs.Asks.{plain, token_in, entries_by}
 use Rattle.handler_post.specs.declared.way.Way.{Way}
+use Rattle.dash_hall.specs.Slots.{LosesNoSlot}
 
 -- the entries that a poster has made
 abbrev pub own : Sender → List Entry
 own p = entries_by p.sender p.view.seen
 
--- the same sender of the same queue, with the same pool, which has seen more; it made no look for a message, handed nothing out, and no slot that it gave back is lost
+-- the same sender of the same queue, with the same pool, which has seen more; it made no look for a message, handed nothing out, and lost no slot
 pub record GoesOn (before after : Sender) (pass pass' : Tally) : Type 0 where
   pub table : after.table ≡ before.table
   pub sender : after.sender ≡ before.sender
@@ -32,10 +33,19 @@ pub record GoesOn (before after : Sender) (pass pass' : Tally) : Type 0 where
   pub no_looks : All (IsNoLookOf before.sender) more
   pub home : pass'.home ≡ pass.home
   pub back : pass.back ≤ pass'.back
+  pub steps : ℕ
+  pub slots : LosesNoSlot steps before after pass pass'
 
--- the same of the poster and the pass of a way
+-- the sender took at most one turn
+abbrev pub TurnsOnce : Sender → Sender → Type 0
+TurnsOnce before after = after.view.turns ≤ before.view.turns + 1
+
+-- both of the poster and the pass of a way
 abbrev pub WayGoesOn : Way → Way → Type 0
 WayGoesOn before after = GoesOn before.poster.now after.poster.now before.pass.now after.pass.now
+
+abbrev pub WayTurnsOnce : Way → Way → Type 0
+WayTurnsOnce before after = TurnsOnce before.poster.now after.poster.now
 
 -- the sender made one entry more, which makes this call and is answered these tokens
 pub record Makes (before after : Sender) (call : Call) (tokens : List ℕ) : Type 0 where

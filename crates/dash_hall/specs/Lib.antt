@@ -1,3 +1,4 @@
+pub mod Slots
 pub mod Growth
 pub mod Requests
 pub mod Kits

@@ -2,7 +2,7 @@
 ghost use Rattle.std.specs.Prelude.{◌≡◌, [], ◌∷◌, IfOk, OnOk, OnErr};
 ghost use Rattle.loop_model.specs.declared.call.Call.TheVariants.{Barrier, Unbarrier, Quit};
 ghost use Rattle.handler_post.specs.Ways.{IsReady, IsSameWay};
-ghost use Rattle.dash_hall.specs.Growth.{own, WayGoesOn, WayMakes, BarsOf, WayQuits};
+ghost use Rattle.dash_hall.specs.Growth.{own, WayGoesOn, WayTurnsOnce, WayMakes, BarsOf, WayQuits};
 
 use handler_post::{Way, recycle_all};
 use loop_model::NoMemory;
@@ -22,6 +22,7 @@ pub(crate) fn post_barrier<R: Wait>(
     ensures ready { IsReady way.new }
     ensures same { IsSameWay way.old way.new }
     ensures on { WayGoesOn way.old way.new }
+    ensures once { WayTurnsOnce way.old way.new }
     ensures made { IfOk result (λ token. WayMakes way.old way.new (Barrier 0) (token ∷ [])) }
     ensures turn { IfOk result (λ token. BarsOf way.old.poster.now way.new.poster.now now token) }
     ensures none { OnErr result (own way.new.poster.now ≡ own way.old.poster.now) }
@@ -46,6 +47,7 @@ pub(crate) fn remove_barrier<R: Wait>(rt: &R, way: &mut Way, token: u64) -> Resu
     ensures ready { IsReady way.new }
     ensures same { IsSameWay way.old way.new }
     ensures on { WayGoesOn way.old way.new }
+    ensures once { WayTurnsOnce way.old way.new }
     ensures made { OnOk result (WayMakes way.old way.new (Unbarrier token) []) }
     ensures none { OnErr result (own way.new.poster.now ≡ own way.old.poster.now) }
 {
@@ -67,6 +69,7 @@ pub fn quit<R: Wait>(rt: &R, way: &mut Way, safe: bool, now: u64) -> Result<(), 
     ensures ready { IsReady way.new }
     ensures same { IsSameWay way.old way.new }
     ensures on { WayGoesOn way.old way.new }
+    ensures once { WayTurnsOnce way.old way.new }
     ensures made { OnOk result (WayMakes way.old way.new (Quit safe 0) []) }
     ensures quits { OnOk result (WayQuits way.old way.new safe now) }
     ensures none { OnErr result (own way.new.poster.now ≡ own way.old.poster.now) }

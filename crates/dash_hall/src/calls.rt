@@ -2,7 +2,7 @@
 ghost use Rattle.std.specs.Prelude.{◌≡◌, is_some, IfOk, OnErr};
 ghost use Rattle.handler_post.specs.Ways.{IsReady, IsSameWay};
 ghost use Rattle.shared_queue.specs.Known.{IsOf};
-ghost use Rattle.dash_hall.specs.Growth.{own, GoesOn, Makes, WayGoesOn, WayMakes};
+ghost use Rattle.dash_hall.specs.Growth.{own, GoesOn, TurnsOnce, Makes, WayGoesOn, WayTurnsOnce, WayMakes};
 ghost use Rattle.dash_hall.specs.Requests.{call_made, tokens_of, posts_barrier, IsAtItsMoment};
 
 use crate::barriers::{post_barrier, quit, remove_barrier};
@@ -38,6 +38,7 @@ pub(crate) fn perform<R: Wait>(
     ensures ready { IsReady way.new }
     ensures same { IsSameWay way.old way.new }
     ensures on { WayGoesOn way.old way.new }
+    ensures once { WayTurnsOnce way.old way.new }
     ensures made { IfOk result (λ token. WayMakes way.old way.new (call_made call) (tokens_of token)) }
     ensures none { OnErr result (own way.new.poster.now ≡ own way.old.poster.now) }
     ensures token { IfOk result (λ token. is_some token ≡ posts_barrier call) }
@@ -78,6 +79,7 @@ pub fn perform_by<R: Wait>(
     requires pass { pass.old.home ≡ pool.now }
     requires home { queue.now.constants.home ≡ pool.now }
     ensures on { GoesOn poster.old poster.new pass.old pass.new }
+    ensures once { TurnsOnce poster.old poster.new }
     ensures made { IfOk result (λ token. Makes poster.old poster.new (call_made call) (tokens_of token)) }
     ensures none { OnErr result (own poster.new ≡ own poster.old) }
     ensures token { IfOk result (λ token. is_some token ≡ posts_barrier call) }

@@ -2,7 +2,7 @@
 ghost use Rattle.std.specs.Prelude.{◌≡◌, ◌<◌, ◌+◌, true, [], OnOk, OnErr};
 ghost use Rattle.run_model.specs.Senders.{looper_of as the_looper_of, gauge_handler as the_gauge_handler, handler_line};
 ghost use Rattle.handler_post.specs.Ways.{IsReady, IsSameWay};
-ghost use Rattle.dash_hall.specs.Growth.{own, WayGoesOn, WayMakes};
+ghost use Rattle.dash_hall.specs.Growth.{own, WayGoesOn, WayTurnsOnce, WayMakes};
 ghost use Rattle.dash_hall.specs.Requests.{call_by, IfSent, IfErased};
 
 use dash_script::Script;
@@ -107,6 +107,7 @@ pub fn make<R: Wait>(
     ensures ready { IsReady way.new }
     ensures same { IsSameWay way.old way.new }
     ensures on { WayGoesOn way.old way.new }
+    ensures once { WayTurnsOnce way.old way.new }
     ensures made { OnOk result (WayMakes way.old way.new (call_by handler request) []) }
     ensures none { OnErr result (own way.new.poster.now ≡ own way.old.poster.now) }
 {

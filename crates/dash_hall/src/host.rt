@@ -5,7 +5,7 @@ ghost use Rattle.loop_model.specs.declared.call.Call.TheVariants.{Barrier, Unbar
 ghost use Rattle.frame_phases.specs.Pulses.{is_pulse_if_any};
 ghost use Rattle.choreographer.specs.Known.{IsOf as IsFrameOf};
 ghost use Rattle.choreographer.specs.Calls.{PulsedBy, DueBy, stamp_in};
-ghost use Rattle.dash_hall.specs.Growth.{own, GoesOn, Makes, BarsOf};
+ghost use Rattle.dash_hall.specs.Growth.{own, GoesOn, TurnsOnce, Makes, BarsOf};
 ghost use Rattle.dash_hall.specs.Kits.{frame_badge_of};
 ghost use Rattle.dash_hall.specs.Hosts.{HostOrigin, origin_now, IsHostNow, IsSameHost, sends_of, IsPlaced, IsUnplaced, PlacesBy, PlacesNot};
 
@@ -91,6 +91,7 @@ impl<'a, R: Wait, U: Uptime> Host<'a, R, U> {
         requires { IsHostNow self.old }
         ensures ready { IsHostNow self.new }
         ensures origin { IsSameHost self.old self.new }
+        ensures once { TurnsOnce self.old.poster.now self.new.poster.now }
         ensures made { IfOk result (λ token. Makes self.old.poster.now self.new.poster.now (Barrier 0) (token ∷ [])) }
         ensures turn { IfOk result (λ token. BarsOf self.old.poster.now self.new.poster.now self.old.now token) }
         ensures none { OnErr result (own self.new.poster.now ≡ own self.old.poster.now) }
@@ -109,6 +110,7 @@ impl<'a, R: Wait, U: Uptime> Host<'a, R, U> {
         requires { IsHostNow self.old }
         ensures ready { IsHostNow self.new }
         ensures origin { IsSameHost self.old self.new }
+        ensures once { TurnsOnce self.old.poster.now self.new.poster.now }
         ensures made { OnOk result (Makes self.old.poster.now self.new.poster.now (Unbarrier token) []) }
         ensures none { OnErr result (own self.new.poster.now ≡ own self.old.poster.now) }
     {

@@ -18,7 +18,7 @@ use Rattle.looper_run.specs.Tests.{IsLent, Unless, Intercepts}
 use Rattle.looper_run.proofs.Working.{behind}
 use Rattle.dash_hall.specs.declared.hall.Hall.{Hall}
 use Rattle.dash_hall.specs.Growth.{GoesOn}
-use Rattle.dash_hall.proofs.Growing.{stays}
+use Rattle.dash_hall.proofs.Growing.{goes_nowhere}
 use Rattle.dash_hall.proofs.HostClock.{begins_by_clock}
 use Rattle.dash_hall.specs.Hosts.{HostOrigin, IsHost}
 use Rattle.dash_loopers.specs.Loopers.{IsPlaceOf, IsLooperOf}
@@ -26,10 +26,6 @@ use Rattle.dash_loopers.proofs.LooperPlaces.{queue_home}
 
 abbrev pub holding : Sender → Tally → Journal → Holding
 holding p t j = record { poster = p; pass = t; journal = j }
-
--- a poster and a pass that nothing was done with
-pub goes_nowhere : (p : Sender) (t : Tally) → GoesOn p p t t
-goes_nowhere p t = stays p t t (record { home = refl; back = omega arith })
 
 -- a poster and a pass that went on, beside the journal as it was
 pub lent_on : (p q : Sender) (t u : Tally) (j : Journal) → GoesOn p q t u → IsLent (holding p t j) (holding q u j)
@@ -87,7 +83,7 @@ host_begins s hall n q p a t u b c handler now uptime l at place e f = record {
   of_queue = place.queue q at;
   of_pool = place.pool;
   home = queue_home s hall n l n q at;
-  on = subst (λ (x : Sender). GoesOn x p u t) (sym e) (subst (λ (x : Tally). GoesOn p p x t) (sym f) (goes_nowhere p t));
+  on = goes_nowhere a p u t e f;
   clocked = begins_by_clock now a p e;
 }
 

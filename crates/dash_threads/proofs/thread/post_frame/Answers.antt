@@ -1,11 +1,12 @@
 use Rattle.std.proofs.Common.{rules}
+use Rattle.dash_hall.proofs.Growing.{goes_nowhere}
 use Rattle.dash_hall.proofs.HostClock.{begins_by_clock}
 use Rattle.dash_threads.proofs.ThreadFrames.{frame_made}
 use Rattle.dash_threads.proofs.thread.post_frame.Goals as goal
 
 pub post_callback-requires-clause-ready : goal.post_callback-requires-clause-ready
 post_callback-requires-clause-ready g c =
-    record { of_queue = c.requires.queue; of_pool = c.requires.pass; home = c.requires.home; on = (search rules); clocked = begins_by_clock c.args.post.now _ c.args.poster.now c.of-began.ensures }
+    record { of_queue = c.requires.queue; of_pool = c.requires.pass; home = c.requires.home; on = goes_nowhere _ c.args.poster.now _ c.args.pass.now c.of-began.ensures c.of-pass_began.ensures; clocked = begins_by_clock c.args.post.now _ c.args.poster.now c.of-began.ensures }
 
 pub returns-clause-made : goal.returns-clause-made
 returns-clause-made g c =

@@ -1,12 +1,13 @@
-use Rattle.std.proofs.Common.{rules, refl}
-use Rattle.dash_hall.proofs.Sending.{hosted}
+use Rattle.std.proofs.Common.{rules, refl, ap}
+use Rattle.dash_hall.proofs.Growing.{goes_nowhere}
+use Rattle.dash_hall.proofs.Sending.{hosted, placed_by, unplaced_by}
 use Rattle.dash_hall.proofs.HostClock.{begins_by_clock, adds_hosted}
 use Rattle.dash_hall.proofs.host.Host.post_callback.Goals as goal
 
 pub post_callback-requires-clause-ready : goal.post_callback-requires-clause-ready
 post_callback-requires-clause-ready g c =
     let h = c.requires.ready in
-    record { of_queue = h.of_queue; of_pool = h.of_pool; home = h.home; on = (search rules); clocked = begins_by_clock c.args.self.now.now _ c.args.self.now.poster.now c.of-began.ensures }
+    record { of_queue = h.of_queue; of_pool = h.of_pool; home = h.home; on = goes_nowhere _ c.args.self.now.poster.now _ c.args.self.now.pass.now c.of-began.ensures c.of-pass_began.ensures; clocked = begins_by_clock c.args.self.now.now _ c.args.self.now.poster.now c.of-began.ensures }
 
 pub returns-clause-ready : goal.returns-clause-ready
 returns-clause-ready g c =
@@ -14,3 +15,15 @@ returns-clause-ready g c =
     let q = c.post_callback.new.host.poster.now in
     hosted _ p q c.args.self.now.pass.now c.post_callback.new.host.pass.now c.requires.ready (search rules)
     (adds_hosted _ _ c.args.self.now.now p q c.post_callback.new.host.pass.now c.post_callback.ensures.origin c.post_callback.ensures.ready c.of-began.ensures refl)
+
+pub returns-clause-turn : goal.returns-clause-turn
+returns-clause-turn g c =
+    let h = c.args.self.now in
+    placed_by c.post_callback.result c.placed.result _ _ h.now h.handler.id c.post_callback.new.host.handler.id h.poster.now c.post_callback.new.host.poster.now c.args.phase c.args.id c.args.delay
+    (ap (λ o. o.handler) c.post_callback.ensures.origin) c.placed.ensures.ok c.post_callback.ensures.turn
+
+pub returns-clause-none : goal.returns-clause-none
+returns-clause-none g c =
+    let h = c.args.self.now in
+    unplaced_by c.post_callback.result c.placed.result _ _ h.now h.handler.id c.post_callback.new.host.handler.id h.poster.now c.post_callback.new.host.poster.now c.args.phase c.args.id c.args.delay
+    (ap (λ o. o.handler) c.post_callback.ensures.origin) c.placed.ensures.err c.post_callback.ensures.turn
