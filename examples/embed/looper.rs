@@ -54,9 +54,12 @@ mod c {
     }
 
     pub const DONE: u32 = 0;
+    pub const REFUSED: u32 = 2;
     pub const TAKEN: u32 = 0;
     pub const WAIT: u32 = 2;
     pub const WAIT_FOREVER: u32 = 3;
+    pub const END: u32 = 4;
+    pub const OVER: u32 = 5;
     pub const NOTHING_LEFT: u32 = 8;
 
     unsafe extern "C" {
@@ -78,7 +81,15 @@ enum Next<T> {
     Taken { handler: u32, value: Box<T> },
     /// Nothing is due until this moment, or without limit.
     Wait(Option<u64>),
-    Ended,
+    /// It has quit, and this many were left.
+    Ended(u64),
+}
+
+/// A box that was not posted: the queue quit at this place among all recorded calls, or there was no memory.
+#[derive(Debug, PartialEq)]
+struct Back<T> {
+    value: Box<T>,
+    quit: Option<u64>,
 }
 
 /// A queue of boxes, for the messages of handlers. Times are milliseconds.
@@ -101,11 +112,14 @@ impl<T> Queue<T> {
     }
 
     /// Posts the box, and answers whether the looper has to be woken. It comes back where it is refused.
-    fn post(&mut self, handler: u32, what: u32, when: u64, value: Box<T>) -> Result<bool, Box<T>> {
+    fn post(&mut self, handler: u32, what: u32, when: u64, value: Box<T>) -> Result<bool, Back<T>> {
         let obj = Box::into_raw(value) as u64;
         let message = c::Message { when, obj, handler, what, has_obj: true, ..Default::default() };
         let answer = unsafe { c::mq_post(&mut self.handle, &message) };
-        if answer.kind == c::DONE { Ok(answer.wake) } else { Err(Queue::value(&message)) }
+        if answer.kind == c::DONE {
+            return Ok(answer.wake);
+        }
+        Err(Back { value: Queue::value(&message), quit: (answer.kind == c::REFUSED).then_some(answer.number) })
     }
 
     fn value(message: &c::Message) -> Box<T> {
@@ -118,7 +132,8 @@ impl<T> Queue<T> {
             c::TAKEN => Next::Taken { handler: look.message.handler, value: Queue::value(&look.message) },
             c::WAIT => Next::Wait(Some(look.time)),
             c::WAIT_FOREVER => Next::Wait(None),
-            _ => Next::Ended,
+            c::END | c::OVER => Next::Ended(look.number),
+            kind => panic!("a look of the kind {kind}"),
         }
     }
 
@@ -131,15 +146,16 @@ impl<T> Queue<T> {
         unsafe { c::mq_live(&mut self.handle) }
     }
 
-    /// Removes the messages of a handler, and answers how many.
-    fn remove(&mut self, handler: u32) -> u64 {
-        unsafe { c::mq_remove(&mut self.handle, &filter(handler, None)) }.number
+    /// Removes the messages of a handler, and answers how many. None where there is no memory.
+    fn remove(&mut self, handler: u32) -> Option<u64> {
+        let answer = unsafe { c::mq_remove(&mut self.handle, &filter(handler, None)) };
+        (answer.kind == c::DONE).then_some(answer.number)
     }
 
-    /// Quits safely, and answers how many it dropped and whether the looper has to be woken.
-    fn quit(&mut self, now: u64) -> (u64, bool) {
+    /// Quits safely, and answers how many it dropped; the looper has to be woken then. None where it quit before.
+    fn quit(&mut self, now: u64) -> Option<u64> {
         let answer = unsafe { c::mq_quit(&mut self.handle, true, now) };
-        (answer.number, answer.wake)
+        (answer.kind == c::DONE && answer.wake).then_some(answer.number)
     }
 
     /// The next box that a removal or a quit dropped, in order.
@@ -172,6 +188,9 @@ fn filter(handler: u32, what: Option<u32>) -> c::Filter {
 }
 
 const POSTS: u32 = 1000;
+
+/// The calls that are recorded before the quit: of two threads each post and each message that is taken, and one removal.
+const PLACE_OF_QUIT: u64 = 2 * (POSTS as u64 + 1) + 2 * POSTS as u64 + 1;
 
 struct Shared {
     queue: Mutex<Queue<u32>>,
@@ -214,7 +233,10 @@ impl Shared {
                     queue = self.changed.wait_timeout(queue, wait).unwrap().0;
                 }
                 Next::Wait(None) => queue = self.changed.wait(queue).unwrap(),
-                Next::Ended => return counts,
+                Next::Ended(left) => {
+                    assert_eq!(left, 0);
+                    return counts;
+                }
             }
         }
     }
@@ -240,20 +262,20 @@ fn main() {
         let mut queue = shared.lock();
         assert_eq!(queue.live(), 2);
         let removed = queue.remove(0);
-        let (dropped, wake) = queue.quit(shared.now());
-        if wake {
-            shared.changed.notify_one();
-        }
+        let dropped = queue.quit(shared.now());
+        shared.changed.notify_one();
         let mut freed = 0;
         while let Some(value) = queue.next_dropped() {
             assert_eq!(*value, POSTS);
             freed += 1;
         }
         drop(queue);
-        assert_eq!((removed, dropped, freed), (1, 1, 2));
+        assert_eq!((removed, dropped, freed), (Some(1), Some(1), 2));
         looper.join().unwrap()
     });
     assert_eq!(counts, [POSTS; 2]);
-    let late = shared.lock().post(0, 0, 1, Box::new(7));
-    println!("taken {} and {}, a late post comes back: {}", counts[0], counts[1], late == Err(Box::new(7)));
+    let mut queue = shared.queue.into_inner().unwrap();
+    assert_eq!(queue.post(0, 0, 1, Box::new(7)), Err(Back { value: Box::new(7), quit: Some(PLACE_OF_QUIT) }));
+    assert_eq!(queue.live(), 0);
+    println!("taken {} and {}, a late post comes back", counts[0], counts[1]);
 }

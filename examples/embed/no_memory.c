@@ -1,5 +1,5 @@
-/* Lets each allocation fail in turn: the call answers MQ_NO_MEMORY and changes nothing, so the same call made again leads to
- * the same messages. Exits with 0 where it does. */
+/* Lets each allocation fail in turn: the call answers MQ_NO_MEMORY and changes nothing, so the same call made again has the
+ * answer that it has with ample memory, and the same messages come. Exits with 0 where it does. */
 #include "message_queue.h"
 
 #include <stdio.h>
@@ -39,9 +39,20 @@ void rattle_dealloc(void *at)
 /* Whether the call is to be made again. */
 static bool again(mq_answer answer)
 {
-    refused += answer.kind == MQ_NO_MEMORY;
-    return answer.kind == MQ_NO_MEMORY;
+    bool want = answer.kind == MQ_NO_MEMORY && answer.number == 0 && !answer.wake;
+    refused += want;
+    return want;
 }
+
+static bool done(mq_answer answer, uint64_t number)
+{
+    return answer.kind == MQ_DONE && answer.number == number;
+}
+
+/* The messages that are taken, and then those that are handed out, by their `what`. */
+static const uint32_t takes[] = {0, 3, 6, 9, 1, 4, 7, 10, 2, 8, 11}, drops[] = {5, 99};
+
+enum { TAKES = sizeof takes / sizeof *takes, DROPS = sizeof drops / sizeof *drops };
 
 static bool play(void)
 {
@@ -49,44 +60,47 @@ static bool play(void)
     mq_answer answer;
     while (!mq_open(&queue)) {
         refused++;
+        if (queue.live) return false;
     }
     for (uint32_t what = 0; what < 12; what++) {
         mq_message message = {.when = 10 + what % 3, .handler = what % 2, .what = what};
         do {
             answer = mq_post(&queue, &message);
         } while (again(answer));
+        if (!done(answer, what)) return false;
     }
     do {
         answer = mq_barrier(&queue, 11);
     } while (again(answer));
+    if (!done(answer, 0)) return false;
+    while (!mq_forget(&queue)) {
+        refused++;
+    }
     mq_filter filter = {.handler = 1, .by_what = true, .what = 5};
     do {
         answer = mq_remove(&queue, &filter);
     } while (again(answer));
-    uint64_t sum = answer.number;
+    if (!done(answer, 1)) return false;
     do {
         answer = mq_remove_barrier(&queue, 0);
     } while (again(answer));
-    for (mq_look look = mq_next(&queue, 20, false); look.kind == MQ_TAKEN; look = mq_next(&queue, 20, false)) {
-        sum = sum * 13 + look.message.what;
+    if (!done(answer, 0)) return false;
+    for (int i = 0; i < TAKES; i++) {
+        mq_look look = mq_next(&queue, 20, false);
+        if (look.kind != MQ_TAKEN || look.number != takes[i] || look.message.what != takes[i]) return false;
     }
+    if (mq_next(&queue, 20, false).kind != MQ_WAIT_FOREVER) return false;
     /* What was removed and what a post leaves is handed out without memory. */
     do {
         mq_message message = {.when = 30, .what = 99};
         answer = mq_post(&queue, &message);
     } while (again(answer));
-    if (mq_close(&queue).kind != MQ_DONE) {
-        return false;
+    if (!done(answer, 12) || !done(mq_close(&queue), DROPS)) return false;
+    for (int i = 0; i < DROPS; i++) {
+        mq_look look = mq_next_dropped(&queue);
+        if (look.kind != MQ_TAKEN || look.message.what != drops[i]) return false;
     }
-    for (mq_look look = mq_next_dropped(&queue); look.kind == MQ_TAKEN; look = mq_next_dropped(&queue)) {
-        sum = sum * 13 + look.message.what;
-    }
-    if (queue.live) {
-        return false;
-    }
-    static uint64_t first;
-    first = first == 0 ? sum : first;
-    return sum == first && sum != 1;
+    return mq_next_dropped(&queue).kind == MQ_NOTHING_LEFT && !queue.live;
 }
 
 int main(void)

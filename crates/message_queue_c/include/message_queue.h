@@ -5,12 +5,18 @@
  * for each handle round every call on it, also round those that only look, hands in the time, and waits by its own means. One thread
  * at a time looks for messages:
  *
- *     - after a call that answers `wake`, wake the thread that waits for messages: one that waits since its last look has to look
- *       again, since what comes first has changed. The wake may be given before or after the lock is let go. Where `wake` is false
- *       none is needed;
+ *     - after a call that answers `wake`, wake the thread that waits for messages, if one does, so that it looks again. The wake may
+ *       be given before or after the lock is let go. Where `wake` is false none is needed;
  *     - after `mq_next` answers MQ_WAIT, wait until `time`, after MQ_WAIT_FOREVER without limit, in both cases until woken.
  *       Let go of the lock as the wait begins and in one step with it (a condition variable does), and call `mq_next` again
  *       afterwards. To be woken too often does no harm.
+ *
+ * WAKES. `wake` is true in these answers MQ_DONE, and in no other:
+ *
+ *     - of a post, where `mq_next` has answered MQ_WAIT or MQ_WAIT_FOREVER since it last answered MQ_TAKEN, and the message comes
+ *       first of all, or is asynchronous, a barrier comes first, and no asynchronous message stands before it;
+ *     - of `mq_remove_barrier`, where that barrier came first, and then a message does or nothing is left, and no quit was done;
+ *     - of `mq_quit`: always. Only the first quit is answered so.
  *
  * TIMES are milliseconds of one clock that does not go back. A call that names an earlier moment than that of a message that was
  * taken, of a barrier, of a quit or of the end before it uses the latest of these.
@@ -61,15 +67,16 @@ typedef struct {
     uint64_t obj;      /* counts only where `has_obj` is set */
     uint64_t callback; /* counts only where `has_callback` is set */
     uint32_t handler;  /* whom it is for */
-    uint32_t what;     /* the user's code; 0 where a callback is posted */
+    uint32_t what;     /* the user's code, which a callback keeps too (Android posts a callback with 0) */
     uint32_t arg;
     bool has_obj;
     bool has_callback;
     bool asynchronous; /* barriers let it pass */
 } mq_message;
 
-/* The messages of `handler`: where `by_what` is set those with this `what`, or else where `by_callback` is set the posts of
- * this callback, or else all of them; and where `has_obj` is set only those with this object. Barriers never match. */
+/* The messages of `handler`: where `by_what` is set those with this `what`, posts of a callback too, or else where `by_callback`
+ * is set the posts of this callback, or else all of them; and where `has_obj` is set only those with this object. Barriers never
+ * match. */
 typedef struct {
     uint64_t obj;
     uint64_t callback;
@@ -94,7 +101,7 @@ enum {
 typedef struct {
     uint64_t number; /* as each call says, else 0 */
     uint32_t kind;
-    bool wake; /* whoever waits for messages has to look again */
+    bool wake; /* wake whoever waits for messages, so that it looks again */
 } mq_answer;
 
 /* The kinds of a look, with MQ_NOT_OPEN. The last two are answers of `mq_next_dropped` alone. */
@@ -120,9 +127,10 @@ typedef struct {
  * handle is open or messages still wait to be handed out. */
 bool mq_open(mq_queue *queue);
 
-/* Closes the handle: no more is posted or taken. It wakes nobody: quit first, and let the thread that waits for messages end. MQ_DONE: `number` is how many messages and barriers wait for
- * `mq_next_dropped`: what earlier calls dropped, then what stood in the queue, in order. Once the last is handed out, or at once
- * where there is none, nothing is left of the queue, and the handle may be opened anew.
+/* Closes the handle: no more is posted or taken. It wakes nobody: quit first, and let the thread that waits for messages end.
+ * MQ_DONE: `number` is how many messages and barriers wait for `mq_next_dropped`: what earlier calls dropped, then what stood in
+ * the queue, in order. Once the last is handed out, or at once where there is none, nothing is left of the queue, and the handle
+ * may be opened anew.
  * MQ_NOT_OPEN: the handle is not open; what still waits is freed and not handed out. So two calls free all. */
 mq_answer mq_close(mq_queue *queue);
 
@@ -165,8 +173,7 @@ mq_look mq_next(mq_queue *queue, uint64_t now, bool idle_owed);
 mq_answer mq_quit(mq_queue *queue, bool safe, uint64_t now);
 
 /* Hands out the first of what was dropped and not handed out yet, also once the handle is closed: MQ_TAKEN with the message and
- * its number, MQ_BARRIER, or MQ_NOTHING_LEFT. Only a queue that dropped 2 to the 64 of them without handing any out would let go
- * of the earlier ones. */
+ * its number, MQ_BARRIER, or MQ_NOTHING_LEFT. Only where 2 to the 64 of them or more would wait are the earlier ones let go. */
 mq_look mq_next_dropped(mq_queue *queue);
 
 /* Forgets the record of the calls so far, which else grows with each call. It takes time and memory for each message that is

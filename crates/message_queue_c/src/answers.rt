@@ -37,7 +37,7 @@ const BARRIER: u32 = 7;
 /// Nothing is left to be handed out.
 const NOTHING: u32 = 8;
 
-/// What a call answers: its kind, a number that goes with it, and whether a waiting looper has to look again.
+/// What a call answers: its kind, a number that goes with it, and whether a looper that waits is to be woken.
 #[repr(C)]
 #[derive(Clone, Copy, Debug, PartialEq, Eq)]
 pub struct MqAnswer {
@@ -45,7 +45,7 @@ pub struct MqAnswer {
     pub number: u64,
     /// Which answer it is.
     pub kind: u32,
-    /// Whether a waiting looper has to look again.
+    /// Whether a looper that waits is to be woken.
     pub wake: bool,
 }
 

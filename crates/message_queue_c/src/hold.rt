@@ -1,5 +1,5 @@
 // What a handle keeps is taken out of it for a call, and put back.
-ghost use Rattle.std.specs.Prelude.{◌≡◌, true, false, not, MatchOption, IfOk};
+ghost use Rattle.std.specs.Prelude.{◌≡◌, true, false, not, is_some, MatchOption, IfOk};
 ghost use Rattle.message_queue_c.specs.Contents.{nothing_in, just_opened, holds_nothing};
 ghost use Rattle.message_queue_c.specs.Handed.{inside};
 
@@ -17,6 +17,7 @@ impl MqQueue {
     /// What a live handle keeps; the handle is left closed.
     pub(crate) fn take(&mut self) -> Option<Lone<Kept>>
         ensures taken { MatchOption result (inside self.old ≡ nothing_in) (λ k. inside self.old ≡ k.value) }
+        ensures live { is_some result ≡ self.old.live }
         ensures closed { self.new.live ≡ false }
     {
         let (live, handle) = mem::replace(self, MqQueue::closed(Nowhere::new())).told();

@@ -1,7 +1,7 @@
 //! A message queue for C, under the caller's own lock and with the caller's own wait: `message_queue.h` says how each call is made.
 #![tactic(auto)]
 
-ghost use Rattle.std.specs.Prelude.{◌≡◌, true, false, MatchOption, if◌then◌else◌, length};
+ghost use Rattle.std.specs.Prelude.{◌≡◌, ◌||◌, true, false, MatchOption, if◌then◌else◌, length};
 ghost use Rattle.queue_state.specs.Queue.{has_match, sealed};
 ghost use Rattle.message_queue_c.specs.Handed.{inside, IsFreed};
 ghost use Rattle.message_queue_c.specs.Contents.{Does, Keeps, Closes, Pops, just_opened, nothing_in};
@@ -30,6 +30,7 @@ use std::alloc::Global;
 pub extern "C" fn mq_open(alloc: Global, queue: &mut MqQueue) -> bool
     ensures opened { (result ≡ true) → (inside queue.old ≡ nothing_in) × (inside queue.new ≡ just_opened) }
     ensures refused { (result ≡ false) → inside queue.new ≡ inside queue.old }
+    ensures live { queue.new.live ≡ (queue.old.live || result) }
 {
     if let Some(kept) = queue.take() {
         queue.put(kept);
@@ -62,7 +63,8 @@ pub extern "C" fn mq_close(alloc: Global, queue: &mut MqQueue) -> MqAnswer
 /// Posts a message for the time in it, or at the front where that is 0.
 #[unsafe(no_mangle)]
 pub extern "C" fn mq_post(alloc: Global, queue: &mut MqQueue, message: &MqMessage) -> MqAnswer
-    ensures { Does (inside queue.old) (inside queue.new) (IsNotOpen result) (Keeps (λ x y. PostShown x message.now result y)) }
+    ensures done { Does (inside queue.old) (inside queue.new) (IsNotOpen result) (Keeps (λ x y. PostShown x message.now result y)) }
+    ensures live { queue.new.live ≡ queue.old.live }
 {
     let Some(mut kept) = queue.take() else {
         return not_open();
@@ -79,7 +81,8 @@ pub extern "C" fn mq_post_at_front(
     queue: &mut MqQueue,
     message: &MqMessage,
 ) -> MqAnswer
-    ensures { Does (inside queue.old) (inside queue.new) (IsNotOpen result) (Keeps (λ x y. PostShown x (record message.now { when = 0 }) result y)) }
+    ensures done { Does (inside queue.old) (inside queue.new) (IsNotOpen result) (Keeps (λ x y. PostShown x (record message.now { when = 0 }) result y)) }
+    ensures live { queue.new.live ≡ queue.old.live }
 {
     let mut front = *message;
     front.when = 0;
@@ -94,7 +97,8 @@ pub extern "C" fn mq_post_at_front(
 /// Posts a barrier at this moment, in milliseconds, and answers its token.
 #[unsafe(no_mangle)]
 pub extern "C" fn mq_barrier(alloc: Global, queue: &mut MqQueue, now: u64) -> MqAnswer
-    ensures { Does (inside queue.old) (inside queue.new) (IsNotOpen result) (Keeps (λ x y. BarrierShown x now result y)) }
+    ensures done { Does (inside queue.old) (inside queue.new) (IsNotOpen result) (Keeps (λ x y. BarrierShown x now result y)) }
+    ensures live { queue.new.live ≡ queue.old.live }
 {
     let Some(mut kept) = queue.take() else {
         return not_open();
@@ -107,7 +111,8 @@ pub extern "C" fn mq_barrier(alloc: Global, queue: &mut MqQueue, now: u64) -> Mq
 /// Removes the barrier of this token.
 #[unsafe(no_mangle)]
 pub extern "C" fn mq_remove_barrier(queue: &mut MqQueue, token: u64) -> MqAnswer
-    ensures { Does (inside queue.old) (inside queue.new) (IsNotOpen result) (Keeps (λ x y. GoneShown x token result y)) }
+    ensures done { Does (inside queue.old) (inside queue.new) (IsNotOpen result) (Keeps (λ x y. GoneShown x token result y)) }
+    ensures live { queue.new.live ≡ queue.old.live }
 {
     let Some(mut kept) = queue.take() else {
         return not_open();
@@ -120,7 +125,8 @@ pub extern "C" fn mq_remove_barrier(queue: &mut MqQueue, token: u64) -> MqAnswer
 /// Removes the messages that the filter names, which wait to be handed out then, and answers how many.
 #[unsafe(no_mangle)]
 pub extern "C" fn mq_remove(queue: &mut MqQueue, filter: &MqFilter) -> MqAnswer
-    ensures { Does (inside queue.old) (inside queue.new) (IsNotOpen result) (λ x y ds es. TakingShown x filter.now result y ds es) }
+    ensures done { Does (inside queue.old) (inside queue.new) (IsNotOpen result) (λ x y ds es. TakingShown x filter.now result y ds es) }
+    ensures live { queue.new.live ≡ queue.old.live }
 {
     let Some(mut kept) = queue.take() else {
         return not_open();
@@ -135,6 +141,7 @@ pub extern "C" fn mq_remove(queue: &mut MqQueue, filter: &MqFilter) -> MqAnswer
 pub extern "C" fn mq_has(queue: &mut MqQueue, filter: &MqFilter) -> bool
     ensures found { MatchOption (inside queue.old).queue (result ≡ false) (λ x. result ≡ has_match x (filter_by filter.now)) }
     ensures same { inside queue.new ≡ inside queue.old }
+    ensures live { queue.new.live ≡ queue.old.live }
 {
     let Some(mut kept) = queue.take() else {
         return false;
@@ -149,6 +156,7 @@ pub extern "C" fn mq_has(queue: &mut MqQueue, filter: &MqFilter) -> bool
 pub extern "C" fn mq_live(queue: &mut MqQueue) -> u64
     ensures counted { MatchOption (inside queue.old).queue (result ≡ 0) (λ x. result ≡ length x.messages) }
     ensures same { inside queue.new ≡ inside queue.old }
+    ensures live { queue.new.live ≡ queue.old.live }
 {
     let Some(mut kept) = queue.take() else {
         return 0;
@@ -161,7 +169,8 @@ pub extern "C" fn mq_live(queue: &mut MqQueue) -> u64
 /// Looks for the first message that is due at `now`, in milliseconds. What an end drops waits to be handed out.
 #[unsafe(no_mangle)]
 pub extern "C" fn mq_next(queue: &mut MqQueue, now: u64, idle_owed: bool) -> MqNext
-    ensures { Does (inside queue.old) (inside queue.new) (HasNotOpen result) (λ x y ds es. NextShown x now idle_owed result y ds es) }
+    ensures done { Does (inside queue.old) (inside queue.new) (HasNotOpen result) (λ x y ds es. NextShown x now idle_owed result y ds es) }
+    ensures live { queue.new.live ≡ queue.old.live }
 {
     let Some(mut kept) = queue.take() else {
         return not_open_look();
@@ -175,7 +184,8 @@ pub extern "C" fn mq_next(queue: &mut MqQueue, now: u64, idle_owed: bool) -> MqN
 /// due later than `now`, in milliseconds.
 #[unsafe(no_mangle)]
 pub extern "C" fn mq_quit(queue: &mut MqQueue, safe: bool, now: u64) -> MqAnswer
-    ensures { Does (inside queue.old) (inside queue.new) (IsNotOpen result) (λ x y ds es. QuitShown x safe now result y ds es) }
+    ensures done { Does (inside queue.old) (inside queue.new) (IsNotOpen result) (λ x y ds es. QuitShown x safe now result y ds es) }
+    ensures live { queue.new.live ≡ queue.old.live }
 {
     let Some(mut kept) = queue.take() else {
         return not_open();
@@ -203,7 +213,8 @@ pub extern "C" fn mq_next_dropped(alloc: Global, queue: &mut MqQueue) -> MqNext
 /// memory or no queue is open.
 #[unsafe(no_mangle)]
 pub extern "C" fn mq_forget(queue: &mut MqQueue) -> bool
-    ensures { Does (inside queue.old) (inside queue.new) (result ≡ false) (Keeps (λ x y. y ≡ (if result then sealed x else x))) }
+    ensures done { Does (inside queue.old) (inside queue.new) (result ≡ false) (Keeps (λ x y. y ≡ (if result then sealed x else x))) }
+    ensures live { queue.new.live ≡ queue.old.live }
 {
     let Some(mut kept) = queue.take() else {
         return false;
