@@ -17,4 +17,5 @@ KeepsSlots x y pass pass' = slots_in x.messages + pass'.taken + pass.back ≡ sl
 abbrev pub LosesNoSlot : ℕ → Sender → Sender → Tally → Tally → Type 0
 LosesNoSlot zero before after pass pass' = (after ≡ before) × GivesBackAll pass pass'
 LosesNoSlot (suc turns) before after pass pass' =
-    (next : Sender) × (kept : Tally) × (x : State) × (y : State) × IsTurn before next x y × KeepsSlots x y pass kept × LosesNoSlot turns next after kept pass'
+    (next : Sender) × (kept : Tally) × (x : State) × (y : State) × IsTurn before next x y × KeepsSlots x y pass kept
+    × LosesNoSlot turns next after kept pass'
