@@ -4,3 +4,5 @@ pub mod Again
 pub mod Whole
 pub mod Elements
 pub mod Traced
+pub mod Periods
+pub mod Grouped

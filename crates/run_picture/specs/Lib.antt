@@ -3,6 +3,7 @@ pub mod Lines
 pub mod Progress
 pub mod Text
 pub mod Marks
+pub mod Period
 pub mod Groups
 pub mod Labels
 pub mod Drawn

@@ -208,7 +208,7 @@ pub fn svg_text(alloc: Global, report: &Report) -> Result<Vec<u8>, NoMemory>
 {
     let marks = marks(alloc, report)?;
     let count = marks.len() as u64;
-    let period = period_of(report);
+    let period = u128::from(period_of(report));
     let scale = scale_of(&marks, period, phases_of(report));
     let groups = groups(alloc, scale, marks)?;
     let mut lower = Vec::new(alloc);
