@@ -6,3 +6,4 @@ pub mod Elements
 pub mod Traced
 pub mod Periods
 pub mod Grouped
+pub mod Bare

@@ -6,6 +6,7 @@ pub mod Marks
 pub mod Period
 pub mod Groups
 pub mod Labels
+pub mod Flat
 pub mod Drawn
 pub mod Events
 pub mod Picture

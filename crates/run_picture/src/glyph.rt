@@ -1,4 +1,5 @@
 //! The shape of a mark, drawn from its place on.
+use crate::canvas::Canvas;
 use crate::group::{Group, Row, Scale};
 use crate::levels::value_of;
 use crate::mark::Kind;
@@ -97,7 +98,7 @@ impl Spot {
     /// Text beside a mark that stands in this column, from this point on, where there is room for it.
     fn push_beside(
         &mut self,
-        out: &mut Vec<u8>,
+        out: &mut Canvas,
         column: u64,
         room: u64,
         point: &[u8],
@@ -137,7 +138,7 @@ fn beside(alloc: Global, group: &Group) -> Result<Vec<u8>, NoMemory> {
 
 fn push_dispatch(
     alloc: Global,
-    out: &mut Vec<u8>,
+    out: &mut Canvas,
     spot: &mut Spot,
     handler: u32,
     room: u64,
@@ -152,7 +153,7 @@ fn push_dispatch(
     spot.push_beside(out, group.place.column, room, b"x=\"6\" y=\"14\"", &text)
 }
 
-fn push_frame(out: &mut Vec<u8>, spot: &Spot) -> Result<(), NoMemory> {
+fn push_frame(out: &mut Canvas, spot: &Spot) -> Result<(), NoMemory> {
     let extent = Extent {
         x: 0,
         y: 3,
@@ -164,7 +165,7 @@ fn push_frame(out: &mut Vec<u8>, spot: &Spot) -> Result<(), NoMemory> {
 
 fn push_run(
     alloc: Global,
-    out: &mut Vec<u8>,
+    out: &mut Canvas,
     spot: &Spot,
     phase: u32,
     count: usize,
@@ -193,7 +194,7 @@ fn push_run(
 
 fn push_paint(
     alloc: Global,
-    out: &mut Vec<u8>,
+    out: &mut Canvas,
     spot: &mut Spot,
     room: u64,
     group: &Group,
@@ -206,7 +207,7 @@ fn push_paint(
 /// The shape of a group: what its first mark is, and text beside it where that fits into so many pixels.
 pub(crate) fn push_glyph(
     alloc: Global,
-    out: &mut Vec<u8>,
+    out: &mut Canvas,
     spot: &mut Spot,
     room: u64,
     group: &Group,

@@ -1,4 +1,5 @@
 //! The background of a picture: lanes, rows, the levels of gauges, and what has no time.
+use crate::canvas::Canvas;
 use crate::group::{Group, Place, Row};
 use crate::label::push_subject;
 use crate::mark::Kind;
@@ -117,7 +118,7 @@ fn fates_text(alloc: Global, fates: &Fates) -> Result<Vec<u8>, NoMemory> {
 /// A looper's line: its name, and the fates of its messages.
 fn push_head(
     alloc: Global,
-    out: &mut Vec<u8>,
+    out: &mut Canvas,
     y: u64,
     number: u64,
     looper: &Looper,
@@ -182,7 +183,7 @@ fn act_text(alloc: Global, act: &Act) -> Result<Vec<u8>, NoMemory> {
 
 /// One line under a lane, up to the most of them.
 fn push_note(
-    out: &mut Vec<u8>,
+    out: &mut Canvas,
     y: u64,
     count: u64,
     class: &[u8],
@@ -200,7 +201,7 @@ fn push_note(
 }
 
 /// The lines under a lane. Answers where the next lane begins.
-fn push_notes(alloc: Global, out: &mut Vec<u8>, y: u64, looper: &Looper) -> Result<u64, NoMemory> {
+fn push_notes(alloc: Global, out: &mut Canvas, y: u64, looper: &Looper) -> Result<u64, NoMemory> {
     let mut next = y;
     let mut count = 0;
     for past in looper.past.as_slice() {
@@ -239,7 +240,7 @@ impl Lanes {
     }
 
     /// Begins a row where this group has another one than the last group.
-    fn begin_row(&mut self, alloc: Global, out: &mut Vec<u8>, row: Row) -> Result<(), NoMemory> {
+    fn begin_row(&mut self, alloc: Global, out: &mut Canvas, row: Row) -> Result<(), NoMemory> {
         if self.row == Some(row) {
             return Ok(());
         }
@@ -263,7 +264,7 @@ impl Lanes {
     fn push_rows(
         &mut self,
         alloc: Global,
-        out: &mut Vec<u8>,
+        out: &mut Canvas,
         lane: u64,
         groups: &[Group],
     ) -> Result<(), NoMemory> {
@@ -281,7 +282,7 @@ impl Lanes {
     fn push_lane(
         &mut self,
         alloc: Global,
-        out: &mut Vec<u8>,
+        out: &mut Canvas,
         lane: u64,
         looper: &Looper,
         groups: &[Group],
@@ -299,7 +300,7 @@ impl Lanes {
 /// Draws the lanes of a report, and answers where the rows of the groups are.
 pub(crate) fn push_lanes(
     alloc: Global,
-    out: &mut Vec<u8>,
+    out: &mut Canvas,
     report: &Report,
     groups: &[Group],
 ) -> Result<Lanes, NoMemory> {
