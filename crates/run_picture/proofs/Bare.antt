@@ -16,7 +16,7 @@ or_true false y = refl
 pub bare : (b : List ℕ) → IsFlat b → HasNoElement b
 bare b flat before after e =
     let some : list_any (λ c. c == 40) b ≡ true =
-      ap (list_any (λ c. c == 40)) e ∙ list_any-append (λ c. c == 40) (before ++ beginning) after
-      ∙ ap (λ x. x || list_any (λ c. c == 40) after) (list_any-append (λ c. c == 40) before beginning)
-      ∙ or_true (list_any (λ c. c == 40) before) (list_any (λ c. c == 40) after)
+    ap (list_any (λ c. c == 40)) e ∙ list_any-append (λ c. c == 40) (before ++ beginning) after
+    ∙ ap (λ x. x || list_any (λ c. c == 40) after) (list_any-append (λ c. c == 40) before beginning)
+    ∙ or_true (list_any (λ c. c == 40) before) (list_any (λ c. c == 40) after)
     in let wrong : false ≡ true = sym flat ∙ some in cc

@@ -7,3 +7,4 @@ pub mod Traced
 pub mod Periods
 pub mod Grouped
 pub mod Bare
+pub mod Pieces

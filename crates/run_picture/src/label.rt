@@ -115,19 +115,26 @@ pub(crate) fn push_group(out: &mut Vec<u8>, group: &Group) -> Result<(), NoMemor
     push_more(out, marks.len() as u64)
 }
 
+/// Writes a byte into an SVG: what would be markup is written as an entity.
+fn push_entity(out: &mut Vec<u8>, byte: u8) -> Result<(), NoMemory>
+    ensures { OnOk result (out.new.items ≡ out.old.items ++ entity byte) }
+{
+    match byte {
+        b'&' => out.extend_from_slice(b"&amp;")?,
+        b'<' => out.extend_from_slice(b"&lt;")?,
+        b'>' => out.extend_from_slice(b"&gt;")?,
+        b'"' => out.extend_from_slice(b"&quot;")?,
+        other => out.push(other)?,
+    }
+    Ok(())
+}
+
 /// Writes text into an SVG: what would be markup is written as an entity.
-#[tactic(auto, using(std::proofs::lemmas::List::append_assoc))]
 pub(crate) fn push_escaped(out: &mut Vec<u8>, text: &[u8]) -> Result<(), NoMemory>
     ensures { OnOk result (out.new.items ≡ out.old.items ++ flat_map entity text.now) }
 {
     for byte in text {
-        match *byte {
-            b'&' => out.extend_from_slice(b"&amp;")?,
-            b'<' => out.extend_from_slice(b"&lt;")?,
-            b'>' => out.extend_from_slice(b"&gt;")?,
-            b'"' => out.extend_from_slice(b"&quot;")?,
-            other => out.push(other)?,
-        }
+        push_entity(out, *byte)?;
     }
     Ok(())
 }
