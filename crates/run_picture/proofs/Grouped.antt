@@ -21,7 +21,7 @@ use Rattle.run_picture.specs.declared.group.Row.TheVariants.{Handler, Frames, Ru
 use Rattle.run_picture.specs.declared.group.Place.{Place}
 use Rattle.run_picture.specs.declared.group.Scale.{Scale}
 use Rattle.run_picture.specs.declared.group.Group.{Group}
-use Rattle.run_picture.specs.Groups.{HasMarks, IsOfPlace, Rise, StandsAt, begun, key, marks_of, number, order, place, place_of, rank, with_mark}
+use Rattle.run_picture.specs.Groups.{AreCut, HasMarks, IsOfPlace, Rise, StandsAt, begun, key, marks_of, number, order, place, place_of, rank, with_mark}
 
 -- the groups rise, and would with one more at this place
 abbrev pub RiseTo : List Group → Place → Type 0
@@ -104,13 +104,6 @@ pub record Cut (s : Scale) (first : Mark) (later : List Mark) (i : ℕ) (gs : Li
   pub rising : RiseTo gs g.place
   pub last : g.place ≡ place s (get_or (first ∷ later) i first)
 
--- what marks are when they are cut
-pub record AreCut (s : Scale) (ms : List Mark) (gs : List Group) : Type 0 where
-  pub all : flat_map marks_of gs ≡ ms
-  pub places : AllByRecursion (IsOfPlace s) gs
-  pub marked : AllByRecursion HasMarks gs
-  pub rising : Rise gs
-
 alone : (p : Place) → IsStrictlySortedBy order (p ∷ [])
 unfolding IsStrictlySortedBy
 alone p = (tt, tt)
@@ -174,6 +167,15 @@ cut_other s first later i gs hs g k h m d up c lt read other eg ek eh =
       last = ap (place s) here;
     }
 
+rise_none : Rise []
+unfolding IsStrictlySortedBy
+rise_none = tt
+
+-- no marks
+pub cut_none : (s : Scale) (ms : List Mark) (gs : List Group) → length ms ≡ 0 → gs ≡ [] → AreCut s ms gs
+cut_none s [] gs e none = subst (λ x. AreCut s [] x) (sym none) record { all = refl; places = tt; marked = tt; rising = rise_none }
+cut_none s (m ∷ ms) gs e none = absurd (omega (arith, e))
+
 -- the last mark is cut
 pub cut_end : (s : Scale) (first : Mark) (later : List Mark) (i : ℕ) (gs hs : List Group) (g : Group) → Cut s first later i gs g → length later ≤ i → hs ≡ gs ++ g ∷ [] → AreCut s (first ∷ later) hs
 cut_end s first later i gs hs g c le eg = subst (λ x. AreCut s (first ∷ later) x) (sym eg) ends
@@ -185,10 +187,6 @@ cut_end s first later i gs hs g c le eg = subst (λ x. AreCut s (first ∷ later
       marked = AllByRecursion-append HasMarks gs (g ∷ []) c.marked (c.some, tt);
       rising = rise_all gs g c.rising;
     }
-
-pub rise_none : Rise []
-unfolding IsStrictlySortedBy
-rise_none = tt
 
 -- what `sort_by_key` ensures, where each call answers the key of the mark's place
 pub sorted_by_place : (s : Scale) {F : Type 0} {g : Mut F (Bor Mark × Unit {0}) (List ℕ)} {f : F} (xs : List Mark)

@@ -1,6 +1,6 @@
 -- Marks that fall on one place of the picture are one group.
 use Rattle.std.specs.Prelude.{◌≡◌, ℕ, ◌<◌, ◌+◌, ◌-◌, ◌*◌, ◌/◌, ◌%◌, ◌^◌, min, max, List, [], ◌∷◌, ◌++◌, length, map}
-use Rattle.std.specs.List.{AllByRecursion}
+use Rattle.std.specs.List.{AllByRecursion, flat_map}
 use Rattle.std.specs.List.Sorted.{IsStrictlySortedBy}
 use Rattle.std.specs.declared.cmp.Ordering.{Ordering}
 use Rattle.std.specs.Ordering.{nat_cmp}
@@ -88,6 +88,13 @@ place_of g = g.place
 -- each group stands before all behind it, so that no two stand at one place
 abbrev pub Rise : List Group → Type 0
 Rise gs = IsStrictlySortedBy order (map place_of gs)
+
+-- groups into which marks are cut, in order: each has some marks, all of them at its place, and the places rise
+pub record AreCut (s : Scale) (ms : List Mark) (gs : List Group) : Type 0 where
+  pub all : flat_map marks_of gs ≡ ms
+  pub places : AllByRecursion (IsOfPlace s) gs
+  pub marked : AllByRecursion HasMarks gs
+  pub rising : Rise gs
 
 -- group g with one mark more
 abbrev pub with_mark : Group → Mark → Group

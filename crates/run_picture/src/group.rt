@@ -2,7 +2,7 @@
 ghost use Rattle.std.specs.Prelude.{◌≡◌, ◌↔◌, ◌<◌, ◌≤◌, ◌^◌, ◌∷◌, IfOk, IsPermutation, IsTrue, OnOk};
 ghost use Rattle.std.specs.List.{flat_map, AllByRecursion};
 ghost use Rattle.std.specs.List.Sorted.{IsSortedByKey};
-ghost use Rattle.run_picture.specs.Groups.{HasMarks, IsOfPlace, Rise, begun, column, key, marks_of, nanos, number, order, pixels, place, rank, row_of, shift, with_mark};
+ghost use Rattle.run_picture.specs.Groups.{AreCut, HasMarks, IsOfPlace, Rise, begun, column, key, marks_of, nanos, number, order, pixels, place, rank, row_of, shift, with_mark};
 
 use crate::mark::{Kind, Mark, Moment, NANOS_PER_MILLI};
 use crate::shape::LANE_WIDTH;
@@ -203,10 +203,7 @@ fn cut_behind(
     later: &[Mark],
 ) -> Result<Vec<Group>, NoMemory>
     requires { IsSortedByKey (place scale) order (first ∷ later.now) }
-    ensures all { IfOk result (λ found. flat_map marks_of found.items ≡ first ∷ later.now) }
-    ensures places { IfOk result (λ found. AllByRecursion (IsOfPlace scale) found.items) }
-    ensures marked { IfOk result (λ found. AllByRecursion HasMarks found.items) }
-    ensures rising { IfOk result (λ found. Rise found.items) }
+    ensures { IfOk result (λ found. AreCut scale (first ∷ later.now) found.items) }
 {
     let mut groups = Vec::new(alloc);
     let mut current = begun(alloc, scale.place(&first));
@@ -226,10 +223,7 @@ fn cut_behind(
 /// Cuts marks where the next one stands at another place.
 fn cut(alloc: Global, scale: Scale, marks: &[Mark]) -> Result<Vec<Group>, NoMemory>
     requires { IsSortedByKey (place scale) order marks.now }
-    ensures all { IfOk result (λ found. flat_map marks_of found.items ≡ marks.now) }
-    ensures places { IfOk result (λ found. AllByRecursion (IsOfPlace scale) found.items) }
-    ensures marked { IfOk result (λ found. AllByRecursion HasMarks found.items) }
-    ensures rising { IfOk result (λ found. Rise found.items) }
+    ensures { IfOk result (λ found. AreCut scale marks.now found.items) }
 {
     match marks.split_first() {
         Some((first, later)) => cut_behind(alloc, scale, *first, later),

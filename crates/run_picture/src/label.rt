@@ -1,5 +1,6 @@
 //! What the marks of a picture say.
 ghost use Rattle.std.specs.Prelude.{◌≡◌, ◌++◌, OnOk};
+ghost use Rattle.std.specs.Fmt.{decimal};
 ghost use Rattle.std.specs.List.{flat_map};
 ghost use Rattle.run_picture.specs.Labels.{entity, fraction, group_text, kind_text, more_text, subject_text, time_text};
 
@@ -35,19 +36,22 @@ pub(crate) fn push_time(out: &mut Vec<u8>, time: Moment) -> Result<(), NoMemory>
     Ok(())
 }
 
+/// Words, and a number behind them.
+#[tactic(auto, using(std::proofs::lemmas::List::append_assoc))]
+pub(crate) fn push_named(out: &mut Vec<u8>, words: &[u8], number: u64) -> Result<(), NoMemory>
+    ensures { OnOk result (out.new.items ≡ out.old.items ++ (words.now ++ decimal number)) }
+{
+    out.extend_from_slice(words)?;
+    push_number(out, number)
+}
+
 #[tactic(auto, using(std::proofs::lemmas::List::append_assoc))]
 pub(crate) fn push_subject(out: &mut Vec<u8>, subject: Subject) -> Result<(), NoMemory>
     ensures { OnOk result (out.new.items ≡ out.old.items ++ subject_text subject) }
 {
     match subject {
-        Subject::What(what) => {
-            out.extend_from_slice(b"what ")?;
-            push_number(out, u64::from(what))
-        }
-        Subject::Callback(callback) => {
-            out.extend_from_slice(b"callback ")?;
-            push_number(out, callback)
-        }
+        Subject::What(what) => push_named(out, b"what ", u64::from(what)),
+        Subject::Callback(callback) => push_named(out, b"callback ", callback),
     }
 }
 
@@ -62,10 +66,8 @@ pub(crate) fn push_kind(out: &mut Vec<u8>, kind: Kind) -> Result<(), NoMemory>
             handler,
             subject,
         } => {
-            out.extend_from_slice(b"message ")?;
-            push_number(out, number)?;
-            out.extend_from_slice(b", handler ")?;
-            push_number(out, u64::from(handler))?;
+            push_named(out, b"message ", number)?;
+            push_named(out, b", handler ", u64::from(handler))?;
             out.extend_from_slice(b", ")?;
             push_subject(out, subject)
         }
@@ -74,16 +76,12 @@ pub(crate) fn push_kind(out: &mut Vec<u8>, kind: Kind) -> Result<(), NoMemory>
             Ok(())
         }
         Kind::Run(run) => {
-            out.extend_from_slice(b"callback ")?;
-            push_number(out, run.id)?;
-            out.extend_from_slice(b" in phase ")?;
-            push_number(out, u64::from(run.phase))
+            push_named(out, b"callback ", run.id)?;
+            push_named(out, b" in phase ", u64::from(run.phase))
         }
         Kind::Paint { gauge, value } => {
-            out.extend_from_slice(b"gauge ")?;
-            push_number(out, u64::from(gauge))?;
-            out.extend_from_slice(b" at ")?;
-            push_number(out, u64::from(value))
+            push_named(out, b"gauge ", u64::from(gauge))?;
+            push_named(out, b" at ", u64::from(value))
         }
     }
 }
@@ -94,8 +92,7 @@ fn push_more(out: &mut Vec<u8>, count: u64) -> Result<(), NoMemory>
     ensures { OnOk result (out.new.items ≡ out.old.items ++ more_text count) }
 {
     if count > 1 {
-        out.extend_from_slice(b" (")?;
-        push_number(out, count)?;
+        push_named(out, b" (", count)?;
         out.extend_from_slice(b" marks here)")?;
     }
     Ok(())

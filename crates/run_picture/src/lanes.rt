@@ -1,7 +1,7 @@
 //! The background of a picture: lanes, rows, the levels of gauges, and what has no time.
 use crate::canvas::Canvas;
 use crate::group::{Group, Place, Row};
-use crate::label::push_subject;
+use crate::label::{push_named, push_subject};
 use crate::mark::Kind;
 use crate::report::{Act, Fates, Looper, Past, Report};
 use crate::shape::{LANE_WIDTH, LEFT, WIDTH, numbered, push_line, push_text};
@@ -141,22 +141,14 @@ fn past_text(alloc: Global, past: &Past) -> Result<Vec<u8>, NoMemory> {
             subject,
             place,
         } => {
-            text.extend_from_slice(b"refused: handler ")?;
-            push_number(&mut text, u64::from(handler))?;
+            push_named(&mut text, b"refused: handler ", u64::from(handler))?;
             text.extend_from_slice(b", ")?;
             push_subject(&mut text, subject)?;
-            text.extend_from_slice(b", behind the quit at place ")?;
-            push_number(&mut text, place)?;
+            push_named(&mut text, b", behind the quit at place ", place)?;
         }
-        Past::NotPosted { token } => {
-            text.extend_from_slice(b"no barrier with token ")?;
-            push_number(&mut text, token)?;
-        }
+        Past::NotPosted { token } => push_named(&mut text, b"no barrier with token ", token)?,
         Past::NotAllowed => text.extend_from_slice(b"the main looper may not quit")?,
-        Past::AlreadyQuit { place } => {
-            text.extend_from_slice(b"quit before, at place ")?;
-            push_number(&mut text, place)?;
-        }
+        Past::AlreadyQuit { place } => push_named(&mut text, b"quit before, at place ", place)?,
     }
     Ok(text)
 }
@@ -167,15 +159,12 @@ fn act_text(alloc: Global, act: &Act) -> Result<Vec<u8>, NoMemory> {
     match *act {
         Act::Paint { .. } => {}
         Act::Idle { id } => {
-            text.extend_from_slice(b"idle handler ")?;
-            push_number(&mut text, u64::from(id))?;
+            push_named(&mut text, b"idle handler ", u64::from(id))?;
             text.extend_from_slice(b" ran")?;
         }
         Act::Event { fd, events } => {
-            text.extend_from_slice(b"events ")?;
-            push_number(&mut text, u64::from(events))?;
-            text.extend_from_slice(b" on descriptor ")?;
-            push_number(&mut text, u64::from(fd))?;
+            push_named(&mut text, b"events ", u64::from(events))?;
+            push_named(&mut text, b" on descriptor ", u64::from(fd))?;
         }
     }
     Ok(text)

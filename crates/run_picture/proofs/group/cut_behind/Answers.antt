@@ -21,12 +21,7 @@ loop-mark-preserved c = elim c.if-not-is_at.branch [
       c.loop-mark.invariant c.loop-mark-test.true refl (c.is_at.ensures.0 (search rules) ∙ c.place-place.ensures) (ap (λ v. v.items) w.groups-is) w.current-is c.in_ok-add-2.ensures
 ]
 
-pub returns-clause-all : goal.returns-clause-all
-returns-clause-all c =
-    (cut_end c.args.scale c.args.first c.args.later.now c.loop-mark.mark-index c.loop-mark.groups.items c.push-2.new.self.items c.loop-mark.current
-    c.loop-mark.invariant c.loop-mark-test.false c.in_ok-push-2.ensures.items).all
-
-pub returns-clause-rising : goal.returns-clause-rising
-returns-clause-rising c =
-    (cut_end c.args.scale c.args.first c.args.later.now c.loop-mark.mark-index c.loop-mark.groups.items c.push-2.new.self.items c.loop-mark.current
-    c.loop-mark.invariant c.loop-mark-test.false c.in_ok-push-2.ensures.items).rising
+pub returns : goal.returns
+returns c =
+    cut_end c.args.scale c.args.first c.args.later.now c.loop-mark.mark-index c.loop-mark.groups.items c.push-2.new.self.items c.loop-mark.current c.loop-mark.invariant c.loop-mark-test.false
+    c.in_ok-push-2.ensures.items
