@@ -2,10 +2,10 @@
 ghost use Rattle.std.specs.Prelude.{◌≡◌, ◌++◌, OnOk};
 ghost use Rattle.std.specs.Fmt.{decimal};
 ghost use Rattle.std.specs.List.{flat_map};
-ghost use Rattle.run_picture.specs.Labels.{entity, fraction, group_text, kind_text, more_text, subject_text, time_text};
+ghost use Rattle.run_picture.specs.Labels.{entity, fraction, group_text, kind_text, mark_text, more_text, subject_text, time_text};
 
 use crate::group::Group;
-use crate::mark::{Kind, Moment};
+use crate::mark::{Kind, Mark, Moment};
 use crate::report::Subject;
 use line_words::push_number;
 use loop_model::NoMemory;
@@ -98,6 +98,16 @@ fn push_more(out: &mut Vec<u8>, count: u64) -> Result<(), NoMemory>
     Ok(())
 }
 
+/// The time of a mark, and what it shows.
+#[tactic(auto, using(std::proofs::lemmas::List::append_assoc))]
+fn push_mark(out: &mut Vec<u8>, mark: &Mark) -> Result<(), NoMemory>
+    ensures { OnOk result (out.new.items ≡ out.old.items ++ mark_text mark.now) }
+{
+    push_time(out, mark.time)?;
+    out.extend_from_slice(b": ")?;
+    push_kind(out, mark.kind)
+}
+
 /// What a group says: the time of its first mark and what it shows, and the count where there are more.
 #[tactic(auto, using(std::proofs::lemmas::List::append_assoc))]
 pub(crate) fn push_group(out: &mut Vec<u8>, group: &Group) -> Result<(), NoMemory>
@@ -105,9 +115,7 @@ pub(crate) fn push_group(out: &mut Vec<u8>, group: &Group) -> Result<(), NoMemor
 {
     let marks = group.marks.as_slice();
     if let Some(first) = marks.first() {
-        push_time(out, first.time)?;
-        out.extend_from_slice(b": ")?;
-        push_kind(out, first.kind)?;
+        push_mark(out, first)?;
     }
     push_more(out, marks.len() as u64)
 }

@@ -171,6 +171,26 @@ fn push_summary(
     Ok(())
 }
 
+/// The size of the picture.
+fn push_size(out: &mut Canvas, height: u64) -> Result<(), NoMemory> {
+    out.extend_from_slice(b"<svg xmlns=\"http://www.w3.org/2000/svg\"")?;
+    push_attribute(out, b"width", WIDTH)?;
+    push_attribute(out, b"height", height)?;
+    out.extend_from_slice(b" viewBox=\"0 0 ")?;
+    out.push_number(WIDTH)?;
+    out.push(b' ')?;
+    out.push_number(height)
+}
+
+/// The title and the description of the picture.
+fn push_title(out: &mut Canvas, report: &Report, marks: u64, groups: u64) -> Result<(), NoMemory> {
+    out.extend_from_slice(
+        b"\" role=\"graphics-document document\" aria-labelledby=\"title desc\"><title id=\"title\">A run of the dashboard</title><desc id=\"desc\">",
+    )?;
+    push_summary(out, report, marks, groups)?;
+    out.extend_from_slice(b"</desc>\n")
+}
+
 /// The head of the file: its size, title and description, the looks, and the key.
 fn push_opening(
     alloc: Global,
@@ -180,18 +200,8 @@ fn push_opening(
     groups: u64,
     height: u64,
 ) -> Result<(), NoMemory> {
-    out.extend_from_slice(b"<svg xmlns=\"http://www.w3.org/2000/svg\"")?;
-    push_attribute(out, b"width", WIDTH)?;
-    push_attribute(out, b"height", height)?;
-    out.extend_from_slice(b" viewBox=\"0 0 ")?;
-    out.push_number(WIDTH)?;
-    out.push(b' ')?;
-    out.push_number(height)?;
-    out.extend_from_slice(
-        b"\" role=\"graphics-document document\" aria-labelledby=\"title desc\"><title id=\"title\">A run of the dashboard</title><desc id=\"desc\">",
-    )?;
-    push_summary(out, report, marks, groups)?;
-    out.extend_from_slice(b"</desc>\n")?;
+    push_size(out, height)?;
+    push_title(out, report, marks, groups)?;
     out.extend_from_slice(STYLE)?;
     out.extend_from_slice(b"\n<rect width=\"100%\" height=\"100%\" fill=\"#fff\"/>\n")?;
     push_text(out, 16, 25, b"h", b"A run of the dashboard")?;
