@@ -163,6 +163,22 @@ fn push_frame(out: &mut Canvas, spot: &Spot) -> Result<(), NoMemory> {
     push_rect(out, extent, b"b")
 }
 
+/// The letter of a phase, and how many callbacks ran in it, where there is room.
+fn push_letter(
+    alloc: Global,
+    out: &mut Canvas,
+    slot: u64,
+    letter: &[u8],
+    count: usize,
+) -> Result<(), NoMemory> {
+    let mut text = Vec::new(alloc);
+    text.extend_from_slice(letter)?;
+    if count > 1 && slot >= 20 {
+        push_number(&mut text, count as u64)?;
+    }
+    push_text(out, slot / 2, 17, b"c", &text)
+}
+
 fn push_run(
     alloc: Global,
     out: &mut Canvas,
@@ -182,12 +198,7 @@ fn push_run(
     };
     push_rect(out, extent, &class)?;
     if spot.slot >= 9 {
-        let mut text = Vec::new(alloc);
-        text.extend_from_slice(letter)?;
-        if count > 1 && spot.slot >= 20 {
-            push_number(&mut text, count as u64)?;
-        }
-        push_text(out, spot.slot / 2, 17, b"c", &text)?;
+        push_letter(alloc, out, spot.slot, letter, count)?;
     }
     Ok(())
 }

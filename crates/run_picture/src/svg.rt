@@ -95,24 +95,40 @@ fn phase_name(phases: u64, phase: u64) -> &'static [u8] {
     b"traversal"
 }
 
+/// What the colour and letter of one phase mean, from this point on.
+fn push_phase(
+    alloc: Global,
+    out: &mut Canvas,
+    phases: u64,
+    phase: u64,
+    x: u64,
+) -> Result<(), NoMemory> {
+    let letter = letter(phases, phase);
+    let mut class = Vec::new(alloc);
+    class.push(b'p')?;
+    class.extend_from_slice(letter)?;
+    out.extend_from_slice(b"<rect")?;
+    crate::shape::push_class(out, &class)?;
+    push_attribute(out, b"x", x)?;
+    out.extend_from_slice(b" y=\"12\" width=\"14\" height=\"14\"/>")?;
+    push_text(out, x.saturating_add(7), 23, b"c", letter)?;
+    push_text(
+        out,
+        x.saturating_add(18),
+        23,
+        b"k",
+        phase_name(phases, phase),
+    )
+}
+
 /// What the colours and letters of the phases mean.
 fn push_key(alloc: Global, out: &mut Canvas, phases: u64) -> Result<(), NoMemory> {
     let mut x = WIDTH - 24 - 92 * phases.min(5);
     for phase in 0..phases.min(5) {
-        let mut class = Vec::new(alloc);
-        class.push(b'p')?;
-        class.extend_from_slice(letter(phases, phase))?;
-        out.extend_from_slice(b"<rect")?;
-        crate::shape::push_class(out, &class)?;
-        push_attribute(out, b"x", x)?;
-        out.extend_from_slice(b" y=\"12\" width=\"14\" height=\"14\"/>")?;
-        let name = phase_name(phases, phase);
-        push_text(out, x.saturating_add(7), 23, b"c", letter(phases, phase))?;
-        push_text(out, x.saturating_add(18), 23, b"k", name)?;
+        push_phase(alloc, out, phases, phase, x)?;
         x = x.saturating_add(92);
     }
-    out.push(b'\n')?;
-    Ok(())
+    out.push(b'\n')
 }
 
 /// The distance of two ticks in milliseconds: 1, 2 or 5 and zeros, so that there are at most about 14.
