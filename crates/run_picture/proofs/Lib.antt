@@ -4,3 +4,7 @@ pub mod Again
 pub mod Whole
 pub mod Elements
 pub mod Traced
+pub mod Periods
+pub mod Grouped
+pub mod Bare
+pub mod Pieces

@@ -6,12 +6,20 @@ use Rattle.run_picture.specs.declared.group.Group.{Group}
 use Rattle.run_picture.specs.declared.group.Scale.{Scale}
 use Rattle.run_picture.specs.declared.report.Report.{Report}
 use Rattle.run_picture.specs.Marks.{marks}
-use Rattle.run_picture.specs.Groups.{IsOfPlace, HasMarks, marks_of}
+use Rattle.run_picture.specs.Groups.{IsOfPlace, HasMarks, Rise, marks_of}
 use Rattle.run_picture.specs.Labels.{entity, group_text}
+
+-- how the element of a group begins
+abbrev pub beginning : List ℕ
+beginning = codes "<g class=\"mark\" transform=\"translate("
 
 -- an element that stands so many pixels from the left edge of the lanes and from the picture's upper edge
 unfoldable pub opening : ℕ → ℕ → List ℕ
-opening x y = codes "<g class=\"mark\" transform=\"translate(" ++ decimal x ++ codes " " ++ decimal y ++ codes ")\"><title>"
+opening x y = beginning ++ decimal x ++ codes " " ++ decimal y ++ codes ")\"><title>"
+
+-- no element begins in these bytes
+abbrev pub HasNoElement : List ℕ → Type 0
+HasNoElement b = (before after : List ℕ) → b ≡ before ++ beginning ++ after → ⊥
 
 -- behind what was there stands the element of a group: at its column, with its text as a title, and a shape
 abbrev pub IsElement : Group → ℕ → List ℕ → List ℕ → List ℕ → Type 0
@@ -21,10 +29,15 @@ IsElement g y shape before after =
 -- behind what was there stands one element for each group, in order, and nothing else
 abbrev pub AreElements : List Group → List ℕ → List ℕ → Type 0
 AreElements [] before after = after ≡ before
-AreElements (g ∷ gs) before after = (y : ℕ) × (shape : List ℕ) × (between : List ℕ) × IsElement g y shape before between × AreElements gs between after
+AreElements (g ∷ gs) before after =
+    (y : ℕ) × (shape : List ℕ) × (between : List ℕ) × HasNoElement shape × IsElement g y shape before between × AreElements gs between after
 
--- behind the background stands one element for each group of marks; the groups have each mark of the report exactly once, none is
--- without marks, and all marks of a group stand at its place, by the scale of the picture
+-- the lanes begin 150 pixels from the left edge
+abbrev pub lanes : List ℕ
+lanes = codes "<g transform=\"translate(150)\">\n"
+
+-- behind a background without elements stands one element for each group of marks; the groups have each mark of the report exactly
+-- once, none is without marks, all marks of a group stand at its place, by the scale of the picture, and the places rise
 pub record Draws (r : Report) (text : List ℕ) : Type 0 where
   pub scale : Scale
   pub groups : List Group
@@ -33,5 +46,7 @@ pub record Draws (r : Report) (text : List ℕ) : Type 0 where
   pub marked : IsPermutation (marks r) (flat_map marks_of groups)
   pub placed : AllByRecursion (IsOfPlace scale) groups
   pub some : AllByRecursion HasMarks groups
-  pub elements : AreElements groups background drawn
+  pub rising : Rise groups
+  pub bare : HasNoElement background
+  pub elements : AreElements groups (background ++ lanes) drawn
   pub whole : text ≡ drawn ++ codes "</g>\n</svg>\n"

@@ -13,6 +13,7 @@ use Rattle.run_picture.specs.declared.mark.Kind.TheVariants.{Dispatch, Frame, Ru
 use Rattle.run_picture.specs.declared.mark.Mark.{Mark}
 use Rattle.run_picture.specs.declared.mark.Moment.{Moment}
 use Rattle.run_picture.specs.Marks.{marks}
+use Rattle.run_picture.specs.Period.{period}
 
 -- a number, or the greatest of 64 bits
 abbrev pub saturated : ℕ → ℕ
@@ -87,6 +88,6 @@ threads_from lane (l ∷ ls) = thread lane ∷ threads_from (lane + 1) ls
 abbrev pub trace : ℕ → Report → List Data
 trace period r = process ∷ threads_from 0 r.loopers ++ map (event period) (marks r)
 
--- the text is the trace of the report as JSON, for some width of a frame in microseconds
+-- the text is the trace of the report as JSON, with the width of a frame in whole microseconds
 abbrev pub Traces : Report → List ℕ → Type 0
-Traces r text = (period : ℕ) × (text ≡ compact_text (array (items_of (trace period r))) ++ codes "\n")
+Traces r text = text ≡ compact_text (array (items_of (trace (period r / 1000) r))) ++ codes "\n"

@@ -1,6 +1,10 @@
 -- Marks that fall on one place of the picture are one group.
-use Rattle.std.specs.Prelude.{◌≡◌, ℕ, ◌<◌, ◌+◌, ◌-◌, ◌*◌, ◌/◌, ◌%◌, ◌^◌, min, max, List, [], length}
-use Rattle.std.specs.List.{AllByRecursion}
+use Rattle.std.specs.Prelude.{◌≡◌, ℕ, ◌<◌, ◌+◌, ◌-◌, ◌*◌, ◌/◌, ◌%◌, ◌^◌, min, max, List, [], ◌∷◌, ◌++◌, length, map}
+use Rattle.std.specs.List.{AllByRecursion, flat_map}
+use Rattle.std.specs.List.Sorted.{IsStrictlySortedBy}
+use Rattle.std.specs.declared.cmp.Ordering.{Ordering}
+use Rattle.std.specs.Ordering.{nat_cmp}
+use Rattle.std.specs.Cmp.Lexicographic.{slice_cmp}
 use Rattle.run_picture.specs.declared.mark.Kind.{Kind}
 use Rattle.run_picture.specs.declared.mark.Kind.TheVariants as kind_of
 use Rattle.run_picture.specs.declared.mark.Mark.{Mark}
@@ -55,6 +59,46 @@ IsOfPlace s g = AllByRecursion (StandsAt s g.place) g.marks
 -- the group has a mark
 abbrev pub HasMarks : Group → Type 0
 HasMarks g = 0 < length g.marks
+
+-- the kind of a row, from above
+abbrev pub rank : Row → ℕ
+rank (Handler h) = 0
+rank Frames = 1
+rank Runs = 2
+rank (Gauge g) = 3
+
+-- the number of a row among those of its kind
+abbrev pub number : Row → ℕ
+number (Handler h) = h
+number Frames = 0
+number Runs = 0
+number (Gauge g) = g
+
+-- what orders places: the lane, the row from above, and the pixels from the left
+abbrev pub key : Place → List ℕ
+key p = p.lane ∷ rank p.row ∷ number p.row ∷ p.column ∷ []
+
+-- places are ordered by the first number in which they differ
+abbrev pub order : Place → Place → Ordering
+order p q = slice_cmp nat_cmp (key p) (key q)
+
+abbrev pub place_of : Group → Place
+place_of g = g.place
+
+-- each group stands before all behind it, so that no two stand at one place
+abbrev pub Rise : List Group → Type 0
+Rise gs = IsStrictlySortedBy order (map place_of gs)
+
+-- groups into which marks are cut, in order: each has some marks, all of them at its place, and the places rise
+pub record AreCut (s : Scale) (ms : List Mark) (gs : List Group) : Type 0 where
+  pub all : flat_map marks_of gs ≡ ms
+  pub places : AllByRecursion (IsOfPlace s) gs
+  pub marked : AllByRecursion HasMarks gs
+  pub rising : Rise gs
+
+-- group g with one mark more
+abbrev pub with_mark : Group → Mark → Group
+with_mark g m = record g { marks = g.marks ++ m ∷ [] }
 
 -- a place without marks yet
 abbrev pub begun : Place → Group

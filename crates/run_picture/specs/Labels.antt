@@ -33,9 +33,13 @@ abbrev pub more_text : ℕ → List ℕ
 more_text n = if nat_lt 1 n then codes " (" ++ decimal n ++ codes " marks here)" else []
 
 -- the time of a mark and what it shows
+abbrev pub mark_text : Mark → List ℕ
+mark_text m = time_text m.time ++ codes ": " ++ kind_text m.kind
+
+-- the text of the first mark
 abbrev pub first_text : List Mark → List ℕ
 first_text [] = []
-first_text (m ∷ ms) = time_text m.time ++ codes ": " ++ kind_text m.kind
+first_text (m ∷ ms) = mark_text m
 
 -- what a group says
 abbrev pub group_text : Group → List ℕ

@@ -3,8 +3,10 @@ pub mod Lines
 pub mod Progress
 pub mod Text
 pub mod Marks
+pub mod Period
 pub mod Groups
 pub mod Labels
+pub mod Flat
 pub mod Drawn
 pub mod Events
 pub mod Picture

@@ -1,5 +1,5 @@
 -- The marks of a report's picture.
-use Rattle.std.specs.Prelude.{ℕ, ◌+◌, ◌/◌, ◌%◌, ◌==◌, nat_lt, Bool, false, List, [], ◌∷◌, ◌++◌, Option, Some, None, slice_index_or, if◌then◌else◌}
+use Rattle.std.specs.Prelude.{◌≡◌, ℕ, ◌+◌, ◌/◌, ◌%◌, ◌==◌, nat_lt, Bool, false, List, [], ◌∷◌, ◌++◌, Option, Some, None, slice_index_or, if◌then◌else◌}
 use Rattle.std.specs.List.{flat_map, list_any}
 use Rattle.run_picture.specs.declared.report.Past.{Past as PastData}
 use Rattle.run_picture.specs.declared.report.Past.TheVariants as past_of
@@ -66,6 +66,10 @@ paint_marks lane times g (act_of.Idle id ∷ acts) = paint_marks lane times g ac
 paint_marks lane times g (act_of.Event fd events ∷ acts) = paint_marks lane times g acts
 paint_marks lane times g (act_of.Paint gauge value ∷ acts) =
     frame_mark lane (joined g times gauge).time (Paint gauge value) ∷ paint_marks lane times (joined g times gauge) acts
+
+-- behind the marks that were there, those of an act and of the acts behind it are those that are there now and those of the acts behind it
+abbrev pub GoesOn : ℕ → List ℕ → Painted → Painted → ActData → List Mark → List Mark → Type 0
+GoesOn lane times g h act before after = (acts : List ActData) → before ++ paint_marks lane times g (act ∷ acts) ≡ after ++ paint_marks lane times h acts
 
 -- the marks of one looper
 abbrev pub looper_marks : ℕ → Looper → List Mark

@@ -13,7 +13,7 @@ use std::mem::replace;
 
 /// How far the report has come: nothing yet, between loopers, in a looper's history, its journal or its frames, or behind
 /// the last line.
-#[derive(Clone, Copy, Debug, PartialEq, Eq)]
+#[derive(Clone, Copy)]
 pub(crate) enum Part {
     Start,
     Open,

@@ -1,4 +1,5 @@
 //! The shape of a mark, drawn from its place on.
+use crate::canvas::Canvas;
 use crate::group::{Group, Row, Scale};
 use crate::levels::value_of;
 use crate::mark::Kind;
@@ -97,7 +98,7 @@ impl Spot {
     /// Text beside a mark that stands in this column, from this point on, where there is room for it.
     fn push_beside(
         &mut self,
-        out: &mut Vec<u8>,
+        out: &mut Canvas,
         column: u64,
         room: u64,
         point: &[u8],
@@ -137,7 +138,7 @@ fn beside(alloc: Global, group: &Group) -> Result<Vec<u8>, NoMemory> {
 
 fn push_dispatch(
     alloc: Global,
-    out: &mut Vec<u8>,
+    out: &mut Canvas,
     spot: &mut Spot,
     handler: u32,
     room: u64,
@@ -152,7 +153,7 @@ fn push_dispatch(
     spot.push_beside(out, group.place.column, room, b"x=\"6\" y=\"14\"", &text)
 }
 
-fn push_frame(out: &mut Vec<u8>, spot: &Spot) -> Result<(), NoMemory> {
+fn push_frame(out: &mut Canvas, spot: &Spot) -> Result<(), NoMemory> {
     let extent = Extent {
         x: 0,
         y: 3,
@@ -162,9 +163,25 @@ fn push_frame(out: &mut Vec<u8>, spot: &Spot) -> Result<(), NoMemory> {
     push_rect(out, extent, b"b")
 }
 
+/// The letter of a phase, and how many callbacks ran in it, where there is room.
+fn push_letter(
+    alloc: Global,
+    out: &mut Canvas,
+    slot: u64,
+    letter: &[u8],
+    count: usize,
+) -> Result<(), NoMemory> {
+    let mut text = Vec::new(alloc);
+    text.extend_from_slice(letter)?;
+    if count > 1 && slot >= 20 {
+        push_number(&mut text, count as u64)?;
+    }
+    push_text(out, slot / 2, 17, b"c", &text)
+}
+
 fn push_run(
     alloc: Global,
-    out: &mut Vec<u8>,
+    out: &mut Canvas,
     spot: &Spot,
     phase: u32,
     count: usize,
@@ -181,19 +198,14 @@ fn push_run(
     };
     push_rect(out, extent, &class)?;
     if spot.slot >= 9 {
-        let mut text = Vec::new(alloc);
-        text.extend_from_slice(letter)?;
-        if count > 1 && spot.slot >= 20 {
-            push_number(&mut text, count as u64)?;
-        }
-        push_text(out, spot.slot / 2, 17, b"c", &text)?;
+        push_letter(alloc, out, spot.slot, letter, count)?;
     }
     Ok(())
 }
 
 fn push_paint(
     alloc: Global,
-    out: &mut Vec<u8>,
+    out: &mut Canvas,
     spot: &mut Spot,
     room: u64,
     group: &Group,
@@ -206,7 +218,7 @@ fn push_paint(
 /// The shape of a group: what its first mark is, and text beside it where that fits into so many pixels.
 pub(crate) fn push_glyph(
     alloc: Global,
-    out: &mut Vec<u8>,
+    out: &mut Canvas,
     spot: &mut Spot,
     room: u64,
     group: &Group,

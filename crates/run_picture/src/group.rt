@@ -1,7 +1,8 @@
 //! Marks that fall on one place of the picture are one group.
-ghost use Rattle.std.specs.Prelude.{◌≡◌, ◌<◌, ◌≤◌, ◌^◌, ◌++◌, IfOk, OnOk, IsPermutation};
+ghost use Rattle.std.specs.Prelude.{◌≡◌, ◌↔◌, ◌<◌, ◌≤◌, ◌^◌, ◌∷◌, IfOk, IsPermutation, IsTrue, OnOk};
 ghost use Rattle.std.specs.List.{flat_map, AllByRecursion};
-ghost use Rattle.run_picture.specs.Groups.{HasMarks, IsOfPlace, begun, column, marks_of, nanos, pixels, place, row_of, shift};
+ghost use Rattle.std.specs.List.Sorted.{IsSortedByKey};
+ghost use Rattle.run_picture.specs.Groups.{AreCut, HasMarks, IsOfPlace, Rise, begun, column, key, marks_of, nanos, number, order, pixels, place, rank, row_of, shift, with_mark};
 
 use crate::mark::{Kind, Mark, Moment, NANOS_PER_MILLI};
 use crate::shape::LANE_WIDTH;
@@ -10,7 +11,7 @@ use std::alloc::Global;
 use std::mem::replace;
 
 /// The rows of a lane, from above.
-#[derive(Clone, Copy, Debug, PartialEq, Eq, PartialOrd, Ord)]
+#[derive(Clone, Copy, Debug, PartialEq, Eq)]
 pub enum Row {
     /// The dispatches of a handler.
     Handler(u32),
@@ -23,7 +24,7 @@ pub enum Row {
 }
 
 /// Where marks stand: the looper's lane, its row, and how many pixels from the left edge of the lanes.
-#[derive(Clone, Copy, Debug, PartialEq, Eq, PartialOrd, Ord)]
+#[derive(Clone, Copy, Debug, PartialEq, Eq)]
 pub struct Place {
     /// The lane of the mark's looper, from above, counted from 0.
     pub lane: u64,
@@ -118,20 +119,57 @@ impl Scale {
     }
 }
 
-/// The marks by place.
-fn sorted(scale: Scale, marks: Vec<Mark>) -> Result<Vec<Mark>, NoMemory>
-    ensures { IfOk result (λ found. IsPermutation marks.items found.items) }
+/// The kind of a row, from above.
+fn rank(row: Row) -> u64
+    ensures { result ≡ rank row }
 {
-    let mut marks = marks;
-    marks.sort_by_key(|mark| scale.place(mark))?;
-    Ok(marks)
+    match row {
+        Row::Handler(_) => 0,
+        Row::Frames => 1,
+        Row::Runs => 2,
+        Row::Gauge(_) => 3,
+    }
 }
 
-const NOWHERE: Place = Place {
-    lane: 0,
-    row: Row::Frames,
-    column: 0,
-};
+/// The number of a row among those of its kind.
+fn number(row: Row) -> u64
+    ensures { result ≡ number row }
+{
+    match row {
+        Row::Handler(handler) => u64::from(handler),
+        Row::Frames => 0,
+        Row::Runs => 0,
+        Row::Gauge(gauge) => u64::from(gauge),
+    }
+}
+
+/// What orders places: the lane, the row from above, and the pixels from the left.
+fn key(place: Place) -> [u64; 4]
+    ensures { result ≡ key place }
+{
+    [place.lane, rank(place.row), number(place.row), place.column]
+}
+
+/// What orders marks: their places.
+fn key_of(scale: Scale, mark: &Mark) -> [u64; 4]
+    ensures { result ≡ key (place scale mark.now) }
+{
+    key(scale.place(mark))
+}
+
+/// The marks by place.
+fn sorted(scale: Scale, marks: Vec<Mark>) -> Result<Vec<Mark>, NoMemory>
+    ensures all { IfOk result (λ found. IsPermutation marks.items found.items) }
+    ensures sorted { IfOk result (λ found. IsSortedByKey (place scale) order found.items) }
+{
+    let mut marks = marks;
+    marks.sort_by_key(
+        move |mark: &Mark|
+            ensures { result ≡ key (place scale mark.now) }
+        { key_of(scale, mark) },
+    )?;
+    Ok(marks)
+}
 
 /// A place without marks yet.
 fn begun(alloc: Global, place: Place) -> Group
@@ -143,39 +181,54 @@ fn begun(alloc: Global, place: Place) -> Group
     }
 }
 
-/// Adds a group, where it has marks.
-fn settle(scale: Scale, groups: &mut Vec<Group>, whole: Group) -> Result<(), NoMemory>
-    requires whole { IsOfPlace scale whole }
-    requires before { AllByRecursion (IsOfPlace scale) groups.old.items }
-    requires marked { AllByRecursion HasMarks groups.old.items }
-    ensures all { OnOk result (flat_map marks_of groups.new.items ≡ flat_map marks_of groups.old.items ++ whole.marks) }
-    ensures places { OnOk result (AllByRecursion (IsOfPlace scale) groups.new.items) }
-    ensures marked { OnOk result (AllByRecursion HasMarks groups.new.items) }
+/// Adds a mark to the group of its place.
+fn add(group: &mut Group, mark: Mark) -> Result<(), NoMemory>
+    ensures { OnOk result (group.new ≡ with_mark group.old mark) }
 {
-    if !whole.marks.is_empty() {
-        groups.push(whole)?;
+    group.marks.push(mark)
+}
+
+/// Whether a group is that of this place.
+fn is_at(group: &Group, place: Place) -> bool
+    ensures { IsTrue result ↔ group.now.place ≡ place }
+{
+    group.place == place
+}
+
+/// Cuts marks, of which the first is given apart, where the next one stands at another place.
+fn cut_behind(
+    alloc: Global,
+    scale: Scale,
+    first: Mark,
+    later: &[Mark],
+) -> Result<Vec<Group>, NoMemory>
+    requires { IsSortedByKey (place scale) order (first ∷ later.now) }
+    ensures { IfOk result (λ found. AreCut scale (first ∷ later.now) found.items) }
+{
+    let mut groups = Vec::new(alloc);
+    let mut current = begun(alloc, scale.place(&first));
+    add(&mut current, first)?;
+    for mark in later {
+        let place = scale.place(mark);
+        if !is_at(&current, place) {
+            let whole = replace(&mut current, begun(alloc, place));
+            groups.push(whole)?;
+        }
+        add(&mut current, *mark)?;
     }
-    Ok(())
+    groups.push(current)?;
+    Ok(groups)
 }
 
 /// Cuts marks where the next one stands at another place.
 fn cut(alloc: Global, scale: Scale, marks: &[Mark]) -> Result<Vec<Group>, NoMemory>
-    ensures all { IfOk result (λ found. flat_map marks_of found.items ≡ marks.now) }
-    ensures places { IfOk result (λ found. AllByRecursion (IsOfPlace scale) found.items) }
-    ensures marked { IfOk result (λ found. AllByRecursion HasMarks found.items) }
+    requires { IsSortedByKey (place scale) order marks.now }
+    ensures { IfOk result (λ found. AreCut scale marks.now found.items) }
 {
-    let mut groups = Vec::new(alloc);
-    let mut current = begun(alloc, NOWHERE);
-    for mark in marks {
-        let place = scale.place(mark);
-        if place != current.place {
-            let whole = replace(&mut current, begun(alloc, place));
-            settle(scale, &mut groups, whole)?;
-        }
-        current.marks.push(*mark)?;
+    match marks.split_first() {
+        Some((first, later)) => cut_behind(alloc, scale, *first, later),
+        None => Ok(Vec::new(alloc)),
     }
-    settle(scale, &mut groups, current)?;
-    Ok(groups)
 }
 
 /// The marks of a picture by the places where they stand: each mark is in one group, that of its place, and the groups are in
@@ -184,6 +237,7 @@ pub fn groups(alloc: Global, scale: Scale, marks: Vec<Mark>) -> Result<Vec<Group
     ensures all { IfOk result (λ found. IsPermutation marks.items (flat_map marks_of found.items)) }
     ensures places { IfOk result (λ found. AllByRecursion (IsOfPlace scale) found.items) }
     ensures marked { IfOk result (λ found. AllByRecursion HasMarks found.items) }
+    ensures rising { IfOk result (λ found. Rise found.items) }
 {
     let marks = sorted(scale, marks)?;
     cut(alloc, scale, &marks)

@@ -1,10 +1,11 @@
 //! What the marks of a picture say.
 ghost use Rattle.std.specs.Prelude.{◌≡◌, ◌++◌, OnOk};
+ghost use Rattle.std.specs.Fmt.{decimal};
 ghost use Rattle.std.specs.List.{flat_map};
-ghost use Rattle.run_picture.specs.Labels.{entity, fraction, group_text, kind_text, more_text, subject_text, time_text};
+ghost use Rattle.run_picture.specs.Labels.{entity, fraction, group_text, kind_text, mark_text, more_text, subject_text, time_text};
 
 use crate::group::Group;
-use crate::mark::{Kind, Moment};
+use crate::mark::{Kind, Mark, Moment};
 use crate::report::Subject;
 use line_words::push_number;
 use loop_model::NoMemory;
@@ -35,19 +36,22 @@ pub(crate) fn push_time(out: &mut Vec<u8>, time: Moment) -> Result<(), NoMemory>
     Ok(())
 }
 
+/// Words, and a number behind them.
+#[tactic(auto, using(std::proofs::lemmas::List::append_assoc))]
+pub(crate) fn push_named(out: &mut Vec<u8>, words: &[u8], number: u64) -> Result<(), NoMemory>
+    ensures { OnOk result (out.new.items ≡ out.old.items ++ (words.now ++ decimal number)) }
+{
+    out.extend_from_slice(words)?;
+    push_number(out, number)
+}
+
 #[tactic(auto, using(std::proofs::lemmas::List::append_assoc))]
 pub(crate) fn push_subject(out: &mut Vec<u8>, subject: Subject) -> Result<(), NoMemory>
     ensures { OnOk result (out.new.items ≡ out.old.items ++ subject_text subject) }
 {
     match subject {
-        Subject::What(what) => {
-            out.extend_from_slice(b"what ")?;
-            push_number(out, u64::from(what))
-        }
-        Subject::Callback(callback) => {
-            out.extend_from_slice(b"callback ")?;
-            push_number(out, callback)
-        }
+        Subject::What(what) => push_named(out, b"what ", u64::from(what)),
+        Subject::Callback(callback) => push_named(out, b"callback ", callback),
     }
 }
 
@@ -62,10 +66,8 @@ pub(crate) fn push_kind(out: &mut Vec<u8>, kind: Kind) -> Result<(), NoMemory>
             handler,
             subject,
         } => {
-            out.extend_from_slice(b"message ")?;
-            push_number(out, number)?;
-            out.extend_from_slice(b", handler ")?;
-            push_number(out, u64::from(handler))?;
+            push_named(out, b"message ", number)?;
+            push_named(out, b", handler ", u64::from(handler))?;
             out.extend_from_slice(b", ")?;
             push_subject(out, subject)
         }
@@ -74,16 +76,12 @@ pub(crate) fn push_kind(out: &mut Vec<u8>, kind: Kind) -> Result<(), NoMemory>
             Ok(())
         }
         Kind::Run(run) => {
-            out.extend_from_slice(b"callback ")?;
-            push_number(out, run.id)?;
-            out.extend_from_slice(b" in phase ")?;
-            push_number(out, u64::from(run.phase))
+            push_named(out, b"callback ", run.id)?;
+            push_named(out, b" in phase ", u64::from(run.phase))
         }
         Kind::Paint { gauge, value } => {
-            out.extend_from_slice(b"gauge ")?;
-            push_number(out, u64::from(gauge))?;
-            out.extend_from_slice(b" at ")?;
-            push_number(out, u64::from(value))
+            push_named(out, b"gauge ", u64::from(gauge))?;
+            push_named(out, b" at ", u64::from(value))
         }
     }
 }
@@ -94,11 +92,20 @@ fn push_more(out: &mut Vec<u8>, count: u64) -> Result<(), NoMemory>
     ensures { OnOk result (out.new.items ≡ out.old.items ++ more_text count) }
 {
     if count > 1 {
-        out.extend_from_slice(b" (")?;
-        push_number(out, count)?;
+        push_named(out, b" (", count)?;
         out.extend_from_slice(b" marks here)")?;
     }
     Ok(())
+}
+
+/// The time of a mark, and what it shows.
+#[tactic(auto, using(std::proofs::lemmas::List::append_assoc))]
+fn push_mark(out: &mut Vec<u8>, mark: &Mark) -> Result<(), NoMemory>
+    ensures { OnOk result (out.new.items ≡ out.old.items ++ mark_text mark.now) }
+{
+    push_time(out, mark.time)?;
+    out.extend_from_slice(b": ")?;
+    push_kind(out, mark.kind)
 }
 
 /// What a group says: the time of its first mark and what it shows, and the count where there are more.
@@ -108,26 +115,31 @@ pub(crate) fn push_group(out: &mut Vec<u8>, group: &Group) -> Result<(), NoMemor
 {
     let marks = group.marks.as_slice();
     if let Some(first) = marks.first() {
-        push_time(out, first.time)?;
-        out.extend_from_slice(b": ")?;
-        push_kind(out, first.kind)?;
+        push_mark(out, first)?;
     }
     push_more(out, marks.len() as u64)
 }
 
+/// Writes a byte into an SVG: what would be markup is written as an entity.
+fn push_entity(out: &mut Vec<u8>, byte: u8) -> Result<(), NoMemory>
+    ensures { OnOk result (out.new.items ≡ out.old.items ++ entity byte) }
+{
+    match byte {
+        b'&' => out.extend_from_slice(b"&amp;")?,
+        b'<' => out.extend_from_slice(b"&lt;")?,
+        b'>' => out.extend_from_slice(b"&gt;")?,
+        b'"' => out.extend_from_slice(b"&quot;")?,
+        other => out.push(other)?,
+    }
+    Ok(())
+}
+
 /// Writes text into an SVG: what would be markup is written as an entity.
-#[tactic(auto, using(std::proofs::lemmas::List::append_assoc))]
 pub(crate) fn push_escaped(out: &mut Vec<u8>, text: &[u8]) -> Result<(), NoMemory>
     ensures { OnOk result (out.new.items ≡ out.old.items ++ flat_map entity text.now) }
 {
     for byte in text {
-        match *byte {
-            b'&' => out.extend_from_slice(b"&amp;")?,
-            b'<' => out.extend_from_slice(b"&lt;")?,
-            b'>' => out.extend_from_slice(b"&gt;")?,
-            b'"' => out.extend_from_slice(b"&quot;")?,
-            other => out.push(other)?,
-        }
+        push_entity(out, *byte)?;
     }
     Ok(())
 }

@@ -1,6 +1,7 @@
 //! The background of a picture: lanes, rows, the levels of gauges, and what has no time.
+use crate::canvas::Canvas;
 use crate::group::{Group, Place, Row};
-use crate::label::push_subject;
+use crate::label::{push_named, push_subject};
 use crate::mark::Kind;
 use crate::report::{Act, Fates, Looper, Past, Report};
 use crate::shape::{LANE_WIDTH, LEFT, WIDTH, numbered, push_line, push_text};
@@ -117,7 +118,7 @@ fn fates_text(alloc: Global, fates: &Fates) -> Result<Vec<u8>, NoMemory> {
 /// A looper's line: its name, and the fates of its messages.
 fn push_head(
     alloc: Global,
-    out: &mut Vec<u8>,
+    out: &mut Canvas,
     y: u64,
     number: u64,
     looper: &Looper,
@@ -140,22 +141,14 @@ fn past_text(alloc: Global, past: &Past) -> Result<Vec<u8>, NoMemory> {
             subject,
             place,
         } => {
-            text.extend_from_slice(b"refused: handler ")?;
-            push_number(&mut text, u64::from(handler))?;
+            push_named(&mut text, b"refused: handler ", u64::from(handler))?;
             text.extend_from_slice(b", ")?;
             push_subject(&mut text, subject)?;
-            text.extend_from_slice(b", behind the quit at place ")?;
-            push_number(&mut text, place)?;
+            push_named(&mut text, b", behind the quit at place ", place)?;
         }
-        Past::NotPosted { token } => {
-            text.extend_from_slice(b"no barrier with token ")?;
-            push_number(&mut text, token)?;
-        }
+        Past::NotPosted { token } => push_named(&mut text, b"no barrier with token ", token)?,
         Past::NotAllowed => text.extend_from_slice(b"the main looper may not quit")?,
-        Past::AlreadyQuit { place } => {
-            text.extend_from_slice(b"quit before, at place ")?;
-            push_number(&mut text, place)?;
-        }
+        Past::AlreadyQuit { place } => push_named(&mut text, b"quit before, at place ", place)?,
     }
     Ok(text)
 }
@@ -166,15 +159,12 @@ fn act_text(alloc: Global, act: &Act) -> Result<Vec<u8>, NoMemory> {
     match *act {
         Act::Paint { .. } => {}
         Act::Idle { id } => {
-            text.extend_from_slice(b"idle handler ")?;
-            push_number(&mut text, u64::from(id))?;
+            push_named(&mut text, b"idle handler ", u64::from(id))?;
             text.extend_from_slice(b" ran")?;
         }
         Act::Event { fd, events } => {
-            text.extend_from_slice(b"events ")?;
-            push_number(&mut text, u64::from(events))?;
-            text.extend_from_slice(b" on descriptor ")?;
-            push_number(&mut text, u64::from(fd))?;
+            push_named(&mut text, b"events ", u64::from(events))?;
+            push_named(&mut text, b" on descriptor ", u64::from(fd))?;
         }
     }
     Ok(text)
@@ -182,7 +172,7 @@ fn act_text(alloc: Global, act: &Act) -> Result<Vec<u8>, NoMemory> {
 
 /// One line under a lane, up to the most of them.
 fn push_note(
-    out: &mut Vec<u8>,
+    out: &mut Canvas,
     y: u64,
     count: u64,
     class: &[u8],
@@ -200,7 +190,7 @@ fn push_note(
 }
 
 /// The lines under a lane. Answers where the next lane begins.
-fn push_notes(alloc: Global, out: &mut Vec<u8>, y: u64, looper: &Looper) -> Result<u64, NoMemory> {
+fn push_notes(alloc: Global, out: &mut Canvas, y: u64, looper: &Looper) -> Result<u64, NoMemory> {
     let mut next = y;
     let mut count = 0;
     for past in looper.past.as_slice() {
@@ -239,7 +229,7 @@ impl Lanes {
     }
 
     /// Begins a row where this group has another one than the last group.
-    fn begin_row(&mut self, alloc: Global, out: &mut Vec<u8>, row: Row) -> Result<(), NoMemory> {
+    fn begin_row(&mut self, alloc: Global, out: &mut Canvas, row: Row) -> Result<(), NoMemory> {
         if self.row == Some(row) {
             return Ok(());
         }
@@ -263,7 +253,7 @@ impl Lanes {
     fn push_rows(
         &mut self,
         alloc: Global,
-        out: &mut Vec<u8>,
+        out: &mut Canvas,
         lane: u64,
         groups: &[Group],
     ) -> Result<(), NoMemory> {
@@ -281,7 +271,7 @@ impl Lanes {
     fn push_lane(
         &mut self,
         alloc: Global,
-        out: &mut Vec<u8>,
+        out: &mut Canvas,
         lane: u64,
         looper: &Looper,
         groups: &[Group],
@@ -299,7 +289,7 @@ impl Lanes {
 /// Draws the lanes of a report, and answers where the rows of the groups are.
 pub(crate) fn push_lanes(
     alloc: Global,
-    out: &mut Vec<u8>,
+    out: &mut Canvas,
     report: &Report,
     groups: &[Group],
 ) -> Result<Lanes, NoMemory> {

@@ -1,9 +1,9 @@
 //! The levels of gauges over time, as steps.
+use crate::canvas::Canvas;
 use crate::group::{Group, Row};
 use crate::lanes::{Lanes, TOP};
 use crate::mark::Kind;
 use crate::shape::{LANE_WIDTH, LEFT};
-use line_words::push_number;
 use loop_model::NoMemory;
 
 /// How high a gauge's greatest value stands, in pixels.
@@ -61,38 +61,38 @@ fn is_of(steps: Option<Steps>, group: &Group) -> bool {
 }
 
 /// Ends the steps of a gauge at the right edge.
-fn push_end(out: &mut Vec<u8>, steps: Option<Steps>) -> Result<(), NoMemory> {
+fn push_end(out: &mut Canvas, steps: Option<Steps>) -> Result<(), NoMemory> {
     if steps.is_some() {
         out.extend_from_slice(b" H")?;
-        push_number(out, LEFT + LANE_WIDTH)?;
+        out.push_number(LEFT + LANE_WIDTH)?;
         out.extend_from_slice(b"\"/>\n")?;
     }
     Ok(())
 }
 
 /// Begins the steps of a gauge at 0, at the left edge.
-fn push_begin(out: &mut Vec<u8>, top: u64) -> Result<(), NoMemory> {
+fn push_begin(out: &mut Canvas, top: u64) -> Result<(), NoMemory> {
     out.extend_from_slice(b"<path class=\"v\" d=\"M")?;
-    push_number(out, LEFT)?;
+    out.push_number(LEFT)?;
     out.push(b' ')?;
-    push_number(out, top.saturating_add(40))?;
+    out.push_number(top.saturating_add(40))?;
     Ok(())
 }
 
 /// One step, to the value that a group paints.
-fn push_step(out: &mut Vec<u8>, steps: Option<Steps>, group: &Group) -> Result<(), NoMemory> {
+fn push_step(out: &mut Canvas, steps: Option<Steps>, group: &Group) -> Result<(), NoMemory> {
     if let Some(steps) = steps {
         out.extend_from_slice(b" H")?;
-        push_number(out, LEFT.saturating_add(group.place.column))?;
+        out.push_number(LEFT.saturating_add(group.place.column))?;
         out.extend_from_slice(b" V")?;
-        push_number(out, level_of(steps, group))?;
+        out.push_number(level_of(steps, group))?;
     }
     Ok(())
 }
 
 /// The steps of all gauges.
 pub(crate) fn push_levels(
-    out: &mut Vec<u8>,
+    out: &mut Canvas,
     groups: &[Group],
     lanes: &mut Lanes,
 ) -> Result<(), NoMemory> {

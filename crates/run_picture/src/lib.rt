@@ -1,6 +1,7 @@
 //! A report of the dashboard read, the marks of its picture, and the picture drawn.
 #![tactic(auto)]
 
+mod canvas;
 mod draft;
 mod glyph;
 mod group;

@@ -2,7 +2,7 @@
 use crate::report::{Act, Fates, Past, Run};
 
 /// What one line says.
-#[derive(Clone, Copy, Debug, PartialEq, Eq)]
+#[derive(Clone, Copy)]
 pub enum Line {
     /// The first line, with the edition.
     Title(u32),

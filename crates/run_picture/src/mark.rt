@@ -1,7 +1,7 @@
 //! The marks of a report's picture.
 ghost use Rattle.std.specs.Prelude.{◌≡◌, ◌+◌, ◌-◌, ◌<◌, ◌≤◌, ◌^◌, ◌++◌, IfOk, OnOk};
 ghost use Rattle.std.specs.List.{flat_map};
-ghost use Rattle.run_picture.specs.Marks.{frame_mark, frame_marks, is_painting, joined, looper_marks, marks, marks_from, moment_of, no_paint, paint_marks, painting_times, past_marks, run_mark};
+ghost use Rattle.run_picture.specs.Marks.{GoesOn, frame_mark, frame_marks, is_painting, joined, looper_marks, marks, marks_from, moment_of, no_paint, paint_marks, painting_times, past_marks, run_mark};
 
 use crate::report::{Act, Frame, Looper, Past, Report, Run, Subject};
 use loop_model::NoMemory;
@@ -88,41 +88,47 @@ fn frame_mark(lane: u64, time: u64, kind: Kind) -> Mark
     }
 }
 
+/// A line of a looper's history: a dispatch has a mark.
+fn push_past(out: &mut Vec<Mark>, lane: u64, past: Past) -> Result<(), NoMemory>
+    ensures { OnOk result (out.new.items ≡ out.old.items ++ past_marks lane past) }
+{
+    match past {
+        Past::Dispatch {
+            now,
+            number,
+            handler,
+            subject,
+        } => out.push(Mark {
+            lane,
+            time: Moment {
+                millis: now,
+                nanos: 0,
+            },
+            kind: Kind::Dispatch {
+                number,
+                handler,
+                subject,
+            },
+        })?,
+        Past::Refused { .. } => {}
+        Past::NotPosted { .. } => {}
+        Past::NotAllowed => {}
+        Past::AlreadyQuit { .. } => {}
+    }
+    Ok(())
+}
+
 /// A looper's dispatches.
-#[tactic(auto, using(std::proofs::lemmas::List::append_assoc))]
 fn push_dispatches(out: &mut Vec<Mark>, lane: u64, past: &[Past]) -> Result<(), NoMemory>
     ensures { OnOk result (out.new.items ≡ out.old.items ++ flat_map (past_marks lane) past.now) }
 {
     for line in past {
-        match *line {
-            Past::Dispatch {
-                now,
-                number,
-                handler,
-                subject,
-            } => out.push(Mark {
-                lane,
-                time: Moment {
-                    millis: now,
-                    nanos: 0,
-                },
-                kind: Kind::Dispatch {
-                    number,
-                    handler,
-                    subject,
-                },
-            })?,
-            Past::Refused { .. } => {}
-            Past::NotPosted { .. } => {}
-            Past::NotAllowed => {}
-            Past::AlreadyQuit { .. } => {}
-        }
+        push_past(out, lane, *line)?;
     }
     Ok(())
 }
 
 /// The callbacks that ran in the frame of this time.
-#[tactic(auto, using(std::proofs::lemmas::List::append_assoc))]
 fn push_runs(out: &mut Vec<Mark>, lane: u64, time: u64, runs: &[Run]) -> Result<(), NoMemory>
     ensures { OnOk result (out.new.items ≡ out.old.items ++ flat_map (run_mark lane time) runs.now) }
 {
@@ -132,14 +138,21 @@ fn push_runs(out: &mut Vec<Mark>, lane: u64, time: u64, runs: &[Run]) -> Result<
     Ok(())
 }
 
-/// A looper's frames, each with the callbacks that ran in it.
+/// A frame, with the callbacks that ran in it.
 #[tactic(auto, using(std::proofs::lemmas::List::append_assoc))]
+fn push_frame(out: &mut Vec<Mark>, lane: u64, frame: &Frame) -> Result<(), NoMemory>
+    ensures { OnOk result (out.new.items ≡ out.old.items ++ frame_marks lane frame.now) }
+{
+    out.push(frame_mark(lane, frame.time, Kind::Frame))?;
+    push_runs(out, lane, frame.time, frame.runs.as_slice())
+}
+
+/// A looper's frames, each with the callbacks that ran in it.
 fn push_frames(out: &mut Vec<Mark>, lane: u64, frames: &[Frame]) -> Result<(), NoMemory>
     ensures { OnOk result (out.new.items ≡ out.old.items ++ flat_map (frame_marks lane) frames.now) }
 {
     for frame in frames {
-        out.push(frame_mark(lane, frame.time, Kind::Frame))?;
-        push_runs(out, lane, frame.time, frame.runs.as_slice())?;
+        push_frame(out, lane, frame)?;
     }
     Ok(())
 }
@@ -151,16 +164,23 @@ fn is_painting(frame: &Frame) -> bool
     frame.runs.as_slice().iter().any(|run| run.id == TRAVERSAL)
 }
 
+/// The frame time, where the frame's traversal ran.
+fn push_time(times: &mut Vec<u64>, frame: &Frame) -> Result<(), NoMemory>
+    ensures { OnOk result (times.new.items ≡ times.old.items ++ painting_times frame.now) }
+{
+    if is_painting(frame) {
+        times.push(frame.time)?;
+    }
+    Ok(())
+}
+
 /// The frame times of the frames whose traversal ran.
-#[tactic(auto, using(std::proofs::lemmas::List::append_assoc))]
 fn painting_times(alloc: Global, frames: &[Frame]) -> Result<Vec<u64>, NoMemory>
     ensures { IfOk result (λ times. times.items ≡ flat_map painting_times frames.now) }
 {
     let mut times = Vec::new(alloc);
     for frame in frames {
-        if is_painting(frame) {
-            times.push(frame.time)?;
-        }
+        push_time(&mut times, frame)?;
     }
     Ok(times)
 }
@@ -187,20 +207,36 @@ fn joined(group: Painted, times: &[u64], gauge: u32) -> Painted
     }
 }
 
+/// A line of a looper's journal: a paint has a mark, in the group that it joins.
+fn push_act(
+    out: &mut Vec<Mark>,
+    lane: u64,
+    times: &[u64],
+    group: &mut Painted,
+    act: Act,
+) -> Result<(), NoMemory>
+    requires { group.old.place < 2 ^ 64 - 1 }
+    ensures near { OnOk result (group.new.place ≤ group.old.place + 1) }
+    ensures painted { OnOk result (GoesOn lane times.now group.old group.new act out.old.items out.new.items) }
+{
+    match act {
+        Act::Paint { gauge, value } => {
+            *group = joined(*group, times, gauge);
+            out.push(frame_mark(lane, group.time, Kind::Paint { gauge, value }))?;
+        }
+        Act::Idle { .. } => {}
+        Act::Event { .. } => {}
+    }
+    Ok(())
+}
+
 /// A looper's paints, by the frame times of the frames whose traversal ran.
 fn push_paints(out: &mut Vec<Mark>, lane: u64, times: &[u64], acts: &[Act]) -> Result<(), NoMemory>
     ensures { OnOk result (out.new.items ≡ out.old.items ++ paint_marks lane times.now no_paint acts.now) }
 {
     let mut group = NO_PAINT;
     for act in acts {
-        match *act {
-            Act::Paint { gauge, value } => {
-                group = joined(group, times, gauge);
-                out.push(frame_mark(lane, group.time, Kind::Paint { gauge, value }))?;
-            }
-            Act::Idle { .. } => {}
-            Act::Event { .. } => {}
-        }
+        push_act(out, lane, times, &mut group, *act)?;
     }
     Ok(())
 }

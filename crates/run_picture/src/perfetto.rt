@@ -248,8 +248,7 @@ fn trace(alloc: Global, report: &Report, period: u64) -> Result<Vec<Value>, NoMe
 pub fn perfetto_text(alloc: Global, report: &Report) -> Result<Vec<u8>, NoMemory>
     ensures { IfOk result (λ text. Traces report.now text.items) }
 {
-    let period = u64::try_from(period_of(report) / 1000).unwrap_or(u64::MAX);
-    let events = trace(alloc, report, period)?;
+    let events = trace(alloc, report, period_of(report) / 1000)?;
     let text = Value::Array(events).to_string(alloc)?;
     let mut out = Vec::new(alloc);
     out.extend_from_slice(text.as_bytes())?;

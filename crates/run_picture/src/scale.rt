@@ -1,41 +1,62 @@
 //! How a report's time fits the picture's width.
+ghost use Rattle.std.specs.Prelude.{◌≡◌};
+ghost use Rattle.std.specs.List.{fold};
+ghost use Rattle.run_picture.specs.Period.{distance, distances, lesser, period};
+
 use crate::group::{Row, Scale, nanos, row_of};
 use crate::mark::{Kind, Mark};
 use crate::report::{Looper, Report};
 use crate::shape::LANE_WIDTH;
 
 /// A frame's width in nanoseconds where no two frames are told.
-const USUAL_PERIOD: u128 = 16_666_667;
+const USUAL_PERIOD: u64 = 16_666_667;
 /// A picture has about so many places, so that it stays below a megabyte.
 const MOST_PLACES: u64 = 4_000;
 
-/// The least distance of two frames of a looper, in nanoseconds.
-fn least_distance(looper: &Looper, most: u128) -> u128 {
-    let mut least = most;
-    let mut before: Option<u64> = None;
-    for frame in looper.frames.as_slice() {
-        if let Some(time) = before {
-            let distance = u128::from(frame.time.saturating_sub(time));
-            if distance > 0 && distance < least {
-                least = distance;
-            }
-        }
-        before = Some(frame.time);
+/// The lesser of two numbers, of which the first may be none.
+fn lesser(least: Option<u64>, number: u64) -> Option<u64>
+    ensures { result ≡ lesser least number }
+{
+    match least {
+        Some(least) => Some(least.min(number)),
+        None => Some(number),
+    }
+}
+
+/// The least distance so far, with that of a time from the one before it, where it stands behind it.
+fn nearer(least: Option<u64>, before: u64, time: u64) -> Option<u64>
+    ensures { result ≡ fold lesser least (distance before time) }
+{
+    if before < time {
+        return lesser(least, time - before);
     }
     least
 }
 
-/// The width of a frame in nanoseconds: the least distance of two frames of one looper.
-pub(crate) fn period_of(report: &Report) -> u128 {
-    let mut least = u128::MAX;
+/// The least distance so far, with those of a looper's frames.
+fn least_distance(least: Option<u64>, looper: &Looper) -> Option<u64>
+    ensures { result ≡ fold lesser least (distances looper.now) }
+{
+    let mut least = least;
+    if let Some((first, later)) = looper.frames.as_slice().split_first() {
+        let mut before = first.time;
+        for frame in later {
+            least = nearer(least, before, frame.time);
+            before = frame.time;
+        }
+    }
+    least
+}
+
+/// The width of a frame in nanoseconds: the least distance of a frame from the one before it in its looper.
+pub(crate) fn period_of(report: &Report) -> u64
+    ensures { result ≡ period report.now }
+{
+    let mut least = None;
     for looper in report.loopers.as_slice() {
-        least = least_distance(looper, least);
+        least = least_distance(least, looper);
     }
-    if least == u128::MAX {
-        USUAL_PERIOD
-    } else {
-        least
-    }
+    least.unwrap_or(USUAL_PERIOD)
 }
 
 /// The first and the last moment of marks, in nanoseconds.

@@ -1,5 +1,5 @@
 //! Shapes of an SVG.
-use crate::label::push_escaped;
+use crate::canvas::Canvas;
 use line_words::push_number;
 use loop_model::NoMemory;
 use std::alloc::Global;
@@ -12,17 +12,17 @@ pub(crate) const LEFT: u64 = 150;
 pub(crate) const LANE_WIDTH: u64 = 1026;
 
 /// A name and a number as an attribute.
-pub(crate) fn push_attribute(out: &mut Vec<u8>, name: &[u8], number: u64) -> Result<(), NoMemory> {
+pub(crate) fn push_attribute(out: &mut Canvas, name: &[u8], number: u64) -> Result<(), NoMemory> {
     out.push(b' ')?;
     out.extend_from_slice(name)?;
     out.extend_from_slice(b"=\"")?;
-    push_number(out, number)?;
+    out.push_number(number)?;
     out.push(b'"')?;
     Ok(())
 }
 
 /// The class of an element.
-pub(crate) fn push_class(out: &mut Vec<u8>, class: &[u8]) -> Result<(), NoMemory> {
+pub(crate) fn push_class(out: &mut Canvas, class: &[u8]) -> Result<(), NoMemory> {
     out.extend_from_slice(b" class=\"")?;
     out.extend_from_slice(class)?;
     out.push(b'"')?;
@@ -38,7 +38,7 @@ pub(crate) struct Extent {
     pub(crate) height: u64,
 }
 
-pub(crate) fn push_rect(out: &mut Vec<u8>, extent: Extent, class: &[u8]) -> Result<(), NoMemory> {
+pub(crate) fn push_rect(out: &mut Canvas, extent: Extent, class: &[u8]) -> Result<(), NoMemory> {
     out.extend_from_slice(b"<rect")?;
     push_class(out, class)?;
     push_attribute(out, b"x", extent.x)?;
@@ -51,7 +51,7 @@ pub(crate) fn push_rect(out: &mut Vec<u8>, extent: Extent, class: &[u8]) -> Resu
 
 /// Text at a point; what would be markup is written as an entity.
 pub(crate) fn push_text(
-    out: &mut Vec<u8>,
+    out: &mut Canvas,
     x: u64,
     y: u64,
     class: &[u8],
@@ -62,14 +62,14 @@ pub(crate) fn push_text(
     push_attribute(out, b"x", x)?;
     push_attribute(out, b"y", y)?;
     out.push(b'>')?;
-    push_escaped(out, text)?;
+    out.push_escaped(text)?;
     out.extend_from_slice(b"</text>")?;
     Ok(())
 }
 
 /// A line from the left or from above.
 pub(crate) fn push_line(
-    out: &mut Vec<u8>,
+    out: &mut Canvas,
     from: (u64, u64),
     to: (u64, u64),
     class: &[u8],

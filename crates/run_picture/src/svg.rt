@@ -2,6 +2,7 @@
 ghost use Rattle.std.specs.Prelude.{◌≡◌, ◌++◌, IfOk, OnOk};
 ghost use Rattle.run_picture.specs.Drawn.{AreElements, Draws, IsElement, opening};
 
+use crate::canvas::Canvas;
 use crate::glyph::{Spot, letter, push_glyph, room_behind};
 use crate::group::{Group, Scale, groups};
 use crate::label::{push_escaped, push_group};
@@ -64,7 +65,7 @@ fn push_elements(
     let mut spot = spot;
     for (index, group) in groups.iter().enumerate() {
         let top = lanes.tops.get(index).copied().unwrap_or(TOP);
-        let mut shape = Vec::new(alloc);
+        let mut shape = Canvas::new(alloc);
         push_glyph(
             alloc,
             &mut shape,
@@ -72,7 +73,7 @@ fn push_elements(
             room_behind(groups, index),
             group,
         )?;
-        push_element(alloc, out, top, group, &shape)?;
+        push_element(alloc, out, top, group, &shape.into_bytes())?;
     }
     Ok(())
 }
@@ -94,24 +95,40 @@ fn phase_name(phases: u64, phase: u64) -> &'static [u8] {
     b"traversal"
 }
 
+/// What the colour and letter of one phase mean, from this point on.
+fn push_phase(
+    alloc: Global,
+    out: &mut Canvas,
+    phases: u64,
+    phase: u64,
+    x: u64,
+) -> Result<(), NoMemory> {
+    let letter = letter(phases, phase);
+    let mut class = Vec::new(alloc);
+    class.push(b'p')?;
+    class.extend_from_slice(letter)?;
+    out.extend_from_slice(b"<rect")?;
+    crate::shape::push_class(out, &class)?;
+    push_attribute(out, b"x", x)?;
+    out.extend_from_slice(b" y=\"12\" width=\"14\" height=\"14\"/>")?;
+    push_text(out, x.saturating_add(7), 23, b"c", letter)?;
+    push_text(
+        out,
+        x.saturating_add(18),
+        23,
+        b"k",
+        phase_name(phases, phase),
+    )
+}
+
 /// What the colours and letters of the phases mean.
-fn push_key(alloc: Global, out: &mut Vec<u8>, phases: u64) -> Result<(), NoMemory> {
+fn push_key(alloc: Global, out: &mut Canvas, phases: u64) -> Result<(), NoMemory> {
     let mut x = WIDTH - 24 - 92 * phases.min(5);
     for phase in 0..phases.min(5) {
-        let mut class = Vec::new(alloc);
-        class.push(b'p')?;
-        class.extend_from_slice(letter(phases, phase))?;
-        out.extend_from_slice(b"<rect")?;
-        crate::shape::push_class(out, &class)?;
-        push_attribute(out, b"x", x)?;
-        out.extend_from_slice(b" y=\"12\" width=\"14\" height=\"14\"/>")?;
-        let name = phase_name(phases, phase);
-        push_text(out, x.saturating_add(7), 23, b"c", letter(phases, phase))?;
-        push_text(out, x.saturating_add(18), 23, b"k", name)?;
+        push_phase(alloc, out, phases, phase, x)?;
         x = x.saturating_add(92);
     }
-    out.push(b'\n')?;
-    Ok(())
+    out.push(b'\n')
 }
 
 /// The distance of two ticks in milliseconds: 1, 2 or 5 and zeros, so that there are at most about 14.
@@ -131,7 +148,7 @@ fn tick_step(span: u128) -> u128 {
 }
 
 /// The lines of the time, each with its milliseconds.
-fn push_ticks(alloc: Global, out: &mut Vec<u8>, scale: Scale, bottom: u64) -> Result<(), NoMemory> {
+fn push_ticks(alloc: Global, out: &mut Canvas, scale: Scale, bottom: u64) -> Result<(), NoMemory> {
     let step = tick_step(scale.span).max(1);
     let first = scale.first / 1_000_000 / step;
     for number in 0..16u64 {
@@ -153,44 +170,54 @@ fn push_ticks(alloc: Global, out: &mut Vec<u8>, scale: Scale, bottom: u64) -> Re
 
 /// How many of the marks are of each kind, in words.
 fn push_summary(
-    out: &mut Vec<u8>,
+    out: &mut Canvas,
     report: &Report,
     marks: u64,
     groups: u64,
 ) -> Result<(), NoMemory> {
     out.extend_from_slice(b"Loopers: ")?;
-    push_number(out, report.loopers.len() as u64)?;
+    out.push_number(report.loopers.len() as u64)?;
     out.extend_from_slice(b". Marks: ")?;
-    push_number(out, marks)?;
+    out.push_number(marks)?;
     out.extend_from_slice(b", at places: ")?;
-    push_number(out, groups)?;
+    out.push_number(groups)?;
     out.extend_from_slice(
         b". Marks are dispatches, frames, the callbacks that ran in them, and paints. Times are milliseconds of uptime. Each mark has its text as its title.",
     )?;
     Ok(())
 }
 
+/// The size of the picture.
+fn push_size(out: &mut Canvas, height: u64) -> Result<(), NoMemory> {
+    out.extend_from_slice(b"<svg xmlns=\"http://www.w3.org/2000/svg\"")?;
+    push_attribute(out, b"width", WIDTH)?;
+    push_attribute(out, b"height", height)?;
+    out.extend_from_slice(b" viewBox=\"0 0 ")?;
+    out.push_number(WIDTH)?;
+    out.push(b' ')?;
+    out.push_number(height)
+}
+
+/// The title and the description of the picture.
+fn push_title(out: &mut Canvas, report: &Report, marks: u64, groups: u64) -> Result<(), NoMemory> {
+    out.extend_from_slice(
+        b"\" role=\"graphics-document document\" aria-labelledby=\"title desc\"><title id=\"title\">A run of the dashboard</title><desc id=\"desc\">",
+    )?;
+    push_summary(out, report, marks, groups)?;
+    out.extend_from_slice(b"</desc>\n")
+}
+
 /// The head of the file: its size, title and description, the looks, and the key.
 fn push_opening(
     alloc: Global,
-    out: &mut Vec<u8>,
+    out: &mut Canvas,
     report: &Report,
     marks: u64,
     groups: u64,
     height: u64,
 ) -> Result<(), NoMemory> {
-    out.extend_from_slice(b"<svg xmlns=\"http://www.w3.org/2000/svg\"")?;
-    push_attribute(out, b"width", WIDTH)?;
-    push_attribute(out, b"height", height)?;
-    out.extend_from_slice(b" viewBox=\"0 0 ")?;
-    push_number(out, WIDTH)?;
-    out.push(b' ')?;
-    push_number(out, height)?;
-    out.extend_from_slice(
-        b"\" role=\"graphics-document document\" aria-labelledby=\"title desc\"><title id=\"title\">A run of the dashboard</title><desc id=\"desc\">",
-    )?;
-    push_summary(out, report, marks, groups)?;
-    out.extend_from_slice(b"</desc>\n")?;
+    push_size(out, height)?;
+    push_title(out, report, marks, groups)?;
     out.extend_from_slice(STYLE)?;
     out.extend_from_slice(b"\n<rect width=\"100%\" height=\"100%\" fill=\"#fff\"/>\n")?;
     push_text(out, 16, 25, b"h", b"A run of the dashboard")?;
@@ -202,29 +229,36 @@ fn phases_of(report: &Report) -> u64 {
     if report.edition == 1 { 4 } else { 5 }
 }
 
+/// All but the elements of the groups, and where their rows are.
+fn background(
+    alloc: Global,
+    report: &Report,
+    scale: Scale,
+    marks: u64,
+    groups: &[Group],
+) -> Result<(Canvas, Lanes), NoMemory> {
+    let mut lower = Canvas::new(alloc);
+    let mut lanes = push_lanes(alloc, &mut lower, report, groups)?;
+    push_levels(&mut lower, groups, &mut lanes)?;
+    let mut out = Canvas::new(alloc);
+    let height = lanes.next.saturating_add(10);
+    push_opening(alloc, &mut out, report, marks, groups.len() as u64, height)?;
+    push_ticks(alloc, &mut out, scale, lanes.next.saturating_sub(6))?;
+    out.extend_from_slice(&lower.into_bytes())?;
+    Ok((out, lanes))
+}
+
 /// The picture of a report as one SVG that stands alone. `NoMemory` where there was none.
 pub fn svg_text(alloc: Global, report: &Report) -> Result<Vec<u8>, NoMemory>
     ensures { IfOk result (λ text. Draws report.now text.items) }
 {
     let marks = marks(alloc, report)?;
     let count = marks.len() as u64;
-    let period = period_of(report);
+    let period = u128::from(period_of(report));
     let scale = scale_of(&marks, period, phases_of(report));
     let groups = groups(alloc, scale, marks)?;
-    let mut lower = Vec::new(alloc);
-    let mut lanes = push_lanes(alloc, &mut lower, report, &groups)?;
-    push_levels(&mut lower, &groups, &mut lanes)?;
-    let mut out = Vec::new(alloc);
-    push_opening(
-        alloc,
-        &mut out,
-        report,
-        count,
-        groups.len() as u64,
-        lanes.next.saturating_add(10),
-    )?;
-    push_ticks(alloc, &mut out, scale, lanes.next.saturating_sub(6))?;
-    out.extend_from_slice(&lower)?;
+    let (below, lanes) = background(alloc, report, scale, count, &groups)?;
+    let mut out = below.into_bytes();
     out.extend_from_slice(b"<g transform=\"translate(150)\">\n")?;
     let frame = scale.pixels(scale.first.saturating_add(period));
     let spot = Spot::new(scale, frame, phases_of(report));
