@@ -1,4 +1,4 @@
-use Rattle.std.proofs.Common.{rules, ap, refl, sym, subst, true, false, ◌≡◌, ◌++◌, ◌∷◌, [], ◌∙◌}
+use Rattle.std.proofs.Common.{rules, ap, refl, sym, true, false, ◌≡◌, ◌++◌, ◌∷◌, [], ◌∙◌}
 use Rattle.run_picture.specs.Groups.{begun, with_mark}
 use Rattle.run_picture.proofs.Grouped.{cut_start, cut_same, cut_other, cut_end}
 use Rattle.run_picture.proofs.group.cut_behind.Goals.{then-not-is_at+in_ok-push, else-not-is_at}

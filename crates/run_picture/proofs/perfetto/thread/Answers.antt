@@ -1,4 +1,4 @@
-use Rattle.std.proofs.Common.{ap, codes, ◌∙◌, string_bytes}
+use Rattle.std.proofs.Common.{ap, codes, ◌∙◌}
 use Rattle.serde_json.specs.Data.{object, put}
 use Rattle.serde_json.proofs.Views.{view-Object}
 use Rattle.run_picture.specs.Events.{count, naming, thread}

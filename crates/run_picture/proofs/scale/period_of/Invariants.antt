@@ -1,4 +1,4 @@
-use Rattle.std.proofs.Common.{◌≡◌, drop, None}
+use Rattle.std.proofs.Common.{◌≡◌, drop}
 use Rattle.std.specs.List.{flat_map, fold}
 use Rattle.run_picture.specs.Period.{distances, least, lesser}
 use Rattle.run_picture.proofs.scale.period_of.Given as goal

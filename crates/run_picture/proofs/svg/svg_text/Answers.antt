@@ -1,7 +1,7 @@
-use Rattle.std.proofs.Common.{subst, ◌++◌, ◌∙◌}
+use Rattle.std.proofs.Common.{subst}
 use Rattle.std.specs.Prelude.{IsPermutation}
 use Rattle.std.specs.List.{flat_map}
-use Rattle.run_picture.specs.Drawn.{AreElements, lanes}
+use Rattle.run_picture.specs.Drawn.{AreElements}
 use Rattle.run_picture.specs.Groups.{marks_of}
 use Rattle.run_picture.proofs.svg.svg_text.Goals as goal
 
