@@ -1,7 +1,7 @@
 //! Faults of the source and of the sink, and inputs that are too long.
 use super::{Case, NEVER, Wants, joined};
-use dashboard_cli::*;
 use dash_script::Cause as TextCause;
+use dashboard_cli::*;
 use std::alloc::{AllocError, Global};
 
 /// A gauge that moves to its target, in 93 bytes.

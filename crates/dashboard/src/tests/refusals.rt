@@ -1,6 +1,6 @@
 //! Inputs that are refused, each with its least bad line.
-use dashboard_cli::*;
 use dash_script::Cause as TextCause;
+use dashboard_cli::*;
 
 pub(super) const OF_SCRIPTS: [(&str, &str, &str, Status, &str, &str); 11] = [
     (

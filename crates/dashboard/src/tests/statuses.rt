@@ -1,6 +1,6 @@
 //! Statuses, with their codes and texts.
-use dashboard_cli::*;
 use dash_script::Cause as TextCause;
+use dashboard_cli::*;
 use std::alloc::Global;
 use std::process::Abort;
 use std::test::Fail;

@@ -13,8 +13,7 @@ returns-in-Bad-clause-refused g c =
 -- what is run is the script of the text, and none of its lines was refused
 pub returns-in-Ok-clause-ran : goal.returns-in-Ok-clause-ran
 returns-in-Ok-clause-ran g c =
-    let is = c.in-Ok.ensures.runs in
-    (
+    let is = c.in-Ok.ensures.runs in (
       subst (IsText c.args.input.now) (sym is.script) c.in_ok-script.ensures.read,
       ap bad_line is.script ∙ c.in-Ok.ensures.bad,
       subst (λ s. IsInboxRun s c.in-Ok.report) (sym is.script) is,
