@@ -1,9 +1,10 @@
 -- What each entry of the looper and of the controller keeps, and how a run of them goes on.
 use Rattle.std.proofs.Common.{◌≡◌, ◌≢◌, ◌<◌, ◌≤◌, ◌+◌, ◌⊎◌, inl, inr, ℕ, Bool, true, false, List, [], ◌∷◌, ◌++◌, length, refl, sym, ap, ◌∙◌, subst, arith, append_assoc, Option, Some, None, max, take, get_or}
 use Rattle.std.specs.Prelude.{◌==◌, ◌&&◌, ◌||◌, not, is_some, if◌then◌else◌, option_map, min}
-use Rattle.std.specs.List.{AllByRecursion}
-use Rattle.std.proofs.lemmas.Bool.{and_from, or_left, or_right, eq-eqb, ne_eqb, le-leb}
+use Rattle.std.specs.List.{AllByRecursion, list_any}
+use Rattle.std.proofs.lemmas.Bool.{and_from, or_cases, or_left, or_right, eq-eqb, ne_eqb, le-leb}
 use Rattle.std.proofs.lemmas.List.{append-nil, take_more, take_all}
+use Rattle.std.proofs.lemmas.List.Folds.{list_any-append}
 use Rattle.std.proofs.lemmas.List.Sums.{fold-append}
 use mathlib.Core.Logic.{dite}
 use native.Mathlib.Decide.{dec_lt}
@@ -30,8 +31,8 @@ use Rattle.inbox_queue.specs.declared.main_queue.Look.{Look}
 use Rattle.inbox_queue.specs.declared.main_queue.Look.TheVariants.{Taken, Waits, Other}
 use Rattle.inbox_queue.specs.declared.main_queue.Move.{Move}
 use Rattle.inbox_queue.specs.declared.main_queue.Move.TheVariants.{There, Stays, NoMemory}
-use Rattle.inbox_queue.specs.InboxRun.{unslotted, IsPostOrLook, post_at_time, posts_after, posts_made, posts_at, is_post, fresh_behind, is_fresh, comes_first, is_due_at, moves_as_planned}
-use Rattle.inbox_queue.specs.MainQueue.{AreSilent, time_of, GrowsBy, IsLookAt, IsMoveTo, IsHaltAt, IsPostOf, LooksOn, MovesOn, Goes, WaitsFor, HasLooked, HasDrained, HasDriven, IsUnderWay, HasMoved, HasPosted, HasEnded, HasHalted, IsEarlier}
+use Rattle.inbox_queue.specs.InboxRun.{unslotted, IsPostOrLook, post_at_time, posts_after, posts_made, posts_at, is_post, fresh_behind, is_fresh, comes_first, is_due_at, moves_to, is_reached, moves_as_planned}
+use Rattle.inbox_queue.specs.MainQueue.{AreSilent, time_of, GrowsBy, IsLookAt, IsMoveTo, IsHaltAt, IsPostOf, LooksOn, MovesOn, Goes, WaitsFor, HasLooked, HasDrained, HasDriven, IsUnderWay, HasMoved, HasPosted, HasEnded, HasHalted, KeepsReached, IsEarlier}
 
 -- ---- one entry more
 
@@ -83,6 +84,25 @@ fresh_moved es e time call = fresh-snoc es e ∙ or_left (is_advance e.call) _ (
 
 fresh_posted : (es : List Entry) (e : Entry) (p : PostData) → e.call ≡ Post p → is_fresh es ≡ true → is_fresh (es ++ e ∷ []) ≡ true
 fresh_posted es e p call fresh = fresh-snoc es e ∙ or_right (is_advance e.call) _ (and_from _ _ fresh (ap is_post call))
+
+-- a time that was reached stays so
+reached_more : (es : List Entry) (e : Entry) → KeepsReached es (es ++ e ∷ [])
+unfolding is_reached
+reached_more es e time h = elim (or_cases (time == 0) (list_any (moves_to time) es) h) [
+  | inl start ↦ or_left _ _ start
+  | inr moved ↦ or_right (time == 0) _ (list_any-append (moves_to time) es (e ∷ []) ∙ or_left _ _ moved)
+]
+
+-- the time to which the last entry moved
+reached_by_last : (time : ℕ) (es : List Entry) (e : Entry) → e.call ≡ Advance time → is_reached time (es ++ e ∷ []) ≡ true
+unfolding is_reached
+reached_by_last time es e call =
+    let here : moves_to time e ≡ true = subst (λ (c : Call). (is_advance c && moment_of c == time) ≡ true) (sym call) (and_from _ _ refl (eq-eqb time time refl)) in
+    or_right (time == 0) _ (list_any-append (moves_to time) es (e ∷ []) ∙ or_right (list_any (moves_to time) es) _ (or_left _ _ here))
+
+pub start_reached : (es : List Entry) → is_reached 0 es ≡ true
+unfolding is_reached
+start_reached es = refl
 
 -- an entry of the looper, which posts only where nothing else has come since the time was moved
 goes_own : (threads : ℕ) (s : Script) (es : List Entry) (e : Entry) → e.sender ≡ threads → IsPostOrLook e.call → comes_first es e ≡ true → is_advance e.call ≡ false → Goes threads s es → Goes threads s (es ++ e ∷ [])
@@ -145,13 +165,14 @@ looked_one threads past now g = subst (HasLooked threads past) (sym g.1) (record
   goes = λ s h. goes_own threads s past g.0 g.2 (subst IsPostOrLook (sym g.3) tt) (or_left _ _ (ap (λ (c : Call). not (is_post c)) g.3)) (ap is_advance g.3) h;
   posts = posts_own threads past g.0 g.2 ∙ ap (λ (c : Call). posts_made threads past ++ post_at_time (time_of past) c) g.3 ∙ append-nil (posts_made threads past);
   time = time_more past g.0 ∙ ap (λ (c : Call). max (time_of past) (moment_of c)) g.3 ∙ same_time (time_of past);
+  kept = reached_more past g.0;
 })
 
 looked_none : (threads : ℕ) (past : List Entry) → HasLooked threads past past
-looked_none threads past = record { goes = λ s h. h; posts = refl; time = refl }
+looked_none threads past = record { goes = λ s h. h; posts = refl; time = refl; kept = λ t h. h }
 
 looked_then : (threads : ℕ) (a b c : List Entry) → HasLooked threads a b → HasLooked threads b c → HasLooked threads a c
-looked_then threads a b c p q = record { goes = λ s h. q.goes s (p.goes s h); posts = q.posts ∙ p.posts; time = q.time ∙ p.time }
+looked_then threads a b c p q = record { goes = λ s h. q.goes s (p.goes s h); posts = q.posts ∙ p.posts; time = q.time ∙ p.time; kept = λ t h. q.kept t (p.kept t h) }
 
 looked_by : (threads : ℕ) (look : Look) (past now : List Entry) → LooksOn threads look past now → HasLooked threads past now
 looked_by threads Taken past now g = looked_one threads past now g
@@ -207,13 +228,13 @@ earlier_planned s (Some u) (Some x) limit time is early planned =
     one_of a b = dite (dec_lt a b) (λ lt. inl (let r : min a b ≡ a = omega (arith, lt) in r)) (λ no_less. inr (let r : min a b ≡ b = omega arith in r))
 
 driven_none : (threads time : ℕ) (a : List Entry) → HasDriven threads time a a
-driven_none threads time a = record { goes = λ s le planned h. h; posts = refl; within = λ h. h }
+driven_none threads time a = record { goes = λ s le planned h. h; posts = refl; within = λ h. h; kept = λ t h. h }
 
 driven_then : (threads time : ℕ) (a b c : List Entry) → HasDriven threads time a b → HasDriven threads time b c → HasDriven threads time a c
-driven_then threads time a b c p q = record { goes = λ s le planned h. q.goes s le planned (p.goes s le planned h); posts = q.posts ∙ p.posts; within = λ h. q.within (p.within h) }
+driven_then threads time a b c p q = record { goes = λ s le planned h. q.goes s le planned (p.goes s le planned h); posts = q.posts ∙ p.posts; within = λ h. q.within (p.within h); kept = λ t h. q.kept t (p.kept t h) }
 
 driven_looked : (threads time : ℕ) (a b : List Entry) → HasLooked threads a b → HasDriven threads time a b
-driven_looked threads time a b p = record { goes = λ s le planned h. p.goes s h; posts = p.posts; within = λ h. subst (λ t. t ≤ time) (sym p.time) h }
+driven_looked threads time a b p = record { goes = λ s le planned h. p.goes s h; posts = p.posts; within = λ h. subst (λ t. t ≤ time) (sym p.time) h; kept = p.kept }
 
 driven_moved : (threads limit time : ℕ) (until : Option ℕ) (past now : List Entry) → IsEarlier until limit time → WaitsFor until past → GrowsBy (threads + 1) (IsMoveTo time) past now → HasDriven threads limit past now
 driven_moved threads limit time until past now early waits g = subst (HasDriven threads limit past) (sym g.1) (record {
@@ -223,6 +244,7 @@ driven_moved threads limit time until past now early waits g = subst (HasDriven 
   within = λ h. let w = earlier_within until limit time early in
       let t : time_of (past ++ g.0 ∷ []) ≡ max (time_of past) time = time_more past g.0 ∙ ap (λ (c : Call). max (time_of past) (moment_of c)) g.3.0 in
       let r : time_of (past ++ g.0 ∷ []) ≤ limit = omega (arith, w, t, h) in r;
+  kept = reached_more past g.0;
 })
 
 -- the move's answer, after the looper has drained
@@ -251,6 +273,11 @@ moved_fresh : (threads time : ℕ) (c d : List Entry) → MovesOn threads time T
 moved_fresh threads time c d (inl q) h = absurd (let le = q.1 in let wrong : ⊥ = omega (arith, le, h) in wrong)
 moved_fresh threads time c d (inr q) h = let g = q.0 in ap is_fresh g.1 ∙ fresh_moved c g.0 time g.3.0
 
+-- and the time that it went to was reached by it
+moved_to : (threads time : ℕ) (c d : List Entry) → MovesOn threads time There c d → time_of c < time → is_reached time d ≡ true
+moved_to threads time c d (inl q) h = absurd (let le = q.1 in let wrong : ⊥ = omega (arith, le, h) in wrong)
+moved_to threads time c d (inr q) h = let g = q.0 in ap (is_reached time) g.1 ∙ reached_by_last time c g.0 g.3.0
+
 pub drive_none : (threads time : ℕ) (a : List Entry) → Led threads (IsUnderWay threads time) a a
 drive_none threads time a silent = (silent, (driven_none threads time a, λ h. h))
 
@@ -262,6 +289,7 @@ drive_start n limit a d start is silent = subst (λ l. AreSilent n l × HasMoved
     driven = driven_none n limit d;
     least = let r : limit ≤ time_of d = omega (arith, start) in r;
     fresh = λ h. absurd (let wrong : ⊥ = omega (arith, start, h) in wrong);
+    reached = λ h. absurd (let wrong : ⊥ = omega (arith, start, h) in wrong);
     start = λ zero. refl;
   },
 )
@@ -301,6 +329,7 @@ drive_last n m k limit time until a b c d some is is' there early p q r silent =
         driven = all.1;
         least = reached n limit c d move;
         fresh = λ h. moved_fresh n limit c d move (all.2 h);
+        reached = λ h. moved_to n limit c d move (all.2 h);
         start = λ zero. absurd (some zero);
       },
     )
@@ -308,7 +337,7 @@ drive_last n m k limit time until a b c d some is is' there early p q r silent =
 -- ---- the looper's posts
 
 posted_none : (threads : ℕ) (a : List Entry) → HasPosted threads [] a a
-posted_none threads a = record { goes = λ s fresh h. h; fresh = λ h. h; posts = sym (append-nil (posts_made threads a)); time = refl }
+posted_none threads a = record { goes = λ s fresh h. h; fresh = λ h. h; posts = sym (append-nil (posts_made threads a)); time = refl; kept = λ t h. h }
 
 posted_one : (threads : ℕ) (parcels : List Parcel) (x : Parcel) (a b c : List Entry) → HasPosted threads parcels a b → GrowsBy threads (IsPostOf x.post) b c → HasPosted threads (parcels ++ x ∷ []) a c
 posted_one threads parcels x a b c p g = subst (HasPosted threads (parcels ++ x ∷ []) a) (sym g.1) (record {
@@ -318,6 +347,7 @@ posted_one threads parcels x a b c p g = subst (HasPosted threads (parcels ++ x 
       ∙ (λ i. p.posts i ++ (p.time i, g.3.2 i) ∷ []) ∙ append_assoc (posts_made threads a) (posts_at (time_of a) parcels) ((time_of a, unslotted x.post) ∷ [])
       ∙ ap (λ l. posts_made threads a ++ l) (sym (posts_at-snoc (time_of a) parcels x));
   time = time_more b g.0 ∙ ap (λ (q : Call). max (time_of b) (moment_of q)) g.3.1 ∙ (let z : max (time_of b) 0 ≡ time_of b = omega arith in z) ∙ p.time;
+  kept = λ t h. reached_more b g.0 t (p.kept t h);
 })
   where
     posts_at-snoc : (time : ℕ) (xs : List Parcel) (x : Parcel) → posts_at time (xs ++ x ∷ []) ≡ posts_at time xs ++ (time, unslotted x.post) ∷ []
@@ -342,6 +372,7 @@ halted_one : (threads : ℕ) (a b c : List Entry) → HasLooked threads a b → 
 halted_one threads a b c p g = subst (HasHalted threads a) (sym g.1) (record {
   ends = λ s at h. ends threads s b g.0 g.2 (g.3.0 ∙ ap Halt (p.time ∙ at)) g.3.1 (p.goes s h);
   posts = posts_other (threads + 1) threads b g.0 g.2 (apart_down threads) ∙ p.posts;
+  kept = λ t h. reached_more b g.0 t (p.kept t h);
 })
 
 pub halt_last : (n m k : ℕ) (until : Option ℕ) (a b c d : List Entry) → m ≡ n → k ≡ n → Led n (HasLooked n) a b → Led m (HasDrained m until) b c → Led k (λ past now. GrowsBy (k + 1) (IsHaltAt (time_of past)) past now) c d → Led n (HasHalted n) a d

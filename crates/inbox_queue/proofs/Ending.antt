@@ -20,7 +20,7 @@ use Rattle.inbox_queue.specs.declared.parcel.Parcel.{Parcel}
 use Rattle.inbox_queue.specs.declared.main_queue.Place.{Place}
 use Rattle.inbox_queue.specs.declared.main_queue.Hands.{Hands}
 use Rattle.inbox_queue.specs.declared.run.InboxReport.{InboxReport}
-use Rattle.inbox_queue.specs.InboxRun.{AreOfBlocks, IsInboxRun, IsPostOrLook, posts_made, comes_first, moves_as_planned}
+use Rattle.inbox_queue.specs.InboxRun.{AreOfBlocks, IsInboxRun, IsPostOrLook, posts_made, comes_first, moves_as_planned, AreReached}
 use Rattle.inbox_queue.specs.MainQueue.{IsAt, threads_of, seen, AreSilent}
 use Rattle.inbox_queue.specs.Opened.{AreIdle, IsPlayed, IsKept}
 use Rattle.inbox_queue.specs.Turned.{Sender}
@@ -108,6 +108,7 @@ is_run s report es is blocks kept played = record {
   looks = subst (λ (l : List Entry). AllByRecursion (λ e. IsPostOrLook e.call) (entries_by s.threads l)) (sym kept.whole) played.ended.looks;
   first = ap (λ l. each_behind comes_first [] l) kept.whole ∙ played.ended.first;
   planned = ap (λ l. each_behind (moves_as_planned s) [] l) kept.whole ∙ played.ended.planned;
+  reached = subst (AreReached s.blocks) (sym kept.whole) played.reached;
   controlled = ap (λ l. is_controlled true true (s.threads + 1) s.end l) kept.whole ∙ played.ended.controlled;
   timely = ap (λ l. is_called_in_time (s.threads + 1) l) kept.whole ∙ played.ended.timely;
   halted = ap ends_halted kept.whole ∙ played.ended.halted;

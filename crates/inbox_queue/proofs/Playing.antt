@@ -17,10 +17,10 @@ use Rattle.dash_script.specs.Reading.{HasText, rise}
 use Rattle.run_model.specs.Control.{is_called_in_time}
 use Rattle.run_model.specs.Moves.{is_planned_time}
 use Rattle.inbox_queue.specs.declared.parcel.Parcel.{Parcel}
-use Rattle.inbox_queue.specs.InboxRun.{posts_made, posts_at, posts_admitted, IsOfBlock, AreOfBlocks, is_fresh}
-use Rattle.inbox_queue.specs.MainQueue.{AreSilent, time_of, Goes, HasMoved, HasPosted, HasHalted}
+use Rattle.inbox_queue.specs.InboxRun.{posts_made, posts_at, posts_admitted, IsOfBlock, AreOfBlocks, is_fresh, is_reached, AreReached}
+use Rattle.inbox_queue.specs.MainQueue.{AreSilent, time_of, Goes, KeepsReached, HasMoved, HasPosted, HasHalted}
 use Rattle.inbox_queue.specs.Opened.{IsPlayed}
-use Rattle.inbox_queue.proofs.Driving.{Led, nothing_fresh}
+use Rattle.inbox_queue.proofs.Driving.{Led, nothing_fresh, start_reached}
 
 -- the time is before a block's, or nothing has come yet
 abbrev pub IsAhead : List Entry → Block → Type 0
@@ -32,6 +32,7 @@ pub record Ran (s : Script) (threads : ℕ) (done rest : List Block) (admitted :
   pub posts : posts_made threads es ≡ posts_admitted done admitted
   pub ahead : AllByRecursion (IsAhead es) rest
   pub within : time_of es ≤ s.end
+  pub reached : AreReached done es
 
 clock_none : clock (empty_base 0) [] ≡ 0
 unfolding clock
@@ -56,6 +57,23 @@ arrived threads time past now (inr is) moved =
           (λ no_more. ap is_fresh (moved.start (let r : time ≡ 0 = omega arith in r) ∙ is) ∙ nothing_fresh),
     )
 
+-- so the time that was ahead was moved to
+ahead_reached : (threads time : ℕ) (past now : List Entry) → (time_of past < time) ⊎ (past ≡ []) → HasMoved threads time past now → is_reached time now ≡ true
+ahead_reached threads time past now (inl before) moved = moved.reached before
+ahead_reached threads time past now (inr is) moved =
+    let z : time_of past ≡ 0 = ap time_of is ∙ clock_none in
+    dite (dec_lt 0 time) (λ some. moved.reached (let r : time_of past < time = omega (arith, z, some) in r))
+    (λ no_more. ap (λ t. is_reached t now) (let r : time ≡ 0 = omega arith in r) ∙ start_reached now)
+
+-- the blocks that were reached stay so
+reached_on : (bs : List Block) (past now : List Entry) → KeepsReached past now → AreReached bs past → AreReached bs now
+reached_on [] past now kept h = tt
+reached_on (b ∷ bs) past now kept h = (kept b.time h.0, reached_on bs past now kept h.1)
+
+reached-snoc : (bs : List Block) (b : Block) (es : List Entry) → AreReached bs es → is_reached b.time es ≡ true → AreReached (bs ++ b ∷ []) es
+reached-snoc [] b es h one = (one, tt)
+reached-snoc (c ∷ cs) b es h one = (h.0, reached-snoc cs b es h.1 one)
+
 -- at the start
 pub ran_none : (s : Script) (threads : ℕ) (es : List Entry) → es ≡ [] → Ran s threads [] s.blocks [] es
 unfolding is_called_in_time
@@ -64,6 +82,7 @@ ran_none s threads es is = subst (Ran s threads [] s.blocks []) (sym is) (record
   posts = refl;
   ahead = all_ahead s.blocks;
   within = let z = clock_none in let r : time_of [] ≤ s.end = omega (arith, z) in r;
+  reached = tt;
 })
 
 posts_admitted-snoc : (s : Script) (bs : List Block) (lists : List (List Parcel)) (b : Block) (parcels : List Parcel) → AreOfBlocks s bs lists → posts_admitted (bs ++ b ∷ []) (lists ++ parcels ∷ []) ≡ posts_admitted bs lists ++ posts_at b.time parcels
@@ -98,6 +117,8 @@ ran_more s threads done rest b lists parcels w0 w1 w2 blocks rises early planned
       posts = posted.posts ∙ (λ i. (moved.driven.posts ∙ ran.posts) i ++ posts_at (at i) parcels) ∙ sym (posts_admitted-snoc s done lists b parcels blocks);
       ahead = later_all w2 b.time rest now (and_parts (list_all (λ (later : Block). nat_lt b.time later.time) rest) (rise rest) rises).0;
       within = let r : time_of w2 ≤ s.end = omega (arith, now, le) in r;
+      reached = reached_on (done ++ b ∷ []) w1 w2 posted.kept
+          (reached-snoc done b w1 (reached_on done w0 w1 moved.driven.kept ran.reached) (ahead_reached threads b.time w0 w1 ran.ahead.0 moved));
     }
 
 -- the end
@@ -110,6 +131,7 @@ ran_all s threads lists w0 w1 w2 ran moved halted =
     record {
       ended = halted.ends s at (moved.driven.goes s le (or_left _ _ (eq-eqb s.end s.end refl)) ran.goes);
       posts = halted.posts ∙ moved.driven.posts ∙ ran.posts;
+      reached = reached_on s.blocks w0 w2 (λ t h. halted.kept t (moved.driven.kept t h)) ran.reached;
     }
 
 -- with what is known of threads that are silent

@@ -1,6 +1,6 @@
 -- When a report is an inbox run of a script.
 use Rattle.std.specs.Prelude.{◌≡◌, ◌<◌, ◌≤◌, ◌+◌, ℕ, ◌==◌, ◌&&◌, ◌||◌, not, Bool, true, false, List, [], ◌∷◌, ◌++◌, map, Option, None, if◌then◌else◌}
-use Rattle.std.specs.List.{AllByRecursion, fold}
+use Rattle.std.specs.List.{AllByRecursion, fold, list_any}
 use Rattle.std.specs.Option.{option_map_or}
 use Rattle.loop_model.specs.declared.post.Post.{Post as PostData}
 use Rattle.loop_model.specs.declared.call.Call.{Call}
@@ -109,6 +109,18 @@ may_be_moved_to s past time = is_planned_time s time || is_due_at time (first_el
 abbrev pub moves_as_planned : Script → List Entry → Entry → Bool
 moves_as_planned s past e = not (is_advance e.call) || may_be_moved_to s past (moment_of e.call)
 
+-- the entry moves the time to this one
+abbrev pub moves_to : ℕ → Entry → Bool
+moves_to time e = is_advance e.call && moment_of e.call == time
+
+-- the time is the start's, or the queue's time was moved to it
+unfoldable pub is_reached : ℕ → List Entry → Bool
+is_reached time es = time == 0 || list_any (moves_to time) es
+
+-- so it is with the time of each of these blocks
+abbrev pub AreReached : List Block → List Entry → Type 0
+AreReached blocks es = AllByRecursion (λ (b : Block). is_reached b.time es ≡ true) blocks
+
 -- the report is an inbox run of the script
 pub record IsInboxRun (s : Script) (r : InboxReport) : Type 0 where
   pub script : r.script ≡ s
@@ -130,6 +142,8 @@ pub record IsInboxRun (s : Script) (r : InboxReport) : Type 0 where
   pub first : each_behind comes_first [] (history_of r.kept) ≡ true
   -- each move goes to the time of a block, to the end, or to when the first message that might then be dispatched is due
   pub planned : each_behind (moves_as_planned s) [] (history_of r.kept) ≡ true
+  -- no block is left out, also one without lines: the time is moved to that of each, but for one at the start
+  pub reached : AreReached s.blocks (history_of r.kept)
   -- the controller moves the time on, past no message that may be dispatched, and halts the queue at the end, which is the last entry
   pub controlled : is_controlled true true (control_sender s) s.end (history_of r.kept) ≡ true
   pub timely : is_called_in_time (control_sender s) (history_of r.kept) ≡ true

@@ -23,7 +23,7 @@ use Rattle.inbox_queue.specs.declared.main_queue.Look.{Look}
 use Rattle.inbox_queue.specs.declared.main_queue.Look.TheVariants.{Taken, Waits, Other}
 use Rattle.inbox_queue.specs.declared.main_queue.Move.{Move}
 use Rattle.inbox_queue.specs.declared.main_queue.Move.TheVariants.{There, Stays, NoMemory}
-use Rattle.inbox_queue.specs.InboxRun.{unslotted, IsPostOrLook, posts_made, posts_at, is_fresh, comes_first, moves_as_planned}
+use Rattle.inbox_queue.specs.InboxRun.{unslotted, IsPostOrLook, posts_made, posts_at, is_fresh, comes_first, is_reached, moves_as_planned}
 
 -- how many threads there are: their senders' numbers are below that of the looper
 abbrev pub threads_of : Hands → ℕ
@@ -111,11 +111,16 @@ pub record Goes (threads : ℕ) (s : Script) (es : List Entry) : Type 0 where
 abbrev pub WaitsFor : Option ℕ → List Entry → Type 0
 WaitsFor until es = (until ≡ option_map when_of (first_eligible (empty_base 0) es)) × (quit_place (empty_base 0) es ≡ None)
 
+-- each time that was reached stays so
+abbrev pub KeepsReached : List Entry → List Entry → Type 0
+KeepsReached past now = (time : ℕ) → is_reached time past ≡ true → is_reached time now ≡ true
+
 -- the looper has looked for messages, and nothing else happened
 pub record HasLooked (threads : ℕ) (past now : List Entry) : Type 0 where
   pub goes : (s : Script) → Goes threads s past → Goes threads s now
   pub posts : posts_made threads now ≡ posts_made threads past
   pub time : time_of now ≡ time_of past
+  pub kept : KeepsReached past now
 
 -- the looper has looked for messages until it waits
 abbrev pub HasDrained : ℕ → Option ℕ → List Entry → List Entry → Type 0
@@ -126,6 +131,7 @@ pub record HasDriven (threads time : ℕ) (past now : List Entry) : Type 0 where
   pub goes : (s : Script) → time ≤ s.end → is_planned_time s time ≡ true → Goes threads s past → Goes threads s now
   pub posts : posts_made threads now ≡ posts_made threads past
   pub within : time_of past ≤ time → time_of now ≤ time
+  pub kept : KeepsReached past now
 
 -- the same, and the time is still before this one where it was
 abbrev pub IsUnderWay : ℕ → ℕ → List Entry → List Entry → Type 0
@@ -137,6 +143,7 @@ pub record HasMoved (threads time : ℕ) (past now : List Entry) : Type 0 where
   pub driven : HasDriven threads time past now
   pub least : time ≤ time_of now
   pub fresh : time_of past < time → is_fresh now ≡ true
+  pub reached : time_of past < time → is_reached time now ≡ true
   pub start : time ≡ 0 → now ≡ past
 
 -- the looper has posted what these parcels hold, in order
@@ -145,6 +152,7 @@ pub record HasPosted (threads : ℕ) (parcels : List Parcel) (past now : List En
   pub fresh : is_fresh past ≡ true → is_fresh now ≡ true
   pub posts : posts_made threads now ≡ posts_made threads past ++ posts_at (time_of past) parcels
   pub time : time_of now ≡ time_of past
+  pub kept : KeepsReached past now
 
 -- the history is at its end
 pub record HasEnded (threads : ℕ) (s : Script) (es : List Entry) : Type 0 where
@@ -159,6 +167,7 @@ pub record HasEnded (threads : ℕ) (s : Script) (es : List Entry) : Type 0 wher
 pub record HasHalted (threads : ℕ) (past now : List Entry) : Type 0 where
   pub ends : (s : Script) → time_of past ≡ s.end → Goes threads s past → HasEnded threads s now
   pub posts : posts_made threads now ≡ posts_made threads past
+  pub kept : KeepsReached past now
 
 -- the time is that one or the moment, whichever comes first
 abbrev pub IsEarlier : Option ℕ → ℕ → ℕ → Type 0

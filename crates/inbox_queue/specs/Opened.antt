@@ -14,7 +14,7 @@ use Rattle.inbox_queue.specs.declared.parcel.Parcel.{Parcel}
 use Rattle.inbox_queue.specs.declared.run.Opened.{Opened}
 use Rattle.inbox_queue.specs.declared.run.InboxRan.{InboxRan}
 use Rattle.inbox_queue.specs.declared.run.InboxRan.TheVariants as ran
-use Rattle.inbox_queue.specs.InboxRun.{AreOfBlocks, posts_made, posts_admitted, IsInboxRun}
+use Rattle.inbox_queue.specs.InboxRun.{AreOfBlocks, posts_made, posts_admitted, AreReached, IsInboxRun}
 use Rattle.inbox_queue.specs.MainQueue.{IsAt, threads_of, AreSilent, HasEnded}
 use Rattle.inbox_queue.specs.Turned.{Sender}
 use Rattle.inbox_queue.specs.Bad.{bad_line}
@@ -36,6 +36,7 @@ pub record IsOpen (threads : ℕ) (o : Opened) : Type 0 where
 pub record IsPlayed (s : Script) (threads : ℕ) (admitted : List (List Parcel)) (es : List Entry) : Type 0 where
   pub ended : HasEnded threads s es
   pub posts : posts_made threads es ≡ posts_admitted s.blocks admitted
+  pub reached : AreReached s.blocks es
 
 -- what is kept of the queue, where this was seen of its history
 pub record IsKept (threads : ℕ) (es : List Entry) (r : QueueRecord) : Type 0 where
