@@ -305,3 +305,39 @@ pub(crate) const LOOKS: [Step; 19] = [
     Step::Has(false),
     Step::Idling(9, Look::Over),
 ];
+
+/// What an advance or a halt answers, by name: the time that was reached before, or the number of the message that is due.
+#[derive(Clone, Copy, Debug, PartialEq, Eq)]
+pub(crate) enum Move {
+    Done,
+    Over,
+    Reached(u64),
+    NotDrained(u64),
+}
+
+/// A call that is made, or an advance or a halt at a moment with what it answers.
+#[derive(Clone, Copy)]
+pub(crate) enum Moving {
+    Make(Ask),
+    Advance(u64, Move),
+    Halt(u64, Move),
+}
+
+pub(crate) const MOVES: [Moving; 15] = [
+    Moving::Advance(0, Move::Reached(0)),
+    Moving::Make(Ask::Post(1, 5)),
+    Moving::Advance(5, Move::Done),
+    // the time is looked at before what is due
+    Moving::Advance(5, Move::Reached(5)),
+    Moving::Advance(4, Move::Reached(5)),
+    Moving::Make(Ask::Post(2, 0)),
+    Moving::Advance(6, Move::NotDrained(1)),
+    Moving::Halt(5, Move::NotDrained(1)),
+    Moving::Make(Ask::Next(5)),
+    Moving::Advance(6, Move::NotDrained(0)),
+    Moving::Make(Ask::Next(5)),
+    Moving::Make(Ask::Post(3, 7)),
+    Moving::Halt(6, Move::Done),
+    Moving::Halt(7, Move::Over),
+    Moving::Advance(7, Move::Over),
+];

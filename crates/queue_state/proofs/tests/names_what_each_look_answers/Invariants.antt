@@ -1,4 +1,4 @@
-use Rattle.std.proofs.Common.{◌≡◌, true, false}
+use Rattle.std.proofs.Common.{◌≡◌, false}
 use Rattle.queue_state.proofs.tests.names_what_each_look_answers.Given as goal
 
 -- the queue stays as it is set
