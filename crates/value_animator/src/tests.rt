@@ -2,8 +2,10 @@
 
 use crate::runner::Telling::{End, Finished, Tick, Value};
 use crate::runner::{Runner, Telling, runners};
-use crate::{ParsedValues, ValuesRan, parse_values, run_values};
+use crate::{ParsedValues, Valued, ValuesRan, parse_values, run_values};
 use dash_script::Cause;
+use frame_phases::{Callback, FrameEntry};
+use loop_model::NoMemory;
 use std::alloc::Global;
 use std::process::Abort;
 
@@ -192,9 +194,21 @@ const ROWS: [Row; 8] = [
     },
 ];
 
+fn is_last(telling: Option<Telling>) -> bool {
+    match telling {
+        Some(End { .. }) => true,
+        Some(Finished) => true,
+        _ => false,
+    }
+}
+
+// The thing has ended from its last telling on, and not before.
 fn assert_told(rt: &impl Abort, thing: &mut Runner, frames: &[(u64, Option<Telling>)]) {
+    let mut ended = false;
     for (time, telling) in frames {
         assert!(rt; thing.ask(*time) == *telling);
+        ended = ended || is_last(*telling);
+        assert!(rt; thing.is_ended() == ended);
     }
 }
 
@@ -219,7 +233,76 @@ fn things_tell_their_frames(rt: HostRuntime) {
     }
 }
 
-fn assert_runs(rt: &impl Abort, alloc: Global, text: &[u8], told: &[u8], frames: usize) {
+/// A plan of one animator, and what that answers at its frames, up to its end and behind it.
+const REVERSED: &[u8] =
+    b"animate 1\nperiod 1000000\nanimator 0 50 1 reverse\nkey 0 3\nkey 1000 100\nend\n";
+
+const VALUED: [(u64, Valued); 6] = [
+    (7_000_000, Valued::Value { value: 3 }),
+    (57_000_000, Valued::Value { value: 100 }),
+    (106_999_999, Valued::Value { value: 4 }),
+    (107_000_000, Valued::End { value: 3 }),
+    (107_000_000, Valued::Over),
+    (0, Valued::Over),
+];
+
+fn assert_valued(rt: &impl Abort, thing: &mut Runner) {
+    match thing {
+        Runner::Animator(animator) => {
+            for (time, valued) in &VALUED {
+                assert!(rt; animator.on_frame(*time) == *valued);
+            }
+        }
+        _ => panic!(rt; "not an animator"),
+    }
+}
+
+#[test]
+fn an_animator_is_over_behind_its_end(rt: HostRuntime) -> Result<(), NoMemory> {
+    let ParsedValues::Ok(values) = parse_values(rt.alloc(), REVERSED) else {
+        panic!(rt; "not read")
+    };
+    let mut things = runners(rt.alloc(), values.things.as_slice())?;
+    assert!(rt; things.len() == 1);
+    for thing in &mut things {
+        assert_valued(&rt, thing);
+    }
+    Ok(())
+}
+
+/// The first entry of each run with a frame, and the last one, which is of the commit phase.
+fn ends(time: u64) -> Option<(FrameEntry, FrameEntry)> {
+    let first = Callback {
+        number: 0,
+        phase: 1,
+        due: 0,
+        id: 0,
+        token: None,
+    };
+    let last = FrameEntry::Take {
+        phase: 3,
+        now: time,
+        time,
+    };
+    Some((FrameEntry::Posted(first), last))
+}
+
+fn ends_of(entries: &[FrameEntry]) -> Option<(FrameEntry, FrameEntry)> {
+    match entries {
+        [first, .., last] => Some((*first, *last)),
+        _ => None,
+    }
+}
+
+/// A text and what is written of it, how many entries its frames make, and the first and the last of them.
+fn assert_runs(
+    rt: &impl Abort,
+    alloc: Global,
+    text: &[u8],
+    told: &[u8],
+    frames: usize,
+    ends: Option<(FrameEntry, FrameEntry)>,
+) {
     match parse_values(alloc, text) {
         ParsedValues::Ok(values) => match run_values(alloc, &values) {
             ValuesRan::Ok {
@@ -228,6 +311,7 @@ fn assert_runs(rt: &impl Abort, alloc: Global, text: &[u8], told: &[u8], frames:
             } => {
                 assert!(rt; text.as_slice() == told);
                 assert_eq!(rt; record.entries.len(), frames);
+                assert!(rt; ends_of(record.entries.as_slice()) == ends);
             }
             ValuesRan::NoMemory => panic!(rt; "no memory"),
         },
@@ -238,7 +322,7 @@ fn assert_runs(rt: &impl Abort, alloc: Global, text: &[u8], told: &[u8], frames:
 
 #[test]
 fn an_animator_and_a_countdown_run_to_their_ends(rt: HostRuntime) {
-    assert_runs(&rt, rt.alloc(), BOTH, TOLD, 49);
+    assert_runs(&rt, rt.alloc(), BOTH, TOLD, 49, ends(116_666_669));
 }
 
 #[test]
@@ -250,6 +334,7 @@ fn a_countdown_of_nothing_takes_one_frame(rt: HostRuntime) {
         text,
         b"values 1\n1000000 0 finished\nend\n",
         7,
+        ends(1_000_000),
     );
 }
 
@@ -261,6 +346,7 @@ fn without_things_there_is_no_frame(rt: HostRuntime) {
         b"animate 1\nperiod 1000000\nend\n",
         b"values 1\nend\n",
         0,
+        None,
     );
 }
 
