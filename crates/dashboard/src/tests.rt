@@ -57,8 +57,6 @@ enum Wants<'a> {
     Race(usize),
     /// The script that is made from 0.
     Made,
-    /// The summary of a run of that script.
-    Ran,
     /// The counts of the busy run.
     Busy,
     /// The two senders met at the gate.
@@ -191,7 +189,6 @@ fn is_wanted(alloc: Global, case: &Case<'_>, came: &Ended) -> Result<bool, Alloc
         Wants::Front(whole, length) => faults::is_front(text, whole, length),
         Wants::Race(row) => races::is_of_race(text, row),
         Wants::Made => commands::is_made(text),
-        Wants::Ran => commands::is_summary(text),
         Wants::Busy => races::is_busy(text),
         Wants::Met => case.gate.has_met() && !case.gate.missed(),
         Wants::Dispatched => by_clock::are_dispatched(text),

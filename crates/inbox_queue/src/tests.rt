@@ -2,7 +2,7 @@ ghost use Rattle.std.specs.Prelude.{◌≡◌, ◌<◌, ◌+◌, ℕ, length, re
 ghost use Rattle.std.specs.Thread.{IsSync};
 ghost use Rattle.inbox_queue.specs.Handed.{Sending, AreSenders};
 
-use crate::{Admitter, Inbox, InboxEnd, InboxRan, InboxSender, Parcel, run_inbox};
+use crate::{Admit, Admitter, Inbox, InboxEnd, InboxRan, InboxSender, Parcel, Put, run_inbox};
 use dash_script::{Parsed, parse};
 use loop_io::{Gate, MeetGate, OpenGate};
 use loop_model::{Call, Entry, NoMemory, Post, Reply};
@@ -26,13 +26,16 @@ fn post(what: u32) -> Post {
 
 const POSTS: u32 = 500;
 
-// Puts many posts.
+// Puts many posts, up to one that is not answered by its index.
 fn put_many<R: Wait>(rt: &R, inbox: &Inbox, sender: &mut InboxSender)
     requires { sender.old.inbox ≡ inbox.now }
     ensures { (sender.new.inbox ≡ inbox.now) × (sender.new.number ≡ sender.old.number) }
 {
     for what in 0..POSTS {
-        sender.put(rt, inbox, post(what));
+        let index = u64::from(what);
+        if sender.put(rt, inbox, post(what)) != (Put::Put { index }) {
+            return;
+        }
     }
 }
 
@@ -52,24 +55,30 @@ fn side_by_side<R: Threads + Wait + Sync>(rt: &R, inbox: &Inbox, senders: &mut [
     );
 }
 
+// What the admitter was answered, and how the inbox ended.
+type Closed = (Vec<Admit>, InboxEnd);
+
 // Takes both senders in, admits so many times, and closes the inbox.
 fn close_both<R: Wait>(
     rt: &R,
+    alloc: Global,
     inbox: Inbox,
     mut admitter: Admitter,
     first: InboxSender,
     second: InboxSender,
     times: u32,
-) -> Result<InboxEnd, NoMemory>
+) -> Result<Closed, NoMemory>
     requires inbox { (admitter.inbox ≡ inbox) × (first.inbox ≡ inbox) × (second.inbox ≡ inbox) }
     requires senders { (admitter.taken ≡ replicate 2 None) × (first.number ≡ 0) × (second.number ≡ 1) }
 {
     admitter.take_in(&inbox, first);
     admitter.take_in(&inbox, second);
+    let mut admits = Vec::new(alloc);
     for _ in 0..times {
-        admitter.admit(rt, &inbox);
+        admits.push(admitter.admit(rt, &inbox)).ok();
     }
-    inbox.close(rt, admitter)
+    let end = inbox.close(rt, admitter)?;
+    Ok((admits, end))
 }
 
 // The last of so many senders and one more.
@@ -81,39 +90,53 @@ fn pop_last(inbox: &Inbox, senders: &mut Vec<InboxSender>, place: u32) -> InboxS
     senders.pop().unwrap()
 }
 
-fn worked<R: Threads + Wait + Sync>(rt: &R, alloc: Global) -> Result<InboxEnd, NoMemory> {
+fn worked<R: Threads + Wait + Sync>(rt: &R, alloc: Global) -> Result<Closed, NoMemory> {
     let (inbox, mut senders, admitter) = Inbox::make(alloc, 2)?;
     side_by_side(rt, &inbox, senders.as_mut_slice());
     let second = pop_last(&inbox, &mut senders, 1);
     let first = pop_last(&inbox, &mut senders, 0);
-    close_both(rt, inbox, admitter, first, second, 1500)
+    close_both(rt, alloc, inbox, admitter, first, second, 1500)
 }
 
 // The first of two senders puts two posts; then the admitter admits so many times.
-fn put_two<R: Wait>(rt: &R, alloc: Global, times: u32) -> Result<InboxEnd, NoMemory> {
+fn put_two<R: Wait>(rt: &R, alloc: Global, times: u32) -> Result<([Put; 2], Closed), NoMemory> {
     let (inbox, mut senders, admitter) = Inbox::make(alloc, 2)?;
     let second = pop_last(&inbox, &mut senders, 1);
     let mut first = pop_last(&inbox, &mut senders, 0);
-    first.put(rt, &inbox, post(7));
-    first.put(rt, &inbox, post(8));
-    close_both(rt, inbox, admitter, first, second, times)
+    let puts = [
+        first.put(rt, &inbox, post(7)),
+        first.put(rt, &inbox, post(8)),
+    ];
+    let closed = close_both(rt, alloc, inbox, admitter, first, second, times)?;
+    Ok((puts, closed))
+}
+
+// A parcel of the first sender.
+fn parcel(index: u64, what: u32) -> Parcel {
+    Parcel {
+        from: 0,
+        index,
+        post: post(what),
+    }
 }
 
 #[test]
 fn all_is_admitted(rt: HostRuntime) -> Result<(), Fail> {
-    let end = put_two(&rt, rt.alloc(), 3)?;
-    assert!(rt; end.admitted.len() == 2 && end.left.len() == 0);
-    let second = end.admitted.as_slice()[1];
-    assert!(rt; second.from == 0 && second.index == 1 && second.post.what == 8);
+    let (puts, (admits, end)) = put_two(&rt, rt.alloc(), 3)?;
+    assert!(rt; puts == [Put::Put { index: 0 }, Put::Put { index: 1 }]);
+    let both = [parcel(0, 7), parcel(1, 8)];
+    let answers = [Admit::Parcel(both[0]), Admit::Parcel(both[1]), Admit::Empty];
+    assert!(rt; admits.as_slice() == answers.as_slice());
+    assert!(rt; end.admitted.as_slice() == both.as_slice() && end.left.len() == 0);
     Ok(())
 }
 
 #[test]
 fn what_is_not_admitted_is_left(rt: HostRuntime) -> Result<(), Fail> {
-    let end = put_two(&rt, rt.alloc(), 1)?;
-    assert!(rt; end.admitted.len() == 1 && end.left.len() == 1);
-    let left = end.left.as_slice()[0];
-    assert!(rt; left.from == 0 && left.index == 1 && left.post.what == 8);
+    let (_, (admits, end)) = put_two(&rt, rt.alloc(), 1)?;
+    assert!(rt; admits.as_slice() == [Admit::Parcel(parcel(0, 7))].as_slice());
+    assert!(rt; end.admitted.as_slice() == [parcel(0, 7)].as_slice());
+    assert!(rt; end.left.as_slice() == [parcel(1, 8)].as_slice());
     Ok(())
 }
 
@@ -126,14 +149,23 @@ fn in_order(parcels: &[Parcel], from: u32) -> bool {
         .all(|(i, parcel)| parcel.index == i as u64)
 }
 
+// How often the admitter was told that all is admitted.
+fn empties(admits: &[Admit]) -> usize {
+    admits
+        .iter()
+        .filter(|answer| **answer == Admit::Empty)
+        .count()
+}
+
 fn count(parcels: &[Parcel], from: u32) -> usize {
     parcels.iter().filter(|parcel| parcel.from == from).count()
 }
 
 #[test]
 fn two_senders_put_side_by_side(rt: HostRuntime) -> Result<(), Fail> {
-    let end = worked(&rt, rt.alloc())?;
+    let (admits, end) = worked(&rt, rt.alloc())?;
     let admitted = end.admitted.as_slice();
+    assert!(rt; empties(admits.as_slice()) == 500);
     assert!(rt; admitted.len() == 1000 && end.left.len() == 0);
     assert!(rt; count(admitted, 0) == 500 && count(admitted, 1) == 500);
     assert!(rt; in_order(admitted, 0) && in_order(admitted, 1));
@@ -233,45 +265,48 @@ fn every_form_of_a_post_goes_through(rt: HostRuntime) -> Result<(), Fail> {
     Ok(())
 }
 
-// The number of the line for which the script of this text is refused; 0 where it is not.
-fn refused<R: Threads + Wait + Sync>(rt: &R, alloc: Global, text: &str) -> u64 {
+// The number of the line for which the script of this text is refused, none where it runs, and else an error.
+fn refused<R: Threads + Wait + Sync>(
+    rt: &R,
+    alloc: Global,
+    text: &str,
+) -> Result<Option<u64>, NoMemory> {
     match ran(rt, alloc, text, &OpenGate) {
-        Some(InboxRan::Bad { line }) => line,
-        _ => 0,
+        Some(InboxRan::Ok(_)) => Ok(None),
+        Some(InboxRan::Bad { line }) => Ok(Some(line)),
+        Some(InboxRan::NoMemory) => Err(NoMemory),
+        None => Err(NoMemory),
     }
 }
 
+// A script, and the number of its first line that an inbox run doesn't know.
+const REFUSED: [(&str, Option<u64>); 5] = [
+    (TWO_THREADS, None),
+    (
+        "dashboard 1\nloopers 2\nthreads 1\nvsync 16666667\nend 1\n",
+        Some(2),
+    ),
+    (
+        "dashboard 1\nloopers 1\nthreads 1\nhandler 0 0\ngauge 0 0 5\nvsync 16666667\nend 1\n",
+        Some(5),
+    ),
+    (
+        "dashboard 1\nloopers 1\nthreads 1\nhandler 0 0\nvsync 16666667\non 0 1 times 1 post 0 2 0\nend 1\n",
+        Some(6),
+    ),
+    (
+        "dashboard 1\nloopers 1\nthreads 1\nhandler 0 0\nvsync 16666667\nat 1\n0 post 0 1 0\n0 remove 0 1\nend 1\n",
+        Some(8),
+    ),
+];
+
 #[test]
 fn lines_that_it_does_not_know_are_refused(rt: HostRuntime) -> Result<(), Fail> {
-    assert!(rt; refused(&rt, rt.alloc(), TWO_THREADS) == 0);
-    assert!(rt;
-        refused(
-            &rt,
-            rt.alloc(),
-            "dashboard 1\nloopers 2\nthreads 1\nvsync 16666667\nend 1\n"
-        ) == 2
-    );
-    assert!(rt;
-        refused(
-            &rt,
-            rt.alloc(),
-            "dashboard 1\nloopers 1\nthreads 1\nhandler 0 0\ngauge 0 0 5\nvsync 16666667\nend 1\n"
-        ) == 5
-    );
-    assert!(rt;
-        refused(
-            &rt,
-            rt.alloc(),
-            "dashboard 1\nloopers 1\nthreads 1\nhandler 0 0\nvsync 16666667\non 0 1 times 1 post 0 2 0\nend 1\n"
-        ) == 6
-    );
-    assert!(rt;
-        refused(
-            &rt,
-            rt.alloc(),
-            "dashboard 1\nloopers 1\nthreads 1\nhandler 0 0\nvsync 16666667\nat 1\n0 post 0 1 0\n0 remove 0 1\nend 1\n"
-        ) == 8
-    );
+    for row in &REFUSED {
+        let (text, wanted) = *row;
+        let line = refused(&rt, rt.alloc(), text)?;
+        assert!(rt; line == wanted);
+    }
     Ok(())
 }
 

@@ -191,7 +191,7 @@ fn message(alloc: Global, what: u32, callback: Option<u64>, when: u64) -> Result
     }
 }
 
-// Posts a message; whether it was accepted.
+// Posts a message: its number, and whether a waiting looper has to look again; none where it was not accepted.
 fn post<R: Wait>(
     rt: &R,
     alloc: Global,
@@ -200,14 +200,26 @@ fn post<R: Wait>(
     what: u32,
     callback: Option<u64>,
     when: u64,
-) -> bool
+) -> Option<(u64, bool)>
     requires { IsOf poster.old queue.now }
     ensures { IsOf poster.new queue.now }
 {
     let Ok(node) = message(alloc, what, callback, when) else {
-        return false
+        return None
     };
-    matches!(poster.post(rt, queue, node), Posted::Accepted { .. })
+    match poster.post(rt, queue, node) {
+        Posted::Accepted { number, wake } => Some((number, wake)),
+        Posted::Refused { .. } => None,
+        Posted::NoMemory(_) => None,
+    }
+}
+
+// How many messages the first quit dropped.
+fn dropped(quit: &Quitting<PoolClaim>) -> Option<usize> {
+    match quit {
+        Quitting::Done(list) => Some(list.len()),
+        _ => None,
+    }
 }
 
 fn nothing_watched(alloc: Global) -> Mutex<Sources> {
@@ -221,10 +233,10 @@ fn nothing_watched(alloc: Global) -> Mutex<Sources> {
 fn each_message_goes_its_way_once(rt: HostRuntime) -> Result<(), Fail> {
     let alloc = rt.alloc();
     let mut o = set_up(alloc)?;
-    assert!(rt; post(&rt, alloc, &o.queue, &mut o.poster, 1, None, 5));
-    assert!(rt; post(&rt, alloc, &o.queue, &mut o.poster, 7, Some(9), 5));
-    assert!(rt; post(&rt, alloc, &o.queue, &mut o.poster, 2, None, 5));
-    assert!(rt; post(&rt, alloc, &o.queue, &mut o.poster, 1, None, 20));
+    assert!(rt; post(&rt, alloc, &o.queue, &mut o.poster, 1, None, 5) == Some((0, false)));
+    assert!(rt; post(&rt, alloc, &o.queue, &mut o.poster, 7, Some(9), 5) == Some((1, false)));
+    assert!(rt; post(&rt, alloc, &o.queue, &mut o.poster, 2, None, 5) == Some((2, false)));
+    assert!(rt; post(&rt, alloc, &o.queue, &mut o.poster, 1, None, 20) == Some((3, false)));
     let sources = nothing_watched(alloc);
     let mut d = Recorder {
         calls: Vec::new(alloc),
@@ -307,7 +319,7 @@ fn idle_handlers_run_once_between_messages(rt: HostRuntime) -> Result<(), Fail> 
             .run_round(&rt, &o.queue, &o.pool, &sources, &mut d, 1)
             == drained
     );
-    assert!(rt; post(&rt, alloc, &o.queue, &mut o.poster, 1, None, 0));
+    assert!(rt; post(&rt, alloc, &o.queue, &mut o.poster, 1, None, 0) == Some((0, true)));
     let round = o
         .looper
         .run_round(&rt, &o.queue, &o.pool, &sources, &mut d, 2);
@@ -403,10 +415,10 @@ fn listeners_answer_what_is_watched(rt: HostRuntime) -> Result<(), Fail> {
 fn a_quit_ends_the_looper(rt: HostRuntime) -> Result<(), Fail> {
     let alloc = rt.alloc();
     let mut o = set_up(alloc)?;
-    assert!(rt; post(&rt, alloc, &o.queue, &mut o.poster, 1, None, 5));
-    assert!(rt; post(&rt, alloc, &o.queue, &mut o.poster, 1, None, 20));
+    assert!(rt; post(&rt, alloc, &o.queue, &mut o.poster, 1, None, 5) == Some((0, false)));
+    assert!(rt; post(&rt, alloc, &o.queue, &mut o.poster, 1, None, 20) == Some((1, false)));
     let quit = o.poster.quit(&rt, &o.queue, true, 5);
-    assert!(rt; matches!(quit, Quitting::Done(_)));
+    assert!(rt; dropped(&quit) == Some(1));
     o.looper.hear(&o.queue, &mut o.poster);
     o.looper.tell(&o.queue, &mut o.poster);
     let sources = nothing_watched(alloc);
@@ -420,28 +432,26 @@ fn a_quit_ends_the_looper(rt: HostRuntime) -> Result<(), Fail> {
     Ok(())
 }
 
-// Whether a message was handled at this moment or later.
-fn is_handled_from(call: Noted, from: u64) -> bool {
-    match call {
-        Noted::Handle { now, .. } => from <= now,
-        _ => false,
-    }
+// What a message whose `what` is 1 makes: two calls and an act.
+fn intercept(now: u64, told: usize) -> Noted {
+    Noted::Intercept { what: 1, now, told }
 }
 
-// How often one was.
-fn handled_from(calls: &[Noted], from: u64) -> usize {
-    calls
-        .iter()
-        .filter(|call| is_handled_from(**call, from))
-        .count()
+fn handle(now: u64, told: usize) -> Noted {
+    Noted::Handle { what: 1, now, told }
+}
+
+fn handled(number: u64, now: u64) -> Act {
+    let route = Route::Handled;
+    Act::Dispatch { number, now, route }
 }
 
 #[test]
 fn a_loop_waits_by_a_clock(rt: HostRuntime) -> Result<(), Fail> {
     let alloc = rt.alloc();
     let mut o = set_up(alloc)?;
-    assert!(rt; post(&rt, alloc, &o.queue, &mut o.poster, 1, None, 5));
-    assert!(rt; post(&rt, alloc, &o.queue, &mut o.poster, 1, None, 8));
+    assert!(rt; post(&rt, alloc, &o.queue, &mut o.poster, 1, None, 5) == Some((0, false)));
+    assert!(rt; post(&rt, alloc, &o.queue, &mut o.poster, 1, None, 8) == Some((1, false)));
     let sources = nothing_watched(alloc);
     let clock = StepClock::new(1);
     let mut d = Recorder {
@@ -455,8 +465,17 @@ fn a_loop_waits_by_a_clock(rt: HostRuntime) -> Result<(), Fail> {
     let how = o
         .looper
         .run_loop(&rt, &o.queue, &o.pool, &sources, &mut d, &by);
-    assert!(rt; matches!(how, Loop::Cap { .. }));
-    assert!(rt; handled_from(d.calls.as_slice(), 5) == 2);
+    assert!(rt; how == Loop::Cap { now: 20 });
+    let calls = [
+        Noted::Pulse { now: 0 },
+        Noted::Before { number: 0 },
+        intercept(5, 0),
+        handle(5, 0),
+        Noted::Before { number: 1 },
+        intercept(8, 1),
+        handle(8, 1),
+    ];
+    assert!(rt; d.calls.as_slice() == calls.as_slice());
     o.poster.nudge(&rt, &o.queue);
     let by = ByClock {
         clock: &clock,
@@ -468,12 +487,12 @@ fn a_loop_waits_by_a_clock(rt: HostRuntime) -> Result<(), Fail> {
         .run_loop(&rt, &o.queue, &o.pool, &sources, &mut d, &by);
     assert!(rt; how == Loop::Nudged);
     let quit = o.poster.quit(&rt, &o.queue, true, 5);
-    assert!(rt; matches!(quit, Quitting::Done(_)));
+    assert!(rt; dropped(&quit) == Some(0));
     let how = o
         .looper
         .run_loop(&rt, &o.queue, &o.pool, &sources, &mut d, &by);
     assert!(rt; how == Loop::Ended);
     let (_, _, journal) = o.looper.into_parts();
-    assert!(rt; journal.acts.len() == 2);
+    assert!(rt; journal.acts.as_slice() == [handled(0, 5), handled(1, 8)].as_slice());
     Ok(())
 }

@@ -6,7 +6,7 @@ ghost use Rattle.shared_queue.specs.Ends.{AreInOrder, HaveSealed};
 
 use crate::{Poster, Retired, SharedQueue, Waited};
 use loop_io::StepClock;
-use loop_model::{Entry, Filter, Kind, NoMemory, Post, Segment};
+use loop_model::{Entry, Filter, Item, Kind, NoMemory, Post, Segment};
 use message_list::new_node;
 use message_slot::{Message, NoClaim};
 use queue_state::{
@@ -17,7 +17,7 @@ use std::sync::Wait;
 use std::test::Fail;
 use std::thread;
 use std::thread::{Threads, yield_now};
-use when_queue::MsgNode;
+use when_queue::{MsgList, MsgNode};
 
 const POSTS: u32 = 1000;
 
@@ -48,21 +48,34 @@ fn message(alloc: Global, what: u32) -> Result<MsgNode<NoClaim>, NoMemory>
     }
 }
 
-// Posts a message; whether it was accepted.
+// Posts a message: its number, and whether a waiting looper has to look again; none where it was not accepted.
 fn send<R: Wait>(
     rt: &R,
     alloc: Global,
     queue: &SharedQueue<NoClaim>,
     poster: &mut Poster<NoClaim>,
     what: u32,
-) -> bool
+) -> Option<(u64, bool)>
     requires { IsOf poster.old queue.now }
     ensures { IsOf poster.new queue.now × (poster.new.sender ≡ poster.old.sender) × (poster.new.view.sealed ≡ poster.old.view.sealed) }
 {
     let Ok(node) = message(alloc, what) else {
-        return false
+        return None
     };
-    matches!(poster.post(rt, queue, node), Posted::Accepted { .. })
+    match poster.post(rt, queue, node) {
+        Posted::Accepted { number, wake } => Some((number, wake)),
+        Posted::Refused { .. } => None,
+        Posted::NoMemory(_) => None,
+    }
+}
+
+// The `what` of each message of the list.
+fn whats(alloc: Global, list: &MsgList<NoClaim>) -> Result<Vec<u32>, NoMemory> {
+    let mut whats = Vec::new(alloc);
+    for message in list.iter() {
+        whats.push(message.what())?;
+    }
+    Ok(whats)
 }
 
 #[test]
@@ -72,9 +85,9 @@ fn one_hears_the_other(rt: HostRuntime) -> Result<(), Fail> {
     let (Some(mut second), Some(mut first)) = (posters.pop(), posters.pop()) else {
         panic!(rt; "two posters were made")
     };
-    assert!(rt; send(&rt, alloc, &queue, &mut first, 7));
+    assert!(rt; send(&rt, alloc, &queue, &mut first, 7) == Some((0, false)));
     assert!(rt; first.made() == 1 && first.seen() == 1);
-    assert!(rt; send(&rt, alloc, &queue, &mut second, 8));
+    assert!(rt; send(&rt, alloc, &queue, &mut second, 8) == Some((1, false)));
     assert!(rt; second.made() == 1 && second.seen() == 2);
     first.hear(&queue, &mut second);
     assert!(rt; first.made() == 1 && first.seen() == 2);
@@ -226,7 +239,7 @@ fn a_look_waits_for_the_message(rt: HostRuntime) -> Result<(), Fail> {
         )
     );
     assert!(rt; matches!(poster.next(&rt, &queue, 0, true), Nexted::Idle));
-    assert!(rt; send(&rt, rt.alloc(), &queue, &mut poster, 7));
+    assert!(rt; send(&rt, rt.alloc(), &queue, &mut poster, 7) == Some((0, true)));
     assert!(rt;
         matches!(
             poster.next(&rt, &queue, 0, false),
@@ -239,8 +252,14 @@ fn a_look_waits_for_the_message(rt: HostRuntime) -> Result<(), Fail> {
 #[test]
 fn a_queue_ends_and_is_over(rt: HostRuntime) -> Result<(), Fail> {
     let (queue, mut poster) = alone(rt.alloc(), false)?;
-    assert!(rt; matches!(poster.quit(&rt, &queue, false, 0), Quitting::Done(_)));
-    assert!(rt; matches!(poster.next(&rt, &queue, 0, true), Nexted::End(_)));
+    let Quitting::Done(list) = poster.quit(&rt, &queue, false, 0) else {
+        panic!(rt; "it is the first quit")
+    };
+    assert!(rt; list.len() == 0);
+    let Nexted::End(list) = poster.next(&rt, &queue, 0, true) else {
+        panic!(rt; "the queue has quit")
+    };
+    assert!(rt; list.len() == 0);
     assert!(rt; !poster.has(&rt, &queue, &ALL));
     assert!(rt; matches!(poster.next(&rt, &queue, 0, true), Nexted::Over));
     Ok(())
@@ -249,9 +268,12 @@ fn a_queue_ends_and_is_over(rt: HostRuntime) -> Result<(), Fail> {
 #[test]
 fn a_removal_empties(rt: HostRuntime) -> Result<(), Fail> {
     let (queue, mut poster) = alone(rt.alloc(), false)?;
-    assert!(rt; send(&rt, rt.alloc(), &queue, &mut poster, 7));
+    assert!(rt; send(&rt, rt.alloc(), &queue, &mut poster, 7) == Some((0, false)));
     assert!(rt; poster.has(&rt, &queue, &ALL));
-    assert!(rt; matches!(poster.remove(&rt, &queue, &ALL), Taking::Removed(_)));
+    let Taking::Removed(list) = poster.remove(&rt, &queue, &ALL) else {
+        panic!(rt; "memory")
+    };
+    assert!(rt; whats(rt.alloc(), &list)?.as_slice() == [7].as_slice());
     assert!(rt; !poster.has(&rt, &queue, &ALL));
     Ok(())
 }
@@ -267,12 +289,11 @@ fn a_barrier_comes_and_goes(rt: HostRuntime) -> Result<(), Fail> {
             BarrierPosted::Token { token: 0 }
         )
     );
-    assert!(rt;
-        matches!(
-            poster.remove_barrier(&rt, &queue, 0),
-            BarrierGone::Unbarriered { .. }
-        )
-    );
+    let BarrierGone::Unbarriered { node, wake } = poster.remove_barrier(&rt, &queue, 0) else {
+        panic!(rt; "the barrier stands")
+    };
+    let barrier = Item::Barrier { token: 0, when: 0 };
+    assert!(rt; node.item().item() == barrier && wake);
     assert!(rt; poster.made() == 2);
     Ok(())
 }
@@ -300,7 +321,10 @@ fn a_part_is_handed_out(rt: HostRuntime) -> Result<(), Fail> {
     assert!(rt; part.base.length == 0 && part.entries.len() == 2);
     assert!(rt; poster.since(&rt, &queue) == 0 && poster.seen() == 2);
     assert!(rt; poster.has(&rt, &queue, &ALL));
-    assert!(rt; matches!(poster.remove(&rt, &queue, &ALL), Taking::Removed(_)));
+    let Taking::Removed(list) = poster.remove(&rt, &queue, &ALL) else {
+        panic!(rt; "memory")
+    };
+    assert!(rt; whats(rt.alloc(), &list)?.as_slice() == [7, 8].as_slice());
     assert!(rt; poster.since(&rt, &queue) == 1 && poster.seen() == 3 && poster.made() == 3);
     Ok(())
 }
@@ -345,7 +369,7 @@ fn waits_by_a_clock(rt: HostRuntime) -> Result<(), Fail> {
     else {
         panic!(rt; "the message is due at 3")
     };
-    assert!(rt; number == 0 && now >= 3);
+    assert!(rt; number == 0 && now == 3);
     poster.nudge(&rt, &queue);
     assert!(rt;
         matches!(
@@ -356,7 +380,7 @@ fn waits_by_a_clock(rt: HostRuntime) -> Result<(), Fail> {
     assert!(rt;
         matches!(
             poster.wait_next(&rt, &queue, &clock, 0, false, Some(0)),
-            Waited::Cap { .. }
+            Waited::Cap { now: 5 }
         )
     );
     Ok(())

@@ -2,7 +2,7 @@
 
 use crate::runner::Telling::{End, Finished, Tick, Value};
 use crate::runner::{Runner, Telling, runners};
-use crate::{Animator, ParsedValues, Valued, ValuesRan, parse_values, run_values};
+use crate::{ParsedValues, Valued, ValuesRan, parse_values, run_values};
 use dash_script::Cause;
 use frame_phases::{Callback, FrameEntry};
 use loop_model::NoMemory;
@@ -246,9 +246,14 @@ const VALUED: [(u64, Valued); 6] = [
     (0, Valued::Over),
 ];
 
-fn assert_valued(rt: &impl Abort, animator: &mut Animator) {
-    for (time, valued) in &VALUED {
-        assert!(rt; animator.on_frame(*time) == *valued);
+fn assert_valued(rt: &impl Abort, thing: &mut Runner) {
+    match thing {
+        Runner::Animator(animator) => {
+            for (time, valued) in &VALUED {
+                assert!(rt; animator.on_frame(*time) == *valued);
+            }
+        }
+        _ => panic!(rt; "not an animator"),
     }
 }
 
@@ -258,9 +263,9 @@ fn an_animator_is_over_behind_its_end(rt: HostRuntime) -> Result<(), NoMemory> {
         panic!(rt; "not read")
     };
     let mut things = runners(rt.alloc(), values.things.as_slice())?;
-    match things.as_mut_slice() {
-        [Runner::Animator(animator)] => assert_valued(&rt, animator),
-        _ => panic!(rt; "not an animator"),
+    assert!(rt; things.len() == 1);
+    for thing in &mut things {
+        assert_valued(&rt, thing);
     }
     Ok(())
 }

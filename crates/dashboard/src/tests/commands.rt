@@ -75,7 +75,13 @@ pub(super) fn add<'a>(alloc: Global, cases: &mut Vec<Case<'a>>) -> Result<(), Al
         }
     }
     add_unread(alloc, cases, "make 0", Status::Ok, Wants::Made)?;
-    add_unread(alloc, cases, "make 0 --run", Status::Ok, Wants::Ran)
+    add_unread(
+        alloc,
+        cases,
+        "make 0 --run",
+        Status::Ok,
+        Wants::Text(SUMMARY, ""),
+    )
 }
 
 fn add_unread<'a>(
@@ -91,14 +97,21 @@ fn add_unread<'a>(
     Ok(())
 }
 
-/// Whether the text is the script that is made from 0: its length and its end.
+/// The script that is made from 0, up to its first block.
+const MADE_FRONT: &str =
+    "dashboard 1\nloopers 4\nthreads 4\nhandler 0 0\nhandler 1 1\nhandler 2 2\nhandler 3 3\nhandler 4 0\nhandler 5 1\nhandler 6 2\nhandler 7 3\ngauge 0 0 50\ngauge 1 1 50\ngauge 2 2 50\ngauge 3 3 50\nvsync 16666667\non 0 2 times 1000 post 1 3 1\non 1 2 times 1000 post 2 3 1\non 2 2 times 1000 post 3 3 1\non 3 2 times 1000 post 4 3 1\non 4 2 times 1000 post 5 3 1\non 5 2 times 1000 post 6 3 1\non 6 2 times 1000 post 7 3 1\non 7 2 times 1000 post 0 3 1\nat 0\n0 post 0 2 0\n1 post 0 2 0\n2 post 3 3 28\n3 post 3 3 45\nat 10\n";
+
+/// Its last block, which hangs on the number of each line before, and its end.
+const MADE_END: &str =
+    "\nat 4990\n0 set 0 490\n1 callback 3 46 11\n2 post-async 3 4 7\n3 post 0 3 25\nend 6000\n";
+
+/// Whether the text is that script: its lengths, its front and its end.
 pub(super) fn is_made(text: &[u8]) -> bool {
     let lines = text.iter().filter(|byte| **byte == b'\n').count();
-    lines == 2_525 && text.ends_with(b"\nend 6000\n")
+    let long = lines == 2_525 && text.len() == 34_029;
+    long && text.starts_with(MADE_FRONT.as_bytes()) && text.ends_with(MADE_END.as_bytes())
 }
 
-/// Whether the text is the summary of a run of that script: its first words, and five lines.
-pub(super) fn is_summary(text: &[u8]) -> bool {
-    let lines = text.iter().filter(|byte| **byte == b'\n').count();
-    lines == 5 && text.starts_with(b"summary 0\naccepted ")
-}
+/// The summary of a run of it, in whichever order its threads run: each of its 2,000 commands, each of the 384 posts of its rules and each
+/// frame makes one message.
+const SUMMARY: &str = "summary 0\naccepted 3213\ndispatched 3213\nframes 829\npaints 753\n";
