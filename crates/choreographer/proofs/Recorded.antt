@@ -13,9 +13,8 @@ use Rattle.choreographer.specs.declared.kept.Kept.{Kept}
 use Rattle.choreographer.specs.declared.host.Sending.{Sending}
 use Rattle.choreographer.specs.declared.hosted.Pulse.{Pulse}
 use Rattle.choreographer.specs.Known.{Known, IsTurn}
-use Rattle.choreographer.specs.Calls.{BeginTurn, AskedBy, SendsPulse, PulsedBy, DueBy}
+use Rattle.choreographer.specs.Calls.{BeginTurn, AskedBy, SendsPulse, PulsedBy, DueBy, TakeTurn}
 use Rattle.choreographer.specs.Done.{AreOfPhases, AddsPhases, AddsFrame, hands_out, HandsOutNone}
-use Rattle.choreographer.specs.Within.{TakeTurn}
 use Rattle.std.specs.List.{filter_map, cons_option}
 use Rattle.std.proofs.lemmas.List.Elements.{filter_map-append}
 use Rattle.choreographer.proofs.Counting.{count_both, drop_prefix}

@@ -12,7 +12,7 @@ use Rattle.choreographer.specs.Frame.{Batch, begin_place, ran_since, batches_sin
 use Rattle.choreographer.specs.Known.{Known, IsTurn}
 use Rattle.choreographer.specs.Steps.{pulsed}
 use Rattle.choreographer.specs.Calls.{with_post}
-use Rattle.choreographer.specs.Done.{runs, runs_of, numbers_of, IsBatch, AreBatches, IsSamePass}
+use Rattle.choreographer.specs.Done.{runs, runs_of, numbers_of, IsBatch, AreBatches, IsSamePass, TakesPhase, TakesEach}
 
 -- one turn that posts a callback
 abbrev pub PostTurn : Known → Known → ℕ → ℕ → ℕ → Option ℕ → ℕ → Result Scheduling NoMemory → Type 0
@@ -22,11 +22,6 @@ PostTurn before after phase due id token now result = (x : Kept) × (y : Kept) �
 -- one turn that delivers a pulse
 abbrev pub PulseTurn : Known → Known → ℕ → Option ℕ → Type 0
 PulseTurn before after now result = (x : Kept) × (y : Kept) × IsTurn before after x y × (result ≡ delivered x.frames.asked now) × (y ≡ pulsed x result)
-
--- one turn that takes a phase
-abbrev pub TakeTurn : Known → Known → ℕ → ℕ → Took → Type 0
-TakeTurn before after phase now result = (x : Kept) × (y : Kept) × IsTurn before after x y × TakesBy x.frames phase now result y.frames × (y.stamp ≡ x.stamp)
-    × IsTrue (lawful x.frames.interval x.frames.phases x.frames.entries)
 
 -- a pass in a frame: the frame in progress is its own, and this phase is next
 pub record InFrame (phases : ℕ) (p : Known) (next : Option ℕ) : Type 0 where
@@ -51,18 +46,13 @@ pub record PassRan (phases done count : ℕ) (before after : Known) (batches : L
   pub taken : batches_since (reverse after.view.seen) ≡ batches_since (reverse before.view.seen) ++ batches
   pub frame : InFrame phases after (at_phase phases done)
 
--- one phase, with its one batch
+-- one phase, with its one batch, which one turn took
 abbrev pub PhaseRan : (ℕ → Bool) → ℕ → ℕ → Known → Known → Option (List Run) → Option (List Run) → Type 0
 PhaseRan is_moment phases phase before after told told' = (b : Batch) × (told' ≡ with_runs told (runs b.time b.callbacks)) × IsBatch is_moment phase b
-    × PassRan phases (phase + 1) 1 before after (b ∷ [])
+    × PassRan phases (phase + 1) 1 before after (b ∷ []) × TakesPhase phase b before after
 
--- the phases below `count`
+-- the phases below `count`, one turn each
 abbrev pub PhasesRan : (ℕ → Bool) → ℕ → ℕ → Known → Known → Option (List Run) → Option (List Run) → Type 0
-PhasesRan is_moment phases count before after told told' = (batches : List Batch) × (told' ≡ with_runs told (runs_of batches)) × (length batches ≡ count) × AreBatches is_moment 0 batches
-    × PassRan phases count count before after batches
-
--- some turns of a frame that wanted memory: with the runs told more, those of the phases taken before begin those of the phases taken now
-abbrev pub GivenUp : Known → Known → Option (List Run) → Option (List Run) → Type 0
-GivenUp before after told told' = (more : List Run) × (told' ≡ with_runs told more)
-    × IsPrefix (runs_of (batches_since (reverse before.view.seen)) ++ more) (runs_of (batches_since (reverse after.view.seen)))
-    × IsPrefix before.view.seen after.view.seen
+PhasesRan is_moment phases count before after told told' =
+    (batches : List Batch) × (told' ≡ with_runs told (runs_of batches)) × (length batches ≡ count) × AreBatches is_moment 0 batches
+    × PassRan phases count count before after batches × TakesEach 0 batches before after
