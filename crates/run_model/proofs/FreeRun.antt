@@ -2,6 +2,7 @@
 use Rattle.std.proofs.Common.{◌≡◌, ◌<◌, ℕ, ◌%◌, true, false, List, [], ◌∷◌, None, refl, arith, lit<, lit≤, inl}
 use Rattle.std.specs.Prelude.{codes, ◌==◌}
 use Rattle.std.specs.Fmt.{digits}
+use mathlib.Core.List.{nil-sublist}
 use Rattle.loop_model.specs.declared.call.Call.TheVariants as call
 use Rattle.loop_model.specs.declared.reply.Reply.TheVariants as reply
 use Rattle.loop_model.specs.declared.entry.Entry.{Entry}
@@ -19,7 +20,8 @@ use Rattle.loop_model.specs.declared.record.QueueRecord.{QueueRecord}
 use Rattle.run_model.specs.declared.report.Report.{Report}
 use Rattle.run_model.specs.Control.{is_controlled}
 use Rattle.run_model.specs.Moments.{Mode, in_free_mode, AreOfClock}
-use Rattle.run_model.specs.Planned.{AreAsPlanned}
+use Rattle.run_model.specs.Planned.{lines_of, AreAsPlanned}
+use Rattle.run_model.specs.FrameAsks.{lines_ask, AreToldInOrder}
 use Rattle.run_model.specs.Acts.{after_act}
 use Rattle.run_model.specs.Loopers.{first_looper}
 use Rattle.run_model.specs.Run.{IsRun, IsRecordOf, IsControlled, IsFrameRun, IsLooperRun, all_entries, setting_of}
@@ -97,6 +99,7 @@ looper_run = record {
   disposed_at = 0;
   calls = ((record { call = refl; reply = refl }, (record { call = refl; reply = refl }, tt)), tt);
   asked = λ test. omega arith;
+  order = record { threads = each_below 1 (λ thread. AreToldInOrder false (lines_ask 0 (lines_of thread script.blocks)) []) (tt, nil-sublist []); posted = nil-sublist []; ran = nil-sublist [] };
   on_time = tt;
   whole = refl;
   moments = tt;

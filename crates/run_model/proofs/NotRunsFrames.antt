@@ -1,10 +1,17 @@
--- Reports that are no runs of their script: what is asked of a choreographer by a line, and its record has a fault.
-use Rattle.std.proofs.Common.{◌≡◌, ℕ, Bool, true, List, [], ◌∷◌, ◌++◌, Some, None, refl, sym, subst, arith}
+-- Reports that are no runs of their script: what is asked of a choreographer by lines, and its record has a fault.
+use Rattle.std.proofs.Common.{◌≡◌, ℕ, Bool, true, false, List, [], ◌∷◌, ◌++◌, Some, None, refl, sym, ap, subst, arith, lit<, ◌⊎◌, inl, inr}
 use Rattle.std.specs.Prelude.{◌==◌, map, count_by}
 use Rattle.std.specs.List.{AllByRecursion, list_all}
 use Rattle.std.proofs.lemmas.Bool.Decides.{nat_tests}
+use mathlib.Core.List.{Sublistᴰ}
+use mathlib.Core.List.Sublistᴰ
+use mathlib.Core.Logic.{∥∥₁_elim}
+use Rattle.loop_model.specs.declared.call.Call.TheVariants as call
+use Rattle.loop_model.specs.declared.reply.Reply.TheVariants as reply
 use Rattle.loop_model.specs.declared.entry.Entry.{Entry}
 use Rattle.loop_model.specs.declared.journal.Act.{Act}
+use Rattle.loop_model.specs.declared.journal.Act.TheVariants as act
+use Rattle.loop_model.specs.declared.journal.Route.TheVariants as route
 use Rattle.frame_phases.specs.declared.entry.FrameEntry.{FrameEntry}
 use Rattle.frame_phases.specs.declared.entry.FrameEntry.TheVariants as frame
 use Rattle.dash_script.specs.declared.script.Command.{Command}
@@ -14,12 +21,12 @@ use Rattle.run_model.specs.Histories.{history_of}
 use Rattle.run_model.specs.Moments.{in_lockstep}
 use Rattle.run_model.specs.Loopers.{Looper, first_looper}
 use Rattle.run_model.specs.Acts.{Lead}
-use Rattle.run_model.specs.FrameAsks.{FrameAsk, AreAsOften, as_told, asks_in}
+use Rattle.run_model.specs.FrameAsks.{FrameAsk, Posts, Removes, Runs, AreAsOften, as_told, asks_in}
 use Rattle.run_model.specs.Run.{IsRun, asked_of}
-use Rattle.run_model.proofs.Examples.{halted_at, handler_on, block, by, plain_script, callback}
+use Rattle.run_model.proofs.Examples.{entry, frame_message, halted_at, handler_on, block, by, plain_script, callback}
 use Rattle.run_model.proofs.RunBut as but
 use Rattle.run_model.proofs.Table.{Row, quiet, queue_in, report_of, same_ask, computing}
-use Rattle.run_model.proofs.OneFault.{Faulty, faulty, Fails, each_fails}
+use Rattle.run_model.proofs.OneFault.{Faulty, faulty, Fails, each_fails, FailsBy, fails_by}
 
 -- each of these asks stands in the one list as often as in the other
 abbrev are_as_often : List FrameAsk → List FrameAsk → List FrameAsk → Bool
@@ -90,3 +97,60 @@ wrong_asks =
 pub wrong_asks_fail : AllByRecursion Fails wrong_asks
 unfolding computing
 wrong_asks_fail = each_fails main_tells_asked told_by_run wrong_asks refl refl
+
+-- a thread posts a frame callback and removes it, and its record has the removal first: it takes nothing out, and the callback runs
+abbrev swapped_script : Script
+swapped_script = plain_script 1 1 (handler_on 0 ∷ []) (block 10 (by 0 (command.Frame 0 0 8 0) ∷ by 0 (command.Unframe 0 0 8) ∷ []) ∷ []) 20
+
+abbrev swapped_frames : List FrameEntry
+swapped_frames =
+    frame.Removed 0 8 None 0 ∷ frame.Posted (callback 0 0 10 8) ∷ frame.Begin 16666667 17000000 16666667 ∷ frame.Take 0 17000000 16666667 ∷ frame.Ran 0
+    ∷ frame.Take 1 17000000 16666667 ∷ frame.Take 2 17000000 16666667 ∷ frame.Take 3 17000000 16666667 ∷ []
+
+abbrev swapped_entries : List Entry
+swapped_entries =
+    entry 2 0 (call.Advance 10) reply.Advanced ∷ entry 2 1 (call.Advance 17) reply.Advanced ∷ entry 1 0 (call.Post (frame_message 0 16 None)) (reply.Accepted 0)
+    ∷ entry 1 1 (call.Next 17) (reply.Dispatched 0) ∷ entry 2 2 (call.Advance 20) reply.Advanced ∷ entry 2 3 (call.Halt 20) reply.Halted ∷ []
+
+abbrev swapped_rows : List Row
+swapped_rows =
+    record { entries = swapped_entries; acts = act.Vsync 16666667 ∷ act.Dispatch 0 17 route.Intercepted ∷ []; frames = swapped_frames; places = None ∷ Some 2 ∷ []; disposed_at = 0 } ∷ []
+
+nothing_stands : (a : FrameAsk) (xs : List FrameAsk) → Sublistᴰ (a ∷ xs) [] → ⊥
+nothing_stands a xs d = let wrong : a ∷ xs ≡ [] = Sublistᴰ.eq-nil d in cc
+
+-- where the second of two asks comes first, the two don't stand in their order
+not_swapped : (a b c : FrameAsk) → (a ≡ b → ⊥) → (b ≡ c → ⊥) → Sublistᴰ (a ∷ b ∷ []) (b ∷ a ∷ c ∷ []) → ⊥
+not_swapped a b c apart later stands = from_first (Sublistᴰ.cases_cons-cons stands)
+  where
+    from_last : Sublistᴰ (b ∷ []) [] ⊎ ((b ≡ c) × Sublistᴰ {A = FrameAsk} [] []) → ⊥
+    from_last (inl d) = nothing_stands b [] d
+    from_last (inr p) = later p.0
+
+    too_late : Sublistᴰ (a ∷ b ∷ []) [] ⊎ ((a ≡ c) × Sublistᴰ (b ∷ []) []) → ⊥
+    too_late (inl d) = nothing_stands a (b ∷ []) d
+    too_late (inr p) = nothing_stands b [] p.1
+
+    from_second : Sublistᴰ (a ∷ b ∷ []) (c ∷ []) ⊎ ((a ≡ a) × Sublistᴰ (b ∷ []) (c ∷ [])) → ⊥
+    from_second (inl d) = too_late (Sublistᴰ.cases_cons-cons d)
+    from_second (inr p) = from_last (Sublistᴰ.cases_cons-cons p.1)
+
+    from_first : Sublistᴰ (a ∷ b ∷ []) (a ∷ c ∷ []) ⊎ ((a ≡ b) × Sublistᴰ (b ∷ []) (a ∷ c ∷ [])) → ⊥
+    from_first (inl d) = from_second (Sublistᴰ.cases_cons-cons d)
+    from_first (inr p) = apart p.0
+
+abbrev is_removal : FrameAsk → Bool
+is_removal (Posts p d i t) = false
+is_removal (Removes p i t) = true
+is_removal (Runs n) = false
+
+posts_no_removal : Posts 0 10 8 None ≡ Removes 0 8 None → ⊥
+posts_no_removal e = let wrong : false ≡ true = ap is_removal e in cc
+
+removes_no_start : Removes 0 8 None ≡ Runs 17000000 → ⊥
+removes_no_start e = let wrong : true ≡ false = ap is_removal e in cc
+
+pub removal_first : FailsBy but.AskOrder swapped_script swapped_rows
+unfolding computing
+removal_first = fails_by but.AskOrder swapped_script swapped_rows
+    (λ r. ∥∥₁_elim (r.loopers.0.order.threads 0 (lit< tt)) (λ x y. absurd x) (not_swapped (Posts 0 10 8 None) (Removes 0 8 None) (Runs 17000000) posts_no_removal removes_no_start)) refl

@@ -20,7 +20,7 @@ use Rattle.run_model.specs.Acts.{Lead, IsSent}
 use Rattle.run_model.specs.Moves.{Move, moves, move_times, main_moves, MayMoveTo}
 use Rattle.run_model.specs.FrameRuns.{are_run_then, are_whole}
 use Rattle.run_model.specs.FrameAsks.{as_told, asks_in, AreAsOften}
-use Rattle.run_model.specs.Run.{IsReportOf, AreRecordsOf, all_entries, ArePlannedOf, AreControlsOf, AreFramesOf, caused_on, asked_of, IsLooperRun, EachLooper, IsThreadOnTime, are_in_order, IsTimely, main_ends_halted, IsRun}
+use Rattle.run_model.specs.Run.{IsReportOf, AreRecordsOf, all_entries, ArePlannedOf, AreControlsOf, AreFramesOf, caused_on, asked_of, AreAskedInOrder, IsLooperRun, EachLooper, IsThreadOnTime, are_in_order, IsTimely, main_ends_halted, IsRun}
 
 -- a clause of the definition, left out or kept
 pub data Clause : Type 0 where
@@ -28,6 +28,8 @@ pub data Clause : Type 0 where
   Nothing : Clause
   -- what is asked of a choreographer stands in its record
   Asked : Clause
+  -- each sender's in its order
+  AskOrder : Clause
   -- frames are whole
   Whole : Clause
   -- frames start and take their phases at the times of their dispatches
@@ -58,19 +60,20 @@ pub data Clause : Type 0 where
 abbrev pub number_of : Clause → ℕ
 number_of Nothing = 0
 number_of Asked = 1
-number_of Whole = 2
-number_of Moments = 3
-number_of Starts = 4
-number_of Pulses = 5
-number_of OnTime = 6
-number_of Takes = 7
-number_of Controls = 8
-number_of BeforeQuit = 9
-number_of Threads = 10
-number_of Order = 11
-number_of Blocks = 12
-number_of Due = 13
-number_of Together = 14
+number_of AskOrder = 2
+number_of Whole = 3
+number_of Moments = 4
+number_of Starts = 5
+number_of Pulses = 6
+number_of OnTime = 7
+number_of Takes = 8
+number_of Controls = 9
+number_of BeforeQuit = 10
+number_of Threads = 11
+number_of Order = 12
+number_of Blocks = 13
+number_of Due = 14
+number_of Together = 15
 
 -- this is so, unless it is the clause that is left out
 abbrev pub Unless : Clause → Clause → Type 0 → Type 0
@@ -90,6 +93,7 @@ pub record IsLooperRunBut (out : Clause) (s : Script) (queues : List QueueRecord
   pub disposed_at : ℕ
   pub calls : Unless out Takes (AllByRecursion (λ (r : QueueRecord). AreFor IsSent [] (caused_on r.looper final q.looper disposed_at) (entries_by (looper_sender s q.looper) (history_of r))) queues)
   pub asked : Unless out Asked (Unless out Starts (AreAsOften (map (as_told true) (asks_in f.entries)) (map (as_told true) (asked_of s q.looper final))))
+  pub order : Unless out AskOrder (Unless out Asked (Unless out Starts (AreAskedInOrder true s q.looper final (asks_in f.entries))))
   pub whole : Unless out Whole (are_whole f.phases f.entries final.frames ≡ true)
   pub on_time : Unless out OnTime (Unless out Takes (AllByRecursion (λ (r : QueueRecord). are_on_time (map (λ x. x.timing) (caused_on r.looper final q.looper disposed_at)) (befores (looper_sender s q.looper) (history_of r)) ≡ true) queues))
   pub moments : Unless out Moments (Unless out Starts (are_run_then f.entries final.frames ≡ true))
@@ -143,6 +147,7 @@ is_run s r h = record {
     disposed_at = x.disposed_at;
     calls = x.calls;
     asked = x.asked;
+    order = x.order;
     whole = x.whole;
     on_time = x.on_time;
     moments = x.moments;

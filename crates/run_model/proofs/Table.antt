@@ -1,5 +1,5 @@
 -- Reports as data: a report in lockstep is a run, or one but for a clause, where one equation computes.
-use Rattle.std.proofs.Common.{◌≡◌, ◌<◌, ℕ, zero, suc, Bool, true, false, List, [], ◌∷◌, ◌++◌, Option, Some, None, refl, sym, ap, ◌∙◌, inl, inr, arith}
+use Rattle.std.proofs.Common.{◌≡◌, ◌<◌, ℕ, zero, suc, Bool, true, false, List, [], ◌∷◌, ◌++◌, Option, Some, None, refl, sym, ap, ◌∙◌, subst, inl, inr, arith}
 use Rattle.std.specs.Prelude.{codes, ◌+◌, ◌*◌, ◌/◌, ◌==◌, ◌&&◌, ◌||◌, not, is_some, map, drop, length, count_by, cond, MatchBool, if◌then◌else◌}
 use Rattle.std.specs.Fmt.{digits}
 use Rattle.std.specs.List.{AllByRecursion, filter_map, list_all, list_any, range_with_len, enumerate_from}
@@ -7,7 +7,8 @@ use Rattle.std.specs.Option.{option_map, option_map_or, MatchOption}
 use Rattle.std.proofs.lemmas.Bool.{cases_Bool, and_parts, or_cases, eqb-true}
 use Rattle.std.proofs.lemmas.Option.{same_Some, none-some}
 use Rattle.std.proofs.lemmas.List.Sums.{sum_by-cons}
-use mathlib.Core.List.{IsPrefix}
+use mathlib.Core.List.{IsPrefix, Sublist, nil-sublist}
+use mathlib.Core.List.Sublist
 use Rattle.loop_model.specs.declared.call.Call.{Call}
 use Rattle.loop_model.specs.declared.call.Call.TheVariants.{Halt}
 use Rattle.loop_model.specs.declared.reply.Reply.{Reply}
@@ -41,13 +42,13 @@ use Rattle.run_model.specs.Loopers.{Looper, Sent, first_looper, starts_frame}
 use Rattle.run_model.specs.Acts.{Lead, IsSent, MayCome, after_act, dispatched, millis_up}
 use Rattle.run_model.specs.Moves.{Move, moves, move_times, main_moves, is_planned_time, was_due_at, MayMoveTo}
 use Rattle.run_model.specs.FrameRuns.{is_frame_from, are_run_then, are_whole}
-use Rattle.run_model.specs.FrameAsks.{FrameAsk, Posts, Removes, Runs, as_told, asks_in}
-use Rattle.run_model.specs.Run.{IsRun, IsRecordOf, IsAsPlanned, IsControlled, IsFrameRun, EachLooper, all_entries, setting_of, caused_on, asked_of, are_in_order, main_ends_halted}
+use Rattle.run_model.specs.FrameAsks.{FrameAsk, Posts, Removes, Runs, as_told, asks_in, asks_to_run, lines_ask, AreToldInOrder}
+use Rattle.run_model.specs.Run.{IsRun, IsRecordOf, IsAsPlanned, IsControlled, IsFrameRun, EachLooper, all_entries, setting_of, caused_on, asked_of, AreAskedInOrder, are_in_order, main_ends_halted}
 use Rattle.run_model.specs.Text.{text, lines}
 use Rattle.run_model.proofs.Below.{EachBelow, each_below}
 use Rattle.run_model.proofs.ByTests.{answers, replies, are_timely, are_numbered, history_by, planned_calls, made_calls, thread_lines, MakesThem, calls_by}
 use Rattle.run_model.proofs.Examples.{queue, journal, page, handler_on, plain_script}
-use Rattle.run_model.proofs.RunBut.{Clause, Nothing, Asked, Whole, Moments, Starts, OnTime, Takes, Controls, BeforeQuit, Threads, Order, Blocks, Due, Together, number_of, Unless, with_pulses, IsLooperRunBut, IsTimelyBut, AreMovedBut, IsRunBut}
+use Rattle.run_model.proofs.RunBut.{Clause, Nothing, Asked, AskOrder, Whole, Moments, Starts, OnTime, Takes, Controls, BeforeQuit, Threads, Order, Blocks, Due, Together, number_of, Unless, with_pulses, IsLooperRunBut, IsTimelyBut, AreMovedBut, IsRunBut}
 use Rattle.run_model.proofs.RunBut as but
 
 -- ---- a report as data
@@ -356,6 +357,69 @@ as_often test [] [] h = refl
 as_often test [] (b ∷ bs) h = cc
 as_often test (a ∷ xs) bs h = as_often_later test a xs bs (without a bs) refl (λ rest same. as_often test xs rest same) h
 
+-- these without their first, where it is equal to it
+abbrev behind_ask : FrameAsk → List FrameAsk → List FrameAsk
+behind_ask b [] = []
+behind_ask b (a ∷ xs) = if same_ask a b then xs else a ∷ xs
+
+-- what is still to come of the one list once the other has come by
+abbrev left_by : List FrameAsk → List FrameAsk → List FrameAsk
+left_by xs [] = xs
+left_by xs (b ∷ bs) = left_by (behind_ask b xs) bs
+
+abbrev is_none_left : List FrameAsk → Bool
+is_none_left [] = true
+is_none_left (a ∷ xs) = false
+
+none_left : (xs : List FrameAsk) → is_none_left xs ≡ true → xs ≡ []
+none_left [] h = refl
+none_left (a ∷ xs) h = cc
+
+stands_behind : (b : FrameAsk) (xs bs : List FrameAsk) → Sublist (behind_ask b xs) bs → Sublist xs (b ∷ bs)
+stands_behind b [] bs rest = nil-sublist (b ∷ bs)
+stands_behind b (a ∷ xs) bs rest = by_case (same_ask a b) refl rest
+  where
+    by_case : (t : Bool) → same_ask a b ≡ t → Sublist (if t then xs else a ∷ xs) bs → Sublist (a ∷ xs) (b ∷ bs)
+    by_case true same rest' = subst (λ (c : FrameAsk). Sublist (a ∷ xs) (c ∷ bs)) (ask_same a b same) (Sublist.cons-cons a rest')
+    by_case false other rest' = Sublist.cons b rest'
+
+stands_by : (xs bs : List FrameAsk) → left_by xs bs ≡ [] → Sublist xs bs
+stands_by xs [] is = subst (λ (l : List FrameAsk). Sublist l []) (sym is) (nil-sublist [])
+stands_by xs (b ∷ bs) is = stands_behind b xs bs (stands_by (behind_ask b xs) bs is)
+
+-- the one list stands in the other in its order
+abbrev stands : List FrameAsk → List FrameAsk → Bool
+stands asks xs = is_none_left (left_by (map (as_told true) xs) (map (as_told true) asks))
+
+stand_in_order : (asks xs : List FrameAsk) → stands asks xs ≡ true → AreToldInOrder true xs asks
+stand_in_order asks xs h = stands_by (map (as_told true) xs) (map (as_told true) asks) (none_left (left_by (map (as_told true) xs) (map (as_told true) asks)) h)
+
+-- what each sender asks for
+abbrev by_each : Script → ℕ → Looper → List (List FrameAsk)
+by_each s n final = final.posted ∷ asks_to_run final.frames ∷ down_from s.threads (λ thread. lines_ask n (lines_of thread s.blocks))
+
+abbrev keeps_order : Script → ℕ → Looper → List FrameAsk → Bool
+keeps_order s n final asks = list_all (stands asks) (by_each s n final)
+
+all_down : (n : ℕ) (f : ℕ → List FrameAsk) (t : List FrameAsk → Bool) → list_all t (down_from n f) ≡ true → (k : ℕ) → k < n → t (f k) ≡ true
+all_down n f t h = each_below n (λ k. t (f k) ≡ true) (go n h)
+  where
+    go : (m : ℕ) → list_all t (down_from m f) ≡ true → EachBelow m (λ k. t (f k) ≡ true)
+    go zero all = tt
+    go (suc m) all = let p = and_parts (t (f m)) (list_all t (down_from m f)) all in (go m p.1, p.0)
+
+keep_order : (s : Script) (n : ℕ) (final : Looper) (asks : List FrameAsk) → keeps_order s n final asks ≡ true → AreAskedInOrder true s n final asks
+keep_order s n final asks h =
+    let of_thread : ℕ → List FrameAsk = λ thread. lines_ask n (lines_of thread s.blocks) in
+    let by_threads = down_from s.threads of_thread in
+    let one = and_parts (stands asks final.posted) (stands asks (asks_to_run final.frames) && list_all (stands asks) by_threads) h in
+    let two = and_parts (stands asks (asks_to_run final.frames)) (list_all (stands asks) by_threads) one.1 in
+    record {
+      threads = λ thread lt. stand_in_order asks (of_thread thread) (all_down s.threads of_thread (stands asks) two.1 thread lt);
+      posted = stand_in_order asks final.posted one.0;
+      ran = stand_in_order asks (asks_to_run final.frames) two.0;
+    }
+
 -- ---- one looper
 
 abbrev pub has_called_then : Script → QueueRecord → ℕ → Bool
@@ -375,6 +439,7 @@ pub record LooperTest : Type 0 where
   pub dispatches : List (ℕ × ℕ)
   pub calls : List (List (Option Entry))
   pub asked : Bool
+  pub order : Bool
   pub whole : Bool
   pub on_time : Bool
   pub moments : Bool
@@ -411,6 +476,7 @@ found_in out s queues n row =
       dispatches = kept out Takes (filter_map act_dispatch row.acts);
       calls = kept out Takes (map (λ r. entries_for [] (caused_by out s n row r) (entries_there s n r)) queues);
       asked = unless out Asked (unless out Starts (same_asks (map (as_told true) (asks_in row.frames)) (map (as_told true) (asked_of s n final))));
+      order = unless out AskOrder (unless out Asked (unless out Starts (keeps_order s n final (asks_in row.frames))));
       whole = unless out Whole (are_whole (phase_count s.edition) row.frames final.frames);
       on_time = unless out OnTime (unless out Takes (list_all (λ r. are_on_time (map (λ x. x.timing) (caused_by out s n row r)) (befores (looper_sender s n) (history_of r))) queues));
       moments = unless out Moments (unless out Starts (are_run_then row.frames final.frames));
@@ -437,6 +503,7 @@ wanted_in out s queues n row =
       dispatches = kept out Takes (filter_map (λ e. call_dispatch e.call e.reply) (entries_there s n (queue_in s n row)));
       calls = kept out Takes (map (λ r. map plain_entry (entries_there s n r)) queues);
       asked = true;
+      order = true;
       whole = true;
       on_time = true;
       moments = true;
@@ -483,6 +550,8 @@ looper_of out s queues n row e =
             (λ r one. sent_by_table [] (caused_by out s n row r) (entries_there s n r) one) queues same) (ap (λ (t : LooperTest). t.calls) e);
         asked = both_left (number_of out == number_of Asked) (number_of out == number_of Starts) _ _
             (λ h test. as_often test (map (as_told true) (asks_in row.frames)) (map (as_told true) (asked_of s n final)) h) (ap (λ (t : LooperTest). t.asked) e);
+        order = unless_true (number_of out == number_of AskOrder) (unless out Asked (unless out Starts (keeps_order s n final (asks_in row.frames)))) _ (both_left (number_of out == number_of Asked) (number_of out == number_of Starts) (keeps_order s n final (asks_in row.frames)) _ (keep_order s n final (asks_in row.frames)))
+            (ap (λ (t : LooperTest). t.order) e);
         whole = unless_true (number_of out == number_of Whole) _ _ (λ h. h) (ap (λ (t : LooperTest). t.whole) e);
         on_time = both_left (number_of out == number_of OnTime) (number_of out == number_of Takes) _ _
             (λ h. all_by (λ (r : QueueRecord). are_on_time (map (λ x. x.timing) (caused_by out s n row r)) (befores (looper_sender s n) (history_of r)) ≡ true)

@@ -50,7 +50,8 @@ pub record MayDispatch (s : Script) (q : ℕ) (es : List Entry) (fs : List Frame
   pub place : is_frame_from fs a.place frame ≡ true
   pub painted : (dispatched s q fs frame n now a (post_at es n)).painted ≡ a.painted
 
--- the act may come next: paints stand nowhere but just before the dispatch that makes them, and a pulse comes at a positive multiple of the period, or at the greatest u64
+-- the act may come next: paints stand nowhere but just before the dispatch that makes them, and a pulse comes at a positive multiple of the period, or at the
+-- greatest u64
 abbrev pub MayCome : Script → ℕ → List Entry → List FrameEntry → Option ℕ → Looper → Act → Type 0
 MayCome s q es fs frame a (Dispatch n now route) = MayDispatch s q es fs frame a n now
 MayCome s q es fs frame a (Paint g v) = frame ≡ None

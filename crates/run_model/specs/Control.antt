@@ -69,7 +69,8 @@ abbrev pub is_none_before : ℕ → Option Item → Bool
 is_none_before time None = true
 is_none_before time (Some x) = nat_le time (when_of x)
 
--- behind these entries the time moves past no message that may be dispatched, on a queue that isn't quitting; and a quit is the queue's first, and comes where no such message is due
+-- behind these entries the time moves past no message that may be dispatched, on a queue that isn't quitting; and a quit is the queue's first, and comes where
+-- no such message is due
 abbrev pub is_in_time : List Entry → Call → Reply → Bool
 is_in_time past (Advance now) reply = is_none_before now (first_eligible (empty_base 0) past) && not (is_some (quit_place (empty_base 0) past))
 is_in_time past (Quit safe now) reply = is_quit_done reply && not (is_some (pick (empty_base 0) past now))

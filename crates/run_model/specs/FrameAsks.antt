@@ -1,6 +1,7 @@
 -- What the senders of a run ask of a choreographer: frame callbacks to be posted and to be removed, and frames to be run.
 use Rattle.std.specs.Prelude.{◌≡◌, ℕ, ◌==◌, Bool, List, Option, Some, None, count_by, map, if◌then◌else◌}
 use Rattle.std.specs.List.{filter_map, flat_map, range_with_len}
+use mathlib.Core.List.{Sublist}
 use Rattle.frame_phases.specs.declared.entry.FrameEntry.{FrameEntry}
 use Rattle.frame_phases.specs.declared.entry.FrameEntry.TheVariants.{Posted, Removed, Begin}
 use Rattle.dash_script.specs.declared.script.Command.{Command}
@@ -58,3 +59,7 @@ as_told lockstep (Runs start) = Runs (if lockstep then start else 0)
 -- each stands in the one list as often as in the other
 abbrev pub AreAsOften : {X : Type 0} → List X → List X → Type 0
 AreAsOften {X} xs ys = (test : X → Bool) → count_by test xs ≡ count_by test ys
+
+-- what is told of the one list stands in what is told of the other in its order: it is that with others left out
+abbrev pub AreToldInOrder : Bool → List FrameAsk → List FrameAsk → Type 0
+AreToldInOrder lockstep xs ys = Sublist (map (as_told lockstep) xs) (map (as_told lockstep) ys)

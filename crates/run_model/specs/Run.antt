@@ -25,7 +25,7 @@ use Rattle.run_model.specs.Loopers.{Looper, Sent, first_looper}
 use Rattle.run_model.specs.Acts.{Lead, sent_on, closing, IsSent}
 use Rattle.run_model.specs.Moves.{moves, AreMovedTogether}
 use Rattle.run_model.specs.FrameRuns.{are_run_then, are_whole}
-use Rattle.run_model.specs.FrameAsks.{FrameAsk, as_told, asks_in, asks_to_run, lines_ask, all_lines, AreAsOften}
+use Rattle.run_model.specs.FrameAsks.{FrameAsk, as_told, asks_in, asks_to_run, lines_ask, all_lines, AreAsOften, AreToldInOrder}
 
 abbrev pub setting_of : QueueRecord → Setting
 setting_of r = record { main = r.main; lockstep = r.lockstep; senders = r.senders }
@@ -93,18 +93,30 @@ caused_on queue final looper disposed_at = sent_on queue (final.sent ++ closing 
 abbrev pub asked_of : Script → ℕ → Looper → List FrameAsk
 asked_of s q final = lines_ask q (all_lines s) ++ final.posted ++ asks_to_run final.frames
 
+-- what each sender asks of a looper's choreographer stands in its order among all that it was asked for: each thread's by its lines, what the looper's acts
+-- post, and the frames that its dispatches run
+pub record AreAskedInOrder (lockstep : Bool) (s : Script) (q : ℕ) (final : Looper) (asks : List FrameAsk) : Type 0 where
+  pub threads : (thread : ℕ) → thread < s.threads → AreToldInOrder lockstep (lines_ask q (lines_of thread s.blocks)) asks
+  pub posted : AreToldInOrder lockstep final.posted asks
+  pub ran : AreToldInOrder lockstep (asks_to_run final.frames) asks
+
 -- a looper's calls on each queue are those that its acts cause, its frame record has the posts, removals and frames that are asked
--- for, each as often, and the frames are whole, and its Dispatch acts are, one for one and in order, its entries answered Dispatched. All that was painted is told. In lockstep each call is on time, and each frame starts and takes its phases at the time of its dispatch
+-- for, each as often and each sender's in its order, and the frames are whole, and its Dispatch acts are, one for one and in order, its entries answered
+-- Dispatched. All that was painted is
+-- told. In lockstep each call is on time, and each frame starts and takes its phases at the time of its dispatch
 pub record IsLooperRun (m : Mode) (s : Script) (queues : List QueueRecord) (q : QueueRecord) (j : Journal) (f : FrameRecord) : Type 0 where
   pub final : Looper
   pub acts : Lead s q.looper (history_of q) f.entries (first_looper s) j.acts final
   pub settled : final.painted ≡ []
   pub dispatches : filter_map act_dispatch j.acts ≡ filter_map (λ e. call_dispatch e.call e.reply) (entries_by (looper_sender s q.looper) (history_of q))
   pub disposed_at : ℕ
-  pub calls : AllByRecursion (λ (r : QueueRecord). AreFor IsSent [] (caused_on r.looper final q.looper disposed_at) (entries_by (looper_sender s q.looper) (history_of r))) queues
+  pub calls : AllByRecursion (λ (r : QueueRecord).
+      AreFor IsSent [] (caused_on r.looper final q.looper disposed_at) (entries_by (looper_sender s q.looper) (history_of r))) queues
   pub asked : AreAsOften (map (as_told m.lockstep) (asks_in f.entries)) (map (as_told m.lockstep) (asked_of s q.looper final))
+  pub order : AreAskedInOrder m.lockstep s q.looper final (asks_in f.entries)
   pub whole : are_whole f.phases f.entries final.frames ≡ true
-  pub on_time : IfLockstep m (AllByRecursion (λ (r : QueueRecord). are_on_time (map (λ x. x.timing) (caused_on r.looper final q.looper disposed_at)) (befores (looper_sender s q.looper) (history_of r)) ≡ true) queues)
+  pub on_time : IfLockstep m (AllByRecursion (λ (r : QueueRecord).
+      are_on_time (map (λ x. x.timing) (caused_on r.looper final q.looper disposed_at)) (befores (looper_sender s q.looper) (history_of r)) ≡ true) queues)
   pub moments : IfLockstep m (are_run_then f.entries final.frames ≡ true)
 
 -- each looper's queue, journal and frame record, and no others
@@ -120,7 +132,8 @@ AreLoopersOf m s r = EachLooper (IsLooperRun m s r.queues) r.queues r.journals r
 -- each call of the thread is on time
 abbrev pub IsThreadOnTime : Script → QueueRecord → ℕ → Type 0
 IsThreadOnTime s r thread =
-    are_on_time (map (λ l. InBlock l.time) (lines_on s (labels_on r.looper (lines_of thread s.blocks)) r.looper (lines_of thread s.blocks))) (befores thread (history_of r)) ≡ true
+    are_on_time (map (λ l. InBlock l.time) (lines_on s (labels_on r.looper (lines_of thread s.blocks)) r.looper (lines_of thread s.blocks)))
+    (befores thread (history_of r)) ≡ true
 
 -- a thread has made its calls on the queue for all blocks before this time
 abbrev pub has_called_before : Script → ℕ → ℕ → List Entry → ℕ → Bool
@@ -130,7 +143,8 @@ has_called_before s q time past thread = nat_le (count_by (λ t. nat_lt t time) 
 abbrev pub comes_in_order : Script → ℕ → List Entry → Entry → Bool
 comes_in_order s q past e =
     not (nat_lt e.sender s.threads)
-    || option_map_or (λ time. list_all (has_called_before s q time past) (range_with_len 0 s.threads)) (slice_get (times_on s q e.sender) (length (entries_by e.sender past))) false
+    || option_map_or (λ time. list_all (has_called_before s q time past) (range_with_len 0 s.threads))
+    (slice_get (times_on s q e.sender) (length (entries_by e.sender past))) false
 
 -- the threads' calls on the queue come in the order of their blocks
 unfoldable pub are_in_order : Script → ℕ → List Entry → Bool
@@ -148,7 +162,8 @@ abbrev pub main_ends_halted : List QueueRecord → Bool
 main_ends_halted [] = false
 main_ends_halted (q ∷ qs) = ends_halted (history_of q)
 
--- part 6 of a run: main ends with its Halt, and in lockstep each history is timely and all queues' times are moved together, to times at which something may come
+-- part 6 of a run: main ends with its Halt, and in lockstep each history is timely and all queues' times are moved together, to times at which something may
+-- come
 pub record AreTimelyOf (m : Mode) (s : Script) (r : Report) : Type 0 where
   pub halted : main_ends_halted r.queues ≡ true
   pub histories : IfLockstep m (AllByRecursion (IsTimely s) r.queues)

@@ -91,7 +91,8 @@ frame_lines fs = flat_map (frame_entry_lines (filter_map posted_callback fs)) fs
 -- a looper's lines
 abbrev pub looper_lines : QueueRecord → Journal → FrameRecord → List Words
 looper_lines q j f =
-    (codes "looper" ∷ decimal q.looper ∷ []) ∷ history_lines (history_of q) ++ fates_line (fates (history_of q)) ∷ flat_map act_lines j.acts ++ frame_lines f.entries
+    (codes "looper" ∷ decimal q.looper ∷ []) ∷ history_lines (history_of q) ++ fates_line (fates (history_of q)) ∷ flat_map act_lines j.acts
+    ++ frame_lines f.entries
 
 -- all loopers' lines, in order
 abbrev pub loopers_lines : List QueueRecord → List Journal → List FrameRecord → List Words
