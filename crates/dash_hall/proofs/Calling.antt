@@ -26,13 +26,13 @@ use Rattle.handler_post.specs.declared.way.Erased.{Erased}
 use Rattle.handler_post.specs.declared.way.Erased.TheVariants.{Removed as Gone, NoMemory as NoSpace}
 use Rattle.handler_post.specs.Supply.{letter_of, Obtains, ObtainsInVain, BringsBack}
 use Rattle.handler_post.specs.declared.way.Way.{Way}
-use Rattle.handler_post.specs.Ways.{IsReady, IsSameWay}
+use Rattle.handler_post.specs.Ways.{IsReady, IsSameWay, MadeNone}
 use Rattle.handler_post.specs.Sends.{Sending, Erasing, Sends, Erases}
 use Rattle.dash_hall.specs.Slots.{GivesBackAll}
 use Rattle.dash_hall.specs.Growth.{own, GoesOn, TurnsOnce, Makes, WayGoesOn, WayTurnsOnce, WayMakes}
 use Rattle.dash_hall.specs.Requests.{IfSent, IfErased}
 use Rattle.dash_hall.proofs.Slots.{gives_back_none, in_vain_gives_back, returned_gives_back, same_messages, one_put, some_gone, one_gone}
-use Rattle.dash_hall.proofs.Growing.{Keeps, one_turn, turns_none, enters, leaves, makes_none}
+use Rattle.dash_hall.proofs.Growing.{Keeps, one_turn, turns_none, made_none, enters, leaves, makes_none}
 
 entries_are : (x y z : State) → y ≡ z → y.entries ≡ z.entries
 entries_are x y z same = ap (λ (w : State). w.entries) same
@@ -81,6 +81,16 @@ pub erased_once : (f : Filter) (p q : Sender) (a b : Tally) (r : Erased) → Era
 erased_once f p q a b (Gone count) (nodes, (x, y, t, takes), n, brought) = one_turn p q x y t
 erased_once f p q a b NoSpace (none, kept) = turns_none p q none
 
+-- at want of memory either made no entry
+sent_still : (home : TableId) (m : PostData) (p q : Sender) (a b : Tally) (r : Sent) → Sending home m p q a b r → IfSent r (MadeNone p q) (Unit {0})
+sent_still home m p q a b (Took number wake) sent = tt
+sent_still home m p q a b (Turned place) sent = tt
+sent_still home m p q a b NoRoom (claim, none, o) = none
+
+erased_still : (f : Filter) (p q : Sender) (a b : Tally) (r : Erased) → Erasing f p q a b r → IfErased r (MadeNone p q) (Unit {0})
+erased_still f p q a b (Gone count) erased = tt
+erased_still f p q a b NoSpace (none, kept) = none
+
 -- a barrier is posted, at some moment
 pub posts_barrier : (home : TableId) (now : ℕ) (m : Node) (p q : Sender) (a b : Tally) (token : ℕ) → Keeps a b → Obtains home m.claim a b → BarrierPostedBy p q now m (barred.Token token) → GoesOn p q a b × Makes p q (Barrier 0) (token ∷ [])
 posts_barrier home now m p q a b token k o (x, y, t, posts) =
@@ -120,13 +130,23 @@ quits_main safe now p q a b k given (x, y, t, u) =
 pub quits_not : (safe : Bool) (now : ℕ) (p q : Sender) (a b : Tally) → Keeps a b → GivesBackAll a b → QuitBy p q safe now quitting.NoMemory → GoesOn p q a b × (own q ≡ own p)
 quits_not safe now p q a b k given (x, y, t, u) = leaves p q x y a b t u.1 k given
 
+-- want of memory for one of these left what was found
+pub bars_still : (now : ℕ) (m n : Node) (p q : Sender) → BarrierPostedBy p q now m (barred.NoMemory n) → MadeNone p q
+bars_still now m n p q (x, y, t, posts) = made_none p q x y t posts.1
+
+pub unbars_still : (token : ℕ) (p q : Sender) → BarrierGoneBy p q token gone.NoMemory → MadeNone p q
+unbars_still token p q (x, y, t, same) = made_none p q x y t same
+
+pub quits_still : (safe : Bool) (now : ℕ) (p q : Sender) → QuitBy p q safe now quitting.NoMemory → MadeNone p q
+quits_still safe now p q (x, y, t, u) = made_none p q x y t u.1
+
 -- the same over a way, with how its maker answers
 pub same_home : (v w : Way) → IsReady v → IsReady w → IsSameWay v w → w.pass.now.home ≡ v.pass.now.home
 same_home v w r r' s = r'.pass ∙ (s.pool ∙ sym r.pass)
 
 -- what a maker of the call answers
 abbrev pub Did : {A E : Type 0} → Way → Way → Call → Result A E → Type 0
-Did v w c res = WayGoesOn v w × OnOk res (WayMakes v w c []) × OnErr res (own w.poster.now ≡ own v.poster.now) × WayTurnsOnce v w
+Did v w c res = WayGoesOn v w × OnOk res (WayMakes v w c []) × OnErr res (own w.poster.now ≡ own v.poster.now) × WayTurnsOnce v w × OnErr res (MadeNone v.poster.now w.poster.now)
 
 answered_sent : {A E : Type 0} (P Q : Type 0) (r : Sent) (res : Result A E) → IfSent r P Q → OnOk res (IfSent r ⊥ (Unit {0})) → OnErr res (IfSent r (Unit {0}) ⊥) → OnOk res Q × OnErr res P
 answered_sent P Q (Took n w) (Ok x) done ok err = (done, tt)
@@ -146,13 +166,15 @@ pub by_send : {A E : Type 0} (v w : Way) (m : PostData) (r : Sent) (res : Result
 by_send v w m r res ready ready' same sent ok err =
     let done = sends v.pool.now m v.poster.now w.poster.now v.pass.now w.pass.now r (same_home v w ready ready' same) sent in
     let answers = answered_sent (own w.poster.now ≡ own v.poster.now) (WayMakes v w (plain (Post m)) []) r res done.1 ok err in
-    (done.0, answers.0, answers.1, sent_once v.pool.now m v.poster.now w.poster.now v.pass.now w.pass.now r sent)
+    let still = answered_sent (MadeNone v.poster.now w.poster.now) (Unit {0}) r res (sent_still v.pool.now m v.poster.now w.poster.now v.pass.now w.pass.now r sent) ok err in
+    (done.0, answers.0, answers.1, sent_once v.pool.now m v.poster.now w.poster.now v.pass.now w.pass.now r sent, still.1)
 
 pub by_erase : {A E : Type 0} (v w : Way) (f : Filter) (r : Erased) (res : Result A E) → IsReady v → IsReady w → IsSameWay v w → Erases f v w r → OnOk res (IfErased r ⊥ (Unit {0})) → OnErr res (IfErased r (Unit {0}) ⊥) → Did v w (Remove f) res
 by_erase v w f r res ready ready' same erased ok err =
     let done = erases f v.poster.now w.poster.now v.pass.now w.pass.now r (same_home v w ready ready' same) erased in
     let answers = answered_erased (own w.poster.now ≡ own v.poster.now) (WayMakes v w (Remove f) []) r res done.1 ok err in
-    (done.0, answers.0, answers.1, erased_once f v.poster.now w.poster.now v.pass.now w.pass.now r erased)
+    let still = answered_erased (MadeNone v.poster.now w.poster.now) (Unit {0}) r res (erased_still f v.poster.now w.poster.now v.pass.now w.pass.now r erased) ok err in
+    (done.0, answers.0, answers.1, erased_once f v.poster.now w.poster.now v.pass.now w.pass.now r erased, still.1)
 
 -- obtaining a message, and recycling one, bring no less back
 pub answers_back : (home : TableId) (a b : Tally) (r : Obtained) → Answers home a b r → a.back ≤ b.back

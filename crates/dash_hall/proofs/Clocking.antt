@@ -31,7 +31,7 @@ use Rattle.dash_hall.specs.declared.calls.QueueCall.{QueueCall}
 use Rattle.dash_hall.specs.declared.calls.QueueCall.TheVariants as on_queue
 use Rattle.dash_hall.specs.Growth.{own, Makes, BarsOf, QuitsOf}
 use Rattle.dash_hall.specs.Requests.{call_made, call_by, tokens_of, IsAtItsMoment}
-use Rattle.dash_hall.specs.ByClock.{is_by, IsByClock, IsInMode, IfTimed}
+use Rattle.dash_hall.specs.ByClock.{is_by, IsByClock, IsInMode}
 use Rattle.dash_hall.specs.declared.handlers.Request.{Request}
 use Rattle.dash_hall.specs.declared.handlers.Request.TheVariants as request
 use Rattle.handler_post.specs.declared.handler.Handler.{Handler}
@@ -215,6 +215,13 @@ pub clocked_same : (m : Mode) (p q : Sender) → q.sender ≡ p.sender → IsPre
 clocked_same m p q sender begins same by = clocked_quiet m p q [] sender begins (same ∙ sym (append-nil (own p))) tt by
 
 -- ---- a call on a queue
+
+-- what is so of the moment that a call names, where it names one
+abbrev pub IfTimed : (ℕ → Type 0) → QueueCall → Type 0
+IfTimed P (on_queue.ByHandler handler request) = Unit {0}
+IfTimed P (on_queue.PostBarrier now) = P now
+IfTimed P (on_queue.RemoveBarrier token) = Unit {0}
+IfTimed P (on_queue.Quit safe now) = P now
 
 -- its moment is the clock's, or the queue's time
 pub clocked_call : (m : Mode) (c : QueueCall) (token : Option ℕ) (p q : Sender) → IsInMode m p → IfTimed (λ u. IfFree m (IsMoment m u)) c

@@ -126,6 +126,10 @@ module _ {parts : List Segment} (p q : Sender) (x y : State) (tail : List Entry)
 pub one_turn : (p q : Sender) (x y : State) → IsTurn p q x y → TurnsOnce p q
 one_turn p q x y t = omega (arith, t.turns)
 
+-- a turn that left what it found made no entry
+pub made_none : (p q : Sender) (x y : State) → IsTurn p q x y → y ≡ x → MadeNone p q
+made_none p q x y t same = inr (x, subst (λ (z : State). IsTurn p q x z) same t)
+
 pub turns_none : (p q : Sender) → MadeNone p q → TurnsOnce p q
 turns_none p q (inl same) = omega (arith, ap (λ (z : Sender). z.view.turns) same)
 turns_none p q (inr turn) = one_turn p q turn.0 turn.0 turn.1

@@ -17,7 +17,7 @@ use Rattle.choreographer.specs.Known.{Shared as Frames, Known as Pass, IsOf as I
 use Rattle.choreographer.specs.Ends.{AreNew as AreNewPasses, IsNewPass}
 use Rattle.dash_hall.specs.declared.kit.Kit.{Kit}
 use Rattle.dash_hall.specs.Kits.{Badge, badge_of, badge_for, FrameBadge, frame_badge_of, frame_badge_for, frames_for}
-use Rattle.dash_hall.specs.Dealing.{Gets, EachGets, nothing, IsEmptyKit, IsUnused, IsUnusedPoster, IsUnusedPass, DealsPosters, DealsPasses, holder_of, given, given_of, AreUsedNowhere}
+use Rattle.dash_hall.specs.Dealing.{Gets, EachGets, nothing, IsEmptyKit, IsNewKit, DealsPosters, DealsPasses, holder_of, given, given_of, AreUsedNowhere}
 use Rattle.dash_hall.proofs.HallGets.{each_start, each_more, each_same, each_one, only, only_none}
 use Rattle.dash_hall.proofs.HallPasses.{given_more, given_one, given_all, given_all-push, given_are, thread_holds, looper_holds, controller_holds}
 
@@ -49,17 +49,16 @@ pub at_parts : {X : Type 0} (yielded rest all : List X) (x : X) (n : ℕ) → yi
 at_parts yielded rest all x n parts is = ap (λ l. get_or l n x) (sym parts) ∙ (ap (λ n. get_or (yielded ++ x ∷ rest) n x) is ∙ get_or-append_seam yielded x rest x)
 
 -- what is known of the poster at this place of new ones
-new_poster : (posters yielded rest : List Sender) (p : Sender) (place : ℕ) (q : Shared TableId) → yielded ++ p ∷ rest ≡ posters → place ≡ length yielded → AreNew q posters → IsUnusedPoster p × (badge_of p ≡ badge_for place q)
+new_poster : (posters yielded rest : List Sender) (p : Sender) (place : ℕ) (q : Shared TableId) → yielded ++ p ∷ rest ≡ posters → place ≡ length yielded → AreNew q posters → IsNewPoster p × (badge_of p ≡ badge_for place q)
 new_poster posters yielded rest p place q parts is new =
     let at = at_parts yielded rest posters p place parts is in
     let within = within_parts yielded rest posters p place parts is in
     let of_queue : IsOf p q × (p.sender ≡ place) = subst (λ (x : Sender). IsOf x q × (x.sender ≡ place)) at (new.0 place p within) in
-    let unused : IsNewPoster p = subst (λ (x : Sender). IsNewPoster x) at (new.1 place p within) in
-    ((unused.seen, unused.sealed), λ i. record { table = of_queue.0.0 i; constants = of_queue.0.1 i; sender = of_queue.1 i })
+    (subst (λ (x : Sender). IsNewPoster x) at (new.1 place p within), λ i. record { table = of_queue.0.0 i; constants = of_queue.0.1 i; sender = of_queue.1 i })
 
 pub posters_more : (place : ℕ) (posters yielded rest : List Sender) (p : Sender) (orig a b : List Kit) (e kit : Kit)
     → yielded ++ p ∷ rest ≡ posters → place ≡ length yielded → place < length a → b ≡ set a place kit
-    → (IsUnusedPoster p → Gets (badge_of p ∷ []) [] (get_or a place e) kit)
+    → (IsNewPoster p → Gets (badge_of p ∷ []) [] (get_or a place e) kit)
     → PostersDealt place posters orig a → PostersDealt (place + 1) posters orig b
 posters_more place posters yielded rest p orig a b e kit parts is within wrote got dealt q new =
     let known = new_poster posters yielded rest p place q parts is new in
@@ -80,13 +79,12 @@ pub passes_start : (s : Script) (looper : ℕ) (passes : List Pass) (kits : List
 passes_start s looper passes kits c new = each_same nothing nothing nothing (λ k. given s looper c k 0 0) kits kits (λ k lt. refl) (λ k lt. refl) (each_start kits)
 
 -- what is known of the pass at this place of new ones
-new_pass : (passes yielded rest : List Pass) (p : Pass) (number : ℕ) (c : Frames) → yielded ++ p ∷ rest ≡ passes → number ≡ length yielded → AreNewPasses c passes → IsUnusedPass p × (frame_badge_of p ≡ frame_badge_for number c)
+new_pass : (passes yielded rest : List Pass) (p : Pass) (number : ℕ) (c : Frames) → yielded ++ p ∷ rest ≡ passes → number ≡ length yielded → AreNewPasses c passes → IsNewPass p × (frame_badge_of p ≡ frame_badge_for number c)
 new_pass passes yielded rest p number c parts is new =
     let at = at_parts yielded rest passes p number parts is in
     let within = within_parts yielded rest passes p number parts is in
     let of_frames : IsOfFrames p c × (p.number ≡ number) = subst (λ (x : Pass). IsOfFrames x c × (x.number ≡ number)) at (new.0 number p within) in
-    let unused : IsNewPass p = subst (λ (x : Pass). IsNewPass x) at (new.1 number p within) in
-    ((unused.seen, unused.turns, unused.own), λ i. record { table = of_frames.0.0 i; constants = of_frames.0.1 i; number = of_frames.1 i })
+    (subst (λ (x : Pass). IsNewPass x) at (new.1 number p within), λ i. record { table = of_frames.0.0 i; constants = of_frames.0.1 i; number = of_frames.1 i })
 
 given_next : (s : Script) (looper number k : ℕ) (c : Frames) (p : Pass) → frame_badge_of p ≡ frame_badge_for number c → given s looper c k 0 number ++ only (holder_of s looper number) (frame_badge_of p ∷ []) k ≡ given s looper c k 0 (number + 1)
 given_next s looper number k c p is =
@@ -96,7 +94,7 @@ given_next s looper number k c p is =
 
 pub passes_more : (s : Script) (looper number : ℕ) (passes yielded rest : List Pass) (p : Pass) (orig a b : List Kit) (h : ℕ) (e kit : Kit)
     → yielded ++ p ∷ rest ≡ passes → number ≡ length yielded → h ≡ holder_of s looper number → h < length a → b ≡ set a h kit
-    → (IsUnusedPass p → Gets [] (frame_badge_of p ∷ []) (get_or a h e) kit)
+    → (IsNewPass p → Gets [] (frame_badge_of p ∷ []) (get_or a h e) kit)
     → PassesDealt s looper number passes orig a → PassesDealt s looper (number + 1) passes orig b
 passes_more s looper number passes yielded rest p orig a b h e kit parts is held within wrote got dealt c new =
     let known = new_pass passes yielded rest p number c parts is new in
@@ -142,18 +140,26 @@ pub choreographers_all : (s : Script) (cs : List Frames) (orig kits : List Kit) 
 choreographers_all s cs orig kits count senders dealt =
     each_same nothing nothing (given_all s 0 cs) (frames_for s cs) orig kits (λ k lt. refl) (λ k lt. given_are s cs k count (omega (arith, lt, senders))) dealt
 
-empty_unused : (pool : TableId) (kit : Kit) → IsEmptyKit pool kit → IsUnused kit
-empty_unused pool kit e = record {
-  posters = subst (λ l. All IsUnusedPoster l) (sym e.posters) (λ k d lt. absurd (omega (arith, lt)));
-  frames = subst (λ l. All IsUnusedPass l) (sym e.frames) (λ k d lt. absurd (omega (arith, lt)));
+empty_new : (pool : TableId) (kit : Kit) → IsEmptyKit pool kit → IsNewKit kit
+empty_new pool kit e = record {
+  posters = subst (λ (l : List Sender). All IsNewPoster l) (sym e.posters) (λ k d lt. absurd (omega (arith, lt)));
+  frames = subst (λ (l : List Pass). All IsNewPass l) (sym e.frames) (λ k d lt. absurd (omega (arith, lt)));
+  pass = e.counts;
 }
 
--- what empty kits got was used nowhere
-pub used_nowhere : (pool : TableId) (bs bs' : ℕ → List Badge) (fs fs' : ℕ → List FrameBadge) (a b c : List Kit) → All (IsEmptyKit pool) a → EachGets bs fs a b → EachGets bs' fs' b c → AreUsedNowhere c
-used_nowhere pool bs bs' fs fs' a b c empty h g k q d lt =
+-- empty kits are new with what they got
+pub all_new : (pool : TableId) (bs bs' : ℕ → List Badge) (fs fs' : ℕ → List FrameBadge) (a b c : List Kit) → All (IsEmptyKit pool) a → EachGets bs fs a b → EachGets bs' fs' b c → All IsNewKit c
+all_new pool bs bs' fs fs' a b c empty h g = λ k d lt. (
     let same = h.count in
     let same' = g.count in
     let within : k < length a = omega (arith, lt, same, same') in
     let within' : k < length b = omega (arith, lt, same') in
-    let unused = (g.each k d within').unused ((h.each k d within).unused (empty_unused pool (get_or a k d) (empty k d within))) in
-    (λ p at. unused.posters q p at, λ p at. unused.frames q p at)
+    (g.each k d within').unused ((h.each k d within).unused (empty_new pool (get_or a k d) (empty k d within))))
+
+-- and were used nowhere
+pub used_nowhere : (kits : List Kit) → All IsNewKit kits → AreUsedNowhere kits
+used_nowhere kits new k q d lt =
+    let kit = new k d lt in (
+      λ p at. (let p' = kit.posters q p at in (p'.seen, p'.sealed)),
+      λ p at. (let p' = kit.frames q p at in (p'.seen, p'.turns, p'.own)),
+    )

@@ -5,8 +5,6 @@ use Rattle.loop_model.specs.declared.entry.Entry.{Entry}
 use Rattle.shared_queue.specs.Constants.{Constants}
 use Rattle.looper_run.specs.Holding.{Sender}
 use Rattle.run_model.specs.Moments.{Mode, IfFree, IsMoment, AreOfClock, AreOfClockAfter}
-use Rattle.dash_hall.specs.declared.calls.QueueCall.{QueueCall}
-use Rattle.dash_hall.specs.declared.calls.QueueCall.TheVariants as on_queue
 
 -- the entry is this sender's
 abbrev pub is_by : ℕ → Entry → Bool
@@ -29,10 +27,3 @@ pub record AddsByClock (m : Mode) (before after : Sender) : Type 0 where
 -- so it is in each free mode of the queue in which this is a moment of the clock
 abbrev pub AddsAt : ℕ → Sender → Sender → Type 0
 AddsAt u before after = (m : Mode) → m.lockstep ≡ false → IsInMode m before → IsMoment m u → AddsByClock m before after
-
--- what is so of the moment that a call names, where it names one
-abbrev pub IfTimed : (ℕ → Type 0) → QueueCall → Type 0
-IfTimed P (on_queue.ByHandler handler request) = Unit {0}
-IfTimed P (on_queue.PostBarrier now) = P now
-IfTimed P (on_queue.RemoveBarrier token) = Unit {0}
-IfTimed P (on_queue.Quit safe now) = P now

@@ -3,10 +3,11 @@ use Rattle.std.specs.Prelude.{◌≡◌, ◌==◌, ◌+◌, ◌<◌, nat_lt, ℕ
 use Rattle.atomic_table.specs.Seated.{TableId}
 use Rattle.dash_script.specs.declared.script.Script.{Script}
 use Rattle.shared_queue.specs.Known.{Shared}
-use Rattle.shared_queue.specs.Ends.{AreNew}
+use Rattle.message_pool.specs.Passes.{Tally}
+use Rattle.shared_queue.specs.Ends.{AreNew, IsNewPoster}
 use Rattle.looper_run.specs.Holding.{Sender}
 use Rattle.choreographer.specs.Known.{Shared as Frames, Known as Pass}
-use Rattle.choreographer.specs.Ends.{AreNew as AreNewPasses}
+use Rattle.choreographer.specs.Ends.{AreNew as AreNewPasses, IsNewPass}
 use Rattle.dash_hall.specs.declared.kit.Kit.{Kit}
 use Rattle.dash_hall.specs.Kits.{Badge, badge_of, badge_for, FrameBadge, frame_badge_of, frame_badge_for}
 
@@ -17,22 +18,28 @@ IsUnusedPoster p = (p.view.seen ≡ []) × (p.view.sealed ≡ [])
 abbrev pub IsUnusedPass : Pass → Type 0
 IsUnusedPass p = (p.view.seen ≡ []) × (p.view.turns ≡ 0) × (p.view.own ≡ [])
 
--- nothing was called by the kit
-pub record IsUnused (kit : Kit) : Type 0 where
-  pub posters : All IsUnusedPoster kit.posters.items
-  pub frames : All IsUnusedPass kit.frames.items
+-- a pass of the pool that has looked for no slot, lost none, taken none and given none back
+abbrev pub HasCountedNothing : Tally → Type 0
+HasCountedNothing pass = (pass.looks ≡ 0) × (pass.lost ≡ 0) × (pass.taken ≡ 0) × (pass.back ≡ 0)
 
--- a kit with nothing but a pass of the pool
+-- a kit by which nothing was done
+pub record IsNewKit (kit : Kit) : Type 0 where
+  pub posters : All IsNewPoster kit.posters.items
+  pub frames : All IsNewPass kit.frames.items
+  pub pass : HasCountedNothing kit.pass
+
+-- a kit with nothing but a pass of the pool, by which nothing was done
 pub record IsEmptyKit (pool : TableId) (kit : Kit) : Type 0 where
   pub posters : kit.posters.items ≡ []
   pub frames : kit.frames.items ≡ []
   pub pass : kit.pass.home ≡ pool
+  pub counts : HasCountedNothing kit.pass
 
--- the kit got posters and passes with these badges, none of which was used, behind those that it had
+-- the kit got posters and passes with these badges, which have done nothing, behind those that it had
 pub record Gets (badges : List Badge) (marks : List FrameBadge) (before after : Kit) : Type 0 where
   pub posters : map badge_of after.posters.items ≡ map badge_of before.posters.items ++ badges
   pub frames : map frame_badge_of after.frames.items ≡ map frame_badge_of before.frames.items ++ marks
-  pub unused : IsUnused before → IsUnused after
+  pub unused : IsNewKit before → IsNewKit after
   pub pass : after.pass.home ≡ before.pass.home
 
 -- kit k got those for k
@@ -80,7 +87,8 @@ pub record GivesPoster (before : Kit) (poster : Sender) (after : Kit) : Type 0 w
 pub record EachGivesPoster (before : List Kit) (posters : List Sender) (after : List Kit) : Type 0 where
   pub count : length posters ≡ length before
   pub kits : length after ≡ length before
-  pub each : (k : ℕ) (d : Kit) (p : Sender) → k < length before → GivesPoster (slice_index_or before k d) (slice_index_or posters k p) (slice_index_or after k d)
+  pub each : (k : ℕ) (d : Kit) (p : Sender) → k < length before
+      → GivesPoster (slice_index_or before k d) (slice_index_or posters k p) (slice_index_or after k d)
 
 -- the kit gave its first pass
 pub record GivesPass (before : Kit) (pass : Pass) (after : Kit) : Type 0 where

@@ -19,7 +19,8 @@ use Rattle.dash_hall.specs.Slots.{LosesNoSlot}
 abbrev pub own : Sender → List Entry
 own p = entries_by p.sender p.view.seen
 
--- the same sender of the same queue, with the same pool, which has seen more; it made no look for a message, handed nothing out, and lost no slot
+-- the same sender of the same queue, with the same pool, which has seen more and may have taken turns; it rang no bell and read none, made no look for a
+-- message, handed nothing out, and lost no slot
 pub record GoesOn (before after : Sender) (pass pass' : Tally) : Type 0 where
   pub table : after.table ≡ before.table
   pub sender : after.sender ≡ before.sender
@@ -75,4 +76,11 @@ BringsDroppedBack quitting.NoMemory pass pass' = pass' ≡ pass
 
 -- such a turn by a way, and what it dropped is back in the pool
 abbrev pub WayQuits : Way → Way → Bool → ℕ → Type 0
-WayQuits before after safe now = (answer : Quitting Claimed TableId) × (answer ≢ quitting.NoMemory) × QuitBy before.poster.now after.poster.now safe now answer × BringsDroppedBack answer before.pass.now after.pass.now
+WayQuits before after safe now =
+    (answer : Quitting Claimed TableId) × (answer ≢ quitting.NoMemory) × QuitBy before.poster.now after.poster.now safe now answer
+    × BringsDroppedBack answer before.pass.now after.pass.now
+
+-- one turn of a way that found no memory to enter a quit that is refused; its pass is as it was
+abbrev pub WayQuitsNot : Way → Way → Bool → ℕ → Type 0
+WayQuitsNot before after safe now =
+    QuitBy before.poster.now after.poster.now safe now quitting.NoMemory × (after.pass.now ≡ before.pass.now)

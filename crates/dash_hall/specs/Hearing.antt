@@ -31,7 +31,8 @@ HaveHeard before after = AtEach HasHeard before after
 -- the poster at this place has heard others and has seen this history, and the other posters are as before
 pub record HaveHeardAt (place : ℕ) (whole : List Entry) (before after : List Sender) : Type 0 where
   pub long : length after ≡ length before
-  pub here : (d : Sender) → place < length before → HasHeard (slice_index_or before place d) (slice_index_or after place d) × ((slice_index_or after place d).view.seen ≡ whole)
+  pub here : (d : Sender) → place < length before
+      → HasHeard (slice_index_or before place d) (slice_index_or after place d) × ((slice_index_or after place d).view.seen ≡ whole)
   pub elsewhere : (q : ℕ) (d : Sender) → q ≢ place → slice_index_or after q d ≡ slice_index_or before q d
 
 -- the posters are as before

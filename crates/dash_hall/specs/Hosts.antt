@@ -23,7 +23,8 @@ use Rattle.dash_hall.specs.declared.host.Host.{Host}
 use Rattle.dash_hall.specs.Growth.{own, GoesOn, Makes}
 use Rattle.dash_hall.specs.ByClock.{AddsAt}
 
--- what a host keeps through all its calls: its queue and pool, its poster and its pass by their references, what these were when it was made, and its handler's number, its moment and its uptime
+-- what a host keeps through all its calls: its queue and pool, its poster and its pass by their references, what these were when it was made, and its handler's
+-- number, its moment and its uptime
 pub record HostOrigin (U : Type 0) : Type 0 where
   pub queue : Shared TableId
   pub pool : TableId
@@ -35,7 +36,8 @@ pub record HostOrigin (U : Type 0) : Type 0 where
   pub now : ℕ
   pub uptime : U
 
--- the poster is one of the queue, the pass is one of the pool, the queue's messages are the pool's, and both have gone on since the host was made; what the poster has called since, it called at the host's moment
+-- the poster is one of the queue, the pass is one of the pool, the queue's messages are the pool's, and both have gone on since the host was made; where the
+-- host's moment is one of the clock, what the poster has called since has moments of the clock, or the queue's time
 pub record IsHost {U : Type 0} (o : HostOrigin U) (poster : Sender) (pass : Tally) : Type 0 where
   pub of_queue : IsOf poster o.queue
   pub of_pool : pass.home ≡ o.pool
@@ -105,11 +107,13 @@ IsUnplaced placed.NoMemory = Unit {0}
 
 -- a frame callback was placed at this moment of a host, whose sends were the one list and are the other
 abbrev pub PlacesBy : Pass → Pass → ℕ → List Sending → List Sending → ℕ → ℕ → ℕ → Type 0
-PlacesBy before after u sends sends' phase id delay = (r : Placed) × IsPlaced r × CallbackPostedBy before after (λ n. n == nanos_of u) sends sends' phase id None delay r
+PlacesBy before after u sends sends' phase id delay =
+    (r : Placed) × IsPlaced r × CallbackPostedBy before after (λ n. n == nanos_of u) sends sends' phase id None delay r
 
 -- memory was wanting as a frame callback was placed: nothing was sent, and at most the posting itself was done
 abbrev pub PlacesNot : Pass → Pass → ℕ → List Sending → List Sending → ℕ → ℕ → ℕ → Type 0
-PlacesNot before after u sends sends' phase id delay = (r : Placed) × IsUnplaced r × CallbackPostedBy before after (λ n. n == nanos_of u) sends sends' phase id None delay r
+PlacesNot before after u sends sends' phase id delay =
+    (r : Placed) × IsUnplaced r × CallbackPostedBy before after (λ n. n == nanos_of u) sends sends' phase id None delay r
 
 -- what the turns of a pass asked its choreographer for, in order
 abbrev pub asks_of : Pass → List FrameAsk
@@ -119,7 +123,8 @@ asks_of p = asks_in p.view.own
 abbrev pub AsksFor : FrameAsk → Pass → Pass → Type 0
 AsksFor ask before after = asks_of after ≡ asks_of before ++ ask ∷ []
 
--- a frame callback was posted by this handler in one turn, at an uptime with a delay: with a delay the sender posted the message for its due time, and else it made no call
+-- a frame callback was posted by this handler in one turn, at an uptime with a delay: with a delay the sender posted the message for its due time, and else it
+-- made no call
 pub record PostsFrame (handler u phase id delay : ℕ) (before after : Sender) (pass pass' : Pass) : Type 0 where
   pub calls : MatchBool (delay == 0) (own after ≡ own before)
       (Makes before after (Post (record { handler = handler; what = 2; arg = phase; obj = None; callback = None; when = frame_due u delay; asynchronous = true; slot = None })) [])

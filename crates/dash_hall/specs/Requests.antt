@@ -4,6 +4,8 @@ use Rattle.loop_model.specs.declared.call.Call.{Call}
 use Rattle.loop_model.specs.declared.call.Call.TheVariants.{Post, Remove, Barrier, Unbarrier, Quit}
 use Rattle.loop_model.specs.declared.post.Kind.TheVariants as kind
 use Rattle.handler_post.specs.declared.handler.Handler.{Handler}
+use Rattle.queue_state.specs.declared.answers.Quitting.TheVariants as quitting
+use Rattle.shared_queue.specs.Calls.{QuitBy}
 use Rattle.handler_post.specs.declared.way.Sent.{Sent}
 use Rattle.handler_post.specs.declared.way.Sent.TheVariants.{Accepted, Refused, NoMemory}
 use Rattle.handler_post.specs.declared.way.Erased.{Erased}
@@ -62,3 +64,10 @@ IsAtItsMoment (on_queue.PostBarrier now) None before after = ⊥
 IsAtItsMoment (on_queue.PostBarrier now) (Some token) before after = BarsOf before after now token
 IsAtItsMoment (on_queue.RemoveBarrier barrier) token before after = Unit {0}
 IsAtItsMoment (on_queue.Quit safe now) token before after = QuitsOf before after safe now
+
+-- where the call is a quit, it was one turn that found no memory to enter a quit that is refused
+abbrev pub IsRefusedQuit : QueueCall → Sender → Sender → Type 0
+IsRefusedQuit (on_queue.ByHandler handler request) before after = Unit {0}
+IsRefusedQuit (on_queue.PostBarrier now) before after = Unit {0}
+IsRefusedQuit (on_queue.RemoveBarrier barrier) before after = Unit {0}
+IsRefusedQuit (on_queue.Quit safe now) before after = QuitBy before after safe now quitting.NoMemory

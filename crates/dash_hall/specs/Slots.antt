@@ -13,7 +13,8 @@ GivesBackAll pass pass' = pass'.taken + pass.back ≡ pass.taken + pass'.back
 abbrev pub KeepsSlots : State → State → Tally → Tally → Type 0
 KeepsSlots x y pass pass' = slots_in x.messages + pass'.taken + pass.back ≡ slots_in y.messages + pass.taken + pass'.back
 
--- so it is in each of so many turns of the sender, one after the other, and beside them
+-- the sender took so many turns, one after the other, and over all of them together no slot was lost: what the messages had as the turns found them, and what
+-- the pass took, is what they had as the turns left them, and what it gave back; for no turn and for one that is exact
 abbrev pub LosesNoSlot : ℕ → Sender → Sender → Tally → Tally → Type 0
 LosesNoSlot zero before after pass pass' = (after ≡ before) × GivesBackAll pass pass'
 LosesNoSlot (suc turns) before after pass pass' =

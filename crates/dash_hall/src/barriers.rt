@@ -1,8 +1,8 @@
 //! The calls of a sender that go by no handler: barriers and quits.
 ghost use Rattle.std.specs.Prelude.{◌≡◌, [], ◌∷◌, IfOk, OnOk, OnErr};
 ghost use Rattle.loop_model.specs.declared.call.Call.TheVariants.{Barrier, Unbarrier, Quit};
-ghost use Rattle.handler_post.specs.Ways.{IsReady, IsSameWay};
-ghost use Rattle.dash_hall.specs.Growth.{own, WayGoesOn, WayTurnsOnce, WayMakes, BarsOf, WayQuits};
+ghost use Rattle.handler_post.specs.Ways.{IsReady, IsSameWay, MadeNone};
+ghost use Rattle.dash_hall.specs.Growth.{own, WayGoesOn, WayTurnsOnce, WayMakes, BarsOf, WayQuits, WayQuitsNot};
 
 use handler_post::{Way, recycle_all};
 use loop_model::NoMemory;
@@ -26,6 +26,7 @@ pub(crate) fn post_barrier<R: Wait>(
     ensures made { IfOk result (λ token. WayMakes way.old way.new (Barrier 0) (token ∷ [])) }
     ensures turn { IfOk result (λ token. BarsOf way.old.poster.now way.new.poster.now now token) }
     ensures none { OnErr result (own way.new.poster.now ≡ own way.old.poster.now) }
+    ensures still { OnErr result (MadeNone way.old.poster.now way.new.poster.now) }
 {
     let node = match way.pool.obtain(alloc, way.pass) {
         Obtained::Pooled(node) => node,
@@ -50,6 +51,7 @@ pub(crate) fn remove_barrier<R: Wait>(rt: &R, way: &mut Way, token: u64) -> Resu
     ensures once { WayTurnsOnce way.old way.new }
     ensures made { OnOk result (WayMakes way.old way.new (Unbarrier token) []) }
     ensures none { OnErr result (own way.new.poster.now ≡ own way.old.poster.now) }
+    ensures still { OnErr result (MadeNone way.old.poster.now way.new.poster.now) }
 {
     match way.poster.remove_barrier(rt, way.queue, token) {
         BarrierGone::Unbarriered { node, .. } => {
@@ -62,8 +64,8 @@ pub(crate) fn remove_barrier<R: Wait>(rt: &R, way: &mut Way, token: u64) -> Resu
 }
 
 /// Quits, at this moment in milliseconds, and recycles what is dropped: with `safe` what is due by then stays. Where the queue may not
-/// quit or has quit, the history says so. NoMemory where it found none: then it made no call. As `quit` and `quitSafely` of AOSP's
-/// `Looper`.
+/// quit or has quit, the history says so. NoMemory only there, where the entry that says so found none: then it made no call. As `quit`
+/// and `quitSafely` of AOSP's `Looper`.
 pub fn quit<R: Wait>(rt: &R, way: &mut Way, safe: bool, now: u64) -> Result<(), NoMemory>
     requires { IsReady way.old }
     ensures ready { IsReady way.new }
@@ -72,6 +74,7 @@ pub fn quit<R: Wait>(rt: &R, way: &mut Way, safe: bool, now: u64) -> Result<(), 
     ensures once { WayTurnsOnce way.old way.new }
     ensures made { OnOk result (WayMakes way.old way.new (Quit safe 0) []) }
     ensures quits { OnOk result (WayQuits way.old way.new safe now) }
+    ensures refused { OnErr result (WayQuitsNot way.old way.new safe now) }
     ensures none { OnErr result (own way.new.poster.now ≡ own way.old.poster.now) }
 {
     match way.poster.quit(rt, way.queue, safe, now) {

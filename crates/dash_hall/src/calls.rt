@@ -1,9 +1,9 @@
 //! One call of a sender on a queue.
 ghost use Rattle.std.specs.Prelude.{◌≡◌, is_some, IfOk, OnErr};
-ghost use Rattle.handler_post.specs.Ways.{IsReady, IsSameWay};
+ghost use Rattle.handler_post.specs.Ways.{IsReady, IsSameWay, MadeNone};
 ghost use Rattle.shared_queue.specs.Known.{IsOf};
 ghost use Rattle.dash_hall.specs.Growth.{own, GoesOn, TurnsOnce, Makes, WayGoesOn, WayTurnsOnce, WayMakes};
-ghost use Rattle.dash_hall.specs.Requests.{call_made, tokens_of, posts_barrier, IsAtItsMoment};
+ghost use Rattle.dash_hall.specs.Requests.{call_made, tokens_of, posts_barrier, IsAtItsMoment, IsRefusedQuit};
 
 use crate::barriers::{post_barrier, quit, remove_barrier};
 use crate::handlers::{Request, make};
@@ -41,6 +41,8 @@ pub(crate) fn perform<R: Wait>(
     ensures once { WayTurnsOnce way.old way.new }
     ensures made { IfOk result (λ token. WayMakes way.old way.new (call_made call) (tokens_of token)) }
     ensures none { OnErr result (own way.new.poster.now ≡ own way.old.poster.now) }
+    ensures still { OnErr result (MadeNone way.old.poster.now way.new.poster.now) }
+    ensures refused { OnErr result (IsRefusedQuit call way.old.poster.now way.new.poster.now) }
     ensures token { IfOk result (λ token. is_some token ≡ posts_barrier call) }
     ensures moment { IfOk result (λ token. IsAtItsMoment call token way.old.poster.now way.new.poster.now) }
 {
@@ -65,7 +67,7 @@ pub(crate) fn perform<R: Wait>(
 }
 
 /// Makes the call on this queue by this poster and this pass of the pool, and answers the token of a barrier that it posts. A refusal
-/// stands in the history. NoMemory where it found none: then it made no call.
+/// stands in the history. NoMemory where it found none, of a quit only where it is refused: then it made no call.
 pub fn perform_by<R: Wait>(
     rt: &R,
     alloc: Global,
@@ -82,6 +84,8 @@ pub fn perform_by<R: Wait>(
     ensures once { TurnsOnce poster.old poster.new }
     ensures made { IfOk result (λ token. Makes poster.old poster.new (call_made call) (tokens_of token)) }
     ensures none { OnErr result (own poster.new ≡ own poster.old) }
+    ensures still { OnErr result (MadeNone poster.old poster.new) }
+    ensures refused { OnErr result (IsRefusedQuit call poster.old poster.new) }
     ensures token { IfOk result (λ token. is_some token ≡ posts_barrier call) }
     ensures moment { IfOk result (λ token. IsAtItsMoment call token poster.old poster.new) }
 {

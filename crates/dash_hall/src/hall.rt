@@ -2,7 +2,7 @@
 ghost use Rattle.std.specs.Prelude.{◌≡◌, ◌<◌, ◌+◌, [], ◌∷◌, map, length, All, IfOk, OnOk};
 ghost use Rattle.run_model.specs.Senders.{sender_count};
 ghost use Rattle.dash_hall.specs.Kits.{IsHall, AreKitsOf, AreQueuesOf, AreChoreographersOf, queue_constants, frame_constants, badge_for, frames_for};
-ghost use Rattle.dash_hall.specs.Dealing.{IsEmptyKit, EachGets, nothing, DealsPosters, DealsPasses, given_of, holder_of, AreUsedNowhere};
+ghost use Rattle.dash_hall.specs.Dealing.{IsEmptyKit, EachGets, nothing, DealsPosters, DealsPasses, given_of, holder_of, HasCountedNothing, IsNewKit, AreUsedNowhere};
 
 use crate::kit::Kit;
 use crate::stop::Stop;
@@ -35,9 +35,9 @@ pub struct Hall {
 }
 
 /// The queues and choreographers of a script's loopers, and what each sender needs to work with them, by sender number:
-/// the threads, the loopers, and last the controller. Also a pass of the pool for its end. The script has fewer than 100 threads and
-/// loopers together, and a period above 0. The queues are in lockstep or in free mode. NoMemory where it found none. Lockstep is this
-/// project's profile.
+/// the threads, the loopers, and last the controller. Also a pass of the pool for its end. Nothing was done by any of these yet. The
+/// script has fewer than 100 threads and loopers together, and a period above 0. The queues are in lockstep or in free mode. NoMemory
+/// where it found none. Lockstep is this project's profile.
 pub fn open(
     alloc: Global,
     script: &Script,
@@ -48,7 +48,9 @@ pub fn open(
     ensures mode { IfOk result (λ r. r.0.lockstep ≡ lockstep) }
     ensures kits { IfOk result (λ r. AreKitsOf script.now r.0 r.1.items) }
     ensures new { IfOk result (λ r. AreUsedNowhere r.1.items) }
+    ensures unused { IfOk result (λ r. All IsNewKit r.1.items) }
     ensures pass { IfOk result (λ r. r.2.home ≡ r.0.pool) }
+    ensures counts { IfOk result (λ r. HasCountedNothing r.2) }
 {
     let (pool, mut pass) = Pool::new(alloc)?;
     let senders = script.threads + script.loopers + 1;
@@ -69,8 +71,10 @@ pub fn open(
 
 /// Kits without posters.
 fn kits(alloc: Global, pool: &Pool, pass: &mut PoolPass, senders: u32) -> Result<Vec<Kit>, NoMemory>
-    requires { pass.old.home ≡ pool.now }
+    requires pass { pass.old.home ≡ pool.now }
+    requires counts { HasCountedNothing pass.old }
     ensures pass { pass.new.home ≡ pool.now }
+    ensures counts { HasCountedNothing pass.new }
     ensures kits { IfOk result (λ v. (length v.items ≡ senders) × All (IsEmptyKit pool.now) v.items) }
 {
     let mut kits = Vec::new(alloc);

@@ -1,7 +1,7 @@
 //! The handlers of a script, and the calls that they make.
 ghost use Rattle.std.specs.Prelude.{◌≡◌, ◌<◌, ◌+◌, true, [], OnOk, OnErr};
 ghost use Rattle.run_model.specs.Senders.{looper_of as the_looper_of, gauge_handler as the_gauge_handler, handler_line};
-ghost use Rattle.handler_post.specs.Ways.{IsReady, IsSameWay};
+ghost use Rattle.handler_post.specs.Ways.{IsReady, IsSameWay, MadeNone};
 ghost use Rattle.dash_hall.specs.Growth.{own, WayGoesOn, WayTurnsOnce, WayMakes};
 ghost use Rattle.dash_hall.specs.Requests.{call_by, IfSent, IfErased};
 
@@ -110,6 +110,7 @@ pub fn make<R: Wait>(
     ensures once { WayTurnsOnce way.old way.new }
     ensures made { OnOk result (WayMakes way.old way.new (call_by handler request) []) }
     ensures none { OnErr result (own way.new.poster.now ≡ own way.old.poster.now) }
+    ensures still { OnErr result (MadeNone way.old.poster.now way.new.poster.now) }
 {
     match request {
         Request::Send {

@@ -3,6 +3,7 @@ ghost use Rattle.std.specs.Prelude.{◌≡◌, ◌<◌, ℕ, [], ◌∷◌, IfOk
 ghost use mathlib.Core.List.{IsPrefix};
 ghost use Rattle.loop_model.specs.declared.call.Call.TheVariants.{Barrier, Unbarrier};
 ghost use Rattle.frame_phases.specs.Pulses.{is_pulse_if_any};
+ghost use Rattle.handler_post.specs.Ways.{MadeNone};
 ghost use Rattle.choreographer.specs.Known.{IsOf as IsFrameOf};
 ghost use Rattle.choreographer.specs.Calls.{PulsedBy, DueBy, stamp_in};
 ghost use Rattle.dash_hall.specs.Growth.{own, GoesOn, TurnsOnce, Makes, BarsOf};
@@ -95,6 +96,7 @@ impl<'a, R: Wait, U: Uptime> Host<'a, R, U> {
         ensures made { IfOk result (λ token. Makes self.old.poster.now self.new.poster.now (Barrier 0) (token ∷ [])) }
         ensures turn { IfOk result (λ token. BarsOf self.old.poster.now self.new.poster.now self.old.now token) }
         ensures none { OnErr result (own self.new.poster.now ≡ own self.old.poster.now) }
+        ensures still { OnErr result (MadeNone self.old.poster.now self.new.poster.now) }
     {
         let mut way = Way {
             queue: self.queue,
@@ -113,6 +115,7 @@ impl<'a, R: Wait, U: Uptime> Host<'a, R, U> {
         ensures once { TurnsOnce self.old.poster.now self.new.poster.now }
         ensures made { OnOk result (Makes self.old.poster.now self.new.poster.now (Unbarrier token) []) }
         ensures none { OnErr result (own self.new.poster.now ≡ own self.old.poster.now) }
+        ensures still { OnErr result (MadeNone self.old.poster.now self.new.poster.now) }
     {
         let mut way = Way {
             queue: self.queue,

@@ -1,7 +1,9 @@
 //! What a sender needs to work with the queues of a run.
 ghost use Rattle.std.specs.Prelude.{◌≡◌, ◌<◌, [], ◌∷◌, length, OnOk};
 ghost use Rattle.dash_hall.specs.Kits.{badge_of, frame_badge_of};
-ghost use Rattle.dash_hall.specs.Dealing.{IsUnusedPoster, IsUnusedPass, IsEmptyKit, Gets, GivesPoster, GivesPass};
+ghost use Rattle.shared_queue.specs.Ends.{IsNewPoster};
+ghost use Rattle.choreographer.specs.Ends.{IsNewPass};
+ghost use Rattle.dash_hall.specs.Dealing.{HasCountedNothing, IsEmptyKit, Gets, GivesPoster, GivesPass};
 
 use choreographer::FramePass;
 use loop_model::NoMemory;
@@ -23,7 +25,7 @@ pub struct Kit {
 
 impl Kit {
     pub(crate) fn new(alloc: Global, pass: PoolPass) -> Kit
-        ensures { IsEmptyKit pass.home result }
+        ensures { HasCountedNothing pass → IsEmptyKit pass.home result }
     {
         Kit {
             posters: Vec::new(alloc),
@@ -34,7 +36,7 @@ impl Kit {
 
     /// One poster more.
     pub(crate) fn add_poster(&mut self, poster: Poster<PoolClaim>) -> Result<(), NoMemory>
-        ensures { OnOk result (IsUnusedPoster poster → Gets (badge_of poster ∷ []) [] self.old self.new) }
+        ensures { OnOk result (IsNewPoster poster → Gets (badge_of poster ∷ []) [] self.old self.new) }
     {
         self.posters.push(poster)?;
         Ok(())
@@ -42,7 +44,7 @@ impl Kit {
 
     /// One pass of a choreographer more.
     pub(crate) fn add_pass(&mut self, pass: FramePass) -> Result<(), NoMemory>
-        ensures { OnOk result (IsUnusedPass pass → Gets [] (frame_badge_of pass ∷ []) self.old self.new) }
+        ensures { OnOk result (IsNewPass pass → Gets [] (frame_badge_of pass ∷ []) self.old self.new) }
     {
         self.frames.push(pass)?;
         Ok(())

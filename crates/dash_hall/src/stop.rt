@@ -67,8 +67,8 @@ impl Model for Look {
 
 impl Look {
     /// Whether the run was given up.
-    pub fn is_stopped(self) -> bool
-        ensures { result ≡ self }
+    pub fn is_stopped(&self) -> bool
+        ensures { result ≡ self.now }
     {
         self.stopped
     }

@@ -1,5 +1,5 @@
 -- A thread that runs the lines of a block, one after another.
-use Rattle.std.proofs.Common.{◌≡◌, ◌≢◌, ℕ, ◌+◌, ◌<◌, ◌≤◌, ◌==◌, Bool, true, false, cond, List, [], ◌∷◌, ◌++◌, map, length, take, drop, get_or, sym, ap, ◌∙◌, subst, append_assoc, eq-eqb, ne_eqb}
+use Rattle.std.proofs.Common.{◌≡◌, ◌≢◌, ℕ, zero, suc, ◌+◌, ◌<◌, ◌≤◌, ◌==◌, Bool, true, false, cond, List, [], ◌∷◌, ◌++◌, map, length, take, drop, get_or, sym, ap, ◌∙◌, subst, arith, append_assoc, length-append, eq-eqb, ne_eqb}
 use Rattle.std.specs.Prelude.{filter}
 use Rattle.std.proofs.lemmas.List.{append-nil, map-append, take_all, take_more, drop_more, take-append-drop, flat_map_more}
 use Rattle.std.proofs.lemmas.List.Elements.{filter-append}
@@ -12,8 +12,17 @@ use Rattle.dash_script.specs.declared.script.Block.{Block}
 use Rattle.std.proofs.lemmas.Grind.{flat_map-append}
 use Rattle.dash_hall.specs.declared.hall.Hall.{Hall}
 use Rattle.dash_threads.specs.declared.thread.PostingThread.{PostingThread}
-use Rattle.dash_threads.specs.Threads.{IsThread, IsUpTo, Takes, Continues, HasRun, timed_in}
+use Rattle.dash_threads.specs.Threads.{IsThread, IsUpTo, Takes, Continues, one_pass_more, passes_more, HasPassed}
 use Rattle.dash_threads.proofs.ThreadLabels.{at_time}
+
+-- the lines of a thread among these, at a time
+abbrev pub timed_in : ℕ → ℕ → List Line → List Timed
+timed_in thread time ls = map (λ l. record { time = time; command = l.command }) (filter (λ l. l.thread == thread) ls)
+
+-- where all these lines come next, the thread has run those of them that are done
+abbrev pub HasRun : Mode → Script → ℕ → List Line → List Line → PostingThread → PostingThread → Type 0
+HasRun m s time all done before now = (past rest : List Timed) → past ++ (timed_in before.number time all ++ rest) ≡ lines_of before.number s.blocks
+    → IsUpTo m s past before → IsUpTo m s (past ++ timed_in before.number time done) now
 
 timed_append : (n time : ℕ) (xs ys : List Line) → timed_in n time (xs ++ ys) ≡ timed_in n time xs ++ timed_in n time ys
 timed_append n time xs ys =
@@ -69,6 +78,20 @@ pub goes_by : (m : Mode) (s : Script) (time : ℕ) (all : List Line) (i : ℕ) (
 goes_by m s time all i d l t u near is other has = λ past rest are up.
     subst (λ (ls : List Timed). IsUpTo m s (past ++ ls) u) (sym (other_more t.number time all i d l near is other)) (has past rest are up)
 
+-- one line more is one pass more
+longer : (xs ys : List Timed) (x : Timed) → ys ≡ xs ++ x ∷ [] → length ys ≡ suc (length xs)
+longer xs ys x more =
+    let all = length-append xs (x ∷ []) in
+    let same : length ys ≡ length (xs ++ x ∷ []) = ap length more in
+    let next : length ys ≡ suc (length xs) = omega (arith, all, same) in
+    next
+
+pub passes_then : (m n p : ℕ) → passes_more m (passes_more n p) ≡ passes_more (n + m) p
+passes_then zero n p = (let e : n ≡ n + 0 = omega arith in ap (λ (k : ℕ). passes_more k p) e)
+passes_then (suc m) n p =
+    let e : suc (n + m) ≡ n + suc m = omega arith in
+    ap (λ (k : ℕ). one_pass_more k) (passes_then m n p) ∙ ap (λ (k : ℕ). passes_more k p) e
+
 -- how far a thread has come in the lines of a block: it is the thread still, goes only where it went, and stays as it was where it had given up
 pub record IsAtLine (m : Mode) (s : Script) (hall : Hall) (b : Block) (i : ℕ) (t z : PostingThread) : Type 0 where
   pub thread : IsThread s hall z
@@ -76,6 +99,7 @@ pub record IsAtLine (m : Mode) (s : Script) (hall : Hall) (b : Block) (i : ℕ) 
   pub goes : z.gave_up ≡ false → t.gave_up ≡ false
   pub stays : t.gave_up ≡ true → z ≡ t
   pub made : z.gave_up ≡ false → HasRun m s b.time b.lines (take i b.lines) t z
+  pub passed : HasPassed (timed_in t.number b.time (take i b.lines)) t z
 
 abbrev pub no_line : Line
 no_line = record { thread = 0; command = Post 0 0 0 }
@@ -95,23 +119,32 @@ module _ (m : Mode) (s : Script) (hall : Hall) (b : Block) (i : ℕ) (t z : Post
     goes = at.goes;
     stays = at.stays;
     made = λ going. goes_by m s b.time b.lines i no_line (get_or ls i no_line) t z within is_line (λ own. other (own ∙ sym at.number)) (at.made going);
+    passed = λ going. at.passed going
+        ∙ ap (λ (xs : List Timed). passes_more (length xs) t.passed) (sym (other_more t.number b.time b.lines i no_line (get_or ls i no_line) within is_line (λ own. other (own ∙ sym at.number))));
   }
 
   -- the next line is its own
   pub on_line : (v : PostingThread) → (get_or ls i no_line).thread ≡ z.number → IsThread s hall v → v.number ≡ z.number → (z.gave_up ≡ true → v ≡ z)
-      → (v.gave_up ≡ false → (z.gave_up ≡ false) × Takes m s (at_time b.time (get_or ls i no_line)) z v) → IsAtLine m s hall b (i + 1) t v
-  on_line v own thread number stays takes = record {
+      → (v.gave_up ≡ false → (z.gave_up ≡ false) × Takes m s (at_time b.time (get_or ls i no_line)) z v) → (v.gave_up ≡ false → v.passed ≡ one_pass_more z.passed) → IsAtLine m s hall b (i + 1) t v
+  on_line v own thread number stays takes once = record {
     thread = thread;
     number = number ∙ at.number;
     goes = λ going. at.goes (takes going).0;
     stays = λ gone. (let still = at.stays gone in stays (ap (λ (x : PostingThread). x.gave_up) still ∙ gone) ∙ still);
     made = λ going. (let k = takes going in goes_on m s b.time b.lines i no_line (get_or ls i no_line) t z v within is_line (own ∙ at.number) at.number (at.made k.0) k.1);
+    passed = λ going. (let k = takes going in
+        once going ∙ (ap (λ (n : ℕ). one_pass_more n) (at.passed k.0)
+        ∙ ap (λ (n : ℕ). passes_more n t.passed) (sym (longer _ _ _ (own_more t.number b.time b.lines i no_line (get_or ls i no_line) within is_line (own ∙ at.number))))));
   }
 
 -- all lines of the block
 pub past_lines : (m : Mode) (s : Script) (hall : Hall) (b : Block) (i : ℕ) (t z : PostingThread) (ls : List Line) → ls ≡ b.lines → length ls ≤ i → IsAtLine m s hall b i t z → z.gave_up ≡ false → Continues m s b t z
 past_lines m s hall b i t z ls same far at going = λ past rest are up.
     subst (λ (xs : List Line). IsUpTo m s (past ++ timed_in t.number b.time xs) z) (take_all i b.lines (subst (λ (xs : List Line). length xs ≤ i) same far)) (at.made going past rest are up)
+
+pub past_passed : (m : Mode) (s : Script) (hall : Hall) (b : Block) (i : ℕ) (t z : PostingThread) (ls : List Line) → ls ≡ b.lines → length ls ≤ i → IsAtLine m s hall b i t z → HasPassed (lines_in t.number b) t z
+past_passed m s hall b i t z ls same far at going =
+    at.passed going ∙ ap (λ (xs : List Line). passes_more (length (timed_in t.number b.time xs)) t.passed) (take_all i b.lines (subst (λ (xs : List Line). length xs ≤ i) same far))
 
 -- one block more of all
 pub block_goes_on : (m : Mode) (s : Script) (i : ℕ) (d b : Block) (t u v : PostingThread) → i < length s.blocks → b ≡ get_or s.blocks i d → u.number ≡ t.number
@@ -126,3 +159,15 @@ block_goes_on m s i d b t u v near is number so_far on begun =
     subst (λ (k : ℕ). (p r : List Timed) → p ++ (lines_in k b ++ r) ≡ lines_of k bs → IsUpTo m s p u → IsUpTo m s (p ++ lines_in k b) v) number on in
     let more : lines_of n (take i bs) ++ lines_in n b ≡ lines_of n (take (i + 1) bs) = flat_map_more (lines_in n) [] (take i bs) b ∙ ap (lines_of n) (ap (λ (x : Block). take i bs ++ x ∷ []) is ∙ sym (take_more bs i d near)) in
     subst (λ (ls : List Timed). IsUpTo m s ls v) more (goes (lines_of n (take i bs)) (lines_of n rest) whole (so_far begun))
+
+pub block_passed : (s : Script) (i : ℕ) (d b : Block) (t u v : PostingThread) → i < length s.blocks → b ≡ get_or s.blocks i d → u.number ≡ t.number
+    → u.passed ≡ passes_more (length (lines_of t.number (take i s.blocks))) t.passed → v.passed ≡ passes_more (length (lines_in u.number b)) u.passed
+    → v.passed ≡ passes_more (length (lines_of t.number (take (i + 1) s.blocks))) t.passed
+block_passed s i d b t u v near is number so_far on =
+    let bs = s.blocks in
+    let n = t.number in
+    let xs = lines_of n (take i bs) in
+    let ys = lines_in n b in
+    let more : xs ++ ys ≡ lines_of n (take (i + 1) bs) = flat_map_more (lines_in n) [] (take i bs) b ∙ ap (lines_of n) (ap (λ (x : Block). take i bs ++ x ∷ []) is ∙ sym (take_more bs i d near)) in
+    on ∙ ((λ j. passes_more (length (lines_in (number j) b)) (so_far j))
+    ∙ (passes_then (length ys) (length xs) t.passed ∙ ap (λ (k : ℕ). passes_more k t.passed) (sym (length-append xs ys) ∙ ap length more)))

@@ -16,7 +16,7 @@ use Rattle.dash_hall.proofs.Badges.{alike_length, alike_at}
 use Rattle.dash_hall.proofs.Clocking.{if_free}
 use Rattle.dash_script.specs.declared.script.Command.{Command}
 use Rattle.dash_threads.specs.declared.thread.PostingThread.{PostingThread}
-use Rattle.dash_threads.specs.Threads.{HasAsked, HasTurned, labels_kept, tokens_kept, IsUpTo, Takes, TakesAt, ThreadKeeps, known_of, HaveSeenSame}
+use Rattle.dash_threads.specs.Threads.{HasAsked, HasTurned, labels_kept, tokens_kept, IsUpTo, Takes, TakesAt, ThreadKeeps, known_of, HaveSeenSame, one_pass_more}
 
 module _ (ps ps' : List Sender) (same : HaveSeenSame ps ps') (q : ℕ) (d : Sender) (near : q < length ps') where
   known_same : known_of (get_or ps' q d) ≡ known_of (get_or ps q d)
@@ -57,6 +57,11 @@ up_to_still m s past a b k up =
       turned = subst (λ (fs : List Pass). HasTurned past fs) (sym frames) up.turned;
     }
 
+-- what is so anyway is so of an answer
+pub some_so : {A : Type 0} (o : Option A) (P : Type 0) → P → IfSome o (λ x. P)
+some_so None P h = tt
+some_so (Some x) P h = h
+
 -- a command that was run at a moment that its line may have is the line's
 pub takes_at : (m : Mode) (s : Script) (time : ℕ) (c : Command) (u v w : PostingThread) (now : Option ℕ) (passed : ℕ) → m.lockstep ≡ false → v ≡ record u { passed = passed } → IfSome now (IsUptime m time)
     → IsSomeAnd now (λ n. TakesAt false s n c v w) → Takes m s (record { time = time; command = c }) u w
@@ -66,6 +71,11 @@ takes_at m s time c u v w (Some n) passed free same may at = subst (λ (z : Post
 -- one that has given up waits for nothing and runs nothing
 pub stays_waited : (u v w : PostingThread) → (u.gave_up ≡ true → v ≡ u) → (v.gave_up ≡ true → w ≡ v) → u.gave_up ≡ true → w ≡ u
 stays_waited u v w waited ran up = ran (ap (λ (z : PostingThread). z.gave_up) (waited up) ∙ up) ∙ waited up
+
+-- a wait for a line that was run came to the gate once
+pub passed_waited : (u v w : PostingThread) (now : Option ℕ) (Q : ℕ → Type 0) → IfSome now (λ n. v.passed ≡ one_pass_more u.passed) → IsSomeAnd now Q → w.passed ≡ v.passed → w.passed ≡ one_pass_more u.passed
+passed_waited u v w None Q once at same = absurd at
+passed_waited u v w (Some n) Q once at same = same ∙ once
 
 -- what was run behind a wait is the line's
 pub takes_waited : (m : Mode) (s : Script) (hall : Hall) (time : ℕ) (c : Command) (u v w : PostingThread) (now : Option ℕ) → m.lockstep ≡ false → hall.lockstep ≡ false → v ≡ record u { passed = v.passed } → IfSome now (IsUptime m time)

@@ -1,8 +1,7 @@
 -- A thread of a script, and how far it has come.
-use Rattle.std.specs.Prelude.{◌≡◌, ◌≢◌, ◌<◌, ℕ, ◌==◌, Bool, false, List, [], ◌∷◌, ◌++◌, length, slice_index_or, Option, Some, None, is_some, map, filter, if◌then◌else◌}
+use Rattle.std.specs.Prelude.{◌≡◌, ◌≢◌, ◌<◌, ◌+◌, ◌-◌, ◌^◌, min, ℕ, zero, suc, ◌==◌, Bool, false, List, [], ◌∷◌, ◌++◌, length, slice_index_or, Option, Some, None, is_some, map, if◌then◌else◌}
 use Rattle.std.specs.List.{filter_map}
 use Rattle.dash_script.specs.declared.script.Block.{Block}
-use Rattle.dash_script.specs.declared.script.Line.{Line}
 use Rattle.dash_script.specs.declared.script.Script.{Script}
 use Rattle.looper_run.specs.Holding.{Sender}
 use Rattle.choreographer.specs.Known.{Known as Pass}
@@ -42,7 +41,8 @@ HasCalled m s past thread posters = (q : ℕ) (d : Sender) → q < length poster
 abbrev pub AreByClock : Mode → List Sender → Type 0
 AreByClock m posters = (q : ℕ) (d : Sender) → q < length posters → IsByClock m (slice_index_or posters q d)
 
--- it has asked each choreographer for the posts and removals of frame callbacks that these lines ask for, in order, and for no others; in free mode the due times are left open
+-- it has asked each choreographer for the posts and removals of frame callbacks that these lines ask for, in order, and for no others; in free mode the due
+-- times are left open
 abbrev pub HasAsked : Mode → List Timed → List Pass → Type 0
 HasAsked m past frames = (q : ℕ) (d : Pass) → q < length frames
     → map (as_told m.lockstep) (asks_of (slice_index_or frames q d)) ≡ map (as_told m.lockstep) (lines_ask q past)
@@ -78,15 +78,6 @@ IsUpTo m s past t = Progress m s past t.number t.barriers.items t.kit.posters.it
 abbrev pub Continues : Mode → Script → Block → PostingThread → PostingThread → Type 0
 Continues m s b before after = (past rest : List Timed) → past ++ (lines_in before.number b ++ rest) ≡ lines_of before.number s.blocks
     → IsUpTo m s past before → IsUpTo m s (past ++ lines_in before.number b) after
-
--- the lines of a thread among these, at a time
-abbrev pub timed_in : ℕ → ℕ → List Line → List Timed
-timed_in thread time ls = map (λ l. record { time = time; command = l.command }) (filter (λ l. l.thread == thread) ls)
-
--- where all these lines come next, the thread has run those of them that are done
-abbrev pub HasRun : Mode → Script → ℕ → List Line → List Line → PostingThread → PostingThread → Type 0
-HasRun m s time all done before now = (past rest : List Timed) → past ++ (timed_in before.number time all ++ rest) ≡ lines_of before.number s.blocks
-    → IsUpTo m s past before → IsUpTo m s (past ++ timed_in before.number time done) now
 
 -- where this line comes next among the thread's lines, the thread has run it too
 abbrev pub Takes : Mode → Script → Timed → PostingThread → PostingThread → Type 0
@@ -132,6 +123,19 @@ CalledIf command (Some p) before after = Called command p before after
 -- a command's call was made, where it plans one
 abbrev pub MakesPlanned : Script → ℕ → Command → PostingThread → PostingThread → Type 0
 MakesPlanned s u command before after = CalledIf command (call_planned s before.barriers.items u command) before after
+
+-- one pass of the gate more, where the count isn't at its end
+abbrev pub one_pass_more : ℕ → ℕ
+one_pass_more passed = min (passed + 1) (2 ^ 64 - 1)
+
+-- so many passes more
+abbrev pub passes_more : ℕ → ℕ → ℕ
+passes_more zero passed = passed
+passes_more (suc n) passed = one_pass_more (passes_more n passed)
+
+-- unless it has given up, the thread came to the gate once for each of these lines
+abbrev pub HasPassed : List Timed → PostingThread → PostingThread → Type 0
+HasPassed lines before after = after.gave_up ≡ false → after.passed ≡ passes_more (length lines) before.passed
 
 -- a thread that has run nothing yet
 abbrev pub HasBegun : Mode → Script → PostingThread → Type 0

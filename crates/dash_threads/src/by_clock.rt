@@ -2,8 +2,9 @@
 ghost use Rattle.std.specs.Prelude.{◌≡◌, true, false, IfSome, IsSomeAnd};
 ghost use Rattle.dash_script.specs.Reading.{HasText};
 ghost use Rattle.run_model.specs.Moments.{in_free_mode, IsUptime};
+ghost use Rattle.run_model.specs.Planned.{lines_in, lines_of};
 ghost use Rattle.dash_hall.specs.Kits.{IsHall};
-ghost use Rattle.dash_threads.specs.Threads.{IsThread, TakesAt, Continues, RunsAll, ThreadKeeps, HaveSeenSame};
+ghost use Rattle.dash_threads.specs.Threads.{IsThread, TakesAt, Continues, RunsAll, ThreadKeeps, HaveSeenSame, one_pass_more, HasPassed};
 
 use crate::thread::{PostingThread, Timed};
 use dash_hall::{Hall, Timer};
@@ -22,8 +23,8 @@ struct Pace<'a, G: Gate, C: Clock> {
 
 impl PostingThread {
     /// Runs all its commands, those of a block in the order of their lines and none before the block's time in milliseconds. Each waits
-    /// for that time, passes the gate, and goes by a moment of the clock. Where one finds no memory the thread gives the run up; where the
-    /// run is given up it gives up too. Behind either it runs none.
+    /// for that time, passes the gate, and goes by a moment of the clock. Where the run is given up, or one finds no memory, the thread
+    /// gives up. One that has given up stays as it is.
     pub fn run_by_clock<R: Wait + time::Clock, C: Clock, G: Gate>(
         &mut self,
         rt: &R,
@@ -42,6 +43,7 @@ impl PostingThread {
         ensures goes { self.new.gave_up ≡ false → self.old.gave_up ≡ false }
         ensures stays { self.old.gave_up ≡ true → self.new ≡ self.old }
         ensures made { self.new.gave_up ≡ false → RunsAll (in_free_mode (C.shows timer.now.clock.now) timer.now.start) script.now self.old self.new }
+        ensures passed { HasPassed (lines_of self.old.number script.now.blocks) self.old self.new }
     {
         let pace = Pace { gate, timer };
         for block in script.blocks.as_slice() {
@@ -69,6 +71,7 @@ impl PostingThread {
         ensures stays { self.old.gave_up ≡ true → self.new ≡ self.old }
         ensures made { self.new.gave_up ≡ false
             → Continues (in_free_mode (C.shows pace.now.timer.now.clock.now) pace.now.timer.now.start) script.now block.now self.old self.new }
+        ensures passed { HasPassed (lines_in self.old.number block.now) self.old self.new }
     {
         for line in block.lines.as_slice() {
             if line.thread == self.number {
@@ -88,6 +91,7 @@ impl PostingThread {
         time: u64,
     ) -> Option<u64>
         ensures same { self.new ≡ record self.old { passed = self.new.passed } }
+        ensures passed { IfSome result (λ now. self.new.passed ≡ one_pass_more self.old.passed) }
         ensures stays { self.old.gave_up ≡ true → self.new ≡ self.old }
         ensures moment { IfSome result (IsUptime (in_free_mode (C.shows pace.now.timer.now.clock.now) pace.now.timer.now.start) time) }
     {
@@ -116,6 +120,7 @@ impl PostingThread {
         requires thread { IsThread script.now hall.now self.old }
         ensures thread { IsThread script.now hall.now self.new }
         ensures number { self.new.number ≡ self.old.number }
+        ensures passed { self.new.passed ≡ self.old.passed }
         ensures stays { self.old.gave_up ≡ true → self.new ≡ self.old }
         ensures made { self.new.gave_up ≡ false → (self.old.gave_up ≡ false)
             × IsSomeAnd now (λ u. TakesAt hall.now.lockstep script.now u command self.old self.new) }

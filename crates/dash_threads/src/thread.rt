@@ -6,11 +6,12 @@ ghost use Rattle.dash_script.specs.Reading.{HasText};
 ghost use Rattle.shared_queue.specs.Known.{IsOf};
 ghost use Rattle.choreographer.specs.Known.{IsOf as IsFrameOf};
 ghost use Rattle.run_model.specs.Moments.{Mode, in_lockstep};
+ghost use Rattle.run_model.specs.Planned.{lines_in};
 ghost use Rattle.dash_hall.specs.Growth.{GoesOn};
 ghost use Rattle.dash_hall.specs.Kits.{IsHall, IsUnusedKit, frame_badge_of};
 ghost use Rattle.dash_hall.specs.Hosts.{PostsFrame};
 ghost use Rattle.dash_hall.specs.Requests.{posts_barrier};
-ghost use Rattle.dash_threads.specs.Threads.{IsThread, CallsAt, with_barrier, MakesPlanned, Takes, TakesAt, Continues, HasBegun};
+ghost use Rattle.dash_threads.specs.Threads.{IsThread, CallsAt, with_barrier, MakesPlanned, Takes, TakesAt, Continues, HasBegun, one_pass_more, HasPassed};
 
 use crate::labels::Labelled;
 use crate::planned::call_for;
@@ -72,6 +73,7 @@ impl PostingThread {
         ensures number { result.number ≡ number }
         ensures kit { result.kit ≡ kit }
         ensures goes { result.gave_up ≡ false }
+        ensures passed { result.passed ≡ 0 }
         ensures begun { (m : Mode) (s : TheScript) → IsUnusedKit kit → HasBegun m s result }
     {
         PostingThread {
@@ -97,8 +99,8 @@ impl PostingThread {
         kit
     }
 
-    /// Runs its commands of a block, in the order of their lines, at the block's time in milliseconds. Each passes the gate first, and
-    /// then looks whether the run is given up. Where one finds no memory the thread gives the run up. Behind either it runs none.
+    /// Runs its commands of a block, in the order of their lines, at the block's time in milliseconds. Each passes the gate, and looks
+    /// whether the run is given up. Where it is, or one finds no memory, the thread gives up. One that has given up stays as it is.
     pub fn run_block<R: Wait, G: Gate>(
         &mut self,
         rt: &R,
@@ -116,6 +118,7 @@ impl PostingThread {
         ensures goes { self.new.gave_up ≡ false → self.old.gave_up ≡ false }
         ensures stays { self.old.gave_up ≡ true → self.new ≡ self.old }
         ensures made { self.new.gave_up ≡ false → Continues in_lockstep script.now block.now self.old self.new }
+        ensures passed { HasPassed (lines_in self.old.number block.now) self.old self.new }
     {
         for line in block.lines.as_slice() {
             if line.thread == self.number {
@@ -143,6 +146,7 @@ impl PostingThread {
         requires thread { IsThread script.now hall.now self.old }
         ensures thread { IsThread script.now hall.now self.new }
         ensures number { self.new.number ≡ self.old.number }
+        ensures passed { self.old.gave_up ≡ false → self.new.passed ≡ one_pass_more self.old.passed }
         ensures stays { self.old.gave_up ≡ true → self.new ≡ self.old }
         ensures made { self.new.gave_up ≡ false → (self.old.gave_up ≡ false)
             × Takes in_lockstep script.now (record { time = timed.now; command = timed.command }) self.old self.new }
@@ -172,15 +176,15 @@ impl PostingThread {
         requires thread { IsThread script.now hall.now self.old }
         ensures thread { IsThread script.now hall.now self.new }
         ensures number { self.new.number ≡ self.old.number }
+        ensures passed { self.new.passed ≡ self.old.passed }
         ensures heeds { look ≡ true → self.new ≡ record self.old { gave_up = true } }
         ensures made { self.new.gave_up ≡ false → TakesAt hall.now.lockstep script.now timed.now timed.command self.old self.new }
     {
-        let Timed { now, command } = timed;
         if look.is_stopped() {
             self.gave_up = true;
             return;
         }
-        if self.run(rt, alloc, hall, script, now, command).is_err() {
+        if self.run(rt, alloc, hall, script, timed, look).is_err() {
             self.give_up(rt, hall, script);
         }
     }
@@ -191,6 +195,7 @@ impl PostingThread {
         requires thread { IsThread script.now hall.now self.old }
         ensures thread { IsThread script.now hall.now self.new }
         ensures number { self.new.number ≡ self.old.number }
+        ensures passed { self.new.passed ≡ self.old.passed }
         ensures gave_up { self.new.gave_up ≡ true }
     {
         self.gave_up = true;
@@ -198,23 +203,26 @@ impl PostingThread {
         self.nudge(rt, hall, script, 0);
     }
 
-    /// Runs a command at this uptime, in milliseconds.
+    /// Runs a command at this uptime, in milliseconds, by a look that found the run going on. A look is good for one command.
     fn run<R: Wait>(
         &mut self,
         rt: &R,
         alloc: Global,
         hall: &Hall,
         script: &Script,
-        now: u64,
-        command: Command,
+        timed: Timed,
+        look: Look,
     ) -> Result<(), NoMemory>
         requires text { HasText script.now }
         requires hall { IsHall script.now hall.now }
         requires thread { IsThread script.now hall.now self.old }
+        requires heeds { look ≡ false }
         ensures thread { IsThread script.now hall.now self.new }
         ensures number { self.new.number ≡ self.old.number }
-        ensures made { OnOk result (TakesAt hall.now.lockstep script.now now command self.old self.new) }
+        ensures passed { self.new.passed ≡ self.old.passed }
+        ensures made { OnOk result (TakesAt hall.now.lockstep script.now timed.now timed.command self.old self.new) }
     {
+        let Timed { now, command } = timed;
         match command {
             Command::Frame {
                 looper,
@@ -228,15 +236,15 @@ impl PostingThread {
                     id,
                     delay,
                 };
-                self.post_frame(rt, alloc, hall, script, looper, post)
+                self.post_frame(rt, alloc, hall, script, looper, post, &look)
             }
             Command::Unframe { looper, phase, id } => {
-                self.remove_frame(rt, hall, script, looper, phase, id)
+                self.remove_frame(rt, hall, script, looper, phase, id, &look)
             }
-            Command::Idle { .. } => hand_in(rt, hall, command),
-            Command::Watch { .. } => hand_in(rt, hall, command),
-            Command::Event { .. } => hand_in(rt, hall, command),
-            _ => self.make_call(rt, alloc, hall, script, now, command),
+            Command::Idle { .. } => hand_in(rt, hall, command, &look),
+            Command::Watch { .. } => hand_in(rt, hall, command, &look),
+            Command::Event { .. } => hand_in(rt, hall, command, &look),
+            _ => self.make_call(rt, alloc, hall, script, timed, &look),
         }
     }
 
@@ -247,15 +255,18 @@ impl PostingThread {
         alloc: Global,
         hall: &Hall,
         script: &Script,
-        now: u64,
-        command: Command,
+        timed: Timed,
+        look: &Look,
     ) -> Result<(), NoMemory>
         requires hall { IsHall script.now hall.now }
         requires thread { IsThread script.now hall.now self.old }
+        requires heeds { look.now ≡ false }
         ensures thread { IsThread script.now hall.now self.new }
         ensures number { self.new.number ≡ self.old.number }
-        ensures made { OnOk result (MakesPlanned script.now now command self.old self.new) }
+        ensures passed { self.new.passed ≡ self.old.passed }
+        ensures made { OnOk result (MakesPlanned script.now timed.now timed.command self.old self.new) }
     {
+        let Timed { now, command } = timed;
         let Some(planned) = call_for(script, self.barriers.as_slice(), now, command) else {
             return Ok(());
         };
@@ -277,6 +288,7 @@ impl PostingThread {
         requires thread { IsThread script.now hall.now self.old }
         ensures thread { IsThread script.now hall.now self.new }
         ensures number { self.new.number ≡ self.old.number }
+        ensures passed { self.new.passed ≡ self.old.passed }
         ensures made { IfOk result (λ token. CallsAt looper call token self.old.kit.posters.items self.new.kit.posters.items) }
         ensures token { IfOk result (λ token. looper < length self.old.kit.posters.items → is_some token ≡ posts_barrier call) }
         ensures barriers { self.new.barriers ≡ self.old.barriers }
@@ -301,6 +313,7 @@ impl PostingThread {
     fn keep(&mut self, command: Command, token: Option<u64>) -> Result<(), NoMemory>
         ensures kit { self.new.kit ≡ self.old.kit }
         ensures number { self.new.number ≡ self.old.number }
+        ensures passed { self.new.passed ≡ self.old.passed }
         ensures kept { OnOk result (self.new.barriers.items ≡ with_barrier self.old.barriers.items command token) }
     {
         let Command::Barrier { looper, label } = command else {
@@ -326,12 +339,15 @@ impl PostingThread {
         script: &Script,
         looper: u32,
         post: FramePost,
+        look: &Look,
     ) -> Result<(), NoMemory>
         requires text { HasText script.now }
         requires hall { IsHall script.now hall.now }
         requires thread { IsThread script.now hall.now self.old }
+        requires heeds { look.now ≡ false }
         ensures thread { IsThread script.now hall.now self.new }
         ensures number { self.new.number ≡ self.old.number }
+        ensures passed { self.new.passed ≡ self.old.passed }
         ensures made { OnOk result (TakesAt hall.now.lockstep script.now post.now (Frame looper post.phase post.id post.delay) self.old self.new) }
     {
         let place = looper as usize;
@@ -370,12 +386,15 @@ impl PostingThread {
         looper: u32,
         phase: u32,
         id: u32,
+        look: &Look,
     ) -> Result<(), NoMemory>
         requires text { HasText script.now }
         requires hall { IsHall script.now hall.now }
         requires thread { IsThread script.now hall.now self.old }
+        requires heeds { look.now ≡ false }
         ensures thread { IsThread script.now hall.now self.new }
         ensures number { self.new.number ≡ self.old.number }
+        ensures passed { self.new.passed ≡ self.old.passed }
         ensures made { OnOk result ((now : ℕ) → TakesAt hall.now.lockstep script.now now (Unframe looper phase id) self.old self.new) }
     {
         let place = looper as usize;
@@ -432,7 +451,9 @@ fn post_frame<R: Wait>(
 }
 
 /// Adds an idle handler, watches a descriptor or hands in an event.
-fn hand_in<R: Wait>(rt: &R, hall: &Hall, command: Command) -> Result<(), NoMemory> {
+fn hand_in<R: Wait>(rt: &R, hall: &Hall, command: Command, look: &Look) -> Result<(), NoMemory>
+    requires heeds { look.now ≡ false }
+{
     match command {
         Command::Idle { looper, id, keep } => {
             if let Some(sources) = hall.sources.get(looper as usize) {

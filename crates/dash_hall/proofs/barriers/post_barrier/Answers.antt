@@ -1,10 +1,10 @@
-use Rattle.std.proofs.Common.{sym, ◌∙◌, subst, arith, None}
+use Rattle.std.proofs.Common.{refl, sym, ◌∙◌, subst, arith, None, inl}
 use Rattle.message_pool.specs.Passes.{Node}
 use Rattle.handler_post.specs.Supply.{Obtains}
 use Rattle.handler_post.proofs.Supplies.{none_was_free, of_pooled, of_fresh}
 use Rattle.dash_hall.proofs.Slots.{in_vain_gives_back}
 use Rattle.dash_hall.proofs.Growing.{Keeps, one_turn, stays}
-use Rattle.dash_hall.proofs.Calling.{posts_barrier, posts_no_barrier, answers_back, returned_back}
+use Rattle.dash_hall.proofs.Calling.{posts_barrier, posts_no_barrier, bars_still, answers_back, returned_back}
 use Rattle.dash_hall.proofs.barriers.post_barrier.Goals as goal
 use Rattle.dash_hall.proofs.barriers.post_barrier.Goals.{in-Pooled, in-Fresh}
 
@@ -68,3 +68,9 @@ returns-in-Token-clause-once g c = one_turn _ _ _ _ c.in-Token.ensures.2
 
 pub returns-in-NoMemory-post_barrier-clause-once : goal.returns-in-NoMemory-post_barrier-clause-once
 returns-in-NoMemory-post_barrier-clause-once g c = one_turn _ _ _ _ c.in-NoMemory-post_barrier.ensures.2
+
+pub returns-in-NoMemory-clause-still : goal.returns-in-NoMemory-clause-still
+returns-in-NoMemory-clause-still g c = inl refl
+
+pub returns-in-NoMemory-post_barrier-clause-still : goal.returns-in-NoMemory-post_barrier-clause-still
+returns-in-NoMemory-post_barrier-clause-still g c = bars_still c.args.now c.match-obtain.node c.in-NoMemory-post_barrier.node _ _ c.in-NoMemory-post_barrier.ensures

@@ -62,3 +62,6 @@ returns-in-NotAllowed-clause-once g c = one_turn _ _ _ _ c.in-NotAllowed.ensures
 
 pub returns-in-NoMemory-clause-once : goal.returns-in-NoMemory-clause-once
 returns-in-NoMemory-clause-once g c = one_turn _ _ _ _ c.in-NoMemory.ensures.done.2
+
+pub returns-in-NoMemory-clause-refused : goal.returns-in-NoMemory-clause-refused
+returns-in-NoMemory-clause-refused g c = (c.in-NoMemory.ensures.done, refl)

@@ -1,6 +1,6 @@
 use Rattle.std.proofs.Common.{refl, sym, ◌∙◌, arith}
 use Rattle.dash_hall.proofs.Growing.{Keeps, one_turn}
-use Rattle.dash_hall.proofs.Calling.{unbars, unbars_none, unbars_not, returned_back}
+use Rattle.dash_hall.proofs.Calling.{unbars, unbars_none, unbars_not, unbars_still, returned_back}
 use Rattle.dash_hall.proofs.barriers.remove_barrier.Goals as goal
 
 pub returns-in-Unbarriered-clause-on : goal.returns-in-Unbarriered-clause-on
@@ -47,3 +47,6 @@ returns-in-NotPosted-clause-once g c = one_turn _ _ _ _ c.in-NotPosted.ensures.d
 
 pub returns-in-NoMemory-clause-once : goal.returns-in-NoMemory-clause-once
 returns-in-NoMemory-clause-once g c = one_turn _ _ _ _ c.in-NoMemory.ensures.done.2
+
+pub returns-in-NoMemory-clause-still : goal.returns-in-NoMemory-clause-still
+returns-in-NoMemory-clause-still g c = unbars_still c.args.token _ _ c.in-NoMemory.ensures.done

@@ -4,7 +4,8 @@ use Rattle.std.proofs.lemmas.List.{nil_from_length, length-set}
 use Rattle.shared_queue.proofs.Gathers.{regrouped}
 use Rattle.dash_hall.specs.declared.kit.Kit.{Kit}
 use Rattle.dash_hall.specs.Kits.{frame_badge_of}
-use Rattle.dash_hall.specs.Dealing.{Gets, IsUnusedPass, DealsPasses}
+use Rattle.choreographer.specs.Ends.{IsNewPass}
+use Rattle.dash_hall.specs.Dealing.{Gets, DealsPasses}
 use Rattle.dash_hall.proofs.HallSteps.{holder_within, passes_more, passes_all}
 use Rattle.dash_hall.proofs.hall.deal_passes.Goals as goal
 
@@ -22,14 +23,14 @@ loop-pass-preserved c =
     let held = c.holder.ensures in
     let few = holder_within s c.args.looper at.number c.requires.looper in
     let within : c.holder.result < length at.kits.items = omega (arith, counts, kits, held, few) in
-    let got : IsUnusedPass p → Gets [] (frame_badge_of p ∷ []) c.index_mut.result.now c.add_pass.new.self = c.in_ok-add_pass.ensures in
+    let got : IsNewPass p → Gets [] (frame_badge_of p ∷ []) c.index_mut.result.now c.add_pass.new.self = c.in_ok-add_pass.ensures in
     record {
       parts = regrouped at.yielded _ _ _ p steps at.invariant.parts;
       long = let was = at.invariant.long in let gone = c.in-Some.ensures.steps.1 in let short = ap length steps in omega arith;
       number = let more = length-append at.yielded (p ∷ []) in omega (arith, more, number);
       kits = length-set at.kits.items c.holder.result c.add_pass.new.self ∙ kits;
       dealt = passes_more s c.args.looper at.number _ at.yielded rest p c.args.kits.now.items at.kits.items _ c.holder.result c.index_mut.result.now c.add_pass.new.self parts number held within refl
-          (subst (λ (x : Kit). IsUnusedPass p → Gets [] (frame_badge_of p ∷ []) x c.add_pass.new.self) c.index_mut.ensures.value got) at.invariant.dealt;
+          (subst (λ (x : Kit). IsNewPass p → Gets [] (frame_badge_of p ∷ []) x c.add_pass.new.self) c.index_mut.ensures.value got) at.invariant.dealt;
     }
 
 pub returns : goal.returns

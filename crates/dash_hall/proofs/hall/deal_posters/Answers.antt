@@ -4,7 +4,8 @@ use Rattle.std.proofs.lemmas.List.{nil_from_length, length-set}
 use Rattle.shared_queue.proofs.Gathers.{regrouped}
 use Rattle.dash_hall.specs.declared.kit.Kit.{Kit}
 use Rattle.dash_hall.specs.Kits.{badge_of}
-use Rattle.dash_hall.specs.Dealing.{Gets, IsUnusedPoster, DealsPosters}
+use Rattle.shared_queue.specs.Ends.{IsNewPoster}
+use Rattle.dash_hall.specs.Dealing.{Gets, DealsPosters}
 use Rattle.dash_hall.proofs.HallSteps.{within_parts, posters_more, posters_all}
 use Rattle.dash_hall.proofs.hall.deal_posters.Goals as goal
 
@@ -22,14 +23,14 @@ loop-poster-preserved c =
     let counts : length c.args.posters.items ≡ length c.args.kits.now.items = c.requires in
     let kits = at.invariant.kits in
     let within : at.place < length at.kits.items = omega (arith, early, dealt, counts, kits) in
-    let got : IsUnusedPoster p → Gets (badge_of p ∷ []) [] c.index_mut.result.now c.add_poster.new.self = c.in_ok-add_poster.ensures in
+    let got : IsNewPoster p → Gets (badge_of p ∷ []) [] c.index_mut.result.now c.add_poster.new.self = c.in_ok-add_poster.ensures in
     record {
       parts = regrouped at.yielded _ _ _ p steps at.invariant.parts;
       long = let was = at.invariant.long in let gone = c.in-Some.ensures.steps.1 in let short = ap length steps in omega arith;
       place = let more = length-append at.yielded (p ∷ []) in omega (arith, more, place);
       kits = length-set at.kits.items at.place c.add_poster.new.self ∙ kits;
       dealt = posters_more at.place _ at.yielded rest p c.args.kits.now.items at.kits.items _ c.index_mut.result.now c.add_poster.new.self parts place within refl
-          (subst (λ (x : Kit). IsUnusedPoster p → Gets (badge_of p ∷ []) [] x c.add_poster.new.self) c.index_mut.ensures.value got) at.invariant.dealt;
+          (subst (λ (x : Kit). IsNewPoster p → Gets (badge_of p ∷ []) [] x c.add_poster.new.self) c.index_mut.ensures.value got) at.invariant.dealt;
     }
 
 pub returns : goal.returns

@@ -1,7 +1,7 @@
 use Rattle.std.proofs.Common.{◌+◌, sym, subst, arith}
 use Rattle.run_model.specs.Moments.{in_lockstep}
 use Rattle.dash_threads.specs.declared.thread.PostingThread.{PostingThread}
-use Rattle.dash_threads.proofs.ThreadBlocks.{IsAtLine, by_line, on_line, past_lines}
+use Rattle.dash_threads.proofs.ThreadBlocks.{IsAtLine, by_line, on_line, past_lines, past_passed}
 use Rattle.dash_threads.proofs.thread.PostingThread.run_block.Goals as goal
 use Rattle.dash_threads.proofs.thread.PostingThread.run_block.Goals.{then-line-self, else-line-self}
 
@@ -15,7 +15,7 @@ loop-line-preserved g c =
     let lines = c.as_slice-line-items in
     elim c.if-line-self.branch [
       | then-line-self w ↦ subst (λ (z : PostingThread). IsAtLine in_lockstep s hall b (here.line-index + 1) t z) (sym w.self-is)
-          (on_line in_lockstep s hall b here.line-index t here.self lines.result.now lines.ensures (omega (arith, c.loop-line-test.true)) here.invariant w.run_line.new.self w.if-line-self.true w.run_line.ensures.thread w.run_line.ensures.number w.run_line.ensures.stays w.run_line.ensures.made)
+          (on_line in_lockstep s hall b here.line-index t here.self lines.result.now lines.ensures (omega (arith, c.loop-line-test.true)) here.invariant w.run_line.new.self w.if-line-self.true w.run_line.ensures.thread w.run_line.ensures.number w.run_line.ensures.stays w.run_line.ensures.made (λ going. w.run_line.ensures.passed (w.run_line.ensures.made going).0))
       | else-line-self w ↦ subst (λ (z : PostingThread). IsAtLine in_lockstep s hall b (here.line-index + 1) t z) (sym w.self-is)
           (by_line in_lockstep s hall b here.line-index t here.self lines.result.now lines.ensures (omega (arith, c.loop-line-test.true)) here.invariant w.if-line-self.false)
     ]
@@ -23,3 +23,7 @@ loop-line-preserved g c =
 pub returns-clause-made : goal.returns-clause-made
 returns-clause-made g c =
     past_lines in_lockstep c.args.script.now c.args.hall.now c.args.block.now c.loop-line.line-index c.args.self.now c.loop-line.self c.as_slice-line-items.result.now c.as_slice-line-items.ensures (omega (arith, c.loop-line-test.false)) c.loop-line.invariant
+
+pub returns-clause-passed : goal.returns-clause-passed
+returns-clause-passed g c =
+    past_passed in_lockstep c.args.script.now c.args.hall.now c.args.block.now c.loop-line.line-index c.args.self.now c.loop-line.self c.as_slice-line-items.result.now c.as_slice-line-items.ensures (omega (arith, c.loop-line-test.false)) c.loop-line.invariant

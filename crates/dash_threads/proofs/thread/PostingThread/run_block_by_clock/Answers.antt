@@ -1,8 +1,8 @@
 use Rattle.std.proofs.Common.{◌+◌, ◌∙◌, refl, sym, ap, subst, arith}
 use Rattle.run_model.specs.Moments.{Mode, in_free_mode}
 use Rattle.dash_threads.specs.declared.thread.PostingThread.{PostingThread}
-use Rattle.dash_threads.proofs.ThreadBlocks.{IsAtLine, by_line, on_line, past_lines}
-use Rattle.dash_threads.proofs.ThreadNudges.{stays_waited, takes_waited}
+use Rattle.dash_threads.proofs.ThreadBlocks.{IsAtLine, by_line, on_line, past_lines, past_passed}
+use Rattle.dash_threads.proofs.ThreadNudges.{stays_waited, takes_waited, passed_waited}
 use Rattle.dash_threads.proofs.thread.PostingThread.run_block_by_clock.Goals as goal
 use Rattle.dash_threads.proofs.thread.PostingThread.run_block_by_clock.Goals.{then-line-self, else-line-self}
 
@@ -23,7 +23,8 @@ loop-line-preserved g c =
           let ran = w.run_at.ensures in
           on_line m s hall b i t here.self lines.result.now lines.ensures (omega (arith, c.loop-line-test.true)) here.invariant w.run_at.new.self w.if-line-self.true ran.thread (ran.number ∙ ap (λ (z : PostingThread). z.number) waited.same)
           (stays_waited here.self v w.run_at.new.self waited.stays ran.stays)
-          (takes_waited m s hall b.time _ here.self v w.run_at.new.self w.wait_for-now.result refl c.requires.mode waited.same waited.moment ran.made))
+          (takes_waited m s hall b.time _ here.self v w.run_at.new.self w.wait_for-now.result refl c.requires.mode waited.same waited.moment ran.made)
+          (λ going. passed_waited here.self v w.run_at.new.self w.wait_for-now.result _ waited.passed (ran.made going).1 ran.passed))
       | else-line-self w ↦ subst (λ (z : PostingThread). IsAtLine m s hall b (i + 1) t z) (sym w.self-is) (by_line m s hall b i t here.self lines.result.now lines.ensures (omega (arith, c.loop-line-test.true)) here.invariant w.if-line-self.false)
     ]
 
@@ -31,3 +32,8 @@ pub returns-clause-made : goal.returns-clause-made
 returns-clause-made g c =
     let m : Mode = in_free_mode (g.C.Clock.shows c.args.pace.now.timer.now.clock.now) c.args.pace.now.timer.now.start in
     past_lines m c.args.script.now c.args.hall.now c.args.block.now c.loop-line.line-index c.args.self.now c.loop-line.self c.as_slice-line-items.result.now c.as_slice-line-items.ensures (omega (arith, c.loop-line-test.false)) c.loop-line.invariant
+
+pub returns-clause-passed : goal.returns-clause-passed
+returns-clause-passed g c =
+    let m : Mode = in_free_mode (g.C.Clock.shows c.args.pace.now.timer.now.clock.now) c.args.pace.now.timer.now.start in
+    past_passed m c.args.script.now c.args.hall.now c.args.block.now c.loop-line.line-index c.args.self.now c.loop-line.self c.as_slice-line-items.result.now c.as_slice-line-items.ensures (omega (arith, c.loop-line-test.false)) c.loop-line.invariant

@@ -4,8 +4,8 @@ use Rattle.dash_script.specs.declared.script.Block.{Block}
 use Rattle.run_model.specs.Moments.{Mode, in_free_mode}
 use Rattle.run_model.specs.Planned.{lines_of}
 use Rattle.dash_threads.specs.declared.thread.PostingThread.{PostingThread}
-use Rattle.dash_threads.specs.Threads.{IsUpTo}
-use Rattle.dash_threads.proofs.ThreadBlocks.{block_goes_on}
+use Rattle.dash_threads.specs.Threads.{IsUpTo, passes_more}
+use Rattle.dash_threads.proofs.ThreadBlocks.{block_goes_on, block_passed}
 use Rattle.dash_threads.proofs.thread.PostingThread.run_by_clock.Goals as goal
 
 pub loop-block-preserved : goal.loop-block-preserved
@@ -23,6 +23,7 @@ loop-block-preserved g c =
       goes = λ going. c.loop-block.invariant.goes (ran.goes going);
       stays = λ gone. (let same = c.loop-block.invariant.stays gone in ran.stays (ap (λ (z : PostingThread). z.gave_up) same ∙ gone) ∙ same);
       made = λ going. block_goes_on m s i b b c.args.self.now c.loop-block.self c.run_block_by_clock.new.self near is c.loop-block.invariant.number (c.loop-block.invariant.made (ran.goes going)) (ran.made going);
+      passed = λ going. block_passed s i b b c.args.self.now c.loop-block.self c.run_block_by_clock.new.self near is c.loop-block.invariant.number (c.loop-block.invariant.passed (ran.goes going)) (ran.passed going);
     }
 
 pub returns-clause-made : goal.returns-clause-made
@@ -32,3 +33,10 @@ returns-clause-made g c = λ going begun. (
     let m : Mode = in_free_mode (g.C.Clock.shows c.args.timer.now.clock.now) c.args.timer.now.start in
     let far : length bs ≤ c.loop-block.block-index = omega (arith, ap (λ (xs : List Block). length xs) c.as_slice-block-items.ensures, c.loop-block-test.false) in
     subst (λ (xs : List Block). IsUpTo m c.args.script.now (lines_of t.number xs) c.loop-block.self) (take_all c.loop-block.block-index bs far) (c.loop-block.invariant.made going begun))
+
+pub returns-clause-passed : goal.returns-clause-passed
+returns-clause-passed g c = λ going. (
+    let t = c.args.self.now in
+    let bs = c.args.script.now.blocks in
+    let far : length bs ≤ c.loop-block.block-index = omega (arith, ap (λ (xs : List Block). length xs) c.as_slice-block-items.ensures, c.loop-block-test.false) in
+    c.loop-block.invariant.passed going ∙ ap (λ (xs : List Block). passes_more (length (lines_of t.number xs)) t.passed) (take_all c.loop-block.block-index bs far))
