@@ -268,7 +268,7 @@ frame_asks is_moment before after adds = frame_tells asked_in (λ p n t. refl) (
 
 -- a frame ran the callbacks that its client tells, at moments of the host
 pub framed_ran : (interval phases : ℕ) (is_moment : ℕ → Bool) (before after : Pass) (told : List Run) (r : Framed) → 0 < phases → FramedBy phases before after is_moment (Some []) (Some told) r → RecordsBy is_moment before after r → UnlessNoMemory r (RanFrame interval phases is_moment before after (ids_of told))
-framed_ran interval phases is_moment before after told Done some (start, time, middle, moment, turn, (batches, told_is, long, are, (y, left, numbers, batches_are, at, near, none, settled, seen_is), turns, grew)) records =
+framed_ran interval phases is_moment before after told Done some (start, time, middle, moment, turn, (batches, told_is, long, are, (y, left, numbers, batches_are, at, near, none, settled, seen_is), turns, grew, each)) records =
     let same : told ≡ runs_of batches = cc (told_is) in
     let many : length batches ≡ length (batches_since (past_of y.frames)) = ap length batches_are in
     let few : 0 < length (batches_since (past_of y.frames)) = omega (arith, some, long, many) in

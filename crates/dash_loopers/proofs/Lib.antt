@@ -23,6 +23,8 @@ pub mod LooperByClock
 pub mod LooperLoops
 pub mod LooperClock
 pub mod LooperMoments
+pub mod LooperPulses
 pub mod LooperNext
 pub mod LooperLeft
 pub mod LooperLooped
+pub mod LooperRounds

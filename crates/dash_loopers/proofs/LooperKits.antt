@@ -1,5 +1,5 @@
 -- A looper of the stage: how it begins from its kit, what a round keeps, and its kit again.
-use Rattle.std.proofs.Common.{◌≡◌, ℕ, ◌+◌, ◌-◌, ◌<◌, ◌≤◌, ◌⊎◌, true, false, ltb, List, [], ◌∷◌, map, length, get_or, Option, Some, None, refl, sym, ap, ap₂, ◌∙◌, subst, arith, inl, inr, lt-ltb, le-ltb}
+use Rattle.std.proofs.Common.{◌≡◌, ℕ, ◌+◌, ◌-◌, ◌<◌, ◌≤◌, ◌⊎◌, Bool, true, false, ltb, List, [], ◌∷◌, map, length, get_or, Option, Some, None, refl, sym, ap, ap₂, ◌∙◌, subst, arith, inl, inr, lt-ltb, le-ltb}
 use Rattle.std.specs.List.{insert, remove, slice_get, filter_map}
 use Rattle.std.specs.Option.{IsSomeAnd, option_map}
 use Rattle.std.proofs.lemmas.List.{length-map}
@@ -30,7 +30,7 @@ use Rattle.dash_hall.specs.declared.kit.Kit.{Kit}
 use Rattle.dash_loopers.specs.declared.player.Parts.{Parts}
 use Rattle.dash_loopers.specs.declared.looper.StageLooper.{StageLooper}
 use Rattle.dash_hall.specs.Kits.{Badge, badge_of, badge_for, frame_badge_of, frame_badge_for, frames_for, IsHall, IsKitOf, IsUnusedKit, queue_constants}
-use Rattle.dash_loopers.specs.Loopers.{ArePartsOf, IsPlaceOf, IsLooperOf, IsLooper, DisposesLast, setting_for, is_given_up}
+use Rattle.dash_loopers.specs.Loopers.{ArePartsOf, IsPlaceOf, IsLooperOf, IsLooper, DisposesLast, setting_in, is_given_up}
 use Rattle.dash_loopers.specs.Players.{Owner, ServesAt}
 use Rattle.dash_loopers.proofs.LooperLists.{map-remove, map-insert, insert_removed, at_same}
 use Rattle.dash_loopers.proofs.LooperPlaces.{queue_count, frames_count, queue_is}
@@ -156,16 +156,16 @@ looper_then s hall now l q parts' after last is_hall is at are same ended round 
     }
 
 -- the round that was run, by the setting of the looper's queue
-pub ran_on : (s : Script) (hall : Hall) (mode : hall.lockstep ≡ true) (now : ℕ) (l : StageLooper) (q : Shared TableId) (after : Looping) (last : Round) → IsHall s hall → IsLooper s hall l → slice_get hall.queues.items l.number ≡ Some q
-    → RoundBy q.constants.setting now l.looper.held after.held last → RoundBy (setting_for s l.number) now l.looper.held after.held last
-ran_on s hall mode now l q after last is_hall is at round =
+pub ran_on : (lockstep : Bool) (s : Script) (hall : Hall) (mode : hall.lockstep ≡ lockstep) (now : ℕ) (l : StageLooper) (q : Shared TableId) (after : Looping) (last : Round) → IsHall s hall → IsLooper s hall l → slice_get hall.queues.items l.number ≡ Some q
+    → RoundBy q.constants.setting now l.looper.held after.held last → RoundBy (setting_in lockstep s l.number) now l.looper.held after.held last
+ran_on lockstep s hall mode now l q after last is_hall is at round =
     subst (λ (c : Constants TableId). RoundBy c.setting now l.looper.held after.held last) (queue_is s hall l.number (looper_of s hall l is_hall is) l.number q at ∙ ap (λ b. queue_constants b s hall.pool l.number) mode) round
 
 -- unless it ended or gave up, it has come to wait for the first message that no barrier holds back, and none is due
-pub comes_to_wait : (s : Script) (hall : Hall) (mode : hall.lockstep ≡ true) (now : ℕ) (l : StageLooper) (q : Shared TableId) (after : Looping) (last : Round) → IsHall s hall → IsLooper s hall l → slice_get hall.queues.items l.number ≡ Some q
+pub comes_to_wait : (lockstep : Bool) (s : Script) (hall : Hall) (mode : hall.lockstep ≡ lockstep) (now : ℕ) (l : StageLooper) (q : Shared TableId) (after : Looping) (last : Round) → IsHall s hall → IsLooper s hall l → slice_get hall.queues.items l.number ≡ Some q
     → IsSameLooper l.looper.held after.held → RoundBy q.constants.setting now l.looper.held after.held last → is_ended last ≡ false → is_given_up last ≡ false
-    → WaitsBy (setting_for s l.number) now last l.looper.held.poster.view.seen after.held.poster.view.seen
-comes_to_wait s hall mode now l q after last is_hall is at same round e g =
+    → WaitsBy (setting_in lockstep s l.number) now last l.looper.held.poster.view.seen after.held.poster.view.seen
+comes_to_wait lockstep s hall mode now l q after last is_hall is at same round e g =
     subst (λ (c : Constants TableId). WaitsBy c.setting now last l.looper.held.poster.view.seen after.held.poster.view.seen)
     (queue_is s hall l.number (looper_of s hall l is_hall is) l.number q at ∙ ap (λ b. queue_constants b s hall.pool l.number) mode)
     (waits_by_round q.constants.setting now l.looper.held after.held last q.constants (same.constants ∙ (is.place.queue q at).1) round e g)

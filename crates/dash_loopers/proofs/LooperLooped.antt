@@ -24,7 +24,7 @@ use Rattle.dash_loopers.specs.Loopers.{ArePartsOf, IsLooper, is_given_up, round_
 use Rattle.dash_loopers.specs.Players.{AreSameParts}
 use Rattle.dash_loopers.specs.Played.{HasPlayedBy}
 use Rattle.dash_loopers.specs.Clocked.{ClockOwner, ServesFree, IsPlayingAt, StaysByClock}
-use Rattle.dash_loopers.specs.Looped.{HasLooped, with_parts, owner_of}
+use Rattle.dash_loopers.specs.Looped.{HasLooped, GoesOnFrom, with_parts, owner_of}
 use Rattle.dash_loopers.proofs.LooperPlaces.{are_parts_then}
 use Rattle.dash_loopers.proofs.LooperKits.{looper_of, looper_then, looper_with}
 use Rattle.dash_loopers.proofs.LooperPlayed.{unless}
@@ -59,17 +59,19 @@ looped_with m s hall began l last p q alike same h = record {
   number = h.number;
   plays = λ on. subst (λ (z : Parts). HasPlayedBy s began (with_parts l last z)) (sym (same on)) h.plays on;
   clocked = λ on. subst (λ (z : Parts). StaysByClock m began (with_parts l last z)) (sym (same on)) h.clocked on;
+  grew = h.grew;
 }
 
 module _ (shows : ℕ → Bool) (start : ℕ) (s : Script) (hall : Hall) (l : StageLooper) (is_hall : IsHall s hall) (is : IsLooper s hall l) (mode : hall.lockstep ≡ false) where
   module _ (going : (is_ended l.last ≡ false) × (is_given_up l.last ≡ false)) (q : Shared TableId) (at : slice_get hall.queues.items l.number ≡ Some q) (parts : Parts) (after : Looping) (last : Round) where
-    -- it has gone on so far as it played and looked
+    -- it has gone on so far as it played, looked and told
     looped : IsLooper s hall (with_parts (record l { looper = after }) last parts) → after.held.poster.sender ≡ l.looper.held.poster.sender
         → (is_given_up last ≡ false → IsPlayingAt (in_free_mode shows start) s l.number l after.held.poster.sender after.held.poster.view.seen after.held.journal.acts parts)
         → (is_given_up last ≡ false → (more : List Entry) × (after.held.poster.view.seen ≡ l.looper.held.poster.view.seen ++ more)
         × AreLooksBy shows start q.constants.setting l.looper.held.poster.sender l.looper.held.poster.view.seen more)
+        → (is_given_up last ≡ false → GoesOnFrom l.looper after)
         → HasLooped (in_free_mode shows start) s hall l (with_parts (record l { looper = after }) last parts)
-    looped left same plays looks =
+    looped left same plays looks grew =
         let set = q.constants.setting in
         let free = setting_free s hall l.number q mode (looper_of s hall l is_hall is) at in
         record {
@@ -78,6 +80,7 @@ module _ (shows : ℕ → Bool) (start : ℕ) (s : Script) (hall : Hall) (l : St
           plays = played_by s l parts after last (same ∙ is.own) (λ on. (plays on).plays);
           clocked = stays_by_clock (in_free_mode shows start) l after parts last (looper_within s hall l is_hall is) (λ on. (plays on).others)
               (λ on. (let w = looks on in own_by_clock shows start set free l.looper.held.poster after.held.poster w.0 same w.1 (plays on).calls w.2));
+          grew = grew;
         }
 
     module _ (n : StageLooper) (o : ClockOwner) (w : Workplace) (taken : n ≡ record l { parts = None }) (own : o ≡ owner_of (in_free_mode shows start) s hall l)
@@ -104,7 +107,8 @@ module _ (shows : ℕ → Bool) (start : ℕ) (s : Script) (hall : Hall) (l : St
           let left : RoundLeaves set now l.looper after last = subst (λ (z : StageLooper). RoundLeaves set now z.looper after last) taken leaves in
           looped_there (looped (looper_then s hall now l q parts after last is_hall is at are left.same left.ended left.round left.looks going.0 going.1) left.same.sender
           (λ on. plays_here (unless last _ on meets))
-          (λ on. (let w = round_worked set now l.looper.held after.held last on left.round in (w.more, w.seen, looks_by shows start set l.looper.held.poster.sender now shown l.looper.held.poster.view.seen w.more w.looks))))
+          (λ on. (let w = round_worked set now l.looper.held after.held last on left.round in (w.more, w.seen, looks_by shows start set l.looper.held.poster.sender now shown l.looper.held.poster.view.seen w.more w.looks)))
+          (λ on. (let w = round_worked set now l.looper.held after.held last on left.round in record { seen = (w.more, sym w.seen); acts = (w.did, sym w.acts) })))
 
       pub looped_by_loop : (called : ℕ → List Listening → List Listening → Type 0) (cap : Option ℕ) (how : Loop) → last ≡ round_of how → LoopLeaves called shows start cap q.constants.setting n.looper after how
           → UnlessLost how (IsPlayingAt o.mode o.owner.script o.owner.number o.owner.began after.held.poster.sender after.held.poster.view.seen after.held.journal.acts parts)
@@ -116,4 +120,5 @@ module _ (shows : ℕ → Bool) (start : ℕ) (s : Script) (hall : Hall) (l : St
           looped_there (looped (subst (λ (r : Round). IsLooper s hall (with_parts (record l { looper = after }) r parts)) (sym is_last)
           (looper_by_loop shows start cap called s hall l q parts after how is_hall is at are left.same left.ended left.loops left.steps going.0 going.1)) left.same.sender
           (λ on. plays_here (unless_lost how _ (lost on) meets))
-          (λ on. (let w = worked shows start cap set l.looper.held after.held how (lost on) left.loops in (w.more, w.seen, w.looks))))
+          (λ on. (let w = worked shows start cap set l.looper.held after.held how (lost on) left.loops in (w.more, w.seen, w.looks)))
+          (λ on. (let w = worked shows start cap set l.looper.held after.held how (lost on) left.loops in record { seen = (w.more, sym w.seen); acts = (w.did, sym w.acts) })))

@@ -14,6 +14,7 @@ use Rattle.loop_model.specs.declared.post.Post.{Post as PostData}
 use Rattle.loop_model.specs.declared.call.Call.{Call}
 use Rattle.loop_model.specs.declared.call.Call.TheVariants.{Post, Barrier, Unbarrier, Remove, Quit, Next, Advance, Halt}
 use Rattle.loop_model.specs.declared.entry.Entry.{Entry}
+use Rattle.loop_model.specs.declared.journal.Act.{Act}
 use Rattle.loop_model.specs.declared.journal.Route.{Route}
 use Rattle.loop_model.specs.declared.journal.Route.TheVariants.{Callback}
 use Rattle.loop_model.specs.Entries.{is_next}
@@ -234,10 +235,12 @@ looks_by shows start set k now shown past (e ∷ es) h = ((λ own. one e.call (h
     one (Advance at) is = tt
     one (Halt at) is = tt
 
--- the entries that a round saw, and its looks among them
+-- the entries that a round saw, its looks among them, and what it told
 pub record RoundWorked (set : Setting) (now : ℕ) (before after : Holding) : Type 0 where
   pub more : List Entry
+  pub did : List Act
   pub seen : after.poster.view.seen ≡ before.poster.view.seen ++ more
+  pub acts : after.journal.acts ≡ before.journal.acts ++ did
   pub looks : AreLooksAt set before.poster.sender now before.poster.view.seen more
 
 -- ---- all its posters
@@ -295,6 +298,6 @@ setting_free s hall n q mode of at = ap (λ (c : Constants TableId). c.setting.l
 
 -- what a round did, unless memory was wanting
 pub round_worked : (set : Setting) (now : ℕ) (before after : Holding) (last : Round) → is_given_up last ≡ false → RoundBy set now before after last → RoundWorked set now before after
-round_worked set now before after (Drained dispatched until) going r = record { more = r.0.more; seen = r.0.seen; looks = r.0.looks }
-round_worked set now before after (Ended dispatched) going r = record { more = r.0.more; seen = r.0.seen; looks = r.0.looks }
+round_worked set now before after (Drained dispatched until) going r = record { more = r.0.more; did = r.0.did; seen = r.0.seen; acts = r.0.acts; looks = r.0.looks }
+round_worked set now before after (Ended dispatched) going r = record { more = r.0.more; did = r.0.did; seen = r.0.seen; acts = r.0.acts; looks = r.0.looks }
 round_worked set now before after NoRoom going r = absurd cc

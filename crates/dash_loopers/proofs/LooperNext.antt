@@ -1,16 +1,17 @@
 -- A looper that asked its choreographer for the next pulse stands where it stood.
 use Rattle.std.proofs.Common.{◌≡◌, ℕ, ◌<◌, ◌≤◌, Bool, true, false, List, length, get_or, Option, Some, None, refl, sym, ap, ◌∙◌, subst, arith}
 use Rattle.std.specs.List.{insert}
-use Rattle.std.specs.Option.{IsSomeAnd}
+use Rattle.std.specs.Option.{IsSomeAnd, option_map}
 use Rattle.std.specs.Prelude.{◌+◌, ◌||◌, map}
 use mathlib.Core.List.{IsPrefix}
-use Rattle.loop_model.proofs.Prefixes.{prefix_trans, prefix_length}
+use Rattle.loop_model.proofs.Prefixes.{prefix_self, prefix_trans, prefix_length}
 use Rattle.dash_script.specs.declared.script.Script.{Script}
-use Rattle.looper_run.specs.Holding.{Sender}
+use Rattle.looper_run.specs.Holding.{Sender, Looping}
 use Rattle.looper_run.specs.Round.{is_ended}
 use Rattle.choreographer.specs.Known.{Known as Pass}
 use Rattle.choreographer.specs.Calls.{AskedBy}
 use Rattle.choreographer.proofs.Recorded.{asked_records}
+use Rattle.run_model.specs.Acts.{millis_up}
 use Rattle.run_model.specs.Loopers.{Looper}
 use Rattle.run_model.specs.FrameAsks.{asks_in, as_told}
 use Rattle.run_model.specs.Moments.{Mode}
@@ -23,6 +24,7 @@ use Rattle.dash_loopers.specs.declared.looper.StageLooper.{StageLooper}
 use Rattle.dash_loopers.specs.Loopers.{ArePartsOf, IsLooper, others_in, posters_of, is_given_up}
 use Rattle.dash_loopers.specs.Played.{AreAlike, StandsBy, ComesBy, HasPlayedBy}
 use Rattle.dash_loopers.specs.Clocked.{AreByClockOf}
+use Rattle.dash_loopers.specs.Looped.{GoesOnFrom, StaysTold, LooksForPulse}
 use Rattle.dash_loopers.proofs.FrameIds.{turn_grew}
 use Rattle.dash_loopers.proofs.LooperLoops.{plays_then}
 use Rattle.dash_loopers.proofs.LooperKits.{parts_of, others_many, looper_of, looper_with}
@@ -57,6 +59,13 @@ played_asked s l parts g r e asked = λ going text did a come. record {
       });
 }
 
+-- by the pulse that its own pass found
+pub pulse_asked : (o : Option Parts) (parts : Parts) (g : Pass) (stamp pulse : Option ℕ) → o ≡ Some parts → AskedBy parts.frames g stamp → pulse ≡ option_map millis_up stamp
+    → IsSomeAnd o (λ p. LooksForPulse p (record parts { frames = g }) pulse)
+pulse_asked o parts g stamp pulse e asked rounded =
+    subst (λ (x : Option Parts). IsSomeAnd x (λ p. LooksForPulse p (record parts { frames = g }) pulse)) (sym e)
+    (record { stamp = stamp; turn = asked; rounded = rounded; rest = refl })
+
 -- its posters are as they were
 pub posters_asked : (l : StageLooper) (parts : Parts) → l.parts ≡ Some parts → insert parts.others.items l.number l.looper.held.poster ≡ posters_of l
 posters_asked l parts e = ap (λ (o : Option Parts). insert (others_in o) l.number l.looper.held.poster) (sym e)
@@ -71,6 +80,19 @@ played_self s l = λ going text did a come. from l.parts did a come.0 come.1
         → IsSomeAnd o (ComesBy s l.number l.sender l.looper.held.poster.view.seen l.looper.held.journal.acts)
     from None did a alike h = absurd h
     from (Some parts) did a alike h = record { did = did; state = a; alike = alike; stands = h }
+
+pub grown_self : (l : StageLooper) → StaysTold l l
+grown_self l = λ going. record { seen = prefix_self l.looper.held.poster.view.seen; acts = prefix_self l.looper.held.journal.acts }
+
+-- one that asked for its pulse in between goes on from where it was
+pub grown_on : (a b k c : StageLooper) → k.looper ≡ b.looper → is_given_up b.last ≡ false → StaysTold a b → StaysTold k c → StaysTold a c
+grown_on a b k c held going first next = λ on.
+    (let x = first going in
+    let y : GoesOnFrom b.looper c.looper = subst (λ (l : Looping). GoesOnFrom l c.looper) held (next on) in
+    record {
+      seen = prefix_trans a.looper.held.poster.view.seen b.looper.held.poster.view.seen c.looper.held.poster.view.seen x.seen y.seen;
+      acts = prefix_trans a.looper.held.journal.acts b.looper.held.journal.acts c.looper.held.journal.acts x.acts y.acts;
+    })
 
 -- a looper is within its posters
 pub looper_within : (s : Script) (hall : Hall) (l : StageLooper) → IsHall s hall → IsLooper s hall l → l.number ≤ length (others_in l.parts)

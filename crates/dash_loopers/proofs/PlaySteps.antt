@@ -110,16 +110,22 @@ pulse_delivered s q now p p' a b parts parts' (Some pulse) goes (x, y, n, t, mom
 pub hosted_on : {U : Type 0} (o o' : HostOrigin U) (p p' : Sender) (b : Tally) → o' ≡ o → IsHost o' p' b → o.poster ≡ p → GoesOn p p' o.pass b
 hosted_on o o' p p' b same is began = subst (λ (z : Sender). GoesOn z p' o.pass b) began (subst (λ z. IsHost z p' b) same is).on
 
+-- what came of a pulse, as the looper's own poster and pass tell it
+pub pulse_here : {U : Type 0} (q now u : ℕ) (o o' : HostOrigin U) (p p0 p' : Sender) (f f' : Pass) (r : Option Pulse) → o' ≡ o → p0 ≡ p → u ≡ now → o.handler ≡ frame_handler q
+    → PulsedBy f f' (λ n. n == nanos_of u) (sends_by o.handler p0) (sends_by o'.handler p') r
+    → PulsedBy f f' (λ n. n == nanos_of now) (sends_by (frame_handler q) p) (sends_by (frame_handler q) p') r
+pulse_here q now u o o' p p0 p' f f' r same at moment mine pulse =
+    subst (λ (n : ℕ). PulsedBy f f' (λ m. m == nanos_of n) (sends_by (frame_handler q) p) (sends_by (frame_handler q) p') r) moment
+    (subst (λ (h : ℕ). PulsedBy f f' (λ m. m == nanos_of u) (sends_by h p) (sends_by h p') r) mine
+    (subst (λ (z : Sender). PulsedBy f f' (λ m. m == nanos_of u) (sends_by o.handler z) (sends_by o.handler p') r) at
+    (subst (λ z. PulsedBy f f' (λ m. m == nanos_of u) (sends_by o.handler p0) (sends_by z.handler p') r) same pulse)))
+
 pub pulse_hosted : {U : Type 0} (s : Script) (q now u : ℕ) (o o' : HostOrigin U) (p p0 p' : Sender) (b : Tally) (parts parts' : Parts) (r : Option Pulse) → o' ≡ o → IsHost o' p' b → o.poster ≡ p → p0 ≡ p → u ≡ now → o.handler ≡ frame_handler q
     → PulsedBy parts.frames parts'.frames (λ n. n == nanos_of u) (sends_by o.handler p0) (sends_by o'.handler p') r → parts'.root ≡ parts.root → parts'.others ≡ parts.others → parts'.fired ≡ parts.fired
     → DeliversPulse s q now (calls_of p) (calls_of p') parts parts' r
 pulse_hosted s q now u o o' p p0 p' b parts parts' r same is began at moment mine pulse root others fired =
     pulse_delivered s q now p p' o.pass b parts parts' r (hosted_on o o' p p' b same is began)
-    (subst (λ (n : ℕ). PulsedBy parts.frames parts'.frames (λ m. m == nanos_of n) (sends_by (frame_handler q) p) (sends_by (frame_handler q) p') r) moment
-    (subst (λ (h : ℕ). PulsedBy parts.frames parts'.frames (λ m. m == nanos_of u) (sends_by h p) (sends_by h p') r) mine
-    (subst (λ (z : Sender). PulsedBy parts.frames parts'.frames (λ m. m == nanos_of u) (sends_by o.handler z) (sends_by o.handler p') r) at
-    (subst (λ z. PulsedBy parts.frames parts'.frames (λ m. m == nanos_of u) (sends_by o.handler p0) (sends_by z.handler p') r) same pulse))))
-    root others fired
+    (pulse_here q now u o o' p p0 p' parts.frames parts'.frames r same at moment mine pulse) root others fired
 
 -- what holds where a call was made holds unless memory was wanting
 pub unless_made : {E : Type 0} (r : Did) (done : Result Unit E) (P Q : Type 0) → (r ≡ No → ⊥) → (r ≡ Yes → is_ok done ≡ true) → OnOk done P → (P → Q) → Unless r Q

@@ -18,7 +18,7 @@ use Rattle.dash_loopers.specs.Played.{IsPlayingBy}
 
 -- ---- what a step adds
 
--- what the poster has called since has no moment
+-- what the poster has called since has no moment, or the queue's time
 abbrev pub AddsUntimed : Sender → Sender → Type 0
 AddsUntimed before after = (m : Mode) → AddsByClock m before after
 
@@ -36,7 +36,7 @@ pub record CallsUntimed (before after : Sender) (parts parts' : Parts) : Type 0 
 abbrev pub goes_to_rules : ℕ → PostData → Bool
 goes_to_rules q m = not (m.handler == frame_handler q) && not (is_some m.obj)
 
--- a message was delivered at this moment: what the rules called has no moment, and what else was called has this one
+-- a message was delivered at this moment: what the rules called has no moment, or the queue's time, and what else was called has this one, or the queue's time
 pub record DeliversAt (q u : ℕ) (m : PostData) (before after : Sender) (parts parts' : Parts) : Type 0 where
   pub rules : goes_to_rules q m ≡ true → AddsUntimed before after
   pub timed : goes_to_rules q m ≡ false → AddsAt u before after

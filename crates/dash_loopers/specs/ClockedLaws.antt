@@ -20,7 +20,8 @@ use Rattle.dash_loopers.specs.PlayingLaws.{playing_by_others, playing_by_dispose
 use Rattle.dash_loopers.specs.Clocked.{is_call_by, CallsByClock, IsPlayingAt}
 
 -- an entry that is no call of the sender
-pub calls_beside : (m : Mode) (k : ℕ) (past es : List Entry) (e : Entry) → is_call_by k e ≡ false → CallsByClock m k past es → CallsByClock m k past (es ++ e ∷ [])
+pub calls_beside : (m : Mode) (k : ℕ) (past es : List Entry) (e : Entry) → is_call_by k e ≡ false → CallsByClock m k past es
+    → CallsByClock m k past (es ++ e ∷ [])
 calls_beside m k past es e isnt c = record {
   more = c.more ++ e ∷ [];
   seen = ap (λ (l : List Entry). l ++ e ∷ []) c.seen ∙ append_assoc past c.more (e ∷ []);
@@ -35,7 +36,8 @@ no_call_by_look k e now call = ap (λ (c : Call). (e.sender == k) && not (is_nex
 
 module _ (m : Mode) (s : Script) (q : ℕ) (began : StageLooper) where
   -- another sender's entry
-  pub playing_at_others : (k : ℕ) (es : List Entry) (e : Entry) (acts : List Act) (parts : Parts) → (e.sender ≡ k → ⊥) → IsPlayingAt m s q began k es acts parts → IsPlayingAt m s q began k (es ++ e ∷ []) acts parts
+  pub playing_at_others : (k : ℕ) (es : List Entry) (e : Entry) (acts : List Act) (parts : Parts) → (e.sender ≡ k → ⊥) → IsPlayingAt m s q began k es acts parts
+      → IsPlayingAt m s q began k (es ++ e ∷ []) acts parts
   playing_at_others k es e acts parts apart at = record {
     plays = playing_by_others s q began k es e acts parts apart at.plays;
     calls = calls_beside m k began.looper.held.poster.view.seen es e (no_call_by_others k e apart) at.calls;
@@ -43,7 +45,8 @@ module _ (m : Mode) (s : Script) (q : ℕ) (began : StageLooper) where
   }
 
   -- the looper's look that ends the queue
-  pub playing_at_disposed : (k : ℕ) (es : List Entry) (e : Entry) (time : ℕ) (acts : List Act) (parts : Parts) → e.sender ≡ k → e.call ≡ Next time → e.reply ≡ Disposed → IsPlayingAt m s q began k es acts parts
+  pub playing_at_disposed : (k : ℕ) (es : List Entry) (e : Entry) (time : ℕ) (acts : List Act) (parts : Parts) → e.sender ≡ k → e.call ≡ Next time
+      → e.reply ≡ Disposed → IsPlayingAt m s q began k es acts parts
       → IsPlayingAt m s q began k (es ++ e ∷ []) acts parts
   playing_at_disposed k es e time acts parts mine call reply at = record {
     plays = playing_by_disposed s q began k es e time acts parts mine call reply at.plays;
@@ -52,5 +55,6 @@ module _ (m : Mode) (s : Script) (q : ℕ) (began : StageLooper) where
   }
 
   -- an idle handler ran, or a listener was told of an event
-  pub playing_at_quiet : (k : ℕ) (es : List Entry) (x : Act) (acts : List Act) (parts : Parts) → IsQuiet x → IsPlayingAt m s q began k es acts parts → IsPlayingAt m s q began k es (acts ++ x ∷ []) parts
+  pub playing_at_quiet : (k : ℕ) (es : List Entry) (x : Act) (acts : List Act) (parts : Parts) → IsQuiet x → IsPlayingAt m s q began k es acts parts
+      → IsPlayingAt m s q began k es (acts ++ x ∷ []) parts
   playing_at_quiet k es x acts parts is at = record { plays = playing_by_quiet s q began k es x acts parts is at.plays; calls = at.calls; others = at.others }

@@ -1,15 +1,23 @@
 -- A looper's code for one loop by a clock, and how it leaves its looper.
-use Rattle.std.specs.Prelude.{◌≡◌, ℕ, Bool, Some}
+use Rattle.std.specs.Prelude.{◌≡◌, ◌||◌, ◌⊎◌, ℕ, zero, suc, min, Bool, true, false, Option, Some, None, IsSomeAnd, nat_le}
+use Rattle.std.specs.Option.{option_map}
+use mathlib.Core.List.{IsPrefix}
+use Rattle.choreographer.specs.Calls.{AskedBy}
 use Rattle.dash_script.specs.declared.script.Script.{Script}
 use Rattle.looper_run.specs.declared.looper.Round.{Round}
+use Rattle.looper_run.specs.declared.by_clock.Loop.{Loop}
+use Rattle.looper_run.specs.declared.by_clock.Loop.TheVariants as loop
 use Rattle.looper_run.specs.Holding.{Looping, workplace}
+use Rattle.looper_run.specs.Loops.{LoopBy}
+use Rattle.looper_run.specs.Round.{is_ended}
+use Rattle.run_model.specs.Acts.{millis_up}
 use Rattle.run_model.specs.Moments.{Mode, in_free_mode}
 use Rattle.dash_hall.specs.declared.hall.Hall.{Hall}
 use Rattle.dash_hall.specs.declared.timer.Timer.{Timer}
 use Rattle.dash_loopers.specs.declared.by_clock.ClockPlayer.{ClockPlayer}
 use Rattle.dash_loopers.specs.declared.looper.StageLooper.{StageLooper}
 use Rattle.dash_loopers.specs.declared.player.Parts.{Parts}
-use Rattle.dash_loopers.specs.Loopers.{IsLooper}
+use Rattle.dash_loopers.specs.Loopers.{IsLooper, is_given_up, round_of, setting_in}
 use Rattle.dash_loopers.specs.Played.{HasPlayedBy}
 use Rattle.dash_loopers.specs.Clocked.{ClockOwner, ServesFree, IsPlayingAt, StaysByClock}
 
@@ -17,12 +25,22 @@ use Rattle.dash_loopers.specs.Clocked.{ClockOwner, ServesFree, IsPlayingAt, Stay
 abbrev pub clock_mode : {C : Type 0} → (C → ℕ → Bool) → Timer C → Mode
 clock_mode shows t = in_free_mode (shows t.clock.now) t.start
 
+-- what the looper had seen and what it had told it goes on from
+pub record GoesOnFrom (before after : Looping) : Type 0 where
+  pub seen : IsPrefix before.held.poster.view.seen after.held.poster.view.seen
+  pub acts : IsPrefix before.held.journal.acts after.held.journal.acts
+
+-- so it is unless memory was wanting
+abbrev pub StaysTold : StageLooper → StageLooper → Type 0
+StaysTold before after = is_given_up after.last ≡ false → GoesOnFrom before.looper after.looper
+
 -- a looper of the script has gone on by what it stood at, and by the clock, and is a looper of the script still
 pub record HasLooped (m : Mode) (s : Script) (hall : Hall) (before after : StageLooper) : Type 0 where
   pub looper : IsLooper s hall after
   pub number : after.number ≡ before.number
   pub plays : HasPlayedBy s before after
   pub clocked : StaysByClock m before after
+  pub grew : StaysTold before after
 
 -- the looper with these parts, behind a round that ended so
 abbrev pub with_parts : StageLooper → Round → Parts → StageLooper
@@ -34,7 +52,8 @@ owner_of m s hall began = record { owner = record { script = s; hall = hall; num
 
 -- whose code it is
 abbrev pub owner_in : {R G C : Type 0} → Mode → ClockPlayer R G C → ClockOwner
-owner_in m p = record { owner = record { script = p.place.script.now; hall = p.place.hall.now; number = p.place.looper; now = 0; began = p.began.now.value }; mode = m }
+owner_in m p =
+    record { owner = record { script = p.place.script.now; hall = p.place.hall.now; number = p.place.looper; now = 0; began = p.began.now.value }; mode = m }
 
 -- the code serves its looper's queue
 abbrev pub PlayerServes : {R G C : Type 0} → ClockPlayer R G C → Looping → Type 0
@@ -47,3 +66,56 @@ PlayerPlays m p l = IsPlayingAt m p.place.script.now p.place.looper p.began.now.
 -- the code's looper has gone on so since the loop began
 abbrev pub PlayerLooped : {R G C : Type 0} → Mode → ClockPlayer R G C → StageLooper → Type 0
 PlayerLooped m p after = HasLooped m p.place.script.now p.place.hall.now p.began.now.value after
+
+-- ---- up to when it loops
+
+-- the earlier of two times, where there are two
+abbrev pub earlier_of : Option ℕ → Option ℕ → Option ℕ
+earlier_of None b = b
+earlier_of (Some x) None = Some x
+earlier_of (Some x) (Some y) = Some (min x y)
+
+-- the loop ended with nothing due at a moment that is no earlier than the end, where there is one
+abbrev pub ends_at : Loop → Option ℕ → Bool
+ends_at (loop.Cap now) (Some end) = nat_le end now
+ends_at (loop.Cap now) None = false
+ends_at loop.Ended end = false
+ends_at loop.Nudged end = false
+ends_at loop.NoMemory end = false
+
+-- by one turn of its own pass the looper found this pulse, which is asked for at its choreographer, in milliseconds rounded up, or that none is
+pub record LooksForPulse (before after : Parts) (pulse : Option ℕ) : Type 0 where
+  pub stamp : Option ℕ
+  pub turn : AskedBy before.frames after.frames stamp
+  pub rounded : pulse ≡ option_map millis_up stamp
+  pub rest : after ≡ record before { frames = after.frames }
+
+-- the same of a looper by its parts, which it has between two loops
+abbrev pub AsksPulse : StageLooper → StageLooper → Option ℕ → Type 0
+AsksPulse before after pulse = IsSomeAnd before.parts (λ p. IsSomeAnd after.parts (λ r. LooksForPulse p r pulse))
+
+-- the looper looped by the clock up to this cap
+abbrev pub LoopsBy : Mode → Script → Option ℕ → StageLooper → StageLooper → Loop → Type 0
+LoopsBy m s cap before after how = LoopBy m.shows m.start cap (setting_in false s before.number) before.looper.held after.looper.held how
+
+-- it had neither ended nor given up; it looked for its pulse, and then looped up to that or up to the end, whichever is earlier
+pub record LoopsOnce (m : Mode) (s : Script) (end : Option ℕ) (before after : StageLooper) (how : Loop) : Type 0 where
+  pub going : (is_ended before.last || is_given_up before.last) ≡ false
+  pub asked : StageLooper
+  pub pulse : Option ℕ
+  pub looks : AsksPulse before asked pulse
+  pub loops : LoopsBy m s (earlier_of pulse end) before after how
+  pub last : after.last ≡ round_of how
+
+-- so many loops, one after another, none of which came to the end
+abbrev pub HasGoneRound : Mode → Script → Option ℕ → ℕ → StageLooper → StageLooper → Type 0
+HasGoneRound m s end zero before after = after ≡ before
+HasGoneRound m s end (suc n) before after =
+    (between : StageLooper) × HasGoneRound m s end n before between × (how : Loop) × LoopsOnce m s end between after how × (ends_at how end ≡ false)
+
+-- loops, one after another, of which the last may have come to the end and no other has
+pub record LoopsUpTo (m : Mode) (s : Script) (end : Option ℕ) (before after : StageLooper) : Type 0 where
+  pub count : ℕ
+  pub between : StageLooper
+  pub rounds : HasGoneRound m s end count before between
+  pub at_end : (after ≡ between) ⊎ ((how : Loop) × LoopsOnce m s end between after how × (ends_at how end ≡ true))

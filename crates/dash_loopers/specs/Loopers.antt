@@ -1,5 +1,5 @@
 -- A looper of a script.
-use Rattle.std.specs.Prelude.{◌≡◌, List, length, ◌<◌, ◌+◌, ◌==◌, ◌||◌, ◌&&◌, ◌⊎◌, ◌++◌, ◌∷◌, not, filter, ℕ, Bool, true, false, map, slice_get, Option, Some, None, IsSomeAnd, slice_index_or, ◌≤◌, []}
+use Rattle.std.specs.Prelude.{◌≡◌, List, length, ◌<◌, ◌+◌, ◌==◌, ◌||◌, ◌&&◌, ◌⊎◌, ◌++◌, ◌∷◌, not, filter, ℕ, Bool, true, false, map, slice_get, Option, Some, None, IsSomeAnd, slice_index_or, ◌≤◌, max, []}
 use Rattle.std.specs.List.{remove, insert}
 use Rattle.atomic_table.specs.Seated.{TableId}
 use Rattle.dash_script.specs.declared.script.Script.{Script}
@@ -52,9 +52,13 @@ pub record IsLooperOf (s : Script) (hall : Hall) (number : ℕ) : Type 0 where
   pub one : number < s.loopers
   pub is_hall : IsHall s hall
 
--- the setting of a looper's queue: in lockstep, main for looper 0 alone
+-- the setting of a looper's queue, in lockstep or not: main for looper 0 alone
+abbrev pub setting_in : Bool → Script → ℕ → Setting
+setting_in lockstep s looper = record { main = looper == 0; lockstep = lockstep; senders = sender_count s }
+
+-- the setting in lockstep
 abbrev pub setting_for : Script → ℕ → Setting
-setting_for s looper = record { main = looper == 0; lockstep = true; senders = sender_count s }
+setting_for s looper = setting_in true s looper
 
 -- the history is one that this looper's queue may have
 pub record IsSoundOn (s : Script) (q : ℕ) (es : List Entry) : Type 0 where
@@ -67,7 +71,7 @@ is_given_up (round.Drained dispatched until) = false
 is_given_up (round.Ended dispatched) = false
 is_given_up round.NoMemory = true
 
--- when the first message is due that no barrier holds back, after a round that ended with a wait
+-- when the first message is due that no barrier holds back, after a round that ended with a wait; None behind a loop by a clock
 abbrev pub until_of : Round → Option ℕ
 until_of (round.Drained dispatched until) = until
 until_of (round.Ended dispatched) = None
@@ -108,11 +112,16 @@ pub record IsLooper (s : Script) (hall : Hall) (l : StageLooper) : Type 0 where
   -- it disposes of its queue by its last call, if at all
   pub disposes : DisposesAtEnd l.last (entries_by l.sender l.looper.held.poster.view.seen)
 
--- one that a round has ended, or that found no memory, stays as it is; another runs a round on its queue
-pub record HasRun (s : Script) (now : ℕ) (before after : StageLooper) : Type 0 where
+-- one that a round has ended, or that found no memory, stays as it is; another runs a round on its queue at this moment, in lockstep or not
+pub record RunsRound (lockstep : Bool) (s : Script) (now : ℕ) (before after : StageLooper) : Type 0 where
   pub stopped : (is_ended before.last || is_given_up before.last) ≡ true → after ≡ before
-  pub ran : (is_ended before.last || is_given_up before.last) ≡ false → RoundBy (setting_for s before.number) now before.looper.held after.looper.held after.last
+  pub ran : (is_ended before.last || is_given_up before.last) ≡ false
+      → RoundBy (setting_in lockstep s before.number) now before.looper.held after.looper.held after.last
   pub looks : (is_ended before.last || is_given_up before.last) ≡ false → IsRound any_heard now before.looper after.looper after.last
+
+-- so it is in lockstep
+abbrev pub HasRun : Script → ℕ → StageLooper → StageLooper → Type 0
+HasRun s now before after = RunsRound true s now before after
 
 -- the Dispatch acts in the journal are, one for one and in order, the messages that this looper's own poster took
 abbrev pub HasTold : Script → ℕ → Journal → Kit → Type 0
@@ -160,9 +169,15 @@ pub record LooperKeeps (R : List Sender → List Sender → Type 0) (before afte
 abbrev pub IsWithin : StageLooper → Type 0
 IsWithin l = l.number ≤ length (others_in l.parts)
 
--- the round ended with a wait, and no message to wait for
+-- the round dispatched nothing and ended with a wait, and there is no message to wait for
 abbrev pub WaitsForNothing : Round → Type 0
-WaitsForNothing r = (is_ended r ≡ false) × (until_of r ≡ None)
+WaitsForNothing r = r ≡ round.Drained 0 None
+
+-- a looper that has done nothing, by its kit: its journal is empty, an idle turn is owed, and it has the kit's pass of the pool
+pub record HasDoneNothing (kit : Kit) (l : StageLooper) : Type 0 where
+  pub acts : l.looper.held.journal.acts ≡ []
+  pub idle_owed : l.looper.idle_owed ≡ true
+  pub pass : l.looper.held.pass ≡ kit.pass
 
 -- the queue of this history is neither over nor quitting, and no message that may be dispatched is due at this moment
 pub record HasNoneDue (b : Base) (es : List Entry) (now : ℕ) : Type 0 where
@@ -170,14 +185,27 @@ pub record HasNoneDue (b : Base) (es : List Entry) (now : ℕ) : Type 0 where
   pub not_quitting : quit_place b es ≡ None
   pub none : pick b es now ≡ None
 
--- unless it ended or gave up, the looper has come to wait for the first message that no barrier holds back of all that it has seen, on a queue that isn't quitting, and no such message is due
-abbrev pub ComesToWait : Script → StageLooper → StageLooper → Type 0
-ComesToWait s before after = is_ended after.last ≡ false → is_given_up after.last ≡ false
-    → IsPrefix before.looper.held.poster.view.seen after.looper.held.poster.view.seen
+-- the looper waits for the first message that no barrier holds back of all that it has seen, on a queue that isn't quitting, and no such message is due at
+-- this moment
+abbrev pub WaitsAt : Script → ℕ → StageLooper → StageLooper → Type 0
+WaitsAt s moment before after =
+    IsPrefix before.looper.held.poster.view.seen after.looper.held.poster.view.seen
     × (until_of after.last ≡ option_map when_of (first_eligible (empty_base (sender_count s)) after.looper.held.poster.view.seen))
-    × HasNoneDue (empty_base (sender_count s)) after.looper.held.poster.view.seen (clock (empty_base (sender_count s)) after.looper.held.poster.view.seen)
+    × HasNoneDue (empty_base (sender_count s)) after.looper.held.poster.view.seen moment
 
--- a loop by a clock as the last round of its looper: it ended it, it found no memory, or it waits
+-- the time of the looper's queue, by all that it has seen
+abbrev pub time_of : Script → StageLooper → ℕ
+time_of s l = clock (empty_base (sender_count s)) l.looper.held.poster.view.seen
+
+-- unless it ended or gave up, the looper has come to wait so at its queue's time
+abbrev pub ComesToWait : Script → StageLooper → StageLooper → Type 0
+ComesToWait s before after = is_ended after.last ≡ false → is_given_up after.last ≡ false → WaitsAt s (time_of s after) before after
+
+-- the same by a clock, at this moment or at the queue's time, whichever is later
+abbrev pub ComesToWaitAt : Script → ℕ → StageLooper → StageLooper → Type 0
+ComesToWaitAt s now before after = is_ended after.last ≡ false → is_given_up after.last ≡ false → WaitsAt s (max now (time_of s after)) before after
+
+-- a loop by a clock as the last round of its looper: it ended it, it found no memory, or it waits, and for which message isn't told
 abbrev pub round_of : Loop → Round
 round_of loop.Ended = round.Ended 0
 round_of (loop.Cap now) = round.Drained 0 None

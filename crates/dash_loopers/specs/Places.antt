@@ -1,13 +1,17 @@
 -- What a looper's code serves, and what its steps do, by the place where it runs.
-use Rattle.std.specs.Prelude.{◌≡◌, ◌++◌, ℕ, Bool, Option, List, map, fold, slice_get}
+use Rattle.std.specs.Prelude.{◌≡◌, ◌==◌, ◌++◌, ℕ, Bool, Option, List, map, fold, slice_get}
 use Rattle.std.specs.Option.{option_map_or}
 use Rattle.loop_model.specs.declared.post.Post.{Post as PostData}
 use Rattle.looper_run.specs.declared.own.Own.{Own}
 use Rattle.looper_run.specs.Holding.{workplace, held}
 use Rattle.choreographer.specs.declared.hosted.Pulse.{Pulse}
 use Rattle.choreographer.specs.Known.{Shared as Frames, Known as Pass}
+use Rattle.choreographer.specs.Calls.{PulsedBy, DueBy}
+use Rattle.run_model.specs.FrameRuns.{nanos_of}
 use Rattle.run_model.specs.Loopers.{Looper, callback_ran, animation_ran, paints}
+use Rattle.run_model.specs.Senders.{frame_handler}
 use Rattle.dash_hall.specs.declared.host.Host.{Host}
+use Rattle.dash_hall.specs.Hosts.{sends_by}
 use Rattle.dash_script.specs.declared.script.Script.{Script}
 use Rattle.dash_loopers.specs.declared.frame_run.FrameRun.{FrameRun}
 use Rattle.dash_loopers.specs.declared.player.Parts.{Parts}
@@ -29,9 +33,20 @@ abbrev pub DeliversOn : {R : Type 0} → Place R → ℕ → (ℕ → Bool) → 
 DeliversOn place now is_moment m own own' parts parts' =
     Delivers place.script.now place.looper now is_moment m (calls_of own.poster.now) (calls_of own'.poster.now) parts parts' own.journal.now.acts own'.journal.now.acts
 
+-- one turn at this moment schedules a frame where the phase has a due callback and no frame is scheduled
+abbrev pub IsDueAt : ℕ → ℕ → Pass → Pass → Type 0
+IsDueAt now phase before after = (scheduled : Bool) × DueBy before after (λ n. n == nanos_of now) phase scheduled
+
+-- one turn of the looper's pass at this moment delivers the pulse that is asked for, where it is due, and the looper's poster sends the frame message then
+abbrev pub PulsedOn : {R : Type 0} → Place R → ℕ → Own → Own → Parts → Parts → Option Pulse → Type 0
+PulsedOn place now own own' parts parts' pulse =
+    PulsedBy parts.frames parts'.frames (λ n. n == nanos_of now)
+    (sends_by (frame_handler place.looper) own.poster.now) (sends_by (frame_handler place.looper) own'.poster.now) pulse
+
 -- what came of a pulse at this moment
 abbrev pub DeliversPulseOn : {R : Type 0} → Place R → ℕ → Own → Own → Parts → Parts → Option Pulse → Type 0
-DeliversPulseOn place now own own' parts parts' pulse = DeliversPulse place.script.now place.looper now (calls_of own.poster.now) (calls_of own'.poster.now) parts parts' pulse
+DeliversPulseOn place now own own' parts parts' pulse =
+    DeliversPulse place.script.now place.looper now (calls_of own.poster.now) (calls_of own'.poster.now) parts parts' pulse
 
 -- a pulse was delivered at this moment and told, or none came
 abbrev pub PulsesOn : {R : Type 0} → Place R → ℕ → Own → Own → Parts → Parts → Type 0
@@ -63,4 +78,5 @@ HasPainted s q root root' = map paint_of root'.painted.items ≡ map paint_of ro
 -- the view root of a frame that is under way has run the callbacks that are told, by what its host has called
 abbrev pub FrameShows : {R U : Type 0} → FrameRun → Host R U → Type 0
 FrameShows run host = (s : Script) (q : ℕ)
-    → Shows s q (λ a. fold (callback_ran s q host.now) a (ids_of run.ran.now.items)) (calls_of run.poster_began.now.value) run.began.now.value (calls_of host.poster.now) run.root.now
+    → Shows s q (λ a. fold (callback_ran s q host.now) a (ids_of run.ran.now.items))
+    (calls_of run.poster_began.now.value) run.began.now.value (calls_of host.poster.now) run.root.now

@@ -91,7 +91,8 @@ calls_in sender es = calls_among (entries_by sender es)
 abbrev pub calls_of : Sender → List Entry
 calls_of p = calls_in p.sender p.view.seen
 
--- the looper made these entries on its own queue, its view root's pass asked for the frame callbacks that the state posts, in order and for nothing else, by one turn for each and no other, and its view root stands as the state says
+-- the looper made these entries on its own queue, its view root's pass asked for the frame callbacks that the state posts, in order and for nothing else, by
+-- one turn for each and no other, and its view root stands as the state says
 pub record IsShown (s : Script) (q : ℕ) (made : List Entry) (root : ViewRoot) (a : Looper) : Type 0 where
   pub calls : AreFor IsSent [] (sent_on q a.sent) made
   pub asked : asks_of root.pass ≡ a.posted
@@ -100,7 +101,8 @@ pub record IsShown (s : Script) (q : ℕ) (made : List Entry) (root : ViewRoot) 
 
 -- on each other queue the calls that the state tells were made; the posters of the others stand in order
 abbrev pub AreMadeElsewhere : ℕ → List Sender → Looper → Type 0
-AreMadeElsewhere q others a = (k j : ℕ) (d : Sender) → PlaceWithout q k j → j < length others → AreFor IsSent [] (sent_on k a.sent) (own (slice_index_or others j d))
+AreMadeElsewhere q others a =
+    (k j : ℕ) (d : Sender) → PlaceWithout q k j → j < length others → AreFor IsSent [] (sent_on k a.sent) (own (slice_index_or others j d))
 
 -- all that the state says is so, of the looper's own queue, of the others, and of its rule counts, of which there are as many as rules
 pub record IsPlayed (s : Script) (q : ℕ) (made : List Entry) (parts : Parts) (a : Looper) : Type 0 where
@@ -123,7 +125,9 @@ AreAllButCounts parts parts' = (parts'.others ≡ parts.others) × (parts'.frame
 
 -- the count at this place is below the limit, and rises by one, or all is as before
 abbrev pub FiresAt : ℕ → ℕ → Parts → Parts → Bool → Type 0
-FiresAt place times parts parts' true = (n : ℕ) × (slice_get parts.fired.items place ≡ Some n) × (n < times) × (parts'.fired.items ≡ slice_set parts.fired.items place (n + 1)) × AreAllButCounts parts parts'
+FiresAt place times parts parts' true =
+    (n : ℕ) × (slice_get parts.fired.items place ≡ Some n) × (n < times) × (parts'.fired.items ≡ slice_set parts.fired.items place (n + 1))
+    × AreAllButCounts parts parts'
 FiresAt place times parts parts' false = (parts' ≡ parts) × ((n : ℕ) → slice_get parts.fired.items place ≡ Some n → times ≤ n)
 
 -- ---- a frame, a message and a pulse
@@ -146,7 +150,8 @@ abbrev pub moments_of : List FrameEntry → Option ℕ → List ℕ
 moments_of fs None = []
 moments_of fs (Some place) = frame_moments fs place
 
--- by whatever the frame record comes to, a frame began behind all that the pass had seen before, and ran callbacks of these identities; its start and the moments of its phases, one for each phase, pass the test; or none began and none ran
+-- by whatever the frame record comes to, a frame began behind all that the pass had seen before, and ran callbacks of these identities; its start and the
+-- moments of its phases, one for each phase, pass the test; or none began and none ran
 abbrev pub IsFrameBy : ℕ → ℕ → (ℕ → Bool) → Pass → Pass → Option ℕ → List ℕ → Type 0
 IsFrameBy interval phases is_moment before after frame ids = (fs : List FrameEntry) → IsPrefix after.view.seen fs → lawful interval phases fs ≡ true
     → (is_frame_from fs (length before.view.seen) frame ≡ true) × (frame_ids fs frame ≡ ids) × (list_all is_moment (moments_of fs frame) ≡ true)
@@ -157,7 +162,8 @@ abbrev pub asks_for : Option ℕ → ℕ → List FrameAsk
 asks_for None start = []
 asks_for (Some place) start = Runs start ∷ []
 
--- callbacks of these identities ran, of a frame whose beginning the pass has seen, or of none, and the pass asked for that frame, by its start, and for nothing else; its moments pass the test
+-- callbacks of these identities ran, of a frame whose beginning the pass has seen, or of none, and the pass asked for that frame, by its start, and for nothing
+-- else; its moments pass the test
 pub record RanFrame (interval phases : ℕ) (is_moment : ℕ → Bool) (before after : Pass) (ids : List ℕ) : Type 0 where
   pub frame : Option ℕ
   pub start : ℕ
@@ -183,7 +189,8 @@ pulse_acts (Some stamp) = Vsync stamp ∷ []
 -- what a looper comes to by a pulse: it sends the frame message
 abbrev pub pulsed : ℕ → Option ℕ → Looper → Looper
 pulsed q None a = a
-pulsed q (Some stamp) a = record a { sent = a.sent ++ record { queue = q; ask = Makes (Post (frame_message q 0 0 (stamp / 1000000))); reply = None; timing = NotBefore (millis_up stamp) } ∷ [] }
+pulsed q (Some stamp) a =
+    record a { sent = a.sent ++ record { queue = q; ask = Makes (Post (frame_message q 0 0 (stamp / 1000000))); reply = None; timing = NotBefore (millis_up stamp) } ∷ [] }
 
 -- the time in whole milliseconds by which a pulse that came is due
 abbrev pub pulse_time : Option ℕ → ℕ
@@ -192,9 +199,12 @@ pulse_time (Some stamp) = millis_up stamp
 
 -- what came of a pulse: the frame message was sent, unless memory was wanting, or no pulse came; the looper's own pass asked for nothing
 abbrev pub DeliversPulse : Script → ℕ → ℕ → List Entry → List Entry → Parts → Parts → Option Pulse → Type 0
-DeliversPulse s q now made made' parts parts' None = IsPrefix parts.frames.view.seen parts'.frames.view.seen × (asks_of parts'.frames ≡ asks_of parts.frames) × Plays s q (pulsed q None) made parts made' parts'
+DeliversPulse s q now made made' parts parts' None =
+    IsPrefix parts.frames.view.seen parts'.frames.view.seen × (asks_of parts'.frames ≡ asks_of parts.frames) × Plays s q (pulsed q None) made parts made' parts'
 DeliversPulse s q now made made' parts parts' (Some pulse) =
-    (pulse.sent ≢ host.NoMemory → IsPrefix parts.frames.view.seen parts'.frames.view.seen × (asks_of parts'.frames ≡ asks_of parts.frames) × (millis_up pulse.stamp ≤ now) × Plays s q (pulsed q (Some pulse.stamp)) made parts made' parts')
+    (pulse.sent ≢ host.NoMemory
+    → IsPrefix parts.frames.view.seen parts'.frames.view.seen × (asks_of parts'.frames ≡ asks_of parts.frames) × (millis_up pulse.stamp ≤ now)
+    × Plays s q (pulsed q (Some pulse.stamp)) made parts made' parts')
 
 -- a pulse of the script's period was delivered and told, or none came, and the looper's own pass asked for nothing
 pub record Pulses (s : Script) (q now : ℕ) (made made' : List Entry) (parts parts' : Parts) (acts acts' : List Act) : Type 0 where
@@ -229,12 +239,16 @@ pub record AreAlike (a b : Looper) : Type 0 where
 
 -- ---- between two acts
 
--- the looper's acts lead to the one state, by whatever its frame record comes to, and all that the other state says is so: each frame that it ran took all phases, in lockstep at its time, at which it started, and its own pass asked for these frames, as it is told in the mode, in order and for nothing else
+-- the looper's acts lead to the one state, by whatever its frame record comes to, and all that the other state says is so: each frame that it ran took all
+-- phases, in lockstep at its time, at which it started, and its own pass asked for these frames, as it is told in the mode, in order and for nothing else
 pub record StandsBy (lockstep : Bool) (s : Script) (q sender : ℕ) (es : List Entry) (acts : List Act) (parts : Parts) (did a : Looper) : Type 0 where
-  pub led : (fs : List FrameEntry) → IsPrefix parts.frames.view.seen fs → lawful s.period (phase_count s.edition) fs ≡ true → Lead s q es fs (first_looper s) acts a
+  pub led : (fs : List FrameEntry) → IsPrefix parts.frames.view.seen fs → lawful s.period (phase_count s.edition) fs ≡ true
+      → Lead s q es fs (first_looper s) acts a
   pub place : a.place ≤ length parts.frames.view.seen
-  pub moments : lockstep ≡ true → (fs : List FrameEntry) → IsPrefix parts.frames.view.seen fs → lawful s.period (phase_count s.edition) fs ≡ true → are_run_then fs did.frames ≡ true
-  pub whole : (fs : List FrameEntry) → IsPrefix parts.frames.view.seen fs → lawful s.period (phase_count s.edition) fs ≡ true → are_whole (phase_count s.edition) fs did.frames ≡ true
+  pub moments : lockstep ≡ true → (fs : List FrameEntry) → IsPrefix parts.frames.view.seen fs → lawful s.period (phase_count s.edition) fs ≡ true
+      → are_run_then fs did.frames ≡ true
+  pub whole : (fs : List FrameEntry) → IsPrefix parts.frames.view.seen fs → lawful s.period (phase_count s.edition) fs ≡ true
+      → are_whole (phase_count s.edition) fs did.frames ≡ true
   pub ran : map (as_told lockstep) (asks_of parts.frames) ≡ map (as_told lockstep) (asks_to_run did.frames)
   pub settled : a.painted ≡ []
   pub played : IsPlayed s q (calls_in sender es) parts did
@@ -243,7 +257,8 @@ pub record StandsBy (lockstep : Bool) (s : Script) (q sender : ℕ) (es : List E
 abbrev pub Stands : Script → ℕ → ℕ → List Entry → List Act → Parts → Looper → Type 0
 Stands s q sender es acts parts a = StandsBy true s q sender es acts parts a a
 
--- a call is timed by a look of the sender among these entries, or it is one on the looper's own queue that may come no later than at this moment; a looper makes no call in a block
+-- a call is timed by a look of the sender among these entries, or it is one on the looper's own queue that may come no later than at this moment; a looper
+-- makes no call in a block
 abbrev pub IsTimedBy : ℕ → ℕ → List Entry → ℕ → ℕ → Timing → Type 0
 IsTimedBy q sender looks now queue (At time) = (e : Entry) × Contains looks e × (e.sender ≡ sender) × (e.call ≡ Next time)
 IsTimedBy q sender looks now queue (InBlock time) = ⊥
@@ -269,18 +284,21 @@ pub record ComesTo (s : Script) (q now : ℕ) (a : Looper) (sender : ℕ) (seen 
 
 -- in a round at this moment: whatever state the looper stood at when the round began, it has gone on from there
 abbrev pub IsPlaying : Script → ℕ → ℕ → StageLooper → ℕ → List Entry → List Act → Parts → Type 0
-IsPlaying s q now began sender es acts parts = HasText s → (a : Looper) → HasCome s began a → ComesTo s q now a sender began.looper.held.poster.view.seen es acts parts
+IsPlaying s q now began sender es acts parts =
+    HasText s → (a : Looper) → HasCome s began a → ComesTo s q now a sender began.looper.held.poster.view.seen es acts parts
 
 -- the same once the round is over, unless memory was wanting
 abbrev pub HasPlayed : Script → ℕ → StageLooper → StageLooper → Type 0
 HasPlayed s now before after = is_given_up after.last ≡ false → HasText s → (a : Looper) → HasCome s before a
-    → IsSomeAnd after.parts (ComesTo s before.number now a before.sender before.looper.held.poster.view.seen after.looper.held.poster.view.seen after.looper.held.journal.acts)
+    → IsSomeAnd after.parts (ComesTo s before.number now a before.sender
+    before.looper.held.poster.view.seen after.looper.held.poster.view.seen after.looper.held.journal.acts)
 
 -- ---- by a clock
 
 -- where a looper stands between two loops: its acts lead to the one state, it did what the other says, and the two are alike
 abbrev pub HasComeBy : Script → StageLooper → Looper → Looper → Type 0
-HasComeBy s l did a = AreAlike did a × IsSomeAnd l.parts (λ parts. StandsBy false s l.number l.sender l.looper.held.poster.view.seen l.looper.held.journal.acts parts did a)
+HasComeBy s l did a =
+    AreAlike did a × IsSomeAnd l.parts (λ parts. StandsBy false s l.number l.sender l.looper.held.poster.view.seen l.looper.held.journal.acts parts did a)
 
 -- it went on to such states
 pub record ComesBy (s : Script) (q sender : ℕ) (es : List Entry) (acts : List Act) (parts : Parts) : Type 0 where
@@ -302,10 +320,13 @@ HasPlayedBy s before after = is_given_up after.last ≡ false → HasText s → 
 
 -- where a looper stood, told by its journal and what it worked with
 pub record HasLeft (s : Script) (q : ℕ) (j : Journal) (kit : Kit) (a : Looper) : Type 0 where
-  pub led : (d : Sender) (p : Pass) (fs : List FrameEntry) → IsPrefix (slice_index_or kit.frames.items 0 p).view.seen fs → lawful s.period (phase_count s.edition) fs ≡ true
+  pub led : (d : Sender) (p : Pass) (fs : List FrameEntry) → IsPrefix (slice_index_or kit.frames.items 0 p).view.seen fs
+      → lawful s.period (phase_count s.edition) fs ≡ true
       → Lead s q (slice_index_or kit.posters.items q d).view.seen fs (first_looper s) j.acts a
-  pub moments : (p : Pass) (fs : List FrameEntry) → IsPrefix (slice_index_or kit.frames.items 0 p).view.seen fs → lawful s.period (phase_count s.edition) fs ≡ true → are_run_then fs a.frames ≡ true
-  pub whole : (p : Pass) (fs : List FrameEntry) → IsPrefix (slice_index_or kit.frames.items 0 p).view.seen fs → lawful s.period (phase_count s.edition) fs ≡ true → are_whole (phase_count s.edition) fs a.frames ≡ true
+  pub moments : (p : Pass) (fs : List FrameEntry) → IsPrefix (slice_index_or kit.frames.items 0 p).view.seen fs
+      → lawful s.period (phase_count s.edition) fs ≡ true → are_run_then fs a.frames ≡ true
+  pub whole : (p : Pass) (fs : List FrameEntry) → IsPrefix (slice_index_or kit.frames.items 0 p).view.seen fs
+      → lawful s.period (phase_count s.edition) fs ≡ true → are_whole (phase_count s.edition) fs a.frames ≡ true
   pub settled : a.painted ≡ []
   pub calls : (d : Sender) → AreFor IsSent [] (sent_on q a.sent) (calls_of (slice_index_or kit.posters.items q d))
   pub elsewhere : (k : ℕ) (d : Sender) → k ≢ q → k < length kit.posters.items → AreFor IsSent [] (sent_on k a.sent) (own (slice_index_or kit.posters.items k d))
@@ -315,9 +336,11 @@ pub record HasLeft (s : Script) (q : ℕ) (j : Journal) (kit : Kit) (a : Looper)
 
 -- the same of a looper by a clock, as free mode tells it: the due times of frame callbacks and the starts of frames are left open
 pub record HasLeftBy (s : Script) (q : ℕ) (j : Journal) (kit : Kit) (a : Looper) : Type 0 where
-  pub led : (d : Sender) (p : Pass) (fs : List FrameEntry) → IsPrefix (slice_index_or kit.frames.items 0 p).view.seen fs → lawful s.period (phase_count s.edition) fs ≡ true
+  pub led : (d : Sender) (p : Pass) (fs : List FrameEntry) → IsPrefix (slice_index_or kit.frames.items 0 p).view.seen fs
+      → lawful s.period (phase_count s.edition) fs ≡ true
       → Lead s q (slice_index_or kit.posters.items q d).view.seen fs (first_looper s) j.acts a
-  pub whole : (p : Pass) (fs : List FrameEntry) → IsPrefix (slice_index_or kit.frames.items 0 p).view.seen fs → lawful s.period (phase_count s.edition) fs ≡ true → are_whole (phase_count s.edition) fs a.frames ≡ true
+  pub whole : (p : Pass) (fs : List FrameEntry) → IsPrefix (slice_index_or kit.frames.items 0 p).view.seen fs
+      → lawful s.period (phase_count s.edition) fs ≡ true → are_whole (phase_count s.edition) fs a.frames ≡ true
   pub settled : a.painted ≡ []
   pub calls : (d : Sender) → AreFor IsSent [] (sent_on q a.sent) (calls_of (slice_index_or kit.posters.items q d))
   pub elsewhere : (k : ℕ) (d : Sender) → k ≢ q → k < length kit.posters.items → AreFor IsSent [] (sent_on k a.sent) (own (slice_index_or kit.posters.items k d))

@@ -37,7 +37,8 @@ calls_others k es e apart =
     let other : (e.sender == k) ≡ false = ne_eqb e.sender k apart in
     none_more k es (e ∷ []) (rw other refl)
 
-pub calls_disposed : (k : ℕ) (es : List Entry) (e : Entry) (now : ℕ) → e.sender ≡ k → e.call ≡ Next now → e.reply ≡ Disposed → calls_in k (es ++ e ∷ []) ≡ calls_in k es
+pub calls_disposed : (k : ℕ) (es : List Entry) (e : Entry) (now : ℕ) → e.sender ≡ k → e.call ≡ Next now → e.reply ≡ Disposed
+    → calls_in k (es ++ e ∷ []) ≡ calls_in k es
 calls_disposed k es e now is call reply =
     let mine : (e.sender == k) ≡ true = eq-eqb e.sender k is in
     none_more k es (e ∷ []) (rw (mine, call, reply) refl)
@@ -46,7 +47,8 @@ calls_disposed k es e now is call reply =
 
 module _ {lockstep : Bool} (s : Script) (q k : ℕ) where
   -- entries that are no calls of the looper
-  pub stands_beside : (es more : List Entry) (acts : List Act) (parts : Parts) (did a : Looper) → calls_in k (es ++ more) ≡ calls_in k es → StandsBy lockstep s q k es acts parts did a → StandsBy lockstep s q k (es ++ more) acts parts did a
+  pub stands_beside : (es more : List Entry) (acts : List Act) (parts : Parts) (did a : Looper) → calls_in k (es ++ more) ≡ calls_in k es
+      → StandsBy lockstep s q k es acts parts did a → StandsBy lockstep s q k (es ++ more) acts parts did a
   stands_beside es more acts parts did a same st = record {
     led = λ fs begins is. Lead-entries s q es fs more (first_looper s) acts a (st.led fs begins is);
     place = st.place;
@@ -58,7 +60,8 @@ module _ {lockstep : Bool} (s : Script) (q k : ℕ) where
   }
 
   -- an act of an idle handler or an event
-  pub stands_quiet : (es : List Entry) (x : Act) (acts : List Act) (parts : Parts) (did a : Looper) → IsQuiet x → StandsBy lockstep s q k es acts parts did a → StandsBy lockstep s q k es (acts ++ x ∷ []) parts did a
+  pub stands_quiet : (es : List Entry) (x : Act) (acts : List Act) (parts : Parts) (did a : Looper) → IsQuiet x → StandsBy lockstep s q k es acts parts did a
+      → StandsBy lockstep s q k es (acts ++ x ∷ []) parts did a
   unfolding after_act
   stands_quiet es (Idle i t) acts parts did a is st = record {
     led = λ fs begins law. Lead-snoc s q es fs None (first_looper s) acts a (Idle i t) (st.led fs begins law) (refl, st.settled);
@@ -95,7 +98,8 @@ timed_right q k looks more now queue (At time) h = (h.0, Contains-append_right l
 timed_right q k looks more now queue (InBlock time) h = absurd h
 timed_right q k looks more now queue (NotBefore time) h = h
 
-pub goes_then : (q k : ℕ) (looks more : List Entry) (now : ℕ) (a b c : Looper) → GoesOnTo q k looks now a b → GoesOnTo q k more now b c → GoesOnTo q k (looks ++ more) now a c
+pub goes_then : (q k : ℕ) (looks more : List Entry) (now : ℕ) (a b c : Looper) → GoesOnTo q k looks now a b → GoesOnTo q k more now b c
+    → GoesOnTo q k (looks ++ more) now a c
 goes_then q k looks more now a b c f g = record {
   more = f.more ++ g.more;
   sent = g.sent ∙ (ap (λ l. l ++ g.more) f.sent ∙ append_assoc a.sent f.more g.more);
@@ -122,20 +126,25 @@ module _ (s : Script) (q now : ℕ) where
 
   module _ (began : StageLooper) where
     -- another sender's entry
-    pub playing_others : (k : ℕ) (es : List Entry) (e : Entry) (acts : List Act) (parts : Parts) → (e.sender ≡ k → ⊥) → IsPlaying s q now began k es acts parts → IsPlaying s q now began k (es ++ e ∷ []) acts parts
+    pub playing_others : (k : ℕ) (es : List Entry) (e : Entry) (acts : List Act) (parts : Parts) → (e.sender ≡ k → ⊥) → IsPlaying s q now began k es acts parts
+        → IsPlaying s q now began k (es ++ e ∷ []) acts parts
     playing_others k es e acts parts apart meets = λ text a come.
         let c = meets text a come in
-        comes_on a k began.looper.held.poster.view.seen es (e ∷ []) acts acts parts parts c c.state (stands_beside s q k es (e ∷ []) acts parts c.state c.state (calls_others k es e apart) c.stands) (goes_nowhere q k (e ∷ []) now c.state)
+        comes_on a k began.looper.held.poster.view.seen es (e ∷ []) acts acts parts parts c c.state
+        (stands_beside s q k es (e ∷ []) acts parts c.state c.state (calls_others k es e apart) c.stands) (goes_nowhere q k (e ∷ []) now c.state)
 
     -- the looper's look that ends the queue
-    pub playing_disposed : (k : ℕ) (es : List Entry) (e : Entry) (time : ℕ) (acts : List Act) (parts : Parts) → e.sender ≡ k → e.call ≡ Next time → e.reply ≡ Disposed → IsPlaying s q now began k es acts parts
+    pub playing_disposed : (k : ℕ) (es : List Entry) (e : Entry) (time : ℕ) (acts : List Act) (parts : Parts) → e.sender ≡ k → e.call ≡ Next time
+        → e.reply ≡ Disposed → IsPlaying s q now began k es acts parts
         → IsPlaying s q now began k (es ++ e ∷ []) acts parts
     playing_disposed k es e time acts parts mine call reply meets = λ text a come.
         let c = meets text a come in
-        comes_on a k began.looper.held.poster.view.seen es (e ∷ []) acts acts parts parts c c.state (stands_beside s q k es (e ∷ []) acts parts c.state c.state (calls_disposed k es e time mine call reply) c.stands) (goes_nowhere q k (e ∷ []) now c.state)
+        comes_on a k began.looper.held.poster.view.seen es (e ∷ []) acts acts parts parts c c.state
+        (stands_beside s q k es (e ∷ []) acts parts c.state c.state (calls_disposed k es e time mine call reply) c.stands) (goes_nowhere q k (e ∷ []) now c.state)
 
     -- an idle handler ran, or a listener was told of an event
-    pub playing_quiet : (k : ℕ) (es : List Entry) (x : Act) (acts : List Act) (parts : Parts) → IsQuiet x → IsPlaying s q now began k es acts parts → IsPlaying s q now began k es (acts ++ x ∷ []) parts
+    pub playing_quiet : (k : ℕ) (es : List Entry) (x : Act) (acts : List Act) (parts : Parts) → IsQuiet x → IsPlaying s q now began k es acts parts
+        → IsPlaying s q now began k es (acts ++ x ∷ []) parts
     playing_quiet k es x acts parts is meets = λ text a come.
         let c = meets text a come in
         record { state = c.state; stands = stands_quiet s q k es x acts parts c.state c.state is c.stands; looks = c.looks; saw = c.saw; on = c.on }
@@ -144,20 +153,33 @@ module _ (s : Script) (q now : ℕ) where
 
 module _ (s : Script) (q : ℕ) (began : StageLooper) where
   -- another sender's entry
-  pub playing_by_others : (k : ℕ) (es : List Entry) (e : Entry) (acts : List Act) (parts : Parts) → (e.sender ≡ k → ⊥) → IsPlayingBy s q began k es acts parts → IsPlayingBy s q began k (es ++ e ∷ []) acts parts
+  pub playing_by_others : (k : ℕ) (es : List Entry) (e : Entry) (acts : List Act) (parts : Parts) → (e.sender ≡ k → ⊥) → IsPlayingBy s q began k es acts parts
+      → IsPlayingBy s q began k (es ++ e ∷ []) acts parts
   playing_by_others k es e acts parts apart meets = λ text did a come.
       let c = meets text did a come in
-      record { did = c.did; state = c.state; alike = c.alike; stands = stands_beside s q k es (e ∷ []) acts parts c.did c.state (calls_others k es e apart) c.stands }
+      record {
+        did = c.did;
+        state = c.state;
+        alike = c.alike;
+        stands = stands_beside s q k es (e ∷ []) acts parts c.did c.state (calls_others k es e apart) c.stands;
+      }
 
   -- the looper's look that ends the queue
-  pub playing_by_disposed : (k : ℕ) (es : List Entry) (e : Entry) (time : ℕ) (acts : List Act) (parts : Parts) → e.sender ≡ k → e.call ≡ Next time → e.reply ≡ Disposed → IsPlayingBy s q began k es acts parts
+  pub playing_by_disposed : (k : ℕ) (es : List Entry) (e : Entry) (time : ℕ) (acts : List Act) (parts : Parts) → e.sender ≡ k → e.call ≡ Next time
+      → e.reply ≡ Disposed → IsPlayingBy s q began k es acts parts
       → IsPlayingBy s q began k (es ++ e ∷ []) acts parts
   playing_by_disposed k es e time acts parts mine call reply meets = λ text did a come.
       let c = meets text did a come in
-      record { did = c.did; state = c.state; alike = c.alike; stands = stands_beside s q k es (e ∷ []) acts parts c.did c.state (calls_disposed k es e time mine call reply) c.stands }
+      record {
+        did = c.did;
+        state = c.state;
+        alike = c.alike;
+        stands = stands_beside s q k es (e ∷ []) acts parts c.did c.state (calls_disposed k es e time mine call reply) c.stands;
+      }
 
   -- an idle handler ran, or a listener was told of an event
-  pub playing_by_quiet : (k : ℕ) (es : List Entry) (x : Act) (acts : List Act) (parts : Parts) → IsQuiet x → IsPlayingBy s q began k es acts parts → IsPlayingBy s q began k es (acts ++ x ∷ []) parts
+  pub playing_by_quiet : (k : ℕ) (es : List Entry) (x : Act) (acts : List Act) (parts : Parts) → IsQuiet x → IsPlayingBy s q began k es acts parts
+      → IsPlayingBy s q began k es (acts ++ x ∷ []) parts
   playing_by_quiet k es x acts parts is meets = λ text did a come.
       let c = meets text did a come in
       record { did = c.did; state = c.state; alike = c.alike; stands = stands_quiet s q k es x acts parts c.did c.state is c.stands }

@@ -1,17 +1,20 @@
 //! A looper that runs by a clock.
 ghost use Rattle.std.specs.Prelude.{◌≡◌, ◌+◌, ◌||◌, ℕ, None, Some, IsTrue, true, false, OnOk};
+ghost use Rattle.std.specs.Option.{option_map};
 ghost use Rattle.loop_io.specs.Moments.{IsMoment};
 ghost use Rattle.looper_run.specs.Holding.{held, IsSameOwn};
 ghost use Rattle.looper_run.specs.Tests.{IsLent};
 ghost use Rattle.looper_run.specs.Round.{is_ended};
+ghost use Rattle.run_model.specs.Acts.{millis_up};
 ghost use Rattle.run_model.specs.Moments.{in_free_mode};
 ghost use Rattle.dash_hall.specs.Kits.{IsHall};
-ghost use Rattle.dash_loopers.specs.Loopers.{IsLooper, IsLooperOf, posters_of, round_of, is_given_up};
+ghost use Rattle.dash_loopers.specs.Loopers.{IsLooper, IsLooperOf, posters_of, round_of, is_given_up, RunsRound, ComesToWaitAt};
 ghost use Rattle.dash_loopers.specs.Places.{ServesOn, DeliversOn};
 ghost use Rattle.dash_loopers.specs.Players.{AreSameParts};
 ghost use Rattle.dash_loopers.specs.Played.{HasPlayedBy};
 ghost use Rattle.dash_loopers.specs.Clocked.{goes_to_rules, DeliversAt, ClockOwner, ServesFree, IsPlayingAt, StaysByClock};
-ghost use Rattle.dash_loopers.specs.Looped.{clock_mode, HasLooped, with_parts, owner_of, owner_in, PlayerServes, PlayerPlays, PlayerLooped};
+ghost use Rattle.dash_loopers.specs.Looped.{clock_mode, HasLooped, StaysTold, with_parts, owner_of, owner_in, PlayerServes, PlayerPlays, PlayerLooped};
+ghost use Rattle.dash_loopers.specs.Looped.{earlier_of, ends_at, AsksPulse, LoopsBy, LoopsUpTo};
 ghost use Rattle.dash_loopers.specs.ClockedLaws.{playing_at_others, playing_at_disposed, playing_at_quiet};
 
 use crate::looper::{StageLooper, close};
@@ -163,8 +166,9 @@ impl<'a, R: Wait> Place<'a, R> {
 }
 
 impl StageLooper {
-    /// Loops by the clock until its queue is over, the run is given up, or where there is an end, until that time in milliseconds. Where it
-    /// finds no memory it has given up, and the run with it. One that has ended or given up does nothing.
+    /// Loops by the clock until its queue is over, the run is given up, or where there is an end, until that time in milliseconds, each time
+    /// up to the pulse that is asked for. Where it finds no memory it has given up, and the run with it. One that has ended or given up
+    /// does nothing.
     pub fn run_by_clock<R: Wait + time::Clock, C: Clock, G: Gate>(
         &mut self,
         rt: &R,
@@ -183,6 +187,8 @@ impl StageLooper {
         ensures stays { (is_ended self.old.last || is_given_up self.old.last) ≡ true → self.new ≡ self.old }
         ensures plays { HasPlayedBy script.now self.old self.new }
         ensures clocked { StaysByClock (in_free_mode (C.shows timer.now.clock.now) timer.now.start) self.old self.new }
+        ensures grew { StaysTold self.old self.new }
+        ensures rounds { LoopsUpTo (clock_mode C.shows timer.now) script.now end self.old self.new }
     {
         let pace = Pace { gate, timer };
         for _ in rt.forever() {
@@ -223,6 +229,9 @@ impl StageLooper {
         ensures stays { (is_ended self.old.last || is_given_up self.old.last) ≡ true → self.new ≡ self.old }
         ensures plays { HasPlayedBy script.now self.old self.new }
         ensures clocked { StaysByClock (in_free_mode (C.shows timer.now.clock.now) timer.now.start) self.old self.new }
+        ensures grew { StaysTold self.old self.new }
+        ensures round { RunsRound false script.now now self.old self.new }
+        ensures waits { ComesToWaitAt script.now now self.old self.new }
     {
         if self.has_ended() {
             return;
@@ -243,6 +252,8 @@ impl StageLooper {
         ensures last { self.new.last ≡ self.old.last }
         ensures plays { HasPlayedBy script.now self.old self.new }
         ensures posters { posters_of self.new ≡ posters_of self.old }
+        ensures held { self.new.looper ≡ self.old.looper }
+        ensures asks { AsksPulse self.old self.new result }
     {
         let Some(mut parts) = self.parts.take() else {
             unreachable!()
@@ -270,6 +281,8 @@ impl StageLooper {
         requires going { (is_ended self.old.last ≡ false) × (is_given_up self.old.last ≡ false) }
         ensures number { self.new.number ≡ self.old.number }
         ensures looped { HasLooped (clock_mode C.shows pace.now.timer.now) script.now hall.now self.old self.new }
+        ensures round { RunsRound false script.now now self.old self.new }
+        ensures waits { ComesToWaitAt script.now now self.old self.new }
     {
         let began = Snapshot::of(&*self);
         let queue = of_looper(&hall.queues, self.number);
@@ -301,6 +314,7 @@ impl StageLooper {
         requires going { (is_ended self.old.last ≡ false) × (is_given_up self.old.last ≡ false) }
         ensures last { self.new.last ≡ round_of result }
         ensures looped { HasLooped (clock_mode C.shows pace.now.timer.now) script.now hall.now self.old self.new }
+        ensures loops { LoopsBy (clock_mode C.shows pace.now.timer.now) script.now cap self.old self.new result }
     {
         let began = Snapshot::of(&*self);
         let queue = of_looper(&hall.queues, self.number);
@@ -365,6 +379,7 @@ impl StageLooper {
         requires hall { IsHall player.place.script.now player.place.hall.now }
         requires looped { PlayerLooped (clock_mode C.shows player.timer.now) player (with_parts self.old last player.parts) }
         ensures last { self.new.last ≡ last }
+        ensures held { self.new.looper ≡ self.old.looper }
         ensures looped { PlayerLooped (clock_mode C.shows player.entry.timer.now) player.entry self.new }
     {
         let place = player.place;
@@ -397,20 +412,27 @@ fn last_of(how: Loop) -> Round
 }
 
 /// A pulse's stamp in nanoseconds, in milliseconds rounded up.
-fn rounded_up(stamp: Option<u64>) -> Option<u64> {
-    Some(stamp?.div_ceil(NANOS_PER_MILLI))
+fn rounded_up(stamp: Option<u64>) -> Option<u64>
+    ensures { result ≡ option_map millis_up stamp }
+{
+    let nanos = stamp?;
+    Some(nanos.div_ceil(NANOS_PER_MILLI))
 }
 
 /// Whether a loop ended at a moment that is no earlier than the end.
-fn is_at_end(how: Loop, end: Option<u64>) -> bool {
+fn is_at_end(how: Loop, end: Option<u64>) -> bool
+    ensures { result ≡ ends_at how end }
+{
     match (how, end) {
         (Loop::Cap { now }, Some(end)) => end <= now,
         _ => false,
     }
 }
 
-/// The earlier of two times.
-fn earlier(a: Option<u64>, b: Option<u64>) -> Option<u64> {
+/// The earlier of two times, where there are two.
+fn earlier(a: Option<u64>, b: Option<u64>) -> Option<u64>
+    ensures { result ≡ earlier_of a b }
+{
     match (a, b) {
         (Some(x), Some(y)) => Some(x.min(y)),
         (Some(x), None) => Some(x),

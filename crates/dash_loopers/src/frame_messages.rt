@@ -1,5 +1,5 @@
 //! What a looper does with the messages of its choreographer and of its gauges.
-ghost use Rattle.std.specs.Prelude.{◌≡◌, [], ◌∷◌, ◌++◌, map, None, IsTrue, true, false, OnOk};
+ghost use Rattle.std.specs.Prelude.{◌≡◌, ◌<◌, ◌≤◌, [], ◌∷◌, ◌++◌, map, None, IsTrue, true, false, OnOk};
 ghost use mathlib.Core.List.{IsPrefix};
 ghost use Rattle.frame_phases.specs.Pulses.{is_pulse_if_any};
 ghost use Rattle.looper_run.specs.Holding.{held, IsSameOwn};
@@ -18,7 +18,7 @@ ghost use Rattle.run_model.specs.Loopers.{starts_frame, object_set};
 ghost use Rattle.looper_run.specs.Tests.{Unless};
 ghost use Rattle.choreographer.specs.declared.host.HostSent.TheVariants.{NoMemory as NoRoom};
 ghost use Rattle.choreographer.specs.Calls.{stamp_in};
-ghost use Rattle.dash_loopers.specs.Places.{ServesOn, PlaysOn, DeliversOn, DeliversPulseOn, PulsesOn};
+ghost use Rattle.dash_loopers.specs.Places.{ServesOn, PlaysOn, DeliversOn, DeliversPulseOn, PulsesOn, PulsedOn, IsDueAt};
 
 use crate::player::{Parts, Place, did};
 use crate::view_root::Painted;
@@ -79,6 +79,7 @@ impl<'a, R: Wait> Place<'a, R> {
         ensures untimed { CallsUntimed own.old.poster.now own.new.poster.now parts.old parts.new }
         ensures is_pulse { IsTrue (is_pulse_if_any self.now.script.now.period (stamp_in result)) }
         ensures pulses { DeliversPulseOn self.now now own.old own.new parts.old parts.new result }
+        ensures looked { PulsedOn self.now now own.old own.new parts.old parts.new result }
         ensures acts { own.new.journal.now.acts ≡ own.old.journal.now.acts }
     {
         let began = Snapshot::of(&*own.poster);
@@ -153,6 +154,8 @@ impl<'a, R: Wait> Place<'a, R> {
         ensures seen { IsPrefix parts.old.frames.view.seen parts.new.frames.view.seen }
         ensures asks { asks_of parts.new.frames ≡ asks_of parts.old.frames }
         ensures calls { calls_of own.new.poster.now ≡ calls_of own.old.poster.now }
+        ensures due { phase < phase_count self.now.script.now.edition → IsDueAt now phase parts.old.frames parts.new.frames }
+        ensures beyond { phase_count self.now.script.now.edition ≤ phase → parts.new ≡ parts.old }
     {
         let phases = phase_count(self.script.edition);
         if phase >= phases {

@@ -2,7 +2,7 @@
 ghost use Rattle.std.specs.Prelude.{◌≡◌, ◌+◌, ◌<◌, true, false, IfOk};
 ghost use Rattle.looper_run.specs.Round.{is_ended};
 ghost use Rattle.dash_hall.specs.Kits.{IsHall, IsKitOf, HasSeenOver, IsUnusedKit};
-ghost use Rattle.dash_loopers.specs.Loopers.{posters_of, ComesToWait, WaitsForNothing, IsLooper, IsLooperOf, ArePartsOf, HasRun, HasTold, HasDisposedLast, is_given_up, until_of};
+ghost use Rattle.dash_loopers.specs.Loopers.{posters_of, ComesToWait, WaitsForNothing, HasDoneNothing, IsLooper, IsLooperOf, ArePartsOf, HasRun, HasTold, HasDisposedLast, is_given_up, until_of};
 ghost use Rattle.dash_loopers.specs.Players.{AreSameParts};
 ghost use Rattle.dash_loopers.specs.Played.{HasCome, HasPlayed, HasLeft, HasComeBy, HasLeftBy};
 ghost use Rattle.run_model.specs.Loopers.{Looper as LooperState, first_looper};
@@ -52,6 +52,7 @@ impl StageLooper {
         ensures posters { IfOk result (λ l. posters_of l ≡ kit.posters.items) }
         ensures waits { IfOk result (λ l. WaitsForNothing l.last) }
         ensures begun { IfOk result (λ l. HasCome script.now l (first_looper script.now)) }
+        ensures nothing { IfOk result (HasDoneNothing kit) }
     {
         let Kit {
             mut posters,
@@ -101,7 +102,7 @@ impl StageLooper {
     }
 
     /// When its first message is due that no barrier holds back, in milliseconds, as its last round left it. None where there is none,
-    /// or the round didn't end with a wait.
+    /// or the round didn't end with a wait. Behind a loop by a clock it is None.
     pub fn until(&self) -> Option<u64>
         ensures { result ≡ until_of self.now.last }
     {

@@ -5,6 +5,7 @@ use Rattle.run_model.specs.Moments.{in_free_mode}
 use Rattle.dash_loopers.specs.declared.looper.StageLooper.{StageLooper}
 use Rattle.dash_loopers.proofs.LooperQueue.{within_queues, at_queue_here}
 use Rattle.dash_loopers.proofs.LooperLooped.{looped_by_round, looped_here}
+use Rattle.dash_loopers.proofs.LooperRounds.{round_here, waits_here}
 use Rattle.dash_loopers.proofs.looper.StageLooper.drain.Goals as goal
 
 pub of_looper-queue-requires : goal.of_looper-queue-requires
@@ -37,3 +38,17 @@ pub returns-clause-looped : goal.returns-clause-looped
 returns-clause-looped g c =
     let m = in_free_mode (g.C.Clock.shows c.args.pace.now.timer.now.clock.now) c.args.pace.now.timer.now.start in
     looped_here m c.args.script.now c.args.hall.now c.args.self.now c.take_back.new.self _ (c.run_round-last.ensures.origin ∙ c.player-player.ensures.owner) c.take_back.ensures.looped
+
+pub returns-clause-round : goal.returns-clause-round
+returns-clause-round g c =
+    let ran = c.run_round-last.ensures in
+    round_here c.args.script.now c.args.hall.now c.args.now c.args.self.now c.player-player.new.self c.take_back.new.self c.of_looper-queue.result.now c.run_round-last.new.self c.run_round-last.result
+    c.requires.mode c.requires.hall c.requires.looper c.requires.going c.of_looper-queue.ensures c.player-player.ensures.same c.take_back.ensures.held c.take_back.ensures.last
+    (record { same = ran.same; ended = ran.ended; round = ran.round; looks = round_any _ c.args.now c.player-player.new.self.looper c.run_round-last.new.self c.run_round-last.result ran.looks })
+
+pub returns-clause-waits : goal.returns-clause-waits
+returns-clause-waits g c =
+    let ran = c.run_round-last.ensures in
+    waits_here c.args.script.now c.args.hall.now c.args.now c.args.self.now c.player-player.new.self c.take_back.new.self c.of_looper-queue.result.now c.run_round-last.new.self c.run_round-last.result
+    c.requires.mode c.requires.hall c.requires.looper c.requires.going c.of_looper-queue.ensures c.player-player.ensures.same c.take_back.ensures.held c.take_back.ensures.last
+    (record { same = ran.same; ended = ran.ended; round = ran.round; looks = round_any _ c.args.now c.player-player.new.self.looper c.run_round-last.new.self c.run_round-last.result ran.looks })

@@ -40,6 +40,11 @@ returns-clause-posters c =
     posters_begin c.args.kit c.args.number c.remove-poster.result c.make.result.held.poster c.remove-poster.new.self.items (kit_many c.args.script.now c.args.hall.now c.args.number of c.args.kit c.requires.kit)
     c.remove-poster.ensures.value c.remove-poster.ensures.items (ap (λ (h : Holding). h.poster) c.make.ensures.held)
 
+pub returns-clause-nothing : goal.returns-clause-nothing
+returns-clause-nothing c =
+    let held = c.make.ensures.held in
+    record { acts = ap (λ (h : Holding). h.journal.acts) held; idle_owed = c.make.ensures.flags.0; pass = ap (λ (h : Holding). h.pass) held }
+
 pub returns-clause-begun : goal.returns-clause-begun
 returns-clause-begun c =
     let of : IsLooperOf c.args.script.now c.args.hall.now c.args.number = record { few = c.requires.fits; one = c.requires.number; is_hall = c.requires.hall } in

@@ -2,7 +2,7 @@ use Rattle.std.proofs.Common.{◌≡◌, Some}
 use Rattle.dash_loopers.proofs.LooperPlaces.{frame_of_badge}
 use Rattle.dash_loopers.proofs.LooperKits.{parts_of}
 use Rattle.dash_loopers.proofs.LooperQueue.{within_frames}
-use Rattle.dash_loopers.proofs.LooperNext.{looper_asked, played_asked, posters_asked}
+use Rattle.dash_loopers.proofs.LooperNext.{looper_asked, played_asked, pulse_asked, posters_asked}
 use Rattle.dash_loopers.proofs.looper.StageLooper.next_pulse.Goals as goal
 
 pub of_looper-choreographer-requires : goal.of_looper-choreographer-requires
@@ -32,3 +32,9 @@ returns-clause-posters g c =
     let l = c.args.self.now in
     let is : l.parts ≡ Some c.in-Some.parts = cc in
     posters_asked l c.in-Some.parts is
+
+pub returns-clause-asks : goal.returns-clause-asks
+returns-clause-asks g c =
+    let l = c.args.self.now in
+    let is : l.parts ≡ Some c.in-Some.parts = cc in
+    pulse_asked l.parts c.in-Some.parts c.asked-stamp.new.pass c.asked-stamp.result c.rounded_up.result is c.asked-stamp.ensures.turn c.rounded_up.ensures

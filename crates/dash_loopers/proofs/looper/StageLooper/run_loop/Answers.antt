@@ -7,6 +7,7 @@ use Rattle.dash_loopers.proofs.LooperKits.{looper_of}
 use Rattle.dash_loopers.proofs.LooperMoments.{setting_free}
 use Rattle.dash_loopers.proofs.LooperQueue.{within_queues, at_queue_here}
 use Rattle.dash_loopers.proofs.LooperLooped.{looped_by_loop, looped_here}
+use Rattle.dash_loopers.proofs.LooperRounds.{loop_here}
 use Rattle.dash_loopers.proofs.looper.StageLooper.run_loop.Goals as goal
 
 pub of_looper-queue-requires : goal.of_looper-queue-requires
@@ -44,3 +45,10 @@ pub returns-clause-looped : goal.returns-clause-looped
 returns-clause-looped g c =
     let m = in_free_mode (g.C.Clock.shows c.args.pace.now.timer.now.clock.now) c.args.pace.now.timer.now.start in
     looped_here m c.args.script.now c.args.hall.now c.args.self.now c.take_back.new.self _ (c.run_loop-how.ensures.origin ∙ c.player-player.ensures.owner) c.take_back.ensures.looped
+
+pub returns-clause-loops : goal.returns-clause-loops
+returns-clause-loops g c =
+    let timer = c.args.pace.now.timer.now in
+    loop_here (g.C.Clock.shows timer.clock.now) timer.start c.args.cap c.args.script.now c.args.hall.now c.args.self.now c.player-player.new.self c.take_back.new.self
+    c.of_looper-queue.result.now c.run_loop-how.new.self c.run_loop-how.result c.requires.mode c.requires.hall c.requires.looper c.of_looper-queue.ensures c.player-player.ensures.same c.take_back.ensures.held
+    c.run_loop-how.ensures.loops

@@ -38,7 +38,7 @@ returns-clause-round g c =
     let going : (is_ended l.last || is_given_up l.last) ≡ false = ap₂ (λ a b. a || b) no_end no_want in
     record {
       stopped = λ e. absurd (let wrong : false ≡ true = sym going ∙ e in cc);
-      ran = λ e. ran_on c.args.script.now hall c.requires.mode c.args.now l c.of_looper.result.now c.run_round-self.new.self c.run_round-self.result c.requires.hall c.requires.looper c.of_looper.ensures c.run_round-self.ensures.round;
+      ran = λ e. ran_on true c.args.script.now hall c.requires.mode c.args.now l c.of_looper.result.now c.run_round-self.new.self c.run_round-self.result c.requires.hall c.requires.looper c.of_looper.ensures c.run_round-self.ensures.round;
       looks = λ e. round_any _ c.args.now l.looper c.run_round-self.new.self c.run_round-self.result c.run_round-self.ensures.looks;
     }
 
@@ -46,7 +46,7 @@ pub returns-clause-waits : goal.returns-clause-waits
 returns-clause-waits g c =
     let hall = c.args.hall.now in
     let l = c.args.self.now in
-    comes_to_wait c.args.script.now hall c.requires.mode c.args.now l c.of_looper.result.now c.run_round-self.new.self c.run_round-self.result c.requires.hall c.requires.looper c.of_looper.ensures c.run_round-self.ensures.same c.run_round-self.ensures.round
+    comes_to_wait true c.args.script.now hall c.requires.mode c.args.now l c.of_looper.result.now c.run_round-self.new.self c.run_round-self.result c.requires.hall c.requires.looper c.of_looper.ensures c.run_round-self.ensures.same c.run_round-self.ensures.round
 
 pub returns-clause-plays : goal.returns-clause-plays
 returns-clause-plays g c =

@@ -5,7 +5,7 @@ use Rattle.dash_hall.specs.Hosts.{origin_now}
 use Rattle.frame_phases.specs.Pulses.{is_pulse_if_any}
 use Rattle.choreographer.specs.Calls.{stamp_in}
 use Rattle.dash_loopers.proofs.LooperPlaces.{its_period}
-use Rattle.dash_loopers.proofs.PlaySteps.{pulse_hosted}
+use Rattle.dash_loopers.proofs.PlaySteps.{pulse_here, pulse_hosted}
 use Rattle.dash_loopers.proofs.LooperClock.{untimed_same, pulse_untimed_hosted}
 use Rattle.dash_loopers.proofs.player.Place.deliver_pulse.Goals as goal
 
@@ -30,3 +30,10 @@ returns-clause-untimed g c =
       own = pulse_untimed_hosted (origin_now h) (origin_now k) (λ n. n == nanos_of h.uptime.now.now) c.args.own.now.poster.now h.poster.now k.poster.now k.pass.now c.args.parts.now.frames c.deliver.new.pass c.deliver.result c.deliver.ensures.origin c.deliver.ensures.ready c.host-host.ensures.began.0 c.host-host.ensures.poster.1 c.deliver.ensures.pulse;
       others = untimed_same c.args.parts.now.others.items c.args.parts.now.others.items refl;
     }
+
+pub returns-clause-looked : goal.returns-clause-looked
+returns-clause-looked g c =
+    let h = c.host-host.result in
+    let k = c.deliver.new.self in
+    pulse_here c.args.self.now.looper c.args.now h.uptime.now.now (origin_now h) (origin_now k) c.args.own.now.poster.now h.poster.now k.poster.now c.args.parts.now.frames c.deliver.new.pass c.deliver.result
+    c.deliver.ensures.origin c.host-host.ensures.poster.1 (ap (λ (x : Still). x.now) c.host-host.ensures.uptime) c.host-host.ensures.moment.1 c.deliver.ensures.pulse

@@ -1,9 +1,11 @@
-use Rattle.std.proofs.Common.{refl, ap, arith}
+use Rattle.std.proofs.Common.{ℕ, refl, ap, subst, arith}
 use Rattle.std.specs.Prelude.{◌==◌}
+use Rattle.choreographer.specs.Calls.{DueBy}
 use Rattle.choreographer.proofs.Recorded.{due_records}
 use Rattle.run_model.specs.FrameAsks.{asks_in}
 use Rattle.run_model.specs.FrameRuns.{nanos_of}
 use Rattle.loop_model.proofs.Prefixes.{prefix_self}
+use Rattle.dash_hall.specs.declared.uptime.Still.{Still}
 use Rattle.dash_hall.specs.Hosts.{origin_now}
 use Rattle.dash_loopers.specs.Played.{calls_of}
 use Rattle.dash_loopers.proofs.PlaySteps.{untold_hosted, played_with}
@@ -51,3 +53,19 @@ returns-clause-clocked g c =
 
 pub returns-then-phase-phases-clause-clocked : goal.returns-then-phase-phases-clause-clocked
 returns-then-phase-phases-clause-clocked g c = begins_by_clock c.args.now c.args.own.now.poster.now c.args.own.now.poster.now refl
+
+pub returns-clause-due : goal.returns-clause-due
+returns-clause-due g c = λ within. (
+  c.on_due.result,
+  subst (λ (n : ℕ). DueBy c.args.parts.now.frames c.on_due.new.pass (λ m. m == nanos_of n) c.args.phase c.on_due.result)
+      (ap (λ (x : Still). x.now) c.host-host.ensures.uptime) c.on_due.ensures.due,
+)
+
+pub returns-then-phase-phases-clause-due : goal.returns-then-phase-phases-clause-due
+returns-then-phase-phases-clause-due g c = λ within. absurd (omega (arith, within, c.phase_count-phases.ensures, c.if-phase-phases.true))
+
+pub returns-clause-beyond : goal.returns-clause-beyond
+returns-clause-beyond g c = λ beyond. absurd (omega (arith, beyond, c.phase_count-phases.ensures, c.if-phase-phases.false))
+
+pub returns-then-phase-phases-clause-beyond : goal.returns-then-phase-phases-clause-beyond
+returns-then-phase-phases-clause-beyond g c = λ beyond. refl
