@@ -23,7 +23,8 @@ pub record RunsByClock (m : Mode) (s : Script) (hall : Hall) (before after : Pos
   pub number : after.number ≡ before.number
   pub made : after.gave_up ≡ false → RunsAll m s before after
 
--- the looper is the same, and unless memory was wanting it has played on from wherever it stood, and the moments of what it called are the clock's, or the queue's time
+-- the looper is the same, and unless memory was wanting it has played on from wherever it stood, and the moments of what it called are the clock's, or the
+-- queue's time
 pub record LoopsByClock (m : Mode) (s : Script) (hall : Hall) (before after : StageLooper) : Type 0 where
   pub looper : IsLooper s hall after
   pub number : after.number ≡ before.number

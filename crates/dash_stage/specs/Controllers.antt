@@ -27,7 +27,8 @@ handed_out posters = map (λ p. p.view.sealed) posters
 abbrev pub parts_in : List (Vec Segment) → List (List Segment)
 parts_in lists = map (λ v. v.items) lists
 
--- the controller of the script, with what it needs in the hall; it keeps the parts of the histories that it handed out; its turns at the choreographers, which look for the pulse that is asked for, record nothing
+-- the controller of the script, with what it needs in the hall; it keeps the parts of the histories that it handed out; its turns at the choreographers, which
+-- look for the pulse that is asked for, record nothing
 pub record IsControllerIn (lockstep : Bool) (s : Script) (hall : Hall) (c : Controller) : Type 0 where
   pub posters : ArePostersOf (controller s) hall.queues.items c.kit.posters.items
   pub frames : ArePassesOf (s.threads + 2) hall.choreographers.items c.kit.frames.items
@@ -127,7 +128,8 @@ AtPoster R place before after = (d : Sender) → R (slice_index_or before.kit.po
 
 -- its posters of all other queues are as before
 abbrev pub OtherPostersStay : ℕ → Controller → Controller → Type 0
-OtherPostersStay place before after = (q : ℕ) (d : Sender) → q ≢ place → slice_index_or after.kit.posters.items q d ≡ slice_index_or before.kit.posters.items q d
+OtherPostersStay place before after =
+    (q : ℕ) (d : Sender) → q ≢ place → slice_index_or after.kit.posters.items q d ≡ slice_index_or before.kit.posters.items q d
 
 -- its passes of all other choreographers are as before
 abbrev pub OtherPassesStay : ℕ → Controller → Controller → Type 0

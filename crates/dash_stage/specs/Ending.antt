@@ -16,13 +16,12 @@ use Rattle.shared_queue.specs.Known.{Shared}
 use Rattle.shared_queue.specs.Constants.{Constants}
 use Rattle.looper_run.specs.Holding.{Sender}
 use Rattle.choreographer.specs.Known.{Shared as Frames, Known as Pass}
-use Rattle.choreographer.specs.Ends.{AreTheirs}
 use Rattle.run_model.specs.Run.{setting_of}
 use Rattle.dash_hall.specs.declared.kit.Kit.{Kit}
 use Rattle.dash_hall.specs.Kits.{ArePostersOf, badge_of, badge_for, FrameBadge, frame_badge_of}
 use Rattle.dash_hall.specs.Dealing.{given_of}
 use Rattle.dash_stage.specs.Controllers.{handed_out, parts_in}
-use Rattle.dash_stage.specs.Records.{HasAllOf, passes_at}
+use Rattle.dash_stage.specs.Records.{HasAllOf, passes_at, AreOfPasses}
 
 -- each kit has a poster
 abbrev pub HavePosters : List Kit → Type 0
@@ -39,7 +38,8 @@ AreSealed kits lists = (k : ℕ) (d : Kit) → k + 1 ≡ length kits → handed_
 
 -- the first of them handed these parts out
 abbrev pub HasSealedNext : List Kit → List Segment → Type 0
-HasSealedNext kits parts = (k : ℕ) (d : Kit) (p : Sender) → k + 1 ≡ length kits → (slice_index_or (slice_index_or kits k d).posters.items 0 p).view.sealed ≡ parts
+HasSealedNext kits parts =
+    (k : ℕ) (d : Kit) (p : Sender) → k + 1 ≡ length kits → (slice_index_or (slice_index_or kits k d).posters.items 0 p).view.sealed ≡ parts
 
 -- so it is with each kit, and there is one for each sender
 pub record AreNext (q : Shared TableId) (kits : List Kit) : Type 0 where
@@ -92,7 +92,8 @@ pub record KeepFrames (before after : List Kit) : Type 0 where
 
 -- the passes that each kit has begin with those of this looper's choreographer
 abbrev pub BeginWithPasses : Script → ℕ → Frames → List Kit → Type 0
-BeginWithPasses s looper c kits = (k : ℕ) (d : Kit) → k < length kits → IsPrefix (given_of s looper c k) (map frame_badge_of (slice_index_or kits k d).frames.items)
+BeginWithPasses s looper c kits =
+    (k : ℕ) (d : Kit) → k < length kits → IsPrefix (given_of s looper c k) (map frame_badge_of (slice_index_or kits k d).frames.items)
 
 -- each kit has the passes that its sender has of these choreographers, those of the loopers from `from` on
 abbrev pub HaveAllPasses : (ℕ → List FrameBadge) → List Kit → Type 0
@@ -107,9 +108,9 @@ pub record HaveFramesLeft (given_up : ℕ → ℕ) (before after : List Kit) : T
   pub count : length after ≡ length before
   pub each : (k : ℕ) (d : Kit) → k < length before → HasFramesLeft (given_up k) (slice_index_or before k d) (slice_index_or after k d)
 
--- the entries are, counted by any test, those that the next passes of this looper's choreographer recorded
+-- the entries are those that the next passes of this looper's choreographer recorded
 abbrev pub AreOfNext : Script → ℕ → List Kit → List FrameEntry → Type 0
-AreOfNext s looper kits entries = (d : Kit) (p : Pass) → AreTheirs entries (passes_at s looper 0 kits d p)
+AreOfNext s looper kits entries = (d : Kit) (p : Pass) → AreOfPasses entries (passes_at s looper 0 kits d p)
 
 -- the entries begin with what each of this sender's next two passes has seen
 abbrev pub BeginWithOwn : ℕ → List Kit → List FrameEntry → Type 0

@@ -9,7 +9,8 @@ use Rattle.dash_stage.specs.declared.control.Controller.{Controller}
 
 -- each of the first n queues but main's was quit plainly at this time by one call, which may have been refused
 abbrev pub AreQuitBelow : ℕ → ℕ → Controller → Controller → Type 0
-AreQuitBelow n now before after = (q : ℕ) (d : Sender) → 0 < q → q < n → QuitsOf (slice_index_or before.kit.posters.items q d) (slice_index_or after.kit.posters.items q d) false now
+AreQuitBelow n now before after =
+    (q : ℕ) (d : Sender) → 0 < q → q < n → QuitsOf (slice_index_or before.kit.posters.items q d) (slice_index_or after.kit.posters.items q d) false now
 
 -- so it is with each queue but main's
 abbrev pub AreQuit : ℕ → Controller → Controller → Type 0

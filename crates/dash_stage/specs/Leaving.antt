@@ -8,7 +8,8 @@ use Rattle.dash_loopers.specs.declared.looper.StageLooper.{StageLooper}
 use Rattle.dash_loopers.specs.Loopers.{is_given_up, HasDisposedLast}
 use Rattle.dash_loopers.specs.Played.{HasCome, HasLeft, HasComeBy, HasLeftBy}
 
--- wherever the looper stood, in lockstep or by a clock, its journal and its kit tell so; and unless memory was wanting, it disposed of its queue by its last call, if at all
+-- wherever the looper stood, in lockstep or by a clock, its journal and its kit tell so; and unless memory was wanting, it disposed of its queue by its last
+-- call, if at all
 pub record HasGiven (s : Script) (number : ℕ) (l : StageLooper) (j : Journal) (kit : Kit) : Type 0 where
   pub left : (a : Looper) → HasCome s l a → HasLeft s number j kit a
   pub left_by : (did a : Looper) → HasComeBy s l did a → HasLeftBy s number j kit a

@@ -34,8 +34,10 @@ IsMet time clock (NotBefore t) = t ≤ clock
 
 -- the calls of looper q that the state tells came at their times: on its own queue all but the looks that disposed of it, and on each other queue all
 pub record AreCallsOnTime (s : Script) (c : Controller) (q : ℕ) (a : Looper) : Type 0 where
-  pub own : (d : Sender) → q < length c.kit.posters.items → are_on_time (map (λ x. x.timing) (sent_on q a.sent)) (befores_called (looper_sender s q) (whole_on c q d)) ≡ true
-  pub elsewhere : (r : ℕ) (d : Sender) → r ≢ q → r < length c.kit.posters.items → are_on_time (map (λ x. x.timing) (sent_on r a.sent)) (befores (looper_sender s q) (whole_on c r d)) ≡ true
+  pub own : (d : Sender) → q < length c.kit.posters.items
+      → are_on_time (map (λ x. x.timing) (sent_on q a.sent)) (befores_called (looper_sender s q) (whole_on c q d)) ≡ true
+  pub elsewhere : (r : ℕ) (d : Sender) → r ≢ q → r < length c.kit.posters.items
+      → are_on_time (map (λ x. x.timing) (sent_on r a.sent)) (befores (looper_sender s q) (whole_on c r d)) ≡ true
 
 -- the looper stands at a state whose calls came at their times
 pub record IsTimelyLooper (s : Script) (c : Controller) (l : StageLooper) : Type 0 where
@@ -45,7 +47,8 @@ pub record IsTimelyLooper (s : Script) (c : Controller) (l : StageLooper) : Type
 
 -- so it is with each looper, where each queue's history is one that it may have
 abbrev pub ArePlayed : Script → Stage → Type 0
-ArePlayed s st = AreSound s st.controller → (k : ℕ) (d : StageLooper) → k < length st.loopers.items → IsTimelyLooper s st.controller (slice_index_or st.loopers.items k d)
+ArePlayed s st =
+    AreSound s st.controller → (k : ℕ) (d : StageLooper) → k < length st.loopers.items → IsTimelyLooper s st.controller (slice_index_or st.loopers.items k d)
 
 -- each looper stands at the state before the first act
 abbrev pub HaveBegun : Script → List StageLooper → Type 0
@@ -61,11 +64,13 @@ IsInTime s time l es = (clock (empty_base (sender_count s)) es ≡ time) ⊎ ((i
 
 -- so it is with each queue at the stage's time
 abbrev pub AreInTime : Script → Stage → Type 0
-AreInTime s st = (q : ℕ) (l : StageLooper) (d : Sender) → q < length st.loopers.items → IsInTime s st.time (slice_index_or st.loopers.items q l) (whole_on st.controller q d)
+AreInTime s st =
+    (q : ℕ) (l : StageLooper) (d : Sender) → q < length st.loopers.items → IsInTime s st.time (slice_index_or st.loopers.items q l) (whole_on st.controller q d)
 
 -- where each queue's history is one that it may have, the threads' calls on each came first at their time
 abbrev pub HaveComeFirst : Script → Stage → Type 0
-HaveComeFirst s st = AreSound s st.controller → (q : ℕ) (d : Sender) → q < length st.controller.kit.posters.items → come_first s.threads (whole_on st.controller q d) ≡ true
+HaveComeFirst s st =
+    AreSound s st.controller → (q : ℕ) (d : Sender) → q < length st.controller.kit.posters.items → come_first s.threads (whole_on st.controller q d) ≡ true
 
 -- each queue is as at the start of a block at this time
 abbrev pub AreAtBlock : Script → ℕ → Stage → Type 0
@@ -75,7 +80,8 @@ AreAtBlock s time st = (q : ℕ) (d : Sender) → q < length st.controller.kit.p
 abbrev pub LiesAhead : ℕ → Stage → Type 0
 LiesAhead time st = (st.time < time) ⊎ ((time ≡ 0) × AreUnseen st.controller.kit.posters.items)
 
--- all have seen the same, and where each queue's history is one that it may have, the queues are at the stage's time, each looper stands at a state whose calls came at their times, and the threads' calls came first
+-- all have seen the same, and where each queue's history is one that it may have, the queues are at the stage's time, each looper stands at a state whose calls
+-- came at their times, and the threads' calls came first
 pub record IsInStep (s : Script) (st : Stage) : Type 0 where
   pub same : HaveSeenTheSame st
   pub in_time : AreSound s st.controller → AreInTime s st

@@ -5,12 +5,13 @@ use mathlib.Core.List.{IsPrefix}
 use Rattle.dash_script.specs.declared.script.Script.{Script}
 use Rattle.run_model.specs.Histories.{history_of}
 use Rattle.loop_model.specs.declared.entry.Entry.{Entry}
+use Rattle.frame_phases.specs.declared.entry.FrameEntry.{FrameEntry}
 use Rattle.loop_model.specs.declared.journal.Journal.{Journal}
 use Rattle.loop_model.specs.declared.record.QueueRecord.{QueueRecord}
 use Rattle.frame_phases.specs.declared.entry.FrameRecord.{FrameRecord}
 use Rattle.looper_run.specs.Holding.{Sender}
 use Rattle.choreographer.specs.Known.{Known as Pass}
-use Rattle.choreographer.specs.Ends.{AreTheirs}
+use Rattle.choreographer.specs.Ends.{AreTheirs, StandInOrder}
 use Rattle.run_model.specs.Moments.{Mode}
 use Rattle.std.specs.List.{range_with_len}
 use Rattle.run_model.specs.Asks.{entries_by}
@@ -51,10 +52,15 @@ passes_at s looper place kits d p =
     ∷ slice_index_or (slice_index_or kits (s.threads + s.loopers) d).frames.items place p
     ∷ []
 
--- each frame record has, counted by any test, the entries that the passes of its choreographer recorded
+-- the entries are those that the passes recorded: just these, counted by any test, and those of each pass in its order
+pub record AreOfPasses (entries : List FrameEntry) (passes : List Pass) : Type 0 where
+  pub theirs : AreTheirs entries passes
+  pub order : StandInOrder entries passes
+
+-- each frame record has the entries that the passes of its choreographer recorded
 abbrev pub AreAllTheirs : Script → List Kit → List FrameRecord → Type 0
 AreAllTheirs s kits records = (q : ℕ) (d : Kit) (p : Pass) (r : FrameRecord) → q < length records
-    → AreTheirs (slice_index_or records q r).entries (passes_at s q q kits d p)
+    → AreOfPasses (slice_index_or records q r).entries (passes_at s q q kits d p)
 
 -- each looper's frame record begins with what each of its two passes has seen
 abbrev pub HaveSeenOwn : ℕ → List Kit → List FrameRecord → Type 0
@@ -71,7 +77,8 @@ AreLooperRuns m s queues js frames = EachLooper (IsLooperRun m s queues) queues 
 
 -- in free mode the moments of what each sender called on each queue are the clock's, or the queue's time
 abbrev pub HaveCalledByClock : Mode → Script → List Kit → Type 0
-HaveCalledByClock m s kits = (k q : ℕ) (d : Kit) (p : Sender) → k < length kits → q < s.loopers → IsByClock m (slice_index_or (slice_index_or kits k d).posters.items q p)
+HaveCalledByClock m s kits =
+    (k q : ℕ) (d : Kit) (p : Sender) → k < length kits → q < s.loopers → IsByClock m (slice_index_or (slice_index_or kits k d).posters.items q p)
 
 -- where the kits' senders called so, these are the records of the queues
 abbrev pub AreRecordsBy : Mode → Script → List Kit → List QueueRecord → Type 0

@@ -12,7 +12,8 @@ use Rattle.dash_stage.specs.Sharing.{OfSenders, HaveSeenTheSame}
 use Rattle.dash_stage.specs.Stages.{IsStageIn, IsStage, HaveRun, HaveRunBy, OthersHaveEnded, LoopersGoOn}
 use Rattle.dash_stage.specs.Timeliness.{AreBy, AreTimelyUpTo, AreRested, HasHaltedLast}
 
--- it is the script's in this mode, all senders have seen the same of each queue, and in free mode the moments of their calls are the clock's, or the queue's time
+-- it is the script's in this mode, all senders have seen the same of each queue, and in free mode the moments of their calls are the clock's, or the queue's
+-- time
 pub record HasEndedBy (m : Mode) (s : Script) (st : Stage) : Type 0 where
   pub stage : IsStageIn m.lockstep s st
   pub same : HaveSeenTheSame st
@@ -30,7 +31,8 @@ pub record HasBegunInLockstep (s : Script) (st : Stage) : Type 0 where
   pub step : IsInStep s st
   pub unseen : AreUnseen st.controller.kit.posters.items
 
--- in lockstep the threads have run all blocks, the queues were closed, main last, the loopers but main have ended, all histories are timely, the loopers have played their acts, in each block the threads' calls came first, and all queues' times were moved together
+-- in lockstep the threads have run all blocks, the queues were closed, main last, the loopers but main have ended, all histories are timely, the loopers have
+-- played their acts, in each block the threads' calls came first, and all queues' times were moved together
 pub record HasEndedInLockstep (s : Script) (st : Stage) : Type 0 where
   pub stage : IsStage s st
   pub run : HaveRun s s.blocks st.threads.items

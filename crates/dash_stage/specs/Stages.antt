@@ -18,11 +18,13 @@ use Rattle.dash_stage.specs.Controllers.{IsControllerIn}
 
 -- the threads of the script, in order
 abbrev pub AreThreads : Script → Hall → List PostingThread → Type 0
-AreThreads s hall ts = (length ts ≡ s.threads) × ((k : ℕ) (d : PostingThread) → k < length ts → IsThread s hall (slice_index_or ts k d) × ((slice_index_or ts k d).number ≡ k))
+AreThreads s hall ts =
+    (length ts ≡ s.threads) × ((k : ℕ) (d : PostingThread) → k < length ts → IsThread s hall (slice_index_or ts k d) × ((slice_index_or ts k d).number ≡ k))
 
 -- the loopers of the script, in order
 abbrev pub AreLoopers : Script → Hall → List StageLooper → Type 0
-AreLoopers s hall ls = (length ls ≡ s.loopers) × ((k : ℕ) (d : StageLooper) → k < length ls → IsLooper s hall (slice_index_or ls k d) × ((slice_index_or ls k d).number ≡ k))
+AreLoopers s hall ls =
+    (length ls ≡ s.loopers) × ((k : ℕ) (d : StageLooper) → k < length ls → IsLooper s hall (slice_index_or ls k d) × ((slice_index_or ls k d).number ≡ k))
 
 -- all senders of the script, with what they need
 pub record IsStageIn (lockstep : Bool) (s : Script) (st : Stage) : Type 0 where

@@ -32,11 +32,13 @@ use Rattle.loop_model.specs.Legal.{AreNumbered}
 abbrev pub whole_on : Controller → ℕ → Sender → List Entry
 whole_on c q d = (slice_index_or c.kit.posters.items q d).view.seen
 
--- the controller's calls were in time, and each thread's calls for its lines of these blocks came in their blocks, in the order of these, and before the controller's quit; and main's time was moved to the time of each of these blocks, but for one at the start
+-- the controller's calls were in time, and each thread's calls for its lines of these blocks came in their blocks, in the order of these, and before the
+-- controller's quit; and main's time was moved to the time of each of these blocks, but for one at the start
 pub record IsTimelyUpTo (s : Script) (past : List Block) (q : ℕ) (es : List Entry) : Type 0 where
   pub controls : is_called_in_time (controller s) es ≡ true
   pub before_quit : are_before_quit s.threads (controller s) es ≡ true
-  pub threads : (thread : ℕ) → thread < s.threads → are_on_time (map (λ l. InBlock l.time) (lines_on s (labels_on q (lines_of thread s.blocks)) q (lines_of thread past))) (befores thread es) ≡ true
+  pub threads : (thread : ℕ) → thread < s.threads
+      → are_on_time (map (λ l. InBlock l.time) (lines_on s (labels_on q (lines_of thread s.blocks)) q (lines_of thread past))) (befores thread es) ≡ true
   pub in_order : are_in_order s q es ≡ true
   pub reached : q ≡ 0 → AreReached (controller s) past es
 
@@ -65,14 +67,16 @@ AreBy time c = (q : ℕ) (d : Sender) → q < length c.kit.posters.items → are
 abbrev pub WaitForNothing : List StageLooper → Type 0
 WaitForNothing ls = (k : ℕ) (d : StageLooper) → k < length ls → WaitsForNothing (slice_index_or ls k d).last
 
--- a looper that has not ended waits for the first message that no barrier holds back, of a queue that is neither over nor quitting, where no such message is due yet, and one that has ended has seen its queue over
+-- a looper that has not ended waits for the first message that no barrier holds back, of a queue that is neither over nor quitting, where no such message is
+-- due yet, and one that has ended has seen its queue over
 pub record IsRested (s : Script) (l : StageLooper) (es : List Entry) : Type 0 where
   pub quiet : is_ended l.last ≡ false → HasNoneDue (empty_base (sender_count s)) es (clock (empty_base (sender_count s)) es)
   pub waits : is_ended l.last ≡ false → until_of l.last ≡ option_map when_of (first_eligible (empty_base (sender_count s)) es)
   pub ended : is_ended l.last ≡ true → is_over (empty_base (sender_count s)) es ≡ true
 
 abbrev pub AreRested : Script → Stage → Type 0
-AreRested s st = (q : ℕ) (l : StageLooper) (d : Sender) → q < length st.loopers.items → IsRested s (slice_index_or st.loopers.items q l) (whole_on st.controller q d)
+AreRested s st =
+    (q : ℕ) (l : StageLooper) (d : Sender) → q < length st.loopers.items → IsRested s (slice_index_or st.loopers.items q l) (whole_on st.controller q d)
 
 -- no message that may be dispatched is due before this time, on a queue that isn't quitting
 abbrev pub HasNoneBefore : ℕ → ℕ → List Entry → Type 0
@@ -96,11 +100,13 @@ pub record NotLaterThanPulse (looper : ℕ) (before after : Controller) (next : 
 
 -- unless this looper has ended, the answer is not later than the time until which it waits
 abbrev pub NotLaterThanWait : ℕ → List StageLooper → Option ℕ → Type 0
-NotLaterThanWait looper ls next = (t : ℕ) (l : StageLooper) → NotLater t next → is_ended (slice_index_or ls looper l).last ≡ false → NotLater t (until_of (slice_index_or ls looper l).last)
+NotLaterThanWait looper ls next =
+    (t : ℕ) (l : StageLooper) → NotLater t next → is_ended (slice_index_or ls looper l).last ≡ false → NotLater t (until_of (slice_index_or ls looper l).last)
 
 -- unless this looper has ended, the controller looked for its pulse, and the answer is not later
 abbrev pub LooksUnlessEnded : ℕ → List StageLooper → Controller → Controller → Option ℕ → Type 0
-LooksUnlessEnded looper ls before after next = (l : StageLooper) → is_ended (slice_index_or ls looper l).last ≡ false → NotLaterThanPulse looper before after next
+LooksUnlessEnded looper ls before after next =
+    (l : StageLooper) → is_ended (slice_index_or ls looper l).last ≡ false → NotLaterThanPulse looper before after next
 
 -- by some turns a poster found a history, and left it as it was or made one entry more, which is such
 pub record TurnsOn (P : Entry → Type 0) (before after : Sender) : Type 0 where
@@ -113,7 +119,8 @@ pub record TurnsOn (P : Entry → Type 0) (before after : Sender) : Type 0 where
 -- so it is with each of the controller's posters
 pub record EachTurnsOn (P : Entry → Type 0) (before after : Controller) : Type 0 where
   pub long : length after.kit.posters.items ≡ length before.kit.posters.items
-  pub each : (q : ℕ) (d : Sender) → q < length before.kit.posters.items → TurnsOn P (slice_index_or before.kit.posters.items q d) (slice_index_or after.kit.posters.items q d)
+  pub each : (q : ℕ) (d : Sender) → q < length before.kit.posters.items
+      → TurnsOn P (slice_index_or before.kit.posters.items q d) (slice_index_or after.kit.posters.items q d)
 
 -- the entry moves the time to this moment
 abbrev pub MovesTo : ℕ → Entry → Type 0
@@ -141,7 +148,8 @@ pub record HandsOut (before after : Sender) (had has : List Segment) : Type 0 wh
 
 -- each queue's time has come to this one, or the queue is over
 abbrev pub HaveCome : Script → ℕ → Controller → Type 0
-HaveCome s now c = (q : ℕ) (d : Sender) → q < length c.kit.posters.items → (now ≤ time_in (calls_on c q d)) ⊎ (is_over (empty_base (sender_count s)) (whole_on c q d) ≡ true)
+HaveCome s now c =
+    (q : ℕ) (d : Sender) → q < length c.kit.posters.items → (now ≤ time_in (calls_on c q d)) ⊎ (is_over (empty_base (sender_count s)) (whole_on c q d) ≡ true)
 
 -- so it is with this queue
 abbrev pub HasComeOn : Script → ℕ → ℕ → Controller → Type 0
@@ -149,4 +157,6 @@ HasComeOn s now place c = (d : Sender) → (now ≤ time_in (calls_on c place d)
 
 -- main's history ends with its halt
 abbrev pub HasHaltedLast : Script → Stage → Type 0
-HasHaltedLast s st = (d : Sender) → 0 < length st.controller.kit.posters.items → AreNumbered (setting_for s 0) (empty_base (sender_count s)) (whole_on st.controller 0 d) → ends_halted (whole_on st.controller 0 d) ≡ true
+HasHaltedLast s st =
+    (d : Sender) → 0 < length st.controller.kit.posters.items → AreNumbered (setting_for s 0) (empty_base (sender_count s)) (whole_on st.controller 0 d)
+    → ends_halted (whole_on st.controller 0 d) ≡ true

@@ -18,11 +18,13 @@ has_turn Others place = not (place == 0)
 
 -- each looper whose turn it isn't is as it was, but for what it has heard
 abbrev pub AwaitTheirTurn : Turn → List StageLooper → List StageLooper → Type 0
-AwaitTheirTurn turn before after = (k : ℕ) (d : StageLooper) → k < length before → has_turn turn k ≡ false → LooperKeeps HaveHeard (slice_index_or before k d) (slice_index_or after k d)
+AwaitTheirTurn turn before after =
+    (k : ℕ) (d : StageLooper) → k < length before → has_turn turn k ≡ false → LooperKeeps HaveHeard (slice_index_or before k d) (slice_index_or after k d)
 
 -- each looper that has the turn, or each that has it not, is so before and after
 abbrev pub AtTurn : Turn → Bool → (StageLooper → StageLooper → Type 0) → List StageLooper → List StageLooper → Type 0
-AtTurn turn has R before after = (k : ℕ) (d : StageLooper) → k < length before → has_turn turn k ≡ has → R (slice_index_or before k d) (slice_index_or after k d)
+AtTurn turn has R before after =
+    (k : ℕ) (d : StageLooper) → k < length before → has_turn turn k ≡ has → R (slice_index_or before k d) (slice_index_or after k d)
 
 -- the looper is as it was
 abbrev pub IsTheSame : StageLooper → StageLooper → Type 0

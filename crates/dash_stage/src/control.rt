@@ -287,6 +287,8 @@ impl Controller {
         requires place { place < script.now.loopers }
         ensures controller { IsControllerIn hall.now.lockstep script.now hall.now self.new }
         ensures here { result ≡ true → AtPoster (λ before after. MayQuit before after now) place self.old self.new }
+        ensures left { has_ended ≡ true → self.new ≡ self.old }
+        ensures made { result ≡ true → has_ended ≡ false → AtPoster (λ before after. QuitsOf before after true now) place self.old self.new }
         ensures bells { RingsNone self.old self.new }
         ensures elsewhere { OtherPostersStay place self.old self.new }
     {

@@ -412,7 +412,7 @@ fn quit_others<R: Wait + time::Clock, C: Clock>(
     done
 }
 
-/// The first of the loopers, main, drains at this moment, in milliseconds.
+/// The first of the loopers, main, drains at this moment, in milliseconds, the end of the script or later.
 fn drain_first<R: Wait + time::Clock, C: Clock, G: Gate>(
     means: &Means<R, G>,
     hall: &Hall,
@@ -425,6 +425,7 @@ fn drain_first<R: Wait + time::Clock, C: Clock, G: Gate>(
     requires hall { IsFreeHall script.now hall.now }
     requires loopers { AreLoopers script.now hall.now loopers.old }
     requires moment { IsMoment (C.shows timer.now.clock.now) timer.now.start now }
+    requires late { script.now.end ≤ now }
     ensures loopers { EachLoops (by_timer C.shows timer.now) script.now hall.now loopers.old loopers.new }
     ensures others { OthersHaveEnded loopers.old → OthersHaveEnded loopers.new }
 {

@@ -1,10 +1,12 @@
 //! How a run is given up.
-ghost use Rattle.std.specs.Prelude.{◌≡◌, ◌<◌, true};
+ghost use Rattle.std.specs.Prelude.{◌≡◌, ◌<◌, true, false};
 ghost use Rattle.dash_hall.specs.Growth.{QuitsOf};
 ghost use Rattle.dash_hall.specs.Kits.{IsHall};
 ghost use Rattle.dash_stage.specs.Controllers.{IsControllerIn, AtPoster, OtherPostersStay};
 ghost use Rattle.dash_stage.specs.GivingUp.{AreQuit, AreRung, IsNudged, IsRung, OthersHaveRun, RingsNone, RingsNoLess};
+ghost use Rattle.dash_stage.specs.declared.side.Turn.TheVariants.{Others};
 ghost use Rattle.dash_stage.specs.Stages.{IsStage};
+ghost use Rattle.dash_stage.specs.Turns.{AtTurn, IsTheSame};
 
 use crate::control::{Controller, quit_by};
 use crate::means::Means;
@@ -32,6 +34,7 @@ impl Stage {
         ensures nudged { IsNudged self.old.controller self.new.controller }
         ensures quit { result ≡ true → AreQuit self.old.time self.old.controller self.new.controller }
         ensures run { OthersHaveRun script.now self.old.time self.old.loopers.items self.new.loopers.items }
+        ensures main { AtTurn Others false IsTheSame self.old.loopers.items self.new.loopers.items }
     {
         let quit = self
             .controller

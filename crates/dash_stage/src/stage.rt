@@ -1,5 +1,6 @@
 //! The event times of a run, and what comes at each.
-ghost use Rattle.std.specs.Prelude.{◌≡◌, ◌<◌, ◌≤◌, ◌⊎◌, ℕ, max, true, false, Some, IfOk, OnOk};
+ghost use Rattle.std.specs.Prelude.{◌≡◌, ◌<◌, ◌≤◌, ◌⊎◌, ℕ, max, true, false, Some, None, slice_index_or, IfOk, OnOk};
+ghost use Rattle.looper_run.specs.Round.{is_ended};
 ghost use mathlib.Core.List.{IsPrefix};
 ghost use Rattle.dash_stage.specs.declared.side.Turn.TheVariants.{All};
 ghost use Rattle.dash_stage.specs.Sharing.{HaveSeenTheSame};
@@ -188,6 +189,7 @@ impl Stage {
         ensures due { NotLaterThanWait looper self.old.loopers.items result }
         ensures reason { (t : ℕ) → result ≡ Some t → IsAwaited script.now t looper self.old.loopers.items }
         ensures look { LooksUnlessEnded looper self.old.loopers.items self.old.controller self.new.controller result }
+        ensures over { (l : StageLooper) → is_ended (slice_index_or self.old.loopers.items looper l).last ≡ true → result ≡ None }
         ensures elsewhere { OtherPassesStay looper self.old.controller self.new.controller }
     {
         if self.loopers[looper as usize].has_ended() {

@@ -13,7 +13,8 @@ use Rattle.inbox_queue.specs.Taken.{put_by}
 abbrev pub Fits : ℕ → List Parcel → (ℕ → List Post) → (ℕ → ℕ) → ℕ → Known → Type 0
 Fits reader got put seat k Spent = ⊤
 Fits reader got put seat k (Sends from posts) = (seat from ≡ k) × (put from ≡ posts)
-Fits reader got put seat k (Admits taken admitted) = (k ≡ reader) × (admitted ≡ got) × ((p : ℕ) (posts : List Post) → put_by taken p ≡ Some posts → (seat p ≡ k) × (put p ≡ posts))
+Fits reader got put seat k (Admits taken admitted) =
+    (k ≡ reader) × (admitted ≡ got) × ((p : ℕ) (posts : List Post) → put_by taken p ≡ Some posts → (seat p ≡ k) × (put p ≡ posts))
 
 -- what each sender put is what was admitted of it, and then what the queue holds of it
 pub record Carried (items : List Parcel) (views : List Known) : Type 0 where

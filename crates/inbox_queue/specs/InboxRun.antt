@@ -45,7 +45,8 @@ post_at_time time _ = []
 -- the posts that a sender makes after these entries, the slot left free, each with the queue's time before it
 abbrev pub posts_after : ℕ → List Entry → List Entry → List (ℕ × PostData)
 posts_after sender past [] = []
-posts_after sender past (e ∷ es) = (if e.sender == sender then post_at_time (clock (empty_base 0) past) e.call else []) ++ posts_after sender (past ++ e ∷ []) es
+posts_after sender past (e ∷ es) =
+    (if e.sender == sender then post_at_time (clock (empty_base 0) past) e.call else []) ++ posts_after sender (past ++ e ∷ []) es
 
 -- the posts that a sender makes
 abbrev pub posts_made : ℕ → List Entry → List (ℕ × PostData)
@@ -124,7 +125,8 @@ AreReached blocks es = AllByRecursion (λ (b : Block). is_reached b.time es ≡ 
 -- the report is an inbox run of the script
 pub record IsInboxRun (s : Script) (r : InboxReport) : Type 0 where
   pub script : r.script ≡ s
-  -- the record is that of the main looper, in lockstep, with a sender for each thread, one for the looper and one for the controller; its history is one of a queue of one thread
+  -- the record is that of the main looper, in lockstep, with a sender for each thread, one for the looper and one for the controller; its history is one of a
+  -- queue of one thread
   pub looper : r.kept.looper ≡ 0
   pub setting : setting_of r.kept ≡ record { main = true; lockstep = true; senders = s.threads + 2 }
   -- its parts are a chain: each starts from what the one before it left

@@ -33,7 +33,8 @@ threads_of h = h.looper.sender
 abbrev pub seen : Hands → List Entry
 seen h = h.looper.view.seen
 
--- the posters are the looper's and the controller's, of the main looper's queue in lockstep, and the pass is of its pool; both have seen the same, and the history stands in one part
+-- the posters are the looper's and the controller's, of the main looper's queue in lockstep, and the pass is of its pool; both have seen the same, and the
+-- history stands in one part
 pub record IsAt (place : Place) (h : Hands) : Type 0 where
   pub looper : IsOf h.looper place.queue
   pub controller : IsOf h.controller place.queue
@@ -90,7 +91,8 @@ IsPostOf p e = (q : PostData) × (e.call ≡ Post q) × (unslotted q ≡ unslott
 -- a look of the looper, by its answer
 abbrev pub LooksOn : ℕ → Look → List Entry → List Entry → Type 0
 LooksOn threads Taken past now = GrowsBy threads (IsLookAt (time_of past)) past now
-LooksOn threads (Waits until) past now = (now ≡ past) × (until ≡ option_map when_of (first_eligible (empty_base 0) past)) × (quit_place (empty_base 0) past ≡ None)
+LooksOn threads (Waits until) past now =
+    (now ≡ past) × (until ≡ option_map when_of (first_eligible (empty_base 0) past)) × (quit_place (empty_base 0) past ≡ None)
 LooksOn threads Other past now = (now ≡ past) ⊎ GrowsBy threads (IsLookAt (time_of past)) past now
 
 -- a move of the time by the controller, by its answer
@@ -99,7 +101,8 @@ MovesOn threads time There past now = ((now ≡ past) × (time ≤ time_of past)
 MovesOn threads time Stays past now = now ≡ past
 MovesOn threads time NoMemory past now = now ≡ past
 
--- the looper's calls are posts and looks, and the controller's moves of the time, none past the end, nor past a message that may be dispatched; each move is planned, and posts come first at their time
+-- the looper's calls are posts and looks, and the controller's moves of the time, none past the end, nor past a message that may be dispatched; each move is
+-- planned, and posts come first at their time
 pub record Goes (threads : ℕ) (s : Script) (es : List Entry) : Type 0 where
   pub looks : AllByRecursion (λ e. IsPostOrLook e.call) (entries_by threads es)
   pub moves : AllByRecursion (λ e. (is_advance e.call ≡ true) × (moment_of e.call ≤ s.end)) (entries_by (threads + 1) es)

@@ -23,7 +23,9 @@ Sender = Known TableId Claimed
 abbrev pub LookedBy : Sender → Sender → Look → Type 0
 LookedBy before after Taken = (n : ℕ) × (at : ℕ) × (node : Node) × NextedBy before after 0 false (nexted.Taken n at node)
 LookedBy before after (Waits until) = NextedBy before after 0 false (nexted.Wait until)
-LookedBy before after Other = NextedBy before after 0 false nexted.Idle ⊎ ((list : List Node) × NextedBy before after 0 false (nexted.End list)) ⊎ NextedBy before after 0 false nexted.Over
+LookedBy before after Other =
+    NextedBy before after 0 false nexted.Idle ⊎ ((list : List Node) × NextedBy before after 0 false (nexted.End list))
+    ⊎ NextedBy before after 0 false nexted.Over
 
 -- a move of the time, by its answer
 abbrev pub MovedBy : Sender → Sender → ℕ → Move → Type 0
@@ -37,4 +39,6 @@ HasFields p node = unslotted (post_of node.item) ≡ unslotted p
 
 -- a post that made an entry
 abbrev pub PostsBy : PostData → Sender → Sender → Type 0
-PostsBy p before after = (node : Node) × HasFields p node × (((n : ℕ) × (wake : Bool) × PostedBy before after node (posted.Accepted n wake)) ⊎ ((place : ℕ) × PostedBy before after node (posted.Refused place node)))
+PostsBy p before after =
+    (node : Node) × HasFields p node
+    × (((n : ℕ) × (wake : Bool) × PostedBy before after node (posted.Accepted n wake)) ⊎ ((place : ℕ) × PostedBy before after node (posted.Refused place node)))

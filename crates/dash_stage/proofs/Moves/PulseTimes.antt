@@ -1,11 +1,9 @@
 -- The time in milliseconds at which a pulse that is asked for comes.
-use Rattle.std.proofs.Common.{◌≡◌, ◌≢◌, ◌≤◌, ℕ, false, List, ◌+◌, ◌/◌, ◌%◌, ◌<◌, true, Option, Some, None, length, arith, refl, sym, ap, ◌∙◌, subst}
+use Rattle.std.proofs.Common.{◌≡◌, ◌≢◌, ◌≤◌, ℕ, false, List, ◌+◌, ◌/◌, ◌%◌, ◌<◌, true, Option, Some, length, arith, refl, sym, ap, ◌∙◌, subst}
 use Rattle.std.specs.Prelude.{min, slice_index_or}
 use Rattle.std.specs.Option.{option_map}
 use Rattle.std.specs.Vec.{with_item}
 use Rattle.std.proofs.lemmas.List.{get_or_default, get_or-set_same}
-use Rattle.std.proofs.lemmas.Grind.{div_ceil_times}
-use Rattle.std.proofs.Math.Nat.{div-eq_of_lt-le}
 use Rattle.frame_phases.specs.Frames.{is_pulse}
 use Rattle.dash_script.specs.declared.script.Script.{Script}
 use Rattle.choreographer.specs.declared.view.Constants.{Constants as FrameConstants}
@@ -22,16 +20,9 @@ use Rattle.dash_stage.specs.Timeliness.{NotLater, NotLaterThanPulse}
 use Rattle.dash_stage.proofs.Controller.Controlling.{pass_count}
 use Rattle.looper_run.specs.Round.{is_ended}
 use Rattle.dash_loopers.specs.declared.looper.StageLooper.{StageLooper}
+use Rattle.dash_loopers.proofs.LooperPulses.{rounded_up}
 use mathlib.Core.Logic.{dite}
 use native.Mathlib.Decide.{dec_lt}
-
--- a quotient that is rounded up is that of the number and a million less one
-rounded_up : (stamp time : ℕ) → time ≡ stamp / 1000000 + min 1 (stamp % 1000000) → millis_up stamp ≡ time
-rounded_up stamp time is =
-    let b = div_ceil_times stamp 1000000 (omega arith) in
-    let low = b.0 in
-    let high = b.1 in
-    div-eq_of_lt-le {k = time} 1000000 {m = stamp + 999999} (omega (arith, is, high)) (omega (arith, is, low))
 
 -- a pulse that a looper's choreographer asks for is one of the script's period, and comes at its stamp, rounded up
 pub asked_comes : (s : Script) (hall : Hall) → IsHall s hall → (i : ℕ) → i < s.loopers → (f : Frames) → f ≡ slice_index_or hall.choreographers.items i f → (stamp time t : ℕ) → is_pulse f.constants.interval stamp ≡ true
@@ -55,13 +46,6 @@ looked s hall h i lt c k p p' stamp pulse is_p asked rounded =
           (subst (λ y. AskedBy p y stamp) (sym (get_or-set_same ps i p' d has_pass)) asked);
       rounded = rounded;
     }
-
--- where none was asked for, the answer is none; else it is the stamp, rounded up
-pub none_rounded : (stamp pulse : Option ℕ) → stamp ≡ None → pulse ≡ None → pulse ≡ option_map millis_up stamp
-none_rounded stamp pulse none is = is ∙ sym (ap (option_map millis_up) none)
-
-pub some_rounded : (stamp : Option ℕ) (n time : ℕ) → stamp ≡ Some n → time ≡ n / 1000000 + min 1 (n % 1000000) → Some time ≡ option_map millis_up stamp
-some_rounded stamp n time some is = sym (ap (option_map millis_up) some ∙ ap (λ (t : ℕ). Some t) (rounded_up n time is))
 
 -- the controller's pass of a looper's choreographer
 abbrev pass_of : Controller → ℕ → Pass → Pass

@@ -1,21 +1,26 @@
--- What a frame record was asked for, counted: what the threads' lines and the looper's acts ask for.
-use Rattle.std.proofs.Common.{◌≡◌, ◌<◌, ◌+◌, ℕ, zero, suc, Bool, false, List, [], ◌∷◌, ◌++◌, Option, Some, None, map, refl, sym, ap, ◌∙◌, arith, slice_index_or, cond}
+-- What a frame record was asked for, counted and in order: what the threads' lines and the looper's acts ask for.
+use Rattle.std.proofs.Common.{◌≡◌, ◌<◌, ◌≤◌, ◌+◌, ◌-◌, ℕ, zero, suc, Bool, false, List, [], ◌∷◌, ◌++◌, Option, Some, None, map, length, refl, sym, ap, ◌∙◌, subst, arith, slice_index_or, cond}
 use Rattle.std.specs.Prelude.{count_by}
 use Rattle.std.specs.List.{cons_option, filter_map, flat_map, range_with_len}
 use Rattle.std.specs.Option.{option_map_or}
+use Rattle.std.proofs.Math.ListN.{get_or-append}
+use Rattle.std.proofs.lemmas.List.{get_or-append_right, length-append}
 use Rattle.std.proofs.lemmas.List.Elements.{filter_map-append}
+use Rattle.std.proofs.lemmas.List.FromFn.{get_or-map-range_with_len, length-map-range_with_len}
+use mathlib.Core.List.{Sublist}
 use Rattle.loop_model.specs.Lists.{total}
 use Rattle.loop_model.proofs.Sums.{total-append}
 use Rattle.frame_phases.specs.declared.entry.FrameEntry.{FrameEntry}
 use Rattle.dash_script.specs.declared.script.Script.{Script}
 use Rattle.choreographer.specs.Known.{Known as Pass}
-use Rattle.choreographer.specs.Ends.{AreTheirs, recorded_by}
+use Rattle.choreographer.specs.Ends.{AreTheirs, recorded_by, StandInOrder}
 use Rattle.choreographer.proofs.Counting.{count_both}
+use Rattle.choreographer.proofs.InOrder.{mapped_stands, given_stands}
 use Rattle.run_model.specs.Planned.{lines_of}
 use Rattle.run_model.specs.Loopers.{Looper}
 use Rattle.run_model.specs.FrameRuns.{FrameAt, nanos_of}
 use Rattle.run_model.specs.FrameAsks.{FrameAsk, Runs, asked_in, asks_in, line_asks, lines_ask, all_lines, as_told, AreAsOften}
-use Rattle.run_model.specs.Run.{asked_of}
+use Rattle.run_model.specs.Run.{asked_of, AreAskedInOrder}
 use Rattle.dash_hall.specs.declared.kit.Kit.{Kit}
 use Rattle.dash_hall.specs.Hosts.{asks_of}
 use Rattle.dash_stage.specs.Records.{passes_at}
@@ -110,3 +115,56 @@ pub asked_as_often : (lockstep : Bool) (s : Script) (q : ℕ) (kits : List Kit) 
     → (slice_index_or (slice_index_or kits (s.threads + s.loopers) d).frames.items q p).view.own ≡ []
     → AreAsOften (map (as_told lockstep) (asks_in entries)) (map (as_told lockstep) (asked_of s q a))
 asked_as_often lockstep s q kits d p entries a theirs threads ran posted idle test = asked_by_all lockstep s q kits d p test entries a theirs threads ran posted idle
+
+-- ---- in order
+
+-- what a pass asked for stands in what its record was asked for
+asks_stand : (lockstep : Bool) (entries own : List FrameEntry) → Sublist own entries → Sublist (map (as_told lockstep) (asks_in own)) (map (as_told lockstep) (asks_in entries))
+asks_stand lockstep entries own stands = mapped_stands (as_told lockstep) (asks_in own) (asks_in entries) (given_stands asked_in own entries stands)
+
+module _ (s : Script) (q : ℕ) (kits : List Kit) (d : Kit) (p : Pass) (entries : List FrameEntry) (order : StandInOrder entries (passes_at s q q kits d p)) where
+  abbrev of_thread : ℕ → Pass
+  of_thread k = slice_index_or (slice_index_or kits k d).frames.items q p
+
+  abbrev of_looper : ℕ → Pass
+  of_looper i = slice_index_or (slice_index_or kits (s.threads + q) d).frames.items i p
+
+  abbrev of_threads : List Pass
+  of_threads = map of_thread (range_with_len 0 s.threads)
+
+  abbrev others : List Pass
+  others = of_looper 0 ∷ of_looper 1 ∷ slice_index_or (slice_index_or kits (s.threads + s.loopers) d).frames.items q p ∷ []
+
+  many : length of_threads ≡ s.threads
+  many = length-map-range_with_len of_thread 0 s.threads
+
+  all_many : length (passes_at s q q kits d p) ≡ s.threads + 3
+  all_many = let both = length-append of_threads others in let long = many in omega (arith, both, long)
+
+  thread_stands : (k : ℕ) → k < s.threads → Sublist (of_thread k).view.own entries
+  thread_stands k lt =
+      let long = many in
+      let whole = all_many in
+      let is : slice_index_or (of_threads ++ others) k p ≡ of_thread k =
+      get_or-append of_threads others p k (omega (arith, lt, long)) ∙ get_or-map-range_with_len of_thread 0 s.threads k k p lt (omega arith) in
+      subst (λ (x : Pass). Sublist x.view.own entries) is (order k p (omega (arith, lt, whole)))
+
+  looper_stands : (i : ℕ) → i < 2 → slice_index_or others i p ≡ of_looper i → Sublist (of_looper i).view.own entries
+  looper_stands i small there =
+      let whole = all_many in
+      let place : s.threads + i - s.threads ≡ i = omega arith in
+      let is : slice_index_or (of_threads ++ others) (s.threads + i) p ≡ of_looper i =
+      get_or-append_right of_threads others s.threads (s.threads + i) p many (omega arith) ∙ (ap (λ (n : ℕ). slice_index_or others n p) place ∙ there) in
+      subst (λ (x : Pass). Sublist x.view.own entries) is (order (s.threads + i) p (omega (arith, small, whole)))
+
+  -- where what each pass recorded stands in a frame record in its order, and the passes asked for what the run asks for, that stands in what the record was asked for in each sender's order
+  pub asked_in_order : (lockstep : Bool) (a : Looper) → ((k : ℕ) → k < s.threads → map (as_told lockstep) (asks_of (of_thread k)) ≡ map (as_told lockstep) (lines_ask q (lines_of k s.blocks)))
+      → map (as_told lockstep) (asks_of (of_looper 0)) ≡ map (as_told lockstep) (map (λ x. Runs (nanos_of x.now)) a.frames)
+      → map (as_told lockstep) (asks_of (of_looper 1)) ≡ map (as_told lockstep) a.posted → AreAskedInOrder lockstep s q a (asks_in entries)
+  asked_in_order lockstep a threads ran posted =
+      let all_told = map (as_told lockstep) (asks_in entries) in
+      record {
+        threads = λ k lt. subst (λ (l : List FrameAsk). Sublist l all_told) (threads k lt) (asks_stand lockstep entries (of_thread k).view.own (thread_stands k lt));
+        posted = subst (λ (l : List FrameAsk). Sublist l all_told) posted (asks_stand lockstep entries (of_looper 1).view.own (looper_stands 1 (omega arith) refl));
+        ran = subst (λ (l : List FrameAsk). Sublist l all_told) ran (asks_stand lockstep entries (of_looper 0).view.own (looper_stands 0 (omega arith) refl));
+      }

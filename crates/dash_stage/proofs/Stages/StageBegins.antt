@@ -12,6 +12,7 @@ use Rattle.loop_model.specs.Pick.{first_eligible, pick}
 use Rattle.loop_model.specs.Answers.{clock, has_disposed, has_halted, quit_place}
 use Rattle.dash_script.specs.declared.script.Script.{Script}
 use Rattle.looper_run.specs.Holding.{Sender}
+use Rattle.looper_run.specs.Round.{is_ended}
 use Rattle.run_model.specs.Senders.{looper_sender, sender_count}
 use Rattle.run_model.specs.Control.{is_called_in_time, are_before_quit, befores, are_on_time}
 use Rattle.run_model.specs.Loopers.{first_looper}
@@ -19,7 +20,7 @@ use Rattle.run_model.specs.Run.{are_in_order}
 use Rattle.dash_stage.specs.declared.stage.Stage.{Stage}
 use Rattle.dash_hall.specs.Kits.{badge_of, badge_for, ArePostersOf, IsHall, AreUnseen}
 use Rattle.dash_hall.specs.Hearing.{seen_by}
-use Rattle.dash_loopers.specs.Loopers.{posters_of, HasNoneDue}
+use Rattle.dash_loopers.specs.Loopers.{posters_of, until_of, HasNoneDue}
 use Rattle.dash_stage.specs.Sharing.{OfThreads, OfLoopers}
 use Rattle.dash_stage.specs.Stages.{AreThreads, AreLoopers}
 use Rattle.dash_stage.specs.Timeliness.{IsTimelyUpTo, AreTimelyUpTo, AreRested, WaitForNothing}
@@ -93,8 +94,8 @@ module _ (s : Script) (st : Stage) (k : ℕ) (is_hall : IsHall s st.hall) where
       let none = unseen q d (subst (λ (n : ℕ). q < n) (loopers.0 ∙ sym queues) lt) in
       let wait = waits q l lt in record {
         quiet = λ on. subst (λ (es : List Entry). HasNoneDue (empty_base (sender_count s)) es (clock (empty_base (sender_count s)) es)) (sym none) (nothing_due (sender_count s));
-        waits = λ on. wait.1 ∙ sym (ap (λ (es : List Entry). option_map when_of (first_eligible (empty_base (sender_count s)) es)) none ∙ nothing_eligible (sender_count s));
-        ended = λ over. absurd (let wrong : false ≡ true = sym wait.0 ∙ over in cc);
+        waits = λ on. ap until_of wait ∙ sym (ap (λ (es : List Entry). option_map when_of (first_eligible (empty_base (sender_count s)) es)) none ∙ nothing_eligible (sender_count s));
+        ended = λ over. absurd (let wrong : false ≡ true = sym (ap is_ended wait) ∙ over in cc);
       }
 
   -- the queues are at time 0, and each looper stands at the state before the first act

@@ -1,4 +1,4 @@
-use Rattle.std.proofs.Common.{◌≡◌, ◌<◌, inl, inr, ℕ, false, length, slice_index_or, sym, ◌∙◌, subst}
+use Rattle.std.proofs.Common.{◌≡◌, ◌<◌, inl, inr, ℕ, true, false, length, slice_index_or, sym, ◌∙◌, subst}
 use Rattle.std.proofs.lemmas.List.{get_or_default}
 use Rattle.looper_run.specs.Round.{is_ended}
 use Rattle.dash_loopers.specs.declared.looper.StageLooper.{StageLooper}
@@ -32,3 +32,12 @@ returns-clause-reason g c t is =
 
 pub returns-clause-look : goal.returns-clause-look
 returns-clause-look g c l going = record { pulse = c.asked.result; look = c.asked.ensures.look; early = λ t early. (c.earlier.ensures.early t early).1 }
+
+pub returns-clause-over : goal.returns-clause-over
+returns-clause-over g c l ended =
+    let ls = c.args.self.now.loopers.items in
+    let lt : c.args.looper < length ls = subst (λ (n : ℕ). c.args.looper < n) (sym c.requires.stage.loopers.0) c.requires.looper in
+    let x : StageLooper = c.index.result.now in
+    let same : x ≡ slice_index_or ls c.args.looper l = c.index.ensures ∙ get_or_default ls c.args.looper x l lt in
+    let going : is_ended (slice_index_or ls c.args.looper l).last ≡ false = subst (λ (z : StageLooper). is_ended z.last ≡ false) same (sym c.has_ended.ensures ∙ c.if-has_ended.false) in
+    let wrong : true ≡ false = sym ended ∙ going in cc

@@ -1,10 +1,10 @@
-use Rattle.std.proofs.Common.{◌≡◌, ◌<◌, ℕ, true, List, length, sym, subst, arith, Bool}
+use Rattle.std.proofs.Common.{◌≡◌, ◌<◌, ℕ, true, false, List, length, sym, subst, arith, Bool}
 use Rattle.std.specs.Prelude.{slice_index_or}
 use Rattle.std.proofs.lemmas.List.{with_items_is}
 use Rattle.dash_loopers.specs.declared.looper.StageLooper.{StageLooper}
 use Rattle.dash_loopers.specs.Loopers.{HasRun}
 use Rattle.dash_stage.specs.declared.side.Turn.TheVariants.{Others}
-use Rattle.dash_stage.specs.Turns.{has_turn}
+use Rattle.dash_stage.specs.Turns.{has_turn, IsTheSame}
 use Rattle.dash_stage.proofs.Sharing.Turns.{others_have_turn}
 use Rattle.dash_stage.proofs.stage.Stage.give_up.Goals as goal
 use Rattle.dash_stage.specs.Controllers.{IsControllerIn}
@@ -40,3 +40,14 @@ returns-clause-stage g c =
       controller = subst (λ (b : Bool). IsControllerIn b s me.hall c.give_up-quit.new.self) c.requires.stage.controller.mode c.give_up-quit.ensures.controller;
       pass = c.requires.stage.pass;
     }
+
+pub returns-clause-main : goal.returns-clause-main
+returns-clause-main g c k d lt waits =
+    let me = c.args.self.now in
+    let ran = c.run_loopers.new.loopers in
+    let others =
+    subst (λ (xs : List StageLooper). (k : ℕ) (d : StageLooper) → k < length xs → has_turn Others k ≡ false → IsTheSame (slice_index_or xs k d) (slice_index_or ran k d)) c.as_mut_slice.ensures.value c.run_loopers.ensures.others in
+    let long = c.run_loopers.ensures.loopers.0 in
+    let many = c.requires.stage.loopers.0 in
+    subst (λ (xs : List StageLooper). IsTheSame (slice_index_or me.loopers.items k d) (slice_index_or xs k d)) (sym (with_items_is me.loopers ran (omega (arith, long, many, me.loopers.ok.0))))
+    (others k d lt waits)
