@@ -1,5 +1,7 @@
 #!/usr/bin/env python3
-"""picture.py PROGRAM [--write]: docs/gauge.svg is what `timeline svg` makes of a report; with --write it is made anew.
+"""picture.py PROGRAM [--write]: docs/gauge.svg and picture/all_kinds.svg are what `timeline svg` makes of their reports; with --write they are made anew.
+
+The second report has a mark and a note of each kind, in edition 2: two loopers, two gauges in one lane, two marks at one place, more notes than are shown.
 
 Every report of this folder becomes an SVG that an XML parser takes, with an element for each mark, and a trace that a JSON
 parser takes, with an event for each mark. Where Chromium is installed, it opens the pictures too, with as many elements.
@@ -14,7 +16,10 @@ import tempfile
 import xml.etree.ElementTree as tree
 
 HERE = pathlib.Path(__file__).resolve().parent
-SHOWN = HERE.parent / "docs" / "gauge.svg"
+SHOWN = [
+    (HERE / "gauge_runs_to_its_target.report", HERE.parent / "docs" / "gauge.svg"),
+    (HERE / "picture" / "all_kinds.report", HERE / "picture" / "all_kinds.svg"),
+]
 SVG = "{http://www.w3.org/2000/svg}"
 
 
@@ -86,19 +91,20 @@ def open_in_browser(pictures):
 
 def main():
     program = sys.argv[1]
-    reports = [file for file in sorted(HERE.glob("*.report")) if file.read_bytes().startswith(b"report ")]
+    reports = [file for file in sorted(HERE.rglob("*.report")) if file.read_bytes().startswith(b"report ")]
     for file in reports:
         look(program, file.name, file.read_bytes())
     look(program, "the longest", longest())
     bad = run(program, "svg", b"report 1\nend\nend\n")
     assert (bad.returncode, bad.stdout, bad.stderr) == (3, b"", b"timeline: line 3\n"), bad
     assert run(program, "gif", b"").returncode == 2
-    shown = run(program, "svg", (HERE / "gauge_runs_to_its_target.report").read_bytes()).stdout
-    if "--write" in sys.argv:
-        SHOWN.write_bytes(shown)
-    assert SHOWN.read_bytes() == shown, "docs/gauge.svg is another one"
-    open_in_browser([shown, run(program, "svg", longest()).stdout])
-    print(f"{len(reports)} reports drawn")
+    pictures = [run(program, "svg", report.read_bytes()).stdout for report, _ in SHOWN]
+    for (_, kept), svg in zip(SHOWN, pictures):
+        if "--write" in sys.argv:
+            kept.write_bytes(svg)
+        assert kept.read_bytes() == svg, f"{kept.name} is another one"
+    open_in_browser([*pictures, run(program, "svg", longest()).stdout])
+    print(f"{len(reports)} reports drawn, {len(pictures)} pictures compared")
 
 
 main()

@@ -9,7 +9,7 @@ use denote.Param.Members.{Mut}
 use Rattle.std.specs.Fn.{Called, ComputesKey}
 use Rattle.std.specs.Cmp.{IsTotalOrder}
 use Rattle.std.specs.List.{AllByRecursion, flat_map}
-use Rattle.std.specs.List.Sorted.{IsStrictlySortedBy, IsSortedByKey}
+use Rattle.std.specs.List.Sorted.{IsStrictlySortedBy, IsSortedByKey, IsStableByKey}
 use Rattle.std.proofs.lemmas.List.{flat_map_more, get_or_default, length_push, take_all, take_more}
 use Rattle.std.proofs.lemmas.Fn.{always_returns_same}
 use Rattle.std.proofs.lemmas.Cmp.{nat_list_cmp_total}
@@ -21,7 +21,7 @@ use Rattle.run_picture.specs.declared.group.Row.TheVariants.{Handler, Frames, Ru
 use Rattle.run_picture.specs.declared.group.Place.{Place}
 use Rattle.run_picture.specs.declared.group.Scale.{Scale}
 use Rattle.run_picture.specs.declared.group.Group.{Group}
-use Rattle.run_picture.specs.Groups.{AreCut, HasMarks, IsOfPlace, Rise, StandsAt, begun, key, marks_of, number, order, place, place_of, rank, with_mark}
+use Rattle.run_picture.specs.Groups.{AreCut, HasMarks, IsOfPlace, KeepOrder, Rise, StandsAt, begun, key, marks_of, number, order, place, place_of, rank, with_mark}
 
 -- the groups rise, and would with one more at this place
 abbrev pub RiseTo : List Group → Place → Type 0
@@ -189,6 +189,11 @@ cut_end s first later i gs hs g c le eg = subst (λ x. AreCut s (first ∷ later
     }
 
 -- what `sort_by_key` ensures, where each call answers the key of the mark's place
+pub stable_by_place : (s : Scale) {F : Type 0} {g : Mut F (Bor Mark × Unit {0}) (List ℕ)} {f : F} (xs ys : List Mark)
+    → ((by : Mark → List ℕ) → ComputesKey g by f → IsStableByKey by (slice_cmp nat_cmp) xs ys)
+    → ((a : Bor Mark × Unit {0}) (r : List ℕ) (f' : F) → Called g f a r f' → (r ≡ key (place s a.0.now)) × (f' ≡ f)) → KeepOrder s xs ys
+stable_by_place s {g = g} {f = f} xs ys up h = up (λ m. key (place s m)) (always_returns_same g (λ a r. r ≡ key (place s a.0.now)) f h)
+
 pub sorted_by_place : (s : Scale) {F : Type 0} {g : Mut F (Bor Mark × Unit {0}) (List ℕ)} {f : F} (xs : List Mark)
     → ((by : Mark → List ℕ) → ComputesKey g by f → IsSortedByKey by (slice_cmp nat_cmp) xs)
     → ((a : Bor Mark × Unit {0}) (r : List ℕ) (f' : F) → Called g f a r f' → (r ≡ key (place s a.0.now)) × (f' ≡ f)) → IsSortedByKey (place s) order xs

@@ -1,12 +1,12 @@
 -- How the marks of a picture stand in its SVG.
-use Rattle.std.specs.Prelude.{◌≡◌, ℕ, List, [], ◌∷◌, ◌++◌, codes, IsPermutation}
+use Rattle.std.specs.Prelude.{◌≡◌, ◌≤◌, ℕ, List, [], ◌∷◌, ◌++◌, codes, length, IsPermutation}
 use Rattle.std.specs.List.{flat_map, AllByRecursion}
 use Rattle.std.specs.Fmt.{decimal}
 use Rattle.run_picture.specs.declared.group.Group.{Group}
 use Rattle.run_picture.specs.declared.group.Scale.{Scale}
 use Rattle.run_picture.specs.declared.report.Report.{Report}
 use Rattle.run_picture.specs.Marks.{marks}
-use Rattle.run_picture.specs.Groups.{IsOfPlace, HasMarks, Rise, marks_of}
+use Rattle.run_picture.specs.Groups.{IsOfPlace, HasMarks, KeepOrder, Rise, Shows, marks_of}
 use Rattle.run_picture.specs.Labels.{entity, group_text}
 
 -- how the element of a group begins
@@ -37,7 +37,8 @@ abbrev pub lanes : List ℕ
 lanes = codes "<g transform=\"translate(150)\">\n"
 
 -- behind a background without elements stands one element for each group of marks; the groups have each mark of the report exactly
--- once, none is without marks, all marks of a group stand at its place, by the scale of the picture, and the places rise
+-- once, none is without marks, all marks of a group stand at its place, by the scale of the picture, in the order of the report, and the places rise;
+-- the picture is wide enough for all marks, and a place is a pixel where there are at most 4,000
 pub record Draws (r : Report) (text : List ℕ) : Type 0 where
   pub scale : Scale
   pub groups : List Group
@@ -47,6 +48,9 @@ pub record Draws (r : Report) (text : List ℕ) : Type 0 where
   pub placed : AllByRecursion (IsOfPlace scale) groups
   pub some : AllByRecursion HasMarks groups
   pub rising : Rise groups
+  pub ordered : KeepOrder scale (marks r) (flat_map marks_of groups)
+  pub shown : AllByRecursion (Shows scale) (marks r)
+  pub fine : length (marks r) ≤ 4000 → scale.step ≡ 1
   pub bare : HasNoElement background
   pub elements : AreElements groups (background ++ lanes) drawn
   pub whole : text ≡ drawn ++ codes "</g>\n</svg>\n"

@@ -42,7 +42,8 @@ kind_name lane (Paint gauge value) = codes "looper " ++ decimal lane ++ codes " 
 -- a mark's name, its looper's thread, and its time
 unfoldable pub moment_members : Mark → Members
 moment_members m =
-    put (codes "ts") (count (micros m.time)) (put (codes "tid") (count m.lane) (put (codes "pid") (count 1) (put (codes "name") (string (kind_name m.lane m.kind)) no_members)))
+    put (codes "ts") (count (micros m.time)) (put (codes "tid") (count m.lane)
+    (put (codes "pid") (count 1) (put (codes "name") (string (kind_name m.lane m.kind)) no_members)))
 
 -- with a phase, as trace events call their form
 abbrev pub phased : List ℕ → Members → Members

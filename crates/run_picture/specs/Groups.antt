@@ -1,7 +1,7 @@
 -- Marks that fall on one place of the picture are one group.
-use Rattle.std.specs.Prelude.{◌≡◌, ℕ, ◌<◌, ◌+◌, ◌-◌, ◌*◌, ◌/◌, ◌%◌, ◌^◌, min, max, List, [], ◌∷◌, ◌++◌, length, map}
+use Rattle.std.specs.Prelude.{◌≡◌, ℕ, ◌<◌, ◌≤◌, ◌+◌, ◌-◌, ◌*◌, ◌/◌, ◌%◌, ◌^◌, min, max, List, [], ◌∷◌, ◌++◌, length, map}
 use Rattle.std.specs.List.{AllByRecursion, flat_map}
-use Rattle.std.specs.List.Sorted.{IsStrictlySortedBy}
+use Rattle.std.specs.List.Sorted.{IsStableByKey, IsStrictlySortedBy}
 use Rattle.std.specs.declared.cmp.Ordering.{Ordering}
 use Rattle.std.specs.Ordering.{nat_cmp}
 use Rattle.std.specs.Cmp.Lexicographic.{slice_cmp}
@@ -88,6 +88,18 @@ place_of g = g.place
 -- each group stands before all behind it, so that no two stand at one place
 abbrev pub Rise : List Group → Type 0
 Rise gs = IsStrictlySortedBy order (map place_of gs)
+
+-- marks of one place stand in the order in which they stood
+abbrev pub KeepOrder : Scale → List Mark → List Mark → Type 0
+KeepOrder s before after = IsStableByKey (place s) order before after
+
+-- a mark's time lies between these, in nanoseconds
+abbrev pub IsBetween : ℕ → ℕ → Mark → Type 0
+IsBetween first last m = (first ≤ nanos m.time) × (nanos m.time ≤ last)
+
+-- the width of the picture shows the mark's time
+abbrev pub Shows : Scale → Mark → Type 0
+Shows s m = IsBetween s.first (s.first + s.span) m
 
 -- groups into which marks are cut, in order: each has some marks, all of them at its place, and the places rise
 pub record AreCut (s : Scale) (ms : List Mark) (gs : List Group) : Type 0 where

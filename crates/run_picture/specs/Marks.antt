@@ -17,7 +17,8 @@ use Rattle.run_picture.specs.declared.mark.Painted.{Painted}
 
 -- a dispatch stands at its millisecond
 abbrev pub past_marks : ℕ → PastData → List Mark
-past_marks lane (past_of.Dispatch now number handler subject) = record { lane = lane; time = record { millis = now; nanos = 0 }; kind = Dispatch number handler subject } ∷ []
+past_marks lane (past_of.Dispatch now number handler subject) =
+    record { lane = lane; time = record { millis = now; nanos = 0 }; kind = Dispatch number handler subject } ∷ []
 past_marks lane (past_of.Refused handler subject place) = []
 past_marks lane (past_of.NotPosted token) = []
 past_marks lane past_of.NotAllowed = []

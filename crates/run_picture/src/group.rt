@@ -2,7 +2,7 @@
 ghost use Rattle.std.specs.Prelude.{◌≡◌, ◌↔◌, ◌<◌, ◌≤◌, ◌^◌, ◌∷◌, IfOk, IsPermutation, IsTrue, OnOk};
 ghost use Rattle.std.specs.List.{flat_map, AllByRecursion};
 ghost use Rattle.std.specs.List.Sorted.{IsSortedByKey};
-ghost use Rattle.run_picture.specs.Groups.{AreCut, HasMarks, IsOfPlace, Rise, begun, column, key, marks_of, nanos, number, order, pixels, place, rank, row_of, shift, with_mark};
+ghost use Rattle.run_picture.specs.Groups.{AreCut, HasMarks, IsOfPlace, KeepOrder, Rise, begun, column, key, marks_of, nanos, number, order, pixels, place, rank, row_of, shift, with_mark};
 
 use crate::mark::{Kind, Mark, Moment, NANOS_PER_MILLI};
 use crate::shape::LANE_WIDTH;
@@ -161,6 +161,7 @@ fn key_of(scale: Scale, mark: &Mark) -> [u64; 4]
 fn sorted(scale: Scale, marks: Vec<Mark>) -> Result<Vec<Mark>, NoMemory>
     ensures all { IfOk result (λ found. IsPermutation marks.items found.items) }
     ensures sorted { IfOk result (λ found. IsSortedByKey (place scale) order found.items) }
+    ensures stable { IfOk result (λ found. KeepOrder scale marks.items found.items) }
 {
     let mut marks = marks;
     marks.sort_by_key(
@@ -232,12 +233,14 @@ fn cut(alloc: Global, scale: Scale, marks: &[Mark]) -> Result<Vec<Group>, NoMemo
 }
 
 /// The marks of a picture by the places where they stand: each mark is in one group, that of its place, and the groups are in
-/// the order of the lanes, their rows and the pixels. None is without marks. `NoMemory` where there was none.
+/// the order of the lanes, their rows and the pixels. None is without marks, and the marks of one are in the order given. `NoMemory`
+/// where there was none.
 pub fn groups(alloc: Global, scale: Scale, marks: Vec<Mark>) -> Result<Vec<Group>, NoMemory>
     ensures all { IfOk result (λ found. IsPermutation marks.items (flat_map marks_of found.items)) }
     ensures places { IfOk result (λ found. AllByRecursion (IsOfPlace scale) found.items) }
     ensures marked { IfOk result (λ found. AllByRecursion HasMarks found.items) }
     ensures rising { IfOk result (λ found. Rise found.items) }
+    ensures ordered { IfOk result (λ found. KeepOrder scale marks.items (flat_map marks_of found.items)) }
 {
     let marks = sorted(scale, marks)?;
     cut(alloc, scale, &marks)

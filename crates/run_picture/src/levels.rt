@@ -9,9 +9,9 @@ use loop_model::NoMemory;
 /// How high a gauge's greatest value stands, in pixels.
 const HEIGHT: u128 = 30;
 
-/// The value that a group paints first.
+/// The value that a group paints last, at which its gauge stands from there on.
 pub(crate) fn value_of(group: &Group) -> u32 {
-    match group.marks.as_slice().first() {
+    match group.marks.as_slice().last() {
         Some(mark) => match mark.kind {
             Kind::Paint { value, .. } => value,
             _ => 0,

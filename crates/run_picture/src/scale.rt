@@ -1,6 +1,7 @@
 //! How a report's time fits the picture's width.
-ghost use Rattle.std.specs.Prelude.{◌≡◌};
-ghost use Rattle.std.specs.List.{fold};
+ghost use Rattle.std.specs.Prelude.{◌≡◌, ◌≤◌, length};
+ghost use Rattle.std.specs.List.{AllByRecursion, fold};
+ghost use Rattle.run_picture.specs.Groups.{IsBetween, Shows};
 ghost use Rattle.run_picture.specs.Period.{distance, distances, lesser, period};
 
 use crate::group::{Row, Scale, nanos, row_of};
@@ -60,7 +61,9 @@ pub(crate) fn period_of(report: &Report) -> u64
 }
 
 /// The first and the last moment of marks, in nanoseconds.
-fn bounds(marks: &[Mark]) -> (u128, u128) {
+fn bounds(marks: &[Mark]) -> (u128, u128)
+    ensures { AllByRecursion (IsBetween result.0 result.1) marks.now }
+{
     let mut first = u128::MAX;
     let mut last = 0u128;
     for mark in marks {
@@ -109,7 +112,10 @@ fn rows_of(marks: &[Mark]) -> u64 {
 }
 
 /// The scale of a picture, by its marks, the width of a frame in nanoseconds, and the number of phases.
-pub(crate) fn scale_of(marks: &[Mark], period: u128, phases: u64) -> Scale {
+pub(crate) fn scale_of(marks: &[Mark], period: u128, phases: u64) -> Scale
+    ensures shown { AllByRecursion (Shows result) marks.now }
+    ensures fine { length marks.now ≤ 4000 → result.step ≡ 1 }
+{
     let (first, last) = bounds(marks);
     let span = last.saturating_sub(first).saturating_add(period).max(1);
     let scale = Scale {
