@@ -200,5 +200,6 @@ int main(void)
     if (!shows(mq_next_dropped(&queue), MQ_BARRIER, 1, 41)) return 29;
     if (!shows(mq_next(&queue, 42, false), MQ_OVER, 0, 0) || mq_live(&queue) != 0) return 30;
     if (!is(mq_close(&queue), MQ_DONE, 0) || queue.live) return 31;
-    return sizeof(mq_message) == 40 && sizeof(mq_look) == 64 ? 0 : 32;
+    if (sizeof(mq_message) != 40 || sizeof(mq_filter) != 32 || sizeof(mq_answer) != 16 || sizeof(mq_look) != 64) return 32;
+    return sizeof(mq_queue) == 2 * sizeof(void *) && sizeof(mq_memory) == 2 * sizeof(void *) ? 0 : 33;
 }

@@ -95,7 +95,9 @@ static bool play(void)
         mq_message message = {.when = 30, .what = 99};
         answer = mq_post(&queue, &message);
     } while (again(answer));
-    if (!done(answer, 12) || !done(mq_close(&queue), DROPS)) return false;
+    mq_filter last = {.by_what = true, .what = 99};
+    if (!done(answer, 12) || !mq_has(&queue, &last) || mq_live(&queue) != 1) return false;
+    if (!done(mq_quit(&queue, true, 30), 0) || !done(mq_close(&queue), DROPS)) return false;
     for (int i = 0; i < DROPS; i++) {
         mq_look look = mq_next_dropped(&queue);
         if (look.kind != MQ_TAKEN || look.message.what != drops[i]) return false;
