@@ -1,79 +1,18 @@
 -- Marks where a node comes or goes.
-use Rattle.std.proofs.Common.{◌≡◌, ℕ, zero, suc, ◌+◌, ◌-◌, ◌<◌, ◌≤◌, ◌^◌, Bool, true, false, List, [], ◌∷◌, ◌++◌, length, take, drop, map, set, get_or, refl, sym, ap, ◌∙◌, subst, arith}
-use Rattle.std.specs.Prelude.{Contains, nat_lt, ◌==◌, insert, min}
-use Rattle.std.specs.List.{AllByRecursion}
-use Rattle.std.proofs.lemmas.List.{get_or_default, append-nil}
-use Rattle.std.proofs.lemmas.List.Edits.{map_over_more}
-use Rattle.std.proofs.lemmas.Bool.Decides.{nat_tests}
+use Rattle.std.proofs.Common.{◌≡◌, ℕ, zero, suc, ◌+◌, ◌-◌, ◌<◌, ◌≤◌, List, [], ◌∷◌, ◌++◌, length, take, drop, set, get_or, refl, sym, ap, ◌∙◌, subst, inl, inr, ◌⊎◌, arith}
+use Rattle.std.specs.Prelude.{insert}
 use mathlib.Core.Option.{some as just, some-injective, some-ne-none}
 use lib.ListN.{get_elem?, length-map}
 use denote.RawPtr.{Ptr}
-use Rattle.message_list.specs.declared.marks.Mark.{Mark}
-use Rattle.message_list.specs.declared.marks.Marks.{Marks}
+use Rattle.message_list.specs.declared.group.Mark.{Mark}
+use Rattle.message_list.specs.declared.group.Group.{Group}
 use Rattle.message_list.specs.declared.place.Place.{Place}
 use Rattle.message_list.specs.Links.{Placed, places_of, HasOneMore}
 use Rattle.message_list.specs.Store.{Holds}
-use Rattle.message_list.specs.Marks.{raised, lowered, LeadsTo, Lead}
-
--- ---- marks in general
-
-pub all_at : {X : Type 0} (P : X → Type 0) (xs : List X) (k : ℕ) (d : X) → AllByRecursion P xs → k < length xs → P (get_or xs k d)
-all_at P [] k d h lt = absurd (omega arith)
-all_at P (x ∷ xs) zero d h lt = h.0
-all_at P (x ∷ xs) (suc k) d h lt = all_at P xs k d h.1 (omega arith)
-
-pub all_set : {X : Type 0} (P : X → Type 0) (xs : List X) (k : ℕ) (y : X) → AllByRecursion P xs → P y → AllByRecursion P (set xs k y)
-all_set P [] k y h p = tt
-all_set P (x ∷ xs) zero y h p = (p, h.1)
-all_set P (x ∷ xs) (suc k) y h p = (h.0, all_set P xs k y h.1 p)
-
-pub all_insert : {X : Type 0} (P : X → Type 0) (xs : List X) (k : ℕ) (y : X) → AllByRecursion P xs → P y → AllByRecursion P (insert xs k y)
-all_insert P [] zero y h p = (p, tt)
-all_insert P [] (suc k) y h p = (p, tt)
-all_insert P (x ∷ xs) zero y h p = (p, h)
-all_insert P (x ∷ xs) (suc k) y h p = (h.0, all_insert P xs k y h.1 p)
-
-pub all_take : {X : Type 0} (P : X → Type 0) (xs : List X) (n : ℕ) → AllByRecursion P xs → AllByRecursion P (take n xs)
-all_take P xs zero h = tt
-all_take P [] (suc n) h = tt
-all_take P (x ∷ xs) (suc n) h = (h.0, all_take P xs n h.1)
-
-pub all_mapped : {X : Type 0} (P Q : X → Type 0) (f : X → X) → ((x : X) → P x → Q (f x)) → (xs : List X) → AllByRecursion P xs → AllByRecursion Q (map f xs)
-all_mapped P Q f step [] h = tt
-all_mapped P Q f step (x ∷ xs) h = (step x h.0, all_mapped P Q f step xs h.1)
-
-pub all_among : {X : Type 0} (P : X → Type 0) (xs ys : List X) → AllByRecursion P xs → AllByRecursion (Contains xs) ys → AllByRecursion P ys
-all_among P xs [] h m = tt
-all_among P xs (y ∷ ys) h m = (subst P m.0.2 (all_at P xs m.0.0 y h m.0.1), all_among P xs ys h m.1)
-
-contained_more : {X : Type 0} (x : X) (xs : List X) (y : X) → Contains xs y → Contains (x ∷ xs) y
-contained_more x xs y c = let lt = c.1 in (suc c.0, omega arith, c.2)
-
-all_more : {X : Type 0} (x : X) (xs ys : List X) → AllByRecursion (Contains xs) ys → AllByRecursion (Contains (x ∷ xs)) ys
-all_more x xs [] h = tt
-all_more x xs (y ∷ ys) h = (contained_more x xs y h.0, all_more x xs ys h.1)
-
-pub all_in : {X : Type 0} (xs : List X) → AllByRecursion (Contains xs) xs
-all_in [] = tt
-all_in (x ∷ xs) = ((zero, omega arith, refl), all_more x xs xs (all_in xs))
-
-long_moved : {X : Type 0} (f : X → X) (xs : List X) (i : ℕ) → length (map f (take i xs) ++ drop i xs) ≡ length xs
-long_moved f xs zero = refl
-long_moved f [] (suc i) = refl
-long_moved f (x ∷ xs) (suc i) = ap suc (long_moved f xs i)
-
--- one mark more is moved
-pub moved_more : {X : Type 0} (f : X → X) (xs ys : List X) (i : ℕ) (d x r : X) → i < length xs → ys ≡ map f (take i xs) ++ drop i xs → x ≡ get_or ys i d → r ≡ f x → set ys i r ≡ map f (take (i + 1) xs) ++ drop (i + 1) xs
-moved_more f xs ys i d x r lt is at e =
-    let long = ap length is ∙ long_moved f xs i in
-    let any : get_or ys i d ≡ get_or ys i x = get_or_default ys i d x (omega arith) in
-    ap (set ys i) e ∙ map_over_more f xs ys i x lt is (at ∙ any)
+use Rattle.message_list.specs.declared.marks.Marks.{Marks}
+use Rattle.message_list.specs.Marks.{gaps, counts, LeadsTo, LeadFrom, IsGroupAt, AreGroupsAt, IsSame, IsSound, Lead, with_node}
 
 -- ---- where the nodes lie
-
-drop_whole : {X : Type 0} (xs : List X) → drop (length xs) xs ≡ []
-drop_whole [] = refl
-drop_whole (x ∷ xs) = drop_whole xs
 
 kept_before : {X : Type 0} (xs : List X) (i k : ℕ) (a : X) → k < i → i ≤ length xs → get_elem? (take i xs ++ a ∷ drop i xs) k ≡ get_elem? xs k
 kept_before xs zero k a lt le = absurd (omega arith)
@@ -92,82 +31,6 @@ long_more xs zero a = omega arith
 long_more [] (suc i) a = omega arith
 long_more (x ∷ xs) (suc i) a = let e = long_more xs i a in omega arith
 
-pub below : (n i : ℕ) → nat_lt n i ≡ true → n < i
-below n i e = grind (arith, nat_tests)
-
-above : (n i : ℕ) → nat_lt n i ≡ false → i ≤ n
-above n i e = grind (arith, nat_tests)
-
--- marks that are written back are all of them
-pub written : (P : Mark → Type 0) (n : ℕ) (f : Mark → Mark) (old new : List Mark) → new ≡ map f old → AllByRecursion P new → AllByRecursion P (take n (new ++ drop (length new) old))
-written P n f old new is all =
-    let long : length new ≡ length old = ap length is ∙ length-map old f in
-    let none : drop (length new) old ≡ [] = ap (λ k. drop k old) long ∙ drop_whole old in
-    all_take P (new ++ drop (length new) old) n (subst (AllByRecursion P) (sym (append-nil new) ∙ ap (λ l. new ++ l) (sym none)) all)
-
--- ---- one mark
-
--- a node comes before the node i
-raised_leads : (i first : ℕ) (few : List Ptr) (p : Ptr) → i ≤ length few → 0 < first → (m : Mark) → LeadsTo first few m → LeadsTo first (take i few ++ p ∷ drop i few) (record { at = m.at; number = raised (first + i) m.number })
-raised_leads i first few p le some m leads = go (nat_lt m.number (first + i)) refl
-  where
-    end : (b : Bool) → nat_lt m.number (first + i) ≡ false → (m.number == 2 ^ 64 - 1) ≡ b → LeadsTo first (take i few ++ p ∷ drop i few) (record { at = m.at; number = raised (first + i) m.number })
-    end true n e = rw (n, e) (λ k is. absurd (omega (arith, is, some)))
-    end false n e = rw (n, e) (λ k is.
-        let low = above m.number (first + i) n in
-        let whole : k ≡ suc (k - 1) = omega arith in
-        subst (λ j. get_elem? (take i few ++ p ∷ drop i few) j ≡ just m.at.ptr) (sym whole) (kept_behind few i (k - 1) p (omega arith) le ∙ leads (k - 1) (omega arith)))
-
-    go : (b : Bool) → nat_lt m.number (first + i) ≡ b → LeadsTo first (take i few ++ p ∷ drop i few) (record { at = m.at; number = raised (first + i) m.number })
-    go true e = rw e (λ k is. let low = below m.number (first + i) e in kept_before few i k p (omega arith) le ∙ leads k is)
-    go false e = end (m.number == 2 ^ 64 - 1) e refl
-
--- the node i goes, behind which one lies at q
-lowered_leads : (i first : ℕ) (q : Place) (more : Bool) (few : List Ptr) (p : Ptr) → i ≤ length few → 0 < first → (more ≡ true → get_elem? few i ≡ just q.ptr) → (m : Mark) → LeadsTo first (take i few ++ p ∷ drop i few) m → LeadsTo first few (lowered (first + i) q more m)
-lowered_leads i first q more few p le some next m leads = go (nat_lt m.number (first + i)) refl
-  where
-    at : (b : Bool) → nat_lt m.number (first + i) ≡ false → nat_lt (first + i) m.number ≡ false → more ≡ b → LeadsTo first few (lowered (first + i) q more m)
-    at true n e is = rw (n, e, is) (λ k at. let low = above m.number (first + i) n in let high = above (first + i) m.number e in let same : i ≡ k = omega arith in subst (λ j. get_elem? few j ≡ just q.ptr) same (next is))
-    at false n e is = rw (n, e, is) (λ k at. absurd (omega (arith, at, some)))
-
-    behind : (b : Bool) → nat_lt m.number (first + i) ≡ false → nat_lt (first + i) m.number ≡ b → LeadsTo first few (lowered (first + i) q more m)
-    behind true n e = rw (n, e) (λ k is. let high = below (first + i) m.number e in sym (kept_behind few i k p (omega arith) le) ∙ leads (suc k) (omega arith))
-    behind false n e = at more n e refl
-
-    go : (b : Bool) → nat_lt m.number (first + i) ≡ b → LeadsTo first few (lowered (first + i) q more m)
-    go true e = rw e (λ k is. let low = below m.number (first + i) e in sym (kept_before few i k p (omega arith) le) ∙ leads k is)
-    go false e = behind (nat_lt (first + i) m.number) e refl
-
--- the first node goes
-passed_leads : (first : ℕ) (few : List Ptr) (p : Ptr) (m : Mark) → LeadsTo first (p ∷ few) m → LeadsTo (first + 1) few m
-passed_leads first few p m leads k is = leads (suc k) (omega (arith, is))
-
-all_passed : (first : ℕ) (few : List Ptr) (p : Ptr) (ms : List Mark) → AllByRecursion (LeadsTo first (p ∷ few)) ms → AllByRecursion (LeadsTo (first + 1) few) ms
-all_passed first few p [] h = tt
-all_passed first few p (m ∷ ms) h = (passed_leads first few p m h.0, all_passed first few p ms h.1)
-
--- ---- all marks
-
-pub lead_raised : (i n : ℕ) (first : ℕ) (from : ℕ) (few : List Ptr) (p : Ptr) (old mid new : List Mark) → i ≤ length few → from ≡ first + i → new ≡ map (λ m. record { at = m.at; number = raised from m.number }) mid → mid ≡ old → (0 < first) × AllByRecursion (LeadsTo first few) old
-    → (0 < first) × AllByRecursion (LeadsTo first (take i few ++ p ∷ drop i few)) (take n (new ++ drop (length new) old))
-lead_raised i n first from few p old mid new le start is at lead =
-    let f : Mark → Mark = λ m. record { at = m.at; number = raised (first + i) m.number } in
-    let to : new ≡ map f old = is ∙ ap (λ (b : ℕ). map (λ (m : Mark). record { at = m.at; number = raised b m.number }) mid) start ∙ ap (map f) at in
-    let Many : Mark → Type 0 = LeadsTo first (take i few ++ p ∷ drop i few) in
-    (lead.0, written Many n f old new to (subst (AllByRecursion Many) (sym to) (all_mapped (LeadsTo first few) Many f (raised_leads i first few p le lead.0) old lead.1)))
-
-pub lead_lowered : (i n : ℕ) (first : ℕ) (from : ℕ) (q : Place) (more : Bool) (few : List Ptr) (p : Ptr) (old mid new : List Mark) → i ≤ length few → from ≡ first + i → (more ≡ true → get_elem? few i ≡ just q.ptr) → new ≡ map (lowered from q more) mid → mid ≡ old → (0 < first) × AllByRecursion (LeadsTo first (take i few ++ p ∷ drop i few)) old
-    → (0 < first) × AllByRecursion (LeadsTo first few) (take n (new ++ drop (length new) old))
-lead_lowered i n first from q more few p old mid new le start next is at lead =
-    let f : Mark → Mark = lowered (first + i) q more in
-    let to : new ≡ map f old = is ∙ ap (λ (b : ℕ). map (lowered b q more) mid) start ∙ ap (map f) at in
-    let Few : Mark → Type 0 = LeadsTo first few in
-    (lead.0, written Few n f old new to (subst (AllByRecursion Few) (sym to) (all_mapped (LeadsTo first (take i few ++ p ∷ drop i few)) Few f (lowered_leads i first q more few p le lead.0 next) old lead.1)))
-
--- the first node goes, and the others count from the number behind
-pub lead_passed : (first next : ℕ) (few : List Ptr) (p : Ptr) (ms : List Mark) → next ≡ first + 1 → (0 < first) × AllByRecursion (LeadsTo first (p ∷ few)) ms → (0 < next) × AllByRecursion (LeadsTo next few) ms
-lead_passed first next few p ms is lead = (omega (arith, is), subst (λ n. AllByRecursion (LeadsTo n few) ms) (sym is) (all_passed first few p ms lead.1))
-
 -- a node behind the last changes no mark
 kept_last : (xs : List Ptr) (i k : ℕ) (a q : Ptr) → i ≡ length xs → get_elem? xs k ≡ just q → get_elem? (take i xs ++ a ∷ drop i xs) k ≡ just q
 kept_last [] i k a q e is = absurd (some-ne-none q (sym is))
@@ -175,20 +38,325 @@ kept_last (x ∷ xs) zero k a q e is = absurd (omega (arith, e))
 kept_last (x ∷ xs) (suc i) zero a q e is = is
 kept_last (x ∷ xs) (suc i) (suc k) a q e is = kept_last xs i k a q (omega (arith, e)) is
 
-all_kept : (first : ℕ) (few : List Ptr) (p : Ptr) (i : ℕ) (ms : List Mark) → i ≡ length few → AllByRecursion (LeadsTo first few) ms → AllByRecursion (LeadsTo first (take i few ++ p ∷ drop i few)) ms
-all_kept first few p i [] e h = tt
-all_kept first few p i (m ∷ ms) e h = ((λ k is. kept_last few i k p m.at.ptr e (h.0 k is)), all_kept first few p i ms e h.1)
+-- ---- sums
 
-pub lead_kept : (i : ℕ) (ms : Marks) (few : List Ptr) (p : Ptr) → i ≡ length few → Lead ms few → Lead ms (take i few ++ p ∷ drop i few)
-lead_kept i ms few p e lead = (lead.0, all_kept ms.first few p i ms.list.items e lead.1)
+pub gaps_more : (ms : List Mark) (k : ℕ) (d : Mark) → k < length ms → gaps (take (suc k) ms) ≡ gaps (take k ms) + (get_or ms k d).gap
+gaps_more [] k d lt = absurd (omega arith)
+gaps_more (m ∷ ms) zero d lt = omega arith
+gaps_more (m ∷ ms) (suc k) d lt = let rest = gaps_more ms k d (omega arith) in omega arith
 
--- no mark
-pub lead_none : (ms : Marks) (places : List Ptr) → 0 < ms.first → ms.list.items ≡ [] → Lead ms places
-lead_none ms places some none = (some, subst (AllByRecursion (LeadsTo ms.first places)) (sym none) tt)
+pub counts_more : (gs : List Group) (k : ℕ) (d : Group) → k < length gs → counts (take (suc k) gs) ≡ counts (take k gs) + (get_or gs k d).count
+counts_more [] k d lt = absurd (omega arith)
+counts_more (g ∷ gs) zero d lt = omega arith
+counts_more (g ∷ gs) (suc k) d lt = let rest = counts_more gs k d (omega arith) in omega arith
 
--- a mark that is read
-pub read_leads : (first : ℕ) (places : List Ptr) (ms : List Mark) (k i : ℕ) (m : Mark) → AllByRecursion (LeadsTo first places) ms → k < length ms → m ≡ get_or ms k m → m.number ≡ first + i → get_elem? places i ≡ just m.at.ptr
-read_leads first places ms k i m all lt is at = (subst (LeadsTo first places) (sym is) (all_at (LeadsTo first places) ms k m all lt)) i at
+pub take_all : {X : Type 0} (xs : List X) (n : ℕ) → length xs ≤ n → take n xs ≡ xs
+take_all [] zero le = refl
+take_all [] (suc n) le = refl
+take_all (x ∷ xs) zero le = absurd (omega arith)
+take_all (x ∷ xs) (suc n) le = ap (λ l. x ∷ l) (take_all xs n (omega arith))
+
+pub take_set : {X : Type 0} (xs : List X) (k : ℕ) (y : X) → take k (set xs k y) ≡ take k xs
+take_set xs zero y = refl
+take_set [] (suc k) y = refl
+take_set (x ∷ xs) (suc k) y = ap (λ l. x ∷ l) (take_set xs k y)
+
+pub take_insert : {X : Type 0} (xs : List X) (k : ℕ) (y : X) → k < length xs → take k (insert xs (suc k) y) ≡ take k xs
+take_insert xs zero y lt = refl
+take_insert [] (suc k) y lt = absurd (omega arith)
+take_insert (x ∷ xs) (suc k) y lt = ap (λ l. x ∷ l) (take_insert xs k y (omega arith))
+
+pub long_set : {X : Type 0} (xs : List X) (k : ℕ) (y : X) → length (set xs k y) ≡ length xs
+long_set [] k y = refl
+long_set (x ∷ xs) zero y = refl
+long_set (x ∷ xs) (suc k) y = ap suc (long_set xs k y)
+
+pub long_insert : {X : Type 0} (xs : List X) (k : ℕ) (y : X) → k ≤ length xs → length (insert xs k y) ≡ suc (length xs)
+long_insert [] zero y le = refl
+long_insert [] (suc k) y le = absurd (omega arith)
+long_insert (x ∷ xs) zero y le = refl
+long_insert (x ∷ xs) (suc k) y le = ap suc (long_insert xs k y (omega arith))
+
+pub long_drop : {X : Type 0} (xs : List X) (k : ℕ) → length (drop k xs) ≡ length xs - k
+long_drop xs zero = omega arith
+long_drop [] (suc k) = omega arith
+long_drop (x ∷ xs) (suc k) = let rest = long_drop xs k in omega arith
+
+-- ---- a node comes before the node i
+
+module _ (f i : ℕ) (few : List Ptr) (p : Ptr) (le : i ≤ length few) where
+  low_to : (n : ℕ) (q : Ptr) → n < f + i → LeadsTo f few n q → LeadsTo f (with_node i p few) n q
+  low_to n q lt h k is = kept_before few i k p (omega (arith, lt, is)) le ∙ h k is
+
+  high_to : (n : ℕ) (q : Ptr) → f + i ≤ n → LeadsTo f few n q → LeadsTo f (with_node i p few) (n + 1) q
+  high_to n q low h k is =
+      let whole : k ≡ suc (k - 1) = omega (arith, low, is) in
+      subst (λ j. get_elem? (with_node i p few) j ≡ just q) (sym whole) (kept_behind few i (k - 1) p (omega (arith, low, is)) le ∙ h (k - 1) (omega (arith, low, is)))
+
+  low_from : (n : ℕ) (ms : List Mark) → n + gaps ms < f + i → LeadFrom f few n ms → LeadFrom f (with_node i p few) n ms
+  low_from n [] lt h = tt
+  low_from n (m ∷ ms) lt h = (low_to n m.at.ptr (omega (arith, lt)) h.0, h.1, low_from (n + m.gap) ms (omega (arith, lt)) h.2)
+
+  high_from : (n : ℕ) (ms : List Mark) → f + i ≤ n → LeadFrom f few n ms → LeadFrom f (with_node i p few) (n + 1) ms
+  high_from n [] low h = tt
+  high_from n (m ∷ ms) low h =
+      let on : n + m.gap + 1 ≡ n + 1 + m.gap = omega arith in
+      (high_to n m.at.ptr low h.0, h.1, subst (λ b. LeadFrom f (with_node i p few) b ms) on (high_from (n + m.gap) ms (omega (arith, low)) h.2))
+
+  pub raised_from : (n : ℕ) (ms : List Mark) (k left : ℕ) (m' d : Mark) → n + (gaps (take k ms) + left) + 1 ≡ f + i → k < length ms → left < (get_or ms k d).gap → m'.at ≡ (get_or ms k d).at → m'.gap ≡ (get_or ms k d).gap + 1
+      → LeadFrom f few n ms → LeadFrom f (with_node i p few) n (set ms k m') × (gaps (set ms k m') ≡ gaps ms + 1)
+  raised_from n [] k left m' d is lt low at gap h = absurd (omega (arith, lt))
+  raised_from n (m ∷ ms) zero left m' d is lt low at gap h =
+      let on : n + m.gap + 1 ≡ n + m'.gap = omega (arith, gap) in (
+        (
+          subst (λ (q : Place). LeadsTo f (with_node i p few) n q.ptr) (sym at) (low_to n m.at.ptr (omega (arith, is)) h.0),
+          omega (arith, gap),
+          subst (λ b. LeadFrom f (with_node i p few) b ms) on (high_from (n + m.gap) ms (omega (arith, is, low)) h.2),
+        ),
+        omega (arith, gap),
+      )
+  raised_from n (m ∷ ms) (suc k) left m' d is lt low at gap h =
+      let rest = raised_from (n + m.gap) ms k left m' d (omega (arith, is)) (omega (arith, lt)) low at gap h.2 in
+      let more = rest.1 in
+      ((low_to n m.at.ptr (omega (arith, is)) h.0, h.1, rest.0), omega (arith, more))
+
+  groups_low : (n : ℕ) (gs : List Group) → n + counts gs < f + i → AreGroupsAt f few n gs → AreGroupsAt f (with_node i p few) n gs
+  groups_low n [] lt h = tt
+  groups_low n (g ∷ gs) lt h = let sum = h.0.1 in ((low_from n g.list.items (omega (arith, lt, sum)) h.0.0, sum), groups_low (n + g.count) gs (omega (arith, lt)) h.1)
+
+  groups_high : (n : ℕ) (gs : List Group) → f + i ≤ n → AreGroupsAt f few n gs → AreGroupsAt f (with_node i p few) (n + 1) gs
+  groups_high n [] low h = tt
+  groups_high n (g ∷ gs) low h =
+      let on : n + g.count + 1 ≡ n + 1 + g.count = omega arith in
+      ((high_from n g.list.items low h.0.0, h.0.1), subst (λ b. AreGroupsAt f (with_node i p few) b gs) on (groups_high (n + g.count) gs (omega (arith, low)) h.1))
+
+  -- all lie before it
+  pub groups_before : (n number : ℕ) (gs : List Group) → number + 1 ≡ f + i → n + counts gs ≤ number → AreGroupsAt f few n gs → AreGroupsAt f (with_node i p few) n gs
+  groups_before n number gs is low h = groups_low n gs (omega (arith, is, low)) h
+
+  -- it comes within the group k
+  pub raised_groups : (n number : ℕ) (gs : List Group) (k b : ℕ) (g' d : Group) → number + 1 ≡ f + i → k < length gs → b ≡ n + counts (take k gs) → b ≤ number → number < b + (get_or gs k d).count
+      → (IsGroupAt f few b (get_or gs k d) → IsGroupAt f (with_node i p few) b g' × (g'.count ≡ (get_or gs k d).count + 1)) → AreGroupsAt f few n gs → AreGroupsAt f (with_node i p few) n (set gs k g')
+  raised_groups n number [] k b g' d is lt at low high step h = absurd (omega (arith, lt))
+  raised_groups n number (g ∷ gs) zero b g' d is lt at low high step h =
+      let here : b ≡ n = omega (arith, at) in
+      let all = step (subst (λ c. IsGroupAt f few c g) (sym here) h.0) in
+      let more = all.1 in
+      let on : n + g.count + 1 ≡ n + g'.count = omega (arith, more) in
+      (subst (λ c. IsGroupAt f (with_node i p few) c g') here all.0, subst (λ c. AreGroupsAt f (with_node i p few) c gs) on (groups_high (n + g.count) gs (omega (arith, is, high, here)) h.1))
+  raised_groups n number (g ∷ gs) (suc k) b g' d is lt at low high step h =
+      let sum = h.0.1 in
+      ((low_from n g.list.items (omega (arith, is, at, low, sum)) h.0.0, sum), raised_groups (n + g.count) number gs k b g' d is (omega (arith, lt)) (omega (arith, at)) low high step h.1)
+
+-- ---- the node i goes
+
+module _ (f i : ℕ) (few : List Ptr) (p : Ptr) (le : i ≤ length few) where
+  gone_low : (n : ℕ) (q : Ptr) → n < f + i → LeadsTo f (with_node i p few) n q → LeadsTo f few n q
+  gone_low n q lt h k is = sym (kept_before few i k p (omega (arith, lt, is)) le) ∙ h k is
+
+  gone_high : (n : ℕ) (q : Ptr) → f + i ≤ n → LeadsTo f (with_node i p few) (n + 1) q → LeadsTo f few n q
+  gone_high n q low h k is = sym (kept_behind few i k p (omega (arith, low, is)) le) ∙ h (suc k) (omega (arith, is))
+
+  gone_low_from : (n : ℕ) (ms : List Mark) → n + gaps ms ≤ f + i → LeadFrom f (with_node i p few) n ms → LeadFrom f few n ms
+  gone_low_from n [] lt h = tt
+  gone_low_from n (m ∷ ms) lt h = let some = h.1 in (gone_low n m.at.ptr (omega (arith, lt, some)) h.0, some, gone_low_from (n + m.gap) ms (omega (arith, lt)) h.2)
+
+  gone_high_from : (n : ℕ) (ms : List Mark) → f + i ≤ n → LeadFrom f (with_node i p few) (n + 1) ms → LeadFrom f few n ms
+  gone_high_from n [] low h = tt
+  gone_high_from n (m ∷ ms) low h =
+      let on : n + 1 + m.gap ≡ n + m.gap + 1 = omega arith in
+      (gone_high n m.at.ptr low h.0, h.1, gone_high_from (n + m.gap) ms (omega (arith, low)) (subst (λ b. LeadFrom f (with_node i p few) b ms) on h.2))
+
+  -- the first of the marks is `left` nodes before that which goes
+  gone_at : (n left : ℕ) (m m' : Mark) → n + left ≡ f + i → (left ≡ 0 → get_elem? few i ≡ just m'.at.ptr) → (0 < left → m'.at ≡ m.at) → LeadsTo f (with_node i p few) n m.at.ptr → LeadsTo f few n m'.at.ptr
+  gone_at n zero m m' is next same h = λ k at. let here : i ≡ k = omega (arith, is, at) in subst (λ j. get_elem? few j ≡ just m'.at.ptr) here (next refl)
+  gone_at n (suc left) m m' is next same h = subst (λ (q : Place). LeadsTo f few n q.ptr) (sym (same (omega arith))) (gone_low n m.at.ptr (omega (arith, is)) h)
+
+  pub narrowed_from : (n : ℕ) (ms : List Mark) (k left : ℕ) (m' d : Mark) → n + (gaps (take k ms) + left) ≡ f + i → k < length ms → left < (get_or ms k d).gap → 0 < m'.gap → m'.gap + 1 ≡ (get_or ms k d).gap
+      → (left ≡ 0 → get_elem? few i ≡ just m'.at.ptr) → (0 < left → m'.at ≡ (get_or ms k d).at) → LeadFrom f (with_node i p few) n ms → LeadFrom f few n (set ms k m') × (gaps ms ≡ gaps (set ms k m') + 1)
+  narrowed_from n [] k left m' d is lt low some gap next same h = absurd (omega (arith, lt))
+  narrowed_from n (m ∷ ms) zero left m' d is lt low some gap next same h =
+      let on : n + m.gap ≡ n + m'.gap + 1 = omega (arith, gap) in (
+        (gone_at n left m m' (omega (arith, is)) next same h.0, some, gone_high_from (n + m'.gap) ms (omega (arith, is, low, gap)) (subst (λ b. LeadFrom f (with_node i p few) b ms) on h.2)),
+        omega (arith, gap),
+      )
+  narrowed_from n (m ∷ ms) (suc k) left m' d is lt low some gap next same h =
+      let rest = narrowed_from (n + m.gap) ms k left m' d (omega (arith, is)) (omega (arith, lt)) low some gap next same h.2 in
+      let more = rest.1 in
+      let wide = h.1 in
+      ((gone_low n m.at.ptr (omega (arith, is, wide)) h.0, wide, rest.0), omega (arith, more))
+
+  groups_gone_low : (n : ℕ) (gs : List Group) → n + counts gs ≤ f + i → AreGroupsAt f (with_node i p few) n gs → AreGroupsAt f few n gs
+  groups_gone_low n [] lt h = tt
+  groups_gone_low n (g ∷ gs) lt h = let sum = h.0.1 in ((gone_low_from n g.list.items (omega (arith, lt, sum)) h.0.0, sum), groups_gone_low (n + g.count) gs (omega (arith, lt)) h.1)
+
+  groups_gone_high : (n : ℕ) (gs : List Group) → f + i ≤ n → AreGroupsAt f (with_node i p few) (n + 1) gs → AreGroupsAt f few n gs
+  groups_gone_high n [] low h = tt
+  groups_gone_high n (g ∷ gs) low h =
+      let on : n + 1 + g.count ≡ n + g.count + 1 = omega arith in
+      ((gone_high_from n g.list.items low h.0.0, h.0.1), groups_gone_high (n + g.count) gs (omega (arith, low)) (subst (λ b. AreGroupsAt f (with_node i p few) b gs) on h.1))
+
+  -- all lie before it
+  pub groups_gone_before : (n number : ℕ) (gs : List Group) → number ≡ f + i → n + counts gs ≤ number → AreGroupsAt f (with_node i p few) n gs → AreGroupsAt f few n gs
+  groups_gone_before n number gs is low h = groups_gone_low n gs (omega (arith, is, low)) h
+
+  -- it goes within the group k
+  pub narrowed_groups : (n number : ℕ) (gs : List Group) (k b : ℕ) (g' d : Group) → number ≡ f + i → k < length gs → b ≡ n + counts (take k gs) → b ≤ number → number < b + (get_or gs k d).count
+      → (IsGroupAt f (with_node i p few) b (get_or gs k d) → IsGroupAt f few b g' × ((get_or gs k d).count ≡ g'.count + 1)) → AreGroupsAt f (with_node i p few) n gs → AreGroupsAt f few n (set gs k g')
+  narrowed_groups n number [] k b g' d is lt at low high step h = absurd (omega (arith, lt))
+  narrowed_groups n number (g ∷ gs) zero b g' d is lt at low high step h =
+      let here : b ≡ n = omega (arith, at) in
+      let all = step (subst (λ c. IsGroupAt f (with_node i p few) c g) (sym here) h.0) in
+      let more = all.1 in
+      let on : n + g.count ≡ n + g'.count + 1 = omega (arith, more) in
+      (subst (λ c. IsGroupAt f few c g') here all.0, groups_gone_high (n + g'.count) gs (omega (arith, is, high, here, more)) (subst (λ c. AreGroupsAt f (with_node i p few) c gs) on h.1))
+  narrowed_groups n number (g ∷ gs) (suc k) b g' d is lt at low high step h =
+      let sum = h.0.1 in
+      ((gone_low_from n g.list.items (omega (arith, is, at, low, sum)) h.0.0, sum), narrowed_groups (n + g.count) number gs k b g' d is (omega (arith, lt)) (omega (arith, at)) low high step h.1)
+
+-- ---- the first node goes
+
+passed_from : (f n : ℕ) (few : List Ptr) (p : Ptr) (ms : List Mark) → LeadFrom f (p ∷ few) n ms → LeadFrom (f + 1) few n ms
+passed_from f n few p [] h = tt
+passed_from f n few p (m ∷ ms) h = ((λ k is. h.0 (suc k) (omega (arith, is))), h.1, passed_from f (n + m.gap) few p ms h.2)
+
+pub passed_groups : (f n : ℕ) (few : List Ptr) (p : Ptr) (gs : List Group) → AreGroupsAt f (p ∷ few) n gs → AreGroupsAt (f + 1) few n gs
+passed_groups f n few p [] h = tt
+passed_groups f n few p (g ∷ gs) h = ((passed_from f n few p g.list.items h.0.0, h.0.1), passed_groups f (n + g.count) few p gs h.1)
+
+-- ---- a node comes behind the last
+
+last_to : (f n i : ℕ) (few : List Ptr) (p q : Ptr) → i ≡ length few → LeadsTo f few n q → LeadsTo f (with_node i p few) n q
+last_to f n i few p q e h k is = kept_last few i k p q e (h k is)
+
+last_from : (f n i : ℕ) (few : List Ptr) (p : Ptr) (ms : List Mark) → i ≡ length few → LeadFrom f few n ms → LeadFrom f (with_node i p few) n ms
+last_from f n i few p [] e h = tt
+last_from f n i few p (m ∷ ms) e h = (last_to f n i few p m.at.ptr e h.0, h.1, last_from f (n + m.gap) i few p ms e h.2)
+
+pub last_groups : (f n i : ℕ) (few : List Ptr) (p : Ptr) (gs : List Group) → i ≡ length few → AreGroupsAt f few n gs → AreGroupsAt f (with_node i p few) n gs
+last_groups f n i few p [] e h = tt
+last_groups f n i few p (g ∷ gs) e h = ((last_from f n i few p g.list.items e h.0.0, h.0.1), last_groups f (n + g.count) i few p gs e h.1)
+
+-- ---- a mark that is read
+
+module _ (f : ℕ) (places : List Ptr) where
+  pub read_from : (n : ℕ) (ms : List Mark) (k : ℕ) (d : Mark) → k < length ms → LeadFrom f places n ms → LeadsTo f places (n + gaps (take k ms)) (get_or ms k d).at.ptr
+  read_from n [] k d lt h = absurd (omega (arith, lt))
+  read_from n (m ∷ ms) zero d lt h = let here : n ≡ n + 0 = omega arith in subst (λ b. LeadsTo f places b m.at.ptr) here h.0
+  read_from n (m ∷ ms) (suc k) d lt h =
+      let on : n + m.gap + gaps (take k ms) ≡ n + (m.gap + gaps (take k ms)) = omega arith in
+      subst (λ b. LeadsTo f places b (get_or ms k d).at.ptr) on (read_from (n + m.gap) ms k d (omega (arith, lt)) h.2)
+
+  pub group_at : (n : ℕ) (gs : List Group) (k : ℕ) (d : Group) → k < length gs → AreGroupsAt f places n gs → IsGroupAt f places (n + counts (take k gs)) (get_or gs k d)
+  group_at n [] k d lt h = absurd (omega (arith, lt))
+  group_at n (g ∷ gs) zero d lt h = let here : n ≡ n + 0 = omega arith in subst (λ b. IsGroupAt f places b g) here h.0
+  group_at n (g ∷ gs) (suc k) d lt h =
+      let on : n + g.count + counts (take k gs) ≡ n + (g.count + counts (take k gs)) = omega arith in
+      subst (λ b. IsGroupAt f places b (get_or gs k d)) on (group_at (n + g.count) gs k d (omega (arith, lt)) h.1)
+
+  -- ---- more marks
+
+  -- another mark in the place of one with the same way
+  pub same_from : (n : ℕ) (ms : List Mark) (k : ℕ) (m' d : Mark) → k < length ms → m'.at ≡ (get_or ms k d).at → m'.gap ≡ (get_or ms k d).gap → LeadFrom f places n ms → LeadFrom f places n (set ms k m') × (gaps ms ≡ gaps (set ms k m'))
+  same_from n [] k m' d lt at gap h = absurd (omega (arith, lt))
+  same_from n (m ∷ ms) zero m' d lt at gap h =
+      let some = h.1 in
+      ((subst (λ (q : Place). LeadsTo f places n q.ptr) (sym at) h.0, omega (arith, gap, some), subst (λ b. LeadFrom f places (n + b) ms) (sym gap) h.2), omega (arith, gap))
+  same_from n (m ∷ ms) (suc k) m' d lt at gap h =
+      let rest = same_from (n + m.gap) ms k m' d (omega (arith, lt)) at gap h.2 in
+      let more = rest.1 in
+      ((h.0, h.1, rest.0), omega (arith, more))
+
+  -- the way behind the last mark gets longer
+  pub reached_from : (n : ℕ) (ms : List Mark) (k more : ℕ) (m' d : Mark) → suc k ≡ length ms → m'.at ≡ (get_or ms k d).at → m'.gap ≡ (get_or ms k d).gap + more → LeadFrom f places n ms → LeadFrom f places n (set ms k m') × (gaps ms + more ≡ gaps (set ms k m'))
+  reached_from n [] k more m' d last at gap h = absurd (omega (arith, last))
+  reached_from n (m ∷ []) zero more m' d last at gap h = let some = h.1 in ((subst (λ (q : Place). LeadsTo f places n q.ptr) (sym at) h.0, omega (arith, gap, some), tt), omega (arith, gap))
+  reached_from n (m ∷ a ∷ ms) zero more m' d last at gap h = absurd (omega (arith, last))
+  reached_from n (m ∷ ms) (suc k) more m' d last at gap h =
+      let rest = reached_from (n + m.gap) ms k more m' d (omega (arith, last)) at gap h.2 in
+      let on = rest.1 in
+      ((h.0, h.1, rest.0), omega (arith, on))
+
+  pub reached_groups : (n : ℕ) (gs : List Group) (k : ℕ) (g' d : Group) → suc k ≡ length gs → ((b : ℕ) → IsGroupAt f places b (get_or gs k d) → IsGroupAt f places b g') → AreGroupsAt f places n gs → AreGroupsAt f places n (set gs k g')
+  reached_groups n [] k g' d last step h = absurd (omega (arith, last))
+  reached_groups n (g ∷ []) zero g' d last step h = (step n h.0, tt)
+  reached_groups n (g ∷ a ∷ gs) zero g' d last step h = absurd (omega (arith, last))
+  reached_groups n (g ∷ gs) (suc k) g' d last step h = (h.0, reached_groups (n + g.count) gs k g' d (omega (arith, last)) step h.1)
+
+  -- one mark more, `left` nodes behind that of the place k
+  pub put_from : (n : ℕ) (ms : List Mark) (k left : ℕ) (m' x d : Mark) → k < length ms → 0 < left → m'.at ≡ (get_or ms k d).at → m'.gap ≡ left → x.gap + left ≡ (get_or ms k d).gap → 0 < x.gap
+      → LeadsTo f places (n + (gaps (take k ms) + left)) x.at.ptr → LeadFrom f places n ms → LeadFrom f places n (set (insert ms (suc k) x) k m') × (gaps ms ≡ gaps (set (insert ms (suc k) x) k m'))
+  put_from n [] k left m' x d lt some at is gap rest to h = absurd (omega (arith, lt))
+  put_from n (m ∷ ms) zero left m' x d lt some at is gap rest to h =
+      let there : n + (0 + left) ≡ n + m'.gap = omega (arith, is) in
+      let on : n + m.gap ≡ n + m'.gap + x.gap = omega (arith, is, gap) in (
+        (subst (λ (q : Place). LeadsTo f places n q.ptr) (sym at) h.0, omega (arith, is, some), (subst (λ b. LeadsTo f places b x.at.ptr) there to, rest, subst (λ b. LeadFrom f places b ms) on h.2)),
+        omega (arith, is, gap),
+      )
+  put_from n (m ∷ ms) (suc k) left m' x d lt some at is gap rest to h =
+      let on : n + (m.gap + gaps (take k ms) + left) ≡ n + m.gap + (gaps (take k ms) + left) = omega arith in
+      let all = put_from (n + m.gap) ms k left m' x d (omega (arith, lt)) some at is gap rest (subst (λ b. LeadsTo f places b x.at.ptr) on to) h.2 in
+      let same = all.1 in
+      ((h.0, h.1, all.0), omega (arith, same))
+
+  -- another group in the place of one with the same count
+  pub same_groups : (n : ℕ) (gs : List Group) (k : ℕ) (g' d : Group) → k < length gs → g'.count ≡ (get_or gs k d).count → (IsGroupAt f places (n + counts (take k gs)) (get_or gs k d) → IsGroupAt f places (n + counts (take k gs)) g') → AreGroupsAt f places n gs → AreGroupsAt f places n (set gs k g')
+  same_groups n [] k g' d lt same step h = absurd (omega (arith, lt))
+  same_groups n (g ∷ gs) zero g' d lt same step h =
+      let here : n + 0 ≡ n = omega arith in
+      (subst (λ b. IsGroupAt f places b g') here (step (subst (λ b. IsGroupAt f places b g) (sym here) h.0)), subst (λ b. AreGroupsAt f places (n + b) gs) (sym same) h.1)
+  same_groups n (g ∷ gs) (suc k) g' d lt same step h =
+      let on : n + (g.count + counts (take k gs)) ≡ n + g.count + counts (take k gs) = omega arith in
+      (h.0, same_groups (n + g.count) gs k g' d (omega (arith, lt)) same (λ was. subst (λ b. IsGroupAt f places b g') on (step (subst (λ b. IsGroupAt f places b (get_or gs k d)) (sym on) was))) h.1)
+
+  -- marks cut in two
+  pub cut_from : (n : ℕ) (ms : List Mark) (k : ℕ) → LeadFrom f places n ms → LeadFrom f places n (take k ms) × LeadFrom f places (n + gaps (take k ms)) (drop k ms) × (gaps ms ≡ gaps (take k ms) + gaps (drop k ms))
+  cut_from n ms zero h = let here : n ≡ n + 0 = omega arith in (tt, subst (λ b. LeadFrom f places b ms) here h, omega arith)
+  cut_from n [] (suc k) h = (tt, tt, omega arith)
+  cut_from n (m ∷ ms) (suc k) h =
+      let rest = cut_from (n + m.gap) ms k h.2 in
+      let on : n + m.gap + gaps (take k ms) ≡ n + (m.gap + gaps (take k ms)) = omega arith in
+      let sum = rest.2 in
+      ((h.0, h.1, rest.0), subst (λ b. LeadFrom f places b (drop k ms)) on rest.1, omega (arith, sum))
+
+  -- two groups in the place of one
+  pub cut_groups : (n : ℕ) (gs : List Group) (k : ℕ) (g' more d : Group) → k < length gs
+      → (IsGroupAt f places (n + counts (take k gs)) (get_or gs k d) → IsGroupAt f places (n + counts (take k gs)) g' × IsGroupAt f places (n + counts (take k gs) + g'.count) more × ((get_or gs k d).count ≡ g'.count + more.count))
+      → AreGroupsAt f places n gs → AreGroupsAt f places n (insert (set gs k g') (suc k) more)
+  cut_groups n [] k g' more d lt step h = absurd (omega (arith, lt))
+  cut_groups n (g ∷ gs) zero g' more d lt step h =
+      let here : n + 0 ≡ n = omega arith in
+      let all = step (subst (λ b. IsGroupAt f places b g) (sym here) h.0) in
+      let sum = all.2 in
+      let on : n + g.count ≡ n + g'.count + more.count = omega (arith, sum) in
+      (subst (λ b. IsGroupAt f places b g') here all.0, (subst (λ b. IsGroupAt f places (b + g'.count) more) here all.1, subst (λ b. AreGroupsAt f places b gs) on h.1))
+  cut_groups n (g ∷ gs) (suc k) g' more d lt step h =
+      let on : n + (g.count + counts (take k gs)) ≡ n + g.count + counts (take k gs) = omega arith in
+      (h.0, cut_groups (n + g.count) gs k g' more d (omega (arith, lt)) (subst (λ b. IsGroupAt f places b (get_or gs k d) → IsGroupAt f places b g' × IsGroupAt f places (b + g'.count) more × ((get_or gs k d).count ≡ g'.count + more.count)) on step) h.1)
+
+  -- the second was put in, or all marks were let go
+  pub cut_or_none : (n : ℕ) (gs new : List Group) (k : ℕ) (g' more d : Group) → k < length gs → (new ≡ []) ⊎ (new ≡ insert (set gs k g') (k + 1) more)
+      → (IsGroupAt f places (n + counts (take k gs)) (get_or gs k d) → IsGroupAt f places (n + counts (take k gs)) g' × IsGroupAt f places (n + counts (take k gs) + g'.count) more × ((get_or gs k d).count ≡ g'.count + more.count))
+      → AreGroupsAt f places n gs → AreGroupsAt f places n new
+  cut_or_none n gs new k g' more d lt (inl none) step h = subst (λ (l : List Group). AreGroupsAt f places n l) (sym none) tt
+  cut_or_none n gs new k g' more d lt (inr is) step h =
+      let on : suc k ≡ k + 1 = omega arith in
+      subst (λ (l : List Group). AreGroupsAt f places n l) (sym is) (subst (λ j. AreGroupsAt f places n (insert (set gs k g') j more)) on (cut_groups n gs k g' more d lt step h))
+
+-- ---- where a list's marks are
+
+pub same_lead : (old new : Marks) (places : List Ptr) → IsSame old new → IsSound new → Lead old places → Lead new places
+same_lead old new places same sound lead = (
+  sound,
+  subst (λ (f : ℕ). AreGroupsAt f places new.start new.groups.items) (sym same.0)
+      (subst (λ (s : ℕ). AreGroupsAt old.first places s new.groups.items) (sym same.1) (subst (λ (gs : List Group). AreGroupsAt old.first places old.start gs) (sym same.2) lead.1)),
+)
+
+-- another group in the place of that where they are
+pub sound_set : (start near base : ℕ) (gs : List Group) (g : Group) → near ≤ length gs → base ≡ start + counts (take near gs) → (near ≤ length (set gs near g)) × (base ≡ start + counts (take near (set gs near g)))
+sound_set start near base gs g le is = let long = long_set gs near g in (omega (arith, long, le), is ∙ ap (λ (l : List Group). start + counts l) (sym (take_set gs near g)))
+
+-- ---- nodes and places
 
 module _ {X : Type 0} where
   pub place_held : (cs : List (Placed X)) (k : ℕ) (p : Ptr) → Holds cs k p → get_elem? (places_of cs) k ≡ just p

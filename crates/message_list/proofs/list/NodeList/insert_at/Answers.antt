@@ -1,4 +1,4 @@
-use Rattle.std.proofs.Common.{◌≡◌, ℕ, ◌+◌, ◌^◌, ◌<◌, ◌≤◌, List, length, subst, sym, arith}
+use Rattle.std.proofs.Common.{◌≡◌, ◌≤◌, List, length, subst, sym, arith}
 use lib.ListN.{length-map}
 use denote.RawPtr.{Ptr}
 use Rattle.message_list.specs.Links.{Placed, items_of, places_of}

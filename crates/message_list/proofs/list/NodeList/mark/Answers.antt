@@ -5,5 +5,5 @@ use Rattle.message_list.proofs.list.NodeList.mark.Goals as goal
 
 pub invariant_of-self : goal.invariant_of-self
 invariant_of-self g c =
-    let cs = c.self.inside.chain in let some = c.if-self-len.true in let all = c.len-len.ensures in
+    let cs = c.self.inside.chain in let some = c.if-self-len.true in let all = c.len.ensures in
     (c.self.invariant.0, c.put.ensures (places_of cs) (place_held cs c.self.inside.here c.self.inside.at.ptr (c.self.invariant.0 (omega arith))) c.self.invariant.1)

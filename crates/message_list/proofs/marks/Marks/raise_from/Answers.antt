@@ -1,8 +1,44 @@
-use Rattle.message_list.proofs.Marked.{lead_raised}
+use Rattle.std.proofs.Common.{◌≡◌, ◌+◌, ◌-◌, ◌<◌, length, get_or, sym, ap, ◌∙◌, subst, arith}
+use Rattle.message_list.specs.declared.group.Group.{Group}
+use Rattle.message_list.specs.Marks.{counts, IsGroupAt}
+use Rattle.message_list.proofs.Marked.{same_lead, sound_set, take_all, groups_before, raised_groups}
 use Rattle.message_list.proofs.marks.Marks.raise_from.Goals as goal
 
 pub returns-in_default : goal.returns-in_default
 returns-in_default c few p le lead = c.clear.ensures _
 
-pub returns : goal.returns
-returns c few p le lead = lead_raised c.args.i _ c.args.self.now.first c.in-Some.from few p c.args.self.now.list.items c.deref_mut.result.now c.raise_all.new.marks le c.in-Some.ensures.1 c.raise_all.ensures c.deref_mut.ensures.value lead
+pub returns-then-self-len : goal.returns-then-self-len
+returns-then-self-len c few p le lead =
+    let ms = c.go_to.new.self in
+    let gs = ms.groups.items in
+    let now = same_lead c.args.self.now ms few c.go_to.ensures.same c.go_to.ensures.sound lead in
+    let sum = c.in-Some.ensures.1 in let less = lead.0.0 in let first = c.go_to.ensures.same.0 in
+    let is : c.in-Some.number + 1 ≡ ms.first + c.args.i = omega (arith, sum, less, first) in
+    let end = c.if-self-len.true in let long = c.len.ensures in
+    let all = ap counts (take_all gs ms.near (omega arith)) in
+    let base = c.go_to.ensures.sound.2 in let low = c.go_to.ensures.near.0 in
+    (now.0, groups_before ms.first c.args.i few p le ms.start c.in-Some.number gs is (omega (arith, all, base, low)) now.1)
+
+pub returns-then-not-raised : goal.returns-then-not-raised
+returns-then-not-raised c few p le lead = c.clear-then-not-raised.ensures _
+
+pub returns-else-not-raised : goal.returns-else-not-raised
+returns-else-not-raised c few p le lead =
+    let ms = c.go_to.new.self in
+    let gs = ms.groups.items in
+    let now = same_lead c.args.self.now ms few c.go_to.ensures.same c.go_to.ensures.sound lead in
+    let sum = c.in-Some.ensures.1 in let less = lead.0.0 in let first = c.go_to.ensures.same.0 in
+    let is : c.in-Some.number + 1 ≡ ms.first + c.args.i = omega (arith, sum, less, first) in
+    let some = c.if-self-len.false in let long = c.len.ensures in
+    let lt : ms.near < length gs = omega arith in
+    let low = c.go_to.ensures.near.0 in
+    let r = c.index_mut.result.now in
+    let there : r ≡ get_or gs ms.near r = c.index_mut.ensures.value in
+    let g = c.widen-raised.new.self in
+    let far : ms.base + (c.in-Some.number - ms.base) + 1 ≡ ms.first + c.args.i = omega (arith, is, low) in
+    let set = sound_set ms.start ms.near ms.base gs g now.0.1 now.0.2 in (
+      (now.0.0, set.0, set.1),
+      raised_groups ms.first c.args.i few p le ms.start c.in-Some.number gs ms.near ms.base g r is lt now.0.2 low (c.go_to.ensures.near.1 lt r)
+          (λ h. let all = c.widen-raised.ensures c.if-not-raised.false ms.first ms.base c.args.i few p far le (subst (λ (x : Group). IsGroupAt ms.first few ms.base x) (sym there) h) in (all.0, all.1 ∙ ap (λ (x : Group). x.count + 1) there))
+          now.1,
+    )
