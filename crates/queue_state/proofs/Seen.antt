@@ -36,7 +36,7 @@ abbrev room_of : Bool → ℕ → Option ℕ → Bool → Bool → ℕ
 room_of main n quit disposed halted = n + ((if is_some quit then 0 else 1) + (if disposed then 0 else 1) + (if main && not halted then 1 else 0))
 
 module _ {H K : Type 0} where
-  pub spare_is : (of : K → H) (home : H) (h : History) (xs : List (Letter K)) (b w : Bool) (d : Option ℕ) → IsKept of home h xs b w d → spare_room (view_of home h xs b w d) ≡ length xs + owed h
+  pub spare_is : {R : Type 0} (of : K → H) (home : H) (h : History R) (xs : List (Letter K)) (b w : Bool) (d : Option ℕ) → IsKept of home h xs b w d → spare_room (view_of home h xs b w d) ≡ length xs + owed h
   spare_is of home h xs b w d k =
       let es = h.entries.items in
       let live : length (live_in_order h.start es) ≡ length xs = ap length (sym (live_is _ _ _ _ k.history)) ∙ length-items xs in
@@ -47,6 +47,6 @@ module _ {H K : Type 0} where
       ∙ (ap (λ q. room_of h.main (length xs) q (has_disposed h.start es) (has_halted h.start es)) quit
       ∙ (ap (λ e. room_of h.main (length xs) h.quit e (has_halted h.start es)) disposed ∙ ap (λ e. room_of h.main (length xs) h.quit h.disposed e) halted))
 
-  pub match_is : (of : K → H) (home : H) (h : History) (xs : List (Letter K)) (b w : Bool) (d : Option ℕ) (f : Filter) → IsKept of home h xs b w d → list_any (is_named f) xs ≡ has_match (view_of home h xs b w d) f
+  pub match_is : {R : Type 0} (of : K → H) (home : H) (h : History R) (xs : List (Letter K)) (b w : Bool) (d : Option ℕ) (f : Filter) → IsKept of home h xs b w d → list_any (is_named f) xs ≡ has_match (view_of home h xs b w d) f
   match_is of home h xs b w d f k =
       any_items (matches f) xs ∙ (ap (list_any (matches f)) (live_is _ _ _ _ k.history) ∙ sym (list_any-listed (matches f) h.start h.entries.items))
