@@ -205,3 +205,7 @@ no_shorter key d y may =
     (λ (is : seen_with d.seat.me.0 y ≡ d.seat.me.0.seen). omega (arith, ap length is))
     (λ (t : (en : Entry) × (seen_with d.seat.me.0 y ≡ d.seat.me.0.seen ++ en ∷ []) × (0 < holds en.sender d.seat.me.0)). omega (arith, ap length t.1, length-append d.seat.me.0.seen (t.0 ∷ [])))
     may.more
+
+-- the state under the turn, where it is lent
+pub lent : {H K : Type 0} (key : Constants H) (d e : Desk (Queue H K) H) (x z : Queue H K) → z ≡ x → Began key d e x → Began key d e z
+lent key d e x z same began = subst (Began key d e) (sym same) began

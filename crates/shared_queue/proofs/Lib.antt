@@ -10,6 +10,7 @@ pub mod Knows
 pub mod Steps
 pub mod Still
 pub mod TurnCalls
+pub mod Quiet
 pub mod Hears
 pub mod Gathers
 pub mod Closing

@@ -352,10 +352,10 @@ module _ {H K : Type 0} (key : Constants H) where
         λ z carries'. let same : y ≡ z = ap (carried_or y) (sym carries ∙ carries') in (λ i. (handing v (same i), ap rest carries i)),
       )
 
-  -- another view that has no turn and the same list
-  fits_with : (whole : Course) (v : View (Queue H K) H) (senders : List (ℕ × ℕ)) → Fits key whole v → (v.has_turn ≡ true → 0 < length senders) → (0 < v.rung → 0 < length senders) → All (IsBelow key) senders → All (Counts (whole_of whole) v.seen) senders
-      → (0 < holds (last_of key) (keeping v senders) → 0 < holds (last_of key) v) → (holds (last_of key) (keeping v senders) ≡ 0 → v.sealed ≡ []) → Fits key whole (keeping v senders)
-  fits_with whole v senders f some_sender quiet below mine held no_part = record {
+  -- another view that has no turn and the same list, and tells of so many turns
+  fits_with : (whole : Course) (v : View (Queue H K) H) (kept : ℕ) (senders : List (ℕ × ℕ)) → Fits key whole v → (v.has_turn ≡ true → 0 < length senders) → (0 < v.rung → 0 < length senders) → All (IsBelow key) senders → All (Counts (whole_of whole) v.seen) senders
+      → (0 < holds (last_of key) (keeping v senders) → 0 < holds (last_of key) v) → (holds (last_of key) (keeping v senders) ≡ 0 → v.sealed ≡ []) → Fits key whole (record (keeping v senders) { turns = kept })
+  fits_with whole v kept senders f some_sender quiet below mine held no_part = record {
     constants = f.constants;
     seen = f.seen;
     told = f.told;
@@ -383,12 +383,12 @@ module _ {H K : Type 0} (key : Constants H) where
   }
 
   -- a new seat comes with some of the sender numbers
-  pub splits_off : (id : ℕ) (v : View (Queue H K) H) (had : ℕ) (first second : List (ℕ × ℕ)) → (v.has_turn ≡ true → 0 < length second) → (0 < v.rung → 0 < length v.senders → 0 < length second)
+  pub splits_off : (id : ℕ) (v : View (Queue H K) H) (kept had : ℕ) (first second : List (ℕ × ℕ)) → (v.has_turn ≡ true → 0 < length second) → (0 < v.rung → 0 < length v.senders → 0 < length second)
       → ((P : ℕ × ℕ → Type 0) → All P v.senders → All P first × All P second) → ((g : ℕ × ℕ → ℕ) → total g v.senders ≡ total g first + total g second)
       → (holds (last_of key) (keeping v second) ≡ 0 → holds (last_of key) v ≡ 0 ⊎ (v.sealed ≡ [])) → (0 < holds (last_of key) (fresh v first) → v.sealed ≡ [])
-      → Splits (QueueTurn key) id v (keeping v second) (record (fresh v first) { turns = had })
-  splits_off id v had first second some_sender quiet parts sums none_left none_here s r at =
-      let w : View (Queue H K) H = keeping v second in
+      → Splits (QueueTurn key) id v (record (keeping v second) { turns = kept }) (record (fresh v first) { turns = had })
+  splits_off id v kept had first second some_sender quiet parts sums none_left none_here s r at =
+      let w : View (Queue H K) H = record (keeping v second) { turns = kept } in
       let u : View (Queue H K) H = record (fresh v first) { turns = had } in
       let f : Fits key r.course v = r.each id v at in
       let mine = parts (Counts (whole_of r.course) v.seen) f.mine in
@@ -408,7 +408,7 @@ module _ {H K : Type 0} (key : Constants H) where
         free = r.free;
         first = λ untold. r.first (untold_before s.views id v w at (λ e. e) (untold_front (set s.views id w) (u ∷ []) untold));
         each = λ j x e. ⊎_elim
-            (λ (t : get_elem? (set s.views id w) j ≡ some x). each_set r.course s.views id w (fits_with r.course v second f some_sender (λ rings. quiet rings (f.quiet rings)) below.1 mine.1 (λ held. omega (arith, last_sum, held)) left_none) (λ i y _ e'. r.each i y e') j x t)
+            (λ (t : get_elem? (set s.views id w) j ≡ some x). each_set r.course s.views id w (fits_with r.course v kept second f some_sender (λ rings. quiet rings (f.quiet rings)) below.1 mine.1 (λ held. omega (arith, last_sum, held)) left_none) (λ i y _ e'. r.each i y e') j x t)
             (λ (t : u ≡ x). subst (Fits key r.course) t (fits_fresh r.course v had first f.constants f.seen below.0 mine.0 right_none))
             (at_snoc (set s.views id w) u x j e);
         placed = λ n below. omega (arith, total-append (holds n) (set s.views id w) (u ∷ []), total-set (holds n) s.views id v w at, r.placed n below, sums (λ (p : ℕ × ℕ). cond (eqb p.0 n) 1 0));
@@ -416,11 +416,11 @@ module _ {H K : Type 0} (key : Constants H) where
       }
 
   pub deals : (id : ℕ) (v : View (Queue H K) H) → v.has_turn ≡ false → v.rung ≡ 0 → v.sealed ≡ [] → Splits (QueueTurn key) id v (keeping v (drop 1 v.senders)) (dealt v (take 1 v.senders))
-  deals id v no_turn no_rings no_parts = splits_off id v v.turns (take 1 v.senders) (drop 1 v.senders) (λ has. absurd (true≢false (sym has ∙ no_turn))) (λ rings some_sender. absurd (omega (arith, no_rings, rings)))
+  deals id v no_turn no_rings no_parts = splits_off id v 0 v.turns (take 1 v.senders) (drop 1 v.senders) (λ has. absurd (true≢false (sym has ∙ no_turn))) (λ rings some_sender. absurd (omega (arith, no_rings, rings)))
       (λ P all. (All-take P 1 v.senders all, All-drop P 1 v.senders all)) (λ g. ap (total g) (sym (take-append-drop 1 v.senders)) ∙ total-append g (take 1 v.senders) (drop 1 v.senders)) (λ _. inr no_parts) (λ _. no_parts)
 
   pub notes : (id : ℕ) (v : View (Queue H K) H) → v.has_turn ≡ false → Splits (QueueTurn key) id v v (fresh v [])
-  notes id v no_turn = splits_off id v 0 [] v.senders (λ has. absurd (true≢false (sym has ∙ no_turn))) (λ rings some_sender. some_sender) (λ P all. (All-nil P, all)) (λ g. omega arith) (λ none. inl none) (λ (held : 0 < 0). absurd (omega arith))
+  notes id v no_turn = splits_off id v v.turns 0 [] v.senders (λ has. absurd (true≢false (sym has ∙ no_turn))) (λ rings some_sender. some_sender) (λ P all. (All-nil P, all)) (λ g. omega arith) (λ none. inl none) (λ (held : 0 < 0). absurd (omega arith))
 
   -- a seat that takes in another has what both had
   joined_fits : (course : Course) (v w : View (Queue H K) H) → v.has_turn ≡ false → Fits key course v → Fits key course w → holds (last_of key) v + holds (last_of key) w ≤ 1 → Fits key course (joined v w)

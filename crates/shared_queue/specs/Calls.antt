@@ -52,7 +52,8 @@ module _ {H K : Type 0} where
 
   -- the number of the entries since the base of the state found
   abbrev pub CountedBy : Known H K → Known H K → ℕ → Type 0
-  CountedBy before after result = (x : Queue H K) × IsTurn before after x x × ((state : Queue H K) × (after.view.found ≡ Some state) × (result ≡ length state.entries))
+  CountedBy before after result =
+      (x : Queue H K) × IsTurn before after x x × ((state : Queue H K) × (after.view.found ≡ Some state) × (result ≡ length state.entries))
 
   -- the part is the base of the state found with its entries, the end of the history behind what was handed out before
   pub record IsPart (after_ : Known H K) (x : Queue H K) (part : Segment) : Type 0 where

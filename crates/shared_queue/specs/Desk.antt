@@ -52,7 +52,8 @@ module _ {H K : Type 0} where
     pub may : MayGive d.seat.me.0 y
     -- its whole history is what was seen, or one entry more, of the desk's sender
     pub long : length (seen_with d.seat.me.0 y) ≡ y.start.length + length y.entries
-    pub more : (seen_with d.seat.me.0 y ≡ d.seat.me.0.seen) ⊎ ((e : Entry) × (seen_with d.seat.me.0 y ≡ d.seat.me.0.seen ++ e ∷ []) × (0 < holds e.sender d.seat.me.0))
+    pub more : (seen_with d.seat.me.0 y ≡ d.seat.me.0.seen)
+        ⊎ ((e : Entry) × (seen_with d.seat.me.0 y ≡ d.seat.me.0.seen ++ e ∷ []) × (0 < holds e.sender d.seat.me.0))
 
   -- the desk has left the state y
   pub record Ended (d e : Desk (Queue H K) H) (y : Queue H K) : Type 0 where

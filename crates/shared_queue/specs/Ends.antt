@@ -74,7 +74,8 @@ module _ {H K : Type 0} where
 
   -- the view has taken in what the poster had
   abbrev pub TakenIn : View (Queue H K) H → Known H K → View (Queue H K) H → Type 0
-  TakenIn v p w = (w.senders ≡ v.senders ++ number_of p ∷ []) × IsPrefix v.seen w.seen × IsPrefix p.view.seen w.seen × (w.sealed ≡ v.sealed ++ p.view.sealed) × KeepsNone p
+  TakenIn v p w =
+      (w.senders ≡ v.senders ++ number_of p ∷ []) × IsPrefix v.seen w.seen × IsPrefix p.view.seen w.seen × (w.sealed ≡ v.sealed ++ p.view.sealed) × KeepsNone p
 
   -- the seat has what all these posters had
   abbrev pub Gathered : Shared H → List (Known H K) → Me (Option (Queue H K)) (View (Queue H K) H) → Type 0

@@ -53,7 +53,9 @@ module _ {H K : Type 0} where
 
   -- the same queue, with at most one entry more, of this sender
   abbrev pub StepsBy : ℕ → Queue H K → Queue H K → Type 0
-  StepsBy s x y = (y.home ≡ x.home) × (y.setting ≡ x.setting) × (y.start ≡ x.start) × ((y.entries ≡ x.entries) ⊎ ((e : Entry) × (y.entries ≡ x.entries ++ e ∷ []) × (e.sender ≡ s)))
+  StepsBy s x y =
+      (y.home ≡ x.home) × (y.setting ≡ x.setting) × (y.start ≡ x.start)
+      × ((y.entries ≡ x.entries) ⊎ ((e : Entry) × (y.entries ≡ x.entries ++ e ∷ []) × (e.sender ≡ s)))
 
   -- the call was one turn, which found x and left y, both over their whole histories, and handed these parts out; and the poster
   -- has seen the whole history

@@ -6,5 +6,6 @@ pub mod Known
 pub mod Seats
 pub mod Desk
 pub mod Calls
+pub mod Rings
 pub mod Waiting
 pub mod Ends

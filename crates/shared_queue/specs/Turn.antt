@@ -106,7 +106,20 @@ module _ {H K : Type 0} where
 
   -- the first seat: it has all sender numbers, and the history is empty
   abbrev pub opening_view : Constants H → View (Queue H K) H
-  opening_view key = record { constants = Some key; senders = new_senders 0 key.setting.senders; seen = []; told = []; has_turn = false; turns = 0; found = None; left = None; sealed = []; rung = 0; heard = 0; listens = 0 }
+  opening_view key = record {
+    constants = Some key;
+    senders = new_senders 0 key.setting.senders;
+    seen = [];
+    told = [];
+    has_turn = false;
+    turns = 0;
+    found = None;
+    left = None;
+    sealed = [];
+    rung = 0;
+    heard = 0;
+    listens = 0;
+  }
 
   -- a seat that wins the turn finds the state x, with this whole history
   abbrev pub taking : View (Queue H K) H → List Entry → Queue H K → View (Queue H K) H
@@ -133,17 +146,38 @@ module _ {H K : Type 0} where
   abbrev pub fresh : View (Queue H K) H → List (ℕ × ℕ) → View (Queue H K) H
   fresh v senders = record v { senders = senders; told = []; has_turn = false; turns = 0; found = None; left = None; sealed = []; rung = 0; listens = 0 }
 
-  -- a new seat with some of them, which tells of as many turns
+  -- a new seat with some of them, to which the turns go over
   abbrev pub dealt : View (Queue H K) H → List (ℕ × ℕ) → View (Queue H K) H
   dealt v senders = record (fresh v senders) { turns = v.turns }
 
+  -- a seat that keeps these sender numbers, and no turns of its own
   abbrev pub keeping : View (Queue H K) H → List (ℕ × ℕ) → View (Queue H K) H
-  keeping v senders = record v { senders = senders }
+  keeping v senders = record v { senders = senders; turns = 0 }
 
   -- a seat that takes in another
   abbrev pub joined : View (Queue H K) H → View (Queue H K) H → View (Queue H K) H
-  joined v w = record v { senders = v.senders ++ w.senders; seen = longer v.seen w.seen; told = v.seen ∷ w.seen ∷ v.told; turns = v.turns + w.turns; sealed = v.sealed ++ w.sealed; rung = v.rung + w.rung }
+  joined v w = record v {
+    senders = v.senders ++ w.senders;
+    seen = longer v.seen w.seen;
+    told = v.seen ∷ w.seen ∷ v.told;
+    turns = v.turns + w.turns;
+    sealed = v.sealed ++ w.sealed;
+    rung = v.rung + w.rung;
+  }
 
   -- what is left of that other
   abbrev pub gone : View (Queue H K) H
-  gone = record { constants = None; senders = []; seen = []; told = []; has_turn = false; turns = 0; found = None; left = None; sealed = []; rung = 0; heard = 0; listens = 0 }
+  gone = record {
+    constants = None;
+    senders = [];
+    seen = [];
+    told = [];
+    has_turn = false;
+    turns = 0;
+    found = None;
+    left = None;
+    sealed = [];
+    rung = 0;
+    heard = 0;
+    listens = 0;
+  }

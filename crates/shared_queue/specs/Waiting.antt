@@ -53,7 +53,8 @@ module _ {H K : Type 0} where
   -- so many looks, one after another
   abbrev pub Slept : (ℕ → Bool) → ℕ → Bool → Option ℕ → ℕ → Known H K → Known H K → Type 0
   Slept shows start idle cap zero before after = after ≡ before
-  Slept shows start idle cap (suc n) before after = (between : Known H K) × Slept shows start idle cap n before between × HasSlept shows start idle cap between after
+  Slept shows start idle cap (suc n) before after =
+      (between : Known H K) × Slept shows start idle cap n before between × HasSlept shows start idle cap between after
 
   -- the bell was rung since the last reading before: a look before the cap was answered to wait, and then the bell was another
   pub record HasNudged (shows : ℕ → Bool) (start : ℕ) (idle : Bool) (cap : Option ℕ) (before after : Known H K) : Type 0 where
@@ -71,12 +72,14 @@ module _ {H K : Type 0} where
   EndsBy shows start idle cap before after waited.Idle = (now : ℕ) × HasLooked shows start idle now nexted.Idle before after
   EndsBy shows start idle cap before after (waited.End list) = (now : ℕ) × HasLooked shows start idle now (nexted.End list) before after
   EndsBy shows start idle cap before after waited.Over = (now : ℕ) × HasLooked shows start idle now nexted.Over before after
-  EndsBy shows start idle cap before after (waited.Cap now) = (until : Option ℕ) × HasLooked shows start idle now (nexted.Wait until) before after × IsCap cap now
+  EndsBy shows start idle cap before after (waited.Cap now) =
+      (until : Option ℕ) × HasLooked shows start idle now (nexted.Wait until) before after × IsCap cap now
   EndsBy shows start idle cap before after waited.Nudged = HasNudged shows start idle cap before after
 
   -- a wait: looks that were answered to wait, and then the last one, by its answer
   abbrev pub WaitedBy : (ℕ → Bool) → ℕ → Bool → Option ℕ → Known H K → Known H K → Waited K H → Type 0
-  WaitedBy shows start idle cap before after result = (n : ℕ) × (between : Known H K) × Slept shows start idle cap n before between × EndsBy shows start idle cap between after result
+  WaitedBy shows start idle cap before after result =
+      (n : ℕ) × (between : Known H K) × Slept shows start idle cap n before between × EndsBy shows start idle cap between after result
 
   -- one look, and what comes of it
   abbrev pub LooksOnce : (ℕ → Bool) → ℕ → Bool → Option ℕ → Known H K → Known H K → Look K H → Type 0

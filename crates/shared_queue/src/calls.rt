@@ -14,27 +14,6 @@ use queue_state::{Advancing, BarrierGone, BarrierPosted, Halting, Posted, Quitti
 use std::sync::Wait;
 use when_queue::MsgNode;
 
-// Whether a waiting looper has to look again.
-fn post_wakes<K: Claim>(answer: &Posted<K>) -> bool {
-    match answer {
-        Posted::Accepted { number: _, wake } => *wake,
-        Posted::Refused { .. } => false,
-        Posted::NoMemory(_) => false,
-    }
-}
-
-fn removal_wakes<K: Claim>(answer: &BarrierGone<K>) -> bool {
-    match answer {
-        BarrierGone::Unbarriered { node: _, wake } => *wake,
-        BarrierGone::NotPosted => false,
-        BarrierGone::NoMemory => false,
-    }
-}
-
-fn quit_wakes<K: Claim>(answer: &Quitting<K>) -> bool {
-    matches!(answer, Quitting::Done(_))
-}
-
 impl<K: Claim> Poster<K> {
     /// Posts a message that has a target, for the time that stands in it, in milliseconds: its number among the posts, and
     /// whether it wakes the looper. Refused, with the place of the quit, where the queue is quitting; the message comes back.
@@ -46,10 +25,9 @@ impl<K: Claim> Poster<K> {
         ensures { PostedBy self.old self.new node result }
     {
         let mut state = self.desk.begin(rt, queue);
-        let answer = state.post(self.desk.sender, node);
-        self.desk.end(queue, state);
-        queue.rings.ring_if(rt, post_wakes(&answer));
-        answer
+        let answer = state.value_mut().post(self.desk.sender, node);
+        let owing = self.desk.end_owing(queue, state, answer);
+        queue.settle(rt, owing)
     }
 
     /// Posts a barrier at the moment `now`, in milliseconds, in place of what the message was, and answers its token. In lockstep
@@ -67,7 +45,7 @@ impl<K: Claim> Poster<K> {
         ensures { BarrierPostedBy self.old self.new now node result }
     {
         let mut state = self.desk.begin(rt, queue);
-        let answer = state.post_barrier(self.desk.sender, now, node);
+        let answer = state.value_mut().post_barrier(self.desk.sender, now, node);
         self.desk.end(queue, state);
         answer
     }
@@ -85,10 +63,9 @@ impl<K: Claim> Poster<K> {
         ensures home { UnbarsAtHome K.home queue.now.constants.home result }
     {
         let mut state = self.desk.begin(rt, queue);
-        let answer = state.remove_barrier(self.desk.sender, token);
-        self.desk.end(queue, state);
-        queue.rings.ring_if(rt, removal_wakes(&answer));
-        answer
+        let answer = state.value_mut().remove_barrier(self.desk.sender, token);
+        let owing = self.desk.end_owing(queue, state, answer);
+        queue.settle(rt, owing)
     }
 
     /// Removes the messages that the filter matches, and hands them out in order. NoMemory where its entry finds no room. As
@@ -99,7 +76,7 @@ impl<K: Claim> Poster<K> {
         ensures home { TakesAtHome K.home queue.now.constants.home result }
     {
         let mut state = self.desk.begin(rt, queue);
-        let answer = state.remove(self.desk.sender, filter);
+        let answer = state.value_mut().remove(self.desk.sender, filter);
         self.desk.end(queue, state);
         answer
     }
@@ -119,10 +96,9 @@ impl<K: Claim> Poster<K> {
         ensures home { QuitsAtHome K.home queue.now.constants.home result }
     {
         let mut state = self.desk.begin(rt, queue);
-        let answer = state.quit(self.desk.sender, safe, now);
-        self.desk.end(queue, state);
-        queue.rings.ring_if(rt, quit_wakes(&answer));
-        answer
+        let answer = state.value_mut().quit(self.desk.sender, safe, now);
+        let owing = self.desk.end_owing(queue, state, answer);
+        queue.settle(rt, owing)
     }
 
     /// Moves the time of a queue in lockstep on to `now`, in milliseconds. The last sender alone does. Over where the queue was
@@ -135,7 +111,7 @@ impl<K: Claim> Poster<K> {
         ensures { AdvancedBy self.old self.new now result }
     {
         let mut state = self.desk.begin(rt, queue);
-        let answer = state.advance(self.desk.sender, now);
+        let answer = state.value_mut().advance(self.desk.sender, now);
         self.desk.end(queue, state);
         answer
     }
@@ -149,7 +125,7 @@ impl<K: Claim> Poster<K> {
         ensures { HaltedBy self.old self.new now result }
     {
         let mut state = self.desk.begin(rt, queue);
-        let answer = state.halt(self.desk.sender, now);
+        let answer = state.value_mut().halt(self.desk.sender, now);
         self.desk.end(queue, state);
         answer
     }
@@ -161,7 +137,7 @@ impl<K: Claim> Poster<K> {
         ensures { HasBy self.old self.new filter.now result }
     {
         let state = self.desk.begin(rt, queue);
-        let answer = state.has(filter);
+        let answer = state.value().has(filter);
         self.desk.end(queue, state);
         answer
     }
@@ -173,7 +149,7 @@ impl<K: Claim> Poster<K> {
         ensures { TimedBy self.old self.new result }
     {
         let state = self.desk.begin(rt, queue);
-        let answer = state.time();
+        let answer = state.value().time();
         self.desk.end(queue, state);
         answer
     }
@@ -184,7 +160,7 @@ impl<K: Claim> Poster<K> {
         ensures { CountedBy self.old self.new result }
     {
         let state = self.desk.begin(rt, queue);
-        let answer = state.entries().len() as u64;
+        let answer = state.value().entries().len() as u64;
         self.desk.end(queue, state);
         answer
     }
@@ -197,7 +173,7 @@ impl<K: Claim> Poster<K> {
         ensures { SealedBy self.old self.new result }
     {
         let mut state = self.desk.begin(rt, queue);
-        match state.seal() {
+        match state.value_mut().seal() {
             Ok(part) => {
                 self.desk.end_sealed(queue, state);
                 Ok(part)

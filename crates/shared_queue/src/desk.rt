@@ -1,8 +1,11 @@
 // What a poster has, and the two ends of a turn.
-ghost use Rattle.std.specs.Prelude.{◌≡◌, ◌+◌, length, Some};
+ghost use Rattle.std.specs.Prelude.{◌≡◌, ◌+◌, false, length, Some};
 ghost use Rattle.queue_state.specs.Queue.{Queue, IsSound};
 ghost use Rattle.shared_queue.specs.Desk.{IsIdle, Began, MayEnd, Ended, MayHandOver, HandedOver};
+ghost use Rattle.shared_queue.specs.Rings.{IsQuiet};
 
+use crate::on_heap::OnHeap;
+use crate::owing::{Owing, Wakes};
 use crate::queue::SharedQueue;
 use crate::view::View;
 use atomic_table::Seat;
@@ -13,7 +16,7 @@ use std::sync::Wait;
 /// A seat with one sender number, and three numbers that its view has.
 #[derive(Drop)]
 pub struct Desk<S, H> {
-    pub(crate) seat: Seat<Option<S>, View<S, H>>,
+    pub(crate) seat: Seat<Option<OnHeap<S>>, View<S, H>>,
     pub(crate) sender: u32,
     /// How many entries it has made.
     pub(crate) made: u64,
@@ -25,7 +28,7 @@ pub struct Desk<S, H> {
 
 impl<K: Claim> Desk<QueueState<K>, K::Home> {
     // Waits for the turn, and takes the state.
-    pub(crate) fn begin<R: Wait>(&mut self, rt: &R, queue: &SharedQueue<K>) -> QueueState<K>
+    pub(crate) fn begin<R: Wait>(&mut self, rt: &R, queue: &SharedQueue<K>) -> OnHeap<QueueState<K>>
         requires queue { (self.old.seat.table_id ≡ queue.now.table) × (self.old.seat.me.0.constants ≡ Some queue.now.constants) }
         requires idle { IsIdle self.old }
         ensures { Began queue.now.constants self.old self.new result }
@@ -35,8 +38,34 @@ impl<K: Claim> Desk<QueueState<K>, K::Home> {
         state
     }
 
-    // Gives the state back, with at most one more entry.
-    pub(crate) fn end(&mut self, queue: &SharedQueue<K>, state: QueueState<K>)
+    // Gives the state back behind a call that woke nobody, with at most one more entry.
+    pub(crate) fn end(&mut self, queue: &SharedQueue<K>, state: OnHeap<QueueState<K>>)
+        requires table { self.old.seat.table_id ≡ queue.now.table }
+        requires turn { MayEnd queue.now.constants self.old state }
+        requires quiet { IsQuiet self.old state }
+        ensures { Ended self.old self.new state }
+    {
+        self.give_back(queue, state);
+    }
+
+    // Gives the state back, and keeps the answer of the call until it is settled. The looper was woken only where that says so.
+    pub(crate) fn end_owing<A: Wakes>(
+        &mut self,
+        queue: &SharedQueue<K>,
+        state: OnHeap<QueueState<K>>,
+        answer: A,
+    ) -> Owing<A>
+        requires table { self.old.seat.table_id ≡ queue.now.table }
+        requires turn { MayEnd queue.now.constants self.old state }
+        requires quiet { A.says answer ≡ false → IsQuiet self.old state }
+        ensures ended { Ended self.old self.new state }
+        ensures answer { result ≡ answer }
+    {
+        self.give_back(queue, state);
+        Owing::of(answer)
+    }
+
+    fn give_back(&mut self, queue: &SharedQueue<K>, state: OnHeap<QueueState<K>>)
         requires table { self.old.seat.table_id ≡ queue.now.table }
         requires turn { MayEnd queue.now.constants self.old state }
         ensures { Ended self.old self.new state }
@@ -48,7 +77,7 @@ impl<K: Claim> Desk<QueueState<K>, K::Home> {
     }
 
     // Gives the state back sealed, with no more entry.
-    pub(crate) fn end_sealed(&mut self, queue: &SharedQueue<K>, state: QueueState<K>)
+    pub(crate) fn end_sealed(&mut self, queue: &SharedQueue<K>, state: OnHeap<QueueState<K>>)
         requires table { self.old.seat.table_id ≡ queue.now.table }
         requires turn { MayHandOver queue.now.constants self.old state }
         ensures { HandedOver self.old self.new state }
@@ -59,9 +88,10 @@ impl<K: Claim> Desk<QueueState<K>, K::Home> {
 }
 
 // How long the whole history is.
-fn length<K: Claim>(state: &QueueState<K>) -> u64
+fn length<K: Claim>(state: &OnHeap<QueueState<K>>) -> u64
     ensures length { result ≡ state.now.start.length + length state.now.entries }
     ensures sound { IsSound state.now }
 {
+    let state = state.value();
     state.base().length + state.entries().len() as u64
 }

@@ -8,6 +8,7 @@ ghost use Rattle.loop_model.specs.Base.{empty_base};
 ghost use Rattle.loop_model.specs.Chain.{IsChainFrom, entries_of};
 ghost use Rattle.shared_queue.specs.Ends.{undealt, IsNewPoster, AreNew, AreInOrder, TakenIn, Gathered, HasCalls, IsSoundEnd, IsWholeEnd, HaveSealed};
 
+use crate::on_heap::OnHeap;
 use crate::poster::Poster;
 use crate::queue::{Place, SharedQueue};
 use crate::rings::Rings;
@@ -56,6 +57,7 @@ impl<K: Claim> SharedQueue<K> {
         };
         let named = Snapshot::of(&home);
         let state = QueueState::new(alloc, home, main, lockstep, senders)?;
+        let state = OnHeap::new(alloc, state)?;
         let (queue, seat) = SharedQueue::open(alloc, named, traits, state)?;
         let posters = queue.deal_all(alloc, seat, senders)?;
         Ok((queue, posters))
@@ -96,7 +98,7 @@ impl<K: Claim> SharedQueue<K> {
         alloc: Global,
         home: Snapshot<K::Home>,
         traits: Traits,
-        state: QueueState<K>,
+        state: OnHeap<QueueState<K>>,
     ) -> Result<(SharedQueue<K>, Place<K>), NoMemory>
         requires state { IsFirst (constants_of home.value traits) state }
         requires senders { 0 < traits.senders }
@@ -171,7 +173,7 @@ impl<K: Claim> SharedQueue<K> {
             unreachable!()
         };
         closed.free();
-        let (last, left) = state.into_parts();
+        let (last, left) = state.into_value().into_parts();
         let Ok(()) = sealed.push(last) else {
             return Err(NoMemory)
         };

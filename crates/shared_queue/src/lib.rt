@@ -5,6 +5,8 @@ mod calls;
 mod desk;
 mod ends;
 mod looks;
+mod on_heap;
+mod owing;
 mod poster;
 mod queue;
 mod rings;

@@ -26,7 +26,7 @@ impl<K: Claim> Poster<K> {
         ensures home { LooksAtHome K.home queue.now.constants.home result }
     {
         let mut state = self.desk.begin(rt, queue);
-        let answer = state.next(self.desk.sender, now, idle_owed);
+        let answer = state.value_mut().next(self.desk.sender, now, idle_owed);
         self.desk.end(queue, state);
         answer
     }

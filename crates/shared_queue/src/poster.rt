@@ -6,6 +6,7 @@ ghost use Rattle.shared_queue.specs.Desk.{IsIdle};
 ghost use Rattle.shared_queue.specs.Known.{Known, KeepsNone, IsOf, IsSamePoster, HasOnlyHeard, made_by};
 
 use crate::desk::Desk;
+use crate::owing::{Nudge, Owing};
 use crate::queue::{Place, SharedQueue};
 use crate::rule::{Both, Learn, Listen, Note, Ring};
 use message_slot::Claim;
@@ -109,11 +110,22 @@ impl<K: Claim> Poster<K> {
         ensures same { IsSamePoster self.old self.new × (self.new.view.seen ≡ self.old.view.seen) × (self.new.view.heard ≡ self.old.view.heard) }
         ensures listens { self.new.view.listens ≡ self.old.view.listens }
     {
+        let owing = self.raise(queue);
+        queue.settle(rt, owing);
+    }
+
+    // Counts one ring more on the bell. A waiting looper hears of it once that is settled.
+    fn raise(&mut self, queue: &SharedQueue<K>) -> Owing<Nudge>
+        requires { IsOf self.old queue.now }
+        ensures rung { self.new.view.rung ≡ self.old.view.rung + 1 }
+        ensures same { IsSamePoster self.old self.new × (self.new.view.seen ≡ self.old.view.seen) × (self.new.view.heard ≡ self.old.view.heard) }
+        ensures listens { self.new.view.listens ≡ self.old.view.listens }
+    {
         queue
             .table
             .shared
             .fetch_add::<Ring>(&mut self.desk.seat, 1, 1);
-        queue.rings.ring(rt);
+        Owing::of(Nudge)
     }
 
     // What it read last on the bell.

@@ -7,6 +7,8 @@ ghost use Rattle.shared_queue.specs.Plays.{MayGive, MayHand};
 ghost use Rattle.shared_queue.specs.Known.{Shared, Rests};
 ghost use Rattle.shared_queue.specs.Seats.{HasTaken};
 
+use crate::on_heap::OnHeap;
+use crate::owing::{Owing, Wakes};
 use crate::rings::Rings;
 use crate::rule::{Give, Hand, OneTurn, Take};
 use crate::traits::Traits;
@@ -24,14 +26,17 @@ use std::thread::yield_now;
 const TRIES: u32 = 64;
 
 pub(crate) type Board<K> = Table<
-    Option<QueueState<K>>,
+    Option<OnHeap<QueueState<K>>>,
     View<QueueState<K>, <K as Claim>::Home>,
     QueueKey<<K as Claim>::Home>,
     OneTurn,
     Global,
 >;
 
-pub(crate) type Place<K> = Seat<Option<QueueState<K>>, View<QueueState<K>, <K as Claim>::Home>>;
+pub(crate) type Place<K> = Seat<
+    Option<OnHeap<QueueState<K>>>,
+    View<QueueState<K>, <K as Claim>::Home>,
+>;
 
 /// A message queue that posters call in turns.
 #[derive(Drop)]
@@ -51,8 +56,20 @@ impl<K: Claim> Model for SharedQueue<K> {
 }
 
 impl<K: Claim> SharedQueue<K> {
+    // Rings where the answer wakes, and hands it out.
+    pub(crate) fn settle<R: Wait, A: Wakes>(&self, rt: &R, owing: Owing<A>) -> A
+        ensures { result ≡ owing }
+    {
+        let rung = if owing.wakes() {
+            Some(self.rings.ring(rt, &owing))
+        } else {
+            None
+        };
+        owing.hand_out(rung)
+    }
+
     // Tries for the turn some times in a row, and takes the state out.
-    fn try_take(&self, seat: &mut Place<K>) -> Option<QueueState<K>>
+    fn try_take(&self, seat: &mut Place<K>) -> Option<OnHeap<QueueState<K>>>
         requires table { seat.old.table_id ≡ self.now.table }
         requires rests { Rests self.now.constants seat.old.me × (0 < length seat.old.me.0.senders) }
         ensures seat { (seat.new.table_id ≡ seat.old.table_id) × (seat.new.id ≡ seat.old.id) }
@@ -68,7 +85,7 @@ impl<K: Claim> SharedQueue<K> {
     }
 
     // Waits for the turn, and takes the state out.
-    pub(crate) fn take<R: Wait>(&self, rt: &R, seat: &mut Place<K>) -> QueueState<K>
+    pub(crate) fn take<R: Wait>(&self, rt: &R, seat: &mut Place<K>) -> OnHeap<QueueState<K>>
         requires table { seat.old.table_id ≡ self.now.table }
         requires rests { Rests self.now.constants seat.old.me × (0 < length seat.old.me.0.senders) }
         ensures seat { (seat.new.table_id ≡ seat.old.table_id) × (seat.new.id ≡ seat.old.id) }
@@ -84,7 +101,7 @@ impl<K: Claim> SharedQueue<K> {
     }
 
     // Puts the state back, and gives the turn up.
-    pub(crate) fn give(&self, seat: &mut Place<K>, state: QueueState<K>)
+    pub(crate) fn give(&self, seat: &mut Place<K>, state: OnHeap<QueueState<K>>)
         requires table { seat.old.table_id ≡ self.now.table }
         requires turn { (seat.old.me.0.has_turn ≡ true) × (seat.old.me.1 ≡ (0, None) ∷ []) }
         requires state { IsFor self.now.constants state × MayGive seat.old.me.0 state }
@@ -95,7 +112,7 @@ impl<K: Claim> SharedQueue<K> {
     }
 
     // Puts the state back sealed, and gives the turn up.
-    pub(crate) fn hand(&self, seat: &mut Place<K>, state: QueueState<K>)
+    pub(crate) fn hand(&self, seat: &mut Place<K>, state: OnHeap<QueueState<K>>)
         requires table { seat.old.table_id ≡ self.now.table }
         requires turn { (seat.old.me.0.has_turn ≡ true) × (seat.old.me.1 ≡ (0, None) ∷ []) }
         requires last { 0 < holds (last_of self.now.constants) seat.old.me.0 }

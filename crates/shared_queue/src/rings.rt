@@ -1,5 +1,11 @@
 // The rings that a waiting looper hears.
+ghost use Rattle.std.specs.Prelude.{◌≡◌};
+ghost use Rattle.shared_queue.specs.Rings.{HasLookedSince};
 
+use crate::owing::Owing;
+use crate::poster::Poster;
+use message_slot::Claim;
+use std::snapshot::Snapshot;
 use std::sync::{Condvar, Mutex, Wait};
 use std::time::{Clock, Duration};
 
@@ -10,6 +16,19 @@ pub(crate) struct Rings {
     rung: Condvar,
 }
 
+/// That a ring was made. Only `ring` makes one.
+#[derive(Drop)]
+pub(crate) struct Rung {
+    count: u64,
+}
+
+/// The number of rings, read when the poster was so. Only `heard` makes one.
+#[derive(Drop)]
+pub(crate) struct Heard<K: Claim> {
+    count: u64,
+    pub(crate) poster: Snapshot<Poster<K>>,
+}
+
 impl Rings {
     pub(crate) fn new() -> Rings {
         Rings {
@@ -18,30 +37,39 @@ impl Rings {
         }
     }
 
-    // The number of rings so far.
-    pub(crate) fn count<R: Wait>(&self, rt: &R) -> u64 {
-        *self.count.lock(rt)
-    }
-
-    // One ring more, which ends all waits.
-    pub(crate) fn ring<R: Wait>(&self, rt: &R) {
+    // One ring more, which ends all waits. It is made for an answer that stands behind its turn.
+    pub(crate) fn ring<R: Wait, A>(&self, rt: &R, _owing: &Owing<A>) -> Rung {
         let mut count = self.count.lock(rt);
         *count = count.wrapping_add(1);
+        let rung = Rung { count: *count };
         drop(count);
         self.rung.notify_all();
+        rung
     }
 
-    // One ring more where that is so.
-    pub(crate) fn ring_if<R: Wait>(&self, rt: &R, wake: bool) {
-        if wake {
-            self.ring(rt);
+    // Reads the number of rings so far.
+    pub(crate) fn heard<R: Wait, K: Claim>(&self, rt: &R, poster: &Poster<K>) -> Heard<K>
+        ensures { result.poster.value ≡ poster.now }
+    {
+        Heard {
+            count: *self.count.lock(rt),
+            poster: Snapshot::of(poster),
         }
     }
 
-    // Waits for the ring after these, at most so many milliseconds or without limit. It may end for no reason.
-    pub(crate) fn wait<R: Wait + Clock>(&self, rt: &R, rings: u64, limit: Option<u64>) {
+    // Waits for a ring after those that were heard before the poster's last look, at most so many milliseconds or without limit.
+    // It may end for no reason.
+    pub(crate) fn wait<R: Wait + Clock, K: Claim>(
+        &self,
+        rt: &R,
+        poster: &Poster<K>,
+        heard: Heard<K>,
+        limit: Option<u64>,
+    )
+        requires { HasLookedSince heard.poster.value poster.now }
+    {
         let count = self.count.lock(rt);
-        if *count != rings {
+        if *count != heard.count {
             return;
         }
         match limit {

@@ -3,6 +3,7 @@ ghost use Rattle.std.specs.Prelude.{[], take, drop};
 ghost use Rattle.shared_queue.specs.Turn.{QueueTurn, opening_view, fresh, dealt, keeping, joined, gone};
 ghost use Rattle.shared_queue.specs.Plays.{sat, took, gave, handed, learned, rang, listened};
 
+use crate::on_heap::OnHeap;
 use crate::view::{QueueKey, View};
 use atomic_table::{Join, Play, Split, TableRule};
 use message_slot::Claim;
@@ -11,8 +12,11 @@ use queue_state::QueueState;
 /// One seat at a time has the turn, and with it the state.
 pub struct OneTurn;
 
-impl<K: Claim> TableRule<Option<QueueState<K>>, View<QueueState<K>, K::Home>, QueueKey<K::Home>>
-    for OneTurn {
+impl<K: Claim> TableRule<
+    Option<OnHeap<QueueState<K>>>,
+    View<QueueState<K>, K::Home>,
+    QueueKey<K::Home>,
+> for OneTurn {
     ghost holds = { QueueTurn };
 
     ghost first = { opening_view };
@@ -21,45 +25,45 @@ impl<K: Claim> TableRule<Option<QueueState<K>>, View<QueueState<K>, K::Home>, Qu
 /// A new seat, which has no sender number and has seen nothing.
 pub(crate) struct Sit;
 
-impl<K: Claim> Play<Option<QueueState<K>>, View<QueueState<K>, K::Home>> for Sit {
+impl<K: Claim> Play<Option<OnHeap<QueueState<K>>>, View<QueueState<K>, K::Home>> for Sit {
     ghost then = { sat };
 }
 
 pub(crate) struct Take;
 
-impl<K: Claim> Play<Option<QueueState<K>>, View<QueueState<K>, K::Home>> for Take {
+impl<K: Claim> Play<Option<OnHeap<QueueState<K>>>, View<QueueState<K>, K::Home>> for Take {
     ghost then = { took };
 }
 
 pub(crate) struct Give;
 
-impl<K: Claim> Play<Option<QueueState<K>>, View<QueueState<K>, K::Home>> for Give {
+impl<K: Claim> Play<Option<OnHeap<QueueState<K>>>, View<QueueState<K>, K::Home>> for Give {
     ghost then = { gave };
 }
 
 /// Gives the turn back, with what was found sealed.
 pub(crate) struct Hand;
 
-impl<K: Claim> Play<Option<QueueState<K>>, View<QueueState<K>, K::Home>> for Hand {
+impl<K: Claim> Play<Option<OnHeap<QueueState<K>>>, View<QueueState<K>, K::Home>> for Hand {
     ghost then = { handed };
 }
 
 /// Tells that what the seat was told begins what it has seen.
 pub(crate) struct Learn;
 
-impl<K: Claim> Play<Option<QueueState<K>>, View<QueueState<K>, K::Home>> for Learn {
+impl<K: Claim> Play<Option<OnHeap<QueueState<K>>>, View<QueueState<K>, K::Home>> for Learn {
     ghost then = { learned };
 }
 
 pub(crate) struct Ring;
 
-impl<K: Claim> Play<Option<QueueState<K>>, View<QueueState<K>, K::Home>> for Ring {
+impl<K: Claim> Play<Option<OnHeap<QueueState<K>>>, View<QueueState<K>, K::Home>> for Ring {
     ghost then = { rang };
 }
 
 pub(crate) struct Listen;
 
-impl<K: Claim> Play<Option<QueueState<K>>, View<QueueState<K>, K::Home>> for Listen {
+impl<K: Claim> Play<Option<OnHeap<QueueState<K>>>, View<QueueState<K>, K::Home>> for Listen {
     ghost then = { listened };
 }
 

@@ -87,10 +87,10 @@ impl<K: Claim> Poster<K> {
         ensures home { WaitsAtHome K.home queue.now.constants.home result }
     {
         for _ in rt.forever() {
-            let rings = queue.rings.count(rt);
+            let heard = queue.rings.heard(rt, &*self);
             match self.look(rt, queue, clock, start, idle_owed, cap) {
                 Look::Ends(waited) => return waited,
-                Look::Sleeps { limit } => queue.rings.wait(rt, rings, limit),
+                Look::Sleeps { limit } => queue.rings.wait(rt, &*self, heard, limit),
             }
         }
         unreachable!()

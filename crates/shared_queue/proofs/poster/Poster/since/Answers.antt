@@ -1,11 +1,16 @@
 use Rattle.std.proofs.Common.{rules, ◌≡◌, length, Some, refl, inl}
 use Rattle.queue_state.specs.Queue.{Queue}
 use Rattle.shared_queue.proofs.Knows.{known, found_is}
+use Rattle.shared_queue.proofs.Quiet.{quiet}
 use Rattle.shared_queue.proofs.Still.{still_may_end, is_still_turn}
 use Rattle.shared_queue.proofs.poster.Poster.since.Goals as goal
 
 pub end-requires-clause-turn : goal.end-requires-clause-turn
 end-requires-clause-turn g c κs within = still_may_end c.args.queue.now.constants c.self.inside.desk c.begin-state.new.self c.begin-state.result c.begin-state.ensures
+
+pub end-requires-clause-quiet : goal.end-requires-clause-quiet
+end-requires-clause-quiet g c κs within =
+    quiet c.args.queue.now.constants c.self.inside.desk c.begin-state.new.self c.begin-state.result c.begin-state.result c.begin-state.ensures (λ woken. woken)
 
 pub returns : goal.returns
 returns g c =

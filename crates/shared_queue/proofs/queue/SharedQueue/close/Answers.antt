@@ -6,7 +6,7 @@ use Rattle.queue_state.specs.Queue.{part_of}
 use Rattle.shared_queue.specs.Constants.{Constants}
 use Rattle.shared_queue.specs.Known.{Shared}
 use Rattle.shared_queue.specs.Ends.{IsWholeEnd}
-use Rattle.shared_queue.proofs.Closing.{closes, closes_with, ends}
+use Rattle.shared_queue.proofs.Closing.{Closes, closes, closes_with, ends}
 use Rattle.shared_queue.proofs.queue.SharedQueue.close.Goals as goal
 
 pub unreachable-requires : goal.unreachable-requires
@@ -33,6 +33,6 @@ returns g c =
     let some : 0 < key.setting.senders = search rules in
     let t = closes_with key q c.args.posters.items c.gather-seat.result.me is some (c.requires.posters.0 ∙ ap (λ (z : Constants g.row.K-Home.Denot). z.setting.senders) is) c.requires.posters.1 c.gather-seat.ensures.1 c.gather-seat.result.id _ _ c.args.sealed.items c.in-Some.state c.requires.sealed c.close_with-closed.ensures.values.2 c.in-Some.ensures.value in
     let pushed : c.push.new.self.items ≡ c.args.sealed.items ++ c.into_parts-last.result.0 ∷ [] = search rules in
-    let are : c.push.new.self.items ≡ c.args.sealed.items ++ part_of c.in-Some.state ∷ [] = pushed ∙ ap (λ (p : Segment). c.args.sealed.items ++ p ∷ []) c.into_parts-last.ensures.part in
+    let are : c.push.new.self.items ≡ c.args.sealed.items ++ part_of c.into_value.result ∷ [] = pushed ∙ ap (λ (p : Segment). c.args.sealed.items ++ p ∷ []) c.into_parts-last.ensures.part in
     subst (λ (k : Constants g.row.K-Home.Denot). IsWholeEnd g.K.Claim.home k c.args.posters.items c.args.sealed.items c.push.new.self.items c.into_parts-last.result.1) (sym is)
-    (ends key c.args.posters.items c.args.sealed.items c.push.new.self.items c.in-Some.state t c.into_parts-last.ensures.sound are g.K.Claim.home c.into_parts-last.result.1 c.into_parts-last.ensures.left c.into_parts-last.ensures.home)
+    (ends key c.args.posters.items c.args.sealed.items c.push.new.self.items c.into_value.result (subst (Closes key c.args.posters.items c.args.sealed.items) (sym c.into_value.ensures) t) c.into_parts-last.ensures.sound are g.K.Claim.home c.into_parts-last.result.1 c.into_parts-last.ensures.left c.into_parts-last.ensures.home)
