@@ -1,5 +1,6 @@
 -- What the steps of a call leave: words of its private methods.
-use Rattle.std.specs.Prelude.{◌≡◌, ℕ, ◌+◌, ◌==◌, Bool, if◌then◌else◌, IfOk, OnOk, OnErr, IsTrue, Result, Option, Some, None, List, [], ◌∷◌, ◌++◌, length, reverse}
+use Rattle.std.specs.Prelude.{◌≡◌, ℕ, ◌+◌, ◌==◌, Bool, if◌then◌else◌, IfOk, OnOk, OnErr, IsTrue, Result, Option, Some, None, List, [], ◌∷◌, ◌++◌}
+use Rattle.std.specs.Prelude.{length, reverse}
 use mathlib.Core.List.{IsPrefix}
 use Rattle.loop_model.specs.declared.memory.NoMemory.{NoMemory}
 use Rattle.frame_phases.specs.declared.entry.Scheduling.{Scheduling}

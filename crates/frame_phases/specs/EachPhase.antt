@@ -24,7 +24,7 @@ has_begin (Begin v s t ∷ entries) = true
 has_begin (Take p n t ∷ entries) = has_begin entries
 has_begin (Ran n ∷ entries) = has_begin entries
 
--- a frame that is over took all phases, and another one a beginning of them
+-- a frame behind which another one begins took all phases, and the last one a beginning of them
 abbrev pub AreTaken : Bool → List ℕ → List ℕ → Type 0
 AreTaken true takes all = takes ≡ all
 AreTaken false takes all = IsPrefix takes all

@@ -2,3 +2,4 @@ pub mod Supply
 pub mod Ways
 pub mod Forms
 pub mod Sends
+pub mod Unhandled

@@ -26,7 +26,8 @@ Sending home p poster poster' pass pass' NoMemory =
 
 -- the messages that the filter names were removed and recycled
 abbrev pub Erasing : Filter → Sender → Sender → Tally → Tally → Erased → Type 0
-Erasing f poster poster' pass pass' (Removed count) = (nodes : List Node) × RemovedBy poster poster' f (taking.Removed nodes) × (count ≡ length nodes) × BringsBack nodes pass pass'
+Erasing f poster poster' pass pass' (Removed count) =
+    (nodes : List Node) × RemovedBy poster poster' f (taking.Removed nodes) × (count ≡ length nodes) × BringsBack nodes pass pass'
 Erasing f poster poster' pass pass' NoRoom = MadeNone poster poster' × (pass' ≡ pass)
 
 abbrev pub Sends : Post → Way → Way → Sent → Type 0

@@ -27,7 +27,8 @@ Obtains home (Some c) before after = (c.home ≡ home) × (c.slot < 50) × HasTa
 -- the pass obtained a message with this claim, and gave its slot back
 abbrev pub ObtainsInVain : TableId → Option Claimed → Tally → Tally → Type 0
 ObtainsInVain home None before after = NoneWasFree before after
-ObtainsInVain home (Some c) before after = (c.home ≡ home) × (c.slot < 50) × (after.back ≡ before.back + 1) × (before.looks ≤ after.looks) × (before.lost ≤ after.lost)
+ObtainsInVain home (Some c) before after =
+    (c.home ≡ home) × (c.slot < 50) × (after.back ≡ before.back + 1) × (before.looks ≤ after.looks) × (before.lost ≤ after.lost)
     × (after.taken ≡ before.taken + 1) × (after.share ≡ before.share)
 
 -- how many of the messages have a slot

@@ -1,8 +1,8 @@
 //! The forms of sending and removing.
-ghost use Rattle.std.specs.Prelude.{◌≡◌, None, true};
+ghost use Rattle.std.specs.Prelude.{◌≡◌, None, false, true};
 ghost use Rattle.loop_model.specs.declared.post.Kind.TheVariants.{What, Callback, All};
 ghost use Rattle.loop_model.specs.Posts.{moment_after};
-ghost use Rattle.handler_post.specs.Forms.{message_by, callback_by, filter_by};
+ghost use Rattle.handler_post.specs.Forms.{message_by, callback_by, callback_with, filter_by};
 ghost use Rattle.handler_post.specs.Ways.{IsReady, IsSameWay};
 ghost use Rattle.handler_post.specs.Sends.{Sends, Erases, Has};
 
@@ -24,6 +24,24 @@ pub struct Handler {
 }
 
 impl Handler {
+    /// The handler of this number (`new Handler(looper)`).
+    pub const fn new(id: u32) -> Handler
+        ensures { result ≡ record { id = id; asynchronous = false } }
+    {
+        Handler {
+            id,
+            asynchronous: false,
+        }
+    }
+
+    /// The handler of this number, each of whose messages barriers let pass (`createAsync`).
+    pub const fn new_async(id: u32) -> Handler
+        ensures { result ≡ record { id = id; asynchronous = true } }
+    {
+        let asynchronous = true;
+        Handler { id, asynchronous }
+    }
+
     fn message(&self, what: u32, arg: u32, obj: Option<u64>, when: u64) -> Post
         ensures { result ≡ message_by self.now what arg obj when }
     {
@@ -48,6 +66,15 @@ impl Handler {
         }
     }
 
+    fn callback_with(&self, callback: u64, token: Option<u64>, when: u64) -> Post
+        ensures { result ≡ callback_with self.now callback token when }
+    {
+        Post {
+            callback: Some(callback),
+            ..self.message(0, 0, token, when)
+        }
+    }
+
     fn filter(&self, kind: Kind, obj: Option<u64>) -> Filter
         ensures { result ≡ filter_by self.now kind obj }
     {
@@ -56,6 +83,62 @@ impl Handler {
             kind,
             obj,
         }
+    }
+
+    /// A message of this handler, which is due once it is sent (`obtainMessage`). Its fields may be set before that, as its object
+    /// by `Post { obj: Some(object), ..handler.obtain(what, arg) }`.
+    pub fn obtain(&self, what: u32, arg: u32) -> Post
+        ensures { result ≡ message_by self.now what arg None 0 }
+    {
+        self.message(what, arg, None, 0)
+    }
+
+    /// A callback of this handler, which is due once it is posted (`Message.obtain` of a `Runnable`). Its object is the token by which
+    /// it may be removed.
+    pub fn runnable(&self, callback: u64) -> Post
+        ensures { result ≡ callback_by self.now callback 0 }
+    {
+        self.callback(callback, 0)
+    }
+
+    /// This handler's messages with this `what`, for a removal or a question.
+    pub fn messages(&self, what: u32) -> Filter
+        ensures { result ≡ filter_by self.now (What what) None }
+    {
+        self.filter(Kind::What(what), None)
+    }
+
+    /// This handler's posts of this callback, for a removal or a question.
+    pub fn callbacks(&self, callback: u64) -> Filter
+        ensures { result ≡ filter_by self.now (Callback callback) None }
+    {
+        self.filter(Kind::Callback(callback), None)
+    }
+
+    /// All of this handler's messages and callbacks, for a removal or a question.
+    pub fn all(&self) -> Filter
+        ensures { result ≡ filter_by self.now All None }
+    {
+        self.filter(Kind::All, None)
+    }
+
+    /// Sends a message that is due at once, where `now` is the time in milliseconds (`sendMessage`).
+    pub fn send_message<R: Wait>(
+        &self,
+        rt: &R,
+        alloc: Global,
+        way: &mut Way,
+        what: u32,
+        arg: u32,
+        obj: Option<u64>,
+        now: u64,
+    ) -> Sent
+        requires { IsReady way.old }
+        ensures ready { IsReady way.new }
+        ensures same { IsSameWay way.old way.new }
+        ensures sent { Sends (message_by self.now what arg obj now) way.old way.new result }
+    {
+        send(rt, alloc, way, &self.message(what, arg, obj, now))
     }
 
     /// Sends a message that is due at `when`, in milliseconds (`sendMessageAtTime`).
@@ -122,6 +205,27 @@ impl Handler {
         send(rt, alloc, way, &self.message(what, arg, obj, when))
     }
 
+    /// Sends a message that is due `delay` milliseconds after `now`, or at the last moment where that lies behind it, and that
+    /// barriers let pass in any case (`Message.setAsynchronous`, `sendMessageDelayed`).
+    pub fn send_async_delayed<R: Wait>(
+        &self,
+        rt: &R,
+        alloc: Global,
+        way: &mut Way,
+        what: u32,
+        arg: u32,
+        now: u64,
+        delay: u64,
+    ) -> Sent
+        requires { IsReady way.old }
+        ensures ready { IsReady way.new }
+        ensures same { IsSameWay way.old way.new }
+        ensures sent { Sends (record (message_by self.now what arg None (moment_after now delay)) { asynchronous = true }) way.old way.new result }
+    {
+        let when = now.saturating_add(delay);
+        self.send_async_at(rt, alloc, way, what, arg, when)
+    }
+
     /// Sends a message that goes to the head of the queue (`sendMessageAtFrontOfQueue`).
     pub fn send_front<R: Wait>(
         &self,
@@ -175,6 +279,61 @@ impl Handler {
     {
         let when = now.saturating_add(delay);
         send(rt, alloc, way, &self.callback(callback, when))
+    }
+
+    /// Posts a callback that is due at `when`, in milliseconds, with a token by which it may be removed (`postAtTime`).
+    pub fn post_at_time<R: Wait>(
+        &self,
+        rt: &R,
+        alloc: Global,
+        way: &mut Way,
+        callback: u64,
+        token: Option<u64>,
+        when: u64,
+    ) -> Sent
+        requires { IsReady way.old }
+        ensures ready { IsReady way.new }
+        ensures same { IsSameWay way.old way.new }
+        ensures sent { Sends (callback_with self.now callback token when) way.old way.new result }
+    {
+        send(rt, alloc, way, &self.callback_with(callback, token, when))
+    }
+
+    /// Posts a callback that is due `delay` milliseconds after `now`, or at the last moment where that lies behind it, with a token
+    /// by which it may be removed (`postDelayed` with a token).
+    pub fn post_delayed_with<R: Wait>(
+        &self,
+        rt: &R,
+        alloc: Global,
+        way: &mut Way,
+        callback: u64,
+        token: Option<u64>,
+        now: u64,
+        delay: u64,
+    ) -> Sent
+        requires { IsReady way.old }
+        ensures ready { IsReady way.new }
+        ensures same { IsSameWay way.old way.new }
+        ensures sent { Sends (callback_with self.now callback token (moment_after now delay)) way.old way.new result }
+    {
+        let when = now.saturating_add(delay);
+        self.post_at_time(rt, alloc, way, callback, token, when)
+    }
+
+    /// Posts a callback that goes to the head of the queue (`postAtFrontOfQueue`).
+    pub fn post_at_front<R: Wait>(
+        &self,
+        rt: &R,
+        alloc: Global,
+        way: &mut Way,
+        callback: u64,
+    ) -> Sent
+        requires { IsReady way.old }
+        ensures ready { IsReady way.new }
+        ensures same { IsSameWay way.old way.new }
+        ensures sent { Sends (callback_by self.now callback 0) way.old way.new result }
+    {
+        send(rt, alloc, way, &self.callback(callback, 0))
     }
 
     /// Removes this handler's messages with this `what`, and with this object where one is named (`removeMessages`). A posted
@@ -231,5 +390,33 @@ impl Handler {
     {
         way.poster
             .has(rt, way.queue, &self.filter(Kind::What(what), obj))
+    }
+
+    /// Whether a post of this callback by this handler, and with this token where one is named, stands in the queue
+    /// (`hasCallbacks`). It makes no entry.
+    pub fn has_callbacks<R: Wait>(
+        &self,
+        rt: &R,
+        way: &mut Way,
+        callback: u64,
+        token: Option<u64>,
+    ) -> bool
+        requires { IsReady way.old }
+        ensures ready { IsReady way.new }
+        ensures same { IsSameWay way.old way.new }
+        ensures has { Has (filter_by self.now (Callback callback) token) way.old way.new result }
+    {
+        way.poster.has(rt, way.queue, &self.filter(Kind::Callback(callback), token))
+    }
+
+    /// Whether any message or callback of this handler, and with this object where one is named, stands in the queue
+    /// (`hasMessagesOrCallbacks`). It makes no entry.
+    pub fn has_any<R: Wait>(&self, rt: &R, way: &mut Way, obj: Option<u64>) -> bool
+        requires { IsReady way.old }
+        ensures ready { IsReady way.new }
+        ensures same { IsSameWay way.old way.new }
+        ensures has { Has (filter_by self.now All obj) way.old way.new result }
+    {
+        way.poster.has(rt, way.queue, &self.filter(Kind::All, obj))
     }
 }

@@ -8,8 +8,10 @@ mod handler;
 mod supply;
 #[cfg(test)]
 mod tests;
+mod unhandled;
 mod way;
 
 pub use handler::Handler;
 pub use supply::recycle_all;
+pub use unhandled::Quit;
 pub use way::{Erased, Sent, Way};

@@ -2,7 +2,7 @@ ghost use Rattle.std.specs.Prelude.{◌≡◌, IfOk};
 ghost use Rattle.shared_queue.specs.Known.{IsOf};
 ghost use Rattle.handler_post.specs.Ways.{IsReady};
 
-use crate::{Erased, Handler, Sent, Way};
+use crate::{Erased, Handler, Quit, Sent, Way};
 use loop_model::NoMemory;
 use message_pool::{Pool, PoolClaim, PoolPass};
 use queue_state::{Nexted, Quitting};
@@ -149,5 +149,54 @@ fn a_queue_that_quits_refuses(rt: HostRuntime) -> Result<(), Fail> {
     };
     let sent = HANDLER.send_at(&rt, rt.alloc(), &mut way, 3, 0, None, 5);
     assert!(rt; sent == Sent::Refused { place: 0 });
+    Ok(())
+}
+
+#[test]
+fn a_callback_goes_by_its_token(rt: HostRuntime) -> Result<(), Fail> {
+    let mut opened = set_up(rt.alloc())?;
+    let mut way = Way {
+        queue: &opened.queue,
+        poster: &mut opened.poster,
+        pool: &opened.pool,
+        pass: &mut opened.pass,
+    };
+    let sent = HANDLER.post_at_time(&rt, rt.alloc(), &mut way, 5, Some(9), 6);
+    assert!(rt; sent == accepted(0));
+    let sent = HANDLER.post_delayed_with(&rt, rt.alloc(), &mut way, 5, Some(8), 6, 1);
+    assert!(rt; sent == accepted(1));
+    let sent = HANDLER.post_at_front(&rt, rt.alloc(), &mut way, 6);
+    assert!(rt; sent == accepted(2));
+    let erased = HANDLER.remove_callbacks(&rt, &mut way, 5, Some(9));
+    assert!(rt; erased == Erased::Removed { count: 1 });
+    assert!(rt; HANDLER.has_callbacks(&rt, &mut way, 5, Some(8)));
+    assert!(rt; !HANDLER.has_callbacks(&rt, &mut way, 5, Some(9)));
+    let sent = HANDLER.send_message(&rt, rt.alloc(), &mut way, 1, 2, None, 3);
+    assert!(rt; sent == accepted(3));
+    let sent = HANDLER.send_async_delayed(&rt, rt.alloc(), &mut way, 1, 2, 3, 4);
+    assert!(rt; sent == accepted(4));
+    assert!(rt; HANDLER.has_any(&rt, &mut way, None));
+    Ok(())
+}
+
+#[test]
+fn a_barrier_is_removed_once(rt: HostRuntime) -> Result<(), Fail> {
+    let mut opened = set_up(rt.alloc())?;
+    let mut way = Way {
+        queue: &opened.queue,
+        poster: &mut opened.poster,
+        pool: &opened.pool,
+        pass: &mut opened.pass,
+    };
+    let token = way.post_barrier(&rt, rt.alloc(), 0)?;
+    assert!(rt; way.remove_barrier(&rt, token)?);
+    assert!(rt; !way.remove_barrier(&rt, token)?);
+    let sent = way.send(&rt, rt.alloc(), &HANDLER.obtain(1, 2));
+    assert!(rt; sent == accepted(0));
+    assert!(rt; way.has(&rt, &HANDLER.messages(1)));
+    let erased = way.remove(&rt, &HANDLER.all());
+    assert!(rt; erased == Erased::Removed { count: 1 });
+    assert!(rt; way.quit(&rt, true, 0) == Quit::Done { dropped: 0 });
+    assert!(rt; way.quit(&rt, true, 0) == Quit::AlreadyQuit { place: 5 });
     Ok(())
 }

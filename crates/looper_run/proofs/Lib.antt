@@ -4,6 +4,7 @@ pub mod Turning
 pub mod Posts
 pub mod Taking
 pub mod Asking
+pub mod Idling
 pub mod Quiet
 pub mod Steps
 pub mod Looking

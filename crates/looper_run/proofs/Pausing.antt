@@ -1,5 +1,5 @@
 -- How a loop by a clock ends.
-use Rattle.std.proofs.Common.{◌≡◌, ◌⊎◌, ℕ, Bool, true, List, [], ◌++◌, map, Option, refl, sym, ap, ◌∙◌, subst, inl, inr, arith}
+use Rattle.std.proofs.Common.{◌≡◌, ◌⊎◌, ℕ, Bool, true, List, [], ◌++◌, map, Option, Some, None, refl, sym, ap, ◌∙◌, subst, inl, inr, arith}
 use Rattle.atomic_table.specs.Seated.{TableId}
 use Rattle.loop_io.specs.Moments.{IsMoment}
 use Rattle.message_pool.specs.Passes.{Claimed, Tally, Node}
@@ -19,7 +19,7 @@ use Rattle.looper_run.specs.Holding.{Sender, Holding, Looping, IsAt}
 use Rattle.looper_run.specs.Asked.{Asked, Listening, Listen, with_asked, asked_by_round}
 use Rattle.looper_run.specs.Tests.{Test, Passes}
 use Rattle.looper_run.specs.Looks.{looked_by, by_poster, HasAnswer, HasEnded, IsBegun, WaitsAsTold}
-use Rattle.looper_run.specs.Loops.{WorksOn, HasStepped, HasPaused, Stepped, IsClosed, StepsBy, IsLoop, LastWait, LoopBy, Pauses, loop_of, pace_of, HasPaced, UnlessHalted, IsNoWait}
+use Rattle.looper_run.specs.Loops.{WorksOn, HasStepped, HasPaused, Stepped, IsClosed, StepsBy, IsLoop, LastWait, LoopBy, LoopsOrGoes, StepsOrGoes, IsLoopOrGoes, Pauses, loop_of, pace_of, HasPaced, UnlessHalted, IsNoWait}
 use Rattle.looper_run.specs.Round.{UnlessStopped}
 use Rattle.looper_run.proofs.Asking.{tells_as, with_more}
 use Rattle.looper_run.proofs.Quiet.{quiet_events}
@@ -102,6 +102,11 @@ module _ (shows : ℕ → Bool) (start : ℕ) (cap : Option ℕ) (q : Shared Tab
   loop_begun a b c loop.Nudged g h = (works_on_then shows start q.constants.setting a b c g.works h.0, earlier a b c.poster waited.Nudged g h.1)
   loop_begun a b c loop.NoMemory g h = tt
 
+  -- the same, where the looper may be left after some steps
+  pub some_begun : (a b c : Holding) (r : Option Loop) → Goes shows start q.constants.setting a b → LoopsOrGoes shows start cap q.constants.setting b c r → LoopsOrGoes shows start cap q.constants.setting a c r
+  some_begun a b c None g h = works_on_then shows start q.constants.setting a b c g.works h
+  some_begun a b c (Some r) g h = loop_begun a b c r g h
+
 -- what is said of the listenings can be weakened
 pub closed_as : (P Q : List Listening → Type 0) (a b : Looping) → ((heard : List Listening) → P heard → Q heard) → IsClosed P a b → IsClosed Q a b
 closed_as P Q a b weaker h = record { poster = h.poster; pass = h.pass; looper = h.looper; told = tells_as P Q a.held.journal.acts b.held.journal.acts weaker h.told; idle_owed = h.idle_owed }
@@ -126,6 +131,12 @@ begins P Q C shows start cap now a b c (loop.Cap at) m h both s =
 begins P Q C shows start cap now a b c loop.Nudged m h both s =
     (now, m, h.told.0, b, begun_at P a b h, steps_as Q (C now h.told.0) shows start cap b c loop.Nudged (λ more x. both h.told.0 more h.told.3 x) s)
 begins P Q C shows start cap now a b c loop.NoMemory m h both s = (b, begun_any P a b h, inr s)
+
+-- the same, where the looper may be left after some steps
+pub some_begins : (P : List Listening → Type 0) (Q : List Listening → Type 0) (C : ℕ → List Listening → List Listening → Type 0) (shows : ℕ → Bool) (start : ℕ) (cap : Option ℕ) (most now : ℕ) (a b c : Looping) (r : Option Loop)
+    → IsMoment shows start now → IsBegun P a b → ((heard more : List Listening) → P heard → Q more → C now heard more) → StepsOrGoes Q shows start cap most b c r → IsLoopOrGoes C shows start cap most a c r
+some_begins P Q C shows start cap most now a b c None m h both s = (now, m, h.told.0, b, begun_at P a b h, s.0, both h.told.0 [] h.told.3 s.1)
+some_begins P Q C shows start cap most now a b c (Some r) m h both s = begins P Q C shows start cap now a b c r m h both s
 
 -- what was asked at the start and at the end
 pub asks_both : (old mid new : Option (List Asked)) (now : ℕ) (heard more : List Listening) → mid ≡ with_asked old (asked_by_round now heard) → new ≡ with_asked mid (map Listen more) → new ≡ with_asked old (asked_by_round now heard ++ map Listen more)

@@ -1,8 +1,10 @@
 pub mod Holding
 pub mod Acts
 pub mod Asked
+pub mod Carried
 pub mod Tests
 pub mod Told
 pub mod Looks
 pub mod Round
 pub mod Loops
+pub mod LettingGo

@@ -65,7 +65,9 @@ pub record HasWaited (now : ℕ) (before after : Looping) (until : Option ℕ) :
 
 -- a look ended the queue, and all that was left was recycled, or it found the queue over
 abbrev pub EndsBy : ℕ → Looping → Looping → Type 0
-EndsBy now before after = ((left : List Node) × NextedBy before.held.poster after.held.poster now before.idle_owed (nexted.End left) × AreRecycled left before.held.pass after.held.pass)
+EndsBy now before after =
+    ((left : List Node) × NextedBy before.held.poster after.held.poster now before.idle_owed (nexted.End left)
+    × AreRecycled left before.held.pass after.held.pass)
     ⊎ (NextedBy before.held.poster after.held.poster now before.idle_owed nexted.Over × (after.held.pass ≡ before.held.pass))
 
 pub record HasEnded (now : ℕ) (before after : Looping) : Type 0 where
@@ -77,8 +79,10 @@ pub record HasEnded (now : ℕ) (before after : Looping) : Type 0 where
 -- memory was wanting after a look: for the dispatch of the message that it took, which was recycled, or for an idle handler
 abbrev pub GivesUp : ℕ → Looping → Looping → Type 0
 GivesUp now before after =
-    ((looked : Sender) × (number : ℕ) × (moment : ℕ) × (node : Node) × NextedBy before.held.poster looked now before.idle_owed (nexted.Taken number moment node) × GivesBack (looked_by before.held looked) after.held node)
-    ⊎ (NextedBy before.held.poster after.held.poster now before.idle_owed nexted.Idle × (after.held.pass ≡ before.held.pass) × GrowsBy IsIdle before.held.journal.acts after.held.journal.acts)
+    ((looked : Sender) × (number : ℕ) × (moment : ℕ) × (node : Node)
+    × NextedBy before.held.poster looked now before.idle_owed (nexted.Taken number moment node) × GivesBack (looked_by before.held looked) after.held node)
+    ⊎ (NextedBy before.held.poster after.held.poster now before.idle_owed nexted.Idle × (after.held.pass ≡ before.held.pass)
+    × GrowsBy IsIdle before.held.journal.acts after.held.journal.acts)
 
 -- one look, and what came of it
 abbrev pub StepBy : ℕ → Looping → Looping → Step → Type 0
@@ -131,6 +135,7 @@ pub record IsBegun (called : List Listening → Type 0) (before after : Looping)
 
 -- a round: it began, and then it looked for messages, unless memory was wanting before; unless memory was wanting, this holds of what the listeners were asked
 abbrev pub IsRound : (List Listening → Type 0) → ℕ → Looping → Looping → Round → Type 0
-IsRound called now before after (round.Drained dispatched until) = (start : Looping) × IsBegun called before start × DrainBy now start after (round.Drained dispatched until)
+IsRound called now before after (round.Drained dispatched until) =
+    (start : Looping) × IsBegun called before start × DrainBy now start after (round.Drained dispatched until)
 IsRound called now before after (round.Ended dispatched) = (start : Looping) × IsBegun called before start × DrainBy now start after (round.Ended dispatched)
 IsRound called now before after round.NoMemory = (start : Looping) × IsBegun any_heard before start × ((after ≡ start) ⊎ DrainBy now start after round.NoMemory)

@@ -1,5 +1,5 @@
 -- What a loop by a clock does: it sleeps until a look finds something, and goes on until its queue is over, its cap has come, or the bell was rung.
-use Rattle.std.specs.Prelude.{◌≡◌, ℕ, zero, suc, ◌≤◌, ◌⊎◌, Bool, true, false, List, [], ◌∷◌, ◌++◌, Option}
+use Rattle.std.specs.Prelude.{◌≡◌, ℕ, zero, suc, ◌≤◌, ◌⊎◌, Bool, true, false, List, [], ◌∷◌, ◌++◌, Option, Some, None}
 use Rattle.atomic_table.specs.Seated.{TableId}
 use Rattle.loop_io.specs.Moments.{IsMoment}
 use Rattle.loop_model.specs.declared.journal.Act.{Act}
@@ -44,7 +44,8 @@ IsLookBy shows start s past _ = Unit {0}
 -- after the past, each look of the sender is such
 abbrev pub AreLooksBy : (ℕ → Bool) → ℕ → Setting → ℕ → List Entry → List Entry → Type 0
 AreLooksBy shows start s sender past [] = Unit {0}
-AreLooksBy shows start s sender past (e ∷ more) = (e.sender ≡ sender → IsLookBy shows start s past e.call) × AreLooksBy shows start s sender (past ++ e ∷ []) more
+AreLooksBy shows start s sender past (e ∷ more) =
+    (e.sender ≡ sender → IsLookBy shows start s past e.call) × AreLooksBy shows start s sender (past ++ e ∷ []) more
 
 -- a part of a loop: its Dispatch acts are, one for one and in order, the messages that the looper took, with the same numbers and moments
 pub record WorksOn (shows : ℕ → Bool) (start : ℕ) (s : Setting) (before after : Holding) : Type 0 where
@@ -58,18 +59,22 @@ pub record WorksOn (shows : ℕ → Bool) (start : ℕ) (s : Setting) (before af
 
 -- looks before the cap that were answered to wait, one after another, and that is all
 abbrev pub HasWaitedLong : (ℕ → Bool) → ℕ → Option ℕ → Looping → Looping → Type 0
-HasWaitedLong shows start cap before after = (p : Sender) × (n : ℕ) × Slept shows start before.idle_owed cap n before.held.poster p × (after ≡ by_poster before p)
+HasWaitedLong shows start cap before after =
+    (p : Sender) × (n : ℕ) × Slept shows start before.idle_owed cap n before.held.poster p × (after ≡ by_poster before p)
 
 -- the looper slept, and then a look at a moment of the clock was answered, and this came of it
 abbrev pub HasStepped : (ℕ → Bool) → ℕ → Option ℕ → Looping → Looping → Step → Type 0
-HasStepped shows start cap before after r = (slept : Looping) × HasWaitedLong shows start cap before slept × (now : ℕ) × IsMoment shows start now × StepBy now slept after r
+HasStepped shows start cap before after r =
+    (slept : Looping) × HasWaitedLong shows start cap before slept × (now : ℕ) × IsMoment shows start now × StepBy now slept after r
 
 -- the looper slept, and then a look was answered to wait at the cap, or before the cap, and the bell was another behind it
 abbrev pub HasPaused : (ℕ → Bool) → ℕ → Option ℕ → Looping → Looping → Pause → Type 0
 HasPaused shows start cap before after (pause.Cap now) =
-    (slept : Looping) × HasWaitedLong shows start cap before slept × (p : Sender) × (until : Option ℕ) × HasLooked shows start before.idle_owed now (nexted.Wait until) slept.held.poster p × IsCap cap now × (after ≡ by_poster slept p)
+    (slept : Looping) × HasWaitedLong shows start cap before slept × (p : Sender) × (until : Option ℕ)
+    × HasLooked shows start before.idle_owed now (nexted.Wait until) slept.held.poster p × IsCap cap now × (after ≡ by_poster slept p)
 HasPaused shows start cap before after pause.Nudged =
-    (slept : Looping) × HasWaitedLong shows start cap before slept × (p : Sender) × HasNudged shows start before.idle_owed cap slept.held.poster p × (after ≡ by_poster slept p)
+    (slept : Looping) × HasWaitedLong shows start cap before slept × (p : Sender) × HasNudged shows start before.idle_owed cap slept.held.poster p
+    × (after ≡ by_poster slept p)
 
 -- after this step of a looper that waits by a clock it looks again; its last look is never answered to wait
 abbrev pub GoesOn : Step → Type 0
@@ -104,7 +109,8 @@ UnlessHalted (pace.Pauses p) P = P
 -- so many steps, one after another
 abbrev pub Stepped : (ℕ → Bool) → ℕ → Option ℕ → ℕ → Looping → Looping → Type 0
 Stepped shows start cap zero before after = after ≡ before
-Stepped shows start cap (suc n) before after = (between : Looping) × Stepped shows start cap n before between × (r : Step) × GoesOn r × HasStepped shows start cap between after r
+Stepped shows start cap (suc n) before after =
+    (between : Looping) × Stepped shows start cap n before between × (r : Step) × GoesOn r × HasStepped shows start cap between after r
 
 -- listeners were told of events, of which this holds, and that is all
 pub record IsClosed (called : List Listening → Type 0) (before after : Looping) : Type 0 where
@@ -116,23 +122,33 @@ pub record IsClosed (called : List Listening → Type 0) (before after : Looping
 
 -- steps, to the last one, by the answer; where a pause ended them, listeners were told of events behind it
 abbrev pub StepsBy : (List Listening → Type 0) → (ℕ → Bool) → ℕ → Option ℕ → Looping → Looping → Loop → Type 0
-StepsBy called shows start cap before after loop.Ended = (n : ℕ) × (last : Looping) × Stepped shows start cap n before last × HasStepped shows start cap last after step.Ends × called []
+StepsBy called shows start cap before after loop.Ended =
+    (n : ℕ) × (last : Looping) × Stepped shows start cap n before last × HasStepped shows start cap last after step.Ends × called []
 StepsBy called shows start cap before after (loop.Cap now) =
-    (n : ℕ) × (last : Looping) × (paused : Looping) × Stepped shows start cap n before last × HasPaused shows start cap last paused (pause.Cap now) × IsClosed called paused after
+    (n : ℕ) × (last : Looping) × (paused : Looping) × Stepped shows start cap n before last × HasPaused shows start cap last paused (pause.Cap now)
+    × IsClosed called paused after
 StepsBy called shows start cap before after loop.Nudged =
-    (n : ℕ) × (last : Looping) × (paused : Looping) × Stepped shows start cap n before last × HasPaused shows start cap last paused pause.Nudged × IsClosed called paused after
+    (n : ℕ) × (last : Looping) × (paused : Looping) × Stepped shows start cap n before last × HasPaused shows start cap last paused pause.Nudged
+    × IsClosed called paused after
 StepsBy called shows start cap before after loop.NoMemory =
-    (n : ℕ) × (last : Looping) × Stepped shows start cap n before last × (HasStepped shows start cap last after step.NoMemory ⊎ ((paused : Looping) × (p : Pause) × HasPaused shows start cap last paused p × IsClosed any_heard paused after))
+    (n : ℕ) × (last : Looping) × Stepped shows start cap n before last
+    × (HasStepped shows start cap last after step.NoMemory
+    ⊎ ((paused : Looping) × (p : Pause) × HasPaused shows start cap last paused p × IsClosed any_heard paused after))
 
--- a loop: the dispatcher had its pulse at a moment of the clock, listeners were told of events, and then the looper went on, unless memory was wanting before; unless memory was wanting, this holds of that moment and of what the listeners were asked at the start and at the end
+-- a loop: the dispatcher had its pulse at a moment of the clock, listeners were told of events, and then the looper went on, unless memory was wanting before;
+-- unless memory was wanting, this holds of that moment and of what the listeners were asked at the start and at the end
 abbrev pub IsLoop : (ℕ → List Listening → List Listening → Type 0) → (ℕ → Bool) → ℕ → Option ℕ → Looping → Looping → Loop → Type 0
-IsLoop called shows start cap before after loop.NoMemory = (begun : Looping) × IsBegun any_heard before begun × ((after ≡ begun) ⊎ StepsBy any_heard shows start cap begun after loop.NoMemory)
+IsLoop called shows start cap before after loop.NoMemory =
+    (begun : Looping) × IsBegun any_heard before begun × ((after ≡ begun) ⊎ StepsBy any_heard shows start cap begun after loop.NoMemory)
 IsLoop called shows start cap before after loop.Ended =
-    (now : ℕ) × IsMoment shows start now × (heard : List Listening) × (begun : Looping) × IsBegun (λ h. h ≡ heard) before begun × StepsBy (called now heard) shows start cap begun after loop.Ended
+    (now : ℕ) × IsMoment shows start now × (heard : List Listening) × (begun : Looping) × IsBegun (λ h. h ≡ heard) before begun
+    × StepsBy (called now heard) shows start cap begun after loop.Ended
 IsLoop called shows start cap before after (loop.Cap at) =
-    (now : ℕ) × IsMoment shows start now × (heard : List Listening) × (begun : Looping) × IsBegun (λ h. h ≡ heard) before begun × StepsBy (called now heard) shows start cap begun after (loop.Cap at)
+    (now : ℕ) × IsMoment shows start now × (heard : List Listening) × (begun : Looping) × IsBegun (λ h. h ≡ heard) before begun
+    × StepsBy (called now heard) shows start cap begun after (loop.Cap at)
 IsLoop called shows start cap before after loop.Nudged =
-    (now : ℕ) × IsMoment shows start now × (heard : List Listening) × (begun : Looping) × IsBegun (λ h. h ≡ heard) before begun × StepsBy (called now heard) shows start cap begun after loop.Nudged
+    (now : ℕ) × IsMoment shows start now × (heard : List Listening) × (begun : Looping) × IsBegun (λ h. h ≡ heard) before begun
+    × StepsBy (called now heard) shows start cap begun after loop.Nudged
 
 -- the looper's last wait, begun since then with the bell as it was, was answered so
 abbrev pub LastWait : (ℕ → Bool) → ℕ → Option ℕ → Sender → Sender → Waited Claimed TableId → Type 0
@@ -142,7 +158,9 @@ LastWait shows start cap before after answer =
 -- a loop, by its answer: what it did, and the wait that it ended with
 abbrev pub LoopBy : (ℕ → Bool) → ℕ → Option ℕ → Setting → Holding → Holding → Loop → Type 0
 LoopBy shows start cap s before after loop.Ended =
-    WorksOn shows start s before after × (((left : List Node) × LastWait shows start cap before.poster after.poster (waited.End left)) ⊎ LastWait shows start cap before.poster after.poster waited.Over)
+    WorksOn shows start s before after
+    × (((left : List Node) × LastWait shows start cap before.poster after.poster (waited.End left))
+    ⊎ LastWait shows start cap before.poster after.poster waited.Over)
 LoopBy shows start cap s before after (loop.Cap now) = WorksOn shows start s before after × LastWait shows start cap before.poster after.poster (waited.Cap now)
 LoopBy shows start cap s before after loop.Nudged = WorksOn shows start s before after × LastWait shows start cap before.poster after.poster waited.Nudged
 LoopBy shows start cap s before after loop.NoMemory = Unit {0}
@@ -166,9 +184,36 @@ UnlessLost (loop.Cap now) P = P
 UnlessLost loop.Nudged P = P
 UnlessLost loop.NoMemory P = Unit {0}
 
+-- a loop that was left after so many steps, or one that ended by its answer
+abbrev pub LoopsOrGoes : (ℕ → Bool) → ℕ → Option ℕ → Setting → Holding → Holding → Option Loop → Type 0
+LoopsOrGoes shows start cap s before after None = WorksOn shows start s before after
+LoopsOrGoes shows start cap s before after (Some r) = LoopBy shows start cap s before after r
+
+abbrev pub StepsOrGoes : (List Listening → Type 0) → (ℕ → Bool) → ℕ → Option ℕ → ℕ → Looping → Looping → Option Loop → Type 0
+StepsOrGoes called shows start cap most before after None = Stepped shows start cap most before after × called []
+StepsOrGoes called shows start cap most before after (Some r) = StepsBy called shows start cap before after r
+
+abbrev pub IsLoopOrGoes : (ℕ → List Listening → List Listening → Type 0) → (ℕ → Bool) → ℕ → Option ℕ → ℕ → Looping → Looping → Option Loop → Type 0
+IsLoopOrGoes called shows start cap most before after None =
+    (now : ℕ) × IsMoment shows start now × (heard : List Listening) × (begun : Looping) × IsBegun (λ h. h ≡ heard) before begun
+    × Stepped shows start cap most begun after × called now heard []
+IsLoopOrGoes called shows start cap most before after (Some r) = IsLoop called shows start cap before after r
+
+-- such a loop ended the looper
+abbrev pub is_over_then : Option Loop → Bool
+is_over_then None = false
+is_over_then (Some r) = is_over r
+
+-- what holds unless memory was wanting in it
+abbrev pub UnlessLostThen : Option Loop → Type 0 → Type 0
+UnlessLostThen None P = P
+UnlessLostThen (Some r) P = UnlessLost r P
+
 -- an answer of a wait that is one of a look, as the look's
 abbrev pub Answers : Waited Claimed TableId → Nexted Claimed TableId → Type 0
-Answers waiting answer = (shows : ℕ → Bool) (start : ℕ) (idle : Bool) (cap : Option ℕ) (p q : Sender) → EndsBy shows start idle cap p q waiting → (now : ℕ) × HasLooked shows start idle now answer p q
+Answers waiting answer =
+    (shows : ℕ → Bool) (start : ℕ) (idle : Bool) (cap : Option ℕ) (p q : Sender) → EndsBy shows start idle cap p q waiting → (now : ℕ)
+    × HasLooked shows start idle now answer p q
 
 -- an answer that is none of waiting
 abbrev pub IsNoWait : Nexted Claimed TableId → Type 0

@@ -17,7 +17,8 @@ use Rattle.looper_run.specs.Acts.{taken_by, AreLooksAt}
 use Rattle.loop_model.specs.Dispatches.{dispatches}
 use Rattle.looper_run.specs.Tests.{IsSameLooper}
 
--- a part of a round that names this moment and dispatches so many messages: its Dispatch acts are, one for one and in order, the messages that the looper took, with the same numbers and moments
+-- a part of a round that names this moment and dispatches so many messages: its Dispatch acts are, one for one and in order, the messages that the looper took,
+-- with the same numbers and moments
 pub record Works (s : Setting) (now : ℕ) (before after : Holding) (count : ℕ) : Type 0 where
   pub same : IsSameLooper before after
   pub more : List Entry

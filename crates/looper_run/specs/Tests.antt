@@ -32,7 +32,8 @@ pub record IsSameLooper (before after : Holding) : Type 0 where
   pub home : after.pass.home ≡ before.pass.home
   pub looper : after.journal.looper ≡ before.journal.looper
 
--- what a call leaves of what it was lent: more entries were seen, and those of the looper are no looks for a message; acts of the dispatcher were appended; slots may have been given back
+-- what a call leaves of what it was lent: more entries were seen, and those of the looper are no looks for a message; acts of the dispatcher were appended;
+-- slots may have been given back
 pub record IsLent (before after : Holding) : Type 0 where
   pub same : IsSameLooper before after
   pub more : List Entry

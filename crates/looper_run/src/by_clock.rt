@@ -5,7 +5,7 @@ ghost use Rattle.looper_run.specs.Holding.{Workplace, workplace, IsAt};
 ghost use Rattle.looper_run.specs.Asked.{Listen, with_asked, asked_by_round, AsksByLoop};
 ghost use Rattle.looper_run.specs.Tests.{Passes, Rings};
 ghost use Rattle.looper_run.specs.Looks.{IsAnswerOf};
-ghost use Rattle.looper_run.specs.Loops.{IsStill, HasPaced, pace_of, UnlessHalted, IsClosed, StepsBy, IsLoop, LoopBy, is_over, UnlessLost, Answers, IsNoWait, Pauses, loop_of};
+ghost use Rattle.looper_run.specs.Loops.{IsStill, HasPaced, pace_of, UnlessHalted, IsClosed, StepsBy, IsLoop, LoopBy, is_over, UnlessLost, LoopsOrGoes, StepsOrGoes, IsLoopOrGoes, UnlessLostThen, is_over_then, Answers, IsNoWait, Pauses, loop_of};
 ghost use Rattle.shared_queue.specs.Waiting.{WaitsAtHome};
 
 use crate::dispatcher::Dispatcher;
@@ -142,6 +142,42 @@ impl Looper {
         self.go_on(rt, queue, pool, sources, d, by)
     }
 
+    /// As `run_loop`, but it dispatches a message or runs the idle handlers no more than so many times, each of which counts as one.
+    /// None where it did so often, and then it may be called again: for a looper that always has a message due, and is to let
+    /// go of its records now and then (this project's profile).
+    pub fn run_some<R: Wait + time::Clock, D: Dispatcher, C: Clock>(
+        &mut self,
+        rt: &R,
+        queue: &SharedQueue<PoolClaim>,
+        pool: &Pool,
+        sources: &Mutex<Sources>,
+        d: &mut D,
+        by: &ByClock<C>,
+        most: u64,
+    ) -> Option<Loop>
+        requires going { self.old.ended ≡ false }
+        requires at { IsAt queue.now pool.now self.old.held }
+        requires free { queue.now.constants.setting.lockstep ≡ false }
+        requires serves { D.Serves d.old (workplace self.old.held) }
+        requires awaits { D.Awaits d.old None }
+        requires meets { Passes (D.Meets d.old) self.old.held }
+        ensures same { IsStill self.old.held self.new.held }
+        ensures serves { (w : Workplace) → D.Serves d.old w → D.Serves d.new w }
+        ensures origin { D.origin d.new ≡ D.origin d.old }
+        ensures nudges { Rings self.old.held.poster self.new.held.poster (D.nudges d.old) (D.nudges d.new) }
+        ensures loops { LoopsOrGoes (C.shows by.now.clock.now) by.now.start by.now.cap queue.now.constants.setting self.old.held self.new.held result }
+        ensures steps { IsLoopOrGoes (AsksByLoop (D.asked d.old) (D.asked d.new)) (C.shows by.now.clock.now) by.now.start by.now.cap most self.old self.new result }
+        ensures meets { UnlessLostThen result (Passes (D.Meets d.new) self.new.held) }
+        ensures awaits { UnlessLostThen result (D.Awaits d.new None) }
+        ensures ended { self.new.ended ≡ is_over_then result }
+    {
+        let now = by.clock.uptime_millis().saturating_sub(by.start);
+        let Ok(()) = self.begin(rt, sources, d, now) else {
+            return Some(Loop::NoMemory)
+        };
+        self.go_some(rt, queue, pool, sources, d, by, most)
+    }
+
     // Waits for messages until the queue is over or the looper is to pause.
     fn go_on<R: Wait + time::Clock, D: Dispatcher, C: Clock>(
         &mut self,
@@ -186,6 +222,53 @@ impl Looper {
             }
         }
         unreachable!()
+    }
+
+    // The same, but no more than so many times.
+    fn go_some<R: Wait + time::Clock, D: Dispatcher, C: Clock>(
+        &mut self,
+        rt: &R,
+        queue: &SharedQueue<PoolClaim>,
+        pool: &Pool,
+        sources: &Mutex<Sources>,
+        d: &mut D,
+        by: &ByClock<C>,
+        most: u64,
+    ) -> Option<Loop>
+        requires going { self.old.ended ≡ false }
+        requires at { IsAt queue.now pool.now self.old.held }
+        requires free { queue.now.constants.setting.lockstep ≡ false }
+        requires serves { D.Serves d.old (workplace self.old.held) }
+        requires awaits { D.Awaits d.old None }
+        requires meets { Passes (D.Meets d.old) self.old.held }
+        ensures same { IsStill self.old.held self.new.held }
+        ensures serves { (w : Workplace) → D.Serves d.old w → D.Serves d.new w }
+        ensures origin { D.origin d.new ≡ D.origin d.old }
+        ensures nudges { Rings self.old.held.poster self.new.held.poster (D.nudges d.old) (D.nudges d.new) }
+        ensures loops { LoopsOrGoes (C.shows by.now.clock.now) by.now.start by.now.cap queue.now.constants.setting self.old.held self.new.held result }
+        ensures steps { StepsOrGoes (λ more. D.asked d.new ≡ with_asked (D.asked d.old) (map Listen more))
+            (C.shows by.now.clock.now) by.now.start by.now.cap most self.old self.new result }
+        ensures meets { UnlessLostThen result (Passes (D.Meets d.new) self.new.held) }
+        ensures awaits { UnlessLostThen result (D.Awaits d.new None) }
+        ensures ended { self.new.ended ≡ is_over_then result }
+    {
+        for _number in 0..most {
+            match self.pace(rt, queue, pool, sources, d, by) {
+                Pace::Goes => {}
+                Pace::Ends => {
+                    self.ended = true;
+                    return Some(Loop::Ended);
+                }
+                Pace::NoMemory => return Some(Loop::NoMemory),
+                Pace::Pauses { pause } => {
+                    let Ok(()) = self.close(rt, sources, d) else {
+                        return Some(Loop::NoMemory)
+                    };
+                    return Some(pause.as_loop());
+                }
+            }
+        }
+        None
     }
 
     // Waits for a message and dispatches it, or runs the idle handlers, unless the looper is to pause.

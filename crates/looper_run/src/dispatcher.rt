@@ -10,6 +10,7 @@ ghost use Rattle.message_slot.specs.Fields.{callback_of};
 ghost use Rattle.looper_run.specs.Holding.{Workplace, workplace, held, IsSameOwn};
 ghost use Rattle.looper_run.specs.Acts.{IsQuiet};
 ghost use Rattle.looper_run.specs.Asked.{Asked, Pulse, Listen, with_asked};
+ghost use Rattle.looper_run.specs.Carried.{Carries};
 ghost use Rattle.looper_run.specs.Tests.{Passes, PassesWith, IsLent, Rings, HasTaken, Unless, Intercepts, LeavesTaken};
 
 use crate::own::Own;
@@ -88,6 +89,11 @@ pub trait Dispatcher {
         ensures origin { origin self.new ≡ origin self.old }
         ensures meets { (s : ℕ) (es : List Entry) (acts : List Act) → Meets self.old s es acts → Meets self.new s es acts }
         ensures nudges { nudges self.new ≡ nudges self.old };
+
+    /// Runs the idle handler of this number, and answers whether it is kept (`queueIdle` of the Android API reference's
+    /// `MessageQueue.IdleHandler`); `keep` is what it was added with. None where memory was wanting, and then the run is given up.
+    fn idle(&mut self, id: u32, keep: bool) -> Option<bool>
+        ensures carries { Carries Serves origin nudges asked Awaits Meets self.old self.new };
 
     /// Runs the callback of a message that has one. Only NoMemory counts as an answer.
     fn run_callback(&mut self, own: &mut Own, id: u64, m: &Message<PoolClaim>, now: u64) -> Did

@@ -7,6 +7,7 @@ mod dispatch;
 mod dispatcher;
 mod looper;
 mod own;
+mod records;
 mod sources;
 mod step;
 #[cfg(test)]

@@ -1,9 +1,10 @@
 //! What a looper shares with other threads beside its queue, and what it does with it.
-ghost use Rattle.std.specs.Prelude.{◌≡◌, ℕ, List, ◌++◌, map, OnOk, Option};
+ghost use Rattle.std.specs.Prelude.{◌≡◌, ℕ, List, map, OnOk, Option};
 ghost use Rattle.loop_model.specs.declared.entry.Entry.{Entry};
 ghost use Rattle.looper_run.specs.Holding.{Workplace};
-ghost use Rattle.looper_run.specs.Acts.{idle_act, IsIdle, GrowsBy};
+ghost use Rattle.looper_run.specs.Acts.{IsIdle, GrowsBy};
 ghost use Rattle.looper_run.specs.Asked.{Listen, with_asked, TellsOf};
+ghost use Rattle.looper_run.specs.Carried.{CarriesOver};
 
 use crate::dispatch::tell;
 use crate::dispatcher::Dispatcher;
@@ -20,39 +21,41 @@ pub struct Sources {
     pub fds: FdTable,
 }
 
-// Tells that these idle handlers ran, in order, and takes out those that are not kept.
-fn run_turns<R: Wait>(
+// Runs these idle handlers, tells each, in order, and takes out those that are not kept.
+fn run_turns<R: Wait, D: Dispatcher>(
     rt: &R,
     sources: &Mutex<Sources>,
     journal: &mut Journal,
+    d: &mut D,
     turns: &[IdleTurn],
 ) -> Result<(), NoMemory>
     ensures looper { journal.new.looper ≡ journal.old.looper }
-    ensures told { OnOk result (journal.new.acts ≡ journal.old.acts ++ map idle_act turns.now) }
     ensures idle { GrowsBy IsIdle journal.old.acts journal.new.acts }
+    ensures carries { CarriesOver D.Serves D.origin D.nudges D.asked D.Awaits D.Meets d.old d.new journal.old.acts journal.new.acts }
 {
     for turn in turns {
-        let act = Act::Idle {
-            id: turn.id,
-            kept: turn.keep,
+        let Some(kept) = d.idle(turn.id, turn.keep) else {
+            return Err(NoMemory)
         };
-        tell(journal, act)?;
-        sources.lock(rt).idle.finish(turn.serial, turn.keep);
+        tell(journal, Act::Idle { id: turn.id, kept })?;
+        sources.lock(rt).idle.finish(turn.serial, kept);
     }
     Ok(())
 }
 
 // Runs the idle handlers that stand in the set at this moment. One that is removed meanwhile runs all the same.
-pub(crate) fn run_idle<R: Wait>(
+pub(crate) fn run_idle<R: Wait, D: Dispatcher>(
     rt: &R,
     sources: &Mutex<Sources>,
     journal: &mut Journal,
+    d: &mut D,
 ) -> Result<(), NoMemory>
     ensures looper { journal.new.looper ≡ journal.old.looper }
     ensures told { GrowsBy IsIdle journal.old.acts journal.new.acts }
+    ensures carries { CarriesOver D.Serves D.origin D.nudges D.asked D.Awaits D.Meets d.old d.new journal.old.acts journal.new.acts }
 {
     let turns = sources.lock(rt).idle.turns();
-    run_turns(rt, sources, journal, turns?.as_slice())
+    run_turns(rt, sources, journal, d, turns?.as_slice())
 }
 
 // Tells the listeners of the events that were handed in, and watches for what they answer.

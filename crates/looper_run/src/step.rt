@@ -117,7 +117,7 @@ impl Looper {
             }
             Nexted::Idle => {
                 self.idle_owed = false;
-                match run_idle(rt, sources, &mut self.journal) {
+                match run_idle(rt, sources, &mut self.journal, d) {
                     Ok(()) => Step::Idled,
                     Err(_) => Step::NoMemory,
                 }

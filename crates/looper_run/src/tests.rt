@@ -118,6 +118,10 @@ impl Dispatcher for Recorder {
         }
     }
 
+    fn idle(&mut self, id: u32, keep: bool) -> Option<bool> {
+        Some(keep)
+    }
+
     fn run_callback(&mut self, own: &mut Own, id: u64, m: &Message<PoolClaim>, now: u64) -> Did {
         let told = own.journal.acts.len();
         self.note(Noted::Callback { id, now, told })

@@ -35,6 +35,7 @@ pub record Goes (v : Values) (k : ℕ) (before now : List ℕ) (s : Frames) (thi
   pub interval : s.interval ≡ v.period
   pub posted : posted_count (past s) ≡ k + 1
   pub entries : s.entries ≡ Posted (callback 0 0) ∷ going_entries v.period k
+  pub sealed : s.sealed ≡ []
   pub standing : things ≡ map (λ t. runner_at t (frame_times v.period k)) v.things
   pub told : now ≡ before ++ frames_text v k
   pub not_ended : (m : ℕ) → m < k + 1 → all_ended v.things (frame_times v.period m) ≡ false
@@ -52,6 +53,7 @@ goes_start v before s things some h given = record {
   interval = h.interval;
   posted = h.posted;
   entries = h.entries;
+  sealed = h.sealed;
   standing = given;
   told = sym (append-nil before);
   not_ended = λ m lt. let none : m ≡ 0 = omega arith in rw none (none_ended v.things some);
@@ -61,7 +63,7 @@ goes_start v before s things some h given = record {
 
 -- the state behind it
 abbrev pub begun_with : ℕ → ℕ → Frames
-begun_with period p = record { looper = 0; interval = period; phases = 4; entries = Posted (callback 0 0) ∷ []; scheduled = true; asked = Some p }
+begun_with period p = record { looper = 0; interval = period; phases = 4; entries = Posted (callback 0 0) ∷ []; sealed = []; scheduled = true; asked = Some p }
 
 begun_ready : (period : ℕ) → 0 < period → IsStarted (begun_with period (frame_time period 0)) period
 unfolding next_phase last_time live posted_count
@@ -82,6 +84,7 @@ begun_ready period some = record {
   };
   posted = refl;
   entries = refl;
+  sealed = refl;
 }
 
 posting_is : (period p : ℕ) → p ≡ pulse period 0 → posted (fresh 0 period 4) (next_callback (fresh 0 period 4) 1 0 0 None) 0 ≡ begun_with period p
@@ -154,6 +157,7 @@ goes_more v k p before now written s t things asked limits few h at told run end
       interval = ap (λ x. x.interval) here ∙ h.interval;
       posted = ap (λ x. posted_count (past x)) here ∙ counted;
       entries = ap (λ x. x.entries) here ∙ entries_more number;
+      sealed = ap (λ x. x.sealed) here ∙ h.sealed;
       standing = state_more v k p asked at run;
       told = written_more v k p before now written at h.told told;
       not_ended = later_not v k h.not_ended (ended_then v k p asked false at run ended);
@@ -183,6 +187,7 @@ goes_end v k p before now written s t things asked h at told run ended left =
       interval = ap (λ x. x.interval) here ∙ h.interval;
       phases = ap (λ x. x.phases) here ∙ h.ready.phases;
       entries = rw one (ap (λ x. x.entries) here ∙ entries_are number);
+      sealed = ap (λ x. x.sealed) here ∙ h.sealed;
     }
   where
     entries_are : last_number s ≡ k → s.entries ++ frame_entries (frame_time v.period k) (last_number s) true ≡ record_entries v.period (suc k)

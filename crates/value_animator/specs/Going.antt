@@ -18,6 +18,7 @@ pub record IsStarted (s : Frames) (period : ℕ) : Type 0 where
   pub ready : IsReady s (frame_time period 0)
   pub posted : posted_count (past s) ≡ 1
   pub entries : s.entries ≡ Posted (callback 0 0) ∷ []
+  pub sealed : s.sealed ≡ []
 
 -- frames ran until all things had ended, and what they told was written
 pub record HasRun (v : Values) (before after : List ℕ) (s : Frames) : Type 0 where
@@ -28,6 +29,8 @@ pub record HasRun (v : Values) (before after : List ℕ) (s : Frames) : Type 0 w
   pub interval : s.interval ≡ v.period
   pub phases : s.phases ≡ 4
   pub entries : s.entries ≡ record_entries v.period count
+  -- none of them was handed out
+  pub sealed : s.sealed ≡ []
 
 -- the run of the values, unless memory ran out
 abbrev pub RunsTo : ValuesRan → Values → Type 0

@@ -1,5 +1,6 @@
 -- What the lines so far hold, and why a line may not come next.
-use Rattle.std.specs.Prelude.{ℕ, ◌+◌, ◌*◌, Bool, true, false, ◌&&◌, ◌||◌, not, ◌==◌, nat_lt, nat_le, List, [], ◌∷◌, ◌++◌, length, slice_index, Option, Some, None, if◌then◌else◌}
+use Rattle.std.specs.Prelude.{ℕ, ◌+◌, ◌*◌, Bool, true, false, ◌&&◌, ◌||◌, not, ◌==◌, nat_lt, nat_le, List, [], ◌∷◌, ◌++◌, length, slice_index, Option}
+use Rattle.std.specs.Prelude.{Some, None, if◌then◌else◌}
 use Rattle.dash_script.specs.declared.form.Role.{Role}
 use Rattle.dash_script.specs.declared.form.Role.TheVariants.{Within}
 use Rattle.dash_script.specs.declared.refusal.Cause.{Cause}

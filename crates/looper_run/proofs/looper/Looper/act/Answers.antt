@@ -4,7 +4,7 @@ use Rattle.message_pool.specs.Passes.{Claimed}
 use Rattle.queue_state.specs.declared.answers.Nexted.{Nexted}
 use Rattle.shared_queue.specs.Calls.{NextedBy}
 use Rattle.looper_run.specs.Holding.{Looping, held}
-use Rattle.looper_run.specs.Acts.{IsIdle, GrowsBy}
+use Rattle.looper_run.specs.Acts.{IsIdle}
 use Rattle.looper_run.specs.Told.{Dispatches, GivesBack}
 use Rattle.looper_run.specs.Tests.{Passes, HasTaken}
 use Rattle.looper_run.specs.Looks.{StepBy, WaitsAsTold, HasDispatched, GivesUp, looked_by, by_poster}
@@ -12,6 +12,7 @@ use Rattle.looper_run.specs.Round.{UnlessStopped}
 use Rattle.looper_run.specs.declared.step.Step.{Step}
 use Rattle.looper_run.proofs.Looking.{fits_dispatches}
 use Rattle.looper_run.proofs.Acting.{answer_taken, answer_number, answer_idle, answer_wait, answer_over, answer_end}
+use Rattle.looper_run.proofs.Idling.{grows_none}
 use Rattle.looper_run.proofs.looper.Looper.act.Goals as goal
 use Rattle.looper_run.proofs.looper.Looper.act.Goals.{in-Ok, in-Err, in-Ok-run_idle, in-Err-run_idle}
 
@@ -58,13 +59,14 @@ returns-after-run_idle-clause-waits g c = elim c.match-run_idle.branch [
 pub returns-after-run_idle-clause-meets : goal.returns-after-run_idle-clause-meets
 returns-after-run_idle-clause-meets g c =
     let M = g.D.Dispatcher.Meets c.args.d.now in
+    let N = g.D.Dispatcher.Meets c.run_idle.new.d in
     let l = c.args.self.now in
-    let ran = subst (λ (x : Looping). GrowsBy IsIdle x.held.journal.acts c.run_idle.new.journal.acts) c.self.view_is c.run_idle.ensures.told in
-    let still = subst (λ (x : Looping). M x.held.poster.sender x.held.poster.view.seen c.run_idle.new.journal.acts) (sym c.self.view_is)
-    (answer_idle M l c.args.answer c.requires.look (g.met.D.Dispatcher.others c.args.d.now) (g.met.D.Dispatcher.quiet c.args.d.now) c.run_idle.new.journal.acts c.in-Idle.is ran) in
+    let here = subst (λ (x : Looping). M x.held.poster.sender x.held.poster.view.seen x.held.journal.acts) (sym c.self.view_is)
+    (answer_idle M l c.args.answer c.requires.look (g.met.D.Dispatcher.others c.args.d.now) (g.met.D.Dispatcher.quiet c.args.d.now) l.held.journal.acts c.in-Idle.is (grows_none IsIdle l.held.journal.acts)) in
+    let still = c.run_idle.ensures.carries.meeting c.self.inside.poster.sender c.self.inside.poster.view.seen here in
     elim c.match-run_idle.branch [
-      | in-Ok-run_idle w ↦ subst (λ (r : Step). UnlessStopped r (M c.self.inside.poster.sender c.self.inside.poster.view.seen c.run_idle.new.journal.acts)) (sym w.result-is) still
-      | in-Err-run_idle w ↦ subst (λ (r : Step). UnlessStopped r (M c.self.inside.poster.sender c.self.inside.poster.view.seen c.run_idle.new.journal.acts)) (sym w.result-is) tt
+      | in-Ok-run_idle w ↦ subst (λ (r : Step). UnlessStopped r (N c.self.inside.poster.sender c.self.inside.poster.view.seen c.run_idle.new.journal.acts)) (sym w.result-is) still
+      | in-Err-run_idle w ↦ subst (λ (r : Step). UnlessStopped r (N c.self.inside.poster.sender c.self.inside.poster.view.seen c.run_idle.new.journal.acts)) (sym w.result-is) tt
     ]
 
 pub returns-in-Wait-clause-meets : goal.returns-in-Wait-clause-meets

@@ -1,0 +1,127 @@
+//! The calls by a way that name no handler: posts and filters as they are, barriers, and quits.
+ghost use Rattle.std.specs.Prelude.{◌≡◌, ◌≤◌, IfOk, OnErr};
+ghost use Rattle.handler_post.specs.Ways.{IsReady, IsSameWay, MadeNone};
+ghost use Rattle.handler_post.specs.Sends.{Sends, Erases, Has};
+ghost use Rattle.handler_post.specs.Unhandled.{Bars, Unbars, Quits};
+
+use crate::supply::recycle_all;
+use crate::way::{Erased, Sent, Way, erase, send};
+use loop_model::{Filter, NoMemory, Post};
+use message_pool::Obtained;
+use queue_state::{BarrierGone, BarrierPosted, Quitting};
+use std::alloc::Global;
+use std::sync::Wait;
+
+/// How a quit ended.
+#[derive(Clone, Copy, Debug, PartialEq, Eq)]
+pub enum Quit {
+    /// It is the first. So many messages were dropped, and recycled.
+    Done { dropped: u64 },
+    /// A quit was done before, by the entry at this place of the history.
+    AlreadyQuit { place: u64 },
+    /// The queue of the main looper may not quit.
+    NotAllowed,
+    /// It comes only where the quit is refused.
+    NoMemory,
+}
+
+impl<'a> Way<'a> {
+    /// Posts this, whatever handler it names. A message that the queue doesn't keep is recycled (`enqueueMessage`).
+    pub fn send<R: Wait>(&mut self, rt: &R, alloc: Global, post: &Post) -> Sent
+        requires { IsReady self.old }
+        ensures ready { IsReady self.new }
+        ensures same { IsSameWay self.old self.new }
+        ensures sent { Sends post.now self.old self.new result }
+    {
+        send(rt, alloc, self, post)
+    }
+
+    /// Removes the messages that the filter names, and recycles them.
+    pub fn remove<R: Wait>(&mut self, rt: &R, filter: &Filter) -> Erased
+        requires { IsReady self.old }
+        ensures ready { IsReady self.new }
+        ensures same { IsSameWay self.old self.new }
+        ensures erased { Erases filter.now self.old self.new result }
+    {
+        erase(rt, self, filter)
+    }
+
+    /// Whether a message that the filter names stands in the queue. It makes no entry.
+    pub fn has<R: Wait>(&mut self, rt: &R, filter: &Filter) -> bool
+        requires { IsReady self.old }
+        ensures ready { IsReady self.new }
+        ensures same { IsSameWay self.old self.new }
+        ensures has { Has filter.now self.old self.new result }
+    {
+        self.poster.has(rt, self.queue, filter)
+    }
+
+    /// Posts a barrier at this moment, in milliseconds, and answers its token: from then on the queue holds back what comes behind it
+    /// and is not asynchronous (`postSyncBarrier`). NoMemory where the message or its entry found none; then it made none.
+    pub fn post_barrier<R: Wait>(
+        &mut self,
+        rt: &R,
+        alloc: Global,
+        now: u64,
+    ) -> Result<u64, NoMemory>
+        requires { IsReady self.old }
+        ensures ready { IsReady self.new }
+        ensures same { IsSameWay self.old self.new }
+        ensures barred { IfOk result (λ token. Bars now token self.old self.new) }
+        ensures none { OnErr result (MadeNone self.old.poster.now self.new.poster.now) }
+        ensures back { self.old.pass.now.back ≤ self.new.pass.now.back }
+    {
+        let node = match self.pool.obtain(alloc, self.pass) {
+            Obtained::Pooled(node) => node,
+            Obtained::Fresh { node, .. } => node,
+            Obtained::NoMemory => return Err(NoMemory),
+        };
+        match self.poster.post_barrier(rt, self.queue, now, node) {
+            BarrierPosted::Token { token } => Ok(token),
+            BarrierPosted::NoMemory(node) => {
+                self.pool.recycle(self.pass, node);
+                Err(NoMemory)
+            }
+        }
+    }
+
+    /// Removes the barrier of the token and recycles it, and answers whether there was one; either stands in the history
+    /// (`removeSyncBarrier`). NoMemory where the entry found none; then it made none.
+    pub fn remove_barrier<R: Wait>(&mut self, rt: &R, token: u64) -> Result<bool, NoMemory>
+        requires { IsReady self.old }
+        ensures ready { IsReady self.new }
+        ensures same { IsSameWay self.old self.new }
+        ensures unbarred { IfOk result (λ was. Unbars token was self.old self.new) }
+        ensures none { OnErr result (MadeNone self.old.poster.now self.new.poster.now) }
+        ensures back { self.old.pass.now.back ≤ self.new.pass.now.back }
+    {
+        match self.poster.remove_barrier(rt, self.queue, token) {
+            BarrierGone::Unbarriered { node, .. } => {
+                self.pool.recycle(self.pass, node);
+                Ok(true)
+            }
+            BarrierGone::NotPosted => Ok(false),
+            BarrierGone::NoMemory => Err(NoMemory),
+        }
+    }
+
+    /// Quits at this moment, in milliseconds, and recycles what is dropped: with `safe` what is due by then stays (`quitSafely`), else
+    /// nothing (`quit`).
+    pub fn quit<R: Wait>(&mut self, rt: &R, safe: bool, now: u64) -> Quit
+        requires { IsReady self.old }
+        ensures ready { IsReady self.new }
+        ensures same { IsSameWay self.old self.new }
+        ensures quits { Quits safe now self.old self.new result }
+    {
+        match self.poster.quit(rt, self.queue, safe, now) {
+            Quitting::Done(left) => {
+                let dropped = left.len() as u64;
+                recycle_all(self.pool, self.pass, left);
+                Quit::Done { dropped }
+            }
+            Quitting::AlreadyQuit { place } => Quit::AlreadyQuit { place },
+            Quitting::NotAllowed => Quit::NotAllowed,
+            Quitting::NoMemory => Quit::NoMemory,
+        }
+    }
+}

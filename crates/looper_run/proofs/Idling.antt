@@ -1,0 +1,67 @@
+-- Idle handlers that run one after another.
+use Rattle.std.proofs.Common.{◌≡◌, ℕ, Bool, List, [], ◌∷◌, ◌++◌, All, Option, sym, refl, ◌∙◌, subst, arith}
+use Rattle.std.proofs.lemmas.List.{append-nil}
+use Rattle.std.proofs.lemmas.List.Elements.{All-append}
+use Rattle.loop_model.specs.declared.journal.Act.{Act}
+use Rattle.loop_model.specs.declared.journal.Act.TheVariants.{Idle}
+use Rattle.loop_model.specs.declared.entry.Entry.{Entry}
+use Rattle.looper_run.specs.Holding.{Workplace}
+use Rattle.looper_run.specs.Acts.{IsIdle, GrowsBy, IsQuiet}
+use Rattle.looper_run.specs.Asked.{Asked}
+use Rattle.looper_run.specs.Carried.{CarriesOver, Carries}
+use Rattle.looper_run.proofs.Working.{behind}
+use Rattle.looper_run.proofs.Turning.{all_first}
+
+pub grows_none : (P : Act → Type 0) (acts : List Act) → GrowsBy P acts acts
+grows_none P acts = ([], sym (append-nil acts), λ k d near. absurd (omega (arith, near)))
+
+-- one act more of the kind
+pub grows_one : (P : Act → Type 0) (a b c : List Act) (x : Act) → P x → GrowsBy P a b → c ≡ b ++ x ∷ [] → GrowsBy P a c
+grows_one P a b c x p (did, e, all) is =
+    let one : All P (x ∷ []) = all_first P x [] p (λ k d near. absurd (omega (arith, near))) in
+    (did ++ x ∷ [], behind a b c did (x ∷ []) e is, All-append P did (x ∷ []) all one)
+
+pub grows_idle : (a b c : List Act) (i : ℕ) (k : Bool) → GrowsBy IsIdle a b → c ≡ b ++ Idle i k ∷ [] → GrowsBy IsIdle a c
+grows_idle a b c i k before is = grows_one IsIdle a b c (Idle i k) tt before is
+
+module _ {D : Type 0} {O : Type 0} (Serves : D → Workplace → Type 0) (origin : D → O) (nudges : D → ℕ) (asked : D → Option (List Asked)) (Awaits : D → Option ℕ → Type 0) (Meets : D → ℕ → List Entry → List Act → Type 0) where
+  pub carries_none : (d : D) (acts : List Act) → CarriesOver Serves origin nudges asked Awaits Meets d d acts acts
+  carries_none d acts = record { serving = λ w h. h; from = refl; rung = refl; telling = refl; awaiting = λ awaited h. h; meeting = λ s es h. h }
+
+  -- a call, and then a quiet act
+  pub carries_one : (d e f : D) (a b c : List Act) (x : Act) → IsQuiet x → ((s : ℕ) (es : List Entry) → Meets f s es b → Meets f s es (b ++ x ∷ []))
+      → CarriesOver Serves origin nudges asked Awaits Meets d e a b → Carries Serves origin nudges asked Awaits Meets e f → c ≡ b ++ x ∷ []
+      → CarriesOver Serves origin nudges asked Awaits Meets d f a c
+  carries_one d e f a b c x is law p q told =
+      let r = q b in
+      record {
+        serving = λ w h. r.serving w (p.serving w h);
+        from = r.from ∙ p.from;
+        rung = r.rung ∙ p.rung;
+        telling = r.telling ∙ p.telling;
+        awaiting = λ awaited h. r.awaiting awaited (p.awaiting awaited h);
+        meeting = λ s es h. subst (λ (l : List Act). Meets f s es l) (sym told) (law s es (r.meeting s es (p.meeting s es h)));
+      }
+
+  pub carries_then : (d e f : D) (a b : List Act) → CarriesOver Serves origin nudges asked Awaits Meets d e a b → Carries Serves origin nudges asked Awaits Meets e f → CarriesOver Serves origin nudges asked Awaits Meets d f a b
+  carries_then d e f a b p q =
+      let r = q b in
+      record {
+        serving = λ w h. r.serving w (p.serving w h);
+        from = r.from ∙ p.from;
+        rung = r.rung ∙ p.rung;
+        telling = r.telling ∙ p.telling;
+        awaiting = λ awaited h. r.awaiting awaited (p.awaiting awaited h);
+        meeting = λ s es h. r.meeting s es (p.meeting s es h);
+      }
+
+  -- an idle handler that ran and was told
+  pub carries_idle : (d e f : D) (a b c : List Act) (i : ℕ) (k : Bool) → ((s : ℕ) (es : List Entry) (x : Act) (acts : List Act) → IsQuiet x → Meets f s es acts → Meets f s es (acts ++ x ∷ []))
+      → CarriesOver Serves origin nudges asked Awaits Meets d e a b → Carries Serves origin nudges asked Awaits Meets e f → c ≡ b ++ Idle i k ∷ []
+      → CarriesOver Serves origin nudges asked Awaits Meets d f a c
+  carries_idle d e f a b c i k law p q told = carries_one d e f a b c (Idle i k) tt (λ s es. law s es (Idle i k) b tt) p q told
+
+  -- a call behind which nothing was told
+  pub carries_still : (d e f : D) (a b c : List Act) → CarriesOver Serves origin nudges asked Awaits Meets d e a b → Carries Serves origin nudges asked Awaits Meets e f → c ≡ b
+      → CarriesOver Serves origin nudges asked Awaits Meets d f a c
+  carries_still d e f a b c p q same = subst (λ (l : List Act). CarriesOver Serves origin nudges asked Awaits Meets d f a l) (sym same) (carries_then d e f a b p q)

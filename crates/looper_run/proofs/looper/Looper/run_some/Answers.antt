@@ -1,0 +1,34 @@
+use Rattle.std.proofs.Common.{◌≡◌, refl, inl, ◌++◌, map}
+use Rattle.loop_io.specs.Moments.{IsMoment}
+use Rattle.looper_run.specs.Asked.{Listen, with_asked, asked_by_round}
+use Rattle.looper_run.proofs.Rings.{rings_then}
+use Rattle.looper_run.proofs.Rounds.{works_beginning, begun_any}
+use Rattle.looper_run.proofs.Sleeping.{goes_by}
+use Rattle.looper_run.proofs.Pausing.{some_begun, some_begins, asks_both}
+use Rattle.looper_run.proofs.looper.Looper.run_some.Goals as goal
+
+pub returns-in_default-clause-steps : goal.returns-in_default-clause-steps
+returns-in_default-clause-steps g c = (c.begin.new.self, begun_any _ c.args.self.now c.begin.new.self c.begin.ensures.begun, inl refl)
+
+pub returns-clause-nudges : goal.returns-clause-nudges
+returns-clause-nudges g c =
+    rings_then c.args.self.now.held.poster c.begin.new.self.held.poster c.go_some.new.self.held.poster (g.D.Dispatcher.nudges c.args.d.now) (g.D.Dispatcher.nudges c.begin.new.d) (g.D.Dispatcher.nudges c.go_some.new.d) c.begin.ensures.nudges c.go_some.ensures.nudges
+
+pub returns-clause-loops : goal.returns-clause-loops
+returns-clause-loops g c =
+    let shows = g.C.Clock.shows c.args.by.now.clock.now in
+    let now = c.saturating_sub-now.result in
+    let moment : IsMoment shows c.args.by.now.start now = record { reading = c.uptime_millis.result; shown = c.uptime_millis.ensures; since = c.saturating_sub-now.ensures } in
+    some_begun shows c.args.by.now.start c.args.by.now.cap c.args.queue.now c.args.self.now.held c.begin.new.self.held c.go_some.new.self.held c.go_some.result
+    (goes_by shows c.args.by.now.start c.args.queue.now now 0 c.args.self.now.held c.begin.new.self.held moment (works_beginning _ c.args.queue.now.constants.setting now c.args.self.now c.begin.new.self c.begin.ensures.begun))
+    c.go_some.ensures.loops
+
+pub returns-clause-steps : goal.returns-clause-steps
+returns-clause-steps g c =
+    let shows = g.C.Clock.shows c.args.by.now.clock.now in
+    let now = c.saturating_sub-now.result in
+    let asked = g.D.Dispatcher.asked in
+    let moment : IsMoment shows c.args.by.now.start now = record { reading = c.uptime_millis.result; shown = c.uptime_millis.ensures; since = c.saturating_sub-now.ensures } in
+    some_begins (λ heard. asked c.begin.new.d ≡ with_asked (asked c.args.d.now) (asked_by_round now heard)) (λ more. asked c.go_some.new.d ≡ with_asked (asked c.begin.new.d) (map Listen more))
+    (λ at heard more. asked c.go_some.new.d ≡ with_asked (asked c.args.d.now) (asked_by_round at heard ++ map Listen more)) shows c.args.by.now.start c.args.by.now.cap c.args.most now c.args.self.now c.begin.new.self c.go_some.new.self c.go_some.result
+    moment c.in-Ok.ensures.begun (λ heard more x y. asks_both (asked c.args.d.now) (asked c.begin.new.d) (asked c.go_some.new.d) now heard more x y) c.go_some.ensures.steps
