@@ -1,20 +1,49 @@
 //! A dispatcher over handlers that state nothing.
 ghost use Rattle.std.specs.Prelude.{◌≡◌, ◌≤◌, IfSome, IsTrue, true, None};
+ghost use Rattle.handler_post.specs.Ways.{IsReady};
+ghost use Rattle.plain_loop.specs.Lines.{Keeps, way_of};
+ghost use Rattle.plain_loop.specs.Handling.{IsPlaceOf};
 
+use crate::lines::Line;
+use crate::mailbox::Mailbox;
+use loop_io::Clock;
 use loop_model::NoMemory;
 use looper_run::{Did, Dispatcher, Own};
 use message_pool::PoolClaim;
 use message_slot::Message;
+use std::sync::Wait;
+
+/// A message, as a handler is given it.
+pub type Msg = Message<PoolClaim>;
+
+/// How the code of a handler ends.
+pub type Handled = Result<(), NoMemory>;
 
 /// The code of a looper's handlers, as `handleMessage` of the Android API reference's `Handler`. What they send themselves they
-/// send by a poster of their own. After NoMemory the looper gives up.
-pub trait Handle {
+/// send by the line that they are lent, which is the looper's own. After NoMemory the looper gives up.
+pub trait Handle<R: Wait, C: Clock> {
     /// Handles a message without a callback, which was due at `now` or before, in milliseconds. Which handler it was sent to is its
-    /// `handler`.
-    fn handle(&mut self, message: &Message<PoolClaim>, now: u64) -> Result<(), NoMemory>;
+    /// `handler`. This one does nothing.
+    fn handle(&mut self, line: &mut Line<R, C>, message: &Msg, now: u64) -> Handled
+        requires { IsReady (way_of line.old) }
+        ensures keeps { Keeps (way_of line.old) (way_of line.new) }
+    {
+        Ok(())
+    }
 
-    /// Runs the callback of this number, which was posted in a message's place.
-    fn run_callback(&mut self, id: u64, now: u64) -> Result<(), NoMemory>;
+    /// Runs the callback of this number, which was posted in a message's place (`Runnable.run`). This one does nothing.
+    fn run_callback(&mut self, line: &mut Line<R, C>, id: u64, now: u64) -> Handled
+        requires { IsReady (way_of line.old) }
+        ensures keeps { Keeps (way_of line.old) (way_of line.new) }
+    {
+        Ok(())
+    }
+
+    /// Runs the idle handler of this number, and answers whether it is kept (`MessageQueue.IdleHandler.queueIdle`). `keep` is what it
+    /// was added with, which this one answers.
+    fn idle(&mut self, id: u32, keep: bool) -> bool {
+        keep
+    }
 
     /// Told of the events on a watched descriptor; answers the new mask, of INPUT 1, OUTPUT 2 and ERROR 4, and 0 to watch no
     /// longer. This one watches no longer.
@@ -23,22 +52,25 @@ pub trait Handle {
     }
 }
 
-/// A dispatcher that leaves all to these handlers: it has no callback object of a handler, asks for no pulse, and states nothing.
+/// A dispatcher that leaves all to these handlers: it has no callback object of a handler, asks for no pulse, and states nothing. It
+/// lends them a line to its looper's queue.
 #[derive(Drop)]
-pub struct Handling<H: Handle> {
+pub struct Handling<'a, R: Wait, C: Clock, H: Handle<R, C>> {
+    /// The looper's mailbox.
+    pub mailbox: &'a Mailbox<'a, R, C>,
     /// The handlers.
     pub handlers: H,
 }
 
-fn did(answer: Result<(), NoMemory>) -> Did {
+pub(crate) fn did(answer: Result<(), NoMemory>) -> Did {
     match answer {
         Ok(()) => Did::Yes,
         Err(_) => Did::NoMemory,
     }
 }
 
-impl<H: Handle> Dispatcher for Handling<H> {
-    ghost Serves = { λ d w. IsTrue true };
+impl<'a, R: Wait, C: Clock, H: Handle<R, C>> Dispatcher for Handling<'a, R, C, H> {
+    ghost Serves = { λ d w. IsPlaceOf d.mailbox.now.queue.now d.mailbox.now.pool.now w };
 
     ghost Origin = { Unit {0} };
 
@@ -62,8 +94,21 @@ impl<H: Handle> Dispatcher for Handling<H> {
         Some(self.handlers.listen(fd, events, listener).min(7))
     }
 
+    fn idle(&mut self, id: u32, keep: bool) -> Option<bool> {
+        Some(self.handlers.idle(id, keep))
+    }
+
     fn run_callback(&mut self, own: &mut Own, id: u64, m: &Message<PoolClaim>, now: u64) -> Did {
-        did(self.handlers.run_callback(id, now))
+        let mut line = Line {
+            rt: self.mailbox.rt,
+            alloc: self.mailbox.alloc,
+            clock: self.mailbox.clock,
+            queue: self.mailbox.queue,
+            poster: own.poster,
+            pool: self.mailbox.pool,
+            pass: own.pass,
+        };
+        did(self.handlers.run_callback(&mut line, id, now))
     }
 
     fn intercept(&mut self, own: &mut Own, m: &Message<PoolClaim>, now: u64) -> Did {
@@ -71,7 +116,16 @@ impl<H: Handle> Dispatcher for Handling<H> {
     }
 
     fn handle(&mut self, own: &mut Own, m: &Message<PoolClaim>, now: u64) -> Did {
-        did(self.handlers.handle(m, now))
+        let mut line = Line {
+            rt: self.mailbox.rt,
+            alloc: self.mailbox.alloc,
+            clock: self.mailbox.clock,
+            queue: self.mailbox.queue,
+            poster: own.poster,
+            pool: self.mailbox.pool,
+            pass: own.pass,
+        };
+        did(self.handlers.handle(&mut line, m, now))
     }
 
     ghost others = { λ d s es e acts apart meets. meets };

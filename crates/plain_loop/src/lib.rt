@@ -1,9 +1,20 @@
-//! Ready forms of what a looper and a choreographer ask for, for code that states nothing of its own: a dispatcher over
-//! handlers, a frame client over drawing code, and a host that keeps what it is to send.
+//! Ready forms of what a looper and a choreographer ask for, for code that states nothing of its own: a line to post by, senders, a
+//! dispatcher over handlers, a looper beside other work, a looper with frames, a frame client over drawing code, and a host that
+//! keeps what it is to send.
 #![tactic(auto)]
 
+mod beside;
 mod frames;
 mod handlers;
+mod lines;
+mod mailbox;
+#[cfg(test)]
+mod tests;
+#[cfg(test)]
+mod while_handling;
 
+pub use beside::{run_beside, run_here, run_looper};
 pub use frames::{Draw, Drawing, Outbox};
-pub use handlers::{Handle, Handling};
+pub use handlers::{Handle, Handled, Handling, Msg};
+pub use lines::Line;
+pub use mailbox::{Mailbox, Opened, Sender, Senders, Settings, open};

@@ -1,9 +1,15 @@
 //! What the looper's handlers do.
 
-use loop_model::NoMemory;
-use message_pool::PoolClaim;
-use message_slot::Message;
-use plain_loop::Handle;
+use handler_post::Handler;
+use loop_io::Clock;
+use plain_loop::{Handle, Handled, Line, Msg};
+use std::sync::Wait;
+
+/// The handler that counts.
+pub const COUNTS: Handler = Handler {
+    id: 0,
+    asynchronous: false,
+};
 
 /// How many messages and callbacks came, and the sum of the messages' arguments.
 #[derive(Clone, Copy, Debug, PartialEq, Eq)]
@@ -27,14 +33,14 @@ impl Counts {
     }
 }
 
-impl Handle for Counts {
-    fn handle(&mut self, message: &Message<PoolClaim>, now: u64) -> Result<(), NoMemory> {
+impl<R: Wait, C: Clock> Handle<R, C> for Counts {
+    fn handle(&mut self, line: &mut Line<R, C>, message: &Msg, now: u64) -> Handled {
         self.messages = self.messages.saturating_add(1);
         self.sum = self.sum.saturating_add(u64::from(message.arg()));
         Ok(())
     }
 
-    fn run_callback(&mut self, id: u64, now: u64) -> Result<(), NoMemory> {
+    fn run_callback(&mut self, line: &mut Line<R, C>, id: u64, now: u64) -> Handled {
         self.callbacks = self.callbacks.saturating_add(1);
         Ok(())
     }

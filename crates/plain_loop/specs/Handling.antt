@@ -1,0 +1,12 @@
+-- Which loopers a dispatcher over handlers serves.
+use Rattle.std.specs.Prelude.{◌≡◌, Some}
+use Rattle.atomic_table.specs.Seated.{TableId}
+use Rattle.shared_queue.specs.Known.{Shared}
+use Rattle.looper_run.specs.Holding.{Workplace}
+
+-- the looper is this queue's, its pass is one of the pool, and the queue's messages are the pool's
+pub record IsPlaceOf (queue : Shared TableId) (pool : TableId) (w : Workplace) : Type 0 where
+  pub table : w.table ≡ queue.table
+  pub constants : w.constants ≡ Some queue.constants
+  pub pass : w.pool ≡ pool
+  pub home : queue.constants.home ≡ pool

@@ -1,0 +1,4 @@
+pub mod Lines
+pub mod Senders
+pub mod Handling
+pub mod Looping

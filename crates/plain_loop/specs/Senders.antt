@@ -1,0 +1,38 @@
+-- What holds of a queue as it opens, and of its senders.
+use Rattle.std.specs.Prelude.{◌≡◌, ℕ, ◌+◌, false, length}
+use Rattle.atomic_table.specs.Seated.{TableId}
+use Rattle.shared_queue.specs.Known.{Shared, IsOf}
+use Rattle.shared_queue.specs.Ends.{AreInOrder}
+use Rattle.looper_run.specs.Holding.{IsAt, Looping}
+use Rattle.plain_loop.specs.declared.mailbox.Sender.{Sender}
+use Rattle.plain_loop.specs.declared.mailbox.Senders.{Senders}
+use Rattle.plain_loop.specs.declared.mailbox.Opened.{Opened}
+
+-- the poster is one of the queue, the pass is one of the pool, and the queue's messages are the pool's
+pub record IsSender (queue : Shared TableId) (pool : TableId) (s : Sender) : Type 0 where
+  pub poster : IsOf s.poster queue
+  pub pass : s.pass.home ≡ pool
+  pub home : queue.constants.home ≡ pool
+
+-- the same of senders that no thread has
+pub record AreSenders (queue : Shared TableId) (pool : TableId) (s : Senders) : Type 0 where
+  pub posters : AreInOrder queue s.posters.items
+  pub pass : s.pass.home ≡ pool
+  pub home : queue.constants.home ≡ pool
+
+-- the first are one sender fewer
+abbrev pub IsOneFewer : Senders → Senders → Type 0
+IsOneFewer few many = length many.posters.items ≡ length few.posters.items + 1
+
+-- the looper is of this queue and this pool, it has not ended, and its poster is the last sender's, which alone may let go of the queue's history
+pub record IsLooper (queue : Shared TableId) (pool : TableId) (l : Looping) : Type 0 where
+  pub at : IsAt queue pool l.held
+  pub going : l.ended ≡ false
+  pub last : l.held.poster.sender + 1 ≡ queue.constants.setting.senders
+
+-- a queue with its looper and so many senders, which goes by a clock
+pub record IsOpened (count : ℕ) (o : Opened) : Type 0 where
+  pub looper : IsLooper o.queue o.pool o.looper
+  pub free : o.queue.constants.setting.lockstep ≡ false
+  pub senders : AreSenders o.queue o.pool o.senders
+  pub many : length o.senders.posters.items ≡ count

@@ -1,0 +1,193 @@
+//! Loops of loopers over handlers, alone and beside other work.
+ghost use Rattle.std.specs.Prelude.{◌≡◌, ◌<◌, true, false, length, Some, OnOk, OnErr, IfOk};
+ghost use Rattle.std.specs.Thread.{IsSync};
+ghost use Rattle.looper_run.specs.declared.by_clock.Loop.TheVariants as loop;
+ghost use Rattle.looper_run.specs.Loops.{is_over_then};
+ghost use Rattle.plain_loop.specs.Looping.{LoopsToItsEnd};
+ghost use Rattle.plain_loop.specs.Senders.{IsSender, AreSenders, IsOneFewer, IsLooper};
+
+use crate::handlers::{Handle, Handling};
+use crate::mailbox::{Mailbox, Opened, Sender, Senders, Settings, open, open_with};
+use loop_io::Clock;
+use loop_model::NoMemory;
+use looper_run::{ByClock, Loop, Looper};
+use std::alloc::Global;
+use std::sync::Wait;
+use std::thread::{Threads, join};
+use std::time;
+
+/// After how many dispatches a looper lets go of its records.
+const MOST_AT_ONCE: u64 = 1_024;
+
+/// After how many milliseconds it does so at the latest.
+const LET_GO_MILLIS: u64 = 1_000;
+
+// Whether a loop with this answer ended the looper. NoMemory where it found none.
+fn is_over(answer: Option<Loop>) -> Result<bool, NoMemory>
+    ensures over { IfOk result (λ over. over ≡ is_over_then answer) }
+    ensures none { OnErr result (answer ≡ Some loop.NoMemory) }
+{
+    match answer {
+        Some(Loop::Ended) => Ok(true),
+        Some(Loop::NoMemory) => Err(NoMemory),
+        Some(Loop::Cap { .. }) | Some(Loop::Nudged) | None => Ok(false),
+    }
+}
+
+/// Loops until the queue is over, and answers the handlers (`Looper.loop`). Moments are uptime. At least each second, and each 1,024
+/// dispatches, it drops the acts that it told and the queue's history so far, so that it may run for ever in bounded memory. NoMemory
+/// where a handler, a call of the loop or the letting go found none.
+pub fn run_looper<R: Wait + time::Clock, C: Clock, H: Handle<R, C> + Drop>(
+    mailbox: &Mailbox<R, C>,
+    looper: &mut Looper,
+    handlers: H,
+) -> Result<H, NoMemory>
+    requires looper { IsLooper mailbox.now.queue.now mailbox.now.pool.now looper.old }
+    requires free { mailbox.now.queue.now.constants.setting.lockstep ≡ false }
+    ensures ended { OnOk result (looper.new.ended ≡ true) }
+    ensures looped { OnOk result (LoopsToItsEnd (C.shows mailbox.now.clock.now) mailbox.now.queue.now.constants.setting looper.old looper.new) }
+{
+    let mut dispatcher = Handling {
+        mailbox: &*mailbox,
+        handlers,
+    };
+    for _ in mailbox.rt.forever() {
+        let now = mailbox.clock.uptime_millis();
+        let by = ByClock {
+            clock: mailbox.clock,
+            start: 0,
+            cap: Some(now.saturating_add(LET_GO_MILLIS)),
+        };
+        let answer = looper.run_some(
+            mailbox.rt,
+            mailbox.queue,
+            mailbox.pool,
+            mailbox.sources,
+            &mut dispatcher,
+            &by,
+            MOST_AT_ONCE,
+        );
+        if is_over(answer)? {
+            return Ok(dispatcher.handlers);
+        }
+        looper.let_go(mailbox.rt, mailbox.alloc, mailbox.queue)?;
+    }
+    unreachable!()
+}
+
+/// Makes a looper, does what comes before its loop, as to post its first messages, and loops until the queue is over. Answers the
+/// handlers (`Looper.prepare`, `loop`).
+pub fn run_here<
+    R: Wait + time::Clock,
+    C: Clock,
+    H: Handle<R, C> + Drop,
+    W: FnOnce(&Mailbox<R, C>, Senders) + Drop,
+>(
+    rt: &R,
+    alloc: Global,
+    clock: &C,
+    settings: Settings,
+    handlers: H,
+    before: W,
+) -> Result<H, NoMemory>
+    requires { (m : _) (s : _) → AreSenders m.now.queue.now m.now.pool.now s × (length s.posters.items ≡ settings.senders) → W.pre before m s }
+{
+    let Opened {
+        queue,
+        pool,
+        mut looper,
+        senders,
+        sources,
+    } = open(alloc, settings)?;
+    let mailbox = Mailbox {
+        rt,
+        alloc,
+        clock,
+        queue: &queue,
+        pool: &pool,
+        sources: &sources,
+    };
+    before(&mailbox, senders);
+    run_looper(&mailbox, &mut looper, handlers)
+}
+
+/// Does the work, and then quits the queue safely by this sender.
+fn work_and_quit<R: Wait, C: Clock, T, W: FnOnce(&Mailbox<R, C>, Senders) -> T>(
+    mailbox: &Mailbox<R, C>,
+    senders: Senders,
+    mut last: Sender,
+    work: W,
+) -> T
+    requires last { IsSender mailbox.now.queue.now mailbox.now.pool.now last }
+    requires work { W.pre work mailbox senders }
+{
+    let answer = work(mailbox, senders);
+    let mut line = last.line(mailbox);
+    line.quit_safely();
+    answer
+}
+
+// Does the work beside the looper.
+fn side_by_side<
+    R: Threads + Wait + time::Clock + Sync,
+    C: Clock + Sync,
+    H: Handle<R, C> + Send + Drop,
+    T: Send + Drop,
+    W: FnOnce(&Mailbox<R, C>, Senders) -> T + Send + Drop,
+>(
+    mailbox: &Mailbox<R, C>,
+    mut looper: Looper,
+    mut senders: Senders,
+    handlers: H,
+    work: W,
+) -> Result<(T, H), NoMemory>
+    requires looper { IsLooper mailbox.now.queue.now mailbox.now.pool.now looper }
+    requires free { mailbox.now.queue.now.constants.setting.lockstep ≡ false }
+    requires senders { AreSenders mailbox.now.queue.now mailbox.now.pool.now senders × (0 < length senders.posters.items) }
+    requires work { (s : _) → AreSenders mailbox.now.queue.now mailbox.now.pool.now s × IsOneFewer s senders → W.pre work mailbox s }
+{
+    let last = senders.next(mailbox);
+    let (answer, handlers) = join(
+        mailbox.rt,
+        || work_and_quit(mailbox, senders, last, work),
+        || run_looper(mailbox, &mut looper, handlers),
+    );
+    Ok((answer, handlers?))
+}
+
+/// Runs a looper with these handlers in a thread of its own, and beside it this work, which is handed the looper's mailbox and its
+/// senders; when the work is done the queue is quit safely. Answers what the work did, and the handlers (`HandlerThread.start`,
+/// `quitSafely`, `join`).
+pub fn run_beside<
+    R: Threads + Wait + time::Clock + Sync,
+    C: Clock + Sync,
+    H: Handle<R, C> + Send + Drop,
+    T: Send + Drop,
+    W: FnOnce(&Mailbox<R, C>, Senders) -> T + Send + Drop,
+>(
+    rt: &R,
+    alloc: Global,
+    clock: &C,
+    settings: Settings,
+    handlers: H,
+    work: W,
+) -> Result<(T, H), NoMemory>
+    requires { (m : _) (s : _) → AreSenders m.now.queue.now m.now.pool.now s × (length s.posters.items ≡ settings.senders) → W.pre work m s }
+{
+    let Opened {
+        queue,
+        pool,
+        looper,
+        senders,
+        sources,
+    } = open_with(alloc, settings, u32::from(settings.senders) + 1)?;
+    let mailbox = Mailbox {
+        rt,
+        alloc,
+        clock,
+        queue: &queue,
+        pool: &pool,
+        sources: &sources,
+    };
+    side_by_side(&mailbox, looper, senders, handlers, work)
+}

@@ -1,0 +1,192 @@
+//! A looper as its senders see it, and the senders.
+ghost use Rattle.std.specs.Prelude.{◌≡◌, ◌+◌, ◌<◌, ◌≤◌, false, length, IfOk};
+ghost use Rattle.handler_post.specs.Ways.{IsReady};
+ghost use Rattle.shared_queue.specs.Known.{IsOf};
+ghost use Rattle.shared_queue.specs.Ends.{AreInOrder};
+ghost use Rattle.plain_loop.specs.Lines.{way_of};
+ghost use Rattle.plain_loop.specs.Senders.{IsSender, AreSenders, IsOneFewer, IsOpened};
+
+use crate::lines::Line;
+use loop_io::Clock;
+use loop_model::NoMemory;
+use loop_sources::{FdTable, IdleSet};
+use looper_run::{Looper, Sources};
+use message_pool::{Pool, PoolClaim, PoolPass};
+use shared_queue::{Poster, SharedQueue};
+use std::alloc::Global;
+use std::sync::{Mutex, Wait};
+
+/// How a looper begins.
+#[derive(Clone, Copy, Debug, PartialEq, Eq)]
+pub struct Settings {
+    /// The number of the looper.
+    pub looper: u32,
+    /// Whether it is the main one, which may not quit.
+    pub main: bool,
+    /// How many threads post, beside the looper itself.
+    pub senders: u16,
+}
+
+impl Settings {
+    /// The looper of number 0, which may quit, with so many threads that post to it.
+    pub fn new(senders: u16) -> Settings
+        ensures { (result.senders ≡ senders) × (result.main ≡ false) × (result.looper ≡ 0) }
+    {
+        Settings {
+            looper: 0,
+            main: false,
+            senders,
+        }
+    }
+}
+
+/// What one thread posts by: its poster of the queue, and its pass of the pool.
+#[derive(Drop)]
+pub struct Sender {
+    /// Its poster of the queue.
+    pub poster: Poster<PoolClaim>,
+    /// Its pass of the pool.
+    pub pass: PoolPass,
+}
+
+impl Sender {
+    /// A line to the queue (`new Handler(looper)`).
+    pub fn line<'a, R: Wait, C: Clock>(
+        &'a mut self,
+        mailbox: &'a Mailbox<'a, R, C>,
+    ) -> Line<'a, R, C>
+        requires { IsSender mailbox.now.queue.now mailbox.now.pool.now self.old }
+        ensures { IsReady (way_of result) }
+    {
+        Line {
+            rt: mailbox.rt,
+            alloc: mailbox.alloc,
+            clock: mailbox.clock,
+            queue: mailbox.queue,
+            poster: &mut self.poster,
+            pool: mailbox.pool,
+            pass: &mut self.pass,
+        }
+    }
+}
+
+/// The senders that no thread has yet.
+#[derive(Drop)]
+pub struct Senders {
+    /// Their posters, in order.
+    pub posters: Vec<Poster<PoolClaim>>,
+    /// The pass that theirs are split from.
+    pub pass: PoolPass,
+}
+
+impl Senders {
+    /// The last sender that no thread has. There is one.
+    pub fn next<R: Wait, C: Clock>(&mut self, mailbox: &Mailbox<R, C>) -> Sender
+        requires { AreSenders mailbox.now.queue.now mailbox.now.pool.now self.old × (0 < length self.old.posters.items) }
+        ensures sender { IsSender mailbox.now.queue.now mailbox.now.pool.now result }
+        ensures rest { AreSenders mailbox.now.queue.now mailbox.now.pool.now self.new }
+        ensures count { IsOneFewer self.new self.old }
+    {
+        let poster = last_of(mailbox.queue, &mut self.posters);
+        Sender {
+            poster,
+            pass: self.pass.split(mailbox.pool),
+        }
+    }
+}
+
+/// A queue that nobody has used, with its pool, its looper and its senders.
+#[derive(Drop)]
+pub struct Opened {
+    /// The queue.
+    pub queue: SharedQueue<PoolClaim>,
+    /// The pool of its messages.
+    pub pool: Pool,
+    /// Its looper.
+    pub looper: Looper,
+    /// Its senders, as many as the settings say.
+    pub senders: Senders,
+    /// Its idle handlers and watched descriptors, of which there are none.
+    pub sources: Mutex<Sources>,
+}
+
+/// A queue with its pool, its looper and as many senders as the settings say (`Looper.prepare`). NoMemory where it found none.
+pub fn open(alloc: Global, settings: Settings) -> Result<Opened, NoMemory>
+    ensures opened { IfOk result (IsOpened settings.senders) }
+{
+    open_with(alloc, settings, u32::from(settings.senders))
+}
+
+/// The same with so many senders.
+pub(crate) fn open_with(alloc: Global, settings: Settings, senders: u32) -> Result<Opened, NoMemory>
+    requires { senders ≤ 65536 }
+    ensures opened { IfOk result (IsOpened senders) }
+{
+    let (pool, mut pass) = Pool::new(alloc)?;
+    let (queue, mut posters) = SharedQueue::make(
+        alloc,
+        pool.home(),
+        settings.looper,
+        settings.main,
+        false,
+        senders + 1,
+    )?;
+    let own = last_of(&queue, &mut posters);
+    let looper = Looper::make(alloc, settings.looper, own, pass.split(&pool));
+    Ok(Opened {
+        queue,
+        pool,
+        looper,
+        senders: Senders { posters, pass },
+        sources: Mutex::new(Sources {
+            idle: IdleSet::empty(alloc),
+            fds: FdTable::empty(alloc),
+        }),
+    })
+}
+
+/// A looper as its senders see it: its queue, the pool of the queue's messages, its idle handlers and descriptors, and what calls on
+/// it ask for beside.
+#[derive(Drop)]
+pub struct Mailbox<'a, R: Wait, C: Clock> {
+    /// What locks and waits go through.
+    pub rt: &'a R,
+    /// Where memory comes from.
+    pub alloc: Global,
+    /// The clock.
+    pub clock: &'a C,
+    /// The queue.
+    pub queue: &'a SharedQueue<PoolClaim>,
+    /// The pool of its messages.
+    pub pool: &'a Pool,
+    /// The looper's idle handlers and watched descriptors.
+    pub sources: &'a Mutex<Sources>,
+}
+
+impl<'a, R: Wait, C: Clock> Mailbox<'a, R, C> {
+    /// Adds an idle handler of this number, whose code is `Handle::idle` (`MessageQueue.addIdleHandler`). It runs when the looper next
+    /// has nothing to do, if it has not waited already.
+    pub fn add_idle_handler(&self, id: u32) -> Result<(), NoMemory> {
+        self.sources.lock(self.rt).idle.add(id, true)?;
+        Ok(())
+    }
+
+    /// Removes the first idle handler of this number, and answers whether there was one (`MessageQueue.removeIdleHandler`).
+    pub fn remove_idle_handler(&self, id: u32) -> bool {
+        self.sources.lock(self.rt).idle.remove(id)
+    }
+}
+
+/// Takes the last of these posters out.
+fn last_of(
+    queue: &SharedQueue<PoolClaim>,
+    posters: &mut Vec<Poster<PoolClaim>>,
+) -> Poster<PoolClaim>
+    requires { AreInOrder queue.now posters.old.items × (0 < length posters.old.items) }
+    ensures poster { IsOf result queue.now }
+    ensures rest { AreInOrder queue.now posters.new.items }
+    ensures count { length posters.old.items ≡ length posters.new.items + 1 }
+    ensures sender { result.sender + 1 ≡ length posters.old.items }
+{
+    posters.pop().unwrap()
+}
