@@ -7,7 +7,8 @@ get; a file that is not there stands for nothing.
 Where threads race, NAME.reports holds the lawful reports, parted by lines %%: each run must write one of them, and it is
 told how many of them were seen.
 Inputs that are too large to be kept are made here, and so is what `make N` and the longest script must write. What `trace` writes
-of each script must be legal, and no longer where a dispatch is told of another message. Two scripts are also run by the real clock.
+of each script must be legal, and no longer where a dispatch is told of another message. Three scripts are also run by the real clock, and of two
+it is judged that no looper sleeps past what is to wake it.
 At the end it prints how long a run of each script takes; no time is a failure.
 """
 import difflib
@@ -179,13 +180,90 @@ end 2500
 """
 
 
-def bells(program):
-    """By the real clock a looper that waits is woken where a frame is asked for: what is asked at 200 comes long before the end at 2500."""
-    got = run(program, ["run", "--free"], BELLS.encode())
+# Side loopers without frames, which sleep without end; each is woken by one thing alone.
+WAKES = """dashboard 1
+loopers 8
+threads 3
+handler 0 0
+handler 1 1
+handler 2 2
+handler 3 3
+handler 4 4
+handler 5 5
+vsync 16666667
+on 1 11 times 1 post 5 15 0
+at 0
+2 watch 7 5 3 0
+at 300
+0 post 0 10 0
+0 post 1 11 0
+1 barrier 2 0
+1 post 2 12 0
+0 front 3 13
+2 quit 4
+2 frame 6 0 6 0
+2 event 7 5 1
+at 600
+1 unbarrier 0
+at 1500
+2 event 7 5 2
+end 2500
+"""
+# Of each dispatch its handler, its `what`, when it may come, and what wakes its looper.
+WOKEN = (
+    (0, 10, 300, "a post to main"),
+    (1, 11, 300, "a post"),
+    (2, 12, 600, "a barrier that is removed"),
+    (3, 13, 300, "a post at the front"),
+    (5, 15, 300, "a post by another looper"),
+    (70, 0, 300, "a frame that is asked for"),
+)
+# A run that takes so many seconds hangs: one whose looper doesn't hear that it is quit never ends.
+HANGS = 20
+
+
+def run_together(program, scripts):
+    """What runs of these scripts by the real clock write, side by side: None where a run hangs."""
+    runs = [subprocess.Popen([program, "run", "--free"], stdin=subprocess.PIPE, stdout=subprocess.PIPE) for _ in scripts]
+    for it, script in zip(runs, scripts):
+        it.stdin.write(script.encode())
+        it.stdin.close()
+        it.stdin = None
+    end = time.monotonic() + HANGS
+    for it in runs:
+        try:
+            yield it.communicate(timeout=max(end - time.monotonic(), 0))[0].decode()
+        except subprocess.TimeoutExpired:
+            it.kill()
+            it.communicate()
+            yield None
+
+
+def bells(got):
+    """A looper that waits is woken where a frame is asked for: what is asked at 200 comes long before the end at 2500."""
     came = [int(now) for now in re.findall(r"^(\d+) dispatch \d+ 6[45] 0$", got, re.M)]
     ran = [got.count(line) for line in ("\nrun 0 5\n", "\nrun 0 6\n", "\npaint 0 10\n")]
     if len(came) < 2 or max(came) > 2000 or ran != [1, 1, 1]:
-        yield "frames by the clock", got
+        yield f"a frame that is asked for comes late: {got}"
+
+
+def wakes(got):
+    """A looper that sleeps without end is woken by a post, a barrier's removal, a quit, a frame that is asked for and an event: each
+    dispatch comes within a second of its time. The listener ends its watch at its first event, so the second comes to it only where
+    the first didn't wake its looper."""
+    for handler, what, due, means in WOKEN:
+        came = [int(now) for now in re.findall(rf"^(\d+) dispatch \d+ {handler} {what}$", got, re.M)]
+        if len(came) != 1 or abs(came[0] - due) >= 1000:
+            yield f"{means} at {due} is heard at {came}"
+    if (events := re.findall(r"^event .*", got, re.M)) != ["event 5 1"]:
+        yield f"an event at 300 is heard as {events}"
+
+
+def hearing(program):
+    """By the real clock no looper sleeps past what is to wake it."""
+    for judge, got in zip((bells, wakes), run_together(program, (BELLS, WAKES))):
+        for wrong in [f"it takes {HANGS} seconds"] if got is None else judge(got):
+            yield f"{judge.__name__} by the clock", wrong
 
 
 def scripts():
@@ -348,7 +426,7 @@ def main():
             print("\n".join([f"FAILED {name}: {shows}", *found]))
         else:
             passed += 1
-    for name, found in [*races(program), *quit_races(program), *by_clock(program), *bells(program), *summaries(program), *whole(program), *counts_stay(program), *traces(program)]:
+    for name, found in [*races(program), *quit_races(program), *by_clock(program), *hearing(program), *summaries(program), *whole(program), *counts_stay(program), *traces(program)]:
         failed += 1
         print(f"FAILED {name}: {found}")
     print_times(program)

@@ -71,7 +71,17 @@ sends_by handler p = map (λ (e : Entry). told_by handler e.call e.reply) (own p
 -- the origin that a host has, by its parts
 abbrev pub origin_of : {U : Type 0} → Shared TableId → TableId → ℕ → ℕ → Sender → Tally → ℕ → ℕ → U → HostOrigin U
 origin_of queue pool poster_name pass_name poster pass handler now uptime =
-    record { queue = queue; pool = pool; poster_name = poster_name; pass_name = pass_name; poster = poster; pass = pass; handler = handler; now = now; uptime = uptime }
+    record {
+      queue = queue;
+      pool = pool;
+      poster_name = poster_name;
+      pass_name = pass_name;
+      poster = poster;
+      pass = pass;
+      handler = handler;
+      now = now;
+      uptime = uptime;
+    }
 
 -- the origin of a host
 abbrev pub origin_now : {R U : Type 0} → Host R U → HostOrigin U
@@ -127,6 +137,7 @@ AsksFor ask before after = asks_of after ≡ asks_of before ++ ask ∷ []
 -- made no call
 pub record PostsFrame (handler u phase id delay : ℕ) (before after : Sender) (pass pass' : Pass) : Type 0 where
   pub calls : MatchBool (delay == 0) (own after ≡ own before)
-      (Makes before after (Post (record { handler = handler; what = 2; arg = phase; obj = None; callback = None; when = frame_due u delay; asynchronous = true; slot = None })) [])
+      (Makes before after
+      (Post (record { handler = handler; what = 2; arg = phase; obj = None; callback = None; when = frame_due u delay; asynchronous = true; slot = None })) [])
   pub asks : AsksFor (Posts phase (frame_due u delay) id None) pass pass'
   pub turn : pass'.view.turns ≡ pass.view.turns + 1

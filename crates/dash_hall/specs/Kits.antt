@@ -1,5 +1,6 @@
 -- What the senders of a run share, and what each of them needs.
-use Rattle.std.specs.Prelude.{◌≡◌, ◌==◌, ◌+◌, ◌-◌, ◌<◌, nat_lt, ℕ, Bool, true, List, [], ◌∷◌, map, length, Option, Some, None, slice_get, slice_index_or, if◌then◌else◌}
+use Rattle.std.specs.Prelude.{◌≡◌, ◌==◌, ◌+◌, ◌-◌, ◌<◌, nat_lt, ℕ, Bool, true, false, List, [], ◌∷◌, map, length, Option, Some, None, slice_get}
+use Rattle.std.specs.Prelude.{slice_index_or, if◌then◌else◌}
 use Rattle.std.specs.List.{range_with_len}
 use Rattle.atomic_table.specs.Seated.{TableId}
 use Rattle.loop_model.specs.Base.{empty_base}
@@ -54,7 +55,7 @@ queue_constants lockstep s pool looper =
 
 -- what stays the same in a looper's choreographer: it has the phases of the script's edition, and each thread has a pass, the looper two and the controller one
 abbrev pub frame_constants : Script → ℕ → FrameConstants
-frame_constants s looper = record { looper = looper; interval = s.period; phases = phase_count s.edition; passes = s.threads + 3 }
+frame_constants s looper = record { looper = looper; interval = s.period; phases = phase_count s.edition; passes = s.threads + 3; seals = false }
 
 abbrev pub queue_key : Shared TableId → Constants TableId
 queue_key q = q.constants

@@ -1,9 +1,9 @@
 //! The uptime of a run by a clock.
-ghost use Rattle.std.specs.Prelude.{◌≡◌, ◌≤◌, true, IfSome};
+ghost use Rattle.std.specs.Prelude.{◌≡◌, ◌≤◌, true, IfOk, IfErr};
 ghost use Rattle.loop_io.specs.Moments.{IsMoment};
 ghost use Rattle.dash_hall.specs.Uptimes.{is_shown};
 
-use crate::stop::Stop;
+use crate::stop::{Look, Stop};
 use crate::uptime::Uptime;
 use loop_io::Clock;
 use std::sync::Wait;
@@ -37,18 +37,25 @@ impl<'a, C: Clock> Timer<'a, C> {
         self.clock.uptime_millis().saturating_sub(self.start)
     }
 
-    /// Waits for this time, in milliseconds, and answers a moment that is no earlier. None where the run is given up.
-    pub fn wait_until<R: Wait + time::Clock>(&self, rt: &R, stop: &Stop, time: u64) -> Option<u64>
-        ensures moment { IfSome result (IsMoment (C.shows self.now.clock.now) self.now.start) }
-        ensures late { IfSome result (λ now. time ≤ now) }
+    /// Waits for this time, in milliseconds, and answers a moment that is no earlier, or the look that found the run given up.
+    pub fn wait_until<R: Wait + time::Clock>(
+        &self,
+        rt: &R,
+        stop: &Stop,
+        time: u64,
+    ) -> Result<u64, Look>
+        ensures moment { IfOk result (IsMoment (C.shows self.now.clock.now) self.now.start) }
+        ensures late { IfOk result (λ now. time ≤ now) }
+        ensures given_up { IfErr result (λ look. look ≡ true) }
     {
         for _ in rt.forever() {
-            if stop.is_stopped(rt) {
-                return None;
+            let look = stop.look(rt);
+            if look.is_stopped() {
+                return Err(look);
             }
             let now = self.now();
             if time <= now {
-                return Some(now);
+                return Ok(now);
             }
             stop.wait(rt, time - now);
         }

@@ -25,7 +25,8 @@ pub calls_beside : (m : Mode) (k : ℕ) (past es : List Entry) (e : Entry) → i
 calls_beside m k past es e isnt c = record {
   more = c.more ++ e ∷ [];
   seen = ap (λ (l : List Entry). l ++ e ∷ []) c.seen ∙ append_assoc past c.more (e ∷ []);
-  clocked = clock_more m (is_call_by k) past c.more (e ∷ []) c.clocked (unless (is_call_by k e) (IsOfClock m (clock (empty_base 0) (past ++ c.more)) e.call) isnt, tt);
+  clocked = clock_more m (is_call_by k) past c.more (e ∷ []) c.clocked
+      (unless (is_call_by k e) (IsOfClock m (clock (empty_base 0) (past ++ c.more)) e.call) isnt, tt);
 }
 
 pub no_call_by_others : (k : ℕ) (e : Entry) → (e.sender ≡ k → ⊥) → is_call_by k e ≡ false

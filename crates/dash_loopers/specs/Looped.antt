@@ -113,9 +113,16 @@ HasGoneRound m s end zero before after = after ≡ before
 HasGoneRound m s end (suc n) before after =
     (between : StageLooper) × HasGoneRound m s end n before between × (how : Loop) × LoopsOnce m s end between after how × (ends_at how end ≡ false)
 
--- loops, one after another, of which the last may have come to the end and no other has
-pub record LoopsUpTo (m : Mode) (s : Script) (end : Option ℕ) (before after : StageLooper) : Type 0 where
+-- why it loops no further: a look found the run given up; or it has ended or given up itself, or its last loop came to the end with nothing due
+abbrev pub StopsBy : Mode → Script → Option ℕ → StageLooper → StageLooper → Option Bool → Type 0
+StopsBy m s end between after (Some look) = (look ≡ true) × ((is_ended between.last || is_given_up between.last) ≡ false) × (after ≡ between)
+StopsBy m s end between after None =
+    (((is_ended between.last || is_given_up between.last) ≡ true) × (after ≡ between))
+    ⊎ ((how : Loop) × LoopsOnce m s end between after how × (ends_at how end ≡ true))
+
+-- loops, one after another, until it stopped; the look is there where it found the run given up
+pub record LoopsUpTo (m : Mode) (s : Script) (end : Option ℕ) (before after : StageLooper) (look : Option Bool) : Type 0 where
   pub count : ℕ
   pub between : StageLooper
   pub rounds : HasGoneRound m s end count before between
-  pub at_end : (after ≡ between) ⊎ ((how : Loop) × LoopsOnce m s end between after how × (ends_at how end ≡ true))
+  pub stops : StopsBy m s end between after look

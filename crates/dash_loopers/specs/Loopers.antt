@@ -1,5 +1,6 @@
 -- A looper of a script.
-use Rattle.std.specs.Prelude.{◌≡◌, List, length, ◌<◌, ◌+◌, ◌==◌, ◌||◌, ◌&&◌, ◌⊎◌, ◌++◌, ◌∷◌, not, filter, ℕ, Bool, true, false, map, slice_get, Option, Some, None, IsSomeAnd, slice_index_or, ◌≤◌, max, []}
+use Rattle.std.specs.Prelude.{◌≡◌, List, length, ◌<◌, ◌+◌, ◌==◌, ◌||◌, ◌&&◌, ◌⊎◌, ◌++◌, ◌∷◌, not, filter, ℕ, Bool, true, false, map, slice_get}
+use Rattle.std.specs.Prelude.{Option, Some, None, IsSomeAnd, slice_index_or, ◌≤◌, max, []}
 use Rattle.std.specs.List.{remove, insert}
 use Rattle.atomic_table.specs.Seated.{TableId}
 use Rattle.dash_script.specs.declared.script.Script.{Script}

@@ -31,7 +31,8 @@ PlaysOn place step own own' parts parts' = Plays place.script.now place.looper s
 -- a message was delivered at this moment, and a frame that it began read an uptime whose answers pass this test
 abbrev pub DeliversOn : {R : Type 0} → Place R → ℕ → (ℕ → Bool) → PostData → Own → Own → Parts → Parts → Type 0
 DeliversOn place now is_moment m own own' parts parts' =
-    Delivers place.script.now place.looper now is_moment m (calls_of own.poster.now) (calls_of own'.poster.now) parts parts' own.journal.now.acts own'.journal.now.acts
+    Delivers place.script.now place.looper now is_moment m (calls_of own.poster.now) (calls_of own'.poster.now) parts parts'
+    own.journal.now.acts own'.journal.now.acts
 
 -- one turn at this moment schedules a frame where the phase has a due callback and no frame is scheduled
 abbrev pub IsDueAt : ℕ → ℕ → Pass → Pass → Type 0

@@ -1,6 +1,7 @@
 -- What a looper has come to, told by what it works with: the calls and the frame callbacks that its acts cause are made, and
 -- its gauges, its barrier and its rule counts stand as its acts lead to.
-use Rattle.std.specs.Prelude.{◌≡◌, ◌≢◌, ◌<◌, ◌≤◌, ◌==◌, ◌||◌, ℕ, Bool, true, false, not, All, List, [], ◌∷◌, ◌++◌, map, length, slice_get, slice_set, slice_index_or, Option, Some, None, is_some, is_none, IsSomeAnd, if◌then◌else◌, ◌+◌, ◌/◌}
+use Rattle.std.specs.Prelude.{◌≡◌, ◌≢◌, ◌<◌, ◌≤◌, ◌==◌, ◌||◌, ℕ, Bool, true, false, not, All, List, [], ◌∷◌, ◌++◌, map, length, slice_get, slice_set}
+use Rattle.std.specs.Prelude.{slice_index_or, Option, Some, None, is_some, is_none, IsSomeAnd, if◌then◌else◌, ◌+◌, ◌/◌}
 use Rattle.std.specs.List.{Contains, list_all}
 use Rattle.std.specs.Option.{option_map_or}
 use mathlib.Core.List.{IsPrefix}
@@ -143,7 +144,8 @@ with_call queue call timing a = record a { sent = a.sent ++ record { queue = que
 -- the rule at this place, where it fires at the message: it is counted and its own message is sent
 abbrev pub rule_met : Script → ℕ → PostData → ℕ → Rule → Looper → Looper
 rule_met s now m place r a =
-    option_map_or (λ n. if fires m r n then record a { fired = slice_set a.fired place (n + 1); sent = a.sent ++ reaction s now r ∷ [] } else a) (slice_get a.fired place) a
+    option_map_or (λ n. if fires m r n then record a { fired = slice_set a.fired place (n + 1); sent = a.sent ++ reaction s now r ∷ [] } else a)
+    (slice_get a.fired place) a
 
 -- the moments of a frame that began there, or none where there is no frame
 abbrev pub moments_of : List FrameEntry → Option ℕ → List ℕ
@@ -174,7 +176,8 @@ pub record RanFrame (interval phases : ℕ) (is_moment : ℕ → Bool) (before a
   pub asks : asks_of after ≡ asks_of before ++ asks_for frame start
 
 -- a message was delivered at this moment: its frame, where it began one, ran at moments that pass the test, and what was painted is told
-pub record Delivers (s : Script) (q now : ℕ) (is_moment : ℕ → Bool) (m : PostData) (made made' : List Entry) (parts parts' : Parts) (acts acts' : List Act) : Type 0 where
+pub record Delivers (s : Script) (q now : ℕ) (is_moment : ℕ → Bool) (m : PostData) (made made' : List Entry)
+    (parts parts' : Parts) (acts acts' : List Act) : Type 0 where
   pub ids : List ℕ
   pub ran : RanFrame s.period (phase_count s.edition) is_moment parts.frames parts'.frames ids
   pub starts : (not (is_some ran.frame) || starts_frame q m) ≡ true
@@ -190,7 +193,10 @@ pulse_acts (Some stamp) = Vsync stamp ∷ []
 abbrev pub pulsed : ℕ → Option ℕ → Looper → Looper
 pulsed q None a = a
 pulsed q (Some stamp) a =
-    record a { sent = a.sent ++ record { queue = q; ask = Makes (Post (frame_message q 0 0 (stamp / 1000000))); reply = None; timing = NotBefore (millis_up stamp) } ∷ [] }
+    record a {
+      sent = a.sent
+          ++ record { queue = q; ask = Makes (Post (frame_message q 0 0 (stamp / 1000000))); reply = None; timing = NotBefore (millis_up stamp) } ∷ [];
+    }
 
 -- the time in whole milliseconds by which a pulse that came is due
 abbrev pub pulse_time : Option ℕ → ℕ

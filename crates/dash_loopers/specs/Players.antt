@@ -1,5 +1,5 @@
 -- What a looper's code works with, and what it keeps.
-use Rattle.std.specs.Prelude.{◌≡◌, ℕ, ◌<◌, ◌+◌, ◌⊎◌, map}
+use Rattle.std.specs.Prelude.{◌≡◌, ℕ, ◌<◌, ◌+◌, ◌⊎◌, map, slice_index_or}
 use Rattle.dash_script.specs.declared.script.Script.{Script}
 use Rattle.looper_run.specs.Holding.{Workplace, Sender}
 use Rattle.dash_hall.specs.declared.hall.Hall.{Hall}
@@ -28,6 +28,10 @@ pub record AreSameParts (before after : Parts) : Type 0 where
   pub others : map badge_of after.others.items ≡ map badge_of before.others.items
   pub frames : frame_badge_of after.frames ≡ frame_badge_of before.frames
   pub client : frame_badge_of after.root.pass ≡ frame_badge_of before.root.pass
+
+-- the first of the other posters, which is that of main's queue, rang its bell once
+abbrev pub RingsMain : Parts → Parts → Type 0
+RingsMain before after = (d : Sender) → (slice_index_or after.others.items 0 d).view.rung ≡ (slice_index_or before.others.items 0 d).view.rung + 1
 
 -- the place that one of a list has once the one at n is taken out
 abbrev pub PlaceWithout : ℕ → ℕ → ℕ → Type 0

@@ -114,7 +114,8 @@ goes_nowhere q k looks now a = record { more = []; sent = sym (append-nil a.sent
 
 module _ (s : Script) (q now : ℕ) where
   -- one step more
-  pub comes_on : (a : Looper) (k : ℕ) (seen es looks : List Entry) (acts acts' : List Act) (parts parts' : Parts) (c : ComesTo s q now a k seen es acts parts) (b : Looper)
+  pub comes_on : (a : Looper) (k : ℕ) (seen es looks : List Entry) (acts acts' : List Act) (parts parts' : Parts)
+      (c : ComesTo s q now a k seen es acts parts) (b : Looper)
       → Stands s q k (es ++ looks) acts' parts' b → GoesOnTo q k looks now c.state b → ComesTo s q now a k seen (es ++ looks) acts' parts'
   comes_on a k seen es looks acts acts' parts parts' c b stands on = record {
     state = b;
@@ -140,7 +141,8 @@ module _ (s : Script) (q now : ℕ) where
     playing_disposed k es e time acts parts mine call reply meets = λ text a come.
         let c = meets text a come in
         comes_on a k began.looper.held.poster.view.seen es (e ∷ []) acts acts parts parts c c.state
-        (stands_beside s q k es (e ∷ []) acts parts c.state c.state (calls_disposed k es e time mine call reply) c.stands) (goes_nowhere q k (e ∷ []) now c.state)
+        (stands_beside s q k es (e ∷ []) acts parts c.state c.state (calls_disposed k es e time mine call reply) c.stands)
+        (goes_nowhere q k (e ∷ []) now c.state)
 
     -- an idle handler ran, or a listener was told of an event
     pub playing_quiet : (k : ℕ) (es : List Entry) (x : Act) (acts : List Act) (parts : Parts) → IsQuiet x → IsPlaying s q now began k es acts parts

@@ -1,5 +1,5 @@
 //! A looper that runs by a clock.
-ghost use Rattle.std.specs.Prelude.{◌≡◌, ◌+◌, ◌||◌, ℕ, None, Some, IsTrue, true, false, OnOk};
+ghost use Rattle.std.specs.Prelude.{◌≡◌, ◌≢◌, ◌+◌, ◌||◌, ℕ, None, Some, IsSomeAnd, IsTrue, true, false, OnOk};
 ghost use Rattle.std.specs.Option.{option_map};
 ghost use Rattle.loop_io.specs.Moments.{IsMoment};
 ghost use Rattle.looper_run.specs.Holding.{held, IsSameOwn};
@@ -10,7 +10,7 @@ ghost use Rattle.run_model.specs.Moments.{in_free_mode};
 ghost use Rattle.dash_hall.specs.Kits.{IsHall};
 ghost use Rattle.dash_loopers.specs.Loopers.{IsLooper, IsLooperOf, posters_of, round_of, is_given_up, RunsRound, ComesToWaitAt};
 ghost use Rattle.dash_loopers.specs.Places.{ServesOn, DeliversOn};
-ghost use Rattle.dash_loopers.specs.Players.{AreSameParts};
+ghost use Rattle.dash_loopers.specs.Players.{AreSameParts, RingsMain};
 ghost use Rattle.dash_loopers.specs.Played.{HasPlayedBy};
 ghost use Rattle.dash_loopers.specs.Clocked.{goes_to_rules, DeliversAt, ClockOwner, ServesFree, IsPlayingAt, StaysByClock};
 ghost use Rattle.dash_loopers.specs.Looped.{clock_mode, HasLooped, StaysTold, with_parts, owner_of, owner_in, PlayerServes, PlayerPlays, PlayerLooped};
@@ -20,7 +20,7 @@ ghost use Rattle.dash_loopers.specs.ClockedLaws.{playing_at_others, playing_at_d
 use crate::looper::{StageLooper, close};
 use crate::player::{Parts, Place, did, of_looper};
 use choreographer::NANOS_PER_MILLI;
-use dash_hall::{Hall, Timer, Uptime, frame_handler};
+use dash_hall::{Hall, Look, Timer, Uptime, frame_handler};
 use dash_script::Script;
 use loop_io::{Clock, Gate};
 use loop_model::{NoMemory, Post};
@@ -83,6 +83,10 @@ impl<'a, 'b, R: Wait, G: Gate, C: Clock> Dispatcher for ClockPlayer<'a, 'b, R, G
 
     fn listen(&mut self, fd: u32, events: u32, listener: u32) -> Option<u32> {
         Some(listener.min(7))
+    }
+
+    fn idle(&mut self, id: u32, keep: bool) -> Option<bool> {
+        Some(keep)
     }
 
     fn run_callback(&mut self, own: &mut Own, id: u64, m: &Message<PoolClaim>, now: u64) -> Did {
@@ -168,7 +172,7 @@ impl<'a, R: Wait> Place<'a, R> {
 impl StageLooper {
     /// Loops by the clock until its queue is over, the run is given up, or where there is an end, until that time in milliseconds, each time
     /// up to the pulse that is asked for. Where it finds no memory it has given up, and the run with it. One that has ended or given up
-    /// does nothing.
+    /// does nothing. Answers the look that found the run given up, where that is why it stopped.
     pub fn run_by_clock<R: Wait + time::Clock, C: Clock, G: Gate>(
         &mut self,
         rt: &R,
@@ -178,7 +182,7 @@ impl StageLooper {
         gate: &G,
         timer: &Timer<C>,
         end: Option<u64>,
-    )
+    ) -> Option<Look>
         requires mode { hall.now.lockstep ≡ false }
         requires hall { IsHall script.now hall.now }
         requires looper { IsLooper script.now hall.now self.old }
@@ -188,25 +192,27 @@ impl StageLooper {
         ensures plays { HasPlayedBy script.now self.old self.new }
         ensures clocked { StaysByClock (in_free_mode (C.shows timer.now.clock.now) timer.now.start) self.old self.new }
         ensures grew { StaysTold self.old self.new }
-        ensures rounds { LoopsUpTo (clock_mode C.shows timer.now) script.now end self.old self.new }
+        ensures rounds { LoopsUpTo (clock_mode C.shows timer.now) script.now end self.old self.new result }
     {
         let pace = Pace { gate, timer };
         for _ in rt.forever() {
             if self.has_ended() {
-                return;
+                return None;
             }
             if self.gave_up() {
-                return;
+                return None;
             }
-            if hall.stop.is_stopped(rt) {
-                return;
+            let look = hall.stop.look(rt);
+            if look.is_stopped() {
+                return Some(look);
             }
             let cap = earlier(self.next_pulse(rt, hall, script), end);
             let how = self.run_loop(rt, alloc, hall, script, &pace, cap);
             if is_at_end(how, end) {
-                return;
+                return None;
             }
         }
+        unreachable!()
     }
 
     /// One round at this moment, in milliseconds, unless it has ended or given up, as `run_round` in lockstep.
@@ -380,6 +386,7 @@ impl StageLooper {
         requires looped { PlayerLooped (clock_mode C.shows player.timer.now) player (with_parts self.old last player.parts) }
         ensures last { self.new.last ≡ last }
         ensures held { self.new.looper ≡ self.old.looper }
+        ensures nudged { is_given_up last ≡ true → self.old.number ≢ 0 → IsSomeAnd self.new.parts (RingsMain player.entry.parts) }
         ensures looped { PlayerLooped (clock_mode C.shows player.entry.timer.now) player.entry self.new }
     {
         let place = player.place;

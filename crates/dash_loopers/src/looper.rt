@@ -1,9 +1,9 @@
 //! A looper of a script.
-ghost use Rattle.std.specs.Prelude.{◌≡◌, ◌+◌, ◌<◌, true, false, IfOk};
+ghost use Rattle.std.specs.Prelude.{◌≡◌, ◌≢◌, ◌+◌, ◌<◌, true, false, IfOk};
 ghost use Rattle.looper_run.specs.Round.{is_ended};
 ghost use Rattle.dash_hall.specs.Kits.{IsHall, IsKitOf, HasSeenOver, IsUnusedKit};
 ghost use Rattle.dash_loopers.specs.Loopers.{posters_of, ComesToWait, WaitsForNothing, HasDoneNothing, IsLooper, IsLooperOf, ArePartsOf, HasRun, HasTold, HasDisposedLast, is_given_up, until_of};
-ghost use Rattle.dash_loopers.specs.Players.{AreSameParts};
+ghost use Rattle.dash_loopers.specs.Players.{AreSameParts, RingsMain};
 ghost use Rattle.dash_loopers.specs.Played.{HasCome, HasPlayed, HasLeft, HasComeBy, HasLeftBy};
 ghost use Rattle.run_model.specs.Loopers.{Looper as LooperState, first_looper};
 
@@ -236,6 +236,7 @@ pub(crate) fn close<R: Wait>(
     requires parts { ArePartsOf script.now hall.now number parts.old }
     ensures parts { AreSameParts parts.old parts.new }
     ensures same { gave_up ≡ false → parts.new ≡ parts.old }
+    ensures nudged { gave_up ≡ true → number ≢ 0 → RingsMain parts.old parts.new }
 {
     if !gave_up {
         return;

@@ -95,6 +95,10 @@ impl<'a, R: Wait, G: Gate> Dispatcher for Player<'a, R, G> {
         Some(listener.min(7))
     }
 
+    fn idle(&mut self, id: u32, keep: bool) -> Option<bool> {
+        Some(keep)
+    }
+
     fn run_callback(&mut self, own: &mut Own, id: u64, m: &Message<PoolClaim>, now: u64) -> Did {
         if self.place.hall.stop.is_stopped(self.place.rt) {
             return Did::NoMemory;

@@ -1,5 +1,7 @@
 -- What the senders of a run do by a clock.
-use Rattle.std.specs.Prelude.{◌≡◌, ◌⊎◌, ℕ, Bool, true, false, ◌<◌, List, length, slice_index_or}
+use Rattle.std.specs.Prelude.{◌≡◌, ◌⊎◌, ℕ, Bool, true, false, ◌<◌, List, length, slice_index_or, Option, Some, None}
+use Rattle.looper_run.specs.Round.{is_ended}
+use Rattle.looper_run.specs.declared.by_clock.Loop.{Loop}
 use Rattle.dash_script.specs.declared.script.Script.{Script}
 use Rattle.looper_run.specs.Holding.{Sender}
 use Rattle.run_model.specs.Moments.{Mode, in_free_mode}
@@ -11,11 +13,13 @@ use Rattle.dash_threads.specs.Threads.{IsThread, AreByClock, RunsAll}
 use Rattle.dash_loopers.specs.declared.looper.StageLooper.{StageLooper}
 use Rattle.dash_loopers.specs.Loopers.{IsLooper, posters_of, is_given_up}
 use Rattle.dash_loopers.specs.Played.{HasPlayedBy}
+use Rattle.dash_loopers.specs.Looped.{GoesOnFrom, StaysTold, HasGoneRound, LoopsOnce, LoopsUpTo, ends_at}
 use Rattle.dash_script.specs.Reading.{HasText}
 use Rattle.dash_hall.specs.Kits.{IsHall}
 use Rattle.dash_hall.specs.Hearing.{AtEach}
 use Rattle.dash_stage.specs.declared.control.Controller.{Controller}
 use Rattle.dash_stage.specs.Controllers.{IsControllerIn, CallsNothingOn, IsClosingBy}
+use Rattle.dash_stage.specs.Playing.{HaveBegun}
 
 -- the thread is the same, and unless it gave up it has run all its lines
 pub record RunsByClock (m : Mode) (s : Script) (hall : Hall) (before after : PostingThread) : Type 0 where
@@ -30,6 +34,31 @@ pub record LoopsByClock (m : Mode) (s : Script) (hall : Hall) (before after : St
   pub number : after.number ≡ before.number
   pub plays : HasPlayedBy s before after
   pub clocked : is_given_up after.last ≡ false → AreByClock m (posters_of before) → AreByClock m (posters_of after)
+  pub grew : StaysTold before after
+
+-- such a looper has looped by the clock up to this end, or stopped by this look
+pub record LoopsFor (m : Mode) (s : Script) (hall : Hall) (end : Option ℕ) (look : Option Bool) (before after : StageLooper) : Type 0 where
+  pub goes : LoopsByClock m s hall before after
+  pub loops : LoopsUpTo m s end before after look
+
+-- so it is with a looper that loops without an end, and whose look is nobody's
+abbrev pub LoopsAlone : Mode → Script → Hall → StageLooper → StageLooper → Type 0
+LoopsAlone m s hall before after = (look : Option Bool) × LoopsFor m s hall None look before after
+
+-- main looped by the clock, and its last loop came to the script's end with nothing due that may be dispatched
+pub record LoopsToEnd (m : Mode) (s : Script) (before after : StageLooper) : Type 0 where
+  pub count : ℕ
+  pub between : StageLooper
+  pub rounds : HasGoneRound m s (Some s.end) count before between
+  pub how : Loop
+  pub loops : LoopsOnce m s (Some s.end) between after how
+  pub at_end : ends_at how (Some s.end) ≡ true
+
+-- a looper looped by the clock until its queue was over
+pub record LoopsOut (m : Mode) (s : Script) (before after : StageLooper) : Type 0 where
+  pub count : ℕ
+  pub rounds : HasGoneRound m s None count before after
+  pub ended : is_ended after.last ≡ true
 
 -- the poster quit its queue safely at this moment by one call, which may have been refused, or did nothing
 abbrev pub MayQuit : Sender → Sender → ℕ → Type 0
@@ -62,6 +91,29 @@ EachRuns m s hall before after = AtEach (RunsByClock m s hall) before after
 
 abbrev pub EachLoops : Mode → Script → Hall → List StageLooper → List StageLooper → Type 0
 EachLoops m s hall before after = AtEach (LoopsByClock m s hall) before after
+
+abbrev pub EachLoopsAlone : Mode → Script → Hall → List StageLooper → List StageLooper → Type 0
+EachLoopsAlone m s hall before after = AtEach (LoopsAlone m s hall) before after
+
+-- so it is with main alone, up to the script's end, and no look stopped it
+abbrev pub MainLoops : Mode → Script → Hall → List StageLooper → List StageLooper → Type 0
+MainLoops m s hall before after = AtEach (LoopsFor m s hall (Some s.end) None) before after
+
+-- the first, main, looped up to the script's end, or has ended or given up, and each other looped alone
+pub record LoopSideBySide (m : Mode) (s : Script) (before after : List StageLooper) : Type 0 where
+  pub main : (d : StageLooper) → 0 < length before → LoopsUpTo m s (Some s.end) (slice_index_or before 0 d) (slice_index_or after 0 d) None
+  pub others : (k : ℕ) (d : StageLooper) → 0 < k → k < length before
+      → (look : Option Bool) × LoopsUpTo m s None (slice_index_or before k d) (slice_index_or after k d) look
+
+-- each looper looped by the clock from before its first act, main up to the script's end and each other until its queue was over, and has gone on from there
+pub record HaveLooped (m : Mode) (s : Script) (ls : List StageLooper) : Type 0 where
+  pub began : List StageLooper
+  pub looped : List StageLooper
+  pub long : length looped ≡ length began
+  pub nothing : HaveBegun s began
+  pub main : (d : StageLooper) → 0 < length began → LoopsToEnd m s (slice_index_or began 0 d) (slice_index_or looped 0 d)
+  pub others : (k : ℕ) (d : StageLooper) → 0 < k → k < length began → LoopsOut m s (slice_index_or began k d) (slice_index_or looped k d)
+  pub on : AtEach (λ before after. GoesOnFrom before.looper after.looper) looped ls
 
 -- what the main looper and the threads need to run, and the controller behind them
 pub record CanRunMain (s : Script) (h : Hall) (ls : List StageLooper) (ts : List PostingThread) (c : Controller) : Type 0 where

@@ -5,6 +5,7 @@ use Rattle.run_model.specs.Moments.{Mode}
 use Rattle.dash_hall.specs.Kits.{AreUnseen}
 use Rattle.dash_threads.specs.Threads.{AreByClock}
 use Rattle.dash_stage.specs.declared.stage.Stage.{Stage}
+use Rattle.dash_stage.specs.ByClock.{HaveLooped}
 use Rattle.dash_stage.specs.Controllers.{IsMoving, HasClosed, HasClosedIn, CallsNothingOn, IsClosingBy}
 use Rattle.dash_stage.specs.Moves.{AreMoved}
 use Rattle.dash_stage.specs.Playing.{ArePlayed, HaveComeFirst, HaveBegun, HaveComeBy, IsInStep}
@@ -53,7 +54,7 @@ pub record HasBegunByClock (m : Mode) (s : Script) (st : Stage) : Type 0 where
   pub clocked : OfSenders (AreByClock m) st
   pub none : (q : ℕ) → CallsNothingOn st.controller q
 
--- the threads have run all blocks, the queues but main were quit, the loopers have played their acts, those but main have ended, and main is still to be halted
+-- the threads have run all blocks, the queues but main were quit, the loopers have looped and played, those but main have ended, and main is still to be halted
 pub record IsClosingByClock (m : Mode) (s : Script) (st : Stage) : Type 0 where
   pub stage : IsStageIn false s st
   pub same : HaveSeenTheSame st
@@ -61,6 +62,7 @@ pub record IsClosingByClock (m : Mode) (s : Script) (st : Stage) : Type 0 where
   pub run : HaveRunBy m s s.blocks st.threads.items
   pub ended : OthersHaveEnded st.loopers.items
   pub on : LoopersGoOn st.loopers.items
+  pub looped : HaveLooped m s st.loopers.items
   pub played : HaveComeBy s st.loopers.items
   pub closing : IsClosingBy s st.controller
 
@@ -71,6 +73,7 @@ pub record HasEndedByClock (m : Mode) (s : Script) (st : Stage) : Type 0 where
   pub run : HaveRunBy m s s.blocks st.threads.items
   pub ended : OthersHaveEnded st.loopers.items
   pub on : LoopersGoOn st.loopers.items
+  pub looped : HaveLooped m s st.loopers.items
   pub played : HaveComeBy s st.loopers.items
   pub closed : HasClosedIn m.lockstep s st.controller
   pub halted : HasHaltedLast s st

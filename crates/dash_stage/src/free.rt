@@ -1,14 +1,16 @@
 //! A run by a clock.
-ghost use Rattle.std.specs.Prelude.{◌≡◌, ◌<◌, ◌≤◌, ℕ, false, true, length, IfOk, OnOk};
+ghost use Rattle.std.specs.Prelude.{◌≡◌, ◌<◌, ◌≤◌, ℕ, false, true, length, slice_index_or, None, IfOk, OnOk};
 ghost use Rattle.std.specs.Thread.{IsSync};
 ghost use Rattle.loop_io.specs.Moments.{IsMoment};
 ghost use Rattle.dash_script.specs.Reading.{HasText};
 ghost use Rattle.dash_hall.specs.Hearing.{HaveHeard};
 ghost use Rattle.dash_hall.specs.Kits.{IsHall};
 ghost use Rattle.dash_threads.specs.Threads.{IsThread};
+ghost use Rattle.looper_run.specs.Round.{is_ended};
+ghost use Rattle.dash_loopers.specs.declared.looper.StageLooper.{StageLooper as LooperData};
 ghost use Rattle.dash_loopers.specs.Loopers.{IsLooper};
-ghost use Rattle.dash_stage.specs.ByClock.{IsFreeHall, by_timer, RunsByClock, LoopsByClock, EachRuns, EachLoops, QuitsOthers};
-ghost use Rattle.dash_stage.specs.ByClock.{EachIsThread, EachIsLooper, CanRunMain};
+ghost use Rattle.dash_stage.specs.ByClock.{IsFreeHall, by_timer, RunsByClock, LoopsAlone, EachRuns, EachLoops, QuitsOthers};
+ghost use Rattle.dash_stage.specs.ByClock.{EachIsThread, EachIsLooper, CanRunMain, EachLoopsAlone, MainLoops, LoopSideBySide};
 ghost use Rattle.dash_stage.specs.Controllers.{IsControllerIn, CallsNothingOn};
 ghost use Rattle.dash_stage.specs.GivingUp.{HaveBeenRung};
 ghost use Rattle.dash_stage.specs.RunEnds.{HasBegunByClock, IsClosingByClock, HasEndedByClock};
@@ -23,7 +25,7 @@ use crate::opening::set_up;
 use crate::run::Ran;
 use crate::side::{has_given_up, some_gave_up};
 use crate::stage::Stage;
-use dash_hall::{Hall, Timer};
+use dash_hall::{Hall, Look, Timer};
 use dash_loopers::StageLooper;
 use dash_script::Script;
 use dash_threads::PostingThread;
@@ -126,6 +128,9 @@ impl Stage {
         if some_gave_up(self.loopers.as_slice()) {
             return Err(NoMemory);
         }
+        if main_has_ended(self.loopers.as_slice()) {
+            return Err(NoMemory);
+        }
         if !all_but_main_have_ended(self.loopers.as_slice()) {
             return Err(NoMemory);
         }
@@ -145,7 +150,7 @@ impl Stage {
         requires closing { IsClosingByClock (by_timer C.shows timer.now) script.now self.old }
         ensures closing { OnOk result (IsClosingByClock (by_timer C.shows timer.now) script.now self.new) }
     {
-        let Some(now) = timer.wait_until(means.rt, &self.hall.stop, script.end) else {
+        let Ok(now) = timer.wait_until(means.rt, &self.hall.stop, script.end) else {
             return Err(NoMemory);
         };
         drain_first(
@@ -175,7 +180,7 @@ impl Stage {
         ensures closing { IfOk result (λ halted. halted ≡ false → IsClosingByClock (by_timer C.shows timer.now) script.now self.new) }
         ensures out { IfOk result (λ halted. halted ≡ true → HasEndedByClock (by_timer C.shows timer.now) script.now self.new) }
     {
-        let Some(now) = timer.wait_until(rt, &self.hall.stop, script.end) else {
+        let Ok(now) = timer.wait_until(rt, &self.hall.stop, script.end) else {
             return Err(NoMemory);
         };
         let halted = self.controller.halt_by_clock(rt, &self.hall, script, now);
@@ -214,6 +219,7 @@ fn run_side_by_side<R: Threads + Wait + time::Clock + Sync, C: Clock + Sync, G: 
     requires none { (q : ℕ) → CallsNothingOn controller.old q }
     ensures threads { EachRuns (by_timer C.shows timer.now) script.now hall.now threads.old threads.new }
     ensures loopers { EachLoops (by_timer C.shows timer.now) script.now hall.now loopers.old loopers.new }
+    ensures looped { result ≡ true → LoopSideBySide (by_timer C.shows timer.now) script.now loopers.old loopers.new }
     ensures quit { result ≡ true → QuitsOthers (by_timer C.shows timer.now) script.now hall.now controller.old controller.new }
     ensures rung { result ≡ false → HaveBeenRung script.now.loopers controller.old controller.new }
 {
@@ -223,17 +229,18 @@ fn run_side_by_side<R: Threads + Wait + time::Clock + Sync, C: Clock + Sync, G: 
         means.rt,
         &mut ||
             requires { IsSync R.row × IsSync C.row × IsSync G.row × IsFreeHall script.now hall.now × EachIsLooper script.now hall.now others.now }
-            ensures { EachLoops (by_timer C.shows timer.entry.now) script.entry.now hall.entry.now others.entry.now others.exit.now }
+            ensures { EachLoopsAlone (by_timer C.shows timer.entry.now) script.entry.now hall.entry.now others.entry.now others.exit.now }
         { run_others(means, hall, script, timer, &ended, others) },
         &mut ||
             requires { CanRunMain script.now hall.now main.now threads.now controller.now × IsSync R.row × IsSync C.row × IsSync G.row }
             ensures threads { EachRuns (by_timer C.shows timer.entry.now) script.entry.now hall.entry.now threads.entry.now threads.exit.now }
             ensures main { EachLoops (by_timer C.shows timer.entry.now) script.entry.now hall.entry.now main.entry.now main.exit.now }
+            ensures looped { result ≡ true → MainLoops (by_timer C.shows timer.entry.now) script.entry.now hall.entry.now main.entry.now main.exit.now }
             ensures quit { result ≡ true → QuitsOthers (by_timer C.shows timer.entry.now) script.entry.now hall.entry.now controller.entry.now controller.exit.now }
             ensures rung { result ≡ false → HaveBeenRung script.entry.now.loopers controller.entry.now controller.exit.now }
         {
-            run_main(means, hall, script, timer, main, threads);
-            quit_others(means.rt, hall, script, timer, &ended, controller)
+            let early = run_main(means, hall, script, timer, main, threads);
+            quit_others(means.rt, hall, script, timer, &ended, controller, early)
         },
     );
     quit
@@ -250,7 +257,7 @@ fn run_others<R: Threads + Wait + time::Clock + Sync, C: Clock + Sync, G: Gate +
 )
     requires hall { IsFreeHall script.now hall.now }
     requires loopers { EachIsLooper script.now hall.now others.old }
-    ensures loopers { EachLoops (by_timer C.shows timer.now) script.now hall.now others.old others.new }
+    ensures loopers { EachLoopsAlone (by_timer C.shows timer.now) script.now hall.now others.old others.new }
 {
     let count = others.len().max(1);
     for_each_mut(
@@ -259,7 +266,7 @@ fn run_others<R: Threads + Wait + time::Clock + Sync, C: Clock + Sync, G: Gate +
         count,
         &|_, looper: &mut StageLooper|
             requires { IsSync R.row × IsSync C.row × IsSync G.row × IsFreeHall script.now hall.now × IsLooper script.now hall.now looper.old }
-            ensures { LoopsByClock (by_timer C.shows timer.entry.now) script.entry.now hall.entry.now looper.old looper.new }
+            ensures { LoopsAlone (by_timer C.shows timer.entry.now) script.entry.now hall.entry.now looper.old looper.new }
         { run_one(means, hall, script, timer, ended, looper) },
     );
 }
@@ -275,7 +282,7 @@ fn run_one<R: Wait + time::Clock, C: Clock, G: Gate>(
 )
     requires hall { IsFreeHall script.now hall.now }
     requires looper { IsLooper script.now hall.now looper.old }
-    ensures { LoopsByClock (by_timer C.shows timer.now) script.now hall.now looper.old looper.new }
+    ensures { LoopsAlone (by_timer C.shows timer.now) script.now hall.now looper.old looper.new }
 {
     looper.run_by_clock(means.rt, means.alloc, hall, script, means.gate, timer, None);
     if looper.has_ended() {
@@ -298,7 +305,7 @@ fn bit(number: u32) -> u128 {
     1u128.wrapping_shl(number)
 }
 
-/// The main looper runs until the script's end, beside the threads.
+/// The main looper runs until the script's end, beside the threads. Answers the look by which it stopped before, where one did.
 fn run_main<R: Threads + Wait + time::Clock + Sync, C: Clock + Sync, G: Gate + Sync>(
     means: &Means<R, G>,
     hall: &Hall,
@@ -306,7 +313,7 @@ fn run_main<R: Threads + Wait + time::Clock + Sync, C: Clock + Sync, G: Gate + S
     timer: &Timer<C>,
     main: &mut [StageLooper],
     threads: &mut [PostingThread],
-)
+) -> Option<Look>
     requires text { HasText script.now }
     requires hall { IsFreeHall script.now hall.now }
     requires one { length main.old ≡ 1 }
@@ -314,8 +321,9 @@ fn run_main<R: Threads + Wait + time::Clock + Sync, C: Clock + Sync, G: Gate + S
     requires threads { EachIsThread script.now hall.now threads.old }
     ensures threads { EachRuns (by_timer C.shows timer.now) script.now hall.now threads.old threads.new }
     ensures main { EachLoops (by_timer C.shows timer.now) script.now hall.now main.old main.new }
+    ensures looped { result ≡ None → MainLoops (by_timer C.shows timer.now) script.now hall.now main.old main.new }
 {
-    join_mut(
+    let ((), early) = join_mut(
         means.rt,
         &mut ||
             requires { IsSync R.row × IsSync C.row × IsSync G.row × HasText script.now × IsFreeHall script.now hall.now × EachIsThread script.now hall.now threads.now }
@@ -323,23 +331,26 @@ fn run_main<R: Threads + Wait + time::Clock + Sync, C: Clock + Sync, G: Gate + S
         { run_threads(means, hall, script, timer, threads) },
         &mut ||
             requires { IsSync R.row × IsSync C.row × IsSync G.row × IsFreeHall script.now hall.now × (length main.now ≡ 1) × EachIsLooper script.now hall.now main.now }
-            ensures { EachLoops (by_timer C.shows timer.entry.now) script.entry.now hall.entry.now main.entry.now main.exit.now }
+            ensures main { EachLoops (by_timer C.shows timer.entry.now) script.entry.now hall.entry.now main.entry.now main.exit.now }
+            ensures looped { result ≡ None → MainLoops (by_timer C.shows timer.entry.now) script.entry.now hall.entry.now main.entry.now main.exit.now }
         { run_first(means, hall, script, timer, main) },
     );
+    early
 }
 
-/// The first of these loopers runs until the script's end.
+/// The first of these loopers runs until the script's end. Answers the look by which it stopped before, where one did.
 fn run_first<R: Wait + time::Clock, C: Clock, G: Gate>(
     means: &Means<R, G>,
     hall: &Hall,
     script: &Script,
     timer: &Timer<C>,
     loopers: &mut [StageLooper],
-)
+) -> Option<Look>
     requires hall { IsFreeHall script.now hall.now }
     requires one { length loopers.old ≡ 1 }
     requires loopers { EachIsLooper script.now hall.now loopers.old }
     ensures loopers { EachLoops (by_timer C.shows timer.now) script.now hall.now loopers.old loopers.new }
+    ensures looped { result ≡ None → MainLoops (by_timer C.shows timer.now) script.now hall.now loopers.old loopers.new }
 {
     loopers[0].run_by_clock(
         means.rt,
@@ -349,7 +360,7 @@ fn run_first<R: Wait + time::Clock, C: Clock, G: Gate>(
         means.gate,
         timer,
         Some(script.end),
-    );
+    )
 }
 
 /// The threads run their blocks, each on a thread of its own.
@@ -378,8 +389,8 @@ fn run_threads<R: Threads + Wait + time::Clock + Sync, C: Clock + Sync, G: Gate 
 }
 
 /// At the script's end or later the controller quits safely each looper but the main one that has not told that it ended. Where the run is
-/// given up it quits them plainly. Answers false there, and where a quit found no memory: then the run is given up too. Either way all
-/// bells are rung behind the flag, since a quit that found no memory wakes no looper.
+/// given up, or the main looper found it so, it quits them plainly. Answers false there, and where a quit found no memory: then the run is
+/// given up too. Either way all bells are rung behind the flag, since a quit that found no memory wakes no looper.
 fn quit_others<R: Wait + time::Clock, C: Clock>(
     rt: &R,
     hall: &Hall,
@@ -387,15 +398,17 @@ fn quit_others<R: Wait + time::Clock, C: Clock>(
     timer: &Timer<C>,
     ended: &Mutex<u128>,
     controller: &mut Controller,
+    early: Option<Look>,
 ) -> bool
     requires some { 0 < script.now.loopers }
     requires hall { IsFreeHall script.now hall.now }
     requires controller { IsControllerIn false script.now hall.now controller.old }
     requires none { (q : ℕ) → CallsNothingOn controller.old q }
+    ensures heeds { result ≡ true → early ≡ None }
     ensures quit { result ≡ true → QuitsOthers (by_timer C.shows timer.now) script.now hall.now controller.old controller.new }
     ensures rung { result ≡ false → HaveBeenRung script.now.loopers controller.old controller.new }
 {
-    let Some(now) = timer.wait_until(rt, &hall.stop, script.end) else {
+    let Ok(now) = moment_to_quit(rt, hall, script, timer, early) else {
         controller.give_up(rt, hall, script, timer.now());
         controller.ring_all(rt, hall, script);
         return false;
@@ -410,6 +423,24 @@ fn quit_others<R: Wait + time::Clock, C: Clock>(
         controller.ring_all(rt, hall, script);
     }
     done
+}
+
+/// A moment at the script's end or later, once it has come, or the look that found the run given up: the main looper's, or one made here.
+fn moment_to_quit<R: Wait + time::Clock, C: Clock>(
+    rt: &R,
+    hall: &Hall,
+    script: &Script,
+    timer: &Timer<C>,
+    early: Option<Look>,
+) -> Result<u64, Look>
+    ensures moment { IfOk result (IsMoment (C.shows timer.now.clock.now) timer.now.start) }
+    ensures late { IfOk result (λ now. script.now.end ≤ now) }
+    ensures heeds { IfOk result (λ now. early ≡ None) }
+{
+    match early {
+        Some(look) => Err(look),
+        None => timer.wait_until(rt, &hall.stop, script.end),
+    }
 }
 
 /// The first of the loopers, main, drains at this moment, in milliseconds, the end of the script or later.
@@ -430,6 +461,14 @@ fn drain_first<R: Wait + time::Clock, C: Clock, G: Gate>(
     ensures others { OthersHaveEnded loopers.old → OthersHaveEnded loopers.new }
 {
     loopers[0].drain_by_clock(means.rt, means.alloc, hall, script, means.gate, timer, now);
+}
+
+/// Whether the first of these loopers, main, has ended.
+fn main_has_ended(loopers: &[StageLooper]) -> bool
+    requires some { 0 < length loopers.now }
+    ensures { (d : LooperData) → is_ended (slice_index_or loopers.now 0 d).last ≡ result }
+{
+    loopers[0].has_ended()
 }
 
 /// Whether each of these loopers but the first has ended.

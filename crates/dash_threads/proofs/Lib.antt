@@ -8,3 +8,4 @@ pub mod ThreadBlocks
 pub mod ThreadFrames
 pub mod ThreadFrameRuns
 pub mod ThreadNudges
+pub mod ThreadBells

@@ -3,7 +3,8 @@ use Rattle.std.specs.Prelude.{ℕ, ◌==◌, true, false, List, Option, Some, No
 use Rattle.std.specs.List.{find}
 use Rattle.std.specs.Option.{option_map}
 use Rattle.dash_script.specs.declared.script.Command.{Command}
-use Rattle.dash_script.specs.declared.script.Command.TheVariants.{Post, PostAsync, Front, Callback, Set, Remove, RemoveCallback, RemoveAll, Barrier, Unbarrier, Quit, QuitSafely}
+use Rattle.dash_script.specs.declared.script.Command.TheVariants.{Post, PostAsync, Front, Callback, Set, Remove, RemoveCallback, RemoveAll, Barrier}
+use Rattle.dash_script.specs.declared.script.Command.TheVariants.{Unbarrier, Quit, QuitSafely}
 use Rattle.dash_script.specs.declared.script.Script.{Script}
 use Rattle.run_model.specs.Senders.{handler_line, looper_of, gauge_handler}
 use Rattle.loop_model.specs.Posts.{moment_after}

@@ -1,5 +1,6 @@
 -- A thread of a script, and how far it has come.
-use Rattle.std.specs.Prelude.{◌≡◌, ◌≢◌, ◌<◌, ◌+◌, ◌-◌, ◌^◌, min, ℕ, zero, suc, ◌==◌, Bool, false, List, [], ◌∷◌, ◌++◌, length, slice_index_or, Option, Some, None, is_some, map, if◌then◌else◌}
+use Rattle.std.specs.Prelude.{◌≡◌, ◌≢◌, ◌<◌, ◌+◌, ◌-◌, ◌^◌, min, ℕ, zero, suc, ◌==◌, Bool, false, List, [], ◌∷◌, ◌++◌, length, slice_index_or, Option}
+use Rattle.std.specs.Prelude.{Some, None, is_some, map, if◌then◌else◌}
 use Rattle.std.specs.List.{filter_map}
 use Rattle.dash_script.specs.declared.script.Block.{Block}
 use Rattle.dash_script.specs.declared.script.Script.{Script}
@@ -13,6 +14,7 @@ use Rattle.dash_threads.specs.declared.thread.PostingThread.{PostingThread}
 use mathlib.Core.List.{IsPrefix}
 use Rattle.run_model.specs.Asks.{tokens_in}
 use Rattle.dash_script.specs.declared.script.Command.{Command}
+use Rattle.dash_script.specs.declared.script.Command.TheVariants as command
 use Rattle.dash_script.specs.declared.script.Command.TheVariants.{Barrier}
 use Rattle.dash_threads.specs.declared.labels.Labelled.{Labelled}
 use Rattle.dash_threads.specs.declared.planned.PlannedCall.{PlannedCall}
@@ -158,6 +160,41 @@ known_of p = (badge_of p, p.view.seen)
 -- the posters are the same and have seen the same; bells may have been rung
 abbrev pub HaveSeenSame : List Sender → List Sender → Type 0
 HaveSeenSame before after = map known_of after ≡ map known_of before
+
+-- how often the thread has rung the bell of each looper
+abbrev pub rungs_of : PostingThread → List ℕ
+rungs_of t = map (λ p. p.view.rung) t.kit.posters.items
+
+-- the counts, that of this looper one more
+abbrev pub one_more : ℕ → List ℕ → List ℕ
+one_more looper [] = []
+one_more zero (x ∷ xs) = suc x ∷ xs
+one_more (suc looper) (x ∷ xs) = x ∷ one_more looper xs
+
+-- the counts, that of a looper one more where there is one
+abbrev pub more_for : Option ℕ → List ℕ → List ℕ
+more_for None rungs = rungs
+more_for (Some looper) rungs = one_more looper rungs
+
+-- the looper that has to look again by a clock: that which the command asks for a frame, or hands an event
+abbrev pub looper_woken : Command → Option ℕ
+looper_woken (command.Frame looper phase id delay) = Some looper
+looper_woken (command.Event looper fd events) = Some looper
+looper_woken (command.Post handler what delay) = None
+looper_woken (command.PostAsync handler what delay) = None
+looper_woken (command.Front handler what) = None
+looper_woken (command.Callback handler id delay) = None
+looper_woken (command.Set gauge value) = None
+looper_woken (command.Remove handler what) = None
+looper_woken (command.RemoveCallback handler id) = None
+looper_woken (command.RemoveAll handler) = None
+looper_woken (command.Barrier looper label) = None
+looper_woken (command.Unbarrier label) = None
+looper_woken (command.Quit looper) = None
+looper_woken (command.QuitSafely looper) = None
+looper_woken (command.Idle looper id keep) = None
+looper_woken (command.Watch looper fd mask answer) = None
+looper_woken (command.Unframe looper phase id) = None
 
 -- a thread that had run nothing has run all its lines
 abbrev pub RunsAll : Mode → Script → PostingThread → PostingThread → Type 0

@@ -1,13 +1,14 @@
 //! A thread that runs its blocks by a clock.
-ghost use Rattle.std.specs.Prelude.{◌≡◌, true, false, IfSome, IsSomeAnd};
+ghost use Rattle.std.specs.Prelude.{◌≡◌, true, false, IfOk, IfErr};
 ghost use Rattle.dash_script.specs.Reading.{HasText};
 ghost use Rattle.run_model.specs.Moments.{in_free_mode, IsUptime};
 ghost use Rattle.run_model.specs.Planned.{lines_in, lines_of};
 ghost use Rattle.dash_hall.specs.Kits.{IsHall};
-ghost use Rattle.dash_threads.specs.Threads.{IsThread, TakesAt, Continues, RunsAll, ThreadKeeps, HaveSeenSame, one_pass_more, HasPassed};
+ghost use Rattle.dash_threads.specs.Threads.{IsThread, Takes, TakesAt, Continues, RunsAll, ThreadKeeps, HaveSeenSame, one_pass_more, HasPassed};
+ghost use Rattle.dash_threads.specs.Threads.{rungs_of, one_more, more_for, looper_woken};
 
 use crate::thread::{PostingThread, Timed};
-use dash_hall::{Hall, Timer};
+use dash_hall::{Hall, Look, Timer};
 use dash_script::{Block, Command, Script};
 use loop_io::{Clock, Gate};
 use std::alloc::Global;
@@ -75,29 +76,63 @@ impl PostingThread {
     {
         for line in block.lines.as_slice() {
             if line.thread == self.number {
-                let now = self.wait_for(rt, hall, pace, block.time);
-                self.run_at(rt, alloc, hall, script, now, line.command);
+                let timed = Timed {
+                    now: block.time,
+                    command: line.command,
+                };
+                self.run_line_by_clock(rt, alloc, hall, script, pace, timed);
             }
         }
     }
 
-    /// Waits for this time, in milliseconds, passes the gate, and answers a moment of the clock that is no earlier. None where the run is
-    /// given up, and where it has given up itself.
+    /// Runs a command at this time, in milliseconds, or later, unless it has given up. Where the run is given up it gives up too.
+    fn run_line_by_clock<R: Wait + time::Clock, C: Clock, G: Gate>(
+        &mut self,
+        rt: &R,
+        alloc: Global,
+        hall: &Hall,
+        script: &Script,
+        pace: &Pace<G, C>,
+        timed: Timed,
+    )
+        requires text { HasText script.now }
+        requires hall { IsHall script.now hall.now }
+        requires mode { hall.now.lockstep ≡ false }
+        requires thread { IsThread script.now hall.now self.old }
+        ensures thread { IsThread script.now hall.now self.new }
+        ensures number { self.new.number ≡ self.old.number }
+        ensures passed { self.new.gave_up ≡ false → self.new.passed ≡ one_pass_more self.old.passed }
+        ensures stays { self.old.gave_up ≡ true → self.new ≡ self.old }
+        ensures goes { self.new.gave_up ≡ false → self.old.gave_up ≡ false }
+        ensures made { self.new.gave_up ≡ false → Takes (in_free_mode (C.shows pace.now.timer.now.clock.now) pace.now.timer.now.start) script.now
+            (record { time = timed.now; command = timed.command }) self.old self.new }
+        ensures rung { self.new.gave_up ≡ false → rungs_of self.new ≡ more_for (looper_woken timed.command) (rungs_of self.old) }
+    {
+        if self.gave_up {
+            return;
+        }
+        let Ok(now) = self.wait_for(rt, hall, pace, timed.now) else {
+            self.gave_up = true;
+            return;
+        };
+        let command = timed.command;
+        self.run_at(rt, alloc, hall, script, Timed { now, command });
+    }
+
+    /// Waits for this time, in milliseconds, passes the gate, and answers a moment of the clock that is no earlier, or the look that found
+    /// the run given up.
     fn wait_for<R: Wait + time::Clock, C: Clock, G: Gate>(
         &mut self,
         rt: &R,
         hall: &Hall,
         pace: &Pace<G, C>,
         time: u64,
-    ) -> Option<u64>
+    ) -> Result<u64, Look>
         ensures same { self.new ≡ record self.old { passed = self.new.passed } }
-        ensures passed { IfSome result (λ now. self.new.passed ≡ one_pass_more self.old.passed) }
-        ensures stays { self.old.gave_up ≡ true → self.new ≡ self.old }
-        ensures moment { IfSome result (IsUptime (in_free_mode (C.shows pace.now.timer.now.clock.now) pace.now.timer.now.start) time) }
+        ensures passed { IfOk result (λ now. self.new.passed ≡ one_pass_more self.old.passed) }
+        ensures moment { IfOk result (IsUptime (in_free_mode (C.shows pace.now.timer.now.clock.now) pace.now.timer.now.start) time) }
+        ensures given_up { IfErr result (λ look. look ≡ true) }
     {
-        if self.gave_up {
-            return None;
-        }
         pace.timer.wait_until(rt, &hall.stop, time)?;
         pace.gate.pass(self.number, self.passed);
         self.passed = self.passed.saturating_add(1);
@@ -105,35 +140,19 @@ impl PostingThread {
     }
 
     /// Runs a command at this moment, in milliseconds, unless the run is given up, and rings the bell of the looper that it asks for a frame
-    /// or hands an event. Where there is no moment it gives up.
-    fn run_at<R: Wait>(
-        &mut self,
-        rt: &R,
-        alloc: Global,
-        hall: &Hall,
-        script: &Script,
-        now: Option<u64>,
-        command: Command,
-    )
+    /// or hands an event.
+    fn run_at<R: Wait>(&mut self, rt: &R, alloc: Global, hall: &Hall, script: &Script, timed: Timed)
         requires text { HasText script.now }
         requires hall { IsHall script.now hall.now }
         requires thread { IsThread script.now hall.now self.old }
         ensures thread { IsThread script.now hall.now self.new }
         ensures number { self.new.number ≡ self.old.number }
         ensures passed { self.new.passed ≡ self.old.passed }
-        ensures stays { self.old.gave_up ≡ true → self.new ≡ self.old }
-        ensures made { self.new.gave_up ≡ false → (self.old.gave_up ≡ false)
-            × IsSomeAnd now (λ u. TakesAt hall.now.lockstep script.now u command self.old self.new) }
+        ensures made { self.new.gave_up ≡ false → TakesAt hall.now.lockstep script.now timed.now timed.command self.old self.new }
+        ensures rung { self.new.gave_up ≡ false → rungs_of self.new ≡ more_for (looper_woken timed.command) (rungs_of self.old) }
     {
-        if self.gave_up {
-            return;
-        }
-        let Some(now) = now else {
-            self.gave_up = true;
-            return;
-        };
         let look = hall.stop.look(rt);
-        let timed = Timed { now, command };
+        let command = timed.command;
         self.run_unless_stopped(rt, alloc, hall, script, timed, look);
         self.nudge_for(rt, hall, script, command);
     }
@@ -144,11 +163,11 @@ impl PostingThread {
         requires thread { IsThread script.now hall.now self.old }
         ensures thread { IsThread script.now hall.now self.new }
         ensures kept { ThreadKeeps HaveSeenSame self.old self.new }
+        ensures rung { rungs_of self.new ≡ more_for (looper_woken command) (rungs_of self.old) }
     {
-        match command {
-            Command::Frame { looper, .. } => self.nudge(rt, hall, script, looper),
-            Command::Event { looper, .. } => self.nudge(rt, hall, script, looper),
-            _ => {}
+        match woken_by(command) {
+            Some(looper) => self.nudge(rt, hall, script, looper),
+            None => {}
         }
     }
 
@@ -158,6 +177,7 @@ impl PostingThread {
         requires thread { IsThread script.now hall.now self.old }
         ensures thread { IsThread script.now hall.now self.new }
         ensures kept { ThreadKeeps HaveSeenSame self.old self.new }
+        ensures rung { rungs_of self.new ≡ one_more looper (rungs_of self.old) }
     {
         let place = looper as usize;
         if place >= self.kit.posters.len() {
@@ -167,5 +187,21 @@ impl PostingThread {
             return;
         }
         self.kit.posters[place].nudge(rt, &hall.queues[place]);
+    }
+}
+
+/// The looper that has to look again: that which a command asks for a frame, or hands an event.
+fn woken_by(command: Command) -> Option<u32>
+    ensures { result ≡ looper_woken command }
+{
+    match command {
+        Command::Frame { looper, .. } => Some(looper),
+        Command::Event { looper, .. } => Some(looper),
+        Command::Post { .. } | Command::PostAsync { .. } | Command::Front { .. } => None,
+        Command::Callback { .. } | Command::Set { .. } | Command::Remove { .. } => None,
+        Command::RemoveCallback { .. } | Command::RemoveAll { .. } => None,
+        Command::Barrier { .. } | Command::Unbarrier { .. } => None,
+        Command::Quit { .. } | Command::QuitSafely { .. } => None,
+        Command::Idle { .. } | Command::Watch { .. } | Command::Unframe { .. } => None,
     }
 }

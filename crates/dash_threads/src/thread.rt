@@ -11,7 +11,7 @@ ghost use Rattle.dash_hall.specs.Growth.{GoesOn};
 ghost use Rattle.dash_hall.specs.Kits.{IsHall, IsUnusedKit, frame_badge_of};
 ghost use Rattle.dash_hall.specs.Hosts.{PostsFrame};
 ghost use Rattle.dash_hall.specs.Requests.{posts_barrier};
-ghost use Rattle.dash_threads.specs.Threads.{IsThread, CallsAt, with_barrier, MakesPlanned, Takes, TakesAt, Continues, HasBegun, one_pass_more, HasPassed};
+ghost use Rattle.dash_threads.specs.Threads.{IsThread, CallsAt, with_barrier, MakesPlanned, Takes, TakesAt, Continues, HasBegun, one_pass_more, HasPassed, rungs_of, one_more};
 
 use crate::labels::Labelled;
 use crate::planned::call_for;
@@ -178,6 +178,8 @@ impl PostingThread {
         ensures number { self.new.number ≡ self.old.number }
         ensures passed { self.new.passed ≡ self.old.passed }
         ensures heeds { look ≡ true → self.new ≡ record self.old { gave_up = true } }
+        ensures bells { self.new.gave_up ≡ false → rungs_of self.new ≡ rungs_of self.old }
+        ensures nudges { look ≡ false → self.old.gave_up ≡ false → self.new.gave_up ≡ true → rungs_of self.new ≡ one_more 0 (rungs_of self.old) }
         ensures made { self.new.gave_up ≡ false → TakesAt hall.now.lockstep script.now timed.now timed.command self.old self.new }
     {
         if look.is_stopped() {
@@ -197,6 +199,7 @@ impl PostingThread {
         ensures number { self.new.number ≡ self.old.number }
         ensures passed { self.new.passed ≡ self.old.passed }
         ensures gave_up { self.new.gave_up ≡ true }
+        ensures rung { rungs_of self.new ≡ one_more 0 (rungs_of self.old) }
     {
         self.gave_up = true;
         hall.stop.stop(rt);
@@ -220,6 +223,8 @@ impl PostingThread {
         ensures thread { IsThread script.now hall.now self.new }
         ensures number { self.new.number ≡ self.old.number }
         ensures passed { self.new.passed ≡ self.old.passed }
+        ensures goes { self.new.gave_up ≡ self.old.gave_up }
+        ensures bells { rungs_of self.new ≡ rungs_of self.old }
         ensures made { OnOk result (TakesAt hall.now.lockstep script.now timed.now timed.command self.old self.new) }
     {
         let Timed { now, command } = timed;
@@ -264,6 +269,8 @@ impl PostingThread {
         ensures thread { IsThread script.now hall.now self.new }
         ensures number { self.new.number ≡ self.old.number }
         ensures passed { self.new.passed ≡ self.old.passed }
+        ensures goes { self.new.gave_up ≡ self.old.gave_up }
+        ensures bells { rungs_of self.new ≡ rungs_of self.old }
         ensures made { OnOk result (MakesPlanned script.now timed.now timed.command self.old self.new) }
     {
         let Timed { now, command } = timed;
@@ -289,6 +296,8 @@ impl PostingThread {
         ensures thread { IsThread script.now hall.now self.new }
         ensures number { self.new.number ≡ self.old.number }
         ensures passed { self.new.passed ≡ self.old.passed }
+        ensures goes { self.new.gave_up ≡ self.old.gave_up }
+        ensures bells { rungs_of self.new ≡ rungs_of self.old }
         ensures made { IfOk result (λ token. CallsAt looper call token self.old.kit.posters.items self.new.kit.posters.items) }
         ensures token { IfOk result (λ token. looper < length self.old.kit.posters.items → is_some token ≡ posts_barrier call) }
         ensures barriers { self.new.barriers ≡ self.old.barriers }
@@ -314,6 +323,7 @@ impl PostingThread {
         ensures kit { self.new.kit ≡ self.old.kit }
         ensures number { self.new.number ≡ self.old.number }
         ensures passed { self.new.passed ≡ self.old.passed }
+        ensures goes { self.new.gave_up ≡ self.old.gave_up }
         ensures kept { OnOk result (self.new.barriers.items ≡ with_barrier self.old.barriers.items command token) }
     {
         let Command::Barrier { looper, label } = command else {
@@ -348,6 +358,8 @@ impl PostingThread {
         ensures thread { IsThread script.now hall.now self.new }
         ensures number { self.new.number ≡ self.old.number }
         ensures passed { self.new.passed ≡ self.old.passed }
+        ensures goes { self.new.gave_up ≡ self.old.gave_up }
+        ensures bells { rungs_of self.new ≡ rungs_of self.old }
         ensures made { OnOk result (TakesAt hall.now.lockstep script.now post.now (Frame looper post.phase post.id post.delay) self.old self.new) }
     {
         let place = looper as usize;
@@ -395,6 +407,8 @@ impl PostingThread {
         ensures thread { IsThread script.now hall.now self.new }
         ensures number { self.new.number ≡ self.old.number }
         ensures passed { self.new.passed ≡ self.old.passed }
+        ensures goes { self.new.gave_up ≡ self.old.gave_up }
+        ensures bells { rungs_of self.new ≡ rungs_of self.old }
         ensures made { OnOk result ((now : ℕ) → TakesAt hall.now.lockstep script.now now (Unframe looper phase id) self.old self.new) }
     {
         let place = looper as usize;

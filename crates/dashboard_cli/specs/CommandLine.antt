@@ -47,7 +47,8 @@ and_one app one = with_subcommand app one.top
 
 abbrev pub dashboard_app : App
 dashboard_app =
-    and_one (and_one (and_one (and_one (and_one (and_one (and_one (without_help (new_app (codes "dashboard"))) run_app) text_app) make_app) trace_app) check_app) animate_app) inbox_app
+    and_one (and_one (and_one (and_one (and_one (and_one (and_one (without_help (new_app (codes "dashboard")))
+    run_app) text_app) make_app) trace_app) check_app) animate_app) inbox_app
 
 -- the first word of a command
 abbrev pub name_of : Command → List ℕ

@@ -5,7 +5,8 @@ use Rattle.dash_script.specs.Reading.{IsRefusal, IsText}
 use Rattle.run_model.specs.declared.report.Report.{Report}
 use Rattle.run_model.specs.Text.{text}
 use Rattle.dash_stage.specs.Staged.{IsStaged}
-use Rattle.dashboard_cli.specs.Makings.{IsInboxScript, IsPlan, IsTrace, RefusesInbox, RefusesPlan, RefusesTrace, histories_text, WritesFree, WritesScript, WritesUp, WritesGenerated, WritesSummary, WritesVerdict, WritesValues, WritesInbox}
+use Rattle.dashboard_cli.specs.Makings.{IsInboxScript, IsPlan, IsTrace, RefusesInbox, RefusesPlan, RefusesTrace, histories_text, WritesFree}
+use Rattle.dashboard_cli.specs.Makings.{WritesScript, WritesUp, WritesGenerated, WritesSummary, WritesVerdict, WritesValues, WritesInbox}
 use Rattle.dashboard_cli.specs.Returns.{only_report}
 use Rattle.dashboard_cli.specs.Streams.{limit, trace_limit}
 use Rattle.dashboard_cli.specs.declared.making.Returned.{Returned}

@@ -13,9 +13,8 @@ use Rattle.loop_model.specs.Live.{live}
 use Rattle.loop_model.specs.Pick.{first_eligible, pick}
 use Rattle.loop_model.specs.Fates.{fates}
 use Rattle.frame_phases.specs.Frames.{lawful, all_allowed, is_allowed, owed}
-use Rattle.loop_model.specs.declared.journal.Act.TheVariants as act
+use Rattle.loop_model.specs.declared.journal.Act.{Act}
 use Rattle.loop_model.specs.declared.journal.Journal.{Journal}
-use Rattle.loop_model.specs.declared.journal.Route.TheVariants as route
 use Rattle.loop_model.specs.declared.record.QueueRecord.{QueueRecord}
 use Rattle.run_model.specs.declared.report.Report.{Report}
 use Rattle.run_model.specs.Control.{is_controlled}
@@ -30,31 +29,47 @@ use Rattle.run_model.proofs.Below.{each_below}
 use Rattle.run_model.proofs.Table.{led}
 use Rattle.run_model.proofs.Examples.{entry, message, journal, frames, page}
 use Rattle.run_model.proofs.WorkedPosts.{two_posts}
+use Rattle.run_model.proofs.NotRuns.{dispatch, look}
 use Rattle.dash_script.specs.declared.script.Script.{Script}
 
-abbrev script : Script
+abbrev pub script : Script
 script = two_posts.script
 
-abbrev mode : Mode
+abbrev pub mode : Mode
 mode = in_free_mode (λ n. n % 5 == 0) 5
 
+-- the entries of the run: the two posts, their looks, and the halt
+abbrev pub first_post : ℕ → Entry
+first_post when = entry 0 0 (call.Post (message 0 7 when None)) (reply.Accepted 0)
+
+abbrev pub second_post : ℕ → Entry
+second_post when = entry 0 1 (call.Post (message 0 8 when None)) (reply.Accepted 1)
+
+abbrev pub halt : ℕ → Entry
+halt now = entry 2 0 (call.Halt now) reply.Halted
+
 abbrev entries : List Entry
-entries =
-    entry 0 0 (call.Post (message 0 7 15 None)) (reply.Accepted 0)
-    ∷ entry 0 1 (call.Post (message 0 8 20 None)) (reply.Accepted 1)
-    ∷ entry 1 0 (call.Next 25) (reply.Dispatched 0)
-    ∷ entry 1 1 (call.Next 30) (reply.Dispatched 1)
-    ∷ entry 2 0 (call.Halt 40) reply.Halted
-    ∷ []
+entries = first_post 15 ∷ second_post 20 ∷ look 0 25 0 ∷ look 1 30 1 ∷ halt 40 ∷ []
+
+-- the queue's record with these entries
+abbrev pub queue_by : List Entry → QueueRecord
+queue_by es = record { looper = 0; main = true; lockstep = false; senders = 3; segments = record { base = empty_base 3; entries = es } ∷ [] }
+
+-- a report of this script, with this reading at the start, these entries and these acts
+abbrev pub report_by : Script → ℕ → List Entry → List Act → Report
+report_by s start es acts = record { script = s; queues = queue_by es ∷ []; journals = journal 0 acts ∷ []; frames = frames 0 [] ∷ []; start = start }
 
 abbrev queue_0 : QueueRecord
-queue_0 = record { looper = 0; main = true; lockstep = false; senders = 3; segments = record { base = empty_base 3; entries = entries } ∷ [] }
+queue_0 = queue_by entries
+
+abbrev pub acts : List Act
+acts = dispatch 0 25 ∷ dispatch 1 30 ∷ []
 
 abbrev journal_0 : Journal
-journal_0 = journal 0 (act.Dispatch 0 25 route.Handled ∷ act.Dispatch 1 30 route.Handled ∷ [])
+journal_0 = journal 0 acts
 
 abbrev report : Report
-report = record { script = script; queues = queue_0 ∷ []; journals = journal_0 ∷ []; frames = frames 0 [] ∷ []; start = 5 }
+report = report_by script 5 entries acts
 
 legal : IsLegal (setting_of queue_0) (empty_base 3) entries
 unfolding IsLegal answer clock accepted_count barrier_count quit_place has_disposed has_halted live first_eligible pick

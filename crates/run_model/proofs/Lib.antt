@@ -17,6 +17,7 @@ pub mod NotRunsTimes
 pub mod NotRunsMoves
 pub mod RunLaws
 pub mod FreeRun
+pub mod NotRunsByClock
 pub mod Growth
 pub mod FrameKeeping
 pub mod ControlLaws

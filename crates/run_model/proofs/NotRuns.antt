@@ -51,11 +51,11 @@ abbrev pub halt : ℕ → Entry
 halt seq = entry 2 seq (call.Halt 20) reply.Halted
 
 -- the number of a message's post, and of a dispatch
-abbrev what_in : Option Call → ℕ
+abbrev pub what_in : Option Call → ℕ
 what_in (Some (call.Post p)) = p.what
 what_in _ = 0
 
-abbrev number_in : Option Reply → ℕ
+abbrev pub number_in : Option Reply → ℕ
 number_in (Some (reply.Dispatched n)) = n
 number_in _ = 0
 

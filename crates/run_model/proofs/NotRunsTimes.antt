@@ -38,7 +38,7 @@ halt seq now = entry 2 seq (call.Halt now) reply.Halted
 abbrev taken_rows : List Row
 taken_rows = main_rows (advance 0 10 ∷ post 15 ∷ advance 1 15 ∷ look 0 15 0 ∷ halt 2 15 ∷ []) (dispatch 0 10 ∷ [])
 
-abbrev moment_first : List (ℕ × ℕ) → ℕ
+abbrev pub moment_first : List (ℕ × ℕ) → ℕ
 moment_first ((number, now) ∷ xs) = now
 moment_first [] = 0
 

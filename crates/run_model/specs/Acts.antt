@@ -37,7 +37,10 @@ unfoldable pub after_act : Script → ℕ → List Entry → List FrameEntry →
 after_act s q es fs frame a (Dispatch n now route) =
     record (dispatched s q fs frame n now a (post_at es n)) { painted = [] }
 after_act s q es fs frame a (Vsync stamp) =
-    record a { sent = a.sent ++ record { queue = q; ask = Makes (Post (frame_message q 0 0 (stamp / 1000000))); reply = None; timing = NotBefore (millis_up stamp) } ∷ [] }
+    record a {
+      sent = a.sent
+          ++ record { queue = q; ask = Makes (Post (frame_message q 0 0 (stamp / 1000000))); reply = None; timing = NotBefore (millis_up stamp) } ∷ [];
+    }
 after_act s q es fs frame a (Paint g v) = record a { painted = a.painted ++ Paint g v ∷ [] }
 after_act s q es fs frame a (Idle i k) = a
 after_act s q es fs frame a (Event f e m) = a

@@ -1,5 +1,6 @@
 -- What a looper comes to: its gauges, its traversal, its rules, and the calls and frame callbacks that each step adds.
-use Rattle.std.specs.Prelude.{ℕ, ◌+◌, ◌-◌, ◌==◌, min, Bool, true, false, ◌&&◌, ◌||◌, not, nat_lt, nat_le, List, [], ◌∷◌, ◌++◌, Option, Some, None, is_some, map, fold, slice_get, slice_set, replicate, length, if◌then◌else◌}
+use Rattle.std.specs.Prelude.{ℕ, ◌+◌, ◌-◌, ◌==◌, min, Bool, true, false, ◌&&◌, ◌||◌, not, nat_lt, nat_le, List, [], ◌∷◌, ◌++◌, Option, Some, None}
+use Rattle.std.specs.Prelude.{is_some, map, fold, slice_get, slice_set, replicate, length, if◌then◌else◌}
 use Rattle.std.specs.List.{filter_map, zip, enumerate_from}
 use Rattle.std.specs.Option.{option_map_or}
 use Rattle.loop_model.specs.declared.post.Post.{Post as PostData}
@@ -80,13 +81,15 @@ with_gauge g x a = record a { gauges = slice_set a.gauges g x }
 abbrev pub traversal_requested : Script → ℕ → ℕ → Looper → Looper
 traversal_requested s q now a =
     if is_some a.barrier then a
-    else and_posts_frame now (traversal_phase s) traversal_id (and_sends q now (Makes (Barrier 0)) (record a { barrier = Some a.barriers; barriers = a.barriers + 1 }))
+    else and_posts_frame now (traversal_phase s) traversal_id
+    (and_sends q now (Makes (Barrier 0)) (record a { barrier = Some a.barriers; barriers = a.barriers + 1 }))
 
 -- a message sets the target of gauge g, which begins to animate where it stands still elsewhere
 abbrev pub target_set : Script → ℕ → ℕ → ℕ → ℕ → Gauge → Looper → Looper
 target_set s q now g target x a =
     if x.animating || x.value == target then with_gauge g (record x { target = target }) a
-    else traversal_requested s q now (and_posts_frame now animation_phase (animation_id g) (with_gauge g (record { value = x.value; target = target; animating = true }) a))
+    else traversal_requested s q now
+    (and_posts_frame now animation_phase (animation_id g) (with_gauge g (record { value = x.value; target = target; animating = true }) a))
 
 -- a message with an object: nothing where that is no gauge of the looper
 abbrev pub object_set : Script → ℕ → ℕ → ℕ → ℕ → Looper → Looper

@@ -22,7 +22,8 @@ pub record Move : Type 0 where
 abbrev pub moves_after : ℕ → List Entry → List Entry → List Move
 moves_after sender past [] = []
 moves_after sender past (e ∷ es) =
-    (if e.sender == sender && is_advance e.call then record { to = moment_of e.call; due = option_map when_of (first_eligible (empty_base 0) past) } ∷ [] else [])
+    (if e.sender == sender && is_advance e.call
+    then record { to = moment_of e.call; due = option_map when_of (first_eligible (empty_base 0) past) } ∷ [] else [])
     ++ moves_after sender (past ++ e ∷ []) es
 
 -- the moves of a queue's time by this sender, in order

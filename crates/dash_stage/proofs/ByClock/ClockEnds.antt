@@ -27,11 +27,12 @@ use Rattle.dash_loopers.specs.declared.looper.StageLooper.{StageLooper}
 use Rattle.dash_loopers.specs.declared.player.Parts.{Parts}
 use Rattle.dash_loopers.specs.Loopers.{IsLooper, posters_of, LooperKeeps}
 use Rattle.dash_loopers.specs.Played.{AreAlike, StandsBy, ComesBy}
-use Rattle.dash_loopers.proofs.LooperNext.{played_self}
+use Rattle.dash_loopers.proofs.LooperNext.{played_self, grown_self}
 use Rattle.dash_loopers.proofs.LooperPlayed.{comes_free}
 use Rattle.dash_stage.specs.declared.control.Controller.{Controller}
 use Rattle.dash_stage.specs.declared.stage.Stage.{Stage}
-use Rattle.dash_stage.specs.ByClock.{RunsByClock, LoopsByClock, EachIsLooper}
+use Rattle.dash_stage.specs.ByClock.{RunsByClock, LoopsByClock, EachIsLooper, HaveLooped}
+use Rattle.dash_stage.proofs.ByClock.Looping.{looped_on, all_heard}
 use Rattle.dash_stage.specs.Controllers.{IsControllerIn, IsClosingBy, HasClosedIn}
 use Rattle.dash_stage.specs.Playing.{HaveBegun, HaveComeBy}
 use Rattle.dash_stage.specs.RunEnds.{HasBegunByClock, IsClosingByClock, HasEndedByClock}
@@ -83,7 +84,7 @@ each_set R xs x y is some still one = record {
 
 -- a looper as it is
 pub loops_still : (m : Mode) (s : Script) (hall : Hall) (ls : List StageLooper) → EachIsLooper s hall ls → (k : ℕ) (d : StageLooper) → k < length ls → LoopsByClock m s hall (slice_index_or ls k d) (slice_index_or ls k d)
-loops_still m s hall ls are k d lt = record { looper = are k d lt; number = refl; plays = played_self s (slice_index_or ls k d); clocked = λ on by. by }
+loops_still m s hall ls are k d lt = record { looper = are k d lt; number = refl; plays = played_self s (slice_index_or ls k d); clocked = λ on by. by; grew = grown_self (slice_index_or ls k d) }
 
 -- where a looper stands that has gone on
 came_by : (s : Script) (q k : ℕ) (es : List Entry) (acts : List Act) (o : Option Parts) → IsSomeAnd o (ComesBy s q k es acts)
@@ -190,14 +191,15 @@ module _ (m : Mode) (s : Script) (st st' : Stage) (is' : IsStageIn false s st') 
 
   -- the threads have run and the loopers but main have ended
   pub closing_heard : IsHall s st.hall → AreLoopers s st.hall st.loopers.items → OfSenders (AreByClock m) st → HaveRunBy m s s.blocks st.threads.items → OthersHaveEnded st.loopers.items → LoopersGoOn st.loopers.items
-      → HaveComeBy s st.loopers.items → IsClosingBy s st.controller → IsClosingByClock m s st'
-  closing_heard is_hall are by run ended on come closing = record {
+      → HaveLooped m s st.loopers.items → HaveComeBy s st.loopers.items → IsClosingBy s st.controller → IsClosingByClock m s st'
+  closing_heard is_hall are by run ended on looped come closing = record {
     stage = is';
     same = same';
     clocked = clocked_heard by;
     run = run_kept m s s.blocks st.threads.items st'.threads.items kept.threads run;
     ended = ended_kept HaveHeard st.loopers.items st'.loopers.items kept.loopers ended;
     on = go_on_kept HaveHeard st.loopers.items st'.loopers.items kept.loopers on;
+    looped = looped_on m s st.loopers.items st'.loopers.items looped (all_heard s st.hall is_hall st.loopers.items st'.loopers.items are kept.loopers);
     played = played_heard is_hall are come;
     closing = closing_by_kept s st.controller st'.controller (calls_none st.controller st'.controller kept.controller) closing;
   }
@@ -205,14 +207,15 @@ module _ (m : Mode) (s : Script) (st st' : Stage) (is' : IsStageIn false s st') 
   -- and main was halted
   pub ended_heard : (was : Stage) → IsStageIn false s was → HaveSeenTheSame was → was.threads ≡ st.threads → was.loopers ≡ st.loopers → m.lockstep ≡ false
       → IsHall s st.hall → AreLoopers s st.hall st.loopers.items → OfSenders (AreByClock m) st → HaveRunBy m s s.blocks st.threads.items → OthersHaveEnded st.loopers.items → LoopersGoOn st.loopers.items
-      → HaveComeBy s st.loopers.items → HasClosedIn false s st.controller
+      → HaveLooped m s st.loopers.items → HaveComeBy s st.loopers.items → HasClosedIn false s st.controller
       → EachTurnsOn Halts was.controller st.controller → ((d : Sender) → ends_halted (whole_on st.controller 0 d) ≡ true) → HasEndedByClock m s st'
-  ended_heard was is same threads loopers free is_hall are by run ended on come closed turns halted = record {
+  ended_heard was is same threads loopers free is_hall are by run ended on looped come closed turns halted = record {
     free = free;
     out = record { stage = subst (λ (b : Bool). IsStageIn b s st') (sym free) is'; same = same'; clocked = clocked_heard by };
     run = run_kept m s s.blocks st.threads.items st'.threads.items kept.threads run;
     ended = ended_kept HaveHeard st.loopers.items st'.loopers.items kept.loopers ended;
     on = go_on_kept HaveHeard st.loopers.items st'.loopers.items kept.loopers on;
+    looped = looped_on m s st.loopers.items st'.loopers.items looped (all_heard s st.hall is_hall st.loopers.items st'.loopers.items are kept.loopers);
     played = played_heard is_hall are come;
     closed = subst (λ (b : Bool). HasClosedIn b s st'.controller) (sym free) (closed_kept s st.controller st'.controller (calls_none st.controller st'.controller kept.controller) closed);
     halted = halted_stays s was st.controller st' is is' same same'

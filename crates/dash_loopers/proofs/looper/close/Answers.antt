@@ -1,4 +1,6 @@
-use Rattle.std.proofs.Common.{◌<◌, refl, inl, arith}
+use Rattle.std.proofs.Common.{◌≡◌, ◌<◌, ◌+◌, false, true≢false, length, get_or, refl, sym, ap, ◌∙◌, inl, arith}
+use Rattle.std.proofs.lemmas.List.{get_or_default, get_or-set_same}
+use Rattle.looper_run.specs.Holding.{Sender}
 use Rattle.dash_loopers.proofs.LooperPlaces.{queue_count, main_near, other_within, other_read, other_of_read, parts_self, parts_with}
 use Rattle.dash_loopers.proofs.looper.close.Goals as goal
 
@@ -42,3 +44,22 @@ returns-clause-parts g c =
     parts_with parts 0 c.index_mut.result.now c.nudge.new.self _
     (other_read c.args.script.now c.args.hall.now c.args.number 0 0 parts c.requires.looper c.requires.parts near (inl (some, refl)) parts.others.len c.index_mut.result.now (omega (arith, parts.others.ok.0)) c.index_mut.ensures.value)
     (λ i. record { table = same.table i; constants = same.constants i; sender = same.sender i }) refl refl refl
+
+pub returns-then-not-gave_up-clause-nudged : goal.returns-then-not-gave_up-clause-nudged
+returns-then-not-gave_up-clause-nudged g c = λ up apart. (let on : c.args.gave_up ≡ false = c.if-not-gave_up.true in absurd (true≢false (sym up ∙ on)))
+
+pub returns-then-number-eq0-clause-nudged : goal.returns-then-number-eq0-clause-nudged
+returns-then-number-eq0-clause-nudged g c = λ up apart. absurd (apart (omega (arith, c.if-number-eq0.true)))
+
+pub returns-clause-nudged : goal.returns-clause-nudged
+returns-clause-nudged g c = λ up apart d. (
+    let s = c.args.script.now in
+    let hall = c.args.hall.now in
+    let parts = c.args.parts.now in
+    let ps = parts.others.items in
+    let p = c.index_mut.result.now in
+    let some : 0 < c.args.number = omega (arith, c.if-number-eq0.false) in
+    let near = main_near s hall c.args.number c.requires.looper in
+    let within : 0 < length ps = other_within s hall c.args.number 0 0 parts c.requires.looper c.requires.parts near (inl (some, refl)) in
+    let was : p ≡ get_or ps 0 p = c.index_mut.ensures.value in
+    ap (λ (z : Sender). z.view.rung) (get_or-set_same ps 0 c.nudge.new.self d within) ∙ (c.nudge.ensures.rung ∙ ap (λ (z : Sender). z.view.rung + 1) (was ∙ get_or_default ps 0 p d within)))

@@ -17,7 +17,7 @@ returns-clause-loopers g c =
     let it : StageLooper = slice_index_or ls 0 c.index-loopers-0.result in
     let some : 0 < length ls = subst (λ (n : ℕ). 0 < n) (sym c.requires.loopers.0) c.requires.some in
     each_set (LoopsByClock m s hall) ls it c.drain_by_clock.new.self (get_or_default ls 0 c.index-loopers-0.result it some) some (loops_still m s hall ls (λ k d lt. (c.requires.loopers.1 k d lt).0))
-    (record { looper = c.drain_by_clock.ensures.looper; number = c.drain_by_clock.ensures.number; plays = c.drain_by_clock.ensures.plays; clocked = c.drain_by_clock.ensures.clocked })
+    (record { looper = c.drain_by_clock.ensures.looper; number = c.drain_by_clock.ensures.number; plays = c.drain_by_clock.ensures.plays; clocked = c.drain_by_clock.ensures.clocked; grew = c.drain_by_clock.ensures.grew })
 
 pub returns-clause-others : goal.returns-clause-others
 returns-clause-others g c ended k d some lt =

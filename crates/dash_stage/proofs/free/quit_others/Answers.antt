@@ -37,10 +37,10 @@ loop-looper-preserved g c =
       controller = c.quit_unless-done.ensures.controller;
       some = omega arith;
       quitting = λ done. (let both = and_parts at.done _ done in
-          quits_more s hall h at.looper lt at.controller was next c.in-Some.now long (here both.1) elsewhere at.invariant.some c.in-Some.ensures.late (at.invariant.quitting both.0));
+          quits_more s hall h at.looper lt at.controller was next c.in-Ok.now long (here both.1) elsewhere at.invariant.some c.in-Ok.ensures.late (at.invariant.quitting both.0));
       bells = still_no_less c.args.controller.now at.controller next at.invariant.bells c.quit_unless-done.ensures.bells;
       clocked = λ done m moment by. (let both = and_parts at.done _ done in
-          quits_clocked s hall h at.looper lt at.controller was next c.in-Some.now long (here both.1) elsewhere m moment (at.invariant.clocked both.0 m moment by));
+          quits_clocked s hall h at.looper lt at.controller was next c.in-Ok.now long (here both.1) elsewhere m moment (at.invariant.clocked both.0 m moment by));
     }
 
 pub returns-in_default-clause-rung : goal.returns-in_default-clause-rung
@@ -66,5 +66,14 @@ returns-else-not-done-clause-quit g c done =
     record {
       controller = in_free s hall at.controller c.requires.hall.1 at.invariant.controller;
       closing = quitting_ends s at.controller at.looper all (at.invariant.quitting done);
-      clocked = at.invariant.clocked done m (of_shown (g.C.Clock.shows c.args.timer.now.clock.now) c.args.timer.now.start c.in-Some.now c.in-Some.ensures.moment);
+      clocked = at.invariant.clocked done m (of_shown (g.C.Clock.shows c.args.timer.now.clock.now) c.args.timer.now.start c.in-Ok.now c.in-Ok.ensures.moment);
     }
+
+pub returns-in_default-clause-heeds : goal.returns-in_default-clause-heeds
+returns-in_default-clause-heeds g c = λ given. absurd (true≢false (sym given))
+
+pub returns-then-not-done-clause-heeds : goal.returns-then-not-done-clause-heeds
+returns-then-not-done-clause-heeds g c = λ given. (let at = c.loop-looper in let wrong : at.done ≡ false = c.if-not-done.true in absurd (true≢false (sym given ∙ wrong)))
+
+pub returns-else-not-done-clause-heeds : goal.returns-else-not-done-clause-heeds
+returns-else-not-done-clause-heeds g c = λ given. c.in-Ok.ensures.heeds

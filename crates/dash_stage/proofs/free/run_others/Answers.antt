@@ -1,7 +1,7 @@
 use Rattle.std.specs.Prelude.{slice_index_or}
 use Rattle.std.proofs.Common.{arith}
 use Rattle.run_model.specs.Moments.{Mode, in_free_mode}
-use Rattle.dash_stage.specs.ByClock.{LoopsByClock}
+use Rattle.dash_stage.specs.ByClock.{LoopsAlone}
 use Rattle.dash_stage.proofs.Sharing.Turns.{of_same}
 use Rattle.dash_stage.proofs.free.run_others.Goals as goal
 
@@ -13,6 +13,6 @@ returns g c =
         long = omega (arith, c.for_each_mut.auto.s);
         each = λ k d lt.
             let one = (c.for_each_mut.ensures k d lt).1 in
-            of_same (LoopsByClock m c.args.script.now c.args.hall.now) one.argument.now one.after_call.now (slice_index_or c.args.others.now k d) (slice_index_or c.for_each_mut.new.s k d) one.argument_is one.left one.call;
+            of_same (LoopsAlone m c.args.script.now c.args.hall.now) one.argument.now one.after_call.now (slice_index_or c.args.others.now k d) (slice_index_or c.for_each_mut.new.s k d) one.argument_is one.left one.call;
       };
     }

@@ -1,4 +1,4 @@
-use Rattle.std.proofs.Common.{suc, refl, inl, inr, sym, ap, ◌∙◌}
+use Rattle.std.proofs.Common.{◌||◌, suc, refl, inl, inr, sym, ap, ap₂, ◌∙◌}
 use Rattle.run_model.specs.Moments.{in_free_mode}
 use Rattle.dash_loopers.specs.Loopers.{is_given_up}
 use Rattle.looper_run.specs.Round.{is_ended}
@@ -75,19 +75,29 @@ returns-then-is_at_end-clause-rounds g c =
     (sym c.has_ended.ensures ∙ c.if-has_ended.false) (sym c.gave_up.ensures ∙ c.if-gave_up.false) c.next_pulse.ensures.asks c.next_pulse.ensures.held c.next_pulse.ensures.number c.earlier-cap.ensures
     c.run_loop-how.ensures.loops c.run_loop-how.ensures.last in
     let gone = c.loop.invariant.rounds in
-    record { count = gone.0; between = c.loop.self; rounds = gone.1; at_end = inr (c.run_loop-how.result, once, sym c.is_at_end.ensures ∙ c.if-is_at_end.true) }
+    record { count = gone.0; between = c.loop.self; rounds = gone.1; stops = inr (c.run_loop-how.result, once, sym c.is_at_end.ensures ∙ c.if-is_at_end.true) }
 
 pub returns-then-has_ended-clause-rounds : goal.returns-then-has_ended-clause-rounds
 returns-then-has_ended-clause-rounds g c =
     let gone = c.loop.invariant.rounds in
-    record { count = gone.0; between = c.loop.self; rounds = gone.1; at_end = inl refl }
+    record { count = gone.0; between = c.loop.self; rounds = gone.1; stops = inl (ap (λ b. b || is_given_up c.loop.self.last) (sym c.has_ended.ensures ∙ c.if-has_ended.true), refl) }
 
 pub returns-then-gave_up-clause-rounds : goal.returns-then-gave_up-clause-rounds
 returns-then-gave_up-clause-rounds g c =
     let gone = c.loop.invariant.rounds in
-    record { count = gone.0; between = c.loop.self; rounds = gone.1; at_end = inl refl }
+    record {
+      count = gone.0;
+      between = c.loop.self;
+      rounds = gone.1;
+      stops = inl (ap₂ (λ a b. a || b) (sym c.has_ended.ensures ∙ c.if-has_ended.false) (sym c.gave_up.ensures ∙ c.if-gave_up.true), refl);
+    }
 
 pub returns-then-is_stopped-clause-rounds : goal.returns-then-is_stopped-clause-rounds
 returns-then-is_stopped-clause-rounds g c =
     let gone = c.loop.invariant.rounds in
-    record { count = gone.0; between = c.loop.self; rounds = gone.1; at_end = inl refl }
+    record {
+      count = gone.0;
+      between = c.loop.self;
+      rounds = gone.1;
+      stops = (sym c.is_stopped.ensures ∙ c.if-is_stopped.true, ap₂ (λ a b. a || b) (sym c.has_ended.ensures ∙ c.if-has_ended.false) (sym c.gave_up.ensures ∙ c.if-gave_up.false), refl);
+    }

@@ -20,3 +20,6 @@ returns-clause-looped g c =
     let p = c.args.player in
     let m = in_free_mode (g.C.Clock.shows p.timer.now.clock.now) p.timer.now.start in
     looped_with m p.place.script.now p.place.hall.now p.began.now.value c.args.self.now c.args.last p.parts c.close.new.parts c.close.ensures.parts (λ on. c.close.ensures.same (c.gave_up.ensures ∙ on)) c.requires.looped
+
+pub returns-clause-nudged : goal.returns-clause-nudged
+returns-clause-nudged g c = λ up apart. c.close.ensures.nudged (c.gave_up.ensures ∙ up) apart

@@ -4,11 +4,12 @@ use Rattle.run_model.specs.Moments.{Mode, in_free_mode}
 use Rattle.dash_hall.specs.Hearing.{AtEach}
 use Rattle.dash_threads.specs.Threads.{AreByClock}
 use Rattle.dash_loopers.specs.declared.looper.StageLooper.{StageLooper}
-use Rattle.dash_stage.specs.ByClock.{LoopsByClock}
+use Rattle.dash_stage.specs.ByClock.{LoopsByClock, HaveLooped}
 use Rattle.dash_stage.specs.Playing.{HaveComeBy}
 use Rattle.dash_stage.specs.Sharing.{OfLoopers}
 use Rattle.dash_stage.specs.Stages.{AreLoopers, OthersHaveEnded, LoopersGoOn}
 use Rattle.dash_stage.proofs.ByClock.ClockEnds.{loopers_ran, loopers_clocked, loopers_played, closing_heard}
+use Rattle.dash_stage.proofs.ByClock.Looping.{looped_on, all_grew}
 use Rattle.dash_stage.proofs.stage.Stage.drain.Goals as goal
 
 pub returns : goal.returns
@@ -32,5 +33,6 @@ returns g c =
             loopers = subst (OfLoopers (AreByClock m)) (sym wrote) (loopers_clocked m s hall st.loopers.items ls looped on was.clocked.loopers);
             controller = was.clocked.controller;
           })
-          was.run (subst OthersHaveEnded (sym wrote) ended) (subst LoopersGoOn (sym wrote) on) (subst (HaveComeBy s) (sym wrote) played) was.closing;
+          was.run (subst OthersHaveEnded (sym wrote) ended) (subst LoopersGoOn (sym wrote) on)
+          (subst (HaveLooped m s) (sym wrote) (looped_on m s st.loopers.items ls was.looped (all_grew m s hall st.loopers.items ls looped on))) (subst (HaveComeBy s) (sym wrote) played) was.closing;
     }

@@ -10,7 +10,7 @@ returns-clause-closing g c = λ going.
     let was = c.requires.closing in
     let halt = c.halt_by_clock-halted.ensures in
     closing_heard m c.args.script.now _ c.share_by_clock.new.self c.share_by_clock.ensures.stage c.share_by_clock.ensures.shared c.share_by_clock.ensures.kept was.stage.hall was.stage.loopers
-    (record { threads = was.clocked.threads; loopers = was.clocked.loopers; controller = halt.clocked m (of_shown (g.C.Clock.shows c.args.timer.now.clock.now) c.args.timer.now.start c.in-Some.now c.in-Some.ensures.moment) was.clocked.controller }) was.run was.ended was.on was.played (halt.closing going)
+    (record { threads = was.clocked.threads; loopers = was.clocked.loopers; controller = halt.clocked m (of_shown (g.C.Clock.shows c.args.timer.now.clock.now) c.args.timer.now.start c.in-Ok.now c.in-Ok.ensures.moment) was.clocked.controller }) was.run was.ended was.on was.looped was.played (halt.closing going)
 
 pub returns-clause-out : goal.returns-clause-out
 returns-clause-out g c = λ halted.
@@ -19,4 +19,4 @@ returns-clause-out g c = λ halted.
     let halt = c.halt_by_clock-halted.ensures in
     ended_heard m c.args.script.now _ c.share_by_clock.new.self c.share_by_clock.ensures.stage c.share_by_clock.ensures.shared c.share_by_clock.ensures.kept
     c.args.self.now was.stage was.same refl refl refl was.stage.hall was.stage.loopers
-    (record { threads = was.clocked.threads; loopers = was.clocked.loopers; controller = halt.clocked m (of_shown (g.C.Clock.shows c.args.timer.now.clock.now) c.args.timer.now.start c.in-Some.now c.in-Some.ensures.moment) was.clocked.controller }) was.run was.ended was.on was.played (halt.closed halted) halt.turns (halt.halted halted)
+    (record { threads = was.clocked.threads; loopers = was.clocked.loopers; controller = halt.clocked m (of_shown (g.C.Clock.shows c.args.timer.now.clock.now) c.args.timer.now.start c.in-Ok.now c.in-Ok.ensures.moment) was.clocked.controller }) was.run was.ended was.on was.looped was.played (halt.closed halted) halt.turns (halt.halted halted)

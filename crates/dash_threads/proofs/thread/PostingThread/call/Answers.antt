@@ -1,5 +1,7 @@
 use Rattle.std.proofs.Common.{◌≡◌, ◌<◌, ◌∙◌, length, set, None, sym, arith, ap}
+use Rattle.std.proofs.Math.Seq.{map-set_same}
 use Rattle.std.proofs.lemmas.Result.{IfOk-weaker}
+use Rattle.looper_run.specs.Holding.{Sender}
 use Rattle.dash_hall.specs.Growth.{Makes}
 use Rattle.dash_hall.specs.Requests.{call_made, tokens_of, posts_barrier, IsAtItsMoment}
 use Rattle.std.specs.Prelude.{is_some}
@@ -69,3 +71,8 @@ returns-clause-token g c =
       | else-place-len-via-then-place-len+else-place-len-2 w ↦ (λ near. absurd (omega (arith, near, long, w.len-then-place-len.ensures, w.if-place-len-2.false)))
       | else-place-len-via-else-place-len w ↦ (λ near. absurd (omega (arith, near, c.len.ensures, w.if-place-len.false)))
     ]
+
+pub returns-then-place-len-2-clause-bells : goal.returns-then-place-len-2-clause-bells
+returns-then-place-len-2-clause-bells g c =
+    map-set_same (λ (z : Sender). z.view.rung) c.args.self.now.kit.posters.items c.args.looper c.perform_by.new.poster c.index_mut.result.now
+    (c.perform_by.ensures.on.rung ∙ ap (λ (z : Sender). z.view.rung) c.index_mut.ensures.value)

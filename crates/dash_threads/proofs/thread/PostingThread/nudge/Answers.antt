@@ -3,6 +3,9 @@ use Rattle.std.proofs.Math.Seq.{map-set_same}
 use Rattle.dash_hall.specs.Kits.{badge_of}
 use Rattle.dash_hall.proofs.Badges.{posters_kept}
 use Rattle.dash_threads.specs.Threads.{known_of}
+use Rattle.dash_hall.specs.Kits.{badge_for}
+use Rattle.dash_hall.proofs.Badges.{alike_length}
+use Rattle.dash_threads.proofs.ThreadBells.{ring_set, ring_none}
 use Rattle.dash_threads.proofs.ThreadPlaces.{its_poster}
 use Rattle.dash_threads.proofs.thread.PostingThread.nudge.Goals as goal
 
@@ -38,3 +41,18 @@ returns-clause-kept g c =
       passed = refl;
       gave_up = refl;
     }
+
+pub returns-then-place-len-clause-rung : goal.returns-then-place-len-clause-rung
+returns-then-place-len-clause-rung g c = ring_none c.args.self.now.kit.posters.items c.args.looper (omega (arith, c.len.ensures, c.if-place-len.true))
+
+pub returns-then-place-len-2-clause-rung : goal.returns-then-place-len-2-clause-rung
+returns-then-place-len-2-clause-rung g c =
+    let t = c.args.self.now in
+    let long = alike_length badge_of (badge_for t.number) t.kit.posters.items c.args.hall.now.queues.items c.requires.thread.posters in
+    ring_none t.kit.posters.items c.args.looper (omega (arith, long, c.len-2.ensures, c.if-place-len-2.true))
+
+pub returns-clause-rung : goal.returns-clause-rung
+returns-clause-rung g c =
+    let ps = c.args.self.now.kit.posters.items in
+    let near : c.args.looper < length ps = omega (arith, c.len.ensures, c.if-place-len.false) in
+    ring_set ps c.args.looper c.index_mut.result.now c.nudge.new.self c.index_mut.ensures.value near c.nudge.ensures.rung

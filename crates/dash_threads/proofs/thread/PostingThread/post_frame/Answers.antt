@@ -1,4 +1,6 @@
 use Rattle.std.proofs.Common.{◌<◌, ◌∙◌, sym, subst, length, arith, ap}
+use Rattle.std.proofs.Math.Seq.{map-set_same}
+use Rattle.looper_run.specs.Holding.{Sender}
 use Rattle.dash_hall.specs.Kits.{badge_of, badge_for, frame_badge_of, frame_badge_for}
 use Rattle.dash_threads.proofs.ThreadSteps.{on_ok}
 use Rattle.dash_threads.proofs.ThreadFrameRuns.{frame_progress, frame_within}
@@ -83,3 +85,8 @@ returns-clause-made g c = λ m time mode allowed past rest are up. (
       | else-place-len-via-then-place-len+else-place-len-2 w ↦ absurd (omega (arith, lt, queues, w.len-then-place-len.ensures, w.if-place-len-2.false))
       | else-place-len-via-else-place-len w ↦ absurd (omega (arith, lt, queues, posters, c.len.ensures, w.if-place-len.false))
     ])
+
+pub returns-then-post-phases-clause-bells : goal.returns-then-post-phases-clause-bells
+returns-then-post-phases-clause-bells g c =
+    map-set_same (λ (z : Sender). z.view.rung) c.args.self.now.kit.posters.items c.args.looper c.post_frame.new.poster c.index_mut.result.now
+    (c.post_frame.ensures.on.rung ∙ ap (λ (z : Sender). z.view.rung) c.index_mut.ensures.value)

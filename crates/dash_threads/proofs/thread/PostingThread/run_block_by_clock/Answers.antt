@@ -1,8 +1,7 @@
-use Rattle.std.proofs.Common.{◌+◌, ◌∙◌, refl, sym, ap, subst, arith}
+use Rattle.std.proofs.Common.{◌+◌, sym, subst, arith}
 use Rattle.run_model.specs.Moments.{Mode, in_free_mode}
 use Rattle.dash_threads.specs.declared.thread.PostingThread.{PostingThread}
 use Rattle.dash_threads.proofs.ThreadBlocks.{IsAtLine, by_line, on_line, past_lines, past_passed}
-use Rattle.dash_threads.proofs.ThreadNudges.{stays_waited, takes_waited, passed_waited}
 use Rattle.dash_threads.proofs.thread.PostingThread.run_block_by_clock.Goals as goal
 use Rattle.dash_threads.proofs.thread.PostingThread.run_block_by_clock.Goals.{then-line-self, else-line-self}
 
@@ -18,13 +17,9 @@ loop-line-preserved g c =
     let lines = c.as_slice-line-items in
     elim c.if-line-self.branch [
       | then-line-self w ↦ subst (λ (z : PostingThread). IsAtLine m s hall b (i + 1) t z) (sym w.self-is) (
-          let v = w.wait_for-now.new.self in
-          let waited = w.wait_for-now.ensures in
-          let ran = w.run_at.ensures in
-          on_line m s hall b i t here.self lines.result.now lines.ensures (omega (arith, c.loop-line-test.true)) here.invariant w.run_at.new.self w.if-line-self.true ran.thread (ran.number ∙ ap (λ (z : PostingThread). z.number) waited.same)
-          (stays_waited here.self v w.run_at.new.self waited.stays ran.stays)
-          (takes_waited m s hall b.time _ here.self v w.run_at.new.self w.wait_for-now.result refl c.requires.mode waited.same waited.moment ran.made)
-          (λ going. passed_waited here.self v w.run_at.new.self w.wait_for-now.result _ waited.passed (ran.made going).1 ran.passed))
+          let ran = w.run_line_by_clock.ensures in
+          on_line m s hall b i t here.self lines.result.now lines.ensures (omega (arith, c.loop-line-test.true)) here.invariant w.run_line_by_clock.new.self w.if-line-self.true ran.thread ran.number
+          ran.stays (λ going. (ran.goes going, ran.made going)) ran.passed)
       | else-line-self w ↦ subst (λ (z : PostingThread). IsAtLine m s hall b (i + 1) t z) (sym w.self-is) (by_line m s hall b i t here.self lines.result.now lines.ensures (omega (arith, c.loop-line-test.true)) here.invariant w.if-line-self.false)
     ]
 

@@ -1,5 +1,5 @@
-use Rattle.dash_threads.proofs.ThreadNudges.{some_so}
+use Rattle.dash_threads.proofs.ThreadNudges.{ok_so}
 use Rattle.dash_threads.proofs.thread.PostingThread.wait_for.Goals as goal
 
 pub returns-clause-passed : goal.returns-clause-passed
-returns-clause-passed g c = some_so _ _ c.saturating_add-self.ensures
+returns-clause-passed g c = ok_so _ _ c.saturating_add-self.ensures

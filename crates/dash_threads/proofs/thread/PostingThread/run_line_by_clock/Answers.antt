@@ -1,0 +1,30 @@
+use Rattle.std.proofs.Common.{Bool, true≢false, refl, sym, ap, ◌∙◌, subst}
+use Rattle.run_model.specs.Moments.{Mode, in_free_mode}
+use Rattle.dash_threads.specs.declared.thread.PostingThread.{PostingThread}
+use Rattle.dash_threads.specs.Threads.{TakesAt, rungs_of, more_for, looper_woken}
+use Rattle.dash_threads.proofs.ThreadNudges.{takes_at}
+use Rattle.dash_threads.proofs.thread.PostingThread.run_line_by_clock.Goals as goal
+
+pub returns-clause-number : goal.returns-clause-number
+returns-clause-number g c = c.run_at.ensures.number ∙ ap (λ (z : PostingThread). z.number) c.wait_for.ensures.same
+
+pub returns-clause-stays : goal.returns-clause-stays
+returns-clause-stays g c = λ up. absurd (true≢false (sym up ∙ c.if-self.false))
+
+pub returns-clause-passed : goal.returns-clause-passed
+returns-clause-passed g c = λ going. c.run_at.ensures.passed ∙ c.in-Ok.ensures.passed
+
+pub returns-clause-made : goal.returns-clause-made
+returns-clause-made g c = λ going. (
+    let m : Mode = in_free_mode (g.C.Clock.shows c.args.pace.now.timer.now.clock.now) c.args.pace.now.timer.now.start in
+    let s = c.args.script.now in
+    let v = c.wait_for.new.self in
+    let w = c.run_at.new.self in
+    let now = c.in-Ok.now in
+    let command = c.args.timed.command in
+    takes_at m s c.args.timed.now command c.args.self.now v w now v.passed refl c.wait_for.ensures.same c.in-Ok.ensures.moment
+    (subst (λ (f : Bool). TakesAt f s now command v w) c.requires.mode (c.run_at.ensures.made going)))
+
+pub returns-clause-rung : goal.returns-clause-rung
+returns-clause-rung g c = λ going.
+    c.run_at.ensures.rung going ∙ ap (λ (z : PostingThread). more_for (looper_woken c.args.timed.command) (rungs_of z)) c.wait_for.ensures.same
