@@ -24,17 +24,23 @@ HEAP = HERE.parent / "examples" / "embed" / "heap.c"
 FLAGS = ["-O2", f"-I{CRATE / 'include'}", "-I" + str(PEERS)]
 C = ["-std=c11", "-D_DEFAULT_SOURCE"]
 
+# AOSP's own libraries as Debian has them: no pkg-config tells of them
+AOSP = "AOSP Looper"
+ANDROID = pathlib.Path("/usr/include/android")
+LIBRARIES = pathlib.Path(f"/usr/lib/{os.uname().machine}-linux-gnu/android")
+ANDROID_FLAGS = ["-w", "-isystem", str(ANDROID), f"-L{LIBRARIES}", "-lutils", "-llog", "-lcutils", "-lbase", f"-Wl,-rpath,{LIBRARIES}"]
+
 # name, sources, flags, the package of pkg-config, what to install
 PROGRAMS = [
     ("ours", ["ours.c", HEAP, LIBRARY], [], None, None),
-    ("ours, record let go", ["ours.c", HEAP, LIBRARY], ["-DFORGET=1000"], None, None),
-    ("and nodes kept", ["ours.c", "heap_kept.c", LIBRARY], ["-DFORGET=1000"], None, None),
+    ("ours, nodes kept", ["ours.c", "heap_kept.c", LIBRARY], [], None, None),
     ("no queue", ["no_queue.c"], [], None, None),
     ("plain C list", ["plain_list.c"], [], None, None),
     ("GLib", ["glib.c"], [], "glib-2.0", "libglib2.0-dev"),
     ("Qt", ["qt.cpp"], ["-fPIC"], "Qt5Core", "qtbase5-dev"),
     ("libuv", ["libuv.c"], [], "libuv", "libuv1-dev"),
     ("libevent", ["libevent.c"], [], "libevent_pthreads", "libevent-dev"),
+    (AOSP, ["aosp.cpp"], [], AOSP, "android-libutils-dev"),
 ]
 JAVA = "Java"
 
@@ -47,7 +53,7 @@ HANDLED = {("chain", 200_000): "handled", ("burst", 1_000): "handled_burst"}
 LIMIT = 20
 
 # these walk their list from the head at each post, so they take no part where it is long (nor do Qt's timers)
-WALKS = {"plain C list", JAVA}
+WALKS = {"plain C list", JAVA, AOSP}
 
 # mode, messages at once, rounds, those that don't take part
 CASES = [
@@ -56,7 +62,7 @@ CASES = [
     ("burst", 200_000, 1, WALKS),
     ("rising", 1_000, 20, set()),
     ("rising", 200_000, 1, WALKS | {"Qt"}),
-    ("posters", 100_000, 1, {"libuv"}),
+    ("posters", 100_000, 1, {"libuv", AOSP}),
     ("scatter", 52, 40, set()),
     ("scatter", 1_000, 20, set()),
     ("scatter", 20_000, 1, WALKS | {"Qt"}),
@@ -72,6 +78,8 @@ def flags_of(package):
     """What pkg-config says of the package, or None."""
     if package is None:
         return []
+    if package == AOSP:
+        return ANDROID_FLAGS if (ANDROID / "utils" / "Looper.h").is_file() else None
     if shutil.which("pkg-config") is None:
         return None
     asked = subprocess.run(["pkg-config", "--cflags", "--libs", package], capture_output=True, text=True)
@@ -170,8 +178,8 @@ def nanoseconds(least, case, name):
 
 
 def ratio(least, case, name):
-    """By how much the program takes longer than the queue whose record is let go."""
-    time, ours = least.get((*case, name)), least.get((*case, "ours, record let go"))
+    """By how much the program takes longer than ours."""
+    time, ours = least.get((*case, name)), least.get((*case, "ours"))
     return "" if time is None or ours is None else f"{time / ours:.2g}"
 
 

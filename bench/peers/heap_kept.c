@@ -11,13 +11,13 @@ enum { LEAST = 120 };
 static void *kept;
 static char nothing;
 
-static mq_memory told(void *at)
+static msgq_memory told(void *at)
 {
-    mq_memory memory = {at != NULL, at != NULL ? at : &nothing};
+    msgq_memory memory = {at != NULL, at != NULL ? at : &nothing};
     return memory;
 }
 
-mq_memory rattle_alloc(size_t size, size_t align)
+msgq_memory rattle_alloc(size_t size, size_t align)
 {
     (void)align;
     if (size <= LEAST && kept != NULL) {
@@ -28,7 +28,7 @@ mq_memory rattle_alloc(size_t size, size_t align)
     return told(malloc(size < LEAST ? LEAST : size));
 }
 
-mq_memory rattle_realloc(void *at, size_t was, size_t size, size_t align)
+msgq_memory rattle_realloc(void *at, size_t was, size_t size, size_t align)
 {
     (void)was;
     (void)align;

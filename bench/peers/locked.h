@@ -6,8 +6,8 @@
 #include <pthread.h>
 
 static bool open_queue(void);
-static mq_answer post(const mq_message *message);
-static mq_look next(uint64_t now);
+static msgq_answer post(const msgq_message *message);
+static msgq_look next(uint64_t now);
 /* Is called once for each message that was taken, under the lock. */
 static void taken(void);
 
@@ -22,24 +22,24 @@ static uint64_t milliseconds(void)
 
 static void send(uint64_t when)
 {
-    mq_message message = {.when = when, .handler = 7, .what = 1};
+    msgq_message message = {.when = when, .handler = 7, .what = 1};
     pthread_mutex_lock(&lock);
-    mq_answer answer = post(&message);
+    msgq_answer answer = post(&message);
     if (answer.wake) {
         pthread_cond_signal(&changed);
     }
     pthread_mutex_unlock(&lock);
-    if (answer.kind != MQ_DONE) {
+    if (answer.kind != MSGQ_DONE) {
         exit(3);
     }
 }
 
-static void wait_for(const mq_look *look)
+static void wait_for(const msgq_look *look)
 {
-    if (look->kind == MQ_WAIT) {
+    if (look->kind == MSGQ_WAIT) {
         struct timespec time = {(time_t)(look->time / 1000), (long)(look->time % 1000) * 1000000};
         pthread_cond_timedwait(&changed, &lock, &time);
-    } else if (look->kind == MQ_WAIT_FOREVER) {
+    } else if (look->kind == MSGQ_WAIT_FOREVER) {
         pthread_cond_wait(&changed, &lock);
     } else {
         exit(4);
@@ -49,8 +49,8 @@ static void wait_for(const mq_look *look)
 static void take(void)
 {
     pthread_mutex_lock(&lock);
-    mq_look look = next(milliseconds());
-    while (look.kind != MQ_TAKEN) {
+    msgq_look look = next(milliseconds());
+    while (look.kind != MSGQ_TAKEN) {
         wait_for(&look);
         look = next(milliseconds());
     }

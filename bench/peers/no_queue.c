@@ -9,22 +9,22 @@ static bool open_queue(void)
     return true;
 }
 
-static mq_answer post(const mq_message *message)
+static msgq_answer post(const msgq_message *message)
 {
-    mq_answer answer = {0};
+    msgq_answer answer = {0};
     (void)message;
     answer.wake = blocked && count == 0;
     count++;
     return answer;
 }
 
-static mq_look next(uint64_t now)
+static msgq_look next(uint64_t now)
 {
-    mq_look look = {0};
+    msgq_look look = {.kind = MSGQ_TAKEN};
     (void)now;
     blocked = count == 0;
     if (blocked) {
-        look.kind = MQ_WAIT_FOREVER;
+        look.kind = MSGQ_WAIT_FOREVER;
     } else {
         count--;
         look.message.what = 1;

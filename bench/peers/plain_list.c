@@ -3,7 +3,7 @@
 
 typedef struct node {
     struct node *next;
-    mq_message message;
+    msgq_message message;
 } node;
 
 static node *head;
@@ -14,12 +14,12 @@ static bool open_queue(void)
     return true;
 }
 
-static mq_answer post(const mq_message *message)
+static msgq_answer post(const msgq_message *message)
 {
-    mq_answer answer = {0};
+    msgq_answer answer = {0};
     node *fresh = malloc(sizeof *fresh);
     if (fresh == NULL) {
-        answer.kind = MQ_NO_MEMORY;
+        answer.kind = MSGQ_NO_MEMORY;
         return answer;
     }
     fresh->message = *message;
@@ -35,9 +35,9 @@ static mq_answer post(const mq_message *message)
     return answer;
 }
 
-static mq_look next(uint64_t now)
+static msgq_look next(uint64_t now)
 {
-    mq_look look = {0};
+    msgq_look look = {.kind = MSGQ_TAKEN};
     node *first = head;
     if (first != NULL && first->message.when <= now) {
         head = first->next;
@@ -47,7 +47,7 @@ static mq_look next(uint64_t now)
         return look;
     }
     blocked = true;
-    look.kind = first == NULL ? MQ_WAIT_FOREVER : MQ_WAIT;
+    look.kind = first == NULL ? MSGQ_WAIT_FOREVER : MSGQ_WAIT;
     look.time = first == NULL ? 0 : first->message.when;
     return look;
 }

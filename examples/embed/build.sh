@@ -1,6 +1,8 @@
 #!/usr/bin/env bash
-# Builds the examples over the static library and runs them: those in C with each compiler that is there, plainly and under the
-# address and the thread sanitizer, the one in Rust with rustc. What isn't there is skipped with a line.
+# build.sh [--long]: builds the examples over the static library and runs them: those in C with each compiler that is there, plainly,
+# under the address and undefined sanitizers, and under valgrind's memcheck and helgrind (the thread sanitizer can't see into the
+# library, valgrind can); those in Rust with rustc. It also tries that the header compiles as C99 to C++20, and that what it is to
+# warn of is warned of. What isn't there is skipped with a line.
 # The library is made by rt lib where it isn't there or is older than the sources: that checks message_queue_c once more, and
 # below it what changed.
 set -eu
@@ -11,6 +13,8 @@ sources=()
 for name in loop_model message_slot message_list when_queue queue_state message_queue_c; do
     sources+=("$crate/../$name/src")
 done
+steps=100000
+[ "${1:-}" != --long ] || steps=10000000
 out=$(mktemp -d)
 trap 'rm -rf "$out"' EXIT
 
@@ -41,14 +45,30 @@ if [ ! -f "$library" ] || [ -n "$(find "${sources[@]}" "$crate/../../crates.txt"
     }
 fi
 
-# run_one COMPILER SANITIZER NAME: builds one example with the heap over malloc, or its own, and runs it
-run_one() {
-    local flags=() heap=("$here/heap.c") program="$out/$1-$2-$3"
+# build COMPILER SANITIZER NAME: one example, with its heap, at $program
+build() {
+    local flags=() heap=("$here/heap.c")
+    program=$out/$1-$2-$3
     [ "$2" = none ] || flags=("-fsanitize=$2")
-    [ "$3" != no_memory ] || heap=()
+    case $3 in
+    no_memory | misuse) heap=() ;;
+    arena) heap=("$here/arena_heap.c") ;;
+    esac
     "$1" -std=c11 -D_POSIX_C_SOURCE=200809L -O1 -g -Wall -Wextra -Werror ${flags[@]+"${flags[@]}"} -I"$crate/include" \
         "$here/$3.c" ${heap[@]+"${heap[@]}"} "$library" -lpthread -o "$program"
-    "$program" >"$program.txt"
+}
+
+run_one() {
+    build "$1" "$2" "$3"
+    "$program" "$steps" >"$program.txt"
+}
+
+# under TOOL NAME: one example under a tool of valgrind's
+under() {
+    build "${compilers[0]}" none "$2"
+    local flags=()
+    [ "$1" != memcheck ] || flags=(--leak-check=full --show-leak-kinds=all)
+    valgrind -q "--tool=$1" --error-exitcode=9 ${flags[@]+"${flags[@]}"} "$program" 5000 >"$program.txt"
 }
 
 # can COMPILER SANITIZER: its programs link and run here
@@ -57,26 +77,89 @@ can() {
     echo 'int main(void) { return 0; }' | "$1" "-fsanitize=$2" -x c - -o "$out/probe" 2>/dev/null && "$out/probe" 2>/dev/null
 }
 
+# The header without a warning, in each language.
+header() {
+    local warnings=(-pedantic -Wall -Wextra -Wconversion -Wshadow -Wcast-qual -Werror "-I$crate/include") language
+    printf '#include "message_queue.h"\nint main(void) { msgq_queue q = MSGQ_CLOSED; return msgq_open(&q) ? 0 : 1; }\n' >"$out/it.c"
+    for language in c99 c11 c17 c2x; do
+        "$1" "-std=$language" "${warnings[@]}" -c "$out/it.c" -o /dev/null
+    done
+    echo 'int main() { return 0; }' | "$1" -x c++ -c - -o /dev/null 2>/dev/null || return 0
+    for language in c++98 c++11 c++14 c++17 c++20; do
+        "$1" -x c++ "-std=$language" "${warnings[@]}" -Wno-long-long -Wold-style-cast -Wzero-as-null-pointer-constant -c "$out/it.c" -o /dev/null
+    done
+}
+
+# refused COMPILER LINE: the line is warned of
+refused() {
+    printf '#include "message_queue.h"\nint it(msgq_queue *q, const msgq_message *m, const msgq_queue *c) { (void)m; (void)c; %s return 0; }\n' "$2" >"$out/$1-refused.c"
+    if "$1" -std=c11 -Wall -Wextra -Werror -I"$crate/include" -c "$out/$1-refused.c" -o /dev/null 2>/dev/null; then
+        echo "no warning of: $2" >&2
+        return 1
+    fi
+}
+
+warned() {
+    if [ "$1" = gcc ]; then # clang compares any two numbers; no number is of both kinds
+        refused "$1" 'return msgq_next(q, 1, false).kind == MSGQ_DONE;'
+        refused "$1" 'return msgq_post(q, m).kind == MSGQ_TAKEN;'
+    fi
+    refused "$1" 'msgq_post(q, m);'
+    refused "$1" 'msgq_quit(q, true, 1);'
+    refused "$1" 'return msgq_live(c) == 0 || msgq_quit(c, true, 1).wake;'
+    refused "$1" 'switch (msgq_next(q, 1, false).kind) { case MSGQ_TAKEN: return 1; }'
+    if refused "$1" 'return msgq_live(c) == 0 || msgq_time(c) == 0 || msgq_post(q, m).kind == MSGQ_DONE;' 2>/dev/null; then return 1; fi
+}
+
+# A header of another interface than the library's opens nothing.
+other_interface() {
+    sed 's/^#define MSGQ_INTERFACE 1$/#define MSGQ_INTERFACE 2/' "$crate/include/message_queue.h" >"$out/other.h"
+    grep -q 'MSGQ_INTERFACE 2' "$out/other.h"
+    printf '#include "other.h"\nint main(void) { msgq_queue q = MSGQ_CLOSED; return msgq_open(&q) || q.core.live; }\n' >"$out/other.c"
+    "$1" -std=c11 "-I$out" "$out/other.c" "$here/heap.c" "-I$crate/include" "$library" -o "$out/other"
+    "$out/other"
+}
+
 jobs=()
+# begin NAME WORD..: a job beside the others
+begin() {
+    local name=$1
+    shift
+    "$@" 2>"$out/$name.log" &
+    jobs+=("$! $name")
+}
+
 for compiler in "${compilers[@]}"; do
-    for sanitizer in none address,undefined thread; do
+    for sanitizer in none address,undefined; do
         if ! can "$compiler" "$sanitizer"; then
             told "$compiler with $sanitizer skipped, its programs don't run here"
             continue
         fi
-        for name in calls looper no_memory; do
-            run_one "$compiler" "$sanitizer" "$name" 2>"$out/$compiler-$sanitizer-$name.log" &
-            jobs+=("$! $compiler-$sanitizer-$name")
+        for name in calls looper no_memory misuse arena; do
+            begin "$compiler-$sanitizer-$name" run_one "$compiler" "$sanitizer" "$name"
         done
     done
+    begin "$compiler-header" header "$compiler"
+    begin "$compiler-warnings" warned "$compiler"
 done
+begin other_interface other_interface "${compilers[0]}"
+if command -v valgrind >/dev/null; then
+    for name in calls looper no_memory misuse arena; do begin "memcheck-$name" under memcheck "$name"; done
+    begin helgrind-looper under helgrind looper
+else
+    told "memcheck and helgrind skipped, valgrind is not installed"
+fi
 
 if command -v rustc >/dev/null && "${compilers[0]}" -c -O1 -I"$crate/include" "$here/heap.c" -o "$out/heap.o"; then
-    { rustc --edition 2024 -O "$here/looper.rs" -C link-arg="$out/heap.o" -C link-arg="$library" -o "$out/looper_rs" && "$out/looper_rs"; } \
-        >"$out/rust.txt" 2>"$out/rust.log" &
-    jobs+=("$! rust")
+    rust() {
+        rustc --edition 2024 -O -D warnings --crate-type rlib "$here/message_queue.rs" -o "$out/libmessage_queue.rlib" >&2
+        rustc --edition 2024 -O -D warnings "$here/looper.rs" --extern "message_queue=$out/libmessage_queue.rlib" \
+            -C link-arg="$library" -C link-arg="$out/heap.o" -o "$out/looper_rs" >&2
+        "$out/looper_rs" >"$out/rust.txt"
+    }
+    begin rust rust
 else
-    told "the example in Rust skipped, there is no rustc"
+    told "the crate in Rust skipped, there is no rustc"
 fi
 
 failed=0

@@ -5,18 +5,18 @@
 
 static char nothing;
 
-static mq_memory told(void *at)
+static msgq_memory told(void *at)
 {
-    mq_memory memory = {at != NULL, at != NULL ? at : &nothing};
+    msgq_memory memory = {at != NULL, at != NULL ? at : &nothing};
     return memory;
 }
 
-mq_memory rattle_alloc(size_t size, size_t align)
+msgq_memory rattle_alloc(size_t size, size_t align)
 {
     return told(malloc(size != 0 ? size : align));
 }
 
-mq_memory rattle_realloc(void *at, size_t kept, size_t size, size_t align)
+msgq_memory rattle_realloc(void *at, size_t kept, size_t size, size_t align)
 {
     (void)kept;
     return told(realloc(at, size != 0 ? size : align));

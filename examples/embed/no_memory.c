@@ -1,4 +1,4 @@
-/* Lets each allocation fail in turn: the call answers MQ_NO_MEMORY and changes nothing, so the same call made again has the
+/* Lets each allocation fail in turn: the call answers MSGQ_NO_MEMORY and changes nothing, so the same call made again has the
  * answer that it has with ample memory, and the same messages come. Exits with 0 where it does. */
 #include "message_queue.h"
 
@@ -14,18 +14,18 @@ static bool fails(void)
     return countdown-- == 0;
 }
 
-static mq_memory told(void *at)
+static msgq_memory told(void *at)
 {
-    mq_memory memory = {at != NULL, at != NULL ? at : &nothing};
+    msgq_memory memory = {at != NULL, at != NULL ? at : &nothing};
     return memory;
 }
 
-mq_memory rattle_alloc(size_t size, size_t align)
+msgq_memory rattle_alloc(size_t size, size_t align)
 {
     return told(fails() ? NULL : malloc(size != 0 ? size : align));
 }
 
-mq_memory rattle_realloc(void *at, size_t kept, size_t size, size_t align)
+msgq_memory rattle_realloc(void *at, size_t kept, size_t size, size_t align)
 {
     (void)kept;
     return told(fails() ? NULL : realloc(at, size != 0 ? size : align));
@@ -37,16 +37,16 @@ void rattle_dealloc(void *at)
 }
 
 /* Whether the call is to be made again. */
-static bool again(mq_answer answer)
+static bool again(msgq_answer answer)
 {
-    bool want = answer.kind == MQ_NO_MEMORY && answer.number == 0 && !answer.wake;
+    bool want = answer.kind == MSGQ_NO_MEMORY && answer.number == 0 && !answer.wake;
     refused += want;
     return want;
 }
 
-static bool done(mq_answer answer, uint64_t number)
+static bool done(msgq_answer answer, uint64_t number)
 {
-    return answer.kind == MQ_DONE && answer.number == number;
+    return answer.kind == MSGQ_DONE && answer.number == number;
 }
 
 /* The messages that are taken, and then those that are handed out, by their `what`. */
@@ -56,53 +56,50 @@ enum { TAKES = sizeof takes / sizeof *takes, DROPS = sizeof drops / sizeof *drop
 
 static bool play(void)
 {
-    mq_queue queue = MQ_CLOSED;
-    mq_answer answer;
-    while (!mq_open(&queue)) {
+    msgq_queue queue = MSGQ_CLOSED;
+    msgq_answer answer;
+    while (!msgq_open(&queue)) {
         refused++;
-        if (queue.live) return false;
+        if (queue.core.live) return false;
     }
     for (uint32_t what = 0; what < 12; what++) {
-        mq_message message = {.when = 10 + what % 3, .handler = what % 2, .what = what};
+        msgq_message message = {.when = 10 + what % 3, .handler = what % 2, .what = what};
         do {
-            answer = mq_post(&queue, &message);
+            answer = msgq_post(&queue, &message);
         } while (again(answer));
         if (!done(answer, what)) return false;
     }
     do {
-        answer = mq_barrier(&queue, 11);
+        answer = msgq_barrier(&queue, 11);
     } while (again(answer));
     if (!done(answer, 0)) return false;
-    while (!mq_forget(&queue)) {
-        refused++;
-    }
-    mq_filter filter = {.handler = 1, .by_what = true, .what = 5};
+    msgq_filter filter = {.handler = 1, .by_what = true, .what = 5};
     do {
-        answer = mq_remove(&queue, &filter);
+        answer = msgq_remove(&queue, &filter);
     } while (again(answer));
     if (!done(answer, 1)) return false;
     do {
-        answer = mq_remove_barrier(&queue, 0);
+        answer = msgq_remove_barrier(&queue, 0);
     } while (again(answer));
     if (!done(answer, 0)) return false;
     for (int i = 0; i < TAKES; i++) {
-        mq_look look = mq_next(&queue, 20, false);
-        if (look.kind != MQ_TAKEN || look.number != takes[i] || look.message.what != takes[i]) return false;
+        msgq_look look = msgq_next(&queue, 20, false);
+        if (look.kind != MSGQ_TAKEN || look.number != takes[i] || look.message.what != takes[i]) return false;
     }
-    if (mq_next(&queue, 20, false).kind != MQ_WAIT_FOREVER) return false;
+    if (msgq_next(&queue, 20, false).kind != MSGQ_WAIT_FOREVER) return false;
     /* What was removed and what a post leaves is handed out without memory. */
     do {
-        mq_message message = {.when = 30, .what = 99};
-        answer = mq_post(&queue, &message);
+        msgq_message message = {.when = 30, .what = 99};
+        answer = msgq_post(&queue, &message);
     } while (again(answer));
-    mq_filter last = {.by_what = true, .what = 99};
-    if (!done(answer, 12) || !mq_has(&queue, &last) || mq_live(&queue) != 1) return false;
-    if (!done(mq_quit(&queue, true, 30), 0) || !done(mq_close(&queue), DROPS)) return false;
+    msgq_filter last = {.by_what = true, .what = 99};
+    if (!done(answer, 12) || !msgq_has(&queue, &last) || msgq_live(&queue) != 1) return false;
+    if (!done(msgq_quit(&queue, true, 30), 0) || !done(msgq_close(&queue), DROPS)) return false;
     for (int i = 0; i < DROPS; i++) {
-        mq_look look = mq_next_dropped(&queue);
-        if (look.kind != MQ_TAKEN || look.message.what != drops[i]) return false;
+        msgq_look look = msgq_next_dropped(&queue);
+        if (look.kind != MSGQ_TAKEN || look.message.what != drops[i]) return false;
     }
-    return mq_next_dropped(&queue).kind == MQ_NOTHING_LEFT && !queue.live;
+    return msgq_next_dropped(&queue).kind == MSGQ_NOTHING_LEFT && !queue.core.live;
 }
 
 int main(void)

@@ -35,7 +35,9 @@ Keeps made x y ds es = made x y × (es ≡ ds)
 
 -- the queue goes and drops what is in it; what its calls had dropped goes where it was closed before
 abbrev pub Closes : Contents → Contents → MqAnswer → Type 0
-Closes a b r = (b.queue ≡ None) × MatchOption a.queue (IsNotOpen r × (b.dropped ≡ [])) (λ x. (r ≡ answer_as done_kind (length b.dropped) false) × (b.dropped ≡ joined a.dropped x.messages))
+Closes a b r =
+    (b.queue ≡ None)
+    × MatchOption a.queue (IsNotOpen r × (b.dropped ≡ [])) (λ x. (r ≡ answer_as done_kind (length b.dropped) false) × (b.dropped ≡ joined a.dropped x.messages))
 
 -- what is handed out of these, and what is left of them
 abbrev pub IsHanded : Letters → MqNext → Letters → Type 0

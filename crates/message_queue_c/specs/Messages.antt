@@ -19,11 +19,30 @@ number_or_0 (Some n) = n
 
 -- the post that the fields name
 abbrev pub post_by : MqMessage → Post
-post_by m = record { handler = m.handler; what = m.what; arg = m.arg; obj = named m.has_obj m.obj; callback = named m.has_callback m.callback; when = m.when; asynchronous = m.asynchronous; slot = None }
+post_by m = record {
+  handler = m.handler;
+  what = m.what;
+  arg = m.arg;
+  obj = named m.has_obj m.obj;
+  callback = named m.has_callback m.callback;
+  when = m.when;
+  asynchronous = m.asynchronous;
+  slot = None;
+}
 
 -- the fields of a post
 abbrev pub fields_of : Post → MqMessage
-fields_of p = record { when = p.when; obj = number_or_0 p.obj; callback = number_or_0 p.callback; handler = p.handler; what = p.what; arg = p.arg; has_obj = is_some p.obj; has_callback = is_some p.callback; asynchronous = p.asynchronous }
+fields_of p = record {
+  when = p.when;
+  obj = number_or_0 p.obj;
+  callback = number_or_0 p.callback;
+  handler = p.handler;
+  what = p.what;
+  arg = p.arg;
+  has_obj = is_some p.obj;
+  has_callback = is_some p.callback;
+  asynchronous = p.asynchronous;
+}
 
 -- the message that the fields name
 abbrev pub letter_by : MqMessage → Letter NoClaim
@@ -31,4 +50,5 @@ letter_by m = record { item = posted None (post_by m); claim = None }
 
 -- the messages that the fields name
 abbrev pub filter_by : MqFilter → Filter
-filter_by f = record { handler = f.handler; kind = if f.by_what then What f.what else (if f.by_callback then Callback f.callback else All); obj = named f.has_obj f.obj }
+filter_by f =
+    record { handler = f.handler; kind = if f.by_what then What f.what else (if f.by_callback then Callback f.callback else All); obj = named f.has_obj f.obj }

@@ -1,5 +1,5 @@
 -- How C sees what a call answers.
-use Rattle.std.specs.Prelude.{◌≡◌, ℕ, Bool, true, false, List, [], Some, None, length}
+use Rattle.std.specs.Prelude.{◌≡◌, ◌⊎◌, ℕ, Bool, true, false, List, [], Some, None, length}
 use Rattle.loop_model.specs.declared.item.Item.{Item}
 use Rattle.loop_model.specs.declared.item.Item.TheVariants.{Post as Message, Barrier as Fence}
 use Rattle.message_slot.specs.declared.claim.NoClaim.{NoClaim}
@@ -84,6 +84,37 @@ shown_quit (quitting.AlreadyQuit place) = answer_as already_quit_kind place fals
 shown_quit quitting.NotAllowed = answer_as not_allowed_kind 0 false
 shown_quit quitting.NoMemory = answer_as no_memory_kind 0 false
 
+-- memory was taken, or there was too little
+abbrev pub Reserves : MqAnswer → Type 0
+Reserves r = (r ≡ answer_as done_kind 0 false) ⊎ (r ≡ answer_as no_memory_kind 0 false)
+
+abbrev pub taken_kind : ℕ
+taken_kind = 16
+
+abbrev pub idle_kind : ℕ
+idle_kind = 17
+
+abbrev pub wait_kind : ℕ
+wait_kind = 18
+
+abbrev pub wait_forever_kind : ℕ
+wait_forever_kind = 19
+
+abbrev pub end_kind : ℕ
+end_kind = 20
+
+abbrev pub over_kind : ℕ
+over_kind = 21
+
+abbrev pub barrier_kind : ℕ
+barrier_kind = 22
+
+abbrev pub nothing_kind : ℕ
+nothing_kind = 23
+
+abbrev pub look_not_open_kind : ℕ
+look_not_open_kind = 24
+
 -- a message of which nothing is set
 abbrev pub no_message : MqMessage
 no_message = record { when = 0; obj = 0; callback = 0; handler = 0; what = 0; arg = 0; has_obj = false; has_callback = false; asynchronous = false }
@@ -93,26 +124,20 @@ abbrev pub look_as : ℕ → ℕ → ℕ → MqNext
 look_as k n t = record { message = no_message; number = n; time = t; kind = k }
 
 abbrev pub HasNotOpen : MqNext → Type 0
-HasNotOpen r = r ≡ look_as not_open_kind 0 0
-
-abbrev pub barrier_kind : ℕ
-barrier_kind = 7
-
-abbrev pub nothing_kind : ℕ
-nothing_kind = 8
+HasNotOpen r = r ≡ look_as look_not_open_kind 0 0
 
 -- what was dropped: a message with its number, or a barrier with its token and its moment
 abbrev pub shown_dropped : Item → MqNext
-shown_dropped (Message n p) = record { message = fields_of p; number = n; time = 0; kind = 0 }
+shown_dropped (Message n p) = record { message = fields_of p; number = n; time = 0; kind = taken_kind }
 shown_dropped (Fence t w) = look_as barrier_kind t w
 
 abbrev pub shown_next : Nexted NoClaim (Unit {0}) → MqNext
-shown_next (nexted.Taken n at node) = record { message = fields_of (post_of node.item); number = n; time = at; kind = 0 }
-shown_next nexted.Idle = look_as 1 0 0
-shown_next (nexted.Wait (Some t)) = look_as 2 0 t
-shown_next (nexted.Wait None) = look_as 3 0 0
-shown_next (nexted.End list) = look_as 4 (length list) 0
-shown_next nexted.Over = look_as 5 0 0
+shown_next (nexted.Taken n at node) = record { message = fields_of (post_of node.item); number = n; time = at; kind = taken_kind }
+shown_next nexted.Idle = look_as idle_kind 0 0
+shown_next (nexted.Wait (Some t)) = look_as wait_kind 0 t
+shown_next (nexted.Wait None) = look_as wait_forever_kind 0 0
+shown_next (nexted.End list) = look_as end_kind (length list) 0
+shown_next nexted.Over = look_as over_kind 0 0
 
 -- what an answer hands out for good
 abbrev pub taking_drops : Taking NoClaim (Unit {0}) → Letters

@@ -1,11 +1,13 @@
 // Answers as C has them.
 ghost use Rattle.std.specs.Prelude.{◌≡◌, false, MatchOption};
 ghost use Rattle.message_queue_c.specs.Joined.{joined};
-ghost use Rattle.message_queue_c.specs.Shown.{answer_as, done_kind, no_memory_kind, look_as, nothing_kind, IsNotOpen, HasNotOpen, shown_post, shown_barrier, shown_gone, shown_taking, shown_quit, shown_next, shown_dropped, taking_drops, quit_drops, next_drops};
+ghost use Rattle.message_queue_c.specs.Messages.{fields_of};
+ghost use Rattle.message_queue_c.specs.Shown.{answer_as, done_kind, no_memory_kind, look_as, taken_kind, nothing_kind, IsNotOpen, HasNotOpen, shown_post, shown_barrier, shown_gone, shown_taking, shown_quit, shown_next, shown_dropped, taking_drops, quit_drops, next_drops};
 
 use crate::drops::join;
 use crate::message::MqMessage;
-use loop_model::Item;
+use crate::spares::Spares;
+use loop_model::{Item, Post};
 use message_slot::NoClaim;
 use queue_state::{BarrierGone, BarrierPosted, Nexted, Posted, Quitting, Taking};
 use when_queue::{MsgList, MsgNode};
@@ -31,11 +33,32 @@ const NOT_ALLOWED: u32 = 5;
 /// The handle has no queue that is open.
 const NOT_OPEN: u32 = 6;
 
+/// A message was taken out, or handed out.
+const TAKEN: u32 = 16;
+
+/// Nothing is due, and an idle turn is owed.
+const IDLE: u32 = 17;
+
+/// Nothing is due until a moment.
+const WAIT: u32 = 18;
+
+/// Nothing is due.
+const WAIT_FOREVER: u32 = 19;
+
+/// The queue has quit, and nothing is due.
+const END: u32 = 20;
+
+/// The end was answered before.
+const OVER: u32 = 21;
+
 /// What was dropped is a barrier.
-const BARRIER: u32 = 7;
+const BARRIER: u32 = 22;
 
 /// Nothing is left to be handed out.
-const NOTHING: u32 = 8;
+const NOTHING: u32 = 23;
+
+/// The handle has no queue that is open: a look's answer.
+const LOOK_NOT_OPEN: u32 = 24;
 
 /// What a call answers: its kind, a number that goes with it, and whether a looper that waits is to be woken.
 #[repr(C)]
@@ -102,7 +125,7 @@ pub(crate) fn nothing() -> MqNext
 pub(crate) fn not_open_look() -> MqNext
     ensures { HasNotOpen result }
 {
-    look(NOT_OPEN, 0, 0)
+    look(LOOK_NOT_OPEN, 0, 0)
 }
 
 pub(crate) fn no_memory() -> MqAnswer
@@ -122,12 +145,16 @@ fn look(kind: u32, number: u64, time: u64) -> MqNext
     }
 }
 
-pub(crate) fn shown_post(posted: Posted<NoClaim>) -> MqAnswer
+/// The answer; a node that was refused is kept.
+pub(crate) fn shown_post(posted: Posted<NoClaim>, spares: &mut Spares) -> MqAnswer
     ensures { result ≡ shown_post posted }
 {
     match posted {
         Posted::Accepted { number, wake } => answer(DONE, number, wake),
-        Posted::Refused { place, node: _ } => answer(REFUSED, place, false),
+        Posted::Refused { place, node } => {
+            spares.keep(node);
+            answer(REFUSED, place, false)
+        }
         Posted::NoMemory(_) => answer(NO_MEMORY, 0, false),
     }
 }
@@ -141,11 +168,15 @@ pub(crate) fn shown_barrier(posted: BarrierPosted<NoClaim>) -> MqAnswer
     }
 }
 
-pub(crate) fn shown_gone(gone: BarrierGone<NoClaim>) -> MqAnswer
+/// The answer; the barrier's node is kept.
+pub(crate) fn shown_gone(gone: BarrierGone<NoClaim>, spares: &mut Spares) -> MqAnswer
     ensures { result ≡ shown_gone gone }
 {
     match gone {
-        BarrierGone::Unbarriered { node: _, wake } => answer(DONE, 0, wake),
+        BarrierGone::Unbarriered { node, wake } => {
+            spares.keep(node);
+            answer(DONE, 0, wake)
+        }
         BarrierGone::NotPosted => answer(NOT_POSTED, 0, false),
         BarrierGone::NoMemory => answer(NO_MEMORY, 0, false),
     }
@@ -183,44 +214,63 @@ pub(crate) fn shown_quit(quitting: Quitting<NoClaim>, dropped: &mut MsgList<NoCl
     }
 }
 
-/// What was dropped first, as C has it.
-pub(crate) fn shown_dropped(node: Option<MsgNode<NoClaim>>) -> MqNext
+/// A message that was taken, as C has it.
+fn taken(post: &Post, number: u64, time: u64) -> MqNext
+    ensures { result ≡ record { message = fields_of post.now; number = number; time = time; kind = taken_kind } }
+{
+    MqNext {
+        message: MqMessage::of(post),
+        number,
+        time,
+        kind: TAKEN,
+    }
+}
+
+/// An item that was dropped, as C has it.
+fn shown_item(item: &Item) -> MqNext
+    ensures { result ≡ shown_dropped item.now }
+{
+    match item {
+        Item::Post { number, post } => taken(post, *number, 0),
+        Item::Barrier { token, when } => look(BARRIER, *token, *when),
+    }
+}
+
+/// What was dropped first, as C has it; its node is kept.
+pub(crate) fn shown_dropped(node: Option<MsgNode<NoClaim>>, spares: &mut Spares) -> MqNext
     ensures { MatchOption node (result ≡ look_as nothing_kind 0 0) (λ m. result ≡ shown_dropped m.item) }
 {
     let Some(node) = node else {
         return nothing();
     };
-    match node.item().item() {
-        Item::Post { number, post } => MqNext {
-            message: MqMessage::of(&post),
-            number,
-            time: 0,
-            kind: 0,
-        },
-        Item::Barrier { token, when } => look(BARRIER, token, when),
-    }
+    let answer = shown_item(&node.item().item());
+    spares.keep(node);
+    answer
 }
 
-/// The answer, and what an end dropped joins what was dropped before.
-pub(crate) fn shown_next(nexted: Nexted<NoClaim>, dropped: &mut MsgList<NoClaim>) -> MqNext
+/// The answer, and what an end dropped joins what was dropped before; the node of a message that was taken is kept.
+pub(crate) fn shown_next(
+    nexted: Nexted<NoClaim>,
+    dropped: &mut MsgList<NoClaim>,
+    spares: &mut Spares,
+) -> MqNext
     ensures shown { result ≡ shown_next nexted }
     ensures dropped { dropped.new ≡ joined dropped.old (next_drops nexted) }
 {
     match nexted {
-        Nexted::Taken { number, now, node } => MqNext {
-            message: MqMessage::of(&node.item().as_post()),
-            number,
-            time: now,
-            kind: 0,
-        },
-        Nexted::Idle => look(1, 0, 0),
-        Nexted::Wait { until: Some(until) } => look(2, 0, until),
-        Nexted::Wait { until: None } => look(3, 0, 0),
+        Nexted::Taken { number, now, node } => {
+            let answer = taken(&node.item().as_post(), number, now);
+            spares.keep(node);
+            answer
+        }
+        Nexted::Idle => look(IDLE, 0, 0),
+        Nexted::Wait { until: Some(until) } => look(WAIT, 0, until),
+        Nexted::Wait { until: None } => look(WAIT_FOREVER, 0, 0),
         Nexted::End(list) => {
             let count = list.len() as u64;
             join(dropped, list);
-            look(4, count, 0)
+            look(END, count, 0)
         }
-        Nexted::Over => look(5, 0, 0),
+        Nexted::Over => look(OVER, 0, 0),
     }
 }

@@ -1,6 +1,6 @@
 // Each call on a queue, as C makes it.
-ghost use Rattle.std.specs.Prelude.{◌≡◌, IfOk, true, false};
-ghost use Rattle.queue_state.specs.Queue.{has_match, sealed};
+ghost use Rattle.std.specs.Prelude.{◌≡◌, IfOk};
+ghost use Rattle.queue_state.specs.Queue.{has_match};
 ghost use Rattle.message_queue_c.specs.Messages.{filter_by};
 ghost use Rattle.message_queue_c.specs.Ours.{is_ours, new_queue};
 ghost use Rattle.message_queue_c.specs.Shown.{PostShown, BarrierShown, GoneShown, TakingShown, QuitShown, NextShown};
@@ -10,56 +10,70 @@ use crate::answers::{
     shown_taking,
 };
 use crate::message::{MqFilter, MqMessage};
+use crate::spares::Spares;
 use loop_model::NoMemory;
-use message_list::new_node;
 use message_slot::{Message, NoClaim};
-use queue_state::QueueState;
+use queue_state::{QueueState, Unkept};
 use std::alloc::Global;
 use when_queue::MsgList;
 
 /// All calls are made by this one sender.
 const SENDER: u32 = 0;
 
-pub(crate) fn open(alloc: Global) -> Result<QueueState<NoClaim>, NoMemory>
+pub(crate) fn open(alloc: Global) -> Result<QueueState<NoClaim, Unkept>, NoMemory>
     ensures { IfOk result (λ q. q ≡ new_queue) }
 {
     QueueState::new(alloc, (), false, false, 1)
 }
 
-pub(crate) fn post(alloc: Global, queue: &mut QueueState<NoClaim>, message: &MqMessage) -> MqAnswer
+pub(crate) fn post(
+    alloc: Global,
+    queue: &mut QueueState<NoClaim, Unkept>,
+    spares: &mut Spares,
+    message: &MqMessage,
+) -> MqAnswer
     requires { is_ours queue.old }
     ensures done { PostShown queue.old message.now result queue.new }
     ensures ours { is_ours queue.new }
 {
     let mut letter = Message::blank();
     letter.set_post(&message.post());
-    match new_node(alloc, letter) {
-        Ok(node) => shown_post(queue.post(SENDER, node)),
+    match spares.node(alloc, letter) {
+        Ok(node) => shown_post(queue.post(SENDER, node), spares),
         Err(_) => no_memory(),
     }
 }
 
-pub(crate) fn post_barrier(alloc: Global, queue: &mut QueueState<NoClaim>, now: u64) -> MqAnswer
+pub(crate) fn post_barrier(
+    alloc: Global,
+    queue: &mut QueueState<NoClaim, Unkept>,
+    spares: &mut Spares,
+    now: u64,
+) -> MqAnswer
     requires { is_ours queue.old }
     ensures done { BarrierShown queue.old now result queue.new }
     ensures ours { is_ours queue.new }
 {
-    match new_node(alloc, Message::blank()) {
+    match spares.node(alloc, Message::blank()) {
         Ok(node) => shown_barrier(queue.post_barrier(SENDER, now, node)),
         Err(_) => no_memory(),
     }
 }
 
-pub(crate) fn remove_barrier(queue: &mut QueueState<NoClaim>, token: u64) -> MqAnswer
+pub(crate) fn remove_barrier(
+    queue: &mut QueueState<NoClaim, Unkept>,
+    spares: &mut Spares,
+    token: u64,
+) -> MqAnswer
     requires { is_ours queue.old }
     ensures done { GoneShown queue.old token result queue.new }
     ensures ours { is_ours queue.new }
 {
-    shown_gone(queue.remove_barrier(SENDER, token))
+    shown_gone(queue.remove_barrier(SENDER, token), spares)
 }
 
 pub(crate) fn remove(
-    queue: &mut QueueState<NoClaim>,
+    queue: &mut QueueState<NoClaim, Unkept>,
     dropped: &mut MsgList<NoClaim>,
     filter: &MqFilter,
 ) -> MqAnswer
@@ -71,7 +85,7 @@ pub(crate) fn remove(
 }
 
 pub(crate) fn quit(
-    queue: &mut QueueState<NoClaim>,
+    queue: &mut QueueState<NoClaim, Unkept>,
     dropped: &mut MsgList<NoClaim>,
     safe: bool,
     now: u64,
@@ -84,8 +98,9 @@ pub(crate) fn quit(
 }
 
 pub(crate) fn next(
-    queue: &mut QueueState<NoClaim>,
+    queue: &mut QueueState<NoClaim, Unkept>,
     dropped: &mut MsgList<NoClaim>,
+    spares: &mut Spares,
     now: u64,
     idle_owed: bool,
 ) -> MqNext
@@ -93,27 +108,11 @@ pub(crate) fn next(
     ensures done { NextShown queue.old now idle_owed result queue.new dropped.old dropped.new }
     ensures ours { is_ours queue.new }
 {
-    shown_next(queue.next(SENDER, now, idle_owed), dropped)
+    shown_next(queue.next(SENDER, now, idle_owed), dropped, spares)
 }
 
-pub(crate) fn has(queue: &QueueState<NoClaim>, filter: &MqFilter) -> bool
+pub(crate) fn has(queue: &QueueState<NoClaim, Unkept>, filter: &MqFilter) -> bool
     ensures { result ≡ has_match queue.now (filter_by filter.now) }
 {
     queue.has(&filter.filter())
-}
-
-/// Drops the entries so far.
-pub(crate) fn forget(queue: &mut QueueState<NoClaim>) -> bool
-    requires { is_ours queue.old }
-    ensures forgot { (result ≡ true) → queue.new ≡ sealed queue.old }
-    ensures kept { (result ≡ false) → queue.new ≡ queue.old }
-    ensures ours { is_ours queue.new }
-{
-    match queue.seal() {
-        Ok(part) => {
-            drop(part);
-            true
-        }
-        Err(_) => false,
-    }
 }

@@ -8,7 +8,6 @@ use crate::handle::{MqQueue, Nowhere};
 use crate::kept::Kept;
 use crate::lone::Lone;
 use loop_model::NoMemory;
-use message_list::NodeList;
 use std::alloc::Global;
 use std::mem;
 use std_alloc::room::Vacant;
@@ -63,7 +62,7 @@ pub(crate) fn open(alloc: Global) -> Result<Lone<Kept>, NoMemory>
 {
     let queue = calls::open(alloc)?;
     match Vacant::take(alloc) {
-        Ok(room) => Ok(Lone::put(room, Kept::new(queue, NodeList::empty(alloc)))),
+        Ok(room) => Ok(Lone::put(room, Kept::new(alloc, queue))),
         Err(_) => Err(NoMemory),
     }
 }

@@ -1,26 +1,30 @@
 // What a handle that is not empty keeps: a queue, and the messages that its calls have dropped.
-ghost use Rattle.std.specs.Prelude.{◌≡◌, true, false, Some, MatchOption, if◌then◌else◌, length};
-ghost use Rattle.queue_state.specs.Queue.{has_match, sealed};
+ghost use Rattle.std.specs.Prelude.{◌≡◌, true, false, [], Some, MatchOption, length};
+ghost use Rattle.queue_state.specs.Queue.{has_match, time_of};
 ghost use Rattle.message_queue_c.specs.Contents.{Does, Keeps, Closes, Pops, nothing_in, holds_nothing};
 ghost use Rattle.message_queue_c.specs.Messages.{filter_by};
 ghost use Rattle.message_queue_c.specs.Ours.{is_ours};
-ghost use Rattle.message_queue_c.specs.Shown.{PostShown, BarrierShown, GoneShown, TakingShown, QuitShown, NextShown, IsNotOpen, HasNotOpen};
+ghost use Rattle.message_queue_c.specs.Shown.{PostShown, BarrierShown, GoneShown, TakingShown, QuitShown, NextShown, Reserves, IsNotOpen, HasNotOpen};
 
-use crate::answers::{MqAnswer, MqNext, done, not_open, not_open_look, shown_dropped};
+use crate::answers::{MqAnswer, MqNext, done, no_memory, not_open, not_open_look, shown_dropped};
 use crate::calls;
 use crate::drops::{emptied, join};
 use crate::message::{MqFilter, MqMessage};
+use crate::spares::Spares;
+use message_list::NodeList;
 use message_slot::NoClaim;
-use queue_state::QueueState;
+use queue_state::{QueueState, Unkept};
 use std::alloc::Global;
 use std::marker::Model;
 use when_queue::MsgList;
 
-/// The queue, until it is closed, and the messages that its calls dropped and that were not handed out yet.
+/// The queue, until it is closed, and the messages that its calls dropped and that were not handed out yet. Contracts don't see the
+/// blocks that are kept for messages to come.
 #[derive(Drop)]
 pub struct Kept {
-    queue: Option<QueueState<NoClaim>>,
+    queue: Option<QueueState<NoClaim, Unkept>>,
     dropped: MsgList<NoClaim>,
+    spares: Spares,
 }
 
 impl Model for Kept {
@@ -34,13 +38,14 @@ impl Model for Kept {
 }
 
 impl Kept {
-    pub(crate) fn new(queue: QueueState<NoClaim>, dropped: MsgList<NoClaim>) -> Kept
+    pub(crate) fn new(alloc: Global, queue: QueueState<NoClaim, Unkept>) -> Kept
         requires { is_ours queue }
-        ensures { result ≡ record { queue = Some queue; dropped = dropped } }
+        ensures { result ≡ record { queue = Some queue; dropped = [] } }
     {
         Kept {
             queue: Some(queue),
-            dropped,
+            dropped: NodeList::empty(alloc),
+            spares: Spares::none(alloc),
         }
     }
 
@@ -48,7 +53,7 @@ impl Kept {
         ensures { Does self.old self.new (IsNotOpen result) (Keeps (λ x y. PostShown x message.now result y)) }
     {
         match &mut self.queue {
-            Some(queue) => calls::post(alloc, queue, message),
+            Some(queue) => calls::post(alloc, queue, &mut self.spares, message),
             None => not_open(),
         }
     }
@@ -57,7 +62,7 @@ impl Kept {
         ensures { Does self.old self.new (IsNotOpen result) (Keeps (λ x y. BarrierShown x now result y)) }
     {
         match &mut self.queue {
-            Some(queue) => calls::post_barrier(alloc, queue, now),
+            Some(queue) => calls::post_barrier(alloc, queue, &mut self.spares, now),
             None => not_open(),
         }
     }
@@ -66,7 +71,7 @@ impl Kept {
         ensures { Does self.old self.new (IsNotOpen result) (Keeps (λ x y. GoneShown x token result y)) }
     {
         match &mut self.queue {
-            Some(queue) => calls::remove_barrier(queue, token),
+            Some(queue) => calls::remove_barrier(queue, &mut self.spares, token),
             None => not_open(),
         }
     }
@@ -93,7 +98,7 @@ impl Kept {
         ensures { Does self.old self.new (HasNotOpen result) (λ x y ds es. NextShown x now idle_owed result y ds es) }
     {
         match &mut self.queue {
-            Some(queue) => calls::next(queue, &mut self.dropped, now, idle_owed),
+            Some(queue) => calls::next(queue, &mut self.dropped, &mut self.spares, now, idle_owed),
             None => not_open_look(),
         }
     }
@@ -117,13 +122,28 @@ impl Kept {
         }
     }
 
-    pub(crate) fn forget(&mut self) -> bool
-        ensures { Does self.old self.new (result ≡ false) (Keeps (λ x y. y ≡ (if result then sealed x else x))) }
+    /// The moment that the queue has come to.
+    pub(crate) fn time(&self) -> u64
+        ensures { MatchOption self.now.queue (result ≡ 0) (λ x. result ≡ time_of x) }
     {
-        match &mut self.queue {
-            Some(queue) => calls::forget(queue),
-            None => false,
+        match &self.queue {
+            Some(queue) => queue.time(),
+            None => 0,
         }
+    }
+
+    /// Takes memory for so many messages, and keeps so many blocks of those that go.
+    pub(crate) fn reserve(&mut self, alloc: Global, count: u64) -> MqAnswer
+        ensures answer { MatchOption self.old.queue (IsNotOpen result) (λ _. Reserves result) }
+        ensures same { self.new ≡ self.old }
+    {
+        if self.queue.is_none() {
+            return not_open();
+        }
+        if self.spares.reserve(alloc, count) {
+            return done(0);
+        }
+        no_memory()
     }
 
     /// Closes the queue, and counts the messages that are to be handed out. Where there is no queue it lets go of those.
@@ -132,9 +152,8 @@ impl Kept {
     {
         match self.queue.take() {
             Some(queue) => {
-                let (part, left) = queue.into_parts();
-                drop(part);
-                join(&mut self.dropped, left);
+                self.spares.free(alloc);
+                join(&mut self.dropped, queue.into_items());
                 done(self.dropped.len() as u64)
             }
             None => {
@@ -147,7 +166,7 @@ impl Kept {
     pub(crate) fn next_dropped(&mut self) -> MqNext
         ensures { Pops self.old self.new result }
     {
-        shown_dropped(self.dropped.pop_front())
+        shown_dropped(self.dropped.pop_front(), &mut self.spares)
     }
 
     /// Nothing is left in it.

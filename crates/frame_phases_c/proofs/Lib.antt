@@ -1,0 +1,4 @@
+pub mod Names
+pub mod Lones
+pub mod Handles
+pub mod Sends

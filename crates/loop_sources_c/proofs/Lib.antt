@@ -1,0 +1,5 @@
+pub mod Names
+pub mod Lones
+pub mod Handles
+pub mod Sends
+pub mod Done

@@ -1,0 +1,6 @@
+use Rattle.std.proofs.Common.{refl}
+use Rattle.loop_sources_c.proofs.Done.{done_by}
+use Rattle.loop_sources_c.proofs.mloop_core_fd_watched.Goals as goal
+
+pub returns-clause-done : goal.returns-clause-done
+returns-clause-done c = done_by _ _ _ _ _ _ _ c.in-Some.ensures.taken c.get_mut.ensures.value c.put.ensures.kept (c.watched-answer.ensures, refl)

@@ -1,0 +1,6 @@
+pub mod Held
+pub mod Lent
+pub mod Contents
+pub mod Handle
+pub mod Shown
+pub mod Handed
