@@ -49,7 +49,8 @@ IsFault q wanted time made e fault.Sender = (wanted ≡ Some e.reply) × IsTimel
 IsFault q wanted time made e (fault.Number n) =
     (n ≡ made) × (wanted ≡ Some e.reply) × IsTimely q.lockstep time e.call × (e.sender < q.senders) × (e.seq ≡ made → ⊥)
 IsFault q wanted time made e fault.Control =
-    (wanted ≡ Some e.reply) × IsTimely q.lockstep time e.call × (e.sender < q.senders) × (e.seq ≡ made) × (is_control e.call ≡ true) × (e.sender + 1 ≡ q.senders → ⊥)
+    (wanted ≡ Some e.reply) × IsTimely q.lockstep time e.call × (e.sender < q.senders) × (e.seq ≡ made) × (is_control e.call ≡ true)
+    × (e.sender + 1 ≡ q.senders → ⊥)
 
 -- what is wrong with an entry after these
 abbrev pub IsFaultAfter : TraceQueue → List Entry → Entry → Fault → Type 0

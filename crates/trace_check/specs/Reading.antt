@@ -136,7 +136,19 @@ post rest0 =
     and_then (long rest5) (λ when rest6.
     and_then (flag rest6) (λ asynchronous rest7.
     and_then (maybe_short rest7) (λ slot rest8.
-    Some (record { handler = handler; what = what; arg = arg; obj = obj; callback = callback; when = when; asynchronous = asynchronous; slot = slot }, rest8)))))))))
+    Some (
+      record {
+        handler = handler;
+        what = what;
+        arg = arg;
+        obj = obj;
+        callback = callback;
+        when = when;
+        asynchronous = asynchronous;
+        slot = slot;
+      },
+      rest8,
+    )))))))))
 
 abbrev pub kind_by : Keyword → Rest → Option (Kind × Rest)
 kind_by name_of.What rest = and_then (short rest) (λ w more. Some (What w, more))

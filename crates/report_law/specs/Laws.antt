@@ -1,0 +1,37 @@
+-- The text of a run's report is read as what the run tells.
+use Rattle.std.specs.Prelude.{◌≡◌, ℕ, ◌+◌, List, [], ◌∷◌}
+use Rattle.std.specs.List.{AllByRecursion}
+use Rattle.loop_model.specs.declared.record.QueueRecord.{QueueRecord}
+use Rattle.frame_phases.specs.declared.entry.FrameRecord.{FrameRecord}
+use Rattle.run_model.specs.declared.report.Report.{Report as RunReport}
+use Rattle.run_model.specs.Text as printed
+use Rattle.run_picture.specs.declared.line.Line.{Line}
+use Rattle.run_picture.specs.declared.line.Line.TheVariants.{Title, Looper, Past, Fates, Act, Frame, Run, End}
+use Rattle.run_picture.specs.Text.{Fits, IsLong, IsText, lines}
+use Rattle.report_law.specs.Seen.{posted_in, runs_first, seen}
+
+-- the queues are those of loopers that are numbered from n on
+abbrev pub AreCounted : ℕ → List QueueRecord → Type 0
+AreCounted n [] = Unit {0}
+AreCounted n (q ∷ qs) = (q.looper ≡ n) × AreCounted (n + 1) qs
+
+-- no callback ran before the first frame
+abbrev pub IsFramed : FrameRecord → Type 0
+IsFramed f = runs_first (posted_in f.entries) f.entries ≡ []
+
+-- each number of a line is within the limits of its place, whatever the numbers add up to
+abbrev pub HasLimits : Line → Type 0
+HasLimits (Title edition) = Fits (Title edition)
+HasLimits (Looper number) = Fits (Looper number)
+HasLimits (Past p) = Fits (Past p)
+HasLimits (Fates f) = IsLong f.accepted × IsLong f.dispatched × IsLong f.removed × IsLong f.dropped × IsLong f.stranded × IsLong f.queued
+HasLimits (Act a) = Fits (Act a)
+HasLimits (Frame time) = Fits (Frame time)
+HasLimits (Run r) = Fits (Run r)
+HasLimits End = Fits End
+
+-- the text of the report of a run is the text of what the run tells
+abbrev pub PrintedIsRead : Type 0
+PrintedIsRead =
+    (r : RunReport) → AreCounted 0 r.queues → AllByRecursion IsFramed r.frames → AllByRecursion HasLimits (lines (seen r))
+    → IsText (printed.text r) (seen r)
