@@ -1,26 +1,54 @@
 #!/usr/bin/env python3
-"""documents.py: checks of README.md and docs/ against the repository. Run it anywhere; --first also runs README's first command,
-and --believe first writes the lines of docs/PROMISE.md's definitions anew.
+"""documents.py: checks of README.md and docs/ against the repository. Run it anywhere.
 
-- each piece of Rust in README.md and docs/USING.md stands in crates/uses/src, line for line (a line '// ..' stands before a piece);
-- README.md names every crate of crates.txt, and each has its README.md;
-- README.md, docs/PROMISE.md, docs/USING.md, docs/PROVING.md and each crate's README.md are within their sizes;
-- each link to a file of the repository leads to one;
+--first also runs README's first command; --believe first writes the figures of docs/PROMISE.md anew, and --calls docs/CALLS.md.
+
+- no sentence of the pages in WHOLE has more than 30 words, and in each a verb is found (sentences.py);
+- each piece of Rust in README.md and docs/USING.md stands in the source of one of the programs that they show (a line '// ..' stands before a piece);
+- README.md names every crate of crates.txt, and each has its README.md; it names the toolchain by which it was proved, where `rt` tells it;
+- each link leads to a file of the repository, and to a heading of it where it names one; each file that a command names is there;
+- each command that begins with `dashboard` has words that the program takes, and man/dashboard.1 has just these;
+- each sentence of docs/PROMISE.md under 'What each word promises' and 'What a run is' names a clause by a link, and each such link leads to a
+  file that has a clause, a field, a definition or a function of that name;
 - each function that a walk of docs/ARCHITECTURE.md names stands in the file that it names;
-- the definitions that docs/PROMISE.md names are those on which the contract of `dashboard` rests, with their lines;
+- the figures of docs/PROMISE.md are those of believe.py, and its definition files those on which the contract of `dashboard` rests;
+- docs/CALLS.md is what calls.py makes of the sources;
 - README's first command prints the report that README shows."""
-import pathlib
 import os
+import pathlib
 import re
+import shutil
 import subprocess
 import sys
 
 sys.dont_write_bytecode = True
-from believe import files_below
+from believe import files_below, spelled
+from calls import page as page_of_calls
+from sentences import faults_in
 
 TOP = pathlib.Path(__file__).resolve().parent.parent
-LIMITS = {"README.md": 14_336, "docs/PROMISE.md": 10_240, "docs/USING.md": 8_192, "docs/PROVING.md": 25_600}
+WHOLE = ["README.md", *(f"docs/{name}.md" for name in ("PROMISE", "USING", "SCRIPT", "PICTURE", "ANIMATE", "GATE", "NEXT", "PROVING", "DECISIONS", "ARCHITECTURE"))]
+SHOWN = ["uses", "plain_loop"]
+CLAIMS = ["What each word promises", "What a run is", "What a run by a clock is"]
+TOP_CALL = "crates/dashboard_cli/src/top_call.rt"
 faults = []
+
+
+def text_of(name):
+    return (TOP / name).read_text()
+
+
+def pages():
+    """All pages of the repository, by name."""
+    paths = [TOP / "README.md", *(TOP / "docs").glob("*.md"), *TOP.glob("crates/*/README.md"), *TOP.glob("c/*.md"), *TOP.glob("examples/*/*.md")]
+    return {str(path.relative_to(TOP)): path.read_text() for path in sorted(paths)}
+
+
+# ---- sentences and code
+
+def check_sentences():
+    for name in WHOLE:
+        faults.extend(faults_in(name, text_of(name)))
 
 
 def lines_of(text):
@@ -39,31 +67,90 @@ def stands_in(piece, lines):
 
 
 def check_code(page):
-    sources = [lines_of(path.read_text()) for path in (TOP / "crates/uses/src").glob("*.rt")]
-    for piece in pieces((TOP / page).read_text()):
-        wanted = lines_of(piece)
-        if not any(stands_in(wanted, lines) for lines in sources):
-            faults.append(f"{page}: this stands nowhere in crates/uses/src:\n{piece}")
+    sources = [lines_of(path.read_text()) for crate in SHOWN for path in (TOP / "crates" / crate / "src").glob("*.rt")]
+    for piece in pieces(text_of(page)):
+        if not any(stands_in(lines_of(piece), lines) for lines in sources):
+            faults.append(f"{page}: this stands in no source of {', '.join(SHOWN)}:\n{piece}")
 
+
+# ---- crates, links, commands
 
 def check_crates():
-    readme = (TOP / "README.md").read_text()
-    for line in (TOP / "crates.txt").read_text().splitlines():
+    readme = text_of("README.md")
+    for line in text_of("crates.txt").splitlines():
         if line.strip() and not line.startswith("#"):
             name = re.split(r"[ :]", line)[0]
             if f"](crates/{name}/README.md)" not in readme:
                 faults.append(f"README.md doesn't name {name}")
 
 
+def check_toolchain():
+    if shutil.which("rt"):
+        version = subprocess.run(["rt", "version"], capture_output=True, text=True).stdout.strip()
+        if version not in text_of("README.md"):
+            faults.append(f"README.md doesn't say: {version}")
+
+
+def anchors(text):
+    """The places of a page that a link may name."""
+    heads = re.findall(r"^#+ (.*)$", re.sub(r"```.*?```", "", text, flags=re.S), re.M)
+    return {re.sub(r"[^\w\- ]", "", head.lower()).replace(" ", "-") for head in heads}
+
+
 def check_links():
-    for path in [TOP / "README.md", *(TOP / "docs").glob("*.md"), *TOP.glob("crates/*/README.md")]:
-        for link in re.findall(r"\]\(([^)#:]+)(?:#[^)]*)?\)", path.read_text()):
-            if not (path.parent / link).exists():
-                faults.append(f"{path.relative_to(TOP)}: no file {link}")
+    for name, text in pages().items():
+        here = (TOP / name).parent
+        links = re.findall(r"\]\(([^)\s:]*)\)", text) + re.findall(r"^\[[^\]]+\]: (\S+)$", text, re.M)
+        for link in links:
+            file, _, anchor = link.partition("#")
+            path = here / file if file else TOP / name
+            if not path.exists():
+                faults.append(f"{name}: no file {file}")
+            elif anchor and path.suffix == ".md" and anchor not in anchors(path.read_text()):
+                faults.append(f"{name}: no heading {link}")
+
+
+def check_commands():
+    """The files that commands name, and the words of `dashboard`."""
+    known = {re.sub(r"\b(N|\d+)\b", "N", words) for words in [*spelled_out()]}
+    for name, text in pages().items():
+        commands = re.findall(r"^ {4}(\S.*)$", text, re.M) + re.findall(r"`([^`\n]+)`", text)
+        for command in commands:
+            for word in re.findall(r"(?<![\w./-])(?:examples|crates|docs|bench|man|c)/[\w./-]*\w", command):
+                if "/out/" not in word and not re.search(r"[A-Z]{3,}(?!\w*\.md|\w*\.txt)", word) and not any(TOP.glob(word + "*")):
+                    faults.append(f"{name}: no file {word} in: {command}")
+            found = re.match(r"dashboard ((?:[a-z]|--)[\w -]*?)\s*(?:<|>|\||$)", command)
+            if found and re.sub(r"\b(N|\d+)\b", "N", found.group(1)) not in known and not command.startswith("dashboard E"):
+                faults.append(f"{name}: no words of dashboard: {command}")
+
+
+def spelled_out():
+    """The words of each command, with their numbers as N."""
+    os.chdir(TOP)
+    for words in spelled():
+        if words.startswith("make"):
+            yield words.replace("make", "make N")
+        else:
+            yield words
+    yield "make --run N"
+
+
+def check_manual():
+    """The words of the manual page of dashboard are those that it takes, and all pages are well formed."""
+    told = set()
+    for item in re.findall(r"^\.It (Cm .*)$", text_of("man/dashboard.1"), re.M):
+        for words in item.split(" , "):
+            told.add(re.sub(r"\b(?:Cm|Ar) ", "", words.replace("Fl -", "--")).strip())
+    for words in sorted(told ^ {*spelled_out()}):
+        faults.append(f"man/dashboard.1: {words} is told there, or is taken by dashboard, and not both")
+    if shutil.which("mandoc"):
+        for path in sorted((TOP / "man").glob("*.1")):
+            done = subprocess.run(["mandoc", "-T", "lint", "-W", "warning", path], capture_output=True, text=True)
+            faults.extend(done.stdout.splitlines())
 
 
 def check_walks():
-    text = (TOP / "docs/ARCHITECTURE.md").read_text()
+    text = text_of("docs/ARCHITECTURE.md")
     for names, *files in re.findall(r"^\| (`.*?) \| `(.*?)`(?:, `(.*?)`)? \|", text, re.M):
         paths = [TOP / "crates" / files[0]]
         paths += [paths[0].parent / name for name in files[1:] if name]
@@ -73,88 +160,159 @@ def check_walks():
                 faults.append(f"docs/ARCHITECTURE.md: no function {name} in crates/{files[0]}")
 
 
-def check_sizes():
-    pages = {str(path.relative_to(TOP)): 3_072 for path in TOP.glob("crates/*/README.md")}
-    for name, limit in {**LIMITS, **pages}.items():
-        size = len((TOP / name).read_bytes())
-        if size > limit:
-            faults.append(f"{name} has {size} bytes, more than {limit}")
+# ---- the promise
+
+def has_name(path, name):
+    """The file has a clause, a field, a definition or a function of that name."""
+    text = path.read_text()
+    name = re.escape(name)
+    if path.suffix == ".antt":
+        return re.search(rf"^\s*(?:(?:pattern|unfoldable|abbrev|pub|record|data) )*{name}(?:\s*[({{].*)? :(?:\s|$)", text, re.M)
+    return re.search(rf"\bfn {name}\b|\bensures\*? {name} |\b(?:struct|enum|trait) {name}\b", text)
+
+
+def check_clauses():
+    """Each sentence of the claims names a clause by a link, and each such link leads to one."""
+    page = TOP / "docs/PROMISE.md"
+    text = page.read_text()
+    files = dict(re.findall(r"^\[([^\]]+)\]: (\S+)$", text, re.M))
+    for name, mark in re.findall(r"\[`([^`]+)`\]\[([^\]]+)\]", text):
+        path = page.parent / files.get(mark, "nowhere")
+        if not path.exists():
+            faults.append(f"docs/PROMISE.md: no file for [{mark}]")
+        elif not has_name(path, name):
+            faults.append(f"docs/PROMISE.md: {name} stands nowhere in {files[mark]}")
+    for title in CLAIMS:
+        part = re.search(rf"^## {title}\n(.*?)(?=^## |\Z)", text, re.S | re.M)
+        if not part:
+            faults.append(f"docs/PROMISE.md has no part '{title}'")
+            continue
+        for sentence in claims_in(part.group(1)):
+            if not re.search(r"\]\[[^\]]+\]", sentence):
+                faults.append(f"docs/PROMISE.md: no clause is named by: {sentence[:100]}")
+
+
+def claims_in(part):
+    """The sentences of a part, tables' rows too; what ends with a colon leads to the sentences behind it."""
+    blocks = re.split(r"\n\s*\n|\n(?=- |\| |\d+\. )", part)
+    for block in blocks:
+        block = " ".join(block.split())
+        if not block or block.startswith(("#", "**")) or re.match(r"\|[ -]*-|\| ?(?:Word|Status|On) ", block):
+            continue
+        rows = [block] if block.startswith("|") else re.split(r"(?<=[.])\s+(?=[A-Z`])", block)
+        for row in rows:
+            if not row.endswith(":"):
+                yield row
+
+
+def check_api():
+    """Each call that docs/API.md sets beside Android's is one of ours."""
+    ours = (TOP / "docs/API.md").read_text().partition("\n## What Android has")[0]
+    code = "".join(path.read_text() for path in TOP.glob("crates/*/src/*.rt"))
+    for cell in re.findall(r"^\| (`.*?) \| ", ours, re.M):
+        for name in re.findall(r"`(?:\w+(?:::|\.))?(\w+)\(", cell):
+            if not re.search(rf"fn {name}\b", code):
+                faults.append(f"docs/API.md: no call {name}")
 
 
 def believed(without=()):
     """The definitions on which the contract of `dashboard` rests, with their lines."""
     os.chdir(TOP)
-    return files_below(["crates/dashboard_cli/src/top_call.rt"], without)
+    return files_below([TOP_CALL], without)
 
 
-def of_run():
-    """How many of them, with how many lines in all, `run` alone rests on."""
-    below = believed(["crates/dashboard_cli/specs/Makings.antt"])
-    return f"`run` alone rests on {len(below)} with {sum(below.values()):,}"
+def told_by_word(words):
+    """What believe.py tells of a word of the program: definitions, files, lines, comments, types, their lines."""
+    done = subprocess.run([sys.executable, "examples/believe.py", TOP_CALL, "--word", *words.split()], cwd=TOP, capture_output=True, text=True)
+    defs = re.search(r"(\d+) definitions are reached in (\d+) files: (\d+) lines, and (\d+) of comments", done.stdout)
+    types = re.search(r"(\d+) types of src/ with those of their fields and the traits: (\d+) lines", done.stdout)
+    if not defs or not types:
+        faults.append(f"believe.py --word {words}: {done.stdout[-200:]}{done.stderr[-200:]}")
+        return [""] * 6
+    return [f"{int(number):,}" for number in (*defs.groups(), *types.groups())]
+
+
+def row_of(words):
+    """The row of a word in PROMISE.md's table, behind the word."""
+    definitions, files, lines, comments, types, code = told_by_word(words)
+    return f"| {definitions} in {files} files | {lines} | {comments} | {types}, {code} lines |"
 
 
 def total_of(below):
     return f"{len(below)} files with {sum(below.values()):,} lines"
 
 
-def write_believed():
-    """Writes the definitions' lines anew in PROMISE.md's table: new ones behind those of their crate, none that is no more."""
-    page = TOP / "docs/PROMISE.md"
-    below = believed()
-
-    def files_of(found):
-        crate = found.group(1)
-        known = re.findall(r"(\w+) \d+", found.group(2))
-        there = [pathlib.Path(name).stem for name in below if name.startswith(f"crates/{crate}/specs/")]
-        names = [name for name in known if name in there] + sorted(set(there) - set(known))
-        return f"`{crate}/specs`: " + ", ".join(f"{n} {below[f'crates/{crate}/specs/{n}.antt']}" for n in names)
-
-    text = re.sub(r"`(\w+)/specs`: ([\w ,]+\d)", files_of, page.read_text())
-    text = re.sub(r"\d+ files with [\d,]+ lines(?= in all)", total_of(below), text)
-    page.write_text(re.sub(r"`run` alone rests on \d+ with \d+(?:,\d+)*", of_run(), text))
-
-
 def check_believed():
-    """PROMISE.md's table of definitions against the imports."""
-    text = (TOP / "docs/PROMISE.md").read_text()
-    named = {}
-    for crate, files in re.findall(r"`(\w+)/specs`: ([\w ,]+)", text):
-        for name, count in re.findall(r"(\w+) (\d+)", files):
-            named[f"crates/{crate}/specs/{name}.antt"] = int(count)
+    """PROMISE.md's figures against believe.py; with --believe they are written anew first."""
+    page = TOP / "docs/PROMISE.md"
+    os.chdir(TOP)
+    rows = {words: row_of(words) for words in spelled()}
     below = believed()
+    if "--believe" in sys.argv[1:]:
+        text = page.read_text()
+        for words, row in rows.items():
+            text = re.sub(rf"^(\| `{re.escape(words)}`) \|.*\d lines \|$", lambda found: f"{found.group(1)} {row}", text, flags=re.M)
+        text = re.sub(r"`(\w+)/specs`: ([\w ,]+\d)", lambda found: files_of(found, below), text)
+        page.write_text(re.sub(r"\d+ files with [\d,]+ lines(?= in all)", total_of(below), text))
+    text = page.read_text()
+    for words, row in rows.items():
+        if f"| `{words}` {row}" not in text:
+            faults.append(f"docs/PROMISE.md doesn't say: | `{words}` {row}")
+    named = {f"crates/{crate}/specs/{name}.antt": int(count)
+             for crate, files in re.findall(r"`(\w+)/specs`: ([\w ,]+)", text) for name, count in re.findall(r"(\w+) (\d+)", files)}
     for name in sorted(named.keys() | below.keys()):
         if named.get(name) != below.get(name):
             faults.append(f"docs/PROMISE.md: {name} has {below.get(name)} lines, and is told with {named.get(name)}")
-    for told in (total_of(below), of_run()):
-        if told not in text:
-            faults.append(f"docs/PROMISE.md doesn't say: {told}")
+    if total_of(below) not in text:
+        faults.append(f"docs/PROMISE.md doesn't say: {total_of(below)}")
+
+
+def files_of(found, below):
+    """A crate's definition files with their lines: those known first, then new ones, none that is no more."""
+    crate = found.group(1)
+    known = re.findall(r"(\w+) \d+", found.group(2))
+    there = [pathlib.Path(name).stem for name in below if name.startswith(f"crates/{crate}/specs/")]
+    names = [name for name in known if name in there] + sorted(set(there) - set(known))
+    return f"`{crate}/specs`: " + ", ".join(f"{n} {below[f'crates/{crate}/specs/{n}.antt']}" for n in names)
+
+
+# ---- the calls, and the first command
+
+def check_calls():
+    page, wanted = TOP / "docs/CALLS.md", page_of_calls()
+    if "--calls" in sys.argv[1:]:
+        page.write_text(wanted)
+    if not page.exists() or page.read_text() != wanted:
+        faults.append("docs/CALLS.md isn't what examples/calls.py makes: run examples/documents.py --calls")
 
 
 def shown():
     """README's script and its report, which stand side by side there: the report's lines."""
-    text = (TOP / "README.md").read_text()
-    rows = re.search(r"\n((?: {4}dashboard 1 .*\n)(?: {4}.*\n)+)", text).group(1).splitlines()
+    rows = re.search(r"\n((?: {4}dashboard 1 .*\n)(?: {4}.*\n)+)", text_of("README.md")).group(1).splitlines()
     return [row[39:].rstrip() for row in rows if row[39:].strip()]
 
 
 def run_first():
-    text = (TOP / "README.md").read_text()
-    command = re.search(r"## Run it\n.*?\n    (.*?)\n", text, re.S).group(1)
+    command = re.search(r"## Run it\n.*?\n    (.*?)\n", text_of("README.md"), re.S).group(1)
     done = subprocess.run(["bash", "-c", command], cwd=TOP, capture_output=True, text=True, timeout=900)
     if done.returncode != 0 or done.stdout.splitlines() != shown():
         faults.append(f"{command}\nprints with status {done.returncode}:\n{done.stdout}{done.stderr[-2000:]}")
 
 
 def main():
-    if "--believe" in sys.argv[1:]:
-        write_believed()
+    check_sentences()
     check_code("README.md")
     check_code("docs/USING.md")
     check_crates()
+    check_toolchain()
     check_links()
+    check_commands()
+    check_manual()
     check_walks()
-    check_sizes()
+    check_clauses()
+    check_api()
     check_believed()
+    check_calls()
     if "--first" in sys.argv[1:]:
         run_first()
     for fault in faults:

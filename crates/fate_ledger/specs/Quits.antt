@@ -17,4 +17,5 @@ IsAddedBefore now place before after = (moment end : ℕ) → first_quit moment 
 
 -- so many of the quits were made before the moment, and they are the first ones
 abbrev pub IsBoundAt : ℕ → List SafeQuit → ℕ → Type 0
-IsBoundAt moment quits n = (n ≤ length quits) × IsPartitionPoint (λ (q : SafeQuit). nat_lt q.now moment ≡ true) (λ (q : SafeQuit). nat_lt q.now moment ≡ false) quits n
+IsBoundAt moment quits n =
+    (n ≤ length quits) × IsPartitionPoint (λ (q : SafeQuit). nat_lt q.now moment ≡ true) (λ (q : SafeQuit). nat_lt q.now moment ≡ false) quits n
