@@ -111,7 +111,8 @@ Posts x c now (Err e) y = y ≡ x
 -- what a removal answers and leaves; of the callback its phase, id and token count
 abbrev pub remove_answer : Frames → FrameCallback → FrameAnswer
 remove_answer x c =
-    if nat_lt c.phase x.phases then answer_as removed_kind (removed_count (past x) c.phase c.id (token_of c.has_token c.token)) 0 else answer_as no_phase_kind 0 0
+    if nat_lt c.phase x.phases
+    then answer_as removed_kind (removed_count (past x) c.phase c.id (token_of c.has_token c.token)) 0 else answer_as no_phase_kind 0 0
 
 abbrev pub remove_left : Frames → FrameCallback → Frames
 remove_left x c = if nat_lt c.phase x.phases then removed x c.phase c.id (token_of c.has_token c.token) else x
@@ -196,6 +197,10 @@ HasNotOpen r = r ≡ record { callback = no_callback; number = 0; time = 0; kind
 -- what each call of C does, with some answer of the library that C sees so
 abbrev pub Keeps : (Frames → Frames → Type 0) → Contents → Contents → Type 0
 Keeps made a b = made a.frames b.frames × (b ≡ record a { frames = b.frames })
+
+-- a pulse that was asked for and is no later than now was delivered
+abbrev pub PulseShown : ℕ → FrameAnswer → Frames → Frames → Type 0
+PulseShown now r x y = (r ≡ shown_pulse (delivered x.asked now)) × (y ≡ deliver_left x now)
 
 abbrev pub PostShown : FrameCallback → ℕ → FrameAnswer → Frames → Frames → Type 0
 PostShown c now r x y = (a : Result FrameAnswer NoMemory) × Posts x c now a y × (r ≡ shown a)

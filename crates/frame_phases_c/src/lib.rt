@@ -2,10 +2,10 @@
 #![tactic(auto)]
 
 ghost use Rattle.std.specs.Prelude.{◌≡◌, ◌||◌, true, false, None, Some, MatchOption};
-ghost use Rattle.frame_phases.specs.State.{scheduled_at, delivered};
+ghost use Rattle.frame_phases.specs.State.{scheduled_at};
 ghost use Rattle.frame_phases_c.specs.Handed.{inside, Does};
 ghost use Rattle.frame_phases_c.specs.Contents.{just_opened};
-ghost use Rattle.frame_phases_c.specs.Shown.{Keeps, PostShown, RemoveShown, StartShown, StepShown, IsNotOpen, HasNotOpen, schedule_answer, shown_pulse, due_answer, due_left, deliver_left, answer_as, closed_kind};
+ghost use Rattle.frame_phases_c.specs.Shown.{Keeps, PostShown, RemoveShown, PulseShown, StartShown, StepShown, IsNotOpen, HasNotOpen, schedule_answer, shown_pulse, due_answer, due_left, answer_as, closed_kind};
 
 mod answers;
 mod callback;
@@ -146,7 +146,7 @@ pub extern "C" fn mloop_core_frame_asked(frames: &mut FrameLoop) -> FrameAnswer
 /// Delivers the pulse that is asked for, if it is not after the moment `now`, in nanoseconds.
 #[unsafe(no_mangle)]
 pub extern "C" fn mloop_core_frame_vsync(frames: &mut FrameLoop, now: u64) -> FrameAnswer
-    ensures done { Does (inside frames.old) (inside frames.new) (IsNotOpen result) (Keeps (λ x y. (result ≡ shown_pulse (delivered x.asked now)) × (y ≡ deliver_left x now))) }
+    ensures done { Does (inside frames.old) (inside frames.new) (IsNotOpen result) (Keeps (PulseShown now result)) }
     ensures live { frames.new.live ≡ frames.old.live }
 {
     let Some(mut kept) = frames.take() else {

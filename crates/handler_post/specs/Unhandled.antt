@@ -1,5 +1,5 @@
 -- What the calls by a way do that name no handler.
-use Rattle.std.specs.Prelude.{◌≡◌, ℕ, Bool, true, false, List, length, MatchOption}
+use Rattle.std.specs.Prelude.{◌≡◌, ℕ, Bool, true, false, List, length}
 use Rattle.message_pool.specs.Passes.{Node, Tally}
 use Rattle.queue_state.specs.declared.answers.BarrierPosted.TheVariants as barred
 use Rattle.queue_state.specs.declared.answers.BarrierGone.TheVariants as gone

@@ -3,7 +3,7 @@ use Rattle.std.specs.Prelude.{◌≡◌, ℕ, Bool, true, ◌&&◌, not, nat_lt,
 use Rattle.std.specs.List.{list_any}
 use Rattle.loop_model.specs.declared.memory.NoMemory.{NoMemory}
 use Rattle.loop_sources.specs.Idle.{has_id, has_serial, with_handler, without_first}
-use Rattle.loop_sources.specs.Descriptors.{after_set, with_event, stands, after_answer}
+use Rattle.loop_sources.specs.Descriptors.{after_set, with_event, stands, after_answer, next_event, without_event}
 use Rattle.loop_sources.specs.declared.idle.IdleTurn.{IdleTurn}
 use Rattle.loop_sources.specs.declared.descriptors.Event.{Event}
 use Rattle.loop_sources.specs.declared.descriptors.Event.TheVariants.{Ignored, Call}
@@ -73,7 +73,8 @@ Turns a (Err e) b = b ≡ a
 -- a removal
 abbrev pub RemovesIdle : Contents → ℕ → SourceAnswer → Contents → Type 0
 RemovesIdle a id r b =
-    (r ≡ shown_found (list_any (has_id id) a.idles.handlers)) × (b ≡ record a { idles = record a.idles { handlers = without_first (has_id id) a.idles.handlers } })
+    (r ≡ shown_found (list_any (has_id id) a.idles.handlers))
+    × (b ≡ record a { idles = record a.idles { handlers = without_first (has_id id) a.idles.handlers } })
 
 -- the first handler of the turn that was not handed out yet
 abbrev pub shown_turn : Option IdleTurn → SourceLook
@@ -114,6 +115,10 @@ abbrev pub shown_event : Option Event → SourceLook
 shown_event None = look_as nothing_kind
 shown_event (Some Ignored) = look_as ignored_kind
 shown_event (Some (Call fd events birth seq id)) = record { number = seq; birth = birth; id = id; fd = fd; events = events; kind = event_kind }
+
+-- the oldest event that waits is handed out
+abbrev pub HandsOutEvent : SourceLook → Contents → Contents → Type 0
+HandsOutEvent r a b = (r ≡ shown_event (next_event a.fds)) × (b ≡ record a { fds = without_event a.fds })
 
 -- a listener's answer
 abbrev pub AnswersEvent : Contents → ℕ → ℕ → ℕ → ℕ → SourceAnswer → Contents → Type 0

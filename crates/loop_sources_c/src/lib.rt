@@ -2,10 +2,10 @@
 #![tactic(auto)]
 
 ghost use Rattle.std.specs.Prelude.{◌≡◌, ◌||◌, true, false, None, Some, MatchOption};
-ghost use Rattle.loop_sources.specs.Descriptors.{next_event, without_event, mask_at};
+ghost use Rattle.loop_sources.specs.Descriptors.{mask_at};
 ghost use Rattle.loop_sources_c.specs.Handed.{inside, Does};
 ghost use Rattle.loop_sources_c.specs.Contents.{just_opened};
-ghost use Rattle.loop_sources_c.specs.Shown.{Shows, Adds, Turns, RemovesIdle, TurnShown, Finishes, Watches, HandsIn, AnswersEvent, IsNotOpen, HasNotOpen, shown_event, shown_mask, answer_as, closed_kind};
+ghost use Rattle.loop_sources_c.specs.Shown.{Shows, Adds, Turns, RemovesIdle, TurnShown, Finishes, Watches, HandsIn, HandsOutEvent, AnswersEvent, IsNotOpen, HasNotOpen, shown_mask, answer_as, closed_kind};
 
 mod answers;
 mod handle;
@@ -166,7 +166,7 @@ pub extern "C" fn mloop_core_fd_ready(
 /// Hands out the oldest event that waits.
 #[unsafe(no_mangle)]
 pub extern "C" fn mloop_core_fd_next(sources: &mut SourceLoop) -> SourceLook
-    ensures done { Does (inside sources.old) (inside sources.new) (HasNotOpen result) (λ x y. (result ≡ shown_event (next_event x.fds)) × (y ≡ record x { fds = without_event x.fds })) }
+    ensures done { Does (inside sources.old) (inside sources.new) (HasNotOpen result) (HandsOutEvent result) }
     ensures live { sources.new.live ≡ sources.old.live }
 {
     let Some(mut kept) = sources.take() else {

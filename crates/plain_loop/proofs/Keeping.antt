@@ -11,7 +11,7 @@ use Rattle.loop_model.specs.declared.post.Filter.{Filter}
 use Rattle.loop_model.specs.declared.call.Call.{Call}
 use Rattle.loop_model.specs.declared.call.Call.TheVariants.{Post, Barrier, Unbarrier, Remove, Quit as Quitted}
 use Rattle.loop_model.specs.declared.reply.Reply.{Reply}
-use Rattle.loop_model.specs.declared.reply.Reply.TheVariants.{Accepted, Refused, Token, Unbarriered, NotPosted, Removed, QuitDone, AlreadyQuit, NotAllowed}
+use Rattle.loop_model.specs.declared.reply.Reply.TheVariants.{Accepted, Refused, Token, Unbarriered, NotPosted, QuitDone, AlreadyQuit, NotAllowed}
 use Rattle.loop_model.specs.declared.entry.Entry.{Entry}
 use Rattle.loop_model.specs.Entries.{is_next}
 use Rattle.message_slot.specs.Letter.{post_of}
@@ -34,7 +34,7 @@ use Rattle.looper_run.specs.Acts.{IsNoLookOf}
 use Rattle.looper_run.specs.Tests.{IsLent}
 use Rattle.looper_run.proofs.Working.{lent_then}
 use Rattle.looper_run.proofs.Turning.{found, all_first, no_looks}
-use Rattle.plain_loop.specs.Lines.{holding, IsLentSince, Keeps}
+use Rattle.plain_loop.specs.Lines.{holding, Keeps}
 
 -- what a looper lent, as the poster and the pass are now
 abbrev pub at : Sender → Tally → Journal → Holding

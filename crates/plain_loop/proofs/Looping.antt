@@ -5,7 +5,7 @@ use Rattle.atomic_table.specs.Seated.{TableId}
 use Rattle.loop_model.specs.declared.memory.NoMemory.{NoMemory}
 use Rattle.loop_model.specs.Answers.{Setting}
 use Rattle.shared_queue.specs.Known.{Shared}
-use Rattle.looper_run.specs.Holding.{Holding, Looping, IsAt, IsBeside, workplace}
+use Rattle.looper_run.specs.Holding.{Looping, IsBeside, workplace}
 use Rattle.looper_run.specs.Tests.{IsSameLooper}
 use Rattle.looper_run.specs.declared.by_clock.Loop.{Loop}
 use Rattle.looper_run.specs.Loops.{IsStill}

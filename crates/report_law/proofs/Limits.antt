@@ -1,5 +1,5 @@
 -- The fates of what a run tells add up, so that limits alone have to be asked for.
-use Rattle.std.proofs.Common.{◌≡◌, ◌+◌, ℕ, suc, Bool, List, [], ◌∷◌, ◌++◌, map, length, refl, arith}
+use Rattle.std.proofs.Common.{◌≡◌, ◌+◌, ℕ, Bool, List, [], ◌∷◌, ◌++◌, map, length, refl, arith}
 use Rattle.std.specs.Prelude.{count_by, cond}
 use Rattle.std.specs.List.{flat_map, AllByRecursion}
 use Rattle.std.proofs.lemmas.List.Recursion.{is_count_by}
@@ -10,7 +10,6 @@ use Rattle.loop_model.specs.declared.journal.Journal.{Journal}
 use Rattle.loop_model.specs.declared.record.QueueRecord.{QueueRecord}
 use Rattle.loop_model.specs.Fates.{fates, is_queued, is_dispatched, is_removed, is_dropped, is_stranded}
 use Rattle.frame_phases.specs.declared.entry.FrameRecord.{FrameRecord}
-use Rattle.run_model.specs.declared.report.Report.{Report as RunReport}
 use Rattle.run_model.specs.Histories.{history_of}
 use Rattle.run_picture.specs.declared.report.Past.{Past as PastData}
 use Rattle.run_picture.specs.declared.report.Act.{Act as ActData}

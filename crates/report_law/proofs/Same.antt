@@ -1,10 +1,10 @@
 -- The lines that are printed of a run are the lines of what it tells.
 use Rattle.std.proofs.Common.{◌≡◌, ◌+◌, ℕ, List, [], ◌∷◌, ◌++◌, map, Option, Some, None, refl, sym, ap, ◌∙◌, append_assoc}
 use Rattle.std.specs.Prelude.{codes, slice_get}
-use Rattle.std.specs.List.{flat_map, filter_map, zip, join_with_byte, AllByRecursion}
+use Rattle.std.specs.List.{flat_map, AllByRecursion}
 use Rattle.std.specs.Option.{option_map_or}
 use Rattle.std.specs.Fmt.{decimal}
-use Rattle.std.proofs.lemmas.List.{append-nil, map-append}
+use Rattle.std.proofs.lemmas.List.{map-append}
 use Rattle.loop_model.specs.declared.post.Post.{Post as PostData}
 use Rattle.loop_model.specs.declared.call.Call.{Call}
 use Rattle.loop_model.specs.declared.call.Call.TheVariants as call
@@ -28,9 +28,8 @@ use Rattle.run_picture.specs.declared.report.Past.{Past as PastData}
 use Rattle.run_picture.specs.declared.report.Past.TheVariants as seen_past
 use Rattle.run_picture.specs.declared.report.Act.{Act as SeenAct}
 use Rattle.run_picture.specs.declared.report.Run.{Run as RunData}
-use Rattle.run_picture.specs.declared.report.Frame.{Frame as FrameData}
 use Rattle.run_picture.specs.declared.line.Line.{Line}
-use Rattle.run_picture.specs.declared.line.Line.TheVariants.{Title, Looper, Past, Fates, Act, Frame, Run, End}
+use Rattle.run_picture.specs.declared.line.Line.TheVariants.{Title, Looper, Past, Fates, Act, Run, End}
 use Rattle.run_picture.specs.Text.{subject_words, past_words, act_words, line_words, line_text, frame_lines, looper_lines, loopers_lines, lines, text}
 use Rattle.report_law.specs.Seen.{subject_of, past_by, past_of, fates_of, acts_by, run_of, runs_first, frames_in, posted_in, seen_looper, seen_loopers, seen}
 use Rattle.report_law.specs.Laws.{AreCounted, IsFramed}

@@ -10,7 +10,7 @@ use Rattle.run_picture.specs.declared.report.ParsedReport.{ParsedReport}
 use Rattle.run_picture.specs.declared.report.ParsedReport.TheVariants as report
 use Rattle.text_help.specs.declared.said.Said.{Said}
 use Rattle.text_help.specs.declared.said.Said.TheVariants as said
-use Rattle.text_help.specs.Saying.{IsSaidOf, GoodOnly, GoodAll, BadOnly, BadAll, BeginsWithHead, bad_line, is_good, is_without, no_cause, refused_report}
+use Rattle.text_help.specs.Saying.{IsSaidOf, GoodOnly, GoodAll, BadOnly, BadAll, BeginsWithHead, no_cause, refused_report}
 
 abbrev pub Named : Type 0
 Named = Option (ℕ × Option Cause)

@@ -1,5 +1,4 @@
 -- the way stays ready, and the same
-use Rattle.std.proofs.Common.{◌≡◌}
 use Rattle.handler_post.specs.Ways.{IsReady, IsSameWay}
 use Rattle.loop_bench.proofs.handled.post_each.Given as goal
 
