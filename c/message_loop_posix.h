@@ -1,6 +1,6 @@
 /* A message loop for C and C++ programs over the three proved libraries: message_queue.h (messages), frame_phases.h (frames) and
  * loop_sources.h (idle handlers, descriptors). This layer is C, tested and not proved: it adds one lock, a wake, a wait, a clock and
- * function pointers, and decides nothing that they decide. It is android.os.Looper, Handler and MessageQueue, and
+ * function pointers. It decides when to wait, when to wake and when a frame's message is posted; they decide what is next. It is android.os.Looper, Handler and MessageQueue, and
  * android.view.Choreographer; where a call is one of their methods, the method is named.
  *
  * THREADS. A loop belongs to the thread that calls `mlp_run` or `mlp_run_once`. "Any thread" stands at the calls that others may make
@@ -93,7 +93,7 @@ void mlp_handler_close(mlp_handler *handler); /* with all its messages; in the l
 
 bool mlp_send(mlp_handler *to, uint32_t what, uint32_t arg, void *obj);                                 /* sendMessage */
 bool mlp_send_delayed(mlp_handler *to, uint32_t what, uint32_t arg, void *obj, uint64_t milliseconds);  /* sendMessageDelayed */
-bool mlp_send_at(mlp_handler *to, uint32_t what, uint32_t arg, void *obj, uint64_t when);               /* sendMessageAtTime */
+bool mlp_send_at(mlp_handler *to, uint32_t what, uint32_t arg, void *obj, uint64_t when);               /* sendMessageAtTime; 0 counts as 1 */
 bool mlp_send_front(mlp_handler *to, uint32_t what, uint32_t arg, void *obj);                           /* sendMessageAtFrontOfQueue */
 bool mlp_call(mlp_handler *by, mlp_func func, void *user);                                              /* post */
 bool mlp_call_delayed(mlp_handler *by, mlp_func func, void *user, uint64_t milliseconds);               /* postDelayed */

@@ -43,7 +43,7 @@
  *             free((void *)(uintptr_t)d.message.obj);
  *
  * MEMORY comes from the three functions at the end of this file. Where a call answers MSGQ_NO_MEMORY all is as before it. Only
- * `msgq_open`, `msgq_post`, `msgq_post_at_front` and `msgq_barrier` take memory: one block for the message or barrier, which goes back when it
+ * `msgq_open`, `msgq_reserve`, `msgq_post`, `msgq_post_at_front` and `msgq_barrier` take memory; the last three one block for the message or barrier, which goes back when it
  * is handed out or removed, and now and then one for a list of places where many wait, without which they go on. After a
  * `msgq_reserve` they take the block from those that are kept, and memory only where none is left. Nothing is kept of calls that were
  * made, so a queue that stands for years takes no more than one that was just opened.
@@ -223,7 +223,7 @@ static inline msgq_answer msgq_limit(msgq_queue *queue, uint64_t now, uint64_t a
 
 /* Takes memory for `count` messages and barriers, and from then on keeps the blocks of those that go, up to so many, for those that come. So
  * while no more than so many stand or wait to be handed out, beyond those that stood at this call, no post and no barrier
- * answers MSGQ_NO_MEMORY. The close gives them back. MSGQ_DONE, MSGQ_NO_MEMORY (those that were found are kept), MSGQ_NOT_OPEN. */
+ * answers MSGQ_NO_MEMORY (tested, and no clause of the library). The close gives them back. MSGQ_DONE, MSGQ_NO_MEMORY (those that were found are kept), MSGQ_NOT_OPEN. */
 static inline msgq_answer msgq_reserve(msgq_queue *queue, uint64_t count);
 
 /* What the program provides: a heap. `heap.c` of examples/embed has it over malloc, and so has the toolchain's liblibc_c.a. It is
