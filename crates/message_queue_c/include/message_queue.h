@@ -42,11 +42,11 @@
  *         if (d.kind == MSGQ_TAKEN && d.message.has_obj)
  *             free((void *)(uintptr_t)d.message.obj);
  *
- * MEMORY comes from the three functions at the end of this file. Where a call answers MSGQ_NO_MEMORY all is as before it. Only
- * `msgq_open`, `msgq_reserve`, `msgq_post`, `msgq_post_at_front` and `msgq_barrier` take memory; the last three one block for the message or barrier, which goes back when it
- * is handed out or removed, and now and then one for a list of places where many wait, without which they go on. After a
- * `msgq_reserve` they take the block from those that are kept, and memory only where none is left. Nothing is kept of calls that were
- * made, so a queue that stands for years takes no more than one that was just opened.
+ * MEMORY comes from the three functions at the end of this file. Where a call answers MSGQ_NO_MEMORY all is as before it. Only `msgq_open`,
+ * `msgq_reserve`, `msgq_post`, `msgq_post_at_front` and `msgq_barrier` take memory; the last three one block for the message or barrier, which
+ * goes back when it is handed out or removed, and now and then one for a list of places where many wait, without which they go on. After a
+ * `msgq_reserve` they take the block from those that are kept, and memory only where none is left. Nothing is kept of calls that were made, so
+ * a queue that stands for years takes no more than one that was just opened.
  *
  * PROCESSORS. It is for 64 bits alone: x86-64 from x86-64-v2 on (SSE4.2, POPCNT), and aarch64. There is none for microcontrollers.
  *
