@@ -93,7 +93,7 @@ def calls_of(crate):
     names, files = handed_on(crate)
     src = TOP / "crates" / crate / "src"
     for path in sorted(src.rglob("*.rt")):
-        if "tests" in path.parts or path.name == "tests.rt":
+        if "tests" in path.relative_to(src).parts or path.name == "tests.rt":
             continue
         text = re.split(r"\n#\[cfg\(test\)\]\nmod \w+ \{", path.read_text())[0]
         whole = path.name == "lib.rt" or path.stem in files

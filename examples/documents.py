@@ -4,7 +4,7 @@
 --first also runs README's first command; --believe first writes the figures of docs/PROMISE.md anew, and --calls docs/CALLS.md.
 
 - no sentence of the pages in WHOLE has more than 30 words, and in each a verb is found (sentences.py);
-- each piece of Rust in README.md and docs/USING.md stands in the source of one of the programs that they show (a line '// ..' stands before a piece);
+- each piece of Rust in README.md, docs/USING.md and the READMEs of countdown and animator stands in a source that SHOWN names for it (a line '// ..' stands before a piece);
 - README.md names every crate of crates.txt, and each has its README.md; it names the toolchain by which it was proved, where `rt` tells it;
 - each link leads to a file of the repository, and to a heading of it where it names one; each file that a command names is there;
 - each command that begins with `dashboard` has words that the program takes, and man/dashboard.1 has just these;
@@ -28,7 +28,12 @@ from sentences import faults_in
 
 TOP = pathlib.Path(__file__).resolve().parent.parent
 WHOLE = ["README.md", *(f"docs/{name}.md" for name in ("PROMISE", "USING", "SCRIPT", "PICTURE", "ANIMATE", "GATE", "NEXT", "PROVING", "DECISIONS", "ARCHITECTURE"))]
-SHOWN = ["uses", "plain_loop"]
+SHOWN = {
+    "README.md": ["uses", "plain_loop"],
+    "docs/USING.md": ["uses", "plain_loop"],
+    "crates/countdown/README.md": ["script_tests"],
+    "crates/animator/README.md": ["script_tests"],
+}
 CLAIMS = ["What each word promises", "What a run is", "What a run by a clock is"]
 TOP_CALL = "crates/dashboard_cli/src/top_call.rt"
 faults = []
@@ -66,11 +71,11 @@ def stands_in(piece, lines):
     return any(lines[k : k + len(piece)] == piece for k in range(len(lines)))
 
 
-def check_code(page):
-    sources = [lines_of(path.read_text()) for crate in SHOWN for path in (TOP / "crates" / crate / "src").glob("*.rt")]
+def check_code(page, crates):
+    sources = [lines_of(path.read_text()) for crate in crates for path in (TOP / "crates" / crate / "src").glob("*.rt")]
     for piece in pieces(text_of(page)):
         if not any(stands_in(lines_of(piece), lines) for lines in sources):
-            faults.append(f"{page}: this stands in no source of {', '.join(SHOWN)}:\n{piece}")
+            faults.append(f"{page}: this stands in no source of {', '.join(crates)}:\n{piece}")
 
 
 # ---- crates, links, commands
@@ -301,8 +306,8 @@ def run_first():
 
 def main():
     check_sentences()
-    check_code("README.md")
-    check_code("docs/USING.md")
+    for page, crates in SHOWN.items():
+        check_code(page, crates)
     check_crates()
     check_toolchain()
     check_links()

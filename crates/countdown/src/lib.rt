@@ -8,6 +8,3 @@ mod timer;
 
 pub use span::Span;
 pub use timer::{Countdown, Ticked};
-
-#[cfg(test)]
-mod tests;

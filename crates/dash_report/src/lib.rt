@@ -12,6 +12,3 @@ pub use fates::write_fates;
 pub use history::write_history;
 pub use report::report_text;
 pub use summary::summary_text;
-
-#[cfg(test)]
-mod tests;

@@ -12,6 +12,3 @@ mod quits;
 
 pub use counted::Fates;
 pub use history::fates;
-
-#[cfg(test)]
-mod tests;

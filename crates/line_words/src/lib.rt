@@ -12,6 +12,3 @@ pub use cursor::Words;
 pub use reader::{ByLines, Stop, read_lines};
 pub use words::{number, split_first};
 pub use writer::push_number;
-
-#[cfg(test)]
-mod tests;

@@ -29,6 +29,3 @@ pub use record::QueueRecord;
 pub use reply::Reply;
 pub use segment::Segment;
 pub use sequence::Sequence;
-
-#[cfg(test)]
-mod tests;

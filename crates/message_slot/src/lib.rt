@@ -3,8 +3,6 @@
 
 mod claim;
 mod message;
-#[cfg(test)]
-mod tests;
 
 pub use claim::{Claim, NoClaim};
 pub use message::Message;

@@ -19,6 +19,3 @@ pub use plans::explain_plan;
 pub use reports::explain_report;
 pub use said::{Said, SaidOfTrace};
 pub use scripts::explain_script;
-
-#[cfg(test)]
-mod tests;

@@ -4,8 +4,8 @@ use Rattle.std.specs.List.{flat_map}
 use Rattle.std.proofs.lemmas.List.{map-append}
 use Rattle.std.proofs.lemmas.List.Elements.{All-push, All-nil}
 use Rattle.std.proofs.lemmas.Grind.{flat_map-append}
-use Rattle.value_animator.specs.declared.plan.Key.{Key}
-use Rattle.value_animator.specs.declared.plan.Plan.{Plan}
+use Rattle.animator.specs.declared.keys.Key.{Key}
+use Rattle.animator.specs.declared.plan.Plan.{Plan}
 use Rattle.value_animator.specs.declared.plan.Thing.{Thing}
 use Rattle.value_animator.specs.declared.plan.Thing.TheVariants as thing_of
 use Rattle.value_animator.specs.declared.plan.Values.{Values}
@@ -13,7 +13,8 @@ use Rattle.value_animator.specs.declared.row.RowKind.TheVariants as kind
 use Rattle.value_animator.specs.declared.row.Row.{Row}
 use Rattle.value_animator.specs.declared.draft.Stage.{Stage}
 use Rattle.value_animator.specs.declared.draft.Stage.TheVariants.{Start, Headed, Body, Ended}
-use Rattle.value_animator.specs.Plans.{IsKey, IsPlan, IsThing, AreValues}
+use Rattle.animator.specs.Plans.{IsKey, IsPlan}
+use Rattle.value_animator.specs.Plans.{IsThing, AreValues}
 use Rattle.value_animator.specs.Rows.{row_text, say}
 use Rattle.value_animator.specs.Rules.{SoFar, may_be_placed, last_place}
 use Rattle.value_animator.specs.Reading.{key_row, plan_row, thing_rows, rows}

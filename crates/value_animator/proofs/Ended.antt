@@ -10,7 +10,7 @@ use Rattle.value_animator.specs.declared.runner.Runner.{Runner}
 use Rattle.value_animator.specs.declared.runner.Runner.TheVariants as runner
 use Rattle.value_animator.specs.Running.{all_ended, thing_end}
 use Rattle.value_animator.specs.Runners.{runner_at, is_ended}
-use Rattle.value_animator.specs.Valuing.{end_of}
+use Rattle.animator.specs.Valuing.{end_of}
 
 -- a runner has ended exactly where its thing has
 one_ended : (t : Thing) (times : List ℕ) → is_ended (runner_at t times) ≡ has_ended (thing_end t) times

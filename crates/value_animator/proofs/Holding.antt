@@ -10,8 +10,8 @@ use Rattle.std.proofs.lemmas.Grind.{flat_map-append}
 use Rattle.dash_script.specs.declared.refusal.Cause.{Cause}
 use Rattle.dash_script.specs.declared.refusal.Cause.TheVariants as cause
 use Rattle.dash_script.specs.Writing.{hole_count}
-use Rattle.value_animator.specs.declared.plan.Key.{Key}
-use Rattle.value_animator.specs.declared.plan.Plan.{Plan}
+use Rattle.animator.specs.declared.keys.Key.{Key}
+use Rattle.animator.specs.declared.plan.Plan.{Plan}
 use Rattle.value_animator.specs.declared.plan.Thing.{Thing}
 use Rattle.value_animator.specs.declared.plan.Thing.TheVariants as thing_of
 use Rattle.value_animator.specs.declared.plan.Values.{Values}
@@ -20,7 +20,8 @@ use Rattle.value_animator.specs.declared.row.RowKind.TheVariants as kind
 use Rattle.value_animator.specs.declared.row.Row.{Row}
 use Rattle.value_animator.specs.declared.draft.Stage.{Stage}
 use Rattle.value_animator.specs.declared.draft.Stage.TheVariants.{Start, Headed, Body, Ended}
-use Rattle.value_animator.specs.Plans.{IsKey, IsPlan, IsThing, AreValues, rise, rise_from}
+use Rattle.animator.specs.Plans.{IsKey, IsPlan, rise, rise_from}
+use Rattle.value_animator.specs.Plans.{IsThing, AreValues}
 use Rattle.value_animator.specs.Rows.{form, say}
 use Rattle.value_animator.specs.Rules.{SoFar, cause_of, with_row, is_ended_stage, last_place, may_be_placed, key_of, plan_of}
 use Rattle.value_animator.specs.Drafts.{values_of}

@@ -5,8 +5,8 @@ use Rattle.std.specs.List.{flat_map}
 use Rattle.std.proofs.lemmas.Bool.{and_parts, and_from, or_left, or_right}
 use Rattle.std.proofs.lemmas.Bool.Decides.{nat_tests}
 use Rattle.dash_script.specs.Causes.{each_number}
-use Rattle.value_animator.specs.declared.plan.Key.{Key}
-use Rattle.value_animator.specs.declared.plan.Plan.{Plan}
+use Rattle.animator.specs.declared.keys.Key.{Key}
+use Rattle.animator.specs.declared.plan.Plan.{Plan}
 use Rattle.value_animator.specs.declared.plan.Thing.{Thing}
 use Rattle.value_animator.specs.declared.plan.Thing.TheVariants as thing_of
 use Rattle.value_animator.specs.declared.plan.Values.{Values}
@@ -14,7 +14,8 @@ use Rattle.value_animator.specs.declared.row.RowKind.{RowKind}
 use Rattle.value_animator.specs.declared.row.RowKind.TheVariants as kind
 use Rattle.value_animator.specs.declared.row.Row.{Row}
 use Rattle.value_animator.specs.declared.draft.Stage.TheVariants.{Headed, Body, Ended}
-use Rattle.value_animator.specs.Plans.{IsKey, IsPlan, IsThing, AreValues, rise, rise_from}
+use Rattle.animator.specs.Plans.{IsKey, IsPlan, rise, rise_from}
+use Rattle.value_animator.specs.Plans.{IsThing, AreValues}
 use Rattle.value_animator.specs.Rules.{SoFar, nothing, with_row, numbers_fit, last_place, may_be_placed, key_has_room}
 use Rattle.value_animator.specs.Reading.{key_row, thing_rows, rows, values_text}
 use Rattle.value_animator.specs.Rows.{say}

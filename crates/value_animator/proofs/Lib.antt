@@ -1,4 +1,3 @@
-pub mod Keys
 pub mod Framing
 pub mod Counting
 pub mod Ended
@@ -16,4 +15,3 @@ pub mod Refusals
 pub mod Found
 pub mod Continuing
 pub mod Stopping
-pub mod Ending

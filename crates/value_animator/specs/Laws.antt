@@ -1,25 +1,10 @@
--- What holds of every animator, and of every text of values.
-use Rattle.std.specs.Prelude.{◌≡◌, ◌↔◌, ℕ, List, ◌∷◌, ◌++◌, Ok, Err}
+-- What holds of every text of values.
+use Rattle.std.specs.Prelude.{◌≡◌, ◌↔◌, ℕ, List, Ok, Err}
 use Rattle.dash_script.specs.declared.refusal.Cause.{Cause}
-use Rattle.value_animator.specs.declared.animator.Valued.TheVariants.{End, Over}
-use Rattle.value_animator.specs.declared.plan.Plan.{Plan}
 use Rattle.value_animator.specs.declared.plan.Values.{Values}
 use Rattle.value_animator.specs.Plans.{AreValues}
 use Rattle.value_animator.specs.Reading.{IsRefusal, IsText, values_text}
 use Rattle.value_animator.specs.Parsing.{read_values}
-use Rattle.value_animator.specs.Valuing.{answer, end_value}
-
--- at one of the times the animator answered its end, with the value that stays
-pub record HasToldEnd (plan : Plan) (times : List ℕ) : Type 0 where
-  pub before : List ℕ
-  pub time : ℕ
-  pub after : List ℕ
-  pub are : times ≡ before ++ time ∷ after
-  pub told : answer plan before time ≡ End (end_value plan)
-
--- an animator answers that it is over exactly where it has told its end at a time before, so it tells its end once
-abbrev pub EndsAreToldOnce : Type 0
-EndsAreToldOnce = (plan : Plan) (times : List ℕ) (time : ℕ) → (answer plan times time ≡ Over) ↔ HasToldEnd plan times
 
 -- a text is read as values exactly where it is their text
 abbrev pub ReadsTexts : Type 0

@@ -1,6 +1,4 @@
 pub mod Plans
-pub mod Valuing
-pub mod Given
 pub mod Running
 pub mod Runners
 pub mod Framing

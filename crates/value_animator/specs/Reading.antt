@@ -4,8 +4,8 @@ use Rattle.std.specs.List.{flat_map}
 use Rattle.dash_script.specs.declared.refusal.Cause.{Cause}
 use Rattle.dash_script.specs.declared.refusal.Cause.TheVariants as cause
 use Rattle.line_words.specs.Words.{pieces}
-use Rattle.value_animator.specs.declared.plan.Key.{Key}
-use Rattle.value_animator.specs.declared.plan.Plan.{Plan}
+use Rattle.animator.specs.declared.keys.Key.{Key}
+use Rattle.animator.specs.declared.plan.Plan.{Plan}
 use Rattle.value_animator.specs.declared.plan.Thing.{Thing}
 use Rattle.value_animator.specs.declared.plan.Thing.TheVariants as thing_of
 use Rattle.value_animator.specs.declared.plan.Values.{Values}

@@ -6,8 +6,8 @@ use Rattle.dash_script.specs.declared.form.Role.TheVariants.{Within}
 use Rattle.dash_script.specs.declared.refusal.Cause.{Cause}
 use Rattle.dash_script.specs.declared.refusal.Cause.TheVariants as cause
 use Rattle.dash_script.specs.Causes.{each_number}
-use Rattle.value_animator.specs.declared.plan.Key.{Key}
-use Rattle.value_animator.specs.declared.plan.Plan.{Plan}
+use Rattle.animator.specs.declared.keys.Key.{Key}
+use Rattle.animator.specs.declared.plan.Plan.{Plan}
 use Rattle.value_animator.specs.declared.plan.Thing.{Thing}
 use Rattle.value_animator.specs.declared.plan.Thing.TheVariants as thing_of
 use Rattle.value_animator.specs.declared.row.RowKind.{RowKind}

@@ -7,7 +7,7 @@ use Rattle.value_animator.specs.declared.plan.Thing.{Thing}
 use Rattle.value_animator.specs.declared.plan.Thing.TheVariants as thing_of
 use Rattle.value_animator.specs.declared.runner.Runner.{Runner}
 use Rattle.value_animator.specs.declared.runner.Runner.TheVariants as runner
-use Rattle.value_animator.specs.Valuing.{end_of}
+use Rattle.animator.specs.Valuing.{end_of}
 use Rattle.value_animator.specs.Running.{line_text, thing_lines}
 
 -- a thing that was given these times

@@ -6,14 +6,14 @@ use Rattle.countdown.specs.Moments.{has_ended}
 use Rattle.countdown.specs.Ticking.{answer as ticking_answer}
 use Rattle.countdown.specs.declared.timer.Ticked.{Ticked}
 use Rattle.countdown.specs.declared.timer.Ticked.TheVariants as ticked
-use Rattle.value_animator.specs.declared.animator.Valued.{Valued}
-use Rattle.value_animator.specs.declared.animator.Valued.TheVariants as valued
+use Rattle.animator.specs.declared.values.Valued.{Valued}
+use Rattle.animator.specs.declared.values.Valued.TheVariants as valued
 use Rattle.value_animator.specs.declared.plan.Thing.{Thing}
 use Rattle.value_animator.specs.declared.plan.Thing.TheVariants as thing_of
 use Rattle.value_animator.specs.declared.plan.Values.{Values}
 use Rattle.value_animator.specs.declared.runner.Telling.{Telling}
 use Rattle.value_animator.specs.declared.runner.Telling.TheVariants.{Tick, Finished, Value, End}
-use Rattle.value_animator.specs.Valuing.{answer, end_of}
+use Rattle.animator.specs.Valuing.{answer, end_of}
 
 -- ---- what a thing tells
 

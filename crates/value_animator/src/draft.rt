@@ -4,8 +4,9 @@ ghost use Rattle.dash_script.specs.Causes.{each_number};
 ghost use Rattle.value_animator.specs.Drafts.{so_far, values_of};
 ghost use Rattle.value_animator.specs.Rules.{cause_of, has_room, is_ended_stage, is_within, may_be_placed, may_stand, nothing, numbers_fit, places_rise, plan_of, ways_fit, with_given_key, with_row};
 
-use crate::plan::{Key, Plan, Thing, Values};
+use crate::plan::{Thing, Values};
 use crate::row::{Row, RowKind};
+use animator::{Key, Keys, Plan};
 use dash_script::{Cause, Numbers, Role, Slot};
 use loop_model::{NoMemory, Sequence};
 use std::alloc::Global;
@@ -155,7 +156,9 @@ impl Draft {
             RowKind::Restart => self.things.len() < MOST_THINGS,
             RowKind::Reverse => self.things.len() < MOST_THINGS,
             RowKind::Key => match &self.open {
-                Some(plan) => { plan.keys.len() < MOST_KEYS - 1 || row.numbers.at(0) == LAST_PLACE }
+                Some(plan) => {
+                    plan.keys.as_slice().len() < MOST_KEYS - 1 || row.numbers.at(0) == LAST_PLACE
+                }
                 None => true,
             },
             _ => true,
@@ -257,6 +260,6 @@ fn plan_of(alloc: Global, reverse: bool, numbers: &Numbers) -> Plan
         duration: numbers.at(1),
         repeats: numbers.narrow_at(2),
         reverse,
-        keys: Sequence::from_vec(Vec::new(alloc)),
+        keys: Keys::from_vec(Vec::new(alloc)),
     }
 }

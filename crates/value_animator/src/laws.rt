@@ -1,11 +1,5 @@
-//! What holds of every animator, and of every text of values.
-ghost use Rattle.value_animator.specs.Laws.{EndsAreToldOnce, OneText, ReadsRefusals, ReadsTexts};
-
-/// Stands for the law that an animator answers `Over` exactly at the times after the one at which it answered `End`, and that
-/// there is only one such time.
-pub fn ends_are_told_once()
-    ensures { EndsAreToldOnce }
-{}
+//! What holds of every text of values.
+ghost use Rattle.value_animator.specs.Laws.{OneText, ReadsRefusals, ReadsTexts};
 
 /// Stands for the law that a text is read as values exactly where it is their text.
 pub fn texts_are_read()

@@ -1,8 +1,6 @@
-//! Values over frame time: an animator after Android's `ValueAnimator` in whole numbers with linear steps (this project's
-//! profile), and a plan of animators and countdowns that is read, run and printed.
+//! Plans of values over frame time: animators and countdowns, read, run and printed.
 #![tactic(auto)]
 
-mod animator;
 mod draft;
 mod frames;
 pub mod laws;
@@ -13,11 +11,8 @@ mod row;
 mod run;
 mod runner;
 
-pub use animator::{Animator, Valued};
-pub use plan::{Key, Plan, Thing, Values};
+pub use animator::{Animator, Key, Keys, Plan, Valued};
+pub use plan::{Thing, Values};
 pub use reader::parse_values;
 pub use refusal::ParsedValues;
 pub use run::{ValuesRan, run_values};
-
-#[cfg(test)]
-mod tests;

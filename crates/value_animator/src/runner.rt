@@ -5,10 +5,10 @@ ghost use Rattle.value_animator.specs.Plans.{IsThing};
 ghost use Rattle.value_animator.specs.Runners.{is_ended, runner_at, AreAsked, HaveTold};
 ghost use Rattle.value_animator.specs.Running.{line_text, telling_lines, told};
 
-use crate::animator::{Animator, Valued};
-use crate::plan::{Plan, Thing};
+use crate::plan::Thing;
+use animator::{Animator, Keys, Plan, Valued};
 use countdown::{Countdown, Ticked};
-use loop_model::{NoMemory, Sequence};
+use loop_model::NoMemory;
 use std::alloc::Global;
 use std::fmt::Write;
 
@@ -39,7 +39,7 @@ fn copied(alloc: Global, plan: &Plan) -> Result<Plan, NoMemory>
         duration: plan.duration,
         repeats: plan.repeats,
         reverse: plan.reverse,
-        keys: Sequence::from_vec(keys),
+        keys: Keys::from_vec(keys),
     })
 }
 

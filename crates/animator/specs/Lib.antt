@@ -1,0 +1,4 @@
+pub mod Plans
+pub mod Valuing
+pub mod Given
+pub mod Laws

@@ -1,0 +1,56 @@
+//! Numbers and words, read and written.
+
+use line_words::{number, push_number, split_first};
+use std::process::Abort;
+use std::test::Fail;
+
+const SPELLED: [(&[u8], u64); 5] = [
+    (b"0", 0),
+    (b"7", 7),
+    (b"10", 10),
+    (b"4294967296", 4294967296),
+    (b"18446744073709551615", 18446744073709551615),
+];
+
+const NO_NUMBERS: [&[u8]; 8] = [
+    b"",
+    b"00",
+    b"01",
+    b"-",
+    b"+1",
+    b"1a",
+    b"18446744073709551616",
+    b"99999999999999999999999",
+];
+
+#[test]
+fn numbers_are_read(rt: HostRuntime) -> Result<(), Fail> {
+    for (word, value) in SPELLED {
+        assert_eq!(rt; number(word), Some(value));
+    }
+    for word in NO_NUMBERS {
+        assert_eq!(rt; number(word), None);
+    }
+    Ok(())
+}
+
+#[test]
+fn numbers_are_written(rt: HostRuntime) -> Result<(), Fail> {
+    for (word, value) in SPELLED {
+        let mut out = Vec::new(rt.alloc());
+        push_number(&mut out, value).ok().ok_or("no memory")?;
+        assert_eq!(rt; out.as_slice(), word);
+    }
+    Ok(())
+}
+
+#[test]
+fn the_first_byte_parts(rt: HostRuntime) -> Result<(), Fail> {
+    let (word, rest) = split_first(b"ab cd ef", b' ');
+    assert_eq!(rt; word, b"ab".as_slice());
+    assert_eq!(rt; rest, Some(b"cd ef".as_slice()));
+    let (whole, none) = split_first(b"abcd", b' ');
+    assert_eq!(rt; whole, b"abcd".as_slice());
+    assert_eq!(rt; none.is_none(), true);
+    Ok(())
+}

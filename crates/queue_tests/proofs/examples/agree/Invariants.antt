@@ -1,0 +1,5 @@
+use Rattle.std.proofs.Common.{◌≡◌}
+use Rattle.queue_tests.proofs.examples.agree.Given as goal
+
+abbrev pub invariant-loop-row : goal.invariant-loop-row
+invariant-loop-row g l = l.state.setting ≡ record { main = l.main; lockstep = l.lockstep; senders = 3 }

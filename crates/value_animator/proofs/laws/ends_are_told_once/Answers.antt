@@ -1,5 +1,0 @@
-use Rattle.value_animator.proofs.Ending.{ends_are_told_once}
-use Rattle.value_animator.proofs.laws.ends_are_told_once.Goals as goal
-
-pub returns : goal.returns
-returns c = ends_are_told_once
