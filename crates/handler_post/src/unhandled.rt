@@ -8,7 +8,7 @@ use crate::supply::recycle_all;
 use crate::way::{Erased, Sent, Way, erase, send};
 use loop_model::{Filter, NoMemory, Post};
 use message_pool::Obtained;
-use queue_state::{BarrierGone, BarrierPosted, Quitting};
+use queue_state::{BarrierGone, BarrierPosted, Quitting, Recorder};
 use std::alloc::Global;
 use std::sync::Wait;
 
@@ -25,7 +25,7 @@ pub enum Quit {
     NoMemory,
 }
 
-impl<'a> Way<'a> {
+impl<'a, E: Recorder> Way<'a, E> {
     /// Posts this, whatever handler it names. A message that the queue doesn't keep is recycled (`enqueueMessage`).
     pub fn send<R: Wait>(&mut self, rt: &R, alloc: Global, post: &Post) -> Sent
         requires { IsReady self.old }

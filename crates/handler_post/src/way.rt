@@ -6,19 +6,19 @@ ghost use Rattle.handler_post.specs.Sends.{Sends, Erases};
 use crate::supply::{message_of, recycle_all};
 use loop_model::{Filter, Post};
 use message_pool::{Pool, PoolClaim, PoolPass};
-use queue_state::{Posted, Taking};
+use queue_state::{Kept, Posted, Recorder, Taking};
 use shared_queue::{Poster, SharedQueue};
 use std::alloc::Global;
 use std::sync::Wait;
 
 /// A thread's way to a queue whose messages are of a pool: the queue with one of its posters, and the pool with one of its
-/// passes.
+/// passes. The entries go where `E` says, as the queue's.
 #[derive(Drop)]
-pub struct Way<'a> {
+pub struct Way<'a, E: Recorder = Kept> {
     /// The queue.
-    pub queue: &'a SharedQueue<PoolClaim>,
+    pub queue: &'a SharedQueue<PoolClaim, E>,
     /// The thread's poster of the queue.
-    pub poster: &'a mut Poster<PoolClaim>,
+    pub poster: &'a mut Poster<PoolClaim, E>,
     /// The pool that messages come from and go back to.
     pub pool: &'a Pool,
     /// The thread's pass of the pool.
@@ -46,7 +46,12 @@ pub enum Erased {
 }
 
 /// Obtains a message, makes it this post and posts it. A message that the queue doesn't keep is recycled.
-pub(crate) fn send<R: Wait>(rt: &R, alloc: Global, way: &mut Way, post: &Post) -> Sent
+pub(crate) fn send<R: Wait, E: Recorder>(
+    rt: &R,
+    alloc: Global,
+    way: &mut Way<E>,
+    post: &Post,
+) -> Sent
     requires { IsReady way.old }
     ensures ready { IsReady way.new }
     ensures same { IsSameWay way.old way.new }
@@ -69,7 +74,7 @@ pub(crate) fn send<R: Wait>(rt: &R, alloc: Global, way: &mut Way, post: &Post) -
 }
 
 /// Removes the messages that the filter names, and recycles them.
-pub(crate) fn erase<R: Wait>(rt: &R, way: &mut Way, filter: &Filter) -> Erased
+pub(crate) fn erase<R: Wait, E: Recorder>(rt: &R, way: &mut Way<E>, filter: &Filter) -> Erased
     requires { IsReady way.old }
     ensures ready { IsReady way.new }
     ensures same { IsSameWay way.old way.new }

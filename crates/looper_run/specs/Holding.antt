@@ -4,6 +4,7 @@ use Rattle.atomic_table.specs.Seated.{TableId}
 use Rattle.loop_model.specs.declared.journal.Journal.{Journal}
 use Rattle.message_pool.specs.Passes.{Claimed, Tally}
 use Rattle.queue_state.specs.Queue.{Queue}
+use Rattle.queue_state.specs.declared.recorder.Kept.{Kept}
 use Rattle.shared_queue.specs.Constants.{Constants}
 use Rattle.shared_queue.specs.Known.{Known, Shared, IsOf}
 use Rattle.looper_run.specs.declared.own.Own.{Own}
@@ -33,7 +34,11 @@ pub record Workplace : Type 0 where
   pub constants : Option (Constants TableId)
   pub pool : TableId
 
-abbrev pub held : Own → Holding
+-- what the looper of a queue lends whose entries are kept in memory
+abbrev pub KeptOwn : Type 0
+KeptOwn = Own Kept
+
+abbrev pub held : {R : Type 0} → Own R → Holding
 held own = record { poster = own.poster.now; pass = own.pass.now; journal = own.journal.now }
 
 abbrev pub workplace : Holding → Workplace
@@ -46,7 +51,7 @@ pub record IsAt (queue : Shared TableId) (pool : TableId) (h : Holding) : Type 0
   pub home : queue.constants.home ≡ pool
 
 -- the same poster, pass and journal, by the same references
-pub record IsSameOwn (before after : Own) : Type 0 where
+pub record IsSameOwn {R : Type 0} (before after : Own R) : Type 0 where
   pub poster : after.poster.ghost_name ≡ before.poster.ghost_name
   pub pass : after.pass.ghost_name ≡ before.pass.ghost_name
   pub journal : after.journal.ghost_name ≡ before.journal.ghost_name

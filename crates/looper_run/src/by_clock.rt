@@ -15,7 +15,7 @@ use crate::step::Step;
 use loop_io::Clock;
 use loop_model::NoMemory;
 use message_pool::{Pool, PoolClaim};
-use queue_state::Nexted;
+use queue_state::{Nexted, Recorder};
 use shared_queue::{SharedQueue, Waited};
 use std::sync::{Mutex, Wait};
 use std::time;
@@ -103,17 +103,17 @@ fn answer_of(waited: Waited<PoolClaim>) -> Result<Nexted<PoolClaim>, Pause>
     }
 }
 
-impl Looper {
+impl<E: Recorder> Looper<E> {
     /// The loop by a clock: the dispatcher's pulse, the events that were handed in, and then waits for messages, each of which
     /// is dispatched, until the queue is over, nothing is due at a moment that is no earlier than the cap, or nothing is due and
     /// the bell was rung; then the events that were handed in since. Idle handlers run as in a round. As `loop` of AOSP's
     /// `Looper`; the cap and the nudge are this project's profile.
     ///
     /// After NoMemory the run is given up.
-    pub fn run_loop<R: Wait + time::Clock, D: Dispatcher, C: Clock>(
+    pub fn run_loop<R: Wait + time::Clock, D: Dispatcher<Record = E>, C: Clock>(
         &mut self,
         rt: &R,
-        queue: &SharedQueue<PoolClaim>,
+        queue: &SharedQueue<PoolClaim, E>,
         pool: &Pool,
         sources: &Mutex<Sources>,
         d: &mut D,
@@ -145,10 +145,10 @@ impl Looper {
     /// As `run_loop`, but it dispatches a message or runs the idle handlers no more than so many times, each of which counts as one.
     /// None where it did so often, and then it may be called again: for a looper that always has a message due, and is to let
     /// go of its records now and then (this project's profile).
-    pub fn run_some<R: Wait + time::Clock, D: Dispatcher, C: Clock>(
+    pub fn run_some<R: Wait + time::Clock, D: Dispatcher<Record = E>, C: Clock>(
         &mut self,
         rt: &R,
-        queue: &SharedQueue<PoolClaim>,
+        queue: &SharedQueue<PoolClaim, E>,
         pool: &Pool,
         sources: &Mutex<Sources>,
         d: &mut D,
@@ -179,10 +179,10 @@ impl Looper {
     }
 
     // Waits for messages until the queue is over or the looper is to pause.
-    fn go_on<R: Wait + time::Clock, D: Dispatcher, C: Clock>(
+    fn go_on<R: Wait + time::Clock, D: Dispatcher<Record = E>, C: Clock>(
         &mut self,
         rt: &R,
-        queue: &SharedQueue<PoolClaim>,
+        queue: &SharedQueue<PoolClaim, E>,
         pool: &Pool,
         sources: &Mutex<Sources>,
         d: &mut D,
@@ -225,10 +225,10 @@ impl Looper {
     }
 
     // The same, but no more than so many times.
-    fn go_some<R: Wait + time::Clock, D: Dispatcher, C: Clock>(
+    fn go_some<R: Wait + time::Clock, D: Dispatcher<Record = E>, C: Clock>(
         &mut self,
         rt: &R,
-        queue: &SharedQueue<PoolClaim>,
+        queue: &SharedQueue<PoolClaim, E>,
         pool: &Pool,
         sources: &Mutex<Sources>,
         d: &mut D,
@@ -272,10 +272,10 @@ impl Looper {
     }
 
     // Waits for a message and dispatches it, or runs the idle handlers, unless the looper is to pause.
-    fn pace<R: Wait + time::Clock, D: Dispatcher, C: Clock>(
+    fn pace<R: Wait + time::Clock, D: Dispatcher<Record = E>, C: Clock>(
         &mut self,
         rt: &R,
-        queue: &SharedQueue<PoolClaim>,
+        queue: &SharedQueue<PoolClaim, E>,
         pool: &Pool,
         sources: &Mutex<Sources>,
         d: &mut D,
@@ -308,7 +308,7 @@ impl Looper {
     }
 
     // The events that were handed in.
-    fn close<R: Wait, D: Dispatcher>(
+    fn close<R: Wait, D: Dispatcher<Record = E>>(
         &mut self,
         rt: &R,
         sources: &Mutex<Sources>,

@@ -25,7 +25,12 @@ pub(crate) fn tell(journal: &mut Journal, act: Act) -> Result<(), NoMemory>
 }
 
 // The handler's callback object, or else the handler. None where memory was wanting.
-fn offer<D: Dispatcher>(d: &mut D, own: &mut Own, m: &Message<PoolClaim>, now: u64) -> Option<Route>
+fn offer<D: Dispatcher>(
+    d: &mut D,
+    own: &mut Own<D::Record>,
+    m: &Message<PoolClaim>,
+    now: u64,
+) -> Option<Route>
     requires serves { D.Serves d.old (workplace (held own.old)) }
     requires taken { HasTaken (D.Meets d.old) (held own.old) m.now now }
     requires callback { callback_of m.now.item ≡ None }
@@ -51,7 +56,12 @@ fn offer<D: Dispatcher>(d: &mut D, own: &mut Own, m: &Message<PoolClaim>, now: u
 }
 
 // The callback of the message where it has one, else the handler with its callback object. None where memory was wanting.
-fn route<D: Dispatcher>(d: &mut D, own: &mut Own, m: &Message<PoolClaim>, now: u64) -> Option<Route>
+fn route<D: Dispatcher>(
+    d: &mut D,
+    own: &mut Own<D::Record>,
+    m: &Message<PoolClaim>,
+    now: u64,
+) -> Option<Route>
     requires serves { D.Serves d.old (workplace (held own.old)) }
     requires taken { HasTaken (D.Meets d.old) (held own.old) m.now now }
     requires awaits { D.Awaits d.old (Some (number_in m.now.item)) }
@@ -77,7 +87,7 @@ fn route<D: Dispatcher>(d: &mut D, own: &mut Own, m: &Message<PoolClaim>, now: u
 // Dispatches a message that was taken, and tells it.
 fn dispatch_one<D: Dispatcher>(
     d: &mut D,
-    own: &mut Own,
+    own: &mut Own<D::Record>,
     number: u64,
     now: u64,
     m: &Message<PoolClaim>,
@@ -108,7 +118,7 @@ fn dispatch_one<D: Dispatcher>(
 pub(crate) fn dispatch<D: Dispatcher>(
     d: &mut D,
     pool: &Pool,
-    own: &mut Own,
+    own: &mut Own<D::Record>,
     number: u64,
     now: u64,
     node: PoolNode,

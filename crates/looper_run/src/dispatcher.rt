@@ -16,6 +16,7 @@ ghost use Rattle.looper_run.specs.Tests.{Passes, PassesWith, IsLent, Rings, HasT
 use crate::own::Own;
 use message_pool::PoolClaim;
 use message_slot::Message;
+use queue_state::Recorder;
 
 /// How a call of a dispatcher went.
 #[derive(Clone, Copy, Debug, PartialEq, Eq)]
@@ -33,6 +34,9 @@ pub enum Did {
 /// `Handler`. Moments are in milliseconds. What it is lent may make entries other than looks for a message, and it may
 /// append Vsync and Paint acts. `before`, `pulse` and `listen` are this project's profile.
 pub trait Dispatcher {
+    /// Where the entries of its looper's queue go.
+    type Record: Recorder;
+
     /// The queues and pools that it works on.
     ghost Serves: { Self → Workplace → Type 0 };
 
@@ -65,7 +69,7 @@ pub trait Dispatcher {
         ensures asked { asked self.new ≡ asked self.old };
 
     /// Called once at the start of each round, where a pulse that was asked for is delivered. Only NoMemory counts as an answer.
-    fn pulse(&mut self, own: &mut Own, now: u64) -> Did
+    fn pulse(&mut self, own: &mut Own<Self::Record>, now: u64) -> Did
         requires serves { Serves self.old (workplace (held own.old)) }
         requires awaits { Awaits self.old None }
         requires meets { Passes (Meets self.old) (held own.old) }
@@ -96,7 +100,13 @@ pub trait Dispatcher {
         ensures carries { Carries Serves origin nudges asked Awaits Meets self.old self.new };
 
     /// Runs the callback of a message that has one. Only NoMemory counts as an answer.
-    fn run_callback(&mut self, own: &mut Own, id: u64, m: &Message<PoolClaim>, now: u64) -> Did
+    fn run_callback(
+        &mut self,
+        own: &mut Own<Self::Record>,
+        id: u64,
+        m: &Message<PoolClaim>,
+        now: u64,
+    ) -> Did
         requires serves { Serves self.old (workplace (held own.old)) }
         requires taken { HasTaken (Meets self.old) (held own.old) m.now now }
         requires callback { callback_of m.now.item ≡ Some id }
@@ -111,7 +121,7 @@ pub trait Dispatcher {
         ensures meets { Unless result (PassesWith (Meets self.new) (held own.new) m.now now (Callback id)) };
 
     /// Asks the handler's callback object, which answers No where the handler itself is to handle the message.
-    fn intercept(&mut self, own: &mut Own, m: &Message<PoolClaim>, now: u64) -> Did
+    fn intercept(&mut self, own: &mut Own<Self::Record>, m: &Message<PoolClaim>, now: u64) -> Did
         requires serves { Serves self.old (workplace (held own.old)) }
         requires taken { HasTaken (Meets self.old) (held own.old) m.now now }
         requires callback { callback_of m.now.item ≡ None }
@@ -127,7 +137,7 @@ pub trait Dispatcher {
             (LeavesTaken (Meets self.new) (held own.old) (held own.new) m.now now) };
 
     /// Handles a message that has no callback and was not intercepted. Only NoMemory counts as an answer.
-    fn handle(&mut self, own: &mut Own, m: &Message<PoolClaim>, now: u64) -> Did
+    fn handle(&mut self, own: &mut Own<Self::Record>, m: &Message<PoolClaim>, now: u64) -> Did
         requires serves { Serves self.old (workplace (held own.old)) }
         requires taken { HasTaken (Meets self.old) (held own.old) m.now now }
         requires callback { callback_of m.now.item ≡ None }

@@ -2,13 +2,14 @@
 
 use loop_model::Journal;
 use message_pool::{PoolClaim, PoolPass};
+use queue_state::{Kept, Recorder};
 use shared_queue::Poster;
 
-/// The looper's poster of its own queue, its pass of the pool, and its journal.
+/// The looper's poster of its own queue, its pass of the pool, and its journal. The queue's entries go where `E` says.
 #[derive(Drop)]
-pub struct Own<'a> {
+pub struct Own<'a, E: Recorder = Kept> {
     /// Its poster of its own queue.
-    pub poster: &'a mut Poster<PoolClaim>,
+    pub poster: &'a mut Poster<PoolClaim, E>,
     /// Its pass of the pool.
     pub pass: &'a mut PoolPass,
     /// What it did.

@@ -9,12 +9,13 @@ ghost use Rattle.looper_run.specs.Tests.{IsSameLooper};
 use crate::looper::Looper;
 use loop_model::{Act, NoMemory, Segment, Sequence};
 use message_pool::PoolClaim;
+use queue_state::{Kept, Recorder};
 use shared_queue::SharedQueue;
 use std::alloc::Global;
 use std::mem;
 use std::sync::Wait;
 
-impl Looper {
+impl<E: Recorder> Looper<E> {
     /// Hands out the acts that it told so far, or since the last such call; what it does from now on is told behind nothing. It
     /// takes no memory (this project's profile).
     pub fn take_acts(&mut self, alloc: Global) -> Sequence<Act>
@@ -24,7 +25,8 @@ impl Looper {
         mem::replace(&mut self.journal.acts, Sequence::new(alloc))
     }
 
-    /// Drops those acts, and keeps their room for what it tells from now on (this project's profile).
+    /// Drops those acts, and keeps their room for what it tells from now on. Where the queue's entries are not kept, that is all that
+    /// a looper has to let go (this project's profile).
     pub fn drop_acts(&mut self, alloc: Global)
         ensures { self.new ≡ untold self.old }
     {
@@ -32,7 +34,9 @@ impl Looper {
         acts.clear();
         self.journal.acts = Sequence::from_vec(acts);
     }
+}
 
+impl Looper<Kept> {
     /// Hands out the part of its queue's history that was not handed out before, as `seal` of its poster, which is the last sender's.
     /// At NoMemory nothing is handed out (this project's profile).
     pub fn seal<R: Wait>(

@@ -16,7 +16,7 @@ use crate::sources::{Sources, run_idle};
 use message_list::NodeList;
 use message_pool::{Pool, PoolClaim, PoolPass};
 use message_slot::Message;
-use queue_state::Nexted;
+use queue_state::{Nexted, Recorder};
 use shared_queue::SharedQueue;
 use std::sync::{Mutex, Wait};
 
@@ -47,12 +47,12 @@ fn recycle_all(pool: &Pool, pass: &mut PoolPass, mut nodes: NodeList<Message<Poo
     }
 }
 
-impl Looper {
+impl<E: Recorder> Looper<E> {
     // Looks for a message once, and dispatches it, or runs the idle handlers.
-    pub(crate) fn step<R: Wait, D: Dispatcher>(
+    pub(crate) fn step<R: Wait, D: Dispatcher<Record = E>>(
         &mut self,
         rt: &R,
-        queue: &SharedQueue<PoolClaim>,
+        queue: &SharedQueue<PoolClaim, E>,
         pool: &Pool,
         sources: &Mutex<Sources>,
         d: &mut D,
@@ -77,7 +77,7 @@ impl Looper {
     }
 
     // Does what a look for a message was answered: dispatches the message, or runs the idle handlers.
-    pub(crate) fn act<R: Wait, D: Dispatcher>(
+    pub(crate) fn act<R: Wait, D: Dispatcher<Record = E>>(
         &mut self,
         rt: &R,
         pool: &Pool,

@@ -17,7 +17,7 @@ use loop_sources::{FdTable, IdleSet};
 use message_list::new_node;
 use message_pool::{Pool, PoolClaim, PoolNode};
 use message_slot::Message;
-use queue_state::{Posted, Quitting};
+use queue_state::{Kept, Posted, Quitting, Recorder, Unkept};
 use shared_queue::{Poster, SharedQueue};
 use std::alloc::Global;
 use std::process::Abort;
@@ -57,11 +57,11 @@ enum Noted {
 
 /// It notes how many acts were told when it was called. It intercepts the messages whose `what` is 2, and its listeners answer their identity as the new mask.
 #[derive(Drop)]
-struct Recorder {
+struct Noter {
     calls: Vec<Noted>,
 }
 
-impl Recorder {
+impl Noter {
     fn note(&mut self, call: Noted) -> Did
         ensures noted { Unless result (self.new.calls.items ≡ self.old.calls.items ++ call ∷ []) }
         ensures lost { result ≡ did.NoMemory → self.new.calls.items ≡ self.old.calls.items }
@@ -73,7 +73,9 @@ impl Recorder {
     }
 }
 
-impl Dispatcher for Recorder {
+impl Dispatcher for Noter {
+    type Record = Kept;
+
     ghost Serves = { λ d w. IsTrue true };
 
     ghost Origin = { ℕ };
@@ -151,14 +153,14 @@ impl Dispatcher for Recorder {
 
 // A queue of two senders, the second of which is the looper.
 #[derive(Drop)]
-struct Opened {
-    queue: SharedQueue<PoolClaim>,
-    poster: Poster<PoolClaim>,
+struct Opened<E: Recorder = Kept> {
+    queue: SharedQueue<PoolClaim, E>,
+    poster: Poster<PoolClaim, E>,
     pool: Pool,
-    looper: Looper,
+    looper: Looper<E>,
 }
 
-fn set_up(alloc: Global) -> Result<Opened, NoMemory>
+fn set_up<E: Recorder>(alloc: Global) -> Result<Opened<E>, NoMemory>
     ensures { IfOk result (λ o. IsOf o.poster o.queue × IsAt o.queue o.pool o.looper.held × (o.looper.ended ≡ false)
         × (o.queue.constants.setting.lockstep ≡ false)) }
 {
@@ -196,11 +198,11 @@ fn message(alloc: Global, what: u32, callback: Option<u64>, when: u64) -> Result
 }
 
 // Posts a message: its number, and whether a waiting looper has to look again; none where it was not accepted.
-fn post<R: Wait>(
+fn post<R: Wait, E: Recorder>(
     rt: &R,
     alloc: Global,
-    queue: &SharedQueue<PoolClaim>,
-    poster: &mut Poster<PoolClaim>,
+    queue: &SharedQueue<PoolClaim, E>,
+    poster: &mut Poster<PoolClaim, E>,
     what: u32,
     callback: Option<u64>,
     when: u64,
@@ -236,13 +238,13 @@ fn nothing_watched(alloc: Global) -> Mutex<Sources> {
 #[test]
 fn each_message_goes_its_way_once(rt: HostRuntime) -> Result<(), Fail> {
     let alloc = rt.alloc();
-    let mut o = set_up(alloc)?;
+    let mut o: Opened = set_up(alloc)?;
     assert!(rt; post(&rt, alloc, &o.queue, &mut o.poster, 1, None, 5) == Some((0, false)));
     assert!(rt; post(&rt, alloc, &o.queue, &mut o.poster, 7, Some(9), 5) == Some((1, false)));
     assert!(rt; post(&rt, alloc, &o.queue, &mut o.poster, 2, None, 5) == Some((2, false)));
     assert!(rt; post(&rt, alloc, &o.queue, &mut o.poster, 1, None, 20) == Some((3, false)));
     let sources = nothing_watched(alloc);
-    let mut d = Recorder {
+    let mut d = Noter {
         calls: Vec::new(alloc),
     };
     let round = o
@@ -307,11 +309,11 @@ fn each_message_goes_its_way_once(rt: HostRuntime) -> Result<(), Fail> {
 #[test]
 fn idle_handlers_run_once_between_messages(rt: HostRuntime) -> Result<(), Fail> {
     let alloc = rt.alloc();
-    let mut o = set_up(alloc)?;
+    let mut o: Opened = set_up(alloc)?;
     let sources = nothing_watched(alloc);
     assert!(rt; sources.lock(&rt).idle.add(3, true) == Ok(0));
     assert!(rt; sources.lock(&rt).idle.add(4, false) == Ok(1));
-    let mut d = Recorder {
+    let mut d = Noter {
         calls: Vec::new(alloc),
     };
     let drained = Round::Drained {
@@ -357,14 +359,14 @@ fn idle_handlers_run_once_between_messages(rt: HostRuntime) -> Result<(), Fail> 
 #[test]
 fn listeners_answer_what_is_watched(rt: HostRuntime) -> Result<(), Fail> {
     let alloc = rt.alloc();
-    let mut o = set_up(alloc)?;
+    let mut o: Opened = set_up(alloc)?;
     let sources = nothing_watched(alloc);
     sources.lock(&rt).fds.set(5, 1, 2)?;
     sources.lock(&rt).fds.set(6, 1, 0)?;
     for fd in [5, 5, 6, 6] {
         sources.lock(&rt).fds.hand_in(fd, 3)?;
     }
-    let mut d = Recorder {
+    let mut d = Noter {
         calls: Vec::new(alloc),
     };
     o.looper
@@ -418,7 +420,7 @@ fn listeners_answer_what_is_watched(rt: HostRuntime) -> Result<(), Fail> {
 #[test]
 fn a_quit_ends_the_looper(rt: HostRuntime) -> Result<(), Fail> {
     let alloc = rt.alloc();
-    let mut o = set_up(alloc)?;
+    let mut o: Opened = set_up(alloc)?;
     assert!(rt; post(&rt, alloc, &o.queue, &mut o.poster, 1, None, 5) == Some((0, false)));
     assert!(rt; post(&rt, alloc, &o.queue, &mut o.poster, 1, None, 20) == Some((1, false)));
     let quit = o.poster.quit(&rt, &o.queue, true, 5);
@@ -426,7 +428,7 @@ fn a_quit_ends_the_looper(rt: HostRuntime) -> Result<(), Fail> {
     o.looper.hear(&o.queue, &mut o.poster);
     o.looper.tell(&o.queue, &mut o.poster);
     let sources = nothing_watched(alloc);
-    let mut d = Recorder {
+    let mut d = Noter {
         calls: Vec::new(alloc),
     };
     let round = o
@@ -453,12 +455,12 @@ fn handled(number: u64, now: u64) -> Act {
 #[test]
 fn a_loop_waits_by_a_clock(rt: HostRuntime) -> Result<(), Fail> {
     let alloc = rt.alloc();
-    let mut o = set_up(alloc)?;
+    let mut o: Opened = set_up(alloc)?;
     assert!(rt; post(&rt, alloc, &o.queue, &mut o.poster, 1, None, 5) == Some((0, false)));
     assert!(rt; post(&rt, alloc, &o.queue, &mut o.poster, 1, None, 8) == Some((1, false)));
     let sources = nothing_watched(alloc);
     let clock = StepClock::new(1);
-    let mut d = Recorder {
+    let mut d = Noter {
         calls: Vec::new(alloc),
     };
     let by = ByClock {
@@ -498,5 +500,90 @@ fn a_loop_waits_by_a_clock(rt: HostRuntime) -> Result<(), Fail> {
     assert!(rt; how == Loop::Ended);
     let (_, _, journal) = o.looper.into_parts();
     assert!(rt; journal.acts.as_slice() == [handled(0, 5), handled(1, 8)].as_slice());
+    Ok(())
+}
+
+/// It takes every message, of a queue whose entries are not kept.
+#[derive(Drop)]
+struct Taker {
+    handled: u32,
+}
+
+impl Dispatcher for Taker {
+    type Record = Unkept;
+
+    ghost Serves = { λ d w. IsTrue true };
+
+    ghost Origin = { ℕ };
+
+    ghost origin = { λ d. 0 };
+
+    ghost nudges = { λ d. 0 };
+
+    ghost asked = { λ d. None };
+
+    ghost Meets = { λ d s es acts. IsTrue true };
+
+    ghost Awaits = { λ d awaited. IsTrue true };
+
+    fn before(&mut self, number: u64) {}
+
+    fn pulse(&mut self, own: &mut Own<Unkept>, now: u64) -> Did {
+        Did::Yes
+    }
+
+    fn listen(&mut self, fd: u32, events: u32, listener: u32) -> Option<u32> {
+        Some(0)
+    }
+
+    fn idle(&mut self, id: u32, keep: bool) -> Option<bool> {
+        Some(keep)
+    }
+
+    fn run_callback(
+        &mut self,
+        own: &mut Own<Unkept>,
+        id: u64,
+        m: &Message<PoolClaim>,
+        now: u64,
+    ) -> Did {
+        Did::Yes
+    }
+
+    fn intercept(&mut self, own: &mut Own<Unkept>, m: &Message<PoolClaim>, now: u64) -> Did {
+        Did::No
+    }
+
+    fn handle(&mut self, own: &mut Own<Unkept>, m: &Message<PoolClaim>, now: u64) -> Did {
+        self.handled = self.handled.saturating_add(1);
+        Did::Yes
+    }
+
+    ghost others = { λ d s es e acts apart meets. meets };
+
+    ghost disposal = { λ d s es e now acts own call reply meets. meets };
+
+    ghost quiet = { λ d s es a acts is meets. meets };
+}
+
+#[test]
+fn a_looper_needs_no_record(rt: HostRuntime) -> Result<(), Fail> {
+    let alloc = rt.alloc();
+    let mut o: Opened<Unkept> = set_up(alloc)?;
+    assert!(rt; post(&rt, alloc, &o.queue, &mut o.poster, 1, None, 5) == Some((0, false)));
+    assert!(rt; post(&rt, alloc, &o.queue, &mut o.poster, 1, None, 20) == Some((1, false)));
+    let sources = nothing_watched(alloc);
+    let mut d = Taker { handled: 0 };
+    let round = o
+        .looper
+        .run_round(&rt, &o.queue, &o.pool, &sources, &mut d, 9);
+    let drained = Round::Drained {
+        dispatched: 1,
+        until: Some(20),
+    };
+    assert!(rt; round == drained && d.handled == 1);
+    o.looper.drop_acts(alloc);
+    let (_, _, journal) = o.looper.into_parts();
+    assert!(rt; journal.acts.len() == 0);
     Ok(())
 }

@@ -20,7 +20,7 @@ use Rattle.queue_state.specs.Queue.{Queue, IsSound, part_of}
 use Rattle.shared_queue.specs.Turn.{ArePast, Counts, holds, Fits, AtHome, QueueTurn}
 use Rattle.shared_queue.specs.Plays.{Sat}
 use Rattle.shared_queue.specs.Known.{Shared, Known, KeepsNone, IsOf}
-use Rattle.shared_queue.specs.Ends.{AreInOrder, HasCalls, number_of, HaveSealed, sealed_by, Gathered, IsSoundEnd, IsWholeEnd}
+use Rattle.shared_queue.specs.Ends.{AreInOrder, HasCalls, number_of, HaveSealed, sealed_by, Gathered, IsSoundEnd, IsLeftBy, IsLast, IsWholeEnd}
 use Rattle.loop_model.proofs.Prefixes.{prefix_trans}
 use Rattle.shared_queue.proofs.Courses.{entries_more, chain_more}
 use Rattle.shared_queue.proofs.Whole.{whole_sound}
@@ -57,9 +57,9 @@ module _ {H K : Type 0} (key : Constants H) (q : Shared H) (posters : List (Know
   has_all : (n : ℕ) (d : Known H K) → n < key.setting.senders → 0 < holds n m.0
   has_all n d below = holds_at n m.0.senders n (number_of d) (omega (arith, as_many)) (ap (λ (p : ℕ × ℕ). p.0) (numbers n d (omega arith)) ∙ (order n d (omega arith)).1)
 
-  pub closes : (id : ℕ) (words : List ℕ) (slots : List (Option (Queue H K))) (parts : List Segment) → HaveSealed posters parts → Final (Seen (QueueTurn key) id m.0) words slots
-      → (x : Queue H K) × (get_elem? slots 0 ≡ some (Some x)) × Closes key posters parts x
-  closes id words slots parts sealed last =
+  pub closes : (id : ℕ) (words : List ℕ) (slots : List (Option (Queue H K))) → Final (Seen (QueueTurn key) id m.0) words slots
+      → (x : Queue H K) × (get_elem? slots 0 ≡ some (Some x)) × IsLast key posters x
+  closes id words slots last =
       let d : Known H K = record { table = q.table; sender = 0; view = m.0 } in
       let s = last.0 in
       let r : QueueTurn key s = last.1.0 in
@@ -68,31 +68,41 @@ module _ {H K : Type 0} (key : Constants H) (q : Shared H) (posters : List (Know
       let f : Fits key r.course m.0 = r.each id m.0 at in
       let x : Queue H K = home.0 in
       let long : 0 + length posters ≡ q.constants.setting.senders = omega (arith, all, ap (λ (c : Constants H). c.setting.senders) is_key) in
-      let gathered : m.0.sealed ≡ parts = g.3 ∙ sealed_from q 0 posters parts (λ k e l. let o = order k e l in (o.0, o.1 ∙ omega arith)) g.4 long (omega (arith, all, some_sender)) sealed in
-      let these : r.course.parts ≡ parts = sym (f.sealed (has_all (last_of key) d (omega (arith, some_sender)))) ∙ gathered in
+      let parts : List Segment = sealed_by posters in
+      let these : r.course.parts ≡ parts = sym (f.sealed (has_all (last_of key) d (omega (arith, some_sender)))) ∙ g.3 in
       let whole : whole_of r.course ≡ entries_of parts ++ x.entries = (λ i. entries_of (these i) ++ sym home.3.1 i) in (
         x,
         last.4 0 (Some x) home.1,
         record {
           own = home.2;
-          start = home.3.0 ∙ ap (λ (ps : List Segment). after (empty_base key.setting.senders) (entries_of ps)) these;
           past = subst (ArePast key.setting) these r.past;
+          start = home.3.0 ∙ ap (λ (ps : List Segment). after (empty_base key.setting.senders) (entries_of ps)) these;
           calls = λ k e l.
               let p : Known H K = get_or posters k e in
               let c : Counts (whole_of r.course) m.0.seen (number_of p) = subst (Counts (whole_of r.course) m.0.seen) (numbers k e l) (f.mine k (number_of e) (omega (arith, as_many))) in (
                 subst (IsPrefix p.view.seen) whole (prefix_trans p.view.seen m.0.seen (whole_of r.course) (g.2 k e l) f.seen),
                 ap (made_in p.sender) (sym whole) ∙ c.0,
               );
+          parts = λ handed sealed. sealed_from q 0 posters handed (λ k e l. let o = order k e l in (o.0, o.1 ∙ omega arith)) g.4 long (omega (arith, all, some_sender)) sealed;
         },
       )
 
   -- the state that is taken out of the slot is that one
-  pub closes_with : (id : ℕ) (words : List ℕ) (slots : List (Option (Queue H K))) (parts : List Segment) (y : Queue H K) → HaveSealed posters parts → Final (Seen (QueueTurn key) id m.0) words slots → get_elem? slots 0 ≡ some (Some y) → Closes key posters parts y
-  closes_with id words slots parts y sealed last here =
-      let t = closes id words slots parts sealed last in
+  pub closes_with : (id : ℕ) (words : List ℕ) (slots : List (Option (Queue H K))) (y : Queue H K) → Final (Seen (QueueTurn key) id m.0) words slots → get_elem? slots 0 ≡ some (Some y) → IsLast key posters y
+  closes_with id words slots y last here =
+      let t = closes id words slots last in
       let both : some (Some t.0) ≡ some (Some y) = sym t.1 ∙ here in
       let same : t.0 ≡ y = cc (both) in
-      subst (Closes key posters parts) same t.2
+      subst (IsLast key posters) same t.2
+
+-- so the last state stands where these parts were handed out
+pub closing : {H K : Type 0} (key : Constants H) (posters : List (Known H K)) (x : Queue H K) (parts : List Segment) → IsLast key posters x → sealed_by posters ≡ parts → Closes key posters parts x
+closing key posters x parts l are = record {
+  own = l.own;
+  start = l.start ∙ ap (λ (ps : List Segment). after (empty_base key.setting.senders) (entries_of ps)) are;
+  past = subst (ArePast key.setting) are l.past;
+  calls = subst (λ (ps : List Segment). HasCalls (entries_of ps ++ x.entries) posters) are l.calls;
+}
 
 -- a state of the queue that is sound ends soundly
 module _ {H K : Type 0} (key : Constants H) (posters : List (Known H K)) (parts segments : List Segment) (x : Queue H K) (c : Closes key posters parts x) (sound : IsSound x) (are : segments ≡ parts ++ part_of x ∷ []) where
@@ -124,3 +134,6 @@ module _ {H K : Type 0} (key : Constants H) (posters : List (Known H K)) (parts 
     calls = ends_calls;
     home = subst (λ (h : H). All (IsAtHome of h) left) c.own.home home;
   }
+
+  pub leaves : (left : List (Letter K)) → left ≡ x.messages → IsLeftBy key.setting posters left
+  leaves left same = (entries_of segments, ends_sound left same, ends_calls)

@@ -5,7 +5,7 @@ use Rattle.atomic_table.specs.Table.{Me}
 use Rattle.loop_model.specs.declared.entry.Entry.{Entry}
 use Rattle.loop_model.specs.declared.segment.Segment.{Segment}
 use Rattle.loop_model.specs.Base.{empty_base}
-use Rattle.loop_model.specs.Chain.{IsChainFrom, entries_of}
+use Rattle.loop_model.specs.Chain.{after, IsChainFrom, entries_of}
 use Rattle.loop_model.specs.Legal.{IsLegal, AreNumbered}
 use Rattle.loop_model.specs.Live.{live_in_order}
 use Rattle.loop_model.specs.Answers.{Setting}
@@ -13,8 +13,8 @@ use Rattle.message_slot.specs.Letter.{Letter, IsAtHome}
 use Rattle.when_queue.specs.Queue.{items_of}
 use Rattle.queue_state.specs.Queue.{Queue}
 use Rattle.shared_queue.specs.declared.view.View.{View}
-use Rattle.shared_queue.specs.Constants.{Constants, made_in}
-use Rattle.shared_queue.specs.Turn.{opening_view, new_senders, keeping}
+use Rattle.shared_queue.specs.Constants.{Constants, made_in, IsFor}
+use Rattle.shared_queue.specs.Turn.{ArePast, opening_view, new_senders, keeping}
 use Rattle.shared_queue.specs.Known.{Shared, Known, KeepsNone, IsOf, Rests, made_by}
 
 module _ {K : Type 0} where
@@ -47,6 +47,10 @@ module _ {H K : Type 0} where
   HasCalls entries posters = (k : ℕ) (d : Known H K) → k < length posters
       → IsPrefix (slice_index_or posters k d).view.seen entries × (made_in (slice_index_or posters k d).sender entries ≡ made_by (slice_index_or posters k d))
 
+  -- these messages are what a whole history leaves that has these posters' calls
+  abbrev pub IsLeftBy : Setting → List (Known H K) → List (Letter K) → Type 0
+  IsLeftBy s posters left = (entries : List Entry) × IsSoundEnd s entries left × HasCalls entries posters
+
   -- the parts that were handed out with the last one, whose whole history has these posters' calls, and the messages that it leaves
   pub record IsWholeEnd (of : K → H) (c : Constants H) (posters : List (Known H K)) (parts segments : List Segment) (left : List (Letter K)) : Type 0 where
     pub last : (p : Segment) × (segments ≡ parts ++ p ∷ [])
@@ -71,6 +75,14 @@ module _ {H K : Type 0} where
   abbrev pub sealed_by : List (Known H K) → List Segment
   sealed_by [] = []
   sealed_by (p ∷ ps) = p.view.sealed ++ sealed_by ps
+
+  -- the state once all posters came back: it goes on from what the parts have left that the last poster handed out, and its whole history has their calls
+  pub record IsLast (key : Constants H) (posters : List (Known H K)) (x : Queue H K) : Type 0 where
+    pub own : IsFor key x
+    pub past : ArePast key.setting (sealed_by posters)
+    pub start : x.start ≡ after (empty_base key.setting.senders) (entries_of (sealed_by posters))
+    pub calls : HasCalls (entries_of (sealed_by posters) ++ x.entries) posters
+    pub parts : (parts : List Segment) → HaveSealed posters parts → sealed_by posters ≡ parts
 
   -- the view has taken in what the poster had
   abbrev pub TakenIn : View (Queue H K) H → Known H K → View (Queue H K) H → Type 0

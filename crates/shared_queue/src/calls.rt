@@ -10,15 +10,22 @@ use crate::poster::Poster;
 use crate::queue::SharedQueue;
 use loop_model::{Filter, NoMemory, Segment};
 use message_slot::Claim;
-use queue_state::{Advancing, BarrierGone, BarrierPosted, Halting, Posted, Quitting, Taking};
+use queue_state::{
+    Advancing, BarrierGone, BarrierPosted, Halting, Kept, Posted, Quitting, Recorder, Taking,
+};
 use std::sync::Wait;
 use when_queue::MsgNode;
 
-impl<K: Claim> Poster<K> {
+impl<K: Claim, E: Recorder> Poster<K, E> {
     /// Posts a message that has a target, for the time that stands in it, in milliseconds: its number among the posts, and
     /// whether it wakes the looper. Refused, with the place of the quit, where the queue is quitting; the message comes back.
     /// NoMemory where its entries find no room. As `enqueueMessage` of AOSP's `MessageQueue`.
-    pub fn post<R: Wait>(&mut self, rt: &R, queue: &SharedQueue<K>, node: MsgNode<K>) -> Posted<K>
+    pub fn post<R: Wait>(
+        &mut self,
+        rt: &R,
+        queue: &SharedQueue<K, E>,
+        node: MsgNode<K>,
+    ) -> Posted<K>
         requires queue { IsOf self.old queue.now }
         requires target { is_barrier node.item ≡ false }
         requires home { IsAtHome K.home queue.now.constants.home node }
@@ -36,7 +43,7 @@ impl<K: Claim> Poster<K> {
     pub fn post_barrier<R: Wait>(
         &mut self,
         rt: &R,
-        queue: &SharedQueue<K>,
+        queue: &SharedQueue<K, E>,
         now: u64,
         node: MsgNode<K>,
     ) -> BarrierPosted<K>
@@ -55,7 +62,7 @@ impl<K: Claim> Poster<K> {
     pub fn remove_barrier<R: Wait>(
         &mut self,
         rt: &R,
-        queue: &SharedQueue<K>,
+        queue: &SharedQueue<K, E>,
         token: u64,
     ) -> BarrierGone<K>
         requires queue { IsOf self.old queue.now }
@@ -70,7 +77,12 @@ impl<K: Claim> Poster<K> {
 
     /// Removes the messages that the filter matches, and hands them out in order. NoMemory where its entry finds no room. As
     /// `removeMessages`, `removeCallbacks` and `removeCallbacksAndMessages` of the Android API reference's `Handler`.
-    pub fn remove<R: Wait>(&mut self, rt: &R, queue: &SharedQueue<K>, filter: &Filter) -> Taking<K>
+    pub fn remove<R: Wait>(
+        &mut self,
+        rt: &R,
+        queue: &SharedQueue<K, E>,
+        filter: &Filter,
+    ) -> Taking<K>
         requires queue { IsOf self.old queue.now }
         ensures done { RemovedBy self.old self.new filter.now result }
         ensures home { TakesAtHome K.home queue.now.constants.home result }
@@ -87,7 +99,7 @@ impl<K: Claim> Poster<K> {
     pub fn quit<R: Wait>(
         &mut self,
         rt: &R,
-        queue: &SharedQueue<K>,
+        queue: &SharedQueue<K, E>,
         safe: bool,
         now: u64,
     ) -> Quitting<K>
@@ -104,7 +116,7 @@ impl<K: Claim> Poster<K> {
     /// Moves the time of a queue in lockstep on to `now`, in milliseconds. The last sender alone does. Over where the queue was
     /// disposed of or halted, else Reached where `now` is not later than its time, else NotDrained where a message is due, else
     /// NoMemory where its entry finds no room. A rule of this project's profile.
-    pub fn advance<R: Wait>(&mut self, rt: &R, queue: &SharedQueue<K>, now: u64) -> Advancing
+    pub fn advance<R: Wait>(&mut self, rt: &R, queue: &SharedQueue<K, E>, now: u64) -> Advancing
         requires queue { IsOf self.old queue.now }
         requires sender { self.old.sender + 1 ≡ queue.now.constants.setting.senders }
         requires lockstep { queue.now.constants.setting.lockstep ≡ true }
@@ -118,7 +130,7 @@ impl<K: Claim> Poster<K> {
 
     /// Stops the main looper at `now`, in milliseconds. The last sender alone does. Over where that was done, else NotDrained
     /// where a message is due. A rule of this project's profile.
-    pub fn halt<R: Wait>(&mut self, rt: &R, queue: &SharedQueue<K>, now: u64) -> Halting
+    pub fn halt<R: Wait>(&mut self, rt: &R, queue: &SharedQueue<K, E>, now: u64) -> Halting
         requires queue { IsOf self.old queue.now }
         requires sender { self.old.sender + 1 ≡ queue.now.constants.setting.senders }
         requires main { queue.now.constants.setting.main ≡ true }
@@ -132,7 +144,7 @@ impl<K: Claim> Poster<K> {
 
     /// Whether a message stands in the queue that the filter matches. It makes no entry. As `hasMessages` of the Android API
     /// reference's `Handler`.
-    pub fn has<R: Wait>(&mut self, rt: &R, queue: &SharedQueue<K>, filter: &Filter) -> bool
+    pub fn has<R: Wait>(&mut self, rt: &R, queue: &SharedQueue<K, E>, filter: &Filter) -> bool
         requires queue { IsOf self.old queue.now }
         ensures { HasBy self.old self.new filter.now result }
     {
@@ -144,7 +156,7 @@ impl<K: Claim> Poster<K> {
 
     /// The time of the queue, in milliseconds: the latest moment of its history. It makes no entry. A rule of this project's
     /// profile.
-    pub fn time<R: Wait>(&mut self, rt: &R, queue: &SharedQueue<K>) -> u64
+    pub fn time<R: Wait>(&mut self, rt: &R, queue: &SharedQueue<K, E>) -> u64
         requires queue { IsOf self.old queue.now }
         ensures { TimedBy self.old self.new result }
     {
@@ -155,16 +167,18 @@ impl<K: Claim> Poster<K> {
     }
 
     /// How many entries the history has since its base. It takes no memory (this project's profile).
-    pub fn since<R: Wait>(&mut self, rt: &R, queue: &SharedQueue<K>) -> u64
+    pub fn since<R: Wait>(&mut self, rt: &R, queue: &SharedQueue<K, E>) -> u64
         requires { IsOf self.old queue.now }
         ensures { CountedBy self.old self.new result }
     {
         let state = self.desk.begin(rt, queue);
-        let answer = state.value().entries().len() as u64;
+        let answer = state.value().since() as u64;
         self.desk.end(queue, state);
         answer
     }
+}
 
+impl<K: Claim> Poster<K, Kept> {
     /// Hands out the base with the entries since, so that the queue keeps only what they have left. The last sender alone does. It
     /// leaves the whole history as it is. At NoMemory nothing is handed out (this project's profile).
     pub fn seal<R: Wait>(&mut self, rt: &R, queue: &SharedQueue<K>) -> Result<Segment, NoMemory>

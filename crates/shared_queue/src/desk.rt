@@ -10,7 +10,7 @@ use crate::queue::SharedQueue;
 use crate::view::View;
 use atomic_table::Seat;
 use message_slot::Claim;
-use queue_state::QueueState;
+use queue_state::{QueueState, Recorder};
 use std::sync::Wait;
 
 /// A seat with one sender number, and three numbers that its view has.
@@ -26,9 +26,13 @@ pub struct Desk<S, H> {
     pub(crate) heard: u64,
 }
 
-impl<K: Claim> Desk<QueueState<K>, K::Home> {
+impl<K: Claim, E: Recorder> Desk<QueueState<K, E>, K::Home> {
     // Waits for the turn, and takes the state.
-    pub(crate) fn begin<R: Wait>(&mut self, rt: &R, queue: &SharedQueue<K>) -> OnHeap<QueueState<K>>
+    pub(crate) fn begin<R: Wait>(
+        &mut self,
+        rt: &R,
+        queue: &SharedQueue<K, E>,
+    ) -> OnHeap<QueueState<K, E>>
         requires queue { (self.old.seat.table_id ≡ queue.now.table) × (self.old.seat.me.0.constants ≡ Some queue.now.constants) }
         requires idle { IsIdle self.old }
         ensures { Began queue.now.constants self.old self.new result }
@@ -39,7 +43,7 @@ impl<K: Claim> Desk<QueueState<K>, K::Home> {
     }
 
     // Gives the state back behind a call that woke nobody, with at most one more entry.
-    pub(crate) fn end(&mut self, queue: &SharedQueue<K>, state: OnHeap<QueueState<K>>)
+    pub(crate) fn end(&mut self, queue: &SharedQueue<K, E>, state: OnHeap<QueueState<K, E>>)
         requires table { self.old.seat.table_id ≡ queue.now.table }
         requires turn { MayEnd queue.now.constants self.old state }
         requires quiet { IsQuiet self.old state }
@@ -51,8 +55,8 @@ impl<K: Claim> Desk<QueueState<K>, K::Home> {
     // Gives the state back, and keeps the answer of the call until it is settled. The looper was woken only where that says so.
     pub(crate) fn end_owing<A: Wakes>(
         &mut self,
-        queue: &SharedQueue<K>,
-        state: OnHeap<QueueState<K>>,
+        queue: &SharedQueue<K, E>,
+        state: OnHeap<QueueState<K, E>>,
         answer: A,
     ) -> Owing<A>
         requires table { self.old.seat.table_id ≡ queue.now.table }
@@ -65,7 +69,7 @@ impl<K: Claim> Desk<QueueState<K>, K::Home> {
         Owing::of(answer)
     }
 
-    fn give_back(&mut self, queue: &SharedQueue<K>, state: OnHeap<QueueState<K>>)
+    fn give_back(&mut self, queue: &SharedQueue<K, E>, state: OnHeap<QueueState<K, E>>)
         requires table { self.old.seat.table_id ≡ queue.now.table }
         requires turn { MayEnd queue.now.constants self.old state }
         ensures { Ended self.old self.new state }
@@ -77,7 +81,7 @@ impl<K: Claim> Desk<QueueState<K>, K::Home> {
     }
 
     // Gives the state back sealed, with no more entry.
-    pub(crate) fn end_sealed(&mut self, queue: &SharedQueue<K>, state: OnHeap<QueueState<K>>)
+    pub(crate) fn end_sealed(&mut self, queue: &SharedQueue<K, E>, state: OnHeap<QueueState<K, E>>)
         requires table { self.old.seat.table_id ≡ queue.now.table }
         requires turn { MayHandOver queue.now.constants self.old state }
         ensures { HandedOver self.old self.new state }
@@ -88,10 +92,9 @@ impl<K: Claim> Desk<QueueState<K>, K::Home> {
 }
 
 // How long the whole history is.
-fn length<K: Claim>(state: &OnHeap<QueueState<K>>) -> u64
+fn length<K: Claim, E: Recorder>(state: &OnHeap<QueueState<K, E>>) -> u64
     ensures length { result ≡ state.now.start.length + length state.now.entries }
     ensures sound { IsSound state.now }
 {
-    let state = state.value();
-    state.base().length + state.entries().len() as u64
+    state.value().history_length()
 }

@@ -6,7 +6,7 @@ ghost use Rattle.shared_queue.specs.Turn.{IsFirst, opening_view};
 ghost use Rattle.shared_queue.specs.Known.{Rests, IsOf};
 ghost use Rattle.loop_model.specs.Base.{empty_base};
 ghost use Rattle.loop_model.specs.Chain.{IsChainFrom, entries_of};
-ghost use Rattle.shared_queue.specs.Ends.{undealt, IsNewPoster, AreNew, AreInOrder, TakenIn, Gathered, HasCalls, IsSoundEnd, IsWholeEnd, HaveSealed};
+ghost use Rattle.shared_queue.specs.Ends.{undealt, IsNewPoster, AreNew, AreInOrder, TakenIn, Gathered, HasCalls, IsSoundEnd, IsLeftBy, IsLast, IsWholeEnd, HaveSealed};
 
 use crate::on_heap::OnHeap;
 use crate::poster::Poster;
@@ -18,7 +18,7 @@ use crate::view::QueueKey;
 use atomic_table::{Refused, Table};
 use loop_model::{NoMemory, QueueRecord, Segment, Sequence};
 use message_slot::Claim;
-use queue_state::QueueState;
+use queue_state::{Kept, QueueState, Recorder};
 use std::alloc::Global;
 use std::snapshot::Snapshot;
 use when_queue::MsgList;
@@ -32,10 +32,11 @@ pub struct Retired<K: Claim> {
     pub left: MsgList<K>,
 }
 
-impl<K: Claim> SharedQueue<K> {
+impl<K: Claim, E: Recorder> SharedQueue<K, E> {
     /// The queue of a looper, in which nothing has happened, and the posters of the senders 0 to `senders` - 1, in order. There
     /// is at least one. Its messages are of this home; on `main` it may not quit, and in lockstep its time moves by `advance`
-    /// alone. NoMemory where it found none. A rule of this project's profile.
+    /// alone. NoMemory where it found none. Where the entries are not to be kept it is `SharedQueue::<K, Unkept>::make`. A rule of
+    /// this project's profile.
     pub fn make(
         alloc: Global,
         home: K::Home,
@@ -43,7 +44,7 @@ impl<K: Claim> SharedQueue<K> {
         main: bool,
         lockstep: bool,
         senders: u32,
-    ) -> Result<(SharedQueue<K>, Vec<Poster<K>>), NoMemory>
+    ) -> Result<(SharedQueue<K, E>, Vec<Poster<K, E>>), NoMemory>
         requires { 0 < senders }
         ensures constants { IfOk result (λ r. r.0.constants
             ≡ record { home = home; looper = looper; setting = record { main = main; lockstep = lockstep; senders = senders } }) }
@@ -66,9 +67,9 @@ impl<K: Claim> SharedQueue<K> {
     fn deal_all(
         &self,
         alloc: Global,
-        mut seat: Place<K>,
+        mut seat: Place<K, E>,
         senders: u32,
-    ) -> Result<Vec<Poster<K>>, NoMemory>
+    ) -> Result<Vec<Poster<K, E>>, NoMemory>
         requires { (seat.table_id ≡ self.now.table) × (senders ≡ self.now.constants.setting.senders) × (seat.me ≡ (undealt self.now.constants 0, [])) }
         ensures { IfOk result (λ v. (length v.items ≡ senders) × AreNew self.now v.items) }
     {
@@ -83,7 +84,7 @@ impl<K: Claim> SharedQueue<K> {
     }
 
     // The next sender number moves to a seat of its own.
-    fn deal(&self, seat: &mut Place<K>, sender: u32) -> Poster<K>
+    fn deal(&self, seat: &mut Place<K, E>, sender: u32) -> Poster<K, E>
         requires table { seat.old.table_id ≡ self.now.table }
         requires sender { sender < self.now.constants.setting.senders }
         requires seat { seat.old.me ≡ (undealt self.now.constants sender, []) }
@@ -98,8 +99,8 @@ impl<K: Claim> SharedQueue<K> {
         alloc: Global,
         home: Snapshot<K::Home>,
         traits: Traits,
-        state: OnHeap<QueueState<K>>,
-    ) -> Result<(SharedQueue<K>, Place<K>), NoMemory>
+        state: OnHeap<QueueState<K, E>>,
+    ) -> Result<(SharedQueue<K, E>, Place<K, E>), NoMemory>
         requires state { IsFirst (constants_of home.value traits) state }
         requires senders { 0 < traits.senders }
         ensures constants { IfOk result (λ r. r.0.constants ≡ constants_of home.value traits) }
@@ -126,6 +127,61 @@ impl<K: Claim> SharedQueue<K> {
         }
     }
 
+    /// Ends the sharing, and hands out the messages that still stood in the queue, in order; what it recorded is let go. It takes all
+    /// posters, in the order of their senders. It takes no memory. A rule of this project's profile.
+    pub fn close(self, posters: Vec<Poster<K, E>>) -> MsgList<K>
+        requires posters { (length posters.items ≡ self.constants.setting.senders) × AreInOrder self posters.items }
+        ensures left { IsLeftBy self.constants.setting posters.items result }
+        ensures home { All (IsAtHome K.home self.constants.home) result }
+    {
+        let state = self.end(posters);
+        state.into_items()
+    }
+
+    // The state, once all posters came back.
+    fn end(self, posters: Vec<Poster<K, E>>) -> QueueState<K, E>
+        requires posters { (length posters.items ≡ self.constants.setting.senders) × AreInOrder self posters.items }
+        ensures { IsLast self.constants posters.items result }
+    {
+        let seat = self.gather(posters);
+        let SharedQueue {
+            table,
+            traits: _,
+            rings: _,
+        } = self;
+        let mut closed = table.close_with(seat);
+        let Some(state) = closed.take(0) else {
+            unreachable!()
+        };
+        closed.free();
+        state.into_value()
+    }
+
+    // One seat that has what all posters had.
+    fn gather(&self, posters: Vec<Poster<K, E>>) -> Place<K, E>
+        requires { AreInOrder self.now posters.items }
+        ensures { (result.table_id ≡ self.now.table) × Gathered self.now posters.items result.me }
+    {
+        let mut seat = self.table.shared.load_new_seat::<Sit>(0).1;
+        for poster in posters {
+            self.take_in(&mut seat, poster);
+        }
+        seat
+    }
+
+    fn take_in(&self, seat: &mut Place<K, E>, poster: Poster<K, E>)
+        requires seat { (seat.old.table_id ≡ self.now.table) × Rests self.now.constants seat.old.me }
+        requires poster { IsOf poster self.now }
+        ensures { (seat.new.table_id ≡ seat.old.table_id) × Rests self.now.constants seat.new.me × TakenIn seat.old.me.0 poster seat.new.me.0 }
+    {
+        self.table
+            .shared
+            .join_seat::<Both>(seat, poster.into_seat());
+        self.table.shared.load::<Learn>(seat, 0);
+    }
+}
+
+impl<K: Claim> SharedQueue<K, Kept> {
     /// Ends the sharing, and answers the whole history with what stayed the same, and the messages that still stood in the queue.
     /// It takes all posters, in the order of their senders, and the parts of the history that the last of them handed out. At
     /// NoMemory, where the list of parts found none for the last, all that it takes is dropped. A rule of this project's profile.
@@ -145,7 +201,7 @@ impl<K: Claim> SharedQueue<K> {
         ensures home { IfOk result (λ r. All (IsAtHome K.home self.constants.home) r.left) }
     {
         let traits = self.traits;
-        let (segments, left) = self.close(posters, sealed)?;
+        let (segments, left) = self.end_with(posters, sealed)?;
         Ok(Retired {
             kept: traits.with_history(Sequence::from_vec(segments)),
             left,
@@ -153,7 +209,7 @@ impl<K: Claim> SharedQueue<K> {
     }
 
     // All parts of the history, and the messages that are left.
-    fn close(
+    fn end_with(
         self,
         posters: Vec<Poster<K>>,
         mut sealed: Vec<Segment>,
@@ -162,44 +218,10 @@ impl<K: Claim> SharedQueue<K> {
         requires sealed { HaveSealed posters.items sealed.items }
         ensures { IfOk result (λ r. IsWholeEnd K.home self.constants posters.items sealed.items r.0.items r.1) }
     {
-        let seat = self.gather(posters);
-        let SharedQueue {
-            table,
-            traits: _,
-            rings: _,
-        } = self;
-        let mut closed = table.close_with(seat);
-        let Some(state) = closed.take(0) else {
-            unreachable!()
-        };
-        closed.free();
-        let (last, left) = state.into_value().into_parts();
+        let (last, left) = self.end(posters).into_parts();
         let Ok(()) = sealed.push(last) else {
             return Err(NoMemory)
         };
         Ok((sealed, left))
-    }
-
-    // One seat that has what all posters had.
-    fn gather(&self, posters: Vec<Poster<K>>) -> Place<K>
-        requires { AreInOrder self.now posters.items }
-        ensures { (result.table_id ≡ self.now.table) × Gathered self.now posters.items result.me }
-    {
-        let mut seat = self.table.shared.load_new_seat::<Sit>(0).1;
-        for poster in posters {
-            self.take_in(&mut seat, poster);
-        }
-        seat
-    }
-
-    fn take_in(&self, seat: &mut Place<K>, poster: Poster<K>)
-        requires seat { (seat.old.table_id ≡ self.now.table) × Rests self.now.constants seat.old.me }
-        requires poster { IsOf poster self.now }
-        ensures { (seat.new.table_id ≡ seat.old.table_id) × Rests self.now.constants seat.new.me × TakenIn seat.old.me.0 poster seat.new.me.0 }
-    {
-        self.table
-            .shared
-            .join_seat::<Both>(seat, poster.into_seat());
-        self.table.shared.load::<Learn>(seat, 0);
     }
 }

@@ -6,10 +6,10 @@ ghost use Rattle.shared_queue.specs.Calls.{NextedBy};
 use crate::poster::Poster;
 use crate::queue::SharedQueue;
 use message_slot::Claim;
-use queue_state::Nexted;
+use queue_state::{Nexted, Recorder};
 use std::sync::Wait;
 
-impl<K: Claim> Poster<K> {
+impl<K: Claim, E: Recorder> Poster<K, E> {
     /// Takes the first message that is due at `now`, in milliseconds; in lockstep at the queue's time. Over where the queue
     /// was disposed or halted. Else End, with what is left, where nothing is due and the queue is quitting. Else Idle where
     /// nothing is due, an idle turn is owed, and the head is later or missing. Else Wait, until the first message that is not
@@ -17,7 +17,7 @@ impl<K: Claim> Poster<K> {
     pub fn next<R: Wait>(
         &mut self,
         rt: &R,
-        queue: &SharedQueue<K>,
+        queue: &SharedQueue<K, E>,
         now: u64,
         idle_owed: bool,
     ) -> Nexted<K>

@@ -10,17 +10,17 @@ use crate::owing::{Nudge, Owing};
 use crate::queue::{Place, SharedQueue};
 use crate::rule::{Both, Learn, Listen, Note, Ring};
 use message_slot::Claim;
-use queue_state::QueueState;
+use queue_state::{Kept, QueueState, Recorder};
 use std::marker::Model;
 use std::sync::Wait;
 
 /// A seat at the table of one queue, with one sender number.
 #[derive(Drop)]
-pub struct Poster<K: Claim> {
-    pub(crate) desk: Desk<QueueState<K>, K::Home>,
+pub struct Poster<K: Claim, E: Recorder = Kept> {
+    pub(crate) desk: Desk<QueueState<K, E>, K::Home>,
 }
 
-impl<K: Claim> Model for Poster<K> {
+impl<K: Claim, E: Recorder> Model for Poster<K, E> {
     ghost Value = { Known K.Home K };
 
     ghost view = { λ p. record { table = p.desk.seat.table_id; sender = p.desk.sender; view = p.desk.seat.me.0 } };
@@ -28,9 +28,9 @@ impl<K: Claim> Model for Poster<K> {
     ghost invariant = { λ p. IsIdle p.desk };
 }
 
-impl<K: Claim> Poster<K> {
+impl<K: Claim, E: Recorder> Poster<K, E> {
     // A poster that has done nothing.
-    pub(crate) fn of(seat: Place<K>, sender: u32) -> Poster<K>
+    pub(crate) fn of(seat: Place<K, E>, sender: u32) -> Poster<K, E>
         requires rests { (seat.me.0.has_turn ≡ false) × (seat.me.1 ≡ []) }
         requires new { (seat.me.0.senders ≡ (sender, 0) ∷ []) × (seat.me.0.seen ≡ []) × (seat.me.0.heard ≡ 0) × (seat.me.0.sealed ≡ []) }
         ensures { (result.table ≡ seat.table_id) × (result.sender ≡ sender) × (result.view ≡ seat.me.0) }
@@ -46,7 +46,7 @@ impl<K: Claim> Poster<K> {
         }
     }
 
-    pub(crate) fn into_seat(self) -> Place<K>
+    pub(crate) fn into_seat(self) -> Place<K, E>
         ensures table { result.table_id ≡ self.table }
         ensures view { (result.me.0 ≡ self.view) × KeepsNone self }
         ensures rests { (result.me.0.has_turn ≡ false) × (result.me.1 ≡ []) }
@@ -85,7 +85,7 @@ impl<K: Claim> Poster<K> {
     }
 
     /// Takes in what the other poster of this queue has seen. It takes no turn. A rule of this project's profile.
-    pub fn hear(&mut self, queue: &SharedQueue<K>, other: &mut Poster<K>)
+    pub fn hear(&mut self, queue: &SharedQueue<K, E>, other: &mut Poster<K, E>)
         requires { IsOf self.old queue.now × IsOf other.old queue.now }
         ensures seen { self.new.view.seen ≡ longer self.old.view.seen other.old.view.seen }
         ensures begins { IsPrefix self.old.view.seen self.new.view.seen × IsPrefix other.old.view.seen self.new.view.seen }
@@ -104,7 +104,7 @@ impl<K: Claim> Poster<K> {
 
     /// Rings the bell, for the looper of the queue, and wakes it where it waits (`nativeWake` of AOSP's `MessageQueue`). It
     /// takes no turn.
-    pub fn nudge<R: Wait>(&mut self, rt: &R, queue: &SharedQueue<K>)
+    pub fn nudge<R: Wait>(&mut self, rt: &R, queue: &SharedQueue<K, E>)
         requires { IsOf self.old queue.now }
         ensures rung { self.new.view.rung ≡ self.old.view.rung + 1 }
         ensures same { IsSamePoster self.old self.new × (self.new.view.seen ≡ self.old.view.seen) × (self.new.view.heard ≡ self.old.view.heard) }
@@ -115,7 +115,7 @@ impl<K: Claim> Poster<K> {
     }
 
     // Counts one ring more on the bell. A waiting looper hears of it once that is settled.
-    fn raise(&mut self, queue: &SharedQueue<K>) -> Owing<Nudge>
+    fn raise(&mut self, queue: &SharedQueue<K, E>) -> Owing<Nudge>
         requires { IsOf self.old queue.now }
         ensures rung { self.new.view.rung ≡ self.old.view.rung + 1 }
         ensures same { IsSamePoster self.old self.new × (self.new.view.seen ≡ self.old.view.seen) × (self.new.view.heard ≡ self.old.view.heard) }
@@ -136,7 +136,7 @@ impl<K: Claim> Poster<K> {
     }
 
     // Reads the bell.
-    pub(crate) fn listen(&mut self, queue: &SharedQueue<K>) -> u64
+    pub(crate) fn listen(&mut self, queue: &SharedQueue<K, E>) -> u64
         requires { IsOf self.old queue.now }
         ensures heard { (self.new.view.heard ≡ result) × (self.new.view.listens ≡ self.old.view.listens + 1) }
         ensures same { IsSamePoster self.old self.new × (self.new.view.seen ≡ self.old.view.seen) × (self.new.view.rung ≡ self.old.view.rung) }

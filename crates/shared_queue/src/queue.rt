@@ -15,7 +15,7 @@ use crate::traits::Traits;
 use crate::view::{QueueKey, View};
 use atomic_table::{Seat, Table};
 use message_slot::Claim;
-use queue_state::QueueState;
+use queue_state::{Kept, QueueState, Recorder};
 use std::alloc::Global;
 use std::hint::spin_loop;
 use std::marker::Model;
@@ -25,28 +25,29 @@ use std::thread::yield_now;
 /// How often the turn is tried for before another thread may run.
 const TRIES: u32 = 64;
 
-pub(crate) type Board<K> = Table<
-    Option<OnHeap<QueueState<K>>>,
-    View<QueueState<K>, <K as Claim>::Home>,
+pub(crate) type Board<K, E> = Table<
+    Option<OnHeap<QueueState<K, E>>>,
+    View<QueueState<K, E>, <K as Claim>::Home>,
     QueueKey<<K as Claim>::Home>,
     OneTurn,
     Global,
 >;
 
-pub(crate) type Place<K> = Seat<
-    Option<OnHeap<QueueState<K>>>,
-    View<QueueState<K>, <K as Claim>::Home>,
+pub(crate) type Place<K, E> = Seat<
+    Option<OnHeap<QueueState<K, E>>>,
+    View<QueueState<K, E>, <K as Claim>::Home>,
 >;
 
-/// A message queue that posters call in turns.
+/// A message queue that posters call in turns. Its entries go where `E` says: they are kept in memory, and can be handed out, or
+/// they are `Unkept`, and nothing grows with its history (this project's profile).
 #[derive(Drop)]
-pub struct SharedQueue<K: Claim> {
-    pub(crate) table: Board<K>,
+pub struct SharedQueue<K: Claim, E: Recorder = Kept> {
+    pub(crate) table: Board<K, E>,
     pub(crate) traits: Traits,
     pub(crate) rings: Rings,
 }
 
-impl<K: Claim> Model for SharedQueue<K> {
+impl<K: Claim, E: Recorder> Model for SharedQueue<K, E> {
     ghost Value = { Shared K.Home };
 
     ghost view = { λ s. record { table = s.table.shared.table_id; constants = s.table.shared.key } };
@@ -55,7 +56,7 @@ impl<K: Claim> Model for SharedQueue<K> {
         × (s.traits.looper ≡ s.table.shared.key.looper) × (setting_of s.traits ≡ s.table.shared.key.setting) × (0 < s.traits.senders) };
 }
 
-impl<K: Claim> SharedQueue<K> {
+impl<K: Claim, E: Recorder> SharedQueue<K, E> {
     // Rings where the answer wakes, and hands it out.
     pub(crate) fn settle<R: Wait, A: Wakes>(&self, rt: &R, owing: Owing<A>) -> A
         ensures { result ≡ owing }
@@ -69,7 +70,7 @@ impl<K: Claim> SharedQueue<K> {
     }
 
     // Tries for the turn some times in a row, and takes the state out.
-    fn try_take(&self, seat: &mut Place<K>) -> Option<OnHeap<QueueState<K>>>
+    fn try_take(&self, seat: &mut Place<K, E>) -> Option<OnHeap<QueueState<K, E>>>
         requires table { seat.old.table_id ≡ self.now.table }
         requires rests { Rests self.now.constants seat.old.me × (0 < length seat.old.me.0.senders) }
         ensures seat { (seat.new.table_id ≡ seat.old.table_id) × (seat.new.id ≡ seat.old.id) }
@@ -85,7 +86,7 @@ impl<K: Claim> SharedQueue<K> {
     }
 
     // Waits for the turn, and takes the state out.
-    pub(crate) fn take<R: Wait>(&self, rt: &R, seat: &mut Place<K>) -> OnHeap<QueueState<K>>
+    pub(crate) fn take<R: Wait>(&self, rt: &R, seat: &mut Place<K, E>) -> OnHeap<QueueState<K, E>>
         requires table { seat.old.table_id ≡ self.now.table }
         requires rests { Rests self.now.constants seat.old.me × (0 < length seat.old.me.0.senders) }
         ensures seat { (seat.new.table_id ≡ seat.old.table_id) × (seat.new.id ≡ seat.old.id) }
@@ -101,7 +102,7 @@ impl<K: Claim> SharedQueue<K> {
     }
 
     // Puts the state back, and gives the turn up.
-    pub(crate) fn give(&self, seat: &mut Place<K>, state: OnHeap<QueueState<K>>)
+    pub(crate) fn give(&self, seat: &mut Place<K, E>, state: OnHeap<QueueState<K, E>>)
         requires table { seat.old.table_id ≡ self.now.table }
         requires turn { (seat.old.me.0.has_turn ≡ true) × (seat.old.me.1 ≡ (0, None) ∷ []) }
         requires state { IsFor self.now.constants state × MayGive seat.old.me.0 state }
@@ -112,7 +113,7 @@ impl<K: Claim> SharedQueue<K> {
     }
 
     // Puts the state back sealed, and gives the turn up.
-    pub(crate) fn hand(&self, seat: &mut Place<K>, state: OnHeap<QueueState<K>>)
+    pub(crate) fn hand(&self, seat: &mut Place<K, E>, state: OnHeap<QueueState<K, E>>)
         requires table { seat.old.table_id ≡ self.now.table }
         requires turn { (seat.old.me.0.has_turn ≡ true) × (seat.old.me.1 ≡ (0, None) ∷ []) }
         requires last { 0 < holds (last_of self.now.constants) seat.old.me.0 }

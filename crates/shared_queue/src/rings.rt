@@ -5,6 +5,7 @@ ghost use Rattle.shared_queue.specs.Rings.{HasLookedSince};
 use crate::owing::Owing;
 use crate::poster::Poster;
 use message_slot::Claim;
+use queue_state::Recorder;
 use std::snapshot::Snapshot;
 use std::sync::{Condvar, Mutex, Wait};
 use std::time::{Clock, Duration};
@@ -24,9 +25,9 @@ pub(crate) struct Rung {
 
 /// The number of rings, read when the poster was so. Only `heard` makes one.
 #[derive(Drop)]
-pub(crate) struct Heard<K: Claim> {
+pub(crate) struct Heard<K: Claim, E: Recorder> {
     count: u64,
-    pub(crate) poster: Snapshot<Poster<K>>,
+    pub(crate) poster: Snapshot<Poster<K, E>>,
 }
 
 impl Rings {
@@ -48,7 +49,11 @@ impl Rings {
     }
 
     // Reads the number of rings so far.
-    pub(crate) fn heard<R: Wait, K: Claim>(&self, rt: &R, poster: &Poster<K>) -> Heard<K>
+    pub(crate) fn heard<R: Wait, K: Claim, E: Recorder>(
+        &self,
+        rt: &R,
+        poster: &Poster<K, E>,
+    ) -> Heard<K, E>
         ensures { result.poster.value ≡ poster.now }
     {
         Heard {
@@ -59,11 +64,11 @@ impl Rings {
 
     // Waits for a ring after those that were heard before the poster's last look, at most so many milliseconds or without limit.
     // It may end for no reason.
-    pub(crate) fn wait<R: Wait + Clock, K: Claim>(
+    pub(crate) fn wait<R: Wait + Clock, K: Claim, E: Recorder>(
         &self,
         rt: &R,
-        poster: &Poster<K>,
-        heard: Heard<K>,
+        poster: &Poster<K, E>,
+        heard: Heard<K, E>,
         limit: Option<u64>,
     )
         requires { HasLookedSince heard.poster.value poster.now }

@@ -7,14 +7,14 @@ use crate::on_heap::OnHeap;
 use crate::view::{QueueKey, View};
 use atomic_table::{Join, Play, Split, TableRule};
 use message_slot::Claim;
-use queue_state::QueueState;
+use queue_state::{QueueState, Recorder};
 
 /// One seat at a time has the turn, and with it the state.
 pub struct OneTurn;
 
-impl<K: Claim> TableRule<
-    Option<OnHeap<QueueState<K>>>,
-    View<QueueState<K>, K::Home>,
+impl<K: Claim, E: Recorder> TableRule<
+    Option<OnHeap<QueueState<K, E>>>,
+    View<QueueState<K, E>, K::Home>,
     QueueKey<K::Home>,
 > for OneTurn {
     ghost holds = { QueueTurn };
@@ -25,52 +25,59 @@ impl<K: Claim> TableRule<
 /// A new seat, which has no sender number and has seen nothing.
 pub(crate) struct Sit;
 
-impl<K: Claim> Play<Option<OnHeap<QueueState<K>>>, View<QueueState<K>, K::Home>> for Sit {
+impl<K: Claim, E: Recorder> Play<Option<OnHeap<QueueState<K, E>>>, View<QueueState<K, E>, K::Home>>
+    for Sit {
     ghost then = { sat };
 }
 
 pub(crate) struct Take;
 
-impl<K: Claim> Play<Option<OnHeap<QueueState<K>>>, View<QueueState<K>, K::Home>> for Take {
+impl<K: Claim, E: Recorder> Play<Option<OnHeap<QueueState<K, E>>>, View<QueueState<K, E>, K::Home>>
+    for Take {
     ghost then = { took };
 }
 
 pub(crate) struct Give;
 
-impl<K: Claim> Play<Option<OnHeap<QueueState<K>>>, View<QueueState<K>, K::Home>> for Give {
+impl<K: Claim, E: Recorder> Play<Option<OnHeap<QueueState<K, E>>>, View<QueueState<K, E>, K::Home>>
+    for Give {
     ghost then = { gave };
 }
 
 /// Gives the turn back, with what was found sealed.
 pub(crate) struct Hand;
 
-impl<K: Claim> Play<Option<OnHeap<QueueState<K>>>, View<QueueState<K>, K::Home>> for Hand {
+impl<K: Claim, E: Recorder> Play<Option<OnHeap<QueueState<K, E>>>, View<QueueState<K, E>, K::Home>>
+    for Hand {
     ghost then = { handed };
 }
 
 /// Tells that what the seat was told begins what it has seen.
 pub(crate) struct Learn;
 
-impl<K: Claim> Play<Option<OnHeap<QueueState<K>>>, View<QueueState<K>, K::Home>> for Learn {
+impl<K: Claim, E: Recorder> Play<Option<OnHeap<QueueState<K, E>>>, View<QueueState<K, E>, K::Home>>
+    for Learn {
     ghost then = { learned };
 }
 
 pub(crate) struct Ring;
 
-impl<K: Claim> Play<Option<OnHeap<QueueState<K>>>, View<QueueState<K>, K::Home>> for Ring {
+impl<K: Claim, E: Recorder> Play<Option<OnHeap<QueueState<K, E>>>, View<QueueState<K, E>, K::Home>>
+    for Ring {
     ghost then = { rang };
 }
 
 pub(crate) struct Listen;
 
-impl<K: Claim> Play<Option<OnHeap<QueueState<K>>>, View<QueueState<K>, K::Home>> for Listen {
+impl<K: Claim, E: Recorder> Play<Option<OnHeap<QueueState<K, E>>>, View<QueueState<K, E>, K::Home>>
+    for Listen {
     ghost then = { listened };
 }
 
 /// The new seat has the first sender number, and tells of the turns that the old one had.
 pub(crate) struct Deal;
 
-impl<K: Claim> Split<View<QueueState<K>, K::Home>> for Deal {
+impl<K: Claim, E: Recorder> Split<View<QueueState<K, E>, K::Home>> for Deal {
     ghost left = { λ v. keeping v (drop 1 v.senders) };
 
     ghost right = { λ v. dealt v (take 1 v.senders) };
@@ -79,7 +86,7 @@ impl<K: Claim> Split<View<QueueState<K>, K::Home>> for Deal {
 /// The new seat knows what the old one has seen, and has no sender number.
 pub(crate) struct Note;
 
-impl<K: Claim> Split<View<QueueState<K>, K::Home>> for Note {
+impl<K: Claim, E: Recorder> Split<View<QueueState<K, E>, K::Home>> for Note {
     ghost left = { λ v. v };
 
     ghost right = { λ v. fresh v [] };
@@ -87,7 +94,7 @@ impl<K: Claim> Split<View<QueueState<K>, K::Home>> for Note {
 
 pub(crate) struct Both;
 
-impl<K: Claim> Join<View<QueueState<K>, K::Home>> for Both {
+impl<K: Claim, E: Recorder> Join<View<QueueState<K, E>, K::Home>> for Both {
     ghost both = { joined };
 
     ghost spent = { gone };

@@ -10,7 +10,8 @@ use loop_model::{Entry, Filter, Item, Kind, NoMemory, Post, Segment};
 use message_list::new_node;
 use message_slot::{Message, NoClaim};
 use queue_state::{
-    Advancing, BarrierGone, BarrierPosted, Halting, Nexted, Posted, Quitting, Taking,
+    Advancing, BarrierGone, BarrierPosted, Halting, Nexted, Posted, Quitting, Recorder, Taking,
+    Unkept,
 };
 use std::alloc::Global;
 use std::sync::Wait;
@@ -49,11 +50,11 @@ fn message(alloc: Global, what: u32) -> Result<MsgNode<NoClaim>, NoMemory>
 }
 
 // Posts a message: its number, and whether a waiting looper has to look again; none where it was not accepted.
-fn send<R: Wait>(
+fn send<R: Wait, E: Recorder>(
     rt: &R,
     alloc: Global,
-    queue: &SharedQueue<NoClaim>,
-    poster: &mut Poster<NoClaim>,
+    queue: &SharedQueue<NoClaim, E>,
+    poster: &mut Poster<NoClaim, E>,
     what: u32,
 ) -> Option<(u64, bool)>
     requires { IsOf poster.old queue.now }
@@ -94,11 +95,11 @@ fn one_hears_the_other(rt: HostRuntime) -> Result<(), Fail> {
     Ok(())
 }
 
-fn post_many<R: Wait>(
+fn post_many<R: Wait, E: Recorder>(
     rt: &R,
     alloc: Global,
-    queue: &SharedQueue<NoClaim>,
-    poster: &mut Poster<NoClaim>,
+    queue: &SharedQueue<NoClaim, E>,
+    poster: &mut Poster<NoClaim, E>,
 )
     requires { IsOf poster.old queue.now }
     ensures { IsOf poster.new queue.now × (poster.new.sender ≡ poster.old.sender) × (poster.new.view.sealed ≡ poster.old.view.sealed) }
@@ -206,6 +207,78 @@ fn two_threads_post_and_a_third_takes(rt: HostRuntime) -> Result<(), Fail> {
     );
     assert!(rt; in_order(entries, 0) && in_order(entries, 1) && in_order(entries, 2));
     assert!(rt; retired.kept.looper == 1 && !retired.kept.main && retired.kept.senders == 3);
+    Ok(())
+}
+
+const LAST: Filter = Filter {
+    handler: 1,
+    kind: Kind::What(POSTS - 1),
+    obj: None,
+};
+
+// Posts, takes the first message that is due, and removes the last ones.
+fn post_take_remove<R: Wait>(
+    rt: &R,
+    alloc: Global,
+    queue: &SharedQueue<NoClaim, Unkept>,
+    poster: &mut Poster<NoClaim, Unkept>,
+)
+    requires { IsOf poster.old queue.now }
+    ensures { IsOf poster.new queue.now × (poster.new.sender ≡ poster.old.sender) }
+{
+    post_many(rt, alloc, queue, poster);
+    poster.next(rt, queue, 10, false);
+    poster.remove(rt, queue, &LAST);
+}
+
+// Each poster of a queue without a record does so in a thread of its own.
+fn side_by_side_unkept<R: Threads + Wait + Sync>(
+    rt: &R,
+    alloc: Global,
+    queue: &SharedQueue<NoClaim, Unkept>,
+    posters: &mut [Poster<NoClaim, Unkept>],
+)
+    requires { AreInOrder queue.now posters.old }
+    ensures length { length posters.new ≡ length posters.old }
+    ensures order { AreInOrder queue.now posters.new }
+{
+    thread::for_each_mut(
+        rt,
+        posters,
+        2,
+        &|_, poster: &mut Poster<NoClaim, Unkept>|
+            requires { IsSync R.row × IsOf poster.old queue.now }
+            ensures { IsOf poster.new queue.entry.now × (poster.new.sender ≡ poster.old.sender) }
+        { post_take_remove(rt, alloc, queue, poster) },
+    );
+}
+
+fn worked_unkept<R: Threads + Wait + Sync>(
+    rt: &R,
+    alloc: Global,
+) -> Result<MsgList<NoClaim>, NoMemory> {
+    let (queue, mut posters) = SharedQueue::<NoClaim, Unkept>::make(alloc, (), 1, false, false, 2)?;
+    side_by_side_unkept(rt, alloc, &queue, posters.as_mut_slice());
+    Ok(queue.close(posters))
+}
+
+// Whether the messages stand by rising numbers, all above the first two.
+fn stand_in_order(list: &MsgList<NoClaim>) -> bool {
+    let mut before = 1;
+    for message in list.iter() {
+        if message.number() <= before {
+            return false;
+        }
+        before = message.number();
+    }
+    true
+}
+
+// Of 2,000 messages two were taken and two removed, and the rest is handed out in order.
+#[test]
+fn nothing_is_kept_but_what_waits(rt: HostRuntime) -> Result<(), Fail> {
+    let left = worked_unkept(&rt, rt.alloc())?;
+    assert!(rt; left.len() == 1996 && stand_in_order(&left));
     Ok(())
 }
 

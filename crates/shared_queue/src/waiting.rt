@@ -7,7 +7,7 @@ use crate::poster::Poster;
 use crate::queue::SharedQueue;
 use loop_io::Clock;
 use message_slot::Claim;
-use queue_state::Nexted;
+use queue_state::{Nexted, Recorder};
 use std::sync::Wait;
 use std::time;
 use when_queue::{MsgList, MsgNode};
@@ -65,7 +65,7 @@ fn until_earlier(now: u64, until: Option<u64>, cap: Option<u64>) -> Option<u64> 
     Some(end.saturating_sub(now))
 }
 
-impl<K: Claim> Poster<K> {
+impl<K: Claim, E: Recorder> Poster<K, E> {
     /// Waits for the first message that is due by the clock: looks, and sleeps as long as the answer is to wait, until the
     /// message that it waits for is due, a call on the queue wakes it, or another poster rings the bell. A moment is the
     /// clock's reading less `start`, in milliseconds. Where nothing is due at a look's moment, Cap if it is no earlier than
@@ -74,7 +74,7 @@ impl<K: Claim> Poster<K> {
     pub fn wait_next<R: Wait + time::Clock, C: Clock>(
         &mut self,
         rt: &R,
-        queue: &SharedQueue<K>,
+        queue: &SharedQueue<K, E>,
         clock: &C,
         start: u64,
         idle_owed: bool,
@@ -100,7 +100,7 @@ impl<K: Claim> Poster<K> {
     fn look<R: Wait, C: Clock>(
         &mut self,
         rt: &R,
-        queue: &SharedQueue<K>,
+        queue: &SharedQueue<K, E>,
         clock: &C,
         start: u64,
         idle_owed: bool,
@@ -124,7 +124,7 @@ impl<K: Claim> Poster<K> {
     // After a look that is to wait: the cap, or else what the bell says.
     fn stay(
         &mut self,
-        queue: &SharedQueue<K>,
+        queue: &SharedQueue<K, E>,
         now: u64,
         until: Option<u64>,
         cap: Option<u64>,

@@ -17,6 +17,6 @@ returns g c =
     let key = c.args.queue.now.constants in
     let x : Queue g.row.K-Home.Denot g.row.K.Denot = c.begin-state.result in
     let found = found_is key c.self.inside.desk c.begin-state.new.self x c.self.invariant c.begin-state.ensures c.end.new.self x (refl, refl, refl, inl refl) c.end.ensures in
-    let answer : length c.entries.result.now ≡ length x.entries = search rules in
+    let answer : c.since-answer.result ≡ length x.entries = search rules in
     is_still_turn key c.self.inside.desk c.begin-state.new.self x c.begin-state.ensures c.end.new.self c.self.view_is c.self.invariant c.end.ensures
-    (λ v. (state : Queue g.row.K-Home.Denot g.row.K.Denot) × ((known c.end.new.self).view.found ≡ Some state) × (length c.entries.result.now ≡ length state.entries)) (λ past leave. (x, found, answer))
+    (λ v. (state : Queue g.row.K-Home.Denot g.row.K.Denot) × ((known c.end.new.self).view.found ≡ Some state) × (c.since-answer.result ≡ length state.entries)) (λ past leave. (x, found, answer))

@@ -1,38 +1,15 @@
-use Rattle.std.specs.Slots.{slots_len}
-use Rattle.std.proofs.Common.{rules, arith, ◌<◌, ◌≡◌, ◌∷◌, ◌++◌, [], ap, sym, ◌∙◌, subst}
-use mathlib.Core.Option.{some-injective}
-use Rattle.loop_model.specs.declared.segment.Segment.{Segment}
+use Rattle.std.proofs.Common.{◌∷◌, ◌++◌, [], All, refl, subst}
 use Rattle.queue_state.specs.Queue.{part_of}
-use Rattle.shared_queue.specs.Constants.{Constants}
-use Rattle.shared_queue.specs.Known.{Shared}
-use Rattle.shared_queue.specs.Ends.{IsWholeEnd}
-use Rattle.shared_queue.proofs.Closing.{Closes, closes, closes_with, ends}
+use Rattle.message_slot.specs.Letter.{IsAtHome}
+use Rattle.shared_queue.specs.Ends.{sealed_by}
+use Rattle.shared_queue.proofs.Closing.{closing, leaves}
 use Rattle.shared_queue.proofs.queue.SharedQueue.close.Goals as goal
 
-pub unreachable-requires : goal.unreachable-requires
-unreachable-requires g c =
-    let key = c.self.inside.table.shared.key in
-    let q : Shared g.row.K-Home.Denot = c.args.self in
-    let is : q.constants ≡ key = ap (λ (z : Shared g.row.K-Home.Denot). z.constants) (sym c.self.view_is) in
-    let some : 0 < key.setting.senders = search rules in
-    let t = closes key q c.args.posters.items c.gather-seat.result.me is some (c.requires.posters.0 ∙ ap (λ (z : Constants g.row.K-Home.Denot). z.setting.senders) is) c.requires.posters.1 c.gather-seat.ensures.1 c.gather-seat.result.id _ _ c.args.sealed.items c.requires.sealed c.close_with-closed.ensures.values.2 in
-    c.in_default.not-Some t.0 (some-injective _ _ (sym c.take.ensures.value ∙ t.1))
+pub returns-clause-left : goal.returns-clause-left
+returns-clause-left g c =
+    let key = c.args.self.constants in
+    let parts = sealed_by c.args.posters.items in
+    leaves key c.args.posters.items parts (parts ++ part_of c.end-state.result ∷ []) c.end-state.result (closing key c.args.posters.items c.end-state.result parts c.end-state.ensures refl) c.into_items.ensures.sound refl c.into_items.result c.into_items.ensures.left
 
-pub take-requires : goal.take-requires
-take-requires g c =
-    let counts = c.close_with-closed.ensures.counts in
-    let slots = c.self.invariant.1 in
-    let one : 0 < slots_len c.close_with-closed.result.slots = omega (arith, counts.1, slots) in
-    (one, c.close_with-closed.ensures.values.1 0 (omega arith) one)
-
-pub returns : goal.returns
-returns g c =
-    let key = c.self.inside.table.shared.key in
-    let q : Shared g.row.K-Home.Denot = c.args.self in
-    let is : q.constants ≡ key = ap (λ (z : Shared g.row.K-Home.Denot). z.constants) (sym c.self.view_is) in
-    let some : 0 < key.setting.senders = search rules in
-    let t = closes_with key q c.args.posters.items c.gather-seat.result.me is some (c.requires.posters.0 ∙ ap (λ (z : Constants g.row.K-Home.Denot). z.setting.senders) is) c.requires.posters.1 c.gather-seat.ensures.1 c.gather-seat.result.id _ _ c.args.sealed.items c.in-Some.state c.requires.sealed c.close_with-closed.ensures.values.2 c.in-Some.ensures.value in
-    let pushed : c.push.new.self.items ≡ c.args.sealed.items ++ c.into_parts-last.result.0 ∷ [] = search rules in
-    let are : c.push.new.self.items ≡ c.args.sealed.items ++ part_of c.into_value.result ∷ [] = pushed ∙ ap (λ (p : Segment). c.args.sealed.items ++ p ∷ []) c.into_parts-last.ensures.part in
-    subst (λ (k : Constants g.row.K-Home.Denot). IsWholeEnd g.K.Claim.home k c.args.posters.items c.args.sealed.items c.push.new.self.items c.into_parts-last.result.1) (sym is)
-    (ends key c.args.posters.items c.args.sealed.items c.push.new.self.items c.into_value.result (subst (Closes key c.args.posters.items c.args.sealed.items) (sym c.into_value.ensures) t) c.into_parts-last.ensures.sound are g.K.Claim.home c.into_parts-last.result.1 c.into_parts-last.ensures.left c.into_parts-last.ensures.home)
+pub returns-clause-home : goal.returns-clause-home
+returns-clause-home g c = subst (λ h. All (IsAtHome g.K.Claim.home h) c.into_items.result) c.end-state.ensures.own.home c.into_items.ensures.home
