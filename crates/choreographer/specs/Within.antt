@@ -1,12 +1,11 @@
 -- What the steps of a call leave: words of its private methods.
-use Rattle.std.specs.Prelude.{◌≡◌, ℕ, ◌+◌, ◌==◌, Bool, if◌then◌else◌, IfOk, OnOk, OnErr, IsTrue, Result, Option, Some, None, List, [], ◌∷◌, ◌++◌}
+use Rattle.std.specs.Prelude.{◌≡◌, ℕ, ◌+◌, ◌==◌, Bool, if◌then◌else◌, IfOk, OnOk, OnErr, Result, Option, Some, None, List, [], ◌∷◌, ◌++◌}
 use Rattle.std.specs.Prelude.{length, reverse}
 use mathlib.Core.List.{IsPrefix}
 use Rattle.loop_model.specs.declared.memory.NoMemory.{NoMemory}
 use Rattle.frame_phases.specs.declared.entry.Scheduling.{Scheduling}
-use Rattle.frame_phases.specs.declared.entry.Took.{Took}
-use Rattle.frame_phases.specs.Frames.{next_phase, owed, lawful}
-use Rattle.frame_phases.specs.State.{scheduling, delivered, TakesBy}
+use Rattle.frame_phases.specs.Frames.{next_phase, owed}
+use Rattle.frame_phases.specs.State.{scheduling, delivered}
 use Rattle.choreographer.specs.declared.kept.Kept.{Kept}
 use Rattle.choreographer.specs.Client.{Run, with_runs}
 use Rattle.choreographer.specs.Frame.{Batch, begin_place, ran_since, batches_since, progress}

@@ -25,7 +25,7 @@ use Rattle.handler_post.specs.declared.way.Sent.TheVariants.{Accepted as Took, R
 use Rattle.handler_post.specs.declared.way.Erased.{Erased}
 use Rattle.handler_post.specs.declared.way.Erased.TheVariants.{Removed as Gone, NoMemory as NoSpace}
 use Rattle.handler_post.specs.Supply.{letter_of, Obtains, ObtainsInVain, BringsBack}
-use Rattle.handler_post.specs.declared.way.Way.{Way}
+use Rattle.handler_post.specs.Ways.{KeptWay as Way}
 use Rattle.handler_post.specs.Ways.{IsReady, IsSameWay, MadeNone}
 use Rattle.handler_post.specs.Sends.{Sending, Erasing, Sends, Erases}
 use Rattle.dash_hall.specs.Slots.{GivesBackAll}

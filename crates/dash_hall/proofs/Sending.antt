@@ -23,7 +23,7 @@ use Rattle.handler_post.specs.declared.way.Sent.{Sent}
 use Rattle.handler_post.specs.declared.way.Sent.TheVariants.{Accepted as Took, Refused as Turned, NoMemory as NoRoom}
 use Rattle.handler_post.specs.Supply.{letter_of}
 use Rattle.handler_post.specs.declared.handler.Handler.{Handler}
-use Rattle.handler_post.specs.declared.way.Way.{Way}
+use Rattle.handler_post.specs.Ways.{KeptWay as Way}
 use Rattle.handler_post.specs.Forms.{message_by}
 use Rattle.handler_post.specs.Ways.{IsReady, IsSameWay}
 use Rattle.handler_post.specs.Sends.{Sending, Sends}

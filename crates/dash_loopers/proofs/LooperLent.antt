@@ -11,7 +11,7 @@ use Rattle.message_pool.specs.Passes.{Tally}
 use Rattle.shared_queue.specs.Known.{Shared}
 use Rattle.looper_run.specs.declared.dispatcher.Did.{Did}
 use Rattle.looper_run.specs.declared.dispatcher.Did.TheVariants.{Yes, No, NoMemory}
-use Rattle.looper_run.specs.declared.own.Own.{Own}
+use Rattle.looper_run.specs.Holding.{KeptOwn as Own}
 use Rattle.looper_run.specs.Acts.{IsOfDispatcher, GrowsBy}
 use Rattle.looper_run.specs.Holding.{Sender, Holding, IsSameOwn}
 use Rattle.looper_run.specs.Tests.{IsLent, Unless, Intercepts}

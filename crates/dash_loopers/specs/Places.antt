@@ -2,7 +2,7 @@
 use Rattle.std.specs.Prelude.{◌≡◌, ◌==◌, ◌++◌, ℕ, Bool, Option, List, map, fold, slice_get}
 use Rattle.std.specs.Option.{option_map_or}
 use Rattle.loop_model.specs.declared.post.Post.{Post as PostData}
-use Rattle.looper_run.specs.declared.own.Own.{Own}
+use Rattle.looper_run.specs.Holding.{KeptOwn as Own}
 use Rattle.looper_run.specs.Holding.{workplace, held}
 use Rattle.choreographer.specs.declared.hosted.Pulse.{Pulse}
 use Rattle.choreographer.specs.Known.{Shared as Frames, Known as Pass}

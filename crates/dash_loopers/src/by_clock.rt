@@ -27,6 +27,7 @@ use loop_model::{NoMemory, Post};
 use looper_run::{ByClock, Did, Dispatcher, Loop, Own, Round};
 use message_pool::PoolClaim;
 use message_slot::Message;
+use queue_state::Kept;
 use std::alloc::Global;
 use std::snapshot::Snapshot;
 use std::sync::Wait;
@@ -54,6 +55,8 @@ pub(crate) struct ClockPlayer<'a, 'b, R: Wait, G: Gate, C: Clock> {
 }
 
 impl<'a, 'b, R: Wait, G: Gate, C: Clock> Dispatcher for ClockPlayer<'a, 'b, R, G, C> {
+    type Record = Kept;
+
     ghost Serves = { λ d w. ServesFree d.place.script.now d.place.hall.now d.place.looper d.parts w };
 
     ghost Origin = { ClockOwner };

@@ -24,6 +24,7 @@ use loop_model::{NoMemory, Post};
 use looper_run::{Did, Dispatcher, Own};
 use message_pool::PoolClaim;
 use message_slot::Message;
+use queue_state::Kept;
 use shared_queue::{Poster, SharedQueue};
 use std::alloc::Global;
 use std::snapshot::Snapshot;
@@ -68,6 +69,8 @@ pub(crate) struct Player<'a, R: Wait, G: Gate> {
 }
 
 impl<'a, R: Wait, G: Gate> Dispatcher for Player<'a, R, G> {
+    type Record = Kept;
+
     ghost Serves = { λ d w. ServesAt d.place.script.now d.place.hall.now d.place.looper d.parts w };
 
     ghost Origin = { Owner };

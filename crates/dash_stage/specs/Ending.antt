@@ -16,12 +16,13 @@ use Rattle.shared_queue.specs.Known.{Shared}
 use Rattle.shared_queue.specs.Constants.{Constants}
 use Rattle.looper_run.specs.Holding.{Sender}
 use Rattle.choreographer.specs.Known.{Shared as Frames, Known as Pass}
+use Rattle.choreographer.specs.Ends.{AreTheirs}
 use Rattle.run_model.specs.Run.{setting_of}
 use Rattle.dash_hall.specs.declared.kit.Kit.{Kit}
 use Rattle.dash_hall.specs.Kits.{ArePostersOf, badge_of, badge_for, FrameBadge, frame_badge_of}
 use Rattle.dash_hall.specs.Dealing.{given_of}
 use Rattle.dash_stage.specs.Controllers.{handed_out, parts_in}
-use Rattle.dash_stage.specs.Records.{HasAllOf, passes_at, AreOfPasses}
+use Rattle.dash_stage.specs.Records.{HasAllOf, passes_at}
 
 -- each kit has a poster
 abbrev pub HavePosters : List Kit → Type 0
@@ -108,9 +109,9 @@ pub record HaveFramesLeft (given_up : ℕ → ℕ) (before after : List Kit) : T
   pub count : length after ≡ length before
   pub each : (k : ℕ) (d : Kit) → k < length before → HasFramesLeft (given_up k) (slice_index_or before k d) (slice_index_or after k d)
 
--- the entries are those that the next passes of this looper's choreographer recorded
+-- the entries are parted among the next passes of this looper's choreographer, which recorded them
 abbrev pub AreOfNext : Script → ℕ → List Kit → List FrameEntry → Type 0
-AreOfNext s looper kits entries = (d : Kit) (p : Pass) → AreOfPasses entries (passes_at s looper 0 kits d p)
+AreOfNext s looper kits entries = (d : Kit) (p : Pass) → AreTheirs entries (passes_at s looper 0 kits d p)
 
 -- the entries begin with what each of this sender's next two passes has seen
 abbrev pub BeginWithOwn : ℕ → List Kit → List FrameEntry → Type 0

@@ -1,5 +1,8 @@
 -- When pulses come.
-use Rattle.std.specs.Prelude.{ℕ, ◌+◌, ◌-◌, ◌*◌, ◌/◌, ◌^◌, min, Bool, true, Option, Some, None}
+use Rattle.std.specs.Prelude.{ℕ, ◌+◌, ◌-◌, ◌*◌, ◌/◌, ◌^◌, ◌==◌, ◌||◌, min, Bool, true, Option, Some, None, List}
+use Rattle.std.specs.List.{list_all}
+use Rattle.frame_phases.specs.declared.entry.FrameEntry.{FrameEntry}
+use Rattle.frame_phases.specs.declared.entry.FrameEntry.TheVariants.{Begin}
 use Rattle.frame_phases.specs.Frames.{is_pulse}
 
 -- the least positive multiple of the interval that is greater than t, or the greatest u64 where it is above that
@@ -10,3 +13,16 @@ pulse interval t = min ((t / interval + 1) * interval) (2 ^ 64 - 1)
 abbrev pub is_pulse_if_any : ℕ → Option ℕ → Bool
 is_pulse_if_any interval None = true
 is_pulse_if_any interval (Some t) = is_pulse interval t
+
+-- what is kept as the stamp of the latest pulse: 0 before the first one, and then a pulse's moment
+abbrev pub is_stamp : ℕ → ℕ → Bool
+is_stamp interval t = t == 0 || is_pulse interval t
+
+-- an entry that begins a frame has such a stamp
+abbrev pub is_stamped : ℕ → FrameEntry → Bool
+is_stamped interval (Begin vsync start time) = is_stamp interval vsync
+is_stamped interval _ = true
+
+-- each frame of a record begins with the stamp of a pulse, or with 0
+abbrev pub are_stamped : ℕ → List FrameEntry → Bool
+are_stamped interval entries = list_all (is_stamped interval) entries

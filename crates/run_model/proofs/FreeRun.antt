@@ -1,8 +1,7 @@
 -- The script with two posts in free mode, over a clock that shows 5, 10, 15 and so on.
-use Rattle.std.proofs.Common.{◌≡◌, ◌<◌, ℕ, ◌%◌, true, false, List, [], ◌∷◌, None, refl, arith, lit<, lit≤, inl}
-use Rattle.std.specs.Prelude.{codes, ◌==◌}
+use Rattle.std.proofs.Common.{◌≡◌, ◌<◌, ℕ, zero, suc, ◌%◌, true, false, List, [], ◌∷◌, None, refl, lit<, lit≤, inl}
+use Rattle.std.specs.Prelude.{codes, ◌==◌, map, slice_index_or}
 use Rattle.std.specs.Fmt.{digits}
-use mathlib.Core.List.{nil-sublist}
 use Rattle.loop_model.specs.declared.call.Call.TheVariants as call
 use Rattle.loop_model.specs.declared.reply.Reply.TheVariants as reply
 use Rattle.loop_model.specs.declared.entry.Entry.{Entry}
@@ -19,11 +18,11 @@ use Rattle.loop_model.specs.declared.record.QueueRecord.{QueueRecord}
 use Rattle.run_model.specs.declared.report.Report.{Report}
 use Rattle.run_model.specs.Control.{is_controlled}
 use Rattle.run_model.specs.Moments.{Mode, in_free_mode, AreOfClock}
-use Rattle.run_model.specs.Planned.{lines_of, AreAsPlanned}
-use Rattle.run_model.specs.FrameAsks.{lines_ask, AreToldInOrder}
+use Rattle.run_model.specs.Planned.{AreAsPlanned}
+use Rattle.run_model.specs.FrameAsks.{as_told}
 use Rattle.run_model.specs.Acts.{after_act}
 use Rattle.run_model.specs.Loopers.{first_looper}
-use Rattle.run_model.specs.Run.{IsRun, IsRecordOf, IsControlled, IsFrameRun, IsLooperRun, all_entries, setting_of}
+use Rattle.run_model.specs.Run.{IsRun, IsRecordOf, IsControlled, IsFrameRun, IsLooperRun, all_entries, setting_of, asked_of}
 use Rattle.run_model.specs.Text.{text, lines}
 use Rattle.run_model.proofs.Below.{each_below}
 use Rattle.run_model.proofs.Table.{led}
@@ -102,7 +101,15 @@ frame_run = record {
   interval = refl;
   phases = refl;
   lawful = refl;
+  stamps = refl;
 }
+
+-- no line and no act asks the choreographer for anything
+none_asked : (k : ℕ) → [] ≡ slice_index_or (map (map (as_told false)) (asked_of script 0 (first_looper script))) k []
+none_asked zero = refl
+none_asked (suc zero) = refl
+none_asked (suc (suc zero)) = refl
+none_asked (suc (suc (suc k))) = refl
 
 looper_run : IsLooperRun mode script report.queues queue_0 journal_0 (frames 0 [])
 unfolding after_act
@@ -113,8 +120,7 @@ looper_run = record {
   dispatches = refl;
   disposed_at = 0;
   calls = ((record { call = refl; reply = refl }, (record { call = refl; reply = refl }, tt)), tt);
-  asked = λ test. omega arith;
-  order = record { threads = each_below 1 (λ thread. AreToldInOrder false (lines_ask 0 (lines_of thread script.blocks)) []) (tt, nil-sublist []); posted = nil-sublist []; ran = nil-sublist [] };
+  asked = ([], refl, none_asked);
   on_time = tt;
   whole = refl;
   moments = tt;

@@ -1,4 +1,5 @@
 pub mod Below
+pub mod Parting
 pub mod Examples
 pub mod RunBut
 pub mod ByTests

@@ -1,8 +1,6 @@
 -- Reports that are no runs of their script: what is asked of a choreographer by lines, and its record has a fault.
-use Rattle.std.proofs.Common.{◌≡◌, ℕ, Bool, true, false, List, [], ◌∷◌, ◌++◌, Some, None, refl, sym, ap, subst, arith, lit<, ◌⊎◌, inl, inr}
-use Rattle.std.specs.Prelude.{◌==◌, map, count_by}
-use Rattle.std.specs.List.{AllByRecursion, list_all}
-use Rattle.std.proofs.lemmas.Bool.Decides.{nat_tests}
+use Rattle.std.proofs.Common.{◌≡◌, ℕ, Bool, true, false, List, [], ◌∷◌, ◌++◌, Some, None, refl, sym, ap, subst, ◌⊎◌, inl, inr}
+use Rattle.std.specs.List.{AllByRecursion}
 use mathlib.Core.List.{Sublistᴰ}
 use mathlib.Core.List.Sublistᴰ
 use mathlib.Core.Logic.{∥∥₁_elim}
@@ -14,38 +12,26 @@ use Rattle.loop_model.specs.declared.journal.Act.TheVariants as act
 use Rattle.loop_model.specs.declared.journal.Route.TheVariants as route
 use Rattle.frame_phases.specs.declared.entry.FrameEntry.{FrameEntry}
 use Rattle.frame_phases.specs.declared.entry.FrameEntry.TheVariants as frame
+use Rattle.frame_phases.specs.Pulses.{are_stamped}
 use Rattle.dash_script.specs.declared.script.Command.{Command}
 use Rattle.dash_script.specs.declared.script.Command.TheVariants as command
+use Rattle.dash_script.specs.declared.script.Line.{Line}
 use Rattle.dash_script.specs.declared.script.Script.{Script}
 use Rattle.run_model.specs.Histories.{history_of}
 use Rattle.run_model.specs.Moments.{in_lockstep}
 use Rattle.run_model.specs.Loopers.{Looper, first_looper}
 use Rattle.run_model.specs.Acts.{Lead}
-use Rattle.run_model.specs.FrameAsks.{FrameAsk, Posts, Removes, Runs, AreAsOften, as_told, asks_in}
+use Rattle.run_model.specs.FrameAsks.{FrameAsk, Posts, Removes, Runs, AreAskedBy, asks_in}
 use Rattle.run_model.specs.Run.{IsRun, asked_of}
 use Rattle.run_model.proofs.Examples.{entry, frame_message, halted_at, handler_on, block, by, plain_script, callback}
 use Rattle.run_model.proofs.RunBut as but
-use Rattle.run_model.proofs.Table.{Row, quiet, queue_in, report_of, same_ask, computing}
+use Rattle.run_model.proofs.Table.{Row, quiet, queue_in, report_of, computing}
+use Rattle.run_model.proofs.Parting.{can_ask, parted_can_ask, part_stands}
 use Rattle.run_model.proofs.OneFault.{Faulty, faulty, Fails, each_fails, FailsBy, fails_by}
-
--- each of these asks stands in the one list as often as in the other
-abbrev are_as_often : List FrameAsk → List FrameAsk → List FrameAsk → Bool
-are_as_often asked told asks = list_all (λ a. count_by (same_ask a) asked == count_by (same_ask a) told) asks
-
-same_count : (n m : ℕ) → n ≡ m → (n == m) ≡ true
-same_count n m is = grind (arith, nat_tests)
-
-as_often : (asked told asks : List FrameAsk) → AreAsOften asked told → are_as_often asked told asks ≡ true
-as_often asked told [] same = refl
-as_often asked told (a ∷ asks) same =
-    rw (same_count (count_by (same_ask a) asked) (count_by (same_ask a) told) (same (same_ask a)), as_often asked told asks same) refl
 
 -- the frame record tells what the script's lines ask for, where the looper's acts cause nothing
 abbrev tells_asked : Script → List FrameEntry → List Act → Bool
-tells_asked s fs [] =
-    let told = map (as_told true) (asks_in fs) in
-    let asked = map (as_told true) (asked_of s 0 (first_looper s)) in
-    are_as_often told asked (told ++ asked)
+tells_asked s fs [] = can_ask (asks_in fs) (asked_of s 0 (first_looper s))
 tells_asked s fs (act ∷ acts) = true
 
 abbrev main_tells_asked : Script → List Row → Bool
@@ -53,11 +39,9 @@ main_tells_asked s [] = true
 main_tells_asked s (row ∷ rows) = tells_asked s row.frames row.acts
 
 told_by_acts : (s : Script) (es : List Entry) (fs : List FrameEntry) (acts : List Act) (b : Looper) → Lead s 0 es fs (first_looper s) acts b
-    → AreAsOften (map (as_told true) (asks_in fs)) (map (as_told true) (asked_of s 0 b)) → tells_asked s fs acts ≡ true
+    → AreAskedBy true (asks_in fs) (asked_of s 0 b) → tells_asked s fs acts ≡ true
 told_by_acts s es fs [] b is same =
-    let told = map (as_told true) (asks_in fs) in
-    let asked = map (as_told true) (asked_of s 0 (first_looper s)) in
-    as_often told asked (told ++ asked) (subst (λ (x : Looper). AreAsOften told (map (as_told true) (asked_of s 0 x))) (sym is) same)
+    parted_can_ask (asks_in fs) (asked_of s 0 (first_looper s)) (subst (λ (x : Looper). AreAskedBy true (asks_in fs) (asked_of s 0 x)) (sym is) same)
 told_by_acts s es fs (act ∷ acts) b led same = refl
 
 told_by_run : (s : Script) (rows : List Row) → IsRun in_lockstep s (report_of s rows) → main_tells_asked s rows ≡ true
@@ -73,7 +57,11 @@ unasked line fs =
 abbrev posts_frame : Command
 posts_frame = command.Frame 0 3 8 0
 
--- the record tells something else than the line asks for
+-- a thread posts a frame callback and removes it
+abbrev posts_and_removes : ℕ → List Line
+posts_and_removes thread = by thread (command.Frame 0 0 8 0) ∷ by thread (command.Unframe 0 0 8) ∷ []
+
+-- the record tells something else than the lines ask for
 abbrev wrong_asks : List Faulty
 wrong_asks =
     -- the line's callback is posted twice
@@ -92,6 +80,10 @@ wrong_asks =
     ∷ frame.Take 3 10000000 0 ∷ frame.Ran 0 ∷ [])
     -- an unframe line removes nothing
     ∷ unasked (command.Unframe 0 3 8) []
+    -- two threads post and remove each, and the record begins with a removal: each thread's two asks stand in it in their order, but not both threads'
+    ∷ faulty but.Asked (plain_script 1 2 (handler_on 0 ∷ []) (block 10 (posts_and_removes 0 ++ posts_and_removes 1) ∷ []) 10) (record (quiet (halted_at 3 10) 0) {
+      frames = frame.Removed 0 8 None 0 ∷ frame.Posted (callback 0 0 10 8) ∷ frame.Removed 0 8 None 1 ∷ frame.Posted (callback 1 0 10 8) ∷ [];
+    } ∷ [])
     ∷ []
 
 pub wrong_asks_fail : AllByRecursion Fails wrong_asks
@@ -100,7 +92,7 @@ wrong_asks_fail = each_fails main_tells_asked told_by_run wrong_asks refl refl
 
 -- a thread posts a frame callback and removes it, and its record has the removal first: it takes nothing out, and the callback runs
 abbrev swapped_script : Script
-swapped_script = plain_script 1 1 (handler_on 0 ∷ []) (block 10 (by 0 (command.Frame 0 0 8 0) ∷ by 0 (command.Unframe 0 0 8) ∷ []) ∷ []) 20
+swapped_script = plain_script 1 1 (handler_on 0 ∷ []) (block 10 (posts_and_removes 0) ∷ []) 20
 
 abbrev swapped_frames : List FrameEntry
 swapped_frames =
@@ -150,7 +142,33 @@ posts_no_removal e = let wrong : false ≡ true = ap is_removal e in cc
 removes_no_start : Removes 0 8 None ≡ Runs 17000000 → ⊥
 removes_no_start e = let wrong : true ≡ false = ap is_removal e in cc
 
-pub removal_first : FailsBy but.AskOrder swapped_script swapped_rows
+pub removal_first : FailsBy but.Asked swapped_script swapped_rows
 unfolding computing
-removal_first = fails_by but.AskOrder swapped_script swapped_rows
-    (λ r. ∥∥₁_elim (r.loopers.0.order.threads 0 (lit< tt)) (λ x y. absurd x) (not_swapped (Posts 0 10 8 None) (Removes 0 8 None) (Runs 17000000) posts_no_removal removes_no_start)) refl
+removal_first = fails_by but.Asked swapped_script swapped_rows
+    (λ r. ∥∥₁_elim (part_stands true (asks_in swapped_frames) (asked_of swapped_script 0 r.loopers.0.final) r.loopers.0.asked 0) (λ x y. absurd x) (not_swapped (Posts 0 10 8 None) (Removes 0 8 None) (Runs 17000000) posts_no_removal removes_no_start)) refl
+
+-- ---- the stamps of frames
+
+-- main's frames have the stamps of pulses
+abbrev is_main_stamped : Script → List Row → Bool
+is_main_stamped s [] = true
+is_main_stamped s (row ∷ rows) = are_stamped s.period row.frames
+
+stamped_by_run : (s : Script) (rows : List Row) → IsRun in_lockstep s (report_of s rows) → is_main_stamped s rows ≡ true
+stamped_by_run s [] r = refl
+stamped_by_run s (row ∷ rows) r = r.frames.0.stamps
+
+-- a thread posts a frame callback, and its frame begins with the stamp of a moment at which no pulse comes
+abbrev unstamped : List Faulty
+unstamped = faulty but.Stamps (plain_script 1 1 (handler_on 0 ∷ []) (block 10 (by 0 (command.Frame 0 0 8 0) ∷ []) ∷ []) 20) (record {
+  entries = swapped_entries;
+  acts = act.Vsync 16666667 ∷ act.Dispatch 0 17 route.Intercepted ∷ [];
+  frames = frame.Posted (callback 0 0 10 8) ∷ frame.Begin 12345678 17000000 12345678 ∷ frame.Take 0 17000000 12345678 ∷ frame.Ran 0
+      ∷ frame.Take 1 17000000 12345678 ∷ frame.Take 2 17000000 12345678 ∷ frame.Take 3 17000000 12345678 ∷ [];
+  places = None ∷ Some 1 ∷ [];
+  disposed_at = 0;
+} ∷ []) ∷ []
+
+pub unstamped_fail : AllByRecursion Fails unstamped
+unfolding computing
+unstamped_fail = each_fails is_main_stamped stamped_by_run unstamped refl refl

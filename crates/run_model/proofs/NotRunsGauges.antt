@@ -1,6 +1,6 @@
 -- Reports that are no runs of their script: the frames, pulses and callbacks of a gauge, with one fault.
 use Rattle.std.proofs.Common.{◌≡◌, ℕ, zero, suc, refl, true, false, List, [], ◌∷◌, ◌++◌, Some, None, sym, ap, subst, ◌∙◌, length, arith}
-use Rattle.std.specs.Prelude.{Bool, ◌&&◌, map, count_by, drop, nat_le, slice_get}
+use Rattle.std.specs.Prelude.{Bool, ◌&&◌, drop, nat_le, slice_get}
 use Rattle.std.specs.List.{AllByRecursion}
 use Rattle.std.specs.Option.{option_map_or}
 use Rattle.std.proofs.lemmas.Bool.{and_parts}
@@ -16,13 +16,14 @@ use Rattle.dash_script.specs.declared.script.Command.TheVariants as command
 use Rattle.dash_script.specs.declared.script.Script.{Script}
 use Rattle.run_model.specs.Moments.{in_lockstep}
 use Rattle.run_model.specs.Loopers.{Looper, first_looper}
-use Rattle.run_model.specs.FrameAsks.{FrameAsk, as_told}
+use Rattle.run_model.specs.FrameAsks.{asks_in}
 use Rattle.run_model.specs.FrameRuns.{are_run_then, are_whole, is_begin, is_frame_from}
 use Rattle.run_model.specs.Acts.{after_act, Lead}
 use Rattle.run_model.specs.Run.{IsRun, asked_of}
 use Rattle.run_model.proofs.Examples.{entry, handler_on, block, by, plain_script, message, frame_message, callback}
 use Rattle.run_model.proofs.RunBut.{Clause}
 use Rattle.run_model.proofs.RunBut as but
+use Rattle.run_model.proofs.Parting.{can_ask, parted_can_ask}
 use Rattle.run_model.proofs.Table.{led, Row, acting, report_of, computing}
 use Rattle.run_model.proofs.OneFault.{FailsBy, fails_by}
 use Rattle.run_model.proofs.NotRuns.{dispatch, advance, look, halt}
@@ -150,10 +151,6 @@ pub pulse_between : FailsBy but.Pulses (gauge_script 16) pulse_rows
 unfolding computing
 pulse_between = fails_by but.Pulses (gauge_script 16) pulse_rows (λ r. let pulse : false ≡ true = r.loopers.0.acts.1.1.1.0.2 in cc) refl
 
--- how many of what is asked of the looper's choreographer pass a test
-abbrev asked : Script → (FrameAsk → Bool) → Looper → ℕ
-asked s test b = count_by test (map (as_told true) (asked_of s 0 b))
-
 -- the run ends before the pulse, and of the gauge's two callbacks that of the traversal alone is posted
 abbrev short_entries : List Entry
 short_entries = gauge_start ++ advance 0 10 ∷ entry 2 1 (call.Halt 10) reply.Halted ∷ []
@@ -167,14 +164,14 @@ short_acts = dispatch 0 0 ∷ []
 abbrev short_rows : List Row
 short_rows = record (acting short_entries short_acts 0) { frames = short_frames } ∷ []
 
-few_asked : (b : Looper) → Lead (gauge_script 10) 0 short_entries short_frames (first_looper (gauge_script 10)) short_acts b → 1 ≡ asked (gauge_script 10) (λ x. true) b → ⊥
+few_asked : (b : Looper) → Lead (gauge_script 10) 0 short_entries short_frames (first_looper (gauge_script 10)) short_acts b → can_ask (asks_in short_frames) (asked_of (gauge_script 10) 0 b) ≡ true → ⊥
 unfolding after_act
-few_asked b (Some p, (comes, rest)) counts = let starts : false ≡ true = comes.starts in cc
-few_asked b (None, (comes, is)) counts =
-    let two : 1 ≡ 2 = subst (λ c. 1 ≡ asked (gauge_script 10) (λ x. true) c) (sym is) counts in
-    omega (arith, two)
+few_asked b (Some p, (comes, rest)) asks = let starts : false ≡ true = comes.starts in cc
+few_asked b (None, (comes, is)) asks =
+    let wrong : false ≡ true = subst (λ c. can_ask (asks_in short_frames) (asked_of (gauge_script 10) 0 c) ≡ true) (sym is) asks in
+    cc
 
 -- a gauge animates, and its callback is not posted
 pub posts_no_frame : FailsBy but.Asked (gauge_script 10) short_rows
 unfolding computing
-posts_no_frame = fails_by but.Asked (gauge_script 10) short_rows (λ r. few_asked r.loopers.0.final r.loopers.0.acts (r.loopers.0.asked (λ x. true))) refl
+posts_no_frame = fails_by but.Asked (gauge_script 10) short_rows (λ r. few_asked r.loopers.0.final r.loopers.0.acts (parted_can_ask (asks_in short_frames) (asked_of (gauge_script 10) 0 r.loopers.0.final) r.loopers.0.asked)) refl

@@ -8,7 +8,10 @@ use Rattle.loop_model.specs.declared.record.QueueRecord.{QueueRecord}
 use Rattle.loop_model.specs.Dispatches.{act_dispatch, call_dispatch}
 use Rattle.loop_model.proofs.Sorting.{AllByRecursion-weaker}
 use Rattle.frame_phases.specs.declared.entry.FrameRecord.{FrameRecord}
+use Rattle.frame_phases.specs.Frames.{lawful}
+use Rattle.frame_phases.specs.Pulses.{are_stamped}
 use Rattle.dash_script.specs.declared.script.Script.{Script}
+use Rattle.dash_script.specs.Causes.{phase_count}
 use Rattle.run_model.specs.declared.report.Report.{Report}
 use Rattle.run_model.specs.Histories.{history_of}
 use Rattle.run_model.specs.Asks.{AreFor, entries_by}
@@ -19,24 +22,24 @@ use Rattle.run_model.specs.Loopers.{Looper, first_looper}
 use Rattle.run_model.specs.Acts.{Lead, IsSent}
 use Rattle.run_model.specs.Moves.{Move, moves, move_times, main_moves, MayMoveTo}
 use Rattle.run_model.specs.FrameRuns.{are_run_then, are_whole}
-use Rattle.run_model.specs.FrameAsks.{as_told, asks_in, AreAsOften}
-use Rattle.run_model.specs.Run.{IsReportOf, AreRecordsOf, all_entries, ArePlannedOf, AreControlsOf, AreFramesOf, caused_on, asked_of, AreAskedInOrder, IsLooperRun, EachLooper, IsThreadOnTime, are_in_order, IsTimely, main_ends_halted, IsRun}
+use Rattle.run_model.specs.FrameAsks.{asks_in, AreAskedBy}
+use Rattle.run_model.specs.Run.{IsReportOf, AreRecordsOf, all_entries, ArePlannedOf, AreControlsOf, IsFrameRun, caused_on, asked_of, IsLooperRun, EachLooper, IsThreadOnTime, are_in_order, IsTimely, main_ends_halted, IsRun}
 
 -- a clause of the definition, left out or kept
 pub data Clause : Type 0 where
   -- no clause
   Nothing : Clause
-  -- what is asked of a choreographer stands in its record
+  -- what is asked of a choreographer is parted among those who ask
   Asked : Clause
-  -- each sender's in its order
-  AskOrder : Clause
+  -- each frame has the stamp of a pulse
+  Stamps : Clause
   -- frames are whole
   Whole : Clause
   -- frames start and take their phases at the times of their dispatches
   Moments : Clause
   -- the same, and their starts are as asked
   Starts : Clause
-  -- pulses come at multiples of the period
+  -- pulses come at multiples of the period, and the frames' stamps are theirs
   Pulses : Clause
   -- a looper's calls are on time
   OnTime : Clause
@@ -60,7 +63,7 @@ pub data Clause : Type 0 where
 abbrev pub number_of : Clause → ℕ
 number_of Nothing = 0
 number_of Asked = 1
-number_of AskOrder = 2
+number_of Stamps = 2
 number_of Whole = 3
 number_of Moments = 4
 number_of Starts = 5
@@ -92,11 +95,17 @@ pub record IsLooperRunBut (out : Clause) (s : Script) (queues : List QueueRecord
   pub dispatches : Unless out Takes (filter_map act_dispatch j.acts ≡ filter_map (λ e. call_dispatch e.call e.reply) (entries_by (looper_sender s q.looper) (history_of q)))
   pub disposed_at : ℕ
   pub calls : Unless out Takes (AllByRecursion (λ (r : QueueRecord). AreFor IsSent [] (caused_on r.looper final q.looper disposed_at) (entries_by (looper_sender s q.looper) (history_of r))) queues)
-  pub asked : Unless out Asked (Unless out Starts (AreAsOften (map (as_told true) (asks_in f.entries)) (map (as_told true) (asked_of s q.looper final))))
-  pub order : Unless out AskOrder (Unless out Asked (Unless out Starts (AreAskedInOrder true s q.looper final (asks_in f.entries))))
+  pub asked : Unless out Asked (Unless out Starts (AreAskedBy true (asks_in f.entries) (asked_of s q.looper final)))
   pub whole : Unless out Whole (are_whole f.phases f.entries final.frames ≡ true)
   pub on_time : Unless out OnTime (Unless out Takes (AllByRecursion (λ (r : QueueRecord). are_on_time (map (λ x. x.timing) (caused_on r.looper final q.looper disposed_at)) (befores (looper_sender s q.looper) (history_of r)) ≡ true) queues))
   pub moments : Unless out Moments (Unless out Starts (are_run_then f.entries final.frames ≡ true))
+
+-- a choreographer's record, but for the clause that is left out
+pub record IsFrameRunBut (out : Clause) (s : Script) (f : FrameRecord) : Type 0 where
+  pub interval : f.interval ≡ s.period
+  pub phases : f.phases ≡ phase_count s.edition
+  pub lawful : lawful f.interval f.phases f.entries ≡ true
+  pub stamps : Unless out Stamps (Unless out Pulses (are_stamped f.interval f.entries ≡ true))
 
 -- a timely history, but for the clause that is left out
 pub record IsTimelyBut (out : Clause) (s : Script) (r : QueueRecord) : Type 0 where
@@ -116,7 +125,7 @@ pub record IsRunBut (out : Clause) (s : Script) (r : Report) : Type 0 where
   pub records : AreRecordsOf in_lockstep all_entries s r
   pub planned : ArePlannedOf in_lockstep s r
   pub controls : AreControlsOf s r
-  pub frames : AreFramesOf s r
+  pub frames : AllByRecursion (IsFrameRunBut out s) r.frames
   pub loopers : EachLooper (IsLooperRunBut out s r.queues) r.queues r.journals r.frames
   pub halted : main_ends_halted r.queues ≡ true
   pub histories : AllByRecursion (IsTimelyBut out s) r.queues
@@ -138,7 +147,7 @@ is_run s r h = record {
   records = h.records;
   planned = h.planned;
   controls = h.controls;
-  frames = h.frames;
+  frames = AllByRecursion-weaker (IsFrameRunBut Nothing s) (IsFrameRun s) (λ f x. record { interval = x.interval; phases = x.phases; lawful = x.lawful; stamps = x.stamps }) r.frames h.frames;
   loopers = each_looper (IsLooperRunBut Nothing s r.queues) (IsLooperRun in_lockstep s r.queues) (λ q j f x. record {
     final = x.final;
     acts = x.acts;
@@ -147,7 +156,6 @@ is_run s r h = record {
     disposed_at = x.disposed_at;
     calls = x.calls;
     asked = x.asked;
-    order = x.order;
     whole = x.whole;
     on_time = x.on_time;
     moments = x.moments;

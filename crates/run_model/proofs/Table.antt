@@ -1,14 +1,11 @@
 -- Reports as data: a report in lockstep is a run, or one but for a clause, where one equation computes.
-use Rattle.std.proofs.Common.{◌≡◌, ◌<◌, ℕ, zero, suc, Bool, true, false, List, [], ◌∷◌, ◌++◌, Option, Some, None, refl, sym, ap, ◌∙◌, subst, inl, inr, arith}
-use Rattle.std.specs.Prelude.{codes, ◌+◌, ◌*◌, ◌/◌, ◌==◌, ◌&&◌, ◌||◌, not, is_some, map, drop, length, count_by, cond, MatchBool, if◌then◌else◌}
+use Rattle.std.proofs.Common.{◌≡◌, ◌<◌, ℕ, zero, suc, Bool, true, false, List, [], ◌∷◌, ◌++◌, Option, Some, None, refl, sym, ap, inl, inr}
+use Rattle.std.specs.Prelude.{codes, ◌+◌, ◌*◌, ◌/◌, ◌==◌, ◌&&◌, ◌||◌, not, is_some, map, drop, length, MatchBool, if◌then◌else◌}
 use Rattle.std.specs.Fmt.{digits}
 use Rattle.std.specs.List.{AllByRecursion, filter_map, list_all, list_any, range_with_len, enumerate_from}
-use Rattle.std.specs.Option.{option_map, option_map_or, MatchOption}
-use Rattle.std.proofs.lemmas.Bool.{cases_Bool, and_parts, or_cases, eqb-true}
-use Rattle.std.proofs.lemmas.Option.{same_Some, none-some}
-use Rattle.std.proofs.lemmas.List.Sums.{sum_by-cons}
-use mathlib.Core.List.{IsPrefix, Sublist, nil-sublist}
-use mathlib.Core.List.Sublist
+use Rattle.std.specs.Option.{option_map_or, MatchOption}
+use Rattle.std.proofs.lemmas.Bool.{and_parts, or_cases, eqb-true}
+use mathlib.Core.List.{IsPrefix}
 use Rattle.loop_model.specs.declared.call.Call.{Call}
 use Rattle.loop_model.specs.declared.call.Call.TheVariants.{Halt}
 use Rattle.loop_model.specs.declared.reply.Reply.{Reply}
@@ -27,6 +24,7 @@ use Rattle.loop_model.specs.Fates.{fates}
 use Rattle.loop_model.specs.Dispatches.{act_dispatch, call_dispatch}
 use Rattle.frame_phases.specs.declared.entry.FrameEntry.{FrameEntry}
 use Rattle.frame_phases.specs.declared.entry.FrameRecord.{FrameRecord}
+use Rattle.frame_phases.specs.Pulses.{are_stamped}
 use Rattle.frame_phases.specs.Frames.{lawful, is_pulse, all_allowed, is_allowed, owed, next_phase, last_time, in_due_order, before_later, live as live_callbacks, posted_count}
 use Rattle.dash_script.specs.declared.script.Block.{Block}
 use Rattle.dash_script.specs.declared.script.Script.{Script}
@@ -42,13 +40,14 @@ use Rattle.run_model.specs.Loopers.{Looper, Sent, first_looper, starts_frame}
 use Rattle.run_model.specs.Acts.{Lead, IsSent, MayCome, after_act, dispatched, millis_up}
 use Rattle.run_model.specs.Moves.{Move, moves, move_times, main_moves, is_planned_time, was_due_at, MayMoveTo}
 use Rattle.run_model.specs.FrameRuns.{is_frame_from, are_run_then, are_whole}
-use Rattle.run_model.specs.FrameAsks.{FrameAsk, Posts, Removes, Runs, as_told, asks_in, asks_to_run, lines_ask, AreToldInOrder}
-use Rattle.run_model.specs.Run.{IsRun, IsRecordOf, IsAsPlanned, IsControlled, IsFrameRun, EachLooper, all_entries, setting_of, caused_on, asked_of, AreAskedInOrder, are_in_order, main_ends_halted}
+use Rattle.run_model.specs.FrameAsks.{asks_in}
+use Rattle.run_model.specs.Run.{IsRun, IsRecordOf, IsAsPlanned, IsControlled, EachLooper, all_entries, setting_of, caused_on, asked_of, are_in_order, main_ends_halted}
 use Rattle.run_model.specs.Text.{text, lines}
 use Rattle.run_model.proofs.Below.{EachBelow, each_below}
+use Rattle.run_model.proofs.Parting.{can_ask, asks_are_parted}
 use Rattle.run_model.proofs.ByTests.{answers, replies, are_timely, are_numbered, history_by, planned_calls, made_calls, thread_lines, MakesThem, calls_by}
 use Rattle.run_model.proofs.Examples.{queue, journal, page, handler_on, plain_script}
-use Rattle.run_model.proofs.RunBut.{Clause, Nothing, Asked, AskOrder, Whole, Moments, Starts, OnTime, Takes, Controls, BeforeQuit, Threads, Order, Blocks, Due, Together, number_of, Unless, with_pulses, IsLooperRunBut, IsTimelyBut, AreMovedBut, IsRunBut}
+use Rattle.run_model.proofs.RunBut.{Clause, Nothing, Asked, Stamps, Whole, Moments, Starts, Pulses, OnTime, Takes, Controls, BeforeQuit, Threads, Order, Blocks, Due, Together, number_of, Unless, with_pulses, IsFrameRunBut, IsLooperRunBut, IsTimelyBut, AreMovedBut, IsRunBut}
 use Rattle.run_model.proofs.RunBut as but
 
 -- ---- a report as data
@@ -269,157 +268,6 @@ sent_by_table tokens (x ∷ xs) (e ∷ es) same =
     let rest = others one (plain_entry e) (entries_for (tokens ++ token_in e.reply) xs es) (map plain_entry es) same in
     (record { call = sym (ap call_in first); reply = told_so x.reply e.reply (ap (reply_in e.reply) first) }, sent_by_table (tokens ++ token_in e.reply) xs es rest)
 
--- ---- what is asked of a choreographer
-
-abbrev pub same_token : Option ℕ → Option ℕ → Bool
-same_token None None = true
-same_token None (Some n) = false
-same_token (Some n) None = false
-same_token (Some n) (Some m) = n == m
-
-abbrev pub same_ask : FrameAsk → FrameAsk → Bool
-same_ask (Posts p d i t) (Posts q e j u) = p == q && d == e && i == j && same_token t u
-same_ask (Posts p d i t) (Removes q j u) = false
-same_ask (Posts p d i t) (Runs n) = false
-same_ask (Removes p i t) (Posts q e j u) = false
-same_ask (Removes p i t) (Removes q j u) = p == q && i == j && same_token t u
-same_ask (Removes p i t) (Runs n) = false
-same_ask (Runs n) (Posts q e j u) = false
-same_ask (Runs n) (Removes q j u) = false
-same_ask (Runs n) (Runs m) = n == m
-
-token_same : (t u : Option ℕ) → same_token t u ≡ true → t ≡ u
-token_same None None h = refl
-token_same None (Some n) h = cc
-token_same (Some n) None h = cc
-token_same (Some n) (Some m) h = ap (λ (k : ℕ). Some k) (eqb-true n m h)
-
-ask_same : (a b : FrameAsk) → same_ask a b ≡ true → a ≡ b
-ask_same (Posts p d i t) (Posts q e j u) h =
-    let three = and_parts (p == q && d == e && i == j) (same_token t u) h in
-    let two = and_parts (p == q && d == e) (i == j) three.0 in
-    let one = and_parts (p == q) (d == e) two.0 in
-    λ k. Posts (eqb-true p q one.0 k) (eqb-true d e one.1 k) (eqb-true i j two.1 k) (token_same t u three.1 k)
-ask_same (Posts p d i t) (Removes q j u) h = cc
-ask_same (Posts p d i t) (Runs n) h = cc
-ask_same (Removes p i t) (Posts q e j u) h = cc
-ask_same (Removes p i t) (Removes q j u) h =
-    let two = and_parts (p == q && i == j) (same_token t u) h in
-    let one = and_parts (p == q) (i == j) two.0 in
-    λ k. Removes (eqb-true p q one.0 k) (eqb-true i j one.1 k) (token_same t u two.1 k)
-ask_same (Removes p i t) (Runs n) h = cc
-ask_same (Runs n) (Posts q e j u) h = cc
-ask_same (Runs n) (Removes q j u) h = cc
-ask_same (Runs n) (Runs m) h = ap Runs (eqb-true n m h)
-
--- these without the first that is equal to it, where one is
-abbrev pub without : FrameAsk → List FrameAsk → Option (List FrameAsk)
-without a [] = None
-without a (b ∷ bs) = if same_ask a b then Some bs else option_map (λ rest. b ∷ rest) (without a bs)
-
--- each stands in the one list as often as in the other
-abbrev pub same_asks : List FrameAsk → List FrameAsk → Bool
-same_asks [] [] = true
-same_asks [] (b ∷ bs) = false
-same_asks (a ∷ xs) bs = option_map_or (same_asks xs) (without a bs) false
-
-counted : (test : FrameAsk → Bool) (a : FrameAsk) (xs : List FrameAsk) → count_by test (a ∷ xs) ≡ cond (test a) 1 0 + count_by test xs
-counted test a xs = sum_by-cons (λ x. cond (test x) 1 0) a xs
-
-taken_later : (test : FrameAsk → Bool) (a b : FrameAsk) (bs rest : List FrameAsk) (o : Option (List FrameAsk))
-    → ((more : List FrameAsk) → o ≡ Some more → count_by test bs ≡ cond (test a) 1 0 + count_by test more) → option_map (λ more. b ∷ more) o ≡ Some rest
-    → count_by test (b ∷ bs) ≡ cond (test a) 1 0 + count_by test rest
-taken_later test a b bs rest None each h = absurd (none-some rest h)
-taken_later test a b bs rest (Some more) each h =
-    let first = counted test b bs in
-    let second = each more refl in
-    let third = counted test b more in
-    let whole : count_by test (b ∷ bs) ≡ cond (test a) 1 0 + count_by test (b ∷ more) = omega (arith, first, second, third) in
-    whole ∙ ap (λ ys. cond (test a) 1 0 + count_by test ys) (same_Some (b ∷ more) rest h)
-
-taken_out : (test : FrameAsk → Bool) (a : FrameAsk) (bs rest : List FrameAsk) → without a bs ≡ Some rest → count_by test bs ≡ cond (test a) 1 0 + count_by test rest
-taken_out test a [] rest e = absurd (none-some rest e)
-taken_out test a (b ∷ bs) rest e =
-    elim (cases_Bool (same_ask a b)) [
-      | inl same ↦
-          let are : bs ≡ rest = same_Some bs rest (rw same at e) in
-          counted test b bs ∙ ap (λ x. cond (test x) 1 0 + count_by test bs) (sym (ask_same a b same)) ∙ ap (λ ys. cond (test a) 1 0 + count_by test ys) are
-      | inr other ↦ taken_later test a b bs rest (without a bs) (λ more is. taken_out test a bs more is) (rw other at e)
-    ]
-
-as_often_later : (test : FrameAsk → Bool) (a : FrameAsk) (xs bs : List FrameAsk) (o : Option (List FrameAsk)) → without a bs ≡ o
-    → ((rest : List FrameAsk) → same_asks xs rest ≡ true → count_by test xs ≡ count_by test rest) → option_map_or (same_asks xs) o false ≡ true → count_by test (a ∷ xs) ≡ count_by test bs
-as_often_later test a xs bs None is each same = cc
-as_often_later test a xs bs (Some rest) is each same = counted test a xs ∙ ap (λ n. cond (test a) 1 0 + n) (each rest same) ∙ sym (taken_out test a bs rest is)
-
-pub as_often : (test : FrameAsk → Bool) (xs bs : List FrameAsk) → same_asks xs bs ≡ true → count_by test xs ≡ count_by test bs
-as_often test [] [] h = refl
-as_often test [] (b ∷ bs) h = cc
-as_often test (a ∷ xs) bs h = as_often_later test a xs bs (without a bs) refl (λ rest same. as_often test xs rest same) h
-
--- these without their first, where it is equal to it
-abbrev behind_ask : FrameAsk → List FrameAsk → List FrameAsk
-behind_ask b [] = []
-behind_ask b (a ∷ xs) = if same_ask a b then xs else a ∷ xs
-
--- what is still to come of the one list once the other has come by
-abbrev left_by : List FrameAsk → List FrameAsk → List FrameAsk
-left_by xs [] = xs
-left_by xs (b ∷ bs) = left_by (behind_ask b xs) bs
-
-abbrev is_none_left : List FrameAsk → Bool
-is_none_left [] = true
-is_none_left (a ∷ xs) = false
-
-none_left : (xs : List FrameAsk) → is_none_left xs ≡ true → xs ≡ []
-none_left [] h = refl
-none_left (a ∷ xs) h = cc
-
-stands_behind : (b : FrameAsk) (xs bs : List FrameAsk) → Sublist (behind_ask b xs) bs → Sublist xs (b ∷ bs)
-stands_behind b [] bs rest = nil-sublist (b ∷ bs)
-stands_behind b (a ∷ xs) bs rest = by_case (same_ask a b) refl rest
-  where
-    by_case : (t : Bool) → same_ask a b ≡ t → Sublist (if t then xs else a ∷ xs) bs → Sublist (a ∷ xs) (b ∷ bs)
-    by_case true same rest' = subst (λ (c : FrameAsk). Sublist (a ∷ xs) (c ∷ bs)) (ask_same a b same) (Sublist.cons-cons a rest')
-    by_case false other rest' = Sublist.cons b rest'
-
-stands_by : (xs bs : List FrameAsk) → left_by xs bs ≡ [] → Sublist xs bs
-stands_by xs [] is = subst (λ (l : List FrameAsk). Sublist l []) (sym is) (nil-sublist [])
-stands_by xs (b ∷ bs) is = stands_behind b xs bs (stands_by (behind_ask b xs) bs is)
-
--- the one list stands in the other in its order
-abbrev stands : List FrameAsk → List FrameAsk → Bool
-stands asks xs = is_none_left (left_by (map (as_told true) xs) (map (as_told true) asks))
-
-stand_in_order : (asks xs : List FrameAsk) → stands asks xs ≡ true → AreToldInOrder true xs asks
-stand_in_order asks xs h = stands_by (map (as_told true) xs) (map (as_told true) asks) (none_left (left_by (map (as_told true) xs) (map (as_told true) asks)) h)
-
--- what each sender asks for
-abbrev by_each : Script → ℕ → Looper → List (List FrameAsk)
-by_each s n final = final.posted ∷ asks_to_run final.frames ∷ down_from s.threads (λ thread. lines_ask n (lines_of thread s.blocks))
-
-abbrev keeps_order : Script → ℕ → Looper → List FrameAsk → Bool
-keeps_order s n final asks = list_all (stands asks) (by_each s n final)
-
-all_down : (n : ℕ) (f : ℕ → List FrameAsk) (t : List FrameAsk → Bool) → list_all t (down_from n f) ≡ true → (k : ℕ) → k < n → t (f k) ≡ true
-all_down n f t h = each_below n (λ k. t (f k) ≡ true) (go n h)
-  where
-    go : (m : ℕ) → list_all t (down_from m f) ≡ true → EachBelow m (λ k. t (f k) ≡ true)
-    go zero all = tt
-    go (suc m) all = let p = and_parts (t (f m)) (list_all t (down_from m f)) all in (go m p.1, p.0)
-
-keep_order : (s : Script) (n : ℕ) (final : Looper) (asks : List FrameAsk) → keeps_order s n final asks ≡ true → AreAskedInOrder true s n final asks
-keep_order s n final asks h =
-    let of_thread : ℕ → List FrameAsk = λ thread. lines_ask n (lines_of thread s.blocks) in
-    let by_threads = down_from s.threads of_thread in
-    let one = and_parts (stands asks final.posted) (stands asks (asks_to_run final.frames) && list_all (stands asks) by_threads) h in
-    let two = and_parts (stands asks (asks_to_run final.frames)) (list_all (stands asks) by_threads) one.1 in
-    record {
-      threads = λ thread lt. stand_in_order asks (of_thread thread) (all_down s.threads of_thread (stands asks) two.1 thread lt);
-      posted = stand_in_order asks final.posted one.0;
-      ran = stand_in_order asks (asks_to_run final.frames) two.0;
-    }
-
 -- ---- one looper
 
 abbrev pub has_called_then : Script → QueueRecord → ℕ → Bool
@@ -438,8 +286,8 @@ pub record LooperTest : Type 0 where
   pub left : List Act
   pub dispatches : List (ℕ × ℕ)
   pub calls : List (List (Option Entry))
+  pub stamps : Bool
   pub asked : Bool
-  pub order : Bool
   pub whole : Bool
   pub on_time : Bool
   pub moments : Bool
@@ -475,8 +323,8 @@ found_in out s queues n row =
       left = final.painted;
       dispatches = kept out Takes (filter_map act_dispatch row.acts);
       calls = kept out Takes (map (λ r. entries_for [] (caused_by out s n row r) (entries_there s n r)) queues);
-      asked = unless out Asked (unless out Starts (same_asks (map (as_told true) (asks_in row.frames)) (map (as_told true) (asked_of s n final))));
-      order = unless out AskOrder (unless out Asked (unless out Starts (keeps_order s n final (asks_in row.frames))));
+      stamps = unless out Stamps (unless out Pulses (are_stamped s.period row.frames));
+      asked = unless out Asked (unless out Starts (can_ask (asks_in row.frames) (asked_of s n final)));
       whole = unless out Whole (are_whole (phase_count s.edition) row.frames final.frames);
       on_time = unless out OnTime (unless out Takes (list_all (λ r. are_on_time (map (λ x. x.timing) (caused_by out s n row r)) (befores (looper_sender s n) (history_of r))) queues));
       moments = unless out Moments (unless out Starts (are_run_then row.frames final.frames));
@@ -502,8 +350,8 @@ wanted_in out s queues n row =
       left = [];
       dispatches = kept out Takes (filter_map (λ e. call_dispatch e.call e.reply) (entries_there s n (queue_in s n row)));
       calls = kept out Takes (map (λ r. map plain_entry (entries_there s n r)) queues);
+      stamps = true;
       asked = true;
-      order = true;
       whole = true;
       on_time = true;
       moments = true;
@@ -518,7 +366,7 @@ record IsLooperOf (out : Clause) (s : Script) (queues : List QueueRecord) (n : �
   history : IsRecordOf in_lockstep all_entries s (queue_in s n row)
   planned : IsAsPlanned in_lockstep s (queue_in s n row)
   controlled : IsControlled s (queue_in s n row)
-  frames : IsFrameRun s (frames_in s n row)
+  frames : IsFrameRunBut out s (frames_in s n row)
   looper : IsLooperRunBut out s queues (queue_in s n row) (journal n row.acts) (frames_in s n row)
   timely : IsTimelyBut out s (queue_in s n row)
 
@@ -538,7 +386,12 @@ looper_of out s queues n row e =
       history = history_by s q refl refl refl (refl, tt) (ap (λ (t : LooperTest). t.replies) e) (ap (λ (t : LooperTest). t.timely) e) (ap (λ (t : LooperTest). t.numbered) e);
       planned = all_planned s q (down_same s.threads (λ thread. planned_calls s (labels_on n (lines_of thread s.blocks)) n [] (thread_lines s n thread) (entries_by thread es)) (λ thread. made_calls (entries_by thread es)) (ap (λ (t : LooperTest). t.planned) e));
       controlled = ap (λ (t : LooperTest). t.controlled) e;
-      frames = record { interval = refl; phases = refl; lawful = ap (λ (t : LooperTest). t.lawful) e };
+      frames = record {
+        interval = refl;
+        phases = refl;
+        lawful = ap (λ (t : LooperTest). t.lawful) e;
+        stamps = both_left (number_of out == number_of Stamps) (number_of out == number_of Pulses) _ _ (λ h. h) (ap (λ (t : LooperTest). t.stamps) e);
+      };
       looper = record {
         final = final;
         acts = leads (with_pulses out s) n es row.frames row.places (first_looper s) row.acts (ap (λ (t : LooperTest). t.acts) e) (ap (λ (t : LooperTest). t.painted) e);
@@ -549,9 +402,7 @@ looper_of out s queues n row e =
             (λ same. all_same (λ (r : QueueRecord). AreFor IsSent [] (caused_by out s n row r) (entries_there s n r)) (λ r. entries_for [] (caused_by out s n row r) (entries_there s n r)) (λ r. map plain_entry (entries_there s n r))
             (λ r one. sent_by_table [] (caused_by out s n row r) (entries_there s n r) one) queues same) (ap (λ (t : LooperTest). t.calls) e);
         asked = both_left (number_of out == number_of Asked) (number_of out == number_of Starts) _ _
-            (λ h test. as_often test (map (as_told true) (asks_in row.frames)) (map (as_told true) (asked_of s n final)) h) (ap (λ (t : LooperTest). t.asked) e);
-        order = unless_true (number_of out == number_of AskOrder) (unless out Asked (unless out Starts (keeps_order s n final (asks_in row.frames)))) _ (both_left (number_of out == number_of Asked) (number_of out == number_of Starts) (keeps_order s n final (asks_in row.frames)) _ (keep_order s n final (asks_in row.frames)))
-            (ap (λ (t : LooperTest). t.order) e);
+            (λ h. asks_are_parted (asks_in row.frames) (asked_of s n final) h) (ap (λ (t : LooperTest). t.asked) e);
         whole = unless_true (number_of out == number_of Whole) _ _ (λ h. h) (ap (λ (t : LooperTest). t.whole) e);
         on_time = both_left (number_of out == number_of OnTime) (number_of out == number_of Takes) _ _
             (λ h. all_by (λ (r : QueueRecord). are_on_time (map (λ x. x.timing) (caused_by out s n row r)) (befores (looper_sender s n) (history_of r)) ≡ true)
@@ -676,7 +527,7 @@ run_but_by out s rows e =
       records = record { mode = refl; start = refl; histories = of_queues P s (IsRecordOf in_lockstep all_entries s) (λ n row l. l.history) 0 rows each };
       planned = of_queues P s (IsAsPlanned in_lockstep s) (λ n row l. l.planned) 0 rows each;
       controls = of_queues P s (IsControlled s) (λ n row l. l.controlled) 0 rows each;
-      frames = of_frames P s (IsFrameRun s) (λ n row l. l.frames) 0 rows each;
+      frames = of_frames P s (IsFrameRunBut out s) (λ n row l. l.frames) 0 rows each;
       loopers = of_loopers P s (IsLooperRunBut out s queues) (λ n row l. l.looper) 0 rows each;
       halted = ap (λ (t : Test). t.halted) e;
       histories = of_queues P s (IsTimelyBut out s) (λ n row l. l.timely) 0 rows each;

@@ -1,13 +1,12 @@
 -- What the senders of a run ask of a choreographer: frame callbacks to be posted and to be removed, and frames to be run.
-use Rattle.std.specs.Prelude.{◌≡◌, ℕ, ◌==◌, Bool, List, Option, Some, None, count_by, map, if◌then◌else◌}
-use Rattle.std.specs.List.{filter_map, flat_map, range_with_len}
-use mathlib.Core.List.{Sublist}
+use Rattle.std.specs.Prelude.{ℕ, ◌==◌, Bool, List, Option, Some, None, map, if◌then◌else◌}
+use Rattle.std.specs.List.{filter_map}
 use Rattle.frame_phases.specs.declared.entry.FrameEntry.{FrameEntry}
 use Rattle.frame_phases.specs.declared.entry.FrameEntry.TheVariants.{Posted, Removed, Begin}
+use Rattle.frame_phases.specs.Parting.{AreParted}
 use Rattle.dash_script.specs.declared.script.Command.{Command}
 use Rattle.dash_script.specs.declared.script.Command.TheVariants.{Frame, Unframe}
-use Rattle.dash_script.specs.declared.script.Script.{Script}
-use Rattle.run_model.specs.Planned.{Timed, lines_of, frame_due}
+use Rattle.run_model.specs.Planned.{Timed, frame_due}
 use Rattle.run_model.specs.FrameRuns.{FrameAt, nanos_of}
 
 pub data FrameAsk : Type 0 where
@@ -42,10 +41,6 @@ line_asks looper l = of_command l.command
 abbrev pub lines_ask : ℕ → List Timed → List FrameAsk
 lines_ask looper ls = filter_map (line_asks looper) ls
 
--- all threads' lines
-abbrev pub all_lines : Script → List Timed
-all_lines s = flat_map (λ thread. lines_of thread s.blocks) (range_with_len 0 s.threads)
-
 -- what these frames are asked for by, in order: each is to start at the time of its dispatch
 abbrev pub asks_to_run : List FrameAt → List FrameAsk
 asks_to_run xs = map (λ x. Runs (nanos_of x.now)) xs
@@ -56,10 +51,6 @@ as_told lockstep (Posts phase due id token) = Posts phase (if lockstep then due 
 as_told lockstep (Removes phase id token) = Removes phase id token
 as_told lockstep (Runs start) = Runs (if lockstep then start else 0)
 
--- each stands in the one list as often as in the other
-abbrev pub AreAsOften : {X : Type 0} → List X → List X → Type 0
-AreAsOften {X} xs ys = (test : X → Bool) → count_by test xs ≡ count_by test ys
-
--- what is told of the one list stands in what is told of the other in its order: it is that with others left out
-abbrev pub AreToldInOrder : Bool → List FrameAsk → List FrameAsk → Type 0
-AreToldInOrder lockstep xs ys = Sublist (map (as_told lockstep) xs) (map (as_told lockstep) ys)
+-- each of the asks is one sender's, and each sender asks for its own in this order: as told they are parted among the senders
+abbrev pub AreAskedBy : Bool → List FrameAsk → List (List FrameAsk) → Type 0
+AreAskedBy lockstep asks by_sender = AreParted (map (as_told lockstep) asks) (map (map (as_told lockstep)) by_sender)

@@ -10,6 +10,7 @@ use Rattle.loop_model.specs.Chain.{IsChainFrom}
 use Rattle.loop_model.specs.Dispatches.{act_dispatch, call_dispatch}
 use Rattle.frame_phases.specs.declared.entry.FrameRecord.{FrameRecord}
 use Rattle.frame_phases.specs.Frames.{lawful}
+use Rattle.frame_phases.specs.Pulses.{are_stamped}
 use Rattle.dash_script.specs.declared.script.Script.{Script}
 use Rattle.dash_script.specs.Causes.{phase_count}
 use Rattle.loop_model.specs.declared.journal.Journal.{Journal}
@@ -25,7 +26,7 @@ use Rattle.run_model.specs.Loopers.{Looper, Sent, first_looper}
 use Rattle.run_model.specs.Acts.{Lead, sent_on, closing, IsSent}
 use Rattle.run_model.specs.Moves.{moves, AreMovedTogether}
 use Rattle.run_model.specs.FrameRuns.{are_run_then, are_whole}
-use Rattle.run_model.specs.FrameAsks.{FrameAsk, as_told, asks_in, asks_to_run, lines_ask, all_lines, AreAsOften, AreToldInOrder}
+use Rattle.run_model.specs.FrameAsks.{FrameAsk, asks_in, asks_to_run, lines_ask, AreAskedBy}
 
 abbrev pub setting_of : QueueRecord → Setting
 setting_of r = record { main = r.main; lockstep = r.lockstep; senders = r.senders }
@@ -75,11 +76,12 @@ AreControlsOf s r = AllByRecursion (IsControlled s) r.queues
 abbrev pub all_entries : Entry → Bool
 all_entries e = true
 
--- a choreographer's record has the script's period and phases, and is lawful
+-- a choreographer's record has the script's period and phases, and is lawful, and each of its frames has the stamp of a pulse, or 0
 pub record IsFrameRun (s : Script) (f : FrameRecord) : Type 0 where
   pub interval : f.interval ≡ s.period
   pub phases : f.phases ≡ phase_count s.edition
   pub lawful : lawful f.interval f.phases f.entries ≡ true
+  pub stamps : are_stamped f.interval f.entries ≡ true
 
 -- part 4 of a run: the choreographers' records
 abbrev pub AreFramesOf : Script → Report → Type 0
@@ -89,21 +91,14 @@ AreFramesOf s r = AllByRecursion (IsFrameRun s) r.frames
 abbrev pub caused_on : ℕ → Looper → ℕ → ℕ → List Sent
 caused_on queue final looper disposed_at = sent_on queue (final.sent ++ closing looper disposed_at)
 
--- all that is asked of a looper's choreographer: by the threads' lines, and by the looper's acts, whose dispatches run its frames
-abbrev pub asked_of : Script → ℕ → Looper → List FrameAsk
-asked_of s q final = lines_ask q (all_lines s) ++ final.posted ++ asks_to_run final.frames
+-- what each asks of a looper's choreographer: each thread by its lines, and the looper by the frames that its dispatches run and by what its acts post
+abbrev pub asked_of : Script → ℕ → Looper → List (List FrameAsk)
+asked_of s q final =
+    map (λ thread. lines_ask q (lines_of thread s.blocks)) (range_with_len 0 s.threads) ++ asks_to_run final.frames ∷ final.posted ∷ []
 
--- what each sender asks of a looper's choreographer stands in its order among all that it was asked for: each thread's by its lines, what the looper's acts
--- post, and the frames that its dispatches run
-pub record AreAskedInOrder (lockstep : Bool) (s : Script) (q : ℕ) (final : Looper) (asks : List FrameAsk) : Type 0 where
-  pub threads : (thread : ℕ) → thread < s.threads → AreToldInOrder lockstep (lines_ask q (lines_of thread s.blocks)) asks
-  pub posted : AreToldInOrder lockstep final.posted asks
-  pub ran : AreToldInOrder lockstep (asks_to_run final.frames) asks
-
--- a looper's calls on each queue are those that its acts cause, its frame record has the posts, removals and frames that are asked
--- for, each as often and each sender's in its order, and the frames are whole, and its Dispatch acts are, one for one and in order, its entries answered
--- Dispatched. All that was painted is
--- told. In lockstep each call is on time, and each frame starts and takes its phases at the time of its dispatch
+-- a looper's calls on each queue are those that its acts cause, the posts, removals and frames of its frame record are parted among those who ask for
+-- them, the frames are whole, and its Dispatch acts are, one for one and in order, its entries answered Dispatched. All that was painted is told. In lockstep
+-- each call is on time, and each frame starts and takes its phases at the time of its dispatch
 pub record IsLooperRun (m : Mode) (s : Script) (queues : List QueueRecord) (q : QueueRecord) (j : Journal) (f : FrameRecord) : Type 0 where
   pub final : Looper
   pub acts : Lead s q.looper (history_of q) f.entries (first_looper s) j.acts final
@@ -112,8 +107,7 @@ pub record IsLooperRun (m : Mode) (s : Script) (queues : List QueueRecord) (q : 
   pub disposed_at : ℕ
   pub calls : AllByRecursion (λ (r : QueueRecord).
       AreFor IsSent [] (caused_on r.looper final q.looper disposed_at) (entries_by (looper_sender s q.looper) (history_of r))) queues
-  pub asked : AreAsOften (map (as_told m.lockstep) (asks_in f.entries)) (map (as_told m.lockstep) (asked_of s q.looper final))
-  pub order : AreAskedInOrder m.lockstep s q.looper final (asks_in f.entries)
+  pub asked : AreAskedBy m.lockstep (asks_in f.entries) (asked_of s q.looper final)
   pub whole : are_whole f.phases f.entries final.frames ≡ true
   pub on_time : IfLockstep m (AllByRecursion (λ (r : QueueRecord).
       are_on_time (map (λ x. x.timing) (caused_on r.looper final q.looper disposed_at)) (befores (looper_sender s q.looper) (history_of r)) ≡ true) queues)

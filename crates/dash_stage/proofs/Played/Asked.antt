@@ -1,75 +1,98 @@
--- What a frame record was asked for, counted and in order: what the threads' lines and the looper's acts ask for.
-use Rattle.std.proofs.Common.{◌≡◌, ◌<◌, ◌+◌, ◌-◌, ℕ, zero, suc, Bool, false, List, [], ◌∷◌, ◌++◌, Option, Some, None, map, length, refl, sym, ap, ◌∙◌, subst, arith, slice_index_or, cond}
-use Rattle.std.specs.Prelude.{count_by}
-use Rattle.std.specs.List.{cons_option, filter_map, flat_map, range_with_len}
-use Rattle.std.specs.Option.{option_map_or}
-use Rattle.std.proofs.Math.ListN.{get_or-append}
-use Rattle.std.proofs.lemmas.List.{get_or-append_right, length-append}
-use Rattle.std.proofs.lemmas.List.Elements.{filter_map-append}
-use Rattle.std.proofs.lemmas.List.FromFn.{get_or-map-range_with_len, length-map-range_with_len}
-use mathlib.Core.List.{Sublist}
-use Rattle.loop_model.specs.Lists.{total}
-use Rattle.loop_model.proofs.Sums.{total-append}
+-- What a frame record was asked for is parted among those who ask: the threads by their lines, and the looper by its frames and its acts.
+use Rattle.std.proofs.Common.{◌≡◌, ◌<◌, ◌+◌, ◌==◌, ℕ, zero, suc, Bool, true, false, List, [], ◌∷◌, ◌++◌, Option, Some, None, map, refl, sym, ap, ◌∙◌, arith, slice_index_or, append_assoc}
+use Rattle.std.specs.Prelude.{if◌then◌else◌}
+use Rattle.std.specs.List.{cons_option, filter_map, range_with_len}
+use Rattle.std.specs.Option.{option_map}
+use mathlib.Core.List.{map-append}
 use Rattle.frame_phases.specs.declared.entry.FrameEntry.{FrameEntry}
+use Rattle.frame_phases.specs.Parting.{dealt_to, AreParted}
 use Rattle.dash_script.specs.declared.script.Script.{Script}
 use Rattle.choreographer.specs.Known.{Known as Pass}
-use Rattle.choreographer.specs.Ends.{AreTheirs, recorded_by, StandInOrder}
-use Rattle.choreographer.proofs.Counting.{count_both}
-use Rattle.choreographer.proofs.InOrder.{mapped_stands, given_stands}
+use Rattle.choreographer.specs.Ends.{AreTheirs, own_of}
 use Rattle.run_model.specs.Planned.{lines_of}
 use Rattle.run_model.specs.Loopers.{Looper}
-use Rattle.run_model.specs.FrameRuns.{FrameAt, nanos_of}
-use Rattle.run_model.specs.FrameAsks.{FrameAsk, Runs, asked_in, asks_in, line_asks, lines_ask, all_lines, as_told, AreAsOften}
-use Rattle.run_model.specs.Run.{asked_of, AreAskedInOrder}
+use Rattle.run_model.specs.FrameAsks.{FrameAsk, asked_in, asks_in, asks_to_run, lines_ask, as_told, AreAskedBy}
+use Rattle.run_model.specs.Run.{asked_of}
 use Rattle.dash_hall.specs.declared.kit.Kit.{Kit}
 use Rattle.dash_hall.specs.Hosts.{asks_of}
 use Rattle.dash_stage.specs.Records.{passes_at}
 
--- how many elements pass a test behind a map
-count_mapped : {X Y : Type 0} (f : X → Y) (test : Y → Bool) (xs : List X) → count_by test (map f xs) ≡ count_by (λ x. test (f x)) xs
-count_mapped f test [] = refl
-count_mapped f test (x ∷ xs) =
-    count_both test (f x ∷ []) (map f xs) ∙ (ap (λ n. count_by test (f x ∷ []) + n) (count_mapped f test xs) ∙ sym (count_both (λ y. test (f y)) (x ∷ []) xs))
+-- the part of a number behind a map of parts
+part_mapped : {X Y : Type 0} (f : List X → List Y) (parts : List (List X)) (k : ℕ) → f [] ≡ [] → f (slice_index_or parts k []) ≡ slice_index_or (map f parts) k []
+part_mapped f [] k none = none
+part_mapped f (p ∷ ps) zero none = refl
+part_mapped f (p ∷ ps) (suc k) none = part_mapped f ps k none
 
-count_first : {Y : Type 0} (test : Y → Bool) (o : Option Y) (ys : List Y) → count_by test (cons_option o ys) ≡ cond (option_map_or test o false) 1 0 + count_by test ys
-count_first test None ys = omega arith
-count_first test (Some y) ys = let both = count_both test (y ∷ []) ys in omega (arith, both)
+module _ {X Y : Type 0} (f : X → Option Y) where
+  -- what is dealt, where a map gives something of it
+  abbrev given_of : ℕ × X → Option (ℕ × Y)
+  given_of d = option_map (λ (y : Y). (d.0, y)) (f d.1)
 
--- how many pass it where a map gives an element
-count_given : {X Y : Type 0} (f : X → Option Y) (test : Y → Bool) (xs : List X) → count_by test (filter_map f xs) ≡ count_by (λ x. option_map_or test (f x) false) xs
-count_given f test [] = refl
-count_given f test (x ∷ xs) =
-    let first = count_first test (f x) (filter_map f xs) in
-    let rest = count_given f test xs in
-    let both = count_both (λ y. option_map_or test (f y) false) (x ∷ []) xs in
-    omega (arith, first, rest, both)
+  given_whole : (dealt : List (ℕ × X)) → map (λ (d : ℕ × Y). d.1) (filter_map given_of dealt) ≡ filter_map f (map (λ (d : ℕ × X). d.1) dealt)
+  given_whole [] = refl
+  given_whole ((n, x) ∷ dealt) = by_case (f x) (given_whole dealt)
+    where
+      by_case : (o : Option Y) → map (λ (d : ℕ × Y). d.1) (filter_map given_of dealt) ≡ filter_map f (map (λ (d : ℕ × X). d.1) dealt)
+          → map (λ (d : ℕ × Y). d.1) (cons_option (option_map (λ (y : Y). (n, y)) o) (filter_map given_of dealt)) ≡ cons_option o (filter_map f (map (λ (d : ℕ × X). d.1) dealt))
+      by_case None rest = rest
+      by_case (Some y) rest = ap (λ l. y ∷ l) rest
 
--- of lists behind each other as many as of each
-count_each : {X Y : Type 0} (g : X → Option Y) (test : Y → Bool) (f : ℕ → List X) (ks : List ℕ) → count_by test (filter_map g (flat_map f ks)) ≡ total (λ k. count_by test (filter_map g (f k))) ks
-count_each g test f [] = refl
-count_each g test f (k ∷ ks) =
-    ap (count_by test) (filter_map-append g (f k) (flat_map f ks))
-    ∙ (count_both test (filter_map g (f k)) (filter_map g (flat_map f ks)) ∙ ap (λ n. count_by test (filter_map g (f k)) + n) (count_each g test f ks))
+  given_to : (k : ℕ) (dealt : List (ℕ × X)) → dealt_to k (filter_map given_of dealt) ≡ filter_map f (dealt_to k dealt)
+  given_to k [] = refl
+  given_to k ((n, x) ∷ dealt) = by_case (n == k) refl (f x) refl (given_to k dealt)
+    where
+      by_case : (b : Bool) → (n == k) ≡ b → (o : Option Y) → f x ≡ o → dealt_to k (filter_map given_of dealt) ≡ filter_map f (dealt_to k dealt)
+          → dealt_to k (cons_option (option_map (λ (y : Y). (n, y)) o) (filter_map given_of dealt)) ≡ filter_map f (cons_option (if b then Some x else None) (dealt_to k dealt))
+      by_case true is None same rest = rest ∙ ap (λ o. cons_option o (filter_map f (dealt_to k dealt))) (sym same)
+      by_case true is (Some y) same rest =
+          ap (λ (b : Bool). cons_option (if b then Some y else None) (dealt_to k (filter_map given_of dealt))) is ∙ (ap (λ l. y ∷ l) rest ∙ ap (λ o. cons_option o (filter_map f (dealt_to k dealt))) (sym same))
+      by_case false is None same rest = rest
+      by_case false is (Some y) same rest = ap (λ (b : Bool). cons_option (if b then Some y else None) (dealt_to k (filter_map given_of dealt))) is ∙ rest
 
--- sums of the same numbers
-total_same : {X : Type 0} (g : X → ℕ) (f : ℕ → X) (h : ℕ → ℕ) (a n : ℕ) → ((i : ℕ) → i < a + n → g (f i) ≡ h i) → total g (map f (range_with_len a n)) ≡ total h (range_with_len a n)
-total_same g f h a zero same = refl
-total_same g f h a (suc n) same = λ i. same a (omega arith) i + total_same g f h (a + 1) n (λ j lt. same j (omega (arith, lt))) i
+  -- what a map gives of a parted list is parted
+  parted_given : (xs : List X) (parts : List (List X)) → AreParted xs parts → AreParted (filter_map f xs) (map (filter_map f) parts)
+  parted_given xs parts h = (
+    filter_map given_of h.0,
+    given_whole h.0 ∙ ap (filter_map f) h.1,
+    λ k. given_to k h.0 ∙ (ap (filter_map f) (h.2 k) ∙ part_mapped (filter_map f) parts k refl),
+  )
 
-adds_up : (whole threads lines own view last posted ran : ℕ) → whole ≡ threads + (own + (view + (last + 0))) → threads ≡ lines → own ≡ ran → view ≡ posted → last ≡ 0 → whole ≡ lines + posted + ran
-adds_up whole threads lines own view last posted ran parts is_lines is_ran is_posted none = omega (arith, parts, is_lines, is_ran, is_posted, none)
+-- so is what a map makes of it
+some_is_map : {X Y : Type 0} (f : X → Y) (xs : List X) → filter_map (λ (x : X). Some (f x)) xs ≡ map f xs
+some_is_map f [] = refl
+some_is_map f (x ∷ xs) = ap (λ l. f x ∷ l) (some_is_map f xs)
 
--- what a looper's dispatches ask for
-abbrev runs : List FrameAt → List FrameAsk
-runs xs = map (λ x. Runs (nanos_of x.now)) xs
+some_are_maps : {X Y : Type 0} (f : X → Y) (parts : List (List X)) → map (filter_map (λ (x : X). Some (f x))) parts ≡ map (map f) parts
+some_are_maps f [] = refl
+some_are_maps f (p ∷ ps) = λ i. some_is_map f p i ∷ some_are_maps f ps i
 
-module _ (lockstep : Bool) (s : Script) (q : ℕ) (kits : List Kit) (d : Kit) (p : Pass) (test : FrameAsk → Bool) where
-  -- the test on what is told of an ask, and on what an entry was asked for by
-  abbrev told : FrameAsk → Bool
-  told x = test (as_told lockstep x)
+-- a part in which there is nothing may be left out at the end
+empty_last : {X : Type 0} (parts : List (List X)) (k : ℕ) → slice_index_or (parts ++ [] ∷ []) k [] ≡ slice_index_or parts k []
+empty_last [] zero = refl
+empty_last [] (suc k) = refl
+empty_last (p ∷ ps) zero = refl
+empty_last (p ∷ ps) (suc k) = empty_last ps k
 
-  abbrev such : FrameEntry → Bool
-  such e = option_map_or told (asked_in e) false
+-- lists of the same over a range
+range_same : {X : Type 0} (f g : ℕ → X) (a n : ℕ) → ((i : ℕ) → i < a + n → f i ≡ g i) → map f (range_with_len a n) ≡ map g (range_with_len a n)
+range_same f g a zero same = refl
+range_same f g a (suc n) same = λ i. same a (omega arith) i ∷ range_same f g (a + 1) n (λ j lt. same j (omega (arith, lt))) i
+
+map_both : {X Y Z : Type 0} (f : X → Y) (g : Y → Z) (xs : List X) → map g (map f xs) ≡ map (λ x. g (f x)) xs
+map_both f g [] = refl
+map_both f g (x ∷ xs) = ap (λ l. g (f x) ∷ l) (map_both f g xs)
+
+module _ (lockstep : Bool) (s : Script) (q : ℕ) (kits : List Kit) (d : Kit) (p : Pass) (a : Looper) where
+  -- what is told of asks, and of what a pass recorded
+  abbrev told : List FrameAsk → List FrameAsk
+  told asks = map (as_told lockstep) asks
+
+  abbrev told_by : Pass → List FrameAsk
+  told_by x = told (asks_of x)
+
+  told_of_all : (xs : List Pass) → map (map (as_told lockstep)) (map (filter_map asked_in) (map own_of xs)) ≡ map told_by xs
+  told_of_all [] = refl
+  told_of_all (x ∷ xs) = ap (λ l. told_by x ∷ l) (told_of_all xs)
 
   -- each thread's pass, the looper's two and the controller's
   abbrev first : ℕ → Pass
@@ -81,90 +104,31 @@ module _ (lockstep : Bool) (s : Script) (q : ℕ) (kits : List Kit) (d : Kit) (p
   abbrev last : Pass
   last = slice_index_or (slice_index_or kits (s.threads + s.loopers) d).frames.items q p
 
-  recorded : (x : Pass) → recorded_by such x ≡ count_by told (asks_of x)
-  recorded x = sym (count_given asked_in told x.view.own)
+  -- where the passes asked for what the threads' lines ask for, for the frames that the looper runs and for what it posts, they asked for what the run asks for
+  asked_by_each : ((k : ℕ) → k < s.threads → told (asks_of (first k)) ≡ told (lines_ask q (lines_of k s.blocks)))
+      → told (asks_of (mine 0)) ≡ told (asks_to_run a.frames) → told (asks_of (mine 1)) ≡ told a.posted → last.view.own ≡ []
+      → map told_by (passes_at s q q kits d p) ≡ map (map (as_told lockstep)) (asked_of s q a) ++ [] ∷ []
+  asked_by_each threads ran posted idle =
+      let of_line : ℕ → List FrameAsk = λ k. lines_ask q (lines_of k s.blocks) in
+      let numbers : List ℕ = range_with_len 0 s.threads in
+      let firsts : map told_by (map first numbers) ≡ map (map (as_told lockstep)) (map of_line numbers) =
+      map_both first told_by numbers ∙ (range_same (λ k. told_by (first k)) (λ k. told (of_line k)) 0 s.threads (λ k lt. threads k (omega (arith, lt))) ∙ sym (map_both of_line (map (as_told lockstep)) numbers)) in
+      let idle_told : told_by last ≡ [] = ap (λ (l : List FrameEntry). told (filter_map asked_in l)) idle in
+      map-append told_by (map first numbers) (mine 0 ∷ mine 1 ∷ last ∷ [])
+      ∙ ((λ i. firsts i ++ ran i ∷ posted i ∷ idle_told i ∷ [])
+      ∙ (sym (append_assoc (map (map (as_told lockstep)) (map of_line numbers)) (told (asks_to_run a.frames) ∷ told a.posted ∷ []) ([] ∷ []))
+      ∙ ap (λ l. l ++ [] ∷ []) (sym (map-append (map (as_told lockstep)) (map of_line numbers) (asks_to_run a.frames ∷ a.posted ∷ [])))))
 
-  -- what is told the same is counted the same
-  counted : (xs ys : List FrameAsk) → map (as_told lockstep) xs ≡ map (as_told lockstep) ys → count_by told xs ≡ count_by told ys
-  counted xs ys same = sym (count_mapped (as_told lockstep) test xs) ∙ (ap (count_by test) same ∙ count_mapped (as_told lockstep) test ys)
-
-  asked_by_all : (entries : List FrameEntry) (a : Looper) → AreTheirs entries (passes_at s q q kits d p) → ((k : ℕ) → k < s.threads → map (as_told lockstep) (asks_of (first k)) ≡ map (as_told lockstep) (lines_ask q (lines_of k s.blocks)))
-      → map (as_told lockstep) (asks_of (mine 0)) ≡ map (as_told lockstep) (runs a.frames) → map (as_told lockstep) (asks_of (mine 1)) ≡ map (as_told lockstep) a.posted → last.view.own ≡ []
-      → count_by test (map (as_told lockstep) (asks_in entries)) ≡ count_by test (map (as_told lockstep) (asked_of s q a))
-  asked_by_all entries a theirs threads ran posted idle =
-      let lines : List FrameAsk = lines_ask q (all_lines s) in
-      let firsts : List Pass = map first (range_with_len 0 s.threads) in
-      let of_threads : total (recorded_by such) firsts ≡ count_by told lines =
-      total_same (recorded_by such) first (λ k. count_by told (lines_ask q (lines_of k s.blocks))) 0 s.threads (λ k lt. recorded (first k) ∙ counted (asks_of (first k)) (lines_ask q (lines_of k s.blocks)) (threads k (omega (arith, lt))))
-      ∙ sym (count_each (line_asks q) told (λ k. lines_of k s.blocks) (range_with_len 0 s.threads)) in
-      let parts = total-append (recorded_by such) firsts (mine 0 ∷ mine 1 ∷ last ∷ []) in
-      let all : count_by told (asked_of s q a) ≡ count_by told lines + count_by told a.posted + count_by told (runs a.frames) =
-      count_both told (lines ++ a.posted) (runs a.frames) ∙ ap (λ n. n + count_by told (runs a.frames)) (count_both told lines a.posted) in
-      count_mapped (as_told lockstep) test (asks_in entries)
-      ∙ (count_given asked_in told entries
-      ∙ (theirs such
-      ∙ (adds_up (total (recorded_by such) (passes_at s q q kits d p)) (total (recorded_by such) firsts) (count_by told lines) (recorded_by such (mine 0)) (recorded_by such (mine 1)) (recorded_by such last)
-      (count_by told a.posted) (count_by told (runs a.frames)) parts of_threads (recorded (mine 0) ∙ counted (asks_of (mine 0)) (runs a.frames) ran) (recorded (mine 1) ∙ counted (asks_of (mine 1)) a.posted posted) (ap (count_by such) idle)
-      ∙ sym (count_mapped (as_told lockstep) test (asked_of s q a) ∙ all))))
-
--- where a frame record has the entries of its passes, and these asked for what the threads' lines ask for, for what the looper posts and for the frames that it runs, it was asked for what the run asks for
-pub asked_as_often : (lockstep : Bool) (s : Script) (q : ℕ) (kits : List Kit) (d : Kit) (p : Pass) (entries : List FrameEntry) (a : Looper) → AreTheirs entries (passes_at s q q kits d p)
-    → ((k : ℕ) → k < s.threads → map (as_told lockstep) (asks_of (slice_index_or (slice_index_or kits k d).frames.items q p)) ≡ map (as_told lockstep) (lines_ask q (lines_of k s.blocks)))
-    → map (as_told lockstep) (asks_of (slice_index_or (slice_index_or kits (s.threads + q) d).frames.items 0 p)) ≡ map (as_told lockstep) (map (λ x. Runs (nanos_of x.now)) a.frames)
-    → map (as_told lockstep) (asks_of (slice_index_or (slice_index_or kits (s.threads + q) d).frames.items 1 p)) ≡ map (as_told lockstep) a.posted
-    → (slice_index_or (slice_index_or kits (s.threads + s.loopers) d).frames.items q p).view.own ≡ []
-    → AreAsOften (map (as_told lockstep) (asks_in entries)) (map (as_told lockstep) (asked_of s q a))
-asked_as_often lockstep s q kits d p entries a theirs threads ran posted idle test = asked_by_all lockstep s q kits d p test entries a theirs threads ran posted idle
-
--- ---- in order
-
--- what a pass asked for stands in what its record was asked for
-asks_stand : (lockstep : Bool) (entries own : List FrameEntry) → Sublist own entries → Sublist (map (as_told lockstep) (asks_in own)) (map (as_told lockstep) (asks_in entries))
-asks_stand lockstep entries own stands = mapped_stands (as_told lockstep) (asks_in own) (asks_in entries) (given_stands asked_in own entries stands)
-
-module _ (s : Script) (q : ℕ) (kits : List Kit) (d : Kit) (p : Pass) (entries : List FrameEntry) (order : StandInOrder entries (passes_at s q q kits d p)) where
-  abbrev of_thread : ℕ → Pass
-  of_thread k = slice_index_or (slice_index_or kits k d).frames.items q p
-
-  abbrev of_looper : ℕ → Pass
-  of_looper i = slice_index_or (slice_index_or kits (s.threads + q) d).frames.items i p
-
-  abbrev of_threads : List Pass
-  of_threads = map of_thread (range_with_len 0 s.threads)
-
-  abbrev others : List Pass
-  others = of_looper 0 ∷ of_looper 1 ∷ slice_index_or (slice_index_or kits (s.threads + s.loopers) d).frames.items q p ∷ []
-
-  many : length of_threads ≡ s.threads
-  many = length-map-range_with_len of_thread 0 s.threads
-
-  all_many : length (passes_at s q q kits d p) ≡ s.threads + 3
-  all_many = let both = length-append of_threads others in let long = many in omega (arith, both, long)
-
-  thread_stands : (k : ℕ) → k < s.threads → Sublist (of_thread k).view.own entries
-  thread_stands k lt =
-      let long = many in
-      let whole = all_many in
-      let is : slice_index_or (of_threads ++ others) k p ≡ of_thread k =
-      get_or-append of_threads others p k (omega (arith, lt, long)) ∙ get_or-map-range_with_len of_thread 0 s.threads k k p lt (omega arith) in
-      subst (λ (x : Pass). Sublist x.view.own entries) is (order k p (omega (arith, lt, whole)))
-
-  looper_stands : (i : ℕ) → i < 2 → slice_index_or others i p ≡ of_looper i → Sublist (of_looper i).view.own entries
-  looper_stands i small there =
-      let whole = all_many in
-      let place : s.threads + i - s.threads ≡ i = omega arith in
-      let is : slice_index_or (of_threads ++ others) (s.threads + i) p ≡ of_looper i =
-      get_or-append_right of_threads others s.threads (s.threads + i) p many (omega arith) ∙ (ap (λ (n : ℕ). slice_index_or others n p) place ∙ there) in
-      subst (λ (x : Pass). Sublist x.view.own entries) is (order (s.threads + i) p (omega (arith, small, whole)))
-
-  -- where what each pass recorded stands in a frame record in its order, and the passes asked for what the run asks for, that stands in what the record was asked for in each sender's order
-  pub asked_in_order : (lockstep : Bool) (a : Looper) → ((k : ℕ) → k < s.threads → map (as_told lockstep) (asks_of (of_thread k)) ≡ map (as_told lockstep) (lines_ask q (lines_of k s.blocks)))
-      → map (as_told lockstep) (asks_of (of_looper 0)) ≡ map (as_told lockstep) (map (λ x. Runs (nanos_of x.now)) a.frames)
-      → map (as_told lockstep) (asks_of (of_looper 1)) ≡ map (as_told lockstep) a.posted → AreAskedInOrder lockstep s q a (asks_in entries)
-  asked_in_order lockstep a threads ran posted =
-      let all_told = map (as_told lockstep) (asks_in entries) in
-      record {
-        threads = λ k lt. subst (λ (l : List FrameAsk). Sublist l all_told) (threads k lt) (asks_stand lockstep entries (of_thread k).view.own (thread_stands k lt));
-        posted = subst (λ (l : List FrameAsk). Sublist l all_told) posted (asks_stand lockstep entries (of_looper 1).view.own (looper_stands 1 (omega arith) refl));
-        ran = subst (λ (l : List FrameAsk). Sublist l all_told) ran (asks_stand lockstep entries (of_looper 0).view.own (looper_stands 0 (omega arith) refl));
-      }
+  -- and the frame record, whose entries are parted among the passes, was asked for that
+  pub asked_by : (entries : List FrameEntry) → AreTheirs entries (passes_at s q q kits d p) → ((k : ℕ) → k < s.threads → told (asks_of (first k)) ≡ told (lines_ask q (lines_of k s.blocks)))
+      → told (asks_of (mine 0)) ≡ told (asks_to_run a.frames) → told (asks_of (mine 1)) ≡ told a.posted → last.view.own ≡ [] → AreAskedBy lockstep (asks_in entries) (asked_of s q a)
+  asked_by entries theirs threads ran posted idle =
+      let passes : List Pass = passes_at s q q kits d p in
+      let asks = parted_given asked_in entries (map own_of passes) theirs in
+      let tells = parted_given (λ (x : FrameAsk). Some (as_told lockstep x)) (asks_in entries) (map (filter_map asked_in) (map own_of passes)) asks in
+      let parts : map (filter_map (λ (x : FrameAsk). Some (as_told lockstep x))) (map (filter_map asked_in) (map own_of passes)) ≡ map (map (as_told lockstep)) (asked_of s q a) ++ [] ∷ [] =
+      some_are_maps (as_told lockstep) (map (filter_map asked_in) (map own_of passes)) ∙ (told_of_all passes ∙ asked_by_each threads ran posted idle) in (
+        tells.0,
+        tells.1 ∙ some_is_map (as_told lockstep) (asks_in entries),
+        λ k. tells.2 k ∙ (ap (λ (l : List (List FrameAsk)). slice_index_or l k []) parts ∙ empty_last (map (map (as_told lockstep)) (asked_of s q a)) k),
+      )

@@ -38,7 +38,7 @@ returns-clause-theirs c =
     let over = c.loop-number-test.false in
     let most = at.auto.number-end in
     let all : at.number ≡ s.threads + 3 = omega (arith, over, most) in
-    taken_theirs s c.args.looper c.args.choreographer at.number c.args.kits.now.items at.passes.items at.kits.items c.into_kept.result.entries at.invariant.count all at.invariant.taken c.requires.looper (record { theirs = c.into_kept.ensures.theirs; order = c.into_kept.ensures.order })
+    taken_theirs s c.args.looper c.args.choreographer at.number c.args.kits.now.items at.passes.items at.kits.items c.into_kept.result.entries at.invariant.count all at.invariant.taken c.requires.looper c.into_kept.ensures.theirs
 
 pub returns-clause-own : goal.returns-clause-own
 returns-clause-own c =

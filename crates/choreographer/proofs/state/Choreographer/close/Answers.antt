@@ -22,4 +22,4 @@ returns c =
     let is : q.constants ≡ key = ap (λ (z : Shared). z.constants) (sym c.self.view_is) in
     let above : 0 < key.passes = search rules in
     let t = closes_with key above q c.args.passes.items c.gather-seat.result.me (c.requires.0 ∙ ap (λ (z : Constants). z.passes) is) c.requires.1 c.gather-seat.ensures.1 c.gather-seat.result.id _ _ c.in-Some.state c.close_with-closed.ensures.values.2 c.in-Some.ensures.value in
-    record { constants = subst (λ (k : Constants). HasConstants k c.in-Some.state) (sym is) t.0; begins = t.1; last = t.2; theirs = t.3; order = t.4 }
+    record { constants = subst (λ (k : Constants). HasConstants k c.in-Some.state) (sym is) t.0; begins = t.1; last = t.2; stamps = t.4.frames; theirs = t.3; handed = t.5 }

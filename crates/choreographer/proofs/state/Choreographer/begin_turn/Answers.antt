@@ -1,0 +1,22 @@
+use Rattle.std.proofs.Common.{rules, ◌≤◌, length, sym, subst}
+use Rattle.choreographer.specs.Turn.{sealed_in}
+use Rattle.choreographer.specs.Plays.{Sat}
+use Rattle.choreographer.proofs.ByTurn.{begin_gives, keeps_handed}
+use Rattle.choreographer.proofs.Stamps.{stamped_begin}
+use Rattle.choreographer.proofs.state.Choreographer.begin_turn.Goals as goal
+
+pub give-requires-clause-stamped : goal.give-requires-clause-stamped
+give-requires-clause-stamped g c =
+    stamped_begin c.take-state.result c.begin_frame-answer.new.self c.take-state.ensures.stamped c.args.start c.begin_frame-answer.result c.begin_frame-answer.ensures.begins c.begin_frame-answer.ensures.stamp
+
+pub give-requires-clause-state : goal.give-requires-clause-state
+give-requires-clause-state g c =
+    let x = c.take-state.result in
+    let y = c.begin_frame-answer.new.self in
+    (search rules, begin_gives c.take-state.new.seat.me.0 x y c.args.start c.begin_frame-answer.result (search rules) c.begin_frame-answer.ensures.steps c.begin_frame-answer.ensures.begins)
+
+pub give-requires-clause-handed : goal.give-requires-clause-handed
+give-requires-clause-handed g c =
+    let x = c.take-state.result in
+    subst (λ (z : Sat). sealed_in z.0.found ≤ length c.begin_frame-answer.new.self.frames.sealed) (sym c.take-state.ensures.taken)
+    (keeps_handed x c.begin_frame-answer.new.self c.begin_frame-answer.ensures.steps.0)
