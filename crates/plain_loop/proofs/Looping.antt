@@ -1,47 +1,39 @@
--- What a looper keeps from one time that it lets go of its records to the next.
-use Rattle.std.proofs.Common.{◌≡◌, ◌+◌, ℕ, suc, Bool, false, Option, ap, ◌∙◌}
-use Rattle.std.specs.Prelude.{Result, Ok, Err}
-use Rattle.atomic_table.specs.Seated.{TableId}
+-- What a loop that found memory kept, and what a dispatcher's answer tells.
+use Rattle.std.proofs.Common.{◌≡◌, ℕ, suc, Bool, true, false, refl, sym, subst, Option, Some, None}
+use Rattle.std.specs.Prelude.{Result, Ok, Err, OnOk}
 use Rattle.loop_model.specs.declared.memory.NoMemory.{NoMemory}
+use Rattle.looper_run.specs.declared.by_clock.Loop.{Loop}
+use Rattle.looper_run.specs.declared.by_clock.Loop.TheVariants as loop
+use Rattle.looper_run.specs.Loops.{UnlessLostThen}
+use Rattle.looper_run.specs.declared.dispatcher.Did.{Did}
+use Rattle.looper_run.specs.Tests.{Unless}
+use Rattle.atomic_table.specs.Seated.{TableId}
 use Rattle.loop_model.specs.Answers.{Setting}
 use Rattle.shared_queue.specs.Known.{Shared}
-use Rattle.looper_run.specs.Holding.{Looping, IsBeside, workplace}
-use Rattle.looper_run.specs.Tests.{IsSameLooper}
-use Rattle.looper_run.specs.declared.by_clock.Loop.{Loop}
-use Rattle.looper_run.specs.Loops.{IsStill}
-use Rattle.looper_run.specs.LettingGo.{untold, LetsGo}
-use Rattle.plain_loop.specs.Handling.{IsPlaceOf}
-use Rattle.plain_loop.specs.Looping.{LoopsOnce, LoopsTimes}
-use Rattle.plain_loop.specs.Senders.{IsLooper}
+use Rattle.looper_run.specs.Holding.{Looping, Workplace}
+use Rattle.plain_loop.specs.Handling.{IsPlaceOf, did_of}
+use Rattle.plain_loop.specs.Looping.{LoopsOn, LoopsTimes}
 
-gone_beside : (r : Result (Unit {0}) NoMemory) (a b : Looping) → LetsGo r a b → IsBeside (untold a) b
-gone_beside (Ok done) a b went = went.1
-gone_beside (Err e) a b went = went.1
+-- what holds unless memory was wanting holds where it was not
+pub kept : (answer : Option Loop) (P : Type 0) → (answer ≡ Some loop.NoMemory → ⊥) → UnlessLostThen answer P → P
+kept None P found h = h
+kept (Some loop.Ended) P found h = h
+kept (Some (loop.Cap now)) P found h = h
+kept (Some loop.Nudged) P found h = h
+kept (Some loop.NoMemory) P found h = absurd (found refl)
 
--- a loop and a letting go behind it leave a looper of the same queue and pool
-pub goes_on : (queue : Shared TableId) (pool : TableId) (a b c : Looping) (r : Result (Unit {0}) NoMemory) → IsLooper queue pool a → IsStill a.held b.held → b.ended ≡ false
-    → IsSameLooper b.held c.held → LetsGo r b c → IsLooper queue pool c
-goes_on queue pool a b c r is still going same went = record {
-  at = record {
-    poster = (same.table ∙ (still.table ∙ is.at.poster.0), same.constants ∙ (still.constants ∙ is.at.poster.1));
-    pass = same.home ∙ (still.home ∙ is.at.pass);
-    home = is.at.home;
-  };
-  going = (gone_beside r b c went).ended ∙ going;
-  last = ap (λ (n : ℕ). n + 1) (same.sender ∙ still.sender) ∙ is.last;
-}
+did_well : (r : Result (Unit {0}) NoMemory) (P : Type 0) → OnOk r P → Unless (did_of r) P
+did_well (Ok done) P h = h
+did_well (Err e) P h = tt
 
--- and at the same place
-pub stays_at : (queue : Shared TableId) (pool : TableId) (a b c : Looping) → IsPlaceOf queue pool (workplace a.held) → IsStill a.held b.held → IsSameLooper b.held c.held
-    → IsPlaceOf queue pool (workplace c.held)
-stays_at queue pool a b c is still same = record {
-  table = same.table ∙ (still.table ∙ is.table);
-  constants = same.constants ∙ (still.constants ∙ is.constants);
-  pass = same.home ∙ (still.home ∙ is.pass);
-  home = is.home;
-}
+-- what holds where handlers found memory holds unless the dispatcher answers that none was found
+pub did_unless : (d : Did) (r : Result (Unit {0}) NoMemory) (P : Type 0) → d ≡ did_of r → OnOk r P → Unless d P
+did_unless d r P is h = subst (λ (x : Did). Unless x P) (sym is) (did_well r P h)
 
--- one loop more
-pub times_more : (shows : ℕ → Bool) (s : Setting) (n : ℕ) (a b c d : Looping) (answer : Option Loop) (gone : Result (Unit {0}) NoMemory) → LoopsTimes shows s n a b → LoopsOnce shows s answer b c
-    → LetsGo gone c d → LoopsTimes shows s (suc n) a d
-times_more shows s n a b c d answer gone times once went = (b, times, (answer, c, once, gone, went))
+-- a loop more, which did not end the looper
+pub times_more : (shows : ℕ → Bool) (s : Setting) (n : ℕ) (a b d : Looping) (over : Bool) → over ≡ false → LoopsTimes shows s n a b → LoopsOn shows s over b d → (m : ℕ) × LoopsTimes shows s m a d
+times_more shows s n a b d over going times once = (suc n, (b, times, subst (λ (o : Bool). LoopsOn shows s o b d) going once))
+
+-- the same place
+pub place_still : (queue : Shared TableId) (pool : TableId) (w v : Workplace) → v ≡ w → IsPlaceOf queue pool w → IsPlaceOf queue pool v
+place_still queue pool w v same is = subst (λ (x : Workplace). IsPlaceOf queue pool x) (sym same) is

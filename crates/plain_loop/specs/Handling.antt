@@ -1,5 +1,8 @@
--- Which loopers a dispatcher over handlers serves.
-use Rattle.std.specs.Prelude.{◌≡◌, Some}
+-- Which loopers a dispatcher over handlers serves, and what it answers.
+use Rattle.std.specs.Prelude.{◌≡◌, Some, Result, Ok, Err}
+use Rattle.loop_model.specs.declared.memory.NoMemory.{NoMemory as Wanting}
+use Rattle.looper_run.specs.declared.dispatcher.Did.{Did}
+use Rattle.looper_run.specs.declared.dispatcher.Did.TheVariants.{Yes, NoMemory}
 use Rattle.atomic_table.specs.Seated.{TableId}
 use Rattle.shared_queue.specs.Known.{Shared}
 use Rattle.looper_run.specs.Holding.{Workplace}
@@ -10,3 +13,8 @@ pub record IsPlaceOf (queue : Shared TableId) (pool : TableId) (w : Workplace) :
   pub constants : w.constants ≡ Some queue.constants
   pub pass : w.pool ≡ pool
   pub home : queue.constants.home ≡ pool
+
+-- what a dispatcher answers whose code ended so
+abbrev pub did_of : Result (Unit {0}) Wanting → Did
+did_of (Ok done) = Yes
+did_of (Err e) = NoMemory

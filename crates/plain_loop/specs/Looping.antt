@@ -1,5 +1,7 @@
 -- What a looper does that lets its records go now and then.
-use Rattle.std.specs.Prelude.{◌≡◌, ℕ, zero, suc, Bool, Option, Some, Result}
+use Rattle.std.specs.Prelude.{◌≡◌, ℕ, zero, suc, Bool, true, false, List, Option, Some, Result}
+use Rattle.loop_model.specs.declared.entry.Entry.{Entry}
+use Rattle.loop_model.specs.declared.journal.Act.{Act}
 use Rattle.loop_model.specs.declared.memory.NoMemory.{NoMemory}
 use Rattle.loop_model.specs.Answers.{Setting}
 use Rattle.looper_run.specs.declared.by_clock.Loop.{Loop}
@@ -16,6 +18,15 @@ LoopsOnce shows s answer before after = (cap : ℕ) × LoopsOrGoes shows 0 (Some
 abbrev pub LoopsAndLetsGo : (ℕ → Bool) → Setting → Looping → Looping → Type 0
 LoopsAndLetsGo shows s before after =
     (answer : Option Loop) × (looped : Looping) × LoopsOnce shows s answer before looped × (gone : Result (Unit {0}) NoMemory) × LetsGo gone looped after
+
+-- a loop that ended the looper, or one behind which it let its records go
+abbrev pub LoopsOn : (ℕ → Bool) → Setting → Bool → Looping → Looping → Type 0
+LoopsOn shows s true before after = LoopsOnce shows s (Some loop.Ended) before after
+LoopsOn shows s false before after = LoopsAndLetsGo shows s before after
+
+-- the test of this dispatcher's kind is always true
+abbrev pub IsAlwaysMet : {D : Type 0} → (D → ℕ → List Entry → List Act → Type 0) → Type 0
+IsAlwaysMet {D} Meets = (d : D) (s : ℕ) (es : List Entry) (acts : List Act) → Meets d s es acts
 
 -- so many of these, one behind another
 abbrev pub LoopsTimes : (ℕ → Bool) → Setting → ℕ → Looping → Looping → Type 0

@@ -1,9 +1,10 @@
 -- What holds of a queue as it opens, and of its senders.
-use Rattle.std.specs.Prelude.{◌≡◌, ℕ, ◌+◌, false, length}
+use Rattle.std.specs.Prelude.{◌≡◌, ℕ, ◌+◌, false, length, []}
 use Rattle.atomic_table.specs.Seated.{TableId}
 use Rattle.shared_queue.specs.Known.{Shared, IsOf}
-use Rattle.shared_queue.specs.Ends.{AreInOrder}
+use Rattle.shared_queue.specs.Ends.{IsNewPoster, AreNew}
 use Rattle.looper_run.specs.Holding.{IsAt, Looping}
+use Rattle.plain_loop.specs.declared.mailbox.Settings.{Settings}
 use Rattle.plain_loop.specs.declared.mailbox.Sender.{Sender}
 use Rattle.plain_loop.specs.declared.mailbox.Senders.{Senders}
 use Rattle.plain_loop.specs.declared.mailbox.Opened.{Opened}
@@ -14,9 +15,9 @@ pub record IsSender (queue : Shared TableId) (pool : TableId) (s : Sender) : Typ
   pub pass : s.pass.home ≡ pool
   pub home : queue.constants.home ≡ pool
 
--- the same of senders that no thread has
+-- the same of senders that no thread has, each of which has done nothing
 pub record AreSenders (queue : Shared TableId) (pool : TableId) (s : Senders) : Type 0 where
-  pub posters : AreInOrder queue s.posters.items
+  pub posters : AreNew queue s.posters.items
   pub pass : s.pass.home ≡ pool
   pub home : queue.constants.home ≡ pool
 
@@ -30,9 +31,13 @@ pub record IsLooper (queue : Shared TableId) (pool : TableId) (l : Looping) : Ty
   pub going : l.ended ≡ false
   pub last : l.held.poster.sender + 1 ≡ queue.constants.setting.senders
 
--- a queue with its looper and so many senders, which goes by a clock
-pub record IsOpened (count : ℕ) (o : Opened) : Type 0 where
+-- a queue that nobody has used, with its looper and so many senders, which goes by a clock; it is as the settings say
+pub record IsOpened (settings : Settings) (count : ℕ) (o : Opened) : Type 0 where
   pub looper : IsLooper o.queue o.pool o.looper
+  pub number : (o.queue.constants.looper ≡ settings.looper) × (o.looper.held.journal.looper ≡ settings.looper)
+  pub main : o.queue.constants.setting.main ≡ settings.main
+  pub unused : IsNewPoster o.looper.held.poster
+  pub untold : o.looper.held.journal.acts ≡ []
   pub free : o.queue.constants.setting.lockstep ≡ false
   pub senders : AreSenders o.queue o.pool o.senders
   pub many : length o.senders.posters.items ≡ count

@@ -1,16 +1,18 @@
 //! Loops of loopers over handlers, alone and beside other work.
-ghost use Rattle.std.specs.Prelude.{◌≡◌, ◌<◌, true, false, length, Some, OnOk, OnErr, IfOk};
+ghost use Rattle.std.specs.Prelude.{◌≡◌, ◌≢◌, ◌<◌, true, false, length, Some, None, OnOk, OnErr, IfOk};
 ghost use Rattle.std.specs.Thread.{IsSync};
 ghost use Rattle.looper_run.specs.declared.by_clock.Loop.TheVariants as loop;
 ghost use Rattle.looper_run.specs.Loops.{is_over_then};
-ghost use Rattle.plain_loop.specs.Looping.{LoopsToItsEnd};
+ghost use Rattle.looper_run.specs.Holding.{Workplace, workplace};
+ghost use Rattle.plain_loop.specs.Looping.{IsAlwaysMet, LoopsOn, LoopsToItsEnd};
 ghost use Rattle.plain_loop.specs.Senders.{IsSender, AreSenders, IsOneFewer, IsLooper};
 
 use crate::handlers::{Handle, Handling};
 use crate::mailbox::{Mailbox, Opened, Sender, Senders, Settings, open, open_with};
 use loop_io::Clock;
 use loop_model::NoMemory;
-use looper_run::{ByClock, Loop, Looper};
+use looper_run::{ByClock, Dispatcher, Loop, Looper};
+use queue_state::Kept;
 use std::alloc::Global;
 use std::sync::Wait;
 use std::thread::{Threads, join};
@@ -26,12 +28,57 @@ const LET_GO_MILLIS: u64 = 1_000;
 fn is_over(answer: Option<Loop>) -> Result<bool, NoMemory>
     ensures over { IfOk result (λ over. over ≡ is_over_then answer) }
     ensures none { OnErr result (answer ≡ Some loop.NoMemory) }
+    ensures kept { OnOk result (answer ≢ Some loop.NoMemory) }
 {
     match answer {
         Some(Loop::Ended) => Ok(true),
         Some(Loop::NoMemory) => Err(NoMemory),
         Some(Loop::Cap { .. }) | Some(Loop::Nudged) | None => Ok(false),
     }
+}
+
+/// Loops until this moment at the latest, where there is one, a second, or 1,024 dispatches, and answers whether the queue is over. If
+/// not it drops the acts that the looper told and the queue's history so far, so that a looper which does so again and again runs in
+/// bounded memory. NoMemory where the dispatcher, a call of the loop or the letting go found none (this project's profile).
+pub fn loop_and_let_go<R: Wait + time::Clock, C: Clock, D: Dispatcher<Record = Kept>>(
+    mailbox: &Mailbox<R, C>,
+    looper: &mut Looper,
+    dispatcher: &mut D,
+    until: Option<u64>,
+) -> Result<bool, NoMemory>
+    requires looper { IsLooper mailbox.now.queue.now mailbox.now.pool.now looper.old }
+    requires free { mailbox.now.queue.now.constants.setting.lockstep ≡ false }
+    requires serves { D.Serves dispatcher.old (workplace looper.old.held) }
+    requires awaits { D.Awaits dispatcher.old None }
+    requires meets { IsAlwaysMet D.Meets }
+    ensures looped { IfOk result (λ over. LoopsOn (C.shows mailbox.now.clock.now) mailbox.now.queue.now.constants.setting over looper.old looper.new) }
+    ensures ended { IfOk result (λ over. looper.new.ended ≡ over) }
+    ensures looper { IfOk result (λ over. over ≡ false → IsLooper mailbox.now.queue.now mailbox.now.pool.now looper.new) }
+    ensures place { OnOk result (workplace looper.new.held ≡ workplace looper.old.held) }
+    ensures serves { (w : Workplace) → D.Serves dispatcher.old w → D.Serves dispatcher.new w }
+    ensures origin { D.origin dispatcher.new ≡ D.origin dispatcher.old }
+    ensures awaits { OnOk result (D.Awaits dispatcher.new None) }
+{
+    let latest = mailbox.clock.uptime_millis().saturating_add(LET_GO_MILLIS);
+    let by = ByClock {
+        clock: mailbox.clock,
+        start: 0,
+        cap: Some(until.unwrap_or(latest).min(latest)),
+    };
+    let answer = looper.run_some(
+        mailbox.rt,
+        mailbox.queue,
+        mailbox.pool,
+        mailbox.sources,
+        dispatcher,
+        &by,
+        MOST_AT_ONCE,
+    );
+    if is_over(answer)? {
+        return Ok(true);
+    }
+    looper.let_go(mailbox.rt, mailbox.alloc, mailbox.queue)?;
+    Ok(false)
 }
 
 /// Loops until the queue is over, and answers the handlers (`Looper.loop`). Moments are uptime. At least each second, and each 1,024
@@ -44,33 +91,19 @@ pub fn run_looper<R: Wait + time::Clock, C: Clock, H: Handle<R, C> + Drop>(
 ) -> Result<H, NoMemory>
     requires looper { IsLooper mailbox.now.queue.now mailbox.now.pool.now looper.old }
     requires free { mailbox.now.queue.now.constants.setting.lockstep ≡ false }
+    requires holds { H.Holds handlers }
     ensures ended { OnOk result (looper.new.ended ≡ true) }
     ensures looped { OnOk result (LoopsToItsEnd (C.shows mailbox.now.clock.now) mailbox.now.queue.now.constants.setting looper.old looper.new) }
+    ensures holds { IfOk result H.Holds }
 {
     let mut dispatcher = Handling {
         mailbox: &*mailbox,
         handlers,
     };
     for _ in mailbox.rt.forever() {
-        let now = mailbox.clock.uptime_millis();
-        let by = ByClock {
-            clock: mailbox.clock,
-            start: 0,
-            cap: Some(now.saturating_add(LET_GO_MILLIS)),
-        };
-        let answer = looper.run_some(
-            mailbox.rt,
-            mailbox.queue,
-            mailbox.pool,
-            mailbox.sources,
-            &mut dispatcher,
-            &by,
-            MOST_AT_ONCE,
-        );
-        if is_over(answer)? {
+        if loop_and_let_go(mailbox, looper, &mut dispatcher, None)? {
             return Ok(dispatcher.handlers);
         }
-        looper.let_go(mailbox.rt, mailbox.alloc, mailbox.queue)?;
     }
     unreachable!()
 }
@@ -90,7 +123,9 @@ pub fn run_here<
     handlers: H,
     before: W,
 ) -> Result<H, NoMemory>
-    requires { (m : _) (s : _) → AreSenders m.now.queue.now m.now.pool.now s × (length s.posters.items ≡ settings.senders) → W.pre before m s }
+    requires before { (m : _) (s : _) → AreSenders m.now.queue.now m.now.pool.now s × (length s.posters.items ≡ settings.senders) → W.pre before m s }
+    requires holds { H.Holds handlers }
+    ensures holds { IfOk result H.Holds }
 {
     let Opened {
         queue,
@@ -111,7 +146,7 @@ pub fn run_here<
     run_looper(&mailbox, &mut looper, handlers)
 }
 
-/// Does the work, and then quits the queue safely by this sender.
+// Does the work, and then quits the queue safely by this sender.
 fn work_and_quit<R: Wait, C: Clock, T, W: FnOnce(&Mailbox<R, C>, Senders) -> T>(
     mailbox: &Mailbox<R, C>,
     senders: Senders,
@@ -145,6 +180,8 @@ fn side_by_side<
     requires free { mailbox.now.queue.now.constants.setting.lockstep ≡ false }
     requires senders { AreSenders mailbox.now.queue.now mailbox.now.pool.now senders × (0 < length senders.posters.items) }
     requires work { (s : _) → AreSenders mailbox.now.queue.now mailbox.now.pool.now s × IsOneFewer s senders → W.pre work mailbox s }
+    requires holds { H.Holds handlers }
+    ensures holds { IfOk result (λ r. H.Holds r.1) }
 {
     let last = senders.next(mailbox);
     let (answer, handlers) = join(
@@ -156,8 +193,8 @@ fn side_by_side<
 }
 
 /// Runs a looper with these handlers in a thread of its own, and beside it this work, which is handed the looper's mailbox and its
-/// senders; when the work is done the queue is quit safely. Answers what the work did, and the handlers (`HandlerThread.start`,
-/// `quitSafely`, `join`).
+/// senders; when the work is done the queue is quit safely, so it isn't that of a main looper. Answers what the work did, and the
+/// handlers (`HandlerThread.start`, `quitSafely`, `join`).
 pub fn run_beside<
     R: Threads + Wait + time::Clock + Sync,
     C: Clock + Sync,
@@ -172,7 +209,10 @@ pub fn run_beside<
     handlers: H,
     work: W,
 ) -> Result<(T, H), NoMemory>
-    requires { (m : _) (s : _) → AreSenders m.now.queue.now m.now.pool.now s × (length s.posters.items ≡ settings.senders) → W.pre work m s }
+    requires work { (m : _) (s : _) → AreSenders m.now.queue.now m.now.pool.now s × (length s.posters.items ≡ settings.senders) → W.pre work m s }
+    requires quits { settings.main ≡ false }
+    requires holds { H.Holds handlers }
+    ensures holds { IfOk result (λ r. H.Holds r.1) }
 {
     let Opened {
         queue,

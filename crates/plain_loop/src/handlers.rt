@@ -1,8 +1,8 @@
 //! A dispatcher over handlers that state nothing.
-ghost use Rattle.std.specs.Prelude.{◌≡◌, ◌≤◌, IfSome, IsTrue, true, None};
+ghost use Rattle.std.specs.Prelude.{◌≡◌, ◌≤◌, IfSome, IsTrue, true, None, OnOk};
 ghost use Rattle.handler_post.specs.Ways.{IsReady};
 ghost use Rattle.plain_loop.specs.Lines.{Keeps, way_of};
-ghost use Rattle.plain_loop.specs.Handling.{IsPlaceOf};
+ghost use Rattle.plain_loop.specs.Handling.{IsPlaceOf, did_of};
 
 use crate::lines::Line;
 use crate::mailbox::Mailbox;
@@ -11,6 +11,7 @@ use loop_model::NoMemory;
 use looper_run::{Did, Dispatcher, Own};
 use message_pool::PoolClaim;
 use message_slot::Message;
+use queue_state::Kept;
 use std::sync::Wait;
 
 /// A message, as a handler is given it.
@@ -22,38 +23,49 @@ pub type Handled = Result<(), NoMemory>;
 /// The code of a looper's handlers, as `handleMessage` of the Android API reference's `Handler`. What they send themselves they
 /// send by the line that they are lent, which is the looper's own. After NoMemory the looper gives up.
 pub trait Handle<R: Wait, C: Clock> {
+    /// A fact of the handlers' own, which each call keeps unless memory was wanting. By default there is none.
+    ghost Holds: { Self → Type 0 } = { λ h. Unit {0} };
+
     /// Handles a message without a callback, which was due at `now` or before, in milliseconds. Which handler it was sent to is its
     /// `handler`. This one does nothing.
     fn handle(&mut self, line: &mut Line<R, C>, message: &Msg, now: u64) -> Handled
-        requires { IsReady (way_of line.old) }
+        requires line { IsReady (way_of line.old) }
+        requires holds { Holds self.old }
         ensures keeps { Keeps (way_of line.old) (way_of line.new) }
+        ensures holds { OnOk result (Holds self.new) }
     {
         Ok(())
     }
 
     /// Runs the callback of this number, which was posted in a message's place (`Runnable.run`). This one does nothing.
     fn run_callback(&mut self, line: &mut Line<R, C>, id: u64, now: u64) -> Handled
-        requires { IsReady (way_of line.old) }
+        requires line { IsReady (way_of line.old) }
+        requires holds { Holds self.old }
         ensures keeps { Keeps (way_of line.old) (way_of line.new) }
+        ensures holds { OnOk result (Holds self.new) }
     {
         Ok(())
     }
 
     /// Runs the idle handler of this number, and answers whether it is kept (`MessageQueue.IdleHandler.queueIdle`). `keep` is what it
     /// was added with, which this one answers.
-    fn idle(&mut self, id: u32, keep: bool) -> bool {
+    fn idle(&mut self, id: u32, keep: bool) -> bool
+        ensures holds { Holds self.old → Holds self.new }
+    {
         keep
     }
 
     /// Told of the events on a watched descriptor; answers the new mask, of INPUT 1, OUTPUT 2 and ERROR 4, and 0 to watch no
     /// longer. This one watches no longer.
-    fn listen(&mut self, fd: u32, events: u32, listener: u32) -> u32 {
+    fn listen(&mut self, fd: u32, events: u32, listener: u32) -> u32
+        ensures holds { Holds self.old → Holds self.new }
+    {
         0
     }
 }
 
-/// A dispatcher that leaves all to these handlers: it has no callback object of a handler, asks for no pulse, and states nothing. It
-/// lends them a line to its looper's queue.
+/// A dispatcher that leaves all to these handlers: it has no callback object of a handler, asks for no pulse, and states no more than
+/// they do. It lends them a line to its looper's queue.
 #[derive(Drop)]
 pub struct Handling<'a, R: Wait, C: Clock, H: Handle<R, C>> {
     /// The looper's mailbox.
@@ -62,7 +74,10 @@ pub struct Handling<'a, R: Wait, C: Clock, H: Handle<R, C>> {
     pub handlers: H,
 }
 
-pub(crate) fn did(answer: Result<(), NoMemory>) -> Did {
+/// What a dispatcher answers where its code ended so.
+pub fn did(answer: Handled) -> Did
+    ensures { result ≡ did_of answer }
+{
     match answer {
         Ok(()) => Did::Yes,
         Err(_) => Did::NoMemory,
@@ -70,6 +85,8 @@ pub(crate) fn did(answer: Result<(), NoMemory>) -> Did {
 }
 
 impl<'a, R: Wait, C: Clock, H: Handle<R, C>> Dispatcher for Handling<'a, R, C, H> {
+    type Record = Kept;
+
     ghost Serves = { λ d w. IsPlaceOf d.mailbox.now.queue.now d.mailbox.now.pool.now w };
 
     ghost Origin = { Unit {0} };
@@ -82,7 +99,7 @@ impl<'a, R: Wait, C: Clock, H: Handle<R, C>> Dispatcher for Handling<'a, R, C, H
 
     ghost Meets = { λ d s es acts. IsTrue true };
 
-    ghost Awaits = { λ d awaited. IsTrue true };
+    ghost Awaits = { λ d awaited. H.Holds d.handlers };
 
     fn before(&mut self, number: u64) {}
 

@@ -13,8 +13,8 @@ mod tests;
 #[cfg(test)]
 mod while_handling;
 
-pub use beside::{run_beside, run_here, run_looper};
+pub use beside::{loop_and_let_go, run_beside, run_here, run_looper};
 pub use frames::{Draw, Drawing, Outbox};
-pub use handlers::{Handle, Handled, Handling, Msg};
+pub use handlers::{Handle, Handled, Handling, Msg, did};
 pub use lines::Line;
-pub use mailbox::{Mailbox, Opened, Sender, Senders, Settings, open};
+pub use mailbox::{Mailbox, Opened, Sender, Senders, Settings, open, open_with};

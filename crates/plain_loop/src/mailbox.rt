@@ -2,7 +2,7 @@
 ghost use Rattle.std.specs.Prelude.{◌≡◌, ◌+◌, ◌<◌, ◌≤◌, false, length, IfOk};
 ghost use Rattle.handler_post.specs.Ways.{IsReady};
 ghost use Rattle.shared_queue.specs.Known.{IsOf};
-ghost use Rattle.shared_queue.specs.Ends.{AreInOrder};
+ghost use Rattle.shared_queue.specs.Ends.{IsNewPoster, AreNew};
 ghost use Rattle.plain_loop.specs.Lines.{way_of};
 ghost use Rattle.plain_loop.specs.Senders.{IsSender, AreSenders, IsOneFewer, IsOpened};
 
@@ -56,7 +56,10 @@ impl Sender {
         mailbox: &'a Mailbox<'a, R, C>,
     ) -> Line<'a, R, C>
         requires { IsSender mailbox.now.queue.now mailbox.now.pool.now self.old }
-        ensures { IsReady (way_of result) }
+        ensures ready { IsReady (way_of result) }
+        ensures queue { (result.queue.now ≡ mailbox.now.queue.now) × (result.pool.now ≡ mailbox.now.pool.now) }
+        ensures clock { result.clock.now ≡ mailbox.now.clock.now }
+        ensures sender { (result.poster.now ≡ self.old.poster) × (result.pass.now ≡ self.old.pass) }
     {
         Line {
             rt: mailbox.rt,
@@ -80,10 +83,11 @@ pub struct Senders {
 }
 
 impl Senders {
-    /// The last sender that no thread has. There is one.
+    /// The last sender that no thread has, which has done nothing. There is one.
     pub fn next<R: Wait, C: Clock>(&mut self, mailbox: &Mailbox<R, C>) -> Sender
         requires { AreSenders mailbox.now.queue.now mailbox.now.pool.now self.old × (0 < length self.old.posters.items) }
         ensures sender { IsSender mailbox.now.queue.now mailbox.now.pool.now result }
+        ensures unused { IsNewPoster result.poster }
         ensures rest { AreSenders mailbox.now.queue.now mailbox.now.pool.now self.new }
         ensures count { IsOneFewer self.new self.old }
     {
@@ -112,15 +116,15 @@ pub struct Opened {
 
 /// A queue with its pool, its looper and as many senders as the settings say (`Looper.prepare`). NoMemory where it found none.
 pub fn open(alloc: Global, settings: Settings) -> Result<Opened, NoMemory>
-    ensures opened { IfOk result (IsOpened settings.senders) }
+    ensures opened { IfOk result (IsOpened settings settings.senders) }
 {
     open_with(alloc, settings, u32::from(settings.senders))
 }
 
-/// The same with so many senders.
-pub(crate) fn open_with(alloc: Global, settings: Settings, senders: u32) -> Result<Opened, NoMemory>
+/// The same with so many senders (this project's profile).
+pub fn open_with(alloc: Global, settings: Settings, senders: u32) -> Result<Opened, NoMemory>
     requires { senders ≤ 65536 }
-    ensures opened { IfOk result (IsOpened senders) }
+    ensures opened { IfOk result (IsOpened settings senders) }
 {
     let (pool, mut pass) = Pool::new(alloc)?;
     let (queue, mut posters) = SharedQueue::make(
@@ -182,9 +186,10 @@ fn last_of(
     queue: &SharedQueue<PoolClaim>,
     posters: &mut Vec<Poster<PoolClaim>>,
 ) -> Poster<PoolClaim>
-    requires { AreInOrder queue.now posters.old.items × (0 < length posters.old.items) }
+    requires { AreNew queue.now posters.old.items × (0 < length posters.old.items) }
     ensures poster { IsOf result queue.now }
-    ensures rest { AreInOrder queue.now posters.new.items }
+    ensures unused { IsNewPoster result }
+    ensures rest { AreNew queue.now posters.new.items }
     ensures count { length posters.old.items ≡ length posters.new.items + 1 }
     ensures sender { result.sender + 1 ≡ length posters.old.items }
 {

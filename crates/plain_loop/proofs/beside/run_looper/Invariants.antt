@@ -10,4 +10,5 @@ invariant-loop g l = record {
   looper : IsLooper l.mailbox.queue.now l.mailbox.pool.now l.looper;
   serves : IsPlaceOf l.dispatcher.mailbox.now.queue.now l.dispatcher.mailbox.now.pool.now (workplace l.looper.held);
   looped : (n : ℕ) × LoopsTimes (g.C.Clock.shows l.mailbox.clock.now) l.mailbox.queue.now.constants.setting n l.initial.looper l.looper;
+  holds : g.H.Handle.Holds l.dispatcher.handlers;
 }

@@ -1,0 +1,115 @@
+-- What the calls on a screen and the steps of its dispatcher keep.
+use Rattle.std.proofs.Common.{◌≡◌, ℕ, [], refl, sym, ap, ◌∙◌, subst, Some}
+use Rattle.std.specs.Prelude.{Result, Ok, Err, OnOk}
+use Rattle.atomic_table.specs.Seated.{TableId}
+use Rattle.loop_model.specs.declared.journal.Journal.{Journal}
+use Rattle.loop_model.specs.declared.memory.NoMemory.{NoMemory}
+use Rattle.message_pool.specs.Passes.{Tally}
+use Rattle.shared_queue.specs.Known.{Shared, IsOf}
+use Rattle.choreographer.specs.Known.{Shared as FrameShared, Known as FrameKnown, IsOf as IsFrameOf}
+use Rattle.choreographer.specs.declared.frame.Framed.{Framed}
+use Rattle.choreographer.specs.declared.frame.Framed.TheVariants as framed
+use Rattle.choreographer.specs.Done.{UnlessNoMemory}
+use Rattle.handler_post.specs.Ways.{KeptWay as Way}
+use Rattle.handler_post.specs.Ways.{IsReady}
+use Rattle.looper_run.specs.Holding.{KeptOwn as Own}
+use Rattle.looper_run.specs.Holding.{Sender, Holding, Workplace, workplace, held}
+use Rattle.looper_run.specs.Tests.{IsLent, IsSameLooper}
+use Rattle.looper_run.proofs.Working.{lent_self}
+use Rattle.plain_loop.specs.Lines.{Keeps}
+use Rattle.plain_loop.specs.Handling.{IsPlaceOf}
+use Rattle.frame_loop.specs.declared.screen.Screen.{Screen}
+use Rattle.frame_loop.specs.Screens.{KeepsScreen}
+use Rattle.frame_loop.specs.Paintings.{PaintingOrigin, ServesPainting, lending}
+use Rattle.frame_loop.specs.Dispatching.{ServesFrames, KeepsOwn, FoundMemory}
+
+-- a way keeps itself
+pub keeps_self : (v : Way) → IsReady v → Keeps v v
+keeps_self v ready = record {
+  ready = ready;
+  same = record { queue = refl; pool = refl; poster = refl; pass = refl };
+  lent = λ start h. h;
+}
+
+-- two calls
+pub keeps_then : (u v w : Way) → Keeps u v → Keeps v w → Keeps u w
+keeps_then u v w a b = record {
+  ready = b.ready;
+  same = record { queue = b.same.queue ∙ a.same.queue; pool = b.same.pool ∙ a.same.pool; poster = b.same.poster ∙ a.same.poster; pass = b.same.pass ∙ a.same.pass };
+  lent = λ start h. b.lent start (a.lent start h);
+}
+
+-- what was lent and not touched
+pub own_self : (o : Own) → KeepsOwn o o
+own_self o = record { same = record { poster = refl; pass = refl; journal = refl }; lent = lent_self (held o); rung = refl }
+
+-- the place of a looper that goes on as a dispatcher's calls may
+pub place_after : (a b : Holding) → IsSameLooper a b → workplace b ≡ workplace a
+place_after a b same = λ i. record { table = same.table i; constants = same.constants i; pool = same.home i }
+
+module _ (queue : Shared TableId) (pool : TableId) (c : FrameShared) (frames asks : FrameKnown) where
+  -- a dispatcher serves the same place
+  pub serves_place : (w v : Workplace) → v ≡ w → ServesFrames queue pool c frames asks w → ServesFrames queue pool c frames asks v
+  serves_place w v same serves = subst (λ (x : Workplace). ServesFrames queue pool c frames asks x) (sym same) serves
+
+  -- and the looper behind what it kept
+  pub serves_after : (a b : Holding) → IsSameLooper a b → ServesFrames queue pool c frames asks (workplace a) → ServesFrames queue pool c frames asks (workplace b)
+  serves_after a b same = serves_place (workplace a) (workplace b) (place_after a b same)
+
+  -- a dispatcher serves what it served once a frame ran by its passes
+  pub serves_framed : (frames' asks' : FrameKnown) (w : Workplace) → frames'.table ≡ frames.table → frames'.view.constants ≡ frames.view.constants → IsFrameOf asks' c
+      → ServesFrames queue pool c frames asks w → ServesFrames queue pool c frames' asks' w
+  serves_framed frames' asks' w table constants asking serves = record {
+    place = serves.place;
+    framing = (table ∙ serves.framing.0, constants ∙ serves.framing.1);
+    asking = asking;
+    phases = serves.phases;
+    seals = serves.seals;
+  }
+
+  -- as a frame opens its client serves
+  pub opens : (o : PaintingOrigin) (poster : Sender) (pass : Tally) (j : Journal) → ServesFrames queue pool c frames asks (workplace (lending poster pass j)) → o.queue ≡ queue → o.pool ≡ pool
+      → o.choreographer ≡ c → o.poster ≡ poster → o.pass ≡ pass → ServesPainting o poster pass asks c
+  opens o poster pass j serves oq op oc began pass_began = record {
+    of_queue = (serves.place.table ∙ ap (λ (q : Shared TableId). q.table) (sym oq), serves.place.constants ∙ ap (λ (q : Shared TableId). Some q.constants) (sym oq));
+    of_pool = serves.place.pass ∙ sym op;
+    home = ap (λ (q : Shared TableId). q.constants.home) oq ∙ (serves.place.home ∙ sym op);
+    of_frames = sym oc;
+    asking = serves.asking;
+    phases = serves.phases;
+    lent = λ k. subst (λ (p : Sender). IsLent (lending p o.pass k) (lending poster pass k)) (sym began)
+        (subst (λ (a : Tally). IsLent (lending poster a k) (lending poster pass k)) (sym pass_began) (lent_self (lending poster pass k)));
+    rung = ap (λ (p : Sender). p.view.rung) (sym began);
+  }
+
+-- as it closes, what was lent has gone on
+pub closes : (o' : PaintingOrigin) (poster poster' : Sender) (pass pass' : Tally) (asks : FrameKnown) (c : FrameShared) (j : Journal) → o'.poster ≡ poster → o'.pass ≡ pass
+    → ServesPainting o' poster' pass' asks c → IsLent (lending poster pass j) (lending poster' pass' j) × (poster'.view.rung ≡ poster.view.rung)
+closes o' poster poster' pass pass' asks c j began pass_began s = (
+  subst (λ (a : Tally). IsLent (lending poster a j) (lending poster' pass' j)) pass_began (subst (λ (p : Sender). IsLent (lending p o'.pass j) (lending poster' pass' j)) began (s.lent j)),
+  s.rung ∙ ap (λ (p : Sender). p.view.rung) began,
+)
+
+module _ {R C : Type 0} where
+  -- a callback that kept its screen leaves a client that serves what it served
+  pub paints : (o : PaintingOrigin) (s t : Screen R C) (q : FrameShared) → KeepsScreen s t → o.queue ≡ s.queue.now → o.pool ≡ s.pool.now → o.choreographer ≡ s.choreographer.now
+      → ServesPainting o s.poster.now s.pass.now s.asks.now q → ServesPainting o t.poster.now t.pass.now t.asks.now q
+  paints o s t q k oq op oc h = record {
+    of_queue = subst (λ (x : Shared TableId). IsOf t.poster.now x) (k.line.same.queue ∙ sym oq) k.line.ready.poster;
+    of_pool = k.line.ready.pass ∙ (k.line.same.pool ∙ sym op);
+    home = h.home;
+    of_frames = h.of_frames;
+    asking = subst (λ (x : FrameShared). IsFrameOf t.asks.now x) (k.same.choreographer ∙ (sym oc ∙ sym h.of_frames)) k.screen.asks;
+    phases = h.phases;
+    lent = λ j. (k.line.lent (lending o.poster o.pass j) (h.lent j, h.rung)).0;
+    rung = (k.line.lent (lending o.poster o.pass (record { looper = 0; acts = [] })) (h.lent (record { looper = 0; acts = [] }), h.rung)).1;
+  }
+
+-- what holds unless a frame found no memory holds where its code ended well
+pub found : (f : Framed) (r : Result (Unit {0}) NoMemory) (P : Type 0) → OnOk r (FoundMemory f) → UnlessNoMemory f P → OnOk r P
+found f (Err e) P is h = tt
+found framed.Done (Ok done) P is h = h
+found (framed.Elsewhere next) (Ok done) P is h = h
+found framed.Unscheduled (Ok done) P is h = h
+found (framed.Backwards last) (Ok done) P is h = h
+found framed.NoMemory (Ok done) P is h = absurd is

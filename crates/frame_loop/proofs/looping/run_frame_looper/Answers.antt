@@ -1,0 +1,22 @@
+use Rattle.std.proofs.Common.{sym, subst}
+use Rattle.plain_loop.proofs.Looping.{times_more}
+use Rattle.frame_loop.proofs.Keeping.{serves_place}
+use Rattle.frame_loop.proofs.looping.run_frame_looper.Goals as goal
+
+pub loop_and_let_go-requires-clause-serves : goal.loop_and_let_go-requires-clause-serves
+loop_and_let_go-requires-clause-serves g c = c.next_pulse-pulse.ensures.serves _ c.loop.invariant.serves
+
+pub let_frames_go-requires-clause-frames : goal.let_frames_go-requires-clause-frames
+let_frames_go-requires-clause-frames g c = (c.loop_and_let_go.ensures.serves _ (c.next_pulse-pulse.ensures.serves _ c.loop.invariant.serves)).framing
+
+pub let_frames_go-requires-clause-seals : goal.let_frames_go-requires-clause-seals
+let_frames_go-requires-clause-seals g c = (c.loop_and_let_go.ensures.serves _ (c.next_pulse-pulse.ensures.serves _ c.loop.invariant.serves)).seals
+
+pub loop-preserved : goal.loop-preserved
+loop-preserved g c = record {
+  looper = c.in_ok-loop_and_let_go.ensures.looper c.if-branch.false;
+  serves = c.let_frames_go.ensures.serves _
+      (serves_place _ _ _ _ _ _ _ c.in_ok-loop_and_let_go.ensures.place (c.loop_and_let_go.ensures.serves _ (c.next_pulse-pulse.ensures.serves _ c.loop.invariant.serves)));
+  looped = times_more _ _ _ _ c.loop.looper c.loop_and_let_go.new.looper _ c.if-branch.false c.loop.invariant.looped.1 c.in_ok-loop_and_let_go.ensures.looped;
+  holds = subst (λ h. g.H.FrameHandle.Holds h) (sym c.let_frames_go.ensures.handlers) c.in_ok-loop_and_let_go.ensures.awaits;
+}

@@ -1,0 +1,42 @@
+-- What the dispatcher of a looper with frames serves, and what its steps keep.
+use Rattle.std.specs.Prelude.{◌≡◌, true}
+use Rattle.atomic_table.specs.Seated.{TableId}
+use Rattle.shared_queue.specs.Known.{Shared}
+use Rattle.choreographer.specs.Known.{Shared as FrameShared, Known as FrameKnown, IsOf}
+use Rattle.choreographer.specs.declared.frame.Framed.{Framed}
+use Rattle.choreographer.specs.declared.frame.Framed.TheVariants as framed
+use Rattle.looper_run.specs.Holding.{KeptOwn as Own}
+use Rattle.looper_run.specs.Holding.{Workplace, held, IsSameOwn}
+use Rattle.looper_run.specs.Tests.{IsLent}
+use Rattle.plain_loop.specs.Handling.{IsPlaceOf}
+use Rattle.frame_loop.specs.declared.dispatching.FrameHandling.{FrameHandling}
+
+-- the looper is of this queue and this pool, and both passes are of the choreographer, which has five phases and lets its record go
+pub record ServesFrames (queue : Shared TableId) (pool : TableId) (c : FrameShared) (frames asks : FrameKnown) (w : Workplace) : Type 0 where
+  pub place : IsPlaceOf queue pool w
+  pub framing : IsOf frames c
+  pub asking : IsOf asks c
+  pub phases : c.constants.phases ≡ 5
+  pub seals : c.constants.seals ≡ true
+
+-- the same of a dispatcher
+abbrev pub Serving : {R C H : Type 0} → FrameHandling R C H → Workplace → Type 0
+Serving d w = ServesFrames d.mailbox.now.queue.now d.mailbox.now.pool.now d.choreographer.now d.frames d.asks w
+
+-- it serves the loopers that it served
+abbrev pub KeepsServing : {R C H : Type 0} → FrameHandling R C H → FrameHandling R C H → Type 0
+KeepsServing before after = (w : Workplace) → Serving before w → Serving after w
+
+-- what was lent has gone on as the calls of a dispatcher may, by the same references, and rang no bell
+pub record KeepsOwn (before after : Own) : Type 0 where
+  pub same : IsSameOwn before after
+  pub lent : IsLent (held before) (held after)
+  pub rung : after.poster.now.view.rung ≡ before.poster.now.view.rung
+
+-- a frame that went so found memory
+abbrev pub FoundMemory : Framed → Type 0
+FoundMemory framed.Done = Unit {0}
+FoundMemory (framed.Elsewhere next) = Unit {0}
+FoundMemory framed.Unscheduled = Unit {0}
+FoundMemory (framed.Backwards last) = Unit {0}
+FoundMemory framed.NoMemory = ⊥

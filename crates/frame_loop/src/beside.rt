@@ -1,0 +1,225 @@
+//! Loopers with frames, alone and beside other work.
+ghost use Rattle.std.specs.Prelude.{◌≡◌, ◌<◌, false, length, IfOk};
+ghost use Rattle.plain_loop.specs.Senders.{IsSender, AreSenders, IsOneFewer, IsLooper};
+
+use crate::handlers::FrameHandle;
+use crate::looping::run_frame_looper;
+use loop_io::Clock;
+use loop_model::NoMemory;
+use looper_run::Looper;
+use plain_loop::{Mailbox, Opened, Sender, Senders, Settings, open, open_with};
+use std::alloc::Global;
+use std::sync::Wait;
+use std::thread::{Threads, join};
+use std::time;
+
+/// Makes a looper with a choreographer, does what comes before its loop, as to post its first messages, and loops as
+/// `run_frame_looper` until the queue is over. Answers the handlers (`Looper.prepare`, `loop`).
+pub fn run_frames_here<
+    R: Wait + time::Clock,
+    C: Clock,
+    H: FrameHandle<R, C> + Drop,
+    W: FnOnce(&Mailbox<R, C>, Senders) + Drop,
+>(
+    rt: &R,
+    alloc: Global,
+    clock: &C,
+    settings: Settings,
+    period: u64,
+    handlers: H,
+    before: W,
+) -> Result<H, NoMemory>
+    requires before { (m : _) (s : _) → AreSenders m.now.queue.now m.now.pool.now s × (length s.posters.items ≡ settings.senders) → W.pre before m s }
+    requires period { 0 < period }
+    requires holds { H.Holds handlers }
+    ensures holds { IfOk result H.Holds }
+{
+    let Opened {
+        queue,
+        pool,
+        mut looper,
+        senders,
+        sources,
+    } = open(alloc, settings)?;
+    let mailbox = Mailbox {
+        rt,
+        alloc,
+        clock,
+        queue: &queue,
+        pool: &pool,
+        sources: &sources,
+    };
+    before(&mailbox, senders);
+    run_frame_looper(&mailbox, &mut looper, period, handlers)
+}
+
+// Does the work, and then quits the queue safely by this sender.
+fn work_and_quit<R: Wait, C: Clock, T, W: FnOnce(&Mailbox<R, C>, Senders) -> T>(
+    mailbox: &Mailbox<R, C>,
+    senders: Senders,
+    mut last: Sender,
+    work: W,
+) -> T
+    requires last { IsSender mailbox.now.queue.now mailbox.now.pool.now last }
+    requires work { W.pre work mailbox senders }
+{
+    let answer = work(mailbox, senders);
+    last.line(mailbox).quit_safely();
+    answer
+}
+
+// Does the work beside the looper.
+fn side_by_side<
+    R: Threads + Wait + time::Clock + Sync,
+    C: Clock + Sync,
+    H: FrameHandle<R, C> + Send + Drop,
+    T: Send + Drop,
+    W: FnOnce(&Mailbox<R, C>, Senders) -> T + Send + Drop,
+>(
+    mailbox: &Mailbox<R, C>,
+    mut looper: Looper,
+    mut senders: Senders,
+    period: u64,
+    handlers: H,
+    work: W,
+) -> Result<(T, H), NoMemory>
+    requires looper { IsLooper mailbox.now.queue.now mailbox.now.pool.now looper }
+    requires free { mailbox.now.queue.now.constants.setting.lockstep ≡ false }
+    requires period { 0 < period }
+    requires senders { AreSenders mailbox.now.queue.now mailbox.now.pool.now senders × (0 < length senders.posters.items) }
+    requires work { (s : _) → AreSenders mailbox.now.queue.now mailbox.now.pool.now s × IsOneFewer s senders → W.pre work mailbox s }
+    requires holds { H.Holds handlers }
+    ensures holds { IfOk result (λ r. H.Holds r.1) }
+{
+    let last = senders.next(mailbox);
+    let (answer, handlers) = join(
+        mailbox.rt,
+        || work_and_quit(mailbox, senders, last, work),
+        || run_frame_looper(mailbox, &mut looper, period, handlers),
+    );
+    Ok((answer, handlers?))
+}
+
+/// Runs a looper with a choreographer in a thread of its own, as `run_frame_looper`, and beside it this work, which is handed the
+/// looper's mailbox and its senders; when the work is done the queue is quit safely, so it isn't that of a main looper. Answers what
+/// the work did, and the handlers (`HandlerThread.start`, `quitSafely`, `join`).
+pub fn run_frames_beside<
+    R: Threads + Wait + time::Clock + Sync,
+    C: Clock + Sync,
+    H: FrameHandle<R, C> + Send + Drop,
+    T: Send + Drop,
+    W: FnOnce(&Mailbox<R, C>, Senders) -> T + Send + Drop,
+>(
+    rt: &R,
+    alloc: Global,
+    clock: &C,
+    settings: Settings,
+    period: u64,
+    handlers: H,
+    work: W,
+) -> Result<(T, H), NoMemory>
+    requires work { (m : _) (s : _) → AreSenders m.now.queue.now m.now.pool.now s × (length s.posters.items ≡ settings.senders) → W.pre work m s }
+    requires quits { settings.main ≡ false }
+    requires period { 0 < period }
+    requires holds { H.Holds handlers }
+    ensures holds { IfOk result (λ r. H.Holds r.1) }
+{
+    let Opened {
+        queue,
+        pool,
+        looper,
+        senders,
+        sources,
+    } = open_with(alloc, settings, u32::from(settings.senders) + 1)?;
+    let mailbox = Mailbox {
+        rt,
+        alloc,
+        clock,
+        queue: &queue,
+        pool: &pool,
+        sources: &sources,
+    };
+    side_by_side(&mailbox, looper, senders, period, handlers, work)
+}
+
+fn do_work<R: Wait, C: Clock, T, W: FnOnce(&Mailbox<R, C>, Senders) -> T>(
+    mailbox: &Mailbox<R, C>,
+    senders: Senders,
+    work: W,
+) -> T
+    requires { W.pre work mailbox senders }
+{
+    work(mailbox, senders)
+}
+
+// Does the work beside the looper, which a handler or a sender quits.
+fn all_beside<
+    R: Threads + Wait + time::Clock + Sync,
+    C: Clock + Sync,
+    H: FrameHandle<R, C> + Send + Drop,
+    T: Send + Drop,
+    W: FnOnce(&Mailbox<R, C>, Senders) -> T + Send + Drop,
+>(
+    mailbox: &Mailbox<R, C>,
+    mut looper: Looper,
+    senders: Senders,
+    period: u64,
+    handlers: H,
+    work: W,
+) -> Result<(T, H), NoMemory>
+    requires looper { IsLooper mailbox.now.queue.now mailbox.now.pool.now looper }
+    requires free { mailbox.now.queue.now.constants.setting.lockstep ≡ false }
+    requires period { 0 < period }
+    requires work { W.pre work mailbox senders }
+    requires holds { H.Holds handlers }
+    ensures holds { IfOk result (λ r. H.Holds r.1) }
+{
+    let (answer, handlers) = join(
+        mailbox.rt,
+        || do_work(mailbox, senders, work),
+        || run_frame_looper(mailbox, &mut looper, period, handlers),
+    );
+    Ok((answer, handlers?))
+}
+
+/// Runs a looper with a choreographer in a thread of its own, as `run_frame_looper`, and beside it this work, which is handed the
+/// looper's mailbox and its senders. It goes on until a handler or a sender quits it. Answers what the work did, and the handlers
+/// (`HandlerThread.start`, `join`).
+pub fn run_frames_with<
+    R: Threads + Wait + time::Clock + Sync,
+    C: Clock + Sync,
+    H: FrameHandle<R, C> + Send + Drop,
+    T: Send + Drop,
+    W: FnOnce(&Mailbox<R, C>, Senders) -> T + Send + Drop,
+>(
+    rt: &R,
+    alloc: Global,
+    clock: &C,
+    settings: Settings,
+    period: u64,
+    handlers: H,
+    work: W,
+) -> Result<(T, H), NoMemory>
+    requires work { (m : _) (s : _) → AreSenders m.now.queue.now m.now.pool.now s × (length s.posters.items ≡ settings.senders) → W.pre work m s }
+    requires quits { settings.main ≡ false }
+    requires period { 0 < period }
+    requires holds { H.Holds handlers }
+    ensures holds { IfOk result (λ r. H.Holds r.1) }
+{
+    let Opened {
+        queue,
+        pool,
+        looper,
+        senders,
+        sources,
+    } = open(alloc, settings)?;
+    let mailbox = Mailbox {
+        rt,
+        alloc,
+        clock,
+        queue: &queue,
+        pool: &pool,
+        sources: &sources,
+    };
+    all_beside(&mailbox, looper, senders, period, handlers, work)
+}
