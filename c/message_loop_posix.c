@@ -1,33 +1,19 @@
-/* The loop's lock, wake, wait, clock and function pointers. On Linux epoll, an eventfd and a timerfd; elsewhere, and with
- * MLP_PORTABLE, poll and a pipe. */
+/* The loop's handlers, frames, idle handlers, listeners and function pointers. What it does next the table of loop_next.h decides, and what
+ * it has of the system is message_loop_system.h. */
 #if !defined(_GNU_SOURCE) && !defined(_POSIX_C_SOURCE)
 #define _POSIX_C_SOURCE 200809L
 #endif
 #include "message_loop_posix.h"
 
 #include "frame_phases.h"
+#include "loop_next.h"
 #include "loop_sources.h"
+#include "message_loop_system.h"
 #include "message_trace.h"
 
-#include <errno.h>
-#include <fcntl.h>
-#include <limits.h>
-#include <pthread.h>
 #include <stdlib.h>
-#include <time.h>
-#include <unistd.h>
+#include <string.h>
 
-#if defined(__linux__) && !defined(MLP_PORTABLE)
-#define MLP_LINUX 1
-#include <sys/epoll.h>
-#include <sys/eventfd.h>
-#include <sys/timerfd.h>
-#else
-#define MLP_LINUX 0
-#include <poll.h>
-#endif
-
-#define NEVER UINT64_MAX
 #define MILLI UINT64_C(1000000)
 
 typedef struct {
@@ -44,15 +30,15 @@ typedef struct {
 } watch_entry;
 
 struct mlp_loop {
-    pthread_mutex_t lock; /* round the queue, the frames and what they need: handlers, vsync, waits, ask */
+    mlp_system system; /* its lock is round the queue, the frames and what they need: handlers, vsync, until, ask */
     msgq_queue queue;
     msgq_trace trace;
     mloop_frames frames;
     mlp_handler **handlers; /* by id; row 0 is the loop's own, for frames */
     uint32_t handler_count;
-    uint64_t vsync;   /* the stamp of the frame that was asked for */
-    bool frame_owed;  /* its message found no memory */
-    bool waits;       /* the loop waits, or is about to */
+    uint64_t vsync;  /* the stamp of the frame that was asked for */
+    uint64_t until;  /* until when the loop waits, or is about to, in nanoseconds; 0: it does not */
+    bool frame_owed; /* its message found no memory, or the frame did */
     mlp_func ask;
     void *ask_user;
     /* the loop's thread alone */
@@ -61,14 +47,7 @@ struct mlp_loop {
     uint32_t idle_count;
     watch_entry *watches;
     uint32_t watch_count, watched;
-    bool idle_owed, idle_turn;
-    uint64_t until; /* nanoseconds; 0: it may have something to do at once */
-    /* the system */
-    int poll_fd, wake_in, wake_out, timer_fd;
-    uint64_t armed;
-#if !MLP_LINUX
-    struct pollfd *polls;
-#endif
+    bool idle_owed, idle_turn, events;
 };
 
 /* the messages of the loop's own handler */
@@ -79,168 +58,54 @@ uint32_t mlp_version(void)
     return MLP_VERSION;
 }
 
-uint64_t mlp_now_ns(void)
-{
-    struct timespec t;
-    clock_gettime(CLOCK_MONOTONIC, &t);
-    return (uint64_t)t.tv_sec * UINT64_C(1000000000) + (uint64_t)t.tv_nsec;
-}
-
-uint64_t mlp_now(void)
-{
-    return mlp_now_ns() / MILLI;
-}
-
 static void lock(mlp_loop *loop)
 {
-    pthread_mutex_lock(&loop->lock);
+    pthread_mutex_lock(&loop->system.lock);
 }
 
 static void unlock(mlp_loop *loop)
 {
-    pthread_mutex_unlock(&loop->lock);
+    pthread_mutex_unlock(&loop->system.lock);
 }
-
-/* ---- the system: a wake, a wait, descriptors */
-
-static void ready(mlp_loop *loop, int fd, uint32_t events);
 
 void mlp_wake(mlp_loop *loop)
 {
-    if (loop == NULL) return;
-    int saved = errno;
-    uint64_t one = 1;
-    ssize_t n = write(loop->wake_out, &one, MLP_LINUX ? sizeof one : 1);
-    (void)n; /* full: a wake stands already */
-    errno = saved;
+    if (loop != NULL) mlp_system_wake(&loop->system);
 }
-
-static void drain(int fd)
-{
-    uint64_t buffer[8];
-    while (read(fd, buffer, MLP_LINUX ? sizeof *buffer : sizeof buffer) > 0 && !MLP_LINUX) {
-    }
-}
-
-static int milliseconds_until(uint64_t until)
-{
-    if (until == NEVER) return -1;
-    uint64_t now = mlp_now_ns();
-    if (until <= now) return 0;
-    uint64_t left = (until - now - 1) / MILLI + 1;
-    return left > INT_MAX ? INT_MAX : (int)left;
-}
-
-#if MLP_LINUX
-
-static bool system_watch(mlp_loop *loop, int fd, uint32_t mask, bool known)
-{
-    struct epoll_event event = {.events = (mask & MLP_INPUT ? EPOLLIN : 0u) | (mask & MLP_OUTPUT ? EPOLLOUT : 0u), .data.fd = fd};
-    if (mask == 0) return epoll_ctl(loop->poll_fd, EPOLL_CTL_DEL, fd, &event) == 0 || true;
-    return epoll_ctl(loop->poll_fd, known ? EPOLL_CTL_MOD : EPOLL_CTL_ADD, fd, &event) == 0;
-}
-
-static bool system_open(mlp_loop *loop)
-{
-    loop->poll_fd = epoll_create1(EPOLL_CLOEXEC);
-    loop->wake_in = loop->wake_out = eventfd(0, EFD_NONBLOCK | EFD_CLOEXEC);
-    loop->timer_fd = timerfd_create(CLOCK_MONOTONIC, TFD_NONBLOCK | TFD_CLOEXEC);
-    return loop->poll_fd >= 0 && loop->wake_in >= 0 && loop->timer_fd >= 0 && system_watch(loop, loop->wake_in, MLP_INPUT, false) &&
-           system_watch(loop, loop->timer_fd, MLP_INPUT, false);
-}
-
-static void system_arm(mlp_loop *loop, uint64_t until)
-{
-    if (until == loop->armed) return;
-    uint64_t at = until == NEVER ? 0 : until; /* 0 disarms */
-    struct itimerspec spec = {.it_value = {.tv_sec = (time_t)(at / 1000000000u), .tv_nsec = (long)(at % 1000000000u)}};
-    timerfd_settime(loop->timer_fd, TFD_TIMER_ABSTIME, &spec, NULL);
-    loop->armed = until;
-}
-
-/* Waits until the moment, or not at all, hands in what came, and says whether anything did. */
-static bool system_wait(mlp_loop *loop, uint64_t until, bool may_wait)
-{
-    struct epoll_event events[16];
-    if (until != 0) system_arm(loop, until);
-    int n = epoll_wait(loop->poll_fd, events, 16, may_wait ? -1 : 0);
-    for (int i = 0; i < n; i++) {
-        int fd = events[i].data.fd;
-        if (fd == loop->wake_in) {
-            drain(fd);
-        } else if (fd == loop->timer_fd) {
-            drain(fd);
-            loop->armed = NEVER;
-        } else {
-            uint32_t e = events[i].events;
-            ready(loop, fd, (e & EPOLLIN ? MLP_INPUT : 0u) | (e & EPOLLOUT ? MLP_OUTPUT : 0u) | (e & (EPOLLERR | EPOLLHUP) ? MLP_ERROR : 0u));
-        }
-    }
-    return n > 0;
-}
-
-#else
-
-static bool system_watch(mlp_loop *loop, int fd, uint32_t mask, bool known)
-{
-    (void)fd, (void)known;
-    if (mask == 0) return true;
-    struct pollfd *polls = realloc(loop->polls, (loop->watch_count + 2) * sizeof *polls);
-    if (polls != NULL) loop->polls = polls;
-    return polls != NULL;
-}
-
-static bool system_open(mlp_loop *loop)
-{
-    int ends[2];
-    if (pipe(ends) != 0) return false;
-    for (int i = 0; i < 2; i++) {
-        fcntl(ends[i], F_SETFL, O_NONBLOCK);
-        fcntl(ends[i], F_SETFD, FD_CLOEXEC);
-    }
-    loop->wake_in = ends[0], loop->wake_out = ends[1];
-    return system_watch(loop, ends[0], MLP_INPUT, false);
-}
-
-static bool system_wait(mlp_loop *loop, uint64_t until, bool may_wait)
-{
-    nfds_t n = 0;
-    loop->polls[n++] = (struct pollfd){.fd = loop->wake_in, .events = POLLIN};
-    for (uint32_t i = 0; i < loop->watch_count; i++) {
-        uint32_t mask = loop->watches[i].mask;
-        if (mask != 0) loop->polls[n++] = (struct pollfd){.fd = loop->watches[i].fd, .events = (short)((mask & MLP_INPUT ? POLLIN : 0) | (mask & MLP_OUTPUT ? POLLOUT : 0))};
-    }
-    if (poll(loop->polls, n, may_wait ? milliseconds_until(until) : 0) <= 0) return false;
-    if (loop->polls[0].revents != 0) drain(loop->wake_in);
-    for (nfds_t i = 1; i < n; i++) {
-        short e = loop->polls[i].revents;
-        if (e != 0) ready(loop, loop->polls[i].fd, (e & POLLIN ? MLP_INPUT : 0u) | (e & POLLOUT ? MLP_OUTPUT : 0u) | (e & (POLLERR | POLLHUP | POLLNVAL) ? MLP_ERROR : 0u));
-    }
-    return true;
-}
-
-#endif
 
 int mlp_fd(const mlp_loop *loop)
 {
-    return loop == NULL ? -1 : loop->poll_fd;
+    return loop == NULL ? -1 : loop->system.poll_fd;
 }
 
 int mlp_timeout(mlp_loop *loop)
 {
-    return loop == NULL ? -1 : milliseconds_until(loop->until);
+    return loop == NULL ? -1 : mloop_milliseconds(loop->until, mlp_now_ns());
+}
+
+/* The table with one row more, all of 0. NULL, and the table is as it was, where there is no memory. */
+static void *with_a_row(void *table, uint32_t *count, size_t row)
+{
+    char *rows = realloc(table, (*count + 1) * row);
+    if (rows != NULL) memset(rows + (*count)++ * row, 0, row);
+    return rows;
 }
 
 /* ---- messages */
+
+/* Ends a call on the queue, with the lock: it wakes the loop where the answer says so, and tells whether the call was done. */
+static bool done(mlp_loop *loop, msgq_answer answer)
+{
+    unlock(loop);
+    if (answer.wake) mlp_wake(loop);
+    return answer.kind == MSGQ_DONE;
+}
 
 static bool post(mlp_loop *loop, msgq_message message, bool front)
 {
     if (!front && message.when == 0) message.when = 1;
     lock(loop);
-    msgq_answer answer = front ? msgq_traced_post_at_front(&loop->trace, &loop->queue, &message) : msgq_traced_post(&loop->trace, &loop->queue, &message);
-    unlock(loop);
-    if (answer.wake) mlp_wake(loop);
-    return answer.kind == MSGQ_DONE;
+    return done(loop, front ? msgq_traced_post_at_front(&loop->trace, &loop->queue, &message) : msgq_traced_post(&loop->trace, &loop->queue, &message));
 }
 
 static uint64_t after(uint64_t milliseconds)
@@ -351,30 +216,24 @@ bool mlp_barrier(mlp_loop *loop, uint64_t *token)
     if (loop == NULL || token == NULL) return false;
     lock(loop);
     msgq_answer answer = msgq_traced_barrier(&loop->trace, &loop->queue, mlp_now());
-    unlock(loop);
     *token = answer.number;
-    return answer.kind == MSGQ_DONE;
+    return done(loop, answer);
 }
 
 bool mlp_unbarrier(mlp_loop *loop, uint64_t token)
 {
     if (loop == NULL) return false;
     lock(loop);
-    msgq_answer answer = msgq_traced_remove_barrier(&loop->trace, &loop->queue, token);
-    unlock(loop);
-    if (answer.wake) mlp_wake(loop);
-    return answer.kind == MSGQ_DONE;
+    return done(loop, msgq_traced_remove_barrier(&loop->trace, &loop->queue, token));
 }
 
 bool mlp_quit(mlp_loop *loop, bool safe)
 {
     if (loop == NULL) return false;
     lock(loop);
-    msgq_answer answer = msgq_traced_quit(&loop->trace, &loop->queue, safe, mlp_now());
-    unlock(loop);
-    if (answer.wake) mlp_wake(loop);
+    bool quits = done(loop, msgq_traced_quit(&loop->trace, &loop->queue, safe, mlp_now()));
     let_go_of_dropped(loop);
-    return answer.kind == MSGQ_DONE;
+    return quits;
 }
 
 bool mlp_trace(mlp_loop *loop, FILE *log)
@@ -391,32 +250,34 @@ bool mlp_reserve(mlp_loop *loop, uint64_t count)
 {
     if (loop == NULL) return false;
     lock(loop);
-    msgq_answer answer = msgq_reserve(&loop->queue, count);
-    unlock(loop);
-    return answer.kind == MSGQ_DONE;
+    return done(loop, msgq_reserve(&loop->queue, count));
+}
+
+/* A free row of the handlers, with the lock, or 0 where there is no memory. */
+static uint32_t handler_row(mlp_loop *loop)
+{
+    uint32_t id = 1;
+    while (id < loop->handler_count && loop->handlers[id] != NULL) id++;
+    while (id >= loop->handler_count) {
+        void *handlers = with_a_row(loop->handlers, &loop->handler_count, sizeof *loop->handlers);
+        if (handlers == NULL) return 0;
+        loop->handlers = handlers;
+    }
+    return id;
 }
 
 bool mlp_handler_open_sized(mlp_loop *loop, mlp_handler *handler, size_t size)
 {
     if (loop == NULL || handler == NULL || size != sizeof *handler) return false;
     lock(loop);
-    uint32_t id = 1;
-    while (id < loop->handler_count && loop->handlers[id] != NULL) id++;
-    if (id >= loop->handler_count) {
-        mlp_handler **handlers = realloc(loop->handlers, (id + 1) * sizeof *handlers);
-        if (handlers == NULL) {
-            unlock(loop);
-            return false;
-        }
-        handlers[0] = NULL;
-        loop->handlers = handlers;
-        loop->handler_count = id + 1;
+    uint32_t id = handler_row(loop);
+    if (id != 0) {
+        loop->handlers[id] = handler;
+        handler->loop = loop;
+        handler->id = id;
     }
-    loop->handlers[id] = handler;
-    handler->loop = loop;
-    handler->id = id;
     unlock(loop);
-    return true;
+    return id != 0;
 }
 
 void mlp_handler_close(mlp_handler *handler)
@@ -433,7 +294,7 @@ void mlp_handler_close(mlp_handler *handler)
 
 /* ---- frames */
 
-/* With the lock: the pulse is there, and the frame's message is posted, which barriers let pass. */
+/* With the lock: the pulse is there, and the frame's message is posted, which barriers let pass. Whether the loop is to be woken. */
 static bool deliver(mlp_loop *loop, uint64_t stamp)
 {
     uint64_t when = stamp / MILLI;
@@ -441,20 +302,20 @@ static bool deliver(mlp_loop *loop, uint64_t stamp)
     loop->vsync = stamp;
     msgq_answer answer = msgq_traced_post(&loop->trace, &loop->queue, &message);
     loop->frame_owed = answer.kind == MSGQ_NO_MEMORY;
-    return answer.wake || (loop->frame_owed && loop->waits);
+    return answer.wake || (loop->frame_owed && loop->until != 0);
 }
 
-/* After a call that answered so, without the lock: the display is asked for its vsync, or the loop's wait ends earlier. */
-static void asked(mlp_loop *loop, mloop_frame_answer answer)
+/* Ends a call on the frames, with the lock: where it asked for a pulse the display is asked, or a wait that is longer ends. */
+static mloop_frame_kind asked(mlp_loop *loop, mloop_frame_answer answer)
 {
-    if (answer.kind != MLOOP_FRAME_ASKED && answer.kind != MLOOP_FRAME_BACKWARDS) return;
-    lock(loop);
+    bool asks = answer.kind == MLOOP_FRAME_ASKED || answer.kind == MLOOP_FRAME_BACKWARDS;
     mlp_func ask = loop->ask;
     void *user = loop->ask_user;
-    bool wake = ask == NULL && loop->waits;
+    bool wake = asks && ask == NULL && answer.time < loop->until;
     unlock(loop);
-    if (ask != NULL) ask(user);
+    if (asks && ask != NULL) ask(user);
     if (wake) mlp_wake(loop);
+    return answer.kind;
 }
 
 static bool post_frame(mlp_loop *loop, uint32_t phase, mlp_frame_func func, void *user, uint64_t due)
@@ -467,11 +328,9 @@ static bool post_frame(mlp_loop *loop, uint32_t phase, mlp_frame_func func, void
     uint64_t now = mlp_now_ns();
     /* For one that is due later a message is posted, before it: a message for nothing does no harm. */
     if (due > now / MILLI) posted = msgq_traced_post(&loop->trace, &loop->queue, &(msgq_message){.when = due, .what = DUE, .arg = phase, .asynchronous = true});
-    if (posted.kind == MSGQ_DONE) answer = mloop_frame_post(&loop->frames, &callback, now);
-    unlock(loop);
     if (posted.wake) mlp_wake(loop);
-    asked(loop, answer);
-    return answer.kind <= MLOOP_FRAME_ALREADY;
+    if (posted.kind == MSGQ_DONE) answer = mloop_frame_post(&loop->frames, &callback, now);
+    return asked(loop, answer) <= MLOOP_FRAME_ALREADY;
 }
 
 bool mlp_on_frame(mlp_loop *loop, uint32_t phase, mlp_frame_func func, void *user)
@@ -500,16 +359,14 @@ void mlp_use_vsync(mlp_loop *loop, mlp_func ask, void *user)
     lock(loop);
     loop->ask = ask;
     loop->ask_user = user;
-    mloop_frame_answer answer = mloop_frame_asked(&loop->frames);
-    unlock(loop);
-    asked(loop, answer);
+    asked(loop, mloop_frame_asked(&loop->frames));
 }
 
 void mlp_vsync(mlp_loop *loop, uint64_t stamp)
 {
     if (loop == NULL) return;
     lock(loop);
-    bool wake = mloop_frame_vsync(&loop->frames, NEVER).kind == MLOOP_FRAME_ASKED && deliver(loop, stamp);
+    bool wake = mloop_frame_vsync(&loop->frames, MLOOP_NEVER).kind == MLOOP_FRAME_ASKED && deliver(loop, stamp);
     unlock(loop);
     if (wake) mlp_wake(loop);
 }
@@ -517,12 +374,11 @@ void mlp_vsync(mlp_loop *loop, uint64_t stamp)
 static void do_frame(mlp_loop *loop)
 {
     lock(loop);
-    mloop_frame_answer began = mloop_frame_begin(&loop->frames, loop->vsync, mlp_now_ns());
-    unlock(loop);
-    asked(loop, began);
-    if (began.kind == MLOOP_FRAME_NO_MEMORY) loop->frame_owed = true;
+    mloop_frame_answer answer = mloop_frame_begin(&loop->frames, loop->vsync, mlp_now_ns());
+    loop->frame_owed = answer.kind == MLOOP_FRAME_NO_MEMORY;
+    mloop_frame_kind began = asked(loop, answer);
     /* Running: an earlier turn of this frame found no memory. */
-    while (began.kind == MLOOP_FRAME_BEGAN || began.kind == MLOOP_FRAME_RUNNING) {
+    while (began == MLOOP_FRAME_BEGAN || began == MLOOP_FRAME_RUNNING) {
         lock(loop);
         mloop_frame_look look = mloop_frame_next(&loop->frames, mlp_now_ns());
         loop->frame_owed = look.kind == MLOOP_STEP_NO_MEMORY;
@@ -537,9 +393,7 @@ static void do_frame(mlp_loop *loop)
 static void do_due(mlp_loop *loop, uint32_t phase)
 {
     lock(loop);
-    mloop_frame_answer answer = mloop_frame_due(&loop->frames, phase, mlp_now_ns());
-    unlock(loop);
-    asked(loop, answer);
+    asked(loop, mloop_frame_due(&loop->frames, phase, mlp_now_ns()));
 }
 
 /* ---- idle handlers and descriptors */
@@ -560,11 +414,9 @@ bool mlp_on_idle(mlp_loop *loop, mlp_idle_func func, void *user)
     if (loop == NULL || func == NULL) return false;
     uint32_t id = idle_row(loop, func, user);
     if (id == loop->idle_count) {
-        idle_entry *idles = realloc(loop->idles, (id + 1) * sizeof *idles);
+        void *idles = with_a_row(loop->idles, &loop->idle_count, sizeof *loop->idles);
         if (idles == NULL) return false;
         loop->idles = idles;
-        loop->idles[id] = (idle_entry){.added = 0};
-        loop->idle_count = id + 1;
     }
     if (mloop_idle_add(&loop->sources, id).kind != MLOOP_SOURCE_DONE) return false;
     loop->idles[id] = (idle_entry){func, user, loop->idles[id].added + 1};
@@ -597,52 +449,54 @@ static bool watch_as_table(mlp_loop *loop, uint32_t row)
 {
     watch_entry *watch = &loop->watches[row];
     uint32_t mask = (uint32_t)mloop_fd_watched(&loop->sources, (uint32_t)watch->fd).number, before = watch->mask;
-    if (mask == before) return true;
     watch->mask = mask;
     loop->watched += (mask != 0) - (before != 0);
-    return system_watch(loop, watch->fd, mask, before != 0);
+    return mask == before || mlp_system_watch(&loop->system, watch->fd, mask, before);
+}
+
+/* The row of the descriptor, or else a free one, or else the number of rows. */
+static uint32_t watch_row(const mlp_loop *loop, int fd)
+{
+    uint32_t empty = loop->watch_count;
+    for (uint32_t row = 0; row < loop->watch_count; row++) {
+        if (loop->watches[row].mask != 0 && loop->watches[row].fd == fd) return row;
+        if (loop->watches[row].mask == 0) empty = row;
+    }
+    return empty;
 }
 
 bool mlp_watch(mlp_loop *loop, int fd, uint32_t mask, mlp_fd_func func, void *user)
 {
     if (loop == NULL || fd < 0 || (mask != 0 && func == NULL)) return false;
-    uint32_t row = 0, empty = UINT32_MAX;
-    while (row < loop->watch_count && !(loop->watches[row].mask != 0 && loop->watches[row].fd == fd)) {
-        if (loop->watches[row].mask == 0) empty = row;
-        row++;
-    }
+    uint32_t row = watch_row(loop, fd);
+    if (mask == 0 && (row == loop->watch_count || loop->watches[row].mask == 0)) return true;
     if (row == loop->watch_count) {
-        if (mask == 0) return true;
-        if (empty != UINT32_MAX) {
-            row = empty;
-        } else {
-            watch_entry *watches = realloc(loop->watches, (row + 1) * sizeof *watches);
-            if (watches == NULL) return false;
-            loop->watches = watches;
-            loop->watch_count = row + 1;
-        }
-        loop->watches[row] = (watch_entry){.fd = fd};
+        void *watches = with_a_row(loop->watches, &loop->watch_count, sizeof *loop->watches);
+        if (watches == NULL) return false;
+        loop->watches = watches;
     }
+    loop->watches[row].fd = fd;
     if (mloop_fd_watch(&loop->sources, (uint32_t)fd, mask, row).kind != MLOOP_SOURCE_DONE) return false;
     if (mask != 0) loop->watches[row].func = func, loop->watches[row].user = user;
     if (watch_as_table(loop, row)) return true;
     mloop_fd_watch(&loop->sources, (uint32_t)fd, 0, row); /* the system does not take it */
-    loop->watches[row].mask = 0;
-    loop->watched--;
+    watch_as_table(loop, row);
     return false;
 }
 
-static void ready(mlp_loop *loop, int fd, uint32_t events)
+/* Something came at a descriptor. Without memory it is told again at the next wait. */
+static void ready(void *user, int fd, uint32_t events)
 {
-    mloop_fd_ready(&loop->sources, (uint32_t)fd, events); /* without memory: it is told again at the next wait */
+    mlp_loop *loop = user;
+    if (mloop_fd_ready(&loop->sources, (uint32_t)fd, events).kind == MLOOP_SOURCE_DONE) loop->events = true;
 }
 
 static void do_events(mlp_loop *loop)
 {
-    for (;;) {
-        mloop_source_look look = mloop_fd_next(&loop->sources);
+    mloop_source_look look;
+    loop->events = false;
+    while ((look = mloop_fd_next(&loop->sources)).kind == MLOOP_LOOK_EVENT || look.kind == MLOOP_LOOK_IGNORED) {
         if (look.kind == MLOOP_LOOK_IGNORED) continue;
-        if (look.kind != MLOOP_LOOK_EVENT) return;
         watch_entry watch = loop->watches[look.id];
         uint32_t mask = watch.func((int)look.fd, look.events, watch.user);
         mloop_fd_answer(&loop->sources, look.fd, look.birth, look.number, mask & 7);
@@ -656,12 +510,9 @@ mlp_loop *mlp_new(uint64_t interval)
 {
     mlp_loop *loop = calloc(1, sizeof *loop);
     if (loop == NULL) return NULL;
-    loop->poll_fd = loop->wake_in = loop->wake_out = loop->timer_fd = -1;
-    loop->armed = NEVER;
     loop->idle_owed = true;
-    pthread_mutex_init(&loop->lock, NULL);
-    if (msgq_open(&loop->queue) && mloop_frame_open(&loop->frames, interval != 0 ? interval : 16666667, 4) && mloop_sources_open(&loop->sources) &&
-        system_open(loop))
+    if (mlp_system_open(&loop->system) && msgq_open(&loop->queue) && mloop_frame_open(&loop->frames, interval != 0 ? interval : 16666667, 4) &&
+        mloop_sources_open(&loop->sources))
         return loop;
     mlp_free(loop);
     return NULL;
@@ -674,17 +525,10 @@ void mlp_free(mlp_loop *loop)
     let_go_of_dropped(loop);
     mloop_frame_close(&loop->frames);
     mloop_sources_close(&loop->sources);
-    if (loop->poll_fd >= 0) close(loop->poll_fd);
-    if (loop->timer_fd >= 0) close(loop->timer_fd);
-    if (loop->wake_in >= 0) close(loop->wake_in);
-    if (loop->wake_out >= 0 && loop->wake_out != loop->wake_in) close(loop->wake_out);
-    pthread_mutex_destroy(&loop->lock);
+    mlp_system_close(&loop->system);
     free(loop->handlers);
     free(loop->idles);
     free(loop->watches);
-#if !MLP_LINUX
-    free(loop->polls);
-#endif
     free(loop);
 }
 
@@ -703,58 +547,59 @@ static void dispatch(mlp_loop *loop, mlp_handler *handler, const msgq_message *m
     }
 }
 
+/* With the lock: what comes next. On the way a pulse that has come is delivered, and the queue is looked at. */
+static mloop_action next_action(mlp_loop *loop, msgq_look *look)
+{
+    mloop_situation it = {.look = MLOOP_NOT_LOOKED, .idle_owed = loop->idle_owed, .events = loop->events};
+    for (;;) {
+        mloop_frame_answer pulse = mloop_frame_asked(&loop->frames);
+        it.moment = mlp_now_ns();
+        it.pulse = pulse.time;
+        it.has_pulse = pulse.kind == MLOOP_FRAME_ASKED && loop->ask == NULL;
+        it.frame_owed = loop->frame_owed;
+        mloop_action action = mloop_next(&it);
+        if (action.kind == MLOOP_DO_VSYNC) {
+            deliver(loop, mloop_frame_vsync(&loop->frames, it.moment).time);
+            it.look = MLOOP_NOT_LOOKED;
+        } else if (action.kind == MLOOP_DO_LOOK) {
+            *look = msgq_traced_next(&loop->trace, &loop->queue, it.moment / MILLI, it.idle_owed);
+            it.look = look->kind;
+            it.time = look->time;
+        } else {
+            return action;
+        }
+    }
+}
+
 int mlp_run_once(mlp_loop *loop, bool may_wait)
 {
     if (loop == NULL) return -1;
     /* As `next` does: descriptors are looked at before each message, where any are watched. */
-    if (loop->watched != 0) {
-        system_wait(loop, loop->until, false);
+    if (loop->watched != 0 && !loop->events) mlp_system_wait(&loop->system, 0, false, ready, loop);
+    msgq_look look = {.kind = MSGQ_NOTHING_LEFT};
+    mloop_action action;
+    mlp_handler *handler;
+    bool handled = false; /* what came at descriptors was */
+    for (;;) {
+        lock(loop);
+        action = next_action(loop, &look);
+        loop->until = action.until;
+        handler = action.kind == MLOOP_DO_MESSAGE && look.message.handler < loop->handler_count ? loop->handlers[look.message.handler] : NULL;
+        unlock(loop);
+        if (action.kind != MLOOP_DO_EVENTS) break;
         do_events(loop);
+        handled = true;
     }
-    lock(loop);
-    loop->waits = false;
-    uint64_t now = mlp_now_ns();
-    if (loop->ask == NULL) {
-        mloop_frame_answer pulse = mloop_frame_vsync(&loop->frames, now);
-        if (pulse.kind == MLOOP_FRAME_ASKED) deliver(loop, pulse.time);
-    }
-    bool frame_owed = loop->frame_owed;
-    loop->frame_owed = false;
-    msgq_look look = {.kind = MSGQ_WAIT_FOREVER};
-    if (!frame_owed) look = msgq_traced_next(&loop->trace, &loop->queue, now / MILLI, loop->idle_owed);
-    mlp_handler *handler = look.kind == MSGQ_TAKEN && look.message.handler < loop->handler_count ? loop->handlers[look.message.handler] : NULL;
-    uint64_t until = look.kind == MSGQ_WAIT ? (look.time > NEVER / MILLI ? NEVER : look.time * MILLI) : NEVER;
-    if (!frame_owed && (look.kind == MSGQ_WAIT || look.kind == MSGQ_WAIT_FOREVER)) {
-        mloop_frame_answer pulse = mloop_frame_asked(&loop->frames);
-        if (loop->ask == NULL && pulse.kind == MLOOP_FRAME_ASKED && pulse.time < until) until = pulse.time;
-        loop->waits = true;
-    }
-    unlock(loop);
-    loop->until = 0;
-    if (frame_owed) {
-        do_frame(loop);
-        return 1;
-    }
-    switch (look.kind) {
-    case MSGQ_TAKEN:
-        loop->idle_owed = true;
-        dispatch(loop, handler, &look.message);
-        return 1;
-    case MSGQ_IDLE:
-        loop->idle_owed = false;
-        do_idle(loop);
-        return 1;
-    case MSGQ_WAIT:
-    case MSGQ_WAIT_FOREVER: {
-        loop->until = until;
+    loop->idle_owed = action.idle_owed;
+    switch (action.kind) {
+    case MLOOP_DO_MESSAGE: dispatch(loop, handler, &look.message); return 1;
+    case MLOOP_DO_FRAME: do_frame(loop); return 1;
+    case MLOOP_DO_IDLE: do_idle(loop); return 1;
+    case MLOOP_DO_WAIT:
+        if (handled) return 1;
         /* A wake that is taken here may be for a message that came after the look: then there is more to do. */
-        bool came = system_wait(loop, until, may_wait);
-        do_events(loop);
-        return may_wait || came ? 1 : 0;
-    }
-    default:
-        let_go_of_dropped(loop);
-        return -1;
+        return mlp_system_wait(&loop->system, action.until, may_wait, ready, loop) || may_wait ? 1 : 0;
+    default: let_go_of_dropped(loop); return -1;
     }
 }
 

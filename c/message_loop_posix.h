@@ -1,7 +1,7 @@
-/* A message loop for C and C++ programs over the three proved libraries: message_queue.h (messages), frame_phases.h (frames) and
- * loop_sources.h (idle handlers, descriptors). This layer is C, tested and not proved: it adds one lock, a wake, a wait, a clock and
- * function pointers. It decides when to wait, when to wake and when a frame's message is posted; they decide what is next. It is android.os.Looper, Handler and MessageQueue, and
- * android.view.Choreographer; where a call is one of their methods, the method is named.
+/* A message loop for C and C++ programs over four proved libraries: message_queue.h (messages), frame_phases.h (frames), loop_sources.h
+ * (idle handlers, descriptors) and loop_next.h, the table by which it decides what comes next and until when it waits. This layer is C,
+ * tested and not proved: it adds one lock, a wake, a wait, a clock and function pointers, and hands in what it sees. It is
+ * android.os.Looper, Handler and MessageQueue, and android.view.Choreographer; where a call is one of their methods, the method is named.
  *
  * THREADS. A loop belongs to the thread that calls `mlp_run` or `mlp_run_once`. "Any thread" stands at the calls that others may make
  * too. No function of the user's is called with the lock held.

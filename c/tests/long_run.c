@@ -1,8 +1,9 @@
 /* long_run MESSAGES FRAMES: a loop handles so many messages, of two posting threads, and runs so many frames, each with callbacks
- * in three phases that post themselves again. Tells how much memory the libraries hold on the way. Exits with 0 where nothing is
+ * in three phases that post themselves again; and so many callbacks as messages are posted and removed with no frame among them. Tells how much memory the libraries hold on the way. Exits with 0 where nothing is
  * lost, they never hold more than half as much again as they did at most in the first tenth, and all is given back at the end. */
 #include "check.h"
 #include "counting_heap.h"
+#include "frame_phases.h"
 #include "message_loop_posix.h"
 
 #include <inttypes.h>
@@ -79,6 +80,21 @@ static void tell(const char *what, uint64_t n, uint64_t from)
     most_before = most_since = 0;
 }
 
+/* Callbacks that are posted and removed while no frame runs. */
+static void removals(void)
+{
+    mloop_frames frames = MLOOP_FRAMES_CLOSED;
+    CHECK(mloop_frame_open(&frames, 1000, 4));
+    uint64_t from = mlp_now_ns();
+    for (uint64_t i = 0; i < messages; i++) {
+        mloop_callback callback = {.due = UINT64_MAX, .id = i};
+        CHECK(mloop_frame_post(&frames, &callback, 0).kind == MLOOP_FRAME_LATER && mloop_frame_remove(&frames, &callback).number == 1);
+        look_at_memory(i, messages);
+    }
+    tell("removals", messages, from);
+    CHECK(mloop_frame_close(&frames).kind == MLOOP_FRAME_CLOSED && in_use == 0 && blocks == 0);
+}
+
 int main(int argc, char **argv)
 {
     messages = argc > 1 ? strtoull(argv[1], NULL, 10) : 100000;
@@ -97,6 +113,7 @@ int main(int argc, char **argv)
         tell("messages", messages, from);
         mlp_free(loop);
         CHECK(in_use == 0 && blocks == 0);
+        removals();
     }
     if (frames_wanted != 0) {
         loop = mlp_new(1000);

@@ -40,7 +40,9 @@ run() {
 
 "$c/build.sh"
 core=("$c/out/$host/core"/*.a)
-include=("-I$c" "-I$here" "-I$crates/message_queue_c/include" "-I$crates/frame_phases_c/include" "-I$crates/loop_sources_c/include")
+include=("-I$c" "-I$here" "-I$crates/message_queue_c/include" "-I$crates/frame_phases_c/include" "-I$crates/loop_sources_c/include" "-I$crates/loop_next_c/include"
+    "-I$crates/countdown_c/include")
+loop=("$c/message_loop_posix.c" "$c/message_loop_system.c")
 flags=(-std=c11 -D_POSIX_C_SOURCE=200809L -D_DEFAULT_SOURCE -O1 -g -Wall -Wextra -Werror "${include[@]}")
 heap=$c/../examples/embed/heap.c
 
@@ -52,14 +54,18 @@ for cc in gcc clang; do
         for port in "" -DMLP_PORTABLE; do
             [ -z "$port" ] || [ "$cc" = gcc ] || [ -n "$long" ] || continue
             it=$out/$cc-$sanitizer$port
-            "$cc" "${flags[@]}" ${with[@]+"${with[@]}"} ${port:+"$port"} "$here/loop.c" "$c/message_loop_posix.c" "$heap" "${core[@]}" -lpthread -o "$it"
+            "$cc" "${flags[@]}" ${with[@]+"${with[@]}"} ${port:+"$port"} "$here/loop.c" "${loop[@]}" "$heap" "${core[@]}" -lpthread -o "$it"
             run "loop $cc $sanitizer $port" "$it"
-            "$cc" "${flags[@]}" ${with[@]+"${with[@]}"} ${port:+"$port"} "$here/while_running.c" "$c/message_loop_posix.c" "$heap" "${core[@]}" -lpthread -o "$it"
+            "$cc" "${flags[@]}" ${with[@]+"${with[@]}"} ${port:+"$port"} "$here/while_running.c" "${loop[@]}" "$heap" "${core[@]}" -lpthread -o "$it"
             run "while_running $cc $sanitizer $port" "$it"
         done
         "$cc" "${flags[@]}" ${with[@]+"${with[@]}"} "$here/core_calls.c" "$heap" "${core[@]}" -lrt -o "$out/core"
         run "core_calls $cc $sanitizer" "$out/core"
-        "$cc" "${flags[@]}" ${with[@]+"${with[@]}"} "$here/no_memory.c" "$c/message_loop_posix.c" "${core[@]}" -lpthread -o "$out/no_memory"
+        for name in next countdown; do
+            "$cc" "${flags[@]}" ${with[@]+"${with[@]}"} "$here/$name.c" "${core[@]}" "$heap" -o "$out/$name"
+            run "$name $cc $sanitizer" "$out/$name"
+        done
+        "$cc" "${flags[@]}" ${with[@]+"${with[@]}"} "$here/no_memory.c" "${loop[@]}" "${core[@]}" -lpthread -o "$out/no_memory"
         run "no_memory $cc $sanitizer" "$out/no_memory"
     done
 done
@@ -67,7 +73,7 @@ done
 if has valgrind; then
     cc=gcc
     command -v gcc >/dev/null || cc=clang
-    "$cc" "${flags[@]}" -DPOSTS=200 "$here/loop.c" "$c/message_loop_posix.c" "$heap" "${core[@]}" -lpthread -o "$out/plain"
+    "$cc" "${flags[@]}" -DPOSTS=200 "$here/loop.c" "${loop[@]}" "$heap" "${core[@]}" -lpthread -o "$out/plain"
     run memcheck valgrind -q --error-exitcode=9 --leak-check=full --show-leak-kinds=all "$out/plain"
     run helgrind valgrind -q --tool=helgrind --error-exitcode=9 "$out/plain"
     "$cc" "${flags[@]}" "$here/core_calls.c" "$heap" "${core[@]}" -lrt -o "$out/core"
@@ -93,13 +99,13 @@ judged() {
 "$cc" "${flags[@]}" "$here/history.c" "$heap" "${core[@]}" -o "$out/history"
 for seed in 1 2 3 4 5; do judged "history $seed" legal "$out/history" "$seed" 2000; done
 judged "history with a wrong answer" illegal "$out/history" 6 500 wrong
-"$cc" "${flags[@]}" "$here/loop_history.c" "$c/message_loop_posix.c" "$heap" "${core[@]}" -lpthread -o "$out/loop_history"
+"$cc" "${flags[@]}" "$here/loop_history.c" "${loop[@]}" "$heap" "${core[@]}" -lpthread -o "$out/loop_history"
 judged "history of a loop" legal "$out/loop_history"
 
-"$cc" "${flags[@]}" -O2 "$here/long_run.c" "$c/message_loop_posix.c" "${core[@]}" -lpthread -o "$out/long"
+"$cc" "${flags[@]}" -O2 "$here/long_run.c" "${loop[@]}" "${core[@]}" -lpthread -o "$out/long"
 if [ -n "$long" ]; then run long_run "$out/long" 10000000 100000; else run long_run "$out/long" 200000 2000; fi
 
-printf '#include "message_loop_posix.h"\n#include "message_trace.h"\n#include "frame_phases.h"\n#include "loop_sources.h"\nint main(void) { return mlp_version() == 0; }\n' >"$out/headers.c"
+printf '#include "message_loop_posix.h"\n#include "message_trace.h"\n#include "frame_phases.h"\n#include "loop_sources.h"\n#include "loop_next.h"\n#include "countdown.h"\nint main(void) { return mlp_version() == 0; }\n' >"$out/headers.c"
 headers=(-pedantic -Wall -Wextra -Wconversion -Wshadow -Wcast-qual -Werror "${include[@]}" -c "$out/headers.c" -o /dev/null)
 for language in c99 c11 c17 c2x; do "$cc" "-std=$language" "${headers[@]}"; done
 if has g++; then

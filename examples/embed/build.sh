@@ -3,16 +3,13 @@
 # under the address and undefined sanitizers, and under valgrind's memcheck and helgrind (the thread sanitizer can't see into the
 # library, valgrind can); those in Rust with rustc. It also tries that the header compiles as C99 to C++20, and that what it is to
 # warn of is warned of. What isn't there is skipped with a line.
-# The library is made by rt lib where it isn't there or is older than the sources: that checks message_queue_c once more, and
-# below it what changed.
+# A library is made by rt lib where it isn't there or is older than the sources: that checks its crate once more, and below it what
+# changed.
 set -eu
 here=$(cd "$(dirname "$0")" && pwd)
-crate=$(cd "$here/../../crates/message_queue_c" && pwd)
+crates=$(cd "$here/../../crates" && pwd)
+crate=$crates/message_queue_c
 library=$crate/out/libmessage_queue_c.a
-sources=()
-for name in loop_model message_slot message_list when_queue queue_state message_queue_c; do
-    sources+=("$crate/../$name/src")
-done
 steps=100000
 [ "${1:-}" != --long ] || steps=10000000
 out=$(mktemp -d)
@@ -34,28 +31,37 @@ if [ "${#compilers[@]}" = 0 ]; then
     told "skipped, there is no C compiler"
     exit 0
 fi
-if [ ! -f "$library" ] || [ -n "$(find "${sources[@]}" "$crate/../../crates.txt" -newer "$library" -print -quit)" ]; then
+# made NAME CRATE..: the library NAME, which stands on those crates
+made() {
+    local name=$1 sources=("$crates/../crates.txt") it=$crates/$1/out/lib$1.a
+    for one in "$@"; do sources+=("$crates/$one/src"); done
+    if [ -f "$it" ] && [ -z "$(find "${sources[@]}" -newer "$it" -print -quit)" ]; then return; fi
     if ! command -v rt >/dev/null; then
-        told "skipped, there is no rt to make $library"
+        told "skipped, there is no rt to make $it"
         exit 0
     fi
-    (cd "$crate" && rt lib) >"$out/rt.txt" 2>&1 || {
+    (cd "$crates/$name" && rt lib) >"$out/rt.txt" 2>&1 || {
         cat "$out/rt.txt"
         exit 1
     }
-fi
+}
+made message_queue_c loop_model message_slot message_list when_queue queue_state
+made frame_phases_c loop_model frame_phases
+made loop_next_c
+made countdown_c countdown
 
 # build COMPILER SANITIZER NAME: one example, with its heap, at $program
 build() {
-    local flags=() heap=("$here/heap.c")
+    local flags=() heap=("$here/heap.c") others=()
     program=$out/$1-$2-$3
     [ "$2" = none ] || flags=("-fsanitize=$2")
     case $3 in
     no_memory | misuse) heap=() ;;
-    arena) heap=("$here/arena_heap.c") ;;
+    arena | device) heap=("$here/arena_heap.c") ;;
     esac
+    [ "$3" != device ] || for other in frame_phases_c loop_next_c countdown_c; do others+=("-I$crates/$other/include" "$crates/$other/out/lib$other.a"); done
     "$1" -std=c11 -D_POSIX_C_SOURCE=200809L -O1 -g -Wall -Wextra -Werror ${flags[@]+"${flags[@]}"} -I"$crate/include" \
-        "$here/$3.c" ${heap[@]+"${heap[@]}"} "$library" -lpthread -o "$program"
+        "$here/$3.c" ${heap[@]+"${heap[@]}"} "$library" ${others[@]+"${others[@]}"} -lpthread -o "$program"
 }
 
 run_one() {
@@ -135,7 +141,7 @@ for compiler in "${compilers[@]}"; do
             told "$compiler with $sanitizer skipped, its programs don't run here"
             continue
         fi
-        for name in calls looper no_memory misuse arena; do
+        for name in calls looper no_memory misuse arena device; do
             begin "$compiler-$sanitizer-$name" run_one "$compiler" "$sanitizer" "$name"
         done
     done
@@ -144,7 +150,7 @@ for compiler in "${compilers[@]}"; do
 done
 begin other_interface other_interface "${compilers[0]}"
 if command -v valgrind >/dev/null; then
-    for name in calls looper no_memory misuse arena; do begin "memcheck-$name" under memcheck "$name"; done
+    for name in calls looper no_memory misuse arena device; do begin "memcheck-$name" under memcheck "$name"; done
     begin helgrind-looper under helgrind looper
 else
     told "memcheck and helgrind skipped, valgrind is not installed"

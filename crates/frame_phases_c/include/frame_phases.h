@@ -32,8 +32,8 @@
  * this file, which look at no pointer. It is for 64 bits alone: x86-64 from x86-64-v2 on, and aarch64.
  *
  * MEMORY comes from the three functions rattle_alloc, rattle_realloc and rattle_dealloc (message_queue.h). Where a call answers
- * MLOOP_FRAME_NO_MEMORY all is as before it. Only `open`, `post`, `remove`, `begin` and `next` take any. Posts and removals keep some
- * bytes until the next `begin`.
+ * MLOOP_FRAME_NO_MEMORY all is as before it. Only `open`, `post`, `remove`, `begin` and `next` take any, and `next`
+ * none where it hands out a callback. Posts keep some bytes until the next `begin` or `remove`.
  *
  * Rules are those of AOSP's android.view.Choreographer; where a call follows one of its methods, the method is named.
  *

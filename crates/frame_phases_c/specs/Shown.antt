@@ -108,6 +108,10 @@ abbrev pub Posts : Frames → FrameCallback → ℕ → Result FrameAnswer NoMem
 Posts x c now (Ok r) y = (r ≡ post_answer x c now) × (y ≡ post_left x c now)
 Posts x c now (Err e) y = y ≡ x
 
+-- what was recorded so far is dropped, and all that it led to stays
+abbrev pub forgotten : Frames → Frames
+forgotten x = record x { sealed = x.entries }
+
 -- what a removal answers and leaves; of the callback its phase, id and token count
 abbrev pub remove_answer : Frames → FrameCallback → FrameAnswer
 remove_answer x c =
@@ -115,11 +119,12 @@ remove_answer x c =
     then answer_as removed_kind (removed_count (past x) c.phase c.id (token_of c.has_token c.token)) 0 else answer_as no_phase_kind 0 0
 
 abbrev pub remove_left : Frames → FrameCallback → Frames
-remove_left x c = if nat_lt c.phase x.phases then removed x c.phase c.id (token_of c.has_token c.token) else x
+remove_left x c = if nat_lt c.phase x.phases then removed (forgotten x) c.phase c.id (token_of c.has_token c.token) else x
 
+-- a removal drops what was recorded before; where it then finds no memory, all else is as before
 abbrev pub Removes : Frames → FrameCallback → Result FrameAnswer NoMemory → Frames → Type 0
 Removes x c (Ok r) y = (r ≡ remove_answer x c) × (y ≡ remove_left x c)
-Removes x c (Err e) y = y ≡ x
+Removes x c (Err e) y = y ≡ record x { sealed = y.sealed }
 
 -- what a scheduling answers
 abbrev pub shown_schedule : Option ℕ → FrameAnswer
@@ -150,11 +155,12 @@ shown_pulse (Some at) = answer_as asked_kind 0 at
 abbrev pub deliver_left : Frames → ℕ → Frames
 deliver_left x now = if is_some (delivered x.asked now) then record x { asked = None } else x
 
--- how a frame begins: not while callbacks of the latest one are to be handed out; what is recorded so far may be dropped
+-- how a frame begins: not while callbacks of the latest one are to be handed out, and with what was recorded so far dropped
 abbrev pub Starts : Contents → ℕ → ℕ → Start → Contents → Type 0
 Starts a vsync at start.Waits b = (a.batch ≢ []) × (b ≡ a)
+Starts a vsync at start.NoMemory b = (a.batch ≡ []) × (b ≡ a)
 Starts a vsync at (start.Begins t) b =
-    (a.batch ≡ []) × (x : Frames) × (x ≡ record a.frames { sealed = x.sealed }) × BeginsBy x vsync at t b.frames × (b ≡ record a { frames = b.frames })
+    (a.batch ≡ []) × BeginsBy (forgotten a.frames) vsync at t b.frames × (b ≡ record a { frames = b.frames })
 
 abbrev pub shown_beginning : Beginning → FrameAnswer
 shown_beginning (begin.Began time) = answer_as began_kind 0 time
@@ -165,16 +171,18 @@ shown_beginning begin.NoMemory = answer_as no_memory_kind 0 0
 
 abbrev pub shown_start : Start → FrameAnswer
 shown_start start.Waits = answer_as running_kind 0 0
+shown_start start.NoMemory = answer_as no_memory_kind 0 0
 shown_start (start.Begins t) = shown_beginning t
 
--- one step of a frame: the first callback that was taken is handed out, or else the next phase takes its own, or else no phase is left
+-- one step of a frame: the first callback that was taken is handed out, or else the next phase takes its own, or else no phase is left;
+-- only a phase that takes its own may find no memory
 abbrev pub Steps : Contents → ℕ → Step → Contents → Type 0
 Steps a now (step.Run c time) b = (a.batch ≡ c ∷ b.batch) × (time ≡ a.time) × (b ≡ record a { batch = b.batch })
 Steps a now (step.Phase phase time count) b =
     (a.batch ≡ []) × TakesBy a.frames phase now (took.Batch time b.batch) b.frames × (b.time ≡ time) × (count ≡ length b.batch)
 Steps a now step.Ended b =
     (a.batch ≡ []) × ((phase : ℕ) → phase < a.frames.phases → next_phase a.frames.phases (past a.frames) ≢ Some phase) × (b ≡ a)
-Steps a now step.NoMemory b = b ≡ a
+Steps a now step.NoMemory b = (a.batch ≡ []) × (b ≡ a)
 
 -- a try to take this phase: a step, or the phase that is to be taken instead, if any
 abbrev pub TakesPhase : Contents → ℕ → ℕ → Result Step (Option ℕ) → Contents → Type 0

@@ -172,6 +172,7 @@ pub(crate) fn shown_start(start: Start) -> FrameAnswer
 {
     match start {
         Start::Waits => answer(RUNNING, 0, 0),
+        Start::NoMemory => answer(NO_MEMORY, 0, 0),
         Start::Begins(beginning) => shown_beginning(beginning),
     }
 }

@@ -1,8 +1,8 @@
 // What a handle that is open keeps: a choreographer's state, and the callbacks that are still to be handed out.
-ghost use Rattle.std.specs.Prelude.{◌≡◌, ◌<◌, [], IfOk};
+ghost use Rattle.std.specs.Prelude.{◌≡◌, ◌<◌, [], IfOk, MatchResult};
 ghost use Rattle.frame_phases.specs.State.{scheduled_at, delivered};
 ghost use Rattle.frame_phases_c.specs.Contents.{just_opened};
-ghost use Rattle.frame_phases_c.specs.Shown.{Keeps, PostShown, RemoveShown, StartShown, StepShown, Posts, Removes, Starts, Steps, TakesPhase, schedule_answer, shown_pulse, due_answer, due_left, deliver_left};
+ghost use Rattle.frame_phases_c.specs.Shown.{Keeps, PostShown, RemoveShown, StartShown, StepShown, Posts, Removes, Starts, Steps, TakesPhase, forgotten, schedule_answer, shown_pulse, due_answer, due_left, deliver_left};
 
 use crate::answers::{
     FrameAnswer, FrameLook, no_phase, nothing, removed, shown, shown_pulse, shown_schedule,
@@ -83,6 +83,7 @@ impl Kept {
         if callback.phase >= self.phases {
             return Ok(no_phase());
         }
+        self.forget()?;
         let count = self
             .frames
             .remove(callback.phase, callback.id, callback.token())?;
@@ -130,13 +131,12 @@ impl Kept {
         shown_pulse(self.frames.deliver(now))
     }
 
-    // Drops what was recorded so far, where it finds the memory for that.
-    fn forget(&mut self)
-        ensures { self.new ≡ record self.old { frames = record self.old.frames { sealed = self.new.frames.sealed } } }
+    // Drops what was recorded so far. At NoMemory it stays.
+    fn forget(&mut self) -> Result<(), NoMemory>
+        ensures { MatchResult result (λ _. self.new ≡ record self.old { frames = forgotten self.old.frames }) (λ _. self.new ≡ self.old) }
     {
-        if let Ok(part) = self.frames.seal() {
-            drop(part);
-        }
+        drop(self.frames.seal()?);
+        Ok(())
     }
 
     fn start(&mut self, vsync: u64, at: u64) -> Start
@@ -145,8 +145,10 @@ impl Kept {
         if !self.batch.is_empty() {
             return Start::Waits;
         }
-        self.forget();
-        Start::Begins(self.frames.begin_frame(vsync, at))
+        match self.forget() {
+            Ok(()) => Start::Begins(self.frames.begin_frame(vsync, at)),
+            Err(_) => Start::NoMemory,
+        }
     }
 
     /// Begins the scheduled frame.

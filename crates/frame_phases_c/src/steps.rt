@@ -5,6 +5,8 @@ use frame_phases::{Beginning, Callback};
 pub(crate) enum Start {
     /// Callbacks of the latest frame are still to be handed out.
     Waits,
+    /// No memory was found, and all is as before.
+    NoMemory,
     /// What the library's call answered.
     Begins(Beginning),
 }

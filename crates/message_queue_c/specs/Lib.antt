@@ -1,4 +1,5 @@
 pub mod Held
+pub mod Blocks
 pub mod Lent
 pub mod Handle
 pub mod Ours

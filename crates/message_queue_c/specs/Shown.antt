@@ -1,5 +1,5 @@
 -- How C sees what a call answers.
-use Rattle.std.specs.Prelude.{◌≡◌, ◌⊎◌, ℕ, Bool, true, false, List, [], Some, None, length}
+use Rattle.std.specs.Prelude.{◌≡◌, ℕ, Bool, true, false, List, [], Some, None, length}
 use Rattle.loop_model.specs.declared.item.Item.{Item}
 use Rattle.loop_model.specs.declared.item.Item.TheVariants.{Post as Message, Barrier as Fence}
 use Rattle.message_slot.specs.declared.claim.NoClaim.{NoClaim}
@@ -83,10 +83,6 @@ shown_quit (quitting.Done list) = answer_as done_kind (length list) true
 shown_quit (quitting.AlreadyQuit place) = answer_as already_quit_kind place false
 shown_quit quitting.NotAllowed = answer_as not_allowed_kind 0 false
 shown_quit quitting.NoMemory = answer_as no_memory_kind 0 false
-
--- memory was taken, or there was too little
-abbrev pub Reserves : MqAnswer → Type 0
-Reserves r = (r ≡ answer_as done_kind 0 false) ⊎ (r ≡ answer_as no_memory_kind 0 false)
 
 abbrev pub taken_kind : ℕ
 taken_kind = 16

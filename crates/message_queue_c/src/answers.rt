@@ -1,5 +1,6 @@
 // Answers as C has them.
 ghost use Rattle.std.specs.Prelude.{◌≡◌, false, MatchOption};
+ghost use Rattle.message_queue_c.specs.Blocks.{no_blocks};
 ghost use Rattle.message_queue_c.specs.Joined.{joined};
 ghost use Rattle.message_queue_c.specs.Messages.{fields_of};
 ghost use Rattle.message_queue_c.specs.Shown.{answer_as, done_kind, no_memory_kind, look_as, taken_kind, nothing_kind, IsNotOpen, HasNotOpen, shown_post, shown_barrier, shown_gone, shown_taking, shown_quit, shown_next, shown_dropped, taking_drops, quit_drops, next_drops};
@@ -238,7 +239,8 @@ fn shown_item(item: &Item) -> MqNext
 
 /// What was dropped first, as C has it; its node is kept.
 pub(crate) fn shown_dropped(node: Option<MsgNode<NoClaim>>, spares: &mut Spares) -> MqNext
-    ensures { MatchOption node (result ≡ look_as nothing_kind 0 0) (λ m. result ≡ shown_dropped m.item) }
+    ensures shown { MatchOption node (result ≡ look_as nothing_kind 0 0) (λ m. result ≡ shown_dropped m.item) }
+    ensures none { spares.old ≡ no_blocks → spares.new ≡ no_blocks }
 {
     let Some(node) = node else {
         return nothing();

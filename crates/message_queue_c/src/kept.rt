@@ -1,10 +1,11 @@
 // What a handle that is not empty keeps: a queue, and the messages that its calls have dropped.
 ghost use Rattle.std.specs.Prelude.{◌≡◌, true, false, [], Some, MatchOption, length};
 ghost use Rattle.queue_state.specs.Queue.{has_match, time_of};
-ghost use Rattle.message_queue_c.specs.Contents.{Does, Keeps, Closes, Pops, nothing_in, holds_nothing};
+ghost use Rattle.message_queue_c.specs.Contents.{Does, Keeps, Closes, Pops, Reserves, nothing_in, holds_nothing};
+ghost use Rattle.message_queue_c.specs.Blocks.{no_blocks};
 ghost use Rattle.message_queue_c.specs.Messages.{filter_by};
 ghost use Rattle.message_queue_c.specs.Ours.{is_ours};
-ghost use Rattle.message_queue_c.specs.Shown.{PostShown, BarrierShown, GoneShown, TakingShown, QuitShown, NextShown, Reserves, IsNotOpen, HasNotOpen};
+ghost use Rattle.message_queue_c.specs.Shown.{PostShown, BarrierShown, GoneShown, TakingShown, QuitShown, NextShown, IsNotOpen, HasNotOpen};
 
 use crate::answers::{MqAnswer, MqNext, done, no_memory, not_open, not_open_look, shown_dropped};
 use crate::calls;
@@ -18,8 +19,8 @@ use std::alloc::Global;
 use std::marker::Model;
 use when_queue::MsgList;
 
-/// The queue, until it is closed, and the messages that its calls dropped and that were not handed out yet. Contracts don't see the
-/// blocks that are kept for messages to come.
+/// The queue, until it is closed, the messages that its calls dropped and that were not handed out yet, and the blocks that are kept
+/// for messages to come.
 #[derive(Drop)]
 pub struct Kept {
     queue: Option<QueueState<NoClaim, Unkept>>,
@@ -32,15 +33,15 @@ impl Model for Kept {
 
     ghost Value = { Contents };
 
-    ghost view = { λ k. record { queue = k.queue; dropped = k.dropped } };
+    ghost view = { λ k. record { queue = k.queue; dropped = k.dropped; blocks = k.spares } };
 
-    ghost invariant = { λ k. HasOurs k.queue };
+    ghost invariant = { λ k. HasOurs k.queue k.spares };
 }
 
 impl Kept {
     pub(crate) fn new(alloc: Global, queue: QueueState<NoClaim, Unkept>) -> Kept
         requires { is_ours queue }
-        ensures { result ≡ record { queue = Some queue; dropped = [] } }
+        ensures { result ≡ record { queue = Some queue; dropped = []; blocks = no_blocks } }
     {
         Kept {
             queue: Some(queue),
@@ -134,8 +135,7 @@ impl Kept {
 
     /// Takes memory for so many messages, and keeps so many blocks of those that go.
     pub(crate) fn reserve(&mut self, alloc: Global, count: u64) -> MqAnswer
-        ensures answer { MatchOption self.old.queue (IsNotOpen result) (λ _. Reserves result) }
-        ensures same { self.new ≡ self.old }
+        ensures { Reserves self.old count result self.new }
     {
         if self.queue.is_none() {
             return not_open();

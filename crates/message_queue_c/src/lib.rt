@@ -5,9 +5,9 @@
 ghost use Rattle.std.specs.Prelude.{◌≡◌, ◌||◌, true, false, MatchOption, length};
 ghost use Rattle.queue_state.specs.Queue.{has_match, time_of};
 ghost use Rattle.message_queue_c.specs.Handed.{inside, IsFreed};
-ghost use Rattle.message_queue_c.specs.Contents.{Does, Keeps, Closes, Pops, just_opened, nothing_in};
+ghost use Rattle.message_queue_c.specs.Contents.{Does, Keeps, Closes, Pops, Reserves, just_opened, nothing_in};
 ghost use Rattle.message_queue_c.specs.Messages.{filter_by};
-ghost use Rattle.message_queue_c.specs.Shown.{PostShown, BarrierShown, GoneShown, TakingShown, QuitShown, NextShown, Reserves, IsNotOpen, HasNotOpen};
+ghost use Rattle.message_queue_c.specs.Shown.{PostShown, BarrierShown, GoneShown, TakingShown, QuitShown, NextShown, IsNotOpen, HasNotOpen};
 
 mod answers;
 mod calls;
@@ -189,11 +189,10 @@ pub extern "C" fn msgq_core_time(queue: &mut MqQueue) -> u64
 }
 
 /// Takes memory for so many messages and barriers at once, and keeps from then on the blocks of those that go, up to so many, for
-/// those that come. Nothing else changes, also where there is not so much memory.
+/// those that come. Nothing else changes, also where there is not so much memory. DONE is answered only where so many are kept.
 #[unsafe(no_mangle)]
 pub extern "C" fn msgq_core_reserve(alloc: Global, queue: &mut MqQueue, count: u64) -> MqAnswer
-    ensures answer { MatchOption (inside queue.old).queue (IsNotOpen result) (λ _. Reserves result) }
-    ensures same { inside queue.new ≡ inside queue.old }
+    ensures reserved { Reserves (inside queue.old) count result (inside queue.new) }
     ensures live { queue.new.live ≡ queue.old.live }
 {
     let Some(mut kept) = queue.take() else {

@@ -1,9 +1,11 @@
 // Blocks that are kept for messages and barriers to come.
-ghost use Rattle.std.specs.Prelude.{◌≡◌, ◌+◌, ◌<◌, ◌^◌, MatchResult, length};
+ghost use Rattle.std.specs.Prelude.{◌≡◌, ◌≤◌, ◌+◌, ◌<◌, ◌^◌, true, MatchResult};
+ghost use Rattle.message_queue_c.specs.Blocks.{no_blocks};
 
 use message_list::{NodeList, new_node};
 use message_slot::{Message, NoClaim};
 use std::alloc::Global;
+use std::marker::Model;
 use std::mem;
 use when_queue::{MsgList, MsgNode};
 
@@ -14,8 +16,19 @@ pub(crate) struct Spares {
     wanted: usize,
 }
 
+impl Model for Spares {
+    ghost use Rattle.std.specs.Prelude.{length};
+    ghost use Rattle.message_queue_c.specs.Blocks.{Blocks};
+
+    ghost Value = { Blocks };
+
+    ghost view = { λ s. record { kept = length s.nodes; wanted = s.wanted } };
+}
+
 impl Spares {
-    pub(crate) fn none(alloc: Global) -> Spares {
+    pub(crate) fn none(alloc: Global) -> Spares
+        ensures { result ≡ no_blocks }
+    {
         Spares {
             nodes: NodeList::empty(alloc),
             wanted: 0,
@@ -41,7 +54,10 @@ impl Spares {
     }
 
     /// Keeps the node, or lets go of it where so many as are wanted are kept.
-    pub(crate) fn keep(&mut self, node: MsgNode<NoClaim>) {
+    pub(crate) fn keep(&mut self, node: MsgNode<NoClaim>)
+        ensures none { self.old ≡ no_blocks → self.new ≡ no_blocks }
+        ensures wanted { self.new.wanted ≡ self.old.wanted }
+    {
         if self.nodes.len() < self.wanted {
             self.put(node);
         }
@@ -49,28 +65,34 @@ impl Spares {
 
     #[inline(never)]
     fn put(&mut self, node: MsgNode<NoClaim>)
-        requires { length self.old.nodes + 1 < 2 ^ 64 }
+        requires { self.old.kept + 1 < 2 ^ 64 }
+        ensures { self.new.wanted ≡ self.old.wanted }
     {
         self.nodes.insert_at(0, node);
     }
 
     /// So many are wanted, and are made. False where there is no memory for all.
-    pub(crate) fn reserve(&mut self, alloc: Global, count: u64) -> bool {
+    pub(crate) fn reserve(&mut self, alloc: Global, count: u64) -> bool
+        ensures wanted { self.new.wanted ≡ count }
+        ensures kept { result ≡ true → count ≤ self.new.kept }
+    {
         self.wanted = count as usize;
         for _ in 0..count {
             if self.nodes.len() >= self.wanted {
-                return true;
+                break;
             }
             match new_node(alloc, Message::blank()) {
                 Ok(node) => self.keep(node),
-                Err(_) => return false,
+                Err(_) => break,
             }
         }
-        true
+        self.nodes.len() as u64 >= count
     }
 
     /// None are kept any more.
-    pub(crate) fn free(&mut self, alloc: Global) {
+    pub(crate) fn free(&mut self, alloc: Global)
+        ensures { self.new ≡ no_blocks }
+    {
         drop(mem::replace(self, Spares::none(alloc)));
     }
 }
