@@ -1,5 +1,6 @@
 #!/usr/bin/env python3
 """Measures the queue for C beside other queues and loops, and prints a table of nanoseconds of processor time a message, and one of ratios.
+In the cases `pair` and `quad` each thread has a processor of its own, and the nanoseconds are those that pass; they want a free machine.
 
     bench/peers.py [ROUNDS] [--seconds SECONDS]
 
@@ -22,7 +23,7 @@ CRATE = HERE.parent / "crates" / "message_queue_c"
 LIBRARY = CRATE / "out" / "libmessage_queue_c.a"
 HEAP = HERE.parent / "examples" / "embed" / "heap.c"
 FLAGS = ["-O2", f"-I{CRATE / 'include'}", "-I" + str(PEERS)]
-C = ["-std=c11", "-D_DEFAULT_SOURCE"]
+C = ["-std=c11", "-D_GNU_SOURCE"]
 
 # AOSP's own libraries as Debian has them: no pkg-config tells of them
 AOSP = "AOSP Looper"
@@ -55,14 +56,25 @@ LIMIT = 20
 # these walk their list from the head at each post, so they take no part where it is long (nor do Qt's timers)
 WALKS = {"plain C list", JAVA, AOSP}
 
+# these have no threads of their own for posts, or no lock of their own
+NO_POSTERS = {"libuv", AOSP}
+NOT_APART = NO_POSTERS | WALKS | {"Qt", "no queue"}
+
+# so many processors a case takes, each with one thread
+APART = {"pair": 2, "quad": 4}
+
 # mode, messages at once, rounds, those that don't take part
 CASES = [
     ("chain", 200_000, 1, set()),
     ("burst", 1_000, 50, set()),
+    ("burst", 20_000, 5, WALKS),
     ("burst", 200_000, 1, WALKS),
     ("rising", 1_000, 20, set()),
+    ("rising", 20_000, 5, WALKS | {"Qt"}),
     ("rising", 200_000, 1, WALKS | {"Qt"}),
-    ("posters", 100_000, 1, {"libuv", AOSP}),
+    ("posters", 100_000, 1, NO_POSTERS),
+    ("pair", 300_000, 1, NOT_APART),
+    ("quad", 300_000, 1, NOT_APART),
     ("scatter", 52, 40, set()),
     ("scatter", 1_000, 20, set()),
     ("scatter", 20_000, 1, WALKS | {"Qt"}),
@@ -150,6 +162,8 @@ def measure(programs, rounds, end):
             for name, command in programs:
                 key = (mode, count, name)
                 if name == HANDLER and (mode, count) not in HANDLED:
+                    continue
+                if APART.get(mode, 1) > len(os.sched_getaffinity(0)):
                     continue
                 if name in absent or key in slow or (number > 0 and time.time() > end):
                     continue

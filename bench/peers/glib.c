@@ -34,23 +34,27 @@ static void post(gint64 ready)
     g_source_unref(source);
 }
 
-static gpointer post_some(gpointer count)
+static gpointer post_some(gpointer given)
 {
-    for (long i = *(long *)count; i > 0; i--) {
+    struct share *share = given;
+    stay_on(share->processor);
+    for (long i = share->count; i > 0; i--) {
         post(0);
     }
     return NULL;
 }
 
-static void posters(long count)
+static void posters(char **word, long count)
 {
     GThread *threads[POSTERS];
-    long each = count / POSTERS;
-    for (int i = 0; i < POSTERS; i++) {
-        threads[i] = g_thread_new("poster", post_some, &each);
+    struct share shares[POSTERS];
+    for (int i = 0; i < posters_of(word); i++) {
+        shares[i] = share_of(word, count, i);
+        threads[i] = g_thread_new("poster", post_some, &shares[i]);
     }
+    stay_on(is_apart(word) ? 0 : -1);
     g_main_loop_run(loop);
-    for (int i = 0; i < POSTERS; i++) {
+    for (int i = 0; i < posters_of(word); i++) {
         g_thread_join(threads[i]);
     }
 }
@@ -60,8 +64,8 @@ static void run(char **word, long count)
     gint64 now = g_get_monotonic_time();
     left = count;
     chained = is_mode(word, "chain");
-    if (is_mode(word, "posters")) {
-        posters(count);
+    if (has_posters(word)) {
+        posters(word, count);
         return;
     }
     for (long i = 0; i < (chained ? 1 : count); i++) {
@@ -76,10 +80,10 @@ int main(int words, char **word)
     long count = count_of(words, word), rounds = rounds_of(word);
     context = g_main_context_new();
     loop = g_main_loop_new(context, FALSE);
-    uint64_t start = processor_time();
+    uint64_t start = time_of(word);
     for (long round = 0; round < rounds; round++) {
         run(word, count);
     }
-    report(processor_time() - start, count * rounds);
+    report(time_of(word) - start, count * rounds);
     return left != 0;
 }

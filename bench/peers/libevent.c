@@ -30,23 +30,27 @@ static void one(evutil_socket_t socket, short what, void *argument)
     }
 }
 
-static void *post_some(void *count)
+static void *post_some(void *given)
 {
-    for (long i = *(long *)count; i > 0; i--) {
+    struct share *share = given;
+    stay_on(share->processor);
+    for (long i = share->count; i > 0; i--) {
         post(0);
     }
     return NULL;
 }
 
-static void posters(long count)
+static void posters(char **word, long count)
 {
     pthread_t threads[POSTERS];
-    long each = count / POSTERS;
-    for (int i = 0; i < POSTERS; i++) {
-        pthread_create(&threads[i], NULL, post_some, &each);
+    struct share shares[POSTERS];
+    for (int i = 0; i < posters_of(word); i++) {
+        shares[i] = share_of(word, count, i);
+        pthread_create(&threads[i], NULL, post_some, &shares[i]);
     }
+    stay_on(is_apart(word) ? 0 : -1);
     event_base_loop(base, EVLOOP_NO_EXIT_ON_EMPTY);
-    for (int i = 0; i < POSTERS; i++) {
+    for (int i = 0; i < posters_of(word); i++) {
         pthread_join(threads[i], NULL);
     }
 }
@@ -55,8 +59,8 @@ static void run(char **word, long count)
 {
     left = count;
     chained = is_mode(word, "chain");
-    if (is_mode(word, "posters")) {
-        posters(count);
+    if (has_posters(word)) {
+        posters(word, count);
         return;
     }
     for (long i = 0; i < (chained ? 1 : count); i++) {
@@ -74,10 +78,10 @@ int main(int words, char **word)
     long count = count_of(words, word), rounds = rounds_of(word);
     evthread_use_pthreads();
     base = event_base_new();
-    uint64_t start = processor_time();
+    uint64_t start = time_of(word);
     for (long round = 0; round < rounds; round++) {
         run(word, count);
     }
-    report(processor_time() - start, count * rounds);
+    report(time_of(word) - start, count * rounds);
     return left != 0;
 }

@@ -59,25 +59,29 @@ static void take(void)
     sum += look.message.what;
 }
 
-static void *post_some(void *count)
+static void *post_some(void *given)
 {
-    for (long i = *(long *)count; i > 0; i--) {
+    struct share *share = given;
+    stay_on(share->processor);
+    for (long i = share->count; i > 0; i--) {
         send(milliseconds());
     }
     return NULL;
 }
 
-static void posters(long count)
+static void posters(char **word, long count)
 {
     pthread_t threads[POSTERS];
-    long each = count / POSTERS;
-    for (int i = 0; i < POSTERS; i++) {
-        pthread_create(&threads[i], NULL, post_some, &each);
+    struct share shares[POSTERS];
+    for (int i = 0; i < posters_of(word); i++) {
+        shares[i] = share_of(word, count, i);
+        pthread_create(&threads[i], NULL, post_some, &shares[i]);
     }
+    stay_on(is_apart(word) ? 0 : -1);
     for (long i = 0; i < count; i++) {
         take();
     }
-    for (int i = 0; i < POSTERS; i++) {
+    for (int i = 0; i < posters_of(word); i++) {
         pthread_join(threads[i], NULL);
     }
 }
@@ -112,16 +116,16 @@ int main(int words, char **word)
     if (!open_queue()) {
         return 5;
     }
-    uint64_t start = processor_time();
+    uint64_t start = time_of(word);
     for (long round = 0; round < rounds; round++) {
-        if (is_mode(word, "posters")) {
-            posters(count);
+        if (has_posters(word)) {
+            posters(word, count);
         } else if (is_mode(word, "chain")) {
             chain(count);
         } else {
             each_then_all(word, count);
         }
     }
-    report(processor_time() - start, count * rounds);
+    report(time_of(word) - start, count * rounds);
     return sum != (uint64_t)(count * rounds);
 }
