@@ -37,6 +37,7 @@ core() {
         rm -f "$made"
     fi
     local failed=0
+    [ -f "$made" ] || echo "c/build.sh: proving and building $name, which may take minutes" >&2
     [ -f "$made" ] || (cd "$crates/$name" && rt lib ${flags[@]+"${flags[@]}"}) >"$out/$name.log" 2>&1 || failed=1
     [ "$failed" = 1 ] || cp "$made" "$kept"
     if [ "$target" != "$host" ]; then
