@@ -41,7 +41,7 @@ use Rattle.queue_state.specs.declared.answers.Advancing.{Advancing}
 use Rattle.queue_state.specs.declared.answers.Advancing.TheVariants as advancing
 use Rattle.queue_state.specs.declared.answers.Halting.{Halting}
 use Rattle.queue_state.specs.declared.answers.Halting.TheVariants as halting
-use Rattle.queue_state.specs.Queue.{Queue, IsSound, entry_of, entered, moment_at, time_of, has_match}
+use Rattle.queue_state.specs.Queue.{Queue, IsSound, entry_of, entered, moment_at, time_of, has_match, is_idle_at}
 use Rattle.queue_state.specs.Ended.{ended, left}
 use Rattle.queue_state.specs.Calls.{Posts, PostsBarrier, Unbars, Takes, Quits, Looks, Advances, Halts, Waits, IsDue, Replies, wakes_at, with_message}
 use Rattle.queue_state.specs.Looks.{as_barrier, is_idle}
@@ -92,6 +92,9 @@ module _ {H K : Type 0} (before : List Entry) (x : Queue H K) (l : Leave x.setti
 
   moment_alike : (now : ℕ) → moment_at (whole_queue before x) now ≡ moment_at x now
   moment_alike now = ap (λ (t : ℕ). if x.setting.lockstep then t else max now t) time_alike
+
+  pub idle_alike : (now : ℕ) → is_idle_at (whole_queue before x) now ≡ is_idle_at x now
+  idle_alike now = ap (λ (t : ℕ). is_idle t x.messages) (moment_alike now)
 
   made_alike : (s : ℕ) → s < x.setting.senders → made_count nothing (before ++ x.entries) s ≡ made_count x.start x.entries s
   made_alike s below =

@@ -14,7 +14,7 @@ use Rattle.queue_state.specs.declared.answers.Taking.{Taking}
 use Rattle.queue_state.specs.declared.answers.Quitting.{Quitting}
 use Rattle.queue_state.specs.declared.answers.Advancing.{Advancing}
 use Rattle.queue_state.specs.declared.answers.Halting.{Halting}
-use Rattle.queue_state.specs.Queue.{Queue, time_of, has_match, part_of, sealed}
+use Rattle.queue_state.specs.Queue.{Queue, time_of, has_match, is_idle_at, part_of, sealed}
 use Rattle.queue_state.specs.Calls.{Posts, PostsBarrier, Unbars, Takes, Quits, Looks, Advances, Halts}
 use Rattle.shared_queue.specs.Known.{Known, IsTurn, IsTurnWith}
 
@@ -43,9 +43,12 @@ module _ {H K : Type 0} where
   abbrev pub HaltedBy : Known H K → Known H K → ℕ → Halting → Type 0
   HaltedBy before after now result = (x : Queue H K) × (y : Queue H K) × IsTurn before after x y × Halts x before.sender now result y
 
-  -- these two leave the state as they found it
+  -- these leave the state as they found it
   abbrev pub HasBy : Known H K → Known H K → Filter → Bool → Type 0
   HasBy before after filter result = (x : Queue H K) × IsTurn before after x x × (result ≡ has_match x filter)
+
+  abbrev pub IdledBy : Known H K → Known H K → ℕ → Bool → Type 0
+  IdledBy before after now result = (x : Queue H K) × IsTurn before after x x × (result ≡ is_idle_at x now)
 
   abbrev pub TimedBy : Known H K → Known H K → ℕ → Type 0
   TimedBy before after result = (x : Queue H K) × IsTurn before after x x × (result ≡ time_of x)

@@ -4,7 +4,7 @@ ghost use Rattle.loop_model.specs.Items.{is_barrier};
 ghost use Rattle.message_slot.specs.Letter.{IsAtHome};
 ghost use Rattle.queue_state.specs.Calls.{UnbarsAtHome, TakesAtHome, QuitsAtHome};
 ghost use Rattle.shared_queue.specs.Known.{IsOf};
-ghost use Rattle.shared_queue.specs.Calls.{PostedBy, BarrierPostedBy, BarrierGoneBy, RemovedBy, QuitBy, AdvancedBy, HaltedBy, HasBy, TimedBy, CountedBy, SealedBy};
+ghost use Rattle.shared_queue.specs.Calls.{PostedBy, BarrierPostedBy, BarrierGoneBy, RemovedBy, QuitBy, AdvancedBy, HaltedBy, HasBy, IdledBy, TimedBy, CountedBy, SealedBy};
 
 use crate::poster::Poster;
 use crate::queue::SharedQueue;
@@ -150,6 +150,18 @@ impl<K: Claim, E: Recorder> Poster<K, E> {
     {
         let state = self.desk.begin(rt, queue);
         let answer = state.value().has(filter);
+        self.desk.end(queue, state);
+        answer
+    }
+
+    /// Whether nothing stands at the head of the list, or the head is later than `now`, in milliseconds; in lockstep than the queue's
+    /// time. It makes no entry. As `isIdle` of the Android API reference's `MessageQueue`.
+    pub fn is_idle<R: Wait>(&mut self, rt: &R, queue: &SharedQueue<K, E>, now: u64) -> bool
+        requires queue { IsOf self.old queue.now }
+        ensures { IdledBy self.old self.new now result }
+    {
+        let state = self.desk.begin(rt, queue);
+        let answer = state.value().is_idle(now);
         self.desk.end(queue, state);
         answer
     }
