@@ -1,12 +1,12 @@
 -- What the forms of a handler do, by their answer. Each is one call on the queue that the poster's turn found.
-use Rattle.std.specs.Prelude.{◌≡◌, Bool, List, Option, length}
+use Rattle.std.specs.Prelude.{◌≡◌, ℕ, Bool, List, Option, length}
 use Rattle.atomic_table.specs.Seated.{TableId}
 use Rattle.loop_model.specs.declared.post.Post.{Post}
 use Rattle.loop_model.specs.declared.post.Filter.{Filter}
 use Rattle.message_pool.specs.Passes.{Claimed, Node, Tally}
 use Rattle.queue_state.specs.declared.answers.Posted.TheVariants as posted
 use Rattle.queue_state.specs.declared.answers.Taking.TheVariants as taking
-use Rattle.shared_queue.specs.Calls.{PostedBy, RemovedBy, HasBy}
+use Rattle.shared_queue.specs.Calls.{PostedBy, RemovedBy, HasBy, IdledBy}
 use Rattle.handler_post.specs.declared.way.Way.{Way}
 use Rattle.handler_post.specs.declared.way.Sent.{Sent}
 use Rattle.handler_post.specs.declared.way.Sent.TheVariants.{Accepted, Refused, NoMemory}
@@ -38,3 +38,6 @@ Erases f before after result = Erasing f before.poster.now after.poster.now befo
 
 abbrev pub Has : {R : Type 0} → Filter → Way R → Way R → Bool → Type 0
 Has f before after result = HasBy before.poster.now after.poster.now f result × (after.pass.now ≡ before.pass.now)
+
+abbrev pub Idles : {R : Type 0} → ℕ → Way R → Way R → Bool → Type 0
+Idles now before after result = IdledBy before.poster.now after.poster.now now result × (after.pass.now ≡ before.pass.now)

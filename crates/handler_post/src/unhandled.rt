@@ -1,7 +1,7 @@
 //! The calls by a way that name no handler: posts and filters as they are, barriers, and quits.
 ghost use Rattle.std.specs.Prelude.{◌≡◌, ◌≤◌, IfOk, OnErr};
 ghost use Rattle.handler_post.specs.Ways.{IsReady, IsSameWay, MadeNone};
-ghost use Rattle.handler_post.specs.Sends.{Sends, Erases, Has};
+ghost use Rattle.handler_post.specs.Sends.{Sends, Erases, Has, Idles};
 ghost use Rattle.handler_post.specs.Unhandled.{Bars, Unbars, Quits};
 
 use crate::supply::recycle_all;
@@ -54,6 +54,17 @@ impl<'a, E: Recorder> Way<'a, E> {
         ensures has { Has filter.now self.old self.new result }
     {
         self.poster.has(rt, self.queue, filter)
+    }
+
+    /// Whether nothing stands at the head of the queue, or the head is later than `now`, in milliseconds; a barrier is a head too
+    /// (`isIdle` of the Android API reference's `MessageQueue`). It makes no entry.
+    pub fn is_idle<R: Wait>(&mut self, rt: &R, now: u64) -> bool
+        requires { IsReady self.old }
+        ensures ready { IsReady self.new }
+        ensures same { IsSameWay self.old self.new }
+        ensures idle { Idles now self.old self.new result }
+    {
+        self.poster.is_idle(rt, self.queue, now)
     }
 
     /// Posts a barrier at this moment, in milliseconds, and answers its token: from then on the queue holds back what comes behind it
