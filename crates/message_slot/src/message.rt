@@ -241,9 +241,10 @@ impl<K: Claim> Message<K> {
         }
     }
 
-    /// The slot of its claim, or None where it has none.
+    /// The slot of its claim, or None where it has none. A post has the very slot of its claim.
     pub fn slot(&self) -> Option<u32>
-        ensures { result ≡ slot_by K.number self.now.claim }
+        ensures slot { result ≡ slot_by K.number self.now.claim }
+        ensures formed { with_slot result self.now.item ≡ self.now.item }
     {
         match &self.claim {
             Some(claim) => claim.slot(),

@@ -4,7 +4,7 @@ use Rattle.message_pool.proofs.Books.{booked_whole, first_is}
 use Rattle.message_pool.proofs.pool.Pool.close.Goals as goal
 
 pub returns-clause-counts : goal.returns-clause-counts
-returns-clause-counts c = λ whole.
+returns-clause-counts g c = λ whole.
     let left = c.close_with-closed.ensures.values.2 in
     let same = c.pass.view_is in
     let free : slice_index left.0.words 0 ≡ c.word-free.result = first_is left.0.words c.word-free.result (ap (λ ws. get_elem? ws 0) left.2 ∙ c.word-free.ensures) in
