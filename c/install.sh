@@ -15,7 +15,7 @@ lib=lib
 [ "$target" = "$(uname -m)-linux-gnu" ] || lib=lib/$target
 to=${DESTDIR:-}$prefix
 install -d "$to/share/man/man3" "$to/include/message_loop" "$to/$lib/pkgconfig" "$to/$lib/cmake/message_loop" "$to/share/message_loop"
-for header in "$here"/message_loop_posix.h "$here"/message_trace.h "$here"/../crates/{message_queue_c,frame_phases_c,loop_sources_c,loop_next_c,countdown_c}/include/*.h; do
+for header in "$here"/message_loop_posix.h "$here"/message_trace.h "$here"/../crates/{message_queue_c,frame_phases_c,loop_sources_c,loop_next_c,countdown_c,animator_c}/include/*.h; do
     install -m 644 "$header" "$to/include/message_loop/"
 done
 install -m 644 "$built/libmessage_loop.a" "$to/$lib/"
