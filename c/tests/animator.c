@@ -27,28 +27,28 @@ static void limits(void)
 {
     mloop_animator good = MLOOP_ANIMATOR(100, 3, 7), it = good;
     CHECK(starts_at(good, 3));
-    it.delay = 59900, CHECK(starts_at(it, 3));
-    it.delay = 59901, CHECK(is_refused(it));
-    it = good, it.duration = 60000, CHECK(starts_at(it, 3));
-    it.duration = 60001, CHECK(is_refused(it));
-    it.duration = 0, CHECK(is_refused(it));
-    it = good, it.repeats = 99, CHECK(starts_at(it, 3));
-    it.repeats = 100, it.duration = 1, CHECK(is_refused(it));
-    it = good, it.duration = UINT64_MAX, it.repeats = UINT32_MAX, CHECK(is_refused(it));
-    it = good, it.count = 0, CHECK(is_refused(it));
-    it.count = 1, CHECK(is_refused(it));
-    it.count = 3, CHECK(is_refused(it)); /* the third key is at 0 */
-    it.count = 17, CHECK(is_refused(it));
-    it.count = UINT32_MAX, CHECK(is_refused(it));
-    it = good, it.keys[0].at = 1, CHECK(is_refused(it));
-    it = good, it.keys[1].at = 999, CHECK(is_refused(it));
-    it.keys[1].at = 1001, CHECK(is_refused(it));
-    it = good, it.keys[1].value = 1000000, CHECK(starts_at(it, 3));
-    it.keys[1].value = 1000001, CHECK(is_refused(it));
+    it.delay = 59900; CHECK(starts_at(it, 3));
+    it.delay = 59901; CHECK(is_refused(it));
+    it = good, it.duration = 60000; CHECK(starts_at(it, 3));
+    it.duration = 60001; CHECK(is_refused(it));
+    it.duration = 0; CHECK(is_refused(it));
+    it = good, it.repeats = 99; CHECK(starts_at(it, 3));
+    it.repeats = 100, it.duration = 1; CHECK(is_refused(it));
+    it = good, it.duration = UINT64_MAX, it.repeats = UINT32_MAX; CHECK(is_refused(it));
+    it = good, it.count = 0; CHECK(is_refused(it));
+    it.count = 1; CHECK(is_refused(it));
+    it.count = 3; CHECK(is_refused(it)); /* the third key is at 0 */
+    it.count = 17; CHECK(is_refused(it));
+    it.count = UINT32_MAX; CHECK(is_refused(it));
+    it = good, it.keys[0].at = 1; CHECK(is_refused(it));
+    it = good, it.keys[1].at = 999; CHECK(is_refused(it));
+    it.keys[1].at = 1001; CHECK(is_refused(it));
+    it = good, it.keys[1].value = 1000000; CHECK(starts_at(it, 3));
+    it.keys[1].value = 1000001; CHECK(is_refused(it));
     it = good, it.count = MLOOP_MOST_KEYS;
     for (uint32_t i = 0; i < MLOOP_MOST_KEYS; i++) it.keys[i] = (mloop_key){i < 15 ? i : 1000, i + 10};
     CHECK(starts_at(it, 10));
-    it.keys[14].at = 13, CHECK(is_refused(it)); /* at the same place */
+    it.keys[14].at = 13; CHECK(is_refused(it)); /* at the same place */
 }
 
 int main(void)

@@ -42,7 +42,7 @@ run() {
 core=("$c/out/$host/core"/*.a)
 include=("-I$c" "-I$here" "-I$crates/message_queue_c/include" "-I$crates/frame_phases_c/include" "-I$crates/loop_sources_c/include" "-I$crates/loop_next_c/include"
     "-I$crates/countdown_c/include" "-I$crates/animator_c/include")
-loop=("$c/message_loop_posix.c" "$c/message_loop_system.c")
+loop=("$c"/message_loop_{posix,frames,sources,system}.c)
 flags=(-std=c11 -D_POSIX_C_SOURCE=200809L -D_DEFAULT_SOURCE -O1 -g -Wall -Wextra -Werror "${include[@]}")
 heap=$c/../examples/embed/heap.c
 
@@ -137,7 +137,7 @@ if has cmake; then
     cat >"$out/cmake/CMakeLists.txt" <<P
 cmake_minimum_required(VERSION 3.10)
 project(it C)
-find_package(message_loop 0.1 REQUIRED)
+find_package(message_loop 0.2 REQUIRED)
 foreach(kind message_loop static)
   add_executable(it_\${kind} $here/loop.c)
   target_compile_definitions(it_\${kind} PRIVATE _DEFAULT_SOURCE)
