@@ -1,5 +1,5 @@
 #!/usr/bin/env bash
-# build.sh [TARGET]: makes c/out/TARGET/libmessage_loop.a and libmessage_loop.so, of the five proved libraries, the loop and the heap
+# build.sh [TARGET]: makes c/out/TARGET/libmessage_loop.a and libmessage_loop.so, of the six proved libraries, the loop and the heap
 # over malloc. TARGET is a compiler's triple: this machine's, or x86_64-linux-gnu or aarch64-linux-gnu. Each target has a folder of its
 # own, so that none takes another's archive. CC, if set, is the compiler, else TARGET-gcc or cc.
 set -eu
@@ -54,12 +54,13 @@ core frame_phases_c loop_model frame_phases
 core loop_sources_c loop_model loop_sources
 core loop_next_c
 core countdown_c countdown
+core animator_c countdown animator
 
 include=()
-for name in message_queue_c frame_phases_c loop_sources_c loop_next_c countdown_c; do include+=("-I$crates/$name/include"); done
+for name in message_queue_c frame_phases_c loop_sources_c loop_next_c countdown_c animator_c; do include+=("-I$crates/$name/include"); done
 flags=(-std=c11 -O2 -g -fPIC -fvisibility=hidden -Wall -Wextra -Werror "-I$here" "${include[@]}")
 objects=()
-for source in "$here/message_loop_posix.c" "$here/message_loop_system.c" "$here/../examples/embed/heap.c"; do
+for source in "$here"/message_loop_{posix,frames,sources,system}.c "$here/../examples/embed/heap.c"; do
     object=$out/$(basename "$source" .c).o
     $CC "${flags[@]}" -fvisibility=default -c "$source" -o "$object"
     objects+=("$object")

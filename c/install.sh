@@ -15,7 +15,7 @@ lib=lib
 [ "$target" = "$(uname -m)-linux-gnu" ] || lib=lib/$target
 to=${DESTDIR:-}$prefix
 install -d "$to/share/man/man3" "$to/include/message_loop" "$to/$lib/pkgconfig" "$to/$lib/cmake/message_loop" "$to/share/message_loop"
-for header in "$here"/message_loop_posix.h "$here"/message_trace.h "$here"/../crates/{message_queue_c,frame_phases_c,loop_sources_c,loop_next_c,countdown_c}/include/*.h; do
+for header in "$here"/message_loop_posix.h "$here"/message_trace.h "$here"/../crates/{message_queue_c,frame_phases_c,loop_sources_c,loop_next_c,countdown_c,animator_c}/include/*.h; do
     install -m 644 "$header" "$to/include/message_loop/"
 done
 install -m 644 "$built/libmessage_loop.a" "$to/$lib/"
@@ -25,7 +25,7 @@ ln -sf "libmessage_loop.so.$major" "$to/$lib/libmessage_loop.so"
 sed "s/@VERSION@/$full/" "$here/message_loop.3" >"$to/share/man/man3/message_loop.3"
 chmod 644 "$to/share/man/man3/message_loop.3"
 # as sources too, for a program that has its own loop or heap
-install -m 644 "$here"/message_loop_posix.c "$here"/message_loop_system.[ch] "$here/../examples/embed/heap.c" "$to/share/message_loop/"
+install -m 644 "$here"/message_loop_{posix,frames,sources,system}.c "$here"/message_loop_{parts,system}.h "$here/../examples/embed/heap.c" "$to/share/message_loop/"
 cat >"$to/$lib/pkgconfig/message_loop.pc" <<P
 prefix=$prefix
 libdir=\${prefix}/$lib

@@ -1,6 +1,7 @@
 /* A message loop for C and C++ programs over four proved libraries: message_queue.h (messages), frame_phases.h (frames), loop_sources.h
  * (idle handlers, descriptors) and loop_next.h, the table by which it decides what comes next and until when it waits. This layer is C,
- * tested and not proved: it adds one lock, a wake, a wait, a clock and function pointers, and hands in what it sees. It is
+ * tested and not proved: it adds one lock, a wake, a wait, a clock and function pointers, and hands in what it sees. A program that makes
+ * no call of frames, idle handlers or descriptors links none of theirs. It is
  * android.os.Looper, Handler and MessageQueue, and android.view.Choreographer; where a call is one of their methods, the method is named.
  *
  * THREADS. A loop belongs to the thread that calls `mlp_run` or `mlp_run_once`. "Any thread" stands at the calls that others may make
@@ -26,7 +27,7 @@ extern "C" {
 #endif
 
 #define MLP_VERSION_MAJOR 0
-#define MLP_VERSION_MINOR 1
+#define MLP_VERSION_MINOR 2
 #define MLP_VERSION_PATCH 0
 #define MLP_VERSION (MLP_VERSION_MAJOR * 10000 + MLP_VERSION_MINOR * 100 + MLP_VERSION_PATCH)
 
@@ -59,7 +60,8 @@ typedef bool (*mlp_idle_func)(void *user);                            /* queueId
 typedef uint32_t (*mlp_fd_func)(int fd, uint32_t events, void *user); /* onFileDescriptorEvents: the new mask, 0 for no more */
 
 enum { MLP_INPUT = 1, MLP_OUTPUT = 2, MLP_ERROR = 4 };                             /* bits of a mask; errors always count */
-enum { MLP_PHASE_INPUT, MLP_PHASE_ANIMATION, MLP_PHASE_TRAVERSAL, MLP_PHASE_COMMIT }; /* the phases of a frame */
+/* the phases of a frame (Choreographer.CALLBACK_INPUT and its kin), and how many there are */
+enum { MLP_PHASE_INPUT, MLP_PHASE_ANIMATION, MLP_PHASE_INSETS, MLP_PHASE_TRAVERSAL, MLP_PHASE_COMMIT, MLP_PHASES };
 
 /* ---- the loop */
 
@@ -117,14 +119,15 @@ bool mlp_reserve(mlp_loop *loop, uint64_t count);
 /* Looper.quit, or quitSafely: what is due by now still runs. False where it quit before. */
 bool mlp_quit(mlp_loop *loop, bool safe);
 
-/* ---- frames: any thread, but the function is called in the loop's */
+/* ---- frames: any thread, but the function is called in the loop's. The first call takes memory for them. */
 
 bool mlp_on_frame(mlp_loop *loop, uint32_t phase, mlp_frame_func func, void *user); /* postFrameCallback */
 bool mlp_on_frame_delayed(mlp_loop *loop, uint32_t phase, mlp_frame_func func, void *user, uint64_t milliseconds);
 uint64_t mlp_remove_frame(mlp_loop *loop, uint32_t phase, mlp_frame_func func, void *user); /* removeFrameCallback */
 /* The display has a vsync of its own: `ask` is called whenever one is wanted (once for each frame), and the program answers with
- * `mlp_vsync` and its stamp in nanoseconds of CLOCK_MONOTONIC, from any thread. Without it a timer gives the pulses. */
-void mlp_use_vsync(mlp_loop *loop, mlp_func ask, void *user);
+ * `mlp_vsync` and its stamp in nanoseconds of CLOCK_MONOTONIC, from any thread. Without it a timer gives the pulses. False where there is
+ * no memory. */
+bool mlp_use_vsync(mlp_loop *loop, mlp_func ask, void *user);
 void mlp_vsync(mlp_loop *loop, uint64_t stamp);
 
 /* ---- idle handlers and descriptors: the loop's thread */

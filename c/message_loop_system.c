@@ -35,6 +35,12 @@ uint64_t mlp_now(void)
     return mlp_now_ns() / UINT64_C(1000000);
 }
 
+uint64_t mlp_after(uint64_t milliseconds)
+{
+    uint64_t now = mlp_now();
+    return milliseconds > UINT64_MAX - now ? UINT64_MAX : now + milliseconds;
+}
+
 void mlp_system_wake(mlp_system *system)
 {
     int saved = errno;
@@ -61,25 +67,27 @@ void mlp_system_close(mlp_system *system)
     pthread_mutex_destroy(&system->lock);
 }
 
+static uint32_t told(int input, int output, int error)
+{
+    return (input != 0 ? MLP_INPUT : 0u) | (output != 0 ? MLP_OUTPUT : 0u) | (error != 0 ? MLP_ERROR : 0u);
+}
+
 #if MLP_LINUX
 
-bool mlp_system_watch(mlp_system *system, int fd, uint32_t mask, uint32_t before)
+static bool watch(mlp_system *system, int fd, uint32_t mask, uint32_t before)
 {
     struct epoll_event event = {.events = (mask & MLP_INPUT ? EPOLLIN : 0u) | (mask & MLP_OUTPUT ? EPOLLOUT : 0u), .data.fd = fd};
     int change = mask == 0 ? EPOLL_CTL_DEL : before != 0 ? EPOLL_CTL_MOD : EPOLL_CTL_ADD;
     return epoll_ctl(system->poll_fd, change, fd, &event) == 0 || mask == 0;
 }
 
-bool mlp_system_open(mlp_system *system)
+static bool open_ends(mlp_system *system)
 {
-    pthread_mutex_init(&system->lock, NULL);
     system->armed = MLOOP_NEVER;
-    system->polls = NULL;
     system->poll_fd = epoll_create1(EPOLL_CLOEXEC);
     system->wake_in = system->wake_out = eventfd(0, EFD_NONBLOCK | EFD_CLOEXEC);
     system->timer_fd = timerfd_create(CLOCK_MONOTONIC, TFD_NONBLOCK | TFD_CLOEXEC);
-    return system->poll_fd >= 0 && system->wake_in >= 0 && system->timer_fd >= 0 && mlp_system_watch(system, system->wake_in, MLP_INPUT, 0) &&
-           mlp_system_watch(system, system->timer_fd, MLP_INPUT, 0);
+    return system->poll_fd >= 0 && system->wake_in >= 0 && system->timer_fd >= 0 && watch(system, system->timer_fd, MLP_INPUT, 0);
 }
 
 static void arm(mlp_system *system, uint64_t until)
@@ -91,7 +99,7 @@ static void arm(mlp_system *system, uint64_t until)
     system->armed = until;
 }
 
-bool mlp_system_wait(mlp_system *system, uint64_t until, bool may_wait, mlp_system_ready ready, void *user)
+bool mlp_system_wait(mlp_system *system, uint64_t until, bool may_wait)
 {
     struct epoll_event events[16];
     if (until != 0) arm(system, until);
@@ -99,19 +107,16 @@ bool mlp_system_wait(mlp_system *system, uint64_t until, bool may_wait, mlp_syst
     for (int i = 0; i < n; i++) {
         int fd = events[i].data.fd;
         uint32_t e = events[i].events;
-        if (fd == system->wake_in || fd == system->timer_fd) {
-            drain(fd);
-            if (fd == system->timer_fd) system->armed = MLOOP_NEVER;
-        } else {
-            ready(user, fd, (e & EPOLLIN ? MLP_INPUT : 0u) | (e & EPOLLOUT ? MLP_OUTPUT : 0u) | (e & (EPOLLERR | EPOLLHUP) ? MLP_ERROR : 0u));
-        }
+        if (fd == system->timer_fd) system->armed = MLOOP_NEVER;
+        if (fd == system->wake_in || fd == system->timer_fd) drain(fd);
+        else system->ready(system->ready_user, fd, told(e & EPOLLIN, e & EPOLLOUT, e & (EPOLLERR | EPOLLHUP)));
     }
     return n > 0;
 }
 
 #else
 
-bool mlp_system_watch(mlp_system *system, int fd, uint32_t mask, uint32_t before)
+static bool watch(mlp_system *system, int fd, uint32_t mask, uint32_t before)
 {
     uint32_t row = 0;
     while (row < system->poll_count && system->polls[row].fd != fd) row++;
@@ -129,33 +134,43 @@ bool mlp_system_watch(mlp_system *system, int fd, uint32_t mask, uint32_t before
     return true;
 }
 
-bool mlp_system_open(mlp_system *system)
+static bool open_ends(mlp_system *system)
 {
     int ends[2];
-    pthread_mutex_init(&system->lock, NULL);
     system->poll_fd = system->timer_fd = system->wake_in = system->wake_out = -1;
-    system->polls = NULL;
-    system->poll_count = 0;
     if (pipe(ends) != 0) return false;
     for (int i = 0; i < 2; i++) {
         fcntl(ends[i], F_SETFL, O_NONBLOCK);
         fcntl(ends[i], F_SETFD, FD_CLOEXEC);
     }
     system->wake_in = ends[0], system->wake_out = ends[1];
-    return mlp_system_watch(system, ends[0], MLP_INPUT, 0);
+    return true;
 }
 
-bool mlp_system_wait(mlp_system *system, uint64_t until, bool may_wait, mlp_system_ready ready, void *user)
+bool mlp_system_wait(mlp_system *system, uint64_t until, bool may_wait)
 {
     if (poll(system->polls, system->poll_count, may_wait ? mloop_milliseconds(until, mlp_now_ns()) : 0) <= 0) return false;
     for (uint32_t i = 0; i < system->poll_count; i++) {
         int fd = system->polls[i].fd;
         short e = system->polls[i].revents;
-        if (e == 0) continue;
-        if (fd == system->wake_in) drain(fd);
-        else ready(user, fd, (e & POLLIN ? MLP_INPUT : 0u) | (e & POLLOUT ? MLP_OUTPUT : 0u) | (e & (POLLERR | POLLHUP | POLLNVAL) ? MLP_ERROR : 0u));
+        if (e != 0 && fd == system->wake_in) drain(fd);
+        else if (e != 0) system->ready(system->ready_user, fd, told(e & POLLIN, e & POLLOUT, e & (POLLERR | POLLHUP | POLLNVAL)));
     }
     return true;
 }
 
 #endif
+
+bool mlp_system_watch(mlp_system *system, int fd, uint32_t mask, uint32_t before)
+{
+    if (!watch(system, fd, mask, before)) return false;
+    system->watched += (mask != 0) - (before != 0);
+    return true;
+}
+
+bool mlp_system_open(mlp_system *system)
+{
+    *system = (mlp_system){.poll_fd = -1};
+    pthread_mutex_init(&system->lock, NULL);
+    return open_ends(system) && watch(system, system->wake_in, MLP_INPUT, 0);
+}

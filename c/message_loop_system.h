@@ -19,10 +19,10 @@ typedef struct {
     uint64_t armed;                           /* until when the timer runs */
     struct pollfd *polls;                     /* the wake, then what is watched */
     uint32_t poll_count;
+    int watched;                                        /* how many descriptors are watched but its own */
+    void (*ready)(void *user, int fd, uint32_t events); /* called for each of these that something came at */
+    void *ready_user;
 } mlp_system;
-
-/* Called for each watched descriptor that something came at. */
-typedef void (*mlp_system_ready)(void *user, int fd, uint32_t events);
 
 /* False where there is no memory or no descriptor; it is closed all the same. */
 MLP_INTERNAL bool mlp_system_open(mlp_system *system);
@@ -32,6 +32,8 @@ MLP_INTERNAL void mlp_system_wake(mlp_system *system);
 /* Watches for the mask from now on, in place of the one before; 0 is not at all. False where the system does not take it. */
 MLP_INTERNAL bool mlp_system_watch(mlp_system *system, int fd, uint32_t mask, uint32_t before);
 /* Waits until the moment in nanoseconds of CLOCK_MONOTONIC, a wake or an event, or not at all. Whether anything came. */
-MLP_INTERNAL bool mlp_system_wait(mlp_system *system, uint64_t until, bool may_wait, mlp_system_ready ready, void *user);
+MLP_INTERNAL bool mlp_system_wait(mlp_system *system, uint64_t until, bool may_wait);
+/* The millisecond that comes so many later, or the last one. */
+MLP_INTERNAL uint64_t mlp_after(uint64_t milliseconds);
 
 #endif

@@ -1,5 +1,5 @@
 /* long_run MESSAGES FRAMES: a loop handles so many messages, of two posting threads, and runs so many frames, each with callbacks
- * in three phases that post themselves again; and so many callbacks as messages are posted and removed with no frame among them. Tells how much memory the libraries hold on the way. Exits with 0 where nothing is
+ * in four phases that post themselves again; and so many callbacks as messages are posted and removed with no frame among them. Tells how much memory the libraries hold on the way. Exits with 0 where nothing is
  * lost, they never hold more than half as much again as they did at most in the first tenth, and all is given back at the end. */
 #include "check.h"
 #include "counting_heap.h"
@@ -84,7 +84,7 @@ static void tell(const char *what, uint64_t n, uint64_t from)
 static void removals(void)
 {
     mloop_frames frames = MLOOP_FRAMES_CLOSED;
-    CHECK(mloop_frame_open(&frames, 1000, 4));
+    CHECK(mloop_frame_open(&frames, 1000, MLP_PHASES));
     uint64_t from = mlp_now_ns();
     for (uint64_t i = 0; i < messages; i++) {
         mloop_callback callback = {.due = UINT64_MAX, .id = i};
@@ -119,9 +119,9 @@ int main(int argc, char **argv)
         loop = mlp_new(1000);
         display = (mlp_handler){.handle = vsync, .asynchronous = true};
         CHECK(loop != NULL && mlp_handler_open(loop, &display));
-        mlp_use_vsync(loop, ask, NULL);
+        CHECK(mlp_use_vsync(loop, ask, NULL));
         uint64_t from = mlp_now_ns();
-        for (uintptr_t phase = 0; phase < 3; phase++) CHECK(mlp_on_frame(loop, (uint32_t)phase, frame, (void *)phase));
+        for (uintptr_t phase = 0; phase <= MLP_PHASE_TRAVERSAL; phase++) CHECK(mlp_on_frame(loop, (uint32_t)phase, frame, (void *)phase));
         mlp_run(loop);
         CHECK(frames_run == frames_wanted);
         tell("frames", frames_wanted, from);

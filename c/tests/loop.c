@@ -101,7 +101,7 @@ static void messages(void)
     CHECK(freed == 5);
 }
 
-static uint64_t frame_times[4];
+static uint64_t frame_times[MLP_PHASES];
 
 static void phase_func(uint64_t frame_time, void *user)
 {
@@ -139,20 +139,20 @@ static void frames(void)
 {
     forget_trace();
     mlp_loop *loop = mlp_new(5000000);
-    uint32_t phases[4] = {0, 1, 2, 3};
-    CHECK(!mlp_on_frame(loop, 4, phase_func, &phases[0]));
-    for (int i = 3; i >= 0; i--) CHECK(mlp_on_frame(loop, phases[i], phase_func, &phases[i]));
+    uint32_t phases[MLP_PHASES] = {MLP_PHASE_INPUT, MLP_PHASE_ANIMATION, MLP_PHASE_INSETS, MLP_PHASE_TRAVERSAL, MLP_PHASE_COMMIT};
+    CHECK(!mlp_on_frame(loop, MLP_PHASES, phase_func, &phases[0]));
+    for (int i = MLP_PHASES - 1; i >= 0; i--) CHECK(mlp_on_frame(loop, phases[i], phase_func, &phases[i]));
     CHECK(mlp_on_frame(loop, 1, phase_func, &phases[2]) && mlp_remove_frame(loop, 1, phase_func, &phases[2]) == 1 && mlp_remove_frame(loop, 1, phase_func, &phases[2]) == 0);
     CHECK(run_due(loop) == 0 && mlp_timeout(loop) <= 5 && (mlp_timeout(loop) >= 0 || traced != 0));
     /* a barrier does not hold back a frame */
     uint64_t token;
     CHECK(mlp_barrier(loop, &token));
-    while (strlen(trace) < 4) CHECK(mlp_run_once(loop, true) == 1);
-    CHECK(strcmp(trace, "0123") == 0 && frame_times[0] % 5000000 == 0 && frame_times[0] == frame_times[2] && mlp_unbarrier(loop, token));
+    while (strlen(trace) < 5) CHECK(mlp_run_once(loop, true) == 1);
+    CHECK(strcmp(trace, "01234") == 0 && frame_times[0] % 5000000 == 0 && frame_times[0] == frame_times[2] && mlp_unbarrier(loop, token));
     /* one that is due later */
     uint64_t before = mlp_now();
     CHECK(mlp_on_frame_delayed(loop, 0, phase_func, &phases[0], 23));
-    while (strlen(trace) < 5) CHECK(mlp_run_once(loop, true) == 1);
+    while (strlen(trace) < 6) CHECK(mlp_run_once(loop, true) == 1);
     CHECK(mlp_now() - before >= 23);
     /* an animation until a quit */
     animation it = {.loop = loop};
@@ -163,7 +163,7 @@ static void frames(void)
     /* a display's own vsync */
     loop = mlp_new(16666667);
     forget_trace();
-    mlp_use_vsync(loop, count_ask, NULL);
+    CHECK(mlp_use_vsync(loop, count_ask, NULL));
     mlp_vsync(loop, 1);
     CHECK(mlp_on_frame(loop, 1, phase_func, &phases[1]) && mlp_on_frame(loop, 2, phase_func, &phases[2]) && asks == 1);
     usleep(40000);
@@ -304,7 +304,7 @@ static void misuse(void)
     CHECK(!mlp_on_frame(NULL, 0, phase_func, NULL) && !mlp_on_frame(loop, 0, NULL, NULL) && mlp_remove_frame(NULL, 0, phase_func, NULL) == 0);
     CHECK(!mlp_on_idle(loop, NULL, NULL) && !mlp_remove_idle(NULL, NULL, NULL) && !mlp_watch(loop, -1, 1, NULL, NULL) && !mlp_watch(loop, 0, 1, NULL, NULL));
     CHECK(mlp_run_once(NULL, true) == -1 && mlp_fd(NULL) == -1 && mlp_timeout(NULL) == -1);
-    mlp_use_vsync(NULL, NULL, NULL);
+    CHECK(!mlp_use_vsync(NULL, NULL, NULL));
     mlp_vsync(NULL, 0);
     mlp_wake(NULL);
     mlp_run(NULL);

@@ -1,13 +1,16 @@
-/* Makes each call of loop_next.h and compares its answer whole: each row of the table, which row goes first, and how waits are rounded. Exits
- * with 0 where all are right. */
+/* Makes each call of loop_next.h and compares its answer and the situation that it leaves: each row of the table, which row goes first, and
+ * how waits are rounded. Exits with 0 where all are right. */
 #include "check.h"
 #include "loop_next.h"
 #include "message_queue.h"
 
 static bool is(mloop_situation it, mloop_action_kind kind, uint64_t until, bool idle_owed)
 {
+    mloop_situation before = it;
     mloop_action action = mloop_next(&it);
-    return action.kind == kind && action.until == until && action.idle_owed == idle_owed;
+    if (it.look != MLOOP_NOT_LOOKED || it.idle_owed != idle_owed) return false; /* no look stands for a second action */
+    if (it.moment != before.moment || it.time != before.time || it.pulse != before.pulse || it.has_pulse != before.has_pulse) return false;
+    return it.events == before.events && it.frame_owed == before.frame_owed && action.kind == kind && action.until == until;
 }
 
 /* At moment 50 milliseconds, with all that can come: the rows fall away from the first on. */
@@ -37,6 +40,8 @@ static void rows(void)
         one.has_pulse = false;
         CHECK(is(one, MLOOP_DO_FRAME, 0, true));
     }
+    it = (mloop_situation)MLOOP_SITUATION;
+    CHECK(is(it, MLOOP_DO_LOOK, 0, true));
     it = (mloop_situation){.moment = 50000000};
     CHECK(is(it, MLOOP_DO_LOOK, 0, false));
     CHECK(mloop_next(NULL).kind == MLOOP_DO_STOP);

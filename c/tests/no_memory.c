@@ -49,7 +49,7 @@ static bool play(unsigned long each)
         void *obj = malloc(1);
         if (mlp_send_delayed(&handler, i, 0, obj, i % 7)) accepted++;
         else free(obj);
-        if (i % 3 == 0) accepted_frames += i % 2 == 0 ? mlp_on_frame(loop, i % 4, frame, NULL) : mlp_on_frame_delayed(loop, i % 4, frame, NULL, 5);
+        if (i % 3 == 0) accepted_frames += i % 2 == 0 ? mlp_on_frame(loop, i % MLP_PHASES, frame, NULL) : mlp_on_frame_delayed(loop, i % MLP_PHASES, frame, NULL, 5);
     }
     uint64_t end = mlp_now() + 3000;
     while ((handled < accepted || frames < accepted_frames) && mlp_now() < end) CHECK(mlp_run_once(loop, false) >= 0);

@@ -41,8 +41,8 @@ run() {
 "$c/build.sh"
 core=("$c/out/$host/core"/*.a)
 include=("-I$c" "-I$here" "-I$crates/message_queue_c/include" "-I$crates/frame_phases_c/include" "-I$crates/loop_sources_c/include" "-I$crates/loop_next_c/include"
-    "-I$crates/countdown_c/include")
-loop=("$c/message_loop_posix.c" "$c/message_loop_system.c")
+    "-I$crates/countdown_c/include" "-I$crates/animator_c/include")
+loop=("$c"/message_loop_{posix,frames,sources,system}.c)
 flags=(-std=c11 -D_POSIX_C_SOURCE=200809L -D_DEFAULT_SOURCE -O1 -g -Wall -Wextra -Werror "${include[@]}")
 heap=$c/../examples/embed/heap.c
 
@@ -61,7 +61,7 @@ for cc in gcc clang; do
         done
         "$cc" "${flags[@]}" ${with[@]+"${with[@]}"} "$here/core_calls.c" "$heap" "${core[@]}" -lrt -o "$out/core"
         run "core_calls $cc $sanitizer" "$out/core"
-        for name in next countdown; do
+        for name in next countdown animator; do
             "$cc" "${flags[@]}" ${with[@]+"${with[@]}"} "$here/$name.c" "${core[@]}" "$heap" -o "$out/$name"
             run "$name $cc $sanitizer" "$out/$name"
         done
@@ -105,7 +105,7 @@ judged "history of a loop" legal "$out/loop_history"
 "$cc" "${flags[@]}" -O2 "$here/long_run.c" "${loop[@]}" "${core[@]}" -lpthread -o "$out/long"
 if [ -n "$long" ]; then run long_run "$out/long" 10000000 100000; else run long_run "$out/long" 200000 2000; fi
 
-printf '#include "message_loop_posix.h"\n#include "message_trace.h"\n#include "frame_phases.h"\n#include "loop_sources.h"\n#include "loop_next.h"\n#include "countdown.h"\nint main(void) { return mlp_version() == 0; }\n' >"$out/headers.c"
+printf '#include "message_loop_posix.h"\n#include "message_trace.h"\n#include "frame_phases.h"\n#include "loop_sources.h"\n#include "loop_next.h"\n#include "countdown.h"\n#include "animator.h"\nint main(void) { return mlp_version() == 0; }\n' >"$out/headers.c"
 headers=(-pedantic -Wall -Wextra -Wconversion -Wshadow -Wcast-qual -Werror "${include[@]}" -c "$out/headers.c" -o /dev/null)
 for language in c99 c11 c17 c2x; do "$cc" "-std=$language" "${headers[@]}"; done
 if has g++; then
@@ -137,7 +137,7 @@ if has cmake; then
     cat >"$out/cmake/CMakeLists.txt" <<P
 cmake_minimum_required(VERSION 3.10)
 project(it C)
-find_package(message_loop 0.1 REQUIRED)
+find_package(message_loop 0.2 REQUIRED)
 foreach(kind message_loop static)
   add_executable(it_\${kind} $here/loop.c)
   target_compile_definitions(it_\${kind} PRIVATE _DEFAULT_SOURCE)

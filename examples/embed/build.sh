@@ -49,6 +49,7 @@ made message_queue_c loop_model message_slot message_list when_queue queue_state
 made frame_phases_c loop_model frame_phases
 made loop_next_c
 made countdown_c countdown
+made animator_c countdown animator
 
 # build COMPILER SANITIZER NAME: one example, with its heap, at $program
 build() {
@@ -59,7 +60,7 @@ build() {
     no_memory | misuse) heap=() ;;
     arena | device) heap=("$here/arena_heap.c") ;;
     esac
-    [ "$3" != device ] || for other in frame_phases_c loop_next_c countdown_c; do others+=("-I$crates/$other/include" "$crates/$other/out/lib$other.a"); done
+    [ "$3" != device ] || for other in frame_phases_c loop_next_c countdown_c animator_c; do others+=("-I$crates/$other/include" "$crates/$other/out/lib$other.a"); done
     "$1" -std=c11 -D_POSIX_C_SOURCE=200809L -O1 -g -Wall -Wextra -Werror ${flags[@]+"${flags[@]}"} -I"$crate/include" \
         "$here/$3.c" ${heap[@]+"${heap[@]}"} "$library" ${others[@]+"${others[@]}"} -lpthread -o "$program"
 }

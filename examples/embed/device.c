@@ -1,7 +1,8 @@
-/* A small device: a loop of one thread in 64 KB of memory, with forty messages that wait, frames and a countdown in them. Its clock goes on
+/* A small device: a loop of one thread in 64 KB of memory, with forty messages that wait, frames, a countdown and an animator in them. Its clock goes on
  * while it sleeps, in whole milliseconds as a tick timer does, and a little in each step, so that hours pass in seconds. It handles so
  * many messages as the first argument says (a million). Exits with 0 where each came at its time, each frame at its pulse, each second was
- * counted, and all memory is back. */
+ * counted, each needle ran from end to end, and all memory is back. */
+#include "animator.h"
 #include "countdown.h"
 #include "frame_phases.h"
 #include "loop_next.h"
@@ -14,17 +15,21 @@
 #define INTERVAL UINT64_C(16666667)
 #define CHECK(x) ((x) ? (void)0 : (fprintf(stderr, "%s:%d: %s\n", __FILE__, __LINE__, #x), exit(1)))
 
-enum { WAITING = 40, SECONDS = 10, FRAME = 100, ANIMATION = 1, PHASES = 4 };
+#define NEEDLE {.duration = 500, .repeats = 2 * SECONDS - 1, .reverse = true, .count = 2, .keys = {{0, 0}, {1000, 500}}}
+
+enum { WAITING = 40, SECONDS = 10, FRAME = 100, ANIMATION = 1, PHASES = 5 };
 
 static struct {
     msgq_queue queue;
     mloop_frames frames;
     mloop_countdown countdown;
+    mloop_animator needle; /* there and back each second, as long as the countdown */
     uint64_t clock; /* nanoseconds */
+    uint64_t began; /* the first frame time of countdown and needle; 0: with the next frame */
     uint64_t vsync; /* the stamp of the frame whose message is under way */
     uint64_t handled, wanted, frames_run, last_frame, finished, idles, sleeps;
     uint32_t ticks, random;
-} device = {.queue = MSGQ_CLOSED, .frames = MLOOP_FRAMES_CLOSED, .countdown = MLOOP_COUNTDOWN(SECONDS * 1000, 1000), .clock = 5 * MILLI + 300, .random = 1};
+} device = {.queue = MSGQ_CLOSED, .frames = MLOOP_FRAMES_CLOSED, .countdown = MLOOP_COUNTDOWN(SECONDS * 1000, 1000), .needle = NEEDLE, .clock = 5 * MILLI + 300, .random = 1};
 
 static uint64_t now(void)
 {
@@ -49,15 +54,24 @@ static void animate(uint64_t time)
     CHECK(time % INTERVAL == 0 && time > device.last_frame && device.clock - time < 3 * MILLI);
     device.last_frame = time;
     device.frames_run++;
+    if (device.began == 0) device.began = time;
     mloop_tick tick = mloop_countdown_frame(&device.countdown, time);
     if (tick.kind == MLOOP_TICK) {
         CHECK(tick.left <= SECONDS * 1000 - 1000 * device.ticks && tick.left + 20 > SECONDS * 1000 - 1000 * device.ticks);
         device.ticks++;
-    } else if (tick.kind == MLOOP_TICK_FINISHED) {
+    }
+    mloop_value value = mloop_animator_frame(&device.needle, time);
+    if (tick.kind <= MLOOP_TICK_QUIET) { /* one more each millisecond, or one less on the way back */
+        uint64_t elapsed = (time - device.began) / MILLI % 1000;
+        CHECK(value.kind == MLOOP_VALUE && value.value == (elapsed <= 500 ? elapsed : 1000 - elapsed));
+    } else {
+        CHECK(tick.kind == MLOOP_TICK_FINISHED && value.kind == MLOOP_VALUE_END && value.value == 0);
         CHECK(device.ticks == SECONDS);
         device.ticks = 0;
         device.finished++;
         device.countdown = (mloop_countdown)MLOOP_COUNTDOWN(SECONDS * 1000, 1000);
+        device.needle = (mloop_animator)NEEDLE;
+        device.began = 0;
     }
     ask_for_a_frame();
 }
@@ -93,8 +107,6 @@ static bool step(mloop_situation *it, msgq_look *look)
     it->pulse = pulse.time;
     it->has_pulse = pulse.kind == MLOOP_FRAME_ASKED;
     mloop_action action = mloop_next(it);
-    it->idle_owed = action.idle_owed;
-    it->look = MLOOP_NOT_LOOKED;
     switch (action.kind) {
     case MLOOP_DO_LOOK:
         *look = msgq_next(&device.queue, it->moment / MILLI, it->idle_owed);
@@ -124,7 +136,7 @@ int main(int words, char **word)
     CHECK(msgq_reserve(&device.queue, WAITING + 1).kind == MSGQ_DONE);
     for (uint32_t what = 0; what < WAITING; what++) post(10 + what, what, false);
     ask_for_a_frame();
-    mloop_situation it = {.look = MLOOP_NOT_LOOKED, .idle_owed = true};
+    mloop_situation it = MLOOP_SITUATION;
     msgq_look look = {.kind = MSGQ_NOTHING_LEFT};
     while (step(&it, &look)) {
     }

@@ -17,7 +17,7 @@ screen=
 trap '[ -z "$screen" ] || kill "$screen" 2>/dev/null; rm -rf "$out"' EXIT
 read -ra flags <<<"$(sdl2-config --cflags --libs | tr '\n' ' ')"
 built=$c/out/$(uname -m)-linux-gnu/libmessage_loop.a
-"${CC:-cc}" -std=c11 -D_DEFAULT_SOURCE -O2 -Wall -Wextra -Werror -I"$c" "$here/window.c" "$built" "${flags[@]}" -lm -lpthread -o "$out/window"
+"${CC:-cc}" -std=c11 -D_DEFAULT_SOURCE -O2 -Wall -Wextra -Werror -I"$c" -I"$c/../crates/animator_c/include" "$here/window.c" "$built" "${flags[@]}" -lm -lpthread -o "$out/window"
 if [ $# -gt 0 ]; then
     cp "$out/window" "$1"
     exit 0

@@ -1,10 +1,11 @@
 /* A dashboard in a window: three gauges that run to the values which a thread posts, at the display's rate. SDL draws; the loop, its
- * messages and its frames are message_loop_posix's.
+ * messages and its frames are message_loop_posix's, and each gauge runs by an animator of animator.h.
  *
  *     window [SECONDS]       random values until it is closed, or for so long
  *     window SECONDS still   the values 25, 60 and 90 alone, for a screenshot
  *
  * As Android's views do, a gauge that changes asks for a traversal: a barrier holds back ordinary messages until the frame has drawn. */
+#include "animator.h"
 #include "message_loop_posix.h"
 
 #include <SDL2/SDL.h>
@@ -30,8 +31,8 @@ static mlp_loop *loop;
 /* ---- gauges, which run to their targets in the frames' animation phase */
 
 typedef struct {
-    double shown, from, target;
-    uint64_t began; /* the frame time at which it began to run; 0: with the next frame */
+    mloop_animator run; /* of hundredths */
+    double shown;
     bool runs;
 } gauge;
 
@@ -53,19 +54,18 @@ static void invalidate(void)
 static void animate(uint64_t frame_time, void *user)
 {
     gauge *it = user;
-    if (it->began == 0) it->began = frame_time;
-    double part = (double)(frame_time - it->began) / (RUN_MS * 1e6);
-    double eased = part >= 1 ? 1 : 1 - (1 - part) * (1 - part); /* DecelerateInterpolator */
-    it->shown = it->from + (it->target - it->from) * eased;
-    it->runs = part < 1 && mlp_on_frame(loop, MLP_PHASE_ANIMATION, animate, it);
+    mloop_value value = mloop_animator_frame(&it->run, frame_time);
+    it->shown = value.value / 100.0;
+    it->runs = value.kind == MLOOP_VALUE && mlp_on_frame(loop, MLP_PHASE_ANIMATION, animate, it);
     invalidate();
 }
 
+/* From what is shown to the target, ever slower, as by DecelerateInterpolator: with the next frame. */
 static void run_to(gauge *it, double target)
 {
-    it->from = it->shown;
-    it->target = target;
-    it->began = 0;
+    const double parts[] = {0, 0.4375, 0.75, 0.9375, 1};
+    it->run = (mloop_animator){.duration = RUN_MS, .count = 5};
+    for (uint32_t i = 0; i < 5; i++) it->run.keys[i] = (mloop_key){250 * i, (uint32_t)((it->shown + (target - it->shown) * parts[i]) * 100)};
     if (!it->runs) it->runs = mlp_on_frame(loop, MLP_PHASE_ANIMATION, animate, it);
 }
 

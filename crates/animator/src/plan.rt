@@ -2,14 +2,12 @@
 ghost use Rattle.std.specs.Prelude.{◌≡◌, ◌↔◌, IsTrue, All};
 ghost use Rattle.animator.specs.Plans.{IsKey, IsPlan, rise, rise_from};
 
-use crate::keys::{Key, Keys};
+use crate::keys::{Key, Keys, MOST_KEYS};
 
 /// When the last way ends at the latest, in milliseconds.
 const LAST_END: u64 = 60_000;
 
 const MOST_REPEATS: u32 = 99;
-
-const MOST_KEYS: usize = 16;
 
 /// The place of the last key.
 const LAST_PLACE: u32 = 1_000;

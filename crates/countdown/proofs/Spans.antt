@@ -25,3 +25,14 @@ span_later (t ∷ ts) time first greatest s some is =
     let e : latest (ts ++ time ∷ []) ≡ max (latest ts) time = latest-push ts time in
     let more : max greatest time ≡ max t (latest (ts ++ time ∷ [])) = omega arith in
     cc
+
+-- the first and the greatest of the times span alone what all of them do
+pub span_of_ends : (times : List ℕ) (first greatest : ℕ) → ◌≡◌ {A = Option (ℕ × ℕ)} (Some (first, greatest)) (span_of times)
+    → span_of (first ∷ greatest ∷ []) ≡ span_of times
+span_of_ends [] first greatest is = cc
+span_of_ends (t ∷ ts) first greatest is =
+    let pair : ◌≡◌ {A = ℕ × ℕ} (first, greatest) (t, max t (latest ts)) = cc in
+    let one : first ≡ t = ap (λ p. p.0) pair in
+    let two : greatest ≡ max t (latest ts) = ap (λ p. p.1) pair in
+    let e : max first (max greatest 0) ≡ max t (latest ts) = omega arith in
+    cc

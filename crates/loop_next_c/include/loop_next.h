@@ -3,20 +3,21 @@
  *
  * A LOOP over message_queue.h, and over frame_phases.h and loop_sources.h where it has these, does this:
  *
- *     mloop_situation it = {.look = MLOOP_NOT_LOOKED, .idle_owed = idle_owed};
+ *     mloop_situation it = MLOOP_SITUATION;
  *     for (;;) {
  *         it.moment = now();                            the moment, a pulse that is asked for, events
  *         mloop_action action = mloop_next(&it);
- *         idle_owed = action.idle_owed;
  *         switch (action.kind) {
- *         case MLOOP_DO_LOOK:    it.look = msgq_next(..).kind; it.time = ..; continue;
- *         case MLOOP_DO_VSYNC:   mloop_frame_vsync(..); continue;
+ *         case MLOOP_DO_LOOK:    look = msgq_next(.., it.idle_owed); it.look = look.kind; it.time = look.time; break;
+ *         case MLOOP_DO_VSYNC:   mloop_frame_vsync(..); break;
  *         case MLOOP_DO_EVENTS:  ..
  *         case MLOOP_DO_MESSAGE: ..
  *         case MLOOP_DO_WAIT:    wait until action.until or a wake; ..
  *         }
- *         it.look = MLOOP_NOT_LOOKED;                   after each action but a look's own
  *     }
+ *
+ * A LOOK stands for one action: the call itself writes into the situation that the queue was not looked at, and whether an idle turn is
+ * owed. So the caller writes a look's answer behind MLOOP_DO_LOOK alone, and no look is ever acted on twice.
  *
  * LOCK. Where other threads post, the caller's lock is held from a look to the action that is asked for with it: a post after that look
  * then finds a loop that waits or is about to, and wakes it.
@@ -52,12 +53,15 @@ typedef struct {
     uint64_t moment;  /* now */
     uint64_t time;    /* of a look MSGQ_WAIT: until when, in milliseconds */
     uint64_t pulse;   /* counts only where `has_pulse` is set: that of MLOOP_FRAME_ASKED */
-    uint32_t look;    /* MLOOP_NOT_LOOKED, or the kind of the latest `msgq_look` */
+    uint32_t look;    /* MLOOP_NOT_LOOKED, or behind MLOOP_DO_LOOK the kind of the `msgq_look`; each call sets it back */
     bool has_pulse;   /* a pulse is asked for, and the loop's own timer gives it; false where a display does */
     bool frame_owed;  /* a frame is to run or to go on, and no message of it stands in the queue: there was no memory */
     bool events;      /* events came that were not handled yet */
-    bool idle_owed;   /* as the latest action told it; true at first */
+    bool idle_owed;   /* for `msgq_next`: each call sets it after a message, and clears it after an idle turn */
 } mloop_situation;
+
+/* That of a loop before its first step. */
+#define MLOOP_SITUATION {0, 0, 0, MLOOP_NOT_LOOKED, false, false, false, true}
 
 /* The kinds of an action. The first row that holds decides, and MLOOP_DO_WAIT is where none does. */
 typedef enum {
@@ -74,11 +78,10 @@ typedef enum {
 typedef struct {
     uint64_t until;        /* of MLOOP_DO_WAIT the earlier of the queue's time and the pulse, or MLOOP_NEVER; else 0 */
     mloop_action_kind kind;
-    bool idle_owed;        /* for the next look: true after a message, false after an idle turn, else as it was */
 } mloop_action;
 
-/* What the loop does next. */
-static inline mloop_action mloop_next(const mloop_situation *situation);
+/* What the loop does next; the situation is left for the next call. */
+static inline mloop_action mloop_next(mloop_situation *situation);
 
 /* How long it is from `now` until that moment: 0 where it has come, and MLOOP_NEVER of MLOOP_NEVER. */
 static inline uint64_t mloop_nanoseconds(uint64_t until, uint64_t now);
@@ -89,19 +92,19 @@ static inline int32_t mloop_milliseconds(uint64_t until, uint64_t now);
 
 /* ---- The library's functions. No pointer may be null. */
 
-#define MLOOP_NEXT_INTERFACE 1
+#define MLOOP_NEXT_INTERFACE 2
 
 uint32_t mloop_core_next_interface(void); /* MLOOP_NEXT_INTERFACE of the library */
-mloop_action mloop_core_next(const mloop_situation *situation);
+mloop_action mloop_core_next(mloop_situation *situation);
 uint64_t mloop_core_nanoseconds(uint64_t until, uint64_t now);
 int32_t mloop_core_milliseconds(uint64_t until, uint64_t now);
 
 typedef char mloop_next_is_for_64_bits[sizeof(void *) == 8 && sizeof(mloop_situation) == 32 && sizeof(mloop_action) == 16 ? 1 : -1];
 
-static inline mloop_action mloop_next(const mloop_situation *situation)
+static inline mloop_action mloop_next(mloop_situation *situation)
 {
     if (!situation) {
-        mloop_action stop = {0, MLOOP_DO_STOP, false};
+        mloop_action stop = {0, MLOOP_DO_STOP};
         return stop;
     }
     return mloop_core_next(situation);

@@ -86,3 +86,7 @@ next_action s = first_of (table s)
 -- a message makes an idle turn owed, and such a turn ends that
 abbrev pub owes_idle : ℕ → Bool → Bool
 owes_idle action before = if action == handle_message then true else (if action == run_idle then false else before)
+
+-- what is left for the next call: no look stands any more, and whether an idle turn is owed
+abbrev pub afterwards : Situation → Situation
+afterwards s = record s { look = not_looked; idle_owed = owes_idle (next_action s) s.idle_owed }

@@ -34,8 +34,6 @@ pub struct Action {
     pub until: u64,
     /// Which action it is.
     pub kind: u32,
-    /// Whether the look after this action is told that an idle turn is owed.
-    pub idle_owed: bool,
 }
 
 /// A message makes an idle turn owed, and such a turn ends that (`pendingIdleHandlerCount` of AOSP's `MessageQueue.next`).

@@ -3,7 +3,7 @@
 #![tactic(auto)]
 
 ghost use Rattle.std.specs.Prelude.{◌≡◌, ◌≢◌, ◌==◌, ◌-◌, pos, negsuc, if◌then◌else◌};
-ghost use Rattle.loop_next_c.specs.Actions.{next_action, owes_idle};
+ghost use Rattle.loop_next_c.specs.Actions.{next_action, afterwards};
 ghost use Rattle.loop_next_c.specs.Waits.{never, until, milliseconds};
 
 mod action;
@@ -23,19 +23,18 @@ const LONGEST: u64 = i32::MAX as u64;
 
 /// What a message loop does next: the first row of a table that holds. Where none does it waits until the earlier of the time that
 /// the queue waits for and the pulse that is asked for; each other action has 0 there (after AOSP's `MessageQueue.next` and
-/// `Looper::pollInner`; the place of frames is this project's profile).
+/// `Looper::pollInner`; the place of frames is this project's profile). It leaves the situation for the next call: a look stands for
+/// one action, so the queue wasn't looked at, and an idle turn is owed after a message until one ran.
 #[unsafe(no_mangle)]
-pub extern "C" fn mloop_core_next(situation: &Situation) -> Action
-    ensures kind { result.kind ≡ next_action situation.now }
-    ensures until { result.until ≡ until (next_action situation.now) situation.now }
-    ensures idle_owed { result.idle_owed ≡ owes_idle (next_action situation.now) situation.now.idle_owed }
+pub extern "C" fn mloop_core_next(situation: &mut Situation) -> Action
+    ensures kind { result.kind ≡ next_action situation.old }
+    ensures until { result.until ≡ until (next_action situation.old) situation.old }
+    ensures left { situation.new ≡ afterwards situation.old }
 {
     let kind = situation.kind();
-    Action {
-        until: situation.until(kind),
-        kind,
-        idle_owed: action::owes_idle(kind, situation.idle_owed),
-    }
+    let until = situation.until(kind);
+    situation.go_on(kind);
+    Action { until, kind }
 }
 
 /// How many nanoseconds are left at the moment `now` until the moment `until`: 0 where that has come, and of `u64::MAX`, which never
@@ -67,7 +66,7 @@ pub extern "C" fn mloop_core_milliseconds(until: u64, now: u64) -> i32
 /// The number of this interface, which changes where a struct of it does.
 #[unsafe(no_mangle)]
 pub extern "C" fn mloop_core_next_interface() -> u32
-    ensures { result ≡ 1 }
+    ensures { result ≡ 2 }
 {
-    1
+    2
 }

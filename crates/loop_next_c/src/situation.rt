@@ -1,9 +1,9 @@
 // What a loop is asked about.
 ghost use Rattle.std.specs.Prelude.{◌≡◌, ◌&&◌, ◌||◌, ◌==◌, nat_le, not};
-ghost use Rattle.loop_next_c.specs.Actions.{next_action, has_stopped, is_pulse_due, is_to_look};
+ghost use Rattle.loop_next_c.specs.Actions.{next_action, has_stopped, is_pulse_due, is_to_look, not_looked, owes_idle};
 ghost use Rattle.loop_next_c.specs.Waits.{until, wake, queue_wake, pulse_wake};
 
-use crate::action::{EVENTS, FRAME, IDLE_TURN, LOOK, MESSAGE, STOP, VSYNC, WAIT};
+use crate::action::{owes_idle, EVENTS, FRAME, IDLE_TURN, LOOK, MESSAGE, STOP, VSYNC, WAIT};
 use crate::{NANOS_PER_MILLI, NEVER};
 
 /// The queue was not looked at yet.
@@ -31,7 +31,7 @@ pub struct Situation {
     pub time: u64,
     /// The pulse that is asked for, in nanoseconds; counts only where `has_pulse` is set.
     pub pulse: u64,
-    /// The kind of what the queue answered to the latest look, or 0 before one.
+    /// The kind of what the queue answered to a look, or 0 where something was done since.
     pub look: u32,
     /// Whether a pulse is asked for that the loop delivers by its own timer.
     pub has_pulse: bool,
@@ -112,6 +112,14 @@ impl Situation {
             return LOOK;
         }
         WAIT
+    }
+
+    /// Leaves it as it is once this action is taken: no look stands any more.
+    pub(crate) fn go_on(&mut self, kind: u32)
+        ensures { self.new ≡ record self.old { look = not_looked; idle_owed = owes_idle kind self.old.idle_owed } }
+    {
+        self.look = NOT_LOOKED;
+        self.idle_owed = owes_idle(kind, self.idle_owed);
     }
 
     /// Until when the action waits: 0 but for a wait.

@@ -1,9 +1,7 @@
 //! Animators by hand.
 
 use animator::{Animator, Key, Keys, Plan, Valued};
-use std::alloc::Global;
 use std::process::Abort;
-use std::test::Fail;
 
 /// A plan's delay, duration and repeats, whether it turns, and the places of its keys with their values; then frame times with what
 /// the animator answers at them.
@@ -145,15 +143,19 @@ const ROWS: [Row; 8] = [
     },
 ];
 
-fn plan_of(alloc: Global, row: &Row) -> Result<Plan, Fail> {
-    let mut keys = Keys::from_vec(Vec::new(alloc));
+/// The row's plan. None where it has more keys than there is room for.
+fn plan_of(row: &Row) -> Option<Plan> {
+    let mut keys = Keys::new();
     for (at, value) in row.keys {
-        keys.push(Key {
+        let key = Key {
             at: *at,
             value: *value,
-        })?;
+        };
+        if !keys.push(key) {
+            return None;
+        }
     }
-    Ok(Plan {
+    Some(Plan {
         delay: row.delay,
         duration: row.duration,
         repeats: row.repeats,
@@ -162,22 +164,24 @@ fn plan_of(alloc: Global, row: &Row) -> Result<Plan, Fail> {
     })
 }
 
-fn assert_row(rt: &impl Abort, alloc: Global, row: &Row) -> Result<(), Fail> {
-    let plan = plan_of(alloc, row)?;
+fn assert_row(rt: &impl Abort, row: &Row) {
+    let plan = plan_of(row);
+    assert!(rt; plan.is_some());
+    let Some(plan) = plan else {
+        return;
+    };
     assert!(rt; plan.fits());
     let mut animator = Animator::new(plan);
     for (time, answer) in row.frames {
         assert_eq!(rt; animator.on_frame(*time), *answer);
     }
-    Ok(())
 }
 
 #[test]
-fn animators_tell_their_frames(rt: HostRuntime) -> Result<(), Fail> {
+fn animators_tell_their_frames(rt: HostRuntime) {
     for row in &ROWS {
-        assert_row(&rt, rt.alloc(), row)?;
+        assert_row(&rt, row);
     }
-    Ok(())
 }
 
 /// Plans that are out of their limits by one: a way too long, none, an end too late, keys that are none, one, too many, or don't rise
@@ -221,7 +225,7 @@ const UNFIT: [(u64, u64, u32, &[(u32, u32)]); 12] = [
 ];
 
 #[test]
-fn plans_out_of_their_limits_do_not_fit(rt: HostRuntime) -> Result<(), Fail> {
+fn plans_out_of_their_limits_do_not_fit(rt: HostRuntime) {
     for (delay, duration, repeats, keys) in UNFIT {
         let row = Row {
             delay,
@@ -231,8 +235,9 @@ fn plans_out_of_their_limits_do_not_fit(rt: HostRuntime) -> Result<(), Fail> {
             keys,
             frames: &[],
         };
-        let plan = plan_of(rt.alloc(), &row)?;
-        assert!(rt; !plan.fits());
+        match plan_of(&row) {
+            Some(plan) => assert!(rt; !plan.fits()),
+            None => assert_eq!(rt; keys.len(), 17),
+        }
     }
-    Ok(())
 }

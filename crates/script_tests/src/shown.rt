@@ -2,7 +2,6 @@
 
 use animator::{Animator, Key, Keys, Plan, Valued};
 use countdown::{Countdown, Ticked};
-use std::test::Fail;
 
 #[test]
 fn a_countdown_over_frames(rt: HostRuntime) {
@@ -15,13 +14,10 @@ fn a_countdown_over_frames(rt: HostRuntime) {
 }
 
 #[test]
-fn an_animator_over_frames(rt: HostRuntime) -> Result<(), Fail> {
-    let mut keys = Keys::from_vec(Vec::new(rt.alloc()));
-    keys.push(Key { at: 0, value: 0 })?;
-    keys.push(Key {
-        at: 1_000,
-        value: 100,
-    })?;
+fn an_animator_over_frames(rt: HostRuntime) {
+    let mut keys = Keys::new();
+    assert!(rt; keys.push(Key { at: 0, value: 0 }));
+    assert!(rt; keys.push(Key { at: 1_000, value: 100 }));
     let plan = Plan {
         delay: 0,
         duration: 50,
@@ -36,5 +32,4 @@ fn an_animator_over_frames(rt: HostRuntime) -> Result<(), Fail> {
     assert_eq!(rt; animator.on_frame(66_666_668), Valued::Value { value: 100 });
     assert_eq!(rt; animator.on_frame(116_666_669), Valued::End { value: 0 });
     assert_eq!(rt; animator.on_frame(133_333_336), Valued::Over);
-    Ok(())
 }

@@ -195,7 +195,9 @@ impl Draft {
         let Some(mut plan) = self.open.take() else {
             return Ok(());
         };
-        plan.keys.push(key)?;
+        if !plan.keys.push(key) {
+            return Err(NoMemory);
+        }
         if u64::from(key.at) == LAST_PLACE {
             self.things.push(Thing::Animator(plan))?;
         } else {
@@ -205,7 +207,7 @@ impl Draft {
     }
 
     /// Adds what a line says.
-    pub(crate) fn add(&mut self, alloc: Global, row: &Row) -> Result<(), NoMemory>
+    pub(crate) fn add(&mut self, row: &Row) -> Result<(), NoMemory>
         requires { IsTrue (numbers_fit row.now.kind row.now.numbers) }
         ensures { OnOk result (so_far self.new ≡ with_row (so_far self.old) row.now.kind row.now.numbers) }
     {
@@ -223,10 +225,10 @@ impl Draft {
                 })?;
             }
             RowKind::Restart => {
-                self.open = Some(plan_of(alloc, false, numbers));
+                self.open = Some(plan_of(false, numbers));
             }
             RowKind::Reverse => {
-                self.open = Some(plan_of(alloc, true, numbers));
+                self.open = Some(plan_of(true, numbers));
             }
             RowKind::Key => {
                 self.add_key(Key {
@@ -251,7 +253,7 @@ impl Draft {
 }
 
 /// An animator without keys.
-fn plan_of(alloc: Global, reverse: bool, numbers: &Numbers) -> Plan
+fn plan_of(reverse: bool, numbers: &Numbers) -> Plan
     requires { slice_index numbers.now 2 < 2 ^ 32 }
     ensures { result ≡ plan_of reverse numbers.now }
 {
@@ -260,6 +262,6 @@ fn plan_of(alloc: Global, reverse: bool, numbers: &Numbers) -> Plan
         duration: numbers.at(1),
         repeats: numbers.narrow_at(2),
         reverse,
-        keys: Keys::from_vec(Vec::new(alloc)),
+        keys: Keys::new(),
     }
 }

@@ -31,7 +31,7 @@ fn read(alloc: Global, bytes: &[u8]) -> Result<Values, Stop>
         if let Some(cause) = draft.cause(&row) {
             return Err(Stop::Bad(line, cause));
         }
-        draft.add(alloc, &row)?;
+        draft.add(&row)?;
         rest = after;
         line += 1;
     }

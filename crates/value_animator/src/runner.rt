@@ -6,7 +6,7 @@ ghost use Rattle.value_animator.specs.Runners.{is_ended, runner_at, AreAsked, Ha
 ghost use Rattle.value_animator.specs.Running.{line_text, telling_lines, told};
 
 use crate::plan::Thing;
-use animator::{Animator, Keys, Plan, Valued};
+use animator::{Animator, Plan, Valued};
 use countdown::{Countdown, Ticked};
 use loop_model::NoMemory;
 use std::alloc::Global;
@@ -29,33 +29,28 @@ pub(crate) enum Runner {
     Ended,
 }
 
-fn copied(alloc: Global, plan: &Plan) -> Result<Plan, NoMemory>
-    ensures { IfOk result (λ made. made ≡ plan.now) }
+fn copied(plan: &Plan) -> Plan
+    ensures { result ≡ plan.now }
 {
-    let mut keys = Vec::new(alloc);
-    keys.extend_from_slice(plan.keys.as_slice())?;
-    Ok(Plan {
+    Plan {
         delay: plan.delay,
         duration: plan.duration,
         repeats: plan.repeats,
         reverse: plan.reverse,
-        keys: Keys::from_vec(keys),
-    })
+        keys: plan.keys.copied(),
+    }
 }
 
 impl Runner {
     /// A thing that was given no frame yet.
-    fn new(alloc: Global, thing: &Thing) -> Result<Runner, NoMemory>
+    fn new(thing: &Thing) -> Runner
         requires { IsThing thing.now }
-        ensures { IfOk result (λ runner. runner ≡ runner_at thing.now []) }
+        ensures { result ≡ runner_at thing.now [] }
     {
         match thing {
-            Thing::Animator(plan) => {
-                let plan = copied(alloc, plan)?;
-                Ok(Runner::Animator(Animator::new(plan)))
-            }
+            Thing::Animator(plan) => Runner::Animator(Animator::new(copied(plan))),
             Thing::Countdown { total, interval } => {
-                Ok(Runner::Countdown(Countdown::new(*total, *interval)))
+                Runner::Countdown(Countdown::new(*total, *interval))
             }
         }
     }
@@ -107,7 +102,7 @@ pub(crate) fn runners(alloc: Global, things: &[Thing]) -> Result<Vec<Runner>, No
 {
     let mut runners = Vec::new(alloc);
     for thing in things {
-        runners.push(Runner::new(alloc, thing)?)?;
+        runners.push(Runner::new(thing))?;
     }
     Ok(runners)
 }
