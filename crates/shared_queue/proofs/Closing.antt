@@ -17,10 +17,11 @@ use Rattle.message_slot.specs.Letter.{Letter, IsAtHome}
 use Rattle.shared_queue.specs.Constants.{Constants, last_of, made_in, IsFor}
 use Rattle.shared_queue.specs.Whole.{whole_of, Leave}
 use Rattle.queue_state.specs.Queue.{Queue, IsSound, part_of}
+use Rattle.shared_queue.specs.Claims.{IsAsAccepted, AreClaims}
 use Rattle.shared_queue.specs.Turn.{ArePast, Counts, holds, Fits, AtHome, QueueTurn}
 use Rattle.shared_queue.specs.Plays.{Sat}
 use Rattle.shared_queue.specs.Known.{Shared, Known, KeepsNone, IsOf}
-use Rattle.shared_queue.specs.Ends.{AreInOrder, HasCalls, number_of, HaveSealed, sealed_by, Gathered, IsSoundEnd, IsLeftBy, IsLast, IsWholeEnd}
+use Rattle.shared_queue.specs.Ends.{AreInOrder, HasCalls, BeginClaims, AreLeftAsAccepted, number_of, HaveSealed, sealed_by, Gathered, IsSoundEnd, IsLeftBy, IsLast, IsWholeEnd}
 use Rattle.loop_model.proofs.Prefixes.{prefix_trans}
 use Rattle.shared_queue.proofs.Courses.{entries_more, chain_more}
 use Rattle.shared_queue.proofs.Whole.{whole_sound}
@@ -46,6 +47,7 @@ pub record Closes {H K : Type 0} (key : Constants H) (posters : List (Known H K)
   pub start : x.start ≡ after (empty_base key.setting.senders) (entries_of parts)
   pub past : ArePast key.setting parts
   pub calls : HasCalls (entries_of parts ++ x.entries) posters
+  pub claims : (claims : List (Option K)) × BeginClaims claims posters × AreClaims claims x
 
 module _ {H K : Type 0} (key : Constants H) (q : Shared H) (posters : List (Known H K)) (m : Sat H K) (is_key : q.constants ≡ key) (some_sender : 0 < key.setting.senders) (all : length posters ≡ key.setting.senders) (order : AreInOrder q posters) (g : Gathered q posters m) where
   numbers : (k : ℕ) (d : Known H K) → k < length posters → get_or m.0.senders k (number_of d) ≡ number_of (get_or posters k d)
@@ -83,6 +85,7 @@ module _ {H K : Type 0} (key : Constants H) (q : Shared H) (posters : List (Know
                 subst (IsPrefix p.view.seen) whole (prefix_trans p.view.seen m.0.seen (whole_of r.course) (g.2 k e l) f.seen),
                 ap (made_in p.sender) (sym whole) ∙ c.0,
               );
+          claims = (r.course.claims, (λ k e l. prefix_trans (get_or posters k e).view.claims m.0.claims r.course.claims (g.5 k e l) f.claims), home.3.2);
           parts = λ handed sealed. sealed_from q 0 posters handed (λ k e l. let o = order k e l in (o.0, o.1 ∙ omega arith)) g.4 long (omega (arith, all, some_sender)) sealed;
         },
       )
@@ -102,6 +105,7 @@ closing key posters x parts l are = record {
   start = l.start ∙ ap (λ (ps : List Segment). after (empty_base key.setting.senders) (entries_of ps)) are;
   past = subst (ArePast key.setting) are l.past;
   calls = subst (λ (ps : List Segment). HasCalls (entries_of ps ++ x.entries) posters) are l.calls;
+  claims = l.claims;
 }
 
 -- a state of the queue that is sound ends soundly
@@ -126,12 +130,16 @@ module _ {H K : Type 0} (key : Constants H) (posters : List (Known H K)) (parts 
         live = ap items_of same ∙ (whole.live ∙ ((λ i. live_in_order (empty_base (c.own.setting i).senders) (before ++ x.entries)) ∙ ap (live_in_order (empty_base key.setting.senders)) (sym all_entries)));
       }
 
+  pub left_claims : (left : List (Letter K)) → left ≡ x.messages → AreLeftAsAccepted posters left
+  left_claims left same = (c.claims.0, c.claims.1, subst (All (IsAsAccepted c.claims.0)) (sym same) c.claims.2.each)
+
   pub ends : (of : K → H) (left : List (Letter K)) → left ≡ x.messages → All (IsAtHome of x.home) left → IsWholeEnd of key posters parts segments left
   ends of left same home = record {
     last = (part_of x, are);
     chain = ends_chain;
     sound = ends_sound left same;
     calls = ends_calls;
+    claims = left_claims left same;
     home = subst (λ (h : H). All (IsAtHome of h) left) c.own.home home;
   }
 

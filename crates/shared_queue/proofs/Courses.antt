@@ -17,8 +17,8 @@ use Rattle.shared_queue.specs.Whole.{Course}
 use Rattle.shared_queue.proofs.Whole.{zeros}
 
 -- the same parts, with these entries since
-abbrev pub with_since : Course → List Entry → Course
-with_since c es = record { parts = c.parts; since = es }
+abbrev pub with_since : {K : Type 0} → Course K → List Entry → Course K
+with_since c es = record { parts = c.parts; since = es; claims = c.claims }
 
 pub after_length : (b : Base) (es : List Entry) → (after b es).length ≡ b.length + length es
 unfolding after

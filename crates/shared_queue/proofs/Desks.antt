@@ -1,5 +1,5 @@
 -- The two ends of a turn, at a desk.
-use Rattle.std.proofs.Common.{◌≡◌, ℕ, ◌+◌, ◌-◌, ◌<◌, ◌≤◌, ⊎_elim, inl, inr, cond, eqb, List, [], ◌∷◌, ◌++◌, ◌≢◌, length, sym, ap, ◌∙◌, subst, arith, Some, length-append, append_assoc, eq-eqb, ne_eqb}
+use Rattle.std.proofs.Common.{◌≡◌, ℕ, ◌+◌, ◌-◌, ◌<◌, ◌≤◌, ⊎_elim, inl, inr, cond, eqb, List, [], ◌∷◌, ◌++◌, ◌≢◌, length, sym, ap, ◌∙◌, subst, arith, Option, Some, length-append, append_assoc, eq-eqb, ne_eqb}
 use Rattle.std.specs.Prelude.{All}
 use mathlib.Core.Logic.{dite}
 use native.Mathlib.Decide.{ℕ_discrete}
@@ -14,6 +14,8 @@ use Rattle.shared_queue.specs.Plays.{Sat, IsCounted}
 use Rattle.shared_queue.specs.Known.{StepsBy}
 use Rattle.shared_queue.specs.Seats.{HasTaken}
 use Rattle.shared_queue.specs.Desk.{Counted, IsIdle, IsSameDesk, Began, MayEnd, Ended, MayHandOver, HandedOver}
+use Rattle.shared_queue.specs.Claims.{AreClaims, claims_with}
+use Rattle.shared_queue.proofs.Claims.{KeepsClaims}
 use Rattle.shared_queue.proofs.Courses.{empty_length, seen_is, sealed_seen, sealed_length}
 use Rattle.shared_queue.proofs.Prefixes.{made_in_push, one_of-yes}
 
@@ -31,11 +33,11 @@ same_sender n p senders is here = dite (ℕ_discrete p.0 n)
     absurd (omega arith))
 
 -- a desk that keeps its constants and what it handed out, and is not the last sender's, has handed out nothing
-pub still_unsealed : {H K : Type 0} (d e : Desk (Queue H K) H) → Counted d → e.sender ≡ d.sender → e.seat.me.0.constants ≡ d.seat.me.0.constants → e.seat.me.0.sealed ≡ d.seat.me.0.sealed
+pub still_unsealed : {H K : Type 0} (d e : Desk (Queue H K) H K) → Counted d → e.sender ≡ d.sender → e.seat.me.0.constants ≡ d.seat.me.0.constants → e.seat.me.0.sealed ≡ d.seat.me.0.sealed
     → (c : Constants H) → e.seat.me.0.constants ≡ Some c → e.sender + 1 ≢ c.setting.senders → e.seat.me.0.sealed ≡ []
 still_unsealed d e counts sender constants sealed_same c is apart = sealed_same ∙ counts.unsealed c (sym constants ∙ is) (λ last. apart (ap (λ n. n + 1) sender ∙ last))
 
-module _ {H K : Type 0} (key : Constants H) (d e : Desk (Queue H K) H) where
+module _ {H K : Type 0} (key : Constants H) (d e : Desk (Queue H K) H K) where
   pub begins : (x : Queue H K) → d.seat.me.0.constants ≡ Some key → IsIdle d → IsSameDesk d e → HasTaken key d.seat.me e.seat.me x → IsSound x → e.made ≡ d.made → e.seen ≡ x.start.length + length x.entries → e.heard ≡ d.heard → Began key d e x
   begins x live idle same t sound made seen heard =
       let mine : IsCounted x.setting.senders t.whole (d.sender, d.made) = only_sender (IsCounted x.setting.senders t.whole) d.seat.me.0.senders (d.sender, d.made) idle.2.senders t.extends.1 in
@@ -44,6 +46,7 @@ module _ {H K : Type 0} (key : Constants H) (d e : Desk (Queue H K) H) where
       let long : length t.whole ≡ x.start.length + length x.entries = omega (arith, ap length t.spans.1, length-append before x.entries, start) in
       record {
         whole = t.whole;
+        claims = t.claims;
         same = same;
         me = t.me;
         live = live;
@@ -51,6 +54,7 @@ module _ {H K : Type 0} (key : Constants H) (d e : Desk (Queue H K) H) where
         spans = t.spans;
         sound = sound;
         begins = t.extends.0;
+        knows = t.knows;
         below = mine.0;
         found_made = mine.1;
         counted = record {
@@ -71,8 +75,8 @@ module _ {H K : Type 0} (key : Constants H) (d e : Desk (Queue H K) H) where
       seen_is y.start.length b.spans.0 x.entries e.seat.me.0.seen y.entries long (seen ∙ b.spans.1)
 
   -- a state that has at most one entry more, of the desk's sender, may be given back
-  pub may_end : (x y : Queue H K) → Began key d e x → StepsBy d.sender x y → MayEnd key e y
-  may_end x y b step =
+  pub may_end : (x y : Queue H K) → Began key d e x → StepsBy d.sender x y → KeepsClaims x y → MayEnd key e y
+  may_end x y b step keeps =
       let seen : e.seat.me.0.seen ≡ b.whole = ap (λ (z : Sat H K). z.0.seen) b.me in
       let before : List Entry = b.spans.0 in
       let now = now_is x y b step.2 in
@@ -96,6 +100,7 @@ module _ {H K : Type 0} (key : Constants H) (d e : Desk (Queue H K) H) where
                 (λ (t : (en : Entry) × (y.entries ≡ x.entries ++ en ∷ []) × (en.sender ≡ d.sender)). inr (t.0, t.1, holder t.0 t.2))
                 step.3,
           ),
+          subst (λ (l : List (Option K)). AreClaims (claims_with l y.messages) y) (sym (ap (λ (z : Sat H K). z.0.claims) b.me)) (keeps b.claims b.knows.1),
         );
         long = omega (arith, ap length now, length-append before y.entries, start);
         more = ⊎_elim
@@ -125,7 +130,7 @@ module _ {H K : Type 0} (key : Constants H) (d e : Desk (Queue H K) H) where
         same = same;
       }
 
-module _ {H K : Type 0} (key : Constants H) (d e : Desk (Queue H K) H) (y : Queue H K) (may : MayEnd key d y) where
+module _ {H K : Type 0} (key : Constants H) (d e : Desk (Queue H K) H K) (y : Queue H K) (may : MayEnd key d y) where
   abbrev now : List Entry
   now = seen_with d.seat.me.0 y
 
@@ -165,7 +170,7 @@ module _ {H K : Type 0} (key : Constants H) (d e : Desk (Queue H K) H) (y : Queu
       }
 
 -- a desk of the last sender ends its turn with the state sealed
-pub hands_over_ends : {H K : Type 0} (key : Constants H) (d e : Desk (Queue H K) H) (y : Queue H K) → MayHandOver key d y → IsSound y → IsSameDesk d e → e.seat.me ≡ (handing d.seat.me.0 y, []) → e.seen ≡ y.start.length + length y.entries → e.made ≡ d.made → e.heard ≡ d.heard → HandedOver d e y
+pub hands_over_ends : {H K : Type 0} (key : Constants H) (d e : Desk (Queue H K) H K) (y : Queue H K) → MayHandOver key d y → IsSound y → IsSameDesk d e → e.seat.me ≡ (handing d.seat.me.0 y, []) → e.seen ≡ y.start.length + length y.entries → e.made ≡ d.made → e.heard ≡ d.heard → HandedOver d e y
 hands_over_ends {H} {K} key d e y may sound same me seen made heard =
     let old : made_in d.sender (seen_with d.seat.me.0 y) ≡ d.made = ap (made_in d.sender) may.same ∙ may.counted.made in
     record {
@@ -190,14 +195,14 @@ hands_over_ends {H} {K} key d e y may sound same me seen made heard =
     }
 
 -- such a desk's seat holds the last sender
-pub holds_last : {H K : Type 0} (key : Constants H) (d : Desk (Queue H K) H) (y : Queue H K) → MayHandOver key d y → 0 < holds (last_of key) d.seat.me.0
+pub holds_last : {H K : Type 0} (key : Constants H) (d : Desk (Queue H K) H K) (y : Queue H K) → MayHandOver key d y → 0 < holds (last_of key) d.seat.me.0
 holds_last key d y may =
     let last : d.sender ≡ last_of key = let l = may.last in omega arith in
     let one : cond {A = ℕ} (eqb d.sender (last_of key)) 1 0 ≡ 1 = ap (λ b. cond {A = ℕ} b 1 0) (eq-eqb d.sender (last_of key) last) in
     subst (λ (l : List (ℕ × ℕ)). 0 < total (λ (q : ℕ × ℕ). cond (eqb q.0 (last_of key)) 1 0) l) (sym may.counted.senders) (omega arith)
 
 -- the history does not get shorter
-pub no_shorter : {H K : Type 0} (key : Constants H) (d : Desk (Queue H K) H) (y : Queue H K) → MayEnd key d y → d.seen ≤ y.start.length + length y.entries
+pub no_shorter : {H K : Type 0} (key : Constants H) (d : Desk (Queue H K) H K) (y : Queue H K) → MayEnd key d y → d.seen ≤ y.start.length + length y.entries
 no_shorter key d y may =
     let seen : length d.seat.me.0.seen ≡ d.seen = may.counted.seen in
     let long = may.long in
@@ -207,5 +212,5 @@ no_shorter key d y may =
     may.more
 
 -- the state under the turn, where it is lent
-pub lent : {H K : Type 0} (key : Constants H) (d e : Desk (Queue H K) H) (x z : Queue H K) → z ≡ x → Began key d e x → Began key d e z
+pub lent : {H K : Type 0} (key : Constants H) (d e : Desk (Queue H K) H K) (x z : Queue H K) → z ≡ x → Began key d e x → Began key d e z
 lent key d e x z same began = subst (Began key d e) (sym same) began

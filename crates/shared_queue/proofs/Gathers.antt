@@ -18,17 +18,20 @@ use Rattle.shared_queue.specs.Ends.{number_of, sealed_by, TakenIn, Gathered, IsN
 use Rattle.loop_model.proofs.Prefixes.{prefix_trans}
 
 -- a seat takes in that of a poster
-pub takes_in : {H K : Type 0} (c : Constants H) (s u m n : Sat H K) (p : Known H K) → Rests c s → Rests c u → u.0 ≡ p.view → u.0.senders ≡ (p.sender, made_by p) ∷ [] → KeepsNone p → m ≡ (joined s.0 u.0, s.1) → n ≡ m → All (λ t. IsPrefix t m.0.seen) m.0.told → Rests c n × TakenIn s.0 p n.0
-takes_in {H} {K} c s u m n p rests theirs is numbers keeps took_in same told =
+pub takes_in : {H K : Type 0} (c : Constants H) (s u m n : Sat H K) (p : Known H K) → Rests c s → Rests c u → u.0 ≡ p.view → u.0.senders ≡ (p.sender, made_by p) ∷ [] → KeepsNone p → m ≡ (joined s.0 u.0, s.1) → n ≡ m → All (λ t. IsPrefix t m.0.seen) m.0.told → All (λ t. IsPrefix t m.0.claims) m.0.told_claims → Rests c n × TakenIn s.0 p n.0
+takes_in {H} {K} c s u m n p rests theirs is numbers keeps took_in same told told_claims =
     let now : n.0 ≡ joined s.0 u.0 = ap (λ (z : Sat H K). z.0) (same ∙ took_in) in
-    let told' : All (λ t. IsPrefix t n.0.seen) (s.0.seen ∷ u.0.seen ∷ s.0.told) = subst (λ (z : Sat H K × Sat H K). All (λ t. IsPrefix t z.0.0.seen) z.1.0.told) (λ i. (sym same i, took_in i)) told in (
-      (ap (λ (z : View (Queue H K) H). z.constants) now ∙ rests.0, ap (λ (z : View (Queue H K) H). z.has_turn) now ∙ rests.1, ap (λ (z : Sat H K). z.1) (same ∙ took_in) ∙ rests.2),
+    let told' : All (λ t. IsPrefix t n.0.seen) (s.0.seen ∷ u.0.seen ∷ s.0.told) = subst (λ (z : Sat H K × Sat H K). All (λ t. IsPrefix t z.0.0.seen) z.1.0.told) (λ i. (sym same i, took_in i)) told in
+    let claims' : All (λ t. IsPrefix t n.0.claims) (s.0.claims ∷ u.0.claims ∷ s.0.told_claims) = subst (λ (z : Sat H K × Sat H K). All (λ t. IsPrefix t z.0.0.claims) z.1.0.told_claims) (λ i. (sym same i, took_in i)) told_claims in (
+      (ap (λ (z : View (Queue H K) H K). z.constants) now ∙ rests.0, ap (λ (z : View (Queue H K) H K). z.has_turn) now ∙ rests.1, ap (λ (z : Sat H K). z.1) (same ∙ took_in) ∙ rests.2),
       (
-        ap (λ (z : View (Queue H K) H). z.senders) now ∙ ap (λ l. s.0.senders ++ l) numbers,
+        ap (λ (z : View (Queue H K) H K). z.senders) now ∙ ap (λ l. s.0.senders ++ l) numbers,
         told' 0 [] (omega arith),
-        subst (λ (z : View (Queue H K) H). IsPrefix z.seen n.0.seen) is (told' 1 [] (omega arith)),
-        ap (λ (z : View (Queue H K) H). z.sealed) now ∙ ap (λ (z : View (Queue H K) H). s.0.sealed ++ z.sealed) is,
+        subst (λ (z : View (Queue H K) H K). IsPrefix z.seen n.0.seen) is (told' 1 [] (omega arith)),
+        ap (λ (z : View (Queue H K) H K). z.sealed) now ∙ ap (λ (z : View (Queue H K) H K). s.0.sealed ++ z.sealed) is,
         keeps,
+        claims' 0 [] (omega arith),
+        subst (λ (z : View (Queue H K) H K). IsPrefix z.claims n.0.claims) is (claims' 1 [] (omega arith)),
       ),
     )
 
@@ -45,6 +48,7 @@ gathers {H} {K} q posters p s n g rests t = (
   All-push (λ (x : Known H K). IsPrefix x.view.seen n.0.seen) posters p (All-weaker (λ (x : Known H K). IsPrefix x.view.seen s.0.seen) (λ (x : Known H K). IsPrefix x.view.seen n.0.seen) (λ x h. prefix_trans x.view.seen s.0.seen n.0.seen h t.1) posters g.2) t.2,
   t.3 ∙ (ap (λ l. l ++ p.view.sealed) g.3 ∙ sym (sealed_more posters p)),
   All-push (λ (x : Known H K). KeepsNone x) posters p g.4 t.4,
+  All-push (λ (x : Known H K). IsPrefix x.view.claims n.0.claims) posters p (All-weaker (λ (x : Known H K). IsPrefix x.view.claims s.0.claims) (λ (x : Known H K). IsPrefix x.view.claims n.0.claims) (λ x h. prefix_trans x.view.claims s.0.claims n.0.claims h t.5) posters g.5) t.6,
 )
 
 -- a new poster of that number

@@ -1,5 +1,5 @@
 -- What contracts see of a turn.
-use Rattle.std.proofs.Common.{◌≡◌, ℕ, ◌+◌, ◌-◌, List, [], ◌∷◌, ◌++◌, length, take, drop, refl, sym, ap, ◌∙◌, subst, ⊎_elim, inl, inr, arith, append_assoc, append-nil, Some}
+use Rattle.std.proofs.Common.{◌≡◌, ℕ, ◌+◌, ◌-◌, List, [], ◌∷◌, ◌++◌, length, take, drop, refl, sym, ap, ◌∙◌, subst, ⊎_elim, inl, inr, arith, append_assoc, append-nil, Option, Some}
 use Rattle.std.specs.Option.{option_map}
 use mathlib.Core.List.{IsPrefix}
 use Rattle.loop_model.specs.declared.entry.Entry.{Entry}
@@ -18,12 +18,15 @@ use Rattle.shared_queue.specs.Plays.{Sat}
 use Rattle.shared_queue.specs.Known.{Known, IsTurn, IsTurnWith, StepsBy, made_by}
 use Rattle.shared_queue.specs.Calls.{IsPart}
 use Rattle.shared_queue.specs.Desk.{IsIdle, Began, Ended, HandedOver}
+use Rattle.loop_model.proofs.Prefixes.{prefix_front, prefix_trans}
 use Rattle.shared_queue.proofs.Courses.{empty_length, take_front, drop_front}
 use Rattle.shared_queue.proofs.Whole.{rest, whole_sound}
+use Rattle.shared_queue.specs.Claims.{claims_at, claims_with, AreClaims, ClaimsGoOn}
+use Rattle.shared_queue.proofs.Claims.{KeepsClaims, keeps_sealed, claims_whole}
 use Rattle.shared_queue.proofs.Desks.{now_is}
 
 -- what a clause sees of the desk
-abbrev pub known : {H K : Type 0} → Desk (Queue H K) H → Known H K
+abbrev pub known : {H K : Type 0} → Desk (Queue H K) H K → Known H K
 known d = record { table = d.seat.table_id; sender = d.sender; view = d.seat.me.0 }
 
 -- one entry more of either
@@ -38,7 +41,7 @@ whole_steps {H} {K} before s x y step = (
       step.3,
 )
 
-module _ {H K : Type 0} (key : Constants H) (d e : Desk (Queue H K) H) (x : Queue H K) (idle : IsIdle d) (b : Began key d e x) where
+module _ {H K : Type 0} (key : Constants H) (d e : Desk (Queue H K) H K) (x : Queue H K) (idle : IsIdle d) (b : Began key d e x) where
   -- what came before the base of the state found has left it
   pub leave_found : Leave x.setting b.spans.0 x.start
   leave_found = subst (λ (s : Setting). Leave s b.spans.0 x.start) (sym b.own.setting) b.spans.2
@@ -54,15 +57,29 @@ module _ {H K : Type 0} (key : Constants H) (d e : Desk (Queue H K) H) (x : Queu
   begins_whole : IsPrefix d.seat.me.0.seen (b.spans.0 ++ x.entries)
   begins_whole = subst (IsPrefix d.seat.me.0.seen) b.spans.1 b.begins
 
-  module _ (n : Desk (Queue H K) H) (y : Queue H K) (step : StepsBy d.sender x y) (f : Ended e n y) where
-    after_ : n.seat.me.0 ≡ giving (taking d.seat.me.0 b.whole x) y
+  -- what was seen of the claims goes on, where y keeps its messages theirs
+  claims_go_on : (v : View (Queue H K) H K) (whole_y : Queue H K) (y : Queue H K) → v.claims ≡ claims_with b.claims y.messages → KeepsClaims x y → (AreClaims (claims_with b.claims y.messages) y → AreClaims (claims_with b.claims y.messages) whole_y)
+      → whole_y.messages ≡ y.messages → ClaimsGoOn d.seat.me.0.claims v.claims whole_found whole_y
+  claims_go_on v whole_y y is keeps lift same =
+      let next : v.claims ≡ claims_with b.claims whole_y.messages = is ∙ ap (claims_with b.claims) (sym same) in
+      record {
+        grows = subst (IsPrefix d.seat.me.0.claims) (sym is) (prefix_trans d.seat.me.0.claims b.claims (claims_with b.claims y.messages) b.knows.0 (prefix_front b.claims (claims_at (length b.claims) y.messages)));
+        found = b.claims;
+        begins = b.knows.0;
+        of_found = claims_whole b.spans.0 x b.claims leave_found b.knows.1;
+        next = next;
+        of_left = subst (λ (l : List (Option K)). AreClaims l whole_y) (sym is) (lift (keeps b.claims b.knows.1));
+      }
+
+  module _ (n : Desk (Queue H K) H K) (y : Queue H K) (step : StepsBy d.sender x y) (keeps : KeepsClaims x y) (f : Ended e n y) where
+    after_ : n.seat.me.0 ≡ giving (taking d.seat.me.0 b.whole b.claims x) y
     after_ = ap (λ (z : Sat H K). z.0) f.me ∙ ap (λ (z : Sat H K). giving z.0 y) b.me
 
-    now : seen_with (taking d.seat.me.0 b.whole x) y ≡ b.spans.0 ++ y.entries
+    now : seen_with (taking d.seat.me.0 b.whole b.claims x) y ≡ b.spans.0 ++ y.entries
     now = ap (λ (z : Sat H K). seen_with z.0 y) (sym b.me) ∙ now_is key d e x y b step.2
 
     pub found_is : n.seat.me.0.found ≡ Some x
-    found_is = ap (λ (v : View (Queue H K) H). v.found) after_
+    found_is = ap (λ (v : View (Queue H K) H K). v.found) after_
 
     made : made_by (known n) ≡ made_by (known d) + (length (b.spans.0 ++ y.entries) - length (b.spans.0 ++ x.entries))
     made =
@@ -79,27 +96,28 @@ module _ {H K : Type 0} (key : Constants H) (d e : Desk (Queue H K) H) (x : Queu
     is_turn = record {
       table = f.same.0 ∙ b.same.0;
       sender = f.same.1 ∙ b.same.1;
-      constants = ap (λ (v : View (Queue H K) H). v.constants) after_;
-      turns = ap (λ (v : View (Queue H K) H). v.turns) after_;
-      found = (x, b.spans.0, ap (λ (v : View (Queue H K) H). v.found) after_, leave_found, refl);
-      left = (y, b.spans.0, ap (λ (v : View (Queue H K) H). v.left) after_, leave_left, refl);
+      constants = ap (λ (v : View (Queue H K) H K). v.constants) after_;
+      turns = ap (λ (v : View (Queue H K) H K). v.turns) after_;
+      found = (x, b.spans.0, ap (λ (v : View (Queue H K) H K). v.found) after_, leave_found, refl);
+      left = (y, b.spans.0, ap (λ (v : View (Queue H K) H K). v.left) after_, leave_left, refl);
       start = (λ i. option_map (λ (z : Queue H K). z.start) (after_ i).left) ∙ (ap (λ (z : Base). Some z) step.2 ∙ (λ i. option_map (λ (z : Queue H K). z.start) (sym after_ i).found));
-      sealed = ap (λ (v : View (Queue H K) H). v.sealed) after_;
+      sealed = ap (λ (v : View (Queue H K) H K). v.sealed) after_;
       own = λ c is. (own_whole c x is b.own b.spans.0, own_whole c y is (record { home = step.0 ∙ b.own.home; setting = step.1 ∙ b.own.setting }) b.spans.0);
       sound = (whole_sound b.spans.0 x leave_found b.sound, whole_sound b.spans.0 y leave_left f.sound);
       begins = begins_whole;
       found_made = ap (made_in d.sender) (sym b.spans.1) ∙ (b.found_made ∙ sym idle.2.made);
       step = whole_steps b.spans.0 d.sender x y step;
-      seen = ap (λ (v : View (Queue H K) H). v.seen) after_ ∙ now;
+      seen = ap (λ (v : View (Queue H K) H K). v.seen) after_ ∙ now;
       made = made;
-      rung = ap (λ (v : View (Queue H K) H). v.rung) after_;
-      heard = ap (λ (v : View (Queue H K) H). v.heard) after_;
-      listens = ap (λ (v : View (Queue H K) H). v.listens) after_;
+      claims = claims_go_on n.seat.me.0 (whole_queue b.spans.0 y) y (ap (λ (v : View (Queue H K) H K). v.claims) after_) keeps (claims_whole b.spans.0 y (claims_with b.claims y.messages) leave_left) refl;
+      rung = ap (λ (v : View (Queue H K) H K). v.rung) after_;
+      heard = ap (λ (v : View (Queue H K) H K). v.heard) after_;
+      listens = ap (λ (v : View (Queue H K) H K). v.listens) after_;
     }
 
   -- a turn that hands out what it found
-  module _ (n : Desk (Queue H K) H) (y : Queue H K) (p : Segment) (is : y ≡ sealed x) (part : p ≡ part_of x) (same : seen_with e.seat.me.0 y ≡ e.seat.me.0.seen) (f : HandedOver e n y) where
-    handed_ : n.seat.me.0 ≡ handing (taking d.seat.me.0 b.whole x) y
+  module _ (n : Desk (Queue H K) H K) (y : Queue H K) (p : Segment) (is : y ≡ sealed x) (part : p ≡ part_of x) (same : seen_with e.seat.me.0 y ≡ e.seat.me.0.seen) (f : HandedOver e n y) where
+    handed_ : n.seat.me.0 ≡ handing (taking d.seat.me.0 b.whole b.claims x) y
     handed_ = ap (λ (z : Sat H K). z.0) f.me ∙ ap (λ (z : Sat H K). handing z.0 y) b.me
 
     seen_now : n.seat.me.0.seen ≡ b.spans.0 ++ x.entries
@@ -117,12 +135,12 @@ module _ {H K : Type 0} (key : Constants H) (d e : Desk (Queue H K) H) (x : Queu
     is_sealing = record {
       table = f.same.0 ∙ b.same.0;
       sender = f.same.1 ∙ b.same.1;
-      constants = ap (λ (v : View (Queue H K) H). v.constants) handed_;
-      turns = ap (λ (v : View (Queue H K) H). v.turns) handed_;
-      found = (x, b.spans.0, ap (λ (v : View (Queue H K) H). v.found) handed_, leave_found, refl);
-      left = (y, b.spans.0 ++ x.entries, ap (λ (v : View (Queue H K) H). v.left) handed_, leave_sealed, same_whole);
+      constants = ap (λ (v : View (Queue H K) H K). v.constants) handed_;
+      turns = ap (λ (v : View (Queue H K) H K). v.turns) handed_;
+      found = (x, b.spans.0, ap (λ (v : View (Queue H K) H K). v.found) handed_, leave_found, refl);
+      left = (y, b.spans.0 ++ x.entries, ap (λ (v : View (Queue H K) H K). v.left) handed_, leave_sealed, same_whole);
       start = (λ i. option_map (λ (z : Queue H K). z.start) (handed_ i).left) ∙ (ap (λ (z : Queue H K). Some z.start) is ∙ ap (λ (q : Segment). Some (after q.base q.entries)) (sym part));
-      sealed = ap (λ (v : View (Queue H K) H). v.sealed) handed_ ∙ ap (λ (q : Segment). d.seat.me.0.sealed ++ q ∷ []) (sym part);
+      sealed = ap (λ (v : View (Queue H K) H K). v.sealed) handed_ ∙ ap (λ (q : Segment). d.seat.me.0.sealed ++ q ∷ []) (sym part);
       own = λ c is_c. (own_whole c x is_c b.own b.spans.0, own_whole c x is_c b.own b.spans.0);
       sound = (whole_sound b.spans.0 x leave_found b.sound, whole_sound b.spans.0 x leave_found b.sound);
       begins = begins_whole;
@@ -130,9 +148,11 @@ module _ {H K : Type 0} (key : Constants H) (d e : Desk (Queue H K) H) (x : Queu
       step = (refl, refl, refl, inl refl);
       seen = seen_now;
       made = let now : made_by (known n) ≡ n.made = f.idle.2.made in let was : made_by (known d) ≡ d.made = idle.2.made in omega (arith, now, was, f.made, b.made);
-      rung = ap (λ (v : View (Queue H K) H). v.rung) handed_;
-      heard = ap (λ (v : View (Queue H K) H). v.heard) handed_;
-      listens = ap (λ (v : View (Queue H K) H). v.listens) handed_;
+      claims = claims_go_on n.seat.me.0 whole_found y (ap (λ (v : View (Queue H K) H K). v.claims) handed_) (keeps_sealed x y is)
+          (λ a. subst (AreClaims (claims_with b.claims y.messages)) (sym same_whole) (claims_whole (b.spans.0 ++ x.entries) y (claims_with b.claims y.messages) leave_sealed a)) (sym (ap (λ (z : Queue H K). z.messages) is));
+      rung = ap (λ (v : View (Queue H K) H K). v.rung) handed_;
+      heard = ap (λ (v : View (Queue H K) H K). v.heard) handed_;
+      listens = ap (λ (v : View (Queue H K) H K). v.listens) handed_;
     }
 
     pub is_part : IsPart (known n) whole_found p
@@ -140,8 +160,8 @@ module _ {H K : Type 0} (key : Constants H) (d e : Desk (Queue H K) H) (x : Queu
         let long : x.start.length ≡ length b.spans.0 = ap (λ (z : Base). z.length) b.spans.2.left ∙ empty_length key.setting.senders b.spans.0 in
         record {
           state = x;
-          found = ap (λ (v : View (Queue H K) H). v.found) handed_;
-          left = ap (λ (v : View (Queue H K) H). v.left) handed_ ∙ ap (λ (z : Queue H K). Some z) is;
+          found = ap (λ (v : View (Queue H K) H K). v.found) handed_;
+          left = ap (λ (v : View (Queue H K) H K). v.left) handed_ ∙ ap (λ (z : Queue H K). Some z) is;
           is = part;
           entries = ap (λ (q : Segment). q.entries) part ∙ sym ((λ i. drop (ap (λ (q : Segment). q.base.length) part i) (seen_now i)) ∙ ((λ i. drop (long i) (b.spans.0 ++ x.entries)) ∙ drop_front b.spans.0 x.entries));
           base = ap (λ (q : Segment). q.base) part ∙ (leave_found.left ∙ ap (after (empty_base x.setting.senders)) (sym ((λ i. take (ap (λ (q : Segment). q.base.length) part i) (seen_now i)) ∙ ((λ i. take (long i) (b.spans.0 ++ x.entries)) ∙ take_front b.spans.0 x.entries))));

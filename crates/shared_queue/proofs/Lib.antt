@@ -1,6 +1,7 @@
 pub mod Prefixes
 pub mod Whole
 pub mod Courses
+pub mod Claims
 pub mod Untold
 pub mod Waits
 pub mod Turns
@@ -14,3 +15,4 @@ pub mod Quiet
 pub mod Hears
 pub mod Gathers
 pub mod Closing
+pub mod ClaimLaws

@@ -33,7 +33,7 @@ unsaid before wake after is none woken = grind arith
 
 module _ {H K : Type 0} where
   -- the turn that found x may leave y quietly
-  pub quiet : (key : Constants H) (d e : Desk (Queue H K) H) (x y : Queue H K) → Began key d e x → WakesNone x y → IsQuiet e y
+  pub quiet : (key : Constants H) (d e : Desk (Queue H K) H K) (x y : Queue H K) → Began key d e x → WakesNone x y → IsQuiet e y
   quiet key d e x y b none = (x, ap (λ (z : Sat H K). z.0.found) b.me, none)
 
 module _ {H K : Type 0} (x y : Queue H K) where

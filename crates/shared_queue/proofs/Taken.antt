@@ -19,14 +19,17 @@ module _ {H K : Type 0} where
   takes_out key m won_ n r Z live empty won out left =
       let x : Queue H K = won.0 in
       let whole : List Entry = won.1 in
-      let carries : won_.1 ≡ (0, Some x) ∷ m.1 = ap (λ (z : Sat H K). z.1) won.2 in
+      let claims : List (Option K) = won.2 in
+      let carries : won_.1 ≡ (0, Some x) ∷ m.1 = ap (λ (z : Sat H K). z.1) won.3 in
       let same : Some x ≡ r = ap first_slot (sym carries ∙ out) in
       let none_left : rest won_.1 ≡ [] = ap rest carries ∙ empty in
-      let own = won.3 key live in
+      let own = won.4 key live in
       subst (λ (o : Option (Queue H K)). MatchOption o Z (λ z. HasTaken key m n z)) same (record {
         whole = whole;
-        me = left ∙ ((λ i. ((won.2 i).0, (0, None) ∷ rest won_.1)) ∙ (λ i. (taking m.0 whole x, (0, None) ∷ none_left i)));
+        claims = claims;
+        me = left ∙ ((λ i. ((won.3 i).0, (0, None) ∷ rest won_.1)) ∙ (λ i. (taking m.0 whole claims x, (0, None) ∷ none_left i)));
         own = own.0;
         spans = own.1;
-        extends = won.4;
+        extends = won.5;
+        knows = won.6;
       })

@@ -13,15 +13,15 @@ use Rattle.shared_queue.specs.Turn.{AreUntold}
 
 module _ {H K : Type 0} where
   -- where one view changed and none was told anything since, none was before
-  pub untold_before : (views : List (View (Queue H K) H)) (id : ℕ) (v w : View (Queue H K) H) → get_elem? views id ≡ some v → (w.told ≡ [] → v.told ≡ []) → AreUntold (set views id w) → AreUntold views
+  pub untold_before : (views : List (View (Queue H K) H K)) (id : ℕ) (v w : View (Queue H K) H K) → get_elem? views id ≡ some v → (w.told ≡ [] → v.told ≡ []) → AreUntold (set views id w) → AreUntold views
   untold_before views id v w at back untold j u there = dite (ℕ_discrete j id)
-      (λ is. let same : u ≡ v = some-injective u v (sym there ∙ (ap (get_elem? views) is ∙ at)) in ap (λ (x : View (Queue H K) H). x.told) same ∙ back (untold id w (set_at views id v w at)))
+      (λ is. let same : u ≡ v = some-injective u v (sym there ∙ (ap (get_elem? views) is ∙ at)) in ap (λ (x : View (Queue H K) H K). x.told) same ∙ back (untold id w (set_at views id v w at)))
       (λ apart. untold j u (set_else views id j w apart ∙ there))
 
   -- nor where a view came behind them
-  pub untold_front : (views more : List (View (Queue H K) H)) → AreUntold (views ++ more) → AreUntold views
+  pub untold_front : (views more : List (View (Queue H K) H K)) → AreUntold (views ++ more) → AreUntold views
   untold_front views more untold j u there = untold j u (at_longer views more j u there)
 
   -- a view that was told a list is told one
-  pub told_one : (views : List (View (Queue H K) H)) (id : ℕ) (v w : View (Queue H K) H) (x : List Entry) (xs : List (List Entry)) → get_elem? views id ≡ some v → w.told ≡ x ∷ xs → AreUntold (set views id w) → ⊥
+  pub told_one : (views : List (View (Queue H K) H K)) (id : ℕ) (v w : View (Queue H K) H K) (x : List Entry) (xs : List (List Entry)) → get_elem? views id ≡ some v → w.told ≡ x ∷ xs → AreUntold (set views id w) → ⊥
   told_one views id v w x xs at is untold = has_first x xs (sym is ∙ untold id w (set_at views id v w at))

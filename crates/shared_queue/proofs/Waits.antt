@@ -1,5 +1,7 @@
 -- A wait, look by look.
 use Rattle.std.proofs.Common.{◌≡◌, ℕ, zero, suc, ◌∙◌, ◌≤◌, Bool, Option, refl, sym, subst, arith}
+use mathlib.Core.List.{IsPrefix}
+use Rattle.loop_model.proofs.Prefixes.{prefix_self, prefix_trans}
 use Rattle.queue_state.specs.declared.answers.Nexted.{Nexted}
 use Rattle.queue_state.specs.declared.answers.Nexted.TheVariants as nexted
 use Rattle.shared_queue.specs.declared.waiting.Waited.{Waited}
@@ -43,30 +45,31 @@ module _ {H K : Type 0} (shows : ℕ → Bool) (start : ℕ) (idle : Bool) (cap 
     pub constants : after.view.constants ≡ before.view.constants
     pub turns : before.view.turns ≤ after.view.turns
     pub rung : after.view.rung ≡ before.view.rung
+    pub claims : IsPrefix before.view.claims after.view.claims
 
   rests_self : (p : Known H K) → Rests p p
-  rests_self p = record { table = refl; sender = refl; constants = refl; turns = omega arith; rung = refl }
+  rests_self p = record { table = refl; sender = refl; constants = refl; turns = omega arith; rung = refl; claims = prefix_self p.view.claims }
 
   rests_then : (p q r : Known H K) → Rests p q → Rests q r → Rests p r
-  rests_then p q r a b = record { table = b.table ∙ a.table; sender = b.sender ∙ a.sender; constants = b.constants ∙ a.constants; turns = (let one = a.turns in let two = b.turns in omega (arith, one, two)); rung = b.rung ∙ a.rung }
+  rests_then p q r a b = record { table = b.table ∙ a.table; sender = b.sender ∙ a.sender; constants = b.constants ∙ a.constants; turns = (let one = a.turns in let two = b.turns in omega (arith, one, two)); rung = b.rung ∙ a.rung; claims = prefix_trans p.view.claims q.view.claims r.view.claims a.claims b.claims }
 
   listened : (p q : Known H K) → HasListened p q → Rests p q
-  listened p q h = record { table = h.same.table; sender = h.same.sender; constants = h.same.constants; turns = (let same = h.same.turns in omega (arith, same)); rung = h.rung }
+  listened p q h = record { table = h.same.table; sender = h.same.sender; constants = h.same.constants; turns = (let same = h.same.turns in omega (arith, same)); rung = h.rung; claims = subst (IsPrefix p.view.claims) (sym h.claims) (prefix_self p.view.claims) }
 
   -- a look is a turn
   looked : (now : ℕ) (answer : Nexted K H) (p q : Known H K) → HasLooked shows start idle now answer p q → HasStayed p q
   looked now answer p q h =
       let t = h.look.2 in
-      record { table = t.table; sender = t.sender; constants = t.constants; turns = (let more = t.turns in omega (arith, more)); rung = t.rung }
+      record { table = t.table; sender = t.sender; constants = t.constants; turns = (let more = t.turns in omega (arith, more)); rung = t.rung; claims = t.claims.grows }
 
   stayed : (p q r : Known H K) → Rests p q → HasStayed q r → HasStayed p r
-  stayed p q r a b = record { table = b.table ∙ a.table; sender = b.sender ∙ a.sender; constants = b.constants ∙ a.constants; turns = (let one = a.turns in let two = b.turns in omega (arith, one, two)); rung = b.rung ∙ a.rung }
+  stayed p q r a b = record { table = b.table ∙ a.table; sender = b.sender ∙ a.sender; constants = b.constants ∙ a.constants; turns = (let one = a.turns in let two = b.turns in omega (arith, one, two)); rung = b.rung ∙ a.rung; claims = prefix_trans p.view.claims q.view.claims r.view.claims a.claims b.claims }
 
   still : (p q r : Known H K) → HasStayed p q → Rests q r → HasStayed p r
-  still p q r a b = record { table = b.table ∙ a.table; sender = b.sender ∙ a.sender; constants = b.constants ∙ a.constants; turns = (let one = a.turns in let two = b.turns in omega (arith, one, two)); rung = b.rung ∙ a.rung }
+  still p q r a b = record { table = b.table ∙ a.table; sender = b.sender ∙ a.sender; constants = b.constants ∙ a.constants; turns = (let one = a.turns in let two = b.turns in omega (arith, one, two)); rung = b.rung ∙ a.rung; claims = prefix_trans p.view.claims q.view.claims r.view.claims a.claims b.claims }
 
   rests : (p q : Known H K) → HasStayed p q → Rests p q
-  rests p q h = record { table = h.table; sender = h.sender; constants = h.constants; turns = (let more = h.turns in omega (arith, more)); rung = h.rung }
+  rests p q h = record { table = h.table; sender = h.sender; constants = h.constants; turns = (let more = h.turns in omega (arith, more)); rung = h.rung; claims = h.claims }
 
   slept_rests : (n : ℕ) (p q : Known H K) → Slept shows start idle cap n p q → Rests p q
   slept_rests zero p q s = subst (λ (x : Known H K). Rests p x) (sym s) (rests_self p)

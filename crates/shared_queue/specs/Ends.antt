@@ -14,6 +14,7 @@ use Rattle.when_queue.specs.Queue.{items_of}
 use Rattle.queue_state.specs.Queue.{Queue}
 use Rattle.shared_queue.specs.declared.view.View.{View}
 use Rattle.shared_queue.specs.Constants.{Constants, made_in, IsFor}
+use Rattle.shared_queue.specs.Claims.{IsAsAccepted, AreClaims}
 use Rattle.shared_queue.specs.Turn.{ArePast, opening_view, new_senders, keeping}
 use Rattle.shared_queue.specs.Known.{Shared, Known, KeepsNone, IsOf, Rests, made_by}
 
@@ -33,6 +34,7 @@ module _ {H K : Type 0} where
   pub record IsNewPoster (p : Known H K) : Type 0 where
     pub made : made_by p ≡ 0
     pub seen : p.view.seen ≡ []
+    pub claims : p.view.claims ≡ []
     pub turns : p.view.turns ≡ 0
     pub rung : p.view.rung ≡ 0
     pub heard : p.view.heard ≡ 0
@@ -47,6 +49,14 @@ module _ {H K : Type 0} where
   HasCalls entries posters = (k : ℕ) (d : Known H K) → k < length posters
       → IsPrefix (slice_index_or posters k d).view.seen entries × (made_in (slice_index_or posters k d).sender entries ≡ made_by (slice_index_or posters k d))
 
+  -- the claims begin with what each poster has seen of them
+  abbrev pub BeginClaims : List (Option K) → List (Known H K) → Type 0
+  BeginClaims claims posters = (k : ℕ) (d : Known H K) → k < length posters → IsPrefix (slice_index_or posters k d).view.claims claims
+
+  -- each of these messages has the claim that was accepted with its number, as far as each poster has seen
+  abbrev pub AreLeftAsAccepted : List (Known H K) → List (Letter K) → Type 0
+  AreLeftAsAccepted posters left = (claims : List (Option K)) × BeginClaims claims posters × All (IsAsAccepted claims) left
+
   -- these messages are what a whole history leaves that has these posters' calls
   abbrev pub IsLeftBy : Setting → List (Known H K) → List (Letter K) → Type 0
   IsLeftBy s posters left = (entries : List Entry) × IsSoundEnd s entries left × HasCalls entries posters
@@ -57,10 +67,11 @@ module _ {H K : Type 0} where
     pub chain : IsChainFrom (empty_base c.setting.senders) segments
     pub sound : IsSoundEnd c.setting (entries_of segments) left
     pub calls : HasCalls (entries_of segments) posters
+    pub claims : AreLeftAsAccepted posters left
     pub home : All (IsAtHome of c.home) left
 
   -- the first seat, once the sender numbers below `sender` have seats of their own
-  abbrev pub undealt : Constants H → ℕ → View (Queue H K) H
+  abbrev pub undealt : Constants H → ℕ → View (Queue H K) H K
   undealt key sender = keeping (opening_view key) (new_senders sender (key.setting.senders - sender))
 
   -- the sender number of the poster, with the number of its entries
@@ -82,16 +93,19 @@ module _ {H K : Type 0} where
     pub past : ArePast key.setting (sealed_by posters)
     pub start : x.start ≡ after (empty_base key.setting.senders) (entries_of (sealed_by posters))
     pub calls : HasCalls (entries_of (sealed_by posters) ++ x.entries) posters
+    pub claims : (claims : List (Option K)) × BeginClaims claims posters × AreClaims claims x
     pub parts : (parts : List Segment) → HaveSealed posters parts → sealed_by posters ≡ parts
 
   -- the view has taken in what the poster had
-  abbrev pub TakenIn : View (Queue H K) H → Known H K → View (Queue H K) H → Type 0
+  abbrev pub TakenIn : View (Queue H K) H K → Known H K → View (Queue H K) H K → Type 0
   TakenIn v p w =
       (w.senders ≡ v.senders ++ number_of p ∷ []) × IsPrefix v.seen w.seen × IsPrefix p.view.seen w.seen × (w.sealed ≡ v.sealed ++ p.view.sealed) × KeepsNone p
+      × IsPrefix v.claims w.claims × IsPrefix p.view.claims w.claims
 
   -- the seat has what all these posters had
-  abbrev pub Gathered : Shared H → List (Known H K) → Me (Option (Queue H K)) (View (Queue H K) H) → Type 0
+  abbrev pub Gathered : Shared H → List (Known H K) → Me (Option (Queue H K)) (View (Queue H K) H K) → Type 0
   Gathered q posters m = Rests q.constants m × (m.0.senders ≡ map number_of posters)
       × ((k : ℕ) (d : Known H K) → k < length posters → IsPrefix (slice_index_or posters k d).view.seen m.0.seen)
       × (m.0.sealed ≡ sealed_by posters)
       × ((k : ℕ) (d : Known H K) → k < length posters → KeepsNone (slice_index_or posters k d))
+      × BeginClaims m.0.claims posters

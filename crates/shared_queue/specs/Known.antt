@@ -12,6 +12,7 @@ use Rattle.queue_state.specs.Queue.{Queue, IsSound}
 use Rattle.shared_queue.specs.declared.view.View.{View}
 use Rattle.shared_queue.specs.Constants.{Constants, made_in, IsStateOf}
 use Rattle.shared_queue.specs.Whole.{Shows}
+use Rattle.shared_queue.specs.Claims.{ClaimsGoOn}
 
 -- a queue: its table, and its constants
 pub record Shared (H : Type 0) : Type 0 where
@@ -22,7 +23,7 @@ pub record Shared (H : Type 0) : Type 0 where
 pub record Known (H K : Type 0) : Type 0 where
   pub table : TableId
   pub sender : ℕ
-  pub view : View (Queue H K) H
+  pub view : View (Queue H K) H K
 
 -- where the state left starts from: from where the state found did, or from what the part that was handed out has left
 abbrev pub next_start : List Segment → Option Base → Option Base
@@ -48,7 +49,7 @@ module _ {H K : Type 0} where
   IsOf p q = (p.table ≡ q.table) × (p.view.constants ≡ Some q.constants)
 
   -- the seat is live, has no turn and holds no slot
-  abbrev pub Rests : Constants H → Me (Option (Queue H K)) (View (Queue H K) H) → Type 0
+  abbrev pub Rests : Constants H → Me (Option (Queue H K)) (View (Queue H K) H K) → Type 0
   Rests c m = (m.0.constants ≡ Some c) × (m.0.has_turn ≡ false) × (m.1 ≡ [])
 
   -- the same queue, with at most one entry more, of this sender
@@ -79,6 +80,8 @@ module _ {H K : Type 0} where
     pub step : StepsBy before.sender x y
     pub seen : after.view.seen ≡ y.entries
     pub made : made_by after ≡ made_by before + (length y.entries - length x.entries)
+    -- the poster has seen the claims of all accepted posts, of which the messages have theirs
+    pub claims : ClaimsGoOn before.view.claims after.view.claims x y
     pub rung : after.view.rung ≡ before.view.rung
     pub heard : after.view.heard ≡ before.view.heard
     pub listens : after.view.listens ≡ before.view.listens

@@ -1,5 +1,6 @@
 pub mod Constants
 pub mod Whole
+pub mod Claims
 pub mod Turn
 pub mod Plays
 pub mod Known
@@ -9,3 +10,4 @@ pub mod Calls
 pub mod Rings
 pub mod Waiting
 pub mod Ends
+pub mod Laws

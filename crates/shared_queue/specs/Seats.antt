@@ -7,13 +7,15 @@ use Rattle.shared_queue.specs.declared.view.View.{View}
 use Rattle.shared_queue.specs.Constants.{Constants, IsFor}
 use Rattle.shared_queue.specs.Whole.{Spans}
 use Rattle.shared_queue.specs.Turn.{taking}
-use Rattle.shared_queue.specs.Plays.{Extends}
+use Rattle.shared_queue.specs.Plays.{Extends, KnowsClaims}
 
 module _ {H K : Type 0} where
   -- the seat has the turn, and the state x of its queue, with this whole history
-  pub record HasTaken (key : Constants H) (m n : Me (Option (Queue H K)) (View (Queue H K) H)) (x : Queue H K) : Type 0 where
+  pub record HasTaken (key : Constants H) (m n : Me (Option (Queue H K)) (View (Queue H K) H K)) (x : Queue H K) : Type 0 where
     pub whole : List Entry
-    pub me : n ≡ (taking m.0 whole x, (0, None) ∷ [])
+    pub claims : List (Option K)
+    pub me : n ≡ (taking m.0 whole claims x, (0, None) ∷ [])
     pub own : IsFor key x
     pub spans : Spans key.setting whole x
     pub extends : Extends m.0 whole x
+    pub knows : KnowsClaims m.0 claims x

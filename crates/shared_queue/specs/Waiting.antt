@@ -1,5 +1,6 @@
 -- What a wait for a message does: looks that are answered to wait, and then the last one.
 use Rattle.std.specs.Prelude.{◌≡◌, ◌≢◌, ℕ, zero, suc, ◌+◌, ◌≤◌, ◌<◌, Bool, Option, Some, All}
+use mathlib.Core.List.{IsPrefix}
 use Rattle.loop_io.specs.Moments.{IsMoment}
 use Rattle.message_slot.specs.Letter.{IsAtHome}
 use Rattle.queue_state.specs.declared.answers.Nexted.{Nexted}
@@ -27,11 +28,14 @@ module _ {H K : Type 0} where
     pub constants : after.view.constants ≡ before.view.constants
     pub turns : before.view.turns < after.view.turns
     pub rung : after.view.rung ≡ before.view.rung
+    -- what it has seen of the claims only grows
+    pub claims : IsPrefix before.view.claims after.view.claims
 
   -- the poster read the bell, and that is all
   pub record HasListened (before after : Known H K) : Type 0 where
     pub same : IsSamePoster before after
     pub seen : after.view.seen ≡ before.view.seen
+    pub claims : after.view.claims ≡ before.view.claims
     pub rung : after.view.rung ≡ before.view.rung
     pub listens : after.view.listens ≡ before.view.listens + 1
 

@@ -9,13 +9,14 @@ use Rattle.loop_model.specs.Legal.{IsLegal, AreNumbered}
 use Rattle.loop_model.specs.Chain.{after, entries_of}
 use Rattle.queue_state.specs.Queue.{Queue}
 
--- the parts that were handed out, and the entries since
-pub record Course : Type 0 where
+-- the parts that were handed out, the entries since, and the claims of all accepted posts, by number
+pub record Course (K : Type 0) : Type 0 where
   pub parts : List Segment
   pub since : List Entry
+  pub claims : List (Option K)
 
 -- all entries since the queue was made
-abbrev pub whole_of : Course → List Entry
+abbrev pub whole_of : {K : Type 0} → Course K → List Entry
 whole_of c = entries_of c.parts ++ c.since
 
 -- these entries are legal from an empty start, and numbered, and have left the base

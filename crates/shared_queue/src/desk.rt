@@ -15,8 +15,8 @@ use std::sync::Wait;
 
 /// A seat with one sender number, and three numbers that its view has.
 #[derive(Drop)]
-pub struct Desk<S, H> {
-    pub(crate) seat: Seat<Option<OnHeap<S>>, View<S, H>>,
+pub struct Desk<S, H, K> {
+    pub(crate) seat: Seat<Option<OnHeap<S>>, View<S, H, K>>,
     pub(crate) sender: u32,
     /// How many entries it has made.
     pub(crate) made: u64,
@@ -26,7 +26,7 @@ pub struct Desk<S, H> {
     pub(crate) heard: u64,
 }
 
-impl<K: Claim, E: Recorder> Desk<QueueState<K, E>, K::Home> {
+impl<K: Claim, E: Recorder> Desk<QueueState<K, E>, K::Home, K> {
     // Waits for the turn, and takes the state.
     pub(crate) fn begin<R: Wait>(
         &mut self,

@@ -6,7 +6,7 @@ ghost use Rattle.shared_queue.specs.Turn.{IsFirst, opening_view};
 ghost use Rattle.shared_queue.specs.Known.{Rests, IsOf};
 ghost use Rattle.loop_model.specs.Base.{empty_base};
 ghost use Rattle.loop_model.specs.Chain.{IsChainFrom, entries_of};
-ghost use Rattle.shared_queue.specs.Ends.{undealt, IsNewPoster, AreNew, AreInOrder, TakenIn, Gathered, HasCalls, IsSoundEnd, IsLeftBy, IsLast, IsWholeEnd, HaveSealed};
+ghost use Rattle.shared_queue.specs.Ends.{undealt, IsNewPoster, AreNew, AreInOrder, TakenIn, Gathered, HasCalls, IsSoundEnd, IsLeftBy, AreLeftAsAccepted, IsLast, IsWholeEnd, HaveSealed};
 
 use crate::on_heap::OnHeap;
 use crate::poster::Poster;
@@ -132,6 +132,7 @@ impl<K: Claim, E: Recorder> SharedQueue<K, E> {
     pub fn close(self, posters: Vec<Poster<K, E>>) -> MsgList<K>
         requires posters { (length posters.items ≡ self.constants.setting.senders) × AreInOrder self posters.items }
         ensures left { IsLeftBy self.constants.setting posters.items result }
+        ensures claims { AreLeftAsAccepted posters.items result }
         ensures home { All (IsAtHome K.home self.constants.home) result }
     {
         let state = self.end(posters);
@@ -198,6 +199,7 @@ impl<K: Claim> SharedQueue<K, Kept> {
         ensures chain { IfOk result (λ r. IsChainFrom (empty_base self.constants.setting.senders) r.kept.segments) }
         ensures sound { IfOk result (λ r. IsSoundEnd self.constants.setting (entries_of r.kept.segments) r.left) }
         ensures posters { IfOk result (λ r. HasCalls (entries_of r.kept.segments) posters.items) }
+        ensures claims { IfOk result (λ r. AreLeftAsAccepted posters.items r.left) }
         ensures home { IfOk result (λ r. All (IsAtHome K.home self.constants.home) r.left) }
     {
         let traits = self.traits;

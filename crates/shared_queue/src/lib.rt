@@ -4,6 +4,7 @@
 mod calls;
 mod desk;
 mod ends;
+mod laws;
 mod looks;
 mod on_heap;
 mod owing;
@@ -16,6 +17,7 @@ mod view;
 mod waiting;
 
 pub use ends::Retired;
+pub use laws::taken_is_posted;
 pub use poster::Poster;
 pub use queue::SharedQueue;
 pub use rule::OneTurn;

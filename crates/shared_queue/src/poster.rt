@@ -17,7 +17,7 @@ use std::sync::Wait;
 /// A seat at the table of one queue, with one sender number.
 #[derive(Drop)]
 pub struct Poster<K: Claim, E: Recorder = Kept> {
-    pub(crate) desk: Desk<QueueState<K, E>, K::Home>,
+    pub(crate) desk: Desk<QueueState<K, E>, K::Home, K>,
 }
 
 impl<K: Claim, E: Recorder> Model for Poster<K, E> {
@@ -89,6 +89,8 @@ impl<K: Claim, E: Recorder> Poster<K, E> {
         requires { IsOf self.old queue.now × IsOf other.old queue.now }
         ensures seen { self.new.view.seen ≡ longer self.old.view.seen other.old.view.seen }
         ensures begins { IsPrefix self.old.view.seen self.new.view.seen × IsPrefix other.old.view.seen self.new.view.seen }
+        ensures claims { self.new.view.claims ≡ longer self.old.view.claims other.old.view.claims }
+        ensures claims_begin { IsPrefix self.old.view.claims self.new.view.claims × IsPrefix other.old.view.claims self.new.view.claims }
         ensures same { HasOnlyHeard self.old self.new }
         ensures listens { self.new.view.listens ≡ self.old.view.listens }
         ensures other { other.new ≡ other.old }
@@ -109,6 +111,7 @@ impl<K: Claim, E: Recorder> Poster<K, E> {
         ensures rung { self.new.view.rung ≡ self.old.view.rung + 1 }
         ensures same { IsSamePoster self.old self.new × (self.new.view.seen ≡ self.old.view.seen) × (self.new.view.heard ≡ self.old.view.heard) }
         ensures listens { self.new.view.listens ≡ self.old.view.listens }
+        ensures claims { self.new.view.claims ≡ self.old.view.claims }
     {
         let owing = self.raise(queue);
         queue.settle(rt, owing);
@@ -120,6 +123,7 @@ impl<K: Claim, E: Recorder> Poster<K, E> {
         ensures rung { self.new.view.rung ≡ self.old.view.rung + 1 }
         ensures same { IsSamePoster self.old self.new × (self.new.view.seen ≡ self.old.view.seen) × (self.new.view.heard ≡ self.old.view.heard) }
         ensures listens { self.new.view.listens ≡ self.old.view.listens }
+        ensures claims { self.new.view.claims ≡ self.old.view.claims }
     {
         queue
             .table
@@ -140,6 +144,7 @@ impl<K: Claim, E: Recorder> Poster<K, E> {
         requires { IsOf self.old queue.now }
         ensures heard { (self.new.view.heard ≡ result) × (self.new.view.listens ≡ self.old.view.listens + 1) }
         ensures same { IsSamePoster self.old self.new × (self.new.view.seen ≡ self.old.view.seen) × (self.new.view.rung ≡ self.old.view.rung) }
+        ensures claims { self.new.view.claims ≡ self.old.view.claims }
     {
         let bell = queue.table.shared.load::<Listen>(&mut self.desk.seat, 1);
         self.desk.heard = bell;

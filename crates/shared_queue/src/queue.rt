@@ -27,7 +27,7 @@ const TRIES: u32 = 64;
 
 pub(crate) type Board<K, E> = Table<
     Option<OnHeap<QueueState<K, E>>>,
-    View<QueueState<K, E>, <K as Claim>::Home>,
+    View<QueueState<K, E>, <K as Claim>::Home, K>,
     QueueKey<<K as Claim>::Home>,
     OneTurn,
     Global,
@@ -35,7 +35,7 @@ pub(crate) type Board<K, E> = Table<
 
 pub(crate) type Place<K, E> = Seat<
     Option<OnHeap<QueueState<K, E>>>,
-    View<QueueState<K, E>, <K as Claim>::Home>,
+    View<QueueState<K, E>, <K as Claim>::Home, K>,
 >;
 
 /// A message queue that posters call in turns. Its entries go where `E` says: they are kept in memory, and can be handed out, or

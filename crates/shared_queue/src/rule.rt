@@ -14,7 +14,7 @@ pub struct OneTurn;
 
 impl<K: Claim, E: Recorder> TableRule<
     Option<OnHeap<QueueState<K, E>>>,
-    View<QueueState<K, E>, K::Home>,
+    View<QueueState<K, E>, K::Home, K>,
     QueueKey<K::Home>,
 > for OneTurn {
     ghost holds = { QueueTurn };
@@ -25,59 +25,73 @@ impl<K: Claim, E: Recorder> TableRule<
 /// A new seat, which has no sender number and has seen nothing.
 pub(crate) struct Sit;
 
-impl<K: Claim, E: Recorder> Play<Option<OnHeap<QueueState<K, E>>>, View<QueueState<K, E>, K::Home>>
-    for Sit {
+impl<K: Claim, E: Recorder> Play<
+    Option<OnHeap<QueueState<K, E>>>,
+    View<QueueState<K, E>, K::Home, K>,
+> for Sit {
     ghost then = { sat };
 }
 
 pub(crate) struct Take;
 
-impl<K: Claim, E: Recorder> Play<Option<OnHeap<QueueState<K, E>>>, View<QueueState<K, E>, K::Home>>
-    for Take {
+impl<K: Claim, E: Recorder> Play<
+    Option<OnHeap<QueueState<K, E>>>,
+    View<QueueState<K, E>, K::Home, K>,
+> for Take {
     ghost then = { took };
 }
 
 pub(crate) struct Give;
 
-impl<K: Claim, E: Recorder> Play<Option<OnHeap<QueueState<K, E>>>, View<QueueState<K, E>, K::Home>>
-    for Give {
+impl<K: Claim, E: Recorder> Play<
+    Option<OnHeap<QueueState<K, E>>>,
+    View<QueueState<K, E>, K::Home, K>,
+> for Give {
     ghost then = { gave };
 }
 
 /// Gives the turn back, with what was found sealed.
 pub(crate) struct Hand;
 
-impl<K: Claim, E: Recorder> Play<Option<OnHeap<QueueState<K, E>>>, View<QueueState<K, E>, K::Home>>
-    for Hand {
+impl<K: Claim, E: Recorder> Play<
+    Option<OnHeap<QueueState<K, E>>>,
+    View<QueueState<K, E>, K::Home, K>,
+> for Hand {
     ghost then = { handed };
 }
 
 /// Tells that what the seat was told begins what it has seen.
 pub(crate) struct Learn;
 
-impl<K: Claim, E: Recorder> Play<Option<OnHeap<QueueState<K, E>>>, View<QueueState<K, E>, K::Home>>
-    for Learn {
+impl<K: Claim, E: Recorder> Play<
+    Option<OnHeap<QueueState<K, E>>>,
+    View<QueueState<K, E>, K::Home, K>,
+> for Learn {
     ghost then = { learned };
 }
 
 pub(crate) struct Ring;
 
-impl<K: Claim, E: Recorder> Play<Option<OnHeap<QueueState<K, E>>>, View<QueueState<K, E>, K::Home>>
-    for Ring {
+impl<K: Claim, E: Recorder> Play<
+    Option<OnHeap<QueueState<K, E>>>,
+    View<QueueState<K, E>, K::Home, K>,
+> for Ring {
     ghost then = { rang };
 }
 
 pub(crate) struct Listen;
 
-impl<K: Claim, E: Recorder> Play<Option<OnHeap<QueueState<K, E>>>, View<QueueState<K, E>, K::Home>>
-    for Listen {
+impl<K: Claim, E: Recorder> Play<
+    Option<OnHeap<QueueState<K, E>>>,
+    View<QueueState<K, E>, K::Home, K>,
+> for Listen {
     ghost then = { listened };
 }
 
 /// The new seat has the first sender number, and tells of the turns that the old one had.
 pub(crate) struct Deal;
 
-impl<K: Claim, E: Recorder> Split<View<QueueState<K, E>, K::Home>> for Deal {
+impl<K: Claim, E: Recorder> Split<View<QueueState<K, E>, K::Home, K>> for Deal {
     ghost left = { λ v. keeping v (drop 1 v.senders) };
 
     ghost right = { λ v. dealt v (take 1 v.senders) };
@@ -86,7 +100,7 @@ impl<K: Claim, E: Recorder> Split<View<QueueState<K, E>, K::Home>> for Deal {
 /// The new seat knows what the old one has seen, and has no sender number.
 pub(crate) struct Note;
 
-impl<K: Claim, E: Recorder> Split<View<QueueState<K, E>, K::Home>> for Note {
+impl<K: Claim, E: Recorder> Split<View<QueueState<K, E>, K::Home, K>> for Note {
     ghost left = { λ v. v };
 
     ghost right = { λ v. fresh v [] };
@@ -94,7 +108,7 @@ impl<K: Claim, E: Recorder> Split<View<QueueState<K, E>, K::Home>> for Note {
 
 pub(crate) struct Both;
 
-impl<K: Claim, E: Recorder> Join<View<QueueState<K, E>, K::Home>> for Both {
+impl<K: Claim, E: Recorder> Join<View<QueueState<K, E>, K::Home, K>> for Both {
     ghost both = { joined };
 
     ghost spent = { gone };

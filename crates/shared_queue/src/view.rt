@@ -21,7 +21,7 @@ impl<H> Model for QueueKey<H> {
 }
 
 /// No value of it is made.
-pub struct View<S, H> {
+pub struct View<S, H, K> {
     /// The constants of its queue, or none once its seat was joined into another.
     pub constants: Option<QueueKey<H>>,
     /// Its sender numbers, each with the number of that sender's entries.
@@ -30,6 +30,10 @@ pub struct View<S, H> {
     pub seen: LinkedList<Entry>,
     /// Beginnings that it was told of.
     pub told: LinkedList<LinkedList<Entry>>,
+    /// What it has seen of the claims of all accepted posts, by number.
+    pub claims: LinkedList<Option<K>>,
+    /// Beginnings of them that it was told of.
+    pub told_claims: LinkedList<LinkedList<Option<K>>>,
     /// Whether it has a turn at the table now.
     pub has_turn: bool,
     /// How many turns it had.

@@ -2,6 +2,7 @@ use Rattle.std.proofs.Common.{◌≡◌, ◌+◌, refl, inl, sym, subst, ◌∷�
 use Rattle.queue_state.specs.Queue.{Queue}
 use Rattle.shared_queue.specs.Known.{Known, StepsBy, IsTurn, IsTurnWith}
 use Rattle.shared_queue.specs.Whole.{whole_queue}
+use Rattle.shared_queue.proofs.Claims.{keeps_found}
 use Rattle.shared_queue.proofs.Desks.{lent, may_end, may_hand_over}
 use Rattle.shared_queue.proofs.Knows.{known, is_turn, is_sealing, is_part}
 use Rattle.shared_queue.proofs.Quiet.{quiet, as_found}
@@ -17,7 +18,7 @@ pub end-requires-clause-turn : goal.end-requires-clause-turn
 end-requires-clause-turn g c κs within =
     let d = c.self.inside.desk in
     let x : Queue g.row.K-Home.Denot g.row.K.Denot = c.value_mut.result.now in
-    may_end c.args.queue.now.constants d c.begin-state.new.self x c.seal.new.self (lent _ _ _ _ _ c.value_mut.ensures.value c.begin-state.ensures) (subst (StepsBy d.sender x) (sym c.in-Err.ensures) (refl, refl, refl, inl refl))
+    may_end c.args.queue.now.constants d c.begin-state.new.self x c.seal.new.self (lent _ _ _ _ _ c.value_mut.ensures.value c.begin-state.ensures) (subst (StepsBy d.sender x) (sym c.in-Err.ensures) (refl, refl, refl, inl refl)) (keeps_found x c.seal.new.self c.in-Err.ensures)
 
 pub end-requires-clause-quiet : goal.end-requires-clause-quiet
 end-requires-clause-quiet g c κs within =
@@ -51,6 +52,6 @@ returns-in-Err g c =
     let x : Q = c.value_mut.result.now in
     let b = lent _ _ _ _ _ c.value_mut.ensures.value c.begin-state.ensures in
     let is = c.in-Err.ensures in
-    let turn = is_turn key d c.begin-state.new.self x c.self.invariant b n c.seal.new.self (subst (StepsBy d.sender x) (sym is) (refl, refl, refl, inl refl)) c.end.ensures in
+    let turn = is_turn key d c.begin-state.new.self x c.self.invariant b n c.seal.new.self (subst (StepsBy d.sender x) (sym is) (refl, refl, refl, inl refl)) (keeps_found x c.seal.new.self is) c.end.ensures in
     let whole : Q = whole_queue b.spans.0 x in
     (whole, subst (λ (before : P). IsTurn before (known n) whole whole) c.self.view_is (subst (λ (z : Q). IsTurn (known d) (known n) whole (whole_queue b.spans.0 z)) is turn))

@@ -17,5 +17,8 @@ returns-clause-sound g c =
 pub returns-clause-posters : goal.returns-clause-posters
 returns-clause-posters g c = subst (λ l. HasCalls (entries_of l) c.args.posters.items) (sym (c.with_history.ensures.segments ∙ c.from_vec.ensures)) c.in_ok-segments.ensures.calls
 
+pub returns-clause-claims : goal.returns-clause-claims
+returns-clause-claims g c = c.in_ok-segments.ensures.claims
+
 pub returns-clause-home : goal.returns-clause-home
 returns-clause-home g c = c.in_ok-segments.ensures.home

@@ -4,12 +4,12 @@ use Rattle.shared_queue.specs.Calls.{PostedBy}
 use Rattle.shared_queue.proofs.Desks.{lent}
 use Rattle.shared_queue.proofs.Knows.{known}
 use Rattle.shared_queue.proofs.Quiet.{quiet, quiet_posts}
-use Rattle.shared_queue.proofs.TurnCalls.{posting, end_may_come, is_one_turn}
+use Rattle.shared_queue.proofs.TurnCalls.{posting, end_may_come, is_one_turn, posted_by}
 use Rattle.shared_queue.proofs.poster.Poster.post.Goals as goal
 
 pub end_owing-owing-requires-clause-turn : goal.end_owing-owing-requires-clause-turn
 end_owing-owing-requires-clause-turn g c κs within =
-    end_may_come (posting c.args.node c.post-answer.result) c.args.queue.now.constants c.self.inside.desk c.begin-state.new.self c.value_mut.result.now c.post-answer.new.self (lent _ _ _ _ _ c.value_mut.ensures.value c.begin-state.ensures) c.post-answer.ensures
+    end_may_come (posting c.args.node c.post-answer.result c.requires.target) c.args.queue.now.constants c.self.inside.desk c.begin-state.new.self c.value_mut.result.now c.post-answer.new.self (lent _ _ _ _ _ c.value_mut.ensures.value c.begin-state.ensures) c.post-answer.ensures
 
 pub end_owing-owing-requires-clause-quiet : goal.end_owing-owing-requires-clause-quiet
 end_owing-owing-requires-clause-quiet g c κs within none =
@@ -21,4 +21,5 @@ end_owing-owing-requires-clause-quiet g c κs within none =
 pub returns : goal.returns
 returns g c =
     subst (PostedBy c.args.self.now (known c.end_owing-owing.new.self) c.args.node) (sym (c.settle.ensures ∙ c.end_owing-owing.ensures.answer))
-    (is_one_turn (posting c.args.node c.post-answer.result) c.args.queue.now.constants c.self.inside.desk c.begin-state.new.self c.value_mut.result.now c.post-answer.new.self (lent _ _ _ _ _ c.value_mut.ensures.value c.begin-state.ensures) c.post-answer.ensures c.end_owing-owing.new.self c.self.view_is c.self.invariant c.end_owing-owing.ensures.ended)
+    (posted_by c.args.self.now (known c.end_owing-owing.new.self) c.args.node c.post-answer.result c.requires.target
+    (is_one_turn (posting c.args.node c.post-answer.result c.requires.target) c.args.queue.now.constants c.self.inside.desk c.begin-state.new.self c.value_mut.result.now c.post-answer.new.self (lent _ _ _ _ _ c.value_mut.ensures.value c.begin-state.ensures) c.post-answer.ensures c.end_owing-owing.new.self c.self.view_is c.self.invariant c.end_owing-owing.ensures.ended))

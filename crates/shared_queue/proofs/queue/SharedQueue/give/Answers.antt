@@ -9,7 +9,7 @@ use Rattle.shared_queue.proofs.queue.SharedQueue.give.Goals as goal
 pub store-requires : goal.store-requires
 store-requires g c =
     let M : Type 0 = Sat g.row.K-Home.Denot g.row.K.Denot in
-    let V : Type 0 = View (Queue g.row.K-Home.Denot g.row.K.Denot) g.row.K-Home.Denot in
+    let V : Type 0 = View (Queue g.row.K-Home.Denot g.row.K.Denot) g.row.K-Home.Denot g.row.K.Denot in
     let m : M = c.exchange.new.seat.me in
     let same : m.0 ≡ c.args.seat.now.me.0 = same_view c.args.seat.now.me m _ c.exchange.ensures.3 in
     let carries = carried c.args.seat.now.me m c.args.state c.exchange.ensures.3 c.requires.turn.1 in (
@@ -21,7 +21,7 @@ store-requires g c =
 pub returns : goal.returns
 returns g c =
     let M : Type 0 = Sat g.row.K-Home.Denot g.row.K.Denot in
-    let V : Type 0 = View (Queue g.row.K-Home.Denot g.row.K.Denot) g.row.K-Home.Denot in
+    let V : Type 0 = View (Queue g.row.K-Home.Denot g.row.K.Denot) g.row.K-Home.Denot g.row.K.Denot in
     let m : M = c.exchange.new.seat.me in
     let same : m.0 ≡ c.args.seat.now.me.0 = same_view c.args.seat.now.me m _ c.exchange.ensures.3 in
     let carries = carried c.args.seat.now.me m c.args.state c.exchange.ensures.3 c.requires.turn.1 in

@@ -18,6 +18,6 @@ returns g c =
     let q = c.args.self.now in
     let u = c.into_seat.result.me in
     let is : u.0 ≡ c.args.poster.view = c.into_seat.ensures.view.0 in
-    let theirs : Rests q.constants u = (ap (λ (v : View (Queue g.row.K-Home.Denot g.row.K.Denot) g.row.K-Home.Denot). v.constants) is ∙ c.requires.poster.1, c.into_seat.ensures.rests.0, c.into_seat.ensures.rests.1) in
-    let t = takes_in q.constants c.args.seat.now.me u c.join_seat.new.seat.me c.load.new.seat.me c.args.poster c.requires.seat.1 theirs is c.into_seat.ensures.senders c.into_seat.ensures.view.1 c.join_seat.ensures.2 l.0 l.1 in
+    let theirs : Rests q.constants u = (ap (λ (v : View (Queue g.row.K-Home.Denot g.row.K.Denot) g.row.K-Home.Denot g.row.K.Denot). v.constants) is ∙ c.requires.poster.1, c.into_seat.ensures.rests.0, c.into_seat.ensures.rests.1) in
+    let t = takes_in q.constants c.args.seat.now.me u c.join_seat.new.seat.me c.load.new.seat.me c.args.poster c.requires.seat.1 theirs is c.into_seat.ensures.senders c.into_seat.ensures.view.1 c.join_seat.ensures.2 l.0 l.1 l.3 in
     (search rules, t.0, t.1)

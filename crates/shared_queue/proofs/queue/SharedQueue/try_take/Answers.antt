@@ -21,7 +21,7 @@ pub exchange-requires : goal.exchange-requires
 exchange-requires g c =
     let M : Type 0 = Sat g.row.K-Home.Denot g.row.K.Denot in
     let won = c.compare_exchange.ensures.2.0 c.if-compare_exchange-eq0.true in
-    let carries = ap (λ (z : M). z.1) won.2 in
+    let carries = ap (λ (z : M). z.1) won.3 in
     (search rules, (Some won.0, carries ∙ ap (λ l. (0, Some won.0) ∷ rest l) (sym carries)))
 
 pub returns-then-compare_exchange-eq0-clause-taken : goal.returns-then-compare_exchange-eq0-clause-taken

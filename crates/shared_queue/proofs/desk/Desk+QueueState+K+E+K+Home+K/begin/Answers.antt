@@ -1,6 +1,6 @@
 use Rattle.std.proofs.Common.{refl}
 use Rattle.shared_queue.proofs.Desks.{begins}
-use Rattle.shared_queue.proofs.desk.Desk+QueueState+K+E+K+Home.begin.Goals as goal
+use Rattle.shared_queue.proofs.desk.Desk+QueueState+K+E+K+Home+K.begin.Goals as goal
 
 pub returns : goal.returns
 returns g c =

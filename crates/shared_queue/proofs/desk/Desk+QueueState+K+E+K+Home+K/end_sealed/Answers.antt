@@ -1,6 +1,6 @@
 use Rattle.std.proofs.Common.{refl}
 use Rattle.shared_queue.proofs.Desks.{hands_over_ends, holds_last}
-use Rattle.shared_queue.proofs.desk.Desk+QueueState+K+E+K+Home.end_sealed.Goals as goal
+use Rattle.shared_queue.proofs.desk.Desk+QueueState+K+E+K+Home+K.end_sealed.Goals as goal
 
 pub hand-requires-clause-last : goal.hand-requires-clause-last
 hand-requires-clause-last g c κs within = holds_last c.args.queue.now.constants c.args.self.now c.args.state c.requires.turn

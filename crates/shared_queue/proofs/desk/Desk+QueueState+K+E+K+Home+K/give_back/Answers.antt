@@ -1,7 +1,7 @@
 use Rattle.std.proofs.Common.{refl, subst, ◌≤◌, sym, ◌∙◌, ◌+◌, ◌-◌, ◌≡◌, length, ap}
 use Rattle.shared_queue.specs.Turn.{seen_with}
 use Rattle.shared_queue.proofs.Desks.{ends, no_shorter}
-use Rattle.shared_queue.proofs.desk.Desk+QueueState+K+E+K+Home.give_back.Goals as goal
+use Rattle.shared_queue.proofs.desk.Desk+QueueState+K+E+K+Home+K.give_back.Goals as goal
 
 pub returns : goal.returns
 returns g c =
