@@ -2,15 +2,17 @@
 # build.sh [TARGET]: makes c/out/TARGET/libmessage_loop.a and libmessage_loop.so, of the six proved libraries, the loop and the heap
 # over malloc. TARGET is a compiler's triple: this machine's, or x86_64-linux-gnu or aarch64-linux-gnu. Each target has a folder of its
 # own, so that none takes another's archive. CC, if set, is the compiler, else TARGET-gcc or cc.
+# build.sh wasm64: makes modules for a page, c/out/wasm64/NAME.wasm, of the three libraries that have no heap.
 set -eu
 here=$(cd "$(dirname "$0")" && pwd)
 crates=$(cd "$here/../crates" && pwd)
 host=$(uname -m)-linux-gnu
 target=${1:-$host}
 case $target in
-x86_64-linux-gnu | aarch64-linux-gnu) ;;
+x86_64-linux-gnu | aarch64-linux-gnu) triple=${target%%-*}-unknown-linux-gnu ;;
+wasm64) triple=wasm64-unknown-unknown ;;
 *)
-    echo "c/build.sh: the targets are x86_64-linux-gnu and aarch64-linux-gnu" >&2
+    echo "c/build.sh: the targets are x86_64-linux-gnu, aarch64-linux-gnu and wasm64" >&2
     exit 2
     ;;
 esac
@@ -31,7 +33,7 @@ core() {
     local made=$crates/$name/out/lib$name.a flags=()
     # An archive that lies there is taken if it is this machine's and newer than the sources.
     if [ "$target" != "$host" ]; then
-        flags=(--target "${target%%-*}-unknown-linux-gnu")
+        flags=(--target "$triple")
         [ ! -f "$made" ] || mv "$made" "$made.host" # rt has one name for all targets
     elif [ ! -f "$made" ] || [ -n "$(find "${sources[@]}" -newer "$made" -print -quit)" ]; then
         rm -f "$made"
@@ -49,12 +51,22 @@ core() {
         exit 1
     }
 }
-core message_queue_c loop_model message_slot message_list when_queue queue_state
-core frame_phases_c loop_model frame_phases
-core loop_sources_c loop_model loop_sources
 core loop_next_c
 core countdown_c countdown
 core animator_c countdown animator
+if [ "$target" = wasm64 ]; then
+    kit=$(dirname "$(dirname "$(readlink -f "$(command -v rt)")")")
+    for name in loop_next_c countdown_c animator_c; do
+        "$kit/bin/rattle-link" --target "$triple" --toolchain "$kit/toolchain" --memory 1310720 -o "$out/$name.wasm" "$out/core/lib$name.a" 2>"$out/$name.log" || {
+            cat "$out/$name.log" >&2
+            exit 1
+        }
+    done
+    exit 0
+fi
+core message_queue_c loop_model message_slot message_list when_queue queue_state
+core frame_phases_c loop_model frame_phases
+core loop_sources_c loop_model loop_sources
 
 include=()
 for name in message_queue_c frame_phases_c loop_sources_c loop_next_c countdown_c animator_c; do include+=("-I$crates/$name/include"); done

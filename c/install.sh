@@ -58,7 +58,8 @@ endif()
 P
 cat >"$to/$lib/cmake/message_loop/message_loop-config-version.cmake" <<P
 set(PACKAGE_VERSION $full)
-if(PACKAGE_FIND_VERSION VERSION_LESS_EQUAL PACKAGE_VERSION AND PACKAGE_FIND_VERSION_MAJOR EQUAL $major)
+# of version 0 each minor version is another
+if(PACKAGE_FIND_VERSION VERSION_LESS_EQUAL PACKAGE_VERSION AND "\${PACKAGE_FIND_VERSION_MAJOR}.\${PACKAGE_FIND_VERSION_MINOR}" STREQUAL "${full%.*}")
   set(PACKAGE_VERSION_COMPATIBLE TRUE)
 endif()
 P

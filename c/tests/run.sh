@@ -2,7 +2,7 @@
 # Builds and runs the tests of the loop in C: with each compiler that is there, plainly and under the address and the undefined
 # sanitizer, by poll and a pipe too, under valgrind's memcheck and helgrind (the thread sanitizer can't see into the proved
 # libraries, valgrind can), as C++, installed by pkg-config and CMake, and for aarch64 under qemu. What isn't there is skipped
-# with a line. run.sh --long is for aarch64 too, whose libraries it makes, and its long run has 10 million messages and 100,000 frames.
+# with a line. run.sh --long is for aarch64 and wasm64 too, whose libraries it makes, and its long run has 10 million messages and 100,000 frames.
 set -eu
 long=
 [ "${1:-}" != --long ] || long=1
@@ -152,8 +152,20 @@ P
     run "CMake static" "$out/cmake/out/it_static"
 fi
 
+if [ -n "$long" ] && has node; then
+    "$c/build.sh" wasm64
+    run "wasm64" node --experimental-wasm-memory64 "$here/web.mjs" "$c/out/wasm64"
+fi
+# A program with no frames and no sources links none of theirs.
+printf '#include <message_loop_posix.h>\nint main(void) { mlp_loop *loop = mlp_new(0); int wrong = loop == NULL || !mlp_quit(loop, true); mlp_run(loop); mlp_free(loop); return wrong; }\n' >"$out/plain.c"
+"$cc" -std=c11 -Wall -Wextra -Werror "-I$c" "$out/plain.c" "$c/out/$host/libmessage_loop.a" -lpthread -o "$out/plain_loop"
+run "loop without parts" "$out/plain_loop"
+if nm "$out/plain_loop" | grep -E 'mloop_core_(frame|idle|fd|sources|countdown|animator)'; then
+    told "a program without frames and sources links them"
+    exit 1
+fi
 if [ -z "$long" ]; then
-    told "aarch64 skipped, run.sh --long has it"
+    told "aarch64 and wasm64 skipped, run.sh --long has them"
 elif [ "$host" = x86_64-linux-gnu ] && has aarch64-linux-gnu-gcc && has qemu-aarch64; then
     "$c/install.sh" "$out/prefix" aarch64-linux-gnu >/dev/null
     lib=$out/prefix/lib/aarch64-linux-gnu

@@ -3,7 +3,7 @@ ghost use Rattle.std.specs.Prelude.{◌≡◌, ◌&&◌, ◌||◌, ◌==◌, nat
 ghost use Rattle.loop_next_c.specs.Actions.{next_action, has_stopped, is_pulse_due, is_to_look, not_looked, owes_idle};
 ghost use Rattle.loop_next_c.specs.Waits.{until, wake, queue_wake, pulse_wake};
 
-use crate::action::{owes_idle, EVENTS, FRAME, IDLE_TURN, LOOK, MESSAGE, STOP, VSYNC, WAIT};
+use crate::action::{EVENTS, FRAME, IDLE_TURN, LOOK, MESSAGE, STOP, VSYNC, WAIT, owes_idle};
 use crate::{NANOS_PER_MILLI, NEVER};
 
 /// The queue was not looked at yet.

@@ -1,6 +1,6 @@
 // Answers as C has them.
 ghost use Rattle.std.specs.Prelude.{◌≡◌, false, MatchOption};
-ghost use Rattle.message_queue_c.specs.Blocks.{no_blocks};
+ghost use Rattle.message_queue_c.specs.Blocks.{Uses};
 ghost use Rattle.message_queue_c.specs.Joined.{joined};
 ghost use Rattle.message_queue_c.specs.Messages.{fields_of};
 ghost use Rattle.message_queue_c.specs.Shown.{answer_as, done_kind, no_memory_kind, look_as, taken_kind, nothing_kind, IsNotOpen, HasNotOpen, shown_post, shown_barrier, shown_gone, shown_taking, shown_quit, shown_next, shown_dropped, taking_drops, quit_drops, next_drops};
@@ -148,7 +148,8 @@ fn look(kind: u32, number: u64, time: u64) -> MqNext
 
 /// The answer; a node that was refused is kept.
 pub(crate) fn shown_post(posted: Posted<NoClaim>, spares: &mut Spares) -> MqAnswer
-    ensures { result ≡ shown_post posted }
+    ensures shown { result ≡ shown_post posted }
+    ensures blocks { Uses 0 spares.old spares.new }
 {
     match posted {
         Posted::Accepted { number, wake } => answer(DONE, number, wake),
@@ -171,7 +172,8 @@ pub(crate) fn shown_barrier(posted: BarrierPosted<NoClaim>) -> MqAnswer
 
 /// The answer; the barrier's node is kept.
 pub(crate) fn shown_gone(gone: BarrierGone<NoClaim>, spares: &mut Spares) -> MqAnswer
-    ensures { result ≡ shown_gone gone }
+    ensures shown { result ≡ shown_gone gone }
+    ensures blocks { Uses 0 spares.old spares.new }
 {
     match gone {
         BarrierGone::Unbarriered { node, wake } => {
@@ -240,7 +242,7 @@ fn shown_item(item: &Item) -> MqNext
 /// What was dropped first, as C has it; its node is kept.
 pub(crate) fn shown_dropped(node: Option<MsgNode<NoClaim>>, spares: &mut Spares) -> MqNext
     ensures shown { MatchOption node (result ≡ look_as nothing_kind 0 0) (λ m. result ≡ shown_dropped m.item) }
-    ensures none { spares.old ≡ no_blocks → spares.new ≡ no_blocks }
+    ensures blocks { Uses 0 spares.old spares.new }
 {
     let Some(node) = node else {
         return nothing();
@@ -258,6 +260,7 @@ pub(crate) fn shown_next(
 ) -> MqNext
     ensures shown { result ≡ shown_next nexted }
     ensures dropped { dropped.new ≡ joined dropped.old (next_drops nexted) }
+    ensures blocks { Uses 0 spares.old spares.new }
 {
     match nexted {
         Nexted::Taken { number, now, node } => {

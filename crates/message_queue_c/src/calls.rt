@@ -1,6 +1,7 @@
 // Each call on a queue, as C makes it.
 ghost use Rattle.std.specs.Prelude.{◌≡◌, IfOk};
 ghost use Rattle.queue_state.specs.Queue.{has_match};
+ghost use Rattle.message_queue_c.specs.Blocks.{Uses};
 ghost use Rattle.message_queue_c.specs.Messages.{filter_by};
 ghost use Rattle.message_queue_c.specs.Ours.{is_ours, new_queue};
 ghost use Rattle.message_queue_c.specs.Shown.{PostShown, BarrierShown, GoneShown, TakingShown, QuitShown, NextShown};
@@ -34,6 +35,7 @@ pub(crate) fn post(
 ) -> MqAnswer
     requires { is_ours queue.old }
     ensures done { PostShown queue.old message.now result queue.new }
+    ensures blocks { Uses 1 spares.old spares.new }
     ensures ours { is_ours queue.new }
 {
     let mut letter = Message::blank();
@@ -52,6 +54,7 @@ pub(crate) fn post_barrier(
 ) -> MqAnswer
     requires { is_ours queue.old }
     ensures done { BarrierShown queue.old now result queue.new }
+    ensures blocks { Uses 1 spares.old spares.new }
     ensures ours { is_ours queue.new }
 {
     match spares.node(alloc, Message::blank()) {
@@ -67,6 +70,7 @@ pub(crate) fn remove_barrier(
 ) -> MqAnswer
     requires { is_ours queue.old }
     ensures done { GoneShown queue.old token result queue.new }
+    ensures blocks { Uses 0 spares.old spares.new }
     ensures ours { is_ours queue.new }
 {
     shown_gone(queue.remove_barrier(SENDER, token), spares)
@@ -106,6 +110,7 @@ pub(crate) fn next(
 ) -> MqNext
     requires { is_ours queue.old }
     ensures done { NextShown queue.old now idle_owed result queue.new dropped.old dropped.new }
+    ensures blocks { Uses 0 spares.old spares.new }
     ensures ours { is_ours queue.new }
 {
     shown_next(queue.next(SENDER, now, idle_owed), dropped, spares)

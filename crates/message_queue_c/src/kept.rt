@@ -2,7 +2,7 @@
 ghost use Rattle.std.specs.Prelude.{◌≡◌, true, false, [], Some, MatchOption, length};
 ghost use Rattle.queue_state.specs.Queue.{has_match, time_of};
 ghost use Rattle.message_queue_c.specs.Contents.{Does, Keeps, Closes, Pops, Reserves, nothing_in, holds_nothing};
-ghost use Rattle.message_queue_c.specs.Blocks.{no_blocks};
+ghost use Rattle.message_queue_c.specs.Blocks.{no_blocks, Uses};
 ghost use Rattle.message_queue_c.specs.Messages.{filter_by};
 ghost use Rattle.message_queue_c.specs.Ours.{is_ours};
 ghost use Rattle.message_queue_c.specs.Shown.{PostShown, BarrierShown, GoneShown, TakingShown, QuitShown, NextShown, IsNotOpen, HasNotOpen};
@@ -51,7 +51,8 @@ impl Kept {
     }
 
     pub(crate) fn post(&mut self, alloc: Global, message: &MqMessage) -> MqAnswer
-        ensures { Does self.old self.new (IsNotOpen result) (Keeps (λ x y. PostShown x message.now result y)) }
+        ensures done { Does self.old self.new (IsNotOpen result) (Keeps (λ x y. PostShown x message.now result y)) }
+        ensures blocks { Uses 1 self.old.blocks self.new.blocks }
     {
         match &mut self.queue {
             Some(queue) => calls::post(alloc, queue, &mut self.spares, message),
@@ -60,7 +61,8 @@ impl Kept {
     }
 
     pub(crate) fn post_barrier(&mut self, alloc: Global, now: u64) -> MqAnswer
-        ensures { Does self.old self.new (IsNotOpen result) (Keeps (λ x y. BarrierShown x now result y)) }
+        ensures done { Does self.old self.new (IsNotOpen result) (Keeps (λ x y. BarrierShown x now result y)) }
+        ensures blocks { Uses 1 self.old.blocks self.new.blocks }
     {
         match &mut self.queue {
             Some(queue) => calls::post_barrier(alloc, queue, &mut self.spares, now),
@@ -69,7 +71,8 @@ impl Kept {
     }
 
     pub(crate) fn remove_barrier(&mut self, token: u64) -> MqAnswer
-        ensures { Does self.old self.new (IsNotOpen result) (Keeps (λ x y. GoneShown x token result y)) }
+        ensures done { Does self.old self.new (IsNotOpen result) (Keeps (λ x y. GoneShown x token result y)) }
+        ensures blocks { Uses 0 self.old.blocks self.new.blocks }
     {
         match &mut self.queue {
             Some(queue) => calls::remove_barrier(queue, &mut self.spares, token),
@@ -78,7 +81,8 @@ impl Kept {
     }
 
     pub(crate) fn remove(&mut self, filter: &MqFilter) -> MqAnswer
-        ensures { Does self.old self.new (IsNotOpen result) (λ x y ds es. TakingShown x filter.now result y ds es) }
+        ensures done { Does self.old self.new (IsNotOpen result) (λ x y ds es. TakingShown x filter.now result y ds es) }
+        ensures blocks { Uses 0 self.old.blocks self.new.blocks }
     {
         match &mut self.queue {
             Some(queue) => calls::remove(queue, &mut self.dropped, filter),
@@ -87,7 +91,8 @@ impl Kept {
     }
 
     pub(crate) fn quit(&mut self, safe: bool, now: u64) -> MqAnswer
-        ensures { Does self.old self.new (IsNotOpen result) (λ x y ds es. QuitShown x safe now result y ds es) }
+        ensures done { Does self.old self.new (IsNotOpen result) (λ x y ds es. QuitShown x safe now result y ds es) }
+        ensures blocks { Uses 0 self.old.blocks self.new.blocks }
     {
         match &mut self.queue {
             Some(queue) => calls::quit(queue, &mut self.dropped, safe, now),
@@ -96,7 +101,8 @@ impl Kept {
     }
 
     pub(crate) fn next(&mut self, now: u64, idle_owed: bool) -> MqNext
-        ensures { Does self.old self.new (HasNotOpen result) (λ x y ds es. NextShown x now idle_owed result y ds es) }
+        ensures done { Does self.old self.new (HasNotOpen result) (λ x y ds es. NextShown x now idle_owed result y ds es) }
+        ensures blocks { Uses 0 self.old.blocks self.new.blocks }
     {
         match &mut self.queue {
             Some(queue) => calls::next(queue, &mut self.dropped, &mut self.spares, now, idle_owed),
@@ -164,7 +170,8 @@ impl Kept {
     }
 
     pub(crate) fn next_dropped(&mut self) -> MqNext
-        ensures { Pops self.old self.new result }
+        ensures done { Pops self.old self.new result }
+        ensures blocks { Uses 0 self.old.blocks self.new.blocks }
     {
         shown_dropped(self.dropped.pop_front(), &mut self.spares)
     }

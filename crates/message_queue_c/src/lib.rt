@@ -4,6 +4,7 @@
 
 ghost use Rattle.std.specs.Prelude.{◌≡◌, ◌||◌, true, false, MatchOption, length};
 ghost use Rattle.queue_state.specs.Queue.{has_match, time_of};
+ghost use Rattle.message_queue_c.specs.Blocks.{Uses};
 ghost use Rattle.message_queue_c.specs.Handed.{inside, IsFreed};
 ghost use Rattle.message_queue_c.specs.Contents.{Does, Keeps, Closes, Pops, Reserves, just_opened, nothing_in};
 ghost use Rattle.message_queue_c.specs.Messages.{filter_by};
@@ -70,6 +71,7 @@ pub extern "C" fn msgq_core_post(
     message: &MqMessage,
 ) -> MqAnswer
     ensures done { Does (inside queue.old) (inside queue.new) (IsNotOpen result) (Keeps (λ x y. PostShown x message.now result y)) }
+    ensures blocks { Uses 1 (inside queue.old).blocks (inside queue.new).blocks }
     ensures live { queue.new.live ≡ queue.old.live }
 {
     let Some(mut kept) = queue.take() else {
@@ -88,6 +90,7 @@ pub extern "C" fn msgq_core_post_at_front(
     message: &MqMessage,
 ) -> MqAnswer
     ensures done { Does (inside queue.old) (inside queue.new) (IsNotOpen result) (Keeps (λ x y. PostShown x (record message.now { when = 0 }) result y)) }
+    ensures blocks { Uses 1 (inside queue.old).blocks (inside queue.new).blocks }
     ensures live { queue.new.live ≡ queue.old.live }
 {
     let mut front = *message;
@@ -104,6 +107,7 @@ pub extern "C" fn msgq_core_post_at_front(
 #[unsafe(no_mangle)]
 pub extern "C" fn msgq_core_barrier(alloc: Global, queue: &mut MqQueue, now: u64) -> MqAnswer
     ensures done { Does (inside queue.old) (inside queue.new) (IsNotOpen result) (Keeps (λ x y. BarrierShown x now result y)) }
+    ensures blocks { Uses 1 (inside queue.old).blocks (inside queue.new).blocks }
     ensures live { queue.new.live ≡ queue.old.live }
 {
     let Some(mut kept) = queue.take() else {
@@ -118,6 +122,7 @@ pub extern "C" fn msgq_core_barrier(alloc: Global, queue: &mut MqQueue, now: u64
 #[unsafe(no_mangle)]
 pub extern "C" fn msgq_core_remove_barrier(queue: &mut MqQueue, token: u64) -> MqAnswer
     ensures done { Does (inside queue.old) (inside queue.new) (IsNotOpen result) (Keeps (λ x y. GoneShown x token result y)) }
+    ensures blocks { Uses 0 (inside queue.old).blocks (inside queue.new).blocks }
     ensures live { queue.new.live ≡ queue.old.live }
 {
     let Some(mut kept) = queue.take() else {
@@ -132,6 +137,7 @@ pub extern "C" fn msgq_core_remove_barrier(queue: &mut MqQueue, token: u64) -> M
 #[unsafe(no_mangle)]
 pub extern "C" fn msgq_core_remove(queue: &mut MqQueue, filter: &MqFilter) -> MqAnswer
     ensures done { Does (inside queue.old) (inside queue.new) (IsNotOpen result) (λ x y ds es. TakingShown x filter.now result y ds es) }
+    ensures blocks { Uses 0 (inside queue.old).blocks (inside queue.new).blocks }
     ensures live { queue.new.live ≡ queue.old.live }
 {
     let Some(mut kept) = queue.take() else {
@@ -215,6 +221,7 @@ pub extern "C" fn msgq_core_interface() -> u32
 #[unsafe(no_mangle)]
 pub extern "C" fn msgq_core_next(queue: &mut MqQueue, now: u64, idle_owed: bool) -> MqNext
     ensures done { Does (inside queue.old) (inside queue.new) (HasNotOpen result) (λ x y ds es. NextShown x now idle_owed result y ds es) }
+    ensures blocks { Uses 0 (inside queue.old).blocks (inside queue.new).blocks }
     ensures live { queue.new.live ≡ queue.old.live }
 {
     let Some(mut kept) = queue.take() else {
@@ -230,6 +237,7 @@ pub extern "C" fn msgq_core_next(queue: &mut MqQueue, now: u64, idle_owed: bool)
 #[unsafe(no_mangle)]
 pub extern "C" fn msgq_core_quit(queue: &mut MqQueue, safe: bool, now: u64) -> MqAnswer
     ensures done { Does (inside queue.old) (inside queue.new) (IsNotOpen result) (λ x y ds es. QuitShown x safe now result y ds es) }
+    ensures blocks { Uses 0 (inside queue.old).blocks (inside queue.new).blocks }
     ensures live { queue.new.live ≡ queue.old.live }
 {
     let Some(mut kept) = queue.take() else {
@@ -244,6 +252,7 @@ pub extern "C" fn msgq_core_quit(queue: &mut MqQueue, safe: bool, now: u64) -> M
 #[unsafe(no_mangle)]
 pub extern "C" fn msgq_core_next_dropped(alloc: Global, queue: &mut MqQueue) -> MqNext
     ensures handed { Pops (inside queue.old) (inside queue.new) result }
+    ensures blocks { Uses 0 (inside queue.old).blocks (inside queue.new).blocks }
     ensures freed { IsFreed queue.new }
 {
     let Some(mut kept) = queue.take() else {

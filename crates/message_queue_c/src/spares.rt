@@ -1,6 +1,6 @@
 // Blocks that are kept for messages and barriers to come.
 ghost use Rattle.std.specs.Prelude.{◌≡◌, ◌≤◌, ◌+◌, ◌<◌, ◌^◌, true, MatchResult};
-ghost use Rattle.message_queue_c.specs.Blocks.{no_blocks};
+ghost use Rattle.message_queue_c.specs.Blocks.{no_blocks, with_one, without_one, Uses};
 
 use message_list::{NodeList, new_node};
 use message_slot::{Message, NoClaim};
@@ -42,7 +42,8 @@ impl Spares {
         alloc: Global,
         letter: Message<NoClaim>,
     ) -> Result<MsgNode<NoClaim>, Message<NoClaim>>
-        ensures { MatchResult result (λ n. n ≡ letter) (λ x. x ≡ letter) }
+        ensures letter { MatchResult result (λ n. n ≡ letter) (λ x. x ≡ letter) }
+        ensures blocks { self.new ≡ without_one self.old }
     {
         match self.nodes.pop_front() {
             Some(mut node) => {
@@ -55,8 +56,8 @@ impl Spares {
 
     /// Keeps the node, or lets go of it where so many as are wanted are kept.
     pub(crate) fn keep(&mut self, node: MsgNode<NoClaim>)
-        ensures none { self.old ≡ no_blocks → self.new ≡ no_blocks }
-        ensures wanted { self.new.wanted ≡ self.old.wanted }
+        ensures kept { self.new ≡ with_one self.old }
+        ensures blocks { Uses 0 self.old self.new }
     {
         if self.nodes.len() < self.wanted {
             self.put(node);
@@ -66,7 +67,7 @@ impl Spares {
     #[inline(never)]
     fn put(&mut self, node: MsgNode<NoClaim>)
         requires { self.old.kept + 1 < 2 ^ 64 }
-        ensures { self.new.wanted ≡ self.old.wanted }
+        ensures { self.new ≡ record self.old { kept = self.old.kept + 1 } }
     {
         self.nodes.insert_at(0, node);
     }

@@ -17,7 +17,12 @@ fn a_countdown_over_frames(rt: HostRuntime) {
 fn an_animator_over_frames(rt: HostRuntime) {
     let mut keys = Keys::new();
     assert!(rt; keys.push(Key { at: 0, value: 0 }));
-    assert!(rt; keys.push(Key { at: 1_000, value: 100 }));
+    assert!(rt;
+        keys.push(Key {
+            at: 1_000,
+            value: 100
+        })
+    );
     let plan = Plan {
         delay: 0,
         duration: 50,
