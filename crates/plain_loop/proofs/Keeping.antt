@@ -18,7 +18,7 @@ use Rattle.message_slot.specs.Letter.{post_of}
 use Rattle.message_pool.specs.Passes.{Claimed, Tally}
 use Rattle.queue_state.specs.Queue.{entry_of, moment_at}
 use Rattle.shared_queue.specs.Known.{Shared, IsOf, IsTurn}
-use Rattle.handler_post.specs.Ways.{KeptWay as Way}
+use Rattle.handler_post.specs.declared.way.Way.{Way}
 use Rattle.handler_post.specs.declared.way.Sent.{Sent}
 use Rattle.handler_post.specs.declared.way.Sent.TheVariants.{Accepted as Took, Refused as Turned, NoMemory as NoRoom}
 use Rattle.handler_post.specs.declared.way.Erased.{Erased}
@@ -135,7 +135,7 @@ quitting safe now p q a b quit.NoMemory same ((x, y, t, quits), kept) =
     left_as_found p q x y a b t quits.1 (record { home = same; back = (let e : b.back ≡ a.back = ap (λ (z : Tally). z.back) kept in omega (arith, e)) })
 
 -- a step of a way keeps it
-keeps : (v w : Way) → IsReady w → IsSameWay v w → Steps v.poster.now w.poster.now v.pass.now w.pass.now → Keeps v w
+keeps : {E : Type 0} (v w : Way E) → IsReady w → IsSameWay v w → Steps v.poster.now w.poster.now v.pass.now w.pass.now → Keeps v w
 keeps v w ready same step = record {
   ready = ready;
   same = same;
@@ -143,47 +143,47 @@ keeps v w ready same step = record {
 }
 
 -- what works on what a way leaves, over the queue and the pool that the way had, is ready as the way is
-pub line_ready : (v w m : Way) → IsReady w → IsSameWay v w → m.poster.now ≡ w.poster.now → m.pass.now ≡ w.pass.now → m.queue.now ≡ v.queue.now → m.pool.now ≡ v.pool.now → IsReady m
+pub line_ready : {E : Type 0} (v w m : Way E) → IsReady w → IsSameWay v w → m.poster.now ≡ w.poster.now → m.pass.now ≡ w.pass.now → m.queue.now ≡ v.queue.now → m.pool.now ≡ v.pool.now → IsReady m
 line_ready v w m ready same poster pass queue pool = record {
   poster = subst (λ (q : Shared TableId). IsOf m.poster.now q) (same.queue ∙ sym queue) (subst (λ (p : Sender). IsOf p w.queue.now) (sym poster) ready.poster);
   pass = ap (λ (a : Tally). a.home) pass ∙ (ready.pass ∙ (same.pool ∙ sym pool));
   home = ap (λ (q : Shared TableId). q.constants.home) (queue ∙ sym same.queue) ∙ (ready.home ∙ (same.pool ∙ sym pool));
 }
 
-same_home : (v w : Way) → IsReady v → IsReady w → IsSameWay v w → w.pass.now.home ≡ v.pass.now.home
+same_home : {E : Type 0} (v w : Way E) → IsReady v → IsReady w → IsSameWay v w → w.pass.now.home ≡ v.pass.now.home
 same_home v w ready ready' same = ready'.pass ∙ (same.pool ∙ sym ready.pass)
 
-pub sends_keep : (m : PostData) (v w : Way) (r : Sent) → IsReady v → IsReady w → IsSameWay v w → Sends m v w r → Keeps v w
+pub sends_keep : {E : Type 0} (m : PostData) (v w : Way E) (r : Sent) → IsReady v → IsReady w → IsSameWay v w → Sends m v w r → Keeps v w
 sends_keep m v w r ready ready' same did =
     keeps v w ready' same (sending v.pool.now m v.poster.now w.poster.now v.pass.now w.pass.now r (same_home v w ready ready' same) did)
 
-pub erases_keep : (f : Filter) (v w : Way) (r : Erased) → IsReady v → IsReady w → IsSameWay v w → Erases f v w r → Keeps v w
+pub erases_keep : {E : Type 0} (f : Filter) (v w : Way E) (r : Erased) → IsReady v → IsReady w → IsSameWay v w → Erases f v w r → Keeps v w
 erases_keep f v w r ready ready' same did =
     keeps v w ready' same (erasing f v.poster.now w.poster.now v.pass.now w.pass.now r (same_home v w ready ready' same) did)
 
-pub has_keeps : (f : Filter) (v w : Way) (r : Bool) → IsReady v → IsReady w → IsSameWay v w → Has f v w r → Keeps v w
+pub has_keeps : {E : Type 0} (f : Filter) (v w : Way E) (r : Bool) → IsReady v → IsReady w → IsSameWay v w → Has f v w r → Keeps v w
 has_keeps f v w r ready ready' same ((x, t, is), kept) =
     keeps v w ready' same (looked v.poster.now w.poster.now x v.pass.now w.pass.now t
     (record { home = same_home v w ready ready' same; back = (let e : w.pass.now.back ≡ v.pass.now.back = ap (λ (z : Tally). z.back) kept in omega (arith, e)) }))
 
-pub bars_keep : (now token : ℕ) (v w : Way) → IsReady v → IsReady w → IsSameWay v w → v.pass.now.back ≤ w.pass.now.back → Bars now token v w → Keeps v w
+pub bars_keep : {E : Type 0} (now token : ℕ) (v w : Way E) → IsReady v → IsReady w → IsSameWay v w → v.pass.now.back ≤ w.pass.now.back → Bars now token v w → Keeps v w
 bars_keep now token v w ready ready' same back (node, (x, y, t, bars)) =
     keeps v w ready' same (entered v.poster.now w.poster.now x y (Barrier (moment_at x now)) (Token token) v.pass.now w.pass.now t (entries_are x y _ bars.1) refl
     (record { home = same_home v w ready ready' same; back = back }))
 
-pub unbars_keep : (token : ℕ) (was : Bool) (v w : Way) → IsReady v → IsReady w → IsSameWay v w → v.pass.now.back ≤ w.pass.now.back → Unbars token was v w → Keeps v w
+pub unbars_keep : {E : Type 0} (token : ℕ) (was : Bool) (v w : Way E) → IsReady v → IsReady w → IsSameWay v w → v.pass.now.back ≤ w.pass.now.back → Unbars token was v w → Keeps v w
 unbars_keep token was v w ready ready' same back did =
     keeps v w ready' same (unbarring token was v.poster.now w.poster.now v.pass.now w.pass.now (record { home = same_home v w ready ready' same; back = back }) did)
 
-pub none_keeps : (v w : Way) → IsReady v → IsReady w → IsSameWay v w → v.pass.now.back ≤ w.pass.now.back → MadeNone v.poster.now w.poster.now → Keeps v w
+pub none_keeps : {E : Type 0} (v w : Way E) → IsReady v → IsReady w → IsSameWay v w → v.pass.now.back ≤ w.pass.now.back → MadeNone v.poster.now w.poster.now → Keeps v w
 none_keeps v w ready ready' same back did =
     keeps v w ready' same (made_none v.poster.now w.poster.now v.pass.now w.pass.now did (record { home = same_home v w ready ready' same; back = back }))
 
-pub quits_keep : (safe : Bool) (now : ℕ) (v w : Way) (r : Quit) → IsReady v → IsReady w → IsSameWay v w → Quits safe now v w r → Keeps v w
+pub quits_keep : {E : Type 0} (safe : Bool) (now : ℕ) (v w : Way E) (r : Quit) → IsReady v → IsReady w → IsSameWay v w → Quits safe now v w r → Keeps v w
 quits_keep safe now v w r ready ready' same did =
     keeps v w ready' same (quitting safe now v.poster.now w.poster.now v.pass.now w.pass.now r (same_home v w ready ready' same) did)
 
-module _ (v w : Way) (ready : IsReady v) (ready' : IsReady w) (same : IsSameWay v w) (back : v.pass.now.back ≤ w.pass.now.back) where
+module _ {E : Type 0} (v w : Way E) (ready : IsReady v) (ready' : IsReady w) (same : IsSameWay v w) (back : v.pass.now.back ≤ w.pass.now.back) where
   pub bar_keeps : (now : ℕ) (r : Result ℕ NoMemory) → IfOk r (λ token. Bars now token v w) → OnErr r (MadeNone v.poster.now w.poster.now) → Keeps v w
   bar_keeps now (Ok token) did none = bars_keep now token v w ready ready' same back did
   bar_keeps now (Err e) did none = none_keeps v w ready ready' same back none

@@ -1,5 +1,5 @@
 -- What a loop that found memory kept, and what a dispatcher's answer tells.
-use Rattle.std.proofs.Common.{◌≡◌, ℕ, suc, Bool, true, false, refl, sym, subst, Option, Some, None}
+use Rattle.std.proofs.Common.{◌≡◌, ℕ, suc, Bool, false, refl, sym, subst, Option, Some, None}
 use Rattle.std.specs.Prelude.{Result, Ok, Err, OnOk}
 use Rattle.loop_model.specs.declared.memory.NoMemory.{NoMemory}
 use Rattle.looper_run.specs.declared.by_clock.Loop.{Loop}
@@ -31,8 +31,9 @@ pub did_unless : (d : Did) (r : Result (Unit {0}) NoMemory) (P : Type 0) → d �
 did_unless d r P is h = subst (λ (x : Did). Unless x P) (sym is) (did_well r P h)
 
 -- a loop more, which did not end the looper
-pub times_more : (shows : ℕ → Bool) (s : Setting) (n : ℕ) (a b d : Looping) (over : Bool) → over ≡ false → LoopsTimes shows s n a b → LoopsOn shows s over b d → (m : ℕ) × LoopsTimes shows s m a d
-times_more shows s n a b d over going times once = (suc n, (b, times, subst (λ (o : Bool). LoopsOn shows s o b d) going once))
+pub times_more : (keeps : Bool) (shows : ℕ → Bool) (s : Setting) (until : Option ℕ) (n : ℕ) (a b d : Looping) (over : Bool) → over ≡ false → LoopsTimes keeps shows s until n a b
+    → LoopsOn keeps shows s until over b d → (m : ℕ) × LoopsTimes keeps shows s until m a d
+times_more keeps shows s until n a b d over going times once = (suc n, (b, times, subst (λ (o : Bool). LoopsOn keeps shows s until o b d) going once))
 
 -- the same place
 pub place_still : (queue : Shared TableId) (pool : TableId) (w v : Workplace) → v ≡ w → IsPlaceOf queue pool w → IsPlaceOf queue pool v

@@ -1,39 +1,52 @@
 -- What a looper does that lets its records go now and then.
-use Rattle.std.specs.Prelude.{◌≡◌, ℕ, zero, suc, Bool, true, false, List, Option, Some, Result}
+use Rattle.std.specs.Prelude.{◌≡◌, ◌≢◌, ℕ, zero, suc, min, Bool, IsTrue, true, false, List, Option, Some, None, Result, Ok}
 use Rattle.loop_model.specs.declared.entry.Entry.{Entry}
 use Rattle.loop_model.specs.declared.journal.Act.{Act}
 use Rattle.loop_model.specs.declared.memory.NoMemory.{NoMemory}
 use Rattle.loop_model.specs.Answers.{Setting}
+use Rattle.loop_model.specs.Posts.{moment_after}
 use Rattle.looper_run.specs.declared.by_clock.Loop.{Loop}
 use Rattle.looper_run.specs.declared.by_clock.Loop.TheVariants as loop
 use Rattle.looper_run.specs.Holding.{Looping}
-use Rattle.looper_run.specs.Loops.{LoopsOrGoes}
-use Rattle.looper_run.specs.LettingGo.{LetsGo}
+use Rattle.looper_run.specs.Loops.{LoopsOrGoes, is_over_then}
+use Rattle.looper_run.specs.LettingGo.{LetsGo, untold}
 
--- a loop by the clock, to some cap, with this answer; none where it was left in between
-abbrev pub LoopsOnce : (ℕ → Bool) → Setting → Option Loop → Looping → Looping → Type 0
-LoopsOnce shows s answer before after = (cap : ℕ) × LoopsOrGoes shows 0 (Some cap) s before.held after.held answer
+-- where its queue's entries are kept a looper waits until a second from now at the most, and else as long as it is to
+abbrev pub WaitsTo : (ℕ → Bool) → Bool → Option ℕ → Option ℕ → Type 0
+WaitsTo shows false until cap = cap ≡ until
+WaitsTo shows true None cap = (now : ℕ) × IsTrue (shows now) × (cap ≡ Some (moment_after now 1000))
+WaitsTo shows true (Some until) cap = (now : ℕ) × IsTrue (shows now) × (cap ≡ Some (min until (moment_after now 1000)))
 
--- a loop, behind which the looper let its records go
-abbrev pub LoopsAndLetsGo : (ℕ → Bool) → Setting → Looping → Looping → Type 0
-LoopsAndLetsGo shows s before after =
-    (answer : Option Loop) × (looped : Looping) × LoopsOnce shows s answer before looped × (gone : Result (Unit {0}) NoMemory) × LetsGo gone looped after
-
--- a loop that ended the looper, or one behind which it let its records go
-abbrev pub LoopsOn : (ℕ → Bool) → Setting → Bool → Looping → Looping → Type 0
-LoopsOn shows s true before after = LoopsOnce shows s (Some loop.Ended) before after
-LoopsOn shows s false before after = LoopsAndLetsGo shows s before after
+-- the acts were let go, and where its queue's entries are kept a part of them was, unless memory was wanting
+abbrev pub LetsGoOf : Bool → Result (Unit {0}) NoMemory → Looping → Looping → Type 0
+LetsGoOf true gone before after = LetsGo gone before after
+LetsGoOf false gone before after = (gone ≡ Ok tt) × (after ≡ untold before)
 
 -- the test of this dispatcher's kind is always true
 abbrev pub IsAlwaysMet : {D : Type 0} → (D → ℕ → List Entry → List Act → Type 0) → Type 0
 IsAlwaysMet {D} Meets = (d : D) (s : ℕ) (es : List Entry) (acts : List Act) → Meets d s es acts
 
--- so many of these, one behind another
-abbrev pub LoopsTimes : (ℕ → Bool) → Setting → ℕ → Looping → Looping → Type 0
-LoopsTimes shows s zero before after = after ≡ before
-LoopsTimes shows s (suc n) before after = (between : Looping) × LoopsTimes shows s n before between × LoopsAndLetsGo shows s between after
+module _ (keeps : Bool) (shows : ℕ → Bool) (s : Setting) (until : Option ℕ) where
+  -- a loop by the clock with this answer, which waits no longer than it may; none where it was left in between
+  abbrev pub LoopsOnce : Option Loop → Looping → Looping → Type 0
+  LoopsOnce answer before after = (cap : Option ℕ) × WaitsTo shows keeps until cap × LoopsOrGoes shows 0 cap s before.held after.held answer
 
--- so many of these, and then a loop that ended the looper
-abbrev pub LoopsToItsEnd : (ℕ → Bool) → Setting → Looping → Looping → Type 0
-LoopsToItsEnd shows s before after =
-    (n : ℕ) × (last : Looping) × LoopsTimes shows s n before last × LoopsOnce shows s (Some loop.Ended) last after
+  -- a loop that found memory and did not end the looper, behind which it let its records go
+  abbrev pub LoopsAndLetsGo : Looping → Looping → Type 0
+  LoopsAndLetsGo before after =
+      (answer : Option Loop) × (is_over_then answer ≡ false) × (answer ≢ Some loop.NoMemory)
+      × (looped : Looping) × LoopsOnce answer before looped × LetsGoOf keeps (Ok tt) looped after
+
+  -- a loop that ended the looper, or one behind which it let its records go
+  abbrev pub LoopsOn : Bool → Looping → Looping → Type 0
+  LoopsOn true before after = LoopsOnce (Some loop.Ended) before after
+  LoopsOn false before after = LoopsAndLetsGo before after
+
+  -- so many of these, one behind another
+  abbrev pub LoopsTimes : ℕ → Looping → Looping → Type 0
+  LoopsTimes zero before after = after ≡ before
+  LoopsTimes (suc n) before after = (between : Looping) × LoopsTimes n before between × LoopsAndLetsGo between after
+
+  -- so many of these, and then a loop that ended the looper
+  abbrev pub LoopsToItsEnd : Looping → Looping → Type 0
+  LoopsToItsEnd before after = (n : ℕ) × (last : Looping) × LoopsTimes n before last × LoopsOnce (Some loop.Ended) last after

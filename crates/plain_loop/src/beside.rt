@@ -9,10 +9,11 @@ ghost use Rattle.plain_loop.specs.Senders.{IsSender, AreSenders, IsOneFewer, IsL
 
 use crate::handlers::{Handle, Handling};
 use crate::mailbox::{Mailbox, Opened, Sender, Senders, Settings, open, open_with};
+use crate::records::LetGo;
 use loop_io::Clock;
 use loop_model::NoMemory;
 use looper_run::{ByClock, Dispatcher, Loop, Looper};
-use queue_state::Kept;
+use queue_state::Unkept;
 use std::alloc::Global;
 use std::sync::Wait;
 use std::thread::{Threads, join};
@@ -20,9 +21,6 @@ use std::time;
 
 /// After how many dispatches a looper lets go of its records.
 const MOST_AT_ONCE: u64 = 1_024;
-
-/// After how many milliseconds it does so at the latest.
-const LET_GO_MILLIS: u64 = 1_000;
 
 // Whether a loop with this answer ended the looper. NoMemory where it found none.
 fn is_over(answer: Option<Loop>) -> Result<bool, NoMemory>
@@ -37,12 +35,13 @@ fn is_over(answer: Option<Loop>) -> Result<bool, NoMemory>
     }
 }
 
-/// Loops until this moment at the latest, where there is one, a second, or 1,024 dispatches, and answers whether the queue is over. If
-/// not it drops the acts that the looper told and the queue's history so far, so that a looper which does so again and again runs in
-/// bounded memory. NoMemory where the dispatcher, a call of the loop or the letting go found none (this project's profile).
-pub fn loop_and_let_go<R: Wait + time::Clock, C: Clock, D: Dispatcher<Record = Kept>>(
-    mailbox: &Mailbox<R, C>,
-    looper: &mut Looper,
+/// Loops until this moment at the latest, where there is one, or 1,024 dispatches, and where the queue's entries are kept no longer than
+/// a second. Answers whether the queue is over. If not it drops the acts that the looper told, and the queue's entries so far where they
+/// are kept, so that a looper which does so again and again runs in bounded memory. NoMemory where the dispatcher, a call of the loop or
+/// the letting go found none (this project's profile).
+pub fn loop_and_let_go<R: Wait + time::Clock, C: Clock, E: LetGo, D: Dispatcher<Record = E>>(
+    mailbox: &Mailbox<R, C, E>,
+    looper: &mut Looper<E>,
     dispatcher: &mut D,
     until: Option<u64>,
 ) -> Result<bool, NoMemory>
@@ -51,7 +50,7 @@ pub fn loop_and_let_go<R: Wait + time::Clock, C: Clock, D: Dispatcher<Record = K
     requires serves { D.Serves dispatcher.old (workplace looper.old.held) }
     requires awaits { D.Awaits dispatcher.old None }
     requires meets { IsAlwaysMet D.Meets }
-    ensures looped { IfOk result (λ over. LoopsOn (C.shows mailbox.now.clock.now) mailbox.now.queue.now.constants.setting over looper.old looper.new) }
+    ensures looped { IfOk result (λ over. LoopsOn E.keeps (C.shows mailbox.now.clock.now) mailbox.now.queue.now.constants.setting until over looper.old looper.new) }
     ensures ended { IfOk result (λ over. looper.new.ended ≡ over) }
     ensures looper { IfOk result (λ over. over ≡ false → IsLooper mailbox.now.queue.now mailbox.now.pool.now looper.new) }
     ensures place { OnOk result (workplace looper.new.held ≡ workplace looper.old.held) }
@@ -59,11 +58,10 @@ pub fn loop_and_let_go<R: Wait + time::Clock, C: Clock, D: Dispatcher<Record = K
     ensures origin { D.origin dispatcher.new ≡ D.origin dispatcher.old }
     ensures awaits { OnOk result (D.Awaits dispatcher.new None) }
 {
-    let latest = mailbox.clock.uptime_millis().saturating_add(LET_GO_MILLIS);
     let by = ByClock {
         clock: mailbox.clock,
         start: 0,
-        cap: Some(until.unwrap_or(latest).min(latest)),
+        cap: E::waits_to(mailbox.clock, until),
     };
     let answer = looper.run_some(
         mailbox.rt,
@@ -77,23 +75,23 @@ pub fn loop_and_let_go<R: Wait + time::Clock, C: Clock, D: Dispatcher<Record = K
     if is_over(answer)? {
         return Ok(true);
     }
-    looper.let_go(mailbox.rt, mailbox.alloc, mailbox.queue)?;
+    E::let_go(looper, mailbox.rt, mailbox.alloc, mailbox.queue)?;
     Ok(false)
 }
 
-/// Loops until the queue is over, and answers the handlers (`Looper.loop`). Moments are uptime. At least each second, and each 1,024
-/// dispatches, it drops the acts that it told and the queue's history so far, so that it may run for ever in bounded memory. NoMemory
-/// where a handler, a call of the loop or the letting go found none.
-pub fn run_looper<R: Wait + time::Clock, C: Clock, H: Handle<R, C> + Drop>(
-    mailbox: &Mailbox<R, C>,
-    looper: &mut Looper,
+/// Loops until the queue is over, and answers the handlers (`Looper.loop`). Moments are uptime. Each 1,024 dispatches, and where the
+/// queue's entries are kept each second too, it drops the acts that it told and those entries, so that it may run for ever in bounded
+/// memory. NoMemory where a handler, a call of the loop or the letting go found none.
+pub fn run_looper<R: Wait + time::Clock, C: Clock, E: LetGo, H: Handle<R, C, E> + Drop>(
+    mailbox: &Mailbox<R, C, E>,
+    looper: &mut Looper<E>,
     handlers: H,
 ) -> Result<H, NoMemory>
     requires looper { IsLooper mailbox.now.queue.now mailbox.now.pool.now looper.old }
     requires free { mailbox.now.queue.now.constants.setting.lockstep ≡ false }
     requires holds { H.Holds handlers }
     ensures ended { OnOk result (looper.new.ended ≡ true) }
-    ensures looped { OnOk result (LoopsToItsEnd (C.shows mailbox.now.clock.now) mailbox.now.queue.now.constants.setting looper.old looper.new) }
+    ensures looped { OnOk result (LoopsToItsEnd E.keeps (C.shows mailbox.now.clock.now) mailbox.now.queue.now.constants.setting None looper.old looper.new) }
     ensures holds { IfOk result H.Holds }
 {
     let mut dispatcher = Handling {
@@ -113,7 +111,7 @@ pub fn run_looper<R: Wait + time::Clock, C: Clock, H: Handle<R, C> + Drop>(
 pub fn run_here<
     R: Wait + time::Clock,
     C: Clock,
-    H: Handle<R, C> + Drop,
+    H: Handle<R, C, Unkept> + Drop,
     W: FnOnce(&Mailbox<R, C>, Senders) + Drop,
 >(
     rt: &R,
@@ -166,12 +164,12 @@ fn work_and_quit<R: Wait, C: Clock, T, W: FnOnce(&Mailbox<R, C>, Senders) -> T>(
 fn side_by_side<
     R: Threads + Wait + time::Clock + Sync,
     C: Clock + Sync,
-    H: Handle<R, C> + Send + Drop,
+    H: Handle<R, C, Unkept> + Send + Drop,
     T: Send + Drop,
     W: FnOnce(&Mailbox<R, C>, Senders) -> T + Send + Drop,
 >(
     mailbox: &Mailbox<R, C>,
-    mut looper: Looper,
+    mut looper: Looper<Unkept>,
     mut senders: Senders,
     handlers: H,
     work: W,
@@ -198,7 +196,7 @@ fn side_by_side<
 pub fn run_beside<
     R: Threads + Wait + time::Clock + Sync,
     C: Clock + Sync,
-    H: Handle<R, C> + Send + Drop,
+    H: Handle<R, C, Unkept> + Send + Drop,
     T: Send + Drop,
     W: FnOnce(&Mailbox<R, C>, Senders) -> T + Send + Drop,
 >(

@@ -11,7 +11,7 @@ use loop_model::NoMemory;
 use looper_run::{Did, Dispatcher, Own};
 use message_pool::PoolClaim;
 use message_slot::Message;
-use queue_state::Kept;
+use queue_state::Recorder;
 use std::sync::Wait;
 
 /// A message, as a handler is given it.
@@ -21,14 +21,15 @@ pub type Msg = Message<PoolClaim>;
 pub type Handled = Result<(), NoMemory>;
 
 /// The code of a looper's handlers, as `handleMessage` of the Android API reference's `Handler`. What they send themselves they
-/// send by the line that they are lent, which is the looper's own. After NoMemory the looper gives up.
-pub trait Handle<R: Wait, C: Clock> {
+/// send by the line that they are lent, which is the looper's own. Its queue's entries go where `E` says: `Unkept` is for a queue that
+/// keeps none. After NoMemory the looper gives up.
+pub trait Handle<R: Wait, C: Clock, E: Recorder> {
     /// A fact of the handlers' own, which each call keeps unless memory was wanting. By default there is none.
     ghost Holds: { Self → Type 0 } = { λ h. Unit {0} };
 
     /// Handles a message without a callback, which was due at `now` or before, in milliseconds. Which handler it was sent to is its
     /// `handler`. This one does nothing.
-    fn handle(&mut self, line: &mut Line<R, C>, message: &Msg, now: u64) -> Handled
+    fn handle(&mut self, line: &mut Line<R, C, E>, message: &Msg, now: u64) -> Handled
         requires line { IsReady (way_of line.old) }
         requires holds { Holds self.old }
         ensures keeps { Keeps (way_of line.old) (way_of line.new) }
@@ -38,7 +39,7 @@ pub trait Handle<R: Wait, C: Clock> {
     }
 
     /// Runs the callback of this number, which was posted in a message's place (`Runnable.run`). This one does nothing.
-    fn run_callback(&mut self, line: &mut Line<R, C>, id: u64, now: u64) -> Handled
+    fn run_callback(&mut self, line: &mut Line<R, C, E>, id: u64, now: u64) -> Handled
         requires line { IsReady (way_of line.old) }
         requires holds { Holds self.old }
         ensures keeps { Keeps (way_of line.old) (way_of line.new) }
@@ -67,9 +68,9 @@ pub trait Handle<R: Wait, C: Clock> {
 /// A dispatcher that leaves all to these handlers: it has no callback object of a handler, asks for no pulse, and states no more than
 /// they do. It lends them a line to its looper's queue.
 #[derive(Drop)]
-pub struct Handling<'a, R: Wait, C: Clock, H: Handle<R, C>> {
+pub struct Handling<'a, R: Wait, C: Clock, E: Recorder, H: Handle<R, C, E>> {
     /// The looper's mailbox.
-    pub mailbox: &'a Mailbox<'a, R, C>,
+    pub mailbox: &'a Mailbox<'a, R, C, E>,
     /// The handlers.
     pub handlers: H,
 }
@@ -84,8 +85,9 @@ pub fn did(answer: Handled) -> Did
     }
 }
 
-impl<'a, R: Wait, C: Clock, H: Handle<R, C>> Dispatcher for Handling<'a, R, C, H> {
-    type Record = Kept;
+impl<'a, R: Wait, C: Clock, E: Recorder, H: Handle<R, C, E>> Dispatcher
+    for Handling<'a, R, C, E, H> {
+    type Record = E;
 
     ghost Serves = { λ d w. IsPlaceOf d.mailbox.now.queue.now d.mailbox.now.pool.now w };
 
@@ -103,7 +105,7 @@ impl<'a, R: Wait, C: Clock, H: Handle<R, C>> Dispatcher for Handling<'a, R, C, H
 
     fn before(&mut self, number: u64) {}
 
-    fn pulse(&mut self, own: &mut Own, now: u64) -> Did {
+    fn pulse(&mut self, own: &mut Own<E>, now: u64) -> Did {
         Did::Yes
     }
 
@@ -115,7 +117,7 @@ impl<'a, R: Wait, C: Clock, H: Handle<R, C>> Dispatcher for Handling<'a, R, C, H
         Some(self.handlers.idle(id, keep))
     }
 
-    fn run_callback(&mut self, own: &mut Own, id: u64, m: &Message<PoolClaim>, now: u64) -> Did {
+    fn run_callback(&mut self, own: &mut Own<E>, id: u64, m: &Message<PoolClaim>, now: u64) -> Did {
         let mut line = Line {
             rt: self.mailbox.rt,
             alloc: self.mailbox.alloc,
@@ -128,11 +130,11 @@ impl<'a, R: Wait, C: Clock, H: Handle<R, C>> Dispatcher for Handling<'a, R, C, H
         did(self.handlers.run_callback(&mut line, id, now))
     }
 
-    fn intercept(&mut self, own: &mut Own, m: &Message<PoolClaim>, now: u64) -> Did {
+    fn intercept(&mut self, own: &mut Own<E>, m: &Message<PoolClaim>, now: u64) -> Did {
         Did::No
     }
 
-    fn handle(&mut self, own: &mut Own, m: &Message<PoolClaim>, now: u64) -> Did {
+    fn handle(&mut self, own: &mut Own<E>, m: &Message<PoolClaim>, now: u64) -> Did {
         let mut line = Line {
             rt: self.mailbox.rt,
             alloc: self.mailbox.alloc,

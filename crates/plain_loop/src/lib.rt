@@ -8,6 +8,7 @@ mod frames;
 mod handlers;
 mod lines;
 mod mailbox;
+mod records;
 #[cfg(test)]
 mod tests;
 #[cfg(test)]
@@ -18,3 +19,4 @@ pub use frames::{Draw, Drawing, Outbox};
 pub use handlers::{Handle, Handled, Handling, Msg, did};
 pub use lines::Line;
 pub use mailbox::{Mailbox, Opened, Sender, Senders, Settings, open, open_with};
+pub use records::LetGo;

@@ -10,6 +10,7 @@ use handler_post::{Erased, Quit, Sent, Way};
 use loop_io::Clock;
 use loop_model::{Filter, NoMemory, Post};
 use message_pool::{Pool, PoolClaim, PoolPass};
+use queue_state::{Recorder, Unkept};
 use shared_queue::{Poster, SharedQueue};
 use std::alloc::Global;
 use std::sync::Wait;
@@ -17,9 +18,9 @@ use std::sync::Wait;
 /// A way to post, with what locks and waits go through, where memory comes from, and the clock that tells the time. Moments and
 /// delays are milliseconds of uptime. What is posted is made by a `Handler`, as `handler.obtain(what, arg)` and
 /// `handler.runnable(callback)`, and what is removed or asked for is named by it, as `handler.messages(what)`. The methods in
-/// brackets are those of the Android API reference's `Handler`.
+/// brackets are those of the Android API reference's `Handler`. The queue's entries go where `E` says.
 #[derive(Drop)]
-pub struct Line<'a, R: Wait, C: Clock> {
+pub struct Line<'a, R: Wait, C: Clock, E: Recorder = Unkept> {
     /// What locks and waits go through.
     pub rt: &'a R,
     /// Where memory comes from.
@@ -27,9 +28,9 @@ pub struct Line<'a, R: Wait, C: Clock> {
     /// The clock.
     pub clock: &'a C,
     /// The queue.
-    pub queue: &'a SharedQueue<PoolClaim>,
+    pub queue: &'a SharedQueue<PoolClaim, E>,
     /// The thread's poster of the queue.
-    pub poster: &'a mut Poster<PoolClaim>,
+    pub poster: &'a mut Poster<PoolClaim, E>,
     /// The pool that messages come from and go back to.
     pub pool: &'a Pool,
     /// The thread's pass of the pool.
@@ -42,7 +43,7 @@ fn due(post: Post, when: u64) -> Post
     Post { when, ..post }
 }
 
-impl<'a, R: Wait, C: Clock> Line<'a, R, C> {
+impl<'a, R: Wait, C: Clock, E: Recorder> Line<'a, R, C, E> {
     /// The time now (`SystemClock.uptimeMillis`).
     pub fn now(&self) -> u64
         ensures { IsTrue (C.shows self.now.clock.now result) }

@@ -12,6 +12,7 @@ use loop_model::NoMemory;
 use loop_sources::{FdTable, IdleSet};
 use looper_run::{Looper, Sources};
 use message_pool::{Pool, PoolClaim, PoolPass};
+use queue_state::{Recorder, Unkept};
 use shared_queue::{Poster, SharedQueue};
 use std::alloc::Global;
 use std::sync::{Mutex, Wait};
@@ -42,19 +43,19 @@ impl Settings {
 
 /// What one thread posts by: its poster of the queue, and its pass of the pool.
 #[derive(Drop)]
-pub struct Sender {
+pub struct Sender<E: Recorder = Unkept> {
     /// Its poster of the queue.
-    pub poster: Poster<PoolClaim>,
+    pub poster: Poster<PoolClaim, E>,
     /// Its pass of the pool.
     pub pass: PoolPass,
 }
 
-impl Sender {
+impl<E: Recorder> Sender<E> {
     /// A line to the queue (`new Handler(looper)`).
     pub fn line<'a, R: Wait, C: Clock>(
         &'a mut self,
-        mailbox: &'a Mailbox<'a, R, C>,
-    ) -> Line<'a, R, C>
+        mailbox: &'a Mailbox<'a, R, C, E>,
+    ) -> Line<'a, R, C, E>
         requires { IsSender mailbox.now.queue.now mailbox.now.pool.now self.old }
         ensures ready { IsReady (way_of result) }
         ensures queue { (result.queue.now ≡ mailbox.now.queue.now) × (result.pool.now ≡ mailbox.now.pool.now) }
@@ -75,16 +76,16 @@ impl Sender {
 
 /// The senders that no thread has yet.
 #[derive(Drop)]
-pub struct Senders {
+pub struct Senders<E: Recorder = Unkept> {
     /// Their posters, in order.
-    pub posters: Vec<Poster<PoolClaim>>,
+    pub posters: Vec<Poster<PoolClaim, E>>,
     /// The pass that theirs are split from.
     pub pass: PoolPass,
 }
 
-impl Senders {
+impl<E: Recorder> Senders<E> {
     /// The last sender that no thread has, which has done nothing. There is one.
-    pub fn next<R: Wait, C: Clock>(&mut self, mailbox: &Mailbox<R, C>) -> Sender
+    pub fn next<R: Wait, C: Clock>(&mut self, mailbox: &Mailbox<R, C, E>) -> Sender<E>
         requires { AreSenders mailbox.now.queue.now mailbox.now.pool.now self.old × (0 < length self.old.posters.items) }
         ensures sender { IsSender mailbox.now.queue.now mailbox.now.pool.now result }
         ensures unused { IsNewPoster result.poster }
@@ -101,28 +102,33 @@ impl Senders {
 
 /// A queue that nobody has used, with its pool, its looper and its senders.
 #[derive(Drop)]
-pub struct Opened {
+pub struct Opened<E: Recorder = Unkept> {
     /// The queue.
-    pub queue: SharedQueue<PoolClaim>,
+    pub queue: SharedQueue<PoolClaim, E>,
     /// The pool of its messages.
     pub pool: Pool,
     /// Its looper.
-    pub looper: Looper,
+    pub looper: Looper<E>,
     /// Its senders, as many as the settings say.
-    pub senders: Senders,
+    pub senders: Senders<E>,
     /// Its idle handlers and watched descriptors, of which there are none.
     pub sources: Mutex<Sources>,
 }
 
-/// A queue with its pool, its looper and as many senders as the settings say (`Looper.prepare`). NoMemory where it found none.
-pub fn open(alloc: Global, settings: Settings) -> Result<Opened, NoMemory>
+/// A queue with its pool, its looper and as many senders as the settings say (`Looper.prepare`). What it opens is `Opened<Unkept>` for a
+/// queue that keeps no entry, and `Opened<Kept>` for one whose history can be read. NoMemory where it found none.
+pub fn open<E: Recorder>(alloc: Global, settings: Settings) -> Result<Opened<E>, NoMemory>
     ensures opened { IfOk result (IsOpened settings settings.senders) }
 {
     open_with(alloc, settings, u32::from(settings.senders))
 }
 
 /// The same with so many senders (this project's profile).
-pub fn open_with(alloc: Global, settings: Settings, senders: u32) -> Result<Opened, NoMemory>
+pub fn open_with<E: Recorder>(
+    alloc: Global,
+    settings: Settings,
+    senders: u32,
+) -> Result<Opened<E>, NoMemory>
     requires { senders ≤ 65536 }
     ensures opened { IfOk result (IsOpened settings senders) }
 {
@@ -152,7 +158,7 @@ pub fn open_with(alloc: Global, settings: Settings, senders: u32) -> Result<Open
 /// A looper as its senders see it: its queue, the pool of the queue's messages, its idle handlers and descriptors, and what calls on
 /// it ask for beside.
 #[derive(Drop)]
-pub struct Mailbox<'a, R: Wait, C: Clock> {
+pub struct Mailbox<'a, R: Wait, C: Clock, E: Recorder = Unkept> {
     /// What locks and waits go through.
     pub rt: &'a R,
     /// Where memory comes from.
@@ -160,14 +166,14 @@ pub struct Mailbox<'a, R: Wait, C: Clock> {
     /// The clock.
     pub clock: &'a C,
     /// The queue.
-    pub queue: &'a SharedQueue<PoolClaim>,
+    pub queue: &'a SharedQueue<PoolClaim, E>,
     /// The pool of its messages.
     pub pool: &'a Pool,
     /// The looper's idle handlers and watched descriptors.
     pub sources: &'a Mutex<Sources>,
 }
 
-impl<'a, R: Wait, C: Clock> Mailbox<'a, R, C> {
+impl<'a, R: Wait, C: Clock, E: Recorder> Mailbox<'a, R, C, E> {
     /// Adds an idle handler of this number, whose code is `Handle::idle` (`MessageQueue.addIdleHandler`). It runs when the looper next
     /// has nothing to do, if it has not waited already.
     pub fn add_idle_handler(&self, id: u32) -> Result<(), NoMemory> {
@@ -182,10 +188,10 @@ impl<'a, R: Wait, C: Clock> Mailbox<'a, R, C> {
 }
 
 /// Takes the last of these posters out.
-fn last_of(
-    queue: &SharedQueue<PoolClaim>,
-    posters: &mut Vec<Poster<PoolClaim>>,
-) -> Poster<PoolClaim>
+fn last_of<E: Recorder>(
+    queue: &SharedQueue<PoolClaim, E>,
+    posters: &mut Vec<Poster<PoolClaim, E>>,
+) -> Poster<PoolClaim, E>
     requires { AreNew queue.now posters.old.items × (0 < length posters.old.items) }
     ensures poster { IsOf result queue.now }
     ensures unused { IsNewPoster result }

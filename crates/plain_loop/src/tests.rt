@@ -4,6 +4,7 @@ ghost use Rattle.plain_loop.specs.Senders.{AreSenders};
 use crate::{Handle, Handled, Line, Mailbox, Senders, Settings, run_here};
 use handler_post::Handler;
 use loop_io::{Clock, StepClock};
+use queue_state::Unkept;
 use std::sync::Wait;
 use std::test::Fail;
 
@@ -20,7 +21,7 @@ struct Counter {
     keeps: bool,
 }
 
-impl<R: Wait, C: Clock> Handle<R, C> for Counter {
+impl<R: Wait, C: Clock> Handle<R, C, Unkept> for Counter {
     fn run_callback(&mut self, line: &mut Line<R, C>, id: u64, now: u64) -> Handled {
         self.callbacks = self.callbacks.saturating_add(1);
         if self.callbacks < 2 {

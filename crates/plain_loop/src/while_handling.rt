@@ -7,6 +7,7 @@ use crate::{
 };
 use handler_post::Handler;
 use loop_io::{Clock, StepClock};
+use queue_state::Unkept;
 use std::sync::Wait;
 use std::test::Fail;
 
@@ -60,7 +61,7 @@ fn with_digit(told: u64, digit: u32) -> u64 {
     told.saturating_mul(10).saturating_add(u64::from(digit))
 }
 
-impl<R: Wait, C: Clock> Handle<R, C> for Acting {
+impl<R: Wait, C: Clock> Handle<R, C, Unkept> for Acting {
     fn handle(&mut self, line: &mut Line<R, C>, message: &Msg, now: u64) -> Handled {
         let what = message.what();
         self.told = with_digit(self.told, what);
@@ -176,7 +177,7 @@ struct Changing<'a, R: Wait, C: Clock> {
     callbacks: u32,
 }
 
-impl<'a, R: Wait, C: Clock> Handle<R, C> for Changing<'a, R, C> {
+impl<'a, R: Wait, C: Clock> Handle<R, C, Unkept> for Changing<'a, R, C> {
     fn run_callback(&mut self, line: &mut Line<R, C>, id: u64, now: u64) -> Handled {
         self.callbacks = self.callbacks.saturating_add(1);
         if self.callbacks < 2 {

@@ -1,4 +1,4 @@
-use Rattle.std.proofs.Common.{ℕ}
+use Rattle.std.proofs.Common.{ℕ, None}
 use Rattle.looper_run.specs.Holding.{workplace}
 use Rattle.plain_loop.specs.Handling.{IsPlaceOf}
 use Rattle.plain_loop.specs.Looping.{LoopsTimes}
@@ -9,6 +9,6 @@ abbrev pub invariant-loop : goal.invariant-loop
 invariant-loop g l = record {
   looper : IsLooper l.mailbox.queue.now l.mailbox.pool.now l.looper;
   serves : IsPlaceOf l.dispatcher.mailbox.now.queue.now l.dispatcher.mailbox.now.pool.now (workplace l.looper.held);
-  looped : (n : ℕ) × LoopsTimes (g.C.Clock.shows l.mailbox.clock.now) l.mailbox.queue.now.constants.setting n l.initial.looper l.looper;
+  looped : (n : ℕ) × LoopsTimes g.E.LetGo.keeps (g.C.Clock.shows l.mailbox.clock.now) l.mailbox.queue.now.constants.setting None n l.initial.looper l.looper;
   holds : g.H.Handle.Holds l.dispatcher.handlers;
 }
