@@ -1,19 +1,26 @@
 -- Elements one after the other.
-use Rattle.std.proofs.Common.{◌≡◌, ◌<◌, ◌+◌, ℕ, List, [], ◌∷◌, ◌++◌, length, get_or, take, refl, sym, ap, subst, ◌∙◌, append_assoc}
-use Rattle.std.proofs.lemmas.List.{take_more}
+use Rattle.std.proofs.Common.{◌≡◌, ◌<◌, ◌≤◌, ◌+◌, ℕ, List, ◌∷◌, ◌++◌, length, get_or, drop, Option, Some, None, refl, sym, ap, subst, ◌∙◌, append_assoc}
+use Rattle.std.proofs.lemmas.List.{drop_more, drop_all}
 use Rattle.run_picture.specs.declared.group.Group.{Group}
+use Rattle.run_picture.specs.declared.shelf.Shelf.{Shelf}
 use Rattle.run_picture.specs.Drawn.{AreElements, HasNoElement, IsElement}
+use Rattle.run_picture.specs.Rows.{IsRowOf, StandsBehind, level}
+
+-- the elements of the groups from number i on, behind what is written, make those of all groups
+abbrev pub Leads : ℕ → List Group → List ℕ → ℕ → Option Shelf → List ℕ → Type 0
+Leads most gs start i last out = (after : List ℕ) → AreElements most last (drop i gs) out after → AreElements most None gs start after
 
 -- one element more
-elements_push : (gs : List Group) (g : Group) (y : ℕ) (shape before between after : List ℕ) → AreElements gs before between → HasNoElement shape → IsElement g y shape between after
-    → AreElements (gs ++ g ∷ []) before after
-elements_push [] g y shape before between after e flat one = (y, shape, after, flat, subst (λ x. IsElement g y shape x after) e one, refl)
-elements_push (h ∷ gs) g y shape before between after e flat one = (e.0, e.1, e.2, e.3, e.4, elements_push gs g y shape e.2 between after e.5 flat one)
+pub element_more : (most : ℕ) (gs : List Group) (start : List ℕ) (i : ℕ) (d : Group) (last : Option Shelf) (s : Shelf) (g : Group) (y : ℕ) (shape before between : List ℕ) → i < length gs
+    → Leads most gs start i last before → g ≡ get_or gs i d → IsRowOf g s → StandsBehind last s → HasNoElement shape → y ≡ level most s g g.place.row → IsElement g y shape before between
+    → Leads most gs start (i + 1) (Some s) between
+element_more most gs start i d last s g y shape before between lt lead is row behind flat high one after rest =
+    let here : drop i gs ≡ g ∷ drop (i + 1) gs = drop_more gs i d lt ∙ ap (λ h. h ∷ drop (i + 1) gs) (sym is) in
+    lead after (subst (λ l. AreElements most last l before after) (sym here) (s, shape, between, row, behind, flat, subst (λ z. IsElement g z shape before between) high one, rest))
 
-pub element_more : (gs : List Group) (i : ℕ) (d : Group) (y : ℕ) (shape before between after : List ℕ) → i < length gs → AreElements (take i gs) before between → HasNoElement shape
-    → IsElement (get_or gs i d) y shape between after → AreElements (take (i + 1) gs) before after
-element_more gs i d y shape before between after lt e flat one =
-    subst (λ x. AreElements x before after) (sym (take_more gs i d lt)) (elements_push (take i gs) (get_or gs i d) y shape before between after e flat one)
+-- no group is left
+pub elements_all : (most : ℕ) (gs : List Group) (start : List ℕ) (i : ℕ) (last : Option Shelf) (out : List ℕ) → length gs ≤ i → Leads most gs start i last out → AreElements most None gs start out
+elements_all most gs start i last out le lead = lead out (subst (λ l. AreElements most last l out out) (sym (drop_all i gs le)) refl)
 
 -- five pieces, written one after the other
 pub five : (was p q r s t a b d e after : List ℕ) → a ≡ was ++ p → b ≡ a ++ q → d ≡ b ++ r → e ≡ d ++ s → after ≡ e ++ t → after ≡ was ++ (p ++ q ++ r ++ s ++ t)

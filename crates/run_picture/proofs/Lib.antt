@@ -8,3 +8,4 @@ pub mod Periods
 pub mod Grouped
 pub mod Bare
 pub mod Pieces
+pub mod Seen

@@ -57,11 +57,11 @@ argued name d ms = put (codes "args") (object (put name d no_members)) ms
 abbrev pub slice : ℕ → Members → Members
 slice lasts ms = put (codes "dur") (count lasts) (phased (codes "X") ms)
 
--- what an event tells beside: a slice, with a message's number where it is a dispatch, or a counter's value
+-- what an event tells beside: a slice, of a microsecond where a report tells no length, with a message's number where it is a dispatch, or a counter's value
 unfoldable pub kind_members : ℕ → Kind → Members → Members
-kind_members period (Dispatch n handler subject) ms = argued (codes "number") (count n) (slice 0 ms)
+kind_members period (Dispatch n handler subject) ms = argued (codes "number") (count n) (slice 1 ms)
 kind_members period Frame ms = slice period ms
-kind_members period (Run r) ms = slice 0 ms
+kind_members period (Run r) ms = slice 1 ms
 kind_members period (Paint gauge value) ms = argued (codes "value") (count value) (phased (codes "C") ms)
 
 -- the event of a mark: a slice in its looper's thread, or a counter; a frame lasts a period

@@ -26,9 +26,9 @@ row_of (kind_of.Paint gauge value) = Gauge gauge
 abbrev pub nanos : Moment → ℕ
 nanos t = t.millis * 1000000 + t.nanos
 
--- how many of 1,026 pixels a moment lies from the left edge
+-- how many pixels a moment lies from the left edge, at most the width of the lanes
 abbrev pub pixels : Scale → ℕ → ℕ
-pixels s t = min (min ((t - s.first) * 1026) (2 ^ 128 - 1) / max s.span 1) 1026
+pixels s t = min (min ((t - s.first) * s.width) (2 ^ 128 - 1) / max s.span 1) s.width
 
 -- a callback stands behind its moment by its phase
 abbrev pub shift : Scale → Kind → ℕ
@@ -39,7 +39,7 @@ shift s (kind_of.Paint gauge value) = 0
 
 -- how many pixels are left of a mark, which begins a place of the scale
 abbrev pub column : Scale → Mark → ℕ
-column s m = let x = pixels s (nanos m.time) + shift s m.kind in x - x % max s.step 1
+column s m = let x = min (pixels s (nanos m.time) + shift s m.kind) s.width in x - x % max s.step 1
 
 -- where a mark stands: in its looper's lane, the row of its kind, and at its time
 abbrev pub place : Scale → Mark → Place

@@ -5,6 +5,8 @@ pub mod Text
 pub mod Marks
 pub mod Period
 pub mod Groups
+pub mod View
+pub mod Rows
 pub mod Labels
 pub mod Flat
 pub mod Drawn

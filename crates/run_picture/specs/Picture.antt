@@ -11,7 +11,7 @@ use Rattle.run_picture.specs.Events.{Traces}
 
 -- the text is a picture of the report, in this form
 abbrev pub IsPictureOf : Form → Report → List ℕ → Type 0
-IsPictureOf Svg r text = Draws r text
+IsPictureOf (Svg v) r text = Draws v r text
 IsPictureOf Perfetto r text = Traces r text
 
 -- a picture is that of the report whose text the bytes are; a line is the least bad one

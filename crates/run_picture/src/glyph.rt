@@ -1,10 +1,10 @@
 //! The shape of a mark, drawn from its place on.
 use crate::canvas::Canvas;
-use crate::group::{Group, Row, Scale};
-use crate::levels::value_of;
+use crate::group::{Group, Place, Row, Scale, key};
 use crate::mark::Kind;
 use crate::report::Subject;
-use crate::shape::{Extent, LEFT, WIDTH, numbered, push_rect, push_text};
+use crate::shape::{Extent, numbered, push_class, push_rect, push_text};
+use crate::shelf::value_of;
 use line_words::push_number;
 use loop_model::NoMemory;
 use std::alloc::Global;
@@ -18,9 +18,14 @@ pub(crate) struct Spot {
     frame: u64,
     slot: u64,
     phases: u64,
+    width: u64,
     /// The row that was begun last, behind its lane.
     row: Option<(u64, Row)>,
     free: u64,
+    /// How many pixels the text of the group at hand may take.
+    room: u64,
+    /// Whether anything ran in the frames of the group at hand.
+    has_runs: bool,
 }
 
 /// The letter of a phase, so that it is told without colour.
@@ -55,11 +60,8 @@ fn is_in_the_way(group: &Group, later: &Group) -> bool {
     }
 }
 
-/// How many pixels the text of a group may take: up to what is in the way, or the picture's edge.
-pub(crate) fn room_behind(groups: &[Group], index: usize) -> u64 {
-    let Some(group) = groups.get(index) else {
-        return 0;
-    };
+/// How many pixels the text of a group may take: up to what is in the way, or the lanes' edge.
+fn room_behind(groups: &[Group], index: usize, group: &Group, width: u64) -> u64 {
     for step in 1..WIDEST {
         let Some(later) = groups.get(index.saturating_add(step)) else {
             break;
@@ -71,7 +73,25 @@ pub(crate) fn room_behind(groups: &[Group], index: usize) -> u64 {
             return later.place.column.saturating_sub(group.place.column);
         }
     }
-    (WIDTH - LEFT).saturating_sub(group.place.column)
+    width.saturating_sub(group.place.column)
+}
+
+/// Whether a callback ran in the frames that stand at a place, each as wide as this.
+fn has_runs(groups: &[Group], place: Place, frame: u64) -> bool {
+    let first = key(Place {
+        lane: place.lane,
+        row: Row::Runs,
+        column: place.column,
+    });
+    let index = groups.partition_point(|group| key(group.place) < first);
+    match groups.get(index) {
+        Some(group) => {
+            group.place.lane == place.lane
+                && group.place.row == Row::Runs
+                && group.place.column < place.column.saturating_add(frame.max(1))
+        }
+        None => false,
+    }
 }
 
 impl Spot {
@@ -81,9 +101,24 @@ impl Spot {
             frame,
             slot: u64::from(scale.slot),
             phases,
+            width: u64::from(scale.width),
             row: None,
             free: 0,
+            room: 0,
+            has_runs: false,
         }
+    }
+
+    /// Looks at the group of this number, and at what stands beside it.
+    pub(crate) fn see(&mut self, groups: &[Group], index: usize, group: &Group) {
+        self.begin(group);
+        self.room = room_behind(groups, index, group, self.width);
+        self.has_runs = group.place.row == Row::Frames && has_runs(groups, group.place, self.frame);
+    }
+
+    /// So many pixels, at most up to the lanes' edge from this column on.
+    fn clipped(&self, column: u64, pixels: u64) -> u64 {
+        pixels.min(self.width.saturating_sub(column)).max(1)
     }
 
     /// Begins a row where this group has another one than the last group.
@@ -95,28 +130,39 @@ impl Spot {
         }
     }
 
-    /// Text beside a mark that stands in this column, from this point on, where there is room for it.
+    /// Text beside a mark that stands in this column, from a point on or up to one, where there is room for it.
     fn push_beside(
         &mut self,
         out: &mut Canvas,
         column: u64,
-        room: u64,
-        point: &[u8],
+        points: (&[u8], &[u8]),
         text: &[u8],
     ) -> Result<(), NoMemory> {
         let width = 7u64.saturating_mul(text.len() as u64).saturating_add(8);
-        if column >= self.free {
-            if width <= room {
-                out.extend_from_slice(b"<text class=\"w\" ")?;
-                out.extend_from_slice(point)?;
-                out.push(b'>')?;
-                out.extend_from_slice(text)?;
-                out.extend_from_slice(b"</text>")?;
-                self.free = column.saturating_add(width);
-            }
+        if column < self.free || text.is_empty() {
+            return Ok(());
+        }
+        let is_behind = width <= self.room;
+        let is_last = self.room == self.width.saturating_sub(column);
+        if is_behind {
+            push_point(out, b"w", points.0, text)?;
+            self.free = column.saturating_add(width);
+        } else if is_last && column >= self.free.saturating_add(width) {
+            push_point(out, b"w z", points.1, text)?;
         }
         Ok(())
     }
+}
+
+/// Text at a point, in a class.
+fn push_point(out: &mut Canvas, class: &[u8], point: &[u8], text: &[u8]) -> Result<(), NoMemory> {
+    out.extend_from_slice(b"<text")?;
+    push_class(out, class)?;
+    out.push(b' ')?;
+    out.extend_from_slice(point)?;
+    out.push(b'>')?;
+    out.extend_from_slice(text)?;
+    out.extend_from_slice(b"</text>")
 }
 
 /// What stands beside a dispatch: its `what` or callback, or how many dispatches there are.
@@ -141,7 +187,6 @@ fn push_dispatch(
     out: &mut Canvas,
     spot: &mut Spot,
     handler: u32,
-    room: u64,
     group: &Group,
 ) -> Result<(), NoMemory> {
     if handler >= 64 {
@@ -150,17 +195,20 @@ fn push_dispatch(
     }
     out.extend_from_slice(b"<path class=\"d\" d=\"M0 4l4 6-4 6-4-6z\"/>")?;
     let text = beside(alloc, group)?;
-    spot.push_beside(out, group.place.column, room, b"x=\"6\" y=\"14\"", &text)
+    let points: (&[u8], &[u8]) = (b"x=\"6\" y=\"14\"", b"x=\"-6\" y=\"14\"");
+    spot.push_beside(out, group.place.column, points, &text)
 }
 
-fn push_frame(out: &mut Canvas, spot: &Spot) -> Result<(), NoMemory> {
+/// A frame's box, dashed where nothing ran in it.
+fn push_frame(out: &mut Canvas, spot: &Spot, column: u64) -> Result<(), NoMemory> {
     let extent = Extent {
         x: 0,
         y: 3,
-        width: spot.frame.saturating_sub(2).max(1),
+        width: spot.clipped(column, spot.frame.saturating_sub(2)),
         height: 20,
     };
-    push_rect(out, extent, b"b")
+    let class: &[u8] = if spot.has_runs { b"b" } else { b"e" };
+    push_rect(out, extent, class)
 }
 
 /// The letter of a phase, and how many callbacks ran in it, where there is room.
@@ -179,26 +227,67 @@ fn push_letter(
     push_text(out, slot / 2, 17, b"c", &text)
 }
 
-fn push_run(
+/// Whether a callback of a group ran in a phase; those behind the fifth count as the fifth.
+fn has_phase(group: &Group, phase: u32) -> bool {
+    for mark in group.marks.as_slice() {
+        if let Kind::Run(run) = mark.kind {
+            if run.phase.min(4) == phase {
+                return true;
+            }
+        }
+    }
+    false
+}
+
+/// How many phases the callbacks of a group have.
+fn count_phases(group: &Group) -> u64 {
+    let mut count = 0u64;
+    for phase in 0..5u32 {
+        count = count.saturating_add(u64::from(has_phase(group, phase)));
+    }
+    count
+}
+
+/// A box in the colour of a phase.
+fn push_part(
     alloc: Global,
     out: &mut Canvas,
-    spot: &Spot,
-    phase: u32,
-    count: usize,
+    letter: &[u8],
+    extent: Extent,
 ) -> Result<(), NoMemory> {
-    let letter = letter(spot.phases, u64::from(phase));
     let mut class = Vec::new(alloc);
     class.push(b'p')?;
     class.extend_from_slice(letter)?;
-    let extent = Extent {
-        x: 1,
-        y: 4,
-        width: spot.slot.saturating_sub(1).max(1),
-        height: 18,
-    };
-    push_rect(out, extent, &class)?;
-    if spot.slot >= 9 {
-        push_letter(alloc, out, spot.slot, letter, count)?;
+    push_rect(out, extent, &class)
+}
+
+/// The callbacks at one place: the part of a frame that is their phase's. Where they have several phases, as in a frame too
+/// narrow for parts, each has a stripe of its own.
+fn push_run(alloc: Global, out: &mut Canvas, spot: &Spot, group: &Group) -> Result<(), NoMemory> {
+    let count = count_phases(group).max(1);
+    let width = spot.clipped(group.place.column, spot.slot.saturating_sub(1));
+    let mut y = 4u64;
+    for phase in 0..5u32 {
+        if has_phase(group, phase) {
+            let letter = letter(spot.phases, u64::from(phase));
+            let extent = Extent {
+                x: 1,
+                y,
+                width,
+                height: 18 / count,
+            };
+            push_part(alloc, out, letter, extent)?;
+            y = y.saturating_add(18 / count);
+            if count == 1 && width >= 8 {
+                push_letter(
+                    alloc,
+                    out,
+                    width.saturating_add(1),
+                    letter,
+                    group.marks.len(),
+                )?;
+            }
+        }
     }
     Ok(())
 }
@@ -207,31 +296,29 @@ fn push_paint(
     alloc: Global,
     out: &mut Canvas,
     spot: &mut Spot,
-    room: u64,
     group: &Group,
 ) -> Result<(), NoMemory> {
     out.extend_from_slice(b"<path class=\"o\" d=\"M0-2l2 2-2 2-2-2z\"/>")?;
     let text = numbered(alloc, b"", u64::from(value_of(group)))?;
-    spot.push_beside(out, group.place.column, room, b"x=\"3\" y=\"-3\"", &text)
+    let points: (&[u8], &[u8]) = (b"x=\"3\" y=\"-3\"", b"x=\"-3\" y=\"-3\"");
+    spot.push_beside(out, group.place.column, points, &text)
 }
 
-/// The shape of a group: what its first mark is, and text beside it where that fits into so many pixels.
+/// The shape of a group: what its first mark is, and text beside it where that fits.
 pub(crate) fn push_glyph(
     alloc: Global,
     out: &mut Canvas,
     spot: &mut Spot,
-    room: u64,
     group: &Group,
 ) -> Result<(), NoMemory> {
-    spot.begin(group);
     let marks = group.marks.as_slice();
     let Some(mark) = marks.first() else {
         return Ok(());
     };
     match mark.kind {
-        Kind::Dispatch { handler, .. } => push_dispatch(alloc, out, spot, handler, room, group),
-        Kind::Frame => push_frame(out, spot),
-        Kind::Run(run) => push_run(alloc, out, spot, run.phase, marks.len()),
-        Kind::Paint { .. } => push_paint(alloc, out, spot, room, group),
+        Kind::Dispatch { handler, .. } => push_dispatch(alloc, out, spot, handler, group),
+        Kind::Frame => push_frame(out, spot, group.place.column),
+        Kind::Run(_) => push_run(alloc, out, spot, group),
+        Kind::Paint { .. } => push_paint(alloc, out, spot, group),
     }
 }

@@ -5,7 +5,6 @@ ghost use Rattle.std.specs.List.Sorted.{IsSortedByKey};
 ghost use Rattle.run_picture.specs.Groups.{AreCut, HasMarks, IsOfPlace, KeepOrder, Rise, begun, column, key, marks_of, nanos, number, order, pixels, place, rank, row_of, shift, with_mark};
 
 use crate::mark::{Kind, Mark, Moment, NANOS_PER_MILLI};
-use crate::shape::LANE_WIDTH;
 use loop_model::{NoMemory, Sequence};
 use std::alloc::Global;
 use std::mem::replace;
@@ -54,6 +53,8 @@ pub struct Scale {
     pub slot: u32,
     /// How many pixels are one place; 0 stands for 1.
     pub step: u64,
+    /// The width of the lanes in pixels.
+    pub width: u32,
 }
 
 /// A moment in nanoseconds.
@@ -79,10 +80,10 @@ impl Scale {
     /// How many pixels a moment lies from the left edge, at most the width.
     pub(crate) fn pixels(&self, time: u128) -> u64
         ensures is { result ≡ pixels self.now time }
-        ensures near { result ≤ 1026 }
+        ensures near { result ≤ self.now.width }
     {
         let since = time.saturating_sub(self.first);
-        let width = u128::from(LANE_WIDTH);
+        let width = u128::from(self.width);
         let pixels = since.saturating_mul(width) / self.span.max(1);
         pixels.min(width) as u64
     }
@@ -103,7 +104,8 @@ impl Scale {
     fn column(&self, mark: &Mark) -> u64
         ensures { result ≡ column self.now mark.now }
     {
-        let column = self.pixels(nanos(mark.time)) + self.shift(mark.kind);
+        let pixels = self.pixels(nanos(mark.time)) + self.shift(mark.kind);
+        let column = pixels.min(u64::from(self.width));
         column - column % self.step.max(1)
     }
 
@@ -144,7 +146,7 @@ fn number(row: Row) -> u64
 }
 
 /// What orders places: the lane, the row from above, and the pixels from the left.
-fn key(place: Place) -> [u64; 4]
+pub(crate) fn key(place: Place) -> [u64; 4]
     ensures { result ≡ key place }
 {
     [place.lane, rank(place.row), number(place.row), place.column]

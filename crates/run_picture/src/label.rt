@@ -134,8 +134,8 @@ fn push_entity(out: &mut Vec<u8>, byte: u8) -> Result<(), NoMemory>
     Ok(())
 }
 
-/// Writes text into an SVG: what would be markup is written as an entity.
-pub(crate) fn push_escaped(out: &mut Vec<u8>, text: &[u8]) -> Result<(), NoMemory>
+/// Writes text into an SVG or a page: what would be markup is written as an entity. `NoMemory` where there was none.
+pub fn push_escaped(out: &mut Vec<u8>, text: &[u8]) -> Result<(), NoMemory>
     ensures { OnOk result (out.new.items ≡ out.old.items ++ flat_map entity text.now) }
 {
     for byte in text {

@@ -1,16 +1,13 @@
 //! The background of a picture: lanes, rows, the levels of gauges, and what has no time.
 use crate::canvas::Canvas;
-use crate::group::{Group, Place, Row};
+use crate::group::{Group, Row};
 use crate::label::{push_named, push_subject};
 use crate::mark::Kind;
 use crate::report::{Act, Fates, Looper, Past, Report};
-use crate::shape::{LANE_WIDTH, LEFT, WIDTH, numbered, push_line, push_text};
+use crate::shape::{LEFT, numbered, push_line, push_text};
 use line_words::push_number;
 use loop_model::NoMemory;
 use std::alloc::Global;
-
-/// Where the first lane begins.
-pub(crate) const TOP: u64 = 64;
 
 const HEAD_HEIGHT: u64 = 30;
 
@@ -57,9 +54,11 @@ fn measures_of(row: Row) -> Measures {
 #[derive(Drop)]
 pub(crate) struct Lanes {
     /// The upper edge of the row of each group, in the order of the groups.
-    pub(crate) tops: Vec<u64>,
+    tops: Vec<u64>,
     /// Where the next row begins.
     pub(crate) next: u64,
+    /// The width of the lanes.
+    pub(crate) width: u64,
     /// The row that was begun last, and its upper edge.
     row: Option<Row>,
     top: u64,
@@ -144,11 +143,17 @@ fn past_text(alloc: Global, past: &Past) -> Result<Vec<u8>, NoMemory> {
             push_named(&mut text, b"refused: handler ", u64::from(handler))?;
             text.extend_from_slice(b", ")?;
             push_subject(&mut text, subject)?;
-            push_named(&mut text, b", behind the quit at place ", place)?;
+            push_named(&mut text, b": the queue quit before, at entry ", place)?;
         }
         Past::NotPosted { token } => push_named(&mut text, b"no barrier with token ", token)?,
         Past::NotAllowed => text.extend_from_slice(b"the main looper may not quit")?,
-        Past::AlreadyQuit { place } => push_named(&mut text, b"quit before, at place ", place)?,
+        Past::AlreadyQuit { place } => {
+            push_named(
+                &mut text,
+                b"quit again: the queue quit before, at entry ",
+                place,
+            )?;
+        }
     }
     Ok(text)
 }
@@ -211,21 +216,20 @@ fn push_notes(alloc: Global, out: &mut Canvas, y: u64, looper: &Looper) -> Resul
 }
 
 impl Lanes {
-    /// Nothing is drawn yet.
-    pub(crate) fn new(alloc: Global) -> Lanes {
+    /// Nothing is drawn yet, and the first lane begins here.
+    pub(crate) fn new(alloc: Global, top: u64, width: u32) -> Lanes {
         Lanes {
             tops: Vec::new(alloc),
-            next: TOP,
+            next: top,
+            width: u64::from(width),
             row: None,
-            top: TOP,
+            top,
         }
     }
 
-    /// Moves the marks of a group.
-    pub(crate) fn set_top(&mut self, index: usize, top: u64) {
-        if index < self.tops.len() {
-            self.tops[index] = top;
-        }
+    /// The upper edge of the row of a group, by the group's number.
+    pub(crate) fn top_of(&self, index: usize) -> u64 {
+        self.tops.get(index).copied().unwrap_or(0)
     }
 
     /// Begins a row where this group has another one than the last group.
@@ -246,7 +250,8 @@ impl Lanes {
         let name_y = self.top.saturating_add(measures.name);
         push_text(out, LEFT - 10, name_y, b"l", &name)?;
         let line_y = self.top.saturating_add(measures.line);
-        push_line(out, (LEFT, line_y), (LEFT + LANE_WIDTH, line_y), b"q")
+        let right = LEFT.saturating_add(self.width);
+        push_line(out, (LEFT, line_y), (right, line_y), b"q")
     }
 
     /// The rows of one lane.
@@ -282,7 +287,8 @@ impl Lanes {
         self.next = push_notes(alloc, out, self.next, looper)?;
         self.next = self.next.saturating_add(14);
         let y = self.next.saturating_sub(6);
-        push_line(out, (16, y), (WIDTH - 24, y), b"q")
+        let right = LEFT.saturating_add(self.width);
+        push_line(out, (16, y), (right, y), b"q")
     }
 }
 
@@ -292,8 +298,10 @@ pub(crate) fn push_lanes(
     out: &mut Canvas,
     report: &Report,
     groups: &[Group],
+    top: u64,
+    width: u32,
 ) -> Result<Lanes, NoMemory> {
-    let mut lanes = Lanes::new(alloc);
+    let mut lanes = Lanes::new(alloc, top, width);
     let mut lane = 0u64;
     for looper in report.loopers.as_slice() {
         lanes.push_lane(alloc, out, lane, looper, groups)?;

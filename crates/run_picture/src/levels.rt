@@ -1,40 +1,64 @@
 //! The levels of gauges over time, as steps.
 use crate::canvas::Canvas;
-use crate::group::{Group, Row};
-use crate::lanes::{Lanes, TOP};
-use crate::mark::Kind;
-use crate::shape::{LANE_WIDTH, LEFT};
+use crate::group::{Group, Place, Row, nanos};
+use crate::lanes::Lanes;
+use crate::mark::{Kind, Mark};
+use crate::shape::{LEFT, numbered, push_line, push_text};
+use crate::shelf::{depth_of, value_of};
+use crate::view::{Window, ends_of};
 use loop_model::NoMemory;
+use std::alloc::Global;
 
-/// How high a gauge's greatest value stands, in pixels.
-const HEIGHT: u128 = 30;
-
-/// The value that a group paints last, at which its gauge stands from there on.
-pub(crate) fn value_of(group: &Group) -> u32 {
-    match group.marks.as_slice().last() {
-        Some(mark) => match mark.kind {
-            Kind::Paint { value, .. } => value,
-            _ => 0,
-        },
-        None => 0,
-    }
+/// What the steps of all gauges share.
+#[derive(Clone, Copy)]
+pub(crate) struct Gauges<'a> {
+    /// All marks of the report, also those outside of the window.
+    pub(crate) marks: &'a [Mark],
+    /// The window that is shown.
+    pub(crate) window: Option<Window>,
+    /// The greatest value that a row shows.
+    pub(crate) most: u32,
 }
 
-/// The greatest value of a gauge in the groups from this place on, up to another row.
-pub(crate) fn greatest(groups: &[Group], lane: u64, row: Row) -> u32 {
+/// The least of 1, 2, 5, 10, 20, 50 and so on that is no less than a number.
+fn rounded(number: u32) -> u32 {
+    let mut unit = 1u32;
+    for _ in 0..10u32 {
+        for factor in [1u32, 2, 5] {
+            let step = unit.saturating_mul(factor);
+            if step >= number {
+                return step;
+            }
+        }
+        unit = unit.saturating_mul(10);
+    }
+    number
+}
+
+/// The greatest value that each gauge's row shows: no less than that of any group.
+pub(crate) fn most_of(groups: &[Group]) -> u32 {
     let mut most = 1;
     for group in groups {
-        if group.place.lane == lane && group.place.row == row {
-            most = most.max(value_of(group));
-        }
+        most = most.max(value_of(group));
     }
-    most
+    rounded(most)
 }
 
-/// How far below the row's upper edge a value stands.
-pub(crate) fn drop_of(value: u32, most: u32) -> u64 {
-    let high = u128::from(value).saturating_mul(HEIGHT) / u128::from(most.max(1));
-    40u64.saturating_sub(u64::try_from(high).unwrap_or(0))
+/// The value at which a gauge stands as the window begins.
+fn value_before(gauges: &Gauges, lane: u64, row: Row) -> u32 {
+    let Some(window) = gauges.window else {
+        return 0;
+    };
+    let (first, _) = ends_of(window);
+    let mut found = 0;
+    for mark in gauges.marks {
+        if let Kind::Paint { gauge, value } = mark.kind {
+            if mark.lane == lane && row == Row::Gauge(gauge) && nanos(mark.time) < first {
+                found = value;
+            }
+        }
+    }
+    found
 }
 
 /// The steps of one gauge.
@@ -42,15 +66,6 @@ pub(crate) fn drop_of(value: u32, most: u32) -> u64 {
 struct Steps {
     lane: u64,
     row: Row,
-    most: u32,
-    top: u64,
-}
-
-/// Where the value that a group paints stands.
-fn level_of(steps: Steps, group: &Group) -> u64 {
-    steps
-        .top
-        .saturating_add(drop_of(value_of(group), steps.most))
 }
 
 fn is_of(steps: Option<Steps>, group: &Group) -> bool {
@@ -60,61 +75,79 @@ fn is_of(steps: Option<Steps>, group: &Group) -> bool {
     }
 }
 
+/// The scale at the left of a gauge's row: its greatest value, and 0.
+fn push_scale(
+    alloc: Global,
+    out: &mut Canvas,
+    top: u64,
+    most: u32,
+    width: u64,
+) -> Result<(), NoMemory> {
+    let high = top.saturating_add(depth_of(most, most));
+    let low = top.saturating_add(depth_of(most, 0));
+    let right = LEFT.saturating_add(width);
+    push_line(out, (LEFT, high), (right, high), b"g")?;
+    push_line(out, (LEFT, low), (right, low), b"q")?;
+    let text = numbered(alloc, b"", u64::from(most))?;
+    push_text(out, LEFT - 4, high.saturating_add(3), b"a", &text)?;
+    push_text(out, LEFT - 4, low.saturating_add(3), b"a", b"0")?;
+    out.push(b'\n')
+}
+
 /// Ends the steps of a gauge at the right edge.
-fn push_end(out: &mut Canvas, steps: Option<Steps>) -> Result<(), NoMemory> {
+fn push_end(out: &mut Canvas, steps: Option<Steps>, width: u64) -> Result<(), NoMemory> {
     if steps.is_some() {
         out.extend_from_slice(b" H")?;
-        out.push_number(LEFT + LANE_WIDTH)?;
+        out.push_number(LEFT.saturating_add(width))?;
         out.extend_from_slice(b"\"/>\n")?;
     }
     Ok(())
 }
 
-/// Begins the steps of a gauge at 0, at the left edge.
-fn push_begin(out: &mut Canvas, top: u64) -> Result<(), NoMemory> {
+/// Begins the steps of a gauge at the left edge.
+fn push_begin(out: &mut Canvas, y: u64) -> Result<(), NoMemory> {
     out.extend_from_slice(b"<path class=\"v\" d=\"M")?;
     out.push_number(LEFT)?;
     out.push(b' ')?;
-    out.push_number(top.saturating_add(40))?;
-    Ok(())
+    out.push_number(y)
 }
 
 /// One step, to the value that a group paints.
-fn push_step(out: &mut Canvas, steps: Option<Steps>, group: &Group) -> Result<(), NoMemory> {
-    if let Some(steps) = steps {
-        out.extend_from_slice(b" H")?;
-        out.push_number(LEFT.saturating_add(group.place.column))?;
-        out.extend_from_slice(b" V")?;
-        out.push_number(level_of(steps, group))?;
-    }
-    Ok(())
+fn push_step(out: &mut Canvas, y: u64, group: &Group) -> Result<(), NoMemory> {
+    out.extend_from_slice(b" H")?;
+    out.push_number(LEFT.saturating_add(group.place.column))?;
+    out.extend_from_slice(b" V")?;
+    out.push_number(y)
 }
 
-/// The steps of all gauges.
+/// The steps of all gauges, each with its scale.
 pub(crate) fn push_levels(
+    alloc: Global,
     out: &mut Canvas,
     groups: &[Group],
-    lanes: &mut Lanes,
+    lanes: &Lanes,
+    gauges: &Gauges,
 ) -> Result<(), NoMemory> {
+    let most = gauges.most;
+    let width = lanes.width;
     let mut steps: Option<Steps> = None;
     for (index, group) in groups.iter().enumerate() {
         if let Row::Gauge(_) = group.place.row {
+            let Place { lane, row, .. } = group.place;
+            let top = lanes.top_of(index);
             if !is_of(steps, group) {
-                push_end(out, steps)?;
-                let top = lanes.tops.get(index).copied().unwrap_or(TOP);
-                push_begin(out, top)?;
-                steps = Some(Steps {
-                    lane: group.place.lane,
-                    row: group.place.row,
-                    most: greatest(groups, group.place.lane, group.place.row),
-                    top,
-                });
+                push_end(out, steps, width)?;
+                push_scale(alloc, out, top, most, width)?;
+                let before = value_before(gauges, lane, row);
+                push_begin(out, top.saturating_add(depth_of(most, before)))?;
+                steps = Some(Steps { lane, row });
             }
-            push_step(out, steps, group)?;
-            if let Some(steps) = steps {
-                lanes.set_top(index, level_of(steps, group));
-            }
+            push_step(
+                out,
+                top.saturating_add(depth_of(most, value_of(group))),
+                group,
+            )?;
         }
     }
-    push_end(out, steps)
+    push_end(out, steps, width)
 }

@@ -12,6 +12,9 @@ use loop_model::NoMemory;
 use serde_json::{Map, Value};
 use std::alloc::Global;
 
+/// How long a slice lasts of which a report tells no length, in microseconds: a viewer shows none that lasts 0.
+const SHORTEST: u64 = 1;
+
 /// A moment in whole microseconds.
 fn micros(time: Moment) -> u64
     ensures { result ≡ micros time }
@@ -144,11 +147,11 @@ fn put_kind(
 {
     match kind {
         Kind::Dispatch { number, .. } => {
-            put_slice(alloc, members, 0)?;
+            put_slice(alloc, members, SHORTEST)?;
             put_counted(alloc, members, "number", number)
         }
         Kind::Frame => put_slice(alloc, members, period),
-        Kind::Run(_) => put_slice(alloc, members, 0),
+        Kind::Run(_) => put_slice(alloc, members, SHORTEST),
         Kind::Paint { value, .. } => {
             put_phase(alloc, members, "C")?;
             put_counted(alloc, members, "value", u64::from(value))

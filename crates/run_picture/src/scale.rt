@@ -1,13 +1,14 @@
 //! How a report's time fits the picture's width.
-ghost use Rattle.std.specs.Prelude.{◌≡◌, ◌≤◌, length};
+ghost use Rattle.std.specs.Prelude.{◌≡◌, ◌≤◌, ◌-◌, ◌*◌, length};
 ghost use Rattle.std.specs.List.{AllByRecursion, fold};
 ghost use Rattle.run_picture.specs.Groups.{IsBetween, Shows};
+ghost use Rattle.run_picture.specs.View.{HasEdgesOf, IsSeen};
 ghost use Rattle.run_picture.specs.Period.{distance, distances, lesser, period};
 
 use crate::group::{Row, Scale, nanos, row_of};
-use crate::mark::{Kind, Mark};
+use crate::mark::{Mark, NANOS_PER_MILLI};
 use crate::report::{Looper, Report};
-use crate::shape::LANE_WIDTH;
+use crate::view::{View, Window};
 
 /// A frame's width in nanoseconds where no two frames are told.
 const USUAL_PERIOD: u64 = 16_666_667;
@@ -111,30 +112,76 @@ fn rows_of(marks: &[Mark]) -> u64 {
     rows
 }
 
-/// The scale of a picture, by its marks, the width of a frame in nanoseconds, and the number of phases.
-pub(crate) fn scale_of(marks: &[Mark], period: u128, phases: u64) -> Scale
+/// The scale of a window: its edges are the picture's.
+fn scale_within(window: Window, width: u32) -> Scale
+    ensures first { result.first ≡ window.from * 1000000 }
+    ensures span { result.span ≡ (window.to - window.from) * 1000000 }
+    ensures width { result.width ≡ width }
+{
+    let nanos = u128::from(NANOS_PER_MILLI);
+    Scale {
+        first: u128::from(window.from) * nanos,
+        span: u128::from(window.to.saturating_sub(window.from)) * nanos,
+        slot: 0,
+        step: 1,
+        width,
+    }
+}
+
+/// The scale of a whole run: behind its last mark a frame has its width.
+fn scale_around(marks: &[Mark], width: u32, period: u128) -> Scale
     ensures shown { AllByRecursion (Shows result) marks.now }
-    ensures fine { length marks.now ≤ 4000 → result.step ≡ 1 }
+    ensures width { result.width ≡ width }
 {
     let (first, last) = bounds(marks);
     let span = last.saturating_sub(first).saturating_add(period).max(1);
-    let scale = Scale {
+    Scale {
         first,
         span,
         slot: 0,
         step: 1,
-    };
-    let frame = scale.pixels(first.saturating_add(period));
-    let places = rows_of(marks).saturating_mul(LANE_WIDTH);
-    let step = if (marks.len() as u64) <= MOST_PLACES {
-        1
-    } else {
-        places / MOST_PLACES + 1
-    };
+        width,
+    }
+}
+
+/// The edges of a picture, before it is known how wide a place is.
+fn edges(marks: &[Mark], view: View, period: u128) -> Scale
+    requires { AllByRecursion (IsSeen view.window) marks.now }
+    ensures shown { AllByRecursion (Shows result) marks.now }
+    ensures edges { HasEdgesOf view.window result }
+    ensures wide { result.width ≡ view.width - 174 }
+{
+    match view.window {
+        Some(window) => scale_within(window, view.lane_width()),
+        None => scale_around(marks, view.lane_width(), period),
+    }
+}
+
+/// How many pixels are one place.
+fn step_of(marks: &[Mark], width: u32) -> u64
+    ensures { length marks.now ≤ 4000 → result ≡ 1 }
+{
+    if (marks.len() as u64) <= MOST_PLACES {
+        return 1;
+    }
+    rows_of(marks).saturating_mul(u64::from(width)) / MOST_PLACES + 1
+}
+
+/// The scale of a picture, by its marks, the width of a frame in nanoseconds, and the number of phases.
+pub(crate) fn scale_of(marks: &[Mark], view: View, period: u128, phases: u64) -> Scale
+    requires { AllByRecursion (IsSeen view.window) marks.now }
+    ensures shown { AllByRecursion (Shows result) marks.now }
+    ensures edges { HasEdgesOf view.window result }
+    ensures wide { result.width ≡ view.width - 174 }
+    ensures fine { length marks.now ≤ 4000 → result.step ≡ 1 }
+{
+    let scale = edges(marks, view, period);
+    let frame = scale.pixels(scale.first.saturating_add(period));
     Scale {
-        first,
-        span,
+        first: scale.first,
+        span: scale.span,
         slot: u32::try_from(frame / phases.max(1)).unwrap_or(0),
-        step,
+        step: step_of(marks, scale.width),
+        width: scale.width,
     }
 }

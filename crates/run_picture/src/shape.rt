@@ -4,12 +4,10 @@ use line_words::push_number;
 use loop_model::NoMemory;
 use std::alloc::Global;
 
-/// The width of the picture in pixels.
-pub(crate) const WIDTH: u64 = 1200;
 /// Where the lanes begin.
 pub(crate) const LEFT: u64 = 150;
-/// The width of the lanes.
-pub(crate) const LANE_WIDTH: u64 = 1026;
+/// How much is left at the right of the lanes.
+pub(crate) const RIGHT: u64 = 24;
 
 /// A name and a number as an attribute.
 pub(crate) fn push_attribute(out: &mut Canvas, name: &[u8], number: u64) -> Result<(), NoMemory> {
