@@ -3,3 +3,4 @@ pub mod Ways
 pub mod Forms
 pub mod Sends
 pub mod Unhandled
+pub mod Values

@@ -30,13 +30,13 @@ Erasing f poster poster' pass pass' (Removed count) =
     (nodes : List Node) × RemovedBy poster poster' f (taking.Removed nodes) × (count ≡ length nodes) × BringsBack nodes pass pass'
 Erasing f poster poster' pass pass' NoRoom = MadeNone poster poster' × (pass' ≡ pass)
 
-abbrev pub Sends : {R : Type 0} → Post → Way R → Way R → Sent → Type 0
+abbrev pub Sends : {R P : Type 0} → Post → Way R P → Way R P → Sent → Type 0
 Sends p before after result = Sending before.pool.now p before.poster.now after.poster.now before.pass.now after.pass.now result
 
-abbrev pub Erases : {R : Type 0} → Filter → Way R → Way R → Erased → Type 0
+abbrev pub Erases : {R P : Type 0} → Filter → Way R P → Way R P → Erased → Type 0
 Erases f before after result = Erasing f before.poster.now after.poster.now before.pass.now after.pass.now result
 
-abbrev pub Has : {R : Type 0} → Filter → Way R → Way R → Bool → Type 0
+abbrev pub Has : {R P : Type 0} → Filter → Way R P → Way R P → Bool → Type 0
 Has f before after result = HasBy before.poster.now after.poster.now f result × (after.pass.now ≡ before.pass.now)
 
 abbrev pub Idles : {R : Type 0} → ℕ → Way R → Way R → Bool → Type 0

@@ -12,7 +12,7 @@ use Rattle.handler_post.specs.Supply.{BringsBack}
 use Rattle.handler_post.specs.Ways.{Sender}
 
 -- one turn that posted a barrier of this token at this moment
-abbrev pub Bars : {R : Type 0} → ℕ → ℕ → Way R → Way R → Type 0
+abbrev pub Bars : {R P : Type 0} → ℕ → ℕ → Way R P → Way R P → Type 0
 Bars now token before after = (node : Node) × BarrierPostedBy before.poster.now after.poster.now now node (barred.Token token)
 
 -- one turn that removed the barrier of this token, or found none
@@ -20,7 +20,7 @@ abbrev pub Unbarring : ℕ → Bool → Sender → Sender → Type 0
 Unbarring token true before after = (node : Node) × (wake : Bool) × BarrierGoneBy before after token (gone.Unbarriered node wake)
 Unbarring token false before after = BarrierGoneBy before after token gone.NotPosted
 
-abbrev pub Unbars : {R : Type 0} → ℕ → Bool → Way R → Way R → Type 0
+abbrev pub Unbars : {R P : Type 0} → ℕ → Bool → Way R P → Way R P → Type 0
 Unbars token was before after = Unbarring token was before.poster.now after.poster.now
 
 -- one turn that quit the queue, or was refused, and what it dropped is back in the pool
@@ -31,5 +31,5 @@ Quitting safe now p q pass pass' (AlreadyQuit place) = QuitBy p q safe now (quit
 Quitting safe now p q pass pass' NotAllowed = QuitBy p q safe now quitting.NotAllowed × (pass' ≡ pass)
 Quitting safe now p q pass pass' NoMemory = QuitBy p q safe now quitting.NoMemory × (pass' ≡ pass)
 
-abbrev pub Quits : {R : Type 0} → Bool → ℕ → Way R → Way R → Quit → Type 0
+abbrev pub Quits : {R P : Type 0} → Bool → ℕ → Way R P → Way R P → Quit → Type 0
 Quits safe now before after result = Quitting safe now before.poster.now after.poster.now before.pass.now after.pass.now result

@@ -16,16 +16,16 @@ State = Queue TableId Claimed
 
 -- a way to a queue whose entries are kept in memory
 abbrev pub KeptWay : Type 0
-KeptWay = Way Kept
+KeptWay = Way Kept (Unit {0})
 
 -- the poster is one of the queue, the pass is one of the pool, and the queue's messages are the pool's
-pub record IsReady {R : Type 0} (w : Way R) : Type 0 where
+pub record IsReady {R P : Type 0} (w : Way R P) : Type 0 where
   pub poster : IsOf w.poster.now w.queue.now
   pub pass : w.pass.now.home ≡ w.pool.now
   pub home : w.queue.now.constants.home ≡ w.pool.now
 
 -- the same queue and pool, by the same references
-pub record IsSameWay {R : Type 0} (before after : Way R) : Type 0 where
+pub record IsSameWay {R P : Type 0} (before after : Way R P) : Type 0 where
   pub queue : after.queue.now ≡ before.queue.now
   pub pool : after.pool.now ≡ before.pool.now
   pub poster : after.poster.ghost_name ≡ before.poster.ghost_name

@@ -8,6 +8,7 @@ ghost use Rattle.handler_post.specs.Sends.{Sends, Erases, Has};
 
 use crate::way::{Erased, Sent, Way, erase, send};
 use loop_model::{Filter, Kind, Post};
+use message_pool::Payload;
 use queue_state::Recorder;
 use std::alloc::Global;
 use std::sync::Wait;
@@ -124,11 +125,11 @@ impl Handler {
     }
 
     /// Sends a message that is due at once, where `now` is the time in milliseconds (`sendMessage`).
-    pub fn send_message<R: Wait, E: Recorder>(
+    pub fn send_message<R: Wait, E: Recorder, P: Payload>(
         &self,
         rt: &R,
         alloc: Global,
-        way: &mut Way<E>,
+        way: &mut Way<E, P>,
         what: u32,
         arg: u32,
         obj: Option<u64>,
@@ -143,11 +144,11 @@ impl Handler {
     }
 
     /// Sends a message that is due at `when`, in milliseconds (`sendMessageAtTime`).
-    pub fn send_at<R: Wait, E: Recorder>(
+    pub fn send_at<R: Wait, E: Recorder, P: Payload>(
         &self,
         rt: &R,
         alloc: Global,
-        way: &mut Way<E>,
+        way: &mut Way<E, P>,
         what: u32,
         arg: u32,
         obj: Option<u64>,
@@ -163,11 +164,11 @@ impl Handler {
 
     /// Sends a message that is due at `when`, in milliseconds, and that barriers let pass in any case
     /// (`Message.setAsynchronous`).
-    pub fn send_async_at<R: Wait, E: Recorder>(
+    pub fn send_async_at<R: Wait, E: Recorder, P: Payload>(
         &self,
         rt: &R,
         alloc: Global,
-        way: &mut Way<E>,
+        way: &mut Way<E, P>,
         what: u32,
         arg: u32,
         when: u64,
@@ -186,11 +187,11 @@ impl Handler {
 
     /// Sends a message that is due `delay` milliseconds after `now`, or at the last moment where that lies behind it
     /// (`sendMessageDelayed`; to stop at the last moment is this project's profile).
-    pub fn send_delayed<R: Wait, E: Recorder>(
+    pub fn send_delayed<R: Wait, E: Recorder, P: Payload>(
         &self,
         rt: &R,
         alloc: Global,
-        way: &mut Way<E>,
+        way: &mut Way<E, P>,
         what: u32,
         arg: u32,
         obj: Option<u64>,
@@ -208,11 +209,11 @@ impl Handler {
 
     /// Sends a message that is due `delay` milliseconds after `now`, or at the last moment where that lies behind it, and that
     /// barriers let pass in any case (`Message.setAsynchronous`, `sendMessageDelayed`).
-    pub fn send_async_delayed<R: Wait, E: Recorder>(
+    pub fn send_async_delayed<R: Wait, E: Recorder, P: Payload>(
         &self,
         rt: &R,
         alloc: Global,
-        way: &mut Way<E>,
+        way: &mut Way<E, P>,
         what: u32,
         arg: u32,
         now: u64,
@@ -228,11 +229,11 @@ impl Handler {
     }
 
     /// Sends a message that goes to the head of the queue (`sendMessageAtFrontOfQueue`).
-    pub fn send_front<R: Wait, E: Recorder>(
+    pub fn send_front<R: Wait, E: Recorder, P: Payload>(
         &self,
         rt: &R,
         alloc: Global,
-        way: &mut Way<E>,
+        way: &mut Way<E, P>,
         what: u32,
         arg: u32,
         obj: Option<u64>,
@@ -246,11 +247,11 @@ impl Handler {
     }
 
     /// Posts a callback that is due at once, where `now` is the time in milliseconds (`post`).
-    pub fn post_callback<R: Wait, E: Recorder>(
+    pub fn post_callback<R: Wait, E: Recorder, P: Payload>(
         &self,
         rt: &R,
         alloc: Global,
-        way: &mut Way<E>,
+        way: &mut Way<E, P>,
         callback: u64,
         now: u64,
     ) -> Sent
@@ -264,11 +265,11 @@ impl Handler {
 
     /// Posts a callback that is due `delay` milliseconds after `now`, or at the last moment where that lies behind it
     /// (`postDelayed`; to stop at the last moment is this project's profile).
-    pub fn post_callback_delayed<R: Wait, E: Recorder>(
+    pub fn post_callback_delayed<R: Wait, E: Recorder, P: Payload>(
         &self,
         rt: &R,
         alloc: Global,
-        way: &mut Way<E>,
+        way: &mut Way<E, P>,
         callback: u64,
         now: u64,
         delay: u64,
@@ -283,11 +284,11 @@ impl Handler {
     }
 
     /// Posts a callback that is due at `when`, in milliseconds, with a token by which it may be removed (`postAtTime`).
-    pub fn post_at_time<R: Wait, E: Recorder>(
+    pub fn post_at_time<R: Wait, E: Recorder, P: Payload>(
         &self,
         rt: &R,
         alloc: Global,
-        way: &mut Way<E>,
+        way: &mut Way<E, P>,
         callback: u64,
         token: Option<u64>,
         when: u64,
@@ -302,11 +303,11 @@ impl Handler {
 
     /// Posts a callback that is due `delay` milliseconds after `now`, or at the last moment where that lies behind it, with a token
     /// by which it may be removed (`postDelayed` with a token).
-    pub fn post_delayed_with<R: Wait, E: Recorder>(
+    pub fn post_delayed_with<R: Wait, E: Recorder, P: Payload>(
         &self,
         rt: &R,
         alloc: Global,
-        way: &mut Way<E>,
+        way: &mut Way<E, P>,
         callback: u64,
         token: Option<u64>,
         now: u64,
@@ -322,11 +323,11 @@ impl Handler {
     }
 
     /// Posts a callback that goes to the head of the queue (`postAtFrontOfQueue`).
-    pub fn post_at_front<R: Wait, E: Recorder>(
+    pub fn post_at_front<R: Wait, E: Recorder, P: Payload>(
         &self,
         rt: &R,
         alloc: Global,
-        way: &mut Way<E>,
+        way: &mut Way<E, P>,
         callback: u64,
     ) -> Sent
         requires { IsReady way.old }
@@ -339,10 +340,10 @@ impl Handler {
 
     /// Removes this handler's messages with this `what`, and with this object where one is named (`removeMessages`). A posted
     /// callback has the `what` 0.
-    pub fn remove_messages<R: Wait, E: Recorder>(
+    pub fn remove_messages<R: Wait, E: Recorder, P: Payload>(
         &self,
         rt: &R,
-        way: &mut Way<E>,
+        way: &mut Way<E, P>,
         what: u32,
         obj: Option<u64>,
     ) -> Erased
@@ -355,10 +356,10 @@ impl Handler {
     }
 
     /// Removes this handler's posts of this callback, and with this object where one is named (`removeCallbacks`).
-    pub fn remove_callbacks<R: Wait, E: Recorder>(
+    pub fn remove_callbacks<R: Wait, E: Recorder, P: Payload>(
         &self,
         rt: &R,
-        way: &mut Way<E>,
+        way: &mut Way<E, P>,
         callback: u64,
         obj: Option<u64>,
     ) -> Erased
@@ -372,10 +373,10 @@ impl Handler {
 
     /// Removes all of this handler's messages and callbacks, or those with this object where one is named
     /// (`removeCallbacksAndMessages`).
-    pub fn remove_all<R: Wait, E: Recorder>(
+    pub fn remove_all<R: Wait, E: Recorder, P: Payload>(
         &self,
         rt: &R,
-        way: &mut Way<E>,
+        way: &mut Way<E, P>,
         obj: Option<u64>,
     ) -> Erased
         requires { IsReady way.old }
@@ -388,10 +389,10 @@ impl Handler {
 
     /// Whether a message of this handler with this `what`, and with this object where one is named, stands in the queue
     /// (`hasMessages`). It makes no entry.
-    pub fn has_messages<R: Wait, E: Recorder>(
+    pub fn has_messages<R: Wait, E: Recorder, P: Payload>(
         &self,
         rt: &R,
-        way: &mut Way<E>,
+        way: &mut Way<E, P>,
         what: u32,
         obj: Option<u64>,
     ) -> bool
@@ -406,10 +407,10 @@ impl Handler {
 
     /// Whether a post of this callback by this handler, and with this token where one is named, stands in the queue
     /// (`hasCallbacks`). It makes no entry.
-    pub fn has_callbacks<R: Wait, E: Recorder>(
+    pub fn has_callbacks<R: Wait, E: Recorder, P: Payload>(
         &self,
         rt: &R,
-        way: &mut Way<E>,
+        way: &mut Way<E, P>,
         callback: u64,
         token: Option<u64>,
     ) -> bool
@@ -423,7 +424,7 @@ impl Handler {
 
     /// Whether any message or callback of this handler, and with this object where one is named, stands in the queue
     /// (`hasMessagesOrCallbacks`). It makes no entry.
-    pub fn has_any<R: Wait, E: Recorder>(&self, rt: &R, way: &mut Way<E>, obj: Option<u64>) -> bool
+    pub fn has_any<R: Wait, E: Recorder, P: Payload>(&self, rt: &R, way: &mut Way<E, P>, obj: Option<u64>) -> bool
         requires { IsReady way.old }
         ensures ready { IsReady way.new }
         ensures same { IsSameWay way.old way.new }

@@ -9,9 +9,11 @@ mod supply;
 #[cfg(test)]
 mod tests;
 mod unhandled;
+mod values;
 mod way;
 
 pub use handler::Handler;
 pub use supply::recycle_all;
 pub use unhandled::Quit;
+pub use values::{SentWith, recycle_with};
 pub use way::{Erased, Sent, Way};

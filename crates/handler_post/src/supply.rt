@@ -5,17 +5,17 @@ ghost use Rattle.handler_post.specs.Supply.{IsObtained, NoneWasFree, BringsBack}
 
 use loop_model::Post;
 use message_list::NodeList;
-use message_pool::{Obtained, Pool, PoolClaim, PoolNode, PoolPass};
+use message_pool::{Obtained, Payload, Pool, PoolClaim, PoolNode, PoolPass};
 use message_slot::Message;
 use std::alloc::Global;
 
 /// A message with these fields, and a slot if one is to be had; `None` where a new one found no memory.
-pub(crate) fn message_of(
+pub(crate) fn message_of<P: Payload>(
     alloc: Global,
-    pool: &Pool,
-    pass: &mut PoolPass,
+    pool: &Pool<P>,
+    pass: &mut PoolPass<P>,
     post: &Post,
-) -> Option<PoolNode>
+) -> Option<PoolNode<P>>
     requires { pass.old.home ≡ pool.now }
     ensures home { pass.new.home ≡ pool.now }
     ensures node { MatchOption result (NoneWasFree pass.old pass.new) (IsObtained pool.now post.now pass.old pass.new) }
@@ -30,7 +30,11 @@ pub(crate) fn message_of(
 }
 
 /// Recycles all these messages, which are of the pool (`recycle` of AOSP's `Message`).
-pub fn recycle_all(pool: &Pool, pass: &mut PoolPass, mut nodes: NodeList<Message<PoolClaim>>)
+pub fn recycle_all<P: Payload>(
+    pool: &Pool<P>,
+    pass: &mut PoolPass<P>,
+    mut nodes: NodeList<Message<PoolClaim<P>>>,
+)
     requires pass { pass.old.home ≡ pool.now }
     requires nodes { All (IsNodeOf pool.now) nodes }
     ensures home { pass.new.home ≡ pool.now }

@@ -7,7 +7,7 @@ ghost use Rattle.handler_post.specs.Unhandled.{Bars, Unbars, Quits};
 use crate::supply::recycle_all;
 use crate::way::{Erased, Sent, Way, erase, send};
 use loop_model::{Filter, NoMemory, Post};
-use message_pool::Obtained;
+use message_pool::{Obtained, Payload};
 use queue_state::{BarrierGone, BarrierPosted, Quitting, Recorder};
 use std::alloc::Global;
 use std::sync::Wait;
@@ -25,7 +25,7 @@ pub enum Quit {
     NoMemory,
 }
 
-impl<'a, E: Recorder> Way<'a, E> {
+impl<'a, E: Recorder, P: Payload> Way<'a, E, P> {
     /// Posts this, whatever handler it names. A message that the queue doesn't keep is recycled (`enqueueMessage`).
     pub fn send<R: Wait>(&mut self, rt: &R, alloc: Global, post: &Post) -> Sent
         requires { IsReady self.old }

@@ -5,24 +5,24 @@ ghost use Rattle.handler_post.specs.Sends.{Sends, Erases};
 
 use crate::supply::{message_of, recycle_all};
 use loop_model::{Filter, Post};
-use message_pool::{Pool, PoolClaim, PoolPass};
+use message_pool::{Payload, Pool, PoolClaim, PoolPass};
 use queue_state::{Kept, Posted, Recorder, Taking};
 use shared_queue::{Poster, SharedQueue};
 use std::alloc::Global;
 use std::sync::Wait;
 
 /// A thread's way to a queue whose messages are of a pool: the queue with one of its posters, and the pool with one of its
-/// passes. The entries go where `E` says, as the queue's.
+/// passes. The entries go where `E` says, as the queue's, and its messages may carry values of the type `P`.
 #[derive(Drop)]
-pub struct Way<'a, E: Recorder = Kept> {
+pub struct Way<'a, E: Recorder = Kept, P: Payload = ()> {
     /// The queue.
-    pub queue: &'a SharedQueue<PoolClaim, E>,
+    pub queue: &'a SharedQueue<PoolClaim<P>, E>,
     /// The thread's poster of the queue.
-    pub poster: &'a mut Poster<PoolClaim, E>,
+    pub poster: &'a mut Poster<PoolClaim<P>, E>,
     /// The pool that messages come from and go back to.
-    pub pool: &'a Pool,
+    pub pool: &'a Pool<P>,
     /// The thread's pass of the pool.
-    pub pass: &'a mut PoolPass,
+    pub pass: &'a mut PoolPass<P>,
 }
 
 /// How a sending ended.
@@ -46,10 +46,10 @@ pub enum Erased {
 }
 
 /// Obtains a message, makes it this post and posts it. A message that the queue doesn't keep is recycled.
-pub(crate) fn send<R: Wait, E: Recorder>(
+pub(crate) fn send<R: Wait, E: Recorder, P: Payload>(
     rt: &R,
     alloc: Global,
-    way: &mut Way<E>,
+    way: &mut Way<E, P>,
     post: &Post,
 ) -> Sent
     requires { IsReady way.old }
@@ -74,7 +74,7 @@ pub(crate) fn send<R: Wait, E: Recorder>(
 }
 
 /// Removes the messages that the filter names, and recycles them.
-pub(crate) fn erase<R: Wait, E: Recorder>(rt: &R, way: &mut Way<E>, filter: &Filter) -> Erased
+pub(crate) fn erase<R: Wait, E: Recorder, P: Payload>(rt: &R, way: &mut Way<E, P>, filter: &Filter) -> Erased
     requires { IsReady way.old }
     ensures ready { IsReady way.new }
     ensures same { IsSameWay way.old way.new }

@@ -26,7 +26,8 @@ pub fn put_value<P: Payload>(message: &mut Message<PoolClaim<P>>, value: P) -> R
 /// Takes the value out of a message, and leaves all else of it as it is. None where it carries none (this project's profile).
 pub fn take_value<P: Payload>(message: &mut Message<PoolClaim<P>>) -> Option<P>
     ensures value { content_of P.content result ≡ content_in message.old.claim }
-    ensures rest { message.new ≡ without_value message.old }
+    ensures gone { content_in message.new.claim ≡ None }
+    ensures rest { without_value message.new ≡ without_value message.old }
 {
     let _slot = message.slot();
     let Some(mut claim) = message.take_claim() else {
