@@ -16,7 +16,7 @@ use Rattle.loop_model.specs.declared.entry.Entry.{Entry}
 use Rattle.loop_model.specs.Entries.{is_next}
 use Rattle.message_slot.specs.Letter.{post_of}
 use Rattle.message_pool.specs.Passes.{Claimed, Tally}
-use Rattle.queue_state.specs.Queue.{entry_of, moment_at}
+use Rattle.queue_state.specs.Queue.{Queue, entry_of, moment_at}
 use Rattle.shared_queue.specs.Known.{Shared, IsOf, IsTurn}
 use Rattle.handler_post.specs.declared.way.Way.{Way}
 use Rattle.handler_post.specs.declared.way.Sent.{Sent}
@@ -27,7 +27,7 @@ use Rattle.handler_post.specs.declared.unhandled.Quit.{Quit}
 use Rattle.handler_post.specs.declared.unhandled.Quit.TheVariants as quit
 use Rattle.handler_post.specs.Supply.{letter_of, Obtains, ObtainsInVain}
 use Rattle.handler_post.specs.Ways.{IsReady, IsSameWay, MadeNone}
-use Rattle.handler_post.specs.Sends.{Sending, Erasing, Sends, Erases, Has}
+use Rattle.handler_post.specs.Sends.{Sending, Erasing, Sends, Erases, Has, Idles}
 use Rattle.handler_post.specs.Unhandled.{Bars, Unbarring, Unbars, Quitting, Quits}
 use Rattle.looper_run.specs.Holding.{Sender, State, Holding}
 use Rattle.looper_run.specs.Acts.{IsNoLookOf}
@@ -161,10 +161,18 @@ pub erases_keep : {E : Type 0} (f : Filter) (v w : Way E) (r : Erased) → IsRea
 erases_keep f v w r ready ready' same did =
     keeps v w ready' same (erasing f v.poster.now w.poster.now v.pass.now w.pass.now r (same_home v w ready ready' same) did)
 
-pub has_keeps : {E : Type 0} (f : Filter) (v w : Way E) (r : Bool) → IsReady v → IsReady w → IsSameWay v w → Has f v w r → Keeps v w
-has_keeps f v w r ready ready' same ((x, t, is), kept) =
+-- a turn that leaves the state as it was, and nothing given back
+still_keeps : {E : Type 0} (v w : Way E) (x : Queue TableId Claimed) → IsReady v → IsReady w → IsSameWay v w → IsTurn v.poster.now w.poster.now x x
+    → w.pass.now ≡ v.pass.now → Keeps v w
+still_keeps v w x ready ready' same t kept =
     keeps v w ready' same (looked v.poster.now w.poster.now x v.pass.now w.pass.now t
     (record { home = same_home v w ready ready' same; back = (let e : w.pass.now.back ≡ v.pass.now.back = ap (λ (z : Tally). z.back) kept in omega (arith, e)) }))
+
+pub has_keeps : {E : Type 0} (f : Filter) (v w : Way E) (r : Bool) → IsReady v → IsReady w → IsSameWay v w → Has f v w r → Keeps v w
+has_keeps f v w r ready ready' same ((x, t, is), kept) = still_keeps v w x ready ready' same t kept
+
+pub idle_keeps : {E : Type 0} (now : ℕ) (v w : Way E) (r : Bool) → IsReady v → IsReady w → IsSameWay v w → Idles now v w r → Keeps v w
+idle_keeps now v w r ready ready' same ((x, t, is), kept) = still_keeps v w x ready ready' same t kept
 
 pub bars_keep : {E : Type 0} (now token : ℕ) (v w : Way E) → IsReady v → IsReady w → IsSameWay v w → v.pass.now.back ≤ w.pass.now.back → Bars now token v w → Keeps v w
 bars_keep now token v w ready ready' same back (node, (x, y, t, bars)) =

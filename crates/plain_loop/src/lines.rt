@@ -2,7 +2,7 @@
 ghost use Rattle.std.specs.Prelude.{◌≡◌, IsTrue, true, false, OnErr, IfOk};
 ghost use Rattle.loop_model.specs.Posts.{moment_after};
 ghost use Rattle.handler_post.specs.Ways.{IsReady, MadeNone};
-ghost use Rattle.handler_post.specs.Sends.{Sends, Erases, Has};
+ghost use Rattle.handler_post.specs.Sends.{Sends, Erases, Has, Idles};
 ghost use Rattle.handler_post.specs.Unhandled.{Bars, Unbars, Quits};
 ghost use Rattle.plain_loop.specs.Lines.{Keeps, due_at, way_of, AtNow};
 
@@ -124,6 +124,22 @@ impl<'a, R: Wait, C: Clock, E: Recorder> Line<'a, R, C, E> {
             pass: self.pass,
         };
         way.has(self.rt, &filter)
+    }
+
+    /// Whether nothing stands at the head of the queue, or the head is later than now (`MessageQueue.isIdle`).
+    pub fn is_idle(&mut self) -> bool
+        requires { IsReady (way_of self.old) }
+        ensures keeps { Keeps (way_of self.old) (way_of self.new) }
+        ensures idle { AtNow (C.shows self.old.clock.now) (λ now. Idles now (way_of self.old) (way_of self.new) result) }
+    {
+        let now = self.clock.uptime_millis();
+        let mut way = Way {
+            queue: self.queue,
+            poster: self.poster,
+            pool: self.pool,
+            pass: self.pass,
+        };
+        way.is_idle(self.rt, now)
     }
 
     /// Posts a barrier now, and answers its token (`MessageQueue.postSyncBarrier`).
