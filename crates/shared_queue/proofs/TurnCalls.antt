@@ -18,7 +18,8 @@ use Rattle.shared_queue.specs.declared.desk.Desk.{Desk}
 use Rattle.shared_queue.specs.Constants.{Constants}
 use Rattle.shared_queue.specs.Whole.{Leave, whole_queue}
 use Rattle.shared_queue.specs.Known.{Known, IsTurn, StepsBy}
-use Rattle.shared_queue.specs.Calls.{PostedBy, NextedBy, RemovedBy, QuitBy}
+use Rattle.shared_queue.specs.Claims.{LooksAsAccepted, TakesAsAccepted, QuitsAsAccepted}
+use Rattle.shared_queue.specs.Calls.{PostedBy}
 use Rattle.shared_queue.specs.Desk.{IsIdle, Began, MayEnd, Ended}
 use Rattle.shared_queue.proofs.Claims.{KeepsClaims, keeps_posts, keeps_barriers, keeps_unbars, keeps_takes, keeps_quits, keeps_looks, keeps_advances, keeps_halts, posts_claim, looks_claimed, takes_claimed, quits_claimed}
 use Rattle.shared_queue.proofs.Desks.{may_end}
@@ -83,11 +84,11 @@ module _ {H K : Type 0} (before after : Known H K) where
   pub posted_by : (m : Letter K) (r : Posted K H) → is_barrier m.item ≡ false → TurnOf (λ x s y. Posts x s m r y) → PostedBy before after m r
   posted_by m r target t = (t.0, t.1, t.2, t.3, posts_claim before.view.claims after.view.claims t.0 t.1 before.sender t.2.claims m r target t.3)
 
-  pub nexted_by : (now : ℕ) (idle : Bool) (r : Nexted K H) → TurnOf (λ x s y. Looks x s now idle r y) → NextedBy before after now idle r
-  nexted_by now idle r t = (t.0, t.1, t.2, t.3, looks_claimed before.view.claims after.view.claims t.0 t.1 before.sender t.2.claims now idle r t.3)
+  pub look_claims : (now : ℕ) (idle : Bool) (r : Nexted K H) → TurnOf (λ x s y. Looks x s now idle r y) → LooksAsAccepted after.view.claims r
+  look_claims now idle r t = looks_claimed before.view.claims after.view.claims t.0 t.1 before.sender t.2.claims now idle r t.3
 
-  pub removed_by : (f : Filter) (r : Taking K H) → TurnOf (λ x s y. Takes x s f r y) → RemovedBy before after f r
-  removed_by f r t = (t.0, t.1, t.2, t.3, takes_claimed before.view.claims after.view.claims t.0 t.1 before.sender t.2.claims f r t.3)
+  pub removal_claims : (f : Filter) (r : Taking K H) → TurnOf (λ x s y. Takes x s f r y) → TakesAsAccepted after.view.claims r
+  removal_claims f r t = takes_claimed before.view.claims after.view.claims t.0 t.1 before.sender t.2.claims f r t.3
 
-  pub quit_by : (safe : Bool) (now : ℕ) (r : Quitting K H) → TurnOf (λ x s y. Quits x s safe now r y) → QuitBy before after safe now r
-  quit_by safe now r t = (t.0, t.1, t.2, t.3, quits_claimed before.view.claims after.view.claims t.0 t.1 before.sender t.2.claims safe now r t.3)
+  pub quit_claims : (safe : Bool) (now : ℕ) (r : Quitting K H) → TurnOf (λ x s y. Quits x s safe now r y) → QuitsAsAccepted after.view.claims r
+  quit_claims safe now r t = quits_claimed before.view.claims after.view.claims t.0 t.1 before.sender t.2.claims safe now r t.3

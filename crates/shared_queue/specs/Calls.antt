@@ -16,7 +16,7 @@ use Rattle.queue_state.specs.declared.answers.Advancing.{Advancing}
 use Rattle.queue_state.specs.declared.answers.Halting.{Halting}
 use Rattle.queue_state.specs.Queue.{Queue, time_of, has_match, is_idle_at, part_of, sealed}
 use Rattle.queue_state.specs.Calls.{Posts, PostsBarrier, Unbars, Takes, Quits, Looks, Advances, Halts}
-use Rattle.shared_queue.specs.Claims.{AcceptsClaim, LooksAsAccepted, TakesAsAccepted, QuitsAsAccepted}
+use Rattle.shared_queue.specs.Claims.{AcceptsClaim}
 use Rattle.shared_queue.specs.Known.{Known, IsTurn, IsTurnWith}
 
 module _ {H K : Type 0} where
@@ -32,17 +32,13 @@ module _ {H K : Type 0} where
   BarrierGoneBy before after token result = (x : Queue H K) × (y : Queue H K) × IsTurn before after x y × Unbars x before.sender token result y
 
   abbrev pub RemovedBy : Known H K → Known H K → Filter → Taking K H → Type 0
-  RemovedBy before after filter result =
-      (x : Queue H K) × (y : Queue H K) × IsTurn before after x y × Takes x before.sender filter result y × TakesAsAccepted after.view.claims result
+  RemovedBy before after filter result = (x : Queue H K) × (y : Queue H K) × IsTurn before after x y × Takes x before.sender filter result y
 
   abbrev pub QuitBy : Known H K → Known H K → Bool → ℕ → Quitting K H → Type 0
-  QuitBy before after safe now result =
-      (x : Queue H K) × (y : Queue H K) × IsTurn before after x y × Quits x before.sender safe now result y × QuitsAsAccepted after.view.claims result
+  QuitBy before after safe now result = (x : Queue H K) × (y : Queue H K) × IsTurn before after x y × Quits x before.sender safe now result y
 
   abbrev pub NextedBy : Known H K → Known H K → ℕ → Bool → Nexted K H → Type 0
-  NextedBy before after now idle_owed result =
-      (x : Queue H K) × (y : Queue H K) × IsTurn before after x y × Looks x before.sender now idle_owed result y
-      × LooksAsAccepted after.view.claims result
+  NextedBy before after now idle_owed result = (x : Queue H K) × (y : Queue H K) × IsTurn before after x y × Looks x before.sender now idle_owed result y
 
   abbrev pub AdvancedBy : Known H K → Known H K → ℕ → Advancing → Type 0
   AdvancedBy before after now result = (x : Queue H K) × (y : Queue H K) × IsTurn before after x y × Advances x before.sender now result y

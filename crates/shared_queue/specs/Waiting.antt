@@ -1,5 +1,5 @@
 -- What a wait for a message does: looks that are answered to wait, and then the last one.
-use Rattle.std.specs.Prelude.{◌≡◌, ◌≢◌, ℕ, zero, suc, ◌+◌, ◌≤◌, ◌<◌, Bool, Option, Some, All}
+use Rattle.std.specs.Prelude.{◌≡◌, ◌≢◌, ℕ, zero, suc, ◌+◌, ◌≤◌, ◌<◌, Bool, List, Option, Some, slice_get, All}
 use mathlib.Core.List.{IsPrefix}
 use Rattle.loop_io.specs.Moments.{IsMoment}
 use Rattle.message_slot.specs.Letter.{IsAtHome}
@@ -10,6 +10,7 @@ use Rattle.shared_queue.specs.declared.waiting.Waited.TheVariants as waited
 use Rattle.shared_queue.specs.declared.waiting.Look.{Look}
 use Rattle.shared_queue.specs.declared.waiting.Look.TheVariants as look
 use Rattle.shared_queue.specs.Known.{Known, IsSamePoster}
+use Rattle.shared_queue.specs.Claims.{IsAsAccepted}
 use Rattle.shared_queue.specs.Calls.{NextedBy}
 
 -- the moment is no earlier than the cap
@@ -109,3 +110,16 @@ module _ {H K : Type 0} where
   abbrev pub LooksOnceAtHome : (K → H) → H → Look K H → Type 0
   LooksOnceAtHome of home (look.Ends result) = WaitsAtHome of home result
   LooksOnceAtHome of home (look.Sleeps limit) = Unit {0}
+
+  -- each message that is handed out has the claim that was accepted with its number
+  abbrev pub WaitsAsAccepted : List (Option K) → Waited K H → Type 0
+  WaitsAsAccepted claims (waited.Taken number at node) = slice_get claims number ≡ Some node.claim
+  WaitsAsAccepted claims waited.Idle = Unit {0}
+  WaitsAsAccepted claims (waited.End list) = All (IsAsAccepted claims) list
+  WaitsAsAccepted claims waited.Over = Unit {0}
+  WaitsAsAccepted claims (waited.Cap now) = Unit {0}
+  WaitsAsAccepted claims waited.Nudged = Unit {0}
+
+  abbrev pub LooksOnceAsAccepted : List (Option K) → Look K H → Type 0
+  LooksOnceAsAccepted claims (look.Ends result) = WaitsAsAccepted claims result
+  LooksOnceAsAccepted claims (look.Sleeps limit) = Unit {0}

@@ -3,6 +3,7 @@ ghost use Rattle.std.specs.Prelude.{◌≡◌, ◌+◌, true, false};
 ghost use Rattle.loop_model.specs.Items.{is_barrier};
 ghost use Rattle.message_slot.specs.Letter.{IsAtHome};
 ghost use Rattle.queue_state.specs.Calls.{UnbarsAtHome, TakesAtHome, QuitsAtHome};
+ghost use Rattle.shared_queue.specs.Claims.{TakesAsAccepted, QuitsAsAccepted};
 ghost use Rattle.shared_queue.specs.Known.{IsOf};
 ghost use Rattle.shared_queue.specs.Calls.{PostedBy, BarrierPostedBy, BarrierGoneBy, RemovedBy, QuitBy, AdvancedBy, HaltedBy, HasBy, IdledBy, TimedBy, CountedBy, SealedBy};
 
@@ -85,6 +86,7 @@ impl<K: Claim, E: Recorder> Poster<K, E> {
     ) -> Taking<K>
         requires queue { IsOf self.old queue.now }
         ensures done { RemovedBy self.old self.new filter.now result }
+        ensures claims { TakesAsAccepted self.new.view.claims result }
         ensures home { TakesAtHome K.home queue.now.constants.home result }
     {
         let mut state = self.desk.begin(rt, queue);
@@ -105,6 +107,7 @@ impl<K: Claim, E: Recorder> Poster<K, E> {
     ) -> Quitting<K>
         requires queue { IsOf self.old queue.now }
         ensures done { QuitBy self.old self.new safe now result }
+        ensures claims { QuitsAsAccepted self.new.view.claims result }
         ensures home { QuitsAtHome K.home queue.now.constants.home result }
     {
         let mut state = self.desk.begin(rt, queue);

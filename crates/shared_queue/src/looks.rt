@@ -1,5 +1,6 @@
 // How the looper's poster looks for a message.
 ghost use Rattle.queue_state.specs.Calls.{LooksAtHome};
+ghost use Rattle.shared_queue.specs.Claims.{LooksAsAccepted};
 ghost use Rattle.shared_queue.specs.Known.{IsOf};
 ghost use Rattle.shared_queue.specs.Calls.{NextedBy};
 
@@ -23,6 +24,7 @@ impl<K: Claim, E: Recorder> Poster<K, E> {
     ) -> Nexted<K>
         requires queue { IsOf self.old queue.now }
         ensures done { NextedBy self.old self.new now idle_owed result }
+        ensures claims { LooksAsAccepted self.new.view.claims result }
         ensures home { LooksAtHome K.home queue.now.constants.home result }
     {
         let mut state = self.desk.begin(rt, queue);

@@ -1,7 +1,7 @@
 // How the looper's poster waits for a message by a clock.
 ghost use Rattle.std.specs.Prelude.{◌≡◌, true, false};
 ghost use Rattle.shared_queue.specs.Known.{IsOf};
-ghost use Rattle.shared_queue.specs.Waiting.{IsBeforeCap, IsCap, HasStayed, Stays, LooksOnce, LooksOnceAtHome, WaitedBy, WaitsAtHome};
+ghost use Rattle.shared_queue.specs.Waiting.{IsBeforeCap, IsCap, HasStayed, Stays, LooksOnce, LooksOnceAtHome, LooksOnceAsAccepted, WaitedBy, WaitsAtHome, WaitsAsAccepted};
 
 use crate::poster::Poster;
 use crate::queue::SharedQueue;
@@ -85,6 +85,7 @@ impl<K: Claim, E: Recorder> Poster<K, E> {
         ensures same { HasStayed self.old self.new }
         ensures done { WaitedBy (C.shows clock.now) start idle_owed cap self.old self.new result }
         ensures home { WaitsAtHome K.home queue.now.constants.home result }
+        ensures claims { WaitsAsAccepted self.new.view.claims result }
     {
         for _ in rt.forever() {
             let heard = queue.rings.heard(rt, &*self);
@@ -110,6 +111,7 @@ impl<K: Claim, E: Recorder> Poster<K, E> {
         ensures queue { IsOf self.new queue.now }
         ensures done { LooksOnce (C.shows clock.now) start idle_owed cap self.old self.new result }
         ensures home { LooksOnceAtHome K.home queue.now.constants.home result }
+        ensures claims { LooksOnceAsAccepted self.new.view.claims result }
     {
         let now = clock.uptime_millis().saturating_sub(start);
         match self.next(rt, queue, now, idle_owed) {
