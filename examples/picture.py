@@ -1,11 +1,14 @@
 #!/usr/bin/env python3
-"""picture.py PROGRAM [--write]: docs/gauge.svg and picture/all_kinds.svg are what `timeline svg` makes of their reports; with --write they are made anew.
+"""picture.py PROGRAM [--write]: the pictures of SHOWN are what `timeline svg` makes of their reports; with --write they are made anew.
 
-The second report has a mark and a note of each kind, in edition 2: two loopers, two gauges in one lane, two marks at one place, more notes than are shown.
+The report of all kinds has a mark and a note of each kind, in edition 2: two loopers, two gauges in one lane, two marks at one place, more notes than
+are shown. It is drawn whole, and in a window of time where frames are too narrow for parts. A run in which nothing happens has a picture that says so.
 
 Every report of this folder becomes an SVG that an XML parser takes, with an element for each mark, and a trace that a JSON
-parser takes, with an event for each mark. Where Chromium is installed, it opens the pictures too, with as many elements.
+parser takes, with an event for each mark. Where Chromium is installed, it opens the pictures too, with as many elements. It opens
+pages, zooms with the wheel and points at a mark: fewer marks are shown then, and the page tells that mark.
 """
+import html
 import json
 import pathlib
 import re
@@ -16,15 +19,41 @@ import tempfile
 import xml.etree.ElementTree as tree
 
 HERE = pathlib.Path(__file__).resolve().parent
+ALL_KINDS = HERE / "picture" / "all_kinds.report"
+NOTHING = b"report 1\nlooper 0\nfates accepted 0 dispatched 0 removed 0 dropped 0 stranded 0 queued 0\nend\n"
 SHOWN = [
-    (HERE / "gauge_runs_to_its_target.report", HERE.parent / "docs" / "gauge.svg"),
-    (HERE / "picture" / "all_kinds.report", HERE / "picture" / "all_kinds.svg"),
+    ((HERE / "gauge_runs_to_its_target.report").read_bytes(), ["svg"], HERE.parent / "docs" / "gauge.svg"),
+    (ALL_KINDS.read_bytes(), ["svg"], HERE / "picture" / "all_kinds.svg"),
+    (ALL_KINDS.read_bytes(), ["svg", "21", "2000", "--width", "500", "--title", 'A window of "all" <kinds>'], HERE / "picture" / "window.svg"),
+    (NOTHING, ["svg", "--title", "Nothing"], HERE / "picture" / "nothing.svg"),
 ]
+# Words that are none of the forms.
+REFUSED = [
+    [], ["gif"], ["svg", "1"], ["svg", "5", "5"], ["svg", "7", "5"], ["svg", "x", "5"], ["svg", "1", "2", "3"], ["svg", "--width", "399"],
+    ["svg", "--width", "30001"], ["svg", "--width"], ["svg", "--width", "500", "--width", "500"], ["svg", "--title"], ["svg", "--title", "a", "--title", "b"],
+    ["svg", "--width", "500", "1", "2"], ["svg", "01", "5"], ["html", "1", "2"], ["html", "--width", "500"], ["perfetto", "1", "2"], ["perfetto", "--title", "a"],
+]
+# Zooms in and points at the first mark that is shown then; writes what the page told.
+POINTING = b"""<script>
+const box = canvas.getBoundingClientRect();
+const at = (kind, left, top, more) => {
+  const event = new (kind === 'wheel' ? WheelEvent : PointerEvent)(kind, {clientX: box.left + left, clientY: box.top + top, bubbles: true, cancelable: true, ...more});
+  canvas.dispatchEvent(event);
+};
+const all = document.body.dataset.shown;
+at('wheel', LEFT + 1, 40, {deltaY: -1500});
+const hit = hits[0];
+at('pointermove', (hit.left + hit.right) / 2, (hit.top + hit.bottom) / 2, {});
+document.body.dataset.all = all;
+document.body.dataset.told = told.textContent.split(String.fromCharCode(10))[0];
+document.body.dataset.wanted = textOf(hit.event);
+</script>
+"""
 SVG = "{http://www.w3.org/2000/svg}"
 
 
-def run(program, word, text):
-    return subprocess.run([program, word], input=text, capture_output=True, check=False)
+def run(program, words, text):
+    return subprocess.run([program, *words], input=text, capture_output=True, check=False)
 
 
 def marks_of(text):
@@ -56,37 +85,67 @@ def longest():
 
 
 def look(program, name, text):
-    svg = run(program, "svg", text)
-    trace = run(program, "perfetto", text)
-    assert svg.returncode == 0 and trace.returncode == 0, name
+    svg = run(program, ["svg"], text)
+    trace = run(program, ["perfetto"], text)
+    page = run(program, ["html", "--title", "<&>"], text)
+    assert svg.returncode == 0 and trace.returncode == 0 and page.returncode == 0, name
+    assert trace.stdout in page.stdout and page.stdout.count(b"&lt;&amp;&gt;") == 2, name
+    for event in json.loads(trace.stdout):
+        assert event["ph"] != "X" or event["dur"] > 0, name
     assert len(svg.stdout) < 1_000_000, name
     assert drawn_marks(svg.stdout) == marks_of(text), name
     assert sum(event["ph"] != "M" for event in json.loads(trace.stdout)) == marks_of(text), name
 
 
-def opened(browser, svg):
-    """What the browser makes of the picture, as text."""
+def halves(program, text):
+    """Two windows that share an edge have each mark of the report in one of them."""
+    middle = 1000
+    parts = [run(program, ["svg", *window], text) for window in (["0", str(middle)], [str(middle), str(2**64 - 1)])]
+    assert sum(drawn_marks(part.stdout) for part in parts) == marks_of(text)
+    wide = run(program, ["svg", "--width", "3000"], text).stdout
+    assert drawn_marks(wide) == marks_of(text) and b'width="3000"' in wide
+
+
+def opened(browser, text, ending):
+    """What the browser makes of a picture or a page, as text."""
     with tempfile.TemporaryDirectory() as folder:
-        file = pathlib.Path(folder, "picture.svg")
-        file.write_bytes(svg)
-        words = [browser, "--headless", "--no-sandbox", "--disable-gpu", f"--user-data-dir={folder}/user", "--dump-dom", file.as_uri()]
+        file = pathlib.Path(folder, "picture" + ending)
+        file.write_bytes(text)
+        words = [browser, "--headless", "--no-sandbox", "--disable-gpu", "--window-size=1200,900", f"--user-data-dir={folder}/user", "--dump-dom", file.as_uri()]
         return subprocess.run(words, capture_output=True, check=True, timeout=120).stdout
 
 
-def open_in_browser(pictures):
+def told(shown, name):
+    """What the page's body tells under a name."""
+    return html.unescape(re.search(rf'data-{name}="([^"]*)"', shown.decode()).group(1))
+
+
+def look_at_page(shown, text):
+    """The page has all marks of the report; behind the zoom fewer are shown, and the one under the pointer is told."""
+    assert int(told(shown, "marks")) == int(told(shown, "all")) == marks_of(text), (told(shown, "marks"), told(shown, "all"))
+    assert 0 < int(told(shown, "shown")) < marks_of(text)
+    assert told(shown, "told") == told(shown, "wanted") != ""
+
+
+def open_in_browser(program, pictures, pages):
     browser = shutil.which("chromium") or shutil.which("chromium-browser") or shutil.which("google-chrome")
     if browser is None:
-        print("no browser is installed: the pictures were not opened in one")
+        print("no browser is installed: neither the pictures nor the pages were opened in one")
         return
-    for svg in pictures:
-        try:
-            shown = opened(browser, svg)
-        except subprocess.SubprocessError as fault:
-            print(f"the browser didn't open a picture here: {fault}"[:200])
-            return
-        assert shown.startswith(b"<svg") and b"parsererror" not in shown
-        assert shown.count(b'class="mark"') == svg.count(b'class="mark"')
-    print(f"{len(pictures)} pictures opened in a browser")
+    try:
+        for svg in pictures:
+            shown = opened(browser, svg, ".svg")
+            assert shown.startswith(b"<svg") and b"parsererror" not in shown
+            assert shown.count(b'class="mark"') == svg.count(b'class="mark"')
+        for text in pages:
+            page = run(program, ["html"], text).stdout
+            look_at_page(opened(browser, page.replace(b"</body>", POINTING + b"</body>"), ".html"), text)
+        empty = opened(browser, run(program, ["html"], NOTHING).stdout, ".html")
+        assert told(empty, "marks") == "0" and b"no frame began" in empty
+    except subprocess.SubprocessError as fault:
+        print(f"the browser didn't open a picture here: {fault}"[:200])
+        return
+    print(f"{len(pictures)} pictures and {len(pages) + 1} pages opened in a browser")
 
 
 def main():
@@ -95,15 +154,18 @@ def main():
     for file in reports:
         look(program, file.name, file.read_bytes())
     look(program, "the longest", longest())
-    bad = run(program, "svg", b"report 1\nend\nend\n")
+    halves(program, longest())
+    bad = run(program, ["svg"], b"report 1\nend\nend\n")
     assert (bad.returncode, bad.stdout, bad.stderr) == (3, b"", b"timeline: line 3\n"), bad
-    assert run(program, "gif", b"").returncode == 2
-    pictures = [run(program, "svg", report.read_bytes()).stdout for report, _ in SHOWN]
-    for (_, kept), svg in zip(SHOWN, pictures):
+    for words in REFUSED:
+        refused = run(program, words, b"report 1\nend\n")
+        assert (refused.returncode, refused.stdout) == (2, b"") and refused.stderr.startswith(b"timeline: usage: "), words
+    pictures = [run(program, words, text).stdout for text, words, _ in SHOWN]
+    for (_, _, kept), svg in zip(SHOWN, pictures):
         if "--write" in sys.argv:
             kept.write_bytes(svg)
         assert kept.read_bytes() == svg, f"{kept.name} is another one"
-    open_in_browser([*pictures, run(program, "svg", longest()).stdout])
+    open_in_browser(program, [*pictures, run(program, ["svg"], longest()).stdout], [SHOWN[0][0], ALL_KINDS.read_bytes(), longest()])
     print(f"{len(reports)} reports drawn, {len(pictures)} pictures compared")
 
 

@@ -1,5 +1,5 @@
 -- The marks as trace events in JSON.
-use Rattle.std.specs.Prelude.{◌≡◌, ℕ, ◌+◌, ◌-◌, ◌*◌, ◌/◌, ◌^◌, min, List, [], ◌∷◌, ◌++◌, codes, map}
+use Rattle.std.specs.Prelude.{◌≡◌, ℕ, ◌+◌, ◌*◌, ◌/◌, List, [], ◌∷◌, ◌++◌, codes, map}
 use Rattle.std.specs.Fmt.{decimal}
 use Rattle.serde_json.specs.Data.{Data, number, unsigned, string, array, object, Members, no_members, put}
 use Rattle.serde_json.specs.View.{items_of}
@@ -14,10 +14,7 @@ use Rattle.run_picture.specs.declared.mark.Mark.{Mark}
 use Rattle.run_picture.specs.declared.mark.Moment.{Moment}
 use Rattle.run_picture.specs.Marks.{marks}
 use Rattle.run_picture.specs.Period.{period}
-
--- a number, or the greatest of 64 bits
-abbrev pub saturated : ℕ → ℕ
-saturated n = min n (2 ^ 64 - 1)
+use Rattle.run_picture.specs.Rows.{saturated}
 
 -- a moment in whole microseconds
 abbrev pub micros : Moment → ℕ

@@ -3,8 +3,12 @@
 
 #[cfg(test)]
 mod tests;
+mod words;
 
+use crate::words::{Asked, LEAST_WIDTH, MOST_WIDTH, Request, read_words};
+use run_page::page_of;
 use run_picture::{Form, Picture, picture_of};
+use std::alloc::Global;
 use std::io::{Read, Write};
 use std::process::ExitCode;
 use std::{env, io};
@@ -25,7 +29,9 @@ fn main(rt: HostRuntime) -> ExitCode {
     };
     // Where standard error is closed, the exit status still tells.
     let _ = match failure {
-        Failure::Usage => eprintln!(rt; "timeline: usage: timeline svg | timeline perfetto"),
+        Failure::Usage => eprintln!(rt;
+            "timeline: usage: timeline svg [FROM TO] [--width PIXELS] [--title TITLE] | timeline html [--title TITLE] | timeline perfetto\ntimeline: FROM is less than TO, both in milliseconds; PIXELS are from {LEAST_WIDTH} to {MOST_WIDTH}"
+        ),
         Failure::Bad(line) => eprintln!(rt; "timeline: line {line}"),
         Failure::Read => eprintln!(rt; "timeline: read fault"),
         Failure::Write => eprintln!(rt; "timeline: write fault"),
@@ -36,12 +42,20 @@ fn main(rt: HostRuntime) -> ExitCode {
 
 /// Reads a report and writes its picture; where there is none, nothing is written.
 fn answer(rt: &HostRuntime) -> Result<(), Failure> {
-    let form = form_of(rt).ok_or(Failure::Usage)?;
+    let words: Vec<String> = match env::args(rt) {
+        Ok(words) => words
+            .skip(1)
+            .collect(rt.alloc())
+            .ok()
+            .ok_or(Failure::Memory)?,
+        Err(_) => return Err(Failure::Usage),
+    };
+    let request = read_words(&words).ok_or(Failure::Usage)?;
     let mut bytes = Vec::new(rt.alloc());
     if rt.reader().read_to_end(&mut bytes).is_err() {
         return Err(Failure::Read);
     }
-    match picture_of(rt.alloc(), form, &bytes) {
+    match drawn(rt.alloc(), request, &bytes) {
         Picture::Text(text) => match io::writer(rt).write_all(&text) {
             Ok(()) => Ok(()),
             Err(_) => Err(Failure::Write),
@@ -51,16 +65,13 @@ fn answer(rt: &HostRuntime) -> Result<(), Failure> {
     }
 }
 
-/// The form that the one word behind the program's name asks for.
-fn form_of(rt: &HostRuntime) -> Option<Form> {
-    let words: Vec<String> = env::args(rt).ok()?.skip(1).collect(rt.alloc()).ok()?;
-    if words.len() != 1 {
-        return None;
-    }
-    match words[0].as_str() {
-        "svg" => Some(Form::Svg),
-        "perfetto" => Some(Form::Perfetto),
-        _ => None,
+/// The picture of a text in the form that is asked for.
+fn drawn(alloc: Global, request: Request, bytes: &[u8]) -> Picture {
+    let title = request.title.as_bytes();
+    match request.asked {
+        Asked::Svg(view) => picture_of(alloc, Form::Svg(view), title, bytes),
+        Asked::Perfetto => picture_of(alloc, Form::Perfetto, title, bytes),
+        Asked::Html => page_of(alloc, title, bytes),
     }
 }
 

@@ -1,6 +1,7 @@
 //! Tables: reports with their marks, and texts that are no reports.
 use run_picture::{
-    Form, Kind, Mark, Moment, ParsedReport, Picture, Run, Subject, marks, parse_report, picture_of,
+    Form, Kind, Mark, Moment, ParsedReport, Picture, Run, Subject, USUAL_WIDTH, View, marks,
+    parse_report, picture_of,
 };
 use std::alloc::Global;
 use std::process::Abort;
@@ -29,6 +30,12 @@ fates accepted 1 dispatched 1 removed 0 dropped 0 stranded 0 queued 0
 idle 4
 end
 ";
+
+/// The whole run as an SVG.
+const WHOLE: Form = Form::Svg(View {
+    window: None,
+    width: USUAL_WIDTH,
+});
 
 const NOTHING: &[u8] = b"report 1\nend\n";
 
@@ -124,7 +131,7 @@ fn reports_have_their_marks(rt: HostRuntime) -> Result<(), Fail> {
 #[test]
 fn the_least_bad_line_is_named(rt: HostRuntime) -> Result<(), Fail> {
     for (text, expected) in BAD {
-        let Picture::Bad { line } = picture_of(rt.alloc(), Form::Svg, text) else {
+        let Picture::Bad { line } = picture_of(rt.alloc(), WHOLE, b"", text) else {
             return Err("a picture".into());
         };
         assert_eq!(rt; line, expected);
@@ -134,7 +141,7 @@ fn the_least_bad_line_is_named(rt: HostRuntime) -> Result<(), Fail> {
 
 #[test]
 fn an_empty_run_has_a_trace(rt: HostRuntime) -> Result<(), Fail> {
-    let Picture::Text(text) = picture_of(rt.alloc(), Form::Perfetto, NOTHING) else {
+    let Picture::Text(text) = picture_of(rt.alloc(), Form::Perfetto, b"", NOTHING) else {
         return Err("no trace".into());
     };
     let expected: &[u8] =
