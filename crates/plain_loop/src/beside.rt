@@ -40,7 +40,7 @@ fn is_over(answer: Option<Loop>) -> Result<bool, NoMemory>
 /// Loops until this moment at the latest, where there is one, a second, or 1,024 dispatches, and answers whether the queue is over. If
 /// not it drops the acts that the looper told and the queue's history so far, so that a looper which does so again and again runs in
 /// bounded memory. NoMemory where the dispatcher, a call of the loop or the letting go found none (this project's profile).
-pub fn loop_and_let_go<R: Wait + time::Clock, C: Clock, D: Dispatcher<Record = Kept>>(
+pub fn loop_and_let_go<R: Wait + time::Clock, C: Clock, D: Dispatcher<Record = Kept, Value = ()>>(
     mailbox: &Mailbox<R, C>,
     looper: &mut Looper,
     dispatcher: &mut D,

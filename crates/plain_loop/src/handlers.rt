@@ -87,6 +87,8 @@ pub fn did(answer: Handled) -> Did
 impl<'a, R: Wait, C: Clock, H: Handle<R, C>> Dispatcher for Handling<'a, R, C, H> {
     type Record = Kept;
 
+    type Value = ();
+
     ghost Serves = { λ d w. IsPlaceOf d.mailbox.now.queue.now d.mailbox.now.pool.now w };
 
     ghost Origin = { Unit {0} };
@@ -101,7 +103,7 @@ impl<'a, R: Wait, C: Clock, H: Handle<R, C>> Dispatcher for Handling<'a, R, C, H
 
     ghost Awaits = { λ d awaited. H.Holds d.handlers };
 
-    fn before(&mut self, number: u64) {}
+    fn before(&mut self, number: u64, m: &mut Message<PoolClaim>) {}
 
     fn pulse(&mut self, own: &mut Own, now: u64) -> Did {
         Did::Yes
