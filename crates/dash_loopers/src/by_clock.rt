@@ -57,6 +57,8 @@ pub(crate) struct ClockPlayer<'a, 'b, R: Wait, G: Gate, C: Clock> {
 impl<'a, 'b, R: Wait, G: Gate, C: Clock> Dispatcher for ClockPlayer<'a, 'b, R, G, C> {
     type Record = Kept;
 
+    type Value = ();
+
     ghost Serves = { λ d w. ServesFree d.place.script.now d.place.hall.now d.place.looper d.parts w };
 
     ghost Origin = { ClockOwner };
@@ -75,7 +77,7 @@ impl<'a, 'b, R: Wait, G: Gate, C: Clock> Dispatcher for ClockPlayer<'a, 'b, R, G
     ghost Meets = { λ d s es acts. IsPlayingAt (in_free_mode (C.shows d.timer.now.clock.now) d.timer.now.start)
         d.place.script.now d.place.looper d.began.now.value s es acts d.parts };
 
-    fn before(&mut self, number: u64) {
+    fn before(&mut self, number: u64, m: &mut Message<PoolClaim>) {
         self.gate.pass(self.sender, self.parts.passed);
         self.parts.passed = self.parts.passed.saturating_add(1);
     }

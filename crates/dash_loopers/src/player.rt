@@ -71,6 +71,8 @@ pub(crate) struct Player<'a, R: Wait, G: Gate> {
 impl<'a, R: Wait, G: Gate> Dispatcher for Player<'a, R, G> {
     type Record = Kept;
 
+    type Value = ();
+
     ghost Serves = { λ d w. ServesAt d.place.script.now d.place.hall.now d.place.looper d.parts w };
 
     ghost Origin = { Owner };
@@ -85,7 +87,7 @@ impl<'a, R: Wait, G: Gate> Dispatcher for Player<'a, R, G> {
 
     ghost Meets = { λ d s es acts. IsPlaying d.place.script.now d.place.looper d.now d.began.now.value s es acts d.parts };
 
-    fn before(&mut self, number: u64) {
+    fn before(&mut self, number: u64, m: &mut Message<PoolClaim>) {
         self.gate.pass(self.sender, self.parts.passed);
         self.parts.passed = self.parts.passed.saturating_add(1);
     }

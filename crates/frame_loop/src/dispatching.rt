@@ -270,6 +270,8 @@ impl<'a, R: Wait, C: Clock, H: FrameHandle<R, C>> FrameHandling<'a, R, C, H> {
 impl<'a, R: Wait, C: Clock, H: FrameHandle<R, C>> Dispatcher for FrameHandling<'a, R, C, H> {
     type Record = Kept;
 
+    type Value = ();
+
     ghost Serves = { λ d w. Serving d w };
 
     ghost Origin = { Unit {0} };
@@ -284,7 +286,7 @@ impl<'a, R: Wait, C: Clock, H: FrameHandle<R, C>> Dispatcher for FrameHandling<'
 
     ghost Awaits = { λ d awaited. H.Holds d.handlers };
 
-    fn before(&mut self, number: u64) {}
+    fn before(&mut self, number: u64, m: &mut Message<PoolClaim>) {}
 
     fn pulse(&mut self, own: &mut Own, now: u64) -> Did {
         did(self.deliver_pulse(own))

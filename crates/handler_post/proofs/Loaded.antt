@@ -2,11 +2,10 @@
 use Rattle.std.proofs.Common.{◌≡◌, ℕ, List, Some, refl, ap, ◌∙◌}
 use Rattle.atomic_table.specs.Seated.{TableId}
 use Rattle.loop_model.specs.declared.post.Post.{Post}
-use Rattle.message_slot.specs.Letter.{posted}
 use Rattle.message_pool.specs.Passes.{Claimed, Node, Tally}
 use Rattle.message_pool.specs.Obtain.{IsPooled, HasTaken}
 use Rattle.message_pool.specs.Values.{with_content}
-use Rattle.handler_post.specs.Supply.{slot_in, letter_of}
+use Rattle.handler_post.specs.Supply.{letter_of}
 use Rattle.handler_post.specs.Values.{IsLoaded}
 
 -- what is obtained, given a value and then a post's fields

@@ -1,5 +1,5 @@
 -- What a sending with a value does.
-use Rattle.std.specs.Prelude.{◌≡◌, ℕ, ◌+◌, ◌<◌, ◌⊎◌, List, Some}
+use Rattle.std.specs.Prelude.{◌≡◌, ℕ, List, Some}
 use Rattle.atomic_table.specs.Seated.{TableId}
 use Rattle.loop_model.specs.declared.post.Post.{Post}
 use Rattle.message_pool.specs.Passes.{Claimed, Node, Tally}
@@ -18,10 +18,6 @@ HasContent content c = c.content ≡ Some content
 -- a message with these fields and a value of which this is seen was obtained
 abbrev pub IsLoaded : TableId → Post → List ℕ → Tally → Tally → Node → Type 0
 IsLoaded home p content before after node = (c : Claimed) × (node ≡ letter_of p (Some c)) × HasContent content c × Obtains home (Some c) before after
-
--- no slot was to be had
-abbrev pub HasNoSlot : Tally → Tally → Type 0
-HasNoSlot = NoneWasFree
 
 -- a message with these fields and this value was obtained and posted: the queue took it with its value, or else a value is handed back of which the same
 -- is seen; where no slot was to be had, the value itself is, and nothing was posted

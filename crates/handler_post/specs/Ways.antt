@@ -14,9 +14,13 @@ Sender = Known TableId Claimed
 abbrev pub State : Type 0
 State = Queue TableId Claimed
 
--- a way to a queue whose entries are kept in memory
+-- a way to a queue whose messages carry no value
+abbrev pub PlainWay : Type 0 → Type 0
+PlainWay R = Way R (Unit {0})
+
+-- such a way to a queue whose entries are kept in memory
 abbrev pub KeptWay : Type 0
-KeptWay = Way Kept (Unit {0})
+KeptWay = PlainWay Kept
 
 -- the poster is one of the queue, the pass is one of the pool, and the queue's messages are the pool's
 pub record IsReady {R P : Type 0} (w : Way R P) : Type 0 where

@@ -3,7 +3,8 @@ ghost use Rattle.std.specs.Prelude.{◌≡◌, IfOk, IfErr};
 ghost use Rattle.message_pool.specs.Obtain.{IsNodeOf, Returned};
 ghost use Rattle.message_pool.specs.Values.{content_of, content_in};
 ghost use Rattle.handler_post.specs.Ways.{IsReady, IsSameWay};
-ghost use Rattle.handler_post.specs.Values.{IsLoaded, HasNoSlot, SendsWith};
+ghost use Rattle.handler_post.specs.Supply.{NoneWasFree};
+ghost use Rattle.handler_post.specs.Values.{IsLoaded, SendsWith};
 
 use crate::way::Way;
 use loop_model::Post;
@@ -37,7 +38,7 @@ fn message_with<P: Payload>(
     requires { pass.old.home ≡ pool.now }
     ensures home { pass.new.home ≡ pool.now }
     ensures node { IfOk result (IsLoaded pool.now post.now (P.content value) pass.old pass.new) }
-    ensures back { IfErr result (λ v. HasNoSlot pass.old pass.new × (v ≡ value)) }
+    ensures back { IfErr result (λ v. NoneWasFree pass.old pass.new × (v ≡ value)) }
 {
     let Obtained::Pooled(mut node) = pool.obtain(alloc, pass) else {
         return Err(value);

@@ -36,9 +36,9 @@ pub record Workplace : Type 0 where
 
 -- what the looper of a queue lends whose entries are kept in memory
 abbrev pub KeptOwn : Type 0
-KeptOwn = Own Kept
+KeptOwn = Own Kept (Unit {0})
 
-abbrev pub held : {R : Type 0} → Own R → Holding
+abbrev pub held : {R P : Type 0} → Own R P → Holding
 held own = record { poster = own.poster.now; pass = own.pass.now; journal = own.journal.now }
 
 abbrev pub workplace : Holding → Workplace
@@ -51,7 +51,7 @@ pub record IsAt (queue : Shared TableId) (pool : TableId) (h : Holding) : Type 0
   pub home : queue.constants.home ≡ pool
 
 -- the same poster, pass and journal, by the same references
-pub record IsSameOwn {R : Type 0} (before after : Own R) : Type 0 where
+pub record IsSameOwn {R P : Type 0} (before after : Own R P) : Type 0 where
   pub poster : after.poster.ghost_name ≡ before.poster.ghost_name
   pub pass : after.pass.ghost_name ≡ before.pass.ghost_name
   pub journal : after.journal.ghost_name ≡ before.journal.ghost_name

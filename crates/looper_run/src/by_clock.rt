@@ -14,7 +14,7 @@ use crate::sources::{Sources, take_events};
 use crate::step::Step;
 use loop_io::Clock;
 use loop_model::NoMemory;
-use message_pool::{Pool, PoolClaim};
+use message_pool::{Payload, Pool, PoolClaim};
 use queue_state::{Nexted, Recorder};
 use shared_queue::{SharedQueue, Waited};
 use std::sync::{Mutex, Wait};
@@ -87,7 +87,7 @@ impl Pause {
 }
 
 // What a wait was answered: the answer of a look, or a pause.
-fn answer_of(waited: Waited<PoolClaim>) -> Result<Nexted<PoolClaim>, Pause>
+fn answer_of<P: Payload>(waited: Waited<PoolClaim<P>>) -> Result<Nexted<PoolClaim<P>>, Pause>
     ensures answer { IfOk result (Answers waited) }
     ensures found { IfOk result IsNoWait }
     ensures pause { IfErr result (Pauses waited) }
@@ -103,18 +103,18 @@ fn answer_of(waited: Waited<PoolClaim>) -> Result<Nexted<PoolClaim>, Pause>
     }
 }
 
-impl<E: Recorder> Looper<E> {
+impl<E: Recorder, P: Payload> Looper<E, P> {
     /// The loop by a clock: the dispatcher's pulse, the events that were handed in, and then waits for messages, each of which
     /// is dispatched, until the queue is over, nothing is due at a moment that is no earlier than the cap, or nothing is due and
     /// the bell was rung; then the events that were handed in since. Idle handlers run as in a round. As `loop` of AOSP's
     /// `Looper`; the cap and the nudge are this project's profile.
     ///
     /// After NoMemory the run is given up.
-    pub fn run_loop<R: Wait + time::Clock, D: Dispatcher<Record = E>, C: Clock>(
+    pub fn run_loop<R: Wait + time::Clock, D: Dispatcher<Record = E, Value = P>, C: Clock>(
         &mut self,
         rt: &R,
-        queue: &SharedQueue<PoolClaim, E>,
-        pool: &Pool,
+        queue: &SharedQueue<PoolClaim<P>, E>,
+        pool: &Pool<P>,
         sources: &Mutex<Sources>,
         d: &mut D,
         by: &ByClock<C>,
@@ -145,11 +145,11 @@ impl<E: Recorder> Looper<E> {
     /// As `run_loop`, but it dispatches a message or runs the idle handlers no more than so many times, each of which counts as one.
     /// None where it did so often, and then it may be called again: for a looper that always has a message due, and is to let
     /// go of its records now and then (this project's profile).
-    pub fn run_some<R: Wait + time::Clock, D: Dispatcher<Record = E>, C: Clock>(
+    pub fn run_some<R: Wait + time::Clock, D: Dispatcher<Record = E, Value = P>, C: Clock>(
         &mut self,
         rt: &R,
-        queue: &SharedQueue<PoolClaim, E>,
-        pool: &Pool,
+        queue: &SharedQueue<PoolClaim<P>, E>,
+        pool: &Pool<P>,
         sources: &Mutex<Sources>,
         d: &mut D,
         by: &ByClock<C>,
@@ -179,11 +179,11 @@ impl<E: Recorder> Looper<E> {
     }
 
     // Waits for messages until the queue is over or the looper is to pause.
-    fn go_on<R: Wait + time::Clock, D: Dispatcher<Record = E>, C: Clock>(
+    fn go_on<R: Wait + time::Clock, D: Dispatcher<Record = E, Value = P>, C: Clock>(
         &mut self,
         rt: &R,
-        queue: &SharedQueue<PoolClaim, E>,
-        pool: &Pool,
+        queue: &SharedQueue<PoolClaim<P>, E>,
+        pool: &Pool<P>,
         sources: &Mutex<Sources>,
         d: &mut D,
         by: &ByClock<C>,
@@ -225,11 +225,11 @@ impl<E: Recorder> Looper<E> {
     }
 
     // The same, but no more than so many times.
-    fn go_some<R: Wait + time::Clock, D: Dispatcher<Record = E>, C: Clock>(
+    fn go_some<R: Wait + time::Clock, D: Dispatcher<Record = E, Value = P>, C: Clock>(
         &mut self,
         rt: &R,
-        queue: &SharedQueue<PoolClaim, E>,
-        pool: &Pool,
+        queue: &SharedQueue<PoolClaim<P>, E>,
+        pool: &Pool<P>,
         sources: &Mutex<Sources>,
         d: &mut D,
         by: &ByClock<C>,
@@ -272,11 +272,11 @@ impl<E: Recorder> Looper<E> {
     }
 
     // Waits for a message and dispatches it, or runs the idle handlers, unless the looper is to pause.
-    fn pace<R: Wait + time::Clock, D: Dispatcher<Record = E>, C: Clock>(
+    fn pace<R: Wait + time::Clock, D: Dispatcher<Record = E, Value = P>, C: Clock>(
         &mut self,
         rt: &R,
-        queue: &SharedQueue<PoolClaim, E>,
-        pool: &Pool,
+        queue: &SharedQueue<PoolClaim<P>, E>,
+        pool: &Pool<P>,
         sources: &Mutex<Sources>,
         d: &mut D,
         by: &ByClock<C>,
@@ -308,7 +308,7 @@ impl<E: Recorder> Looper<E> {
     }
 
     // The events that were handed in.
-    fn close<R: Wait, D: Dispatcher<Record = E>>(
+    fn close<R: Wait, D: Dispatcher<Record = E, Value = P>>(
         &mut self,
         rt: &R,
         sources: &Mutex<Sources>,

@@ -3,6 +3,7 @@ ghost use Rattle.std.specs.Prelude.{◌≡◌, ◌<◌, ◌^◌, ◌++◌, [], �
 ghost use Rattle.message_slot.specs.Letter.{number_in};
 ghost use Rattle.message_slot.specs.Fields.{callback_of};
 ghost use Rattle.message_pool.specs.Obtain.{IsNodeOf};
+ghost use Rattle.message_pool.specs.Values.{without_value};
 ghost use Rattle.looper_run.specs.Holding.{Workplace, workplace, held, IsSameOwn};
 ghost use Rattle.looper_run.specs.Tests.{Passes, PassesWith, IsSameLooper, IsLent, Rings, HasTaken};
 ghost use Rattle.looper_run.specs.Told.{IsRouteOf, IsTold, Dispatches, GivesBack};
@@ -27,8 +28,8 @@ pub(crate) fn tell(journal: &mut Journal, act: Act) -> Result<(), NoMemory>
 // The handler's callback object, or else the handler. None where memory was wanting.
 fn offer<D: Dispatcher>(
     d: &mut D,
-    own: &mut Own<D::Record>,
-    m: &Message<PoolClaim>,
+    own: &mut Own<D::Record, D::Value>,
+    m: &Message<PoolClaim<D::Value>>,
     now: u64,
 ) -> Option<Route>
     requires serves { D.Serves d.old (workplace (held own.old)) }
@@ -58,8 +59,8 @@ fn offer<D: Dispatcher>(
 // The callback of the message where it has one, else the handler with its callback object. None where memory was wanting.
 fn route<D: Dispatcher>(
     d: &mut D,
-    own: &mut Own<D::Record>,
-    m: &Message<PoolClaim>,
+    own: &mut Own<D::Record, D::Value>,
+    m: &Message<PoolClaim<D::Value>>,
     now: u64,
 ) -> Option<Route>
     requires serves { D.Serves d.old (workplace (held own.old)) }
@@ -87,14 +88,14 @@ fn route<D: Dispatcher>(
 // Dispatches a message that was taken, and tells it.
 fn dispatch_one<D: Dispatcher>(
     d: &mut D,
-    own: &mut Own<D::Record>,
+    own: &mut Own<D::Record, D::Value>,
     number: u64,
     now: u64,
-    m: &Message<PoolClaim>,
+    m: &mut Message<PoolClaim<D::Value>>,
 ) -> Result<(), NoMemory>
     requires serves { D.Serves d.old (workplace (held own.old)) }
-    requires taken { HasTaken (D.Meets d.old) (held own.old) m.now now }
-    requires number { number ≡ number_in m.now.item }
+    requires taken { HasTaken (D.Meets d.old) (held own.old) m.old now }
+    requires number { number ≡ number_in m.old.item }
     requires awaits { D.Awaits d.old None }
     ensures serves { (w : Workplace) → D.Serves d.old w → D.Serves d.new w }
     ensures origin { D.origin d.new ≡ D.origin d.old }
@@ -102,12 +103,13 @@ fn dispatch_one<D: Dispatcher>(
     ensures same { IsSameLooper (held own.old) (held own.new) }
     ensures nudges { Rings own.old.poster.now own.new.poster.now (D.nudges d.old) (D.nudges d.new) }
     ensures asked { D.asked d.new ≡ D.asked d.old }
-    ensures told { OnOk result (IsTold (held own.old) (held own.new) m.now now) }
+    ensures rest { without_value m.new ≡ without_value m.old }
+    ensures told { OnOk result (IsTold (held own.old) (held own.new) m.old now) }
     ensures given_up { OnErr result (IsLent (held own.old) (held own.new)) }
     ensures meets { OnOk result (Passes (D.Meets d.new) (held own.new)) }
     ensures awaits { OnOk result (D.Awaits d.new None) }
 {
-    d.before(number);
+    d.before(number, m);
     match route(d, own, m, now) {
         Some(route) => tell(own.journal, Act::Dispatch { number, now, route }),
         None => Err(NoMemory),
@@ -117,11 +119,11 @@ fn dispatch_one<D: Dispatcher>(
 // Dispatches a message that was taken, tells it and recycles it.
 pub(crate) fn dispatch<D: Dispatcher>(
     d: &mut D,
-    pool: &Pool,
-    own: &mut Own<D::Record>,
+    pool: &Pool<D::Value>,
+    own: &mut Own<D::Record, D::Value>,
     number: u64,
     now: u64,
-    node: PoolNode,
+    mut node: PoolNode<D::Value>,
 ) -> Result<(), NoMemory>
     requires serves { D.Serves d.old (workplace (held own.old)) }
     requires taken { HasTaken (D.Meets d.old) (held own.old) node now }
@@ -140,7 +142,7 @@ pub(crate) fn dispatch<D: Dispatcher>(
     ensures meets { OnOk result (Passes (D.Meets d.new) (held own.new)) }
     ensures awaits { OnOk result (D.Awaits d.new None) }
 {
-    let told = dispatch_one(d, own, number, now, node.item());
+    let told = dispatch_one(d, own, number, now, node.item_mut());
     pool.recycle(own.pass, node);
     told
 }

@@ -7,6 +7,7 @@ ghost use Rattle.loop_model.specs.declared.reply.Reply.TheVariants.{Disposed};
 ghost use Rattle.loop_model.specs.declared.entry.Entry.{Entry};
 ghost use Rattle.message_slot.specs.Letter.{number_in};
 ghost use Rattle.message_slot.specs.Fields.{callback_of};
+ghost use Rattle.message_pool.specs.Values.{without_value};
 ghost use Rattle.looper_run.specs.Holding.{Workplace, workplace, held, IsSameOwn};
 ghost use Rattle.looper_run.specs.Acts.{IsQuiet};
 ghost use Rattle.looper_run.specs.Asked.{Asked, Pulse, Listen, with_asked};
@@ -14,7 +15,7 @@ ghost use Rattle.looper_run.specs.Carried.{Carries};
 ghost use Rattle.looper_run.specs.Tests.{Passes, PassesWith, IsLent, Rings, HasTaken, Unless, Intercepts, LeavesTaken};
 
 use crate::own::Own;
-use message_pool::PoolClaim;
+use message_pool::{Payload, PoolClaim};
 use message_slot::Message;
 use queue_state::Recorder;
 
@@ -37,6 +38,9 @@ pub trait Dispatcher {
     /// Where the entries of its looper's queue go.
     type Record: Recorder;
 
+    /// What the messages of its looper's queue carry; `()` where nothing is wanted.
+    type Value: Payload;
+
     /// The queues and pools that it works on.
     ghost Serves: { Self → Workplace → Type 0 };
 
@@ -58,9 +62,12 @@ pub trait Dispatcher {
     /// What it awaits: the dispatch of the message of this number, which `before` was called with, or none.
     ghost Awaits: { Self → Option ℕ → Type 0 };
 
-    /// Called with the number of each message, counted from 0, before it is dispatched.
-    fn before(&mut self, number: u64)
+    /// Called with the number of each message, counted from 0, before it is dispatched. It is lent the message: a value that this carries
+    /// it takes out here, by `take_value` of message_pool, or leaves it to be dropped with the message. All else of it stays.
+    fn before(&mut self, number: u64, m: &mut Message<PoolClaim<Self::Value>>)
+        requires number { number ≡ number_in m.old.item }
         requires awaits { Awaits self.old None }
+        ensures rest { without_value m.new ≡ without_value m.old }
         ensures awaits { Awaits self.new (Some number) }
         ensures serves { (w : Workplace) → Serves self.old w → Serves self.new w }
         ensures origin { origin self.new ≡ origin self.old }
@@ -69,7 +76,7 @@ pub trait Dispatcher {
         ensures asked { asked self.new ≡ asked self.old };
 
     /// Called once at the start of each round, where a pulse that was asked for is delivered. Only NoMemory counts as an answer.
-    fn pulse(&mut self, own: &mut Own<Self::Record>, now: u64) -> Did
+    fn pulse(&mut self, own: &mut Own<Self::Record, Self::Value>, now: u64) -> Did
         requires serves { Serves self.old (workplace (held own.old)) }
         requires awaits { Awaits self.old None }
         requires meets { Passes (Meets self.old) (held own.old) }
@@ -102,9 +109,9 @@ pub trait Dispatcher {
     /// Runs the callback of a message that has one. Only NoMemory counts as an answer.
     fn run_callback(
         &mut self,
-        own: &mut Own<Self::Record>,
+        own: &mut Own<Self::Record, Self::Value>,
         id: u64,
-        m: &Message<PoolClaim>,
+        m: &Message<PoolClaim<Self::Value>>,
         now: u64,
     ) -> Did
         requires serves { Serves self.old (workplace (held own.old)) }
@@ -121,7 +128,7 @@ pub trait Dispatcher {
         ensures meets { Unless result (PassesWith (Meets self.new) (held own.new) m.now now (Callback id)) };
 
     /// Asks the handler's callback object, which answers No where the handler itself is to handle the message.
-    fn intercept(&mut self, own: &mut Own<Self::Record>, m: &Message<PoolClaim>, now: u64) -> Did
+    fn intercept(&mut self, own: &mut Own<Self::Record, Self::Value>, m: &Message<PoolClaim<Self::Value>>, now: u64) -> Did
         requires serves { Serves self.old (workplace (held own.old)) }
         requires taken { HasTaken (Meets self.old) (held own.old) m.now now }
         requires callback { callback_of m.now.item ≡ None }
@@ -137,7 +144,7 @@ pub trait Dispatcher {
             (LeavesTaken (Meets self.new) (held own.old) (held own.new) m.now now) };
 
     /// Handles a message that has no callback and was not intercepted. Only NoMemory counts as an answer.
-    fn handle(&mut self, own: &mut Own<Self::Record>, m: &Message<PoolClaim>, now: u64) -> Did
+    fn handle(&mut self, own: &mut Own<Self::Record, Self::Value>, m: &Message<PoolClaim<Self::Value>>, now: u64) -> Did
         requires serves { Serves self.old (workplace (held own.old)) }
         requires taken { HasTaken (Meets self.old) (held own.old) m.now now }
         requires callback { callback_of m.now.item ≡ None }

@@ -14,7 +14,7 @@ use crate::own::Own;
 use crate::sources::{Sources, take_events};
 use crate::step::Step;
 use loop_model::{Journal, NoMemory, Sequence};
-use message_pool::{Pool, PoolClaim, PoolPass};
+use message_pool::{Payload, Pool, PoolClaim, PoolPass};
 use queue_state::{Kept, Recorder};
 use shared_queue::{Poster, SharedQueue};
 use std::alloc::Global;
@@ -32,18 +32,18 @@ pub enum Round {
     NoMemory,
 }
 
-/// The loop of one queue, whose entries go where `E` says. Contracts see what it works with, whether an idle turn is owed, and
+/// The loop of one queue, whose entries go where `E` says, and whose messages may carry values of the type `P`. Contracts see what it works with, whether an idle turn is owed, and
 /// whether a round ended it.
 #[derive(Drop)]
-pub struct Looper<E: Recorder = Kept> {
-    pub(crate) poster: Poster<PoolClaim, E>,
-    pub(crate) pass: PoolPass,
+pub struct Looper<E: Recorder = Kept, P: Payload = ()> {
+    pub(crate) poster: Poster<PoolClaim<P>, E>,
+    pub(crate) pass: PoolPass<P>,
     pub(crate) journal: Journal,
     pub(crate) idle_owed: bool,
     pub(crate) ended: bool,
 }
 
-impl<E: Recorder> Model for Looper<E> {
+impl<E: Recorder, P: Payload> Model for Looper<E, P> {
     ghost use Rattle.looper_run.specs.Holding.{Looping};
 
     ghost Value = { Looping };
@@ -51,15 +51,15 @@ impl<E: Recorder> Model for Looper<E> {
     ghost view = { λ l. record { held = record { poster = l.poster; pass = l.pass; journal = l.journal }; idle_owed = l.idle_owed; ended = l.ended } };
 }
 
-impl<E: Recorder> Looper<E> {
+impl<E: Recorder, P: Payload> Looper<E, P> {
     /// A looper that has done nothing, by its poster of its own queue and a pass of the queue's pool. An idle turn is owed. It
     /// takes no memory. As `prepare` of AOSP's `Looper`.
     pub fn make(
         alloc: Global,
         looper: u32,
-        poster: Poster<PoolClaim, E>,
-        pass: PoolPass,
-    ) -> Looper<E>
+        poster: Poster<PoolClaim<P>, E>,
+        pass: PoolPass<P>,
+    ) -> Looper<E, P>
         ensures held { result.held ≡ record { poster = poster; pass = pass; journal = record { looper = looper; acts = [] } } }
         ensures flags { (result.idle_owed ≡ true) × (result.ended ≡ false) }
     {
@@ -76,7 +76,7 @@ impl<E: Recorder> Looper<E> {
     }
 
     /// Its poster, its pass and its journal, at its end (this project's profile).
-    pub fn into_parts(self) -> (Poster<PoolClaim, E>, PoolPass, Journal)
+    pub fn into_parts(self) -> (Poster<PoolClaim<P>, E>, PoolPass<P>, Journal)
         ensures { (result.0 ≡ self.held.poster) × (result.1 ≡ self.held.pass) × (result.2 ≡ self.held.journal) }
     {
         let Looper {
@@ -90,7 +90,7 @@ impl<E: Recorder> Looper<E> {
     }
 
     /// Lets its poster hear another poster of the queue. It takes no turn (this project's profile).
-    pub fn hear(&mut self, queue: &SharedQueue<PoolClaim, E>, other: &mut Poster<PoolClaim, E>)
+    pub fn hear(&mut self, queue: &SharedQueue<PoolClaim<P>, E>, other: &mut Poster<PoolClaim<P>, E>)
         requires { IsOf self.old.held.poster queue.now × IsOf other.old queue.now }
         ensures seen { self.new.held.poster.view.seen ≡ longer self.old.held.poster.view.seen other.old.view.seen }
         ensures begins { IsPrefix self.old.held.poster.view.seen self.new.held.poster.view.seen × IsPrefix other.old.view.seen self.new.held.poster.view.seen }
@@ -102,7 +102,7 @@ impl<E: Recorder> Looper<E> {
     }
 
     /// Lets another poster of the queue hear its poster. It takes no turn (this project's profile).
-    pub fn tell(&mut self, queue: &SharedQueue<PoolClaim, E>, other: &mut Poster<PoolClaim, E>)
+    pub fn tell(&mut self, queue: &SharedQueue<PoolClaim<P>, E>, other: &mut Poster<PoolClaim<P>, E>)
         requires { IsOf self.old.held.poster queue.now × IsOf other.old queue.now }
         ensures seen { other.new.view.seen ≡ longer other.old.view.seen self.old.held.poster.view.seen }
         ensures begins { IsPrefix other.old.view.seen other.new.view.seen × IsPrefix self.old.held.poster.view.seen other.new.view.seen }
@@ -119,11 +119,11 @@ impl<E: Recorder> Looper<E> {
     ///
     /// Drained where the last look answered that the looper is to wait, Ended where it ended the queue or found it over.
     /// After NoMemory the run is given up.
-    pub fn run_round<R: Wait, D: Dispatcher<Record = E>>(
+    pub fn run_round<R: Wait, D: Dispatcher<Record = E, Value = P>>(
         &mut self,
         rt: &R,
-        queue: &SharedQueue<PoolClaim, E>,
-        pool: &Pool,
+        queue: &SharedQueue<PoolClaim<P>, E>,
+        pool: &Pool<P>,
         sources: &Mutex<Sources>,
         d: &mut D,
         now: u64,
@@ -150,7 +150,7 @@ impl<E: Recorder> Looper<E> {
     }
 
     // The pulse, and the events that were handed in.
-    pub(crate) fn begin<R: Wait, D: Dispatcher<Record = E>>(
+    pub(crate) fn begin<R: Wait, D: Dispatcher<Record = E, Value = P>>(
         &mut self,
         rt: &R,
         sources: &Mutex<Sources>,
@@ -181,11 +181,11 @@ impl<E: Recorder> Looper<E> {
     }
 
     // Looks for messages until none is due or the queue is over.
-    fn drain<R: Wait, D: Dispatcher<Record = E>>(
+    fn drain<R: Wait, D: Dispatcher<Record = E, Value = P>>(
         &mut self,
         rt: &R,
-        queue: &SharedQueue<PoolClaim, E>,
-        pool: &Pool,
+        queue: &SharedQueue<PoolClaim<P>, E>,
+        pool: &Pool<P>,
         sources: &Mutex<Sources>,
         d: &mut D,
         now: u64,

@@ -8,14 +8,14 @@ ghost use Rattle.looper_run.specs.Tests.{IsSameLooper};
 
 use crate::looper::Looper;
 use loop_model::{Act, NoMemory, Segment, Sequence};
-use message_pool::PoolClaim;
+use message_pool::{Payload, PoolClaim};
 use queue_state::{Kept, Recorder};
 use shared_queue::SharedQueue;
 use std::alloc::Global;
 use std::mem;
 use std::sync::Wait;
 
-impl<E: Recorder> Looper<E> {
+impl<E: Recorder, P: Payload> Looper<E, P> {
     /// Hands out the acts that it told so far, or since the last such call; what it does from now on is told behind nothing. It
     /// takes no memory (this project's profile).
     pub fn take_acts(&mut self, alloc: Global) -> Sequence<Act>
@@ -36,13 +36,13 @@ impl<E: Recorder> Looper<E> {
     }
 }
 
-impl Looper<Kept> {
+impl<P: Payload> Looper<Kept, P> {
     /// Hands out the part of its queue's history that was not handed out before, as `seal` of its poster, which is the last sender's.
     /// At NoMemory nothing is handed out (this project's profile).
     pub fn seal<R: Wait>(
         &mut self,
         rt: &R,
-        queue: &SharedQueue<PoolClaim>,
+        queue: &SharedQueue<PoolClaim<P>>,
     ) -> Result<Segment, NoMemory>
         requires queue { IsOf self.old.held.poster queue.now }
         requires last { self.old.held.poster.sender + 1 ≡ queue.now.constants.setting.senders }
@@ -59,7 +59,7 @@ impl Looper<Kept> {
         &mut self,
         rt: &R,
         alloc: Global,
-        queue: &SharedQueue<PoolClaim>,
+        queue: &SharedQueue<PoolClaim<P>>,
     ) -> Result<(), NoMemory>
         requires queue { IsOf self.old.held.poster queue.now }
         requires last { self.old.held.poster.sender + 1 ≡ queue.now.constants.setting.senders }

@@ -14,7 +14,7 @@ use crate::looper::Looper;
 use crate::own::Own;
 use crate::sources::{Sources, run_idle};
 use message_list::NodeList;
-use message_pool::{Pool, PoolClaim, PoolPass};
+use message_pool::{Payload, Pool, PoolClaim, PoolPass};
 use message_slot::Message;
 use queue_state::{Nexted, Recorder};
 use shared_queue::SharedQueue;
@@ -36,7 +36,11 @@ pub enum Step {
 }
 
 // Recycles the messages that a queue leaves.
-fn recycle_all(pool: &Pool, pass: &mut PoolPass, mut nodes: NodeList<Message<PoolClaim>>)
+fn recycle_all<P: Payload>(
+    pool: &Pool<P>,
+    pass: &mut PoolPass<P>,
+    mut nodes: NodeList<Message<PoolClaim<P>>>,
+)
     requires pass { pass.old.home ≡ pool.now }
     requires nodes { All (IsNodeOf pool.now) nodes }
     ensures home { pass.new.home ≡ pool.now }
@@ -47,13 +51,13 @@ fn recycle_all(pool: &Pool, pass: &mut PoolPass, mut nodes: NodeList<Message<Poo
     }
 }
 
-impl<E: Recorder> Looper<E> {
+impl<E: Recorder, P: Payload> Looper<E, P> {
     // Looks for a message once, and dispatches it, or runs the idle handlers.
-    pub(crate) fn step<R: Wait, D: Dispatcher<Record = E>>(
+    pub(crate) fn step<R: Wait, D: Dispatcher<Record = E, Value = P>>(
         &mut self,
         rt: &R,
-        queue: &SharedQueue<PoolClaim, E>,
-        pool: &Pool,
+        queue: &SharedQueue<PoolClaim<P>, E>,
+        pool: &Pool<P>,
         sources: &Mutex<Sources>,
         d: &mut D,
         now: u64,
@@ -77,13 +81,13 @@ impl<E: Recorder> Looper<E> {
     }
 
     // Does what a look for a message was answered: dispatches the message, or runs the idle handlers.
-    pub(crate) fn act<R: Wait, D: Dispatcher<Record = E>>(
+    pub(crate) fn act<R: Wait, D: Dispatcher<Record = E, Value = P>>(
         &mut self,
         rt: &R,
-        pool: &Pool,
+        pool: &Pool<P>,
         sources: &Mutex<Sources>,
         d: &mut D,
-        answer: Nexted<PoolClaim>,
+        answer: Nexted<PoolClaim<P>>,
     ) -> Step
         requires pool { self.old.held.pass.home ≡ pool.now }
         requires home { IsAnswerOf pool.now answer }

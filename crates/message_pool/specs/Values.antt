@@ -1,5 +1,5 @@
 -- The values that messages carry, as contracts see them.
-use Rattle.std.specs.Prelude.{◌≡◌, ℕ, List, Option, Some, None}
+use Rattle.std.specs.Prelude.{ℕ, List, Option, Some, None}
 use Rattle.message_pool.specs.Passes.{Claimed, Node}
 
 -- what is seen of a value, or None where there is none

@@ -89,6 +89,8 @@ impl<'a, R: Wait, C: Clock, E: Recorder, H: Handle<R, C, E>> Dispatcher
     for Handling<'a, R, C, E, H> {
     type Record = E;
 
+    type Value = ();
+
     ghost Serves = { λ d w. IsPlaceOf d.mailbox.now.queue.now d.mailbox.now.pool.now w };
 
     ghost Origin = { Unit {0} };
@@ -103,7 +105,7 @@ impl<'a, R: Wait, C: Clock, E: Recorder, H: Handle<R, C, E>> Dispatcher
 
     ghost Awaits = { λ d awaited. H.Holds d.handlers };
 
-    fn before(&mut self, number: u64) {}
+    fn before(&mut self, number: u64, m: &mut Message<PoolClaim>) {}
 
     fn pulse(&mut self, own: &mut Own<E>, now: u64) -> Did {
         Did::Yes

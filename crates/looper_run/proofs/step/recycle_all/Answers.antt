@@ -6,7 +6,7 @@ use Rattle.looper_run.proofs.Working.{first_all}
 use Rattle.looper_run.proofs.step.recycle_all.Goals as goal
 
 pub loop-node-preserved : goal.loop-node-preserved
-loop-node-preserved c =
+loop-node-preserved g c =
     let rest = c.pop_front.new.self in
     let before = c.loop-node.pass in
     let after = c.recycle.new.pass in

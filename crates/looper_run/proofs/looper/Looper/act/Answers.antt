@@ -17,13 +17,13 @@ use Rattle.looper_run.proofs.looper.Looper.act.Goals as goal
 use Rattle.looper_run.proofs.looper.Looper.act.Goals.{in-Ok, in-Err, in-Ok-run_idle, in-Err-run_idle}
 
 pub dispatch-requires-clause-taken : goal.dispatch-requires-clause-taken
-dispatch-requires-clause-taken g c =
+dispatch-requires-clause-taken g c κs lives =
     let M = g.D.Dispatcher.Meets c.args.d.now in
     subst (λ (l : Looping). HasTaken M l.held c.in-Taken.node c.in-Taken.now) (sym c.self.view_is)
     (answer_taken M c.args.self.now c.args.answer c.requires.look c.in-Taken.number c.in-Taken.now c.in-Taken.node (g.met.D.Dispatcher.others c.args.d.now) c.in-Taken.is)
 
 pub dispatch-requires-clause-number : goal.dispatch-requires-clause-number
-dispatch-requires-clause-number g c =
+dispatch-requires-clause-number g c κs lives =
     answer_number (g.D.Dispatcher.Meets c.args.d.now) c.args.self.now c.args.answer c.requires.look c.in-Taken.number c.in-Taken.now c.in-Taken.node c.in-Taken.is
 
 pub returns-after-dispatch-clause-step : goal.returns-after-dispatch-clause-step

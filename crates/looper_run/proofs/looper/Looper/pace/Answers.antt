@@ -11,7 +11,7 @@ use Rattle.looper_run.proofs.Pausing.{may_act, passes_pause, pauses, paces, unle
 use Rattle.looper_run.proofs.looper.Looper.pace.Goals as goal
 
 pub act-step-requires-clause-look : goal.act-step-requires-clause-look
-act-step-requires-clause-look g c =
+act-step-requires-clause-look g c κs lives =
     let M = g.D.Dispatcher.Meets c.args.d.now in
     let shows = g.C.Clock.shows c.args.by.now.clock.now in
     let l : Looping = record { held = record { poster = c.self.inside.poster; pass = c.self.inside.pass; journal = c.self.inside.journal }; idle_owed = c.self.inside.idle_owed; ended = c.self.inside.ended } in
@@ -22,7 +22,7 @@ act-step-requires-clause-look g c =
     may_act M (g.met.D.Dispatcher.others c.args.d.now) (g.met.D.Dispatcher.quiet c.args.d.now) shows c.args.by.now.start c.args.by.now.cap c.args.queue.now c.args.pool.now l c.wait_next-waited.new.self w.0 w.1 got.0 c.in-Ok.answer at passes w.2 got.1
 
 pub act-step-requires-clause-home : goal.act-step-requires-clause-home
-act-step-requires-clause-home g c =
+act-step-requires-clause-home g c κs lives =
     c.in-Ok.ensures.home c.args.pool.now (subst (λ (h : TableId). WaitsAtHome (λ (k : Claimed). k.home) h c.wait_next-waited.result) c.requires.at.home c.wait_next-waited.ensures.home)
 
 pub returns-clause-paced : goal.returns-clause-paced

@@ -5,7 +5,7 @@ use Rattle.looper_run.specs.Looks.{StepBy}
 use Rattle.looper_run.proofs.looper.Looper.step.Goals as goal
 
 pub act-requires-clause-look : goal.act-requires-clause-look
-act-requires-clause-look g c =
+act-requires-clause-look g c κs lives =
     let at = subst (λ (l : Looping). IsAt c.args.queue.now c.args.pool.now l.held) (sym c.self.view_is) c.requires.at in
     let passes = subst (λ (l : Looping). Passes (g.D.Dispatcher.Meets c.args.d.now) l.held) (sym c.self.view_is) c.requires.meets in
     record { queue = c.args.queue.now; poster = c.self.inside.poster; now = c.args.now; of = at.poster; look = c.next-answer.ensures.done; passes = passes }
