@@ -39,7 +39,12 @@ fn is_over(answer: Option<Loop>) -> Result<bool, NoMemory>
 /// a second. Answers whether the queue is over. If not it drops the acts that the looper told, and the queue's entries so far where they
 /// are kept, so that a looper which does so again and again runs in bounded memory. NoMemory where the dispatcher, a call of the loop or
 /// the letting go found none (this project's profile).
-pub fn loop_and_let_go<R: Wait + time::Clock, C: Clock, E: LetGo, D: Dispatcher<Record = E, Value = ()>>(
+pub fn loop_and_let_go<
+    R: Wait + time::Clock,
+    C: Clock,
+    E: LetGo,
+    D: Dispatcher<Record = E, Value = ()>,
+>(
     mailbox: &Mailbox<R, C, E>,
     looper: &mut Looper<E>,
     dispatcher: &mut D,

@@ -10,7 +10,7 @@ use Rattle.run_picture.proofs.svg.svg_text.Goals as goal
 pub returns : goal.returns
 returns c =
     let seen : c.in_ok-shown.shown.items ≡ seen_marks c.args.view c.args.report.now =
-        c.in_ok-shown.ensures.all ∙ ap (filter (is_seen c.args.view.window)) (c.deref.ensures.value ∙ c.in_ok-all.ensures) in
+    c.in_ok-shown.ensures.all ∙ ap (filter (is_seen c.args.view.window)) (c.deref.ensures.value ∙ c.in_ok-all.ensures) in
     record {
       scale = c.scale_of-scale.result;
       groups = c.in_ok-groups.groups.items;

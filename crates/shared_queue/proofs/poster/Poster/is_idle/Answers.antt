@@ -17,4 +17,4 @@ returns g c =
     is_still_turn c.args.queue.now.constants c.self.inside.desk c.begin-state.new.self c.begin-state.result c.begin-state.ensures c.end.new.self c.self.view_is c.self.invariant c.end.ensures
     (λ (v : Queue g.row.K-Home.Denot g.row.K.Denot). c.is_idle-answer.result ≡ is_idle_at v c.args.now)
     (λ past leave. c.is_idle-answer.ensures ∙ ap (λ (v : Queue g.row.K-Home.Denot g.row.K.Denot). is_idle_at v c.args.now) c.value.ensures
-        ∙ sym (idle_alike past c.begin-state.result leave c.args.now))
+    ∙ sym (idle_alike past c.begin-state.result leave c.args.now))
