@@ -41,7 +41,7 @@ const at = (kind, left, top, more) => {
   canvas.dispatchEvent(event);
 };
 const all = document.body.dataset.shown;
-at('wheel', LEFT + 1, 40, {deltaY: -1500});
+at('wheel', LEFT - 5, 40, {deltaY: -1500});
 const hit = hits[0];
 at('pointermove', (hit.left + hit.right) / 2, (hit.top + hit.bottom) / 2, {});
 document.body.dataset.all = all;
