@@ -424,7 +424,12 @@ impl Handler {
 
     /// Whether any message or callback of this handler, and with this object where one is named, stands in the queue
     /// (`hasMessagesOrCallbacks`). It makes no entry.
-    pub fn has_any<R: Wait, E: Recorder, P: Payload>(&self, rt: &R, way: &mut Way<E, P>, obj: Option<u64>) -> bool
+    pub fn has_any<R: Wait, E: Recorder, P: Payload>(
+        &self,
+        rt: &R,
+        way: &mut Way<E, P>,
+        obj: Option<u64>,
+    ) -> bool
         requires { IsReady way.old }
         ensures ready { IsReady way.new }
         ensures same { IsSameWay way.old way.new }

@@ -263,11 +263,26 @@ fn a_value_comes_out_or_back(rt: HostRuntime) -> Result<(), Fail> {
     };
     send_orders(&rt, rt.alloc(), &mut way, 50);
     let full = send_order(&rt, rt.alloc(), &mut way, 50);
-    assert!(rt; matches!(full, SentWith::Full { value: Order { number: 50 } }));
+    assert!(rt;
+        matches!(
+            full,
+            SentWith::Full {
+                value: Order { number: 50 }
+            }
+        )
+    );
     assert!(rt; next_order(&rt, &mut way) == Some(0));
     assert!(rt; next_order(&rt, &mut way) == Some(1));
     let sent = send_order(&rt, rt.alloc(), &mut way, 51);
-    assert!(rt; matches!(sent, SentWith::Accepted { number: 50, wake: false }));
+    assert!(rt;
+        matches!(
+            sent,
+            SentWith::Accepted {
+                number: 50,
+                wake: false
+            }
+        )
+    );
     assert!(rt; way.quit(&rt, false, 0) == Quit::Done { dropped: 49 });
     let refused = send_order(&rt, rt.alloc(), &mut way, 52);
     assert!(rt;

@@ -74,7 +74,11 @@ pub(crate) fn send<R: Wait, E: Recorder, P: Payload>(
 }
 
 /// Removes the messages that the filter names, and recycles them.
-pub(crate) fn erase<R: Wait, E: Recorder, P: Payload>(rt: &R, way: &mut Way<E, P>, filter: &Filter) -> Erased
+pub(crate) fn erase<R: Wait, E: Recorder, P: Payload>(
+    rt: &R,
+    way: &mut Way<E, P>,
+    filter: &Filter,
+) -> Erased
     requires { IsReady way.old }
     ensures ready { IsReady way.new }
     ensures same { IsSameWay way.old way.new }

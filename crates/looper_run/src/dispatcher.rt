@@ -128,7 +128,12 @@ pub trait Dispatcher {
         ensures meets { Unless result (PassesWith (Meets self.new) (held own.new) m.now now (Callback id)) };
 
     /// Asks the handler's callback object, which answers No where the handler itself is to handle the message.
-    fn intercept(&mut self, own: &mut Own<Self::Record, Self::Value>, m: &Message<PoolClaim<Self::Value>>, now: u64) -> Did
+    fn intercept(
+        &mut self,
+        own: &mut Own<Self::Record, Self::Value>,
+        m: &Message<PoolClaim<Self::Value>>,
+        now: u64,
+    ) -> Did
         requires serves { Serves self.old (workplace (held own.old)) }
         requires taken { HasTaken (Meets self.old) (held own.old) m.now now }
         requires callback { callback_of m.now.item ≡ None }
@@ -144,7 +149,12 @@ pub trait Dispatcher {
             (LeavesTaken (Meets self.new) (held own.old) (held own.new) m.now now) };
 
     /// Handles a message that has no callback and was not intercepted. Only NoMemory counts as an answer.
-    fn handle(&mut self, own: &mut Own<Self::Record, Self::Value>, m: &Message<PoolClaim<Self::Value>>, now: u64) -> Did
+    fn handle(
+        &mut self,
+        own: &mut Own<Self::Record, Self::Value>,
+        m: &Message<PoolClaim<Self::Value>>,
+        now: u64,
+    ) -> Did
         requires serves { Serves self.old (workplace (held own.old)) }
         requires taken { HasTaken (Meets self.old) (held own.old) m.now now }
         requires callback { callback_of m.now.item ≡ None }

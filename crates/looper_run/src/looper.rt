@@ -90,7 +90,11 @@ impl<E: Recorder, P: Payload> Looper<E, P> {
     }
 
     /// Lets its poster hear another poster of the queue. It takes no turn (this project's profile).
-    pub fn hear(&mut self, queue: &SharedQueue<PoolClaim<P>, E>, other: &mut Poster<PoolClaim<P>, E>)
+    pub fn hear(
+        &mut self,
+        queue: &SharedQueue<PoolClaim<P>, E>,
+        other: &mut Poster<PoolClaim<P>, E>,
+    )
         requires { IsOf self.old.held.poster queue.now × IsOf other.old queue.now }
         ensures seen { self.new.held.poster.view.seen ≡ longer self.old.held.poster.view.seen other.old.view.seen }
         ensures begins { IsPrefix self.old.held.poster.view.seen self.new.held.poster.view.seen × IsPrefix other.old.view.seen self.new.held.poster.view.seen }
@@ -102,7 +106,11 @@ impl<E: Recorder, P: Payload> Looper<E, P> {
     }
 
     /// Lets another poster of the queue hear its poster. It takes no turn (this project's profile).
-    pub fn tell(&mut self, queue: &SharedQueue<PoolClaim<P>, E>, other: &mut Poster<PoolClaim<P>, E>)
+    pub fn tell(
+        &mut self,
+        queue: &SharedQueue<PoolClaim<P>, E>,
+        other: &mut Poster<PoolClaim<P>, E>,
+    )
         requires { IsOf self.old.held.poster queue.now × IsOf other.old queue.now }
         ensures seen { other.new.view.seen ≡ longer other.old.view.seen self.old.held.poster.view.seen }
         ensures begins { IsPrefix other.old.view.seen other.new.view.seen × IsPrefix self.old.held.poster.view.seen other.new.view.seen }

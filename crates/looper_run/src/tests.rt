@@ -16,9 +16,7 @@ use loop_io::StepClock;
 use loop_model::{Act, NoMemory, Post, Route};
 use loop_sources::{FdTable, IdleSet};
 use message_list::new_node;
-use message_pool::{
-    Obtained, Payload, Pool, PoolClaim, PoolNode, PoolPass, put_value, take_value,
-};
+use message_pool::{Obtained, Payload, Pool, PoolClaim, PoolNode, PoolPass, put_value, take_value};
 use message_slot::Message;
 use queue_state::{Kept, Posted, Quitting, Recorder, Unkept};
 use shared_queue::{Poster, SharedQueue};
