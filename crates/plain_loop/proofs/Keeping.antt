@@ -18,7 +18,7 @@ use Rattle.message_slot.specs.Letter.{post_of}
 use Rattle.message_pool.specs.Passes.{Claimed, Tally}
 use Rattle.queue_state.specs.Queue.{Queue, entry_of, moment_at}
 use Rattle.shared_queue.specs.Known.{Shared, IsOf, IsTurn}
-use Rattle.handler_post.specs.declared.way.Way.{Way}
+use Rattle.handler_post.specs.Ways.{PlainWay as Way}
 use Rattle.handler_post.specs.declared.way.Sent.{Sent}
 use Rattle.handler_post.specs.declared.way.Sent.TheVariants.{Accepted as Took, Refused as Turned, NoMemory as NoRoom}
 use Rattle.handler_post.specs.declared.way.Erased.{Erased}

@@ -2,7 +2,7 @@
 use Rattle.std.specs.Prelude.{◌≡◌, ℕ, Bool, IsTrue}
 use Rattle.loop_model.specs.declared.journal.Journal.{Journal}
 use Rattle.loop_model.specs.declared.post.Post.{Post}
-use Rattle.handler_post.specs.declared.way.Way.{Way}
+use Rattle.handler_post.specs.Ways.{PlainWay as Way}
 use Rattle.handler_post.specs.Ways.{IsReady, IsSameWay}
 use Rattle.looper_run.specs.Holding.{Holding}
 use Rattle.looper_run.specs.Tests.{IsLent}
