@@ -1,5 +1,5 @@
 -- What the calls on a screen and the steps of its dispatcher keep.
-use Rattle.std.proofs.Common.{◌≡◌, ℕ, [], refl, sym, ap, ◌∙◌, subst, Some}
+use Rattle.std.proofs.Common.{◌≡◌, [], refl, sym, ap, ◌∙◌, subst, Some}
 use Rattle.std.specs.Prelude.{Result, Ok, Err, OnOk}
 use Rattle.atomic_table.specs.Seated.{TableId}
 use Rattle.loop_model.specs.declared.journal.Journal.{Journal}
@@ -10,21 +10,20 @@ use Rattle.choreographer.specs.Known.{Shared as FrameShared, Known as FrameKnown
 use Rattle.choreographer.specs.declared.frame.Framed.{Framed}
 use Rattle.choreographer.specs.declared.frame.Framed.TheVariants as framed
 use Rattle.choreographer.specs.Done.{UnlessNoMemory}
-use Rattle.handler_post.specs.Ways.{KeptWay as Way}
+use Rattle.handler_post.specs.declared.way.Way.{Way}
 use Rattle.handler_post.specs.Ways.{IsReady}
-use Rattle.looper_run.specs.Holding.{KeptOwn as Own}
+use Rattle.looper_run.specs.declared.own.Own.{Own}
 use Rattle.looper_run.specs.Holding.{Sender, Holding, Workplace, workplace, held}
 use Rattle.looper_run.specs.Tests.{IsLent, IsSameLooper}
 use Rattle.looper_run.proofs.Working.{lent_self}
 use Rattle.plain_loop.specs.Lines.{Keeps}
-use Rattle.plain_loop.specs.Handling.{IsPlaceOf}
 use Rattle.frame_loop.specs.declared.screen.Screen.{Screen}
 use Rattle.frame_loop.specs.Screens.{KeepsScreen}
 use Rattle.frame_loop.specs.Paintings.{PaintingOrigin, ServesPainting, lending}
 use Rattle.frame_loop.specs.Dispatching.{ServesFrames, KeepsOwn, FoundMemory}
 
 -- a way keeps itself
-pub keeps_self : (v : Way) → IsReady v → Keeps v v
+pub keeps_self : {E : Type 0} (v : Way E) → IsReady v → Keeps v v
 keeps_self v ready = record {
   ready = ready;
   same = record { queue = refl; pool = refl; poster = refl; pass = refl };
@@ -32,7 +31,7 @@ keeps_self v ready = record {
 }
 
 -- two calls
-pub keeps_then : (u v w : Way) → Keeps u v → Keeps v w → Keeps u w
+pub keeps_then : {E : Type 0} (u v w : Way E) → Keeps u v → Keeps v w → Keeps u w
 keeps_then u v w a b = record {
   ready = b.ready;
   same = record { queue = b.same.queue ∙ a.same.queue; pool = b.same.pool ∙ a.same.pool; poster = b.same.poster ∙ a.same.poster; pass = b.same.pass ∙ a.same.pass };
@@ -40,7 +39,7 @@ keeps_then u v w a b = record {
 }
 
 -- what was lent and not touched
-pub own_self : (o : Own) → KeepsOwn o o
+pub own_self : {E : Type 0} (o : Own E) → KeepsOwn o o
 own_self o = record { same = record { poster = refl; pass = refl; journal = refl }; lent = lent_self (held o); rung = refl }
 
 -- the place of a looper that goes on as a dispatcher's calls may
@@ -90,9 +89,9 @@ closes o' poster poster' pass pass' asks c j began pass_began s = (
   s.rung ∙ ap (λ (p : Sender). p.view.rung) began,
 )
 
-module _ {R C : Type 0} where
+module _ {R C E : Type 0} where
   -- a callback that kept its screen leaves a client that serves what it served
-  pub paints : (o : PaintingOrigin) (s t : Screen R C) (q : FrameShared) → KeepsScreen s t → o.queue ≡ s.queue.now → o.pool ≡ s.pool.now → o.choreographer ≡ s.choreographer.now
+  pub paints : (o : PaintingOrigin) (s t : Screen R C E) (q : FrameShared) → KeepsScreen s t → o.queue ≡ s.queue.now → o.pool ≡ s.pool.now → o.choreographer ≡ s.choreographer.now
       → ServesPainting o s.poster.now s.pass.now s.asks.now q → ServesPainting o t.poster.now t.pass.now t.asks.now q
   paints o s t q k oq op oc h = record {
     of_queue = subst (λ (x : Shared TableId). IsOf t.poster.now x) (k.line.same.queue ∙ sym oq) k.line.ready.poster;

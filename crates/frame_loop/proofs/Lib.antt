@@ -1,2 +1,3 @@
+pub mod FrameLoops
 pub mod Keeping
 pub mod Ringing

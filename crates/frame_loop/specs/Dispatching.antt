@@ -5,7 +5,7 @@ use Rattle.shared_queue.specs.Known.{Shared}
 use Rattle.choreographer.specs.Known.{Shared as FrameShared, Known as FrameKnown, IsOf}
 use Rattle.choreographer.specs.declared.frame.Framed.{Framed}
 use Rattle.choreographer.specs.declared.frame.Framed.TheVariants as framed
-use Rattle.looper_run.specs.Holding.{KeptOwn as Own}
+use Rattle.looper_run.specs.declared.own.Own.{Own}
 use Rattle.looper_run.specs.Holding.{Workplace, held, IsSameOwn}
 use Rattle.looper_run.specs.Tests.{IsLent}
 use Rattle.plain_loop.specs.Handling.{IsPlaceOf}
@@ -20,15 +20,15 @@ pub record ServesFrames (queue : Shared TableId) (pool : TableId) (c : FrameShar
   pub seals : c.constants.seals ≡ true
 
 -- the same of a dispatcher
-abbrev pub Serving : {R C H : Type 0} → FrameHandling R C H → Workplace → Type 0
+abbrev pub Serving : {R C E H : Type 0} → FrameHandling R C E H → Workplace → Type 0
 Serving d w = ServesFrames d.mailbox.now.queue.now d.mailbox.now.pool.now d.choreographer.now d.frames d.asks w
 
 -- it serves the loopers that it served
-abbrev pub KeepsServing : {R C H : Type 0} → FrameHandling R C H → FrameHandling R C H → Type 0
+abbrev pub KeepsServing : {R C E H : Type 0} → FrameHandling R C E H → FrameHandling R C E H → Type 0
 KeepsServing before after = (w : Workplace) → Serving before w → Serving after w
 
 -- what was lent has gone on as the calls of a dispatcher may, by the same references, and rang no bell
-pub record KeepsOwn (before after : Own) : Type 0 where
+pub record KeepsOwn {E : Type 0} (before after : Own E) : Type 0 where
   pub same : IsSameOwn before after
   pub lent : IsLent (held before) (held after)
   pub rung : after.poster.now.view.rung ≡ before.poster.now.view.rung

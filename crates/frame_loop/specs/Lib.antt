@@ -1,3 +1,4 @@
 pub mod Screens
 pub mod Paintings
 pub mod Dispatching
+pub mod FrameLooping

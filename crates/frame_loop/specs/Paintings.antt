@@ -22,7 +22,7 @@ pub record PaintingOrigin : Type 0 where
   pub pass : Tally
 
 -- the origin of a client
-abbrev pub painting_origin : {R C H : Type 0} → Painting R C H → PaintingOrigin
+abbrev pub painting_origin : {R C E H : Type 0} → Painting R C E H → PaintingOrigin
 painting_origin l = record {
   queue = l.queue.now;
   pool = l.pool.now;

@@ -3,7 +3,7 @@ use Rattle.std.specs.Prelude.{◌≡◌, ◌==◌, ◌||◌, ◌/◌, ◌-◌, �
 use Rattle.choreographer.specs.Known.{IsOf}
 use Rattle.choreographer.specs.Calls.{PostedBy}
 use Rattle.choreographer.specs.declared.hosted.Placed.{Placed}
-use Rattle.handler_post.specs.Ways.{KeptWay as Way}
+use Rattle.handler_post.specs.declared.way.Way.{Way}
 use Rattle.handler_post.specs.Ways.{IsReady}
 use Rattle.plain_loop.specs.Lines.{Keeps}
 use Rattle.frame_loop.specs.declared.screen.Phase.{Phase}
@@ -23,38 +23,38 @@ abbrev pub shows_nanos : (ℕ → Bool) → ℕ → Bool
 shows_nanos shows nanos = shows (nanos / 1000000) || (nanos == 2 ^ 64 - 1)
 
 -- the way that a screen posts messages by
-abbrev pub screen_way : {R C : Type 0} → Screen R C → Way
+abbrev pub screen_way : {R C E : Type 0} → Screen R C E → Way E
 screen_way s = record { queue = s.queue; poster = s.poster; pool = s.pool; pass = s.pass }
 
 -- its way is ready, and its other pass is one of the choreographer, which has five phases
-pub record IsScreen {R C : Type 0} (s : Screen R C) : Type 0 where
+pub record IsScreen {R C E : Type 0} (s : Screen R C E) : Type 0 where
   pub way : IsReady (screen_way s)
   pub asks : IsOf s.asks.now s.choreographer.now
   pub phases : s.choreographer.now.constants.phases ≡ 5
 
 -- the same choreographer, by the same references
-pub record IsSameScreen {R C : Type 0} (before after : Screen R C) : Type 0 where
+pub record IsSameScreen {R C E : Type 0} (before after : Screen R C E) : Type 0 where
   pub choreographer : after.choreographer.now ≡ before.choreographer.now
   pub asks : after.asks.ghost_name ≡ before.asks.ghost_name
   pub outbox : after.outbox.ghost_name ≡ before.outbox.ghost_name
   pub clock : after.outbox.now.clock.now ≡ before.outbox.now.clock.now
 
 -- what each call on a screen keeps: it is a screen of the same looper and choreographer, and its line is kept
-pub record KeepsScreen {R C : Type 0} (before after : Screen R C) : Type 0 where
+pub record KeepsScreen {R C E : Type 0} (before after : Screen R C E) : Type 0 where
   pub line : Keeps (screen_way before) (screen_way after)
   pub screen : IsScreen after
   pub same : IsSameScreen before after
 
 -- nothing was sent by the line
-abbrev pub KeepsWay : {R C : Type 0} → Screen R C → Screen R C → Type 0
+abbrev pub KeepsWay : {R C E : Type 0} → Screen R C E → Screen R C E → Type 0
 KeepsWay before after = (after.poster.now ≡ before.poster.now) × (after.pass.now ≡ before.pass.now)
 
 -- no callback was posted or removed
-abbrev pub KeepsFrames : {R C : Type 0} → Screen R C → Screen R C → Type 0
+abbrev pub KeepsFrames : {R C E : Type 0} → Screen R C E → Screen R C E → Type 0
 KeepsFrames before after = (after.asks.now ≡ before.asks.now) × (after.outbox.now ≡ before.outbox.now)
 
 -- a callback was posted at the choreographer, at a moment of the clock
-abbrev pub PostsFrame : {R C : Type 0} → (C → ℕ → Bool) → Screen R C → Screen R C → ℕ → ℕ → Option ℕ → ℕ → Placed → Type 0
+abbrev pub PostsFrame : {R C E : Type 0} → (C → ℕ → Bool) → Screen R C E → Screen R C E → ℕ → ℕ → Option ℕ → ℕ → Placed → Type 0
 PostsFrame shows before after phase id token delay result =
     PostedBy before.asks.now after.asks.now (shows_nanos (shows before.outbox.now.clock.now)) before.outbox.now.sent.items after.outbox.now.sent.items
     phase id token delay result

@@ -8,6 +8,7 @@ use loop_io::Clock;
 use loop_model::NoMemory;
 use looper_run::Looper;
 use plain_loop::{Mailbox, Opened, Sender, Senders, Settings, open, open_with};
+use queue_state::Unkept;
 use std::alloc::Global;
 use std::sync::Wait;
 use std::thread::{Threads, join};
@@ -18,7 +19,7 @@ use std::time;
 pub fn run_frames_here<
     R: Wait + time::Clock,
     C: Clock,
-    H: FrameHandle<R, C> + Drop,
+    H: FrameHandle<R, C, Unkept> + Drop,
     W: FnOnce(&Mailbox<R, C>, Senders) + Drop,
 >(
     rt: &R,
@@ -72,12 +73,12 @@ fn work_and_quit<R: Wait, C: Clock, T, W: FnOnce(&Mailbox<R, C>, Senders) -> T>(
 fn side_by_side<
     R: Threads + Wait + time::Clock + Sync,
     C: Clock + Sync,
-    H: FrameHandle<R, C> + Send + Drop,
+    H: FrameHandle<R, C, Unkept> + Send + Drop,
     T: Send + Drop,
     W: FnOnce(&Mailbox<R, C>, Senders) -> T + Send + Drop,
 >(
     mailbox: &Mailbox<R, C>,
-    mut looper: Looper,
+    mut looper: Looper<Unkept>,
     mut senders: Senders,
     period: u64,
     handlers: H,
@@ -106,7 +107,7 @@ fn side_by_side<
 pub fn run_frames_beside<
     R: Threads + Wait + time::Clock + Sync,
     C: Clock + Sync,
-    H: FrameHandle<R, C> + Send + Drop,
+    H: FrameHandle<R, C, Unkept> + Send + Drop,
     T: Send + Drop,
     W: FnOnce(&Mailbox<R, C>, Senders) -> T + Send + Drop,
 >(
@@ -156,12 +157,12 @@ fn do_work<R: Wait, C: Clock, T, W: FnOnce(&Mailbox<R, C>, Senders) -> T>(
 fn all_beside<
     R: Threads + Wait + time::Clock + Sync,
     C: Clock + Sync,
-    H: FrameHandle<R, C> + Send + Drop,
+    H: FrameHandle<R, C, Unkept> + Send + Drop,
     T: Send + Drop,
     W: FnOnce(&Mailbox<R, C>, Senders) -> T + Send + Drop,
 >(
     mailbox: &Mailbox<R, C>,
-    mut looper: Looper,
+    mut looper: Looper<Unkept>,
     senders: Senders,
     period: u64,
     handlers: H,
@@ -188,7 +189,7 @@ fn all_beside<
 pub fn run_frames_with<
     R: Threads + Wait + time::Clock + Sync,
     C: Clock + Sync,
-    H: FrameHandle<R, C> + Send + Drop,
+    H: FrameHandle<R, C, Unkept> + Send + Drop,
     T: Send + Drop,
     W: FnOnce(&Mailbox<R, C>, Senders) -> T + Send + Drop,
 >(

@@ -6,6 +6,7 @@ ghost use Rattle.looper_run.specs.Holding.{workplace, held, IsSameOwn};
 ghost use Rattle.looper_run.specs.Tests.{IsLent, Rings};
 ghost use Rattle.plain_loop.specs.Lines.{Keeps, way_of};
 ghost use Rattle.frame_loop.specs.Dispatching.{FoundMemory, Serving, KeepsServing, KeepsOwn};
+ghost use Rattle.frame_loop.specs.FrameLooping.{AsksPulse, DropsFrames};
 
 use crate::handlers::FrameHandle;
 use crate::outbox::FrameOutbox;
@@ -21,7 +22,7 @@ use looper_run::{Did, Dispatcher, Own};
 use message_pool::PoolClaim;
 use message_slot::Message;
 use plain_loop::{Handled, Line, Mailbox, did};
-use queue_state::Kept;
+use queue_state::Recorder;
 use std::snapshot::Snapshot;
 use std::sync::Wait;
 
@@ -33,8 +34,8 @@ const FRAMES: Handler = Handler {
 
 /// Handlers with their looper's choreographer.
 #[derive(Drop)]
-pub(crate) struct FrameHandling<'a, R: Wait, C: Clock, H: FrameHandle<R, C>> {
-    pub(crate) mailbox: &'a Mailbox<'a, R, C>,
+pub(crate) struct FrameHandling<'a, R: Wait, C: Clock, E: Recorder, H: FrameHandle<R, C, E>> {
+    pub(crate) mailbox: &'a Mailbox<'a, R, C, E>,
     pub(crate) choreographer: &'a Choreographer,
     /// The pass by which pulses are delivered and frames run.
     pub(crate) frames: FramePass,
@@ -62,7 +63,10 @@ fn found_memory(framed: Framed) -> Handled
 }
 
 /// Sends what the choreographer is to send, in order. At NoMemory some is not sent.
-fn flush<R: Wait, C: Clock>(line: &mut Line<R, C>, outbox: &mut FrameOutbox<C>) -> Handled
+fn flush<R: Wait, C: Clock, E: Recorder>(
+    line: &mut Line<R, C, E>,
+    outbox: &mut FrameOutbox<C>,
+) -> Handled
     requires { IsReady (way_of line.old) }
     ensures keeps { Keeps (way_of line.old) (way_of line.new) }
     ensures sent { OnOk result (outbox.new.sent.items ≡ []) }
@@ -78,10 +82,11 @@ fn flush<R: Wait, C: Clock>(line: &mut Line<R, C>, outbox: &mut FrameOutbox<C>) 
     Ok(())
 }
 
-impl<'a, R: Wait, C: Clock, H: FrameHandle<R, C>> FrameHandling<'a, R, C, H> {
+impl<'a, R: Wait, C: Clock, E: Recorder, H: FrameHandle<R, C, E>> FrameHandling<'a, R, C, E, H> {
     /// The pulse that is asked for, which the looper waits for from now on, in milliseconds rounded up.
     pub(crate) fn next_pulse(&mut self) -> Option<u64>
         requires { IsOf self.old.frames self.old.choreographer.now }
+        ensures asks { AsksPulse self.old.frames self.new.frames result }
         ensures serves { KeepsServing self.old self.new }
         ensures handlers { self.new.handlers ≡ self.old.handlers }
         ensures nudged { self.new.nudged ≡ self.old.nudged }
@@ -95,6 +100,7 @@ impl<'a, R: Wait, C: Clock, H: FrameHandle<R, C>> FrameHandling<'a, R, C, H> {
     pub(crate) fn let_frames_go(&mut self) -> Handled
         requires frames { IsOf self.old.frames self.old.choreographer.now }
         requires seals { self.old.choreographer.now.constants.seals ≡ true }
+        ensures drops { OnOk result (DropsFrames self.old.frames self.new.frames) }
         ensures serves { KeepsServing self.old self.new }
         ensures handlers { self.new.handlers ≡ self.old.handlers }
         ensures nudged { self.new.nudged ≡ self.old.nudged }
@@ -104,7 +110,7 @@ impl<'a, R: Wait, C: Clock, H: FrameHandle<R, C>> FrameHandling<'a, R, C, H> {
     }
 
     // Delivers the pulse that is asked for, if it came, and sends what the choreographer is to send.
-    fn deliver_pulse(&mut self, own: &mut Own) -> Handled
+    fn deliver_pulse(&mut self, own: &mut Own<E>) -> Handled
         requires serves { Serving self.old (workplace (held own.old)) }
         ensures serves { KeepsServing self.old self.new }
         ensures own { KeepsOwn own.old own.new }
@@ -126,7 +132,7 @@ impl<'a, R: Wait, C: Clock, H: FrameHandle<R, C>> FrameHandling<'a, R, C, H> {
     }
 
     // Begins a frame where one is scheduled, and runs its callbacks.
-    fn do_frame(&mut self, own: &mut Own) -> Handled
+    fn do_frame(&mut self, own: &mut Own<E>) -> Handled
         requires serves { Serving self.old (workplace (held own.old)) }
         requires holds { H.Holds self.old.handlers }
         ensures serves { KeepsServing self.old self.new }
@@ -174,7 +180,7 @@ impl<'a, R: Wait, C: Clock, H: FrameHandle<R, C>> FrameHandling<'a, R, C, H> {
     }
 
     // A message of the choreographer.
-    fn on_frames(&mut self, own: &mut Own, what: u32, arg: u32) -> Handled
+    fn on_frames(&mut self, own: &mut Own<E>, what: u32, arg: u32) -> Handled
         requires serves { Serving self.old (workplace (held own.old)) }
         requires holds { H.Holds self.old.handlers }
         ensures serves { KeepsServing self.old self.new }
@@ -193,7 +199,7 @@ impl<'a, R: Wait, C: Clock, H: FrameHandle<R, C>> FrameHandling<'a, R, C, H> {
     }
 
     // A message of a handler.
-    fn on_message(&mut self, own: &mut Own, m: &Message<PoolClaim>, now: u64) -> Handled
+    fn on_message(&mut self, own: &mut Own<E>, m: &Message<PoolClaim>, now: u64) -> Handled
         requires serves { Serving self.old (workplace (held own.old)) }
         requires holds { H.Holds self.old.handlers }
         ensures serves { KeepsServing self.old self.new }
@@ -219,7 +225,7 @@ impl<'a, R: Wait, C: Clock, H: FrameHandle<R, C>> FrameHandling<'a, R, C, H> {
         }
     }
 
-    fn dispatch(&mut self, own: &mut Own, m: &Message<PoolClaim>, now: u64) -> Handled
+    fn dispatch(&mut self, own: &mut Own<E>, m: &Message<PoolClaim>, now: u64) -> Handled
         requires serves { Serving self.old (workplace (held own.old)) }
         requires holds { H.Holds self.old.handlers }
         ensures serves { KeepsServing self.old self.new }
@@ -234,7 +240,7 @@ impl<'a, R: Wait, C: Clock, H: FrameHandle<R, C>> FrameHandling<'a, R, C, H> {
     }
 
     // Rings the looper's bell where another pulse is asked for than it waits for.
-    fn ring(&mut self, own: &mut Own)
+    fn ring(&mut self, own: &mut Own<E>)
         requires serves { Serving self.old (workplace (held own.old)) }
         ensures serves { KeepsServing self.old self.new }
         ensures same { IsSameOwn own.old own.new }
@@ -251,7 +257,7 @@ impl<'a, R: Wait, C: Clock, H: FrameHandle<R, C>> FrameHandling<'a, R, C, H> {
     }
 
     // Dispatches a message, delivers the pulse that came meanwhile, and rings the bell where another is asked for.
-    fn deliver(&mut self, own: &mut Own, m: &Message<PoolClaim>, now: u64) -> Handled
+    fn deliver(&mut self, own: &mut Own<E>, m: &Message<PoolClaim>, now: u64) -> Handled
         requires serves { Serving self.old (workplace (held own.old)) }
         requires holds { H.Holds self.old.handlers }
         ensures serves { KeepsServing self.old self.new }
@@ -267,8 +273,9 @@ impl<'a, R: Wait, C: Clock, H: FrameHandle<R, C>> FrameHandling<'a, R, C, H> {
     }
 }
 
-impl<'a, R: Wait, C: Clock, H: FrameHandle<R, C>> Dispatcher for FrameHandling<'a, R, C, H> {
-    type Record = Kept;
+impl<'a, R: Wait, C: Clock, E: Recorder, H: FrameHandle<R, C, E>> Dispatcher
+    for FrameHandling<'a, R, C, E, H> {
+    type Record = E;
 
     type Value = ();
 
@@ -288,7 +295,7 @@ impl<'a, R: Wait, C: Clock, H: FrameHandle<R, C>> Dispatcher for FrameHandling<'
 
     fn before(&mut self, number: u64, m: &mut Message<PoolClaim>) {}
 
-    fn pulse(&mut self, own: &mut Own, now: u64) -> Did {
+    fn pulse(&mut self, own: &mut Own<E>, now: u64) -> Did {
         did(self.deliver_pulse(own))
     }
 
@@ -300,15 +307,15 @@ impl<'a, R: Wait, C: Clock, H: FrameHandle<R, C>> Dispatcher for FrameHandling<'
         Some(self.handlers.idle(id, keep))
     }
 
-    fn run_callback(&mut self, own: &mut Own, id: u64, m: &Message<PoolClaim>, now: u64) -> Did {
+    fn run_callback(&mut self, own: &mut Own<E>, id: u64, m: &Message<PoolClaim>, now: u64) -> Did {
         did(self.deliver(own, m, now))
     }
 
-    fn intercept(&mut self, own: &mut Own, m: &Message<PoolClaim>, now: u64) -> Did {
+    fn intercept(&mut self, own: &mut Own<E>, m: &Message<PoolClaim>, now: u64) -> Did {
         Did::No
     }
 
-    fn handle(&mut self, own: &mut Own, m: &Message<PoolClaim>, now: u64) -> Did {
+    fn handle(&mut self, own: &mut Own<E>, m: &Message<PoolClaim>, now: u64) -> Did {
         did(self.deliver(own, m, now))
     }
 

@@ -6,17 +6,18 @@ use crate::screen::Screen;
 use frame_phases::Callback;
 use loop_io::Clock;
 use plain_loop::{Handled, Msg};
+use queue_state::Recorder;
 use std::sync::Wait;
 
 /// The code of a looper's handlers and frame callbacks. What they post themselves they post by the screen that they are lent. After
 /// NoMemory the looper gives up.
-pub trait FrameHandle<R: Wait, C: Clock> {
+pub trait FrameHandle<R: Wait, C: Clock, E: Recorder> {
     /// A fact of the handlers' own, which each call keeps unless memory was wanting. By default there is none.
     ghost Holds: { Self → Type 0 } = { λ h. Unit {0} };
 
     /// Handles a message without a callback, which was due at `now` or before, in milliseconds. Which handler it was sent to is its
     /// `handler` (`handleMessage` of the Android API reference's `Handler`). This one does nothing.
-    fn handle(&mut self, screen: &mut Screen<R, C>, message: &Msg, now: u64) -> Handled
+    fn handle(&mut self, screen: &mut Screen<R, C, E>, message: &Msg, now: u64) -> Handled
         requires screen { IsScreen screen.old }
         requires holds { Holds self.old }
         ensures keeps { KeepsScreen screen.old screen.new }
@@ -26,7 +27,7 @@ pub trait FrameHandle<R: Wait, C: Clock> {
     }
 
     /// Runs the callback of this number, which was posted in a message's place (`Runnable.run`). This one does nothing.
-    fn run_callback(&mut self, screen: &mut Screen<R, C>, id: u64, now: u64) -> Handled
+    fn run_callback(&mut self, screen: &mut Screen<R, C, E>, id: u64, now: u64) -> Handled
         requires screen { IsScreen screen.old }
         requires holds { Holds self.old }
         ensures keeps { KeepsScreen screen.old screen.new }
@@ -36,7 +37,7 @@ pub trait FrameHandle<R: Wait, C: Clock> {
     }
 
     /// Runs a callback of a frame, with the frame's time in nanoseconds (`Choreographer.FrameCallback.doFrame`). This one does nothing.
-    fn draw(&mut self, screen: &mut Screen<R, C>, callback: &Callback, time: u64) -> Handled
+    fn draw(&mut self, screen: &mut Screen<R, C, E>, callback: &Callback, time: u64) -> Handled
         requires screen { IsScreen screen.old }
         requires holds { Holds self.old }
         ensures keeps { KeepsScreen screen.old screen.new }

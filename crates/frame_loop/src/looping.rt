@@ -1,7 +1,7 @@
 //! The loop of a looper with frames.
 ghost use Rattle.std.specs.Prelude.{◌≡◌, ◌<◌, true, false, OnOk, IfOk};
 ghost use Rattle.choreographer.specs.Known.{IsOf};
-ghost use Rattle.plain_loop.specs.Looping.{LoopsToItsEnd};
+ghost use Rattle.frame_loop.specs.FrameLooping.{FramesToItsEnd};
 ghost use Rattle.plain_loop.specs.Senders.{IsLooper};
 
 use crate::dispatching::FrameHandling;
@@ -12,7 +12,7 @@ use choreographer::{Choreographer, FramePass};
 use loop_io::Clock;
 use loop_model::NoMemory;
 use looper_run::Looper;
-use plain_loop::{Mailbox, loop_and_let_go};
+use plain_loop::{LetGo, Mailbox, loop_and_let_go};
 use std::alloc::Global;
 use std::sync::Wait;
 use std::time;
@@ -34,11 +34,11 @@ fn open_frames(
 
 /// Loops until the queue is over, and answers the handlers: the looper has a choreographer of its own, with a pulse each `period`
 /// nanoseconds (not 0), and wakes at the pulses that its handlers ask for (`Choreographer.getInstance`, `Looper.loop`). Moments are
-/// uptime. Now and then it drops the acts that it told, the queue's history and the choreographer's record so far, so that it may run
-/// for ever in bounded memory. NoMemory where a handler, a call of the loop or the letting go found none.
-pub fn run_frame_looper<R: Wait + time::Clock, C: Clock, H: FrameHandle<R, C> + Drop>(
-    mailbox: &Mailbox<R, C>,
-    looper: &mut Looper,
+/// uptime. As `loop_and_let_go` says it drops the acts that it told, and its queue's entries where they are kept; behind that it drops
+/// the choreographer's record so far. So it may run for ever in bounded memory. NoMemory where a handler, a call of the loop or the letting go found none.
+pub fn run_frame_looper<R: Wait + time::Clock, C: Clock, E: LetGo, H: FrameHandle<R, C, E> + Drop>(
+    mailbox: &Mailbox<R, C, E>,
+    looper: &mut Looper<E>,
     period: u64,
     handlers: H,
 ) -> Result<H, NoMemory>
@@ -47,7 +47,7 @@ pub fn run_frame_looper<R: Wait + time::Clock, C: Clock, H: FrameHandle<R, C> + 
     requires period { 0 < period }
     requires holds { H.Holds handlers }
     ensures ended { OnOk result (looper.new.ended ≡ true) }
-    ensures looped { OnOk result (LoopsToItsEnd (C.shows mailbox.now.clock.now) mailbox.now.queue.now.constants.setting looper.old looper.new) }
+    ensures looped { OnOk result (FramesToItsEnd E.keeps (C.shows mailbox.now.clock.now) mailbox.now.queue.now.constants.setting looper.old looper.new) }
     ensures holds { IfOk result H.Holds }
 {
     let (choreographer, frames, asks) = open_frames(mailbox.alloc, period)?;

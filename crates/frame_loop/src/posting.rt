@@ -12,9 +12,10 @@ use handler_post::{Erased, Quit, Sent};
 use loop_io::Clock;
 use loop_model::{Filter, NoMemory, Post};
 use plain_loop::Line;
+use queue_state::Recorder;
 use std::sync::Wait;
 
-impl<'a, 'b, R: Wait, C: Clock> Screen<'a, 'b, R, C> {
+impl<'a, 'b, R: Wait, C: Clock, E: Recorder> Screen<'a, 'b, R, C, E> {
     /// The time now (`SystemClock.uptimeMillis`).
     pub fn now(&self) -> u64
         ensures { IsTrue (C.shows self.now.clock.now result) }

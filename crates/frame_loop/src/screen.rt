@@ -8,6 +8,7 @@ use choreographer::{Choreographer, FramePass, Placed};
 use loop_io::Clock;
 use loop_model::NoMemory;
 use message_pool::{Pool, PoolClaim, PoolPass};
+use queue_state::{Recorder, Unkept};
 use shared_queue::{Poster, SharedQueue};
 use std::alloc::Global;
 use std::sync::Wait;
@@ -48,7 +49,7 @@ impl Phase {
 
 /// A looper's line to its own queue, and its choreographer. Moments and delays are milliseconds of uptime, frame times nanoseconds.
 #[derive(Drop)]
-pub struct Screen<'a, 'b, R: Wait, C: Clock> {
+pub struct Screen<'a, 'b, R: Wait, C: Clock, E: Recorder = Unkept> {
     /// What locks and waits go through.
     pub rt: &'a R,
     /// Where memory comes from.
@@ -56,9 +57,9 @@ pub struct Screen<'a, 'b, R: Wait, C: Clock> {
     /// The clock.
     pub clock: &'a C,
     /// The queue.
-    pub queue: &'a SharedQueue<PoolClaim>,
+    pub queue: &'a SharedQueue<PoolClaim, E>,
     /// The looper's poster of the queue.
-    pub poster: &'a mut Poster<PoolClaim>,
+    pub poster: &'a mut Poster<PoolClaim, E>,
     /// The pool that messages come from and go back to.
     pub pool: &'a Pool,
     /// The looper's pass of the pool.
@@ -71,7 +72,7 @@ pub struct Screen<'a, 'b, R: Wait, C: Clock> {
     pub outbox: &'a mut FrameOutbox<'b, C>,
 }
 
-impl<'a, 'b, R: Wait, C: Clock> Screen<'a, 'b, R, C> {
+impl<'a, 'b, R: Wait, C: Clock, E: Recorder> Screen<'a, 'b, R, C, E> {
     /// Posts a callback of the animation phase for the next frame (`Choreographer.postFrameCallback`).
     pub fn post_frame_callback(&mut self, id: u64) -> Placed
         requires { IsScreen self.old }

@@ -10,6 +10,7 @@ use handler_post::Handler;
 use loop_io::{Clock, StdClock};
 use loop_model::Post;
 use plain_loop::{Handled, Mailbox, Msg, Sender, Senders, Settings};
+use queue_state::Unkept;
 use std::sync::Wait;
 use std::thread::{Threads, join};
 
@@ -27,7 +28,7 @@ struct Thermostat {
     target: u32,
 }
 
-impl<R: Wait, C: Clock> FrameHandle<R, C> for Thermostat {
+impl<R: Wait, C: Clock> FrameHandle<R, C, Unkept> for Thermostat {
     fn handle(&mut self, screen: &mut Screen<R, C>, message: &Msg, now: u64) -> Handled {
         if let Some(token) = message.obj() {
             self.alarms = self.alarms.saturating_add(1);

@@ -1,5 +1,5 @@
-use Rattle.std.proofs.Common.{sym, subst}
-use Rattle.plain_loop.proofs.Looping.{times_more}
+use Rattle.std.proofs.Common.{suc, sym, subst}
+use Rattle.frame_loop.proofs.FrameLoops.{frames_more}
 use Rattle.frame_loop.proofs.Keeping.{serves_place}
 use Rattle.frame_loop.proofs.looping.run_frame_looper.Goals as goal
 
@@ -17,6 +17,11 @@ loop-preserved g c = record {
   looper = c.in_ok-loop_and_let_go.ensures.looper c.if-branch.false;
   serves = c.let_frames_go.ensures.serves _
       (serves_place _ _ _ _ _ _ _ c.in_ok-loop_and_let_go.ensures.place (c.loop_and_let_go.ensures.serves _ (c.next_pulse-pulse.ensures.serves _ c.loop.invariant.serves)));
-  looped = times_more _ _ _ _ c.loop.looper c.loop_and_let_go.new.looper _ c.if-branch.false c.loop.invariant.looped.1 c.in_ok-loop_and_let_go.ensures.looped;
+  looped = (
+    c.loop.invariant.looped.0,
+    suc c.loop.invariant.looped.1,
+    frames_more _ _ _ _ _ c.loop.looper c.loop_and_let_go.new.looper _ _ c.next_pulse-pulse.new.self.frames _ _ c.loop_and_let_go.new.dispatcher.frames _ c.if-branch.false
+        c.loop.invariant.looped.2 c.next_pulse-pulse.ensures.asks c.in_ok-loop_and_let_go.ensures.looped c.in_ok-let_frames_go.ensures.drops,
+  );
   holds = subst (λ h. g.H.FrameHandle.Holds h) (sym c.let_frames_go.ensures.handlers) c.in_ok-loop_and_let_go.ensures.awaits;
 }

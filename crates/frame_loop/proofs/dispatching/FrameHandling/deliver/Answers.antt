@@ -19,3 +19,6 @@ returns-clause-serves g c = λ w s. c.ring.ensures.serves w (c.deliver_pulse.ens
 
 pub returns-clause-lent : goal.returns-clause-lent
 returns-clause-lent g c = lent_then _ _ _ (lent_then _ _ _ c.dispatch.ensures.own.lent c.deliver_pulse.ensures.own.lent) c.ring.ensures.lent
+
+pub returns-in_err-deliver_pulse-clause-lent : goal.returns-in_err-deliver_pulse-clause-lent
+returns-in_err-deliver_pulse-clause-lent g c = lent_then _ _ _ c.dispatch.ensures.own.lent c.deliver_pulse.ensures.own.lent
