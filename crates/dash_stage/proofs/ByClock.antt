@@ -2,4 +2,5 @@
 pub mod Clocked
 pub mod ClockTurns
 pub mod Looping
+pub mod Behind
 pub mod ClockEnds

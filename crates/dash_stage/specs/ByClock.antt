@@ -18,6 +18,7 @@ use Rattle.dash_script.specs.Reading.{HasText}
 use Rattle.dash_hall.specs.Kits.{IsHall}
 use Rattle.dash_hall.specs.Hearing.{AtEach}
 use Rattle.dash_stage.specs.declared.control.Controller.{Controller}
+use Rattle.dash_stage.specs.BehindThreads.{SeesMore}
 use Rattle.dash_stage.specs.Controllers.{IsControllerIn, CallsNothingOn, IsClosingBy}
 use Rattle.dash_stage.specs.Playing.{HaveBegun}
 
@@ -64,8 +65,9 @@ pub record LoopsOut (m : Mode) (s : Script) (before after : StageLooper) : Type 
 abbrev pub MayQuit : Sender → Sender → ℕ → Type 0
 MayQuit before after now = (after ≡ before) ⊎ QuitsOf before after true now
 
--- by the controller the queues but main may have been quit, at moments of the clock, and nothing else was called
+-- by the controller the queues but main may have been quit, at moments of the clock, and nothing else was called; it has seen all that it had seen
 pub record QuitsOthers (m : Mode) (s : Script) (hall : Hall) (before after : Controller) : Type 0 where
+  pub more : SeesMore before after
   pub controller : IsControllerIn false s hall after
   pub closing : IsClosingBy s after
   pub clocked : AreByClock m before.kit.posters.items → AreByClock m after.kit.posters.items

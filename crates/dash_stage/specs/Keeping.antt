@@ -8,7 +8,7 @@ use Rattle.dash_script.specs.declared.script.Script.{Script}
 use Rattle.run_model.specs.Histories.{history_of}
 use Rattle.run_model.specs.Moments.{Mode, in_lockstep}
 use Rattle.run_model.specs.Moves.{moves, AreMovedTogether}
-use Rattle.run_model.specs.Run.{IsAsPlanned, IsControlled, IsFrameRun, IsTimely, main_ends_halted}
+use Rattle.run_model.specs.Run.{IsAsPlanned, IsControlled, IsFrameRun, IsBeforeQuit, IsTimely, main_ends_halted}
 use Rattle.run_model.specs.Senders.{controller}
 use Rattle.dash_stage.specs.declared.stage.Stage.{Stage}
 use Rattle.dash_stage.specs.Blocks.{AreBlocksFirst, AreBlocksReached}
@@ -24,6 +24,8 @@ pub record AreKeptOf (s : Script) (st : Stage) (qs : List QueueRecord) (js : Lis
   pub planned : (m : Mode) → HaveRunBy m s s.blocks st.threads.items → AllByRecursion (IsAsPlanned m s) qs
   pub controls : (m : Mode) → HasEndedBy m s st → HasClosedIn m.lockstep s st.controller → AllByRecursion (IsControlled s) qs
   pub halted : (m : Mode) → HasEndedBy m s st → HasHaltedLast s st → main_ends_halted qs ≡ true
+  pub before_quit : HasEndedInLockstep s st → AllByRecursion (IsBeforeQuit s) qs
+  pub before_quit_by_clock : (m : Mode) → HasEndedByClock m s st → AllByRecursion (IsBeforeQuit s) qs
   pub timely : HasEndedInLockstep s st → AllByRecursion (IsTimely s) qs
   pub loopers : HasEndedInLockstep s st → AreLooperRuns in_lockstep s qs js fs
   pub by_clock : (m : Mode) → HasEndedByClock m s st → AreLooperRuns m s qs js fs

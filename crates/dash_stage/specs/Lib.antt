@@ -14,6 +14,7 @@ pub mod Timeliness
 pub mod Playing
 pub mod Leaving
 pub mod Moves
+pub mod BehindThreads
 pub mod RunEnds
 pub mod ByClock
 pub mod Steps

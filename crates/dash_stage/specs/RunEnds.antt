@@ -5,6 +5,7 @@ use Rattle.run_model.specs.Moments.{Mode}
 use Rattle.dash_hall.specs.Kits.{AreUnseen}
 use Rattle.dash_threads.specs.Threads.{AreByClock}
 use Rattle.dash_stage.specs.declared.stage.Stage.{Stage}
+use Rattle.dash_stage.specs.BehindThreads.{CallsBehindThreads}
 use Rattle.dash_stage.specs.ByClock.{HaveLooped}
 use Rattle.dash_stage.specs.Controllers.{IsMoving, HasClosed, HasClosedIn, CallsNothingOn, IsClosingBy}
 use Rattle.dash_stage.specs.Moves.{AreMoved}
@@ -54,7 +55,8 @@ pub record HasBegunByClock (m : Mode) (s : Script) (st : Stage) : Type 0 where
   pub clocked : OfSenders (AreByClock m) st
   pub none : (q : ℕ) → CallsNothingOn st.controller q
 
--- the threads have run all blocks, the queues but main were quit, the loopers have looped and played, those but main have ended, and main is still to be halted
+-- the threads have run all blocks, the queues but main were quit behind their calls, the loopers have looped and played, those but main have ended, and main is
+-- still to be halted
 pub record IsClosingByClock (m : Mode) (s : Script) (st : Stage) : Type 0 where
   pub stage : IsStageIn false s st
   pub same : HaveSeenTheSame st
@@ -65,6 +67,7 @@ pub record IsClosingByClock (m : Mode) (s : Script) (st : Stage) : Type 0 where
   pub looped : HaveLooped m s st.loopers.items
   pub played : HaveComeBy s st.loopers.items
   pub closing : IsClosingBy s st.controller
+  pub behind : CallsBehindThreads s st.threads.items st.controller
 
 -- and main was halted
 pub record HasEndedByClock (m : Mode) (s : Script) (st : Stage) : Type 0 where
@@ -76,4 +79,5 @@ pub record HasEndedByClock (m : Mode) (s : Script) (st : Stage) : Type 0 where
   pub looped : HaveLooped m s st.loopers.items
   pub played : HaveComeBy s st.loopers.items
   pub closed : HasClosedIn m.lockstep s st.controller
+  pub behind : CallsBehindThreads s st.threads.items st.controller
   pub halted : HasHaltedLast s st

@@ -19,8 +19,8 @@ pub record IsStaged (s : Script) (r : Report) : Type 0 where
 
 -- the report is a run of the script by a clock that shows such numbers: the history of each looper's queue is one that a queue of one thread has, at moments of
 -- the clock or of the queue, each thread's calls there are those that its lines plan, one for one and in order, no due time, barrier or quit of them counted
--- from before its block, each looper's are those that the acts in its journal cause, the controller's close the queue at the end or later, main ends with its
--- halt, and each frame history is lawful and has the posts, the removals and the frames that the threads' lines and the looper's acts ask for, each as often,
--- and each of these frames takes all phases
+-- from before its block, each looper's are those that the acts in its journal cause, the controller's close the queue at the end or later, behind the threads'
+-- calls, main ends with its halt, and each frame history is lawful and has the posts, the removals and the frames that the threads' lines and the looper's acts
+-- ask for, each as often, and each of these frames takes all phases
 pub record IsStagedByClock (shows : ℕ → Bool) (s : Script) (r : Report) : Type 0 where
   pub run : IsRun (in_free_mode shows r.start) s r

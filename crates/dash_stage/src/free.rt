@@ -11,10 +11,11 @@ ghost use Rattle.dash_loopers.specs.declared.looper.StageLooper.{StageLooper as 
 ghost use Rattle.dash_loopers.specs.Loopers.{IsLooper};
 ghost use Rattle.dash_stage.specs.ByClock.{IsFreeHall, by_timer, RunsByClock, LoopsAlone, EachRuns, EachLoops, QuitsOthers};
 ghost use Rattle.dash_stage.specs.ByClock.{EachIsThread, EachIsLooper, CanRunMain, EachLoopsAlone, MainLoops, LoopSideBySide};
+ghost use Rattle.dash_stage.specs.BehindThreads.{CallsBehindThreads};
 ghost use Rattle.dash_stage.specs.Controllers.{IsControllerIn, CallsNothingOn};
 ghost use Rattle.dash_stage.specs.GivingUp.{HaveBeenRung};
 ghost use Rattle.dash_stage.specs.RunEnds.{HasBegunByClock, IsClosingByClock, HasEndedByClock};
-ghost use Rattle.dash_stage.specs.Sharing.{StageKeeps, HaveSeenTheSame};
+ghost use Rattle.dash_stage.specs.Sharing.{ControllerKeeps, StageKeeps, HaveSeenTheSame};
 ghost use Rattle.dash_stage.specs.Outcomes.{StagesByClock};
 ghost use Rattle.dash_stage.specs.Stages.{IsStageIn, AreThreads, AreLoopers, OthersHaveEnded, LoopersGoOn};
 
@@ -23,6 +24,7 @@ use crate::kept::report_by_clock;
 use crate::means::Means;
 use crate::opening::set_up;
 use crate::run::Ran;
+use crate::share::hear_threads;
 use crate::side::{has_given_up, some_gave_up};
 use crate::stage::Stage;
 use dash_hall::{Hall, Look, Timer};
@@ -221,6 +223,7 @@ fn run_side_by_side<R: Threads + Wait + time::Clock + Sync, C: Clock + Sync, G: 
     ensures loopers { EachLoops (by_timer C.shows timer.now) script.now hall.now loopers.old loopers.new }
     ensures looped { result ≡ true → LoopSideBySide (by_timer C.shows timer.now) script.now loopers.old loopers.new }
     ensures quit { result ≡ true → QuitsOthers (by_timer C.shows timer.now) script.now hall.now controller.old controller.new }
+    ensures behind { result ≡ true → CallsBehindThreads script.now threads.new controller.new }
     ensures rung { result ≡ false → HaveBeenRung script.now.loopers controller.old controller.new }
 {
     let ended = Mutex::new(0);
@@ -237,9 +240,10 @@ fn run_side_by_side<R: Threads + Wait + time::Clock + Sync, C: Clock + Sync, G: 
             ensures main { EachLoops (by_timer C.shows timer.entry.now) script.entry.now hall.entry.now main.entry.now main.exit.now }
             ensures looped { result ≡ true → MainLoops (by_timer C.shows timer.entry.now) script.entry.now hall.entry.now main.entry.now main.exit.now }
             ensures quit { result ≡ true → QuitsOthers (by_timer C.shows timer.entry.now) script.entry.now hall.entry.now controller.entry.now controller.exit.now }
+            ensures behind { result ≡ true → CallsBehindThreads script.entry.now threads.exit.now controller.exit.now }
             ensures rung { result ≡ false → HaveBeenRung script.entry.now.loopers controller.entry.now controller.exit.now }
         {
-            let early = run_main(means, hall, script, timer, main, threads);
+            let early = run_main(means, hall, script, timer, main, threads, controller);
             quit_others(means.rt, hall, script, timer, &ended, controller, early)
         },
     );
@@ -305,7 +309,8 @@ fn bit(number: u32) -> u128 {
     1u128.wrapping_shl(number)
 }
 
-/// The main looper runs until the script's end, beside the threads. Answers the look by which it stopped before, where one did.
+/// The main looper runs until the script's end, beside the threads. Then the controller hears the threads, so that its quits stand behind
+/// their calls. Answers the look by which the looper stopped before the end, where one did.
 fn run_main<R: Threads + Wait + time::Clock + Sync, C: Clock + Sync, G: Gate + Sync>(
     means: &Means<R, G>,
     hall: &Hall,
@@ -313,15 +318,22 @@ fn run_main<R: Threads + Wait + time::Clock + Sync, C: Clock + Sync, G: Gate + S
     timer: &Timer<C>,
     main: &mut [StageLooper],
     threads: &mut [PostingThread],
+    controller: &mut Controller,
 ) -> Option<Look>
     requires text { HasText script.now }
     requires hall { IsFreeHall script.now hall.now }
     requires one { length main.old ≡ 1 }
     requires main { EachIsLooper script.now hall.now main.old }
     requires threads { EachIsThread script.now hall.now threads.old }
+    requires controller { IsControllerIn false script.now hall.now controller.old }
+    requires none { (q : ℕ) → CallsNothingOn controller.old q }
     ensures threads { EachRuns (by_timer C.shows timer.now) script.now hall.now threads.old threads.new }
     ensures main { EachLoops (by_timer C.shows timer.now) script.now hall.now main.old main.new }
     ensures looped { result ≡ None → MainLoops (by_timer C.shows timer.now) script.now hall.now main.old main.new }
+    ensures controller { IsControllerIn false script.now hall.now controller.new }
+    ensures none { (q : ℕ) → CallsNothingOn controller.new q }
+    ensures kept { ControllerKeeps HaveHeard controller.old controller.new }
+    ensures behind { CallsBehindThreads script.now threads.new controller.new }
 {
     let ((), early) = join_mut(
         means.rt,
@@ -335,6 +347,7 @@ fn run_main<R: Threads + Wait + time::Clock + Sync, C: Clock + Sync, G: Gate + S
             ensures looped { result ≡ None → MainLoops (by_timer C.shows timer.entry.now) script.entry.now hall.entry.now main.entry.now main.exit.now }
         { run_first(means, hall, script, timer, main) },
     );
+    hear_threads(hall, script, threads, controller);
     early
 }
 

@@ -1,15 +1,20 @@
 //! All senders come to have seen the same of each queue's history.
-ghost use Rattle.std.specs.Prelude.{◌≡◌, ◌<◌, Bool, List};
+ghost use Rattle.std.specs.Prelude.{◌≡◌, ◌<◌, Bool, false, List};
 ghost use Rattle.dash_script.specs.declared.script.Block.{Block};
 ghost use Rattle.shared_queue.specs.Known.{IsOf};
-ghost use Rattle.dash_stage.specs.Controllers.{CallsNone};
+ghost use Rattle.dash_hall.specs.Kits.{IsHall};
+ghost use Rattle.dash_stage.specs.BehindThreads.{HasHeardThreads};
+ghost use Rattle.dash_stage.specs.ByClock.{EachIsThread};
+ghost use Rattle.dash_stage.specs.Controllers.{CallsNone, IsControllerIn};
 ghost use Rattle.dash_stage.specs.Stages.{IsStage, HaveRun, OthersHaveEnded, IsStageIn};
 ghost use Rattle.dash_hall.specs.Hearing.{HasHeard, HaveHeard, HaveHeardAt, AtEach, AreKept, AreReady, AreKnown};
-ghost use Rattle.dash_stage.specs.Sharing.{AreWithin, StageKeeps, OfThreads, OfLoopers, SharesAt, HaveSeenTheSame};
+ghost use Rattle.dash_stage.specs.Sharing.{AreWithin, ControllerKeeps, StageKeeps, OfThreads, OfLoopers, SharesAt, HaveSeenTheSame};
 ghost use Rattle.dash_threads.specs.Threads.{ThreadKeeps};
 ghost use Rattle.dash_loopers.specs.Loopers.{LooperKeeps};
 
+use crate::control::Controller;
 use crate::stage::Stage;
+use dash_hall::Hall;
 use dash_loopers::StageLooper;
 use dash_script::Script;
 use dash_threads::PostingThread;
@@ -54,6 +59,31 @@ impl Stage {
             self.threads.as_mut_slice(),
             self.loopers.as_mut_slice(),
             &mut self.controller.kit.posters[place],
+        );
+    }
+}
+
+/// The controller's posters hear those of the threads, so that its next calls stand behind all that these have called. It takes no turn.
+pub(crate) fn hear_threads(
+    hall: &Hall,
+    script: &Script,
+    threads: &mut [PostingThread],
+    controller: &mut Controller,
+)
+    requires hall { IsHall script.now hall.now }
+    requires threads { EachIsThread script.now hall.now threads.old }
+    requires controller { IsControllerIn false script.now hall.now controller.old }
+    ensures threads { AtEach (ThreadKeeps AreKept) threads.old threads.new }
+    ensures controller { ControllerKeeps HaveHeard controller.old controller.new }
+    ensures heard { HasHeardThreads threads.new controller.new }
+{
+    for looper in 0..script.loopers {
+        let place = looper as usize;
+        threads_tell(
+            &hall.queues[place],
+            place,
+            threads,
+            &mut controller.kit.posters[place],
         );
     }
 }

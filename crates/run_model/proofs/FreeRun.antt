@@ -16,7 +16,7 @@ use Rattle.loop_model.specs.declared.journal.Act.{Act}
 use Rattle.loop_model.specs.declared.journal.Journal.{Journal}
 use Rattle.loop_model.specs.declared.record.QueueRecord.{QueueRecord}
 use Rattle.run_model.specs.declared.report.Report.{Report}
-use Rattle.run_model.specs.Control.{is_controlled}
+use Rattle.run_model.specs.Control.{is_controlled, are_before_quit}
 use Rattle.run_model.specs.Moments.{Mode, in_free_mode, AreOfClock}
 use Rattle.run_model.specs.Planned.{AreAsPlanned}
 use Rattle.run_model.specs.FrameAsks.{as_told}
@@ -127,6 +127,7 @@ looper_run = record {
 }
 
 pub is_run : IsRun mode script report
+unfolding are_before_quit
 is_run = record {
   report = record { script = refl; queues = refl; journals = refl; frames = refl };
   records = record { mode = refl; start = refl; histories = (history, tt) };
@@ -134,7 +135,7 @@ is_run = record {
   controls = (controlled, tt);
   frames = (frame_run, tt);
   loopers = (looper_run, tt);
-  timely = record { halted = refl; histories = tt; moves = tt };
+  timely = record { halted = refl; before_quit = (refl, tt); histories = tt; moves = tt };
 }
 
 pub printed : text report ≡ page (codes "report 1" ∷ codes "looper 0" ∷ codes "25 dispatch 0 0 7" ∷ codes "30 dispatch 1 0 8" ∷ codes "fates accepted 2 dispatched 2 removed 0 dropped 0 stranded 0 queued 0" ∷ codes "end" ∷ [])

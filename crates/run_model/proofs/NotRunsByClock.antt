@@ -7,6 +7,8 @@ use Rattle.loop_model.specs.declared.call.Call.TheVariants as call
 use Rattle.loop_model.specs.declared.reply.Reply.TheVariants as reply
 use Rattle.loop_model.specs.declared.entry.Entry.{Entry}
 use Rattle.loop_model.specs.declared.journal.Act.{Act}
+use Rattle.loop_model.specs.declared.record.QueueRecord.{QueueRecord}
+use Rattle.loop_model.specs.Base.{empty_base}
 use Rattle.loop_model.specs.Answers.{answer, clock, accepted_count, barrier_count, quit_place, has_disposed, has_halted}
 use Rattle.loop_model.specs.Legal.{IsLegal}
 use Rattle.loop_model.specs.Live.{live}
@@ -14,10 +16,11 @@ use Rattle.loop_model.specs.Pick.{first_eligible, pick}
 use Rattle.dash_script.specs.declared.script.Command.{Command}
 use Rattle.dash_script.specs.declared.script.Command.TheVariants as command
 use Rattle.dash_script.specs.declared.script.Script.{Script}
-use Rattle.run_model.specs.Control.{is_controlled}
+use Rattle.run_model.specs.Control.{is_controlled, are_before_quit}
 use Rattle.run_model.specs.Moments.{IsMoment}
 use Rattle.run_model.specs.Run.{IsRun}
-use Rattle.run_model.proofs.Examples.{entry, message, block, by, handler_on, plain_script}
+use Rattle.run_model.specs.declared.report.Report.{Report}
+use Rattle.run_model.proofs.Examples.{entry, message, block, by, handler_on, plain_script, journal, frames}
 use Rattle.run_model.proofs.NotRuns.{dispatch, look, what_in, number_in}
 use Rattle.run_model.proofs.NotRunsTimes.{moment_first}
 use Rattle.run_model.proofs.FreeRun.{script, mode, first_post, second_post, halt, acts, report_by}
@@ -83,6 +86,27 @@ pub early_quit : IsRun mode (calling (command.Quit 0)) (report_by (calling (comm
 early_quit r =
     let late : 10 ≤ 5 = (r.planned.0 0 (lit< tt)).0.no_earlier in
     omega (arith, late)
+
+-- a side looper that the controller quits before the thread's call
+abbrev side_script : Script
+side_script = plain_script 2 1 (handler_on 0 ∷ handler_on 1 ∷ []) (block 10 (by 0 (command.Post 1 7 0) ∷ []) ∷ []) 20
+
+abbrev queue_of : ℕ → List Entry → QueueRecord
+queue_of looper es = record { looper = looper; main = looper == 0; lockstep = false; senders = 4; segments = record { base = empty_base 4; entries = es } ∷ [] }
+
+abbrev side_report : List Entry → Report
+side_report es = record {
+  script = side_script;
+  queues = queue_of 0 (entry 3 0 (call.Halt 40) reply.Halted ∷ []) ∷ queue_of 1 es ∷ [];
+  journals = journal 0 [] ∷ journal 1 [] ∷ [];
+  frames = frames 0 [] ∷ frames 1 [] ∷ [];
+  start = 5;
+}
+
+pub quit_before_call : IsRun mode side_script (side_report (entry 3 0 (call.Quit true 35) reply.QuitDone
+    ∷ entry 0 0 (call.Post (message 1 7 40 None)) (reply.Refused 0) ∷ entry 2 0 (call.Next 40) reply.Disposed ∷ [])) → ⊥
+unfolding are_before_quit
+quit_before_call r = let before : false ≡ true = r.timely.before_quit.1.0 in cc
 
 -- ---- the histories
 

@@ -9,7 +9,7 @@ use Rattle.run_model.specs.Histories.{history_of}
 use Rattle.run_model.specs.Senders.{controller}
 use Rattle.run_model.specs.Moments.{in_lockstep}
 use Rattle.run_model.specs.Control.{is_called_in_time, are_before_quit}
-use Rattle.run_model.specs.Run.{IsRun, IsTimely, are_in_order}
+use Rattle.run_model.specs.Run.{IsRun, IsBeforeQuit, IsTimely, are_in_order}
 use Rattle.run_model.proofs.RunBut.{Clause, IsRunBut}
 use Rattle.run_model.proofs.Table.{Row, report_of, queues_from, found, wanted, run_but_by, firsts, others, down_from, has_called_then}
 
@@ -60,12 +60,12 @@ all_down : (n : ℕ) (f : ℕ → Bool) → ((k : ℕ) → k < n → f k ≡ tru
 all_down zero f each = refl
 all_down (suc n) f each = rw (each n (omega arith), all_down n f (λ k lt. each k (omega (arith, lt)))) refl
 
-timely : (s : Script) (q : QueueRecord) → IsTimely s q → is_timely s q ≡ true
-timely s q h = rw (h.controls, h.before_quit, all_down s.threads (has_called_then s q) h.threads, h.in_order) refl
+timely : (s : Script) (q : QueueRecord) → IsBeforeQuit s q → IsTimely s q → is_timely s q ≡ true
+timely s q before_quit h = rw (h.controls, before_quit, all_down s.threads (has_called_then s q) h.threads, h.in_order) refl
 
-all_timely : (s : Script) (qs : List QueueRecord) → AllByRecursion (IsTimely s) qs → list_all (is_timely s) qs ≡ true
-all_timely s [] all = refl
-all_timely s (q ∷ qs) all = rw (timely s q all.0, all_timely s qs all.1) refl
+all_timely : (s : Script) (qs : List QueueRecord) → AllByRecursion (IsBeforeQuit s) qs → AllByRecursion (IsTimely s) qs → list_all (is_timely s) qs ≡ true
+all_timely s [] before all = refl
+all_timely s (q ∷ qs) before all = rw (timely s q before.0 all.0, all_timely s qs before.1 all.1) refl
 
 abbrev are_timely : Script → List Row → Bool
 are_timely s rows = list_all (is_timely s) (queues_from s 0 rows)
@@ -73,4 +73,4 @@ are_timely s rows = list_all (is_timely s) (queues_from s 0 rows)
 -- each of these has a history that is not timely, and fails by the clause of it
 pub each_untimely : (fs : List Faulty) → list_all (λ f. not (are_timely f.script f.rows)) fs ≡ true → map (λ f. found f.clause f.script f.rows) fs ≡ map (λ f. wanted f.clause f.script f.rows) fs
     → AllByRecursion Fails fs
-each_untimely fs refused same = each_fails are_timely (λ s rows r. all_timely s (queues_from s 0 rows) r.timely.histories) fs refused same
+each_untimely fs refused same = each_fails are_timely (λ s rows r. all_timely s (queues_from s 0 rows) r.timely.before_quit r.timely.histories) fs refused same

@@ -23,7 +23,7 @@ use Rattle.run_model.specs.Acts.{Lead, IsSent}
 use Rattle.run_model.specs.Moves.{Move, moves, move_times, main_moves, MayMoveTo}
 use Rattle.run_model.specs.FrameRuns.{are_run_then, are_whole}
 use Rattle.run_model.specs.FrameAsks.{asks_in, AreAskedBy}
-use Rattle.run_model.specs.Run.{IsReportOf, AreRecordsOf, all_entries, ArePlannedOf, AreControlsOf, IsFrameRun, caused_on, asked_of, IsLooperRun, EachLooper, IsThreadOnTime, are_in_order, IsTimely, main_ends_halted, IsRun}
+use Rattle.run_model.specs.Run.{IsReportOf, AreRecordsOf, all_entries, ArePlannedOf, AreControlsOf, IsFrameRun, caused_on, asked_of, IsLooperRun, EachLooper, IsThreadOnTime, are_in_order, IsBeforeQuit, IsTimely, main_ends_halted, IsRun}
 
 -- a clause of the definition, left out or kept
 pub data Clause : Type 0 where
@@ -162,7 +162,8 @@ is_run s r h = record {
   }) r.queues r.journals r.frames h.loopers;
   timely = record {
     halted = h.halted;
-    histories = AllByRecursion-weaker (IsTimelyBut Nothing s) (IsTimely s) (λ q x. record { controls = x.controls; before_quit = x.before_quit; threads = x.threads; in_order = x.in_order }) r.queues h.histories;
+    before_quit = AllByRecursion-weaker (IsTimelyBut Nothing s) (IsBeforeQuit s) (λ q x. x.before_quit) r.queues h.histories;
+    histories = AllByRecursion-weaker (IsTimelyBut Nothing s) (IsTimely s) (λ q x. record { controls = x.controls; threads = x.threads; in_order = x.in_order }) r.queues h.histories;
     moves = record { due = h.moved.due; together = h.moved.together };
   };
 }

@@ -144,10 +144,13 @@ comes_in_order s q past e =
 unfoldable pub are_in_order : Script → ℕ → List Entry → Bool
 are_in_order s q es = each_behind (comes_in_order s q) [] es
 
--- the controller's calls are in time, and the threads' calls are on time, come in the order of their blocks, and before the controller's quit
+-- each call of a thread on the queue comes before the controller's quit
+abbrev pub IsBeforeQuit : Script → QueueRecord → Type 0
+IsBeforeQuit s r = are_before_quit s.threads (controller s) (history_of r) ≡ true
+
+-- the controller's calls are in time, and the threads' calls are on time and come in the order of their blocks
 pub record IsTimely (s : Script) (r : QueueRecord) : Type 0 where
   pub controls : is_called_in_time (controller s) (history_of r) ≡ true
-  pub before_quit : are_before_quit s.threads (controller s) (history_of r) ≡ true
   pub threads : (thread : ℕ) → thread < s.threads → IsThreadOnTime s r thread
   pub in_order : are_in_order s r.looper (history_of r) ≡ true
 
@@ -156,10 +159,11 @@ abbrev pub main_ends_halted : List QueueRecord → Bool
 main_ends_halted [] = false
 main_ends_halted (q ∷ qs) = ends_halted (history_of q)
 
--- part 6 of a run: main ends with its Halt, and in lockstep each history is timely and all queues' times are moved together, to times at which something may
--- come
+-- part 6 of a run: main ends with its Halt, the threads' calls come before the controller's quits, and in lockstep each history is timely and all queues'
+-- times are moved together, to times at which something may come
 pub record AreTimelyOf (m : Mode) (s : Script) (r : Report) : Type 0 where
   pub halted : main_ends_halted r.queues ≡ true
+  pub before_quit : AllByRecursion (IsBeforeQuit s) r.queues
   pub histories : IfLockstep m (AllByRecursion (IsTimely s) r.queues)
   pub moves : IfLockstep m (AreMovedTogether s (map (λ q. moves (controller s) (history_of q)) r.queues))
 

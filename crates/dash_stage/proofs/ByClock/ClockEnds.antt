@@ -31,12 +31,14 @@ use Rattle.dash_loopers.proofs.LooperNext.{played_self, grown_self}
 use Rattle.dash_loopers.proofs.LooperPlayed.{comes_free}
 use Rattle.dash_stage.specs.declared.control.Controller.{Controller}
 use Rattle.dash_stage.specs.declared.stage.Stage.{Stage}
-use Rattle.dash_stage.specs.ByClock.{RunsByClock, LoopsByClock, EachIsLooper, HaveLooped}
+use Rattle.dash_stage.specs.ByClock.{RunsByClock, LoopsByClock, EachIsLooper, HaveLooped, QuitsOthers}
+use Rattle.dash_stage.specs.BehindThreads.{CallsBehindThreads}
+use Rattle.dash_stage.proofs.ByClock.Behind.{behind_on, sees_heard, sees_then}
 use Rattle.dash_stage.proofs.ByClock.Looping.{looped_on, all_heard}
 use Rattle.dash_stage.specs.Controllers.{IsControllerIn, IsClosingBy, HasClosedIn}
 use Rattle.dash_stage.specs.Playing.{HaveBegun, HaveComeBy}
 use Rattle.dash_stage.specs.RunEnds.{HasBegunByClock, IsClosingByClock, HasEndedByClock}
-use Rattle.dash_stage.specs.Sharing.{OfThreads, OfLoopers, OfSenders, StageKeeps, HaveSeenTheSame}
+use Rattle.dash_stage.specs.Sharing.{OfThreads, OfLoopers, OfSenders, ControllerKeeps, StageKeeps, HaveSeenTheSame}
 use Rattle.dash_stage.specs.Stages.{IsStageIn, AreThreads, AreLoopers, HaveRunBy, GoOn, OthersHaveEnded, LoopersGoOn}
 use Rattle.dash_stage.specs.Timeliness.{EachTurnsOn, Halts, whole_on}
 use Rattle.dash_stage.proofs.Controller.ControlKept.{closing_by_kept, closed_kept}
@@ -177,6 +179,15 @@ heard_clocked m ps qs heard by q d lt =
     let h = heard.each q d within in
     clocked_same m (slice_index_or ps q d) (slice_index_or qs q d) h.same.sender h.more h.called (by q d within)
 
+-- a controller that heard others before it quit
+pub quits_heard : {m : Mode} {s : Script} {hall : Hall} {a b c : Controller} → ControllerKeeps HaveHeard a b → QuitsOthers m s hall b c → QuitsOthers m s hall a c
+quits_heard {m} {s} {hall} {a} {b} {c} kept quits = record {
+  more = sees_then a b c (sees_heard a b kept.posters) quits.more;
+  controller = quits.controller;
+  closing = quits.closing;
+  clocked = λ by. quits.clocked (heard_clocked m a.kit.posters.items b.kit.posters.items kept.posters by);
+}
+
 -- from a stage to one in which all have heard each other
 module _ (m : Mode) (s : Script) (st st' : Stage) (is' : IsStageIn false s st') (same' : HaveSeenTheSame st') (kept : StageKeeps HaveHeard st st') where
   pub clocked_heard : OfSenders (AreByClock m) st → OfSenders (AreByClock m) st'
@@ -189,10 +200,14 @@ module _ (m : Mode) (s : Script) (st st' : Stage) (is' : IsStageIn false s st') 
       let was = come k d within in
       (was.0, was.1, heard_come_by s st.hall is_hall (slice_index_or st.loopers.items k d) (are.1 k d within).0 (slice_index_or st'.loopers.items k d) (kept.loopers.each k d within) was.0 was.1 was.2)
 
+  -- the controller's calls stand where they stood
+  behind_heard : CallsBehindThreads s st.threads.items st.controller → CallsBehindThreads s st'.threads.items st'.controller
+  behind_heard = behind_on s st.threads.items st'.threads.items st.controller st'.controller kept.threads (sees_heard st.controller st'.controller kept.controller.posters)
+
   -- the threads have run and the loopers but main have ended
   pub closing_heard : IsHall s st.hall → AreLoopers s st.hall st.loopers.items → OfSenders (AreByClock m) st → HaveRunBy m s s.blocks st.threads.items → OthersHaveEnded st.loopers.items → LoopersGoOn st.loopers.items
-      → HaveLooped m s st.loopers.items → HaveComeBy s st.loopers.items → IsClosingBy s st.controller → IsClosingByClock m s st'
-  closing_heard is_hall are by run ended on looped come closing = record {
+      → HaveLooped m s st.loopers.items → HaveComeBy s st.loopers.items → IsClosingBy s st.controller → CallsBehindThreads s st.threads.items st.controller → IsClosingByClock m s st'
+  closing_heard is_hall are by run ended on looped come closing behind = record {
     stage = is';
     same = same';
     clocked = clocked_heard by;
@@ -202,14 +217,15 @@ module _ (m : Mode) (s : Script) (st st' : Stage) (is' : IsStageIn false s st') 
     looped = looped_on m s st.loopers.items st'.loopers.items looped (all_heard s st.hall is_hall st.loopers.items st'.loopers.items are kept.loopers);
     played = played_heard is_hall are come;
     closing = closing_by_kept s st.controller st'.controller (calls_none st.controller st'.controller kept.controller) closing;
+    behind = behind_heard behind;
   }
 
   -- and main was halted
   pub ended_heard : (was : Stage) → IsStageIn false s was → HaveSeenTheSame was → was.threads ≡ st.threads → was.loopers ≡ st.loopers → m.lockstep ≡ false
       → IsHall s st.hall → AreLoopers s st.hall st.loopers.items → OfSenders (AreByClock m) st → HaveRunBy m s s.blocks st.threads.items → OthersHaveEnded st.loopers.items → LoopersGoOn st.loopers.items
-      → HaveLooped m s st.loopers.items → HaveComeBy s st.loopers.items → HasClosedIn false s st.controller
+      → HaveLooped m s st.loopers.items → HaveComeBy s st.loopers.items → HasClosedIn false s st.controller → CallsBehindThreads s st.threads.items st.controller
       → EachTurnsOn Halts was.controller st.controller → ((d : Sender) → ends_halted (whole_on st.controller 0 d) ≡ true) → HasEndedByClock m s st'
-  ended_heard was is same threads loopers free is_hall are by run ended on looped come closed turns halted = record {
+  ended_heard was is same threads loopers free is_hall are by run ended on looped come closed behind turns halted = record {
     free = free;
     out = record { stage = subst (λ (b : Bool). IsStageIn b s st') (sym free) is'; same = same'; clocked = clocked_heard by };
     run = run_kept m s s.blocks st.threads.items st'.threads.items kept.threads run;
@@ -218,6 +234,7 @@ module _ (m : Mode) (s : Script) (st st' : Stage) (is' : IsStageIn false s st') 
     looped = looped_on m s st.loopers.items st'.loopers.items looped (all_heard s st.hall is_hall st.loopers.items st'.loopers.items are kept.loopers);
     played = played_heard is_hall are come;
     closed = subst (λ (b : Bool). HasClosedIn b s st'.controller) (sym free) (closed_kept s st.controller st'.controller (calls_none st.controller st'.controller kept.controller) closed);
+    behind = behind_heard behind;
     halted = halted_stays s was st.controller st' is is' same same'
         (subst (λ v. AtEach (ThreadKeeps HaveHeard) v.items st'.threads.items) (sym threads) kept.threads)
         (subst (λ v. AtEach (LooperKeeps HaveHeard) v.items st'.loopers.items) (sym loopers) kept.loopers)

@@ -17,7 +17,7 @@ use Rattle.run_model.specs.Moments.{in_lockstep, Mode}
 use Rattle.run_model.specs.Planned.{lines_of, labels_on, lines_on}
 use Rattle.run_model.specs.Senders.{controller, sender_count}
 use Rattle.run_model.specs.Control.{is_called_in_time, are_before_quit, ends_halted, befores, InBlock, are_on_time}
-use Rattle.run_model.specs.Run.{IsRecordOf, IsTimely, all_entries, setting_of, main_ends_halted, are_in_order}
+use Rattle.run_model.specs.Run.{IsRecordOf, IsTimely, all_entries, setting_of, main_ends_halted, are_in_order, IsBeforeQuit}
 use Rattle.dash_hall.specs.declared.hall.Hall.{Hall}
 use Rattle.dash_hall.specs.declared.kit.Kit.{Kit}
 use Rattle.dash_threads.specs.declared.thread.PostingThread.{PostingThread}
@@ -103,7 +103,6 @@ numbered_by set set' b es same h = numbered_after set set' b [] es same h
 timely_record : (s : Script) (q : ℕ) (r : QueueRecord) (es : List Entry) → r.looper ≡ q → (history_of r) ≡ es → IsTimelyUpTo s s.blocks q es → IsTimely s r
 timely_record s q r es number same h = record {
   controls = ap (is_called_in_time (controller s)) same ∙ h.controls;
-  before_quit = ap (are_before_quit s.threads (controller s)) same ∙ h.before_quit;
   threads = λ thread below. subst (λ (l : ℕ). are_on_time (map (λ x. InBlock x.time) (lines_on s (labels_on l (lines_of thread s.blocks)) l (lines_of thread s.blocks))) (befores thread (history_of r)) ≡ true) (sym number)
       (subst (λ (l : List Entry). are_on_time (map (λ x. InBlock x.time) (lines_on s (labels_on q (lines_of thread s.blocks)) q (lines_of thread s.blocks))) (befores thread l) ≡ true) (sym same) (h.threads thread below));
   in_order = subst (λ (l : ℕ). are_in_order s l (history_of r) ≡ true) (sym number) (ap (are_in_order s q) same ∙ h.in_order);
@@ -185,6 +184,12 @@ module _ (m : Mode) (s : Script) (hall : Hall) (kits : List Kit) (records : List
       subst (AreNumbered (setting_for s q) (empty_base (sender_count s))) (is_seen q d r lt)
       (numbered_by (setting_of mine) (setting_for s q) (empty_base (sender_count s)) (history_of mine) (sym is.senders)
       (subst (λ (n : ℕ). AreNumbered (setting_of mine) (empty_base n) (history_of mine)) is.senders is.numbered))
+
+  -- in each record the threads' calls come before the controller's quit
+  pub before_quit_of_records : ((q : ℕ) (d : Sender) → q < length c.kit.posters.items → are_before_quit s.threads (controller s) (whole_on c q d) ≡ true) → AllByRecursion (IsBeforeQuit s) records
+  before_quit_of_records before = All_recursive (IsBeforeQuit s) records (λ q r lt.
+      let d = some_of c.kit.posters.items q (within q lt) in
+      ap (are_before_quit s.threads (controller s)) (is_seen q d r lt) ∙ before q d (within q lt))
 
   -- main's record ends with its halt
   pub halted_of_records : 0 < s.loopers → ((d : Sender) → 0 < length c.kit.posters.items → AreNumbered (setting_for s 0) (empty_base (sender_count s)) (whole_on c 0 d) → ends_halted (whole_on c 0 d) ≡ true) → main_ends_halted records ≡ true

@@ -172,17 +172,24 @@ share_more n a b sh all = λ q lt. dite (ℕ_discrete q n)
     let w = all q (omega (arith, lt)) in
     (w.0, of_senders_then (HaveSeenAt q w.0) (HaveSeenAt q w.0) (HaveHeardAt n sh.0) (seen_elsewhere n q sh.0 w.0 not) a b sh.1 w.1))
 
-module _ {lockstep : Bool} (s : Script) (st : Stage) (is : IsStageIn lockstep s st) where
+module _ (s : Script) (hall : Hall) (h : IsHall s hall) where
   -- one poster of each queue is as many as there are loopers
-  count : (k : ℕ) (ps : List Sender) → ArePostersOf k st.hall.queues.items ps → length ps ≡ s.loopers
-  count k ps are = alike_length badge_of (badge_for k) ps st.hall.queues.items are ∙ queue_count st.hall.lockstep s st.hall.pool st.hall.queues.items is.hall.queues
+  count : (k : ℕ) (ps : List Sender) → ArePostersOf k hall.queues.items ps → length ps ≡ s.loopers
+  count k ps are = alike_length badge_of (badge_for k) ps hall.queues.items are ∙ queue_count hall.lockstep s hall.pool hall.queues.items h.queues
 
+  -- a sender's posters, one of each queue
+  pub posters_ready : (place : ℕ) → place < s.loopers → (queue : Shared TableId) → queue ≡ get_or hall.queues.items place queue → (k : ℕ) (ps : List Sender) → ArePostersOf k hall.queues.items ps → AreReady place queue ps
+  posters_ready place near queue at k ps are =
+      let within : place < length ps = omega (arith, near, count k ps are) in
+      (within, λ d. subst (λ (q : Shared TableId). IsOf (get_or ps place d) q) (sym at) (poster_at k hall.queues.items ps are place d queue within).0)
+
+module _ {lockstep : Bool} (s : Script) (st : Stage) (is : IsStageIn lockstep s st) where
   -- each of the stage's senders has so many
   counts : OfSenders (λ ps. length ps ≡ s.loopers) st
   counts = record {
-    threads = λ k d lt. count (get_or st.threads.items k d).number (get_or st.threads.items k d).kit.posters.items (is.threads.1 k d lt).0.posters;
-    loopers = λ k d lt. (let l = get_or st.loopers.items k d in count (s.threads + l.number) (posters_of l) (looper_posters s st.hall is.hall l (is.loopers.1 k d lt).0));
-    controller = count (controller s) st.controller.kit.posters.items is.controller.posters;
+    threads = λ k d lt. count s st.hall is.hall (get_or st.threads.items k d).number (get_or st.threads.items k d).kit.posters.items (is.threads.1 k d lt).0.posters;
+    loopers = λ k d lt. (let l = get_or st.loopers.items k d in count s st.hall is.hall (s.threads + l.number) (posters_of l) (looper_posters s st.hall is.hall l (is.loopers.1 k d lt).0));
+    controller = count s st.hall is.hall (controller s) st.controller.kit.posters.items is.controller.posters;
   }
 
   -- all queues
@@ -201,9 +208,7 @@ module _ {lockstep : Bool} (s : Script) (st : Stage) (is : IsStageIn lockstep s 
   module _ (place : ℕ) (near : place < s.loopers) (queue : Shared TableId) (at : queue ≡ get_or st.hall.queues.items place queue) where
     -- a sender's posters, one of each queue
     ready : (k : ℕ) (ps : List Sender) → ArePostersOf k st.hall.queues.items ps → AreReady place queue ps
-    ready k ps are =
-        let within : place < length ps = omega (arith, near, count k ps are) in
-        (within, λ d. subst (λ (q : Shared TableId). IsOf (get_or ps place d) q) (sym at) (poster_at k st.hall.queues.items ps are place d queue within).0)
+    ready = posters_ready s st.hall is.hall place near queue at
 
     -- each thread has a poster of the queue at this place
     pub threads_ready : OfThreads (AreReady place queue) st.threads.items

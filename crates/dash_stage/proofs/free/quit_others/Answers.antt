@@ -4,6 +4,8 @@ use Rattle.run_model.specs.Moments.{Mode, in_free_mode}
 use Rattle.dash_stage.proofs.Controller.Controlling.{poster_count}
 use Rattle.dash_stage.proofs.Controller.GivingUp.{all_rung, still_no_less}
 use Rattle.dash_loopers.proofs.LooperMoments.{of_shown}
+use Rattle.std.specs.Prelude.{slice_index_or}
+use Rattle.dash_stage.proofs.ByClock.Behind.{sees_self, sees_one, quits_see}
 use Rattle.dash_stage.proofs.ByClock.ClockEnds.{in_free, in_its_mode}
 use Rattle.dash_stage.proofs.ByClock.ClockTurns.{quits_more, quits_clocked, quitting_begins, quitting_ends}
 use Rattle.dash_stage.proofs.free.quit_others.Goals as goal
@@ -17,6 +19,7 @@ loop-looper-init g c = record {
   some = omega arith;
   quitting = λ done. quitting_begins c.args.script.now c.args.controller.now c.requires.none;
   bells = λ q d. omega arith;
+  more = λ done. sees_self c.args.controller.now;
   clocked = λ done m moment by. by;
 }
 
@@ -39,6 +42,9 @@ loop-looper-preserved g c =
       quitting = λ done. (let both = and_parts at.done _ done in
           quits_more s hall h at.looper lt at.controller was next c.in-Ok.now long (here both.1) elsewhere at.invariant.some c.in-Ok.ensures.late (at.invariant.quitting both.0));
       bells = still_no_less c.args.controller.now at.controller next at.invariant.bells c.quit_unless-done.ensures.bells;
+      more = λ done. (let both = and_parts at.done _ done in
+          sees_one c.args.controller.now at.controller next at.looper long
+          (λ d. quits_see (slice_index_or at.controller.kit.posters.items at.looper d) (slice_index_or next.kit.posters.items at.looper d) c.in-Ok.now (here both.1 d)) elsewhere (at.invariant.more both.0));
       clocked = λ done m moment by. (let both = and_parts at.done _ done in
           quits_clocked s hall h at.looper lt at.controller was next c.in-Ok.now long (here both.1) elsewhere m moment (at.invariant.clocked both.0 m moment by));
     }
@@ -64,6 +70,7 @@ returns-else-not-done-clause-quit g c done =
     let count = poster_count s hall at.controller c.requires.hall.0 at.invariant.controller in
     let all : length at.controller.kit.posters.items ≤ at.looper = omega (arith, count, c.loop-looper-test.false) in
     record {
+      more = at.invariant.more done;
       controller = in_free s hall at.controller c.requires.hall.1 at.invariant.controller;
       closing = quitting_ends s at.controller at.looper all (at.invariant.quitting done);
       clocked = at.invariant.clocked done m (of_shown (g.C.Clock.shows c.args.timer.now.clock.now) c.args.timer.now.start c.in-Ok.now c.in-Ok.ensures.moment);

@@ -20,7 +20,8 @@ use Rattle.dash_stage.proofs.Played.LoopersGive.{given_kept}
 use Rattle.dash_stage.proofs.Played.KitsTold.{told_kept}
 use Rattle.dash_stage.proofs.Played.KitsOver.{over_kept, last_kit}
 use Rattle.dash_stage.proofs.Controller.Controls.{controls_of_records}
-use Rattle.dash_stage.proofs.Ends.TimelyRecords.{kit_more, first_of_records, reached_of_records, timely_of_records, halted_of_records, ended_in_step, all_sound}
+use Rattle.dash_stage.proofs.Ends.TimelyRecords.{kit_more, first_of_records, reached_of_records, timely_of_records, before_quit_of_records, halted_of_records, ended_in_step, all_sound}
+use Rattle.dash_stage.proofs.ByClock.Behind.{quits_behind}
 use Rattle.dash_stage.proofs.Moves.MovesRecords.{moves_of_records}
 use Rattle.dash_stage.proofs.Controller.SealedEnds.{all_sealed}
 use Rattle.dash_stage.proofs.kept.kept.Goals as goal
@@ -73,6 +74,11 @@ returns c =
       controls = controls;
       halted = λ m out halted.
           halted_of_records m s hall kits' qs is_hall are st.controller held (queues m out) are_kept.all (seen out.same) c.requires.playable.loopers halted;
+      before_quit = λ out.
+          before_quit_of_records in_lockstep s hall kits' qs is_hall are st.controller held (queues in_lockstep (by out)) are_kept.all (seen out.timely.same)
+          (λ q d lt. (out.timely.timely (all_sound s hall kits' qs is_hall are st.controller held (queues in_lockstep (by out)) are_kept.all (seen out.timely.same)) q d lt).before_quit);
+      before_quit_by_clock = λ m out.
+          before_quit_of_records m s hall kits' qs is_hall are st.controller held (queues m out.out) are_kept.all (seen out.out.same) (quits_behind s st out.out.stage out.out.same out.behind);
       timely = λ out.
           timely_of_records s hall kits' qs is_hall are st.controller held (queues in_lockstep (by out)) are_kept.all (seen out.timely.same) out.timely.timely;
       loopers = λ out.

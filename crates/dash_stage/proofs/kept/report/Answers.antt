@@ -4,7 +4,7 @@ use Rattle.loop_model.specs.declared.journal.Journal.{Journal}
 use Rattle.loop_model.specs.declared.record.QueueRecord.{QueueRecord}
 use Rattle.frame_phases.specs.declared.entry.FrameRecord.{FrameRecord}
 use Rattle.run_model.specs.Moments.{in_lockstep}
-use Rattle.run_model.specs.Run.{IsAsPlanned, IsControlled, IsFrameRun, IsLooperRun, IsTimely, EachLooper, main_ends_halted}
+use Rattle.run_model.specs.Run.{IsAsPlanned, IsControlled, IsFrameRun, IsLooperRun, IsBeforeQuit, IsTimely, EachLooper, main_ends_halted}
 use Rattle.run_model.specs.Senders.{controller}
 use Rattle.run_model.specs.Histories.{history_of}
 use Rattle.run_model.specs.Moves.{moves, AreMovedTogether}
@@ -24,6 +24,7 @@ returns-in-Ok c =
     let planned = subst (λ (l : List QueueRecord). AllByRecursion (IsAsPlanned in_lockstep s) l) (sym c.from_vec.ensures) (c.in-Ok.ensures.planned in_lockstep out.run) in
     let controls = subst (λ (l : List QueueRecord). AllByRecursion (IsControlled s) l) (sym c.from_vec.ensures) (c.in-Ok.ensures.controls in_lockstep by out.closed) in
     let halted = subst (λ (l : List QueueRecord). main_ends_halted l ≡ true) (sym c.from_vec.ensures) (c.in-Ok.ensures.halted in_lockstep by out.halted) in
+    let before_quit = subst (λ (l : List QueueRecord). AllByRecursion (IsBeforeQuit s) l) (sym c.from_vec.ensures) (c.in-Ok.ensures.before_quit out) in
     let timely = subst (λ (l : List QueueRecord). AllByRecursion (IsTimely s) l) (sym c.from_vec.ensures) (c.in-Ok.ensures.timely out) in
     let loopers =
     subst (λ (l : List QueueRecord). EachLooper (IsLooperRun in_lockstep s l) l c.from_vec-in-Ok.result c.from_vec-in-Ok-2.result) (sym c.from_vec.ensures)
@@ -43,7 +44,7 @@ returns-in-Ok c =
         controls = controls;
         loopers = loopers;
         frames = runs;
-        timely = record { halted = halted; histories = timely; moves = together };
+        timely = record { halted = halted; before_quit = before_quit; histories = timely; moves = together };
       };
     }
 

@@ -4,7 +4,7 @@ use Rattle.loop_model.specs.declared.journal.Journal.{Journal}
 use Rattle.loop_model.specs.declared.record.QueueRecord.{QueueRecord}
 use Rattle.frame_phases.specs.declared.entry.FrameRecord.{FrameRecord}
 use Rattle.run_model.specs.Moments.{Mode, in_free_mode}
-use Rattle.run_model.specs.Run.{IsAsPlanned, IsControlled, IsFrameRun, IsLooperRun, EachLooper, main_ends_halted}
+use Rattle.run_model.specs.Run.{IsAsPlanned, IsControlled, IsFrameRun, IsLooperRun, IsBeforeQuit, EachLooper, main_ends_halted}
 use Rattle.dash_stage.specs.Records.{AreQueueRecords, AreJournals, AreFrameRecords}
 use Rattle.dash_stage.proofs.kept.report_by_clock.Goals as goal
 
@@ -17,6 +17,7 @@ returns-in-Ok c shows shown out =
     let planned = subst (λ (l : List QueueRecord). AllByRecursion (IsAsPlanned m s) l) (sym c.from_vec.ensures) (c.in-Ok.ensures.planned m out.run) in
     let controls = subst (λ (l : List QueueRecord). AllByRecursion (IsControlled s) l) (sym c.from_vec.ensures) (c.in-Ok.ensures.controls m out.out out.closed) in
     let halted = subst (λ (l : List QueueRecord). main_ends_halted l ≡ true) (sym c.from_vec.ensures) (c.in-Ok.ensures.halted m out.out out.halted) in
+    let before_quit = subst (λ (l : List QueueRecord). AllByRecursion (IsBeforeQuit s) l) (sym c.from_vec.ensures) (c.in-Ok.ensures.before_quit_by_clock m out) in
     let loopers =
     subst (λ (l : List QueueRecord). EachLooper (IsLooperRun m s l) l c.from_vec-in-Ok.result c.from_vec-in-Ok-2.result) (sym c.from_vec.ensures)
     (subst (λ (l : List Journal). EachLooper (IsLooperRun m s c.in-Ok.queues.items) c.in-Ok.queues.items l c.from_vec-in-Ok-2.result) (sym c.from_vec-in-Ok.ensures)
@@ -30,6 +31,6 @@ returns-in-Ok c shows shown out =
         controls = controls;
         loopers = loopers;
         frames = runs;
-        timely = record { halted = halted; histories = tt; moves = tt };
+        timely = record { halted = halted; before_quit = before_quit; histories = tt; moves = tt };
       };
     }

@@ -34,5 +34,5 @@ returns g c =
             controller = was.clocked.controller;
           })
           was.run (subst OthersHaveEnded (sym wrote) ended) (subst LoopersGoOn (sym wrote) on)
-          (subst (HaveLooped m s) (sym wrote) (looped_on m s st.loopers.items ls was.looped (all_grew m s hall st.loopers.items ls looped on))) (subst (HaveComeBy s) (sym wrote) played) was.closing;
+          (subst (HaveLooped m s) (sym wrote) (looped_on m s st.loopers.items ls was.looped (all_grew m s hall st.loopers.items ls looped on))) (subst (HaveComeBy s) (sym wrote) played) was.closing was.behind;
     }

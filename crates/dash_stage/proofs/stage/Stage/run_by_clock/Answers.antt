@@ -8,6 +8,7 @@ use Rattle.dash_threads.specs.declared.thread.PostingThread.{PostingThread}
 use Rattle.dash_threads.specs.Threads.{AreByClock}
 use Rattle.dash_loopers.specs.declared.looper.StageLooper.{StageLooper}
 use Rattle.dash_stage.specs.ByClock.{RunsByClock, LoopsByClock, HaveLooped, LoopSideBySide}
+use Rattle.dash_stage.specs.BehindThreads.{CallsBehindThreads}
 use Rattle.dash_stage.specs.Playing.{HaveComeBy}
 use Rattle.dash_stage.specs.Sharing.{OfThreads, OfLoopers}
 use Rattle.dash_stage.specs.Stages.{AreLoopers, HaveRunBy, GoOn, OthersHaveEnded, LoopersGoOn}
@@ -46,7 +47,8 @@ returns g c =
             loopers = subst (OfLoopers (AreByClock m)) (sym wrote') (loopers_clocked m s hall st.loopers.items ls looped on begun.clocked.loopers);
             controller = quit.clocked begun.clocked.controller;
           })
-          (subst (HaveRunBy m s s.blocks) (sym wrote) run) (subst OthersHaveEnded c.as_slice-4.ensures.value (c.all_but_main_have_ended.ensures c.if-not-all_but_main_have_ended.false)) (subst LoopersGoOn (sym wrote') on) (subst (HaveLooped m s) (sym wrote') first) (subst (HaveComeBy s) (sym wrote') played) quit.closing;
+          (subst (HaveRunBy m s s.blocks) (sym wrote) run) (subst OthersHaveEnded c.as_slice-4.ensures.value (c.all_but_main_have_ended.ensures c.if-not-all_but_main_have_ended.false)) (subst LoopersGoOn (sym wrote') on) (subst (HaveLooped m s) (sym wrote') first) (subst (HaveComeBy s) (sym wrote') played) quit.closing
+          (subst (λ (xs : List PostingThread). CallsBehindThreads s xs c.run_side_by_side-quit.new.controller) (sym wrote) (c.run_side_by_side-quit.ensures.behind c.if-not-quit.false));
     }
 
 pub main_has_ended-requires : goal.main_has_ended-requires

@@ -1,0 +1,63 @@
+use Rattle.std.proofs.Common.{◌<◌, length, refl, arith}
+use Rattle.run_model.specs.Senders.{controller}
+use Rattle.dash_hall.proofs.Hearing.{ready_is}
+use Rattle.dash_stage.proofs.ByClock.Behind.{threads_still, kept_then, hears_on, hears_kept}
+use Rattle.dash_stage.proofs.Controller.Controlling.{in_queues, in_posters, has_poster, poster_count}
+use Rattle.dash_stage.proofs.Controller.ControlTurns.{with_poster}
+use Rattle.dash_stage.proofs.Sharing.StageShares.{controller_kept, posters_ready}
+use Rattle.dash_stage.proofs.share.hear_threads.Goals as goal
+
+pub index-requires : goal.index-requires
+index-requires c = in_queues c.args.script.now c.args.hall.now c.requires.hall c.loop-looper.looper (omega (arith, c.loop-looper-test.true))
+
+pub index_mut-requires : goal.index_mut-requires
+index_mut-requires c =
+    let at = c.loop-looper in
+    in_posters c.args.script.now c.args.hall.now c.requires.hall at.looper (omega (arith, c.loop-looper-test.true)) at.controller
+    (controller_kept c.args.script.now c.args.hall.now c.args.controller.now at.controller at.invariant.kept c.requires.controller)
+
+pub threads_tell-requires-clause-ready : goal.threads_tell-requires-clause-ready
+threads_tell-requires-clause-ready c k d lt =
+    let at = c.loop-looper in
+    let s = c.args.script.now in
+    let hall = c.args.hall.now in
+    let is = threads_still s hall c.args.threads.now at.threads c.requires.threads at.invariant.threads k d lt in
+    posters_ready s hall c.requires.hall at.looper (omega (arith, c.loop-looper-test.true)) c.index.result.now c.index.ensures _ _ is.posters
+
+pub threads_tell-requires-clause-other : goal.threads_tell-requires-clause-other
+threads_tell-requires-clause-other c =
+    let at = c.loop-looper in
+    let s = c.args.script.now in
+    let hall = c.args.hall.now in
+    let is = controller_kept s hall c.args.controller.now at.controller at.invariant.kept c.requires.controller in
+    ready_is at.controller.kit.posters.items at.looper c.index_mut.result.now c.index.result.now
+    (posters_ready s hall c.requires.hall at.looper (omega (arith, c.loop-looper-test.true)) c.index.result.now c.index.ensures (controller s) at.controller.kit.posters.items is.posters)
+    c.index_mut.ensures.value
+
+pub loop-looper-preserved : goal.loop-looper-preserved
+loop-looper-preserved c =
+    let at = c.loop-looper in
+    let s = c.args.script.now in
+    let hall = c.args.hall.now in
+    let is = controller_kept s hall c.args.controller.now at.controller at.invariant.kept c.requires.controller in
+    let within = has_poster s hall c.requires.hall at.looper (omega (arith, c.loop-looper-test.true)) at.controller is in
+    let us = at.threads in
+    let vs = c.threads_tell.new.threads in
+    let p = c.index_mut.result.now in
+    let p' = c.threads_tell.new.other in
+    let next = with_poster at.controller at.looper p' at.controller.kit.pass in
+    record {
+      threads = kept_then c.args.threads.now us vs at.invariant.threads c.threads_tell.ensures.kept;
+      kept = hears_kept at.looper us vs at.controller next p p' within c.index_mut.ensures.value refl c.args.controller.now refl refl refl c.threads_tell.ensures.heard at.invariant.kept;
+      heard = hears_on at.looper us vs at.controller next p p' within c.index_mut.ensures.value refl c.threads_tell.ensures.kept c.threads_tell.ensures.told at.invariant.heard;
+    }
+
+pub returns-clause-heard : goal.returns-clause-heard
+returns-clause-heard c q d lt =
+    let at = c.loop-looper in
+    let s = c.args.script.now in
+    let hall = c.args.hall.now in
+    let is = controller_kept s hall c.args.controller.now at.controller at.invariant.kept c.requires.controller in
+    let count = poster_count s hall at.controller c.requires.hall is in
+    let below : q < at.looper = omega (arith, lt, count, c.loop-looper-test.false) in
+    at.invariant.heard q d below lt
