@@ -24,14 +24,14 @@ NOTHING = b"report 1\nlooper 0\nfates accepted 0 dispatched 0 removed 0 dropped 
 SHOWN = [
     ((HERE / "gauge_runs_to_its_target.report").read_bytes(), ["svg"], HERE.parent / "docs" / "gauge.svg"),
     (ALL_KINDS.read_bytes(), ["svg"], HERE / "picture" / "all_kinds.svg"),
-    (ALL_KINDS.read_bytes(), ["svg", "21", "2000", "--width", "500", "--title", 'A window of "all" <kinds>'], HERE / "picture" / "window.svg"),
+    (ALL_KINDS.read_bytes(), ["svg", "21", "2000", "--width", "700", "--title", 'A window of "all" <kinds>'], HERE / "picture" / "window.svg"),
     (NOTHING, ["svg", "--title", "Nothing"], HERE / "picture" / "nothing.svg"),
 ]
 # Words that are none of the forms.
 REFUSED = [
-    [], ["gif"], ["svg", "1"], ["svg", "5", "5"], ["svg", "7", "5"], ["svg", "x", "5"], ["svg", "1", "2", "3"], ["svg", "--width", "399"],
-    ["svg", "--width", "30001"], ["svg", "--width"], ["svg", "--width", "500", "--width", "500"], ["svg", "--title"], ["svg", "--title", "a", "--title", "b"],
-    ["svg", "--width", "500", "1", "2"], ["svg", "01", "5"], ["html", "1", "2"], ["html", "--width", "500"], ["perfetto", "1", "2"], ["perfetto", "--title", "a"],
+    [], ["gif"], ["svg", "1"], ["svg", "5", "5"], ["svg", "7", "5"], ["svg", "x", "5"], ["svg", "1", "2", "3"], ["svg", "--width", "699"],
+    ["svg", "--width", "30001"], ["svg", "--width"], ["svg", "--width", "700", "--width", "700"], ["svg", "--title"], ["svg", "--title", "a", "--title", "b"],
+    ["svg", "--width", "700", "1", "2"], ["svg", "01", "5"], ["html", "1", "2"], ["html", "--width", "700"], ["perfetto", "1", "2"], ["perfetto", "--title", "a"],
 ]
 # Zooms in and points at the first mark that is shown then; writes what the page told.
 POINTING = b"""<script>

@@ -117,11 +117,10 @@ function rule(left, top, right, bottom) {
 }
 
 function drawDispatches(row, y) {
-  let free = -Infinity;
   rule(LEFT, y + 17, canvas.clientWidth - RIGHT, y + 17);
-  for (const event of row.marks) {
-    const at = x(event.ts);
-    if (at < LEFT - 1 || at > canvas.clientWidth - RIGHT + 1) continue;
+  row.marks.forEach((event, place) => {
+    const at = x(event.ts), end = place + 1 < row.marks.length ? x(row.marks[place + 1].ts) : canvas.clientWidth;
+    if (at < LEFT - 1 || at > canvas.clientWidth - RIGHT + 1) return;
     pen.beginPath();
     pen.moveTo(at, y + 3);
     pen.lineTo(at + 4, y + 9);
@@ -137,13 +136,10 @@ function drawDispatches(row, y) {
       pen.fillStyle = INK;
       pen.fill();
       const text = event.name.split(' what ')[1] || 'c' + event.name.split(' callback ')[1];
-      if (at > free) {
-        write(text, at + 6, y + 13, INK, 'left', '10px DejaVu Sans, Helvetica, sans-serif');
-        free = at + 10 + 7 * text.length;
-      }
+      if (at + 8 + 7 * text.length <= end) write(text, at + 6, y + 13, INK, 'left', '10px DejaVu Sans, Helvetica, sans-serif');
     }
     hits.push({left: at - 5, top: y, right: at + 5, bottom: y + 18, event});
-  }
+  });
 }
 
 function drawFrames(row, y) {
@@ -202,17 +198,14 @@ function drawGauge(row, y) {
   pen.lineWidth = 1.6;
   pen.stroke();
   pen.lineWidth = 1;
-  let free = -Infinity;
-  for (const event of shown) {
+  shown.forEach((event, place) => {
     const at = x(event.ts), high = level(event.args.value), text = String(event.args.value);
+    const end = place + 1 < shown.length ? x(shown[place + 1].ts) : canvas.clientWidth;
     pen.fillStyle = GREEN;
     pen.fillRect(at - 2, high - 2, 4, 4);
-    if (at > free && at + 7 * text.length < canvas.clientWidth) {
-      write(text, at + 3, high - 4, INK, 'left', '10px sans-serif');
-      free = at + 8 + 7 * text.length;
-    }
+    if (at + 5 + 7 * text.length <= end) write(text, at + 3, high - 4, INK, 'left', '10px sans-serif');
     hits.push({left: at - 4, top: high - 5, right: at + 4, bottom: high + 5, event});
-  }
+  });
 }
 
 function drawTimes(bottom) {

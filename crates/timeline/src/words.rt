@@ -6,7 +6,7 @@ use run_picture::{USUAL_WIDTH, View, Window};
 const USUAL_TITLE: &str = "A run of the dashboard";
 
 /// A picture is at least so many pixels wide, and at most so many.
-pub(crate) const LEAST_WIDTH: u32 = 400;
+pub(crate) const LEAST_WIDTH: u32 = 700;
 
 pub(crate) const MOST_WIDTH: u32 = 30_000;
 
