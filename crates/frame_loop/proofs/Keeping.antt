@@ -10,7 +10,7 @@ use Rattle.choreographer.specs.Known.{Shared as FrameShared, Known as FrameKnown
 use Rattle.choreographer.specs.declared.frame.Framed.{Framed}
 use Rattle.choreographer.specs.declared.frame.Framed.TheVariants as framed
 use Rattle.choreographer.specs.Done.{UnlessNoMemory}
-use Rattle.handler_post.specs.declared.way.Way.{Way}
+use Rattle.handler_post.specs.Ways.{PlainWay as Way}
 use Rattle.handler_post.specs.Ways.{IsReady}
 use Rattle.looper_run.specs.declared.own.Own.{Own}
 use Rattle.looper_run.specs.Holding.{Sender, Holding, Workplace, workplace, held}
@@ -39,7 +39,7 @@ keeps_then u v w a b = record {
 }
 
 -- what was lent and not touched
-pub own_self : {E : Type 0} (o : Own E) → KeepsOwn o o
+pub own_self : {E P : Type 0} (o : Own E P) → KeepsOwn o o
 own_self o = record { same = record { poster = refl; pass = refl; journal = refl }; lent = lent_self (held o); rung = refl }
 
 -- the place of a looper that goes on as a dispatcher's calls may

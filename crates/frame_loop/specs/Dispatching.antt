@@ -28,7 +28,7 @@ abbrev pub KeepsServing : {R C E H : Type 0} → FrameHandling R C E H → Frame
 KeepsServing before after = (w : Workplace) → Serving before w → Serving after w
 
 -- what was lent has gone on as the calls of a dispatcher may, by the same references, and rang no bell
-pub record KeepsOwn {E : Type 0} (before after : Own E) : Type 0 where
+pub record KeepsOwn {E P : Type 0} (before after : Own E P) : Type 0 where
   pub same : IsSameOwn before after
   pub lent : IsLent (held before) (held after)
   pub rung : after.poster.now.view.rung ≡ before.poster.now.view.rung

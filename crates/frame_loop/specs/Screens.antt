@@ -3,7 +3,7 @@ use Rattle.std.specs.Prelude.{◌≡◌, ◌==◌, ◌||◌, ◌/◌, ◌-◌, �
 use Rattle.choreographer.specs.Known.{IsOf}
 use Rattle.choreographer.specs.Calls.{PostedBy}
 use Rattle.choreographer.specs.declared.hosted.Placed.{Placed}
-use Rattle.handler_post.specs.declared.way.Way.{Way}
+use Rattle.handler_post.specs.Ways.{PlainWay as Way}
 use Rattle.handler_post.specs.Ways.{IsReady}
 use Rattle.plain_loop.specs.Lines.{Keeps}
 use Rattle.frame_loop.specs.declared.screen.Phase.{Phase}
