@@ -2,7 +2,7 @@
 """soak.py [PROGRAM] [--messages N] [--frames N] [--minutes N] [--short] [--c LONG_RUN]: runs loops for long, and fails where their memory grows.
 
 PROGRAM is the program of crates/soak: its looper always has a message due, of a handler that posts to itself and of four threads, and
-its frames each run a callback that posts itself. Beside it stand removals that match nothing, and posts that are refused. Each part is
+its frames each run a callback that posts itself; each stands over a queue without a record, and over one that keeps it until it is let go. Beside it stand removals that match nothing, and posts that are refused. Each part is
 run for 10,000 messages or frames, and then for many: the most resident memory of the long run (VmHWM, the most that VmRSS was) may be
 1 MB above that of the short one. --minutes runs the parts again and again for so long;
 --short is for a gate, and takes seconds. LONG_RUN is the program of c/tests/long_run.c, which is judged likewise.
@@ -62,6 +62,7 @@ def main():
     words.add_argument("--c", metavar="LONG_RUN")
     asked = words.parse_args()
     counts = {"messages": 100_000, "frames": 100_000} if asked.short else {"messages": asked.messages, "frames": asked.frames}
+    counts |= {"kept-" + name: count for name, count in counts.items()}
     parts = [(name, lambda count, name=name: [asked.program, name, str(count)], count) for name, count in counts.items()]
     if asked.c:
         parts.append(("C messages", lambda count: [asked.c, str(count), "0"], counts["messages"]))

@@ -1,138 +1,110 @@
-//! Frames, each with a callback that posts itself again.
-ghost use Rattle.std.specs.Prelude.{◌≡◌, IsTrue, true, None, IfOk};
-ghost use Rattle.choreographer.specs.Known.{IsOf};
+//! Frames on a looper, each with a callback that posts itself again.
+ghost use Rattle.std.specs.Prelude.{◌<◌, length};
+ghost use Rattle.plain_loop.specs.Senders.{AreSenders};
+ghost use Rattle.frame_loop.specs.Screens.{IsScreen, KeepsScreen};
 
 use crate::calls::{Soaked, begin};
-use choreographer::{Choreographer, ClientRan, FrameClient, FramePass, Framed, Placed};
+use choreographer::Placed;
+use frame_loop::{FrameHandle, Screen, run_frame_looper};
 use frame_phases::Callback;
+use handler_post::Handler;
+use loop_io::{Clock, StepClock};
 use loop_model::NoMemory;
-use plain_loop::Outbox;
+use plain_loop::{Handled, LetGo, Mailbox, Msg, Opened, Senders, Settings, open};
+use queue_state::Recorder;
 use std::alloc::Global;
 use std::sync::Wait;
 use std::time;
 
 const PERIOD_NANOS: u64 = 16_666_667;
 
-/// The phase of animations.
-const ANIMATION: u32 = 1;
+/// By how many milliseconds the clock goes on at each reading, so that each pulse has come by then.
+const STEP: u64 = 20;
 
 /// The number of the callback that posts itself, and one that is never posted.
 const AGAIN: u64 = 7;
 
 const NEVER: u64 = 8;
 
-/// The choreographer lets go each so many frames: each second at 60 a second.
-const FRAMES: u64 = 60;
-
-/// A callback that posts itself again by a pass of its own, and removes nothing.
+/// A callback that posts itself again so many times, removes nothing, and quits.
 #[derive(Drop)]
-struct Again<'a, R: Wait + time::Clock> {
-    rt: &'a R,
-    pass: FramePass,
+struct Again {
+    left: u64,
     soaked: Soaked,
 }
 
-impl<'a, R: Wait + time::Clock> FrameClient<Outbox> for Again<'a, R> {
-    ghost Serves = { λ l c. IsOf l.pass c × (c.constants.phases ≡ 4) };
-
-    ghost Origin = { Unit {0} };
-
-    ghost origin = { λ l. tt };
-
-    ghost ran = { λ l. None };
-
-    ghost Meets = { λ l h. IsTrue true };
-
-    fn run(
+impl Again {
+    /// Posts the callback for the next frame, and removes one that isn't there.
+    fn post<R: Wait + time::Clock, C: Clock, E: Recorder>(
         &mut self,
-        c: &Choreographer,
-        host: &mut Outbox,
-        callback: &Callback,
-        time: u64,
-    ) -> ClientRan {
-        let began = begin(self.rt);
-        let placed = c.post_callback(self.rt, &mut self.pass, host, ANIMATION, AGAIN, None, 0);
-        let removed = c.remove_callbacks(self.rt, &mut self.pass, ANIMATION, NEVER, None);
-        self.soaked.hear(self.rt, began);
-        self.soaked.handled = self.soaked.handled.saturating_add(1);
+        screen: &mut Screen<R, C, E>,
+    ) -> Handled
+        requires { IsScreen screen.old }
+        ensures keeps { KeepsScreen screen.old screen.new }
+    {
+        let began = begin(screen.rt);
+        let placed = screen.post_frame_callback(AGAIN);
+        screen.remove_frame_callback(NEVER)?;
+        self.soaked.hear(screen.rt, began);
         self.soaked.removals = self.soaked.removals.saturating_add(1);
-        if placed == Placed::NoMemory || removed.is_err() {
-            return ClientRan::NoMemory;
+        if placed == Placed::NoMemory {
+            return Err(NoMemory);
         }
-        ClientRan::Done
+        Ok(())
     }
-
-    ghost stays = { λ l h now k reads meets. meets };
 }
 
-/// A choreographer of four phases that lets its record go, with two passes.
-fn open(alloc: Global) -> Result<(Choreographer, FramePass, FramePass), NoMemory>
-    ensures passes { IfOk result (λ r. IsOf r.1 r.0 × IsOf r.2 r.0) }
-    ensures phases { IfOk result (λ r. (r.0.constants.phases ≡ 4) × (r.0.constants.seals ≡ true)) }
+impl<R: Wait + time::Clock, C: Clock, E: Recorder> FrameHandle<R, C, E> for Again {
+    fn handle(&mut self, screen: &mut Screen<R, C, E>, message: &Msg, now: u64) -> Handled {
+        self.post(screen)
+    }
+
+    fn draw(&mut self, screen: &mut Screen<R, C, E>, callback: &Callback, time: u64) -> Handled {
+        self.soaked.handled = self.soaked.handled.saturating_add(1);
+        self.left = self.left.saturating_sub(1);
+        if self.left == 0 {
+            screen.quit();
+            return Ok(());
+        }
+        self.post(screen)
+    }
+}
+
+/// Posts the message that asks for the first frame.
+fn start<R: Wait, C: Clock, E: Recorder>(mailbox: &Mailbox<R, C, E>, mut senders: Senders<E>)
+    requires { AreSenders mailbox.now.queue.now mailbox.now.pool.now senders × (0 < length senders.posters.items) }
 {
-    let (choreographer, mut passes) = Choreographer::make_sealing(alloc, 0, PERIOD_NANOS, 4, 2)?;
-    let second = passes.pop().unwrap();
-    let first = passes.pop().unwrap();
-    Ok((choreographer, first, second))
+    let mut sender = senders.next(mailbox);
+    sender.line(mailbox).send(Handler::new(0).obtain(0, 0));
 }
 
-/// Delivers the pulse that was asked for, as it comes, and runs the frame.
-fn run_frame<R: Wait + time::Clock>(
-    c: &Choreographer,
-    pass: &mut FramePass,
-    host: &mut Outbox,
-    client: &mut Again<R>,
-) -> Result<(), NoMemory>
-    requires pass { IsOf pass.old c.now × (c.now.constants.phases ≡ 4) }
-    requires client { IsOf client.old.pass c.now }
-    ensures pass { IsOf pass.new c.now }
-    ensures client { IsOf client.new.pass c.now }
-{
-    let rt = client.rt;
-    let began = begin(rt);
-    if let Some(pulse) = c.asked(rt, pass) {
-        host.now_nanos = pulse;
-        c.on_vsync(rt, pass, host);
-    }
-    if c.do_frame(rt, pass, host, client) == Framed::NoMemory {
-        return Err(NoMemory);
-    }
-    host.sent.clear();
-    client.soaked.hear(rt, began);
-    Ok(())
-}
-
-/// So many frames, as fast as they go; each second of them the record is let go.
-fn run_frames<R: Wait + time::Clock>(
-    c: &Choreographer,
-    pass: &mut FramePass,
-    host: &mut Outbox,
-    client: &mut Again<R>,
+/// So many frames, as fast as they go, of a callback that posts itself. Answers what was done.
+pub fn soak<R: Wait + time::Clock, E: LetGo>(
+    rt: &R,
+    alloc: Global,
     count: u64,
-) -> Result<(), NoMemory>
-    requires pass { IsOf pass.old c.now × (c.now.constants.phases ≡ 4) }
-    requires client { IsOf client.old.pass c.now }
-    requires seals { c.now.constants.seals ≡ true }
-{
-    for number in 0..count {
-        run_frame(c, pass, host, client)?;
-        if number % FRAMES == 0 {
-            c.seal(client.rt, pass)?;
-        }
-    }
-    Ok(())
-}
-
-/// So many frames, of a callback that posts itself. Answers what was done.
-pub fn soak<R: Wait + time::Clock>(rt: &R, alloc: Global, count: u64) -> Result<Soaked, NoMemory> {
-    let (choreographer, mut pass, second) = open(alloc)?;
-    let mut host = Outbox::new(alloc, 0);
-    let mut client = Again {
+) -> Result<Soaked, NoMemory> {
+    let Opened {
+        queue,
+        pool,
+        mut looper,
+        senders,
+        sources,
+    } = open::<E>(alloc, Settings::new(1))?;
+    let clock = StepClock::new(STEP);
+    let mailbox = Mailbox {
         rt,
-        pass: second,
+        alloc,
+        clock: &clock,
+        queue: &queue,
+        pool: &pool,
+        sources: &sources,
+    };
+    start(&mailbox, senders);
+    let again = Again {
+        left: count,
         soaked: Soaked::none(),
     };
-    choreographer.post_callback(rt, &mut pass, &mut host, ANIMATION, AGAIN, None, 0);
-    run_frames(&choreographer, &mut pass, &mut host, &mut client, count)?;
-    Ok(client.soaked)
+    let again = run_frame_looper(&mailbox, &mut looper, PERIOD_NANOS, again)?;
+    Ok(again.soaked)
 }

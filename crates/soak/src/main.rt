@@ -1,4 +1,4 @@
-//! Runs a looper, or frames, for long, to see that its memory stays as it is: `soak messages|frames COUNT`.
+//! Runs a looper, or frames, for long, to see that its memory stays as it is: `soak messages|frames|kept-messages|kept-frames COUNT`.
 #![tactic(auto)]
 
 mod calls;
@@ -8,6 +8,7 @@ mod posting;
 
 use crate::calls::Soaked;
 use loop_io::StdClock;
+use queue_state::{Kept, Unkept};
 use std::env;
 use std::process::ExitCode;
 
@@ -23,8 +24,10 @@ fn main(rt: HostRuntime) -> ExitCode {
     };
     let clock = StdClock::new(&rt);
     let soaked = match words[0].as_str() {
-        "messages" => messages::soak(&rt, rt.alloc(), &clock, count),
-        "frames" => frames::soak(&rt, rt.alloc(), count),
+        "messages" => messages::soak::<_, _, Unkept>(&rt, rt.alloc(), &clock, count),
+        "kept-messages" => messages::soak::<_, _, Kept>(&rt, rt.alloc(), &clock, count),
+        "frames" => frames::soak::<_, Unkept>(&rt, rt.alloc(), count),
+        "kept-frames" => frames::soak::<_, Kept>(&rt, rt.alloc(), count),
         _ => return usage(&rt),
     };
     match soaked {
@@ -42,7 +45,7 @@ fn words(rt: &HostRuntime) -> Option<Vec<String>> {
 }
 
 fn usage(rt: &HostRuntime) -> ExitCode {
-    let _ = eprintln!(rt; "usage: soak messages|frames COUNT");
+    let _ = eprintln!(rt; "usage: soak messages|frames|kept-messages|kept-frames COUNT");
     ExitCode::from(2)
 }
 

@@ -1,12 +1,13 @@
 //! A looper that always has a message due, beside four threads that post; and loopers that have quit.
-ghost use Rattle.std.specs.Prelude.{◌<◌, length};
-ghost use Rattle.plain_loop.specs.Senders.{IsSender, AreSenders};
+ghost use Rattle.std.specs.Prelude.{◌≡◌, ◌<◌, false, length};
+ghost use Rattle.plain_loop.specs.Senders.{IsSender, AreSenders, IsLooper};
 
 use crate::calls::{Soaked, Window};
 use crate::posting::{Again, OWN, post, post_in_vain, post_many};
 use loop_io::Clock;
 use loop_model::NoMemory;
-use plain_loop::{Handled, Mailbox, Sender, Senders, Settings, run_beside};
+use looper_run::Looper;
+use plain_loop::{Handled, LetGo, Mailbox, Opened, Sender, Senders, Settings, open, run_looper};
 use std::alloc::Global;
 use std::sync::Wait;
 use std::thread::{Threads, join};
@@ -24,11 +25,11 @@ fn sum(one: Done, other: Done) -> Done {
 }
 
 /// Two post so many messages each, each in a thread of its own.
-fn post_both<R: Threads + Wait + time::Clock + Sync, C: Clock + Sync>(
-    mailbox: &Mailbox<R, C>,
+fn post_both<R: Threads + Wait + time::Clock + Sync, C: Clock + Sync, E: LetGo + Send + Sync>(
+    mailbox: &Mailbox<R, C, E>,
     window: &Window,
-    first: Sender,
-    second: Sender,
+    first: Sender<E>,
+    second: Sender<E>,
     posts: u64,
 ) -> Done
     requires first { IsSender mailbox.now.queue.now mailbox.now.pool.now first }
@@ -43,17 +44,20 @@ fn post_both<R: Threads + Wait + time::Clock + Sync, C: Clock + Sync>(
 }
 
 /// Posts the message that the handler posts again.
-fn start<R: Wait + time::Clock, C: Clock>(mailbox: &Mailbox<R, C>, mut sender: Sender) -> Handled
+fn start<R: Wait + time::Clock, C: Clock, E: LetGo>(
+    mailbox: &Mailbox<R, C, E>,
+    mut sender: Sender<E>,
+) -> Handled
     requires { IsSender mailbox.now.queue.now mailbox.now.pool.now sender }
 {
     post(&mut sender.line(mailbox), OWN, &mut Soaked::none())
 }
 
 /// The handler's own message is posted; and four post so many messages each, each in a thread of its own.
-fn post_all<R: Threads + Wait + time::Clock + Sync, C: Clock + Sync>(
-    mailbox: &Mailbox<R, C>,
+fn post_all<R: Threads + Wait + time::Clock + Sync, C: Clock + Sync, E: LetGo + Send + Sync>(
+    mailbox: &Mailbox<R, C, E>,
     window: &Window,
-    mut senders: Senders,
+    mut senders: Senders<E>,
     posts: u64,
 ) -> Done
     requires { AreSenders mailbox.now.queue.now mailbox.now.pool.now senders × (4 < length senders.posters.items) }
@@ -75,45 +79,110 @@ fn post_all<R: Threads + Wait + time::Clock + Sync, C: Clock + Sync>(
     sum(two, others)
 }
 
-/// A looper that quits at once, and refuses posts.
-fn refuse<R: Threads + Wait + time::Clock + Sync, C: Clock + Sync>(
-    rt: &R,
-    alloc: Global,
-    clock: &C,
-) -> Done {
+/// The same, and then quits.
+fn post_and_quit<R: Threads + Wait + time::Clock + Sync, C: Clock + Sync, E: LetGo + Send + Sync>(
+    mailbox: &Mailbox<R, C, E>,
+    window: &Window,
+    mut senders: Senders<E>,
+    posts: u64,
+) -> Done
+    requires { AreSenders mailbox.now.queue.now mailbox.now.pool.now senders × (5 < length senders.posters.items) }
+{
+    let mut last = senders.next(mailbox);
+    let posted = post_all(mailbox, window, senders, posts);
+    last.line(mailbox).quit_safely();
+    posted
+}
+
+/// A looper whose queue quits at once, and refuses posts.
+fn refuse<R: Wait + time::Clock, C: Clock, E: LetGo>(rt: &R, alloc: Global, clock: &C) -> Done {
+    let Opened {
+        queue,
+        pool,
+        mut looper,
+        mut senders,
+        sources,
+    } = open::<E>(alloc, Settings::new(1))?;
+    let mailbox = Mailbox {
+        rt,
+        alloc,
+        clock,
+        queue: &queue,
+        pool: &pool,
+        sources: &sources,
+    };
     let window = Window::new();
     let again = Again {
         window: &window,
         soaked: Soaked::none(),
     };
-    let work = |mailbox: &_, mut senders: Senders| {
-        post_in_vain(mailbox, senders.next(mailbox), REFUSALS)
-    };
-    let (refused, _) = run_beside(rt, alloc, clock, Settings::new(1), again, work)?;
+    let refused = post_in_vain(&mailbox, senders.next(&mailbox), REFUSALS);
+    run_looper(&mailbox, &mut looper, again)?;
     refused
+}
+
+/// The looper runs beside them, in a thread of its own.
+fn post_beside<R: Threads + Wait + time::Clock + Sync, C: Clock + Sync, E: LetGo + Send + Sync>(
+    mailbox: &Mailbox<R, C, E>,
+    mut looper: Looper<E>,
+    senders: Senders<E>,
+    posts: u64,
+) -> Done
+    requires looper { IsLooper mailbox.now.queue.now mailbox.now.pool.now looper }
+    requires free { mailbox.now.queue.now.constants.setting.lockstep ≡ false }
+    requires senders { AreSenders mailbox.now.queue.now mailbox.now.pool.now senders × (5 < length senders.posters.items) }
+{
+    let window = Window::new();
+    let again = Again {
+        window: &window,
+        soaked: Soaked::none(),
+    };
+    let (posted, again) = join(
+        mailbox.rt,
+        ||
+            requires { AreSenders mailbox.now.queue.now mailbox.now.pool.now senders × (5 < length senders.posters.items) }
+        { post_and_quit(mailbox, &window, senders, posts) },
+        || run_looper(mailbox, &mut looper, again),
+    );
+    Ok(posted?.and(again?.soaked))
+}
+
+/// Four threads post so many messages together, and a handler its own. Answers what was done.
+fn post_four<R: Threads + Wait + time::Clock + Sync, C: Clock + Sync, E: LetGo + Send + Sync>(
+    rt: &R,
+    alloc: Global,
+    clock: &C,
+    posts: u64,
+) -> Done {
+    let Opened {
+        queue,
+        pool,
+        looper,
+        senders,
+        sources,
+    } = open::<E>(alloc, Settings::new(6))?;
+    let mailbox = Mailbox {
+        rt,
+        alloc,
+        clock,
+        queue: &queue,
+        pool: &pool,
+        sources: &sources,
+    };
+    post_beside(&mailbox, looper, senders, posts)
 }
 
 /// Four threads post so many messages together, and a handler its own; then a tenth of so many posts are refused. Answers what was
 /// done.
-pub fn soak<R: Threads + Wait + time::Clock + Sync, C: Clock + Sync>(
+pub fn soak<R: Threads + Wait + time::Clock + Sync, C: Clock + Sync, E: LetGo + Send + Sync>(
     rt: &R,
     alloc: Global,
     clock: &C,
     count: u64,
 ) -> Done {
-    let window = Window::new();
-    let again = Again {
-        window: &window,
-        soaked: Soaked::none(),
-    };
-    let posts = count / 4;
-    let work = |mailbox: &Mailbox<R, C>, senders: Senders|
-        requires { AreSenders mailbox.now.queue.now mailbox.now.pool.now senders × (4 < length senders.posters.items) }
-    { post_all(mailbox, &window, senders, posts) };
-    let (posted, again) = run_beside(rt, alloc, clock, Settings::new(5), again, work)?;
-    let mut soaked = posted?.and(again.soaked);
+    let mut soaked = post_four::<R, C, E>(rt, alloc, clock, count / 4)?;
     for _ in 0..count / 10 / REFUSALS {
-        soaked = soaked.and(refuse(rt, alloc, clock)?);
+        soaked = soaked.and(refuse::<R, C, E>(rt, alloc, clock)?);
     }
     Ok(soaked)
 }

@@ -8,6 +8,7 @@ use handler_post::{Erased, Handler, Sent};
 use loop_io::Clock;
 use loop_model::NoMemory;
 use plain_loop::{Handle, Handled, Line, Mailbox, Msg, Sender};
+use queue_state::Recorder;
 use std::sync::Wait;
 use std::time;
 
@@ -34,8 +35,8 @@ pub struct Again<'a> {
     pub soaked: Soaked,
 }
 
-impl<'a, R: Wait + time::Clock, C: Clock> Handle<R, C> for Again<'a> {
-    fn handle(&mut self, line: &mut Line<R, C>, message: &Msg, now: u64) -> Handled {
+impl<'a, R: Wait + time::Clock, C: Clock, E: Recorder> Handle<R, C, E> for Again<'a> {
+    fn handle(&mut self, line: &mut Line<R, C, E>, message: &Msg, now: u64) -> Handled {
         self.soaked.handled = self.soaked.handled.saturating_add(1);
         if message.what() == OWN {
             return post(line, OWN, &mut self.soaked);
@@ -46,8 +47,8 @@ impl<'a, R: Wait + time::Clock, C: Clock> Handle<R, C> for Again<'a> {
 }
 
 /// Posts a message that is due at once, and counts it where it is refused.
-pub fn post<R: Wait + time::Clock, C: Clock>(
-    line: &mut Line<R, C>,
+pub fn post<R: Wait + time::Clock, C: Clock, E: Recorder>(
+    line: &mut Line<R, C, E>,
     what: u32,
     soaked: &mut Soaked,
 ) -> Handled
@@ -68,7 +69,10 @@ pub fn post<R: Wait + time::Clock, C: Clock>(
 }
 
 /// Makes a removal that matches nothing.
-fn remove<R: Wait + time::Clock, C: Clock>(line: &mut Line<R, C>, soaked: &mut Soaked) -> Handled
+fn remove<R: Wait + time::Clock, C: Clock, E: Recorder>(
+    line: &mut Line<R, C, E>,
+    soaked: &mut Soaked,
+) -> Handled
     requires { IsReady (way_of line.old) }
     ensures keeps { Keeps (way_of line.old) (way_of line.new) }
 {
@@ -83,10 +87,10 @@ fn remove<R: Wait + time::Clock, C: Clock>(line: &mut Line<R, C>, soaked: &mut S
 }
 
 /// Posts so many messages, each as soon as there is room, and now and then removes nothing. Answers what it did.
-pub fn post_many<R: Wait + time::Clock, C: Clock>(
-    mailbox: &Mailbox<R, C>,
+pub fn post_many<R: Wait + time::Clock, C: Clock, E: Recorder>(
+    mailbox: &Mailbox<R, C, E>,
     window: &Window,
-    mut sender: Sender,
+    mut sender: Sender<E>,
     posts: u64,
 ) -> Result<Soaked, NoMemory>
     requires { IsSender mailbox.now.queue.now mailbox.now.pool.now sender }
@@ -104,9 +108,9 @@ pub fn post_many<R: Wait + time::Clock, C: Clock>(
 }
 
 /// Quits, and then makes so many posts, each with a removal. Answers what it did.
-pub fn post_in_vain<R: Wait + time::Clock, C: Clock>(
-    mailbox: &Mailbox<R, C>,
-    mut sender: Sender,
+pub fn post_in_vain<R: Wait + time::Clock, C: Clock, E: Recorder>(
+    mailbox: &Mailbox<R, C, E>,
+    mut sender: Sender<E>,
     posts: u64,
 ) -> Result<Soaked, NoMemory>
     requires { IsSender mailbox.now.queue.now mailbox.now.pool.now sender }

@@ -42,7 +42,6 @@ impl<R: Wait, C: Clock> FrameHandle<R, C, Unkept> for Thermostat {
         Ok(())
     }
 
-    // Posts itself again until all came.
     fn run_callback(&mut self, screen: &mut Screen<R, C>, id: u64, now: u64) -> Handled {
         if self.readings == 3 && self.idle == 1 && self.dial == self.target {
             screen.quit_safely();
