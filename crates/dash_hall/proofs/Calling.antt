@@ -51,10 +51,10 @@ in_vain_back home (Some c) a b o = omega (arith, o.2)
 -- a sending is the post of its message, or no entry at want of memory
 pub sends : (home : TableId) (m : PostData) (p q : Sender) (a b : Tally) (r : Sent) → b.home ≡ a.home → Sending home m p q a b r
     → GoesOn p q a b × IfSent r (own q ≡ own p) (Makes p q (plain (Post m)) [])
-sends home m p q a b (Took number wake) same (claim, (x, y, t, posts), o) =
+sends home m p q a b (Took number wake) same (claim, (x, y, t, posts, accepted), o) =
     enters p q x y (Post (post_of (letter_of m claim).item)) (Accepted number) a b t (entries_are x y _ posts.2) refl (record { home = same; back = obtained_back home claim a b o })
     (one_put home x y (with_number number (letter_of m claim)) a b (messages_are x y _ posts.2) o)
-sends home m p q a b (Turned place) same (claim, (x, y, t, posts), o) =
+sends home m p q a b (Turned place) same (claim, (x, y, t, posts, accepted), o) =
     enters p q x y (Post (post_of (letter_of m claim).item)) (Refused place) a b t (entries_are x y _ posts.2) refl (record { home = same; back = in_vain_back home claim a b o })
     (same_messages x y a b (messages_are x y _ posts.2) (in_vain_gives_back home claim a b o))
 sends home m p q a b NoRoom same (claim, none, o) =
@@ -73,8 +73,8 @@ erases f p q a b NoSpace same (none, kept) =
 
 -- either is at most one turn
 pub sent_once : (home : TableId) (m : PostData) (p q : Sender) (a b : Tally) (r : Sent) → Sending home m p q a b r → TurnsOnce p q
-sent_once home m p q a b (Took number wake) (claim, (x, y, t, posts), o) = one_turn p q x y t
-sent_once home m p q a b (Turned place) (claim, (x, y, t, posts), o) = one_turn p q x y t
+sent_once home m p q a b (Took number wake) (claim, (x, y, t, posts, accepted), o) = one_turn p q x y t
+sent_once home m p q a b (Turned place) (claim, (x, y, t, posts, accepted), o) = one_turn p q x y t
 sent_once home m p q a b NoRoom (claim, none, o) = turns_none p q none
 
 pub erased_once : (f : Filter) (p q : Sender) (a b : Tally) (r : Erased) → Erasing f p q a b r → TurnsOnce p q
@@ -177,7 +177,7 @@ by_erase v w f r res ready ready' same erased ok err =
     (done.0, answers.0, answers.1, erased_once f v.poster.now w.poster.now v.pass.now w.pass.now r erased, still.1)
 
 -- obtaining a message, and recycling one, bring no less back
-pub answers_back : (home : TableId) (a b : Tally) (r : Obtained) → Answers home a b r → a.back ≤ b.back
+pub answers_back : {V : Type 0} (home : TableId) (a b : Tally) (r : Obtained V) → Answers home a b r → a.back ≤ b.back
 answers_back home a b (Pooled node) (is, taken) = let back : b.back ≡ a.back = taken.3 in omega (arith, back)
 answers_back home a b (Fresh node look lost) (blank, free) = (let back : b.back ≡ a.back = free.3 in omega (arith, back))
 answers_back home a b NoMemory (look, lost, free) = (let back : b.back ≡ a.back = free.3 in omega (arith, back))

@@ -59,11 +59,11 @@ if_so : {X : Type 0} (b : Bool) (x y : X) → b ≡ true → (if b then x else y
 if_so b x y is = ap (λ (t : Bool). if t then x else y) is
 
 pub told : (id : ℕ) (home : TableId) (m : PostData) (p q : Sender) (a b : Tally) (r : Sent) → is_sending id m ≡ true → Sending home m p q a b r → sends_by id q ≡ sends_by id p ++ sent_by m.what m.arg m.when (answer_by r)
-told id home m p q a b (Took number wake) is (claim, (x, y, t, posts), o) =
+told id home m p q a b (Took number wake) is (claim, (x, y, t, posts, accepted), o) =
     let e = entry_of x p.sender (Post (post_of (letter_of m claim).item)) (Accepted number) in
     let left : y.entries ≡ x.entries ++ e ∷ [] = ap (λ (w : State). w.entries) posts.2 in
     one_more id p q e (turn_makes p q x y (e ∷ []) t left (own_of_one p.sender e refl)) ∙ ap (λ (s : Told). sends_by id p ++ s ∷ []) (if_so (is_sending id m) _ _ is)
-told id home m p q a b (Turned place) is (claim, (x, y, t, posts), o) =
+told id home m p q a b (Turned place) is (claim, (x, y, t, posts, accepted), o) =
     let e = entry_of x p.sender (Post (post_of (letter_of m claim).item)) (Refused place) in
     let left : y.entries ≡ x.entries ++ e ∷ [] = ap (λ (w : State). w.entries) posts.2 in
     one_more id p q e (turn_makes p q x y (e ∷ []) t left (own_of_one p.sender e refl)) ∙ ap (λ (s : Told). sends_by id p ++ s ∷ []) (if_so (is_sending id m) _ _ is)

@@ -109,9 +109,9 @@ in_vain_back home None a b o = omega (arith, o.2)
 in_vain_back home (Some c) a b o = omega (arith, o.2)
 
 sending : (home : TableId) (m : PostData) (p q : Sender) (a b : Tally) (r : Sent) → b.home ≡ a.home → Sending home m p q a b r → Steps p q a b
-sending home m p q a b (Took number wake) same (claim, (x, y, t, posts), o) =
+sending home m p q a b (Took number wake) same (claim, (x, y, t, posts, accepted), o) =
     entered p q x y (Post (post_of (letter_of m claim).item)) (Accepted number) a b t (entries_are x y _ posts.2) refl (record { home = same; back = obtained_back home claim a b o })
-sending home m p q a b (Turned place) same (claim, (x, y, t, posts), o) =
+sending home m p q a b (Turned place) same (claim, (x, y, t, posts, accepted), o) =
     entered p q x y (Post (post_of (letter_of m claim).item)) (Refused place) a b t (entries_are x y _ posts.2) refl (record { home = same; back = in_vain_back home claim a b o })
 sending home m p q a b NoRoom same (claim, none, o) = made_none p q a b none (record { home = same; back = in_vain_back home claim a b o })
 
