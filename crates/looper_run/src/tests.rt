@@ -693,19 +693,19 @@ fn order_of(
     pool: &Pool<Order>,
     pass: &mut PoolPass<Order>,
     number: u64,
-) -> Option<PoolNode<Order>>
+) -> Result<PoolNode<Order>, NoMemory>
     requires { pass.old.home ≡ pool.now }
     ensures home { pass.new.home ≡ pool.now }
-    ensures node { IfSome result (λ m. (is_barrier m.item ≡ false) × IsNodeOf pool.now m) }
+    ensures node { IfOk result (λ m. (is_barrier m.item ≡ false) × IsNodeOf pool.now m) }
 {
     let Obtained::Pooled(mut node) = pool.obtain(alloc, pass) else {
-        return None;
+        return Err(NoMemory);
     };
     let Ok(()) = put_value(node.item_mut(), Order { number }) else {
-        return None;
+        return Err(NoMemory);
     };
     node.item_mut().set_post(&plain(1, None, 5));
-    Some(node)
+    Ok(node)
 }
 
 #[test]
@@ -714,9 +714,8 @@ fn a_dispatcher_gets_the_value(rt: HostRuntime) -> Result<(), Fail> {
     let (pool, mut pass) = Pool::new(alloc)?;
     let (queue, mut posters) = SharedQueue::make(alloc, pool.home(), 0, false, false, 1)?;
     let mut poster: Poster<PoolClaim<Order>, Unkept> = posters.pop().unwrap();
-    if let Some(node) = order_of(alloc, &pool, &mut pass, 7) {
-        poster.post(&rt, &queue, node);
-    }
+    let node = order_of(alloc, &pool, &mut pass, 7)?;
+    poster.post(&rt, &queue, node);
     let mut looper = Looper::make(alloc, 0, poster, pass);
     let sources = nothing_watched(alloc);
     let mut d = Clerk {
