@@ -12,10 +12,10 @@ pub of_looper-queue-requires : goal.of_looper-queue-requires
 of_looper-queue-requires g c = within_queues c.args.script.now c.args.hall.now c.args.self.now c.requires.hall c.requires.looper
 
 pub run_round-last-requires-clause-going : goal.run_round-last-requires-clause-going
-run_round-last-requires-clause-going g c = ap (λ (x : StageLooper). x.looper.ended) c.player-player.ensures.same ∙ (c.requires.looper.ended ∙ c.requires.going.0)
+run_round-last-requires-clause-going g c κs lives = ap (λ (x : StageLooper). x.looper.ended) c.player-player.ensures.same ∙ (c.requires.looper.ended ∙ c.requires.going.0)
 
 pub run_round-last-requires-clause-at : goal.run_round-last-requires-clause-at
-run_round-last-requires-clause-at g c =
+run_round-last-requires-clause-at g c κs lives =
     at_queue_here c.args.script.now c.args.hall.now c.args.self.now c.requires.hall c.requires.looper c.of_looper-queue.result.now c.of_looper-queue.ensures c.player-player.new.self c.player-player.ensures.same
 
 pub take_back-requires-clause-hall : goal.take_back-requires-clause-hall

@@ -5,7 +5,7 @@ use Rattle.dash_loopers.proofs.LooperSeats.{own_at, own_ready, other_is, looper_
 use Rattle.dash_loopers.proofs.looper.StageLooper.hear.Goals as goal
 
 pub hear-requires : goal.hear-requires
-hear-requires c = (own_ready c.args.self.now c.args.place c.args.queue.now c.requires.ready c.requires.within (omega (arith, c.if-place-number.true)), c.requires.other)
+hear-requires c = (search, (own_ready c.args.self.now c.args.place c.args.queue.now c.requires.ready c.requires.within (omega (arith, c.if-place-number.true)), c.requires.other))
 
 pub returns-then-place-number-clause-kept : goal.returns-then-place-number-clause-kept
 returns-then-place-number-clause-kept c =

@@ -14,14 +14,14 @@ pub of_looper-queue-requires : goal.of_looper-queue-requires
 of_looper-queue-requires g c = within_queues c.args.script.now c.args.hall.now c.args.self.now c.requires.hall c.requires.looper
 
 pub run_loop-how-requires-clause-going : goal.run_loop-how-requires-clause-going
-run_loop-how-requires-clause-going g c = ap (λ (x : StageLooper). x.looper.ended) c.player-player.ensures.same ∙ (c.requires.looper.ended ∙ c.requires.going.0)
+run_loop-how-requires-clause-going g c κs lives = ap (λ (x : StageLooper). x.looper.ended) c.player-player.ensures.same ∙ (c.requires.looper.ended ∙ c.requires.going.0)
 
 pub run_loop-how-requires-clause-at : goal.run_loop-how-requires-clause-at
-run_loop-how-requires-clause-at g c =
+run_loop-how-requires-clause-at g c κs lives =
     at_queue_here c.args.script.now c.args.hall.now c.args.self.now c.requires.hall c.requires.looper c.of_looper-queue.result.now c.of_looper-queue.ensures c.player-player.new.self c.player-player.ensures.same
 
 pub run_loop-how-requires-clause-free : goal.run_loop-how-requires-clause-free
-run_loop-how-requires-clause-free g c =
+run_loop-how-requires-clause-free g c κs lives =
     let l = c.args.self.now in
     setting_free c.args.script.now c.args.hall.now l.number c.of_looper-queue.result.now c.requires.mode (looper_of c.args.script.now c.args.hall.now l c.requires.hall c.requires.looper) c.of_looper-queue.ensures
 

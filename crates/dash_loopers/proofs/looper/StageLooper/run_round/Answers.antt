@@ -12,7 +12,7 @@ pub of_looper-requires : goal.of_looper-requires
 of_looper-requires g c = within_queues c.args.script.now c.args.hall.now c.args.self.now c.requires.hall c.requires.looper
 
 pub run_round-self-requires-clause-at : goal.run_round-self-requires-clause-at
-run_round-self-requires-clause-at g c = at_queue c.args.script.now c.args.hall.now c.args.self.now c.requires.hall c.requires.looper c.of_looper.result.now c.of_looper.ensures
+run_round-self-requires-clause-at g c κs lives = at_queue c.args.script.now c.args.hall.now c.args.self.now c.requires.hall c.requires.looper c.of_looper.result.now c.of_looper.ensures
 
 pub close-requires-clause-parts : goal.close-requires-clause-parts
 close-requires-clause-parts g c =
