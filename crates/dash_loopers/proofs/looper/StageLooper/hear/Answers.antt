@@ -1,3 +1,4 @@
+use denote.Param.Send.{sendable}
 use Rattle.std.proofs.Common.{◌≡◌, Some, refl, sym, ap, ◌∙◌, arith}
 use Rattle.dash_loopers.specs.Loopers.{posters_of, rest_in}
 use Rattle.dash_hall.proofs.Hearing.{has_heard, ready_is, known_is, longer_whole}
@@ -5,7 +6,7 @@ use Rattle.dash_loopers.proofs.LooperSeats.{own_at, own_ready, other_is, looper_
 use Rattle.dash_loopers.proofs.looper.StageLooper.hear.Goals as goal
 
 pub hear-requires : goal.hear-requires
-hear-requires c = (search, (own_ready c.args.self.now c.args.place c.args.queue.now c.requires.ready c.requires.within (omega (arith, c.if-place-number.true)), c.requires.other))
+hear-requires c = (search sendable, (own_ready c.args.self.now c.args.place c.args.queue.now c.requires.ready c.requires.within (omega (arith, c.if-place-number.true)), c.requires.other))
 
 pub returns-then-place-number-clause-kept : goal.returns-then-place-number-clause-kept
 returns-then-place-number-clause-kept c =

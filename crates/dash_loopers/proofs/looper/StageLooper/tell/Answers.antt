@@ -1,3 +1,4 @@
+use denote.Param.Send.{sendable}
 use Rattle.std.proofs.Common.{◌≡◌, List, Some, refl, sym, ap, ◌∙◌, arith}
 use Rattle.std.specs.List.{insert}
 use Rattle.looper_run.specs.Holding.{Sender}
@@ -7,7 +8,7 @@ use Rattle.dash_loopers.proofs.LooperSeats.{own_at, own_ready, other_is}
 use Rattle.dash_loopers.proofs.looper.StageLooper.tell.Goals as goal
 
 pub tell-requires : goal.tell-requires
-tell-requires c = (search, (own_ready c.args.self.now c.args.place c.args.queue.now c.requires.ready c.requires.within (omega (arith, c.if-place-number.true)), c.requires.other))
+tell-requires c = (search sendable, (own_ready c.args.self.now c.args.place c.args.queue.now c.requires.ready c.requires.within (omega (arith, c.if-place-number.true)), c.requires.other))
 
 pub returns-then-place-number-clause-heard : goal.returns-then-place-number-clause-heard
 returns-then-place-number-clause-heard c = has_heard c.args.other.now c.tell.new.other c.tell.ensures.same c.tell.ensures.begins.0
