@@ -1,11 +1,11 @@
-ghost use Rattle.std.specs.Prelude.{◌≡◌, [], ◌∷◌, IfOk};
+ghost use Rattle.std.specs.Prelude.{◌≡◌, IfOk};
 ghost use Rattle.shared_queue.specs.Known.{IsOf};
 ghost use Rattle.handler_post.specs.Ways.{IsReady};
 
-use crate::{Erased, Handler, Quit, Sent, SentWith, Way, recycle_with};
+use crate::{Erased, Handler, Quit, Sent, Way};
 use loop_model::NoMemory;
-use message_pool::{Payload, Pool, PoolClaim, PoolPass};
-use queue_state::{Kept, Nexted, Quitting};
+use message_pool::{Pool, PoolClaim, PoolPass};
+use queue_state::{Nexted, Quitting};
 use shared_queue::{Poster, SharedQueue};
 use std::alloc::Global;
 use std::sync::Wait;
@@ -18,20 +18,14 @@ const HANDLER: Handler = Handler {
 
 // A queue in lockstep with one poster, and a pool with one pass.
 #[derive(Drop)]
-struct Opened<P: Payload = ()> {
-    queue: SharedQueue<PoolClaim<P>>,
-    poster: Poster<PoolClaim<P>>,
-    pool: Pool<P>,
-    pass: PoolPass<P>,
+struct Opened {
+    queue: SharedQueue<PoolClaim>,
+    poster: Poster<PoolClaim>,
+    pool: Pool,
+    pass: PoolPass,
 }
 
 fn set_up(alloc: Global) -> Result<Opened, NoMemory>
-    ensures { IfOk result (λ o. IsOf o.poster o.queue × (o.pass.home ≡ o.pool) × (o.queue.constants.home ≡ o.pool)) }
-{
-    set_up_with(alloc)
-}
-
-fn set_up_with<P: Payload>(alloc: Global) -> Result<Opened<P>, NoMemory>
     ensures { IfOk result (λ o. IsOf o.poster o.queue × (o.pass.home ≡ o.pool) × (o.queue.constants.home ≡ o.pool)) }
 {
     let (pool, pass) = Pool::new(alloc)?;
@@ -204,95 +198,5 @@ fn a_barrier_is_removed_once(rt: HostRuntime) -> Result<(), Fail> {
     assert!(rt; erased == Erased::Removed { count: 1 });
     assert!(rt; way.quit(&rt, true, 0) == Quit::Done { dropped: 0 });
     assert!(rt; way.quit(&rt, true, 0) == Quit::AlreadyQuit { place: 5 });
-    Ok(())
-}
-
-// A value that a message carries.
-#[derive(Drop)]
-struct Order {
-    number: u64,
-}
-
-impl Payload for Order {
-    ghost content = { λ order. order.number ∷ [] };
-}
-
-fn send_order<R: Wait>(
-    rt: &R,
-    alloc: Global,
-    way: &mut Way<Kept, Order>,
-    number: u64,
-) -> SentWith<Order>
-    requires { IsReady way.old }
-    ensures { IsReady way.new }
-{
-    way.send_with(rt, alloc, &HANDLER.obtain(1, 2), Order { number })
-}
-
-fn send_orders<R: Wait>(rt: &R, alloc: Global, way: &mut Way<Kept, Order>, count: u64)
-    requires { IsReady way.old }
-    ensures { IsReady way.new }
-{
-    for number in 0..count {
-        send_order(rt, alloc, way, number);
-    }
-}
-
-// The number of the order that the first message carries.
-fn next_order<R: Wait>(rt: &R, way: &mut Way<Kept, Order>) -> Option<u64>
-    requires { IsReady way.old }
-    ensures { IsReady way.new }
-{
-    match way.poster.next(rt, way.queue, 0, false) {
-        Nexted::Taken { node, .. } => match recycle_with(way.pool, way.pass, node) {
-            Some(order) => Some(order.number),
-            None => None,
-        },
-        _ => None,
-    }
-}
-
-#[test]
-fn a_value_comes_out_or_back(rt: HostRuntime) -> Result<(), Fail> {
-    let mut opened = set_up_with(rt.alloc())?;
-    let mut way = Way {
-        queue: &opened.queue,
-        poster: &mut opened.poster,
-        pool: &opened.pool,
-        pass: &mut opened.pass,
-    };
-    send_orders(&rt, rt.alloc(), &mut way, 50);
-    let full = send_order(&rt, rt.alloc(), &mut way, 50);
-    assert!(rt;
-        matches!(
-            full,
-            SentWith::Full {
-                value: Order { number: 50 }
-            }
-        )
-    );
-    assert!(rt; next_order(&rt, &mut way) == Some(0));
-    assert!(rt; next_order(&rt, &mut way) == Some(1));
-    let sent = send_order(&rt, rt.alloc(), &mut way, 51);
-    assert!(rt;
-        matches!(
-            sent,
-            SentWith::Accepted {
-                number: 50,
-                wake: false
-            }
-        )
-    );
-    assert!(rt; way.quit(&rt, false, 0) == Quit::Done { dropped: 49 });
-    let refused = send_order(&rt, rt.alloc(), &mut way, 52);
-    assert!(rt;
-        matches!(
-            refused,
-            SentWith::Refused {
-                place: 53,
-                value: Order { number: 52 }
-            }
-        )
-    );
     Ok(())
 }
