@@ -1,8 +1,7 @@
 //! A dispatcher that records its calls.
-ghost use Rattle.std.specs.Prelude.{◌≡◌, ℕ, IfOk, IfSome, IsTrue, Option, Some, None, true, false, [], ◌∷◌, ◌++◌};
+ghost use Rattle.std.specs.Prelude.{◌≡◌, ℕ, IfOk, IsTrue, Option, Some, None, true, false, [], ◌∷◌, ◌++◌};
 ghost use Rattle.std.specs.List.{filter_map};
 ghost use Rattle.loop_model.specs.Items.{is_barrier};
-ghost use Rattle.message_pool.specs.Obtain.{IsNodeOf};
 ghost use Rattle.shared_queue.specs.Known.{IsOf};
 ghost use Rattle.looper_run.specs.declared.dispatcher.Did.TheVariants as did;
 ghost use Rattle.looper_run.specs.declared.tests.Noted.{Noted};
@@ -16,7 +15,7 @@ use loop_io::StepClock;
 use loop_model::{Act, NoMemory, Post, Route};
 use loop_sources::{FdTable, IdleSet};
 use message_list::new_node;
-use message_pool::{Obtained, Payload, Pool, PoolClaim, PoolNode, PoolPass, put_value, take_value};
+use message_pool::{Pool, PoolClaim, PoolNode};
 use message_slot::Message;
 use queue_state::{Kept, Posted, Quitting, Recorder, Unkept};
 use shared_queue::{Poster, SharedQueue};
@@ -594,139 +593,5 @@ fn a_looper_needs_no_record(rt: HostRuntime) -> Result<(), Fail> {
     o.looper.drop_acts(alloc);
     let (_, _, journal) = o.looper.into_parts();
     assert!(rt; journal.acts.len() == 0);
-    Ok(())
-}
-
-// A value that a message carries.
-#[derive(Drop)]
-struct Order {
-    number: u64,
-}
-
-impl Payload for Order {
-    ghost content = { λ order. order.number ∷ [] };
-}
-
-/// It adds up the numbers of the orders that the messages carry.
-#[derive(Drop)]
-struct Clerk {
-    order: Option<Order>,
-    sum: u64,
-}
-
-impl Dispatcher for Clerk {
-    type Record = Unkept;
-
-    type Value = Order;
-
-    ghost Serves = { λ d w. IsTrue true };
-
-    ghost Origin = { ℕ };
-
-    ghost origin = { λ d. 0 };
-
-    ghost nudges = { λ d. 0 };
-
-    ghost asked = { λ d. None };
-
-    ghost Meets = { λ d s es acts. IsTrue true };
-
-    ghost Awaits = { λ d awaited. IsTrue true };
-
-    fn before(&mut self, number: u64, m: &mut Message<PoolClaim<Order>>) {
-        self.order = take_value(m);
-    }
-
-    fn pulse(&mut self, own: &mut Own<Unkept, Order>, now: u64) -> Did {
-        Did::Yes
-    }
-
-    fn listen(&mut self, fd: u32, events: u32, listener: u32) -> Option<u32> {
-        Some(0)
-    }
-
-    fn idle(&mut self, id: u32, keep: bool) -> Option<bool> {
-        Some(keep)
-    }
-
-    fn run_callback(
-        &mut self,
-        own: &mut Own<Unkept, Order>,
-        id: u64,
-        m: &Message<PoolClaim<Order>>,
-        now: u64,
-    ) -> Did {
-        Did::Yes
-    }
-
-    fn intercept(
-        &mut self,
-        own: &mut Own<Unkept, Order>,
-        m: &Message<PoolClaim<Order>>,
-        now: u64,
-    ) -> Did {
-        Did::No
-    }
-
-    fn handle(
-        &mut self,
-        own: &mut Own<Unkept, Order>,
-        m: &Message<PoolClaim<Order>>,
-        now: u64,
-    ) -> Did {
-        if let Some(order) = self.order.take() {
-            self.sum = self.sum.saturating_add(order.number);
-        }
-        Did::Yes
-    }
-
-    ghost others = { λ d s es e acts apart meets. meets };
-
-    ghost disposal = { λ d s es e now acts own call reply meets. meets };
-
-    ghost quiet = { λ d s es a acts is meets. meets };
-}
-
-// A message of a slot with an order of this number.
-fn order_of(
-    alloc: Global,
-    pool: &Pool<Order>,
-    pass: &mut PoolPass<Order>,
-    number: u64,
-) -> Result<PoolNode<Order>, NoMemory>
-    requires { pass.old.home ≡ pool.now }
-    ensures home { pass.new.home ≡ pool.now }
-    ensures node { IfOk result (λ m. (is_barrier m.item ≡ false) × IsNodeOf pool.now m) }
-{
-    let Obtained::Pooled(mut node) = pool.obtain(alloc, pass) else {
-        return Err(NoMemory);
-    };
-    let Ok(()) = put_value(node.item_mut(), Order { number }) else {
-        return Err(NoMemory);
-    };
-    node.item_mut().set_post(&plain(1, None, 5));
-    Ok(node)
-}
-
-#[test]
-fn a_dispatcher_gets_the_value(rt: HostRuntime) -> Result<(), Fail> {
-    let alloc = rt.alloc();
-    let (pool, mut pass) = Pool::new(alloc)?;
-    let (queue, mut posters) = SharedQueue::make(alloc, pool.home(), 0, false, false, 1)?;
-    let mut poster: Poster<PoolClaim<Order>, Unkept> = posters.pop().unwrap();
-    let node = order_of(alloc, &pool, &mut pass, 7)?;
-    poster.post(&rt, &queue, node);
-    let mut looper = Looper::make(alloc, 0, poster, pass);
-    let sources = nothing_watched(alloc);
-    let mut d = Clerk {
-        order: None,
-        sum: 0,
-    };
-    let round = looper.run_round(&rt, &queue, &pool, &sources, &mut d, 9);
-    let drained = Round::Drained {
-        dispatched: 1,
-        until: None,
-    };
-    assert!(rt; round == drained && d.sum == 7);
     Ok(())
 }
