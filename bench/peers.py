@@ -2,11 +2,12 @@
 """Measures the queue for C beside other queues and loops, and prints a table of nanoseconds of processor time a message, and one of ratios.
 In the cases `pair` and `quad` each thread has a processor of its own, and the nanoseconds are those that pass; they want a free machine.
 
-    bench/peers.py [ROUNDS] [--seconds SECONDS]
+    bench/peers.py [ROUNDS] [--seconds SECONDS] [--only NAME;NAME..]
 
 It builds what is in bench/peers over crates/message_queue_c/out/libmessage_queue_c.a (rt lib in crates/message_queue_c makes it), and
 skips with a line what isn't installed. Each round runs every case once on each program in turn, so that all meet the same machine;
-what counts is the least of all rounds. A case that takes a program too long is left out. A handler with a pool and a shared queue takes
+what counts is the least of all rounds. A case that takes a program too long is left out. With --only it runs ours and the programs of
+these names. A handler with a pool and a shared queue takes
 part by crates/loop_bench/out/loop_bench (rt run in crates/loop_bench makes it), by the processor time of the whole process; its other
 modes are measured by bench/queue.py."""
 import os
@@ -31,10 +32,15 @@ ANDROID = pathlib.Path("/usr/include/android")
 LIBRARIES = pathlib.Path(f"/usr/lib/{os.uname().machine}-linux-gnu/android")
 ANDROID_FLAGS = ["-w", "-isystem", str(ANDROID), f"-L{LIBRARIES}", "-lutils", "-llog", "-lcutils", "-lbase", f"-Wl,-rpath,{LIBRARIES}"]
 
+# takes part where each thread has a processor alone
+SPINNING = "ours, spinning"
+
 # name, sources, flags, the package of pkg-config, what to install
 PROGRAMS = [
     ("ours", ["ours.c", HEAP, LIBRARY], [], None, None),
     ("ours, nodes kept", ["ours.c", "heap_kept.c", LIBRARY], [], None, None),
+    ("ours, nodes and moment kept", ["ours_moment.c", "heap_kept.c", LIBRARY], [], None, None),
+    (SPINNING, ["ours_spinning.c", HEAP, LIBRARY], [], None, None),
     ("no queue", ["no_queue.c"], [], None, None),
     ("plain C list", ["plain_list.c"], [], None, None),
     ("GLib", ["glib.c"], [], "glib-2.0", "libglib2.0-dev"),
@@ -163,7 +169,7 @@ def measure(programs, rounds, end):
                 key = (mode, count, name)
                 if name == HANDLER and (mode, count) not in HANDLED:
                     continue
-                if APART.get(mode, 1) > len(os.sched_getaffinity(0)):
+                if APART.get(mode, 1) > len(os.sched_getaffinity(0)) or (name == SPINNING and mode not in APART):
                     continue
                 if name in absent or key in slow or (number > 0 and time.time() > end):
                     continue
@@ -201,8 +207,9 @@ def main():
     words = sys.argv[1:]
     seconds = float(words[words.index("--seconds") + 1]) if "--seconds" in words else 3600.0
     rounds = int(words[0]) if words and words[0].isdigit() else 5
+    only = {"ours", *words[words.index("--only") + 1].split(";")} if "--only" in words else None
     with tempfile.TemporaryDirectory() as room:
-        programs = list(commands(room))
+        programs = [it for it in commands(room) if only is None or it[0] in only]
         least = measure(programs, rounds, time.time() + seconds)
     for show in (nanoseconds, ratio):
         print("\n".join(table(programs, least, show)), end="\n\n")

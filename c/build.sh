@@ -72,7 +72,7 @@ include=()
 for name in message_queue_c frame_phases_c loop_sources_c loop_next_c countdown_c animator_c; do include+=("-I$crates/$name/include"); done
 flags=(-std=c11 -O2 -g -fPIC -fvisibility=hidden -Wall -Wextra -Werror "-I$here" "${include[@]}")
 objects=()
-for source in "$here"/message_loop_{posix,frames,sources,system}.c "$here/../examples/embed/heap.c"; do
+for source in "$here"/message_loop_{posix,frames,sources,system,poll}.c "$here/../examples/embed/heap.c"; do
     object=$out/$(basename "$source" .c).o
     $CC "${flags[@]}" -fvisibility=default -c "$source" -o "$object"
     objects+=("$object")

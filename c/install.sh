@@ -25,7 +25,7 @@ ln -sf "libmessage_loop.so.$major" "$to/$lib/libmessage_loop.so"
 sed "s/@VERSION@/$full/" "$here/message_loop.3" >"$to/share/man/man3/message_loop.3"
 chmod 644 "$to/share/man/man3/message_loop.3"
 # as sources too, for a program that has its own loop or heap
-install -m 644 "$here"/message_loop_{posix,frames,sources,system}.c "$here"/message_loop_{parts,system}.h "$here/../examples/embed/heap.c" "$to/share/message_loop/"
+install -m 644 "$here"/message_loop_{posix,frames,sources,system,poll}.c "$here"/message_loop_{parts,system}.h "$here/../examples/embed/heap.c" "$to/share/message_loop/"
 cat >"$to/$lib/pkgconfig/message_loop.pc" <<P
 prefix=$prefix
 libdir=\${prefix}/$lib

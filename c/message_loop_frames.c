@@ -1,7 +1,4 @@
 /* The loop's frames: their messages, and function pointers. Pulses, phases and frame times are decided by frame_phases.h. */
-#if !defined(_GNU_SOURCE) && !defined(_POSIX_C_SOURCE)
-#define _POSIX_C_SOURCE 200809L
-#endif
 #include "message_loop_parts.h"
 
 #include "frame_phases.h"
@@ -10,14 +7,13 @@
 
 typedef struct {
     mlp_part part;
-    mlp_handler own; /* for the messages of frames, which barriers let pass */
     mloop_frames core;
     uint64_t vsync; /* the stamp of the frame that was asked for */
     mlp_func ask;
     void *ask_user;
 } mlp_frames;
 
-/* the messages of frames */
+/* the messages of frames, to the loop's own handler */
 enum { DO_FRAME, DUE };
 
 static mlp_frames *frames_of(mlp_loop *loop)
@@ -25,10 +21,10 @@ static mlp_frames *frames_of(mlp_loop *loop)
     return (mlp_frames *)loop->frames; /* `part` is its first field */
 }
 
-/* With the lock: posts a message of frames. */
+/* With the lock: posts a message of frames, which barriers let pass. */
 static msgq_answer post(mlp_loop *loop, uint32_t what, uint32_t arg, uint64_t when)
 {
-    msgq_message message = {.when = when != 0 ? when : 1, .handler = frames_of(loop)->own.id, .what = what, .arg = arg, .asynchronous = true};
+    msgq_message message = {.when = when != 0 ? when : 1, .what = what, .arg = arg, .asynchronous = true};
     return msgq_traced_post(&loop->trace, &loop->queue, &message);
 }
 
@@ -48,7 +44,7 @@ static bool deliver(mlp_loop *loop, uint64_t moment, const uint64_t *stamp)
     if (pulse.kind != MLOOP_FRAME_ASKED) return false;
     tell_pulse(loop);
     it->vsync = stamp != NULL ? *stamp : pulse.time;
-    msgq_answer answer = post(loop, DO_FRAME, 0, it->vsync / MILLI);
+    msgq_answer answer = post(loop, DO_FRAME, 0, it->vsync / MLP_MILLI);
     loop->next.frame_owed = answer.kind == MSGQ_NO_MEMORY;
     return answer.wake || (loop->next.frame_owed && loop->until != 0);
 }
@@ -97,15 +93,11 @@ static void handle(mlp_handler *own, const mlp_message *message)
     }
 }
 
-static void act(mlp_loop *loop, mloop_action_kind kind)
+static void take_pulse(mlp_loop *loop)
 {
-    if (kind == MLOOP_DO_FRAME) {
-        do_frame(loop);
-    } else {
-        mlp_lock(loop);
-        deliver(loop, mlp_now_ns(), NULL);
-        mlp_unlock(loop);
-    }
+    mlp_lock(loop);
+    deliver(loop, mlp_now_ns(), NULL);
+    mlp_unlock(loop);
 }
 
 static void end(mlp_loop *loop)
@@ -120,14 +112,13 @@ static mlp_frames *with_lock(mlp_loop *loop)
     if (!mlp_lock(loop)) return NULL;
     if (loop->frames != NULL) return frames_of(loop);
     mlp_frames *it = calloc(1, sizeof *it);
-    if (it != NULL && mloop_frame_open(&it->core, loop->interval, MLP_PHASES) && mlp_add_handler(loop, &it->own)) {
-        it->own.handle = handle;
-        it->part = (mlp_part){act, end};
+    if (it != NULL && mloop_frame_open(&it->core, loop->interval, MLP_PHASES)) {
+        it->part = (mlp_part){take_pulse, do_frame, end};
         loop->frames = &it->part;
+        loop->own = (mlp_handler){.handle = handle, .loop = loop};
         return it;
     }
     mlp_unlock(loop);
-    if (it != NULL) mloop_frame_close(&it->core);
     free(it);
     return NULL;
 }
@@ -141,7 +132,7 @@ static bool post_frame(mlp_loop *loop, uint32_t phase, mlp_frame_func func, void
     msgq_answer posted = {.kind = MSGQ_DONE};
     uint64_t now = mlp_now_ns();
     /* For one that is due later a message is posted, before it: a message for nothing does no harm. */
-    if (due > now / MILLI) posted = post(loop, DUE, phase, due);
+    if (due > now / MLP_MILLI) posted = post(loop, DUE, phase, due);
     if (posted.wake) mlp_wake(loop);
     if (posted.kind == MSGQ_DONE) answer = mloop_frame_post(&it->core, &callback, now);
     return asked(loop, answer) <= MLOOP_FRAME_ALREADY;

@@ -4,16 +4,16 @@
 #ifndef MESSAGE_LOOP_PARTS_H
 #define MESSAGE_LOOP_PARTS_H
 
-#include "message_loop_posix.h"
+#include "message_loop_system.h"
 
 #include "loop_next.h"
-#include "message_loop_system.h"
+#include "message_loop_posix.h"
 #include "message_trace.h"
 
-#define MILLI UINT64_C(1000000)
-
+/* What the loop has a part do, in the loop's thread and without the lock. */
 typedef struct {
-    void (*act)(mlp_loop *loop, mloop_action_kind kind); /* does an action of its own, in the loop's thread and without the lock */
+    void (*take)(mlp_loop *loop); /* takes what came: a pulse, or events */
+    void (*run)(mlp_loop *loop);  /* a step of the loop: a frame, or an idle turn */
     void (*end)(mlp_loop *loop);
 } mlp_part;
 
@@ -21,13 +21,15 @@ struct mlp_loop {
     mlp_system system; /* its lock is round all that follows, up to `sources` */
     msgq_queue queue;
     msgq_trace trace;
-    mlp_handler **handlers; /* by id, from 1 on */
+    mlp_handler **handlers; /* that of the number N stands at N - 1; NULL where it was closed */
     uint32_t handler_count;
+    mlp_handler own; /* has the number 0, and is for the messages of frames */
     uint64_t interval;
     uint64_t until; /* until when the loop waits, or is about to, in nanoseconds; 0: it does not */
     mloop_situation next; /* by which the table is asked; frames write the pulse and `frame_owed`, sources, without the lock, `events` */
     mlp_part *frames;     /* NULL: no call wanted them yet */
-    mlp_part *sources;    /* the loop's thread alone */
+    mlp_part *sources;    /* the loop's thread alone, as the next one */
+    int watched;          /* how many descriptors */
 };
 
 /* Takes the lock, where there is a loop. */
@@ -40,11 +42,5 @@ static inline void mlp_unlock(mlp_loop *loop)
 {
     pthread_mutex_unlock(&loop->system.lock);
 }
-
-/* The table with one row more, all of 0. NULL, and the table is as it was, where there is no memory. */
-MLP_INTERNAL void *mlp_with_a_row(void *table, uint32_t *count, size_t row);
-
-/* With the lock: opens the handler. */
-MLP_INTERNAL bool mlp_add_handler(mlp_loop *loop, mlp_handler *handler);
 
 #endif

@@ -1,12 +1,8 @@
 /* The loop: its handlers, messages and steps. What comes next the table of loop_next.h decides, what it has of the system is
  * message_loop_system.h, and frames, idle handlers and descriptors are its parts (message_loop_parts.h). */
-#if !defined(_GNU_SOURCE) && !defined(_POSIX_C_SOURCE)
-#define _POSIX_C_SOURCE 200809L
-#endif
 #include "message_loop_parts.h"
 
 #include <stdlib.h>
-#include <string.h>
 
 uint32_t mlp_version(void)
 {
@@ -28,7 +24,13 @@ int mlp_timeout(mlp_loop *loop)
     return loop == NULL ? -1 : mloop_milliseconds(loop->until, mlp_now_ns());
 }
 
-/* ---- messages */
+/* ---- calls on the queue */
+
+/* Takes the lock of the handler's loop, where the handler is open. */
+static bool lock_of(const mlp_handler *handler)
+{
+    return handler != NULL && handler->id != 0 && mlp_lock(handler->loop);
+}
 
 /* Ends a call on the queue, with the lock: it wakes the loop where the answer says so, and tells whether the call was done. */
 static bool done(mlp_loop *loop, msgq_answer answer)
@@ -38,31 +40,23 @@ static bool done(mlp_loop *loop, msgq_answer answer)
     return answer.kind == MSGQ_DONE;
 }
 
-/* Whether it is a handler that is open. */
-static bool is_open(const mlp_handler *handler)
+static bool post(const mlp_handler *by, msgq_message message)
 {
-    return handler != NULL && handler->loop != NULL && handler->id != 0;
+    if (!lock_of(by)) return false;
+    message.handler = by->id;
+    message.asynchronous = by->asynchronous;
+    return done(by->loop, msgq_traced_post(&by->loop->trace, &by->loop->queue, &message));
 }
 
-static bool post(mlp_handler *to, msgq_message message, bool front)
-{
-    if (!is_open(to) || !mlp_lock(to->loop)) return false;
-    msgq_trace *trace = &to->loop->trace;
-    msgq_queue *queue = &to->loop->queue;
-    message.handler = to->id;
-    message.asynchronous = to->asynchronous;
-    if (!front && message.when == 0) message.when = 1;
-    return done(to->loop, front ? msgq_traced_post_at_front(trace, queue, &message) : msgq_traced_post(trace, queue, &message));
-}
-
+/* One that goes behind those of its time: at the time 0 it would go to the front. */
 static msgq_message message_of(uint32_t what, uint32_t arg, void *obj, uint64_t when)
 {
-    return (msgq_message){.when = when, .obj = (uintptr_t)obj, .what = what, .arg = arg, .has_obj = obj != NULL};
+    return (msgq_message){.when = when != 0 ? when : 1, .obj = (uintptr_t)obj, .what = what, .arg = arg, .has_obj = obj != NULL};
 }
 
 bool mlp_send_at(mlp_handler *to, uint32_t what, uint32_t arg, void *obj, uint64_t when)
 {
-    return post(to, message_of(what, arg, obj, when), false);
+    return post(to, message_of(what, arg, obj, when));
 }
 
 bool mlp_send_delayed(mlp_handler *to, uint32_t what, uint32_t arg, void *obj, uint64_t milliseconds)
@@ -77,7 +71,9 @@ bool mlp_send(mlp_handler *to, uint32_t what, uint32_t arg, void *obj)
 
 bool mlp_send_front(mlp_handler *to, uint32_t what, uint32_t arg, void *obj)
 {
-    return post(to, message_of(what, arg, obj, 0), true);
+    msgq_message message = message_of(what, arg, obj, 0);
+    message.when = 0;
+    return post(to, message);
 }
 
 bool mlp_call_delayed(mlp_handler *by, mlp_func func, void *user, uint64_t milliseconds)
@@ -85,7 +81,7 @@ bool mlp_call_delayed(mlp_handler *by, mlp_func func, void *user, uint64_t milli
     msgq_message message = message_of(0, 0, user, mlp_after(milliseconds));
     message.has_callback = true;
     message.callback = (uintptr_t)func;
-    return func != NULL && post(by, message, false);
+    return func != NULL && post(by, message);
 }
 
 bool mlp_call(mlp_handler *by, mlp_func func, void *user)
@@ -93,55 +89,9 @@ bool mlp_call(mlp_handler *by, mlp_func func, void *user)
     return mlp_call_delayed(by, func, user, 0);
 }
 
-/* With the lock: the handler of a message that was taken, if it is still open. */
-static mlp_handler *handler_of(mlp_loop *loop, const msgq_look *look)
-{
-    return look->kind == MSGQ_TAKEN && look->message.handler < loop->handler_count ? loop->handlers[look->message.handler] : NULL;
-}
-
-/* Gives the objects of what was dropped to their handlers, without the lock. */
-static void let_go_of_dropped(mlp_loop *loop)
-{
-    for (;;) {
-        mlp_lock(loop);
-        msgq_look look = msgq_next_dropped(&loop->queue);
-        mlp_handler *handler = handler_of(loop, &look);
-        mlp_unlock(loop);
-        if (look.kind != MSGQ_TAKEN && look.kind != MSGQ_BARRIER) return;
-        if (handler != NULL && look.message.has_obj && !look.message.has_callback && handler->let_go != NULL)
-            handler->let_go((void *)(uintptr_t)look.message.obj);
-    }
-}
-
-/* Of a handler's messages. */
-static uint64_t remove_by(mlp_handler *of, msgq_filter filter)
-{
-    if (!is_open(of) || !mlp_lock(of->loop)) return 0;
-    filter.handler = of->id;
-    msgq_answer answer = msgq_traced_remove(&of->loop->trace, &of->loop->queue, &filter);
-    bool removed = done(of->loop, answer);
-    let_go_of_dropped(of->loop);
-    return removed ? answer.number : 0;
-}
-
-uint64_t mlp_remove(mlp_handler *of, uint32_t what)
-{
-    return remove_by(of, (msgq_filter){.by_what = true, .what = what});
-}
-
-uint64_t mlp_remove_calls(mlp_handler *of, mlp_func func)
-{
-    return remove_by(of, (msgq_filter){.by_callback = true, .callback = (uintptr_t)func});
-}
-
-uint64_t mlp_remove_all(mlp_handler *of)
-{
-    return remove_by(of, (msgq_filter){.handler = 0});
-}
-
 bool mlp_has(mlp_handler *of, uint32_t what)
 {
-    if (!is_open(of) || !mlp_lock(of->loop)) return false;
+    if (!lock_of(of)) return false;
     msgq_filter filter = {.handler = of->id, .by_what = true, .what = what};
     bool has = msgq_has(&of->loop->queue, &filter);
     mlp_unlock(of->loop);
@@ -166,13 +116,6 @@ bool mlp_reserve(mlp_loop *loop, uint64_t count)
     return mlp_lock(loop) && done(loop, msgq_reserve(&loop->queue, count));
 }
 
-bool mlp_quit(mlp_loop *loop, bool safe)
-{
-    bool quits = mlp_lock(loop) && done(loop, msgq_traced_quit(&loop->trace, &loop->queue, safe, mlp_now()));
-    if (quits) let_go_of_dropped(loop);
-    return quits;
-}
-
 bool mlp_trace(mlp_loop *loop, FILE *log)
 {
     if (!mlp_lock(loop)) return false;
@@ -182,47 +125,92 @@ bool mlp_trace(mlp_loop *loop, FILE *log)
     return fresh;
 }
 
+/* ---- calls that drop messages, whose objects are let go of */
+
+/* With the lock: the handler of this number, or NULL where it was closed. */
+static mlp_handler *handler_of(mlp_loop *loop, uint32_t id)
+{
+    return id == 0 ? &loop->own : loop->handlers[id - 1];
+}
+
+/* Gives the object of a message that is not handled to its handler; a callback's is the user's own. */
+static void let_go(const mlp_handler *handler, const msgq_message *message)
+{
+    if (message->has_obj && !message->has_callback && handler != NULL && handler->let_go != NULL) handler->let_go((void *)(uintptr_t)message->obj);
+}
+
+static void let_go_of_dropped(mlp_loop *loop)
+{
+    msgq_look look;
+    do {
+        mlp_lock(loop);
+        look = msgq_next_dropped(&loop->queue);
+        mlp_handler *handler = handler_of(loop, look.message.handler);
+        mlp_unlock(loop);
+        let_go(handler, &look.message);
+    } while (look.kind == MSGQ_TAKEN || look.kind == MSGQ_BARRIER);
+}
+
+static uint64_t remove_by(mlp_handler *of, msgq_filter filter)
+{
+    if (!lock_of(of)) return 0;
+    filter.handler = of->id;
+    msgq_answer answer = msgq_traced_remove(&of->loop->trace, &of->loop->queue, &filter);
+    bool removed = done(of->loop, answer);
+    let_go_of_dropped(of->loop);
+    return removed ? answer.number : 0;
+}
+
+uint64_t mlp_remove(mlp_handler *of, uint32_t what)
+{
+    return remove_by(of, (msgq_filter){.by_what = true, .what = what});
+}
+
+uint64_t mlp_remove_calls(mlp_handler *of, mlp_func func)
+{
+    return remove_by(of, (msgq_filter){.by_callback = true, .callback = (uintptr_t)func});
+}
+
+uint64_t mlp_remove_all(mlp_handler *of)
+{
+    return remove_by(of, (msgq_filter){.by_what = false});
+}
+
+bool mlp_quit(mlp_loop *loop, bool safe)
+{
+    bool quits = mlp_lock(loop) && done(loop, msgq_traced_quit(&loop->trace, &loop->queue, safe, mlp_now()));
+    if (quits) let_go_of_dropped(loop);
+    return quits;
+}
+
 /* ---- handlers */
-
-void *mlp_with_a_row(void *table, uint32_t *count, size_t row)
-{
-    char *rows = realloc(table, (*count + 1) * row);
-    if (rows != NULL) memset(rows + (*count)++ * row, 0, row);
-    return rows;
-}
-
-bool mlp_add_handler(mlp_loop *loop, mlp_handler *handler)
-{
-    uint32_t id = 1;
-    while (id < loop->handler_count && loop->handlers[id] != NULL) id++;
-    while (id >= loop->handler_count) {
-        void *handlers = mlp_with_a_row(loop->handlers, &loop->handler_count, sizeof *loop->handlers);
-        if (handlers == NULL) return false;
-        loop->handlers = handlers;
-    }
-    loop->handlers[id] = handler;
-    handler->loop = loop;
-    handler->id = id;
-    return true;
-}
 
 bool mlp_handler_open_sized(mlp_loop *loop, mlp_handler *handler, size_t size)
 {
-    if (handler == NULL || size != sizeof *handler || !mlp_lock(loop)) return false;
-    bool added = mlp_add_handler(loop, handler);
+    if (handler == NULL || size != sizeof *handler || handler->id != 0 || !mlp_lock(loop)) return false;
+    uint32_t row = 0;
+    while (row < loop->handler_count && loop->handlers[row] != NULL) row++;
+    mlp_handler **handlers = row < loop->handler_count ? loop->handlers : realloc(loop->handlers, (row + 1) * sizeof *handlers);
+    if (handlers != NULL) {
+        loop->handlers = handlers;
+        if (row == loop->handler_count) loop->handler_count++;
+        handlers[row] = handler;
+        handler->loop = loop;
+        handler->id = row + 1;
+    }
     mlp_unlock(loop);
-    return added;
+    return handlers != NULL;
 }
 
 void mlp_handler_close(mlp_handler *handler)
 {
-    if (!is_open(handler)) return;
     mlp_remove_all(handler);
-    mlp_lock(handler->loop);
-    handler->loop->handlers[handler->id] = NULL;
-    mlp_unlock(handler->loop);
+    if (!lock_of(handler)) return;
+    mlp_loop *loop = handler->loop;
+    loop->handlers[handler->id - 1] = NULL;
     handler->loop = NULL;
     handler->id = 0;
+    mlp_unlock(loop);
 }
 
 /* ---- the loop */
@@ -243,6 +231,7 @@ void mlp_free(mlp_loop *loop)
     if (loop == NULL) return;
     msgq_close(&loop->queue);
     let_go_of_dropped(loop);
+    for (uint32_t row = 0; row < loop->handler_count; row++) mlp_handler_close(loop->handlers[row]);
     if (loop->frames != NULL) loop->frames->end(loop);
     if (loop->sources != NULL) loop->sources->end(loop);
     mlp_system_close(&loop->system);
@@ -255,7 +244,7 @@ static void dispatch(mlp_handler *handler, const msgq_message *message)
     void *obj = message->has_obj ? (void *)(uintptr_t)message->obj : NULL;
     if (message->has_callback) ((mlp_func)(uintptr_t)message->callback)(obj);
     else if (handler != NULL && handler->handle != NULL) handler->handle(handler, &(mlp_message){message->what, message->arg, obj, message->when});
-    else if (handler != NULL && obj != NULL && handler->let_go != NULL) handler->let_go(obj);
+    else let_go(handler, message);
 }
 
 /* With the lock: what comes next, once the queue was looked at where the table wants it. */
@@ -265,36 +254,31 @@ static mloop_action next_action(mlp_loop *loop, msgq_look *look)
         loop->next.moment = mlp_now_ns();
         mloop_action action = mloop_next(&loop->next);
         if (action.kind != MLOOP_DO_LOOK) return action;
-        *look = msgq_traced_next(&loop->trace, &loop->queue, loop->next.moment / MILLI, loop->next.idle_owed);
+        *look = msgq_traced_next(&loop->trace, &loop->queue, loop->next.moment / MLP_MILLI, loop->next.idle_owed);
         loop->next.look = look->kind;
         loop->next.time = look->time;
     }
-}
-
-/* An action of a part, where there is that part. */
-static void act(mlp_loop *loop, mloop_action_kind kind)
-{
-    mlp_part *part = kind == MLOOP_DO_VSYNC || kind == MLOOP_DO_FRAME ? loop->frames : loop->sources;
-    if (part != NULL) part->act(loop, kind);
 }
 
 int mlp_run_once(mlp_loop *loop, bool may_wait)
 {
     if (loop == NULL) return -1;
     /* As `next` does: descriptors are looked at before each message, where any are watched. */
-    if (loop->system.watched != 0 && !loop->next.events) mlp_system_wait(&loop->system, 0, false);
+    if (loop->watched != 0 && !loop->next.events) mlp_system_wait(&loop->system, 0, false);
     for (bool handled = false;; handled = true) {
         msgq_look look = {.kind = MSGQ_NOTHING_LEFT};
         mlp_lock(loop);
         mloop_action action = next_action(loop, &look);
-        mlp_handler *handler = handler_of(loop, &look);
+        mlp_handler *handler = handler_of(loop, look.message.handler);
         loop->until = action.until;
         mlp_unlock(loop);
         switch (action.kind) {
-        case MLOOP_DO_EVENTS:
-        case MLOOP_DO_VSYNC: act(loop, action.kind); continue;
-        case MLOOP_DO_FRAME:
-        case MLOOP_DO_IDLE: act(loop, action.kind); return 1;
+        case MLOOP_DO_EVENTS: loop->sources->take(loop); continue;
+        case MLOOP_DO_VSYNC: loop->frames->take(loop); continue;
+        case MLOOP_DO_FRAME: loop->frames->run(loop); return 1;
+        case MLOOP_DO_IDLE:
+            if (loop->sources != NULL) loop->sources->run(loop);
+            return 1;
         case MLOOP_DO_MESSAGE: dispatch(handler, &look.message); return 1;
         case MLOOP_DO_WAIT:
             if (handled) return 1;

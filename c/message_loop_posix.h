@@ -9,8 +9,9 @@
  *
  * TIMES are milliseconds of CLOCK_MONOTONIC (SystemClock.uptimeMillis), those of frames nanoseconds of it.
  *
- * MISUSE that is answered by false, 0 or -1, and changes nothing: a null loop, handler or function, a handler that is not open, one of
- * another size than the library's. A handler begins with all fields 0 but those that the user sets.
+ * MISUSE that is answered by false, 0 or -1, and changes nothing: a null loop, handler or function, a handler that is not open, or is open
+ * already where it is to be opened, one of another size than the library's. A handler begins with all fields 0 but those that the user
+ * sets.
  *
  * OBJECTS. `obj` of a message is the handler's once `handle` is called. A message that is dropped before, by a removal, a quit or the
  * loop's end, is given to the handler's `let_go`. One that is not accepted (false) stays the sender's. */
@@ -28,7 +29,7 @@ extern "C" {
 
 #define MLP_VERSION_MAJOR 0
 #define MLP_VERSION_MINOR 2
-#define MLP_VERSION_PATCH 0
+#define MLP_VERSION_PATCH 1
 #define MLP_VERSION (MLP_VERSION_MAJOR * 10000 + MLP_VERSION_MINOR * 100 + MLP_VERSION_PATCH)
 
 /* The version of the library that is linked: compare it with MLP_VERSION. */
@@ -67,7 +68,7 @@ enum { MLP_PHASE_INPUT, MLP_PHASE_ANIMATION, MLP_PHASE_INSETS, MLP_PHASE_TRAVERS
 
 /* A loop with frames at multiples of `interval` nanoseconds (0: 16666667). NULL where there is no memory or no descriptor. */
 mlp_loop *mlp_new(uint64_t interval);
-/* Ends it, after its thread left it and no other thread uses it. What is left is let go of. */
+/* Ends it, after its thread left it and no other thread uses it. What is left is let go of, and handlers that are open are closed. */
 void mlp_free(mlp_loop *loop);
 
 /* Runs until it has quit (Looper.loop). */
@@ -88,7 +89,7 @@ uint64_t mlp_now_ns(void); /* nanoseconds */
 
 /* ---- messages: any thread */
 
-/* Opens the handler. False where there is no memory. One without `handle` serves calls alone, and lets go of messages' objects. */
+/* Opens the handler. False where there is no memory, and where it is open. One without `handle` serves calls alone, and lets go of messages' objects. */
 #define mlp_handler_open(loop, handler) mlp_handler_open_sized(loop, handler, sizeof(mlp_handler))
 bool mlp_handler_open_sized(mlp_loop *loop, mlp_handler *handler, size_t size); /* false for a size that is not the library's */
 void mlp_handler_close(mlp_handler *handler); /* with all its messages; in the loop's thread or after it */
@@ -130,7 +131,7 @@ uint64_t mlp_remove_frame(mlp_loop *loop, uint32_t phase, mlp_frame_func func, v
 bool mlp_use_vsync(mlp_loop *loop, mlp_func ask, void *user);
 void mlp_vsync(mlp_loop *loop, uint64_t stamp);
 
-/* ---- idle handlers and descriptors: the loop's thread */
+/* ---- idle handlers and descriptors: the loop's thread. A watch ends before its descriptor is closed. */
 
 bool mlp_on_idle(mlp_loop *loop, mlp_idle_func func, void *user);     /* addIdleHandler */
 bool mlp_remove_idle(mlp_loop *loop, mlp_idle_func func, void *user); /* removeIdleHandler */

@@ -1,8 +1,5 @@
 /* The loop's idle handlers and descriptors: their function pointers, and what the system watches. Which of them runs next is decided by
  * loop_sources.h. All of it belongs to the loop's thread. */
-#if !defined(_GNU_SOURCE) && !defined(_POSIX_C_SOURCE)
-#define _POSIX_C_SOURCE 200809L
-#endif
 #include "message_loop_parts.h"
 
 #include "loop_sources.h"
@@ -42,13 +39,16 @@ static mlp_sources *sources_of(mlp_loop *loop)
 static bool watch_as_table(mlp_loop *loop, uint32_t row)
 {
     watch_entry *watch = &sources_of(loop)->watches[row];
-    uint32_t mask = (uint32_t)mloop_fd_watched(&sources_of(loop)->core, (uint32_t)watch->fd).number, before = watch->mask;
+    uint32_t mask = (uint32_t)mloop_fd_watched(&sources_of(loop)->core, (uint32_t)watch->fd).number;
+    if (mask == watch->mask) return true;
+    loop->watched += (mask != 0) - (watch->mask != 0);
     watch->mask = mask;
-    return mask == before || mlp_system_watch(&loop->system, watch->fd, mask, before);
+    return mlp_system_watch(&loop->system, watch->fd, mask);
 }
 
-static void do_idle(mlp_sources *it)
+static void run_idle_handlers(mlp_loop *loop)
 {
+    mlp_sources *it = sources_of(loop);
     mloop_source_look look;
     it->idle_turn = mloop_idle_begin(&it->core).kind == MLOOP_SOURCE_DONE;
     while (it->idle_turn && (look = mloop_idle_next(&it->core)).kind == MLOOP_LOOK_IDLE) {
@@ -59,8 +59,9 @@ static void do_idle(mlp_sources *it)
     it->idle_turn = false;
 }
 
-static void do_events(mlp_loop *loop, mlp_sources *it)
+static void take_events(mlp_loop *loop)
 {
+    mlp_sources *it = sources_of(loop);
     mloop_source_look look;
     loop->next.events = false;
     while ((look = mloop_fd_next(&it->core)).kind == MLOOP_LOOK_EVENT || look.kind == MLOOP_LOOK_IGNORED) {
@@ -70,12 +71,6 @@ static void do_events(mlp_loop *loop, mlp_sources *it)
         mloop_fd_answer(&it->core, look.fd, look.birth, look.number, mask & 7);
         watch_as_table(loop, look.id);
     }
-}
-
-static void act(mlp_loop *loop, mloop_action_kind kind)
-{
-    if (kind == MLOOP_DO_EVENTS) do_events(loop, sources_of(loop));
-    else do_idle(sources_of(loop));
 }
 
 /* Something came at a descriptor. Without memory it is told again at the next wait. */
@@ -103,7 +98,7 @@ static mlp_sources *made(mlp_loop *loop)
         free(it);
         return NULL;
     }
-    it->part = (mlp_part){act, end};
+    it->part = (mlp_part){take_events, run_idle_handlers, end};
     loop->sources = &it->part;
     loop->system.ready = ready;
     loop->system.ready_user = loop;
@@ -128,11 +123,10 @@ bool mlp_on_idle(mlp_loop *loop, mlp_idle_func func, void *user)
     mlp_sources *it = loop == NULL || func == NULL ? NULL : made(loop);
     if (it == NULL) return false;
     uint32_t id = idle_row(it, func, user);
-    if (id == it->idle_count) {
-        void *idles = mlp_with_a_row(it->idles, &it->idle_count, sizeof *it->idles);
-        if (idles == NULL) return false;
-        it->idles = idles;
-    }
+    idle_entry *idles = id < it->idle_count ? it->idles : realloc(it->idles, (id + 1) * sizeof *idles);
+    if (idles == NULL) return false;
+    it->idles = idles;
+    if (id == it->idle_count) idles[it->idle_count++] = (idle_entry){.added = 0};
     if (mloop_idle_add(&it->core, id).kind != MLOOP_SOURCE_DONE) return false;
     it->idles[id] = (idle_entry){func, user, it->idles[id].added + 1};
     return true;
@@ -167,14 +161,13 @@ bool mlp_watch(mlp_loop *loop, int fd, uint32_t mask, mlp_fd_func func, void *us
     if (it == NULL) return false;
     uint32_t row = watch_row(it, fd);
     if (mask == 0 && (row == it->watch_count || it->watches[row].mask == 0)) return true;
-    if (row == it->watch_count) {
-        void *watches = mlp_with_a_row(it->watches, &it->watch_count, sizeof *it->watches);
-        if (watches == NULL) return false;
-        it->watches = watches;
-    }
-    it->watches[row].fd = fd;
+    watch_entry *watches = row < it->watch_count ? it->watches : realloc(it->watches, (row + 1) * sizeof *watches);
+    if (watches == NULL) return false;
+    it->watches = watches;
+    if (row == it->watch_count) watches[it->watch_count++] = (watch_entry){.mask = 0};
+    watches[row].fd = fd;
     if (mloop_fd_watch(&it->core, (uint32_t)fd, mask, row).kind != MLOOP_SOURCE_DONE) return false;
-    if (mask != 0) it->watches[row].func = func, it->watches[row].user = user;
+    if (mask != 0) watches[row].func = func, watches[row].user = user;
     if (watch_as_table(loop, row)) return true;
     mloop_fd_watch(&it->core, (uint32_t)fd, 0, row); /* the system does not take it */
     watch_as_table(loop, row);

@@ -13,6 +13,7 @@ HEAD = """# All public calls
 
 This page is made from the sources by `examples/calls.py`: `python3 examples/documents.py --calls` writes it anew. It has each crate that is a library, lowest first.
 What a call promises stands under it in the source, as its `requires` and `ensures`. The crate's README says it in words.
+What an app calls stands under [plain_loop](#plain_loop), [frame_loop](#frame_loop) and [handler_post](#handler_post).
 
 Where a call names no answer, it has none. The parameters `rt` and `alloc` are the runtime and the allocator. The column Android has the name in AOSP or in Android's API reference.
 """

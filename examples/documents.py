@@ -5,11 +5,15 @@
 
 - no sentence of the pages in WHOLE has more than 30 words, and in each a verb is found (sentences.py);
 - each piece of Rust in README.md, docs/USING.md and the READMEs of countdown and animator stands in a source that SHOWN names for it (a line '// ..' stands before a piece);
-- README.md names every crate of crates.txt, and each has its README.md; it names the toolchain by which it was proved, where `rt` tells it;
+- README.md names every crate of crates.txt, and each has its README.md; it names the logic by which it was proved, where `rt` tells it, and each of
+  the toolchain's libraries on which a crate stands;
+- docs/EDITS.md has each edit once;
 - each link leads to a file of the repository, and to a heading of it where it names one; each file that a command names is there;
 - each command that begins with `dashboard` has words that the program takes, and man/dashboard.1 has just these;
-- each sentence of docs/PROMISE.md under 'What each word promises' and 'What a run is' names a clause by a link, and each such link leads to a
-  file that has a clause, a field, a definition or a function of that name;
+- each sentence of docs/PROMISE.md under 'What each word promises', 'What a run is' and 'What a run by a clock is' names a clause by a link;
+- each point under 'What is not claimed' names the definition that leaves it open, or says that it is no clause;
+- each such link leads to a file that has a clause, a field, a definition or a public function with a contract of that name; a definition is on a way from
+  the contract of `dashboard`, and in the row of a word from that contract as it is for the word;
 - each function that a walk of docs/ARCHITECTURE.md names stands in the file that it names;
 - the figures of docs/PROMISE.md are those of believe.py, and its definition files those on which the contract of `dashboard` rests;
 - docs/CALLS.md is what calls.py makes of the sources;
@@ -22,7 +26,7 @@ import subprocess
 import sys
 
 sys.dont_write_bytecode = True
-from believe import files_below, spelled
+from believe import files_below, module, reached, spelled
 from calls import page as page_of_calls
 from sentences import faults_in
 
@@ -35,6 +39,7 @@ SHOWN = {
     "crates/animator/README.md": ["script_tests"],
 }
 CLAIMS = ["What each word promises", "What a run is", "What a run by a clock is"]
+CLAUSE = re.compile(r"\[`([^`]+)`\]\[([^\]]+)\]")
 TOP_CALL = "crates/dashboard_cli/src/top_call.rt"
 faults = []
 
@@ -89,17 +94,39 @@ def check_crates():
                 faults.append(f"README.md doesn't name {name}")
 
 
+def check_edits():
+    """docs/EDITS.md has each edit that the prover must refuse, once."""
+    told = re.findall(r"\]\(\.\./(crates/[^)]+\.edit)\)", text_of("docs/EDITS.md"))
+    there = [str(path.relative_to(TOP)) for path in TOP.glob("crates/*/must-fail/*.edit")]
+    for name in sorted(set(told) ^ set(there)) + sorted({it for it in told if told.count(it) > 1}):
+        faults.append(f"docs/EDITS.md: {name} stands there, or among the edits, but not in both once")
+    if f"There are {len(there)}." not in text_of("docs/EDITS.md"):
+        faults.append(f"docs/EDITS.md doesn't say that there are {len(there)}")
+
+
+def check_rests():
+    """README.md names each library of the toolchain on which a crate stands."""
+    lines = [re.split(r"[ :]+", line) for line in text_of("crates.txt").splitlines() if line.strip() and not line.startswith("#")]
+    ours = {words[0] for words in lines}
+    part = re.search(r"^## What the proofs rest on\n(.*?)(?=^## )", text_of("README.md"), re.S | re.M).group(1)
+    theirs = {word for words in lines for word in words[1:] if word and "=" not in word and word != "staticlib"} - ours
+    for name in sorted(theirs):
+        if f"`{name}`" not in part:
+            faults.append(f"README.md doesn't say that the proofs rest on {name}")
+
+
 def check_toolchain():
     if shutil.which("rt"):
-        version = subprocess.run(["rt", "version"], capture_output=True, text=True).stdout.strip()
-        if version not in text_of("README.md"):
-            faults.append(f"README.md doesn't say: {version}")
+        logic = subprocess.run(["rt", "version"], capture_output=True, text=True).stdout.split()[-1]
+        if f"`{logic}`" not in text_of("README.md"):
+            faults.append(f"README.md doesn't name the logic {logic}")
 
 
 def anchors(text):
     """The places of a page that a link may name."""
     heads = re.findall(r"^#+ (.*)$", re.sub(r"```.*?```", "", text, flags=re.S), re.M)
-    return {re.sub(r"[^\w\- ]", "", head.lower()).replace(" ", "-") for head in heads}
+    words = [re.sub(r"\[([^\]]*)\]\([^)]*\)", r"\1", head) for head in heads]
+    return {re.sub(r"[^\w\- ]", "", head.lower()).replace(" ", "-") for head in words}
 
 
 def check_links():
@@ -167,34 +194,75 @@ def check_walks():
 
 # ---- the promise
 
+def holds_name(text, name):
+    """A line of definitions gives this name to a definition, a field or a constructor."""
+    return re.search(rf"^\s*(?:(?:pattern|unfoldable|abbrev|pub|record|data) )*{re.escape(name)}(?:\s*[({{].*)? :(?:\s|$)", text, re.M)
+
+
 def has_name(path, name):
-    """The file has a clause, a field, a definition or a function of that name."""
+    """The file has a clause, a field, a definition or a function of that name; a function is public and has a contract."""
     text = path.read_text()
-    name = re.escape(name)
     if path.suffix == ".antt":
-        return re.search(rf"^\s*(?:(?:pattern|unfoldable|abbrev|pub|record|data) )*{name}(?:\s*[({{].*)? :(?:\s|$)", text, re.M)
-    return re.search(rf"\bfn {name}\b|\bensures\*? {name} |\b(?:struct|enum|trait) {name}\b", text)
+        return holds_name(text, name)
+    name = re.escape(name)
+    called = re.search(rf"^pub fn {name}\b.*?^\{{", text, re.S | re.M)
+    return called and "ensures" in called.group() or re.search(rf"\bensures\*? {name} |\b(?:struct|enum|trait) {name}\b", text)
+
+
+def is_believed(path, name, found):
+    """Among these definitions one of the file has that name, or holds a field or a constructor of that name."""
+    file = str(path.resolve().relative_to(TOP))
+    here = module(file.split("/")[1], file.split("/specs/")[1][:-5].replace("/", "."))
+    return any(home == file and holds_name("\n".join(here.lines[slice(*here.items[definition])]), name) for home, definition in found)
 
 
 def check_clauses():
-    """Each sentence of the claims names a clause by a link, and each such link leads to one."""
+    """Each sentence of the claims names a clause by a link, and each such link leads to one that the contract of `dashboard` names."""
     page = TOP / "docs/PROMISE.md"
     text = page.read_text()
     files = dict(re.findall(r"^\[([^\]]+)\]: (\S+)$", text, re.M))
-    for name, mark in re.findall(r"\[`([^`]+)`\]\[([^\]]+)\]", text):
+    os.chdir(TOP)
+    below = reached([TOP_CALL])[0]
+    for name, mark in CLAUSE.findall(text):
         path = page.parent / files.get(mark, "nowhere")
         if not path.exists():
             faults.append(f"docs/PROMISE.md: no file for [{mark}]")
         elif not has_name(path, name):
             faults.append(f"docs/PROMISE.md: {name} stands nowhere in {files[mark]}")
+        elif path.suffix == ".antt" and not is_believed(path, name, below):
+            faults.append(f"docs/PROMISE.md: {name} of {files[mark]} is on no way from the contract of dashboard")
     for title in CLAIMS:
         part = re.search(rf"^## {title}\n(.*?)(?=^## |\Z)", text, re.S | re.M)
         if not part:
             faults.append(f"docs/PROMISE.md has no part '{title}'")
             continue
         for sentence in claims_in(part.group(1)):
-            if not re.search(r"\]\[[^\]]+\]", sentence):
+            if not CLAUSE.search(sentence):
                 faults.append(f"docs/PROMISE.md: no clause is named by: {sentence[:100]}")
+    check_open(text)
+    check_rows(text, page, files)
+
+
+def check_open(text):
+    """What is open names the definition that leaves it open, or says that no clause speaks of it."""
+    part = re.search(r"^## What is not claimed\n(.*?)(?=^## |\Z)", text, re.S | re.M).group(1)
+    for item in re.findall(r"^- .*(?:\n  .*)*", part, re.M):
+        if not CLAUSE.search(item) and not re.search(r"\bno clause\b", item, re.I):
+            faults.append(f"docs/PROMISE.md: neither a clause nor that there is none: {item[:100]}")
+
+
+def check_rows(text, page, files):
+    """What the row of a word names is on a way from the contract as it is for that word."""
+    commands = {words.replace("make", "make N"): command for words, command in spelled().items()}
+    for words, row in re.findall(r"^\| `([^`]+)` (\|.*\]\[.*)$", text, re.M):
+        if words not in commands:
+            faults.append(f"docs/PROMISE.md: no words of dashboard: {words}")
+            continue
+        below = reached([TOP_CALL], wanted=commands[words])[0]
+        for name, mark in CLAUSE.findall(row):
+            path = page.parent / files.get(mark, "nowhere")
+            if path.suffix == ".antt" and not is_believed(path, name, below):
+                faults.append(f"docs/PROMISE.md: {name} is on no way from the contract for `{words}`")
 
 
 def claims_in(part):
@@ -309,6 +377,8 @@ def main():
     for page, crates in SHOWN.items():
         check_code(page, crates)
     check_crates()
+    check_rests()
+    check_edits()
     check_toolchain()
     check_links()
     check_commands()

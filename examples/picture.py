@@ -1,8 +1,11 @@
 #!/usr/bin/env python3
-"""picture.py PROGRAM [--write]: the pictures of SHOWN are what `timeline svg` makes of their reports; with --write they are made anew.
+"""picture.py PROGRAM [--write]: the pictures of SHOWN are what `timeline` makes of their reports; with --write they are made anew.
 
 The report of all kinds has a mark and a note of each kind, in edition 2: two loopers, two gauges in one lane, two marks at one place, more notes than
 are shown. It is drawn whole, and in a window of time where frames are too narrow for parts. A run in which nothing happens has a picture that says so.
+
+The trace of SHOWN has two queues: a message is removed, one refused, and one comes from the other looper. Of it, and of each
+trace of this folder, `timeline flows` draws just the arrows that its lines tell.
 
 Every report of this folder becomes an SVG that an XML parser takes, with an element for each mark, and a trace that a JSON
 parser takes, with an event for each mark. Where Chromium is installed, it opens the pictures too, with as many elements. It opens
@@ -26,12 +29,14 @@ SHOWN = [
     (ALL_KINDS.read_bytes(), ["svg"], HERE / "picture" / "all_kinds.svg"),
     (ALL_KINDS.read_bytes(), ["svg", "21", "2000", "--width", "700", "--title", 'A window of "all" <kinds>'], HERE / "picture" / "window.svg"),
     (NOTHING, ["svg", "--title", "Nothing"], HERE / "picture" / "nothing.svg"),
+    ((HERE / "picture" / "flows.trace").read_bytes(), ["flows"], HERE / "picture" / "flows.json"),
 ]
 # Words that are none of the forms.
 REFUSED = [
     [], ["gif"], ["svg", "1"], ["svg", "5", "5"], ["svg", "7", "5"], ["svg", "x", "5"], ["svg", "1", "2", "3"], ["svg", "--width", "699"],
     ["svg", "--width", "30001"], ["svg", "--width"], ["svg", "--width", "700", "--width", "700"], ["svg", "--title"], ["svg", "--title", "a", "--title", "b"],
     ["svg", "--width", "700", "1", "2"], ["svg", "01", "5"], ["html", "1", "2"], ["html", "--width", "700"], ["perfetto", "1", "2"], ["perfetto", "--title", "a"],
+    ["flows", "1", "2"], ["flows", "--title", "a"],
 ]
 # Zooms in and points at the first mark that is shown then; writes what the page told.
 POINTING = b"""<script>
@@ -95,6 +100,62 @@ def look(program, name, text):
     assert len(svg.stdout) < 1_000_000, name
     assert drawn_marks(svg.stdout) == marks_of(text), name
     assert sum(event["ph"] != "M" for event in json.loads(trace.stdout)) == marks_of(text), name
+
+
+def queue_arrows(looper, entries):
+    """The arrows that the entries of a queue tell: the poster with its time, the taker with its, the message and its number."""
+    posts, dispatches, time = [], [], 0
+    for words in entries:
+        sender, call = int(words[0]), words[2]
+        if call == "post" and words[-2] == "accepted":
+            message = f"handler {words[3]} " + (f"what {words[4]}" if words[7] == "-" else f"callback {words[7]}")
+            posts.append((sender, time, f"post to looper {looper} {message}", message))
+        if call == "next" and words[-2] == "dispatched":
+            dispatches.append((sender, int(words[3]), int(words[-1])))
+        if call in ("barrier", "quit", "next", "advance", "halt"):
+            time = max(time, int(words[4 if call == "quit" else 3]))
+    for sender, moment, number in dispatches:
+        if number < len(posts):
+            poster, posted, post, message = posts[number]
+            yield (poster, posted, post, number), (sender, moment, message, number)
+
+
+def arrows_of(trace):
+    """The arrows of a trace, queue by queue."""
+    queues = []
+    for words in (line.split(" ") for line in trace.decode().splitlines()[1:-1]):
+        if words[0] == "queue":
+            queues.append((words[1], []))
+        else:
+            queues[-1][1].append(words)
+    return [arrow for looper, entries in queues for arrow in queue_arrows(looper, entries)]
+
+
+def drawn_arrows(events):
+    """The arrows of trace events: both ends with the same number, and nothing else but the name of the process."""
+    assert events[0] == {"name": "process_name", "ph": "M", "pid": 1, "args": {"name": "senders"}}
+    ends = events[1:]
+    for place, event in enumerate(ends):
+        way = "flow_in" if place % 2 else "flow_out"
+        assert event["bind_id"] == place // 2 and event[way] is True and len(event) == 9, event
+        assert (event["ph"], event["dur"], event["pid"], event["ts"] % 1000) == ("X", 1000, 1, 0), event
+    told = [(event["tid"], event["ts"] // 1000, event["name"], event["args"]["number"]) for event in ends]
+    return list(zip(told[::2], told[1::2], strict=True))
+
+
+def flows(program):
+    """Each trace of this folder has just the arrows of its lines, and a text that is none is refused. Answers how many traces there are."""
+    count = 0
+    for file in sorted(HERE.rglob("*.trace")):
+        found = run(program, ["flows"], file.read_bytes())
+        if file.name.startswith("check_") and file.with_suffix(".error").exists():
+            assert (found.returncode, found.stdout) == (3, b"") and found.stderr.startswith(b"timeline: line "), file.name
+            continue
+        assert found.returncode == 0 and drawn_arrows(json.loads(found.stdout)) == arrows_of(file.read_bytes()), file.name
+        count += 1
+    bad = run(program, ["flows"], b"trace 1\nend\nend\n")
+    assert (bad.returncode, bad.stdout, bad.stderr) == (3, b"", b"timeline: line 3\n"), bad
+    return count
 
 
 def halves(program, text):
@@ -161,12 +222,13 @@ def main():
         refused = run(program, words, b"report 1\nend\n")
         assert (refused.returncode, refused.stdout) == (2, b"") and refused.stderr.startswith(b"timeline: usage: "), words
     pictures = [run(program, words, text).stdout for text, words, _ in SHOWN]
-    for (_, _, kept), svg in zip(SHOWN, pictures):
+    for (_, _, kept), drawn in zip(SHOWN, pictures):
         if "--write" in sys.argv:
-            kept.write_bytes(svg)
-        assert kept.read_bytes() == svg, f"{kept.name} is another one"
-    open_in_browser(program, [*pictures, run(program, ["svg"], longest()).stdout], [SHOWN[0][0], ALL_KINDS.read_bytes(), longest()])
-    print(f"{len(reports)} reports drawn, {len(pictures)} pictures compared")
+            kept.write_bytes(drawn)
+        assert kept.read_bytes() == drawn, f"{kept.name} is another one"
+    traces = flows(program)
+    open_in_browser(program, [*(drawn for drawn in pictures if drawn.startswith(b"<svg")), run(program, ["svg"], longest()).stdout], [SHOWN[0][0], ALL_KINDS.read_bytes(), longest()])
+    print(f"{len(reports)} reports drawn, {len(pictures)} pictures compared, the arrows of {traces} traces")
 
 
 main()

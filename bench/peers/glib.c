@@ -1,4 +1,7 @@
-/* GLib's main context: one source a message, an idle source for now and a timeout for a time. */
+/* GLib's main context: one source a message, an idle source for now and a timeout for a time.
+ *
+ * Beside the modes of bench.h it has one of its own: `glib order COUNT 1` posts so many sources for scattered times that have passed, and
+ * prints how many of them ran behind one of a later time. */
 #include "bench.h"
 
 #include <glib.h>
@@ -7,6 +10,8 @@ static GMainContext *context;
 static GMainLoop *loop;
 static long left;
 static gboolean chained;
+static gint64 latest;
+static long late;
 
 static void post(gint64 ready);
 
@@ -59,6 +64,34 @@ static void posters(char **word, long count)
     }
 }
 
+/* Runs for the moment that it was posted for. */
+static gboolean one_of(gpointer ready)
+{
+    late += *(gint64 *)ready < latest;
+    latest = MAX(latest, *(gint64 *)ready);
+    g_free(ready);
+    return one(NULL);
+}
+
+static int order(long count)
+{
+    gint64 now = g_get_monotonic_time();
+    left = count;
+    for (long i = 0; i < count; i++) {
+        gint64 *ready = g_new(gint64, 1);
+        *ready = 1 + (gint64)scattered((uint64_t)now);
+        GSource *source = g_timeout_source_new(0);
+        g_source_set_ready_time(source, *ready);
+        g_source_set_priority(source, G_PRIORITY_DEFAULT);
+        g_source_set_callback(source, one_of, ready, NULL);
+        g_source_attach(source, context);
+        g_source_unref(source);
+    }
+    g_main_loop_run(loop);
+    printf("%ld of %ld ran behind one of a later time\n", late, count);
+    return 0;
+}
+
 static void run(char **word, long count)
 {
     gint64 now = g_get_monotonic_time();
@@ -80,6 +113,9 @@ int main(int words, char **word)
     long count = count_of(words, word), rounds = rounds_of(word);
     context = g_main_context_new();
     loop = g_main_loop_new(context, FALSE);
+    if (is_mode(word, "order")) {
+        return order(count);
+    }
     uint64_t start = time_of(word);
     for (long round = 0; round < rounds; round++) {
         run(word, count);

@@ -1,5 +1,9 @@
 /* The modes over a queue under a pthread mutex with a condition variable: what `ours.c` and `plain_list.c` share. The file that
- * includes this defines open_queue, post, next and taken. */
+ * includes this defines open_queue, post, next and taken.
+ *
+ * Where it defines MOMENT_KEPT too, the thread that takes keeps the moment that it read, as libuv and libevent keep the time of a
+ * turn: it looks and posts for that moment, and reads the clock anew once nothing is due by it. Where it defines SPINS, a thread tries
+ * so often for the lock before it sleeps. */
 #include "bench.h"
 
 #include "message_queue.h"
@@ -15,15 +19,57 @@ static pthread_mutex_t lock = PTHREAD_MUTEX_INITIALIZER;
 static pthread_cond_t changed;
 static uint64_t sum;
 
+static void hold(void)
+{
+#ifdef SPINS
+    for (int tries = 0; tries < SPINS; tries++) {
+        if (pthread_mutex_trylock(&lock) == 0) {
+            return;
+        }
+        for (int pause = 0; pause < 20; pause++) {
+            __builtin_ia32_pause();
+        }
+    }
+#endif
+    pthread_mutex_lock(&lock);
+}
+
 static uint64_t milliseconds(void)
 {
     return nanoseconds(CLOCK_MONOTONIC) / 1000000;
 }
 
+/* The moment that the taking thread keeps. */
+static uint64_t moment;
+
+/* The moment for which the taking thread posts. */
+static uint64_t own_moment(void)
+{
+#ifdef MOMENT_KEPT
+    return moment;
+#else
+    return milliseconds();
+#endif
+}
+
+static msgq_look look_now(void)
+{
+#ifdef MOMENT_KEPT
+    msgq_look look = next(moment);
+    if (look.kind == MSGQ_TAKEN) {
+        return look;
+    }
+    moment = milliseconds();
+    return next(moment);
+#else
+    return next(milliseconds());
+#endif
+}
+
 static void send(uint64_t when)
 {
     msgq_message message = {.when = when, .handler = 7, .what = 1};
-    pthread_mutex_lock(&lock);
+    hold();
     msgq_answer answer = post(&message);
     if (answer.wake) {
         pthread_cond_signal(&changed);
@@ -48,11 +94,11 @@ static void wait_for(const msgq_look *look)
 
 static void take(void)
 {
-    pthread_mutex_lock(&lock);
-    msgq_look look = next(milliseconds());
+    hold();
+    msgq_look look = look_now();
     while (look.kind != MSGQ_TAKEN) {
         wait_for(&look);
-        look = next(milliseconds());
+        look = look_now();
     }
     taken();
     pthread_mutex_unlock(&lock);
@@ -101,7 +147,7 @@ static void each_then_all(char **word, long count)
 static void chain(long count)
 {
     for (long i = 0; i < count; i++) {
-        send(milliseconds());
+        send(own_moment());
         take();
     }
 }
@@ -116,6 +162,7 @@ int main(int words, char **word)
     if (!open_queue()) {
         return 5;
     }
+    moment = milliseconds();
     uint64_t start = time_of(word);
     for (long round = 0; round < rounds; round++) {
         if (has_posters(word)) {

@@ -72,6 +72,11 @@ static void messages(void)
     char x = 'x', y = 'y';
     CHECK(mlp_call(&a, call, &x) && mlp_call_delayed(&a, call, &y, 1000000) && mlp_remove_calls(&b, call) == 0);
     CHECK(run_due(loop) == 0 && strcmp(trace, "0123x") == 0 && mlp_remove_calls(&a, call) == 1 && mlp_remove_calls(&a, call) == 0);
+    /* at the front the newest goes first, and at the time 0 the oldest */
+    forget_trace();
+    CHECK(mlp_send_at(&a, 'e', 0, NULL, 0) && mlp_send_at(&a, 'f', 0, NULL, 0) && mlp_send_front(&a, 'd', 0, NULL) && mlp_send_front(&a, 'c', 0, NULL));
+    CHECK(run_due(loop) == 0 && strcmp(trace, "cdef") == 0);
+    CHECK(mlp_send_delayed(&a, 'z', 0, NULL, UINT64_MAX) && run_due(loop) == 0 && strcmp(trace, "cdef") == 0 && mlp_remove(&a, 'z') == 1);
     /* a barrier holds back what is not asynchronous, in its own millisecond too */
     forget_trace();
     uint64_t token;
@@ -218,9 +223,16 @@ static void sources(void)
     CHECK(mlp_watch(loop, ends[0], MLP_INPUT, on_input, loop) && run_due(loop) == 0);
     while (strlen(trace) < 3) CHECK(mlp_run_once(loop, true) == 1);
     CHECK(mlp_watch(loop, ends[0], 0, NULL, NULL) && write(ends[1], "y", 1) == 1 && run_due(loop) == 0 && strcmp(trace, "aex") == 0);
-    CHECK(mlp_watch(loop, ends[0], MLP_INPUT, on_input, loop) && write(ends[1], "q", 1) == 1);
+    /* of two descriptors the first one's watch ends, and the other one is still told of */
+    int more[2];
+    CHECK(pipe(more) == 0 && mlp_watch(loop, ends[0], MLP_ERROR, on_input, loop) && mlp_watch(loop, more[0], MLP_INPUT, on_input, loop));
+    CHECK(mlp_watch(loop, ends[0], 0, NULL, NULL) && write(more[1], "z", 1) == 1 && run_due(loop) == 0 && strcmp(trace, "aexz") == 0);
+    CHECK(mlp_watch(loop, more[0], 0, NULL, NULL) && close(more[0]) == 0 && close(more[1]) == 0);
+    /* what came at a descriptor goes before a message */
+    CHECK(mlp_watch(loop, ends[0], MLP_INPUT, on_input, loop) && mlp_send(&a, 'm', 0, NULL) && run_due(loop) == 0 && strcmp(trace, "aexzym") == 0);
+    CHECK(write(ends[1], "q", 1) == 1);
     mlp_run(loop);
-    CHECK(strcmp(trace, "aexyq") == 0);
+    CHECK(strcmp(trace, "aexzymq") == 0);
     close(ends[0]);
     close(ends[1]);
     mlp_free(loop);
@@ -315,7 +327,11 @@ static void misuse(void)
     CHECK(mlp_handler_open(loop, &none) && mlp_send(&none, 1, 0, malloc(1)) && run_due(loop) == 0 && freed == before + 1);
     mlp_handler_close(&handler);
     CHECK(!mlp_send(&handler, 1, 0, NULL) && run_due(loop) == 0);
+    /* One that is open is not opened once more, and the end of its loop closes it. */
+    CHECK(mlp_handler_open(loop, &handler) && handler.id == 1 && !mlp_handler_open(loop, &handler) && mlp_send(&handler, 1, 0, NULL));
     mlp_free(loop);
+    CHECK(handler.loop == NULL && !mlp_send(&handler, 1, 0, NULL) && none.loop == NULL);
+    mlp_handler_close(&handler);
 }
 
 int main(void)

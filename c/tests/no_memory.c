@@ -1,5 +1,6 @@
 /* Refuses each N-th request for memory, for N from 1 to 60, in a loop with messages, frames and idle handlers: each call is answered,
- * what was accepted comes, nothing hangs, and all memory is given back. Exits with 0 where it does. */
+ * what was accepted comes, nothing hangs, and all memory is given back. And a loop that reserved memory is refused each request, and
+ * makes none. Exits with 0 where it is so. */
 #include "check.h"
 #include "counting_heap.h"
 #include "message_loop_posix.h"
@@ -65,8 +66,32 @@ static bool play(unsigned long each)
     return true;
 }
 
+/* What was reserved for is accepted, without a request for memory. */
+static void reserved(void)
+{
+    enum { RESERVED = 40 };
+    fail_each = 0;
+    mlp_loop *loop = mlp_new(0);
+    mlp_handler handler = {.handle = handle};
+    uint64_t token;
+    CHECK(loop != NULL && mlp_handler_open(loop, &handler) && mlp_reserve(loop, RESERVED));
+    fail_each = 1;
+    for (unsigned turn = 0; turn < 100; turn++) {
+        unsigned long before = requests;
+        CHECK(mlp_barrier(loop, &token));
+        for (unsigned i = 1; i < RESERVED; i++) CHECK(mlp_send(&handler, i, 0, NULL));
+        CHECK(mlp_unbarrier(loop, token) && requests == before);
+        for (handled = 0; handled < RESERVED - 1;) CHECK(mlp_run_once(loop, false) >= 0);
+        CHECK(requests == before);
+    }
+    refused = 0;
+    mlp_free(loop);
+    CHECK(blocks == 0 && in_use == 0);
+}
+
 int main(void)
 {
+    reserved();
     unsigned long all = 0, opened = 0;
     for (unsigned long each = 1; each <= 60; each++) {
         requests = 0;

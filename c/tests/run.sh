@@ -1,8 +1,8 @@
 #!/usr/bin/env bash
 # Builds and runs the tests of the loop in C: with each compiler that is there, plainly and under the address and the undefined
 # sanitizer, by poll and a pipe too, under valgrind's memcheck and helgrind (the thread sanitizer can't see into the proved
-# libraries, valgrind can), as C++, installed by pkg-config and CMake, and for aarch64 under qemu. What isn't there is skipped
-# with a line. run.sh --long is for aarch64 and wasm64 too, whose libraries it makes, and its long run has 10 million messages and 100,000 frames.
+# libraries, valgrind can), as C++, beside POSIX's own queues, installed by pkg-config and CMake, and for aarch64 under qemu. What isn't
+# there is skipped with a line. run.sh --long is for aarch64 and wasm64 too, whose libraries it makes, and its long run has 10 million messages and 100,000 frames.
 set -eu
 long=
 [ "${1:-}" != --long ] || long=1
@@ -42,7 +42,7 @@ run() {
 core=("$c/out/$host/core"/*.a)
 include=("-I$c" "-I$here" "-I$crates/message_queue_c/include" "-I$crates/frame_phases_c/include" "-I$crates/loop_sources_c/include" "-I$crates/loop_next_c/include"
     "-I$crates/countdown_c/include" "-I$crates/animator_c/include")
-loop=("$c"/message_loop_{posix,frames,sources,system}.c)
+loop=("$c"/message_loop_{posix,frames,sources,system,poll}.c)
 flags=(-std=c11 -D_POSIX_C_SOURCE=200809L -D_DEFAULT_SOURCE -O1 -g -Wall -Wextra -Werror "${include[@]}")
 heap=$c/../examples/embed/heap.c
 
@@ -101,20 +101,70 @@ for seed in 1 2 3 4 5; do judged "history $seed" legal "$out/history" "$seed" 20
 judged "history with a wrong answer" illegal "$out/history" 6 500 wrong
 "$cc" "${flags[@]}" "$here/loop_history.c" "${loop[@]}" "$heap" "${core[@]}" -lpthread -o "$out/loop_history"
 judged "history of a loop" legal "$out/loop_history"
+! command -v valgrind >/dev/null || run "helgrind history of a loop" sh -c 'valgrind -q --tool=helgrind --error-exitcode=9 "$1" >/dev/null' sh "$out/loop_history"
 
 "$cc" "${flags[@]}" -O2 "$here/long_run.c" "${loop[@]}" "${core[@]}" -lpthread -o "$out/long"
 if [ -n "$long" ]; then run long_run "$out/long" 10000000 100000; else run long_run "$out/long" 200000 2000; fi
 
-printf '#include "message_loop_posix.h"\n#include "message_trace.h"\n#include "frame_phases.h"\n#include "loop_sources.h"\n#include "loop_next.h"\n#include "countdown.h"\n#include "animator.h"\nint main(void) { return mlp_version() == 0; }\n' >"$out/headers.c"
+# The headers without a warning, in each language and by each compiler.
+cat >"$out/headers.c" <<'P'
+#include "message_loop_posix.h"
+#include "message_trace.h"
+#include "frame_phases.h"
+#include "loop_sources.h"
+#include "loop_next.h"
+#include "countdown.h"
+#include "animator.h"
+int main(void) { return mlp_version() == 0; }
+P
 headers=(-pedantic -Wall -Wextra -Wconversion -Wshadow -Wcast-qual -Werror "${include[@]}" -c "$out/headers.c" -o /dev/null)
-for language in c99 c11 c17 c2x; do "$cc" "-std=$language" "${headers[@]}"; done
-if has g++; then
+for compiler in gcc clang; do
+    has "$compiler" || continue
+    for language in c99 c11 c17 c2x; do "$compiler" "-std=$language" "${headers[@]}"; done
+done
+for compiler in g++ clang++; do
+    has "$compiler" || continue
     for language in c++98 c++11 c++14 c++17 c++20; do
-        g++ -x c++ "-std=$language" -Wno-long-long -Wold-style-cast -Wzero-as-null-pointer-constant "${headers[@]}"
+        "$compiler" -x c++ "-std=$language" -Wno-long-long -Wold-style-cast -Wzero-as-null-pointer-constant "${headers[@]}"
     done
-    printf '#include "message_loop_posix.h"\n#include "frame_phases.h"\n#include "loop_sources.h"\nint main() { mloop_frames f = MLOOP_FRAMES_CLOSED; mloop_sources s = MLOOP_SOURCES_CLOSED; mlp_loop *l = mlp_new(0); int r = l == nullptr || f.core.live || s.core.live; mlp_free(l); return r; }\n' >"$out/it.cpp"
+done
+# warned LINE: the compiler warns of it, as it does where a pulse could be lost, or an answer is taken for one of another kind
+warned() {
+    printf '#include "frame_phases.h"\nint it(mloop_frames *f, const mloop_callback *c) { (void)c; %s return 0; }\n' "$1" >"$out/warned.c"
+    ! "$cc" -std=c11 -Wall -Wextra -Werror "${include[@]}" -c "$out/warned.c" -o /dev/null 2>/dev/null || {
+        told "no warning of: $1"
+        exit 1
+    }
+}
+warned 'mloop_frame_post(f, c, 1);'
+warned 'mloop_frame_due(f, 0, 1);'
+warned 'mloop_frame_schedule(f, 1);'
+[ "$cc" != gcc ] || warned 'return mloop_frame_next(f, 1).kind == MLOOP_FRAME_ASKED;' # clang compares any two numbers
+if has g++; then
+    cat >"$out/it.cpp" <<'P'
+#include "message_loop_posix.h"
+#include "frame_phases.h"
+#include "loop_sources.h"
+int main()
+{
+    mloop_frames frames = MLOOP_FRAMES_CLOSED;
+    mloop_sources sources = MLOOP_SOURCES_CLOSED;
+    mlp_loop *loop = mlp_new(0);
+    bool wrong = loop == nullptr || frames.core.live || sources.core.live;
+    mlp_free(loop);
+    return wrong;
+}
+P
     g++ -std=c++11 -Wall -Wextra -Werror "${include[@]}" "$out/it.cpp" "$c/out/$host/libmessage_loop.a" -lpthread -o "$out/cpp"
     run "C++" "$out/cpp"
+fi
+
+# All names are our own: none is POSIX's, whose queues are used beside ours.
+"$cc" "${flags[@]}" "$here/posix_queues.c" "${loop[@]}" "$heap" "${core[@]}" -lpthread -lrt -o "$out/posix_queues"
+run "queues of POSIX" "$out/posix_queues"
+if nm -g --defined-only "$c/out/$host/libmessage_loop.a" | awk 'NF == 3 { print $3 }' | grep -vE '^(msgq|mloop|mlp|rattle)_'; then
+    told "the library has names that are not its own"
+    exit 1
 fi
 
 "$c/install.sh" "$out/prefix" >/dev/null

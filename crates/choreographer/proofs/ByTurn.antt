@@ -1,5 +1,5 @@
 -- A call that was one turn.
-use Rattle.std.proofs.Common.{◌≡◌, ℕ, ◌+◌, ◌≤◌, Option, List, reverse, Some, None, sym, ap, ◌∙◌, subst, arith, length, length-append}
+use Rattle.std.proofs.Common.{◌≡◌, ℕ, ◌+◌, ◌≤◌, Option, List, [], ◌∷◌, ◌++◌, cond, eqb, eq-eqb, map, drop, reverse, Some, None, sym, ap, ◌∙◌, subst, arith, length, length-append}
 use Rattle.std.specs.Prelude.{◌-◌, Result, Ok, Err, IfOk}
 use mathlib.Core.List.{IsPrefix}
 use Rattle.loop_model.specs.declared.memory.NoMemory.{NoMemory}
@@ -13,10 +13,11 @@ use Rattle.choreographer.specs.declared.view.Constants.{Constants}
 use Rattle.choreographer.specs.declared.view.Progress.{Progress}
 use Rattle.choreographer.specs.declared.view.View.{View}
 use Rattle.choreographer.specs.Frame.{begin_place, progress, progress_of, GrowsQuietly}
-use Rattle.choreographer.specs.Turn.{HasConstants, taking, giving}
-use Rattle.choreographer.specs.Plays.{FoundBy, MayGive}
+use Rattle.choreographer.specs.Turn.{HasConstants, count_of, holds, last_of, sealed_in, taking, giving}
+use Rattle.choreographer.specs.Plays.{FoundBy, MayGive, MaySeal}
 use Rattle.choreographer.specs.Steps.{HasSameConstants, StepsBy}
-use Rattle.choreographer.specs.Known.{Known, IsTurn}
+use Rattle.choreographer.specs.Known.{Known, HasOwn, IsTurn}
+use Rattle.loop_model.proofs.Prefixes.{prefix_self}
 use Rattle.choreographer.proofs.Quiet.{grows_self}
 
 same_key : (key c : Constants) (o : Option Constants) → o ≡ Some key → o ≡ Some c → key ≡ c
@@ -41,9 +42,36 @@ one_turn key before after x y table number is own_key of_x of_y found grows = re
   handed = ap (λ (v : View). v.handed) is;
 }
 
--- where nothing was handed out, no less was
-pub keeps_handed : (x y : Kept) → HasSameConstants x y → length x.frames.sealed ≤ length y.frames.sealed
-keeps_handed x y same = let long = ap length same.3 in omega (arith, long)
+-- a seat that gives back what it may still has its own
+pub own_given : (key : Constants) (v : View) (x : Kept) → v.constants ≡ Some key → HasOwn v → MaySeal key v x → HasOwn (giving v x)
+own_given key v x own_key own seals = record {
+  part = ap (map (λ part. part ++ drop (length v.seen) x.frames.entries)) own.part;
+  handed = λ c e no_last.
+      let same : key ≡ c = same_key key c v.constants own_key e in
+      let none = own.handed c e no_last in
+      let no_more = subst (λ (k : Constants). holds (last_of k) v ≡ 0 → length x.frames.sealed ≡ sealed_in v.found) same seals.1 no_last in
+      omega (arith, none, no_more);
+}
+
+-- where nothing was handed out, the state may be given back
+pub keeps_handed : (key : Constants) (v : View) (x y : Kept) → HasSameConstants x y → MaySeal key (taking v x) y
+keeps_handed key v x y same = let long = ap length same.3 in (omega (arith, long), λ _. long)
+
+-- the last pass, where it is a view's only one
+pub holds_last : (key : Constants) (v : View) (number : ℕ) → v.passes ≡ number ∷ [] → number + 1 ≡ key.passes → holds (last_of key) v ≡ 1
+holds_last key v number only last =
+    let here : cond {A = ℕ} (eqb number (last_of key)) 1 0 ≡ 1 = ap (λ b. cond {A = ℕ} b 1 0) (eq-eqb number (last_of key) (omega (arith, last))) in
+    ap (count_of (last_of key)) only ∙ omega (arith, here)
+
+-- its seat may hand entries out
+pub may_seal : (key : Constants) (v : View) (x y : Kept) (number : ℕ) → v.passes ≡ number ∷ [] → number + 1 ≡ key.passes → length x.frames.sealed ≤ length y.frames.sealed → MaySeal key (taking v x) y
+may_seal key v x y number only last more = (more, λ no_last. absurd (let one = holds_last key v number only last in omega (arith, one, no_last)))
+
+-- a state with the entries that were found may be given back
+pub same_gives : (v : View) (x y : Kept) → v.seen ≡ x.frames.entries → y.frames.entries ≡ x.frames.entries → MayGive v y
+same_gives v x y seen same =
+    let all : v.seen ≡ y.frames.entries = seen ∙ sym same in
+    (subst (IsPrefix v.seen) all (prefix_self v.seen), λ none f going. subst (GrowsQuietly v.seen) all (grows_self v.seen))
 
 -- a sealing hands out a part, or nothing
 pub hands_more : (s t : Frames) (answer : Result (List FrameEntry) NoMemory) → Seals s answer t → length s.sealed ≤ length t.sealed

@@ -177,7 +177,7 @@ fn choreographer(
     ensures constants { IfOk result (λ c. c.constants ≡ frame_constants script.now looper) }
     ensures dealt { IfOk result (λ c. EachGets nothing (given_of script.now looper c) kits.old.items kits.new.items) }
 {
-    let (choreographer, passes) = Choreographer::make(
+    let (choreographer, passes) = Choreographer::make_sealing(
         alloc,
         looper,
         script.period,

@@ -1,5 +1,8 @@
 -- What the controller's calls make and leave.
+pub mod FrameLists
 pub mod Controlling
+pub mod FrameSealing
+pub mod FrameEnds
 pub mod Controls
 pub mod ControlKept
 pub mod ControlTurns

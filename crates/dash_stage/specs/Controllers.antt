@@ -11,24 +11,33 @@ use Rattle.dash_script.specs.declared.script.Script.{Script}
 use Rattle.looper_run.specs.Holding.{Sender}
 use Rattle.choreographer.specs.Known.{Known as Pass}
 use Rattle.choreographer.specs.Calls.{AskedBy}
+use Rattle.choreographer.specs.Ends.{HasHandedOut, entries_in}
+use Rattle.frame_phases.specs.declared.entry.FrameEntry.{FrameEntry}
 use Rattle.run_model.specs.Acts.{millis_up}
 use Rattle.run_model.specs.Senders.{controller}
 use Rattle.run_model.specs.Control.{is_advance, are_controls}
 use Rattle.dash_hall.specs.declared.hall.Hall.{Hall}
 use Rattle.dash_stage.specs.declared.control.Controller.{Controller}
 use Rattle.dash_hall.specs.Growth.{own}
-use Rattle.dash_hall.specs.Kits.{ArePostersOf, ArePassesOf}
+use Rattle.dash_hall.specs.Kits.{ArePostersOf, ArePassesOf, frame_badge_of}
 
 -- the parts that these posters handed out of their queues' histories, in order
 abbrev pub handed_out : List Sender → List (List Segment)
 handed_out posters = map (λ p. p.view.sealed) posters
 
 -- the parts that stand in these lists, in order
-abbrev pub parts_in : List (Vec Segment) → List (List Segment)
+abbrev pub parts_in : {A : Type 0} → List (Vec A) → List (List A)
 parts_in lists = map (λ v. v.items) lists
 
--- the controller of the script, with what it needs in the hall; it keeps the parts of the histories that it handed out; its turns at the choreographers, which
--- look for the pulse that is asked for, record nothing
+-- each of these passes handed out the entries of the parts that stand in its list
+abbrev pub HaveHandedOut : List Pass → List (Vec (List FrameEntry)) → Type 0
+HaveHandedOut [] [] = Unit {0}
+HaveHandedOut [] (v ∷ lists) = ⊥
+HaveHandedOut (p ∷ passes) [] = ⊥
+HaveHandedOut (p ∷ passes) (v ∷ lists) = HasHandedOut p (entries_in v.items) × HaveHandedOut passes lists
+
+-- the controller of the script, with what it needs in the hall; it keeps the parts of the histories and of the frame records that it handed out; its turns at
+-- the choreographers, which look for the pulse that is asked for and hand entries out, record nothing
 pub record IsControllerIn (lockstep : Bool) (s : Script) (hall : Hall) (c : Controller) : Type 0 where
   pub posters : ArePostersOf (controller s) hall.queues.items c.kit.posters.items
   pub frames : ArePassesOf (s.threads + 2) hall.choreographers.items c.kit.frames.items
@@ -36,6 +45,7 @@ pub record IsControllerIn (lockstep : Bool) (s : Script) (hall : Hall) (c : Cont
   pub mode : hall.lockstep ≡ lockstep
   pub idle : (q : ℕ) (p : Pass) → q < length c.kit.frames.items → (slice_index_or c.kit.frames.items q p).view.own ≡ []
   pub sealed : handed_out c.kit.posters.items ≡ parts_in c.sealed.items
+  pub sealed_frames : HaveHandedOut c.kit.frames.items c.sealed_frames.items
 
 -- the same in lockstep
 abbrev pub IsController : Script → Hall → Controller → Type 0
@@ -121,6 +131,12 @@ pub record LooksFor (looper : ℕ) (before after : Controller) (pulse : Option �
   pub stamp : Option ℕ
   pub turn : (p : Pass) → AskedBy (slice_index_or before.kit.frames.items looper p) (slice_index_or after.kit.frames.items looper p) stamp
   pub rounded : pulse ≡ option_map millis_up stamp
+
+-- one turn of the pass recorded nothing, and what it handed out still stands in these lists of parts
+pub record HandsOutFrames (before after : Pass) (had has : List (List FrameEntry)) : Type 0 where
+  pub badge : frame_badge_of after ≡ frame_badge_of before
+  pub own : after.view.own ≡ before.view.own
+  pub parts : HasHandedOut before (entries_in had) → HasHandedOut after (entries_in has)
 
 -- the controller's poster of this queue before and after are so
 abbrev pub AtPoster : (Sender → Sender → Type 0) → ℕ → Controller → Controller → Type 0

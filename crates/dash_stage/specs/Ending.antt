@@ -16,12 +16,12 @@ use Rattle.shared_queue.specs.Known.{Shared}
 use Rattle.shared_queue.specs.Constants.{Constants}
 use Rattle.looper_run.specs.Holding.{Sender}
 use Rattle.choreographer.specs.Known.{Shared as Frames, Known as Pass}
-use Rattle.choreographer.specs.Ends.{AreTheirs}
+use Rattle.choreographer.specs.Ends.{AreTheirs, HasHandedOut, entries_in}
 use Rattle.run_model.specs.Run.{setting_of}
 use Rattle.dash_hall.specs.declared.kit.Kit.{Kit}
 use Rattle.dash_hall.specs.Kits.{ArePostersOf, badge_of, badge_for, FrameBadge, frame_badge_of}
 use Rattle.dash_hall.specs.Dealing.{given_of}
-use Rattle.dash_stage.specs.Controllers.{handed_out, parts_in}
+use Rattle.dash_stage.specs.Controllers.{handed_out, parts_in, HaveHandedOut}
 use Rattle.dash_stage.specs.Records.{HasAllOf, passes_at}
 
 -- each kit has a poster
@@ -41,6 +41,15 @@ AreSealed kits lists = (k : ℕ) (d : Kit) → k + 1 ≡ length kits → handed_
 abbrev pub HasSealedNext : List Kit → List Segment → Type 0
 HasSealedNext kits parts =
     (k : ℕ) (d : Kit) (p : Sender) → k + 1 ≡ length kits → (slice_index_or (slice_index_or kits k d).posters.items 0 p).view.sealed ≡ parts
+
+-- the last kit's passes, the controller's, handed out what stands in these lists, choreographer by choreographer
+abbrev pub AreFramesSealed : List Kit → List (Vec (List FrameEntry)) → Type 0
+AreFramesSealed kits lists = (k : ℕ) (d : Kit) → k + 1 ≡ length kits → HaveHandedOut (slice_index_or kits k d).frames.items lists
+
+-- the first of them handed these parts out
+abbrev pub HasSealedNextFrames : List Kit → List (List FrameEntry) → Type 0
+HasSealedNextFrames kits parts = (k : ℕ) (d : Kit) (p : Pass) → k + 1 ≡ length kits
+    → HasHandedOut (slice_index_or (slice_index_or kits k d).frames.items 0 p) (entries_in parts)
 
 -- so it is with each kit, and there is one for each sender
 pub record AreNext (q : Shared TableId) (kits : List Kit) : Type 0 where

@@ -17,6 +17,7 @@ pub record ControllerKeeps (R : List Sender → List Sender → Type 0) (before 
   pub pass : after.kit.pass ≡ before.kit.pass
   pub frames : after.kit.frames ≡ before.kit.frames
   pub sealed : after.sealed ≡ before.sealed
+  pub sealed_frames : after.sealed_frames ≡ before.sealed_frames
 
 -- the posters of each sender before and after are so, and all else is as before
 pub record StageKeeps (R : List Sender → List Sender → Type 0) (before after : Stage) : Type 0 where

@@ -1,6 +1,7 @@
 //! The controller of a run.
 ghost use Rattle.std.specs.Prelude.{◌≡◌, ◌<◌, ◌≤◌, ◌+◌, ℕ, true, false, length, sum_by, Some, IfOk, OnOk};
 ghost use Rattle.shared_queue.specs.Known.{IsOf};
+ghost use Rattle.choreographer.specs.Known.{IsOf as IsOfFrames};
 ghost use Rattle.dash_hall.specs.Growth.{GoesOn, QuitsOf};
 ghost use Rattle.dash_hall.specs.Kits.{IsHall};
 ghost use Rattle.dash_threads.specs.Threads.{AreByClock};
@@ -8,7 +9,7 @@ ghost use Rattle.dash_stage.specs.ByClock.{MayQuit};
 ghost use Rattle.dash_stage.specs.GivingUp.{RingsNone};
 ghost use Rattle.run_model.specs.Moments.{Mode, IsMoment};
 ghost use Rattle.dash_stage.specs.Controllers.{IsController, IsControllerIn, IsMoving, HasReached, IsQuitting, IsClosing, IsClosingBy, HasClosed, HasClosedIn};
-ghost use Rattle.dash_stage.specs.Controllers.{CallsNone, LooksFor, AtPoster, OtherPostersStay, OtherPassesStay, calls_on, time_in};
+ghost use Rattle.dash_stage.specs.Controllers.{CallsNone, LooksFor, HandsOutFrames, AtPoster, OtherPostersStay, OtherPassesStay, calls_on, time_in};
 ghost use Rattle.looper_run.specs.Holding.{Sender};
 ghost use Rattle.run_model.specs.Control.{ends_halted};
 ghost use Rattle.run_model.specs.Moves.{IsPulseTime};
@@ -16,10 +17,12 @@ ghost use Rattle.dash_hall.specs.Hearing.{seen_by};
 ghost use Rattle.dash_stage.specs.Timeliness.{AreBy, TurnsOn, EachTurnsOn, MovesTo, MovesNot, Halts, IsNone, HandsOut, HaveCome, HasComeOn, whole_on};
 ghost use Rattle.dash_stage.specs.Playing.{IsStuck, AreStuck};
 
+use choreographer::{Choreographer, FramePass};
 use dash_hall::{Hall, Kit, quit};
 use dash_script::Script;
+use frame_phases::FrameEntry;
 use handler_post::Way;
-use loop_model::{NoMemory, Segment};
+use loop_model::{NoMemory, Segment, Sequence};
 use message_pool::{Pool, PoolClaim, PoolPass};
 use queue_state::{Advancing, Halting};
 use shared_queue::{Poster, SharedQueue};
@@ -31,9 +34,11 @@ pub(crate) struct Controller {
     pub(crate) kit: Kit,
     /// The parts of each queue's history that it handed out, by looper number.
     pub(crate) sealed: Vec<Vec<Segment>>,
+    /// The parts of each frame record that it handed out, by looper number.
+    pub(crate) sealed_frames: Vec<Vec<Sequence<FrameEntry>>>,
 }
 
-/// From so many entries on since its base, a queue hands them out (this project's profile).
+/// From so many entries on since its base, a queue hands them out, and each choreographer what it has (this project's profile).
 const MANY: u64 = 4096;
 
 impl Controller {
@@ -108,7 +113,8 @@ impl Controller {
             .any(|(poster, parts)| is_many(poster, parts))
     }
 
-    /// Has each queue hand its entries out that has many of them, so that no queue keeps its whole history.
+    /// Has each queue hand its entries out that has many of them, and each choreographer what it has, so that none keeps its whole
+    /// history.
     pub(crate) fn seal<R: Wait>(
         &mut self,
         rt: &R,
@@ -123,6 +129,7 @@ impl Controller {
     {
         for place in 0..script.loopers {
             self.seal_one(rt, hall, script, place as usize)?;
+            self.seal_frames(rt, hall, script, place as usize)?;
         }
         Ok(())
     }
@@ -148,6 +155,28 @@ impl Controller {
             &hall.queues[place],
             &mut self.kit.posters[place],
             &mut self.sealed[place],
+        )
+    }
+
+    /// Has one choreographer hand its entries out.
+    fn seal_frames<R: Wait>(
+        &mut self,
+        rt: &R,
+        hall: &Hall,
+        script: &Script,
+        place: usize,
+    ) -> Result<(), NoMemory>
+        requires hall { IsHall script.now hall.now }
+        requires controller { IsController script.now hall.now self.old }
+        requires place { place < script.now.loopers }
+        ensures controller { IsController script.now hall.now self.new }
+        ensures posters { self.new.kit.posters ≡ self.old.kit.posters }
+    {
+        hand_out_frames(
+            rt,
+            &hall.choreographers[place],
+            &mut self.kit.frames[place],
+            &mut self.sealed_frames[place],
         )
     }
 
@@ -351,6 +380,24 @@ fn hand_out<R: Wait>(
     }
     parts.reserve(1)?;
     let part = poster.seal(rt, queue)?;
+    parts.push_reserved(part);
+    Ok(())
+}
+
+/// Has a choreographer hand its entries out. They stand behind its other parts.
+fn hand_out_frames<R: Wait>(
+    rt: &R,
+    choreographer: &Choreographer,
+    pass: &mut FramePass,
+    parts: &mut Vec<Sequence<FrameEntry>>,
+) -> Result<(), NoMemory>
+    requires pass { IsOfFrames pass.old choreographer.now }
+    requires last { pass.old.number + 1 ≡ choreographer.now.constants.passes }
+    requires seals { choreographer.now.constants.seals ≡ true }
+    ensures { HandsOutFrames pass.old pass.new parts.old.items parts.new.items }
+{
+    parts.reserve(1)?;
+    let part = choreographer.seal(rt, pass)?;
     parts.push_reserved(part);
     Ok(())
 }

@@ -16,6 +16,7 @@ ghost use Rattle.dash_stage.specs.Stages.{IsPlayable, AreThreads, AreLoopers, Ar
 ghost use Rattle.dash_threads.specs.Threads.{AreByClock};
 ghost use Rattle.dash_stage.specs.RunEnds.{HasEndedByClock, HasEndedInLockstep};
 
+use crate::control::Controller;
 use crate::records::records;
 use crate::run::Ran;
 use crate::stage::Stage;
@@ -91,8 +92,13 @@ fn kept(
     } = stage;
     let mut kits = thread_kits(alloc, script, &hall, threads)?;
     let journals = looper_kits(alloc, script, &hall, loopers, &mut kits)?;
-    kits.push(controller.kit)?;
-    let (queues, frames) = records(alloc, script, hall, kits, pass, controller.sealed)?;
+    let Controller {
+        kit,
+        sealed,
+        sealed_frames,
+    } = controller;
+    kits.push(kit)?;
+    let (queues, frames) = records(alloc, script, hall, kits, pass, sealed, sealed_frames)?;
     Ok((queues, journals, frames))
 }
 

@@ -14,7 +14,7 @@ use dash_hall::{Hall, Kit, open};
 use dash_loopers::StageLooper;
 use dash_script::Script;
 use dash_threads::PostingThread;
-use loop_model::{NoMemory, Segment};
+use loop_model::NoMemory;
 use std::alloc::Global;
 
 /// The senders of a script, which have done nothing, in lockstep or by a clock.
@@ -35,9 +35,11 @@ pub(crate) fn set_up(alloc: Global, script: &Script, lockstep: bool) -> Result<S
     let threads = threads(alloc, script, &hall, &mut kits)?;
     let loopers = loopers(alloc, script, &hall, &mut kits)?;
     let sealed = nothing_sealed(alloc, script.loopers)?;
+    let sealed_frames = nothing_sealed(alloc, script.loopers)?;
     let controller = Controller {
         kit: kits.remove(0),
         sealed,
+        sealed_frames,
     };
     Ok(Stage {
         hall,
@@ -49,11 +51,11 @@ pub(crate) fn set_up(alloc: Global, script: &Script, lockstep: bool) -> Result<S
     })
 }
 
-/// No parts of any history, for so many queues.
-fn nothing_sealed(alloc: Global, loopers: u32) -> Result<Vec<Vec<Segment>>, NoMemory>
+/// No parts of any history or frame record, for so many queues or choreographers.
+fn nothing_sealed<T: Drop>(alloc: Global, loopers: u32) -> Result<Vec<Vec<T>>, NoMemory>
     ensures { IfOk result (λ v. parts_in v.items ≡ replicate loopers []) }
 {
-    let mut sealed: Vec<Vec<Segment>> = Vec::new(alloc);
+    let mut sealed: Vec<Vec<T>> = Vec::new(alloc);
     for looper in 0..loopers {
         sealed.push(Vec::new(alloc))?;
     }

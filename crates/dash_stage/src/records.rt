@@ -6,7 +6,7 @@ ghost use Rattle.run_model.specs.Senders.{sender_count};
 ghost use Rattle.dash_hall.specs.Kits.{IsHall, AreKitsOf, AreQueuesOf, AreChoreographersOf, frame_constants, frames_for};
 ghost use Rattle.dash_hall.specs.Dealing.{EachGivesPoster, given_of};
 ghost use Rattle.dash_stage.specs.Ending.{HavePosters, AreNext, AreSealed, HasSealedNext, HaveAllPosters, IsKeptOf, EachEndsPoster};
-ghost use Rattle.dash_stage.specs.Ending.{KeepFrames, BeginWithPasses, HaveAllPasses, HaveFramesLeft, AreOfNext, BeginWithOwn, AreOfPool};
+ghost use Rattle.dash_stage.specs.Ending.{AreFramesSealed, HasSealedNextFrames, KeepFrames, BeginWithPasses, HaveAllPasses, HaveFramesLeft, AreOfNext, BeginWithOwn, AreOfPool};
 ghost use Rattle.dash_stage.specs.Records.{AreRecordsBy, AreFrameRecords, AreAllTheirs, HaveAll, HaveSeenOwn, AreOfLoopers};
 ghost use Rattle.run_model.specs.Run.{IsFrameRun};
 ghost use Rattle.run_model.specs.Moments.{Mode};
@@ -14,8 +14,8 @@ ghost use Rattle.run_model.specs.Moments.{Mode};
 use choreographer::{Choreographer, FramePass};
 use dash_hall::{Hall, Kit, holder, recycle_all};
 use dash_script::Script;
-use frame_phases::FrameRecord;
-use loop_model::{NoMemory, QueueRecord, Segment};
+use frame_phases::{FrameEntry, FrameRecord};
+use loop_model::{NoMemory, QueueRecord, Segment, Sequence};
 use message_pool::{Pool, PoolClaim, PoolPass};
 use shared_queue::{Poster, SharedQueue};
 use std::alloc::Global;
@@ -29,11 +29,13 @@ pub(crate) fn records(
     mut kits: Vec<Kit>,
     mut pass: PoolPass,
     sealed: Vec<Vec<Segment>>,
+    sealed_frames: Vec<Vec<Sequence<FrameEntry>>>,
 ) -> Result<(Vec<QueueRecord>, Vec<FrameRecord>), NoMemory>
     requires fits { script.now.threads + script.now.loopers < 100 }
     requires hall { IsHall script.now hall }
     requires kits { AreKitsOf script.now hall kits.items }
     requires sealed { AreSealed kits.items sealed.items }
+    requires sealed_frames { AreFramesSealed kits.items sealed_frames.items }
     requires pass { pass.home ≡ hall.pool }
     ensures queues { (m : Mode) → m.lockstep ≡ hall.lockstep → IfOk result (λ r. AreRecordsBy m script.now kits.items r.0.items) }
     ensures frames { IfOk result (λ r. AreFrameRecords script.now r.1.items) }
@@ -51,7 +53,7 @@ pub(crate) fn records(
         stop: _,
     } = hall;
     let queues = queue_records(alloc, script, &pool, &mut pass, queues, &mut kits, sealed)?;
-    let frames = frame_records(alloc, script, choreographers, &mut kits)?;
+    let frames = frame_records(alloc, script, choreographers, &mut kits, sealed_frames)?;
     close(pool, pass, kits);
     Ok((queues, frames))
 }
@@ -127,11 +129,13 @@ fn frame_records(
     script: &Script,
     choreographers: Vec<Choreographer>,
     kits: &mut Vec<Kit>,
+    mut sealed: Vec<Vec<Sequence<FrameEntry>>>,
 ) -> Result<Vec<FrameRecord>, NoMemory>
     requires fits { script.now.threads + script.now.loopers < 100 }
     requires choreographers { AreChoreographersOf script.now choreographers.items }
     requires count { length kits.old.items ≡ sender_count script.now }
     requires kits { HaveAllPasses (frames_for script.now choreographers.items) kits.old.items }
+    requires sealed { AreFramesSealed kits.old.items sealed.items }
     ensures records { IfOk result (λ v. AreFrameRecords script.now v.items) }
     ensures theirs { IfOk result (λ v. AreAllTheirs script.now kits.old.items v.items) }
     ensures own { IfOk result (λ v. HaveSeenOwn script.now.threads kits.old.items v.items) }
@@ -140,26 +144,29 @@ fn frame_records(
     let mut records = Vec::new(alloc);
     let mut looper = 0;
     for choreographer in choreographers {
-        let record = frame_record(alloc, script, looper, choreographer, kits)?;
+        let parts = sealed.remove(0);
+        let record = frame_record(alloc, script, looper, choreographer, kits, parts)?;
         records.push(record)?;
         looper += 1;
     }
     Ok(records)
 }
 
-/// The record of this looper's choreographer, which takes all its passes.
+/// The record of this looper's choreographer, which takes all its passes and the parts that were handed out.
 fn frame_record(
     alloc: Global,
     script: &Script,
     looper: u32,
     choreographer: Choreographer,
     kits: &mut Vec<Kit>,
+    parts: Vec<Sequence<FrameEntry>>,
 ) -> Result<FrameRecord, NoMemory>
     requires fits { script.now.threads + script.now.loopers < 100 }
     requires looper { looper < script.now.loopers }
     requires constants { choreographer.constants ≡ frame_constants script.now looper }
     requires count { length kits.old.items ≡ sender_count script.now }
     requires kits { BeginWithPasses script.now looper choreographer kits.old.items }
+    requires sealed { HasSealedNextFrames kits.old.items parts.items }
     ensures record { IfOk result (λ r. IsFrameRun script.now r × (r.looper ≡ looper)) }
     ensures theirs { IfOk result (λ r. AreOfNext script.now looper kits.old.items r.entries) }
     ensures own { IfOk result (λ r. BeginWithOwn (script.now.threads + looper) kits.old.items r.entries) }
@@ -169,7 +176,7 @@ fn frame_record(
     for number in 0..script.threads + 3 {
         passes.push(kits[holder(script, looper, number)].next_pass())?;
     }
-    Ok(choreographer.into_kept(passes))
+    choreographer.into_whole(passes, parts)
 }
 
 /// Closes the pool, with the passes of all kits.

@@ -1,5 +1,5 @@
 -- What the calls on a screen and the steps of its dispatcher keep.
-use Rattle.std.proofs.Common.{◌≡◌, [], refl, sym, ap, ◌∙◌, subst, Some}
+use Rattle.std.proofs.Common.{◌≡◌, ℕ, ◌+◌, [], refl, sym, ap, ◌∙◌, subst, Some}
 use Rattle.std.specs.Prelude.{Result, Ok, Err, OnOk}
 use Rattle.atomic_table.specs.Seated.{TableId}
 use Rattle.loop_model.specs.declared.journal.Journal.{Journal}
@@ -56,12 +56,13 @@ module _ (queue : Shared TableId) (pool : TableId) (c : FrameShared) (frames ask
   serves_after a b same = serves_place (workplace a) (workplace b) (place_after a b same)
 
   -- a dispatcher serves what it served once a frame ran by its passes
-  pub serves_framed : (frames' asks' : FrameKnown) (w : Workplace) → frames'.table ≡ frames.table → frames'.view.constants ≡ frames.view.constants → IsFrameOf asks' c
+  pub serves_framed : (frames' asks' : FrameKnown) (w : Workplace) → frames'.table ≡ frames.table → frames'.number ≡ frames.number → frames'.view.constants ≡ frames.view.constants → IsFrameOf asks' c
       → ServesFrames queue pool c frames asks w → ServesFrames queue pool c frames' asks' w
-  serves_framed frames' asks' w table constants asking serves = record {
+  serves_framed frames' asks' w table number constants asking serves = record {
     place = serves.place;
     framing = (table ∙ serves.framing.0, constants ∙ serves.framing.1);
     asking = asking;
+    last = ap (λ (n : ℕ). n + 1) number ∙ serves.last;
     phases = serves.phases;
     seals = serves.seals;
   }

@@ -1,5 +1,5 @@
 -- What the dispatcher of a looper with frames serves, and what its steps keep.
-use Rattle.std.specs.Prelude.{◌≡◌, true}
+use Rattle.std.specs.Prelude.{◌≡◌, ◌+◌, true}
 use Rattle.atomic_table.specs.Seated.{TableId}
 use Rattle.shared_queue.specs.Known.{Shared}
 use Rattle.choreographer.specs.Known.{Shared as FrameShared, Known as FrameKnown, IsOf}
@@ -11,11 +11,12 @@ use Rattle.looper_run.specs.Tests.{IsLent}
 use Rattle.plain_loop.specs.Handling.{IsPlaceOf}
 use Rattle.frame_loop.specs.declared.dispatching.FrameHandling.{FrameHandling}
 
--- the looper is of this queue and this pool, and both passes are of the choreographer, which has five phases and lets its record go
+-- the looper is of this queue and this pool, and both passes are of the choreographer, which has five phases and lets its record go by the first of the two, its last pass
 pub record ServesFrames (queue : Shared TableId) (pool : TableId) (c : FrameShared) (frames asks : FrameKnown) (w : Workplace) : Type 0 where
   pub place : IsPlaceOf queue pool w
   pub framing : IsOf frames c
   pub asking : IsOf asks c
+  pub last : frames.number + 1 ≡ c.constants.passes
   pub phases : c.constants.phases ≡ 5
   pub seals : c.constants.seals ≡ true
 

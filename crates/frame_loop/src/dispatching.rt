@@ -1,5 +1,5 @@
 //! The dispatcher of a looper with frames.
-ghost use Rattle.std.specs.Prelude.{◌≡◌, ◌≤◌, [], IfSome, IsTrue, true, None, OnOk};
+ghost use Rattle.std.specs.Prelude.{◌≡◌, ◌+◌, ◌≤◌, [], IfSome, IsTrue, true, None, OnOk};
 ghost use Rattle.choreographer.specs.Known.{IsOf};
 ghost use Rattle.handler_post.specs.Ways.{IsReady};
 ghost use Rattle.looper_run.specs.Holding.{workplace, held, IsSameOwn};
@@ -37,7 +37,7 @@ const FRAMES: Handler = Handler {
 pub(crate) struct FrameHandling<'a, R: Wait, C: Clock, E: Recorder, H: FrameHandle<R, C, E>> {
     pub(crate) mailbox: &'a Mailbox<'a, R, C, E>,
     pub(crate) choreographer: &'a Choreographer,
-    /// The pass by which pulses are delivered and frames run.
+    /// The pass by which pulses are delivered, frames run and the record is let go: the last one.
     pub(crate) frames: FramePass,
     /// The pass by which the handlers post and remove callbacks.
     pub(crate) asks: FramePass,
@@ -99,6 +99,7 @@ impl<'a, R: Wait, C: Clock, E: Recorder, H: FrameHandle<R, C, E>> FrameHandling<
     /// Drops the part of the choreographer's record that was not dropped before. At NoMemory it stays.
     pub(crate) fn let_frames_go(&mut self) -> Handled
         requires frames { IsOf self.old.frames self.old.choreographer.now }
+        requires last { self.old.frames.number + 1 ≡ self.old.choreographer.now.constants.passes }
         requires seals { self.old.choreographer.now.constants.seals ≡ true }
         ensures drops { OnOk result (DropsFrames self.old.frames self.new.frames) }
         ensures serves { KeepsServing self.old self.new }

@@ -1,5 +1,5 @@
 //! The loop of a looper with frames.
-ghost use Rattle.std.specs.Prelude.{◌≡◌, ◌<◌, true, false, OnOk, IfOk};
+ghost use Rattle.std.specs.Prelude.{◌≡◌, ◌+◌, ◌<◌, true, false, OnOk, IfOk};
 ghost use Rattle.choreographer.specs.Known.{IsOf};
 ghost use Rattle.frame_loop.specs.FrameLooping.{FramesToItsEnd};
 ghost use Rattle.plain_loop.specs.Senders.{IsLooper};
@@ -17,18 +17,19 @@ use std::alloc::Global;
 use std::sync::Wait;
 use std::time;
 
-/// A choreographer that lets its record go, with its two passes.
+/// A choreographer that lets its record go, with its last pass, which hands the record out, and the other one.
 fn open_frames(
     alloc: Global,
     period: u64,
 ) -> Result<(Choreographer, FramePass, FramePass), NoMemory>
     requires { 0 < period }
     ensures passes { IfOk result (λ r. IsOf r.1 r.0 × IsOf r.2 r.0) }
+    ensures last { IfOk result (λ r. r.1.number + 1 ≡ r.0.constants.passes) }
     ensures constants { IfOk result (λ r. (r.0.constants.phases ≡ 5) × (r.0.constants.seals ≡ true)) }
 {
     let (choreographer, mut passes) = Choreographer::make_sealing(alloc, 0, period, PHASES, 2)?;
-    let asks = passes.pop().unwrap();
     let frames = passes.pop().unwrap();
+    let asks = passes.pop().unwrap();
     Ok((choreographer, frames, asks))
 }
 

@@ -6,8 +6,6 @@
 
 mod handler;
 mod supply;
-#[cfg(test)]
-mod tests;
 mod unhandled;
 mod values;
 mod way;

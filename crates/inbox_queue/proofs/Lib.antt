@@ -1,7 +1,6 @@
 pub mod ParcelLists
 pub mod Keeping
 pub mod Admissions
-pub mod Popped
 pub mod Silence
 pub mod TurnSteps
 pub mod Driving

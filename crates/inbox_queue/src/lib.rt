@@ -20,6 +20,3 @@ pub use parcel::Parcel;
 pub use rule::Whole;
 pub use run::{InboxRan, InboxReport, run_inbox};
 pub use sender::{InboxSender, Put};
-
-#[cfg(test)]
-mod tests;

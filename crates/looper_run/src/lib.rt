@@ -10,8 +10,6 @@ mod own;
 mod records;
 mod sources;
 mod step;
-#[cfg(test)]
-mod tests;
 
 pub use by_clock::{ByClock, Loop};
 pub use dispatcher::{Did, Dispatcher};

@@ -9,10 +9,6 @@ mod handlers;
 mod lines;
 mod mailbox;
 mod records;
-#[cfg(test)]
-mod tests;
-#[cfg(test)]
-mod while_handling;
 
 pub use beside::{loop_and_let_go, run_beside, run_here, run_looper};
 pub use frames::{Draw, Drawing, Outbox};

@@ -5,6 +5,9 @@ use Rattle.loop_model.specs.declared.record.QueueRecord.{QueueRecord}
 use Rattle.frame_phases.specs.declared.entry.FrameRecord.{FrameRecord}
 use Rattle.run_model.specs.declared.report.Report.{Report as RunReport}
 use Rattle.run_model.specs.Text as printed
+use Rattle.run_model.specs.Moments.{Mode}
+use Rattle.run_model.specs.Run.{IsRun}
+use Rattle.dash_script.specs.declared.script.Script.{Script}
 use Rattle.run_picture.specs.declared.line.Line.{Line}
 use Rattle.run_picture.specs.declared.line.Line.TheVariants.{Title, Looper, Past, Fates, Act, Frame, Run, End}
 use Rattle.run_picture.specs.Text.{Fits, IsLong, IsText, lines}
@@ -35,3 +38,8 @@ abbrev pub PrintedIsRead : Type 0
 PrintedIsRead =
     (r : RunReport) → AreCounted 0 r.queues → AllByRecursion IsFramed r.frames → AllByRecursion HasLimits (lines (seen r))
     → IsText (printed.text r) (seen r)
+
+-- the text of the report of a run of a script is the text of what the run tells, where each number is within the limits of its place
+abbrev pub ARunIsRead : Type 0
+ARunIsRead =
+    (m : Mode) (s : Script) (r : RunReport) → IsRun m s r → AllByRecursion HasLimits (lines (seen r)) → IsText (printed.text r) (seen r)

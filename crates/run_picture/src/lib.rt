@@ -26,7 +26,7 @@ mod words;
 pub use group::{Group, Place, Row, Scale, groups};
 pub use label::push_escaped;
 pub use mark::{Kind, Mark, Moment, TRAVERSAL, marks};
-pub use perfetto::perfetto_text;
+pub use perfetto::{naming, perfetto_text, put_counted, put_number, put_slice, put_text};
 pub use picture::{Form, Picture, picture_of};
 pub use reader::parse_report;
 pub use report::{Act, Fates, Frame, Looper, ParsedReport, Past, Report, Run, Subject};

@@ -24,8 +24,8 @@ fn micros(time: Moment) -> u64
         .saturating_add(time.nanos / 1000)
 }
 
-/// Adds a member that is a number.
-fn put_number(
+/// Adds a member that is a number. `NoMemory` where there was none, as with each call here.
+pub fn put_number(
     alloc: Global,
     members: &mut Map<String, Value>,
     key: &str,
@@ -38,7 +38,7 @@ fn put_number(
 }
 
 /// Adds a member that is text.
-fn put_text(
+pub fn put_text(
     alloc: Global,
     members: &mut Map<String, Value>,
     key: &str,
@@ -69,8 +69,8 @@ fn put_phase(alloc: Global, members: &mut Map<String, Value>, letter: &str) -> R
     put_text(alloc, members, "ph", String::from_str(alloc, letter)?)
 }
 
-/// Adds an argument that is a number.
-fn put_counted(
+/// Adds the event's one argument, a number of this name.
+pub fn put_counted(
     alloc: Global,
     members: &mut Map<String, Value>,
     name: &str,
@@ -127,8 +127,12 @@ fn moment_members(alloc: Global, mark: &Mark) -> Result<Map<String, Value>, NoMe
     Ok(members)
 }
 
-/// A slice that lasts so many microseconds.
-fn put_slice(alloc: Global, members: &mut Map<String, Value>, lasts: u64) -> Result<(), NoMemory>
+/// Makes the event a slice that lasts so many microseconds.
+pub fn put_slice(
+    alloc: Global,
+    members: &mut Map<String, Value>,
+    lasts: u64,
+) -> Result<(), NoMemory>
     ensures { OnOk result (members_view members.new.entries ≡ slice lasts (members_view members.old.entries)) }
 {
     put_phase(alloc, members, "X")?;
@@ -185,9 +189,9 @@ fn push_events(
     Ok(())
 }
 
-/// What names something.
+/// The event that names something of process 1: `what` is `process_name` or `thread_name`.
 #[tactic(auto, unfolding(crate::specs::Events::naming))]
-fn naming(alloc: Global, what: &str, name: String) -> Result<Map<String, Value>, NoMemory>
+pub fn naming(alloc: Global, what: &str, name: String) -> Result<Map<String, Value>, NoMemory>
     ensures { IfOk result (λ members. members_view members.entries ≡ naming what.now (string_bytes name)) }
 {
     let mut members = Map::new(alloc);

@@ -1,10 +1,12 @@
-//! The tests of the crates over scripts, reports and values.
+//! The tests of the crates over scripts, reports, pictures and values.
 #![tactic(auto)]
 
 #[cfg(test)]
 mod animators;
 #[cfg(test)]
 mod countdowns;
+#[cfg(test)]
+mod pictures;
 #[cfg(test)]
 mod plans;
 #[cfg(test)]

@@ -1,11 +1,9 @@
 //! The program `dashboard` with a gate at which threads are held up by chance, for stress.
 #![tactic(auto)]
 
-mod gate;
-
 use dashboard_cli::{Status, dashboard, status_text};
-use gate::ShakenGate;
 use loop_io::{StdClock, StdSink, StdSource};
+use shaken_gate::ShakenGate;
 use std::process::ExitCode;
 use std::{env, io};
 

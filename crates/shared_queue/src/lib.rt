@@ -24,6 +24,3 @@ pub use rule::OneTurn;
 pub use traits::Traits;
 pub use view::{QueueKey, View};
 pub use waiting::Waited;
-
-#[cfg(test)]
-mod tests;

@@ -1,11 +1,10 @@
-//! The program: a report on standard input becomes a picture on standard output.
+//! The program: a report or a trace on standard input becomes a picture on standard output.
 #![tactic(auto)]
 
-#[cfg(test)]
-mod tests;
 mod words;
 
 use crate::words::{Asked, LEAST_WIDTH, MOST_WIDTH, Request, read_words};
+use run_flows::flows_of;
 use run_page::page_of;
 use run_picture::{Form, Picture, picture_of};
 use std::alloc::Global;
@@ -30,7 +29,7 @@ fn main(rt: HostRuntime) -> ExitCode {
     // Where standard error is closed, the exit status still tells.
     let _ = match failure {
         Failure::Usage => eprintln!(rt;
-            "timeline: usage: timeline svg [FROM TO] [--width PIXELS] [--title TITLE] | timeline html [--title TITLE] | timeline perfetto\ntimeline: FROM is less than TO, both in milliseconds; PIXELS are from {LEAST_WIDTH} to {MOST_WIDTH}"
+            "timeline: usage: timeline svg [FROM TO] [--width PIXELS] [--title TITLE] | timeline html [--title TITLE] | timeline perfetto | timeline flows\ntimeline: FROM is less than TO, both in milliseconds; PIXELS are from {LEAST_WIDTH} to {MOST_WIDTH}"
         ),
         Failure::Bad(line) => eprintln!(rt; "timeline: line {line}"),
         Failure::Read => eprintln!(rt; "timeline: read fault"),
@@ -40,7 +39,7 @@ fn main(rt: HostRuntime) -> ExitCode {
     ExitCode::from(code_of(failure))
 }
 
-/// Reads a report and writes its picture; where there is none, nothing is written.
+/// Reads a report or a trace and writes its picture; where there is none, nothing is written.
 fn answer(rt: &HostRuntime) -> Result<(), Failure> {
     let words: Vec<String> = match env::args(rt) {
         Ok(words) => words
@@ -72,6 +71,7 @@ fn drawn(alloc: Global, request: Request, bytes: &[u8]) -> Picture {
         Asked::Svg(view) => picture_of(alloc, Form::Svg(view), title, bytes),
         Asked::Perfetto => picture_of(alloc, Form::Perfetto, title, bytes),
         Asked::Html => page_of(alloc, title, bytes),
+        Asked::Flows => flows_of(alloc, bytes),
     }
 }
 

@@ -16,6 +16,7 @@ pub(crate) enum Asked {
     Svg(View),
     Html,
     Perfetto,
+    Flows,
 }
 
 /// What the program is asked for.
@@ -126,10 +127,11 @@ fn html_of(words: &[String]) -> Option<Request> {
     })
 }
 
-fn perfetto_of(words: &[String]) -> Option<Request> {
+/// A form that takes no words.
+fn plain(asked: Asked, words: &[String]) -> Option<Request> {
     if words.is_empty() {
         Some(Request {
-            asked: Asked::Perfetto,
+            asked,
             title: USUAL_TITLE,
         })
     } else {
@@ -143,7 +145,8 @@ pub(crate) fn read_words(words: &[String]) -> Option<Request> {
     match first.as_str() {
         "svg" => svg_of(rest),
         "html" => html_of(rest),
-        "perfetto" => perfetto_of(rest),
+        "perfetto" => plain(Asked::Perfetto, rest),
+        "flows" => plain(Asked::Flows, rest),
         _ => None,
     }
 }

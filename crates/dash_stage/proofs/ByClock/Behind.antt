@@ -28,7 +28,7 @@ use Rattle.dash_threads.specs.declared.thread.PostingThread.{PostingThread}
 use Rattle.dash_threads.specs.Threads.{ThreadKeeps}
 use Rattle.dash_stage.specs.declared.control.Controller.{Controller}
 use Rattle.dash_stage.specs.declared.stage.Stage.{Stage}
-use Rattle.dash_stage.specs.BehindThreads.{SeesMore, HasHeardThreads, HasMadeAll, CallsBehind, CallsBehindThreads}
+use Rattle.dash_stage.specs.BehindThreads.{SeesMore, HasHeardThreads, HasMadeAll, CallsBehindThreads}
 use Rattle.dash_stage.specs.ByClock.{RunsByClock, MayQuit, EachIsThread}
 use Rattle.dash_stage.specs.Controllers.{IsControllerIn, CallsNothingOn}
 use Rattle.dash_stage.specs.GivingUp.{rings, HaveBeenRung}
@@ -148,14 +148,15 @@ module _ (n : ℕ) (us vs : List PostingThread) (b c : Controller) (p p' : Sende
       subst (λ (l : List Entry). OfThreads (AreKnown q l) vs) (sym there) (known_still q (whole_on b q d) us vs kept (heard q d (omega (arith, below, apart)) (omega (arith, lt, long)))))
 
   -- and its other posters are as they were
-  pub hears_kept : (a : Controller) → c.kit.pass ≡ b.kit.pass → c.kit.frames ≡ b.kit.frames → c.sealed ≡ b.sealed → HasHeard p p' → ControllerKeeps HaveHeard a b → ControllerKeeps HaveHeard a c
-  hears_kept a pass frames sealed heard k =
+  pub hears_kept : (a : Controller) → c.kit.pass ≡ b.kit.pass → c.kit.frames ≡ b.kit.frames → c.sealed ≡ b.sealed → c.sealed_frames ≡ b.sealed_frames → HasHeard p p' → ControllerKeeps HaveHeard a b → ControllerKeeps HaveHeard a c
+  hears_kept a pass frames sealed sealed_frames heard k =
       let one = have_heard n p'.view.seen b.kit.posters.items (set b.kit.posters.items n p') (heard_at b.kit.posters.items n p p' p'.view.seen within is_p heard refl) in
       record {
         posters = have_heard_then a.kit.posters.items b.kit.posters.items c.kit.posters.items k.posters (subst (HaveHeard b.kit.posters.items) (sym wrote) one);
         pass = pass ∙ k.pass;
         frames = frames ∙ k.frames;
         sealed = sealed ∙ k.sealed;
+        sealed_frames = sealed_frames ∙ k.sealed_frames;
       }
 
 -- ---- the threads' calls come first

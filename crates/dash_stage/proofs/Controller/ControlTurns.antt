@@ -58,7 +58,7 @@ reached_on c i p within is_p time first reached =
 
 -- the controller with another poster at one place, and another pass
 abbrev pub with_poster : Controller → ℕ → Sender → Tally → Controller
-with_poster c i p pass = record { kit = record { posters = with_item c.kit.posters i p; pass = pass; frames = c.kit.frames }; sealed = c.sealed }
+with_poster c i p pass = record { kit = record { posters = with_item c.kit.posters i p; pass = pass; frames = c.kit.frames }; sealed = c.sealed; sealed_frames = c.sealed_frames }
 
 module _ (c : Controller) (i : ℕ) (p p' : Sender) (pass : Tally) (within : i < length c.kit.posters.items) (is_p : p ≡ slice_index_or c.kit.posters.items i p) where
   same_count : length (with_poster c i p' pass).kit.posters.items ≡ length c.kit.posters.items

@@ -1,9 +1,6 @@
 -- The controller's posters and passes, and what its calls leave of them.
-use Rattle.std.proofs.Common.{◌≡◌, ◌<◌, ◌+◌, ℕ, [], ◌++◌, length, drop, set, get_or, append-nil, sym, ap, ◌∙◌, subst, arith, Bool}
+use Rattle.std.proofs.Common.{◌≡◌, ◌<◌, ◌+◌, ℕ, [], ◌++◌, length, drop, set, append-nil, sym, ap, ◌∙◌, subst, arith, Bool}
 use Rattle.std.proofs.Math.Seq.{map-set_same}
-use Rattle.std.proofs.lemmas.List.{get_or-set_same, get_or-set_other, length-set}
-use mathlib.Core.Logic.{dite}
-use native.Mathlib.Decide.{ℕ_discrete}
 use Rattle.choreographer.proofs.Counting.{drop_prefix}
 use Rattle.std.specs.Prelude.{slice_index_or}
 use Rattle.std.specs.Vec.{vec_len, with_item}
@@ -20,7 +17,9 @@ use Rattle.run_model.specs.Senders.{controller}
 use Rattle.dash_hall.specs.declared.hall.Hall.{Hall}
 use Rattle.dash_stage.specs.declared.control.Controller.{Controller}
 use Rattle.dash_hall.specs.Kits.{badge_of, badge_for, frame_badge_of, frame_badge_for, IsHall}
+use Rattle.choreographer.proofs.Handing.{hands_same}
 use Rattle.dash_stage.specs.Controllers.{IsControllerIn, handed_out, parts_in}
+use Rattle.dash_stage.proofs.Controller.FrameLists.{handed_same, idle_kept}
 use Rattle.dash_hall.proofs.Badges.{alike_length, queue_count, choreographer_count, poster_is, pass_is, queue_is, posters_kept, passes_kept, turn_badge, gone_badge, frame_turn_badge}
 
 -- the controller has a poster for each looper
@@ -75,7 +74,7 @@ module _ (s : Script) (hall : Hall) (h : IsHall s hall) (i : ℕ) (lt : i < s.lo
 
     -- a call of one of its posters, with its pass of the pool, leaves it the controller
     pub after_call : (p p' : Sender) (pass' : Tally) → p ≡ slice_index_or c.kit.posters.items i p → GoesOn p p' c.kit.pass pass'
-        → IsControllerIn lockstep s hall (record { kit = record { posters = with_item c.kit.posters i p'; pass = pass'; frames = c.kit.frames }; sealed = c.sealed })
+        → IsControllerIn lockstep s hall (record { kit = record { posters = with_item c.kit.posters i p'; pass = pass'; frames = c.kit.frames }; sealed = c.sealed; sealed_frames = c.sealed_frames })
     after_call p p' pass' is_p on = record {
       posters = posters_kept (controller s) hall.queues.items c.kit.posters.items k.posters i p' p (gone_badge p p' c.kit.pass pass' on ∙ ap badge_of is_p);
       frames = k.frames;
@@ -83,11 +82,12 @@ module _ (s : Script) (hall : Hall) (h : IsHall s hall) (i : ℕ) (lt : i < s.lo
       mode = k.mode;
       idle = k.idle;
       sealed = parts_kept p p' is_p on.sealed;
+      sealed_frames = k.sealed_frames;
     }
 
     -- a turn of one of its posters leaves it the controller
     pub after_turn : (p p' : Sender) (x y : State) → p ≡ slice_index_or c.kit.posters.items i p → IsTurn p p' x y
-        → IsControllerIn lockstep s hall (record { kit = record { posters = with_item c.kit.posters i p'; pass = c.kit.pass; frames = c.kit.frames }; sealed = c.sealed })
+        → IsControllerIn lockstep s hall (record { kit = record { posters = with_item c.kit.posters i p'; pass = c.kit.pass; frames = c.kit.frames }; sealed = c.sealed; sealed_frames = c.sealed_frames })
     after_turn p p' x y is_p t = record {
       posters = posters_kept (controller s) hall.queues.items c.kit.posters.items k.posters i p' p (turn_badge p p' x y t ∙ ap badge_of is_p);
       frames = k.frames;
@@ -95,28 +95,27 @@ module _ (s : Script) (hall : Hall) (h : IsHall s hall) (i : ℕ) (lt : i < s.lo
       mode = k.mode;
       idle = k.idle;
       sealed = parts_kept p p' is_p t.sealed;
+      sealed_frames = k.sealed_frames;
     }
 
     -- and so does a turn of one of its passes that changes nothing
     pub after_frame_turn : (p p' : Pass) (x : Kept) → p ≡ slice_index_or c.kit.frames.items i p → IsFrameTurn p p' x x
-        → IsControllerIn lockstep s hall (record { kit = record { posters = c.kit.posters; pass = c.kit.pass; frames = with_item c.kit.frames i p' }; sealed = c.sealed })
+        → IsControllerIn lockstep s hall (record { kit = record { posters = c.kit.posters; pass = c.kit.pass; frames = with_item c.kit.frames i p' }; sealed = c.sealed; sealed_frames = c.sealed_frames })
     after_frame_turn p p' x is_p t = record {
       posters = k.posters;
       frames = passes_kept (s.threads + 2) hall.choreographers.items c.kit.frames.items k.frames i p' p (frame_turn_badge p p' x x t ∙ ap frame_badge_of is_p);
       pass = k.pass;
       mode = k.mode;
       sealed = k.sealed;
-      idle = λ q d below. dite (ℕ_discrete q i)
-          (λ here. ap (λ m. (get_or (set c.kit.frames.items i p') m d).view.own) here ∙ (ap (λ (z : Pass). z.view.own) (get_or-set_same c.kit.frames.items i p' d has_pass) ∙ still))
-          (λ there. ap (λ (z : Pass). z.view.own) (get_or-set_other c.kit.frames.items i q p' d there)
-          ∙ k.idle q d (let same = length-set c.kit.frames.items i p' in omega (arith, below, same)));
+      sealed_frames = handed_same c.kit.frames.items c.sealed_frames.items i p p' is_p has_pass (λ entries. hands_same p p' x x t (omega arith) entries) k.sealed_frames;
+      idle = idle_kept c.kit.frames.items i p p' is_p has_pass still k.idle;
     }
       where
         has_pass : i < length c.kit.frames.items
         has_pass = subst (λ n. i < n) (sym pass_count) lt
 
-        still : p'.view.own ≡ []
+        still : p'.view.own ≡ p.view.own
         still =
             let es = x.frames.entries in
             let none : drop (length es) es ≡ [] = drop_prefix es [] es (append-nil es) in
-            t.own ∙ (ap (λ l. p.view.own ++ l) none ∙ (append-nil p.view.own ∙ (ap (λ (z : Pass). z.view.own) is_p ∙ k.idle i p has_pass)))
+            t.own ∙ (ap (λ l. p.view.own ++ l) none ∙ append-nil p.view.own)

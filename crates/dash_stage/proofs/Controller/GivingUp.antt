@@ -29,13 +29,14 @@ module _ (xs : List Sender) (i : ℕ) (p p' : Sender) (within : i < length xs) (
 
 -- a poster of the controller that called nothing, and handed nothing out, leaves it the controller
 pub after_bell : {lockstep : Bool} (s : Script) (hall : Hall) (i : ℕ) (c : Controller) (p p' : Sender) → IsControllerIn lockstep s hall c → p ≡ slice_index_or c.kit.posters.items i p → IsSamePoster p p'
-    → IsControllerIn lockstep s hall (record { kit = record { posters = with_item c.kit.posters i p'; pass = c.kit.pass; frames = c.kit.frames }; sealed = c.sealed })
+    → IsControllerIn lockstep s hall (record { kit = record { posters = with_item c.kit.posters i p'; pass = c.kit.pass; frames = c.kit.frames }; sealed = c.sealed; sealed_frames = c.sealed_frames })
 after_bell s hall i c p p' k is_p same = record {
   posters = posters_kept (controller s) hall.queues.items c.kit.posters.items k.posters i p' p ((λ j. record { table = same.table j; constants = same.constants j; sender = same.sender j }) ∙ ap badge_of is_p);
   frames = k.frames;
   pass = k.pass;
   mode = k.mode;
   idle = k.idle;
+  sealed_frames = k.sealed_frames;
   sealed = map-set_same (λ (z : Sender). z.view.sealed) c.kit.posters.items i p' p (same.sealed ∙ ap (λ (z : Sender). z.view.sealed) is_p) ∙ k.sealed;
 }
 

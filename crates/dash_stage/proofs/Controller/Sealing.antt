@@ -57,7 +57,7 @@ module _ (s : Script) (hall : Hall) (h : IsHall s hall) (i : ℕ) (lt : i < s.lo
 
   -- the controller then
   abbrev pub after_hands : Controller
-  after_hands = record { kit = record { posters = with_item c.kit.posters i p'; pass = c.kit.pass; frames = c.kit.frames }; sealed = with_item c.sealed i v' }
+  after_hands = record { kit = record { posters = with_item c.kit.posters i p'; pass = c.kit.pass; frames = c.kit.frames }; sealed = with_item c.sealed i v'; sealed_frames = c.sealed_frames }
 
   -- what the poster had handed out stands in its list
   kept_here : p.view.sealed ≡ v.items
@@ -77,6 +77,7 @@ module _ (s : Script) (hall : Hall) (h : IsHall s hall) (i : ℕ) (lt : i < s.lo
     pass = k.pass;
     mode = k.mode;
     idle = k.idle;
+    sealed_frames = k.sealed_frames;
     sealed = map-set (λ (z : Sender). z.view.sealed) c.kit.posters.items i p' ∙ (λ j. set (k.sealed j) i (out.parts kept_here j)) ∙ sym (map-set (λ (z : Vec Segment). z.items) c.sealed.items i v');
   }
 

@@ -175,7 +175,7 @@ module _ (s : Script) (looper : ℕ) (c : Frames) (number : ℕ) (orig : List Ki
       ∙ (ap (λ j. get_or (get_or orig j d).frames.items (length (given s looper c j 0 (s.threads + i))) p) (looper_holds s looper (s.threads + i) (omega arith) (omega (arith, small)))
       ∙ ap (λ m. get_or (get_or orig (s.threads + looper) d).frames.items m p) (given_mine s looper c (s.threads + looper) i refl small))
 
-  last_taken : (d : Kit) (p : Pass) → looper < s.loopers → get_or passes (s.threads + 2) p ≡ get_or (get_or orig (s.threads + s.loopers) d).frames.items 0 p
+  pub last_taken : (d : Kit) (p : Pass) → looper < s.loopers → get_or passes (s.threads + 2) p ≡ get_or (get_or orig (s.threads + s.loopers) d).frames.items 0 p
   last_taken d p few =
       taken.placed (s.threads + 2) d p (omega (arith, all))
       ∙ (ap (λ j. get_or (get_or orig j d).frames.items (length (given s looper c j 0 (s.threads + 2))) p) (controller_holds s looper (s.threads + 2) (omega arith))

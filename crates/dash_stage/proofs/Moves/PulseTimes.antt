@@ -37,7 +37,7 @@ asked_comes s hall h i lt f is_f stamp time t pulse rounded is = record {
 -- where the controller's pass of a looper's choreographer found by one turn what is asked for there, it looked for that looper's pulse
 pub looked : (s : Script) (hall : Hall) → IsHall s hall → (i : ℕ) → i < s.loopers → (c : Controller) → IsController s hall c
     → (p p' : Pass) (stamp pulse : Option ℕ) → p ≡ slice_index_or c.kit.frames.items i p → AskedBy p p' stamp
-    → pulse ≡ option_map millis_up stamp → LooksFor i c (record { kit = record { posters = c.kit.posters; pass = c.kit.pass; frames = with_item c.kit.frames i p' }; sealed = c.sealed }) pulse
+    → pulse ≡ option_map millis_up stamp → LooksFor i c (record { kit = record { posters = c.kit.posters; pass = c.kit.pass; frames = with_item c.kit.frames i p' }; sealed = c.sealed; sealed_frames = c.sealed_frames }) pulse
 looked s hall h i lt c k p p' stamp pulse is_p asked rounded =
     let ps = c.kit.frames.items in
     let has_pass : i < length ps = subst (λ n. i < n) (sym (pass_count s hall h i lt c k)) lt in record {

@@ -7,6 +7,7 @@ use Rattle.std.proofs.lemmas.Bool.{lt-ltb, le-ltb}
 use Rattle.std.proofs.lemmas.List.{length-append, map-append}
 use Rattle.loop_model.specs.declared.journal.Journal.{Journal}
 use Rattle.loop_model.specs.declared.segment.Segment.{Segment}
+use Rattle.frame_phases.specs.declared.entry.FrameEntry.{FrameEntry}
 use Rattle.looper_run.specs.Holding.{Sender}
 use Rattle.dash_script.specs.declared.script.Script.{Script}
 use Rattle.choreographer.specs.Known.{Shared as Frames}
@@ -21,7 +22,8 @@ use Rattle.dash_threads.specs.Threads.{IsThread}
 use Rattle.dash_loopers.specs.Loopers.{IsLooper}
 use Rattle.dash_stage.specs.Controllers.{handed_out, parts_in, IsControllerIn}
 use Rattle.dash_stage.specs.Stages.{AreKitsFrom, AreThreadsFrom, AreLoopersFrom, AreFirstKits, AreFirstLoopers, AreLoopers, AreSenderKits}
-use Rattle.dash_hall.proofs.Badges.{alike_length, queue_count}
+use Rattle.dash_hall.proofs.Badges.{alike_length, queue_count, choreographer_count}
+use Rattle.dash_stage.proofs.Controller.FrameLists.{nothing_handed_out}
 use Rattle.dash_stage.proofs.Ends.HallEnds.{numbers_more}
 
 -- a thread's passes
@@ -41,14 +43,14 @@ nothing_handed [] none = refl
 nothing_handed (p ∷ ps) none = λ i. none 0 p (omega arith) i ∷ nothing_handed ps (λ q d lt. none (suc q) d (omega (arith, lt))) i
 
 -- one more of the same
-same_more : (n : ℕ) (e : List Segment) → replicate n e ++ e ∷ [] ≡ replicate (n + 1) e
+same_more : {A : Type 0} (n : ℕ) (e : List A) → replicate n e ++ e ∷ [] ≡ replicate (n + 1) e
 same_more zero e = refl
 same_more (suc n) e = ap (λ l. e ∷ l) (same_more n e) ∙ (let one : suc (n + 1) ≡ suc n + 1 = omega arith in ap (λ m. replicate m e) one)
 
 -- one empty list more
-pub nothing_more : (n : ℕ) (lists : List (Vec Segment)) (v : Vec Segment) → parts_in lists ≡ replicate n [] → v.items ≡ [] → parts_in (lists ++ v ∷ []) ≡ replicate (n + 1) []
-nothing_more n lists v none empty =
-    map-append (λ (z : Vec Segment). z.items) lists (v ∷ []) ∙ ((λ i. none i ++ empty i ∷ []) ∙ same_more n [])
+pub nothing_more : {A : Type 0} (n : ℕ) (lists : List (Vec A)) (v : Vec A) → parts_in lists ≡ replicate n [] → v.items ≡ [] → parts_in (lists ++ v ∷ []) ≡ replicate (n + 1) []
+nothing_more {A} n lists v none empty =
+    map-append (λ (z : Vec A). z.items) lists (v ∷ []) ∙ ((λ i. none i ++ empty i ∷ []) ∙ same_more n [])
 
 module _ (s : Script) (hall : Hall) where
   -- a thread with the kit of its number
@@ -70,8 +72,9 @@ module _ (s : Script) (hall : Hall) where
       }
 
   -- the controller with the last kit
-  pub controller_of : {lockstep : Bool} → hall.lockstep ≡ lockstep → (kit : Kit) (lists : Vec (Vec Segment)) → IsHall s hall → IsKitOf s hall (controller s) kit → IsUnusedKit kit → parts_in lists.items ≡ replicate s.loopers [] → IsControllerIn lockstep s hall (record { kit = kit; sealed = lists })
-  controller_of mode kit lists h is unused none = record {
+  pub controller_of : {lockstep : Bool} → hall.lockstep ≡ lockstep → (kit : Kit) (lists : Vec (Vec Segment)) (frames : Vec (Vec (List FrameEntry))) → IsHall s hall → IsKitOf s hall (controller s) kit → IsUnusedKit kit → parts_in lists.items ≡ replicate s.loopers []
+      → parts_in frames.items ≡ replicate s.loopers [] → IsControllerIn lockstep s hall (record { kit = kit; sealed = lists; sealed_frames = frames })
+  controller_of mode kit lists frames h is unused none no_frames = record {
     posters = is.posters;
     mode = mode;
     frames = is.frames ∙ frames_of_controller s hall.choreographers.items;
@@ -80,6 +83,11 @@ module _ (s : Script) (hall : Hall) where
     sealed = nothing_handed kit.posters.items unused.sealed
         ∙ (ap (λ n. replicate n []) (alike_length badge_of (badge_for (controller s)) kit.posters.items hall.queues.items is.posters ∙ queue_count hall.lockstep s hall.pool hall.queues.items h.queues)
         ∙ sym none);
+    sealed_frames = nothing_handed_out kit.frames.items frames.items
+        (no_frames
+        ∙ ap (λ n. replicate n [])
+        (sym (alike_length frame_badge_of (frame_badge_for (s.threads + 2)) kit.frames.items hall.choreographers.items (is.frames ∙ frames_of_controller s hall.choreographers.items) ∙ choreographer_count s hall.choreographers.items h.choreographers)))
+        unused.handed;
   }
 
   pub kit_of_controller : {lockstep : Bool} (c : Controller) → IsControllerIn lockstep s hall c → IsKitOf s hall (controller s) c.kit

@@ -1,10 +1,12 @@
 -- A stage whose senders hear each other, queue after queue.
 use Rattle.std.proofs.Common.{◌≡◌, ℕ, Bool, ◌+◌, ◌<◌, ◌≤◌, List, [], map, length, get_or, refl, sym, ap, ◌∙◌, subst, arith}
+use Rattle.std.specs.Global.{Vec}
 use Rattle.std.proofs.lemmas.List.{get_or_past}
 use mathlib.Core.Logic.{dite}
 use native.Mathlib.Decide.{ℕ_discrete, dec_lt}
 use Rattle.atomic_table.specs.Seated.{TableId}
 use Rattle.loop_model.specs.declared.entry.Entry.{Entry}
+use Rattle.frame_phases.specs.declared.entry.FrameEntry.{FrameEntry}
 use Rattle.dash_script.specs.declared.script.Script.{Script}
 use Rattle.dash_script.specs.declared.script.Block.{Block}
 use Rattle.shared_queue.specs.Known.{Shared, IsOf}
@@ -21,7 +23,7 @@ use Rattle.dash_stage.specs.declared.control.Controller.{Controller}
 use Rattle.dash_stage.specs.declared.stage.Stage.{Stage}
 use Rattle.dash_hall.specs.Growth.{own}
 use Rattle.dash_hall.specs.Kits.{badge_of, badge_for, frame_badge_of, IsHall, ArePostersOf}
-use Rattle.dash_stage.specs.Controllers.{IsControllerIn, CallsNone, parts_in}
+use Rattle.dash_stage.specs.Controllers.{IsControllerIn, CallsNone, HaveHandedOut, parts_in}
 use Rattle.dash_stage.specs.Stages.{AreThreads, AreLoopers, IsStageIn, HaveRunBy, OthersHaveEnded}
 use Rattle.dash_hall.specs.Hearing.{HaveHeard, HaveHeardAt, AtEach, AreReady, HaveSeenAt}
 use Rattle.dash_stage.specs.Sharing.{HaveSeenTheSame, ControllerKeeps, StageKeeps, OfThreads, OfLoopers, OfSenders, AreWithin, SharesAt}
@@ -41,6 +43,7 @@ controller_kept s hall a b k is = record {
   pass = ap (λ t. t.home) k.pass ∙ is.pass;
   mode = is.mode;
   sealed = heard_parts a.kit.posters.items b.kit.posters.items k.posters ∙ (is.sealed ∙ ap (λ v. parts_in v.items) (sym k.sealed));
+  sealed_frames = subst (λ (z : List Pass × List (Vec (List FrameEntry))). HaveHandedOut z.0 z.1) (λ i. ((sym k.frames i).items, (sym k.sealed_frames i).items)) is.sealed_frames;
   idle = subst (λ (fs : List Pass). (q : ℕ) (p : Pass) → q < length fs → (get_or fs q p).view.own ≡ []) (sym (ap (λ v. v.items) k.frames)) is.idle;
 }
 
@@ -108,7 +111,7 @@ stage_self a = record {
   hall = refl;
   threads = each_self (ThreadKeeps HaveHeard) a.threads.items (thread_self HaveHeard have_heard_self);
   loopers = each_self (LooperKeeps HaveHeard) a.loopers.items (looper_self HaveHeard have_heard_self);
-  controller = record { posters = have_heard_self a.controller.kit.posters.items; pass = refl; frames = refl; sealed = refl };
+  controller = record { posters = have_heard_self a.controller.kit.posters.items; pass = refl; frames = refl; sealed = refl; sealed_frames = refl };
   pass = refl;
   time = refl;
 }
@@ -121,7 +124,7 @@ stage_weaker place whole a b k =
       hall = k.hall;
       threads = each_weaker (ThreadKeeps (HaveHeardAt place whole)) (ThreadKeeps HaveHeard) a.threads.items b.threads.items (thread_weaker (HaveHeardAt place whole) HaveHeard h) k.threads;
       loopers = each_weaker (LooperKeeps (HaveHeardAt place whole)) (LooperKeeps HaveHeard) a.loopers.items b.loopers.items (looper_weaker (HaveHeardAt place whole) HaveHeard h) k.loopers;
-      controller = record { posters = h a.controller.kit.posters.items b.controller.kit.posters.items k.controller.posters; pass = k.controller.pass; frames = k.controller.frames; sealed = k.controller.sealed };
+      controller = record { posters = h a.controller.kit.posters.items b.controller.kit.posters.items k.controller.posters; pass = k.controller.pass; frames = k.controller.frames; sealed = k.controller.sealed; sealed_frames = k.controller.sealed_frames };
       pass = k.pass;
       time = k.time;
     }
@@ -139,6 +142,7 @@ stage_then a b c f g =
         pass = g.controller.pass ∙ f.controller.pass;
         frames = g.controller.frames ∙ f.controller.frames;
         sealed = g.controller.sealed ∙ f.controller.sealed;
+        sealed_frames = g.controller.sealed_frames ∙ f.controller.sealed_frames;
       };
       pass = g.pass ∙ f.pass;
       time = g.time ∙ f.time;

@@ -1,4 +1,4 @@
-use Rattle.std.proofs.Common.{rules, ◌<◌, length, sym, subst}
+use Rattle.std.proofs.Common.{rules, ◌<◌, length, subst}
 use Rattle.run_model.specs.Moments.{Mode, in_free_mode}
 use Rattle.dash_stage.specs.ByClock.{EachRuns}
 use Rattle.dash_stage.proofs.ByClock.Behind.{runs_kept, behind_first}

@@ -24,11 +24,20 @@ use Rattle.dash_stage.proofs.Ends.TimelyRecords.{kit_more, first_of_records, rea
 use Rattle.dash_stage.proofs.ByClock.Behind.{quits_behind}
 use Rattle.dash_stage.proofs.Moves.MovesRecords.{moves_of_records}
 use Rattle.dash_stage.proofs.Controller.SealedEnds.{all_sealed}
+use Rattle.dash_stage.proofs.Controller.FrameEnds.{all_frames_sealed}
 use Rattle.dash_stage.proofs.kept.kept.Goals as goal
+
+pub records-requires-clause-kits : goal.records-requires-clause-kits
+records-requires-clause-kits c =
+    all_kits c.args.script.now c.args.stage.hall c.looper_kits.new.kits.items c.push.new.self.items c.args.stage.controller c.in_ok-journals.ensures.kits c.requires.stage.controller c.in_ok-push.ensures.items
 
 pub records-requires-clause-sealed : goal.records-requires-clause-sealed
 records-requires-clause-sealed c =
     all_sealed c.looper_kits.new.kits.items c.push.new.self.items c.args.stage.controller c.in_ok-push.ensures.items c.requires.stage.controller.sealed
+
+pub records-requires-clause-sealed_frames : goal.records-requires-clause-sealed_frames
+records-requires-clause-sealed_frames c =
+    all_frames_sealed c.looper_kits.new.kits.items c.push.new.self.items c.args.stage.controller c.in_ok-push.ensures.items c.requires.stage.controller.sealed_frames
 
 pub returns : goal.returns
 returns c =

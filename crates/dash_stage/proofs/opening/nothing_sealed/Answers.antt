@@ -4,5 +4,5 @@ use Rattle.dash_stage.proofs.Sharing.Casting.{nothing_more}
 use Rattle.dash_stage.proofs.opening.nothing_sealed.Goals as goal
 
 pub loop-looper-preserved : goal.loop-looper-preserved
-loop-looper-preserved c =
+loop-looper-preserved g c =
     ap parts_in c.in_ok-push.ensures.items ∙ nothing_more c.loop-looper.looper c.loop-looper.sealed.items c.new.result c.loop-looper.invariant c.new.ensures.items

@@ -15,19 +15,22 @@ returns-clause-stage c =
       hall = c.in_ok-hall.ensures.hall;
       threads = c.in_ok-threads.ensures.threads;
       loopers = c.in_ok-loopers.ensures.loopers;
-      controller = controller_of c.args.script.now c.in_ok-hall.hall c.in_ok-hall.ensures.mode c.remove.result c.in_ok-sealed.sealed c.in_ok-hall.ensures.hall last.1 last.0 c.in_ok-sealed.ensures;
+      controller = controller_of c.args.script.now c.in_ok-hall.hall c.in_ok-hall.ensures.mode c.remove.result c.in_ok-sealed.sealed c.in_ok-sealed_frames.sealed_frames c.in_ok-hall.ensures.hall last.1 last.0 c.in_ok-sealed.ensures c.in_ok-sealed_frames.ensures;
       pass = c.in_ok-hall.ensures.pass;
     }
+
+pub returns-clause-begun : goal.returns-clause-begun
+returns-clause-begun c m = c.in_ok-threads.ensures.begun m
 
 pub returns-clause-moving : goal.returns-clause-moving
 returns-clause-moving c =
     let last = last_kit c.args.script.now c.in_ok-hall.hall c.loopers.new.kits.items c.remove.result c.remove.ensures.value c.in_ok-loopers.ensures.kits c.in_ok-loopers.ensures.unused in
-    unused_moves c.args.script.now (record { kit = c.remove.result; sealed = c.in_ok-sealed.sealed }) last.0
+    unused_moves c.args.script.now (record { kit = c.remove.result; sealed = c.in_ok-sealed.sealed; sealed_frames = c.in_ok-sealed_frames.sealed_frames }) last.0
 
 pub returns-clause-by : goal.returns-clause-by
 returns-clause-by c =
     let last = last_kit c.args.script.now c.in_ok-hall.hall c.loopers.new.kits.items c.remove.result c.remove.ensures.value c.in_ok-loopers.ensures.kits c.in_ok-loopers.ensures.unused in
-    (unused_by 0 (record { kit = c.remove.result; sealed = c.in_ok-sealed.sealed }) last.0, refl)
+    (unused_by 0 (record { kit = c.remove.result; sealed = c.in_ok-sealed.sealed; sealed_frames = c.in_ok-sealed_frames.sealed_frames }) last.0, refl)
 
 pub returns-clause-timely : goal.returns-clause-timely
 returns-clause-timely c =
@@ -37,13 +40,13 @@ returns-clause-timely c =
 pub returns-clause-rested : goal.returns-clause-rested
 returns-clause-rested c =
     let last = last_kit c.args.script.now c.in_ok-hall.hall c.loopers.new.kits.items c.remove.result c.remove.ensures.value c.in_ok-loopers.ensures.kits c.in_ok-loopers.ensures.unused in
-    let st : Stage = record { hall = c.in_ok-hall.hall; threads = c.in_ok-threads.threads; loopers = c.in_ok-loopers.loopers; controller = record { kit = c.remove.result; sealed = c.in_ok-sealed.sealed }; pass = c.in_ok-hall.pass; time = 0 } in
+    let st : Stage = record { hall = c.in_ok-hall.hall; threads = c.in_ok-threads.threads; loopers = c.in_ok-loopers.loopers; controller = record { kit = c.remove.result; sealed = c.in_ok-sealed.sealed; sealed_frames = c.in_ok-sealed_frames.sealed_frames }; pass = c.in_ok-hall.pass; time = 0 } in
     begins_rested c.args.script.now st _ c.in_ok-hall.ensures.hall c.in_ok-loopers.ensures.loopers last.1.posters last.0.posters c.in_ok-loopers.ensures.waits
 
 pub returns-clause-step : goal.returns-clause-step
 returns-clause-step c =
     let last = last_kit c.args.script.now c.in_ok-hall.hall c.loopers.new.kits.items c.remove.result c.remove.ensures.value c.in_ok-loopers.ensures.kits c.in_ok-loopers.ensures.unused in
-    let st : Stage = record { hall = c.in_ok-hall.hall; threads = c.in_ok-threads.threads; loopers = c.in_ok-loopers.loopers; controller = record { kit = c.remove.result; sealed = c.in_ok-sealed.sealed }; pass = c.in_ok-hall.pass; time = 0 } in
+    let st : Stage = record { hall = c.in_ok-hall.hall; threads = c.in_ok-threads.threads; loopers = c.in_ok-loopers.loopers; controller = record { kit = c.remove.result; sealed = c.in_ok-sealed.sealed; sealed_frames = c.in_ok-sealed_frames.sealed_frames }; pass = c.in_ok-hall.pass; time = 0 } in
     begins_in_step c.args.script.now st _ c.in_ok-hall.ensures.hall
     (begins_timely c.args.script.now st _ c.in_ok-hall.ensures.hall c.in_ok-threads.ensures.threads c.in_ok-loopers.ensures.loopers last.1.posters c.in_ok-threads.ensures.unseen c.in_ok-loopers.ensures.unseen last.0.posters)
     c.in_ok-loopers.ensures.loopers last.1.posters last.0.posters refl c.in_ok-loopers.ensures.begun

@@ -1,8 +1,12 @@
 use Rattle.std.proofs.Common.{◌≡◌, ◌+◌, ◌<◌, [], ◌∷◌, ◌++◌, length, refl, ap, sym, subst, length-append, arith}
+use Rattle.std.proofs.lemmas.Result.{IfOk-weaker}
+use Rattle.choreographer.specs.Ends.{IsWhole}
 use Rattle.dash_hall.specs.declared.kit.Kit.{Kit}
 use Rattle.dash_hall.specs.Dealing.{GivesPass}
 use Rattle.dash_hall.proofs.HallSteps.{holder_within}
+use Rattle.dash_stage.specs.Ending.{AreOfNext, BeginWithOwn}
 use Rattle.dash_stage.proofs.Ends.HallFrames.{has_pass, takes_more, taken_own, taken_theirs}
+use Rattle.dash_stage.proofs.Controller.FrameEnds.{taken_sealed, taken_kits, whole_run}
 use Rattle.dash_stage.proofs.records.frame_record.Goals as goal
 
 pub next_pass-requires : goal.next_pass-requires
@@ -31,6 +35,19 @@ loop-number-preserved c =
           (subst (λ (x : Kit). GivesPass x p c.next_pass.new.self) c.index_mut.ensures.value c.next_pass.ensures) at.invariant.taken;
     }
 
+pub into_whole-requires-clause-parts : goal.into_whole-requires-clause-parts
+into_whole-requires-clause-parts c =
+    let at = c.loop-number in
+    let s = c.args.script.now in
+    let over = c.loop-number-test.false in
+    let most = at.auto.number-end in
+    let all : at.number ≡ s.threads + 3 = omega (arith, over, most) in
+    taken_sealed s c.args.looper c.args.choreographer at.number c.args.kits.now.items at.passes.items at.kits.items c.args.parts.items at.invariant.count all at.invariant.taken c.requires.looper c.requires.count c.requires.sealed
+
+pub returns-clause-record : goal.returns-clause-record
+returns-clause-record c =
+    whole_run c.args.script.now c.args.looper c.args.choreographer c.loop-number.passes.items c.into_whole.result c.requires.constants c.into_whole.ensures.constants c.into_whole.ensures.whole
+
 pub returns-clause-theirs : goal.returns-clause-theirs
 returns-clause-theirs c =
     let at = c.loop-number in
@@ -38,7 +55,9 @@ returns-clause-theirs c =
     let over = c.loop-number-test.false in
     let most = at.auto.number-end in
     let all : at.number ≡ s.threads + 3 = omega (arith, over, most) in
-    taken_theirs s c.args.looper c.args.choreographer at.number c.args.kits.now.items at.passes.items at.kits.items c.into_kept.result.entries at.invariant.count all at.invariant.taken c.requires.looper c.into_kept.ensures.theirs
+    IfOk-weaker c.into_whole.result (λ r. IsWhole c.args.choreographer at.passes.items r.entries) (λ r. AreOfNext s c.args.looper c.args.kits.now.items r.entries)
+    (λ r w. taken_theirs s c.args.looper c.args.choreographer at.number c.args.kits.now.items at.passes.items at.kits.items r.entries at.invariant.count all at.invariant.taken c.requires.looper w.theirs)
+    c.into_whole.ensures.whole
 
 pub returns-clause-own : goal.returns-clause-own
 returns-clause-own c =
@@ -47,4 +66,15 @@ returns-clause-own c =
     let over = c.loop-number-test.false in
     let most = at.auto.number-end in
     let all : at.number ≡ s.threads + 3 = omega (arith, over, most) in
-    taken_own s c.args.looper c.args.choreographer at.number c.args.kits.now.items at.passes.items at.kits.items c.into_kept.result.entries at.invariant.count all at.invariant.taken c.into_kept.ensures.passes
+    IfOk-weaker c.into_whole.result (λ r. IsWhole c.args.choreographer at.passes.items r.entries) (λ r. BeginWithOwn (s.threads + c.args.looper) c.args.kits.now.items r.entries)
+    (λ r w. taken_own s c.args.looper c.args.choreographer at.number c.args.kits.now.items at.passes.items at.kits.items r.entries at.invariant.count all at.invariant.taken w.begins)
+    c.into_whole.ensures.whole
+
+pub returns-clause-kits : goal.returns-clause-kits
+returns-clause-kits c =
+    let at = c.loop-number in
+    let s = c.args.script.now in
+    let over = c.loop-number-test.false in
+    let most = at.auto.number-end in
+    let all : at.number ≡ s.threads + 3 = omega (arith, over, most) in
+    taken_kits s c.args.looper c.args.choreographer at.number c.args.kits.now.items at.passes.items at.kits.items c.into_whole.result all at.invariant.taken

@@ -6,9 +6,10 @@ use Rattle.choreographer.specs.Known.{Shared as Frames}
 use Rattle.frame_phases.specs.declared.entry.FrameRecord.{FrameRecord}
 use Rattle.shared_queue.proofs.Gathers.{regrouped}
 use Rattle.dash_hall.specs.Kits.{frame_key, frame_constants}
-use Rattle.dash_stage.specs.Ending.{HaveAllPasses}
+use Rattle.dash_stage.specs.Ending.{HaveAllPasses, AreFramesSealed}
 use Rattle.dash_hall.proofs.HallPasses.{given_all, given_are}
 use Rattle.dash_stage.proofs.Ends.HallFrames.{HaveEnded, ended_none, next_passes, next_constants, ends_more, ended_all}
+use Rattle.dash_stage.proofs.Controller.FrameEnds.{next_given, has_list, sealed_next, sealed_rest}
 use Rattle.dash_stage.proofs.records.frame_records.Goals as goal
 
 pub loop-choreographer-init : goal.loop-choreographer-init
@@ -25,6 +26,7 @@ loop-choreographer-init c =
       long = search rules;
       looper = refl;
       count = ap length none;
+      sealed = c.requires.sealed;
       ended = subst (λ (l : List Frames). HaveEnded s 0 l c.args.kits.now.items c.new-records.result.items c.args.kits.now.items) (sym items.0)
           (subst (λ (l : List FrameRecord). HaveEnded s 0 cs c.args.kits.now.items l c.args.kits.now.items) (sym none) (ended_none s cs c.args.kits.now.items marks));
     }
@@ -51,6 +53,32 @@ frame_record-requires-clause-kits c =
     let steps : into_iter_items at.choreographer-iterator ≡ c.in-Some.choreographer ∷ into_iter_items c.next.new.self = c.in-Some.ensures.steps.0 in
     next_passes c.args.script.now at.looper c.in-Some.choreographer _ at.kits.items
     (subst (λ (l : List Frames). HaveAllPasses (given_all c.args.script.now at.looper l) at.kits.items) steps at.invariant.ended.marks)
+
+pub remove-parts-requires : goal.remove-parts-requires
+remove-parts-requires c =
+    let at = c.loop-choreographer in
+    let s = c.args.script.now in
+    let x = c.in-Some.choreographer in
+    let rest = into_iter_items c.next.new.self in
+    let steps : into_iter_items at.choreographer-iterator ≡ x ∷ rest = c.in-Some.ensures.steps.0 in
+    let parts : at.yielded ++ x ∷ rest ≡ c.args.choreographers.items = ap (λ l. at.yielded ++ l) (sym steps) ∙ (at.invariant.parts ∙ c.into_iter-choreographer-iterator.ensures.into_iter_gives.0) in
+    let few = (next_constants s c.args.choreographers.items at.yielded rest x at.looper parts at.invariant.looper c.requires.choreographers).1 in
+    let have = next_given s at.looper x rest (into_iter_items at.choreographer-iterator) c.args.kits.now.items at.kits.items at.records.items steps few c.requires.count at.invariant.ended in
+    let many = at.invariant.ended.count in
+    let senders : length c.args.kits.now.items ≡ s.threads + s.loopers + 1 = c.requires.count in
+    subst (λ n. 0 < n) (sym at.sealed.ok.0) (has_list at.kits.items at.sealed.items at.invariant.sealed have (omega (arith, many, senders)))
+
+pub frame_record-requires-clause-sealed : goal.frame_record-requires-clause-sealed
+frame_record-requires-clause-sealed c =
+    let at = c.loop-choreographer in
+    let s = c.args.script.now in
+    let x = c.in-Some.choreographer in
+    let rest = into_iter_items c.next.new.self in
+    let steps : into_iter_items at.choreographer-iterator ≡ x ∷ rest = c.in-Some.ensures.steps.0 in
+    let parts : at.yielded ++ x ∷ rest ≡ c.args.choreographers.items = ap (λ l. at.yielded ++ l) (sym steps) ∙ (at.invariant.parts ∙ c.into_iter-choreographer-iterator.ensures.into_iter_gives.0) in
+    let few = (next_constants s c.args.choreographers.items at.yielded rest x at.looper parts at.invariant.looper c.requires.choreographers).1 in
+    let have = next_given s at.looper x rest (into_iter_items at.choreographer-iterator) c.args.kits.now.items at.kits.items at.records.items steps few c.requires.count at.invariant.ended in
+    sealed_next at.kits.items at.sealed.items at.invariant.sealed have c.remove-parts.result c.remove-parts.ensures.value
 
 pub overflow_add-looper : goal.overflow_add-looper
 overflow_add-looper c =
@@ -83,6 +111,10 @@ loop-choreographer-preserved c =
       long = let was = at.invariant.long in let gone = c.in-Some.ensures.steps.1 in let short = ap length steps in omega arith;
       looper = let done = length-append at.yielded (x ∷ []) in omega (arith, done, looper);
       count = let more = length-append at.records.items (r ∷ []) in let now = ap length items in omega (arith, now, more, count);
+      sealed = subst (AreFramesSealed c.frame_record.new.kits.items) (sym c.remove-parts.ensures.items)
+          (sealed_rest at.kits.items at.sealed.items at.invariant.sealed
+          (next_given s at.looper x rest (into_iter_items at.choreographer-iterator) c.args.kits.now.items at.kits.items at.records.items steps few senders at.invariant.ended)
+          s at.looper x c.frame_record.new.kits.items few (at.invariant.ended.count ∙ senders) c.in_ok-record.ensures.kits);
       ended = ends_more s at.looper x rest c.args.kits.now.items at.kits.items c.frame_record.new.kits.items at.records.items _ r count few (omega (arith, senders)) c.in_ok-record.ensures.record.0 c.in_ok-record.ensures.record.1 c.in_ok-record.ensures.theirs c.in_ok-record.ensures.own c.in_ok-record.ensures.kits items
           (subst (λ (l : List Frames). HaveEnded s at.looper l c.args.kits.now.items at.records.items at.kits.items) steps at.invariant.ended);
     }

@@ -4,6 +4,7 @@ use Rattle.choreographer.specs.Known.{Known as Pass}
 use Rattle.frame_phases.specs.declared.entry.FrameRecord.{FrameRecord}
 use Rattle.dash_stage.proofs.Ends.Carried.{numbered_count}
 use Rattle.dash_stage.proofs.Ends.HallFrames.{frames_kept}
+use Rattle.dash_stage.proofs.Controller.FrameEnds.{sealed_kept}
 use Rattle.dash_stage.proofs.records.records.Goals as goal
 use Rattle.dash_hall.specs.Kits.{AreQueuesOf}
 
@@ -34,6 +35,10 @@ returns-clause-own c q i d p r small below =
 
 pub queue_records-requires-clause-queues : goal.queue_records-requires-clause-queues
 queue_records-requires-clause-queues c = (c.args.hall.lockstep, c.requires.hall.queues)
+
+pub frame_records-requires-clause-sealed : goal.frame_records-requires-clause-sealed
+frame_records-requires-clause-sealed c =
+    sealed_kept c.args.kits.items c.queue_records.new.kits.items c.args.sealed_frames.items c.in_ok-queues.ensures.kits c.requires.sealed_frames
 
 pub returns-clause-queues : goal.returns-clause-queues
 returns-clause-queues c m mode by =

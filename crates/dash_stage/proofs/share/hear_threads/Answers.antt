@@ -1,4 +1,4 @@
-use Rattle.std.proofs.Common.{◌<◌, length, refl, arith}
+use Rattle.std.proofs.Common.{◌<◌, refl, arith}
 use Rattle.run_model.specs.Senders.{controller}
 use Rattle.dash_hall.proofs.Hearing.{ready_is}
 use Rattle.dash_stage.proofs.ByClock.Behind.{threads_still, kept_then, hears_on, hears_kept}
@@ -48,7 +48,7 @@ loop-looper-preserved c =
     let next = with_poster at.controller at.looper p' at.controller.kit.pass in
     record {
       threads = kept_then c.args.threads.now us vs at.invariant.threads c.threads_tell.ensures.kept;
-      kept = hears_kept at.looper us vs at.controller next p p' within c.index_mut.ensures.value refl c.args.controller.now refl refl refl c.threads_tell.ensures.heard at.invariant.kept;
+      kept = hears_kept at.looper us vs at.controller next p p' within c.index_mut.ensures.value refl c.args.controller.now refl refl refl refl c.threads_tell.ensures.heard at.invariant.kept;
       heard = hears_on at.looper us vs at.controller next p p' within c.index_mut.ensures.value refl c.threads_tell.ensures.kept c.threads_tell.ensures.told at.invariant.heard;
     }
 

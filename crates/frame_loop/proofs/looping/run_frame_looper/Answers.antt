@@ -9,6 +9,9 @@ loop_and_let_go-requires-clause-serves g c = c.next_pulse-pulse.ensures.serves _
 pub let_frames_go-requires-clause-frames : goal.let_frames_go-requires-clause-frames
 let_frames_go-requires-clause-frames g c = (c.loop_and_let_go.ensures.serves _ (c.next_pulse-pulse.ensures.serves _ c.loop.invariant.serves)).framing
 
+pub let_frames_go-requires-clause-last : goal.let_frames_go-requires-clause-last
+let_frames_go-requires-clause-last g c = (c.loop_and_let_go.ensures.serves _ (c.next_pulse-pulse.ensures.serves _ c.loop.invariant.serves)).last
+
 pub let_frames_go-requires-clause-seals : goal.let_frames_go-requires-clause-seals
 let_frames_go-requires-clause-seals g c = (c.loop_and_let_go.ensures.serves _ (c.next_pulse-pulse.ensures.serves _ c.loop.invariant.serves)).seals
 

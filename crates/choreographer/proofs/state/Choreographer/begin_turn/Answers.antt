@@ -1,6 +1,5 @@
-use Rattle.std.proofs.Common.{rules, ◌≤◌, length, sym, subst}
-use Rattle.choreographer.specs.Turn.{sealed_in}
-use Rattle.choreographer.specs.Plays.{Sat}
+use Rattle.std.proofs.Common.{rules, sym, subst}
+use Rattle.choreographer.specs.Plays.{Sat, MaySeal}
 use Rattle.choreographer.proofs.ByTurn.{begin_gives, keeps_handed}
 use Rattle.choreographer.proofs.Stamps.{stamped_begin}
 use Rattle.choreographer.proofs.state.Choreographer.begin_turn.Goals as goal
@@ -18,5 +17,5 @@ give-requires-clause-state g c =
 pub give-requires-clause-handed : goal.give-requires-clause-handed
 give-requires-clause-handed g c =
     let x = c.take-state.result in
-    subst (λ (z : Sat). sealed_in z.0.found ≤ length c.begin_frame-answer.new.self.frames.sealed) (sym c.take-state.ensures.taken)
-    (keeps_handed x c.begin_frame-answer.new.self c.begin_frame-answer.ensures.steps.0)
+    subst (λ (z : Sat). MaySeal c.args.self.now.constants z.0 c.begin_frame-answer.new.self) (sym c.take-state.ensures.taken)
+    (keeps_handed c.args.self.now.constants c.pass.inside.seat.me.0 x c.begin_frame-answer.new.self c.begin_frame-answer.ensures.steps.0)

@@ -1,9 +1,9 @@
-use Rattle.std.proofs.Common.{rules, ◌≡◌, ◌<◌, ap, sym, ◌∙◌, subst}
+use Rattle.std.proofs.Common.{rules, arith, ◌≡◌, ◌<◌, ap, sym, ◌∙◌, subst}
 use mathlib.Core.Option.{some-injective}
 use Rattle.choreographer.specs.declared.view.Constants.{Constants}
 use Rattle.choreographer.specs.Turn.{HasConstants}
 use Rattle.choreographer.specs.Known.{Shared}
-use Rattle.choreographer.proofs.Closing.{closes, closes_with}
+use Rattle.choreographer.proofs.Closing.{closes, closes_with, only_last_hands}
 use Rattle.choreographer.proofs.state.Choreographer.close.Goals as goal
 
 pub unreachable-requires : goal.unreachable-requires
@@ -22,4 +22,5 @@ returns c =
     let is : q.constants ≡ key = ap (λ (z : Shared). z.constants) (sym c.self.view_is) in
     let above : 0 < key.passes = search rules in
     let t = closes_with key above q c.args.passes.items c.gather-seat.result.me (c.requires.0 ∙ ap (λ (z : Constants). z.passes) is) c.requires.1 c.gather-seat.ensures.1 c.gather-seat.result.id _ _ c.in-Some.state c.close_with-closed.ensures.values.2 c.in-Some.ensures.value in
-    record { constants = subst (λ (k : Constants). HasConstants k c.in-Some.state) (sym is) t.0; begins = t.1; last = t.2; stamps = t.4.frames; theirs = t.3; handed = t.5 }
+    let all = c.requires.0 ∙ ap (λ (z : Constants). z.passes) is in
+    record { some_pass = omega (arith, above, all); constants = subst (λ (k : Constants). HasConstants k c.in-Some.state) (sym is) t.0; begins = t.1; last = t.2; stamps = t.4.frames; theirs = t.3; handed = t.5; only_last = λ k d e. t.5 ∙ only_last_hands q c.args.passes.items c.gather-seat.result.me c.requires.0 c.requires.1 c.gather-seat.ensures.1 k d e }

@@ -40,7 +40,7 @@ returns-in_default-clause-bells g c =
     let within = has_poster c.args.script.now c.args.hall.now c.requires.hall c.args.place c.requires.place me c.requires.controller in
     let p = c.index_mut.result.now in
     let p' = c.quit_by.new.poster in
-    none_rung c.args.place me (record { kit = record { posters = with_item me.kit.posters c.args.place p'; pass = c.quit_by.new.pass; frames = me.kit.frames }; sealed = me.sealed }) (turns_elsewhere me c.args.place p p' c.quit_by.new.pass within c.index_mut.ensures.value)
+    none_rung c.args.place me (record { kit = record { posters = with_item me.kit.posters c.args.place p'; pass = c.quit_by.new.pass; frames = me.kit.frames }; sealed = me.sealed; sealed_frames = me.sealed_frames }) (turns_elsewhere me c.args.place p p' c.quit_by.new.pass within c.index_mut.ensures.value)
     (stands_there me.kit.posters.items c.args.place p p' within c.index_mut.ensures.value (λ (a b : Sender). b.view.rung ≡ a.view.rung) c.quit_by.ensures.on.rung)
 
 pub returns-clause-bells : goal.returns-clause-bells
@@ -49,5 +49,5 @@ returns-clause-bells g c =
     let within = has_poster c.args.script.now c.args.hall.now c.requires.hall c.args.place c.requires.place me c.requires.controller in
     let p = c.index_mut.result.now in
     let p' = c.quit_by.new.poster in
-    none_rung c.args.place me (record { kit = record { posters = with_item me.kit.posters c.args.place p'; pass = c.quit_by.new.pass; frames = me.kit.frames }; sealed = me.sealed }) (turns_elsewhere me c.args.place p p' c.quit_by.new.pass within c.index_mut.ensures.value)
+    none_rung c.args.place me (record { kit = record { posters = with_item me.kit.posters c.args.place p'; pass = c.quit_by.new.pass; frames = me.kit.frames }; sealed = me.sealed; sealed_frames = me.sealed_frames }) (turns_elsewhere me c.args.place p p' c.quit_by.new.pass within c.index_mut.ensures.value)
     (stands_there me.kit.posters.items c.args.place p p' within c.index_mut.ensures.value (λ (a b : Sender). b.view.rung ≡ a.view.rung) c.quit_by.ensures.on.rung)

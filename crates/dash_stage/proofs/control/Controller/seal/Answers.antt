@@ -1,5 +1,10 @@
-use Rattle.std.proofs.Common.{refl, sym, ◌∙◌}
-use Rattle.dash_stage.specs.Timeliness.{IsNone}
+use Rattle.std.proofs.Common.{◌≡◌, ◌≢◌, ℕ, length, refl, sym, ap, ◌∙◌, subst}
+use Rattle.std.specs.Prelude.{slice_index_or}
+use Rattle.std.specs.Global.{Vec}
+use Rattle.looper_run.specs.Holding.{Sender}
+use Rattle.dash_hall.specs.Growth.{own}
+use Rattle.dash_stage.specs.Controllers.{CallsNone}
+use Rattle.dash_stage.specs.Timeliness.{IsNone, TurnsOn}
 use Rattle.dash_stage.proofs.Controller.ControlKept.{none_after}
 use Rattle.dash_stage.proofs.Controller.Controlling.{poster_count}
 use Rattle.dash_stage.proofs.Stages.StageTurns.{turns_none, turns_more}
@@ -16,12 +21,19 @@ loop-place-init g c = record {
 pub loop-place-preserved : goal.loop-place-preserved
 loop-place-preserved g c =
     let at = c.loop-place in
-    let after = c.seal_one.new.self in
-    let long = poster_count c.args.script.now c.args.hall.now after c.requires.hall c.seal_one.ensures.controller ∙ sym (poster_count c.args.script.now c.args.hall.now at.self c.requires.hall at.invariant.controller) in
-    let more = turns_more IsNone c.args.self.now at.self after at.place at.invariant.turns at.invariant.rest long c.seal_one.ensures.here c.seal_one.ensures.elsewhere in
+    let after = c.seal_frames.new.self in
+    let posters = c.seal_frames.ensures.posters in
+    let calls : CallsNone at.self after = record {
+      long = ap (λ (v : Vec Sender). length v.items) posters ∙ c.seal_one.ensures.none.long;
+      calls = λ q d. ap (λ (v : Vec Sender). own (slice_index_or v.items q d)) posters ∙ c.seal_one.ensures.none.calls q d;
+    } in
+    let here = subst (λ (v : Vec Sender). (d : Sender) → TurnsOn IsNone (slice_index_or at.self.kit.posters.items at.place d) (slice_index_or v.items at.place d)) (sym posters) c.seal_one.ensures.here in
+    let elsewhere = subst (λ (v : Vec Sender). (q : ℕ) (d : Sender) → q ≢ at.place → slice_index_or v.items q d ≡ slice_index_or at.self.kit.posters.items q d) (sym posters) c.seal_one.ensures.elsewhere in
+    let long = poster_count c.args.script.now c.args.hall.now after c.requires.hall c.seal_frames.ensures.controller ∙ sym (poster_count c.args.script.now c.args.hall.now at.self c.requires.hall at.invariant.controller) in
+    let more = turns_more IsNone c.args.self.now at.self after at.place at.invariant.turns at.invariant.rest long here elsewhere in
     record {
-      controller = c.seal_one.ensures.controller;
-      none = none_after c.args.self.now at.self after at.invariant.none c.seal_one.ensures.none;
+      controller = c.seal_frames.ensures.controller;
+      none = none_after c.args.self.now at.self after at.invariant.none calls;
       turns = more.0;
       rest = more.1;
     }

@@ -58,6 +58,7 @@ returns c =
             pass = refl;
             frames = refl;
             sealed = refl;
+            sealed_frames = refl;
           };
           pass = refl;
           time = refl;

@@ -9,7 +9,7 @@ do_frame-framed-requires-clause-serves g c =
 
 pub returns-clause-serves : goal.returns-clause-serves
 returns-clause-serves g c = λ w s.
-    serves_framed _ _ _ _ _ _ _ w c.do_frame-framed.ensures.same.0 c.do_frame-framed.ensures.same.2
+    serves_framed _ _ _ _ _ _ _ w c.do_frame-framed.ensures.same.0 c.do_frame-framed.ensures.same.1 c.do_frame-framed.ensures.same.2
     (c.do_frame-framed.ensures.serves c.args.self.now.choreographer.now
     (opens _ _ _ c.args.self.now.frames _ _ _ _ c.args.own.now.journal.now c.requires.serves refl refl refl c.of-began.ensures c.of-pass_began.ensures)).asking s
 

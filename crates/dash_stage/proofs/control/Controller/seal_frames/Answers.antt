@@ -1,0 +1,33 @@
+use Rattle.std.proofs.Common.{refl, ap, ◌∙◌}
+use Rattle.choreographer.specs.declared.view.Constants.{Constants}
+use Rattle.dash_hall.proofs.Badges.{choreographer_at}
+use Rattle.dash_stage.proofs.Controller.Controlling.{in_choreographers, in_passes, own_pass}
+use Rattle.dash_stage.proofs.Controller.FrameSealing.{in_frame_lists, last_pass, frames_controller}
+use Rattle.dash_stage.proofs.control.Controller.seal_frames.Goals as goal
+
+pub index-requires : goal.index-requires
+index-requires g c = in_choreographers c.args.script.now c.args.hall.now c.requires.hall c.args.place c.requires.place
+
+pub index_mut-requires : goal.index_mut-requires
+index_mut-requires g c = in_passes c.args.script.now c.args.hall.now c.requires.hall c.args.place c.requires.place c.args.self.now c.requires.controller
+
+pub index_mut-requires-2 : goal.index_mut-requires-2
+index_mut-requires-2 g c = in_frame_lists c.args.script.now c.args.hall.now c.requires.hall c.args.place c.requires.place c.args.self.now c.requires.controller
+
+pub hand_out_frames-requires-clause-pass : goal.hand_out_frames-requires-clause-pass
+hand_out_frames-requires-clause-pass g c =
+    own_pass c.args.script.now c.args.hall.now c.requires.hall c.args.place c.requires.place c.args.self.now c.requires.controller c.index_mut.result.now c.index.result.now c.index_mut.ensures.value c.index.ensures
+
+pub hand_out_frames-requires-clause-last : goal.hand_out_frames-requires-clause-last
+hand_out_frames-requires-clause-last g c =
+    last_pass c.args.script.now c.args.hall.now c.requires.hall c.args.place c.requires.place c.args.self.now c.requires.controller c.index_mut.result.now c.index.result.now c.index_mut.ensures.value c.index.ensures
+
+pub hand_out_frames-requires-clause-seals : goal.hand_out_frames-requires-clause-seals
+hand_out_frames-requires-clause-seals g c =
+    ap (λ (k : Constants). k.seals) (ap (λ f. f.constants) c.index.ensures ∙ choreographer_at c.args.script.now c.args.hall.now.choreographers.items c.requires.hall.choreographers c.args.place c.index.result.now c.requires.place)
+
+pub returns : goal.returns
+returns g c = record {
+  controller = frames_controller c.args.script.now c.args.hall.now c.requires.hall c.args.place c.requires.place c.args.self.now c.requires.controller c.index_mut.result.now c.hand_out_frames.new.pass c.index_mut-2.result.now c.hand_out_frames.new.parts c.index_mut.ensures.value c.index_mut-2.ensures.value c.hand_out_frames.ensures;
+  posters = refl;
+}

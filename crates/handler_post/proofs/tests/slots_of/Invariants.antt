@@ -1,5 +1,0 @@
-use Rattle.shared_queue.specs.Known.{IsOf}
-use Rattle.handler_post.proofs.tests.slots_of.Given as goal
-
-abbrev pub invariant-loop : goal.invariant-loop
-invariant-loop g l = IsOf l.way.poster.now l.way.queue.now

@@ -1,7 +1,0 @@
-use Rattle.std.proofs.Common.{Some, refl, ap}
-use Rattle.looper_run.specs.declared.tests.Noted.TheVariants as noted
-use Rattle.looper_run.proofs.Asking.{same_kept}
-use Rattle.looper_run.proofs.tests.NoterDispatcher.before.Goals as goal
-
-pub returns-clause-asked : goal.returns-clause-asked
-returns-clause-asked c = ap Some (same_kept _ c.note.result c.args.self.now.calls.items c.note.new.self.calls.items (noted.Before c.args.number) c.note.ensures.noted c.note.ensures.lost refl)
