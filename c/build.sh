@@ -64,9 +64,9 @@ if [ "$target" = wasm64 ]; then
     done
     exit 0
 fi
-core message_queue_c loop_model message_slot message_list when_queue queue_state
-core frame_phases_c loop_model frame_phases
-core loop_sources_c loop_model loop_sources
+core message_queue_c heap_value loop_model message_slot message_list when_queue queue_state
+core frame_phases_c heap_value loop_model frame_phases
+core loop_sources_c heap_value loop_model loop_sources
 
 include=()
 for name in message_queue_c frame_phases_c loop_sources_c loop_next_c countdown_c animator_c; do include+=("-I$crates/$name/include"); done

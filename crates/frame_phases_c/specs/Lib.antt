@@ -1,5 +1,3 @@
-pub mod Held
-pub mod Lent
 pub mod Contents
 pub mod Handle
 pub mod Shown

@@ -5,7 +5,7 @@ ghost use Rattle.frame_phases_c.specs.Handed.{inside};
 
 use crate::handle::{FrameLoop, Nowhere};
 use crate::kept::Kept;
-use crate::lone::Lone;
+use heap_value::Lone;
 use loop_model::NoMemory;
 use std::alloc::Global;
 use std::mem;

@@ -12,8 +12,6 @@ mod callback;
 mod handle;
 mod hold;
 mod kept;
-mod lends;
-mod lone;
 mod steps;
 
 use crate::answers::{closed, not_open, not_open_look};

@@ -1,5 +1,5 @@
 -- The machine values of a handle. Assumes `Logic`.
-use Rattle.loop_sources_c.proofs.Names.{◌≡◌, List, [], ◌∷◌, ◌++◌, refl, ap, ◌∙◌, Bool, true, Val, vbool, vstruct, vcons, vnil, of_list, Logic, Item, Goal, Seq, Step, step, ‵, ◌$◌, drop, fsplit, fjoin, fpick, fpack, feq_i, feq_l, RattleType, Valss, Ptr, RawPtr, block_ptr, ptr_val, Boolean, nothing, within, shape, Ura}
+use Rattle.heap_value.proofs.Names.{◌≡◌, List, [], ◌∷◌, ◌++◌, refl, ap, ◌∙◌, Bool, true, Val, vbool, vstruct, vcons, vnil, of_list, Logic, Item, Goal, Seq, Step, step, ‵, ◌$◌, drop, fsplit, fjoin, fpick, fpack, feq_i, feq_l, RattleType, Valss, Ptr, RawPtr, block_ptr, ptr_val, Boolean, nothing, within, shape, Ura}
 use denote.Laws.{Is}
 use lib.Dec.{T, lit<}
 use mathlib.Core.Bool.{◌&&◌}

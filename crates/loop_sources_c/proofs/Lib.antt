@@ -1,5 +1,3 @@
-pub mod Names
-pub mod Lones
 pub mod Handles
 pub mod Sends
 pub mod Done

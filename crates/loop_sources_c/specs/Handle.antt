@@ -4,7 +4,7 @@ use base.Fml.{Fml, ftrue}
 use denote.RattleType.{RattleType}
 use denote.RawPtr.{Ptr}
 use Rattle.loop_sources_c.specs.contracts.kept.Kept as kept
-use Rattle.loop_sources_c.specs.Held.{held}
+use Rattle.heap_value.specs.Held.{held}
 
 -- what stands behind a handle, as it lies in memory
 abbrev pub kept_row : RattleType

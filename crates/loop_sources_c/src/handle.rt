@@ -3,7 +3,7 @@ ghost use Rattle.std.specs.Prelude.{◌≡◌, true, false};
 ghost use Rattle.loop_sources_c.specs.Contents.{Contents, contents_code};
 
 use crate::kept::Kept;
-use crate::lone::Lone;
+use heap_value::Lone;
 use std::marker::{Model, Send};
 
 /// What C holds of idle handlers and descriptors. Where it is live it owns what lies at its pointer, and it may not be copied.

@@ -5,7 +5,7 @@ ghost use Rattle.loop_sources_c.specs.Handed.{inside};
 
 use crate::handle::{Nowhere, SourceLoop};
 use crate::kept::Kept;
-use crate::lone::Lone;
+use heap_value::Lone;
 use loop_model::NoMemory;
 use std::alloc::Global;
 use std::mem;

@@ -11,8 +11,6 @@ mod answers;
 mod handle;
 mod hold;
 mod kept;
-mod lends;
-mod lone;
 
 use crate::answers::{closed, not_open, not_open_look};
 pub use answers::{SourceAnswer, SourceLook};

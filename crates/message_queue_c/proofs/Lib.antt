@@ -1,4 +1,2 @@
-pub mod Names
-pub mod Lones
 pub mod Handles
 pub mod Sends

@@ -4,7 +4,7 @@ use base.Fml.{Fml, ftrue}
 use denote.RattleType.{RattleType}
 use denote.RawPtr.{Ptr}
 use Rattle.message_queue_c.specs.contracts.kept.Kept as kept
-use Rattle.message_queue_c.specs.Held.{held}
+use Rattle.heap_value.specs.Held.{held}
 
 -- a queue with what it dropped, as it lies in memory
 abbrev pub kept_row : RattleType

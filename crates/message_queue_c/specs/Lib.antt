@@ -1,6 +1,4 @@
-pub mod Held
 pub mod Blocks
-pub mod Lent
 pub mod Handle
 pub mod Ours
 pub mod Messages

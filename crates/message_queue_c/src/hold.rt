@@ -6,7 +6,7 @@ ghost use Rattle.message_queue_c.specs.Handed.{inside};
 use crate::calls;
 use crate::handle::{MqQueue, Nowhere};
 use crate::kept::Kept;
-use crate::lone::Lone;
+use heap_value::Lone;
 use loop_model::NoMemory;
 use std::alloc::Global;
 use std::mem;

@@ -16,8 +16,6 @@ mod drops;
 mod handle;
 mod hold;
 mod kept;
-mod lends;
-mod lone;
 mod message;
 mod spares;
 

@@ -1,10 +1,10 @@
 -- The handle of a queue that lies in memory.
-use Rattle.frame_phases_c.proofs.Names.{◌≡◌, List, [], ◌∷◌, ◌++◌, refl, sym, subst, true, Val, SProp, ent, emp, id⊢, ‵, raw, ◌⊛◌, ◌$◌, ◌∵◌, !, qed, by, move, keep, split, fsplit, fjoin, suffices, use0, use1, stop, fld, of_opd, true_lit, no_more, and_then, returns, enter, alloc_all, pass_all, free_all, look_at, get, get_in, sets, agg, sub, whole, fact, fact_i, tables, yes, RattleType, owns, types_at, plain, Ptr, block_ptr, nothing, alive, Stays, stay_dropped, walk_of, WpFn, Goes-blank, proved_at, leaves}
+use Rattle.heap_value.proofs.Names.{◌≡◌, List, [], ◌∷◌, ◌++◌, refl, sym, subst, true, Val, SProp, ent, emp, id⊢, ‵, raw, ◌⊛◌, ◌$◌, ◌∵◌, !, qed, by, move, keep, split, fsplit, fjoin, suffices, use0, use1, stop, fld, of_opd, true_lit, no_more, and_then, returns, enter, alloc_all, pass_all, free_all, look_at, get, get_in, sets, agg, sub, whole, fact, fact_i, tables, yes, RattleType, owns, types_at, plain, Ptr, block_ptr, nothing, alive, Stays, stay_dropped, walk_of, WpFn, Goes-blank, proved_at, leaves}
 use Rattle.std_alloc.proofs.RcSteps.{word-Good}
-use Rattle.frame_phases_c.proofs.Lones.{Lonely, word, lone_out}
+use Rattle.heap_value.proofs.Lones.{Lonely, word, lone_out}
 use Rattle.frame_phases_c.proofs.Handles.{Handle, pair, handle_in, pair_fits}
 use Rattle.frame_phases_c.specs.Handle.{kept_row, owned_by}
-use Rattle.frame_phases_c.specs.contracts.lone.Lone as lonely
+use Rattle.heap_value.specs.contracts.lone.Lone as lonely
 use Rattle.frame_phases_c.specs.contracts.handle.FrameLoop.of.{ended, clauses}
 use Rattle.frame_phases_c.specs.contracts.handle.FrameLoop.of.Key.{name as #self}
 use Rattle.frame_phases_c.proofs.handle.FrameLoop.of.Statement.{statement}

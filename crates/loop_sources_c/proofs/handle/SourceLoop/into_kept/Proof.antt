@@ -1,10 +1,10 @@
 -- A live handle as the queue that lies in memory.
-use Rattle.loop_sources_c.proofs.Names.{◌≡◌, ◌∙◌, List, [], ◌∷◌, ◌++◌, refl, sym, subst, Bool, true, Val, SProp, ent, emp, id⊢, fst∗, never, sem, ‵, raw, ◌⊛◌, ◌$◌, ◌∵◌, !, qed, by, move, keep, split, fsplit, fjoin, suffices, use0, stop, fld, of_opd, no_more, and_then, returns, enter, alloc_all, pass_all, free_all, look_at, get, get_in, sets, agg, sub, whole, fact, fact_i, tables, yes, owns, types_at, plain, Ptr, block_ptr, null_ptr, in_a_block, nothing, heard, alive, Stays, stay_dropped, walk_of, WpFn, Goes-blank, proved_at, leaves, rewrite}
+use Rattle.heap_value.proofs.Names.{◌≡◌, ◌∙◌, List, [], ◌∷◌, ◌++◌, refl, sym, subst, Bool, true, Val, SProp, ent, emp, id⊢, fst∗, never, sem, ‵, raw, ◌⊛◌, ◌$◌, ◌∵◌, !, qed, by, move, keep, split, fsplit, fjoin, suffices, use0, stop, fld, of_opd, no_more, and_then, returns, enter, alloc_all, pass_all, free_all, look_at, get, get_in, sets, agg, sub, whole, fact, fact_i, tables, yes, owns, types_at, plain, Ptr, block_ptr, null_ptr, in_a_block, nothing, heard, alive, Stays, stay_dropped, walk_of, WpFn, Goes-blank, proved_at, leaves, rewrite}
 use mir.Raw.{raw as bare}
 use denote.Memory.{lone}
-use Rattle.loop_sources_c.proofs.Lones.{Lonely, word, lone_in}
+use Rattle.heap_value.proofs.Lones.{Lonely, word, lone_in}
 use Rattle.loop_sources_c.proofs.Handles.{Handle, pair, handle_out, pair_fits}
-use Rattle.loop_sources_c.specs.Held.{held, chunk}
+use Rattle.heap_value.specs.Held.{held, chunk}
 use Rattle.loop_sources_c.specs.Handle.{kept_row, owned_by}
 use Rattle.loop_sources_c.specs.contracts.handle.SourceLoop.into_kept.{ended, clauses}
 use Rattle.loop_sources_c.specs.contracts.handle.SourceLoop.into_kept.Key.{name as #self}

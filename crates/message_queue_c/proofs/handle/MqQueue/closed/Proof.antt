@@ -1,5 +1,5 @@
 -- A handle of no queue.
-use Rattle.message_queue_c.proofs.Names.{◌≡◌, List, [], ◌∷◌, ◌++◌, refl, sym, subst, false, Val, vstruct, vcons, vnil, SProp, ent, emp, id⊢, ‵, raw, ◌⊛◌, ◌$◌, ◌∵◌, !, qed, by, keep, split, fjoin, suffices, use0, use1, stop, fld, of_opd, false_lit, no_more, and_then, returns, enter, alloc_all, pass_all, free_all, look_at, get, get_in, sets, agg, sub, whole, fact, fact_i, tables, yes, owns, types_at, plain, Ptr, ptr_val, nothing, alive, Stays, stay_dropped, walk_of, WpFn, Goes-dropped, proved_at, leaves}
+use Rattle.heap_value.proofs.Names.{◌≡◌, List, [], ◌∷◌, ◌++◌, refl, sym, subst, false, Val, vstruct, vcons, vnil, SProp, ent, emp, id⊢, ‵, raw, ◌⊛◌, ◌$◌, ◌∵◌, !, qed, by, keep, split, fjoin, suffices, use0, use1, stop, fld, of_opd, false_lit, no_more, and_then, returns, enter, alloc_all, pass_all, free_all, look_at, get, get_in, sets, agg, sub, whole, fact, fact_i, tables, yes, owns, types_at, plain, Ptr, ptr_val, nothing, alive, Stays, stay_dropped, walk_of, WpFn, Goes-dropped, proved_at, leaves}
 use Rattle.std_alloc.proofs.RcSteps.{word-Good, Ptr-Good}
 use Rattle.message_queue_c.proofs.Handles.{Handle, pair, handle_in, nowhere_told, pair_fits}
 use Rattle.message_queue_c.specs.Handle.{owned_by}

@@ -1,5 +1,5 @@
 -- A handle, with whether it is live.
-use Rattle.message_queue_c.proofs.Names.{◌≡◌, List, [], ◌∷◌, ◌++◌, refl, sym, subst, Bool, Val, vbool, SProp, ent, emp, id⊢, ‵, raw, ◌⊛◌, ◌$◌, ◌∵◌, !, qed, by, move, keep, split, fsplit, fjoin, feq_i, suffices, use0, use1, use2, stop, fld, of_opd, no_more, and_then, returns, enter, alloc_all, pass_all, free_all, look_at, get, get_in, sets, agg, sub, whole, fact, fact_i, tables, yes, owns, types_at, plain, Ptr, Boolean, nothing, alive, Stays, stay_dropped, walk_of, WpFn, Goes-blank, proved_at, leaves}
+use Rattle.heap_value.proofs.Names.{◌≡◌, List, [], ◌∷◌, ◌++◌, refl, sym, subst, Bool, Val, vbool, SProp, ent, emp, id⊢, ‵, raw, ◌⊛◌, ◌$◌, ◌∵◌, !, qed, by, move, keep, split, fsplit, fjoin, feq_i, suffices, use0, use1, use2, stop, fld, of_opd, no_more, and_then, returns, enter, alloc_all, pass_all, free_all, look_at, get, get_in, sets, agg, sub, whole, fact, fact_i, tables, yes, owns, types_at, plain, Ptr, Boolean, nothing, alive, Stays, stay_dropped, walk_of, WpFn, Goes-blank, proved_at, leaves}
 use mir.Syntax.{ty_bool}
 use denote.Memory.{lone}
 use denote.Struct.Tuple.{Tuple}
