@@ -4,11 +4,12 @@ use Rattle.loop_model.specs.declared.entry.Entry.{Entry}
 use Rattle.loop_model.specs.Base.{empty_base}
 use Rattle.loop_model.specs.Answers.{has_disposed}
 use Rattle.run_model.specs.Control.{before, InBlock, is_on_time}
-use Rattle.dash_stage.specs.Blocks.{is_fresh}
+use Rattle.run_model.specs.Fresh.{is_fresh}
+use Rattle.dash_stage.specs.Blocks.{is_threads}
 
 -- the queue was disposed of, or since its time was last moved only threads have called
 abbrev pub IsFresh : ℕ → List Entry → Type 0
-IsFresh threads es = (has_disposed (empty_base 0) es ≡ true) ⊎ (is_fresh threads es ≡ true)
+IsFresh threads es = (has_disposed (empty_base 0) es ≡ true) ⊎ (is_fresh (is_threads threads) es ≡ true)
 
 -- as at the start of a block at this time: a thread's call is on time, and comes first
 pub record IsAtBlock (threads time : ℕ) (es : List Entry) : Type 0 where

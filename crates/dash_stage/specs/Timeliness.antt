@@ -24,7 +24,7 @@ use Rattle.dash_stage.specs.declared.stage.Stage.{Stage}
 use Rattle.dash_hall.specs.Growth.{own}
 use Rattle.dash_stage.specs.Controllers.{LooksFor, are_advances, time_in, calls_on}
 use Rattle.dash_loopers.specs.Loopers.{IsSoundOn, until_of, WaitsForNothing, HasNoneDue, setting_for}
-use Rattle.dash_stage.specs.Blocks.{AreReached}
+use Rattle.run_model.specs.Fresh.{AreReached}
 use Rattle.dash_stage.specs.Sharing.{HaveSeenTheSame}
 use Rattle.loop_model.specs.Legal.{AreNumbered}
 
@@ -40,7 +40,7 @@ pub record IsTimelyUpTo (s : Script) (past : List Block) (q : ℕ) (es : List En
   pub threads : (thread : ℕ) → thread < s.threads
       → are_on_time (map (λ l. InBlock l.time) (lines_on s (labels_on q (lines_of thread s.blocks)) q (lines_of thread past))) (befores thread es) ≡ true
   pub in_order : are_in_order s q es ≡ true
-  pub reached : q ≡ 0 → AreReached (controller s) past es
+  pub reached : q ≡ 0 → AreReached past es
 
 -- each queue's history is one that it may have
 abbrev pub AreSound : Script → Controller → Type 0

@@ -31,7 +31,9 @@ use Rattle.inbox_queue.specs.declared.main_queue.Look.{Look}
 use Rattle.inbox_queue.specs.declared.main_queue.Look.TheVariants.{Taken, Waits, Other}
 use Rattle.inbox_queue.specs.declared.main_queue.Move.{Move}
 use Rattle.inbox_queue.specs.declared.main_queue.Move.TheVariants.{There, Stays, NoMemory}
-use Rattle.inbox_queue.specs.InboxRun.{unslotted, IsPostOrLook, post_at_time, posts_after, posts_made, posts_at, is_post, fresh_behind, is_fresh, comes_first, is_due_at, moves_to, is_reached, moves_as_planned}
+use Rattle.inbox_queue.specs.InboxRun.{unslotted, IsPostOrLook, post_at_time, posts_after, posts_made, posts_at, is_post, is_posting, comes_first, is_due_at, moves_as_planned}
+use Rattle.run_model.specs.Fresh.{is_fresh, is_reached}
+use Rattle.run_model.proofs.FreshLaws.{fresh_moved, fresh_called, reached_on, reached_by_last}
 use Rattle.inbox_queue.specs.MainQueue.{AreSilent, time_of, GrowsBy, IsLookAt, IsMoveTo, IsHaltAt, IsPostOf, LooksOn, MovesOn, Goes, WaitsFor, HasLooked, HasDrained, HasDriven, IsUnderWay, HasMoved, HasPosted, HasEnded, HasHalted, KeepsReached, IsEarlier}
 
 -- ---- one entry more
@@ -70,39 +72,19 @@ posts_other n k es e is apart = posts_after-snoc k [] es e ∙ ap (λ b. posts_m
 time_more : (es : List Entry) (e : Entry) → time_of (es ++ e ∷ []) ≡ max (time_of es) (moment_of e.call)
 time_more es e = clock-snoc (empty_base 0) es e
 
--- one more entry behind the last move of the time
-fresh-snoc : (es : List Entry) (e : Entry) → is_fresh (es ++ e ∷ []) ≡ fresh_behind (is_fresh es) e
-unfolding is_fresh
-fresh-snoc es e = fold-append fresh_behind true es (e ∷ [])
+fresh_moved_to : (es : List Entry) (e : Entry) (time : ℕ) → e.call ≡ Advance time → is_fresh is_posting (es ++ e ∷ []) ≡ true
+fresh_moved_to es e time call = fresh_moved is_posting es e (ap is_advance call)
 
-pub nothing_fresh : is_fresh [] ≡ true
-unfolding is_fresh
-nothing_fresh = refl
-
-fresh_moved : (es : List Entry) (e : Entry) (time : ℕ) → e.call ≡ Advance time → is_fresh (es ++ e ∷ []) ≡ true
-fresh_moved es e time call = fresh-snoc es e ∙ or_left (is_advance e.call) _ (ap is_advance call)
-
-fresh_posted : (es : List Entry) (e : Entry) (p : PostData) → e.call ≡ Post p → is_fresh es ≡ true → is_fresh (es ++ e ∷ []) ≡ true
-fresh_posted es e p call fresh = fresh-snoc es e ∙ or_right (is_advance e.call) _ (and_from _ _ fresh (ap is_post call))
+fresh_posted : (es : List Entry) (e : Entry) (p : PostData) → e.call ≡ Post p → is_fresh is_posting es ≡ true → is_fresh is_posting (es ++ e ∷ []) ≡ true
+fresh_posted es e p call fresh = fresh_called is_posting es e (ap is_post call) fresh
 
 -- a time that was reached stays so
 reached_more : (es : List Entry) (e : Entry) → KeepsReached es (es ++ e ∷ [])
-unfolding is_reached
-reached_more es e time h = elim (or_cases (time == 0) (list_any (moves_to time) es) h) [
-  | inl start ↦ or_left _ _ start
-  | inr moved ↦ or_right (time == 0) _ (list_any-append (moves_to time) es (e ∷ []) ∙ or_left _ _ moved)
-]
+reached_more es e time h = reached_on time es (e ∷ []) h
 
 -- the time to which the last entry moved
-reached_by_last : (time : ℕ) (es : List Entry) (e : Entry) → e.call ≡ Advance time → is_reached time (es ++ e ∷ []) ≡ true
-unfolding is_reached
-reached_by_last time es e call =
-    let here : moves_to time e ≡ true = subst (λ (c : Call). (is_advance c && moment_of c == time) ≡ true) (sym call) (and_from _ _ refl (eq-eqb time time refl)) in
-    or_right (time == 0) _ (list_any-append (moves_to time) es (e ∷ []) ∙ or_right (list_any (moves_to time) es) _ (or_left _ _ here))
-
-pub start_reached : (es : List Entry) → is_reached 0 es ≡ true
-unfolding is_reached
-start_reached es = refl
+reached_by_call : (time : ℕ) (es : List Entry) (e : Entry) → e.call ≡ Advance time → is_reached time (es ++ e ∷ []) ≡ true
+reached_by_call time es e call = subst (λ (t : ℕ). is_reached t (es ++ e ∷ []) ≡ true) (ap moment_of call) (reached_by_last es e (ap is_advance call))
 
 -- an entry of the looper, which posts only where nothing else has come since the time was moved
 goes_own : (threads : ℕ) (s : Script) (es : List Entry) (e : Entry) → e.sender ≡ threads → IsPostOrLook e.call → comes_first es e ≡ true → is_advance e.call ≡ false → Goes threads s es → Goes threads s (es ++ e ∷ [])
@@ -269,14 +251,14 @@ still_before threads limit time Stays c d lt q h = subst (λ es. time_of es < li
 still_before threads limit time NoMemory c d lt q h = subst (λ es. time_of es < limit) (sym q) h
 
 -- where the time was before the one that it went to, the move was the last that came
-moved_fresh : (threads time : ℕ) (c d : List Entry) → MovesOn threads time There c d → time_of c < time → is_fresh d ≡ true
+moved_fresh : (threads time : ℕ) (c d : List Entry) → MovesOn threads time There c d → time_of c < time → is_fresh is_posting d ≡ true
 moved_fresh threads time c d (inl q) h = absurd (let le = q.1 in let wrong : ⊥ = omega (arith, le, h) in wrong)
-moved_fresh threads time c d (inr q) h = let g = q.0 in ap is_fresh g.1 ∙ fresh_moved c g.0 time g.3.0
+moved_fresh threads time c d (inr q) h = let g = q.0 in ap (is_fresh is_posting) g.1 ∙ fresh_moved_to c g.0 time g.3.0
 
 -- and the time that it went to was reached by it
 moved_to : (threads time : ℕ) (c d : List Entry) → MovesOn threads time There c d → time_of c < time → is_reached time d ≡ true
 moved_to threads time c d (inl q) h = absurd (let le = q.1 in let wrong : ⊥ = omega (arith, le, h) in wrong)
-moved_to threads time c d (inr q) h = let g = q.0 in ap (is_reached time) g.1 ∙ reached_by_last time c g.0 g.3.0
+moved_to threads time c d (inr q) h = let g = q.0 in ap (is_reached time) g.1 ∙ reached_by_call time c g.0 g.3.0
 
 pub drive_none : (threads time : ℕ) (a : List Entry) → Led threads (IsUnderWay threads time) a a
 drive_none threads time a silent = (silent, (driven_none threads time a, λ h. h))

@@ -20,7 +20,8 @@ use Rattle.inbox_queue.specs.declared.parcel.Parcel.{Parcel}
 use Rattle.inbox_queue.specs.declared.main_queue.Place.{Place}
 use Rattle.inbox_queue.specs.declared.main_queue.Hands.{Hands}
 use Rattle.inbox_queue.specs.declared.run.InboxReport.{InboxReport}
-use Rattle.inbox_queue.specs.InboxRun.{AreOfBlocks, IsInboxRun, IsPostOrLook, posts_made, comes_first, moves_as_planned, AreReached}
+use Rattle.inbox_queue.specs.InboxRun.{AreOfBlocks, IsInboxRun, IsPostOrLook, posts_made, comes_first, moves_as_planned}
+use Rattle.run_model.specs.Fresh.{AreReached}
 use Rattle.inbox_queue.specs.MainQueue.{IsAt, threads_of, seen, AreSilent}
 use Rattle.inbox_queue.specs.Opened.{AreIdle, IsPlayed, IsKept}
 use Rattle.inbox_queue.specs.Turned.{Sender}

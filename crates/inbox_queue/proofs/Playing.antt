@@ -17,10 +17,12 @@ use Rattle.dash_script.specs.Reading.{HasText, rise}
 use Rattle.run_model.specs.Control.{is_called_in_time}
 use Rattle.run_model.specs.Moves.{is_planned_time}
 use Rattle.inbox_queue.specs.declared.parcel.Parcel.{Parcel}
-use Rattle.inbox_queue.specs.InboxRun.{posts_made, posts_at, posts_admitted, IsOfBlock, AreOfBlocks, is_fresh, is_reached, AreReached}
+use Rattle.run_model.specs.Fresh.{is_fresh, is_reached, AreReached}
+use Rattle.run_model.proofs.FreshLaws.{nothing_fresh, start_reached, one_reached}
+use Rattle.inbox_queue.specs.InboxRun.{posts_made, posts_at, posts_admitted, is_posting, IsOfBlock, AreOfBlocks}
 use Rattle.inbox_queue.specs.MainQueue.{AreSilent, time_of, Goes, KeepsReached, HasMoved, HasPosted, HasHalted}
 use Rattle.inbox_queue.specs.Opened.{IsPlayed}
-use Rattle.inbox_queue.proofs.Driving.{Led, nothing_fresh, start_reached}
+use Rattle.inbox_queue.proofs.Driving.{Led}
 
 -- the time is before a block's, or nothing has come yet
 abbrev pub IsAhead : List Entry → Block → Type 0
@@ -43,7 +45,7 @@ all_ahead [] = tt
 all_ahead (b ∷ bs) = (inr refl, all_ahead bs)
 
 -- a time that is ahead is reached, and nothing has come since then
-arrived : (threads time : ℕ) (past now : List Entry) → (time_of past < time) ⊎ (past ≡ []) → HasMoved threads time past now → (time_of now ≡ time) × (is_fresh now ≡ true)
+arrived : (threads time : ℕ) (past now : List Entry) → (time_of past < time) ⊎ (past ≡ []) → HasMoved threads time past now → (time_of now ≡ time) × (is_fresh is_posting now ≡ true)
 arrived threads time past now (inl before) moved =
     let most = moved.driven.within (let r : time_of past ≤ time = omega (arith, before) in r) in
     let least = moved.least in
@@ -54,7 +56,7 @@ arrived threads time past now (inr is) moved =
     let least = moved.least in (
       (let r : time_of now ≡ time = omega (arith, most, least) in r),
       dite (dec_lt 0 time) (λ some. moved.fresh (let r : time_of past < time = omega (arith, z, some) in r))
-          (λ no_more. ap is_fresh (moved.start (let r : time ≡ 0 = omega arith in r) ∙ is) ∙ nothing_fresh),
+          (λ no_more. ap (is_fresh is_posting) (moved.start (let r : time ≡ 0 = omega arith in r) ∙ is) ∙ nothing_fresh is_posting),
     )
 
 -- so the time that was ahead was moved to
@@ -69,10 +71,6 @@ ahead_reached threads time past now (inr is) moved =
 reached_on : (bs : List Block) (past now : List Entry) → KeepsReached past now → AreReached bs past → AreReached bs now
 reached_on [] past now kept h = tt
 reached_on (b ∷ bs) past now kept h = (kept b.time h.0, reached_on bs past now kept h.1)
-
-reached-snoc : (bs : List Block) (b : Block) (es : List Entry) → AreReached bs es → is_reached b.time es ≡ true → AreReached (bs ++ b ∷ []) es
-reached-snoc [] b es h one = (one, tt)
-reached-snoc (c ∷ cs) b es h one = (h.0, reached-snoc cs b es h.1 one)
 
 -- at the start
 pub ran_none : (s : Script) (threads : ℕ) (es : List Entry) → es ≡ [] → Ran s threads [] s.blocks [] es
@@ -118,7 +116,7 @@ ran_more s threads done rest b lists parcels w0 w1 w2 blocks rises early planned
       ahead = later_all w2 b.time rest now (and_parts (list_all (λ (later : Block). nat_lt b.time later.time) rest) (rise rest) rises).0;
       within = let r : time_of w2 ≤ s.end = omega (arith, now, le) in r;
       reached = reached_on (done ++ b ∷ []) w1 w2 posted.kept
-          (reached-snoc done b w1 (reached_on done w0 w1 moved.driven.kept ran.reached) (ahead_reached threads b.time w0 w1 ran.ahead.0 moved));
+          (one_reached done b w1 (reached_on done w0 w1 moved.driven.kept ran.reached) (ahead_reached threads b.time w0 w1 ran.ahead.0 moved));
     }
 
 -- the end

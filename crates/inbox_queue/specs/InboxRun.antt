@@ -1,6 +1,6 @@
 -- When a report is an inbox run of a script.
-use Rattle.std.specs.Prelude.{◌≡◌, ◌<◌, ◌≤◌, ◌+◌, ℕ, ◌==◌, ◌&&◌, ◌||◌, not, Bool, true, false, List, [], ◌∷◌, ◌++◌, map, Option, None, if◌then◌else◌}
-use Rattle.std.specs.List.{AllByRecursion, fold, list_any}
+use Rattle.std.specs.Prelude.{◌≡◌, ◌<◌, ◌≤◌, ◌+◌, ℕ, ◌==◌, ◌||◌, not, Bool, true, false, List, [], ◌∷◌, ◌++◌, map, Option, None, if◌then◌else◌}
+use Rattle.std.specs.List.{AllByRecursion}
 use Rattle.std.specs.Option.{option_map_or}
 use Rattle.loop_model.specs.declared.post.Post.{Post as PostData}
 use Rattle.loop_model.specs.declared.call.Call.{Call}
@@ -20,6 +20,7 @@ use Rattle.run_model.specs.Histories.{history_of}
 use Rattle.run_model.specs.Asks.{entries_by}
 use Rattle.run_model.specs.Control.{is_advance, is_controlled, is_called_in_time, ends_halted, each_behind}
 use Rattle.run_model.specs.Moves.{is_planned_time}
+use Rattle.run_model.specs.Fresh.{is_fresh, AreReached}
 use Rattle.run_model.specs.Run.{setting_of}
 use Rattle.inbox_queue.specs.declared.parcel.Parcel.{Parcel}
 use Rattle.inbox_queue.specs.declared.run.InboxReport.{InboxReport}
@@ -86,17 +87,13 @@ abbrev pub is_post : Call → Bool
 is_post (Post p) = true
 is_post _ = false
 
--- the entry moves the time; or only posts had come since it was last moved, and the entry is one more
-abbrev pub fresh_behind : Bool → Entry → Bool
-fresh_behind fresh e = is_advance e.call || (fresh && is_post e.call)
-
--- since the time was last moved, or from the start, only posts have come
-unfoldable pub is_fresh : List Entry → Bool
-is_fresh es = fold fresh_behind true es
+-- the entry is a post
+abbrev pub is_posting : Entry → Bool
+is_posting e = is_post e.call
 
 -- no post; or one before which only posts have come since the time was last moved
 abbrev pub comes_first : List Entry → Entry → Bool
-comes_first past e = not (is_post e.call) || is_fresh past
+comes_first past e = not (is_posting e) || is_fresh is_posting past
 
 -- the message, if there is one, is due at this time
 abbrev pub is_due_at : ℕ → Option Item → Bool
@@ -109,18 +106,6 @@ may_be_moved_to s past time = is_planned_time s time || is_due_at time (first_el
 -- no move of the time; or one to such a time
 abbrev pub moves_as_planned : Script → List Entry → Entry → Bool
 moves_as_planned s past e = not (is_advance e.call) || may_be_moved_to s past (moment_of e.call)
-
--- the entry moves the time to this one
-abbrev pub moves_to : ℕ → Entry → Bool
-moves_to time e = is_advance e.call && moment_of e.call == time
-
--- the time is the start's, or the queue's time was moved to it
-unfoldable pub is_reached : ℕ → List Entry → Bool
-is_reached time es = time == 0 || list_any (moves_to time) es
-
--- so it is with the time of each of these blocks
-abbrev pub AreReached : List Block → List Entry → Type 0
-AreReached blocks es = AllByRecursion (λ (b : Block). is_reached b.time es ≡ true) blocks
 
 -- the report is an inbox run of the script
 pub record IsInboxRun (s : Script) (r : InboxReport) : Type 0 where

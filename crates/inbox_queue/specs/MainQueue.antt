@@ -23,7 +23,8 @@ use Rattle.inbox_queue.specs.declared.main_queue.Look.{Look}
 use Rattle.inbox_queue.specs.declared.main_queue.Look.TheVariants.{Taken, Waits, Other}
 use Rattle.inbox_queue.specs.declared.main_queue.Move.{Move}
 use Rattle.inbox_queue.specs.declared.main_queue.Move.TheVariants.{There, Stays, NoMemory}
-use Rattle.inbox_queue.specs.InboxRun.{unslotted, IsPostOrLook, posts_made, posts_at, is_fresh, comes_first, is_reached, moves_as_planned}
+use Rattle.inbox_queue.specs.InboxRun.{unslotted, IsPostOrLook, posts_made, posts_at, is_posting, comes_first, moves_as_planned}
+use Rattle.run_model.specs.Fresh.{is_fresh, is_reached}
 
 -- how many threads there are: their senders' numbers are below that of the looper
 abbrev pub threads_of : Hands → ℕ
@@ -145,14 +146,14 @@ IsUnderWay threads time past now = HasDriven threads time past now × (time_of p
 pub record HasMoved (threads time : ℕ) (past now : List Entry) : Type 0 where
   pub driven : HasDriven threads time past now
   pub least : time ≤ time_of now
-  pub fresh : time_of past < time → is_fresh now ≡ true
+  pub fresh : time_of past < time → is_fresh is_posting now ≡ true
   pub reached : time_of past < time → is_reached time now ≡ true
   pub start : time ≡ 0 → now ≡ past
 
 -- the looper has posted what these parcels hold, in order
 pub record HasPosted (threads : ℕ) (parcels : List Parcel) (past now : List Entry) : Type 0 where
-  pub goes : (s : Script) → is_fresh past ≡ true → Goes threads s past → Goes threads s now
-  pub fresh : is_fresh past ≡ true → is_fresh now ≡ true
+  pub goes : (s : Script) → is_fresh is_posting past ≡ true → Goes threads s past → Goes threads s now
+  pub fresh : is_fresh is_posting past ≡ true → is_fresh is_posting now ≡ true
   pub posts : posts_made threads now ≡ posts_made threads past ++ posts_at (time_of past) parcels
   pub time : time_of now ≡ time_of past
   pub kept : KeepsReached past now

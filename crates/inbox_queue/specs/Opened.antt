@@ -14,7 +14,8 @@ use Rattle.inbox_queue.specs.declared.parcel.Parcel.{Parcel}
 use Rattle.inbox_queue.specs.declared.run.Opened.{Opened}
 use Rattle.inbox_queue.specs.declared.run.InboxRan.{InboxRan}
 use Rattle.inbox_queue.specs.declared.run.InboxRan.TheVariants as ran
-use Rattle.inbox_queue.specs.InboxRun.{AreOfBlocks, posts_made, posts_admitted, AreReached, IsInboxRun}
+use Rattle.inbox_queue.specs.InboxRun.{AreOfBlocks, posts_made, posts_admitted, IsInboxRun}
+use Rattle.run_model.specs.Fresh.{AreReached}
 use Rattle.inbox_queue.specs.MainQueue.{IsAt, threads_of, AreSilent, HasEnded}
 use Rattle.inbox_queue.specs.Turned.{Sender}
 use Rattle.inbox_queue.specs.Bad.{bad_line}

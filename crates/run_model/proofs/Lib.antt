@@ -22,3 +22,4 @@ pub mod NotRunsByClock
 pub mod Growth
 pub mod FrameKeeping
 pub mod ControlLaws
+pub mod FreshLaws

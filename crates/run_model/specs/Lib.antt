@@ -9,6 +9,7 @@ pub mod Loopers
 pub mod FrameRuns
 pub mod Acts
 pub mod Moves
+pub mod Fresh
 pub mod Run
 pub mod Text
 pub mod Summary

@@ -3,7 +3,6 @@ use Rattle.std.proofs.Common.{◌≡◌, ◌<◌, ◌≤◌, inl, inr, ℕ, true
 use Rattle.std.specs.Prelude.{not, nat_lt}
 use Rattle.std.specs.List.{AllByRecursion}
 use Rattle.std.proofs.lemmas.Bool.{and_from, or_left, or_right, eq-eqb, le-ltb, lt-ltb}
-use Rattle.std.proofs.lemmas.List.Sums.{fold-append}
 use mathlib.Core.Logic.{dite}
 use native.Mathlib.Decide.{dec_lt}
 use Rattle.loop_model.specs.declared.base.Base.{Base}
@@ -13,35 +12,22 @@ use Rattle.loop_model.specs.Answers.{Setting}
 use Rattle.loop_model.specs.Legal.{AreNumbered}
 use Rattle.loop_model.proofs.AfterLaws.{disposed_stays}
 use Rattle.run_model.specs.Asks.{entries_by}
-use Rattle.run_model.specs.Control.{is_advance, each_behind}
+use Rattle.run_model.specs.Control.{each_behind}
 use Rattle.run_model.proofs.ControlLaws.{each_behind-snoc, each_behind-append}
 use Rattle.run_model.proofs.RunLaws.{entries_by-others}
-use Rattle.dash_stage.specs.Blocks.{fresh_behind, is_fresh, comes_first, come_first}
+use Rattle.run_model.proofs.FreshLaws.{fresh_called}
+use Rattle.dash_stage.specs.Blocks.{is_threads, comes_first, come_first}
 use Rattle.dash_stage.specs.AtBlocks.{IsFresh}
 use Rattle.dash_stage.proofs.Stages.Timely.{of_others, own_of_none, numbered_next, no_threads}
-
--- one more entry
-fresh-snoc : (threads : ℕ) (es : List Entry) (e : Entry) → is_fresh threads (es ++ e ∷ []) ≡ fresh_behind threads (is_fresh threads es) e
-unfolding is_fresh
-fresh-snoc threads es e = fold-append (fresh_behind threads) true es (e ∷ [])
-
--- nothing was called
-pub nothing_fresh : (threads : ℕ) → is_fresh threads [] ≡ true
-unfolding is_fresh
-nothing_fresh threads = refl
 
 pub nothing_first : (threads : ℕ) → come_first threads [] ≡ true
 unfolding come_first
 nothing_first threads = refl
 
--- the time was moved last
-pub fresh_moved : (threads : ℕ) (es : List Entry) (e : Entry) → is_advance e.call ≡ true → is_fresh threads (es ++ e ∷ []) ≡ true
-fresh_moved threads es e moves = fresh-snoc threads es e ∙ or_left (is_advance e.call) _ moves
-
 -- a thread called last
-fresh_called : (threads : ℕ) (es : List Entry) (e : Entry) → nat_lt e.sender threads ≡ true → IsFresh threads es → IsFresh threads (es ++ e ∷ [])
-fresh_called threads es e thread (inl gone) = inl (disposed_stays (empty_base 0) es (e ∷ []) gone)
-fresh_called threads es e thread (inr fresh) = inr (fresh-snoc threads es e ∙ or_right (is_advance e.call) _ (and_from _ _ fresh thread))
+thread_called : (threads : ℕ) (es : List Entry) (e : Entry) → nat_lt e.sender threads ≡ true → IsFresh threads es → IsFresh threads (es ++ e ∷ [])
+thread_called threads es e thread (inl gone) = inl (disposed_stays (empty_base 0) es (e ∷ []) gone)
+thread_called threads es e thread (inr fresh) = inr (fresh_called (is_threads threads) es e thread fresh)
 
 -- what comes then comes first
 one_comes_first : (threads : ℕ) (past : List Entry) (e : Entry) → IsFresh threads past → comes_first threads past e ≡ true
@@ -52,7 +38,7 @@ one_comes_first threads past e (inr fresh) = or_right _ _ (or_right _ _ fresh)
 threads_come_first : (threads : ℕ) (past es : List Entry) → AllByRecursion (λ e. nat_lt e.sender threads ≡ true) es → IsFresh threads past → each_behind (comes_first threads) past es ≡ true
 threads_come_first threads past [] all fresh = refl
 threads_come_first threads past (e ∷ es) all fresh =
-    and_from _ _ (one_comes_first threads past e fresh) (threads_come_first threads (past ++ e ∷ []) es all.1 (fresh_called threads past e all.0 fresh))
+    and_from _ _ (one_comes_first threads past e fresh) (threads_come_first threads (past ++ e ∷ []) es all.1 (thread_called threads past e all.0 fresh))
 
 -- come first behind a move of the time
 pub first_block : (threads : ℕ) (es more : List Entry) → AllByRecursion (λ e. nat_lt e.sender threads ≡ true) more → IsFresh threads es → come_first threads es ≡ true → come_first threads (es ++ more) ≡ true

@@ -29,7 +29,8 @@ use Rattle.dash_stage.specs.Records.{AreQueueRecords, HaveAll}
 use Rattle.dash_hall.specs.Hearing.{seen_by, HaveSeenAll}
 use Rattle.dash_stage.specs.Sharing.{OfThreads, OfLoopers, OfKits}
 use Rattle.dash_stage.specs.Timeliness.{whole_on, AreSound, IsTimelyUpTo}
-use Rattle.dash_stage.specs.Blocks.{come_first, AreBlocksFirst, AreReached, main_entries, AreBlocksReached}
+use Rattle.run_model.specs.Fresh.{AreReached}
+use Rattle.dash_stage.specs.Blocks.{come_first, AreBlocksFirst, main_entries, AreBlocksReached}
 use Rattle.dash_hall.proofs.Badges.{alike_length, queue_count, poster_at}
 use Rattle.dash_stage.proofs.Sharing.Casting.{first_more}
 use Rattle.dash_stage.proofs.Ends.HallEnds.{some_of}
@@ -239,7 +240,7 @@ module _ (s : Script) (hall : Hall) (kits : List Kit) (records : List QueueRecor
       let d = some_of c.kit.posters.items 0 (within in_lockstep s hall kits records h are c held recs all seen 0 lt) in
       let r = some_of records 0 lt in
       let same : whole_on c 0 d ≡ main_entries records = sym (is_seen in_lockstep s hall kits records h are c held recs all seen 0 d r lt) ∙ main_entries_at records r lt in
-      subst (AreReached (controller s) s.blocks) same ((timely all_sound 0 d (within in_lockstep s hall kits records h are c held recs all seen 0 lt)).reached refl)
+      subst (AreReached s.blocks) same ((timely all_sound 0 d (within in_lockstep s hall kits records h are c held recs all seen 0 lt)).reached refl)
 
 -- a run that has ended in lockstep has ended, where no moment is asked for
 pub ended_in_step : (s : Script) (st : Stage) → HasEndedInLockstep s st → HasEndedBy in_lockstep s st

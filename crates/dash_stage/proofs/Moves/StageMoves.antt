@@ -37,7 +37,7 @@ use Rattle.dash_hall.specs.Hearing.{AtEach, HaveHeard}
 use Rattle.dash_threads.specs.Threads.{ThreadKeeps}
 use Rattle.dash_stage.specs.Sharing.{HaveSeenTheSame}
 use Rattle.dash_stage.specs.Timeliness.{whole_on, AreSound, IsTimelyUpTo, AreTimelyUpTo, AreBy, HasNoneBefore, AreDue, EachTurnsOn, MovesTo}
-use Rattle.dash_stage.proofs.BlockTimes.BlocksReached.{all_reached_on}
+use Rattle.run_model.proofs.FreshLaws.{all_reached_on}
 use Rattle.dash_stage.proofs.Controller.Controls.{main_is_not_over, side_is_not_halted, looks_dispose}
 use Rattle.dash_stage.proofs.BlockTimes.BlockOrder.{in_order_one}
 use Rattle.dash_stage.proofs.Stages.Timely.{back_all, none_of, none_front, of_others, is_whole, in_time_one, before_quit_one, timely_others}
@@ -140,7 +140,7 @@ module _ (s : Script) (past : List Block) (q now : ℕ) (es whole : List Entry) 
         before_quit = before_quit_one s.threads (controller s) es e (controls_above s e t.3) before.before_quit;
         threads = λ k lt. timely_others k _ es (e ∷ []) (entries_by-others k (e ∷ []) (other_entry k (controller s) e t.3 (λ at. absurd (omega (arith, at, lt))), tt)) (before.threads k lt);
         in_order = in_order_one s q es e (controls_above s e t.3) before.in_order;
-        reached = λ main. all_reached_on (controller s) past es (e ∷ []) (before.reached main);
+        reached = λ main. all_reached_on past es (e ∷ []) (before.reached main);
       })
 
 -- a turn leaves what it found, and maybe more

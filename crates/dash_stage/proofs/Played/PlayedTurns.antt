@@ -36,12 +36,13 @@ use Rattle.dash_stage.specs.Controllers.{are_advances, time_in, calls_on}
 use Rattle.dash_stage.specs.Stages.{IsStage}
 use Rattle.dash_stage.specs.Sharing.{HaveSeenTheSame}
 use Rattle.dash_stage.specs.Timeliness.{whole_on, AreSound, AreBy, AreRested, HasNoneBefore, AreDue, EachTurnsOn, MovesTo, MovesNot, HaveCome}
-use Rattle.dash_stage.specs.Blocks.{come_first}
+use Rattle.dash_stage.specs.Blocks.{is_threads, come_first}
 use Rattle.dash_stage.specs.AtBlocks.{IsAtBlock}
 use Rattle.dash_stage.specs.Playing.{AreAtBlock, LiesAhead, HaveComeFirst, IsInTime, AreInTime, IsInStep, IsStuck, AreStuck}
 use Rattle.dash_stage.proofs.Controller.Controls.{time_by_controller}
 use Rattle.dash_stage.proofs.Stages.Timely.{clock_stays, has_disposed_same, on_time_open, on_time_gone}
-use Rattle.dash_stage.proofs.BlockTimes.BlocksFirst.{nothing_fresh, fresh_moved, first_block, first_one, all_threads}
+use Rattle.run_model.proofs.FreshLaws.{nothing_fresh, fresh_moved}
+use Rattle.dash_stage.proofs.BlockTimes.BlocksFirst.{first_block, first_one, all_threads}
 use Rattle.dash_stage.proofs.Ends.HallEnds.{some_of}
 use Rattle.dash_stage.proofs.Stages.StageWhole.{queues_count, controller_entries, sound_grown, none_behind}
 use Rattle.dash_stage.proofs.Moves.StageMoves.{controls_above, moved_is_open, turned_on, turned_left, grown_by_turns, sound_by_turns, over_is_disposed}
@@ -131,7 +132,7 @@ nothing_called : (threads time : ℕ) → time ≡ 0 → IsAtBlock threads time 
 unfolding clock has_disposed
 nothing_called threads time zero = record {
   on_time = on_time_open 0 time [] refl (sym zero);
-  fresh = inr (nothing_fresh threads);
+  fresh = inr (nothing_fresh (is_threads threads));
 }
 
 -- the queue was disposed of earlier
@@ -149,7 +150,7 @@ moved_now s q time es e is sound =
     let at = clock_moved base es e time is in
     record {
       on_time = on_time_open (sender_count s) time (es ++ e ∷ []) (moved_is_open (setting_for s q) (sender_count s) es e time is sound.legal) (omega (arith, at, le));
-      fresh = inr (fresh_moved s.threads es e (ap is_advance is));
+      fresh = inr (fresh_moved (is_threads s.threads) es e (ap is_advance is));
     }
 
 -- the threads ran a block, which came first

@@ -37,13 +37,14 @@ use Rattle.dash_stage.specs.Stages.{IsStage, IsStageIn, HaveRun, RunOn, LoopersG
 use Rattle.dash_hall.specs.Hearing.{AtEach, HaveHeard}
 use Rattle.dash_stage.specs.Sharing.{HaveSeenTheSame}
 use Rattle.dash_stage.specs.Timeliness.{whole_on, AreSound, IsTimelyUpTo, AreTimelyUpTo, TurnsOn, EachTurnsOn, HasHaltedLast}
-use Rattle.dash_stage.specs.Blocks.{AreReached}
+use Rattle.run_model.specs.Fresh.{AreReached}
 use Rattle.dash_stage.specs.Playing.{AreAtBlock}
 use Rattle.dash_stage.proofs.Played.OwnLooks.{NoneDisposes}
 use Rattle.dash_stage.proofs.Played.Disposing.{lines_dispose_nothing, none_of_all, none_answered}
 use Rattle.dash_stage.proofs.Controller.Controls.{looks_dispose}
 use Rattle.dash_stage.proofs.BlockTimes.Blocks.{lines_more}
-use Rattle.dash_stage.proofs.BlockTimes.BlocksReached.{all_reached_on, one_reached, main_reached}
+use Rattle.run_model.proofs.FreshLaws.{all_reached_on, one_reached}
+use Rattle.dash_stage.proofs.BlockTimes.BlocksReached.{main_reached}
 use Rattle.dash_stage.proofs.BlockTimes.BlockOrder.{called_in, in_order_block, in_order_one}
 use Rattle.dash_stage.proofs.Stages.Timely.{back_all, in_time_one, in_time_more, before_quit_one, before_quit_block, moves_quit_not, timely_others, timely_block}
 use Rattle.dash_stage.proofs.Ends.HallEnds.{some_of}
@@ -179,8 +180,8 @@ block_timely s st st' b past rest next rising moving is is' run run' kept heard 
         threads = λ k few. block_on_time s q es whole front sound' controlled past b k keeps (at sounds_before q d lt).on_time (were k few) (are k few) (was.threads k few);
         in_order = subst (λ (l : List Entry). are_in_order s q l ≡ true) front.1
             (in_order_block s q past rest b next rising es front.0 were (λ k few. are k few ∙ ap (λ (l : List Entry). length (entries_by k l)) (sym front.1)) was.in_order);
-        reached = λ main. subst (AreReached (controller s) (past ++ b ∷ [])) front.1
-            (all_reached_on (controller s) (past ++ b ∷ []) es front.0 (one_reached (controller s) past b es (was.reached main)
+        reached = λ main. subst (AreReached (past ++ b ∷ [])) front.1
+            (all_reached_on (past ++ b ∷ []) es front.0 (one_reached past b es (was.reached main)
             (main_reached s b.time es (subst (λ (n : ℕ). IsSoundOn s n es) main (sounds_before q d lt)) (ap (are_advances s.end) (controller_entries s st is q d lt) ∙ moving q d lt) (at sounds_before q d lt).on_time)));
       };
 }
@@ -194,7 +195,7 @@ timely_other s past q es e in_time sender timely = record {
   before_quit = before_quit_one s.threads (controller s) es e (controls_above s e sender) timely.before_quit;
   threads = λ k lt. timely_others k _ es (e ∷ []) (entries_by-others k (e ∷ []) (ne_eqb e.sender k (λ at. absurd (omega (arith, at, sender, lt))), tt)) (timely.threads k lt);
   in_order = in_order_one s q es e (controls_above s e sender) timely.in_order;
-  reached = λ main. all_reached_on (controller s) past es (e ∷ []) (timely.reached main);
+  reached = λ main. all_reached_on past es (e ∷ []) (timely.reached main);
 }
 
 -- what the controller's turn left is in time

@@ -29,7 +29,7 @@ use Rattle.dash_threads.specs.Threads.{ThreadKeeps}
 use Rattle.dash_stage.specs.Sharing.{HaveSeenTheSame}
 use Rattle.dash_stage.specs.Timeliness.{whole_on, AreSound, IsTimelyUpTo, AreTimelyUpTo}
 use Rattle.dash_hall.proofs.Badges.{alike_length, alike_at}
-use Rattle.dash_stage.proofs.BlockTimes.BlocksReached.{all_reached_on}
+use Rattle.run_model.proofs.FreshLaws.{all_reached_on}
 use Rattle.dash_stage.proofs.Controller.Controlling.{poster_count}
 use Rattle.dash_stage.proofs.Ends.HallEnds.{some_of}
 use Rattle.dash_stage.proofs.Sharing.LooperShares.{looper_within, looper_posters}
@@ -125,7 +125,7 @@ timely_stays s past q es whole front sound controlled threads timely =
       before_quit = before_quit_more s.threads (controller s) es front.0 (λ k lt. none_behind k es whole front (threads k lt)) timely.before_quit;
       threads = λ k lt. timely_others k _ es front.0 (none_behind k es whole front (threads k lt)) (timely.threads k lt);
       in_order = in_order_others s q es front.0 (no_threads s.threads front.0 (λ k lt. none_behind k es whole front (threads k lt))) timely.in_order;
-      reached = λ main. all_reached_on (controller s) past es front.0 (timely.reached main);
+      reached = λ main. all_reached_on past es front.0 (timely.reached main);
     })
 
 -- a thread has made no entry more, nor has another
