@@ -28,57 +28,16 @@ pub record SoFar : Type 0 where
 abbrev pub nothing : SoFar
 nothing = record { period = 0; things = []; open_plan = None; stage = Start }
 
--- a thing or the end may stand where no key is missing
-abbrev pub is_free_kind : RowKind → Bool
-is_free_kind kind.Countdown = true
-is_free_kind kind.Restart = true
-is_free_kind kind.Reverse = true
-is_free_kind kind.End = true
-is_free_kind kind.Head = false
-is_free_kind kind.Period = false
-is_free_kind kind.Key = false
-
--- the line is a key's
-abbrev pub is_key : RowKind → Bool
-is_key kind.Key = true
-is_key kind.Head = false
-is_key kind.Period = false
-is_key kind.Countdown = false
-is_key kind.Restart = false
-is_key kind.Reverse = false
-is_key kind.End = false
-
--- what may stand behind the period: a key where one is missing, else a thing or the end
-abbrev pub fits_body : Option Plan → RowKind → Bool
-fits_body None k = is_free_kind k
-fits_body (Some p) k = is_key k
-
--- the line is the first one
-abbrev pub is_head : RowKind → Bool
-is_head kind.Head = true
-is_head kind.Period = false
-is_head kind.Countdown = false
-is_head kind.Restart = false
-is_head kind.Reverse = false
-is_head kind.Key = false
-is_head kind.End = false
-
--- the line is that of the period
-abbrev pub is_period : RowKind → Bool
-is_period kind.Period = true
-is_period kind.Head = false
-is_period kind.Countdown = false
-is_period kind.Restart = false
-is_period kind.Reverse = false
-is_period kind.Key = false
-is_period kind.End = false
-
--- a line of this kind may stand here
+-- a line of this kind may stand here: behind the period a key where one is missing, else a thing or the end
 abbrev pub may_stand : Stage → Option Plan → RowKind → Bool
-may_stand Start p k = is_head k
-may_stand Headed p k = is_period k
-may_stand Body p k = fits_body p k
-may_stand Ended p k = false
+may_stand Start p kind.Head = true
+may_stand Headed p kind.Period = true
+may_stand Body (Some p) kind.Key = true
+may_stand Body None kind.Countdown = true
+may_stand Body None kind.Restart = true
+may_stand Body None kind.Reverse = true
+may_stand Body None kind.End = true
+may_stand _ _ _ = false
 
 -- the number is within its limits
 abbrev pub is_within : Role → ℕ → Bool
@@ -169,6 +128,4 @@ with_row d kind.End ns = record d { stage = Ended }
 -- the last line has come
 abbrev pub is_ended_stage : Stage → Bool
 is_ended_stage Ended = true
-is_ended_stage Start = false
-is_ended_stage Headed = false
-is_ended_stage Body = false
+is_ended_stage _ = false
