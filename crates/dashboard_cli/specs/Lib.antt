@@ -6,7 +6,6 @@ pub mod CommandLine
 pub mod Verdicts
 pub mod InboxText
 pub mod Returns
-pub mod Makings
 pub mod Works
 pub mod Answers
 pub mod Steps

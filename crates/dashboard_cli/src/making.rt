@@ -3,8 +3,8 @@ ghost use Rattle.std.specs.Prelude.{◌≡◌, [], None, IfErr, IfOk};
 ghost use Rattle.dash_script.specs.Reading.{HasText};
 ghost use Rattle.dashboard_cli.specs.Answers.{CountsReads, MakesOf};
 ghost use Rattle.dashboard_cli.specs.Steps.{HasRun, HasRunFree, Stops, IsNone};
-ghost use Rattle.dashboard_cli.specs.Works.{inbox_scripts, plans, scripts, traces, work, work_by};
-ghost use Rattle.dashboard_cli.specs.Makings.{IsInboxRunOf};
+ghost use Rattle.dashboard_cli.specs.Works.{inbox_scripts, plans, scripts, traces, work, work_by, IsInboxText};
+ghost use Rattle.inbox_queue.specs.InboxRun.{IsInboxRun};
 ghost use Rattle.dash_stage.specs.Staged.{IsStaged, IsStagedByClock};
 ghost use Rattle.value_animator.specs.Plans.{AreValues};
 ghost use Rattle.value_animator.specs.Run.{IsRunOf};
@@ -370,7 +370,7 @@ fn run_with_inbox<R: Threads + Wait + Sync, G: Gate + Sync>(
     input: &[u8],
     gate: &G,
 ) -> Result<InboxReport, Status>
-    ensures ran { IfOk result (IsInboxRunOf input.now) }
+    ensures ran { IfOk result (λ report. IsInboxText input.now report.script × IsInboxRun report.script report) }
     ensures refused { IfErr result (IsNone inbox_scripts input.now) }
 {
     let script = read_script(alloc, input)?;
