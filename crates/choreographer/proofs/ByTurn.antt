@@ -1,5 +1,5 @@
 -- A call that was one turn.
-use Rattle.std.proofs.Common.{◌≡◌, ℕ, ◌+◌, ◌≤◌, Option, List, [], ◌∷◌, ◌++◌, cond, eqb, eq-eqb, map, drop, reverse, Some, None, sym, ap, ◌∙◌, subst, arith, length, length-append}
+use Rattle.std.proofs.Common.{◌≡◌, ℕ, ◌+◌, ◌≤◌, Option, List, [], ◌∷◌, ◌++◌, cond, eqb, eq-eqb, map, drop, reverse, Some, None, refl, sym, ap, ◌∙◌, subst, arith, length, length-append}
 use Rattle.std.specs.Prelude.{◌-◌, Result, Ok, Err, IfOk}
 use mathlib.Core.List.{IsPrefix}
 use Rattle.loop_model.specs.declared.memory.NoMemory.{NoMemory}
@@ -14,19 +14,21 @@ use Rattle.choreographer.specs.declared.view.Progress.{Progress}
 use Rattle.choreographer.specs.declared.view.View.{View}
 use Rattle.choreographer.specs.Frame.{begin_place, progress, progress_of, GrowsQuietly}
 use Rattle.choreographer.specs.Turn.{HasConstants, count_of, holds, last_of, sealed_in, taking, giving}
-use Rattle.choreographer.specs.Plays.{FoundBy, MayGive, MaySeal}
+use Rattle.choreographer.specs.Plays.{Sat, FoundBy, FoundHeard, MayGive, MaySeal}
 use Rattle.choreographer.specs.Steps.{HasSameConstants, StepsBy}
-use Rattle.choreographer.specs.Known.{Known, HasOwn, IsTurn}
+use Rattle.choreographer.specs.Known.{Known, HasOwn, HearsTurn, IsTurn}
 use Rattle.loop_model.proofs.Prefixes.{prefix_self}
+use Rattle.choreographer.proofs.Heard.{entries_given, heard_given, numbers_given, turn_hears}
 use Rattle.choreographer.proofs.Quiet.{grows_self}
 
 same_key : (key c : Constants) (o : Option Constants) → o ≡ Some key → o ≡ Some c → key ≡ c
 same_key key c o e f = let both : Some key ≡ Some c = sym e ∙ f in cc (both)
 
 -- a pass that took the turn, found x, and gave the turn back with y
-pub one_turn : (key : Constants) (before after : Known) (x y : Kept) → after.table ≡ before.table → after.number ≡ before.number → after.view ≡ giving (taking before.view x) y
-    → before.view.constants ≡ Some key → HasConstants key x → HasConstants key y → FoundBy before.view x → IsPrefix x.frames.entries y.frames.entries → IsTurn before after x y
-one_turn key before after x y table number is own_key of_x of_y found grows = record {
+one_turn : (key : Constants) (before after : Known) (x y : Kept) (made : List (ℕ × FrameEntry)) → after.table ≡ before.table → after.number ≡ before.number
+    → after.view ≡ giving (taking before.view x made) y → before.view.constants ≡ Some key → HasConstants key x → HasConstants key y → FoundBy before.view x
+    → IsPrefix x.frames.entries y.frames.entries → HearsTurn before after x y → IsTurn before after x y
+one_turn key before after x y made table number is own_key of_x of_y found grows hears = record {
   table = table;
   number = number;
   constants = ap (λ (v : View). v.constants) is;
@@ -40,12 +42,28 @@ one_turn key before after x y table number is own_key of_x of_y found grows = re
   frame = ap (λ (v : View). v.frame) is;
   own = ap (λ (v : View). v.own) is;
   handed = ap (λ (v : View). v.handed) is;
+  hears = hears;
 }
 
+-- so it is by the two steps of its seat: s is what it knew as it took the turn, and t once it gave it back
+pub turned : (key : Constants) (inside now after : Known) (x y : Kept) (s t : Sat) → inside ≡ now → now.view.constants ≡ Some key → inside.view.passes ≡ inside.number ∷ [] → HasOwn inside.view
+    → s ≡ (taking inside.view x s.0.heard, (0, None) ∷ []) → HasConstants key x × FoundBy inside.view x → FoundHeard inside.view x s.0.heard → HasConstants key y
+    → IsPrefix x.frames.entries y.frames.entries → t ≡ (giving s.0 y, []) × HasOwn t.0 → after ≡ record { table = inside.table; number = inside.number; view = t.0 } → IsTurn now after x y
+turned key inside now after x y s t same own_key one own took found hears of_y grows gave is =
+    let made : List (ℕ × FrameEntry) = s.0.heard in
+    let b : Known = record { table = inside.table; number = inside.number; view = t.0 } in
+    let view : t.0 ≡ giving (taking inside.view x made) y = ap (λ (z : Sat). z.0) gave.0 ∙ ap (λ (z : Sat). giving z.0 y) took in
+    subst (λ (z : Known × Known). IsTurn z.0 z.1 x y) (λ i. (same i, sym is i))
+    (one_turn key inside b x y made refl refl view (ap (λ (p : Known). p.view.constants) same ∙ own_key) found.0 of_y found.1 grows (turn_hears inside b x y made one own hears refl view gave.1))
+
 -- a seat that gives back what it may still has its own
-pub own_given : (key : Constants) (v : View) (x : Kept) → v.constants ≡ Some key → HasOwn v → MaySeal key v x → HasOwn (giving v x)
-own_given key v x own_key own seals = record {
+pub own_given : (key : Constants) (v : View) (x : Kept) → v.constants ≡ Some key → HasOwn v → IsPrefix v.seen x.frames.entries → MaySeal key v x → HasOwn (giving v x)
+own_given key v x own_key own more seals = record {
   part = ap (map (λ part. part ++ drop (length v.seen) x.frames.entries)) own.part;
+  heard = heard_given v x own;
+  seen = entries_given v x own.seen more;
+  below = own.below;
+  numbers = numbers_given v x own;
   handed = λ c e no_last.
       let same : key ≡ c = same_key key c v.constants own_key e in
       let none = own.handed c e no_last in
@@ -54,8 +72,8 @@ own_given key v x own_key own seals = record {
 }
 
 -- where nothing was handed out, the state may be given back
-pub keeps_handed : (key : Constants) (v : View) (x y : Kept) → HasSameConstants x y → MaySeal key (taking v x) y
-keeps_handed key v x y same = let long = ap length same.3 in (omega (arith, long), λ _. long)
+pub keeps_handed : (key : Constants) (v : View) (x y : Kept) (made : List (ℕ × FrameEntry)) → HasSameConstants x y → MaySeal key (taking v x made) y
+keeps_handed key v x y made same = let long = ap length same.3 in (omega (arith, long), λ _. long)
 
 -- the last pass, where it is a view's only one
 pub holds_last : (key : Constants) (v : View) (number : ℕ) → v.passes ≡ number ∷ [] → number + 1 ≡ key.passes → holds (last_of key) v ≡ 1
@@ -64,8 +82,9 @@ holds_last key v number only last =
     ap (count_of (last_of key)) only ∙ omega (arith, here)
 
 -- its seat may hand entries out
-pub may_seal : (key : Constants) (v : View) (x y : Kept) (number : ℕ) → v.passes ≡ number ∷ [] → number + 1 ≡ key.passes → length x.frames.sealed ≤ length y.frames.sealed → MaySeal key (taking v x) y
-may_seal key v x y number only last more = (more, λ no_last. absurd (let one = holds_last key v number only last in omega (arith, one, no_last)))
+pub may_seal : (key : Constants) (v : View) (x y : Kept) (made : List (ℕ × FrameEntry)) (number : ℕ) → v.passes ≡ number ∷ [] → number + 1 ≡ key.passes → length x.frames.sealed ≤ length y.frames.sealed
+    → MaySeal key (taking v x made) y
+may_seal key v x y made number only last more = (more, λ no_last. absurd (let one = holds_last key v number only last in omega (arith, one, no_last)))
 
 -- a state with the entries that were found may be given back
 pub same_gives : (v : View) (x y : Kept) → v.seen ≡ x.frames.entries → y.frames.entries ≡ x.frames.entries → MayGive v y

@@ -1,12 +1,14 @@
 -- Entries beside the numbers of the passes that recorded them.
-use Rattle.std.proofs.Common.{◌≡◌, ◌≢◌, ℕ, ◌==◌, Bool, cond, eqb, Option, Some, None, List, [], ◌∷◌, ◌++◌, map, length, take, drop, get_or, refl, sym, ap, ◌∙◌, arith, eq-eqb, ne_eqb, append-nil}
+use Rattle.std.proofs.Common.{◌≡◌, ◌≢◌, ℕ, ◌==◌, Bool, cond, eqb, Option, Some, None, List, [], ◌∷◌, ◌++◌, map, length, take, drop, get_or, refl, sym, ap, ◌∙◌, arith, eq-eqb, ne_eqb, append-nil, length-append}
 use Rattle.std.specs.Prelude.{if◌then◌else◌}
 use Rattle.std.specs.List.{cons_option}
 use Rattle.std.proofs.lemmas.List.Elements.{filter_map-append}
 use mathlib.Core.Logic.{dite}
 use native.Mathlib.Decide.{ℕ_discrete}
+use mathlib.Core.List.{IsPrefix}
+use Rattle.std.proofs.lemmas.List.{nil_from_length}
 use Rattle.frame_phases.specs.Parting.{dealt_to}
-use Rattle.choreographer.specs.Turn.{count_of}
+use Rattle.choreographer.specs.Turn.{count_of, all_by}
 
 -- a list of one element
 pub only_first : (ps : List ℕ) → length ps ≡ 1 → ps ≡ get_or ps 0 0 ∷ []
@@ -24,10 +26,6 @@ map-drop_one f [] = refl
 map-drop_one f (x ∷ xs) = refl
 
 module _ {X : Type 0} where
-  -- these, each recorded by the one pass
-  abbrev pub all_by : ℕ → List X → List (ℕ × X)
-  all_by n xs = map (λ (x : X). (n, x)) xs
-
   pub all_by-elements : (n : ℕ) (xs : List X) → map (λ (d : ℕ × X). d.1) (all_by n xs) ≡ xs
   all_by-elements n [] = refl
   all_by-elements n (x ∷ xs) = ap (λ l. x ∷ l) (all_by-elements n xs)
@@ -58,6 +56,26 @@ module _ {X : Type 0} where
   pub dealt_same : (k n : ℕ) (made : List (ℕ × X)) (more : List X) → n ≢ k → dealt_to k (made ++ all_by n more) ≡ dealt_to k made
   dealt_same k n made more apart =
       dealt_more k made (all_by n more) ∙ (ap (λ l. dealt_to k made ++ l) (dealt_else k n more apart) ∙ append-nil (dealt_to k made))
+
+  -- between two lists of which the same is dealt to a pass no more is
+  dealt_within : (n : ℕ) (xs ys zs : List (ℕ × X)) → IsPrefix xs ys → IsPrefix ys zs → dealt_to n xs ≡ dealt_to n zs → dealt_to n ys ≡ dealt_to n xs
+  dealt_within n xs ys zs p q same =
+      let one : dealt_to n ys ≡ dealt_to n xs ++ dealt_to n p.0 = ap (dealt_to n) (sym p.1) ∙ dealt_more n xs p.0 in
+      let two : dealt_to n zs ≡ dealt_to n ys ++ dealt_to n q.0 = ap (dealt_to n) (sym q.1) ∙ dealt_more n ys q.0 in
+      let a = ap length one in
+      let b = ap length two in
+      let c = ap length same in
+      let d = length-append (dealt_to n xs) (dealt_to n p.0) in
+      let e = length-append (dealt_to n ys) (dealt_to n q.0) in
+      one ∙ (ap (λ l. dealt_to n xs ++ l) (nil_from_length (dealt_to n p.0) (omega (arith, a, b, c, d, e))) ∙ append-nil (dealt_to n xs))
+
+  pub parts_within : (ns : List ℕ) (xs ys zs : List (ℕ × X)) → IsPrefix xs ys → IsPrefix ys zs → map (λ n. dealt_to n xs) ns ≡ map (λ n. dealt_to n zs) ns
+      → map (λ n. dealt_to n ys) ns ≡ map (λ n. dealt_to n xs) ns
+  parts_within [] xs ys zs p q same = refl
+  parts_within (n ∷ ns) xs ys zs p q same =
+      let first : dealt_to n xs ≡ dealt_to n zs = ap (λ l. get_or l 0 []) same in
+      let rest = parts_within ns xs ys zs p q (ap (drop 1) same) in
+      λ i. dealt_within n xs ys zs p q first i ∷ rest i
 
   -- nor to any of these, where its number does not stand among theirs
   pub dealt_same_all : (n : ℕ) (ps : List ℕ) (made : List (ℕ × X)) (more : List X) → count_of n ps ≡ 0 → map (λ k. dealt_to k (made ++ all_by n more)) ps ≡ map (λ k. dealt_to k made) ps

@@ -21,5 +21,5 @@ pub untold_front : (views more : List View) → AreUntold (views ++ more) → Ar
 untold_front views more untold j u there = untold j u (at_longer views more j u there)
 
 -- a view that was told a list is told one
-pub told_one : (views : List View) (id : ℕ) (v w : View) (x : List FrameEntry) (xs : List (List FrameEntry)) → get_elem? views id ≡ some v → w.told ≡ x ∷ xs → AreUntold (set views id w) → ⊥
+pub told_one : (views : List View) (id : ℕ) (v w : View) (x : List (ℕ × FrameEntry)) (xs : List (List (ℕ × FrameEntry))) → get_elem? views id ≡ some v → w.told ≡ x ∷ xs → AreUntold (set views id w) → ⊥
 told_one views id v w x xs at is untold = has_first x xs (sym is ∙ untold id w (set_at views id v w at))

@@ -1,10 +1,12 @@
 pub mod Below
+pub mod AskedInTurn
 pub mod Parting
 pub mod Examples
 pub mod RunBut
 pub mod ByTests
 pub mod Table
 pub mod OneFault
+pub mod Led
 pub mod WorkedPosts
 pub mod WorkedRemovals
 pub mod WorkedQuits
@@ -16,6 +18,7 @@ pub mod NotRunsGauges
 pub mod NotRunsFrames
 pub mod NotRunsTimes
 pub mod NotRunsMoves
+pub mod NotRunsTurns
 pub mod RunLaws
 pub mod FreeRun
 pub mod NotRunsByClock

@@ -1,13 +1,9 @@
 -- Reports that are no runs of their script: what is asked of a choreographer by lines, and its record has a fault.
-use Rattle.std.proofs.Common.{◌≡◌, ℕ, Bool, true, false, List, [], ◌∷◌, ◌++◌, Some, None, refl, sym, ap, subst, ◌⊎◌, inl, inr}
+use Rattle.std.proofs.Common.{◌≡◌, ℕ, Bool, true, List, [], ◌∷◌, ◌++◌, Some, None, refl}
 use Rattle.std.specs.List.{AllByRecursion}
-use mathlib.Core.List.{Sublistᴰ}
-use mathlib.Core.List.Sublistᴰ
-use mathlib.Core.Logic.{∥∥₁_elim}
 use Rattle.loop_model.specs.declared.call.Call.TheVariants as call
 use Rattle.loop_model.specs.declared.reply.Reply.TheVariants as reply
 use Rattle.loop_model.specs.declared.entry.Entry.{Entry}
-use Rattle.loop_model.specs.declared.journal.Act.{Act}
 use Rattle.loop_model.specs.declared.journal.Act.TheVariants as act
 use Rattle.loop_model.specs.declared.journal.Route.TheVariants as route
 use Rattle.frame_phases.specs.declared.entry.FrameEntry.{FrameEntry}
@@ -20,33 +16,27 @@ use Rattle.dash_script.specs.declared.script.Script.{Script}
 use Rattle.run_model.specs.Histories.{history_of}
 use Rattle.run_model.specs.Moments.{in_lockstep}
 use Rattle.run_model.specs.Loopers.{Looper, first_looper}
-use Rattle.run_model.specs.Acts.{Lead}
-use Rattle.run_model.specs.FrameAsks.{FrameAsk, Posts, Removes, Runs, AreAskedBy, asks_in}
+use Rattle.run_model.specs.FrameAsks.{asks_in}
 use Rattle.run_model.specs.Run.{IsRun, asked_of}
 use Rattle.run_model.proofs.Examples.{entry, frame_message, halted_at, handler_on, block, by, plain_script, callback}
 use Rattle.run_model.proofs.RunBut as but
 use Rattle.run_model.proofs.Table.{Row, quiet, queue_in, report_of, computing}
-use Rattle.run_model.proofs.Parting.{can_ask, parted_can_ask, part_stands}
-use Rattle.run_model.proofs.OneFault.{Faulty, faulty, Fails, each_fails, FailsBy, fails_by}
+use Rattle.run_model.proofs.Parting.{can_ask, parted_can_ask}
+use Rattle.run_model.proofs.Led.{any_led, led_passes}
+use Rattle.run_model.proofs.OneFault.{Faulty, faulty, Fails, each_fails}
 
--- the frame record tells what the script's lines ask for, where the looper's acts cause nothing
-abbrev tells_asked : Script → List FrameEntry → List Act → Bool
-tells_asked s fs [] = can_ask (asks_in fs) (asked_of s 0 (first_looper s))
-tells_asked s fs (act ∷ acts) = true
-
-abbrev main_tells_asked : Script → List Row → Bool
+-- main's frame record tells what is asked for, by something that its acts may lead to
+abbrev pub main_tells_asked : Script → List Row → Bool
 main_tells_asked s [] = true
-main_tells_asked s (row ∷ rows) = tells_asked s row.frames row.acts
+main_tells_asked s (row ∷ rows) =
+    any_led (λ (b : Looper). can_ask (asks_in row.frames) (asked_of s 0 b)) s 0 (history_of (queue_in s 0 row)) row.frames (first_looper s) row.acts
 
-told_by_acts : (s : Script) (es : List Entry) (fs : List FrameEntry) (acts : List Act) (b : Looper) → Lead s 0 es fs (first_looper s) acts b
-    → AreAskedBy true (asks_in fs) (asked_of s 0 b) → tells_asked s fs acts ≡ true
-told_by_acts s es fs [] b is same =
-    parted_can_ask (asks_in fs) (asked_of s 0 (first_looper s)) (subst (λ (x : Looper). AreAskedBy true (asks_in fs) (asked_of s 0 x)) (sym is) same)
-told_by_acts s es fs (act ∷ acts) b led same = refl
-
-told_by_run : (s : Script) (rows : List Row) → IsRun in_lockstep s (report_of s rows) → main_tells_asked s rows ≡ true
+pub told_by_run : (s : Script) (rows : List Row) → IsRun in_lockstep s (report_of s rows) → main_tells_asked s rows ≡ true
 told_by_run s [] r = refl
-told_by_run s (row ∷ rows) r = told_by_acts s (history_of (queue_in s 0 row)) row.frames row.acts r.loopers.0.final r.loopers.0.acts r.loopers.0.asked
+told_by_run s (row ∷ rows) r =
+    let l = r.loopers.0 in
+    led_passes (λ (b : Looper). can_ask (asks_in row.frames) (asked_of s 0 b)) s 0 (history_of (queue_in s 0 row)) row.frames (first_looper s) row.acts l.final l.acts
+    (parted_can_ask (asks_in row.frames) (asked_of s 0 l.final) l.asked)
 
 -- a script with one line at its end, and this frame record
 abbrev unasked : Command → List FrameEntry → Faulty
@@ -60,6 +50,12 @@ posts_frame = command.Frame 0 3 8 0
 -- a thread posts a frame callback and removes it
 abbrev posts_and_removes : ℕ → List Line
 posts_and_removes thread = by thread (command.Frame 0 0 8 0) ∷ by thread (command.Unframe 0 0 8) ∷ []
+
+-- a frame at 17
+abbrev one_frame_entries : List Entry
+one_frame_entries =
+    entry 2 0 (call.Advance 10) reply.Advanced ∷ entry 2 1 (call.Advance 17) reply.Advanced ∷ entry 1 0 (call.Post (frame_message 0 16 None)) (reply.Accepted 0)
+    ∷ entry 1 1 (call.Next 17) (reply.Dispatched 0) ∷ entry 2 2 (call.Advance 20) reply.Advanced ∷ entry 2 3 (call.Halt 20) reply.Halted ∷ []
 
 -- the record tells something else than the lines ask for
 abbrev wrong_asks : List Faulty
@@ -84,68 +80,20 @@ wrong_asks =
     ∷ faulty but.Asked (plain_script 1 2 (handler_on 0 ∷ []) (block 10 (posts_and_removes 0 ++ posts_and_removes 1) ∷ []) 10) (record (quiet (halted_at 3 10) 0) {
       frames = frame.Removed 0 8 None 0 ∷ frame.Posted (callback 0 0 10 8) ∷ frame.Removed 0 8 None 1 ∷ frame.Posted (callback 1 0 10 8) ∷ [];
     } ∷ [])
+    -- a thread posts and removes, and its record has the removal first: it takes nothing out, and the callback runs
+    ∷ faulty but.Asked (plain_script 1 1 (handler_on 0 ∷ []) (block 10 (posts_and_removes 0) ∷ []) 20) (record {
+      entries = one_frame_entries;
+      acts = act.Vsync 16666667 ∷ act.Dispatch 0 17 route.Intercepted ∷ [];
+      frames = frame.Removed 0 8 None 0 ∷ frame.Posted (callback 0 0 10 8) ∷ frame.Begin 16666667 17000000 16666667 ∷ frame.Take 0 17000000 16666667 ∷ frame.Ran 0
+          ∷ frame.Take 1 17000000 16666667 ∷ frame.Take 2 17000000 16666667 ∷ frame.Take 3 17000000 16666667 ∷ [];
+      places = None ∷ Some 2 ∷ [];
+      disposed_at = 0;
+    } ∷ [])
     ∷ []
 
 pub wrong_asks_fail : AllByRecursion Fails wrong_asks
 unfolding computing
 wrong_asks_fail = each_fails main_tells_asked told_by_run wrong_asks refl refl
-
--- a thread posts a frame callback and removes it, and its record has the removal first: it takes nothing out, and the callback runs
-abbrev swapped_script : Script
-swapped_script = plain_script 1 1 (handler_on 0 ∷ []) (block 10 (posts_and_removes 0) ∷ []) 20
-
-abbrev swapped_frames : List FrameEntry
-swapped_frames =
-    frame.Removed 0 8 None 0 ∷ frame.Posted (callback 0 0 10 8) ∷ frame.Begin 16666667 17000000 16666667 ∷ frame.Take 0 17000000 16666667 ∷ frame.Ran 0
-    ∷ frame.Take 1 17000000 16666667 ∷ frame.Take 2 17000000 16666667 ∷ frame.Take 3 17000000 16666667 ∷ []
-
-abbrev swapped_entries : List Entry
-swapped_entries =
-    entry 2 0 (call.Advance 10) reply.Advanced ∷ entry 2 1 (call.Advance 17) reply.Advanced ∷ entry 1 0 (call.Post (frame_message 0 16 None)) (reply.Accepted 0)
-    ∷ entry 1 1 (call.Next 17) (reply.Dispatched 0) ∷ entry 2 2 (call.Advance 20) reply.Advanced ∷ entry 2 3 (call.Halt 20) reply.Halted ∷ []
-
-abbrev swapped_rows : List Row
-swapped_rows =
-    record { entries = swapped_entries; acts = act.Vsync 16666667 ∷ act.Dispatch 0 17 route.Intercepted ∷ []; frames = swapped_frames; places = None ∷ Some 2 ∷ []; disposed_at = 0 } ∷ []
-
-nothing_stands : (a : FrameAsk) (xs : List FrameAsk) → Sublistᴰ (a ∷ xs) [] → ⊥
-nothing_stands a xs d = let wrong : a ∷ xs ≡ [] = Sublistᴰ.eq-nil d in cc
-
--- where the second of two asks comes first, the two don't stand in their order
-not_swapped : (a b c : FrameAsk) → (a ≡ b → ⊥) → (b ≡ c → ⊥) → Sublistᴰ (a ∷ b ∷ []) (b ∷ a ∷ c ∷ []) → ⊥
-not_swapped a b c apart later stands = from_first (Sublistᴰ.cases_cons-cons stands)
-  where
-    from_last : Sublistᴰ (b ∷ []) [] ⊎ ((b ≡ c) × Sublistᴰ {A = FrameAsk} [] []) → ⊥
-    from_last (inl d) = nothing_stands b [] d
-    from_last (inr p) = later p.0
-
-    too_late : Sublistᴰ (a ∷ b ∷ []) [] ⊎ ((a ≡ c) × Sublistᴰ (b ∷ []) []) → ⊥
-    too_late (inl d) = nothing_stands a (b ∷ []) d
-    too_late (inr p) = nothing_stands b [] p.1
-
-    from_second : Sublistᴰ (a ∷ b ∷ []) (c ∷ []) ⊎ ((a ≡ a) × Sublistᴰ (b ∷ []) (c ∷ [])) → ⊥
-    from_second (inl d) = too_late (Sublistᴰ.cases_cons-cons d)
-    from_second (inr p) = from_last (Sublistᴰ.cases_cons-cons p.1)
-
-    from_first : Sublistᴰ (a ∷ b ∷ []) (a ∷ c ∷ []) ⊎ ((a ≡ b) × Sublistᴰ (b ∷ []) (a ∷ c ∷ [])) → ⊥
-    from_first (inl d) = from_second (Sublistᴰ.cases_cons-cons d)
-    from_first (inr p) = apart p.0
-
-abbrev is_removal : FrameAsk → Bool
-is_removal (Posts p d i t) = false
-is_removal (Removes p i t) = true
-is_removal (Runs n) = false
-
-posts_no_removal : Posts 0 10 8 None ≡ Removes 0 8 None → ⊥
-posts_no_removal e = let wrong : false ≡ true = ap is_removal e in cc
-
-removes_no_start : Removes 0 8 None ≡ Runs 17000000 → ⊥
-removes_no_start e = let wrong : true ≡ false = ap is_removal e in cc
-
-pub removal_first : FailsBy but.Asked swapped_script swapped_rows
-unfolding computing
-removal_first = fails_by but.Asked swapped_script swapped_rows
-    (λ r. ∥∥₁_elim (part_stands true (asks_in swapped_frames) (asked_of swapped_script 0 r.loopers.0.final) r.loopers.0.asked 0) (λ x y. absurd x) (not_swapped (Posts 0 10 8 None) (Removes 0 8 None) (Runs 17000000) posts_no_removal removes_no_start)) refl
 
 -- ---- the stamps of frames
 
@@ -161,7 +109,7 @@ stamped_by_run s (row ∷ rows) r = r.frames.0.stamps
 -- a thread posts a frame callback, and its frame begins with the stamp of a moment at which no pulse comes
 abbrev unstamped : List Faulty
 unstamped = faulty but.Stamps (plain_script 1 1 (handler_on 0 ∷ []) (block 10 (by 0 (command.Frame 0 0 8 0) ∷ []) ∷ []) 20) (record {
-  entries = swapped_entries;
+  entries = one_frame_entries;
   acts = act.Vsync 16666667 ∷ act.Dispatch 0 17 route.Intercepted ∷ [];
   frames = frame.Posted (callback 0 0 10 8) ∷ frame.Begin 12345678 17000000 12345678 ∷ frame.Take 0 17000000 12345678 ∷ frame.Ran 0
       ∷ frame.Take 1 17000000 12345678 ∷ frame.Take 2 17000000 12345678 ∷ frame.Take 3 17000000 12345678 ∷ [];

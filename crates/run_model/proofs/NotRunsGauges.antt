@@ -1,98 +1,58 @@
 -- Reports that are no runs of their script: the frames, pulses and callbacks of a gauge, with one fault.
-use Rattle.std.proofs.Common.{◌≡◌, ℕ, zero, suc, refl, true, false, List, [], ◌∷◌, ◌++◌, Some, None, sym, ap, subst, ◌∙◌, length, arith}
-use Rattle.std.specs.Prelude.{Bool, ◌&&◌, drop, nat_le, slice_get}
-use Rattle.std.specs.List.{AllByRecursion}
-use Rattle.std.specs.Option.{option_map_or}
-use Rattle.std.proofs.lemmas.Bool.{and_parts}
+use Rattle.std.proofs.Common.{◌≡◌, ℕ, refl, true, false, List, [], ◌∷◌, ◌++◌, Some, None, sym, ◌∙◌}
+use Rattle.std.specs.Prelude.{Bool, ◌&&◌}
+use Rattle.std.proofs.lemmas.Bool.{and_from}
 use Rattle.loop_model.specs.declared.call.Call.TheVariants as call
 use Rattle.loop_model.specs.declared.reply.Reply.TheVariants as reply
 use Rattle.loop_model.specs.declared.entry.Entry.{Entry}
 use Rattle.loop_model.specs.declared.journal.Act.{Act}
 use Rattle.loop_model.specs.declared.journal.Act.TheVariants as act
-use Rattle.frame_phases.specs.declared.entry.Callback.{Callback}
 use Rattle.frame_phases.specs.declared.entry.FrameEntry.{FrameEntry}
 use Rattle.frame_phases.specs.declared.entry.FrameEntry.TheVariants as frame
 use Rattle.dash_script.specs.declared.script.Command.TheVariants as command
 use Rattle.dash_script.specs.declared.script.Script.{Script}
 use Rattle.run_model.specs.Moments.{in_lockstep}
 use Rattle.run_model.specs.Loopers.{Looper, first_looper}
-use Rattle.run_model.specs.FrameAsks.{asks_in}
-use Rattle.run_model.specs.FrameRuns.{are_run_then, are_whole, is_begin, is_frame_from}
-use Rattle.run_model.specs.Acts.{after_act, Lead}
-use Rattle.run_model.specs.Run.{IsRun, asked_of}
+use Rattle.run_model.specs.FrameRuns.{are_run_then, are_whole}
+use Rattle.run_model.specs.Run.{IsRun}
 use Rattle.run_model.proofs.Examples.{entry, handler_on, block, by, plain_script, message, frame_message, callback}
 use Rattle.run_model.proofs.RunBut.{Clause}
 use Rattle.run_model.proofs.RunBut as but
-use Rattle.run_model.proofs.Parting.{can_ask, parted_can_ask}
-use Rattle.run_model.proofs.Table.{led, Row, acting, report_of, computing}
+use Rattle.run_model.proofs.Led.{any_led, led_passes}
+use Rattle.run_model.proofs.NotRunsFrames.{told_by_run}
+use Rattle.run_model.proofs.Table.{Row, acting, report_of, computing}
 use Rattle.run_model.proofs.OneFault.{FailsBy, fails_by}
 use Rattle.run_model.proofs.NotRuns.{dispatch, advance, look, halt}
 
 -- one looper, with this history, these acts and this frame record; the frame that begins at place 2 is run by the fourth act
-abbrev frame_rows : List Entry → List Act → List FrameEntry → List Row
+abbrev pub frame_rows : List Entry → List Act → List FrameEntry → List Row
 frame_rows es acts fs = record { entries = es; acts = acts; frames = fs; places = None ∷ None ∷ None ∷ Some 2 ∷ []; disposed_at = 0 } ∷ []
 
 -- a script whose gauge moves to its target in one frame, with this end
-abbrev gauge_script : ℕ → Script
+abbrev pub gauge_script : ℕ → Script
 gauge_script end =
     record (plain_script 1 1 (handler_on 0 ∷ []) (block 0 (by 0 (command.Set 0 7) ∷ []) ∷ []) end) { gauges = record { handler = 0; step = 7 } ∷ [] }
 
 -- the gauge's target is set
-abbrev gauge_start : List Entry
+abbrev pub gauge_start : List Entry
 gauge_start =
     entry 0 0 (call.Post (record (message 0 1 0 None) { arg = 7; obj = Some 0 })) (reply.Accepted 0) ∷ look 0 0 0
     ∷ entry 1 1 (call.Barrier 0) (reply.Token 0) ∷ []
 
 -- its frame is run at this millisecond, with a message due at another
-abbrev gauge_frame : ℕ → ℕ → List Entry
+abbrev pub gauge_frame : ℕ → ℕ → List Entry
 gauge_frame now when =
     advance 0 now ∷ entry 1 2 (call.Post (frame_message 0 when None)) (reply.Accepted 1) ∷ look 3 now 1 ∷ entry 1 4 (call.Unbarrier 0) reply.Unbarriered ∷ []
 
-abbrev gauge_entries : List Entry
+abbrev pub gauge_entries : List Entry
 gauge_entries = gauge_start ++ gauge_frame 17 16 ++ advance 1 20 ∷ halt 2 ∷ []
 
 -- it is moved at this pulse, in the frame of this millisecond
-abbrev moves_gauge : ℕ → ℕ → List Act
+abbrev pub moves_gauge : ℕ → ℕ → List Act
 moves_gauge stamp now = dispatch 0 0 ∷ act.Vsync stamp ∷ act.Paint 0 7 ∷ dispatch 1 now ∷ []
 
-abbrev gauge_acts : List Act
+abbrev pub gauge_acts : List Act
 gauge_acts = moves_gauge 16666667 17
-
-no_frame : (fs : List FrameEntry) → AllByRecursion (λ e. is_begin e ≡ false) fs → (place : ℕ) → option_map_or is_begin (slice_get fs place) false ≡ false
-no_frame [] none place = refl
-no_frame (e ∷ fs) none zero = none.0
-no_frame (e ∷ fs) none (suc place) = no_frame fs none.1 place
-
--- behind two callbacks a frame begins, and behind it none: a frame of the record begins at place 2
-one_frame : (c d : Callback) (vsync start time : ℕ) (fs : List FrameEntry) → AllByRecursion (λ e. is_begin e ≡ false) fs
-    → (place : ℕ) → is_frame_from (frame.Posted c ∷ frame.Posted d ∷ frame.Begin vsync start time ∷ fs) 0 (Some place) ≡ true → place ≡ 2
-one_frame c d vsync start time fs none zero h = cc
-one_frame c d vsync start time fs none (suc zero) h = cc
-one_frame c d vsync start time fs none (suc (suc zero)) h = refl
-one_frame c d vsync start time fs none (suc (suc (suc place))) h =
-    let none = no_frame fs none place in
-    let begins : option_map_or is_begin (slice_get fs place) false ≡ true = (and_parts (nat_le 0 (suc (suc (suc place)))) _ h).1 in
-    cc
-
--- the looper as its frame's message comes
-abbrev before_frame : List FrameEntry → Looper
-before_frame fs = led (gauge_script 20) 0 gauge_entries fs [] (first_looper (gauge_script 20)) (dispatch 0 0 ∷ act.Vsync 16666667 ∷ act.Paint 0 7 ∷ [])
-
--- and behind the frame that begins at this place
-abbrev after_frame : List FrameEntry → ℕ → Looper
-after_frame fs place = after_act (gauge_script 20) 0 gauge_entries fs (Some place) (before_frame fs) (dispatch 1 17)
-
--- a record with one frame: the gauge's acts run it
-gauge_led : (c d : Callback) (vsync start time : ℕ) (fs : List FrameEntry) → AllByRecursion (λ e. is_begin e ≡ false) fs → (b : Looper)
-    → Lead (gauge_script 20) 0 gauge_entries (frame.Posted c ∷ frame.Posted d ∷ frame.Begin vsync start time ∷ fs) (first_looper (gauge_script 20)) gauge_acts b
-    → after_frame (frame.Posted c ∷ frame.Posted d ∷ frame.Begin vsync start time ∷ fs) 2 ≡ b
-unfolding after_act
-gauge_led c d vsync start time fs none b (Some p, (comes, rest)) = let starts : false ≡ true = comes.starts in cc
-gauge_led c d vsync start time fs none b (None, (comes, (v, (pulse, (g, (paint, (None, (last, is)))))))) =
-    let painted : 0 ≡ 1 = ap length last.painted in
-    absurd (omega (arith, painted))
-gauge_led c d vsync start time fs none b (None, (comes, (v, (pulse, (g, (paint, (Some p, (last, is)))))))) =
-    subst (λ n. after_frame (frame.Posted c ∷ frame.Posted d ∷ frame.Begin vsync start time ∷ fs) n ≡ b) (one_frame c d vsync start time fs none p last.place) is
 
 -- the record of the gauge's run, with these moments of the frame's start and first phase, and with this behind its third phase
 abbrev gauge_frames : ℕ → ℕ → List FrameEntry → List FrameEntry
@@ -107,18 +67,17 @@ abbrev gauge_rows : List FrameEntry → List Row
 gauge_rows fs = frame_rows gauge_entries gauge_acts fs
 
 -- the frame of this record is whole, and starts and takes its phases at the times of its dispatch
-abbrev runs_whole : List FrameEntry → Bool
-runs_whole fs = are_whole 4 fs (after_frame fs 2).frames && are_run_then fs (after_frame fs 2).frames
+abbrev runs_whole : List FrameEntry → Looper → Bool
+runs_whole fs b = are_whole 4 fs b.frames && are_run_then fs b.frames
 
-no_gauge_run : (start taken : ℕ) (behind : List FrameEntry) → AllByRecursion (λ e. is_begin e ≡ false) behind → runs_whole (gauge_frames start taken behind) ≡ false
-    → IsRun in_lockstep (gauge_script 20) (report_of (gauge_script 20) (gauge_rows (gauge_frames start taken behind))) → ⊥
-no_gauge_run start taken behind none fails r =
-    let fs = gauge_frames start taken behind in
-    let now = gauge_led _ _ _ _ _ (drop 3 fs) (refl, (refl, (refl, (refl, (refl, none))))) _ r.loopers.0.acts in
-    let whole : are_whole 4 fs (after_frame fs 2).frames ≡ true = subst (λ (b : Looper). are_whole 4 fs b.frames ≡ true) (sym now) r.loopers.0.whole in
-    let moments : are_run_then fs (after_frame fs 2).frames ≡ true = subst (λ (b : Looper). are_run_then fs b.frames ≡ true) (sym now) r.loopers.0.moments in
-    let runs : runs_whole fs ≡ true = rw (whole, moments) refl in
-    let wrong : false ≡ true = sym fails ∙ runs in
+abbrev may_run_whole : List FrameEntry → Bool
+may_run_whole fs = any_led (runs_whole fs) (gauge_script 20) 0 gauge_entries fs (first_looper (gauge_script 20)) gauge_acts
+
+no_gauge_run : (fs : List FrameEntry) → may_run_whole fs ≡ false → IsRun in_lockstep (gauge_script 20) (report_of (gauge_script 20) (gauge_rows fs)) → ⊥
+no_gauge_run fs fails r =
+    let l = r.loopers.0 in
+    let whole = and_from (are_whole 4 fs l.final.frames) (are_run_then fs l.final.frames) l.whole l.moments in
+    let wrong : false ≡ true = sym fails ∙ led_passes (runs_whole fs) (gauge_script 20) 0 gauge_entries fs (first_looper (gauge_script 20)) gauge_acts l.final l.acts whole in
     cc
 
 -- a gauge's run, with these moments and phases of its frame
@@ -130,9 +89,9 @@ pub wrong_frames_fail :
     gauge_frame_fault but.Starts 17500000 17000000 last_phase × gauge_frame_fault but.Moments 17000000 17500000 last_phase × gauge_frame_fault but.Whole 17000000 17000000 []
 unfolding computing
 wrong_frames_fail = (
-  fails_by but.Starts (gauge_script 20) (gauge_rows (gauge_frames 17500000 17000000 last_phase)) (no_gauge_run 17500000 17000000 last_phase (refl, tt) refl) refl,
-  fails_by but.Moments (gauge_script 20) (gauge_rows (gauge_frames 17000000 17500000 last_phase)) (no_gauge_run 17000000 17500000 last_phase (refl, tt) refl) refl,
-  fails_by but.Whole (gauge_script 20) (gauge_rows (gauge_frames 17000000 17000000 [])) (no_gauge_run 17000000 17000000 [] tt refl) refl,
+  fails_by but.Starts (gauge_script 20) (gauge_rows (gauge_frames 17500000 17000000 last_phase)) (no_gauge_run (gauge_frames 17500000 17000000 last_phase) refl) refl,
+  fails_by but.Moments (gauge_script 20) (gauge_rows (gauge_frames 17000000 17500000 last_phase)) (no_gauge_run (gauge_frames 17000000 17500000 last_phase) refl) refl,
+  fails_by but.Whole (gauge_script 20) (gauge_rows (gauge_frames 17000000 17000000 [])) (no_gauge_run (gauge_frames 17000000 17000000 []) refl) refl,
 )
 
 abbrev pulse_entries : List Entry
@@ -164,14 +123,7 @@ short_acts = dispatch 0 0 ∷ []
 abbrev short_rows : List Row
 short_rows = record (acting short_entries short_acts 0) { frames = short_frames } ∷ []
 
-few_asked : (b : Looper) → Lead (gauge_script 10) 0 short_entries short_frames (first_looper (gauge_script 10)) short_acts b → can_ask (asks_in short_frames) (asked_of (gauge_script 10) 0 b) ≡ true → ⊥
-unfolding after_act
-few_asked b (Some p, (comes, rest)) asks = let starts : false ≡ true = comes.starts in cc
-few_asked b (None, (comes, is)) asks =
-    let wrong : false ≡ true = subst (λ c. can_ask (asks_in short_frames) (asked_of (gauge_script 10) 0 c) ≡ true) (sym is) asks in
-    cc
-
 -- a gauge animates, and its callback is not posted
 pub posts_no_frame : FailsBy but.Asked (gauge_script 10) short_rows
 unfolding computing
-posts_no_frame = fails_by but.Asked (gauge_script 10) short_rows (λ r. few_asked r.loopers.0.final r.loopers.0.acts (parted_can_ask (asks_in short_frames) (asked_of (gauge_script 10) 0 r.loopers.0.final) r.loopers.0.asked)) refl
+posts_no_frame = fails_by but.Asked (gauge_script 10) short_rows (λ r. let wrong : false ≡ true = told_by_run (gauge_script 10) short_rows r in cc) refl

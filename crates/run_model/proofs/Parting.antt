@@ -1,15 +1,15 @@
--- Whether asks are parted among those who ask for them, by a test that computes.
-use Rattle.std.proofs.Common.{◌≡◌, ◌⊎◌, inl, inr, ℕ, zero, suc, Bool, true, false, List, [], ◌∷◌, ◌++◌, Option, Some, None, refl, sym, ap, ◌∙◌, subst, get_or, eq-eqb, ne_eqb}
-use Rattle.std.specs.Prelude.{◌==◌, ◌&&◌, ◌||◌, map, if◌then◌else◌}
+-- Whether asks are parted among those who ask for them, and in turn, by a test that computes.
+use Rattle.std.proofs.Common.{◌≡◌, ◌≤◌, ◌⊎◌, inl, inr, ℕ, zero, suc, Bool, true, false, List, [], ◌∷◌, ◌++◌, Option, Some, None, refl, sym, ap, ◌∙◌, subst, arith, get_or, eq-eqb, ne_eqb}
+use Rattle.std.specs.Prelude.{◌==◌, ◌&&◌, ◌||◌, nat_le, map, if◌then◌else◌}
 use Rattle.std.proofs.Math.Bool.{or-true}
 use Rattle.std.specs.List.{list_all, list_any, cons_option}
-use Rattle.std.proofs.lemmas.Bool.{and_parts, or_cases, eqb-true}
-use mathlib.Core.List.{Sublist, nil-sublist}
-use mathlib.Core.List.Sublist
+use Rattle.std.proofs.lemmas.Bool.{and_parts, and_from, or_cases, eqb-true, leb-true, le-leb}
 use mathlib.Core.Logic.{dite}
 use native.Mathlib.Decide.{ℕ_discrete}
-use Rattle.frame_phases.specs.Parting.{dealt_to, AreParted}
+use Rattle.frame_phases.specs.Parting.{dealt_to}
 use Rattle.run_model.specs.FrameAsks.{FrameAsk, Posts, Removes, Runs, as_told, AreAskedBy}
+use Rattle.run_model.specs.FrameTurns.{TimedAsk, timed_as_told, AreAskedInTurn}
+use Rattle.run_model.proofs.AskedInTurn.{Rise, rising_sorted, sorted_rising, parted_mapped, asks_of, timed_of}
 
 abbrev pub same_token : Option ℕ → Option ℕ → Bool
 same_token None None = true
@@ -59,35 +59,47 @@ same_self (Removes p i None) = rw (eq-eqb p p refl, eq-eqb i i refl) refl
 same_self (Removes p i (Some t)) = rw (eq-eqb p p refl, eq-eqb i i refl, eq-eqb t t refl) refl
 same_self (Runs n) = eq-eqb n n refl
 
--- what is left of the parts once this ask is dealt to one of them that begins with it: all ways
-abbrev dealt_first : FrameAsk → List FrameAsk → List (List FrameAsk) → List (List (List FrameAsk))
-dealt_first x [] ps = []
-dealt_first x (a ∷ p) ps = if same_ask x a then (p ∷ ps) ∷ [] else []
+-- an ask of a sender that is dealt, and what is left of the parts
+pub record Way : Type 0 where
+  pub taken : TimedAsk
+  pub left : List (List TimedAsk)
 
-abbrev ways : FrameAsk → List (List FrameAsk) → List (List (List FrameAsk))
-ways x [] = []
-ways x (p ∷ ps) = dealt_first x p ps ++ map (λ left. p ∷ left) (ways x ps)
+-- the ask may be this one, made no earlier than the last
+abbrev may_be : ℕ → FrameAsk → TimedAsk → Bool
+may_be last x a = same_ask x a.ask && nat_le last a.when
 
-abbrev is_empty : List FrameAsk → Bool
+-- how it may be dealt to one of the parts that begins with it: all ways
+abbrev dealt_first : ℕ → FrameAsk → List TimedAsk → List (List TimedAsk) → List Way
+dealt_first last x [] ps = []
+dealt_first last x (a ∷ p) ps = if may_be last x a then record { taken = a; left = p ∷ ps } ∷ [] else []
+
+abbrev beside : List TimedAsk → Way → Way
+beside p w = record { taken = w.taken; left = p ∷ w.left }
+
+abbrev ways : ℕ → FrameAsk → List (List TimedAsk) → List Way
+ways last x [] = []
+ways last x (p ∷ ps) = dealt_first last x p ps ++ map (beside p) (ways last x ps)
+
+abbrev is_empty : List TimedAsk → Bool
 is_empty [] = true
 is_empty (a ∷ p) = false
 
--- the asks are parted into these
-abbrev pub can_part : List FrameAsk → List (List FrameAsk) → Bool
-can_part [] ps = list_all is_empty ps
-can_part (x ∷ xs) ps = list_any (can_part xs) (ways x ps)
+-- the asks are parted into these, and none is made earlier than one before it, nor than this time
+abbrev pub can_part : ℕ → List FrameAsk → List (List TimedAsk) → Bool
+can_part last [] ps = list_all is_empty ps
+can_part last (x ∷ xs) ps = list_any (λ (w : Way). can_part w.taken.when xs w.left) (ways last x ps)
 
 -- the part of a number
-abbrev part : List (List FrameAsk) → ℕ → List FrameAsk
+abbrev part : {X : Type 0} → List (List X) → ℕ → List X
 part ps k = get_or ps k []
 
-all_empty : (ps : List (List FrameAsk)) → list_all is_empty ps ≡ true → (k : ℕ) → [] ≡ part ps k
+all_empty : (ps : List (List TimedAsk)) → list_all is_empty ps ≡ true → (k : ℕ) → [] ≡ part ps k
 all_empty [] h k = refl
 all_empty ([] ∷ ps) h zero = refl
 all_empty ([] ∷ ps) h (suc k) = all_empty ps h k
 all_empty ((a ∷ p) ∷ ps) h k = cc
 
-empty_all : (ps : List (List FrameAsk)) → ((k : ℕ) → [] ≡ part ps k) → list_all is_empty ps ≡ true
+empty_all : (ps : List (List TimedAsk)) → ((k : ℕ) → [] ≡ part ps k) → list_all is_empty ps ≡ true
 empty_all [] none = refl
 empty_all ([] ∷ ps) none = empty_all ps (λ k. none (suc k))
 empty_all ((a ∷ p) ∷ ps) none = let wrong : [] ≡ a ∷ p = none 0 in cc (wrong)
@@ -115,7 +127,7 @@ same_is n k = dite (ℕ_discrete n k)
     (λ apart. ne_eqb n k apart ∙ sym (is_same_apart n k apart))
 
 -- what one more ask adds to what is dealt
-dealt_more : (k n : ℕ) (x : FrameAsk) (dealt : List (ℕ × FrameAsk)) → dealt_to k ((n, x) ∷ dealt) ≡ (if is_same n k then x ∷ dealt_to k dealt else dealt_to k dealt)
+dealt_more : (k n : ℕ) (x : TimedAsk) (dealt : List (ℕ × TimedAsk)) → dealt_to k ((n, x) ∷ dealt) ≡ (if is_same n k then x ∷ dealt_to k dealt else dealt_to k dealt)
 dealt_more k n x dealt = by_case (n == k) ∙ ap (λ (b : Bool). if b then x ∷ dealt_to k dealt else dealt_to k dealt) (same_is n k)
   where
     by_case : (b : Bool) → cons_option (if b then Some x else None) (dealt_to k dealt) ≡ (if b then x ∷ dealt_to k dealt else dealt_to k dealt)
@@ -123,112 +135,128 @@ dealt_more k n x dealt = by_case (n == k) ∙ ap (λ (b : Bool). if b then x ∷
     by_case false = refl
 
 -- the parts before an ask is dealt to the part of this number, and behind that
-abbrev IsDealt : FrameAsk → ℕ → List (List FrameAsk) → List (List FrameAsk) → Type 0
+abbrev IsDealt : TimedAsk → ℕ → List (List TimedAsk) → List (List TimedAsk) → Type 0
 IsDealt x n ps left = (k : ℕ) → (if is_same n k then x ∷ part left k else part left k) ≡ part ps k
 
-first_dealt : (x a : FrameAsk) (p : List FrameAsk) (ps : List (List FrameAsk)) → same_ask x a ≡ true → IsDealt x 0 ((a ∷ p) ∷ ps) (p ∷ ps)
-first_dealt x a p ps same zero = ap (λ b. b ∷ p) (ask_same x a same)
-first_dealt x a p ps same (suc k) = refl
+first_dealt : (a : TimedAsk) (p : List TimedAsk) (ps : List (List TimedAsk)) → IsDealt a 0 ((a ∷ p) ∷ ps) (p ∷ ps)
+first_dealt a p ps zero = refl
+first_dealt a p ps (suc k) = refl
 
-later_dealt : (x : FrameAsk) (n : ℕ) (p : List FrameAsk) (ps left : List (List FrameAsk)) → IsDealt x n ps left → IsDealt x (suc n) (p ∷ ps) (p ∷ left)
+later_dealt : (x : TimedAsk) (n : ℕ) (p : List TimedAsk) (ps left : List (List TimedAsk)) → IsDealt x n ps left → IsDealt x (suc n) (p ∷ ps) (p ∷ left)
 later_dealt x n p ps left dealt zero = refl
 later_dealt x n p ps left dealt (suc k) = dealt k
 
-any_both : (test : List (List FrameAsk) → Bool) (xs ys : List (List (List FrameAsk))) → list_any test (xs ++ ys) ≡ true → (list_any test xs ≡ true) ⊎ (list_any test ys ≡ true)
+any_both : (test : Way → Bool) (xs ys : List Way) → list_any test (xs ++ ys) ≡ true → (list_any test xs ≡ true) ⊎ (list_any test ys ≡ true)
 any_both test [] ys h = inr h
 any_both test (x ∷ xs) ys h = elim (or_cases (test x) (list_any test (xs ++ ys)) h) [
   | inl first ↦ inl (rw first refl)
   | inr rest ↦ elim (any_both test xs ys rest) [ inl more ↦ inl (rw (more, or-true (test x)) refl) | inr others ↦ inr others ]
 ]
 
-any_mapped : (test : List (List FrameAsk) → Bool) (p : List FrameAsk) (xs : List (List (List FrameAsk))) → list_any test (map (λ left. p ∷ left) xs) ≡ list_any (λ left. test (p ∷ left)) xs
+any_mapped : (test : Way → Bool) (p : List TimedAsk) (ws : List Way) → list_any test (map (beside p) ws) ≡ list_any (λ w. test (beside p w)) ws
 any_mapped test p [] = refl
-any_mapped test p (x ∷ xs) = ap (λ b. test (p ∷ x) || b) (any_mapped test p xs)
+any_mapped test p (w ∷ ws) = ap (λ b. test (beside p w) || b) (any_mapped test p ws)
 
 -- one of the ways passes: the part that begins with the ask, and what is left
-way_of : (x : FrameAsk) (ps : List (List FrameAsk)) (test : List (List FrameAsk) → Bool) → list_any test (ways x ps) ≡ true
-    → (n : ℕ) × (left : List (List FrameAsk)) × IsDealt x n ps left × (test left ≡ true)
-way_of x [] test h = cc
-way_of x ([] ∷ ps) test h =
-    let later = way_of x ps (λ left. test ([] ∷ left)) (sym (any_mapped test [] (ways x ps)) ∙ h) in
-    (suc later.0, [] ∷ later.1, later_dealt x later.0 [] ps later.1 later.2, later.3)
-way_of x ((a ∷ p) ∷ ps) test h = elim (any_both test (dealt_first x (a ∷ p) ps) (map (λ left. (a ∷ p) ∷ left) (ways x ps)) h) [
-  | inl first ↦ by_case (same_ask x a) refl first
-  | inr rest ↦
-      let later = way_of x ps (λ left. test ((a ∷ p) ∷ left)) (sym (any_mapped test (a ∷ p) (ways x ps)) ∙ rest) in
-      (suc later.0, (a ∷ p) ∷ later.1, later_dealt x later.0 (a ∷ p) ps later.1 later.2, later.3)
+pub record IsWay (last : ℕ) (x : FrameAsk) (ps : List (List TimedAsk)) (test : Way → Bool) : Type 0 where
+  pub number : ℕ
+  pub way : Way
+  pub dealt : IsDealt way.taken number ps way.left
+  pub asks : way.taken.ask ≡ x
+  pub later : last ≤ way.taken.when
+  pub passes : test way ≡ true
+
+later_way : (last : ℕ) (x : FrameAsk) (p : List TimedAsk) (ps : List (List TimedAsk)) (test : Way → Bool) → IsWay last x ps (λ w. test (beside p w)) → IsWay last x (p ∷ ps) test
+later_way last x p ps test w = record {
+  number = suc w.number;
+  way = beside p w.way;
+  dealt = later_dealt w.way.taken w.number p ps w.way.left w.dealt;
+  asks = w.asks;
+  later = w.later;
+  passes = w.passes;
+}
+
+way_of : (last : ℕ) (x : FrameAsk) (ps : List (List TimedAsk)) (test : Way → Bool) → list_any test (ways last x ps) ≡ true → IsWay last x ps test
+way_of last x [] test h = cc
+way_of last x ([] ∷ ps) test h = later_way last x [] ps test (way_of last x ps (λ w. test (beside [] w)) (sym (any_mapped test [] (ways last x ps)) ∙ h))
+way_of last x ((a ∷ p) ∷ ps) test h = elim (any_both test (dealt_first last x (a ∷ p) ps) (map (beside (a ∷ p)) (ways last x ps)) h) [
+  | inl first ↦ by_case (may_be last x a) refl first
+  | inr rest ↦ later_way last x (a ∷ p) ps test (way_of last x ps (λ w. test (beside (a ∷ p) w)) (sym (any_mapped test (a ∷ p) (ways last x ps)) ∙ rest))
 ]
   where
-    by_case : (b : Bool) → same_ask x a ≡ b → list_any test (if b then (p ∷ ps) ∷ [] else []) ≡ true
-        → (n : ℕ) × (left : List (List FrameAsk)) × IsDealt x n ((a ∷ p) ∷ ps) left × (test left ≡ true)
-    by_case true same passes = elim (or_cases (test (p ∷ ps)) false passes) [ inl now ↦ (0, p ∷ ps, first_dealt x a p ps same, now) | inr never ↦ cc (never) ]
+    by_case : (b : Bool) → may_be last x a ≡ b → list_any test (if b then record { taken = a; left = p ∷ ps } ∷ [] else []) ≡ true → IsWay last x ((a ∷ p) ∷ ps) test
+    by_case true may passes =
+        let both = and_parts (same_ask x a.ask) (nat_le last a.when) may in
+        let now : test (record { taken = a; left = p ∷ ps }) ≡ true = elim (or_cases (test (record { taken = a; left = p ∷ ps })) false passes) [ inl is ↦ is | inr never ↦ cc (never) ] in
+        record { number = 0; way = record { taken = a; left = p ∷ ps }; dealt = first_dealt a p ps; asks = sym (ask_same x a.ask both.0); later = leb-true last a.when both.1; passes = now }
     by_case false other none = cc (none)
 
--- where the test passes, they are parted so
-parted : (xs : List FrameAsk) (ps : List (List FrameAsk)) → can_part xs ps ≡ true → AreParted xs ps
-parted [] ps h = ([], refl, all_empty ps h)
-parted (x ∷ xs) ps h =
-    let way = way_of x ps (can_part xs) h in
-    let rest = parted xs way.1 way.3 in (
-      (way.0, x) ∷ rest.0,
-      ap (λ l. x ∷ l) rest.1,
-      λ k. dealt_more k way.0 x rest.0 ∙ (ap (λ (l : List FrameAsk). if is_same way.0 k then x ∷ l else l) (rest.2 k) ∙ way.2 k),
-    )
+-- the asks, dealt to the parts in turn, from this time on
+pub record AreDealt (last : ℕ) (xs : List FrameAsk) (ps : List (List TimedAsk)) : Type 0 where
+  pub dealt : List (ℕ × TimedAsk)
+  pub asks_are : asks_of (timed_of dealt) ≡ xs
+  pub parts : (k : ℕ) → dealt_to k dealt ≡ part ps k
+  pub rise : Rise last (timed_of dealt)
+
+-- where the test passes, they are dealt so
+parted : (last : ℕ) (xs : List FrameAsk) (ps : List (List TimedAsk)) → can_part last xs ps ≡ true → AreDealt last xs ps
+parted last [] ps h = record { dealt = []; asks_are = refl; parts = all_empty ps h; rise = tt }
+parted last (x ∷ xs) ps h =
+    let w = way_of last x ps (λ (w : Way). can_part w.taken.when xs w.left) h in
+    let taken = w.way.taken in
+    let rest = parted taken.when xs w.way.left w.passes in
+    record {
+      dealt = (w.number, taken) ∷ rest.dealt;
+      asks_are = λ i. w.asks i ∷ rest.asks_are i;
+      parts = λ k. dealt_more k w.number taken rest.dealt ∙ (ap (λ (l : List TimedAsk). if is_same w.number k then taken ∷ l else l) (rest.parts k) ∙ w.dealt k);
+      rise = (w.later, rest.rise);
+    }
 
 -- and where the ask is the first of a part, one of the ways passes if what is left does
-one_way : (x : FrameAsk) (ps : List (List FrameAsk)) (test : List (List FrameAsk) → Bool) (n : ℕ) (rest : List FrameAsk) → x ∷ rest ≡ part ps n
-    → ((left : List (List FrameAsk)) → ((k : ℕ) → (if is_same n k then rest else part ps k) ≡ part left k) → test left ≡ true) → list_any test (ways x ps) ≡ true
-one_way x [] test n rest is passes = cc (is)
-one_way x ([] ∷ ps) test zero rest is passes = cc (is)
-one_way x ((a ∷ p) ∷ ps) test zero rest is passes =
-    let first : x ≡ a = ap (first_or x) is in
-    let others : rest ≡ p = ap behind is in
-    let same : same_ask x a ≡ true = subst (λ b. same_ask x b ≡ true) first (same_self x) in
-    let now : test (p ∷ ps) ≡ true = passes (p ∷ ps) (λ k. left_is k others) in
-    rw (same, now) refl
+one_way : (last : ℕ) (y : TimedAsk) (ps : List (List TimedAsk)) (test : Way → Bool) (n : ℕ) (rest : List TimedAsk) → last ≤ y.when → y ∷ rest ≡ part ps n
+    → ((left : List (List TimedAsk)) → ((k : ℕ) → (if is_same n k then rest else part ps k) ≡ part left k) → test (record { taken = y; left = left }) ≡ true)
+    → list_any test (ways last y.ask ps) ≡ true
+one_way last y [] test n rest le is passes = cc (is)
+one_way last y ([] ∷ ps) test zero rest le is passes = cc (is)
+one_way last y ((a ∷ p) ∷ ps) test zero rest le is passes =
+    let first : y ≡ a = ap (first_or y) is in
+    let others : rest ≡ p = ap behind_first is in
+    let may : may_be last y.ask a ≡ true = subst (λ (b : TimedAsk). may_be last y.ask b ≡ true) first (and_from (same_ask y.ask y.ask) (nat_le last y.when) (same_self y.ask) (le-leb last y.when le)) in
+    let now : test (record { taken = a; left = p ∷ ps }) ≡ true = subst (λ (b : TimedAsk). test (record { taken = b; left = p ∷ ps }) ≡ true) first (passes (p ∷ ps) (λ k. left_is k others)) in
+    rw (may, now) refl
   where
-    first_or : FrameAsk → List FrameAsk → FrameAsk
+    first_or : TimedAsk → List TimedAsk → TimedAsk
     first_or d [] = d
     first_or d (b ∷ bs) = b
 
-    behind : List FrameAsk → List FrameAsk
-    behind [] = []
-    behind (b ∷ bs) = bs
+    behind_first : List TimedAsk → List TimedAsk
+    behind_first [] = []
+    behind_first (b ∷ bs) = bs
 
     left_is : (k : ℕ) → rest ≡ p → (if is_same zero k then rest else part ((a ∷ p) ∷ ps) k) ≡ part (p ∷ ps) k
     left_is zero e = e
     left_is (suc k) e = refl
-one_way x (p ∷ ps) test (suc n) rest is passes =
-    let later = one_way x ps (λ left. test (p ∷ left)) n rest is (λ left are. passes (p ∷ left) (λ k. left_is left are k)) in
-    any_behind (dealt_first x p ps) (map (λ left. p ∷ left) (ways x ps)) (any_mapped test p (ways x ps) ∙ later)
+one_way last y (p ∷ ps) test (suc n) rest le is passes =
+    let later = one_way last y ps (λ w. test (beside p w)) n rest le is (λ left are. passes (p ∷ left) (λ k. left_is left are k)) in
+    any_behind (dealt_first last y.ask p ps) (map (beside p) (ways last y.ask ps)) (any_mapped test p (ways last y.ask ps) ∙ later)
   where
-    left_is : (left : List (List FrameAsk)) → ((k : ℕ) → (if is_same n k then rest else part ps k) ≡ part left k) → (k : ℕ) → (if is_same (suc n) k then rest else part (p ∷ ps) k) ≡ part (p ∷ left) k
+    left_is : (left : List (List TimedAsk)) → ((k : ℕ) → (if is_same n k then rest else part ps k) ≡ part left k) → (k : ℕ) → (if is_same (suc n) k then rest else part (p ∷ ps) k) ≡ part (p ∷ left) k
     left_is left are zero = refl
     left_is left are (suc k) = are k
 
-    any_behind : (us vs : List (List (List FrameAsk))) → list_any test vs ≡ true → list_any test (us ++ vs) ≡ true
+    any_behind : (us vs : List Way) → list_any test vs ≡ true → list_any test (us ++ vs) ≡ true
     any_behind [] vs h = h
     any_behind (u ∷ us) vs h = rw (any_behind us vs h, or-true (test u)) refl
 
--- where they are parted so, the test passes
-part_able : (xs : List FrameAsk) (ps : List (List FrameAsk)) → AreParted xs ps → can_part xs ps ≡ true
-part_able [] ps ([], is, each) = empty_all ps each
-part_able [] ps (d ∷ dealt, is, each) = cc (is)
-part_able (x ∷ xs) ps ([], is, each) = cc (is)
-part_able (x ∷ xs) ps ((n, y) ∷ dealt, is, each) =
-    let first : y ≡ x = ap (first_or x) is in
-    let rest : map (λ (d : ℕ × FrameAsk). d.1) dealt ≡ xs = ap behind is in
-    let mine : x ∷ dealt_to n dealt ≡ part ps n = ap (λ z. z ∷ dealt_to n dealt) (sym first) ∙ (sym (own_of (is_same n n) (is_same_self n)) ∙ (sym (dealt_more n n y dealt) ∙ each n)) in
-    one_way x ps (can_part xs) n (dealt_to n dealt) mine (λ left are. part_able xs left (dealt, rest, λ k. left_of k ∙ are k))
+-- where they are dealt so, the test passes
+part_able : (last : ℕ) (dealt : List (ℕ × TimedAsk)) (ps : List (List TimedAsk)) → ((k : ℕ) → dealt_to k dealt ≡ part ps k) → Rise last (timed_of dealt)
+    → can_part last (asks_of (timed_of dealt)) ps ≡ true
+part_able last [] ps each rise = empty_all ps each
+part_able last ((n, y) ∷ dealt) ps each rise =
+    let mine : y ∷ dealt_to n dealt ≡ part ps n = sym (own_of (is_same n n) (is_same_self n)) ∙ (sym (dealt_more n n y dealt) ∙ each n) in
+    one_way last y ps (λ (w : Way). can_part w.taken.when (asks_of (timed_of dealt)) w.left) n (dealt_to n dealt) rise.0 mine
+    (λ left are. part_able y.when dealt left (λ k. left_of k ∙ are k) rise.1)
   where
-    first_or : FrameAsk → List FrameAsk → FrameAsk
-    first_or d [] = d
-    first_or d (b ∷ bs) = b
-
-    behind : List FrameAsk → List FrameAsk
-    behind [] = []
-    behind (b ∷ bs) = bs
-
     own_of : (b : Bool) → b ≡ true → (if b then y ∷ dealt_to n dealt else dealt_to n dealt) ≡ y ∷ dealt_to n dealt
     own_of true e = refl
     own_of false e = cc (e)
@@ -242,26 +270,58 @@ part_able (x ∷ xs) ps ((n, y) ∷ dealt, is, each) =
 abbrev told : List FrameAsk → List FrameAsk
 told asks = map (as_told true) asks
 
+abbrev all_told : List (List TimedAsk) → List (List TimedAsk)
+all_told by_sender = map (map (timed_as_told true)) by_sender
+
+abbrev pub can_ask_in_turn : List FrameAsk → List (List TimedAsk) → Bool
+can_ask_in_turn asks by_sender = can_part 0 (told asks) (all_told by_sender)
+
+pub asks_are_in_turn : (asks : List FrameAsk) (by_sender : List (List TimedAsk)) → can_ask_in_turn asks by_sender ≡ true → AreAskedInTurn true asks by_sender
+asks_are_in_turn asks by_sender h =
+    let d = parted 0 (told asks) (all_told by_sender) h in
+    record { timed = timed_of d.dealt; asks_are = d.asks_are; in_turn = rising_sorted 0 (timed_of d.dealt) d.rise; parted = (d.dealt, refl, d.parts) }
+
+pub in_turn_can_ask : (asks : List FrameAsk) (by_sender : List (List TimedAsk)) → AreAskedInTurn true asks by_sender → can_ask_in_turn asks by_sender ≡ true
+in_turn_can_ask asks by_sender h =
+    let rise : Rise 0 h.timed = sorted_rising 0 h.timed h.in_turn (λ d some. omega arith) in
+    let passes = part_able 0 h.parted.0 (all_told by_sender) h.parted.2 (subst (Rise 0) (sym h.parted.1) rise) in
+    subst (λ (xs : List FrameAsk). can_part 0 xs (all_told by_sender) ≡ true) (ap asks_of h.parted.1 ∙ h.asks_are) passes
+
+-- the same with no times
+abbrev untimed : List (List FrameAsk) → List (List TimedAsk)
+untimed by_sender = map (λ (p : List FrameAsk). map (λ a. record { when = 0; ask = a }) (told p)) by_sender
+
 abbrev pub can_ask : List FrameAsk → List (List FrameAsk) → Bool
-can_ask asks by_sender = can_part (told asks) (map told by_sender)
+can_ask asks by_sender = can_part 0 (told asks) (untimed by_sender)
 
 pub asks_are_parted : (asks : List FrameAsk) (by_sender : List (List FrameAsk)) → can_ask asks by_sender ≡ true → AreAskedBy true asks by_sender
-asks_are_parted asks by_sender h = parted (told asks) (map told by_sender) h
+asks_are_parted asks by_sender h =
+    let d = parted 0 (told asks) (untimed by_sender) h in
+    let asked = parted_mapped (λ (x : TimedAsk). x.ask) (timed_of d.dealt) (untimed by_sender) (d.dealt, refl, d.parts) in
+    (asked.0, asked.1 ∙ d.asks_are, λ k. asked.2 k ∙ ap (λ (ps : List (List FrameAsk)). part ps k) (without_times by_sender))
+  where
+    one : (xs : List FrameAsk) → asks_of (map (λ a. record { when = 0; ask = a }) xs) ≡ xs
+    one [] = refl
+    one (x ∷ xs) = ap (λ l. x ∷ l) (one xs)
+
+    without_times : (ps : List (List FrameAsk)) → map asks_of (untimed ps) ≡ map told ps
+    without_times [] = refl
+    without_times (p ∷ ps) = λ i. one (told p) i ∷ without_times ps i
 
 pub parted_can_ask : (asks : List FrameAsk) (by_sender : List (List FrameAsk)) → AreAskedBy true asks by_sender → can_ask asks by_sender ≡ true
-parted_can_ask asks by_sender h = part_able (told asks) (map told by_sender) h
-
--- each part stands in the whole in its order
-dealt_stands : (k : ℕ) (dealt : List (ℕ × FrameAsk)) → Sublist (dealt_to k dealt) (map (λ (d : ℕ × FrameAsk). d.1) dealt)
-dealt_stands k [] = nil-sublist []
-dealt_stands k ((n, x) ∷ dealt) = by_case (n == k) (dealt_stands k dealt)
+parted_can_ask asks by_sender h =
+    let timed = parted_mapped (λ (a : FrameAsk). record { when = 0; ask = a }) (told asks) (map told by_sender) h in
+    let passes = part_able 0 timed.0 (untimed by_sender) (λ k. timed.2 k ∙ ap (λ (ps : List (List TimedAsk)). part ps k) (mapped_once by_sender)) (subst (Rise 0) (sym timed.1) (at_once (told asks))) in
+    subst (λ (xs : List FrameAsk). can_part 0 xs (untimed by_sender) ≡ true) (ap asks_of timed.1 ∙ one (told asks)) passes
   where
-    by_case : (b : Bool) → Sublist (dealt_to k dealt) (map (λ (d : ℕ × FrameAsk). d.1) dealt)
-        → Sublist (cons_option (if b then Some x else None) (dealt_to k dealt)) (x ∷ map (λ (d : ℕ × FrameAsk). d.1) dealt)
-    by_case true rest = Sublist.cons-cons x rest
-    by_case false rest = Sublist.cons x rest
+    one : (xs : List FrameAsk) → asks_of (map (λ a. record { when = 0; ask = a }) xs) ≡ xs
+    one [] = refl
+    one (x ∷ xs) = ap (λ l. x ∷ l) (one xs)
 
-pub part_stands : (lockstep : Bool) (asks : List FrameAsk) (by_sender : List (List FrameAsk)) → AreAskedBy lockstep asks by_sender
-    → (k : ℕ) → Sublist (part (map (map (as_told lockstep)) by_sender) k) (map (as_told lockstep) asks)
-part_stands lockstep asks by_sender h k =
-    subst (λ (z : List FrameAsk × List FrameAsk). Sublist z.0 z.1) (λ i. (h.2 k i, h.1 i)) (dealt_stands k h.0)
+    at_once : (xs : List FrameAsk) → Rise 0 (map (λ a. record { when = 0; ask = a }) xs)
+    at_once [] = tt
+    at_once (x ∷ xs) = (omega arith, at_once xs)
+
+    mapped_once : (ps : List (List FrameAsk)) → map (map (λ (a : FrameAsk). record { when = 0; ask = a })) (map told ps) ≡ untimed ps
+    mapped_once [] = refl
+    mapped_once (p ∷ ps) = ap (λ l. map (λ (a : FrameAsk). record { when = 0; ask = a }) (told p) ∷ l) (mapped_once ps)

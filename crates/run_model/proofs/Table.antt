@@ -296,7 +296,7 @@ pub record LooperTest : Type 0 where
   pub threads : List Bool
   pub in_order : Bool
 
-abbrev final_of : Clause → Script → ℕ → Row → Looper
+abbrev pub final_of : Clause → Script → ℕ → Row → Looper
 final_of out s n row = led (with_pulses out s) n (history_of (queue_in s n row)) row.frames row.places (first_looper s) row.acts
 
 abbrev caused_by : Clause → Script → ℕ → Row → QueueRecord → List Sent

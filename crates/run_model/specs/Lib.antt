@@ -4,6 +4,7 @@ pub mod Senders
 pub mod Moments
 pub mod Planned
 pub mod FrameAsks
+pub mod FrameTurns
 pub mod Control
 pub mod Loopers
 pub mod FrameRuns

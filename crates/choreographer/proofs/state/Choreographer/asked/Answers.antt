@@ -1,18 +1,14 @@
-use Rattle.std.proofs.Common.{rules, ap, ◌∙◌}
+use Rattle.std.proofs.Common.{rules}
 use Rattle.loop_model.proofs.Prefixes.{prefix_self}
-use Rattle.choreographer.specs.Turn.{taking, giving}
-use Rattle.choreographer.specs.Plays.{Sat}
-use Rattle.choreographer.specs.Known.{Known}
-use Rattle.choreographer.proofs.ByTurn.{one_turn}
+use Rattle.choreographer.proofs.ByTurn.{turned}
 use Rattle.choreographer.proofs.state.Choreographer.asked.Goals as goal
 
 pub returns-clause-turn : goal.returns-clause-turn
 returns-clause-turn g c =
     let x = c.take-state.result in
-    let is = c.pass.view_is in
-    let left = ap (λ (z : Sat). z.0) c.give.ensures.2 ∙ (ap (λ (z : Sat). giving z.0 x) c.take-state.ensures.taken ∙ ap (λ (p : Known). giving (taking p.view x) x) is) in (
+    let t = c.take-state.ensures in (
       x,
-      one_turn c.args.self.now.constants c.args.pass.now _ x x (c.give.ensures.0 ∙ (c.take-state.ensures.seat.0 ∙ ap (λ (p : Known). p.table) is)) (ap (λ (p : Known). p.number) is) left c.requires.1
-          c.take-state.ensures.state.0 c.take-state.ensures.state.0 (search rules) (prefix_self x.frames.entries),
+      turned c.args.self.now.constants (record { table = c.pass.inside.seat.table_id; number = c.pass.inside.number; view = c.pass.inside.seat.me.0 }) c.args.pass.now _ x x c.take-state.new.seat.me c.give.new.seat.me
+          c.pass.view_is c.requires.1 c.pass.invariant.2 c.pass.invariant.3 t.taken t.state t.heard t.state.0 (prefix_self x.frames.entries) (c.give.ensures.2, c.give.ensures.3) (search rules),
       c.asked-asked.ensures.asked,
     )

@@ -1,6 +1,6 @@
 use Rattle.std.proofs.Common.{rules, sym, subst}
 use Rattle.choreographer.specs.Plays.{Sat, MaySeal}
-use Rattle.choreographer.proofs.ByTurn.{begin_gives, keeps_handed}
+use Rattle.choreographer.proofs.ByTurn.{turned, begin_gives, keeps_handed}
 use Rattle.choreographer.proofs.Stamps.{stamped_begin}
 use Rattle.choreographer.proofs.state.Choreographer.begin_turn.Goals as goal
 
@@ -18,4 +18,17 @@ pub give-requires-clause-handed : goal.give-requires-clause-handed
 give-requires-clause-handed g c =
     let x = c.take-state.result in
     subst (λ (z : Sat). MaySeal c.args.self.now.constants z.0 c.begin_frame-answer.new.self) (sym c.take-state.ensures.taken)
-    (keeps_handed c.args.self.now.constants c.pass.inside.seat.me.0 x c.begin_frame-answer.new.self c.begin_frame-answer.ensures.steps.0)
+    (keeps_handed c.args.self.now.constants c.pass.inside.seat.me.0 x c.begin_frame-answer.new.self c.take-state.new.seat.me.0.heard c.begin_frame-answer.ensures.steps.0)
+
+pub returns : goal.returns
+returns g c =
+    let x = c.take-state.result in
+    let y = c.begin_frame-answer.new.self in
+    let t = c.take-state.ensures in (
+      x,
+      y,
+      turned c.args.self.now.constants (record { table = c.pass.inside.seat.table_id; number = c.pass.inside.number; view = c.pass.inside.seat.me.0 }) c.args.pass.now _ x y c.take-state.new.seat.me c.give.new.seat.me
+          c.pass.view_is c.requires.1 c.pass.invariant.2 c.pass.invariant.3 t.taken t.state t.heard (search rules) (c.begin_frame-answer.ensures.steps.1) (c.give.ensures.2, c.give.ensures.3) (search rules),
+      search rules,
+      search rules,
+    )

@@ -23,4 +23,4 @@ returns c =
     let above : 0 < key.passes = search rules in
     let t = closes_with key above q c.args.passes.items c.gather-seat.result.me (c.requires.0 ∙ ap (λ (z : Constants). z.passes) is) c.requires.1 c.gather-seat.ensures.1 c.gather-seat.result.id _ _ c.in-Some.state c.close_with-closed.ensures.values.2 c.in-Some.ensures.value in
     let all = c.requires.0 ∙ ap (λ (z : Constants). z.passes) is in
-    record { some_pass = omega (arith, above, all); constants = subst (λ (k : Constants). HasConstants k c.in-Some.state) (sym is) t.0; begins = t.1; last = t.2; stamps = t.4.frames; theirs = t.3; handed = t.5; only_last = λ k d e. t.5 ∙ only_last_hands q c.args.passes.items c.gather-seat.result.me c.requires.0 c.requires.1 c.gather-seat.ensures.1 k d e }
+    record { some_pass = omega (arith, above, all); constants = subst (λ (k : Constants). HasConstants k c.in-Some.state) (sym is) t.0; begins = t.1; last = t.2; stamps = t.4.frames; theirs = t.3; heard = t.6; handed = t.5; only_last = λ k d e. t.5 ∙ only_last_hands q c.args.passes.items c.gather-seat.result.me c.requires.0 c.requires.1 c.gather-seat.ensures.1 k d e }

@@ -19,5 +19,6 @@ returns-clause-rest c =
         last = left.last;
         stamps = rw (← left.constants.1) left.stamps;
         theirs = left.theirs;
+        heard = left.heard;
       },
     )
