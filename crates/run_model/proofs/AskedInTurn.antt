@@ -379,7 +379,7 @@ module _ (threads q last : ℕ) (past : List Block) (made more : List (ℕ × Fr
 
   -- a round at this time: the threads ask for nothing, and all that the others ask for is for this time
   pub round_asked : (time : ℕ) → last ≤ in_round time → ((k : ℕ) → k < threads → dealt_to k (made ++ more) ≡ dealt_to k made)
-      → ((k : ℕ) → threads ≤ k → (got : List FrameEntry) × (dealt_to k (made ++ more) ≡ dealt_to k made ++ got) × AllByRecursion (λ (a : FrameAsk). asked_for a ≡ time) (asks_in got))
+      → ((k : ℕ) → threads ≤ k → (asks : List FrameAsk) × (asks_in (dealt_to k (made ++ more)) ≡ asks_in (dealt_to k made) ++ asks) × AllByRecursion (λ (a : FrameAsk). asked_for a ≡ time) asks)
       → HaveAsked (in_round time) (made ++ more) (asked_so_far threads q past (made ++ more))
   round_asked time later idle asking =
       by_same (in_round time) (made ++ more) (λ k. asked_so_far threads q past made k ++ gets k) (asked_so_far threads q past (made ++ more))
@@ -408,8 +408,8 @@ module _ (threads q last : ℕ) (past : List Block) (made more : List (ℕ × Fr
         | inl lt ↦ subst (AllByRecursion (λ (x : TimedAsk). x.when ≡ in_round time)) (sym (thread_gets k lt)) tt
         | inr le ↦
             let got = asking k le in
-            let is : dealt_to k more ≡ got.0 = append_cancel_left (dealt_to k made) (dealt_to k more) got.0 (sym (dealt_on k made more) ∙ got.1) in
-            subst (AllByRecursion (λ (x : TimedAsk). x.when ≡ in_round time)) (sym (other_gets k le ∙ ap (λ l. asked_in_rounds (asks_in l)) is)) (rounds_then time (asks_in got.0) got.2)
+            let is : asks_in (dealt_to k more) ≡ got.0 = append_cancel_left (asks_in (dealt_to k made)) (asks_in (dealt_to k more)) got.0 (sym (asks_on k) ∙ got.1) in
+            subst (AllByRecursion (λ (x : TimedAsk). x.when ≡ in_round time)) (sym (other_gets k le ∙ ap asked_in_rounds is)) (rounds_then time got.0 got.2)
       ]
 
       goes_on : (k : ℕ) → asked_so_far threads q past made k ++ gets k ≡ asked_so_far threads q past (made ++ more) k
