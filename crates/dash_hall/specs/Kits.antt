@@ -53,8 +53,8 @@ abbrev pub queue_constants : Bool → Script → TableId → ℕ → Constants T
 queue_constants lockstep s pool looper =
     record { home = pool; looper = looper; setting = record { main = looper == 0; lockstep = lockstep; senders = sender_count s } }
 
--- what stays the same in a looper's choreographer: it has the phases of the script's edition, each thread has a pass, the looper two and the controller one, and
--- its record may be handed out as the run goes
+-- what stays the same in a looper's choreographer: it has the phases of the script's edition, each thread has a pass, the looper two and the controller one,
+-- and its record may be handed out as the run goes
 abbrev pub frame_constants : Script → ℕ → FrameConstants
 frame_constants s looper = record { looper = looper; interval = s.period; phases = phase_count s.edition; passes = s.threads + 3; seals = true }
 
@@ -113,7 +113,8 @@ OthersAreOver s kits = (looper : ℕ) (d : Kit) → 0 < looper → looper < s.lo
 abbrev pub AreUnseen : List Sender → Type 0
 AreUnseen ps = (q : ℕ) (p : Sender) → q < length ps → (slice_index_or ps q p).view.seen ≡ []
 
--- the kit's posters have seen no call and handed nothing out, and its passes have seen no frame callback, taken no turn, recorded nothing and handed nothing out
+-- the kit's posters have seen no call and handed nothing out, and its passes have seen no frame callback, taken no turn, recorded nothing and handed
+-- nothing out
 pub record IsUnusedKit (kit : Kit) : Type 0 where
   pub posters : AreUnseen kit.posters.items
   pub sealed : (q : ℕ) (p : Sender) → q < length kit.posters.items → (slice_index_or kit.posters.items q p).view.sealed ≡ []

@@ -132,7 +132,7 @@ pub record LooksFor (looper : ℕ) (before after : Controller) (pulse : Option �
   pub turn : (p : Pass) → AskedBy (slice_index_or before.kit.frames.items looper p) (slice_index_or after.kit.frames.items looper p) stamp
   pub rounded : pulse ≡ option_map millis_up stamp
 
--- one turn of the pass recorded nothing, and what it handed out still stands in these lists of parts
+-- the pass recorded nothing more, and what it handed out still stands in these lists of parts
 pub record HandsOutFrames (before after : Pass) (had has : List (List FrameEntry)) : Type 0 where
   pub badge : frame_badge_of after ≡ frame_badge_of before
   pub own : after.view.own ≡ before.view.own

@@ -107,8 +107,8 @@ impl Stage {
         unreachable!()
     }
 
-    /// Rounds of all loopers, up to the first in which no history grows. Queues with many entries hand them out then, and the
-    /// loopers come to rest anew.
+    /// Rounds of all loopers, up to the first in which no history grows. Where a queue has many entries, queues and choreographers hand
+    /// theirs out then, and the loopers come to rest anew.
     fn settle<R: Threads + Wait + Sync, G: Gate + Sync>(
         &mut self,
         means: &Means<R, G>,
@@ -136,7 +136,7 @@ impl Stage {
         Ok(())
     }
 
-    /// Queues with many entries hand them out, and all hear of it.
+    /// Queues and choreographers hand out their entries, and all hear of it.
     fn hand_out<R: Wait>(&mut self, rt: &R, script: &Script) -> Result<(), NoMemory>
         requires stage { IsStage script.now self.old }
         ensures stage { IsStage script.now self.new }

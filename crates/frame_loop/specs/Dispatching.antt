@@ -11,7 +11,8 @@ use Rattle.looper_run.specs.Tests.{IsLent}
 use Rattle.plain_loop.specs.Handling.{IsPlaceOf}
 use Rattle.frame_loop.specs.declared.dispatching.FrameHandling.{FrameHandling}
 
--- the looper is of this queue and this pool, and both passes are of the choreographer, which has five phases and lets its record go by the first of the two, its last pass
+-- the looper is of this queue and this pool, and both passes are of the choreographer, which has five phases and lets its record go by the first of the two,
+-- its last pass
 pub record ServesFrames (queue : Shared TableId) (pool : TableId) (c : FrameShared) (frames asks : FrameKnown) (w : Workplace) : Type 0 where
   pub place : IsPlaceOf queue pool w
   pub framing : IsOf frames c

@@ -28,7 +28,7 @@ pub record SoFar : Type 0 where
 abbrev pub nothing : SoFar
 nothing = record { period = 0; things = []; open_plan = None; stage = Start }
 
--- a line of this kind may stand here: behind the period a key where one is missing, else a thing or the end
+-- a line of this kind may stand here: the head first, then the period, and behind it a key where one is missing, else a thing or the end
 abbrev pub may_stand : Stage → Option Plan → RowKind → Bool
 may_stand Start p kind.Head = true
 may_stand Headed p kind.Period = true
