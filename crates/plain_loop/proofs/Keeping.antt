@@ -15,17 +15,20 @@ use Rattle.loop_model.specs.declared.reply.Reply.TheVariants.{Accepted, Refused,
 use Rattle.loop_model.specs.declared.entry.Entry.{Entry}
 use Rattle.loop_model.specs.Entries.{is_next}
 use Rattle.message_slot.specs.Letter.{post_of}
-use Rattle.message_pool.specs.Passes.{Claimed, Tally}
+use Rattle.message_pool.specs.Passes.{Claimed, Node, Tally}
 use Rattle.queue_state.specs.Queue.{Queue, entry_of, moment_at}
 use Rattle.shared_queue.specs.Known.{Shared, IsOf, IsTurn}
-use Rattle.handler_post.specs.Ways.{PlainWay as Way}
+use Rattle.handler_post.specs.declared.way.Way.{Way}
 use Rattle.handler_post.specs.declared.way.Sent.{Sent}
 use Rattle.handler_post.specs.declared.way.Sent.TheVariants.{Accepted as Took, Refused as Turned, NoMemory as NoRoom}
 use Rattle.handler_post.specs.declared.way.Erased.{Erased}
 use Rattle.handler_post.specs.declared.way.Erased.TheVariants.{Removed as Gone, NoMemory as NoSpace}
 use Rattle.handler_post.specs.declared.unhandled.Quit.{Quit}
 use Rattle.handler_post.specs.declared.unhandled.Quit.TheVariants as quit
-use Rattle.handler_post.specs.Supply.{letter_of, Obtains, ObtainsInVain}
+use Rattle.handler_post.specs.declared.values.SentWith.{SentWith}
+use Rattle.handler_post.specs.declared.values.SentWith.TheVariants as with
+use Rattle.handler_post.specs.Values.{SendingWith, SendsWith}
+use Rattle.handler_post.specs.Supply.{letter_of, Obtains, ObtainsInVain, BringsBack}
 use Rattle.handler_post.specs.Ways.{IsReady, IsSameWay, MadeNone}
 use Rattle.handler_post.specs.Sends.{Sending, Erasing, Sends, Erases, Has, Idles}
 use Rattle.handler_post.specs.Unhandled.{Bars, Unbarring, Unbars, Quitting, Quits}
@@ -35,6 +38,8 @@ use Rattle.looper_run.specs.Tests.{IsLent}
 use Rattle.looper_run.proofs.Working.{lent_then}
 use Rattle.looper_run.proofs.Turning.{found, all_first, no_looks}
 use Rattle.plain_loop.specs.Lines.{holding, Keeps}
+use Rattle.plain_loop.specs.declared.values.Values.{Values}
+use Rattle.plain_loop.specs.Values.{TakesOut, TakesNone, QuittingWith, QuitsWith}
 
 -- what a looper lent, as the poster and the pass are now
 abbrev pub at : Sender → Tally → Journal → Holding
@@ -115,6 +120,27 @@ sending home m p q a b (Turned place) same (claim, (x, y, t, posts, accepted), o
     entered p q x y (Post (post_of (letter_of m claim).item)) (Refused place) a b t (entries_are x y _ posts.2) refl (record { home = same; back = in_vain_back home claim a b o })
 sending home m p q a b NoRoom same (claim, none, o) = made_none p q a b none (record { home = same; back = in_vain_back home claim a b o })
 
+sending_with : {V : Type 0} (content : V → List ℕ) (home : TableId) (m : PostData) (value : V) (p q : Sender) (a b : Tally) (r : SentWith V) → b.home ≡ a.home → SendingWith content home m value p q a b r → Steps p q a b
+sending_with content home m value p q a b (with.Accepted number wake) same (c, (x, y, t, posts, accepted), has, o) =
+    entered p q x y (Post (post_of (letter_of m (Some c)).item)) (Accepted number) a b t (entries_are x y _ posts.2) refl (record { home = same; back = obtained_back home (Some c) a b o })
+sending_with content home m value p q a b (with.Refused place back) same (c, (x, y, t, posts, accepted), has, o, is) =
+    entered p q x y (Post (post_of (letter_of m (Some c)).item)) (Refused place) a b t (entries_are x y _ posts.2) refl (record { home = same; back = in_vain_back home (Some c) a b o })
+sending_with content home m value p q a b (with.Full back) same (kept, none, is) =
+    made_none p q a b (inl kept) (record { home = same; back = obtained_back home None a b none })
+sending_with content home m value p q a b (with.NoMemory back) same (c, none, o, is) =
+    made_none p q a b none (record { home = same; back = in_vain_back home (Some c) a b o })
+
+-- a pass that stayed as it was
+stayed : (a b : Tally) → b.home ≡ a.home → b ≡ a → Saves a b
+stayed a b same kept = record { home = same; back = (let e : b.back ≡ a.back = ap (λ (z : Tally). z.back) kept in omega (arith, e)) }
+
+quitting_with : {V : Type 0} (safe : Bool) (now : ℕ) (p q : Sender) (a b : Tally) (r : Quit) (v : Values V) → Saves a b → QuittingWith safe now p q r v → Steps p q a b
+quitting_with safe now p q a b (quit.Done dropped) v s ((x, y, t, quits), is) = entered p q x y (Quitted safe (moment_at x now)) QuitDone a b t (entries_are x y _ quits.2) refl s
+quitting_with safe now p q a b (quit.AlreadyQuit place) v s ((x, y, t, quits), is) =
+    entered p q x y (Quitted safe (moment_at x now)) (AlreadyQuit place) a b t (entries_are x y _ quits.1) refl s
+quitting_with safe now p q a b quit.NotAllowed v s ((x, y, t, quits), is) = entered p q x y (Quitted safe (moment_at x now)) NotAllowed a b t (entries_are x y _ quits.1) refl s
+quitting_with safe now p q a b quit.NoMemory v s ((x, y, t, quits), is) = left_as_found p q x y a b t quits.1 s
+
 erasing : (f : Filter) (p q : Sender) (a b : Tally) (r : Erased) → b.home ≡ a.home → Erasing f p q a b r → Steps p q a b
 erasing f p q a b (Gone count) same (nodes, (x, y, t, takes), is, back) =
     let more = back.0 in entered p q x y (Remove f) _ a b t (entries_are x y _ takes.2) refl (record { home = same; back = omega (arith, more) })
@@ -135,7 +161,7 @@ quitting safe now p q a b quit.NoMemory same ((x, y, t, quits), kept) =
     left_as_found p q x y a b t quits.1 (record { home = same; back = (let e : b.back ≡ a.back = ap (λ (z : Tally). z.back) kept in omega (arith, e)) })
 
 -- a step of a way keeps it
-keeps : {E : Type 0} (v w : Way E) → IsReady w → IsSameWay v w → Steps v.poster.now w.poster.now v.pass.now w.pass.now → Keeps v w
+keeps : {E P : Type 0} (v w : Way E P) → IsReady w → IsSameWay v w → Steps v.poster.now w.poster.now v.pass.now w.pass.now → Keeps v w
 keeps v w ready same step = record {
   ready = ready;
   same = same;
@@ -143,55 +169,82 @@ keeps v w ready same step = record {
 }
 
 -- what works on what a way leaves, over the queue and the pool that the way had, is ready as the way is
-pub line_ready : {E : Type 0} (v w m : Way E) → IsReady w → IsSameWay v w → m.poster.now ≡ w.poster.now → m.pass.now ≡ w.pass.now → m.queue.now ≡ v.queue.now → m.pool.now ≡ v.pool.now → IsReady m
+pub line_ready : {E P : Type 0} (v w m : Way E P) → IsReady w → IsSameWay v w → m.poster.now ≡ w.poster.now → m.pass.now ≡ w.pass.now → m.queue.now ≡ v.queue.now → m.pool.now ≡ v.pool.now → IsReady m
 line_ready v w m ready same poster pass queue pool = record {
   poster = subst (λ (q : Shared TableId). IsOf m.poster.now q) (same.queue ∙ sym queue) (subst (λ (p : Sender). IsOf p w.queue.now) (sym poster) ready.poster);
   pass = ap (λ (a : Tally). a.home) pass ∙ (ready.pass ∙ (same.pool ∙ sym pool));
   home = ap (λ (q : Shared TableId). q.constants.home) (queue ∙ sym same.queue) ∙ (ready.home ∙ (same.pool ∙ sym pool));
 }
 
-same_home : {E : Type 0} (v w : Way E) → IsReady v → IsReady w → IsSameWay v w → w.pass.now.home ≡ v.pass.now.home
+same_home : {E P : Type 0} (v w : Way E P) → IsReady v → IsReady w → IsSameWay v w → w.pass.now.home ≡ v.pass.now.home
 same_home v w ready ready' same = ready'.pass ∙ (same.pool ∙ sym ready.pass)
 
-pub sends_keep : {E : Type 0} (m : PostData) (v w : Way E) (r : Sent) → IsReady v → IsReady w → IsSameWay v w → Sends m v w r → Keeps v w
+pub sends_keep : {E P : Type 0} (m : PostData) (v w : Way E P) (r : Sent) → IsReady v → IsReady w → IsSameWay v w → Sends m v w r → Keeps v w
 sends_keep m v w r ready ready' same did =
     keeps v w ready' same (sending v.pool.now m v.poster.now w.poster.now v.pass.now w.pass.now r (same_home v w ready ready' same) did)
 
-pub erases_keep : {E : Type 0} (f : Filter) (v w : Way E) (r : Erased) → IsReady v → IsReady w → IsSameWay v w → Erases f v w r → Keeps v w
+pub sends_with_keep : {E P : Type 0} (content : P → List ℕ) (m : PostData) (value : P) (v w : Way E P) (r : SentWith P) → IsReady v → IsReady w → IsSameWay v w → SendsWith content m value v w r → Keeps v w
+sends_with_keep content m value v w r ready ready' same did =
+    keeps v w ready' same (sending_with content v.pool.now m value v.poster.now w.poster.now v.pass.now w.pass.now r (same_home v w ready ready' same) did)
+
+takes_keep : {E P : Type 0} (f : Filter) (values : Values P) (v w : Way E P) → IsReady v → IsReady w → IsSameWay v w → TakesOut f v w values → Keeps v w
+takes_keep f values v w ready ready' same ((x, y, t, takes), kept) =
+    keeps v w ready' same (entered v.poster.now w.poster.now x y (Remove f) _ v.pass.now w.pass.now t (entries_are x y _ takes.2) refl (stayed v.pass.now w.pass.now (same_home v w ready ready' same) kept))
+
+takes_none_keep : {E P : Type 0} (v w : Way E P) → IsReady v → IsReady w → IsSameWay v w → TakesNone v w → Keeps v w
+takes_none_keep v w ready ready' same (none, kept) =
+    keeps v w ready' same (made_none v.poster.now w.poster.now v.pass.now w.pass.now none (stayed v.pass.now w.pass.now (same_home v w ready ready' same) kept))
+
+pub removes_keep : {E P : Type 0} (f : Filter) (v w : Way E P) (r : Result (Values P) NoMemory) → IsReady v → IsReady w → IsSameWay v w
+    → IfOk r (TakesOut f v w) → OnErr r (TakesNone v w) → Keeps v w
+removes_keep f v w (Ok values) ready ready' same did none = takes_keep f values v w ready ready' same did
+removes_keep f v w (Err e) ready ready' same did none = takes_none_keep v w ready ready' same none
+
+pub quits_with_keep : {E P : Type 0} (safe : Bool) (now : ℕ) (v w : Way E P) (r : Quit) (values : Values P) → IsReady v → IsReady w → IsSameWay v w → QuitsWith safe now v w r values → Keeps v w
+quits_with_keep safe now v w r values ready ready' same (did, kept) =
+    keeps v w ready' same (quitting_with safe now v.poster.now w.poster.now v.pass.now w.pass.now r values (stayed v.pass.now w.pass.now (same_home v w ready ready' same) kept) did)
+
+-- the poster did nothing, and messages went back
+pub brings_keep : {E P : Type 0} (gone : List Node) (v w : Way E P) → IsReady v → IsReady w → IsSameWay v w → BringsBack gone v.pass.now w.pass.now → w.poster.now ≡ v.poster.now → Keeps v w
+brings_keep gone v w ready ready' same brings kept =
+    keeps v w ready' same (made_none v.poster.now w.poster.now v.pass.now w.pass.now (inl kept)
+    (record { home = same_home v w ready ready' same; back = (let more = brings.0 in omega (arith, more)) }))
+
+pub erases_keep : {E P : Type 0} (f : Filter) (v w : Way E P) (r : Erased) → IsReady v → IsReady w → IsSameWay v w → Erases f v w r → Keeps v w
 erases_keep f v w r ready ready' same did =
     keeps v w ready' same (erasing f v.poster.now w.poster.now v.pass.now w.pass.now r (same_home v w ready ready' same) did)
 
 -- a turn that leaves the state as it was, and nothing given back
-still_keeps : {E : Type 0} (v w : Way E) (x : Queue TableId Claimed) → IsReady v → IsReady w → IsSameWay v w → IsTurn v.poster.now w.poster.now x x
+still_keeps : {E P : Type 0} (v w : Way E P) (x : Queue TableId Claimed) → IsReady v → IsReady w → IsSameWay v w → IsTurn v.poster.now w.poster.now x x
     → w.pass.now ≡ v.pass.now → Keeps v w
 still_keeps v w x ready ready' same t kept =
     keeps v w ready' same (looked v.poster.now w.poster.now x v.pass.now w.pass.now t
     (record { home = same_home v w ready ready' same; back = (let e : w.pass.now.back ≡ v.pass.now.back = ap (λ (z : Tally). z.back) kept in omega (arith, e)) }))
 
-pub has_keeps : {E : Type 0} (f : Filter) (v w : Way E) (r : Bool) → IsReady v → IsReady w → IsSameWay v w → Has f v w r → Keeps v w
+pub has_keeps : {E P : Type 0} (f : Filter) (v w : Way E P) (r : Bool) → IsReady v → IsReady w → IsSameWay v w → Has f v w r → Keeps v w
 has_keeps f v w r ready ready' same ((x, t, is), kept) = still_keeps v w x ready ready' same t kept
 
-pub idle_keeps : {E : Type 0} (now : ℕ) (v w : Way E) (r : Bool) → IsReady v → IsReady w → IsSameWay v w → Idles now v w r → Keeps v w
+pub idle_keeps : {E P : Type 0} (now : ℕ) (v w : Way E P) (r : Bool) → IsReady v → IsReady w → IsSameWay v w → Idles now v w r → Keeps v w
 idle_keeps now v w r ready ready' same ((x, t, is), kept) = still_keeps v w x ready ready' same t kept
 
-pub bars_keep : {E : Type 0} (now token : ℕ) (v w : Way E) → IsReady v → IsReady w → IsSameWay v w → v.pass.now.back ≤ w.pass.now.back → Bars now token v w → Keeps v w
+pub bars_keep : {E P : Type 0} (now token : ℕ) (v w : Way E P) → IsReady v → IsReady w → IsSameWay v w → v.pass.now.back ≤ w.pass.now.back → Bars now token v w → Keeps v w
 bars_keep now token v w ready ready' same back (node, (x, y, t, bars)) =
     keeps v w ready' same (entered v.poster.now w.poster.now x y (Barrier (moment_at x now)) (Token token) v.pass.now w.pass.now t (entries_are x y _ bars.1) refl
     (record { home = same_home v w ready ready' same; back = back }))
 
-pub unbars_keep : {E : Type 0} (token : ℕ) (was : Bool) (v w : Way E) → IsReady v → IsReady w → IsSameWay v w → v.pass.now.back ≤ w.pass.now.back → Unbars token was v w → Keeps v w
+pub unbars_keep : {E P : Type 0} (token : ℕ) (was : Bool) (v w : Way E P) → IsReady v → IsReady w → IsSameWay v w → v.pass.now.back ≤ w.pass.now.back → Unbars token was v w → Keeps v w
 unbars_keep token was v w ready ready' same back did =
     keeps v w ready' same (unbarring token was v.poster.now w.poster.now v.pass.now w.pass.now (record { home = same_home v w ready ready' same; back = back }) did)
 
-pub none_keeps : {E : Type 0} (v w : Way E) → IsReady v → IsReady w → IsSameWay v w → v.pass.now.back ≤ w.pass.now.back → MadeNone v.poster.now w.poster.now → Keeps v w
+pub none_keeps : {E P : Type 0} (v w : Way E P) → IsReady v → IsReady w → IsSameWay v w → v.pass.now.back ≤ w.pass.now.back → MadeNone v.poster.now w.poster.now → Keeps v w
 none_keeps v w ready ready' same back did =
     keeps v w ready' same (made_none v.poster.now w.poster.now v.pass.now w.pass.now did (record { home = same_home v w ready ready' same; back = back }))
 
-pub quits_keep : {E : Type 0} (safe : Bool) (now : ℕ) (v w : Way E) (r : Quit) → IsReady v → IsReady w → IsSameWay v w → Quits safe now v w r → Keeps v w
+pub quits_keep : {E P : Type 0} (safe : Bool) (now : ℕ) (v w : Way E P) (r : Quit) → IsReady v → IsReady w → IsSameWay v w → Quits safe now v w r → Keeps v w
 quits_keep safe now v w r ready ready' same did =
     keeps v w ready' same (quitting safe now v.poster.now w.poster.now v.pass.now w.pass.now r (same_home v w ready ready' same) did)
 
-module _ {E : Type 0} (v w : Way E) (ready : IsReady v) (ready' : IsReady w) (same : IsSameWay v w) (back : v.pass.now.back ≤ w.pass.now.back) where
+module _ {E P : Type 0} (v w : Way E P) (ready : IsReady v) (ready' : IsReady w) (same : IsSameWay v w) (back : v.pass.now.back ≤ w.pass.now.back) where
   pub bar_keeps : (now : ℕ) (r : Result ℕ NoMemory) → IfOk r (λ token. Bars now token v w) → OnErr r (MadeNone v.poster.now w.poster.now) → Keeps v w
   bar_keeps now (Ok token) did none = bars_keep now token v w ready ready' same back did
   bar_keeps now (Err e) did none = none_keeps v w ready ready' same back none

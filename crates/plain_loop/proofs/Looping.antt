@@ -1,10 +1,10 @@
 -- What a loop that found memory kept, and what a dispatcher's answer tells.
-use Rattle.std.proofs.Common.{◌≡◌, ℕ, suc, Bool, false, refl, sym, subst, Option, Some, None}
+use Rattle.std.proofs.Common.{◌≡◌, ℕ, suc, Bool, true, false, refl, sym, ◌∙◌, subst, Option, Some, None}
 use Rattle.std.specs.Prelude.{Result, Ok, Err, OnOk}
 use Rattle.loop_model.specs.declared.memory.NoMemory.{NoMemory}
 use Rattle.looper_run.specs.declared.by_clock.Loop.{Loop}
 use Rattle.looper_run.specs.declared.by_clock.Loop.TheVariants as loop
-use Rattle.looper_run.specs.Loops.{UnlessLostThen}
+use Rattle.looper_run.specs.Loops.{LoopsOrGoes, UnlessLostThen, is_over_then}
 use Rattle.looper_run.specs.declared.dispatcher.Did.{Did}
 use Rattle.looper_run.specs.Tests.{Unless}
 use Rattle.atomic_table.specs.Seated.{TableId}
@@ -38,3 +38,12 @@ times_more keeps shows s until n a b d over going times once = (suc n, (b, times
 -- the same place
 pub place_still : (queue : Shared TableId) (pool : TableId) (w v : Workplace) → v ≡ w → IsPlaceOf queue pool w → IsPlaceOf queue pool v
 place_still queue pool w v same is = subst (λ (x : Workplace). IsPlaceOf queue pool x) (sym same) is
+
+-- a loop that ended the looper, where it waits as long as it is to
+pub loops_ended : (shows : ℕ → Bool) (s : Setting) (until : Option ℕ) (answer : Option Loop) (before after : Looping) (over : Bool) → over ≡ is_over_then answer → over ≡ true
+    → LoopsOrGoes shows 0 until s before.held after.held answer → LoopsOn false shows s until true before after
+loops_ended shows s until (Some loop.Ended) before after over is ended loops = (until, refl, loops)
+loops_ended shows s until None before after over is ended loops = let wrong : false ≡ true = sym is ∙ ended in cc
+loops_ended shows s until (Some (loop.Cap now)) before after over is ended loops = let wrong : false ≡ true = sym is ∙ ended in cc
+loops_ended shows s until (Some loop.Nudged) before after over is ended loops = let wrong : false ≡ true = sym is ∙ ended in cc
+loops_ended shows s until (Some loop.NoMemory) before after over is ended loops = let wrong : false ≡ true = sym is ∙ ended in cc

@@ -10,19 +10,19 @@ use Rattle.plain_loop.specs.declared.mailbox.Senders.{Senders}
 use Rattle.plain_loop.specs.declared.mailbox.Opened.{Opened}
 
 -- the poster is one of the queue, the pass is one of the pool, and the queue's messages are the pool's
-pub record IsSender {E : Type 0} (queue : Shared TableId) (pool : TableId) (s : Sender E) : Type 0 where
+pub record IsSender {E P : Type 0} (queue : Shared TableId) (pool : TableId) (s : Sender E P) : Type 0 where
   pub poster : IsOf s.poster queue
   pub pass : s.pass.home ≡ pool
   pub home : queue.constants.home ≡ pool
 
 -- the same of senders that no thread has, each of which has done nothing
-pub record AreSenders {E : Type 0} (queue : Shared TableId) (pool : TableId) (s : Senders E) : Type 0 where
+pub record AreSenders {E P : Type 0} (queue : Shared TableId) (pool : TableId) (s : Senders E P) : Type 0 where
   pub posters : AreNew queue s.posters.items
   pub pass : s.pass.home ≡ pool
   pub home : queue.constants.home ≡ pool
 
 -- the first are one sender fewer
-abbrev pub IsOneFewer : {E : Type 0} → Senders E → Senders E → Type 0
+abbrev pub IsOneFewer : {E P : Type 0} → Senders E P → Senders E P → Type 0
 IsOneFewer few many = length many.posters.items ≡ length few.posters.items + 1
 
 -- the looper is of this queue and this pool, it has not ended, and its poster is the last sender's, which alone may let go of the queue's history
@@ -32,7 +32,7 @@ pub record IsLooper (queue : Shared TableId) (pool : TableId) (l : Looping) : Ty
   pub last : l.held.poster.sender + 1 ≡ queue.constants.setting.senders
 
 -- a queue that nobody has used, with its looper and so many senders, which goes by a clock; it is as the settings say
-pub record IsOpened {E : Type 0} (settings : Settings) (count : ℕ) (o : Opened E) : Type 0 where
+pub record IsOpened {E P : Type 0} (settings : Settings) (count : ℕ) (o : Opened E P) : Type 0 where
   pub looper : IsLooper o.queue o.pool o.looper
   pub number : (o.queue.constants.looper ≡ settings.looper) × (o.looper.held.journal.looper ≡ settings.looper)
   pub main : o.queue.constants.setting.main ≡ settings.main

@@ -20,10 +20,10 @@ use std::thread::{Threads, join};
 use std::time;
 
 /// After how many dispatches a looper lets go of its records.
-const MOST_AT_ONCE: u64 = 1_024;
+pub(crate) const MOST_AT_ONCE: u64 = 1_024;
 
 // Whether a loop with this answer ended the looper. NoMemory where it found none.
-fn is_over(answer: Option<Loop>) -> Result<bool, NoMemory>
+pub(crate) fn is_over(answer: Option<Loop>) -> Result<bool, NoMemory>
     ensures over { IfOk result (λ over. over ≡ is_over_then answer) }
     ensures none { OnErr result (answer ≡ Some loop.NoMemory) }
     ensures kept { OnOk result (answer ≢ Some loop.NoMemory) }

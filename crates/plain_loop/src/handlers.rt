@@ -15,7 +15,7 @@ use queue_state::Recorder;
 use std::sync::Wait;
 
 /// A message, as a handler is given it.
-pub type Msg = Message<PoolClaim>;
+pub type Msg<P = ()> = Message<PoolClaim<P>>;
 
 /// How the code of a handler ends.
 pub type Handled = Result<(), NoMemory>;

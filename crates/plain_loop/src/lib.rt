@@ -6,13 +6,21 @@
 mod beside;
 mod frames;
 mod handlers;
+mod laws;
 mod lines;
 mod mailbox;
 mod records;
+mod value_handlers;
+mod value_looper;
+mod values;
 
 pub use beside::{loop_and_let_go, run_beside, run_here, run_looper};
 pub use frames::{Draw, Drawing, Outbox};
 pub use handlers::{Handle, Handled, Handling, Msg, did};
+pub use laws::value_is_sent;
 pub use lines::Line;
-pub use mailbox::{Mailbox, Opened, Sender, Senders, Settings, open, open_with};
+pub use mailbox::{Mailbox, Opened, Sender, Senders, Settings, open, open_for_values, open_with};
 pub use records::LetGo;
+pub use value_handlers::{HandleValues, HandlingValues};
+pub use value_looper::{WorkBeside, run_value_looper, run_values_beside};
+pub use values::Values;

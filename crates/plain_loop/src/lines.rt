@@ -9,7 +9,7 @@ ghost use Rattle.plain_loop.specs.Lines.{Keeps, due_at, way_of, AtNow};
 use handler_post::{Erased, Quit, Sent, Way};
 use loop_io::Clock;
 use loop_model::{Filter, NoMemory, Post};
-use message_pool::{Pool, PoolClaim, PoolPass};
+use message_pool::{Payload, Pool, PoolClaim, PoolPass};
 use queue_state::{Recorder, Unkept};
 use shared_queue::{Poster, SharedQueue};
 use std::alloc::Global;
@@ -20,7 +20,7 @@ use std::sync::Wait;
 /// `handler.runnable(callback)`, and what is removed or asked for is named by it, as `handler.messages(what)`. The methods in
 /// brackets are those of the Android API reference's `Handler`. The queue's entries go where `E` says.
 #[derive(Drop)]
-pub struct Line<'a, R: Wait, C: Clock, E: Recorder = Unkept> {
+pub struct Line<'a, R: Wait, C: Clock, E: Recorder = Unkept, P: Payload = ()> {
     /// What locks and waits go through.
     pub rt: &'a R,
     /// Where memory comes from.
@@ -28,22 +28,22 @@ pub struct Line<'a, R: Wait, C: Clock, E: Recorder = Unkept> {
     /// The clock.
     pub clock: &'a C,
     /// The queue.
-    pub queue: &'a SharedQueue<PoolClaim, E>,
+    pub queue: &'a SharedQueue<PoolClaim<P>, E>,
     /// The thread's poster of the queue.
-    pub poster: &'a mut Poster<PoolClaim, E>,
+    pub poster: &'a mut Poster<PoolClaim<P>, E>,
     /// The pool that messages come from and go back to.
-    pub pool: &'a Pool,
+    pub pool: &'a Pool<P>,
     /// The thread's pass of the pool.
-    pub pass: &'a mut PoolPass,
+    pub pass: &'a mut PoolPass<P>,
 }
 
-fn due(post: Post, when: u64) -> Post
+pub(crate) fn due(post: Post, when: u64) -> Post
     ensures { result ≡ due_at post when }
 {
     Post { when, ..post }
 }
 
-impl<'a, R: Wait, C: Clock, E: Recorder> Line<'a, R, C, E> {
+impl<'a, R: Wait, C: Clock, E: Recorder, P: Payload> Line<'a, R, C, E, P> {
     /// The time now (`SystemClock.uptimeMillis`).
     pub fn now(&self) -> u64
         ensures { IsTrue (C.shows self.now.clock.now result) }

@@ -11,7 +11,7 @@ use loop_io::Clock;
 use loop_model::NoMemory;
 use loop_sources::{FdTable, IdleSet};
 use looper_run::{Looper, Sources};
-use message_pool::{Pool, PoolClaim, PoolPass};
+use message_pool::{Payload, Pool, PoolClaim, PoolPass};
 use queue_state::{Recorder, Unkept};
 use shared_queue::{Poster, SharedQueue};
 use std::alloc::Global;
@@ -43,19 +43,19 @@ impl Settings {
 
 /// What one thread posts by: its poster of the queue, and its pass of the pool.
 #[derive(Drop)]
-pub struct Sender<E: Recorder = Unkept> {
+pub struct Sender<E: Recorder = Unkept, P: Payload = ()> {
     /// Its poster of the queue.
-    pub poster: Poster<PoolClaim, E>,
+    pub poster: Poster<PoolClaim<P>, E>,
     /// Its pass of the pool.
-    pub pass: PoolPass,
+    pub pass: PoolPass<P>,
 }
 
-impl<E: Recorder> Sender<E> {
+impl<E: Recorder, P: Payload> Sender<E, P> {
     /// A line to the queue (`new Handler(looper)`).
     pub fn line<'a, R: Wait, C: Clock>(
         &'a mut self,
-        mailbox: &'a Mailbox<'a, R, C, E>,
-    ) -> Line<'a, R, C, E>
+        mailbox: &'a Mailbox<'a, R, C, E, P>,
+    ) -> Line<'a, R, C, E, P>
         requires { IsSender mailbox.now.queue.now mailbox.now.pool.now self.old }
         ensures ready { IsReady (way_of result) }
         ensures queue { (result.queue.now ≡ mailbox.now.queue.now) × (result.pool.now ≡ mailbox.now.pool.now) }
@@ -76,16 +76,16 @@ impl<E: Recorder> Sender<E> {
 
 /// The senders that no thread has yet.
 #[derive(Drop)]
-pub struct Senders<E: Recorder = Unkept> {
+pub struct Senders<E: Recorder = Unkept, P: Payload = ()> {
     /// Their posters, in order.
-    pub posters: Vec<Poster<PoolClaim, E>>,
+    pub posters: Vec<Poster<PoolClaim<P>, E>>,
     /// The pass that theirs are split from.
-    pub pass: PoolPass,
+    pub pass: PoolPass<P>,
 }
 
-impl<E: Recorder> Senders<E> {
+impl<E: Recorder, P: Payload> Senders<E, P> {
     /// The last sender that no thread has, which has done nothing. There is one.
-    pub fn next<R: Wait, C: Clock>(&mut self, mailbox: &Mailbox<R, C, E>) -> Sender<E>
+    pub fn next<R: Wait, C: Clock>(&mut self, mailbox: &Mailbox<R, C, E, P>) -> Sender<E, P>
         requires { AreSenders mailbox.now.queue.now mailbox.now.pool.now self.old × (0 < length self.old.posters.items) }
         ensures sender { IsSender mailbox.now.queue.now mailbox.now.pool.now result }
         ensures unused { IsNewPoster result.poster }
@@ -102,15 +102,15 @@ impl<E: Recorder> Senders<E> {
 
 /// A queue that nobody has used, with its pool, its looper and its senders.
 #[derive(Drop)]
-pub struct Opened<E: Recorder = Unkept> {
+pub struct Opened<E: Recorder = Unkept, P: Payload = ()> {
     /// The queue.
-    pub queue: SharedQueue<PoolClaim, E>,
+    pub queue: SharedQueue<PoolClaim<P>, E>,
     /// The pool of its messages.
-    pub pool: Pool,
+    pub pool: Pool<P>,
     /// Its looper.
-    pub looper: Looper<E>,
+    pub looper: Looper<E, P>,
     /// Its senders, as many as the settings say.
-    pub senders: Senders<E>,
+    pub senders: Senders<E, P>,
     /// Its idle handlers and watched descriptors, of which there are none.
     pub sources: Mutex<Sources>,
 }
@@ -129,6 +129,28 @@ pub fn open_with<E: Recorder>(
     settings: Settings,
     senders: u32,
 ) -> Result<Opened<E>, NoMemory>
+    requires { senders ≤ 65536 }
+    ensures opened { IfOk result (IsOpened settings senders) }
+{
+    open_queue(alloc, settings, senders)
+}
+
+/// The same for messages that may carry a value of the type `P`, over a queue that keeps no entry.
+pub fn open_for_values<P: Payload>(
+    alloc: Global,
+    settings: Settings,
+) -> Result<Opened<Unkept, P>, NoMemory>
+    ensures opened { IfOk result (IsOpened settings settings.senders) }
+{
+    open_queue(alloc, settings, u32::from(settings.senders))
+}
+
+// A queue of either kind with so many senders.
+pub(crate) fn open_queue<E: Recorder, P: Payload>(
+    alloc: Global,
+    settings: Settings,
+    senders: u32,
+) -> Result<Opened<E, P>, NoMemory>
     requires { senders ≤ 65536 }
     ensures opened { IfOk result (IsOpened settings senders) }
 {
@@ -158,7 +180,7 @@ pub fn open_with<E: Recorder>(
 /// A looper as its senders see it: its queue, the pool of the queue's messages, its idle handlers and descriptors, and what calls on
 /// it ask for beside.
 #[derive(Drop)]
-pub struct Mailbox<'a, R: Wait, C: Clock, E: Recorder = Unkept> {
+pub struct Mailbox<'a, R: Wait, C: Clock, E: Recorder = Unkept, P: Payload = ()> {
     /// What locks and waits go through.
     pub rt: &'a R,
     /// Where memory comes from.
@@ -166,14 +188,14 @@ pub struct Mailbox<'a, R: Wait, C: Clock, E: Recorder = Unkept> {
     /// The clock.
     pub clock: &'a C,
     /// The queue.
-    pub queue: &'a SharedQueue<PoolClaim, E>,
+    pub queue: &'a SharedQueue<PoolClaim<P>, E>,
     /// The pool of its messages.
-    pub pool: &'a Pool,
+    pub pool: &'a Pool<P>,
     /// The looper's idle handlers and watched descriptors.
     pub sources: &'a Mutex<Sources>,
 }
 
-impl<'a, R: Wait, C: Clock, E: Recorder> Mailbox<'a, R, C, E> {
+impl<'a, R: Wait, C: Clock, E: Recorder, P: Payload> Mailbox<'a, R, C, E, P> {
     /// Adds an idle handler of this number, whose code is `Handle::idle` (`MessageQueue.addIdleHandler`). It runs when the looper next
     /// has nothing to do, if it has not waited already.
     pub fn add_idle_handler(&self, id: u32) -> Result<(), NoMemory> {
@@ -188,10 +210,10 @@ impl<'a, R: Wait, C: Clock, E: Recorder> Mailbox<'a, R, C, E> {
 }
 
 /// Takes the last of these posters out.
-fn last_of<E: Recorder>(
-    queue: &SharedQueue<PoolClaim, E>,
-    posters: &mut Vec<Poster<PoolClaim, E>>,
-) -> Poster<PoolClaim, E>
+fn last_of<E: Recorder, P: Payload>(
+    queue: &SharedQueue<PoolClaim<P>, E>,
+    posters: &mut Vec<Poster<PoolClaim<P>, E>>,
+) -> Poster<PoolClaim<P>, E>
     requires { AreNew queue.now posters.old.items × (0 < length posters.old.items) }
     ensures poster { IsOf result queue.now }
     ensures unused { IsNewPoster result }
