@@ -30,7 +30,7 @@ pub(crate) struct Hands {
 }
 
 /// How the time was moved on.
-#[derive(Clone, Copy, Debug, PartialEq, Eq)]
+#[derive(Clone, Copy)]
 enum Move {
     /// The queue's time is this or later.
     There,
@@ -40,7 +40,7 @@ enum Move {
 }
 
 /// How a look for a message ended.
-#[derive(Clone, Copy, Debug, PartialEq, Eq)]
+#[derive(Clone, Copy)]
 enum Look {
     /// A message was taken and recycled.
     Taken,

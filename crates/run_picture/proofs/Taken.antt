@@ -96,6 +96,14 @@ counted_taken spelling ws y e =
     let t = long_taken p.0.1 y p.2 in
     (t.0, fixed_taken spelling ws p.0 p.1 ∙ ap (λ r. spelling ∷ r) t.1)
 
+-- a counted number was read, and the rest followed by it
+counted_then : {C : Type 0} (P : Type 0) (spelling : List ℕ) (ws : Rest) (f : ℕ → Rest → Option C) (y : C) → and_then (reading.counted spelling ws) f ≡ Some y
+    → ((n : ℕ) (rest : Rest) → IsLong n → ws ≡ spelling ∷ decimal n ∷ rest → f n rest ≡ Some y → P) → P
+counted_then P spelling ws f y e go =
+    let p = parted (reading.counted spelling ws) f y e in
+    let t = counted_taken spelling ws p.0 p.1 in
+    go p.0.0 p.0.1 t.0 t.1 p.2
+
 abbrev SubjectTaken : Rest → Subject × Rest → Type 0
 SubjectTaken ws y = FitsSubject y.0 × (ws ≡ subject_words y.0 ++ y.1)
 
@@ -227,24 +235,18 @@ fates_of_taken : (ws : Rest) (y : FatesData × Rest) → lines.fates_of ws ≡ S
 unfolding lines.fates_of
 fates_of_taken ws y e =
     let p0 = parted (reading.fixed (codes "fates") ws) _ y e in
-    let p1 = parted (reading.counted (codes "accepted") p0.0.1) _ y p0.2 in
-    let p2 = parted (reading.counted (codes "dispatched") p1.0.1) _ y p1.2 in
-    let p3 = parted (reading.counted (codes "removed") p2.0.1) _ y p2.2 in
-    let p4 = parted (reading.counted (codes "dropped") p3.0.1) _ y p3.2 in
-    let p5 = parted (reading.counted (codes "stranded") p4.0.1) _ y p4.2 in
-    let p6 = parted (reading.counted (codes "queued") p5.0.1) _ y p5.2 in
     let t0 = fixed_taken (codes "fates") ws p0.0 p0.1 in
-    let t1 = counted_taken (codes "accepted") p0.0.1 p1.0 p1.1 in
-    let t2 = counted_taken (codes "dispatched") p1.0.1 p2.0 p2.1 in
-    let t3 = counted_taken (codes "removed") p2.0.1 p3.0 p3.1 in
-    let t4 = counted_taken (codes "dropped") p3.0.1 p4.0 p4.1 in
-    let t5 = counted_taken (codes "stranded") p4.0.1 p5.0 p5.1 in
-    let t6 = counted_taken (codes "queued") p5.0.1 p6.0 p6.1 in
-    let made : FatesData = record { accepted = p1.0.0; dispatched = p2.0.0; removed = p3.0.0; dropped = p4.0.0; stranded = p5.0.0; queued = p6.0.0 } in
-    let words : ws ≡ fates_words made ++ p6.0.1 =
-    t0 ∙ ap (λ r. codes "fates" ∷ r) (t1.1 ∙ ap (λ r. codes "accepted" ∷ decimal made.accepted ∷ r) (t2.1 ∙ ap (λ r. codes "dispatched" ∷ decimal made.dispatched ∷ r) (t3.1 ∙ ap (λ r. codes "removed" ∷ decimal made.removed ∷ r)
-    (t4.1 ∙ ap (λ r. codes "dropped" ∷ decimal made.dropped ∷ r) (t5.1 ∙ ap (λ r. codes "stranded" ∷ decimal made.stranded ∷ r) t6.1))))) in
-    subst (FatesTaken ws) (same_Some (made, p6.0.1) y p6.2) (t1.0, t2.0, t3.0, t4.0, t5.0, t6.0, words)
+    counted_then (FatesTaken ws y) (codes "accepted") p0.0.1 _ y p0.2 (λ a r1 s1 w1 e1.
+    counted_then (FatesTaken ws y) (codes "dispatched") r1 _ y e1 (λ b r2 s2 w2 e2.
+    counted_then (FatesTaken ws y) (codes "removed") r2 _ y e2 (λ c r3 s3 w3 e3.
+    counted_then (FatesTaken ws y) (codes "dropped") r3 _ y e3 (λ d r4 s4 w4 e4.
+    counted_then (FatesTaken ws y) (codes "stranded") r4 _ y e4 (λ f r5 s5 w5 e5.
+    counted_then (FatesTaken ws y) (codes "queued") r5 _ y e5 (λ g r6 s6 w6 e6.
+    let made : FatesData = record { accepted = a; dispatched = b; removed = c; dropped = d; stranded = f; queued = g } in
+    let words : ws ≡ fates_words made ++ r6 =
+    t0 ∙ ap (λ r. codes "fates" ∷ r) (w1 ∙ ap (λ r. codes "accepted" ∷ decimal a ∷ r) (w2 ∙ ap (λ r. codes "dispatched" ∷ decimal b ∷ r) (w3 ∙ ap (λ r. codes "removed" ∷ decimal c ∷ r)
+    (w4 ∙ ap (λ r. codes "dropped" ∷ decimal d ∷ r) (w5 ∙ ap (λ r. codes "stranded" ∷ decimal f ∷ r) w6))))) in
+    subst (FatesTaken ws) (same_Some (made, r6) y e6) (s1, s2, s3, s4, s5, s6, words)))))))
 
 sum_taken : (ws : Rest) (p : FatesData × Rest) (l : Line) → FatesTaken ws p → cond (adds_up p.0) (whole (Fates p.0) p.1) None ≡ Some l → LineTaken ws l
 sum_taken ws p l t e =

@@ -173,6 +173,18 @@ manner_taken : (ws : Rest) (y : Bool × Rest) → reading.manner ws ≡ Some y �
 unfolding reading.manner
 manner_taken ws y e = chosen words_of.manner reading.manner_by refl ws y e
 
+-- a word was read, and what is made of it and of the rest was made too
+word_then : {A B : Type 0} (spell : A → Word) (Within : A → Type 0) (by : Rest → Option (A × Rest)) → Takes spell Within by
+    → (P : Type 0) (ws : Rest) (f : A → Rest → Option (B × Rest)) (y : B × Rest) → and_then (by ws) f ≡ Some y → ((a : A) (rest : Rest) → Within a → ws ≡ Some (spell a) ∷ rest → f a rest ≡ Some y → P) → P
+word_then spell Within by taken P ws f y e go =
+    let p = parted (by ws) f y e in
+    let t = taken ws p.0 p.1 in go p.0.0 p.0.1 t.0 t.1 p.2
+
+-- the same of a fixed word
+fixed_then : {A B : Type 0} (spell : A → Word) (by : Rest → Option (A × Rest)) → ((ws : Rest) (y : A × Rest) → by ws ≡ Some y → ws ≡ Some (spell y.0) ∷ y.1)
+    → (P : Type 0) (ws : Rest) (f : A → Rest → Option (B × Rest)) (y : B × Rest) → and_then (by ws) f ≡ Some y → ((a : A) (rest : Rest) → ws ≡ Some (spell a) ∷ rest → f a rest ≡ Some y → P) → P
+fixed_then spell by taken P ws f y e go = let p = parted (by ws) f y e in go p.0.0 p.0.1 (taken ws p.0 p.1) p.2
+
 -- ---- more than one word
 
 -- words that were read, which are spelled so and within these limits
@@ -182,27 +194,20 @@ Spells spell Within ws y = Within y.0 × (ws ≡ map Some (spell y.0) ++ y.1)
 post_taken : (ws : Rest) (y : Post × Rest) → reading.post ws ≡ Some y → Spells post_words FitsPost ws y
 unfolding reading.post
 post_taken ws y e =
-    let p0 = parted (reading.short ws) _ y e in
-    let p1 = parted (reading.short p0.0.1) _ y p0.2 in
-    let p2 = parted (reading.short p1.0.1) _ y p1.2 in
-    let p3 = parted (reading.maybe_long p2.0.1) _ y p2.2 in
-    let p4 = parted (reading.maybe_long p3.0.1) _ y p3.2 in
-    let p5 = parted (reading.long p4.0.1) _ y p4.2 in
-    let p6 = parted (reading.flag p5.0.1) _ y p5.2 in
-    let p7 = parted (reading.maybe_short p6.0.1) _ y p6.2 in
-    let t0 = short_taken ws p0.0 p0.1 in
-    let t1 = short_taken p0.0.1 p1.0 p1.1 in
-    let t2 = short_taken p1.0.1 p2.0 p2.1 in
-    let t3 = maybe_long_taken p2.0.1 p3.0 p3.1 in
-    let t4 = maybe_long_taken p3.0.1 p4.0 p4.1 in
-    let t5 = long_taken p4.0.1 p5.0 p5.1 in
-    let t6 = flag_taken p5.0.1 p6.0 p6.1 in
-    let t7 = maybe_short_taken p6.0.1 p7.0 p7.1 in
-    let made : Post = record { handler = p0.0.0; what = p1.0.0; arg = p2.0.0; obj = p3.0.0; callback = p4.0.0; when = p5.0.0; asynchronous = p6.0.0; slot = p7.0.0 } in
-    let words : ws ≡ map Some (post_words made) ++ p7.0.1 =
-    t0.1 ∙ ap (λ r. Some (Number made.handler) ∷ r) (t1.1 ∙ ap (λ r. Some (Number made.what) ∷ r) (t2.1 ∙ ap (λ r. Some (Number made.arg) ∷ r) (t3.1 ∙ ap (λ r. Some (maybe made.obj) ∷ r) (t4.1 ∙ ap (λ r. Some (maybe made.callback) ∷ r)
-    (t5.1 ∙ ap (λ r. Some (Number made.when) ∷ r) (t6 ∙ ap (λ r. Some (words_of.flag made.asynchronous) ∷ r) t7.1)))))) in
-    subst (λ z. Spells post_words FitsPost ws z) (same_Some (made, p7.0.1) y p7.2) ((t0.0, t1.0, t2.0, t3.0, t4.0, t5.0, t7.0), words)
+    let P : Type 0 = Spells post_words FitsPost ws y in
+    word_then Number IsShort reading.short short_taken P ws _ y e (λ a r0 h0 w0 e0.
+    word_then Number IsShort reading.short short_taken P r0 _ y e0 (λ b r1 h1 w1 e1.
+    word_then Number IsShort reading.short short_taken P r1 _ y e1 (λ c r2 h2 w2 e2.
+    word_then maybe (λ o. IfSome o IsLong) reading.maybe_long maybe_long_taken P r2 _ y e2 (λ d r3 h3 w3 e3.
+    word_then maybe (λ o. IfSome o IsLong) reading.maybe_long maybe_long_taken P r3 _ y e3 (λ g r4 h4 w4 e4.
+    word_then Number IsLong reading.long long_taken P r4 _ y e4 (λ n r5 h5 w5 e5.
+    fixed_then words_of.flag reading.flag flag_taken P r5 _ y e5 (λ t r6 w6 e6.
+    word_then maybe (λ o. IfSome o IsShort) reading.maybe_short maybe_short_taken P r6 _ y e6 (λ k r7 h7 w7 e7.
+    let made : Post = record { handler = a; what = b; arg = c; obj = d; callback = g; when = n; asynchronous = t; slot = k } in
+    let words : ws ≡ map Some (post_words made) ++ r7 =
+    w0 ∙ ap (λ r. Some (Number a) ∷ r) (w1 ∙ ap (λ r. Some (Number b) ∷ r) (w2 ∙ ap (λ r. Some (Number c) ∷ r) (w3 ∙ ap (λ r. Some (maybe d) ∷ r) (w4 ∙ ap (λ r. Some (maybe g) ∷ r)
+    (w5 ∙ ap (λ r. Some (Number n) ∷ r) (w6 ∙ ap (λ r. Some (words_of.flag t) ∷ r) w7)))))) in
+    subst (λ z. Spells post_words FitsPost ws z) (same_Some (made, r7) y e7) ((h0, h1, h2, h3, h4, h5, h7), words)))))))))
 
 numbered_taken : {A : Type 0} (make : ℕ → A) (rest : Rest) (y : A × Rest) → reading.numbered make rest ≡ Some y → (n : ℕ) × IsLong n × (make n ≡ y.0) × (rest ≡ Some (Number n) ∷ y.1)
 numbered_taken make rest y e =
@@ -401,21 +406,16 @@ entry_taken ws y e =
 head_taken : (rest : Rest) (y : Head × Rest) → reading.head rest ≡ Some y → LineTaken (Some (Name name.Queue) ∷ rest) (Queue y.0, y.1)
 unfolding reading.head
 head_taken rest y e =
-    let p0 = parted (reading.short rest) _ y e in
-    let p1 = parted (reading.side p0.0.1) _ y p0.2 in
-    let p2 = parted (reading.mode p1.0.1) _ y p1.2 in
-    let p3 = parted (reading.short p2.0.1) _ y p2.2 in
-    let p4 = parted (reading.long p3.0.1) _ y p3.2 in
-    let t0 = short_taken rest p0.0 p0.1 in
-    let t1 = side_taken p0.0.1 p1.0 p1.1 in
-    let t2 = mode_taken p1.0.1 p2.0 p2.1 in
-    let t3 = short_taken p2.0.1 p3.0 p3.1 in
-    let t4 = long_taken p3.0.1 p4.0 p4.1 in
-    let made : Head = record { looper = p0.0.0; main = p1.0.0; lockstep = p2.0.0; senders = p3.0.0; count = p4.0.0 } in
-    let words : Some (Name name.Queue) ∷ rest ≡ map Some (line_words (Queue made)) ++ p4.0.1 =
-    ap (λ r. Some (Name name.Queue) ∷ r) (t0.1 ∙ ap (λ r. Some (Number made.looper) ∷ r) (t1 ∙ ap (λ r. Some (words_of.side made.main) ∷ r) (t2 ∙ ap (λ r. Some (words_of.mode made.lockstep) ∷ r)
-    (t3.1 ∙ ap (λ r. Some (Number made.senders) ∷ r) t4.1)))) in
-    subst (λ (z : Head × Rest). LineTaken (Some (Name name.Queue) ∷ rest) (Queue z.0, z.1)) (same_Some (made, p4.0.1) y p4.2) ((t0.0, t3.0, t4.0), words)
+    let P : Type 0 = LineTaken (Some (Name name.Queue) ∷ rest) (Queue y.0, y.1) in
+    word_then Number IsShort reading.short short_taken P rest _ y e (λ a r0 h0 w0 e0.
+    fixed_then words_of.side reading.side side_taken P r0 _ y e0 (λ b r1 w1 e1.
+    fixed_then words_of.mode reading.mode mode_taken P r1 _ y e1 (λ c r2 w2 e2.
+    word_then Number IsShort reading.short short_taken P r2 _ y e2 (λ d r3 h3 w3 e3.
+    word_then Number IsLong reading.long long_taken P r3 _ y e3 (λ n r4 h4 w4 e4.
+    let made : Head = record { looper = a; main = b; lockstep = c; senders = d; count = n } in
+    let words : Some (Name name.Queue) ∷ rest ≡ map Some (line_words (Queue made)) ++ r4 =
+    ap (λ r. Some (Name name.Queue) ∷ r) (w0 ∙ ap (λ r. Some (Number a) ∷ r) (w1 ∙ ap (λ r. Some (words_of.side b) ∷ r) (w2 ∙ ap (λ r. Some (words_of.mode c) ∷ r) (w3 ∙ ap (λ r. Some (Number d) ∷ r) w4)))) in
+    subst (λ (z : Head × Rest). LineTaken (Some (Name name.Queue) ∷ rest) (Queue z.0, z.1)) (same_Some (made, r4) y e4) ((h0, h3, h4), words))))))
 
 version_taken : (n : ℕ) (more : Rest) (y : Line × Rest) → cond (eqb n 1) (Some (Title, more)) None ≡ Some y → (n ≡ 1) × ((Title, more) ≡ y)
 version_taken n more y e =

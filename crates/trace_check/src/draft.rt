@@ -12,7 +12,7 @@ use std::alloc::Global;
 use std::mem::replace;
 
 /// How far the trace has come.
-#[derive(Clone, Copy, Debug, PartialEq, Eq)]
+#[derive(Clone, Copy)]
 pub(crate) enum Part {
     Start,
     Body,

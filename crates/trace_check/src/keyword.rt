@@ -5,7 +5,7 @@ ghost use Rattle.trace_check.specs.Keyword.{spelling};
 ghost use Rattle.trace_check.specs.Keywords.{all_keywords};
 
 /// A word that is written as it is.
-#[derive(Clone, Copy, Debug, PartialEq, Eq)]
+#[derive(Clone, Copy)]
 pub enum Keyword {
     /// `trace`.
     Trace,

@@ -7,7 +7,7 @@ ghost use Rattle.trace_check.specs.Labels.{barrier_label, bears, filter_label, f
 use loop_model::{Call, Entry, Filter, Item, Kind, Post, Reply};
 
 /// What a label tells of an item.
-#[derive(Clone, Copy, Debug, PartialEq, Eq)]
+#[derive(Clone, Copy, PartialEq, Eq)]
 pub(crate) enum Shape {
     /// That it is an asynchronous message.
     Asynchronous,

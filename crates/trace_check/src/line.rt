@@ -3,7 +3,7 @@ use loop_model::Entry;
 
 /// The line of a queue: its looper, whether it is the main looper's, whether its time is moved by a controller, how many
 /// senders it has, and how many lines of entries follow.
-#[derive(Clone, Copy, Debug, PartialEq, Eq)]
+#[derive(Clone, Copy)]
 pub struct Head {
     /// The number of the looper.
     pub looper: u32,
@@ -18,7 +18,7 @@ pub struct Head {
 }
 
 /// What one line says.
-#[derive(Clone, Copy, Debug, PartialEq, Eq)]
+#[derive(Clone, Copy)]
 pub enum Line {
     /// The first line.
     Title,

@@ -8,7 +8,7 @@ use line_words::{number, split_first};
 use std::marker::Model;
 
 /// A fixed word, a number, or the mark of what is absent.
-#[derive(Clone, Copy, Debug, PartialEq, Eq)]
+#[derive(Clone, Copy)]
 pub enum Word {
     /// A fixed word.
     Name(Keyword),

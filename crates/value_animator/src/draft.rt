@@ -22,7 +22,7 @@ const LAST_PLACE: u64 = 1_000;
 const LAST_END: u128 = 60_000;
 
 /// How far the text has come.
-#[derive(Clone, Copy, Debug, PartialEq, Eq)]
+#[derive(Clone, Copy, PartialEq, Eq)]
 pub(crate) enum Stage {
     Start,
     Headed,

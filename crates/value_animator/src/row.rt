@@ -6,7 +6,7 @@ ghost use Rattle.value_animator.specs.Rows.{all_kinds, form, row_among, row_of};
 use dash_script::{Keyword, Numbers, Role, Slot, numbers_in};
 
 /// The kinds of line.
-#[derive(Clone, Copy, Debug, PartialEq, Eq)]
+#[derive(Clone, Copy)]
 pub enum RowKind {
     /// `animate 1`, the first line.
     Head,

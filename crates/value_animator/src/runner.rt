@@ -13,7 +13,7 @@ use std::alloc::Global;
 use std::fmt::Write;
 
 /// What a thing tells at a frame.
-#[derive(Clone, Copy, Debug, PartialEq, Eq)]
+#[derive(Clone, Copy)]
 pub(crate) enum Telling {
     Tick { left: u64 },
     Finished,
