@@ -10,6 +10,7 @@ pub mod LooperSeats
 pub mod LooperSteps
 pub mod LooperStands
 pub mod LooperPlaying
+pub mod LooperAsks
 pub mod LooperPlayed
 pub mod FrameIds
 pub mod FrameSteps

@@ -2,6 +2,7 @@
 use Rattle.std.proofs.Common.{◌≡◌, ℕ, ◌≤◌, true, false, List, [], ◌∷◌, ◌++◌, Option, Some, None, refl, sym, ap, ◌∙◌, subst, arith, append_assoc}
 use Rattle.std.specs.Prelude.{◌==◌, Bool, Result, Ok, Err, is_ok, OnOk}
 use Rattle.std.specs.List.{AllByRecursion, Contains}
+use Rattle.std.specs.Option.{IsSomeAnd}
 use Rattle.std.proofs.lemmas.List.{append-nil}
 use Rattle.std.proofs.lemmas.List.Elements.{All-cons, All-nil, Contains-append_left, Contains-push}
 use Rattle.loop_model.specs.declared.post.Post.{Post as PostData}
@@ -22,33 +23,55 @@ use Rattle.looper_run.specs.declared.dispatcher.Did.{Did}
 use Rattle.looper_run.specs.declared.dispatcher.Did.TheVariants.{Yes, No, NoMemory}
 use Rattle.loop_model.proofs.Prefixes.{prefix_self}
 use Rattle.run_model.specs.Control.{At}
-use Rattle.run_model.specs.FrameRuns.{nanos_of}
+use Rattle.run_model.specs.FrameRuns.{FrameAt, nanos_of}
+use Rattle.run_model.specs.FrameAsks.{FrameAsk}
 use Rattle.run_model.specs.Loopers.{Looper, Sent, delivered}
 use Rattle.dash_hall.specs.Hosts.{asks_of}
 use Rattle.dash_loopers.specs.declared.player.Parts.{Parts}
 use Rattle.dash_loopers.specs.declared.looper.StageLooper.{StageLooper}
-use Rattle.dash_loopers.specs.Played.{calls_in, calls_of, IsPlayed, Delivers, pulsed, Pulses, pulse_time, Stands, IsTimedBy, GoesOnTo, IsPlaying}
+use Rattle.dash_loopers.specs.Played.{calls_in, calls_of, IsPlayed, Delivers, pulsed, Pulses, pulse_time, Stands, IsTimedBy, HasLooked, IsDueAt, IsPostedBy, GoesOnTo, ComesTo, IsPlaying, HasPlayed}
 use Rattle.dash_loopers.specs.PlayingLaws.{goes_nowhere, comes_on}
-use Rattle.dash_loopers.proofs.LooperStands.{stands_pulse, by_dispatch, sends_dispatch, stands_dispatch}
+use Rattle.dash_loopers.proofs.LooperStands.{stands_pulse, by_dispatch, sends_dispatch, posts_dispatch, frames_dispatch, stands_dispatch}
 
 -- ---- calls more, and looks more
 
-goes_one : (q k : ℕ) (looks : List Entry) (now : ℕ) (a b : Looper) (x : Sent) → b.sent ≡ a.sent ++ x ∷ [] → IsTimedBy q k looks now x.queue x.timing → GoesOnTo q k looks now a b
-goes_one q k looks now a b x sent timed = record { more = x ∷ []; sent = sent; timed = All-cons (λ y. IsTimedBy q k looks now y.queue y.timing) x [] timed (All-nil (λ y. IsTimedBy q k looks now y.queue y.timing)) }
+goes_one : (q k : ℕ) (looks : List Entry) (now : ℕ) (a b : Looper) (x : Sent) → b.sent ≡ a.sent ++ x ∷ [] → b.posted ≡ a.posted → b.frames ≡ a.frames
+    → IsTimedBy q k looks now x.queue x.timing → GoesOnTo q k looks now a b
+goes_one q k looks now a b x sent posted frames timed = record {
+  more = x ∷ [];
+  sent = sent;
+  timed = All-cons (λ y. IsTimedBy q k looks now y.queue y.timing) x [] timed (All-nil (λ y. IsTimedBy q k looks now y.queue y.timing));
+  posts = [];
+  posted = posted ∙ sym (append-nil a.posted);
+  posted_then = All-nil (IsPostedBy k looks);
+  ran = [];
+  frames = frames ∙ sym (append-nil a.frames);
+  ran_then = All-nil (λ (y : FrameAt). HasLooked k looks y.now);
+}
 
 -- a pulse that came is due by now
 goes_pulsed : (k q : ℕ) (looks : List Entry) (now : ℕ) (stamp : Option ℕ) (a : Looper) → pulse_time stamp ≤ now → GoesOnTo q k looks now a (pulsed q stamp a)
 goes_pulsed k q looks now None a due = goes_nowhere q k looks now a
-goes_pulsed k q looks now (Some stamp) a due = goes_one q k looks now a (pulsed q (Some stamp) a) _ refl (due, refl)
+goes_pulsed k q looks now (Some stamp) a due = goes_one q k looks now a (pulsed q (Some stamp) a) _ refl refl refl (due, refl)
 
--- calls at the moment of a look
+-- calls, callbacks and frames at the moment of a look
 goes_looked : (q k : ℕ) (looks : List Entry) (now time : ℕ) (e : Entry) (a b : Looper) → Contains looks e → e.sender ≡ k → e.call ≡ Next time
-    → (more : List Sent) × (b.sent ≡ a.sent ++ more) × AllByRecursion (λ x. x.timing ≡ At time) more → GoesOnTo q k looks now a b
-goes_looked q k looks now time e a b among sender call m = record {
+    → (more : List Sent) × (b.sent ≡ a.sent ++ more) × AllByRecursion (λ x. x.timing ≡ At time) more
+    → (posts : List FrameAsk) × (b.posted ≡ a.posted ++ posts) × AllByRecursion (IsDueAt time) posts
+    → (ran : List FrameAt) × (b.frames ≡ a.frames ++ ran) × AllByRecursion (λ x. x.now ≡ time) ran → GoesOnTo q k looks now a b
+goes_looked q k looks now time e a b among sender call m p r = record {
   more = m.0;
   sent = m.1;
   timed = All_indexed (λ x. IsTimedBy q k looks now x.queue x.timing) m.0
       (AllByRecursion-weaker (λ x. x.timing ≡ At time) (λ x. IsTimedBy q k looks now x.queue x.timing) (λ x is. subst (IsTimedBy q k looks now x.queue) (sym is) (e, among, sender, call)) m.0 m.2);
+  posts = p.0;
+  posted = p.1;
+  posted_then = All_indexed (IsPostedBy k looks) p.0
+      (AllByRecursion-weaker (IsDueAt time) (IsPostedBy k looks) (λ x is. (time, (e, among, sender, call), is)) p.0 p.2);
+  ran = r.0;
+  frames = r.1;
+  ran_then = All_indexed (λ (x : FrameAt). HasLooked k looks x.now) r.0
+      (AllByRecursion-weaker (λ (x : FrameAt). x.now ≡ time) (λ x. HasLooked k looks x.now) (λ x is. subst (HasLooked k looks) (sym is) (e, among, sender, call)) r.0 r.2);
 }
 
 module _ (s : Script) (q now : ℕ) (began : StageLooper) where
@@ -80,7 +103,9 @@ module _ (s : Script) (q now : ℕ) (began : StageLooper) where
       comes_on s q now a k began.looper.held.poster.view.seen past (e ∷ more) acts (acts' ++ Dispatch n time route ∷ []) parts parts' c (by_dispatch s q k n time time (λ x. x == nanos_of time) m past more e take acts acts' parts parts' here c.state c.state)
       (subst (λ (l : List Entry). Stands s q k l (acts' ++ Dispatch n time route ∷ []) parts' (by_dispatch s q k n time time (λ x. x == nanos_of time) m past more e take acts acts' parts parts' here c.state c.state)) (append_assoc past (e ∷ []) more)
       (stands_dispatch s q k n time time (λ x. x == nanos_of time) m past more e take acts acts' parts parts' here c.state c.state route (λ is. refl) text post c.stands.settled refl c.stands))
-      (goes_looked q k (e ∷ more) now time e c.state _ (Contains-append_left (e ∷ []) more e (Contains-push [] e)) take.sender_is take.call (sends_dispatch s q k n time time (λ x. x == nanos_of time) m past more e take acts acts' parts parts' here c.state c.state)))))
+      (goes_looked q k (e ∷ more) now time e c.state _ (Contains-append_left (e ∷ []) more e (Contains-push [] e)) take.sender_is take.call (sends_dispatch s q k n time time (λ x. x == nanos_of time) m past more e take acts acts' parts parts' here c.state c.state)
+      (posts_dispatch s q k n time time (λ x. x == nanos_of time) m past more e take acts acts' parts parts' here c.state c.state)
+      (frames_dispatch s q k n time time (λ x. x == nanos_of time) m past more e take acts acts' parts parts' here c.state c.state)))))
 
   pub playing_dispatch : (time : ℕ) (node : Node) (route : Route) (before after : Holding) (parts parts' : Parts) → IsLent before after
       → HasTaken (λ k es acts. IsPlaying s q now began k es acts parts) before node time
@@ -141,3 +166,26 @@ module _ (s : Script) (q now : ℕ) (began : StageLooper) where
       by_end : {A E : Type 0} (r : Result A E) → OnOk r (Delivers s q time (λ x. x == nanos_of time) m (calls_of before.poster) (calls_of after.poster) parts parts' before.journal.acts after.journal.acts) → OnOk r (PassesWith (λ k es acts. IsPlaying s q now began k es acts parts') after node time route)
       by_end (Ok x) h = playing_dispatch s q now began time node route before after parts parts' lent t (subst (λ (p : PostData). Delivers s q time (λ x. x == nanos_of time) p (calls_of before.poster) (calls_of after.poster) parts parts' before.journal.acts after.journal.acts) is h)
       by_end (Err e) h = tt
+
+-- ---- who begins, and who does nothing
+
+-- a looper goes on nowhere from where it stands
+comes_nowhere : (s : Script) (q now k : ℕ) (es : List Entry) (acts : List Act) (parts : Parts) (a : Looper) → Stands s q k es acts parts a → ComesTo s q now a k es es acts parts
+comes_nowhere s q now k es acts parts a stands = record { state = a; stands = stands; looks = []; saw = sym (append-nil es); on = goes_nowhere q k [] now a }
+
+-- one that did nothing has played
+pub plays_nothing : (s : Script) (now : ℕ) (l : StageLooper) → HasPlayed s now l l
+plays_nothing s now l going text a come = by_parts l.parts come
+  where
+    by_parts : (o : Option Parts) → IsSomeAnd o (λ p. Stands s l.number l.sender l.looper.held.poster.view.seen l.looper.held.journal.acts p a)
+        → IsSomeAnd o (ComesTo s l.number now a l.sender l.looper.held.poster.view.seen l.looper.held.poster.view.seen l.looper.held.journal.acts)
+    by_parts None h = absurd h
+    by_parts (Some p) h = comes_nowhere s l.number now l.sender l.looper.held.poster.view.seen l.looper.held.journal.acts p a h
+
+-- as a round begins it plays
+pub plays_first : (s : Script) (now k : ℕ) (began l : StageLooper) (parts : Parts) → began ≡ l → k ≡ l.sender → l.parts ≡ Some parts
+    → IsPlaying s l.number now began k l.looper.held.poster.view.seen l.looper.held.journal.acts parts
+plays_first s now k began l parts is mine has = subst (λ (b : StageLooper). IsPlaying s l.number now b k l.looper.held.poster.view.seen l.looper.held.journal.acts parts) (sym is)
+    (subst (λ (n : ℕ). IsPlaying s l.number now l n l.looper.held.poster.view.seen l.looper.held.journal.acts parts) (sym mine)
+    (λ text a come. comes_nowhere s l.number now l.sender l.looper.held.poster.view.seen l.looper.held.journal.acts parts a
+    (subst (λ (o : Option Parts). IsSomeAnd o (λ p. Stands s l.number l.sender l.looper.held.poster.view.seen l.looper.held.journal.acts p a)) has come)))

@@ -36,7 +36,7 @@ use Rattle.dash_loopers.specs.declared.player.Parts.{Parts}
 use Rattle.dash_hall.specs.Growth.{own}
 use Rattle.dash_hall.specs.Hosts.{asks_of}
 use Rattle.dash_loopers.specs.Players.{PlaceWithout}
-use Rattle.dash_loopers.specs.Played.{IsRootOf, calls_in, IsPlayed, moments_of, asks_for, Delivers, pulse_acts, pulsed, Pulses, StandsBy}
+use Rattle.dash_loopers.specs.Played.{IsRootOf, calls_in, IsPlayed, moments_of, asks_for, Delivers, pulse_acts, pulsed, Pulses, IsDueAt, StandsBy}
 use Rattle.dash_loopers.specs.PlayingLaws.{calls_more}
 use Rattle.dash_loopers.proofs.LooperSteps.{AddsAt, delivers}
 use Rattle.dash_loopers.proofs.MoreCalls.{tokens_more, sent_here, sent_else, without_self}
@@ -207,6 +207,17 @@ module _ (s : Script) (q k n now u : ℕ) (is_moment : ℕ → Bool) (m : PostDa
     where
       look : Sent
       look = record { queue = q; ask = Makes (Next now); reply = Some (Dispatched n); timing = At now }
+
+  -- so are the callbacks that it posts due then, and a frame that it runs is one of that moment
+  pub posts_dispatch : (posts : List FrameAsk) × (by_dispatch.posted ≡ a.posted ++ posts) × AllByRecursion (IsDueAt now) posts
+  posts_dispatch = (adds.posts, adds.posted, adds.due_then)
+
+  pub frames_dispatch : (ran : List FrameAt) × (by_dispatch.frames ≡ a.frames ++ ran) × AllByRecursion (λ x. x.now ≡ now) ran
+  frames_dispatch = by_frame d.ran.frame adds.frames
+    where
+      by_frame : (frame : Option ℕ) → by_dispatch.frames ≡ frames_after a.frames frame now → (ran : List FrameAt) × (by_dispatch.frames ≡ a.frames ++ ran) × AllByRecursion (λ x. x.now ≡ now) ran
+      by_frame None is = ([], is ∙ sym (append-nil a.frames), tt)
+      by_frame (Some place) is = (record { place = place; now = now } ∷ [], is, (refl, tt))
 
   pub stands_dispatch : {lockstep : Bool} (route : Route) → (lockstep ≡ true → is_moment ≡ (λ n. n == nanos_of u)) → HasText s → post_at es n ≡ Some m → did.painted ≡ [] → (delivered s q u d.ids m (taken q n now u d.ran.frame did)).painted ≡ (delivered s q now d.ids m (taken q n now now d.ran.frame a)).painted
       → StandsBy lockstep s q k es acts parts did a → StandsBy lockstep s q k ((es ++ e ∷ []) ++ more) (acts' ++ Dispatch n now route ∷ []) parts' by_reading by_dispatch

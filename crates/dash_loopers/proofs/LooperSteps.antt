@@ -1,5 +1,5 @@
--- What a looper's state gains by a step: calls at the step's moment and paints, and nothing at its place in the frame record or the frames that it ran.
-use Rattle.std.proofs.Common.{◌≡◌, ℕ, ◌-◌, Bool, true, false, List, [], ◌∷◌, ◌++◌, Option, Some, None, refl, sym, ap, ◌∙◌, append_assoc}
+-- What a looper's state gains by a step: calls at the step's moment, callbacks that are due then, and paints, and nothing at its place in the frame record or the frames that it ran.
+use Rattle.std.proofs.Common.{◌≡◌, ℕ, ◌+◌, ◌-◌, Bool, true, false, List, [], ◌∷◌, ◌++◌, Option, Some, None, refl, sym, ap, ◌∙◌, append_assoc}
 use Rattle.std.specs.Prelude.{◌==◌, ◌||◌, nat_le, is_some, fold, slice_get, if◌then◌else◌}
 use Rattle.std.specs.List.{AllByRecursion, filter_map, cons_option, zip, enumerate_from}
 use Rattle.std.specs.Option.{option_map_or, IfSome}
@@ -9,39 +9,83 @@ use Rattle.loop_model.specs.declared.journal.Act.{Act}
 use Rattle.loop_model.specs.declared.journal.Act.TheVariants.{Dispatch, Idle, Event, Vsync, Paint}
 use Rattle.loop_model.proofs.Sorting.{AllByRecursion-append}
 use Rattle.dash_script.specs.declared.script.Script.{Script}
-use Rattle.run_model.specs.Senders.{gauge_line, gauge_looper, frame_handler, animation_id, animation_phase, traversal_id}
+use Rattle.run_model.specs.Senders.{gauge_line, gauge_looper, frame_handler, animation_id, animation_phase, traversal_phase, traversal_id}
+use Rattle.loop_model.specs.declared.call.Call.TheVariants.{Barrier}
+use Rattle.run_model.specs.Asks.{Makes}
+use Rattle.run_model.specs.Planned.{frame_due}
+use Rattle.run_model.specs.FrameAsks.{FrameAsk, Posts}
 use Rattle.run_model.specs.Control.{At}
-use Rattle.run_model.specs.Loopers.{Looper, Gauge, Sent, with_gauge, and_posts_frame, traversal_requested, target_set, object_set, moved, gauge_moved, animation_ran, paints, traversal_ran, callback_ran, fires, reaction, reacted, delivered, and_takes}
+use Rattle.run_model.specs.Loopers.{Looper, Gauge, Sent, with_gauge, and_sends, and_posts_frame, traversal_requested, target_set, object_set, moved, gauge_moved, animation_ran, paints, traversal_ran, callback_ran, fires, reaction, reacted, delivered, and_takes}
 use Rattle.run_model.proofs.RunLaws.{ArePaints}
+use Rattle.dash_loopers.specs.Played.{IsDueAt}
 
--- the second state has calls more, all at this moment, and paints more at most
+-- the second state has calls more, all at this moment, callbacks that are due then, and paints more at most
 pub record AddsAt (now : ℕ) (a b : Looper) : Type 0 where
   pub more : List Sent
   pub sent : b.sent ≡ a.sent ++ more
   pub timed : AllByRecursion (λ x. x.timing ≡ At now) more
+  pub posts : List FrameAsk
+  pub posted : b.posted ≡ a.posted ++ posts
+  pub due_then : AllByRecursion (IsDueAt now) posts
   pub place : b.place ≡ a.place
   pub frames : b.frames ≡ a.frames
   pub paints : ArePaints a.painted → ArePaints b.painted
 
--- what is alike in calls, place, frames and paints
-adds_none : (now : ℕ) (a b : Looper) → b.sent ≡ a.sent → b.place ≡ a.place → b.frames ≡ a.frames → (ArePaints a.painted → ArePaints b.painted) → AddsAt now a b
-adds_none now a b sent place frames paints = record { more = []; sent = sent ∙ sym (append-nil a.sent); timed = tt; place = place; frames = frames; paints = paints }
+-- what is alike in calls, callbacks, place, frames and paints
+adds_none : (now : ℕ) (a b : Looper) → b.sent ≡ a.sent → b.posted ≡ a.posted → b.place ≡ a.place → b.frames ≡ a.frames → (ArePaints a.painted → ArePaints b.painted) → AddsAt now a b
+adds_none now a b sent posted place frames paints = record {
+  more = [];
+  sent = sent ∙ sym (append-nil a.sent);
+  timed = tt;
+  posts = [];
+  posted = posted ∙ sym (append-nil a.posted);
+  due_then = tt;
+  place = place;
+  frames = frames;
+  paints = paints;
+}
 
-adds_one : (now : ℕ) (a b : Looper) (x : Sent) → b.sent ≡ a.sent ++ x ∷ [] → x.timing ≡ At now → b.place ≡ a.place → b.frames ≡ a.frames → (ArePaints a.painted → ArePaints b.painted) → AddsAt now a b
-adds_one now a b x sent timed place frames paints = record { more = x ∷ []; sent = sent; timed = (timed, tt); place = place; frames = frames; paints = paints }
+adds_one : (now : ℕ) (a b : Looper) (x : Sent) → b.sent ≡ a.sent ++ x ∷ [] → x.timing ≡ At now → b.posted ≡ a.posted → b.place ≡ a.place → b.frames ≡ a.frames → (ArePaints a.painted → ArePaints b.painted) → AddsAt now a b
+adds_one now a b x sent timed posted place frames paints = record {
+  more = x ∷ [];
+  sent = sent;
+  timed = (timed, tt);
+  posts = [];
+  posted = posted ∙ sym (append-nil a.posted);
+  due_then = tt;
+  place = place;
+  frames = frames;
+  paints = paints;
+}
+
+adds_post : (now phase id : ℕ) (a : Looper) → AddsAt now a (and_posts_frame now phase id a)
+adds_post now phase id a = record {
+  more = [];
+  sent = sym (append-nil a.sent);
+  timed = tt;
+  posts = Posts phase (frame_due now 0) id None ∷ [];
+  posted = refl;
+  due_then = (refl, tt);
+  place = refl;
+  frames = refl;
+  paints = λ p. p;
+}
 
 pub adds_then : (now : ℕ) (a b c : Looper) → AddsAt now a b → AddsAt now b c → AddsAt now a c
 adds_then now a b c f g = record {
   more = f.more ++ g.more;
   sent = g.sent ∙ (ap (λ l. l ++ g.more) f.sent ∙ append_assoc a.sent f.more g.more);
   timed = AllByRecursion-append (λ x. x.timing ≡ At now) f.more g.more f.timed g.timed;
+  posts = f.posts ++ g.posts;
+  posted = g.posted ∙ (ap (λ l. l ++ g.posts) f.posted ∙ append_assoc a.posted f.posts g.posts);
+  due_then = AllByRecursion-append (IsDueAt now) f.posts g.posts f.due_then g.due_then;
   place = g.place ∙ f.place;
   frames = g.frames ∙ f.frames;
   paints = λ p. g.paints (f.paints p);
 }
 
 adds_self : (now : ℕ) (a : Looper) → AddsAt now a a
-adds_self now a = adds_none now a a refl refl refl (λ p. p)
+adds_self now a = adds_none now a a refl refl refl refl (λ p. p)
 
 by_test : (now : ℕ) (a x y : Looper) (t : Bool) → AddsAt now a x → AddsAt now a y → AddsAt now a (if t then x else y)
 by_test now a x y true f g = f
@@ -53,12 +97,16 @@ by_option now a d f (Some x) h g = h x
 
 module _ (s : Script) (q now : ℕ) where
   requests : (a : Looper) → AddsAt now a (traversal_requested s q now a)
-  requests a = by_test now a a _ (is_some a.barrier) (adds_self now a) (adds_one now a _ _ refl refl refl refl (λ p. p))
+  requests a =
+      let sent : Looper = and_sends q now (Makes (Barrier 0)) (record a { barrier = Some a.barriers; barriers = a.barriers + 1 }) in
+      by_test now a a _ (is_some a.barrier) (adds_self now a) (adds_then now a sent _ (adds_one now a sent _ refl refl refl refl refl (λ p. p)) (adds_post now (traversal_phase s) traversal_id sent))
 
   sets : (g target : ℕ) (x : Gauge) (a : Looper) → AddsAt now a (target_set s q now g target x a)
   sets g target x a =
-      let animating : Looper = and_posts_frame now animation_phase (animation_id g) (with_gauge g (record { value = x.value; target = target; animating = true }) a) in
-      by_test now a _ _ (x.animating || x.value == target) (adds_none now a _ refl refl refl (λ p. p)) (adds_then now a animating _ (adds_none now a animating refl refl refl (λ p. p)) (requests animating))
+      let changed : Looper = with_gauge g (record { value = x.value; target = target; animating = true }) a in
+      let animating : Looper = and_posts_frame now animation_phase (animation_id g) changed in
+      by_test now a _ _ (x.animating || x.value == target) (adds_none now a _ refl refl refl refl (λ p. p))
+      (adds_then now a changed _ (adds_none now a changed refl refl refl refl (λ p. p)) (adds_then now changed animating _ (adds_post now animation_phase (animation_id g) changed) (requests animating)))
 
   sets_object : (g target : ℕ) (a : Looper) → AddsAt now a (object_set s q now g target a)
   sets_object g target a =
@@ -70,8 +118,8 @@ module _ (s : Script) (q now : ℕ) where
       let there : Looper = with_gauge g (record { value = value; target = x.target; animating = false }) a in
       let nearer : Looper = with_gauge g (record x { value = value }) a in
       by_test now a _ _ (value == x.target)
-      (adds_then now a there _ (adds_none now a there refl refl refl (λ p. p)) (requests there))
-      (adds_then now a (traversal_requested s q now nearer) _ (adds_then now a nearer _ (adds_none now a nearer refl refl refl (λ p. p)) (requests nearer)) (adds_none now (traversal_requested s q now nearer) _ refl refl refl (λ p. p)))
+      (adds_then now a there _ (adds_none now a there refl refl refl refl (λ p. p)) (requests there))
+      (adds_then now a (traversal_requested s q now nearer) _ (adds_then now a nearer _ (adds_none now a nearer refl refl refl refl (λ p. p)) (requests nearer)) (adds_post now animation_phase (animation_id g) (traversal_requested s q now nearer)))
 
   animates : (g : ℕ) (x : Gauge) (a : Looper) → AddsAt now a (animation_ran s q now g x a)
   animates g x a = by_test now a _ a x.animating (moves g x a) (adds_self now a)
@@ -105,7 +153,7 @@ module _ (s : Script) (q now : ℕ) where
   paints_are gauges = painted_all _ (λ z. one_paint z.0 z.1.value (gauge_looper s z.0 == q)) (enumerate_from 0 gauges)
 
   traverses : (a : Looper) → AddsAt now a (traversal_ran s q now a)
-  traverses a = by_option now a a _ a.barrier (λ k. adds_one now a _ _ refl refl refl refl (λ p. paints_more a.painted (paints s q a.gauges) p (paints_are a.gauges))) (adds_self now a)
+  traverses a = by_option now a a _ a.barrier (λ k. adds_one now a _ _ refl refl refl refl refl (λ p. paints_more a.painted (paints s q a.gauges) p (paints_are a.gauges))) (adds_self now a)
 
   runs : (a : Looper) (id : ℕ) → AddsAt now a (callback_ran s q now a id)
   runs a id =
@@ -133,6 +181,9 @@ module _ (s : Script) (q now : ℕ) where
     more = filter_map _ (zip s.rules a.fired);
     sent = refl;
     timed = timed_all _ (λ z. timed_if (reaction s now z.0) (fires m z.0 z.1) refl) (zip s.rules a.fired);
+    posts = [];
+    posted = sym (append-nil a.posted);
+    due_then = tt;
     place = refl;
     frames = refl;
     paints = λ p. p;
@@ -151,4 +202,4 @@ module _ (s : Script) (q now : ℕ) where
 
   -- the look that takes a message
   pub takes : (n : ℕ) (a : Looper) → AddsAt now a (and_takes q n now a)
-  takes n a = adds_one now a _ _ refl refl refl refl (λ p. p)
+  takes n a = adds_one now a _ _ refl refl refl refl refl (λ p. p)

@@ -27,12 +27,12 @@ use Rattle.choreographer.specs.declared.hosted.Pulse.{Pulse}
 use Rattle.choreographer.specs.Client.{Run}
 use Rattle.run_model.specs.Asks.{Makes, AreFor, tokens_in, entries_by}
 use Rattle.run_model.specs.Senders.{looper_of}
-use Rattle.run_model.specs.Planned.{frame_message}
+use Rattle.run_model.specs.Planned.{frame_message, frame_due}
 use Rattle.run_model.specs.Control.{Timing, At, InBlock, NotBefore}
 use Rattle.run_model.specs.Loopers.{Looper, Gauge, Sent, first_looper, starts_frame, delivered, fires, reaction}
 use Rattle.run_model.specs.Acts.{Lead, sent_on, IsSent, millis_up}
 use Rattle.run_model.specs.FrameRuns.{FrameAt, frame_ids, is_frame_from, frame_moments, place_after, are_run_then, are_whole}
-use Rattle.run_model.specs.FrameAsks.{FrameAsk, Runs, asks_to_run, as_told}
+use Rattle.run_model.specs.FrameAsks.{FrameAsk, Posts, Removes, Runs, asks_to_run, as_told}
 use Rattle.dash_hall.specs.declared.kit.Kit.{Kit}
 use Rattle.dash_loopers.specs.declared.view_root.Gauge.{Gauge as ViewGauge}
 use Rattle.dash_loopers.specs.declared.view_root.Painted.{Painted}
@@ -263,18 +263,38 @@ pub record StandsBy (lockstep : Bool) (s : Script) (q sender : ℕ) (es : List E
 abbrev pub Stands : Script → ℕ → ℕ → List Entry → List Act → Parts → Looper → Type 0
 Stands s q sender es acts parts a = StandsBy true s q sender es acts parts a a
 
+-- the sender looked at this time, among these entries
+abbrev pub HasLooked : ℕ → List Entry → ℕ → Type 0
+HasLooked sender looks time = (e : Entry) × Contains looks e × (e.sender ≡ sender) × (e.call ≡ Next time)
+
 -- a call is timed by a look of the sender among these entries, or it is one on the looper's own queue that may come no later than at this moment; a looper
 -- makes no call in a block
 abbrev pub IsTimedBy : ℕ → ℕ → List Entry → ℕ → ℕ → Timing → Type 0
-IsTimedBy q sender looks now queue (At time) = (e : Entry) × Contains looks e × (e.sender ≡ sender) × (e.call ≡ Next time)
+IsTimedBy q sender looks now queue (At time) = HasLooked sender looks time
 IsTimedBy q sender looks now queue (InBlock time) = ⊥
 IsTimedBy q sender looks now queue (NotBefore time) = (time ≤ now) × (queue ≡ q)
 
--- the second state has these calls more, each timed so
+-- to post a callback is asked at this time, which is due at once
+abbrev pub IsDueAt : ℕ → FrameAsk → Type 0
+IsDueAt time (Posts phase due id token) = due ≡ frame_due time 0
+IsDueAt time (Removes phase id token) = ⊥
+IsDueAt time (Runs start) = ⊥
+
+-- so it is at the time of a look of the sender among these entries
+abbrev pub IsPostedBy : ℕ → List Entry → FrameAsk → Type 0
+IsPostedBy sender looks x = (time : ℕ) × HasLooked sender looks time × IsDueAt time x
+
+-- the second state has these calls more, each timed so, and these callbacks and these frames, each at the time of a look of the sender among these entries
 pub record GoesOnTo (q sender : ℕ) (looks : List Entry) (now : ℕ) (a b : Looper) : Type 0 where
   pub more : List Sent
   pub sent : b.sent ≡ a.sent ++ more
   pub timed : All (λ x. IsTimedBy q sender looks now x.queue x.timing) more
+  pub posts : List FrameAsk
+  pub posted : b.posted ≡ a.posted ++ posts
+  pub posted_then : All (IsPostedBy sender looks) posts
+  pub ran : List FrameAt
+  pub frames : b.frames ≡ a.frames ++ ran
+  pub ran_then : All (λ x. HasLooked sender looks x.now) ran
 
 -- where a looper stands between two rounds
 abbrev pub HasCome : Script → StageLooper → Looper → Type 0

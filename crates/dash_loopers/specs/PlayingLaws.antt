@@ -13,13 +13,14 @@ use Rattle.dash_script.specs.declared.script.Script.{Script}
 use Rattle.looper_run.specs.Acts.{IsQuiet}
 use Rattle.run_model.specs.Asks.{entries_by}
 use Rattle.run_model.specs.Control.{Timing, At, InBlock, NotBefore}
+use Rattle.run_model.specs.FrameRuns.{FrameAt}
 use Rattle.run_model.specs.Loopers.{Looper, first_looper}
 use Rattle.run_model.specs.Acts.{after_act}
 use Rattle.run_model.proofs.RunLaws.{Lead-snoc}
 use Rattle.run_model.proofs.Growth.{Lead-entries}
 use Rattle.dash_loopers.specs.declared.player.Parts.{Parts}
 use Rattle.dash_loopers.specs.declared.looper.StageLooper.{StageLooper}
-use Rattle.dash_loopers.specs.Played.{is_disposal, calls_in, IsPlayed, StandsBy, Stands, IsTimedBy, GoesOnTo, ComesTo, IsPlaying, IsPlayingBy}
+use Rattle.dash_loopers.specs.Played.{is_disposal, calls_in, IsPlayed, StandsBy, Stands, IsTimedBy, HasLooked, IsPostedBy, GoesOnTo, ComesTo, IsPlaying, IsPlayingBy}
 
 -- ---- the calls of a sender, as entries are added
 
@@ -87,14 +88,21 @@ module _ {lockstep : Bool} (s : Script) (q k : ℕ) where
 
 -- ---- calls more, and looks more
 
+-- a look among some is one among more
+looked_left : (k : ℕ) (looks more : List Entry) (time : ℕ) → HasLooked k looks time → HasLooked k (looks ++ more) time
+looked_left k looks more time h = (h.0, Contains-append_left looks more h.0 h.1, h.2, h.3)
+
+looked_right : (k : ℕ) (looks more : List Entry) (time : ℕ) → HasLooked k more time → HasLooked k (looks ++ more) time
+looked_right k looks more time h = (h.0, Contains-append_right looks more h.0 h.1, h.2, h.3)
+
 -- a call that was timed by some looks is timed by more
 pub timed_left : (q k : ℕ) (looks more : List Entry) (now queue : ℕ) (t : Timing) → IsTimedBy q k looks now queue t → IsTimedBy q k (looks ++ more) now queue t
-timed_left q k looks more now queue (At time) h = (h.0, Contains-append_left looks more h.0 h.1, h.2, h.3)
+timed_left q k looks more now queue (At time) h = looked_left k looks more time h
 timed_left q k looks more now queue (InBlock time) h = absurd h
 timed_left q k looks more now queue (NotBefore time) h = h
 
 pub timed_right : (q k : ℕ) (looks more : List Entry) (now queue : ℕ) (t : Timing) → IsTimedBy q k more now queue t → IsTimedBy q k (looks ++ more) now queue t
-timed_right q k looks more now queue (At time) h = (h.0, Contains-append_right looks more h.0 h.1, h.2, h.3)
+timed_right q k looks more now queue (At time) h = looked_right k looks more time h
 timed_right q k looks more now queue (InBlock time) h = absurd h
 timed_right q k looks more now queue (NotBefore time) h = h
 
@@ -105,10 +113,29 @@ goes_then q k looks more now a b c f g = record {
   sent = g.sent ∙ (ap (λ l. l ++ g.more) f.sent ∙ append_assoc a.sent f.more g.more);
   timed = All-append (λ x. IsTimedBy q k (looks ++ more) now x.queue x.timing) f.more g.more
       (λ i x near. timed_left q k looks more now _ _ (f.timed i x near)) (λ i x near. timed_right q k looks more now _ _ (g.timed i x near));
+  posts = f.posts ++ g.posts;
+  posted = g.posted ∙ (ap (λ l. l ++ g.posts) f.posted ∙ append_assoc a.posted f.posts g.posts);
+  posted_then = All-append (IsPostedBy k (looks ++ more)) f.posts g.posts
+      (λ i x near. (let p = f.posted_then i x near in (p.0, looked_left k looks more p.0 p.1, p.2)))
+      (λ i x near. (let p = g.posted_then i x near in (p.0, looked_right k looks more p.0 p.1, p.2)));
+  ran = f.ran ++ g.ran;
+  frames = g.frames ∙ (ap (λ l. l ++ g.ran) f.frames ∙ append_assoc a.frames f.ran g.ran);
+  ran_then = All-append (λ x. HasLooked k (looks ++ more) x.now) f.ran g.ran
+      (λ i x near. looked_left k looks more _ (f.ran_then i x near)) (λ i x near. looked_right k looks more _ (g.ran_then i x near));
 }
 
 pub goes_nowhere : (q k : ℕ) (looks : List Entry) (now : ℕ) (a : Looper) → GoesOnTo q k looks now a a
-goes_nowhere q k looks now a = record { more = []; sent = sym (append-nil a.sent); timed = All-nil (λ x. IsTimedBy q k looks now x.queue x.timing) }
+goes_nowhere q k looks now a = record {
+  more = [];
+  sent = sym (append-nil a.sent);
+  timed = All-nil (λ x. IsTimedBy q k looks now x.queue x.timing);
+  posts = [];
+  posted = sym (append-nil a.posted);
+  posted_then = All-nil (IsPostedBy k looks);
+  ran = [];
+  frames = sym (append-nil a.frames);
+  ran_then = All-nil (λ (x : FrameAt). HasLooked k looks x.now);
+}
 
 -- ---- the laws
 

@@ -5,6 +5,7 @@ use Rattle.dash_loopers.specs.Loopers.{is_given_up}
 use Rattle.dash_loopers.proofs.LooperPlaces.{are_parts_then}
 use Rattle.dash_loopers.proofs.LooperQueue.{within_queues, at_queue}
 use Rattle.dash_loopers.proofs.LooperKits.{looper_then, parts_left, ran_on, comes_to_wait}
+use Rattle.dash_loopers.proofs.LooperPlaying.{plays_first, plays_nothing}
 use Rattle.dash_loopers.proofs.LooperPlayed.{played_round, played_left}
 use Rattle.dash_loopers.proofs.looper.StageLooper.run_round.Goals as goal
 
@@ -13,6 +14,14 @@ of_looper-requires g c = within_queues c.args.script.now c.args.hall.now c.args.
 
 pub run_round-self-requires-clause-at : goal.run_round-self-requires-clause-at
 run_round-self-requires-clause-at g c κs lives = at_queue c.args.script.now c.args.hall.now c.args.self.now c.requires.hall c.requires.looper c.of_looper.result.now c.of_looper.ensures
+
+pub run_round-self-requires-clause-meets : goal.run_round-self-requires-clause-meets
+run_round-self-requires-clause-meets g c κs within =
+    let is : c.args.self.now.parts ≡ Some c.in-Some.parts = cc in
+    plays_first c.args.script.now c.args.now c.args.self.now.looper.held.poster.sender c.of-began.result.value c.args.self.now c.in-Some.parts c.of-began.ensures c.requires.looper.own is
+
+pub returns-then-has_ended-clause-plays : goal.returns-then-has_ended-clause-plays
+returns-then-has_ended-clause-plays g c = plays_nothing c.args.script.now c.args.now c.args.self.now
 
 pub close-requires-clause-parts : goal.close-requires-clause-parts
 close-requires-clause-parts g c =
