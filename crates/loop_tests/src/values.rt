@@ -221,10 +221,10 @@ impl<R: Wait, C: Clock> HandleValues<R, C> for Reader {
         &mut self,
         line: &mut Line<R, C, Unkept, Note>,
         post: &Post,
-        value: Option<Note>,
+        value: &mut Option<Note>,
         now: u64,
     ) -> Handled {
-        let Some(note) = value else {
+        let Some(note) = value.take() else {
             self.told = with_digit(self.told, 0);
             if post.what == QUIT {
                 line.quit();
@@ -322,7 +322,7 @@ impl<R: Threads + Wait + Sync, C: Clock + Sync> WorkBeside<R, C, Note> for TwoTh
     fn run(
         self,
         mailbox: &Mailbox<R, C, Unkept, Note>,
-        mut senders: Senders<Unkept, Note>,
+        senders: &mut Senders<Unkept, Note>,
     ) -> Result<u64, NoMemory> {
         let one = senders.next(mailbox);
         let other = senders.next(mailbox);

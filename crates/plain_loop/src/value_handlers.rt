@@ -31,13 +31,13 @@ pub trait HandleValues<R: Wait, C: Clock> {
         ensures value { content_of Self.Value.content result ≡ content_in message.old.claim }
         ensures rest { without_value message.new ≡ without_value message.old };
 
-    /// Handles a message without a callback, which was due at `now` or before, in milliseconds, and was posted with these fields. The
-    /// value is the handler's from here on, and None where the message carried none. This one does nothing.
+    /// Handles a message without a callback, which was due at `now` or before, in milliseconds, and was posted with these fields. It takes
+    /// the value that the message carried by `value.take()`; what it leaves is dropped. This one does nothing.
     fn handle(
         &mut self,
         line: &mut Line<R, C, Unkept, Self::Value>,
         post: &Post,
-        value: Option<Self::Value>,
+        value: &mut Option<Self::Value>,
         now: u64,
     ) -> Handled
         requires line { IsReady (way_of line.old) }
@@ -48,13 +48,13 @@ pub trait HandleValues<R: Wait, C: Clock> {
         Ok(())
     }
 
-    /// Runs the callback of this number, which was posted in a message's place, and with it this value (`Runnable.run`). This one does
-    /// nothing.
+    /// Runs the callback of this number, which was posted in a message's place, with the value that went along (`Runnable.run`). This
+    /// one does nothing.
     fn run_callback(
         &mut self,
         line: &mut Line<R, C, Unkept, Self::Value>,
         id: u64,
-        value: Option<Self::Value>,
+        value: &mut Option<Self::Value>,
         now: u64,
     ) -> Handled
         requires line { IsReady (way_of line.old) }
@@ -133,7 +133,7 @@ impl<'a, R: Wait, C: Clock, H: HandleValues<R, C>> Dispatcher for HandlingValues
         m: &Msg<H::Value>,
         now: u64,
     ) -> Did {
-        let carried = self.carried.take();
+        let mut carried = self.carried.take();
         let mut line = Line {
             rt: self.mailbox.rt,
             alloc: self.mailbox.alloc,
@@ -143,7 +143,7 @@ impl<'a, R: Wait, C: Clock, H: HandleValues<R, C>> Dispatcher for HandlingValues
             pool: self.mailbox.pool,
             pass: own.pass,
         };
-        did(self.handlers.run_callback(&mut line, id, carried, now))
+        did(self.handlers.run_callback(&mut line, id, &mut carried, now))
     }
 
     fn intercept(&mut self, own: &mut Own<Unkept, H::Value>, m: &Msg<H::Value>, now: u64) -> Did {
@@ -151,7 +151,7 @@ impl<'a, R: Wait, C: Clock, H: HandleValues<R, C>> Dispatcher for HandlingValues
     }
 
     fn handle(&mut self, own: &mut Own<Unkept, H::Value>, m: &Msg<H::Value>, now: u64) -> Did {
-        let carried = self.carried.take();
+        let mut carried = self.carried.take();
         let post = m.as_post();
         let mut line = Line {
             rt: self.mailbox.rt,
@@ -162,7 +162,7 @@ impl<'a, R: Wait, C: Clock, H: HandleValues<R, C>> Dispatcher for HandlingValues
             pool: self.mailbox.pool,
             pass: own.pass,
         };
-        did(self.handlers.handle(&mut line, &post, carried, now))
+        did(self.handlers.handle(&mut line, &post, &mut carried, now))
     }
 
     ghost others = { λ d s es e acts apart meets. meets };

@@ -110,15 +110,19 @@ pub trait WorkBeside<R: Wait, C: Clock, P: Payload> {
     ghost count: { Self → ℕ };
 
     /// Does the work, with the looper's mailbox and its senders.
-    fn run(self, mailbox: &Mailbox<R, C, Unkept, P>, senders: Senders<Unkept, P>) -> Self::Answer
-        requires senders { AreSenders mailbox.now.queue.now mailbox.now.pool.now senders }
-        requires count { length senders.posters.items ≡ count self };
+    fn run(
+        self,
+        mailbox: &Mailbox<R, C, Unkept, P>,
+        senders: &mut Senders<Unkept, P>,
+    ) -> Self::Answer
+        requires senders { AreSenders mailbox.now.queue.now mailbox.now.pool.now senders.old }
+        requires count { length senders.old.posters.items ≡ count self };
 }
 
 // Does the work, and then quits the queue safely by this sender.
 fn work_and_quit<R: Wait, C: Clock, P: Payload, W: WorkBeside<R, C, P>>(
     mailbox: &Mailbox<R, C, Unkept, P>,
-    senders: Senders<Unkept, P>,
+    mut senders: Senders<Unkept, P>,
     mut last: Sender<Unkept, P>,
     work: W,
 ) -> W::Answer
@@ -126,7 +130,7 @@ fn work_and_quit<R: Wait, C: Clock, P: Payload, W: WorkBeside<R, C, P>>(
     requires senders { AreSenders mailbox.now.queue.now mailbox.now.pool.now senders }
     requires count { length senders.posters.items ≡ W.count work }
 {
-    let answer = work.run(mailbox, senders);
+    let answer = work.run(mailbox, &mut senders);
     let mut line = last.line(mailbox);
     line.quit_safely();
     answer
