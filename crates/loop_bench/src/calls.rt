@@ -44,7 +44,7 @@ fn node(alloc: Global, message: Message<NoClaim>) -> Result<MsgNode<NoClaim>, No
 }
 
 /// Posts the message. A queue that has quit refuses it, which counts as posted here.
-#[tactic(auto, using(crate::proofs::Stays::posts_stays))]
+#[tactic(auto, using(queue_state::proofs::Stays::posts_stays))]
 pub(crate) fn post(
     alloc: Global,
     state: &mut QueueState<NoClaim>,
@@ -63,7 +63,7 @@ pub(crate) fn post(
 }
 
 /// Posts a barrier at this moment.
-#[tactic(auto, using(crate::proofs::Stays::bars_stays))]
+#[tactic(auto, using(queue_state::proofs::Stays::bars_stays))]
 pub(crate) fn post_barrier(
     alloc: Global,
     state: &mut QueueState<NoClaim>,
@@ -79,7 +79,7 @@ pub(crate) fn post_barrier(
 }
 
 /// Looks for a message that is due at this moment, and tells whether one was taken.
-#[tactic(auto, using(crate::proofs::Stays::looks_stays))]
+#[tactic(auto, using(queue_state::proofs::Stays::looks_stays))]
 pub(crate) fn take(state: &mut QueueState<NoClaim>, now: u64) -> bool
     requires { state.old.setting.senders ≡ 1 }
     ensures { state.new.setting ≡ state.old.setting }
@@ -88,7 +88,7 @@ pub(crate) fn take(state: &mut QueueState<NoClaim>, now: u64) -> bool
 }
 
 /// Removes what the filter names, and tells how many messages that were.
-#[tactic(auto, using(crate::proofs::Stays::takes_stays))]
+#[tactic(auto, using(queue_state::proofs::Stays::takes_stays))]
 pub(crate) fn remove(state: &mut QueueState<NoClaim>, filter: &Filter) -> Result<u64, NoMemory>
     requires { state.old.setting.senders ≡ 1 }
     ensures { state.new.setting ≡ state.old.setting }
@@ -100,7 +100,7 @@ pub(crate) fn remove(state: &mut QueueState<NoClaim>, filter: &Filter) -> Result
 }
 
 /// Hands the entries out and drops them, where there are so many.
-#[tactic(auto, using(crate::proofs::Stays::seals_stays))]
+#[tactic(auto, using(queue_state::proofs::Stays::seals_stays))]
 pub(crate) fn forget(state: &mut QueueState<NoClaim>, many: usize) -> Result<(), NoMemory>
     requires { state.old.setting.senders ≡ 1 }
     ensures { state.new.setting ≡ state.old.setting }
@@ -115,7 +115,7 @@ pub(crate) fn forget(state: &mut QueueState<NoClaim>, many: usize) -> Result<(),
 }
 
 /// Quits safely at this moment, and tells how many messages that dropped.
-#[tactic(auto, using(crate::proofs::Stays::quits_stays))]
+#[tactic(auto, using(queue_state::proofs::Stays::quits_stays))]
 pub(crate) fn quit_safely(state: &mut QueueState<NoClaim>, now: u64) -> Result<u64, NoMemory>
     requires { state.old.setting.senders ≡ 1 }
     ensures { state.new.setting ≡ state.old.setting }

@@ -21,7 +21,7 @@ const PART: usize = 4_096;
 const BURST: u64 = 1_000;
 
 /// How many messages were posted, taken, removed and dropped, and how many looks took none.
-#[derive(Clone, Copy, Debug, PartialEq, Eq)]
+#[derive(Clone, Copy)]
 pub(crate) struct Counts {
     pub(crate) posted: u64,
     pub(crate) taken: u64,
@@ -50,30 +50,45 @@ pub(crate) fn run<R: Wait>(
     mode: Mode,
     count: u64,
 ) -> Result<Counts, NoMemory> {
+    let mut state = new_queue(alloc)?;
+    run_on(rt, alloc, &mut state, mode, count)
+}
+
+/// Makes them on this queue, but those by a handler, which have a queue of their own.
+fn run_on<R: Wait>(
+    rt: &R,
+    alloc: Global,
+    state: &mut QueueState<NoClaim>,
+    mode: Mode,
+    count: u64,
+) -> Result<Counts, NoMemory>
+    requires { state.old.setting.senders ≡ 1 }
+{
     match mode {
-        Mode::Chain => chain(alloc, count),
-        Mode::Burst => burst(alloc, count),
-        Mode::Sealed => sealed(alloc, count),
-        Mode::Late => late(alloc, count),
-        Mode::Rising => rising(alloc, count),
-        Mode::Scatter => scatter(alloc, count),
-        Mode::Fenced => fenced(alloc, count),
-        Mode::Barrier => barrier(alloc, count),
-        Mode::Removals => removals(alloc, count),
-        Mode::RemoveAll => remove_all(alloc, count),
-        Mode::SafeQuit => safe_quit(alloc, count),
+        Mode::Chain => chain(alloc, state, count),
+        Mode::Burst => burst(alloc, state, count),
+        Mode::Sealed => sealed(alloc, state, count),
+        Mode::Late => late(alloc, state, count),
+        Mode::Rising => rising(alloc, state, count),
+        Mode::Scatter => scatter(alloc, state, count),
+        Mode::Fenced => fenced(alloc, state, count),
+        Mode::Barrier => barrier(alloc, state, count),
+        Mode::Removals => removals(alloc, state, count),
+        Mode::RemoveAll => remove_all(alloc, state, count),
+        Mode::SafeQuit => safe_quit(alloc, state, count),
         Mode::Handled => handled(rt, alloc, count, 1),
         Mode::HandledBurst => handled(rt, alloc, count, BURST),
     }
 }
 
 /// Posts each message for now and takes it.
-fn chain(alloc: Global, count: u64) -> Result<Counts, NoMemory> {
-    let mut state = new_queue(alloc)?;
+fn chain(alloc: Global, state: &mut QueueState<NoClaim>, count: u64) -> Result<Counts, NoMemory>
+    requires { state.old.setting.senders ≡ 1 }
+{
     let mut taken = 0;
     for now in 0..count {
-        post(alloc, &mut state, &message(now))?;
-        if take(&mut state, now) {
+        post(alloc, state, &message(now))?;
+        if take(state, now) {
             taken = more(taken);
         }
     }
@@ -85,10 +100,11 @@ fn chain(alloc: Global, count: u64) -> Result<Counts, NoMemory> {
 }
 
 /// Posts all messages, each for its own rising time, and takes them.
-fn burst(alloc: Global, count: u64) -> Result<Counts, NoMemory> {
-    let mut state = new_queue(alloc)?;
-    post_each(alloc, &mut state, 1, count)?;
-    let taken = take_each(&mut state, count, count);
+fn burst(alloc: Global, state: &mut QueueState<NoClaim>, count: u64) -> Result<Counts, NoMemory>
+    requires { state.old.setting.senders ≡ 1 }
+{
+    post_each(alloc, state, 1, count)?;
+    let taken = take_each(state, count, count);
     Ok(Counts {
         posted: count,
         taken,
@@ -97,15 +113,16 @@ fn burst(alloc: Global, count: u64) -> Result<Counts, NoMemory> {
 }
 
 /// Posts each message for now and takes it, and hands the entries out, part by part, which drops them.
-fn sealed(alloc: Global, count: u64) -> Result<Counts, NoMemory> {
-    let mut state = new_queue(alloc)?;
+fn sealed(alloc: Global, state: &mut QueueState<NoClaim>, count: u64) -> Result<Counts, NoMemory>
+    requires { state.old.setting.senders ≡ 1 }
+{
     let mut taken = 0;
     for now in 0..count {
-        post(alloc, &mut state, &message(now))?;
-        if take(&mut state, now) {
+        post(alloc, state, &message(now))?;
+        if take(state, now) {
             taken = more(taken);
         }
-        forget(&mut state, PART)?;
+        forget(state, PART)?;
     }
     Ok(Counts {
         posted: count,
@@ -115,9 +132,10 @@ fn sealed(alloc: Global, count: u64) -> Result<Counts, NoMemory> {
 }
 
 /// Posts all messages for later: what the modes `removals` and `remove_all` begin with.
-fn late(alloc: Global, count: u64) -> Result<Counts, NoMemory> {
-    let mut state = new_queue(alloc)?;
-    post_each(alloc, &mut state, LATE, count)?;
+fn late(alloc: Global, state: &mut QueueState<NoClaim>, count: u64) -> Result<Counts, NoMemory>
+    requires { state.old.setting.senders ≡ 1 }
+{
+    post_each(alloc, state, LATE, count)?;
     Ok(Counts {
         posted: count,
         ..NONE
@@ -125,11 +143,12 @@ fn late(alloc: Global, count: u64) -> Result<Counts, NoMemory> {
 }
 
 /// Posts one half of the messages for later, and then the other half for earlier times, rising.
-fn rising(alloc: Global, count: u64) -> Result<Counts, NoMemory> {
-    let mut state = new_queue(alloc)?;
+fn rising(alloc: Global, state: &mut QueueState<NoClaim>, count: u64) -> Result<Counts, NoMemory>
+    requires { state.old.setting.senders ≡ 1 }
+{
     let first = count / 2;
-    post_each(alloc, &mut state, LATE, first)?;
-    post_each(alloc, &mut state, 1, count - first)?;
+    post_each(alloc, state, LATE, first)?;
+    post_each(alloc, state, 1, count - first)?;
     Ok(Counts {
         posted: count,
         ..NONE
@@ -137,12 +156,13 @@ fn rising(alloc: Global, count: u64) -> Result<Counts, NoMemory> {
 }
 
 /// Posts the messages for scattered times.
-fn scatter(alloc: Global, count: u64) -> Result<Counts, NoMemory> {
-    let mut state = new_queue(alloc)?;
+fn scatter(alloc: Global, state: &mut QueueState<NoClaim>, count: u64) -> Result<Counts, NoMemory>
+    requires { state.old.setting.senders ≡ 1 }
+{
     let mut seed = 1;
     for _ in 0..count {
         seed = drawn(seed);
-        post(alloc, &mut state, &message(seed >> 24))?;
+        post(alloc, state, &message(seed >> 24))?;
     }
     Ok(Counts {
         posted: count,
@@ -168,9 +188,10 @@ fn post_fenced(alloc: Global, state: &mut QueueState<NoClaim>, count: u64) -> Re
 }
 
 /// What the mode `barrier` begins with.
-fn fenced(alloc: Global, count: u64) -> Result<Counts, NoMemory> {
-    let mut state = new_queue(alloc)?;
-    post_fenced(alloc, &mut state, count)?;
+fn fenced(alloc: Global, state: &mut QueueState<NoClaim>, count: u64) -> Result<Counts, NoMemory>
+    requires { state.old.setting.senders ≡ 1 }
+{
+    post_fenced(alloc, state, count)?;
     Ok(Counts {
         posted: count,
         ..NONE
@@ -178,16 +199,17 @@ fn fenced(alloc: Global, count: u64) -> Result<Counts, NoMemory> {
 }
 
 /// Behind a barrier: as many looks that wait as there are asynchronous messages, and as many that take one.
-fn barrier(alloc: Global, count: u64) -> Result<Counts, NoMemory> {
-    let mut state = new_queue(alloc)?;
-    post_fenced(alloc, &mut state, count)?;
+fn barrier(alloc: Global, state: &mut QueueState<NoClaim>, count: u64) -> Result<Counts, NoMemory>
+    requires { state.old.setting.senders ≡ 1 }
+{
+    post_fenced(alloc, state, count)?;
     let mut waited = 0;
     for _ in 0..count / 20 {
-        if !take(&mut state, 1) {
+        if !take(state, 1) {
             waited = more(waited);
         }
     }
-    let taken = take_each(&mut state, LATE, count / 20);
+    let taken = take_each(state, LATE, count / 20);
     Ok(Counts {
         posted: count,
         taken,
@@ -197,12 +219,13 @@ fn barrier(alloc: Global, count: u64) -> Result<Counts, NoMemory> {
 }
 
 /// Posts the messages for later, and makes as many removals that name none of them.
-fn removals(alloc: Global, count: u64) -> Result<Counts, NoMemory> {
-    let mut state = new_queue(alloc)?;
-    post_each(alloc, &mut state, LATE, count)?;
+fn removals(alloc: Global, state: &mut QueueState<NoClaim>, count: u64) -> Result<Counts, NoMemory>
+    requires { state.old.setting.senders ≡ 1 }
+{
+    post_each(alloc, state, LATE, count)?;
     let mut removed: u64 = 0;
     for _ in 0..count {
-        removed = removed.saturating_add(remove(&mut state, &named(2))?);
+        removed = removed.saturating_add(remove(state, &named(2))?);
     }
     Ok(Counts {
         posted: count,
@@ -212,10 +235,15 @@ fn removals(alloc: Global, count: u64) -> Result<Counts, NoMemory> {
 }
 
 /// Posts the messages for later, and removes all of them at once.
-fn remove_all(alloc: Global, count: u64) -> Result<Counts, NoMemory> {
-    let mut state = new_queue(alloc)?;
-    post_each(alloc, &mut state, LATE, count)?;
-    let removed = remove(&mut state, &named(1))?;
+fn remove_all(
+    alloc: Global,
+    state: &mut QueueState<NoClaim>,
+    count: u64,
+) -> Result<Counts, NoMemory>
+    requires { state.old.setting.senders ≡ 1 }
+{
+    post_each(alloc, state, LATE, count)?;
+    let removed = remove(state, &named(1))?;
     Ok(Counts {
         posted: count,
         removed,
@@ -224,12 +252,13 @@ fn remove_all(alloc: Global, count: u64) -> Result<Counts, NoMemory> {
 }
 
 /// Posts the messages, and quits safely where one half of them is later.
-fn safe_quit(alloc: Global, count: u64) -> Result<Counts, NoMemory> {
-    let mut state = new_queue(alloc)?;
+fn safe_quit(alloc: Global, state: &mut QueueState<NoClaim>, count: u64) -> Result<Counts, NoMemory>
+    requires { state.old.setting.senders ≡ 1 }
+{
     let first = count / 2;
-    post_each(alloc, &mut state, 1, first)?;
-    post_each(alloc, &mut state, LATE, count - first)?;
-    let dropped = quit_safely(&mut state, LATE - 1)?;
+    post_each(alloc, state, 1, first)?;
+    post_each(alloc, state, LATE, count - first)?;
+    let dropped = quit_safely(state, LATE - 1)?;
     Ok(Counts {
         posted: count,
         dropped,

@@ -3,7 +3,7 @@
 ghost use Rattle.std.specs.Prelude.{◌≡◌, ◌≤◌, IfSome};
 
 /// What is measured.
-#[derive(Clone, Copy, Debug, PartialEq, Eq)]
+#[derive(Clone, Copy, PartialEq, Eq)]
 pub(crate) enum Mode {
     Chain,
     Burst,
@@ -60,7 +60,7 @@ pub(crate) fn word(mode: Mode) -> &'static str {
 pub(crate) const MOST: u64 = 10_000_000;
 
 /// What the program is asked to measure: these modes, with this many messages each, and whether it prints times.
-#[derive(Debug, Drop)]
+#[derive(Drop)]
 pub(crate) struct Asked {
     /// The one mode that is named, or all.
     pub(crate) mode: Option<Mode>,
