@@ -145,12 +145,25 @@ pub(crate) fn handled<R: Wait>(
     burst: u64,
 ) -> Result<Counts, NoMemory> {
     let mut opened = open(alloc)?;
+    handle_all(rt, alloc, &mut opened, count, burst)
+}
+
+/// Does so on this queue.
+fn handle_all<R: Wait>(
+    rt: &R,
+    alloc: Global,
+    opened: &mut Opened,
+    count: u64,
+    burst: u64,
+) -> Result<Counts, NoMemory>
+    requires { IsOpened opened.old }
+{
     let mut taken: u64 = 0;
     let mut since: u64 = 0;
     let burst = burst.min(count).max(1);
     let rounds = count / burst;
     for now in 0..rounds {
-        taken = taken.saturating_add(send_and_take(rt, alloc, &mut opened, now, burst)?);
+        taken = taken.saturating_add(send_and_take(rt, alloc, opened, now, burst)?);
         since = since.saturating_add(burst).saturating_add(burst);
         since = forget(rt, &opened.queue, &mut opened.last, since)?;
     }

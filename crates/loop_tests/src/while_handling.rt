@@ -95,77 +95,65 @@ impl<R: Wait, C: Clock> Handle<R, C, Unkept> for Acting {
     }
 }
 
-// Each begins with messages that are due at once, in this order.
-fn front<R: Wait, C: Clock>(mailbox: &Mailbox<R, C>, mut senders: Senders)
-    requires { AreSenders mailbox.now.queue.now mailbox.now.pool.now senders × (0 < length senders.posters.items) }
-{
-    let mut sender = senders.next(mailbox);
-    let mut line = sender.line(mailbox);
-    line.send_at(HANDLER.obtain(POST_IN_FRONT, 0), 1);
-    line.send_at(HANDLER.obtain(ASK, 0), 1);
-    line.send_at(HANDLER.obtain(QUIT, 0), 1);
-}
+// Messages that are sent before the loop, each with its moment; then the codes of those that were handled, as digits, and whether one
+// that does nothing was found.
+type Row = (&'static [(u32, u64)], u64, bool);
 
-fn barrier<R: Wait, C: Clock>(mailbox: &Mailbox<R, C>, mut senders: Senders)
-    requires { AreSenders mailbox.now.queue.now mailbox.now.pool.now senders × (0 < length senders.posters.items) }
-{
-    let mut sender = senders.next(mailbox);
-    let mut line = sender.line(mailbox);
-    line.send_at(HANDLER.obtain(POST_BARRIER, 0), 1);
-    line.send_at(HANDLER.obtain(POST_BEHIND_IT, 0), 1);
-    line.send_at(HANDLER.obtain(POST_PAST_IT, 0), 1);
-}
+const ROWS: [Row; 5] = [
+    (&[(POST_IN_FRONT, 1), (ASK, 1), (QUIT, 1)], 1589, false),
+    (
+        &[(POST_BARRIER, 1), (POST_BEHIND_IT, 1), (POST_PAST_IT, 1)],
+        23469,
+        false,
+    ),
+    (
+        &[(REMOVE, 1), (NOTHING, 1), (ASK, 1), (QUIT, 1)],
+        789,
+        false,
+    ),
+    (
+        &[(ASK, 1), (NOTHING, 1), (QUIT, 1), (NOTHING, 1)],
+        859,
+        true,
+    ),
+    (
+        &[
+            (NOTHING, 1),
+            (QUIT_SAFELY, 1),
+            (NOTHING, 1),
+            (NOTHING, 1_000_000_000),
+        ],
+        505,
+        false,
+    ),
+];
 
-fn removal<R: Wait, C: Clock>(mailbox: &Mailbox<R, C>, mut senders: Senders)
+// Sends the messages in this order.
+fn send_all<R: Wait, C: Clock>(
+    mailbox: &Mailbox<R, C>,
+    mut senders: Senders,
+    messages: &[(u32, u64)],
+)
     requires { AreSenders mailbox.now.queue.now mailbox.now.pool.now senders × (0 < length senders.posters.items) }
 {
     let mut sender = senders.next(mailbox);
     let mut line = sender.line(mailbox);
-    line.send_at(HANDLER.obtain(REMOVE, 0), 1);
-    line.send_at(HANDLER.obtain(NOTHING, 0), 1);
-    line.send_at(HANDLER.obtain(ASK, 0), 1);
-    line.send_at(HANDLER.obtain(QUIT, 0), 1);
-}
-
-fn question<R: Wait, C: Clock>(mailbox: &Mailbox<R, C>, mut senders: Senders)
-    requires { AreSenders mailbox.now.queue.now mailbox.now.pool.now senders × (0 < length senders.posters.items) }
-{
-    let mut sender = senders.next(mailbox);
-    let mut line = sender.line(mailbox);
-    line.send_at(HANDLER.obtain(ASK, 0), 1);
-    line.send_at(HANDLER.obtain(NOTHING, 0), 1);
-    line.send_at(HANDLER.obtain(QUIT, 0), 1);
-    line.send_at(HANDLER.obtain(NOTHING, 0), 1);
-}
-
-fn safe_quit<R: Wait, C: Clock>(mailbox: &Mailbox<R, C>, mut senders: Senders)
-    requires { AreSenders mailbox.now.queue.now mailbox.now.pool.now senders × (0 < length senders.posters.items) }
-{
-    let mut sender = senders.next(mailbox);
-    let mut line = sender.line(mailbox);
-    line.send_at(HANDLER.obtain(NOTHING, 0), 1);
-    line.send_at(HANDLER.obtain(QUIT_SAFELY, 0), 1);
-    line.send_at(HANDLER.obtain(NOTHING, 0), 1);
-    line.send_at(HANDLER.obtain(NOTHING, 0), 1_000_000_000);
+    for &(what, when) in messages {
+        line.send_at(HANDLER.obtain(what, 0), when);
+    }
 }
 
 #[test]
 fn a_handler_changes_its_queue_while_it_handles(rt: HostRuntime) -> Result<(), Fail> {
     let alloc = rt.alloc();
     let clock = StepClock::new(100);
-    let acting = run_here(&rt, alloc, &clock, Settings::new(1), BEGUN, front)?;
-    assert!(rt; acting.told == 1589);
-    assert!(rt; !acting.found);
-    let acting = run_here(&rt, alloc, &clock, Settings::new(1), BEGUN, barrier)?;
-    assert!(rt; acting.told == 23469);
-    let acting = run_here(&rt, alloc, &clock, Settings::new(1), BEGUN, removal)?;
-    assert!(rt; acting.told == 789);
-    assert!(rt; !acting.found);
-    let acting = run_here(&rt, alloc, &clock, Settings::new(1), BEGUN, question)?;
-    assert!(rt; acting.told == 859);
-    assert!(rt; acting.found);
-    let acting = run_here(&rt, alloc, &clock, Settings::new(1), BEGUN, safe_quit)?;
-    assert!(rt; acting.told == 505);
+    for &(messages, told, found) in &ROWS {
+        let begin = |mailbox: &_, senders|
+            requires { AreSenders mailbox.now.queue.now mailbox.now.pool.now senders × (0 < length senders.posters.items) }
+        { send_all(mailbox, senders, messages) };
+        let acting = run_here(&rt, alloc, &clock, Settings::new(1), BEGUN, begin)?;
+        assert!(rt; acting.told == told && acting.found == found);
+    }
     Ok(())
 }
 

@@ -159,7 +159,7 @@ pub(crate) fn wanted_next(
 pub(crate) fn write_form(out: &mut String, form: Form) -> Result<(), NoMemory> {
     for (place, slot) in form.iter().enumerate() {
         if place > 0 {
-            write!(out, " ")?;
+            out.push_str(" ")?;
         }
         write!(out, "{slot}")?;
     }
@@ -169,9 +169,9 @@ pub(crate) fn write_form(out: &mut String, form: Form) -> Result<(), NoMemory> {
 /// Writes a form for each line of text.
 pub(crate) fn write_forms(out: &mut String, forms: &[Form]) -> Result<(), NoMemory> {
     for form in forms {
-        write!(out, "    ")?;
+        out.push_str("    ")?;
         write_form(out, form)?;
-        writeln!(out)?;
+        out.push('\n')?;
     }
     Ok(())
 }

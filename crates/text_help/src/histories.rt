@@ -11,7 +11,7 @@ use std::fmt::Write;
 use trace_check::{Explained, Fault, ParsedTrace, Trace, TraceQueue, explain, parse_trace};
 
 /// What is found of the histories of a trace.
-#[derive(Clone, Copy, Debug)]
+#[derive(Clone, Copy)]
 enum Found {
     Legal,
     Illegal {
@@ -134,22 +134,14 @@ fn illegal_text(
 fn write_no_reply(out: &mut String, entry: &[u8]) -> Result<(), NoMemory> {
     let (word, _) = word_at(entry, 2);
     let call = word.unwrap_or(&[]);
-    if call == b"next".as_slice() {
-        writeln!(
-            out,
-            "a look has no reply here: no message is due, or the queue is over; a look that finds nothing has no line"
-        )?;
+    let why = if call == b"next".as_slice() {
+        "a look has no reply here: no message is due, or the queue is over; a look that finds nothing has no line\n"
     } else if call == b"advance".as_slice() {
-        writeln!(
-            out,
-            "the time does not move here: the queue is free, a message is due, NOW is not later, or the queue is over"
-        )?;
+        "the time does not move here: the queue is free, a message is due, NOW is not later, or the queue is over\n"
     } else {
-        writeln!(
-            out,
-            "the queue does not halt here: it is a side looper's, a message is due, or it is over"
-        )?;
-    }
+        "the queue does not halt here: it is a side looper's, a message is due, or it is over\n"
+    };
+    out.push_str(why)?;
     Ok(())
 }
 
@@ -164,9 +156,9 @@ fn write_fault_of(
         Fault::Reply {
             wanted: Some(reply),
         } => {
-            write!(out, "the reply of a queue to this call here is: ")?;
+            out.push_str("the reply of a queue to this call here is: ")?;
             write_reply(out, reply)?;
-            writeln!(out)?;
+            out.push('\n')?;
         }
         Fault::Moment { time } => {
             writeln!(
@@ -181,29 +173,32 @@ fn write_fault_of(
         Fault::Number { wanted } => {
             writeln!(out, "the next entry of this sender has the SEQ {wanted}")?;
         }
-        Fault::Control => writeln!(
-            out,
-            "the last sender alone, the controller, moves the time or halts"
+        Fault::Control => out.push_str(
+            "the last sender alone, the controller, moves the time or halts\n",
         )?,
     }
     Ok(())
 }
 
 fn write_reply(out: &mut String, reply: Reply) -> Result<(), NoMemory> {
-    match reply {
-        Reply::Accepted { number } => write!(out, "accepted {number}")?,
-        Reply::Refused { place } => write!(out, "refused {place}")?,
-        Reply::Token { token } => write!(out, "token {token}")?,
-        Reply::Unbarriered => write!(out, "unbarriered")?,
-        Reply::NotPosted => write!(out, "not-posted")?,
-        Reply::Removed { count } => write!(out, "removed {count}")?,
-        Reply::QuitDone => write!(out, "quit-done")?,
-        Reply::AlreadyQuit { place } => write!(out, "already-quit {place}")?,
-        Reply::NotAllowed => write!(out, "not-allowed")?,
-        Reply::Dispatched { number } => write!(out, "dispatched {number}")?,
-        Reply::Disposed => write!(out, "disposed")?,
-        Reply::Advanced => write!(out, "advanced")?,
-        Reply::Halted => write!(out, "halted")?,
+    let (word, number) = match reply {
+        Reply::Accepted { number } => ("accepted", Some(number)),
+        Reply::Refused { place } => ("refused", Some(place)),
+        Reply::Token { token } => ("token", Some(token)),
+        Reply::Unbarriered => ("unbarriered", None),
+        Reply::NotPosted => ("not-posted", None),
+        Reply::Removed { count } => ("removed", Some(count)),
+        Reply::QuitDone => ("quit-done", None),
+        Reply::AlreadyQuit { place } => ("already-quit", Some(place)),
+        Reply::NotAllowed => ("not-allowed", None),
+        Reply::Dispatched { number } => ("dispatched", Some(number)),
+        Reply::Disposed => ("disposed", None),
+        Reply::Advanced => ("advanced", None),
+        Reply::Halted => ("halted", None),
+    };
+    out.push_str(word)?;
+    if let Some(number) = number {
+        write!(out, " {number}")?;
     }
     Ok(())
 }

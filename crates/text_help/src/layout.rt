@@ -3,7 +3,7 @@ use loop_model::NoMemory;
 use std::fmt::Write;
 
 /// A thing that no line of any of the languages has.
-#[derive(Clone, Copy, Debug, PartialEq, Eq)]
+#[derive(Clone, Copy)]
 pub(crate) enum Fault {
     /// A byte order mark before the first line.
     Mark,
@@ -65,22 +65,20 @@ pub(crate) fn fault_of(line: &[u8]) -> Option<(Fault, usize)> {
 /// Writes what is wrong, and where.
 pub(crate) fn write_fault(out: &mut String, fault: Fault, column: usize) -> Result<(), NoMemory> {
     write!(out, "column {column}: ")?;
-    match fault {
-        Fault::Mark => writeln!(
-            out,
-            "a byte order mark; the text is plain ASCII from its first byte on"
-        )?,
-        Fault::Return => writeln!(
-            out,
-            "a carriage return (CRLF); a line ends with a line feed alone"
-        )?,
-        Fault::Tab => writeln!(out, "a tab; words have one space between them")?,
-        Fault::Byte(byte) => writeln!(out, "byte {byte}; a line has printable ASCII alone")?,
-        Fault::Blank => writeln!(out, "a blank line; there are none")?,
-        Fault::Comment => writeln!(out, "no line has `#` or `/`, and there are no comments")?,
-        Fault::Leading => writeln!(out, "a space before the first word; there is none")?,
-        Fault::Double => writeln!(out, "two spaces; words have one space between them")?,
-        Fault::Trailing => writeln!(out, "a space behind the last word; there is none")?,
-    }
+    let text = match fault {
+        Fault::Mark => "a byte order mark; the text is plain ASCII from its first byte on\n",
+        Fault::Return => "a carriage return (CRLF); a line ends with a line feed alone\n",
+        Fault::Tab => "a tab; words have one space between them\n",
+        Fault::Byte(byte) => {
+            writeln!(out, "byte {byte}; a line has printable ASCII alone")?;
+            return Ok(());
+        }
+        Fault::Blank => "a blank line; there are none\n",
+        Fault::Comment => "no line has `#` or `/`, and there are no comments\n",
+        Fault::Leading => "a space before the first word; there is none\n",
+        Fault::Double => "two spaces; words have one space between them\n",
+        Fault::Trailing => "a space behind the last word; there is none\n",
+    };
+    out.push_str(text)?;
     Ok(())
 }

@@ -84,12 +84,12 @@ pub(crate) fn word_at(line: &[u8], number: usize) -> (Option<&[u8]>, usize) {
 pub(crate) fn write_shown(out: &mut String, bytes: &[u8]) -> Result<(), NoMemory> {
     for (place, byte) in bytes.iter().enumerate() {
         if place >= SHOWN {
-            write!(out, "..")?;
+            out.push_str("..")?;
             return Ok(());
         }
         match *byte {
-            b'\t' => write!(out, "\\t")?,
-            b'\r' => write!(out, "\\r")?,
+            b'\t' => out.push_str("\\t")?,
+            b'\r' => out.push_str("\\r")?,
             32..=126 => out.push(char::from(*byte))?,
             other => write!(out, "\\x{other:02x}")?,
         }
@@ -97,10 +97,18 @@ pub(crate) fn write_shown(out: &mut String, bytes: &[u8]) -> Result<(), NoMemory
     Ok(())
 }
 
+/// Writes the same between backquotes.
+pub(crate) fn write_quoted(out: &mut String, bytes: &[u8]) -> Result<(), NoMemory> {
+    out.push('`')?;
+    write_shown(out, bytes)?;
+    out.push('`')?;
+    Ok(())
+}
+
 /// Writes a line of the text as it stands, set in.
 pub(crate) fn write_line(out: &mut String, line: &[u8]) -> Result<(), NoMemory> {
-    write!(out, "  | ")?;
+    out.push_str("  | ")?;
     write_shown(out, line)?;
-    writeln!(out)?;
+    out.push('\n')?;
     Ok(())
 }

@@ -45,7 +45,7 @@ const LIMITS: [(&str, u64, u64); 8] = [
 ];
 
 /// Which line may come next.
-#[derive(Clone, Copy, Debug, PartialEq, Eq)]
+#[derive(Clone, Copy)]
 enum Next {
     Head,
     Period,
@@ -184,18 +184,15 @@ fn write_order(out: &mut String, next: Next) -> Result<(), NoMemory> {
             out,
             "places rise; the key before is at {place}, so AT is above {place}"
         )?,
-        _ => writeln!(out, "the first key of an animator is at 0")?,
+        _ => out.push_str("the first key of an animator is at 0\n")?,
     }
     Ok(())
 }
 
 fn write_too_many(out: &mut String, next: Next) -> Result<(), NoMemory> {
     match next {
-        Next::Key(_) => writeln!(
-            out,
-            "an animator has at most 16 keys, so its 16th is at 1000"
-        )?,
-        _ => writeln!(out, "there are at most 16 things")?,
+        Next::Key(_) => out.push_str("an animator has at most 16 keys, so its 16th is at 1000\n")?,
+        _ => out.push_str("there are at most 16 things\n")?,
     }
     Ok(())
 }
@@ -220,8 +217,10 @@ fn write_range(out: &mut String, line: &[u8]) -> Result<(), NoMemory> {
                     if value < low || high < value {
                         within = false;
                         let (_, column) = word_at(line, word);
-                        write!(out, "column {column}: {name} is {value}; ")?;
-                        writeln!(out, "it may be from {low} to {high}")?;
+                        writeln!(
+                            out,
+                            "column {column}: {name} is {value}; it may be from {low} to {high}"
+                        )?;
                     }
                 }
             }

@@ -7,7 +7,7 @@ ghost use Rattle.text_help.specs.Saying.{BeginsWithHead, BadOnly, GoodAll, GoodO
 use crate::form::{Form, has_one, walk_along};
 use crate::lines::{lines_of, word_at, write_line};
 use crate::said::Said;
-use crate::shape::{write_form_fault, write_stop};
+use crate::shape::{write_form_fault, write_next, write_stop};
 use line_words::number;
 use loop_model::NoMemory;
 use run_picture::{ParsedReport, Report, parse_report};
@@ -59,7 +59,7 @@ const END: Form = &["end"];
 const BETWEEN: [Form; 2] = [LOOPER, END];
 
 /// What a good line is.
-#[derive(Clone, Copy, Debug, PartialEq, Eq)]
+#[derive(Clone, Copy)]
 enum Told {
     Nothing,
     Title,
@@ -197,10 +197,7 @@ fn reason_text(alloc: Global, bytes: &[u8], number: u64) -> Result<String, NoMem
     write_line(&mut out, line)?;
     if has_feed && has_one(&forms, line) {
         if walk_along(LOOPER, line).is_whole() {
-            writeln!(
-                out,
-                "loopers are numbered from 0 on; the next one is {loopers}"
-            )?;
+            write_next(&mut out, "loopers", loopers)?;
         } else {
             write_sum(&mut out, line)?;
         }

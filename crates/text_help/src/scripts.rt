@@ -8,7 +8,7 @@ use crate::commands::{KINDS, kind_of, place_of, shown};
 use crate::form::{Form, write_form};
 use crate::lines::{Lines, lines_of, word_at, write_line};
 use crate::said::Said;
-use crate::shape::{write_form_fault, write_stop};
+use crate::shape::{write_form_fault, write_next, write_stop};
 use dash_script::{Cause, Kind, Numbers, Parsed, Part, Role, Script, Slot, parse, phase_count};
 use loop_model::NoMemory;
 use std::alloc::Global;
@@ -148,10 +148,7 @@ fn allowed(alloc: Global, last: Part) -> Result<Vec<Form>, NoMemory> {
 }
 
 fn write_too_long(out: &mut String) -> Result<(), NoMemory> {
-    writeln!(
-        out,
-        "a script has at most 20000 lines, with its line `end T`"
-    )?;
+    out.push_str("a script has at most 20000 lines, with its line `end T`\n")?;
     Ok(())
 }
 
@@ -196,7 +193,7 @@ fn write_form_reason(
     let forms = allowed(alloc, declared.last)?;
     if let Some((kind, _)) = kind_of(line) {
         if !kind.part().may_follow(declared.last) {
-            write!(out, "a line `")?;
+            out.push_str("a line `")?;
             write_form(out, shown(kind))?;
             writeln!(out, "` stands {}, not here", place_of(kind.part()))?;
             return crate::shape::write_choice(out, &forms);
@@ -258,12 +255,14 @@ fn write_range(
             if value < low || high < value {
                 let (name, word) = named(kind, place);
                 let (_, column) = word_at(line, word);
-                write!(out, "column {column}: {name} is {value}; ")?;
-                write!(out, "it may be from {low} to {high}")?;
+                write!(
+                    out,
+                    "column {column}: {name} is {value}; it may be from {low} to {high}"
+                )?;
                 if let Role::Phase = role {
                     write!(out, " in edition {edition}")?;
                 }
-                writeln!(out)?;
+                out.push('\n')?;
             }
         }
     }
@@ -347,21 +346,9 @@ fn write_order(
 ) -> Result<(), NoMemory> {
     let time = declared.time.unwrap_or(0);
     match kind {
-        Kind::Handler => writeln!(
-            out,
-            "handlers are numbered from 0 on; the next one is {}",
-            declared.handlers
-        )?,
-        Kind::AsyncHandler => writeln!(
-            out,
-            "handlers are numbered from 0 on; the next one is {}",
-            declared.handlers
-        )?,
-        Kind::Gauge => writeln!(
-            out,
-            "gauges are numbered from 0 on; the next one is {}",
-            declared.gauges.len()
-        )?,
+        Kind::Handler => write_next(out, "handlers", declared.handlers)?,
+        Kind::AsyncHandler => write_next(out, "handlers", declared.handlers)?,
+        Kind::Gauge => write_next(out, "gauges", declared.gauges.len() as u64)?,
         Kind::At => writeln!(
             out,
             "times rise; the block before is at {time}, so T is above {time}"
@@ -374,10 +361,16 @@ fn write_order(
             if let Some(place) = barrier_line(before, thread, label) {
                 write!(out, ", on line {place}")?;
             }
-            writeln!(out)?;
+            out.push('\n')?;
         }
         _ => {}
     }
+    Ok(())
+}
+
+/// Writes what a sum is so far, and what the line adds.
+fn write_so_far(out: &mut String, sum: u64, more: u64) -> Result<(), NoMemory> {
+    writeln!(out, "they are {sum} so far, and this one is {more}")?;
     Ok(())
 }
 
@@ -388,26 +381,17 @@ fn write_too_many(
     numbers: &Numbers,
 ) -> Result<(), NoMemory> {
     match kind {
-        Kind::Handler => writeln!(out, "there are at most 64 handlers")?,
-        Kind::AsyncHandler => writeln!(out, "there are at most 64 handlers")?,
-        Kind::Gauge => writeln!(out, "there are at most 16 gauges")?,
+        Kind::Handler => out.push_str("there are at most 64 handlers\n")?,
+        Kind::AsyncHandler => out.push_str("there are at most 64 handlers\n")?,
+        Kind::Gauge => out.push_str("there are at most 16 gauges\n")?,
         Kind::Rule => {
-            let sum = declared.reactions;
-            write!(out, "the N of all `on` lines add up to at most 100000; ")?;
-            writeln!(
-                out,
-                "they are {sum} so far, and this one is {}",
-                numbers.at(2)
-            )?;
+            out.push_str("the N of all `on` lines add up to at most 100000; ")?;
+            write_so_far(out, declared.reactions, numbers.at(2))?;
         }
         Kind::Set => {
-            let sum = declared.steps;
             let more = declared.steps_of(numbers.at(1));
-            write!(
-                out,
-                "1000 by STEP of all `set` lines add up to at most 100000; "
-            )?;
-            writeln!(out, "they are {sum} so far, and this one is {more}")?;
+            out.push_str("1000 by STEP of all `set` lines add up to at most 100000; ")?;
+            write_so_far(out, declared.steps, more)?;
         }
         _ => {}
     }

@@ -4,7 +4,7 @@ use crate::form::{
     write_forms,
 };
 use crate::layout::{fault_of, write_fault};
-use crate::lines::{word_at, write_shown};
+use crate::lines::{word_at, write_quoted};
 use loop_model::NoMemory;
 use std::alloc::Global;
 use std::fmt::Write;
@@ -12,10 +12,10 @@ use std::fmt::Write;
 /// Writes the forms that may stand at a place; there are none behind the last line alone.
 pub(crate) fn write_choice(out: &mut String, forms: &[Form]) -> Result<(), NoMemory> {
     if forms.is_empty() {
-        writeln!(out, "no line may stand behind `end`")?;
+        out.push_str("no line may stand behind `end`\n")?;
         return Ok(());
     }
-    writeln!(out, "lines that may stand here:")?;
+    out.push_str("lines that may stand here:\n")?;
     write_forms(out, forms)
 }
 
@@ -27,33 +27,42 @@ pub(crate) fn write_stop(
     forms: &[Form],
 ) -> Result<(), NoMemory> {
     if number == 1 {
-        writeln!(out, "the text is empty")?;
+        out.push_str("the text is empty\n")?;
     } else {
         writeln!(out, "the text stops before its line `{last}`")?;
     }
     write_choice(out, forms)
 }
 
+/// Writes that things are numbered, and the number of the next one.
+pub(crate) fn write_next(out: &mut String, things: &str, next: u64) -> Result<(), NoMemory> {
+    writeln!(
+        out,
+        "{things} are numbered from 0 on; the next one is {next}"
+    )?;
+    Ok(())
+}
+
 /// Writes what kind of text begins with a line, where it is another than was asked for.
 fn write_kind_of_text(out: &mut String, line: &[u8]) -> Result<(), NoMemory> {
     let (word, _) = word_at(line, 0);
     let first = word.unwrap_or(&[]);
-    if first == b"dashboard".as_slice() {
-        writeln!(out, "a text that begins so is a script: explain script")?;
+    let kind = if first == b"dashboard".as_slice() {
+        "a script: explain script"
     } else if first == b"report".as_slice() {
-        writeln!(out, "a text that begins so is a report: explain report")?;
+        "a report: explain report"
     } else if first == b"trace".as_slice() {
-        writeln!(out, "a text that begins so is a trace: explain trace")?;
+        "a trace: explain trace"
     } else if first == b"animate".as_slice() {
-        writeln!(
-            out,
-            "a text that begins so is a plan of values: explain plan"
-        )?;
+        "a plan of values: explain plan"
     } else if first == b"values".as_slice() {
-        writeln!(out, "a text that begins so is what `animate` writes")?;
+        "what `animate` writes"
     } else if first == b"inbox".as_slice() {
-        writeln!(out, "a text that begins so is what `inbox` writes")?;
-    }
+        "what `inbox` writes"
+    } else {
+        return Ok(());
+    };
+    writeln!(out, "a text that begins so is {kind}")?;
     Ok(())
 }
 
@@ -70,7 +79,7 @@ pub(crate) fn write_form_fault(
         return write_choice(out, forms);
     }
     if !has_feed {
-        writeln!(out, "the last line has no line feed at its end (byte 10)")?;
+        out.push_str("the last line has no line feed at its end (byte 10)\n")?;
         if has_one(forms, line) {
             return Ok(());
         }
@@ -97,21 +106,17 @@ fn write_words(
     let (word, column) = word_at(line, reached);
     write!(out, "column {column}: ")?;
     match word {
-        None => write!(out, "the line stops here")?,
-        Some(word) => {
-            write!(out, "`")?;
-            write_shown(out, word)?;
-            write!(out, "`")?;
-        }
+        None => out.push_str("the line stops here")?,
+        Some(word) => write_quoted(out, word)?,
     }
-    write!(out, "; wanted here: ")?;
+    out.push_str("; wanted here: ")?;
     for (place, name) in wanted.iter().enumerate() {
         if place > 0 {
-            write!(out, ", ")?;
+            out.push_str(", ")?;
         }
         write!(out, "{name}")?;
     }
-    writeln!(out)?;
+    out.push('\n')?;
     for name in wanted.iter() {
         write_number(out, name)?;
     }
@@ -129,9 +134,9 @@ fn write_number(out: &mut String, name: &str) -> Result<(), NoMemory> {
         "{name} is decimal digits without a leading zero, below 2 to the {bits}"
     )?;
     if may_be_absent(name) {
-        write!(out, ", or `-` where there is none")?;
+        out.push_str(", or `-` where there is none")?;
     }
-    writeln!(out)?;
+    out.push('\n')?;
     Ok(())
 }
 
@@ -152,6 +157,6 @@ fn write_reached(
     if reached == 0 {
         return write_choice(out, &left);
     }
-    writeln!(out, "lines that begin so:")?;
+    out.push_str("lines that begin so:\n")?;
     write_forms(out, &left)
 }

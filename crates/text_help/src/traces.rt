@@ -4,7 +4,7 @@ ghost use Rattle.text_help.specs.Heads.{BeginsWith, trace_head};
 
 use crate::form::{Form, walk_along, write_form, write_forms};
 use crate::layout::{fault_of, write_fault};
-use crate::lines::{lines_of, word_at, write_line, write_shown};
+use crate::lines::{lines_of, word_at, write_line, write_quoted};
 use crate::shape::{write_form_fault, write_stop};
 use line_words::number;
 use loop_model::NoMemory;
@@ -82,7 +82,7 @@ const REPLIES: [Form; 13] = [
 ];
 
 /// How far a trace has come.
-#[derive(Clone, Copy, Debug, PartialEq, Eq)]
+#[derive(Clone, Copy, PartialEq, Eq)]
 enum Part {
     Start,
     Body,
@@ -174,14 +174,14 @@ fn reason_text(alloc: Global, bytes: &[u8], number: u64) -> Result<String, NoMem
         if place.left == 0 {
             write_stop(&mut out, number, "end", forms)?;
         } else {
-            writeln!(out, "the text stops before these")?;
+            out.push_str("the text stops before these\n")?;
         }
         return Ok(out);
     };
     write_line(&mut out, line)?;
     if place.left == 0 {
         if place.part == Part::Body && call_of(line).is_some() {
-            writeln!(out, "an entry more than the COUNT of its queue's line")?;
+            out.push_str("an entry more than the COUNT of its queue's line\n")?;
         }
         write_form_fault(alloc, &mut out, forms, line, has_feed, number)?;
     } else {
@@ -222,7 +222,7 @@ fn write_entry(
         return write_form_fault(alloc, out, &CALLS, line, has_feed, number);
     };
     if !has_feed {
-        writeln!(out, "the last line has no line feed at its end (byte 10)")?;
+        out.push_str("the last line has no line feed at its end (byte 10)\n")?;
     }
     if let Some((fault, column)) = fault_of(line) {
         return write_fault(out, fault, column);
@@ -233,15 +233,13 @@ fn write_entry(
     }
     write!(out, "column {column}: ")?;
     if reply.is_empty() {
-        write!(out, "the line stops here")?;
+        out.push_str("the line stops here")?;
     } else {
-        write!(out, "`")?;
-        write_shown(out, reply)?;
-        write!(out, "`")?;
+        write_quoted(out, reply)?;
     }
-    write!(out, "; wanted here: the reply to `")?;
+    out.push_str("; wanted here: the reply to `")?;
     write_form(out, call)?;
-    writeln!(out, "`")?;
-    writeln!(out, "replies:")?;
+    out.push_str("`\n")?;
+    out.push_str("replies:\n")?;
     write_forms(out, &REPLIES)
 }
