@@ -23,6 +23,7 @@ use Rattle.dash_stage.proofs.Stages.Timely.{clock_same, has_disposed_same}
 
 -- where a sender has only moved the time, the time to which it has moved was reached
 pub time_is_reached : (k end : ℕ) (es : List Entry) → are_advances end (entries_by k es) ≡ true → is_reached (time_in (entries_by k es)) es ≡ true
+unfolding clock
 time_is_reached k end = entry_by_entry (λ es. are_advances end (entries_by k es) ≡ true → is_reached (time_in (entries_by k es)) es ≡ true)
     (λ h. start_reached [])
     (λ es e before h.
