@@ -1,5 +1,5 @@
 -- A run through an inbox: which scripts it refuses, and what is written of it.
-use Rattle.std.proofs.Common.{◌≡◌, ◌+◌, ℕ, List, [], ◌∷◌, ◌++◌, Some, None, map, refl, arith, sym, ap, ◌∙◌, append_assoc, append-nil}
+use Rattle.std.proofs.Common.{◌≡◌, ◌+◌, ℕ, List, [], ◌∷◌, ◌++◌, Some, None, map, refl, arith, sym, ap, ◌∙◌, append_assoc, append-nil, subst}
 use Rattle.std.specs.Prelude.{codes}
 use Rattle.std.specs.List.{flat_map, range_with_len}
 use Rattle.std.specs.Fmt.{decimal}
@@ -16,10 +16,12 @@ use Rattle.inbox_queue.specs.declared.parcel.Parcel.{Parcel}
 use Rattle.inbox_queue.specs.declared.run.InboxReport.{InboxReport}
 use Rattle.inbox_queue.specs.Bad.{bad_line}
 use Rattle.dashboard_cli.specs.InboxText.{admitted_from, from_line, inbox_lines, inbox_text}
-use Rattle.dashboard_cli.specs.Works.{inbox_scripts}
-use Rattle.dashboard_cli.specs.Steps.{IsNone}
+use Rattle.dashboard_cli.specs.Streams.{limit, Known, ReadsWhole}
+use Rattle.dashboard_cli.specs.Works.{inbox_scripts, IsInboxText, RefusesInbox, Says}
+use Rattle.dashboard_cli.specs.Steps.{IsNone, Stops}
 use Rattle.dashboard_cli.specs.declared.status.Cause.TheVariants as cause
-use Rattle.dashboard_cli.specs.declared.status.Status.TheVariants.{Script}
+use Rattle.dashboard_cli.specs.declared.status.Status.{Status}
+use Rattle.dashboard_cli.specs.declared.status.Status.TheVariants.{Ok, Usage, Script, ReadFault, WriteFault, NoMemory, TooLong, Trace}
 
 -- a script with a line that such a run doesn't know is the only one of its text
 pub refused_by_line : (input : List ℕ) (script : ScriptData) (line : ℕ) → IsText input script → bad_line script ≡ Some line
@@ -27,9 +29,26 @@ pub refused_by_line : (input : List ℕ) (script : ScriptData) (line : ℕ) → 
 refused_by_line input script line is bad = (
   (script, is, bad),
   λ taken.
-      let same : script ≡ taken.0 = one_text script taken.0 is.1 taken.1.1 (sym is.0 ∙ taken.1.0) in
-      let wrong : None ≡ Some line = sym taken.2 ∙ ap bad_line (sym same) ∙ bad in absurd (cc),
+      let same : script ≡ taken.0 = one_text script taken.0 is.1 taken.1.0.1 (sym is.0 ∙ taken.1.0.0) in
+      let wrong : None ≡ Some line = sym taken.1.1 ∙ ap bad_line (sym same) ∙ bad in absurd (cc),
 )
+
+-- a text that a run through an inbox refuses stops the command that read it whole
+pub inbox_stops : (before after : Known) (input given : List ℕ) (status : Status) → ReadsWhole limit before after input → given ≡ input
+    → IsNone inbox_scripts given status → Stops inbox_scripts before after status
+inbox_stops before after input given NoMemory read same none = (input, read.consumed, read.fits)
+inbox_stops before after input given (Script line cause) read same none = record {
+  input = input;
+  read = read;
+  bad = subst (λ (b : List ℕ). RefusesInbox b (Script line cause)) same none.0;
+  not_taken = λ taken. none.1 (subst (λ (b : List ℕ). Says IsInboxText b) (sym same) taken);
+}
+inbox_stops before after input given (Trace line) read same none = absurd none.0
+inbox_stops before after input given Ok read same none = absurd none.0
+inbox_stops before after input given Usage read same none = absurd none.0
+inbox_stops before after input given ReadFault read same none = absurd none.0
+inbox_stops before after input given WriteFault read same none = absurd none.0
+inbox_stops before after input given TooLong read same none = absurd none.0
 
 -- the lines of one thread more
 pub thread_written : (lists : List (List Parcel)) (n k : ℕ) (out x y : List ℕ) → k ≡ admitted_from n lists

@@ -276,6 +276,7 @@ fn animate_input<S: Source>(alloc: Global, source: &mut S) -> Result<Product, St
 }
 
 /// Reads a script, runs it through an inbox, and makes the text of what came of it.
+#[tactic(auto, using(crate::proofs::Inboxes::inbox_stops))]
 fn inbox_input<R: Threads + Wait + Sync, S: Source, G: Gate + Sync>(
     rt: &R,
     alloc: Global,

@@ -14,7 +14,6 @@ returns-in-Bad-clause-refused g c =
 pub returns-in-Ok-clause-ran : goal.returns-in-Ok-clause-ran
 returns-in-Ok-clause-ran g c =
     let is = c.in-Ok.ensures.runs in (
-      subst (IsText c.args.input.now) (sym is.script) c.in_ok-script.ensures.read,
-      ap bad_line is.script ∙ c.in-Ok.ensures.bad,
+      (subst (IsText c.args.input.now) (sym is.script) c.in_ok-script.ensures.read, ap bad_line is.script ∙ c.in-Ok.ensures.bad),
       subst (λ s. IsInboxRun s c.in-Ok.report) (sym is.script) is,
     )
