@@ -558,8 +558,27 @@ fn record_in_parts<R: Wait>(rt: &R, alloc: Global, count: u32) -> Result<FrameRe
     ensures { IfOk result (λ r. IsTrue (lawful r.interval r.phases r.entries)) }
 {
     let (c, mut passes) = Choreographer::make_sealing(alloc, 0, 10, 4, 2)?;
-    let mut last = passes.pop().unwrap();
-    let mut first = passes.pop().unwrap();
+    let last = passes.pop().unwrap();
+    let first = passes.pop().unwrap();
+    record_of_two(rt, alloc, c, passes, first, last, count)
+}
+
+// The same of these two passes, which are all.
+fn record_of_two<R: Wait>(
+    rt: &R,
+    alloc: Global,
+    c: Choreographer,
+    mut passes: Vec<FramePass>,
+    mut first: FramePass,
+    mut last: FramePass,
+    count: u32,
+) -> Result<FrameRecord, NoMemory>
+    requires two { (c.constants.passes ≡ 2) × (c.constants.seals ≡ true) × (1 < c.constants.phases) }
+    requires none { passes.items ≡ [] }
+    requires first { IsOf first c × (first.number ≡ 0) }
+    requires last { IsOf last c × (last.number ≡ 1) × (last.view.handed ≡ 0) }
+    ensures { IfOk result (λ r. IsTrue (lawful r.interval r.phases r.entries)) }
+{
     let mut parts = Vec::new(alloc);
     seal_some(rt, &c, &mut first, &mut last, &mut parts, count)?;
     passes.push(first)?;

@@ -14,6 +14,5 @@ mod loopers;
 #[cfg(test)]
 mod turns;
 #[cfg(test)]
-mod values;
 #[cfg(test)]
 mod while_handling;
