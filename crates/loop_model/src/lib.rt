@@ -4,6 +4,7 @@
 
 mod base;
 mod call;
+mod counters;
 mod entry;
 mod fate;
 mod item;
@@ -19,6 +20,7 @@ mod sequence;
 
 pub use base::Base;
 pub use call::Call;
+pub use counters::{Counters, LiveItems};
 pub use entry::Entry;
 pub use fate::Fate;
 pub use item::Item;

@@ -40,12 +40,12 @@ module _ {H K : Type 0} where
   spare_is of home h xs b w d k =
       let es = h.entries.items in
       let live : length (live_in_order h.start es) ≡ length xs = ap length (sym (live_is _ _ _ _ k.history)) ∙ length-items xs in
-      let quit : quit_place h.start es ≡ h.quit = quit_is _ _ _ _ k.history in
-      let disposed : has_disposed h.start es ≡ h.disposed = disposed_is _ _ _ _ k.history in
-      let halted : has_halted h.start es ≡ h.halted = halted_is _ _ _ _ k.history in
+      let quit : quit_place h.start es ≡ h.counters.quit = quit_is _ _ _ _ k.history in
+      let disposed : has_disposed h.start es ≡ h.counters.disposed = disposed_is _ _ _ _ k.history in
+      let halted : has_halted h.start es ≡ h.counters.halted = halted_is _ _ _ _ k.history in
       ap (λ n. room_of h.main n (quit_place h.start es) (has_disposed h.start es) (has_halted h.start es)) live
       ∙ (ap (λ q. room_of h.main (length xs) q (has_disposed h.start es) (has_halted h.start es)) quit
-      ∙ (ap (λ e. room_of h.main (length xs) h.quit e (has_halted h.start es)) disposed ∙ ap (λ e. room_of h.main (length xs) h.quit h.disposed e) halted))
+      ∙ (ap (λ e. room_of h.main (length xs) h.counters.quit e (has_halted h.start es)) disposed ∙ ap (λ e. room_of h.main (length xs) h.counters.quit h.counters.disposed e) halted))
 
   pub match_is : {R : Type 0} (of : K → H) (home : H) (h : History R) (xs : List (Letter K)) (b w : Bool) (d : Option ℕ) (f : Filter) → IsKept of home h xs b w d → list_any (is_named f) xs ≡ has_match (view_of home h xs b w d) f
   match_is of home h xs b w d f k =

@@ -24,7 +24,8 @@ use Rattle.loop_model.proofs.NumberLaws.{AreNumbered-front, AreNumbered-last, Ar
 use Rattle.loop_model.proofs.WellFormedLaws.{after_well_formed, empty_well_formed}
 use Rattle.trace_check.specs.declared.checker.Checked.TheVariants as checked
 use Rattle.trace_check.specs.Ranks.{AreApart}
-use Rattle.trace_check.specs.Checking.{setting, IsCheckedFirst, AllFirst, AllLegal, Follows, IsFault, IsFaultAfter, IsFaultBy, IsSenderFault}
+use Rattle.loop_model.specs.Counters.{setting}
+use Rattle.trace_check.specs.Checking.{IsCheckedFirst, AllFirst, AllLegal, Follows, IsFault, IsFaultAfter, IsFaultBy, IsSenderFault}
 use Rattle.trace_check.specs.Good.{setting_of, IsGood, IsFirstBad}
 use Rattle.trace_check.specs.declared.fault.Fault.{Fault}
 use Rattle.trace_check.specs.declared.fault.Fault.TheVariants as fault

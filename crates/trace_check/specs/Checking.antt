@@ -1,13 +1,14 @@
 -- Which histories pass a check, and which entry is named where one does not.
-use Rattle.std.specs.Prelude.{◌≡◌, ◌+◌, ◌<◌, ◌≤◌, ◌⊎◌, ℕ, Bool, true, List, [], Option, Some, None, take, unwrap_or, slice_index_or}
+use Rattle.std.specs.Prelude.{◌≡◌, ◌+◌, ◌<◌, ◌≤◌, ◌⊎◌, ℕ, true, List, [], Option, Some, None, take, unwrap_or, slice_index_or}
 use Rattle.std.specs.Ordering.{nat_cmp}
 use Rattle.std.specs.BTreeMap as tree
 use Rattle.loop_model.specs.declared.base.Base.{Base}
 use Rattle.loop_model.specs.declared.entry.Entry.{Entry}
 use Rattle.trace_check.specs.declared.trace.TraceQueue.{TraceQueue}
 use Rattle.loop_model.specs.declared.reply.Reply.{Reply}
-use Rattle.loop_model.specs.Answers.{Setting, answer, clock}
+use Rattle.loop_model.specs.Answers.{answer, clock}
 use Rattle.loop_model.specs.Base.{empty_base}
+use Rattle.loop_model.specs.Counters.{left_with, setting}
 use Rattle.loop_model.specs.Legal.{IsTimely, is_control, made_count}
 use Rattle.loop_model.specs.Listed.{listed_answer}
 use Rattle.trace_check.specs.declared.checker.Checked.{Checked}
@@ -77,20 +78,7 @@ made_in c sender = unwrap_or (tree.get nat_cmp c.by_sender sender) 0
 
 -- what is kept, as what a history has left; senders are counted apart
 abbrev pub base_by : Past → Base
-base_by p = record {
-  length = p.length;
-  time = p.time;
-  accepted = p.accepted;
-  barriers = p.barriers;
-  quit = p.quit;
-  disposed = p.disposed;
-  halted = p.halted;
-  made = [];
-  items = listed p.items;
-}
-
-abbrev pub setting : Bool → Bool → Setting
-setting main lockstep = record { main = main; lockstep = lockstep; senders = 0 }
+base_by p = left_with p.length p.counters [] (listed p.items)
 
 -- the entry is the next of its sender, which has made so many
 pub record IsNumberedSo (senders made : ℕ) (e : Entry) : Type 0 where

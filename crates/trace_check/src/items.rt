@@ -1,13 +1,12 @@
 //! The items that stand in a queue, in order.
 ghost use Rattle.std.specs.Prelude.{◌≡◌, ◌+◌, ℕ, Bool, [], false, find, slice_get, count_by, filter, IsTrue, IfOk, IfSome, OnOk};
-ghost use Rattle.std.specs.List.{list_any};
 ghost use Rattle.std.specs.Option.{option_map};
 ghost use Rattle.std.specs.BTreeMap as tree;
 ghost use Rattle.std.specs.BTreeMap.{is_at};
 ghost use Rattle.std.specs.Map.{remove_entry};
 ghost use Rattle.loop_model.specs.declared.item.Item.{Item as ItemOf};
 ghost use Rattle.loop_model.specs.Entries.{ends};
-ghost use Rattle.loop_model.specs.Items.{is_asynchronous, is_just, matches, token_of, when_of};
+ghost use Rattle.loop_model.specs.Items.{is_asynchronous, matches};
 ghost use Rattle.loop_model.specs.Listed.{first_listed, insert_item, kept_by};
 ghost use Rattle.trace_check.specs.Ranks.{AreApart, AreIndexed, AreRanked, IsOneEnded, StandsAt, listed, rank_of};
 ghost use Rattle.trace_check.specs.Shelves.{by_rank, keys_passing};
@@ -15,7 +14,7 @@ ghost use Rattle.trace_check.specs.Shelves.{by_rank, keys_passing};
 use crate::label::{Shape, filter_label, filter_shape, label_ended};
 use crate::shelf::Rank;
 use crate::shelves::Shelves;
-use loop_model::{Call, Entry, Filter, Item, NoMemory, Reply};
+use loop_model::{Call, Entry, Filter, Item, LiveItems, NoMemory, Reply};
 use std::alloc::Global;
 use std::collections::{BTreeMap, BTreeSet};
 
@@ -181,27 +180,13 @@ impl Items {
     }
 
     /// The head, or behind a barrier the first asynchronous message.
-    pub(crate) fn first(&self) -> Option<Item>
+    fn first(&self) -> Option<Item>
         requires { AreIndexed self.now }
         ensures { result ≡ first_listed (listed self.now) }
     {
         match self.first_ranked() {
             Some((_, item)) => Some(item),
             None => None,
-        }
-    }
-
-    /// Whether a barrier of the token stands in the queue.
-    pub(crate) fn has_barrier(&self, token: u64) -> bool
-        requires { AreIndexed self.now }
-        ensures { result ≡ list_any (λ item. is_just (token_of item) token) (listed self.now) }
-    {
-        match self.shelves.of(Shape::Token).get((0, token, 0)) {
-            Some(ranks) => match self.first_on(ranks) {
-                Some(_) => true,
-                None => false,
-            },
-            None => self.by_rank.values().any(|item| item.has_token(token)),
         }
     }
 
@@ -213,18 +198,6 @@ impl Items {
             .values()
             .filter(|item| item.is_named_by(filter))
             .count() as u64
-    }
-
-    /// How many messages the filter names.
-    pub(crate) fn count(&self, filter: &Filter) -> u64
-        requires { AreIndexed self.now }
-        ensures { result ≡ count_by (matches filter.now) (listed self.now) }
-    {
-        let shape = filter_shape(filter);
-        match self.shelves.of(shape).get(filter_label(filter)) {
-            Some(ranks) => ranks.len() as u64,
-            None => self.count_all(filter),
-        }
     }
 
     /// One of the items that the entry ends, where there is one. Where all of them stand at the end, or bear a label that was
@@ -298,5 +271,36 @@ impl Items {
             return;
         }
         self.take_ended(entry);
+    }
+}
+
+impl LiveItems for Items {
+    ghost listed = { listed };
+
+    ghost IsSound = { AreIndexed };
+
+    fn has_barrier(&self, token: u64) -> bool {
+        match self.shelves.of(Shape::Token).get((0, token, 0)) {
+            Some(ranks) => match self.first_on(ranks) {
+                Some(_) => true,
+                None => false,
+            },
+            None => self.by_rank.values().any(|item| item.has_token(token)),
+        }
+    }
+
+    fn count(&self, filter: &Filter) -> u64 {
+        let shape = filter_shape(filter);
+        match self.shelves.of(shape).get(filter_label(filter)) {
+            Some(ranks) => ranks.len() as u64,
+            None => self.count_all(filter),
+        }
+    }
+
+    fn pick(&self, now: u64) -> Option<Item> {
+        match self.first() {
+            Some(item) if item.when() <= now => Some(item),
+            _ => None,
+        }
     }
 }

@@ -11,8 +11,8 @@ abbrev pub invariant-loop-place : goal.invariant-loop-place
 invariant-loop-place l = record {
   base : base_by l.past ≡ fold next_base (empty_base 0) (take l.place l.queue.entries);
   length : l.past.length ≡ l.place;
-  posts : l.past.accepted ≤ l.place;
-  barriers : l.past.barriers ≤ l.place;
+  posts : l.past.counters.accepted ≤ l.place;
+  barriers : l.past.counters.barriers ≤ l.place;
   counts : (sender : ℕ) → made_in l.counts sender ≡ count_by (λ e. e.sender == sender) (take l.place l.queue.entries);
   ranked : AreRanked l.past.length l.past.items;
   indexed : AreIndexed l.past.items;

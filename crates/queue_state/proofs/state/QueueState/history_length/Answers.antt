@@ -1,5 +1,4 @@
-use Rattle.std.proofs.Common.{◌+◌, length, sym, ◌∙◌, arith}
-use Rattle.queue_state.specs.History.{owed}
+use Rattle.std.proofs.Common.{sym, ◌∙◌, arith}
 use Rattle.queue_state.proofs.Histories.{sleeps, live_is}
 use Rattle.queue_state.proofs.state.QueueState.history_length.Goals as goal
 
