@@ -1,5 +1,5 @@
 //! The animator.
-ghost use Rattle.std.specs.Prelude.{◌≡◌, ◌<◌, ◌≤◌, ◌*◌, ◌++◌, ◌∷◌, [], List, ℕ, All, length};
+ghost use Rattle.std.specs.Prelude.{◌≡◌, ◌<◌, ◌≤◌, ◌*◌, ◌++◌, ◌∷◌, [], List, ℕ, All};
 ghost use Rattle.animator.specs.Plans.{IsKey, IsPlan};
 ghost use Rattle.animator.specs.Valuing.{answer, end_of, end_value, is_around, moved, position, value_among, value_at};
 ghost use Rattle.animator.specs.Given.{WasGiven};

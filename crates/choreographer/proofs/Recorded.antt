@@ -85,7 +85,7 @@ frame_records is_moment before middle after start time moment t phases =
 pub take_adds : (before after : Known) (phase now : ℕ) (result : Took) → TakeTurn before after phase now result → AddsPhases before after
 take_adds before after phase now (took.Batch time cs) t = adds_these before after t.0 t.1 (Take phase now time ∷ map ran cs) t.2 (sym (ap (λ (f : Frames). f.entries) t.3.3)) (ran_of_phases cs)
 take_adds before after phase now (took.Elsewhere next) t = adds_nothing before after t.0 t.1 t.2 t.3.2
-take_adds before after phase now took.NoMemory t = adds_nothing before after t.0 t.1 t.2 t.3
+take_adds before after phase now took.NoMemory t = adds_nothing before after t.0 t.1 t.2 t.3.1
 
 -- ---- counted
 

@@ -85,4 +85,4 @@ module _ (x y : Kept) (h : IsStamped x) where
       with_more (Take phase now time ∷ map ran cs) (ap (λ (f : Frames). f.interval) t.3) (sym (ap (λ (f : Frames). f.entries) t.3)) (ran_stamped x.frames.interval cs)
       (subst (λ (n : ℕ). is_stamp x.frames.interval n ≡ true) (sym same) h.kept)
   stamped_take phase now (took.Elsewhere next) t same = unchanged t.2 same
-  stamped_take phase now took.NoMemory t same = unchanged t same
+  stamped_take phase now took.NoMemory t same = unchanged t.1 same

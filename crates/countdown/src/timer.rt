@@ -1,6 +1,6 @@
 //! The countdown.
 ghost use Rattle.std.specs.Prelude.{◌≡◌, ◌<◌, ◌++◌, ◌∷◌, [], List, ℕ};
-ghost use Rattle.countdown.specs.Given.{span_of, WasGiven};
+ghost use Rattle.countdown.specs.Given.{WasGiven};
 ghost use Rattle.countdown.specs.Ticking.{answer};
 
 use crate::span::Span;

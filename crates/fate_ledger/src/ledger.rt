@@ -1,6 +1,6 @@
 // A ledger that goes through a history once, from its last entry to its first.
 
-ghost use Rattle.std.specs.Prelude.{◌≡◌, ◌+◌, ◌<◌, ℕ, IfOk, OnOk, drop, reverse, length, slice_get};
+ghost use Rattle.std.specs.Prelude.{◌≡◌, ◌+◌, ◌<◌, IfOk, OnOk, drop, reverse, length, slice_get};
 ghost use Rattle.loop_model.specs.Fates.{fate_of};
 ghost use Rattle.loop_model.specs.Posts.{accepted_by};
 ghost use Rattle.fate_ledger.specs.Ledgers.{Follows, fates_from, posts_of};

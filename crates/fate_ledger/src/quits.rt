@@ -1,6 +1,6 @@
 // The safe quits that stand behind a place of a history.
 
-ghost use Rattle.std.specs.Prelude.{◌≡◌, ◌≤◌, [], cond, nat_lt, length, ℕ, OnOk};
+ghost use Rattle.std.specs.Prelude.{◌≡◌, [], OnOk};
 ghost use Rattle.fate_ledger.specs.Quits.{IsRising, IsBoundAt, first_quit, IsAddedBefore};
 
 use loop_model::NoMemory;

@@ -1,5 +1,5 @@
 -- How C sees what a call answers.
-use Rattle.std.specs.Prelude.{◌≡◌, ◌≢◌, ◌<◌, ◌/◌, ◌&&◌, ℕ, Bool, false, nat_lt, [], ◌∷◌, Option, Some, None, Result, Ok, Err, length, if◌then◌else◌, is_some}
+use Rattle.std.specs.Prelude.{◌≡◌, ◌≢◌, ◌<◌, ◌/◌, ◌&&◌, ℕ, Bool, true, false, nat_lt, [], ◌∷◌, Option, Some, None, Result, Ok, Err, length, if◌then◌else◌, is_some}
 use Rattle.std.specs.List.{list_any}
 use Rattle.loop_model.specs.declared.memory.NoMemory.{NoMemory}
 use Rattle.frame_phases.specs.State.{Frames, past, scheduled_at, next_callback, scheduling, posted, removed, delivered, BeginsBy, TakesBy}
@@ -175,14 +175,14 @@ shown_start start.NoMemory = answer_as no_memory_kind 0 0
 shown_start (start.Begins t) = shown_beginning t
 
 -- one step of a frame: the first callback that was taken is handed out, or else the next phase takes its own, or else no phase is left;
--- only a phase that takes its own may find no memory
+-- only the next phase of a frame in progress, which takes its own, may find no memory
 abbrev pub Steps : Contents → ℕ → Step → Contents → Type 0
 Steps a now (step.Run c time) b = (a.batch ≡ c ∷ b.batch) × (time ≡ a.time) × (b ≡ record a { batch = b.batch })
 Steps a now (step.Phase phase time count) b =
     (a.batch ≡ []) × TakesBy a.frames phase now (took.Batch time b.batch) b.frames × (b.time ≡ time) × (count ≡ length b.batch)
 Steps a now step.Ended b =
     (a.batch ≡ []) × ((phase : ℕ) → phase < a.frames.phases → next_phase a.frames.phases (past a.frames) ≢ Some phase) × (b ≡ a)
-Steps a now step.NoMemory b = (a.batch ≡ []) × (b ≡ a)
+Steps a now step.NoMemory b = (a.batch ≡ []) × (is_some (next_phase a.frames.phases (past a.frames)) ≡ true) × (b ≡ a)
 
 -- a try to take this phase: a step, or the phase that is to be taken instead, if any
 abbrev pub TakesPhase : Contents → ℕ → ℕ → Result Step (Option ℕ) → Contents → Type 0

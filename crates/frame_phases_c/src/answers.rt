@@ -1,5 +1,5 @@
 // Answers as C has them.
-ghost use Rattle.std.specs.Prelude.{◌≡◌, ℕ};
+ghost use Rattle.std.specs.Prelude.{◌≡◌};
 ghost use Rattle.frame_phases_c.specs.Shown.{answer_as, IsNotOpen, HasNotOpen, shown, shown_scheduling, shown_pulse, shown_schedule, shown_start, shown_beginning, shown_step, removed_kind, no_phase_kind, nothing_kind, closed_kind};
 
 use crate::callback::FrameCallback;

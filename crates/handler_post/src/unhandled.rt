@@ -1,5 +1,5 @@
 //! The calls by a way that name no handler: posts and filters as they are, barriers, and quits.
-ghost use Rattle.std.specs.Prelude.{◌≡◌, ◌≤◌, IfOk, OnErr};
+ghost use Rattle.std.specs.Prelude.{◌≤◌, IfOk, OnErr};
 ghost use Rattle.handler_post.specs.Ways.{IsReady, IsSameWay, MadeNone};
 ghost use Rattle.handler_post.specs.Sends.{Sends, Erases, Has, Idles};
 ghost use Rattle.handler_post.specs.Unhandled.{Bars, Unbars, Quits};

@@ -1,5 +1,4 @@
 //! What a form of a handler works on, and how it ends.
-ghost use Rattle.std.specs.Prelude.{◌≡◌};
 ghost use Rattle.handler_post.specs.Ways.{IsReady, IsSameWay};
 ghost use Rattle.handler_post.specs.Sends.{Sends, Erases};
 

@@ -1,6 +1,6 @@
 // What is measured: the calls of each mode.
 
-ghost use Rattle.std.specs.Prelude.{◌≡◌, ◌<◌, ◌^◌, IfOk};
+ghost use Rattle.std.specs.Prelude.{◌≡◌, ◌<◌};
 
 use crate::calls::{forget, message, new_queue, post, post_barrier, quit_safely, remove, take};
 use crate::handled::handled;

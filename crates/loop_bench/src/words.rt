@@ -1,6 +1,6 @@
 // The words of the program: a mode, a count, and `time` where times are wanted.
 
-ghost use Rattle.std.specs.Prelude.{◌≡◌, ◌≤◌, IfSome};
+ghost use Rattle.std.specs.Prelude.{◌≤◌, IfSome};
 
 /// What is measured.
 #[derive(Clone, Copy, PartialEq, Eq)]

@@ -1,7 +1,7 @@
 // What a loop is asked about.
-ghost use Rattle.std.specs.Prelude.{◌≡◌, ◌&&◌, ◌||◌, ◌==◌, nat_le, not};
+ghost use Rattle.std.specs.Prelude.{◌≡◌, ◌==◌, not};
 ghost use Rattle.loop_next_c.specs.Actions.{next_action, has_stopped, is_pulse_due, is_to_look, not_looked, owes_idle};
-ghost use Rattle.loop_next_c.specs.Waits.{until, wake, queue_wake, pulse_wake};
+ghost use Rattle.loop_next_c.specs.Waits.{until, queue_wake, pulse_wake};
 
 use crate::action::{EVENTS, FRAME, IDLE_TURN, LOOK, MESSAGE, STOP, VSYNC, WAIT, owes_idle};
 use crate::{NANOS_PER_MILLI, NEVER};

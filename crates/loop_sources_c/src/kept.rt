@@ -1,5 +1,5 @@
 // What a handle that is open keeps: idle handlers and watched descriptors.
-ghost use Rattle.std.specs.Prelude.{◌≡◌, if◌then◌else◌};
+ghost use Rattle.std.specs.Prelude.{◌≡◌};
 ghost use Rattle.loop_sources.specs.Descriptors.{next_event, without_event, mask_at};
 ghost use Rattle.loop_sources_c.specs.Contents.{just_opened};
 ghost use Rattle.loop_sources_c.specs.Shown.{Shows, Adds, Turns, RemovesIdle, HandsOut, TurnShown, Finishes, Watches, HandsIn, AnswersEvent, shown_event, shown_mask};

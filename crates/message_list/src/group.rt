@@ -1,8 +1,6 @@
 //! A group of marks.
 ghost use Rattle.std.specs.Prelude.{◌≡◌, ℕ, ◌+◌, ◌<◌, ◌≤◌, List, length, take, true, IfSome, MatchOption};
 ghost use denote.RawPtr.{Ptr};
-ghost use mathlib.Core.Option.{some};
-ghost use lib.ListN.{get_elem?};
 ghost use Rattle.message_list.specs.Marks.{gaps, LeadsTo, IsGroupAt, IsFound, Widens, Narrows, LeadsWith, IsCutInto};
 
 use crate::place::Place;

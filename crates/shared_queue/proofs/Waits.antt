@@ -9,19 +9,19 @@ use Rattle.shared_queue.specs.declared.waiting.Waited.TheVariants as waited
 use Rattle.shared_queue.specs.declared.waiting.Look.{Look}
 use Rattle.shared_queue.specs.declared.waiting.Look.TheVariants as look
 use Rattle.shared_queue.specs.Known.{Known, Shared, IsOf}
-use Rattle.shared_queue.specs.Waiting.{HasStayed, HasLooked, HasListened, HasSlept, Slept, EndsBy, Stays, LooksOnce}
+use Rattle.shared_queue.specs.Waiting.{HasStayed, HasLooked, HasListened, HasSlept, Slept, EndsBy, Stays, LooksOnce, MaySleep}
 
 module _ {H K : Type 0} (shows : ℕ → Bool) (start : ℕ) (idle : Bool) (cap : Option ℕ) where
   -- what follows a look that was answered to wait, by what comes of it
   pub look_stays : (now : ℕ) (until : Option ℕ) (before looked after : Known H K) (r : Look K H)
-      → HasLooked shows start idle now (nexted.Wait until) before looked → Stays cap now looked after r → LooksOnce shows start idle cap before after r
+      → HasLooked shows start idle now (nexted.Wait until) before looked → Stays cap now until looked after r → LooksOnce shows start idle cap before after r
   look_stays now until before looked after (look.Ends (waited.Cap at)) h s =
       subst (λ (n : ℕ). LooksOnce shows start idle cap before after (look.Ends (waited.Cap n))) (sym s.0)
       (until, subst (λ (p : Known H K). HasLooked shows start idle now (nexted.Wait until) before p) (sym s.2) h, s.1)
   look_stays now until before looked after (look.Ends waited.Nudged) h s =
       record { now = now; until = until; looked = looked; look = h; early = s.0; listened = s.1; heard = λ same. s.2 (same ∙ sym h.look.2.heard) }
   look_stays now until before looked after (look.Sleeps limit) h s =
-      record { now = now; until = until; looked = looked; look = h; early = s.0; listened = s.1; heard = s.2 ∙ h.look.2.heard }
+      (record { now = now; until = until; looked = looked; look = h; early = s.0; listened = s.1; heard = s.2 ∙ h.look.2.heard }, s.3)
   look_stays now until before looked after (look.Ends (waited.Taken n at node)) h s = absurd s
   look_stays now until before looked after (look.Ends waited.Idle) h s = absurd s
   look_stays now until before looked after (look.Ends (waited.End list)) h s = absurd s
@@ -87,3 +87,10 @@ module _ {H K : Type 0} (shows : ℕ → Bool) (start : ℕ) (idle : Bool) (cap 
 
   pub wait_stays : (p q r : Known H K) (w : Waited K H) → (n : ℕ) × Slept shows start idle cap n p q → EndsBy shows start idle cap q r w → HasStayed p r
   wait_stays p q r w h e = stayed p q r (slept_rests h.0 p q h.1) (ends_stayed q r w e)
+
+  -- a look that was answered to wait lets the poster sleep so long
+  pub may_sleep : (before from after : Known H K) (of limit : Option ℕ) → from ≡ before → of ≡ cap → LooksOnce shows start idle cap before after (look.Sleeps limit) → MaySleep from after of limit
+  may_sleep before from after of limit same is h =
+      let s = h.0 in
+      subst (λ (z : Known H K × Option ℕ). MaySleep z.0 after z.1 limit) (λ i. (sym same i, sym is i))
+      (record { now = s.now; until = s.until; idle = idle; looked = s.looked; look = s.look.look; listened = s.listened; sleeps = h.1 })

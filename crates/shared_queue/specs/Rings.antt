@@ -1,5 +1,5 @@
 -- Which answers wake the looper, so that a ring of the bell is owed for them.
-use Rattle.std.specs.Prelude.{◌≡◌, ◌<◌, Bool, true, false, Some}
+use Rattle.std.specs.Prelude.{◌≡◌, Bool, true, false, Some}
 use Rattle.queue_state.specs.declared.answers.Posted.{Posted}
 use Rattle.queue_state.specs.declared.answers.Posted.TheVariants as posted
 use Rattle.queue_state.specs.declared.answers.BarrierGone.{BarrierGone}
@@ -8,7 +8,6 @@ use Rattle.queue_state.specs.declared.answers.Quitting.{Quitting}
 use Rattle.queue_state.specs.declared.answers.Quitting.TheVariants as quitting
 use Rattle.queue_state.specs.Queue.{Queue}
 use Rattle.shared_queue.specs.declared.desk.Desk.{Desk}
-use Rattle.shared_queue.specs.Known.{Known}
 
 module _ {H K : Type 0} where
   -- an accepted post wakes where it says so
@@ -29,10 +28,6 @@ module _ {H K : Type 0} where
   wakes_by_quit (quitting.AlreadyQuit place) = false
   wakes_by_quit quitting.NotAllowed = false
   wakes_by_quit quitting.NoMemory = false
-
-  -- the poster had a turn since
-  abbrev pub HasLookedSince : Known H K → Known H K → Type 0
-  HasLookedSince before after = before.view.turns < after.view.turns
 
   -- where the looper is woken now, it was before
   abbrev pub WakesNone : Queue H K → Queue H K → Type 0

@@ -1,5 +1,6 @@
 -- What a wait for a message does: looks that are answered to wait, and then the last one.
-use Rattle.std.specs.Prelude.{◌≡◌, ◌≢◌, ℕ, zero, suc, ◌+◌, ◌≤◌, ◌<◌, Bool, List, Option, Some, slice_get, All}
+use Rattle.std.specs.Prelude.{◌≡◌, ◌≢◌, ℕ, zero, suc, ◌+◌, ◌-◌, ◌≤◌, ◌<◌, min, Bool, List, Option, None, Some, slice_get, All}
+use Rattle.std.specs.Option.{option_map}
 use mathlib.Core.List.{IsPrefix}
 use Rattle.loop_io.specs.Moments.{IsMoment}
 use Rattle.message_slot.specs.Letter.{IsAtHome}
@@ -20,6 +21,16 @@ IsCap cap now = (at : ℕ) × (cap ≡ Some at) × (at ≤ now)
 -- the moment is earlier than the cap, or there is none
 abbrev pub IsBeforeCap : Option ℕ → ℕ → Type 0
 IsBeforeCap cap now = IsCap cap now → ⊥
+
+-- the earlier of two moments, where there is one
+abbrev pub earlier_of : Option ℕ → Option ℕ → Option ℕ
+earlier_of None cap = cap
+earlier_of (Some until) None = Some until
+earlier_of (Some until) (Some cap) = Some (min until cap)
+
+-- how long it is from the moment to the earlier of these two, where there is one
+abbrev pub limit_of : ℕ → Option ℕ → Option ℕ → Option ℕ
+limit_of now until cap = option_map (λ at. at - now) (earlier_of until cap)
 
 module _ {H K : Type 0} where
   -- the same poster of the same queue, which took turns and rang no bell
@@ -55,6 +66,16 @@ module _ {H K : Type 0} where
     pub listened : HasListened looked after
     pub heard : after.view.heard ≡ before.view.heard
 
+  -- a look since was answered to wait until this moment, the bell was read behind it, and the sleep ends no later than that moment and the cap
+  pub record MaySleep (before after : Known H K) (cap limit : Option ℕ) : Type 0 where
+    pub now : ℕ
+    pub until : Option ℕ
+    pub idle : Bool
+    pub looked : Known H K
+    pub look : NextedBy before looked now idle (nexted.Wait until)
+    pub listened : HasListened looked after
+    pub sleeps : limit ≡ limit_of now until cap
+
   -- so many looks, one after another
   abbrev pub Slept : (ℕ → Bool) → ℕ → Bool → Option ℕ → ℕ → Known H K → Known H K → Type 0
   Slept shows start idle cap zero before after = after ≡ before
@@ -89,14 +110,16 @@ module _ {H K : Type 0} where
   -- one look, and what comes of it
   abbrev pub LooksOnce : (ℕ → Bool) → ℕ → Bool → Option ℕ → Known H K → Known H K → Look K H → Type 0
   LooksOnce shows start idle cap before after (look.Ends result) = EndsBy shows start idle cap before after result
-  LooksOnce shows start idle cap before after (look.Sleeps limit) = HasSlept shows start idle cap before after
+  LooksOnce shows start idle cap before after (look.Sleeps limit) =
+      (s : HasSlept shows start idle cap before after) × (limit ≡ limit_of s.now s.until cap)
 
   -- what comes after a look that was answered to wait
-  abbrev pub Stays : Option ℕ → ℕ → Known H K → Known H K → Look K H → Type 0
-  Stays cap now before after (look.Ends (waited.Cap at)) = (at ≡ now) × IsCap cap now × (after ≡ before)
-  Stays cap now before after (look.Ends waited.Nudged) = IsBeforeCap cap now × HasListened before after × (after.view.heard ≢ before.view.heard)
-  Stays cap now before after (look.Sleeps limit) = IsBeforeCap cap now × HasListened before after × (after.view.heard ≡ before.view.heard)
-  Stays cap now before after _ = ⊥
+  abbrev pub Stays : Option ℕ → ℕ → Option ℕ → Known H K → Known H K → Look K H → Type 0
+  Stays cap now until before after (look.Ends (waited.Cap at)) = (at ≡ now) × IsCap cap now × (after ≡ before)
+  Stays cap now until before after (look.Ends waited.Nudged) = IsBeforeCap cap now × HasListened before after × (after.view.heard ≢ before.view.heard)
+  Stays cap now until before after (look.Sleeps limit) =
+      IsBeforeCap cap now × HasListened before after × (after.view.heard ≡ before.view.heard) × (limit ≡ limit_of now until cap)
+  Stays cap now until before after _ = ⊥
 
   -- what is handed out is of the home
   abbrev pub WaitsAtHome : (K → H) → H → Waited K H → Type 0

@@ -1,6 +1,6 @@
 // What a poster has, and the two ends of a turn.
 ghost use Rattle.std.specs.Prelude.{◌≡◌, ◌+◌, false, length, Some};
-ghost use Rattle.queue_state.specs.Queue.{Queue, IsSound};
+ghost use Rattle.queue_state.specs.Queue.{IsSound};
 ghost use Rattle.shared_queue.specs.Desk.{IsIdle, Began, MayEnd, Ended, MayHandOver, HandedOver};
 ghost use Rattle.shared_queue.specs.Rings.{IsQuiet};
 

@@ -1,7 +1,6 @@
 // The table of a queue, and the two steps of a turn.
-ghost use Rattle.std.specs.Prelude.{◌≡◌, ◌<◌, true, false, [], ◌∷◌, length, Option, Some, None, MatchOption};
-ghost use Rattle.queue_state.specs.Queue.{Queue};
-ghost use Rattle.shared_queue.specs.Constants.{Constants, IsFor, last_of, setting_of};
+ghost use Rattle.std.specs.Prelude.{◌≡◌, ◌<◌, true, [], ◌∷◌, length, Option, Some, None, MatchOption};
+ghost use Rattle.shared_queue.specs.Constants.{IsFor, last_of, setting_of};
 ghost use Rattle.shared_queue.specs.Turn.{holds, giving, handing};
 ghost use Rattle.shared_queue.specs.Plays.{MayGive, MayHand};
 ghost use Rattle.shared_queue.specs.Known.{Shared, Rests};

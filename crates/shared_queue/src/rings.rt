@@ -1,6 +1,6 @@
 // The rings that a waiting looper hears.
 ghost use Rattle.std.specs.Prelude.{◌≡◌};
-ghost use Rattle.shared_queue.specs.Rings.{HasLookedSince};
+ghost use Rattle.shared_queue.specs.Waiting.{MaySleep};
 
 use crate::owing::Owing;
 use crate::poster::Poster;
@@ -23,10 +23,11 @@ pub(crate) struct Rung {
     count: u64,
 }
 
-/// The number of rings, read when the poster was so. Only `heard` makes one.
+/// The number of rings, read when the poster was so, for a wait with this cap. Only `heard` makes one.
 #[derive(Drop)]
 pub(crate) struct Heard<K: Claim, E: Recorder> {
     count: u64,
+    pub(crate) cap: Option<u64>,
     pub(crate) poster: Snapshot<Poster<K, E>>,
 }
 
@@ -53,17 +54,20 @@ impl Rings {
         &self,
         rt: &R,
         poster: &Poster<K, E>,
+        cap: Option<u64>,
     ) -> Heard<K, E>
-        ensures { result.poster.value ≡ poster.now }
+        ensures poster { result.poster.value ≡ poster.now }
+        ensures cap { result.cap ≡ cap }
     {
         Heard {
             count: *self.count.lock(rt),
+            cap,
             poster: Snapshot::of(poster),
         }
     }
 
-    // Waits for a ring after those that were heard before the poster's last look, at most so many milliseconds or without limit.
-    // It may end for no reason.
+    // Waits for a ring after those that were heard before the poster's last look, at most so many milliseconds or without limit:
+    // until what that look waits for is due, or the cap, whichever comes first. It may end for no reason.
     pub(crate) fn wait<R: Wait + Clock, K: Claim, E: Recorder>(
         &self,
         rt: &R,
@@ -71,7 +75,7 @@ impl Rings {
         heard: Heard<K, E>,
         limit: Option<u64>,
     )
-        requires { HasLookedSince heard.poster.value poster.now }
+        requires { MaySleep heard.poster.value poster.now heard.cap limit }
     {
         let count = self.count.lock(rt);
         if *count != heard.count {

@@ -1,7 +1,7 @@
 // How the looper's poster waits for a message by a clock.
 ghost use Rattle.std.specs.Prelude.{◌≡◌, true, false};
 ghost use Rattle.shared_queue.specs.Known.{IsOf};
-ghost use Rattle.shared_queue.specs.Waiting.{IsBeforeCap, IsCap, HasStayed, Stays, LooksOnce, LooksOnceAtHome, LooksOnceAsAccepted, WaitedBy, WaitsAtHome, WaitsAsAccepted};
+ghost use Rattle.shared_queue.specs.Waiting.{IsBeforeCap, IsCap, limit_of, HasStayed, Stays, LooksOnce, LooksOnceAtHome, LooksOnceAsAccepted, WaitedBy, WaitsAtHome, WaitsAsAccepted};
 
 use crate::poster::Poster;
 use crate::queue::SharedQueue;
@@ -55,14 +55,15 @@ fn has_come(cap: Option<u64>, now: u64) -> bool
 }
 
 // How long it is until the earlier of the two.
-fn until_earlier(now: u64, until: Option<u64>, cap: Option<u64>) -> Option<u64> {
-    let end = match (until, cap) {
-        (Some(until), Some(cap)) => until.min(cap),
-        (Some(until), None) => until,
-        (None, Some(cap)) => cap,
-        (None, None) => return None,
-    };
-    Some(end.saturating_sub(now))
+fn until_earlier(now: u64, until: Option<u64>, cap: Option<u64>) -> Option<u64>
+    ensures { result ≡ limit_of now until cap }
+{
+    match (until, cap) {
+        (Some(until), Some(cap)) => Some(until.min(cap).saturating_sub(now)),
+        (Some(until), None) => Some(until.saturating_sub(now)),
+        (None, Some(cap)) => Some(cap.saturating_sub(now)),
+        (None, None) => None,
+    }
 }
 
 impl<K: Claim, E: Recorder> Poster<K, E> {
@@ -88,7 +89,7 @@ impl<K: Claim, E: Recorder> Poster<K, E> {
         ensures claims { WaitsAsAccepted self.new.view.claims result }
     {
         for _ in rt.forever() {
-            let heard = queue.rings.heard(rt, &*self);
+            let heard = queue.rings.heard(rt, &*self, cap);
             match self.look(rt, queue, clock, start, idle_owed, cap) {
                 Look::Ends(waited) => return waited,
                 Look::Sleeps { limit } => queue.rings.wait(rt, &*self, heard, limit),
@@ -132,7 +133,7 @@ impl<K: Claim, E: Recorder> Poster<K, E> {
         cap: Option<u64>,
     ) -> Look<K>
         requires queue { IsOf self.old queue.now }
-        ensures { Stays cap now self.old self.new result }
+        ensures { Stays cap now until self.old self.new result }
     {
         if has_come(cap, now) {
             return Look::Ends(Waited::Cap { now });
