@@ -1,5 +1,5 @@
 -- What a look was answered, and what a looper may do with it.
-use Rattle.std.proofs.Common.{◌≡◌, ℕ, List, Option, subst}
+use Rattle.std.proofs.Common.{◌≡◌, ℕ, List, Option, Some, slice_get, subst}
 use Rattle.atomic_table.specs.Seated.{TableId}
 use Rattle.message_slot.specs.Letter.{number_in}
 use Rattle.message_pool.specs.Passes.{Node, Claimed}
@@ -7,6 +7,7 @@ use Rattle.loop_model.specs.declared.journal.Act.{Act}
 use Rattle.queue_state.specs.declared.answers.Nexted.{Nexted}
 use Rattle.queue_state.specs.declared.answers.Nexted.TheVariants as nexted
 use Rattle.shared_queue.specs.Calls.{NextedBy}
+use Rattle.shared_queue.proofs.TurnCalls.{look_claims}
 use Rattle.looper_run.specs.Holding.{Looping}
 use Rattle.looper_run.specs.Acts.{IsIdle, GrowsBy}
 use Rattle.looper_run.specs.Tests.{Test, Passes, HasTaken}
@@ -24,6 +25,10 @@ module _ (M : Test) (l : Looping) (answer : Nexted Claimed TableId) (h : HasAnsw
 
   pub answer_number : (number moment : ℕ) (node : Node) → answer ≡ nexted.Taken number moment node → number ≡ number_in node.item
   answer_number number moment node is = number_by_look h.now h.poster l.held.poster l.idle_owed h.queue h.of number moment node (look_is (nexted.Taken number moment node) is)
+
+  -- the looper's poster saw the message's claim accepted with this number
+  pub answer_claim : (number moment : ℕ) (node : Node) → answer ≡ nexted.Taken number moment node → slice_get l.held.poster.view.claims number ≡ Some node.claim
+  answer_claim number moment node is = look_claims h.poster l.held.poster h.now l.idle_owed (nexted.Taken number moment node) (look_is (nexted.Taken number moment node) is)
 
   pub answer_idle : KeepsOthers M → KeepsQuiet M → (acts : List Act) → answer ≡ nexted.Idle → GrowsBy IsIdle l.held.journal.acts acts → M l.held.poster.sender l.held.poster.view.seen acts
   answer_idle others quiet acts is ran = passes_idle M others h.now (looked_by l.held h.poster) l.held.poster l.idle_owed quiet acts (look_is nexted.Idle is) ran h.passes

@@ -1,5 +1,5 @@
 -- What a dispatcher's calls ask for and leave.
-use Rattle.std.specs.Prelude.{◌≡◌, ℕ, ◌+◌, ◌%◌, ◌^◌, ◌≤◌, List, [], ◌∷◌, ◌++◌, All, Some}
+use Rattle.std.specs.Prelude.{◌≡◌, ℕ, ◌+◌, ◌%◌, ◌^◌, ◌≤◌, List, [], ◌∷◌, ◌++◌, All, Option, Some, slice_get}
 use Rattle.loop_model.specs.declared.journal.Act.{Act}
 use Rattle.loop_model.specs.declared.journal.Act.TheVariants.{Dispatch}
 use Rattle.loop_model.specs.declared.journal.Route.{Route}
@@ -8,7 +8,7 @@ use Rattle.loop_model.specs.declared.reply.Reply.TheVariants.{Dispatched}
 use Rattle.loop_model.specs.declared.entry.Entry.{Entry}
 use Rattle.loop_model.specs.Posts.{post_at}
 use Rattle.message_slot.specs.Letter.{post_of, number_in}
-use Rattle.message_pool.specs.Passes.{Node}
+use Rattle.message_pool.specs.Passes.{Claimed, Node}
 use Rattle.looper_run.specs.declared.dispatcher.Did.{Did}
 use Rattle.looper_run.specs.declared.dispatcher.Did.TheVariants.{Yes, No, NoMemory}
 use Rattle.looper_run.specs.Holding.{Sender, Holding}
@@ -76,6 +76,7 @@ Unless NoMemory P = Unit {0}
 -- nothing was seen, no turn was taken, and no act was appended
 pub record IsUntouched (before after : Holding) : Type 0 where
   pub seen : after.poster.view.seen ≡ before.poster.view.seen
+  pub claims : after.poster.view.claims ≡ before.poster.view.claims
   pub turns : after.poster.view.turns ≡ before.poster.view.turns
   pub acts : after.journal.acts ≡ before.journal.acts
 
@@ -88,3 +89,11 @@ abbrev pub Intercepts : Did → Type 0 → Type 0 → Type 0
 Intercepts Yes P Q = P
 Intercepts No P Q = Q
 Intercepts NoMemory P Q = Unit {0}
+
+-- this holds of the claim that the looper's poster saw accepted with the message's number
+abbrev pub SawClaim : (Option Claimed → Type 0) → Sender → Node → Type 0
+SawClaim P poster m = (claim : Option Claimed) × (slice_get poster.view.claims (number_in m.item) ≡ Some claim) × P claim
+
+-- what held of a claim still does where the message is to be handled
+abbrev pub KeepsClaim : Did → (Option Claimed → Type 0) → (Option Claimed → Type 0) → Type 0
+KeepsClaim did P Q = did ≡ No → (claim : Option Claimed) → P claim → Q claim

@@ -1,11 +1,11 @@
 //! One message: its route, its act and its way home.
-ghost use Rattle.std.specs.Prelude.{◌≡◌, ◌<◌, ◌^◌, ◌++◌, [], ◌∷◌, length, OnOk, OnErr, IfSome, Some, None};
+ghost use Rattle.std.specs.Prelude.{◌≡◌, ◌<◌, ◌^◌, ◌++◌, [], ◌∷◌, length, slice_get, OnOk, OnErr, IfSome, Some, None};
 ghost use Rattle.message_slot.specs.Letter.{number_in};
 ghost use Rattle.message_slot.specs.Fields.{callback_of};
 ghost use Rattle.message_pool.specs.Obtain.{IsNodeOf};
 ghost use Rattle.message_pool.specs.Values.{without_value};
 ghost use Rattle.looper_run.specs.Holding.{Workplace, workplace, held, IsSameOwn};
-ghost use Rattle.looper_run.specs.Tests.{Passes, PassesWith, IsSameLooper, IsLent, Rings, HasTaken};
+ghost use Rattle.looper_run.specs.Tests.{Passes, PassesWith, IsSameLooper, IsLent, Rings, HasTaken, SawClaim};
 ghost use Rattle.looper_run.specs.Told.{IsRouteOf, IsTold, Dispatches, GivesBack};
 
 use crate::dispatcher::{Did, Dispatcher};
@@ -36,6 +36,7 @@ fn offer<D: Dispatcher>(
     requires taken { HasTaken (D.Meets d.old) (held own.old) m.now now }
     requires callback { callback_of m.now.item ≡ None }
     requires awaits { D.Awaits d.old (Some (number_in m.now.item)) }
+    requires took { SawClaim (D.Took d.old) own.old.poster.now m.now }
     ensures serves { (w : Workplace) → D.Serves d.old w → D.Serves d.new w }
     ensures origin { D.origin d.new ≡ D.origin d.old }
     ensures own { IsSameOwn own.old own.new }
@@ -66,6 +67,7 @@ fn route<D: Dispatcher>(
     requires serves { D.Serves d.old (workplace (held own.old)) }
     requires taken { HasTaken (D.Meets d.old) (held own.old) m.now now }
     requires awaits { D.Awaits d.old (Some (number_in m.now.item)) }
+    requires took { SawClaim (D.Took d.old) own.old.poster.now m.now }
     ensures serves { (w : Workplace) → D.Serves d.old w → D.Serves d.new w }
     ensures origin { D.origin d.new ≡ D.origin d.old }
     ensures own { IsSameOwn own.old own.new }
@@ -96,6 +98,7 @@ fn dispatch_one<D: Dispatcher>(
     requires serves { D.Serves d.old (workplace (held own.old)) }
     requires taken { HasTaken (D.Meets d.old) (held own.old) m.old now }
     requires number { number ≡ number_in m.old.item }
+    requires claim { slice_get own.old.poster.now.view.claims number ≡ Some m.old.claim }
     requires awaits { D.Awaits d.old None }
     ensures serves { (w : Workplace) → D.Serves d.old w → D.Serves d.new w }
     ensures origin { D.origin d.new ≡ D.origin d.old }
@@ -128,6 +131,7 @@ pub(crate) fn dispatch<D: Dispatcher>(
     requires serves { D.Serves d.old (workplace (held own.old)) }
     requires taken { HasTaken (D.Meets d.old) (held own.old) node now }
     requires number { number ≡ number_in node.item }
+    requires claim { slice_get own.old.poster.now.view.claims number ≡ Some node.claim }
     requires awaits { D.Awaits d.old None }
     requires pool { own.old.pass.now.home ≡ pool.now }
     requires node { IsNodeOf pool.now node }

@@ -7,12 +7,13 @@ ghost use Rattle.loop_model.specs.declared.reply.Reply.TheVariants.{Disposed};
 ghost use Rattle.loop_model.specs.declared.entry.Entry.{Entry};
 ghost use Rattle.message_slot.specs.Letter.{number_in};
 ghost use Rattle.message_slot.specs.Fields.{callback_of};
+ghost use Rattle.message_pool.specs.Passes.{Claimed};
 ghost use Rattle.message_pool.specs.Values.{without_value};
 ghost use Rattle.looper_run.specs.Holding.{Workplace, workplace, held, IsSameOwn};
 ghost use Rattle.looper_run.specs.Acts.{IsQuiet};
 ghost use Rattle.looper_run.specs.Asked.{Asked, Pulse, Listen, with_asked};
 ghost use Rattle.looper_run.specs.Carried.{Carries};
-ghost use Rattle.looper_run.specs.Tests.{Passes, PassesWith, IsLent, Rings, HasTaken, Unless, Intercepts, LeavesTaken};
+ghost use Rattle.looper_run.specs.Tests.{Passes, PassesWith, IsLent, Rings, HasTaken, Unless, Intercepts, LeavesTaken, SawClaim, KeepsClaim};
 
 use crate::own::Own;
 use message_pool::{Payload, PoolClaim};
@@ -62,6 +63,10 @@ pub trait Dispatcher {
     /// What it awaits: the dispatch of the message of this number, which `before` was called with, or none.
     ghost Awaits: { Self → Option ℕ → Type 0 };
 
+    /// What it holds of the message that `before` was lent, by the claim that this had. By default that is nothing. The calls that route the
+    /// message are told that this is the claim which the looper's poster saw accepted with the message's number.
+    ghost Took: { Self → Option Claimed → Type 0 } = { λ d claim. Unit {0} };
+
     /// Called with the number of each message, counted from 0, before it is dispatched. It is lent the message: a value that this carries
     /// it takes out here, by `take_value` of message_pool, or leaves it to be dropped with the message. All else of it stays.
     fn before(&mut self, number: u64, m: &mut Message<PoolClaim<Self::Value>>)
@@ -69,6 +74,7 @@ pub trait Dispatcher {
         requires awaits { Awaits self.old None }
         ensures rest { without_value m.new ≡ without_value m.old }
         ensures awaits { Awaits self.new (Some number) }
+        ensures took { Took self.new m.old.claim }
         ensures serves { (w : Workplace) → Serves self.old w → Serves self.new w }
         ensures origin { origin self.new ≡ origin self.old }
         ensures meets { (s : ℕ) (es : List Entry) (acts : List Act) → Meets self.old s es acts → Meets self.new s es acts }
@@ -118,6 +124,7 @@ pub trait Dispatcher {
         requires taken { HasTaken (Meets self.old) (held own.old) m.now now }
         requires callback { callback_of m.now.item ≡ Some id }
         requires awaits { Awaits self.old (Some (number_in m.now.item)) }
+        requires took { SawClaim (Took self.old) own.old.poster.now m.now }
         ensures awaits { Unless result (Awaits self.new None) }
         ensures serves { (w : Workplace) → Serves self.old w → Serves self.new w }
         ensures origin { origin self.new ≡ origin self.old }
@@ -138,7 +145,9 @@ pub trait Dispatcher {
         requires taken { HasTaken (Meets self.old) (held own.old) m.now now }
         requires callback { callback_of m.now.item ≡ None }
         requires awaits { Awaits self.old (Some (number_in m.now.item)) }
+        requires took { SawClaim (Took self.old) own.old.poster.now m.now }
         ensures awaits { Intercepts result (Awaits self.new None) (Awaits self.new (Some (number_in m.now.item))) }
+        ensures took { KeepsClaim result (Took self.old) (Took self.new) }
         ensures serves { (w : Workplace) → Serves self.old w → Serves self.new w }
         ensures origin { origin self.new ≡ origin self.old }
         ensures own { IsSameOwn own.old own.new }
@@ -159,6 +168,7 @@ pub trait Dispatcher {
         requires taken { HasTaken (Meets self.old) (held own.old) m.now now }
         requires callback { callback_of m.now.item ≡ None }
         requires awaits { Awaits self.old (Some (number_in m.now.item)) }
+        requires took { SawClaim (Took self.old) own.old.poster.now m.now }
         ensures awaits { Unless result (Awaits self.new None) }
         ensures serves { (w : Workplace) → Serves self.old w → Serves self.new w }
         ensures origin { origin self.new ≡ origin self.old }

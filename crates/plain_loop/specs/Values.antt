@@ -1,23 +1,22 @@
 -- What a removal or a quit takes out with its values, and how these are handed out.
-use Rattle.std.specs.Prelude.{◌≡◌, ℕ, Bool, List, [], ◌∷◌, ◌++◌, All, Option, Some, None, length}
+use Rattle.std.specs.Prelude.{◌≡◌, ℕ, Bool, List, [], ◌∷◌, ◌++◌, All, Option, Some, None, length, slice_get}
 use Rattle.std.specs.Option.{option_to_list}
 use Rattle.atomic_table.specs.Seated.{TableId}
 use mathlib.Core.List.{IsPrefix}
 use Rattle.loop_model.specs.declared.post.Filter.{Filter}
-use Rattle.loop_model.specs.declared.post.Post.{Post}
 use Rattle.message_pool.specs.Passes.{Claimed, Node, Tally}
 use Rattle.message_pool.specs.Obtain.{IsNodeOf}
-use Rattle.message_pool.specs.Values.{content_in}
+use Rattle.message_pool.specs.Values.{content_of, content_in}
 use Rattle.queue_state.specs.declared.answers.Taking.TheVariants as taking
 use Rattle.queue_state.specs.declared.answers.Quitting.TheVariants as quitting
-use Rattle.queue_state.specs.declared.answers.Nexted.TheVariants as nexted
-use Rattle.shared_queue.specs.Calls.{RemovedBy, QuitBy, NextedBy}
+use Rattle.shared_queue.specs.Calls.{RemovedBy, QuitBy}
 use Rattle.shared_queue.specs.Claims.{IsAsAccepted}
 use Rattle.handler_post.specs.declared.unhandled.Quit.{Quit}
 use Rattle.handler_post.specs.declared.unhandled.Quit.TheVariants.{Done, AlreadyQuit, NotAllowed, NoMemory}
 use Rattle.handler_post.specs.Supply.{BringsBack}
-use Rattle.handler_post.specs.declared.values.SentWith.TheVariants.{Accepted}
-use Rattle.handler_post.specs.Values.{SendingWith}
+use Rattle.handler_post.specs.declared.values.SentWith.{SentWith}
+use Rattle.handler_post.specs.declared.values.SentWith.TheVariants as sent
+use Rattle.handler_post.specs.declared.values.SentWith.TheVariants.{Accepted, Refused, Full}
 use Rattle.handler_post.specs.Ways.{Sender, MadeNone}
 use Rattle.handler_post.specs.declared.way.Way.{Way}
 use Rattle.plain_loop.specs.declared.values.Values.{Values}
@@ -64,11 +63,22 @@ QuittingWith safe now p q NoMemory v = QuitBy p q safe now quitting.NoMemory × 
 abbrev pub QuitsWith : {E P : Type 0} → Bool → ℕ → Way E P → Way E P → Quit → Values P → Type 0
 QuitsWith safe now before after quit v = QuittingWith safe now before.poster.now after.poster.now quit v × (after.pass.now ≡ before.pass.now)
 
--- a message that a looper takes out as number n carries the value that was sent and accepted as number n, where sender and looper have each seen a beginning of
--- the same claims, as they have once one of them has heard of the other
+-- this is the value that was accepted with this number, among the claims that this sender has seen: of the two the same is seen; None where
+-- the message carried none
+abbrev pub IsValueOf : {P : Type 0} → (P → List ℕ) → Sender → ℕ → Option P → Type 0
+IsValueOf content p number value = (claim : Option Claimed) × (slice_get p.view.claims number ≡ Some claim) × (content_of content value ≡ content_in claim)
+
+-- this holds of the number with which a sending was accepted
+abbrev pub IfAccepted : {P : Type 0} → SentWith P → (ℕ → Type 0) → Type 0
+IfAccepted (Accepted number wake) Q = Q number
+IfAccepted (Refused place back) Q = Unit {0}
+IfAccepted (Full back) Q = Unit {0}
+IfAccepted (sent.NoMemory back) Q = Unit {0}
+
+-- a value that one sender knows by a number is the value that another knows by it, where each has seen a beginning of the same claims, as
+-- they have once one of them has heard of the other
 abbrev pub ValueIsSent : {P : Type 0} → (P → List ℕ) → Type 0
 ValueIsSent {P} content =
-    (home : TableId) (p : Post) (value : P) (sender sent looker looked : Sender) (pass pass' : Tally) (taken : Node)
-    → (number now at : ℕ) (wake idle : Bool) (claims : List (Option Claimed))
-    → SendingWith content home p value sender sent pass pass' (Accepted number wake) → NextedBy looker looked now idle (nexted.Taken number at taken)
-    → IsPrefix sent.view.claims claims → IsPrefix looked.view.claims claims → content_in taken.claim ≡ Some (content value)
+    (p q : Sender) (number : ℕ) (sent given : Option P) (claims : List (Option Claimed))
+    → IsValueOf content p number sent → IsValueOf content q number given
+    → IsPrefix p.view.claims claims → IsPrefix q.view.claims claims → content_of content given ≡ content_of content sent

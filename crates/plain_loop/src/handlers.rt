@@ -1,8 +1,9 @@
 //! A dispatcher over handlers that state nothing.
-ghost use Rattle.std.specs.Prelude.{◌≡◌, ◌≤◌, IfSome, IsTrue, true, None, OnOk};
+ghost use Rattle.std.specs.Prelude.{◌≡◌, ◌≤◌, ℕ, IfSome, IsTrue, true, None, OnOk};
+ghost use Rattle.message_slot.specs.Letter.{number_in, post_of};
 ghost use Rattle.handler_post.specs.Ways.{IsReady};
 ghost use Rattle.plain_loop.specs.Lines.{Keeps, way_of};
-ghost use Rattle.plain_loop.specs.Handling.{IsPlaceOf, did_of};
+ghost use Rattle.plain_loop.specs.Handling.{IsPlaceOf, HasJustTaken, HasJustTakenCallback, did_of};
 
 use crate::lines::Line;
 use crate::mailbox::Mailbox;
@@ -27,10 +28,11 @@ pub trait Handle<R: Wait, C: Clock, E: Recorder> {
     /// A fact of the handlers' own, which each call keeps unless memory was wanting. By default there is none.
     ghost Holds: { Self → Type 0 } = { λ h. Unit {0} };
 
-    /// Handles a message without a callback, which was due at `now` or before, in milliseconds. Which handler it was sent to is its
-    /// `handler`. This one does nothing.
+    /// Handles a message without a callback, which the looper just took, and which was due at `now` or before, in milliseconds. Which
+    /// handler it was sent to is its `handler`. This one does nothing.
     fn handle(&mut self, line: &mut Line<R, C, E>, message: &Msg, now: u64) -> Handled
         requires line { IsReady (way_of line.old) }
+        requires taken { HasJustTaken line.old.poster.now (number_in message.now.item) (post_of message.now.item) now }
         requires holds { Holds self.old }
         ensures keeps { Keeps (way_of line.old) (way_of line.new) }
         ensures holds { OnOk result (Holds self.new) }
@@ -41,6 +43,7 @@ pub trait Handle<R: Wait, C: Clock, E: Recorder> {
     /// Runs the callback of this number, which was posted in a message's place (`Runnable.run`). This one does nothing.
     fn run_callback(&mut self, line: &mut Line<R, C, E>, id: u64, now: u64) -> Handled
         requires line { IsReady (way_of line.old) }
+        requires taken { (number : ℕ) × HasJustTakenCallback line.old.poster.now number id now }
         requires holds { Holds self.old }
         ensures keeps { Keeps (way_of line.old) (way_of line.new) }
         ensures holds { OnOk result (Holds self.new) }

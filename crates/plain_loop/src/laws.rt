@@ -3,8 +3,8 @@ ghost use Rattle.plain_loop.specs.Values.{ValueIsSent};
 
 use message_pool::Payload;
 
-/// A message that a looper takes out with a number carries the value that a line sent with that number, whichever sender it was: what is
-/// seen of the two values is the same (this project's profile).
+/// A value that is known by a number is the one that was sent with that number, whichever senders know of it: what is seen of the two values
+/// is the same. A line knows so of a value that it sent, and a handler of the value that it is lent (`IsValueOf`; this project's profile).
 pub fn value_is_sent<P: Payload>()
     ensures { ValueIsSent P.content }
 {}

@@ -2,8 +2,9 @@
 ghost use Rattle.std.specs.Prelude.{◌≡◌, ◌≤◌, IfSome, IsTrue, true, None, OnOk};
 ghost use Rattle.handler_post.specs.Ways.{IsReady};
 ghost use Rattle.message_pool.specs.Values.{content_in, content_of, without_value};
-ghost use Rattle.plain_loop.specs.Handling.{IsPlaceOf};
+ghost use Rattle.plain_loop.specs.Handling.{IsPlaceOf, HasJustTaken, HasJustTakenCallback};
 ghost use Rattle.plain_loop.specs.Lines.{Keeps, way_of};
+ghost use Rattle.plain_loop.specs.Values.{IsValueOf};
 
 use crate::handlers::{Handled, Msg, did};
 use crate::lines::Line;
@@ -31,16 +32,20 @@ pub trait HandleValues<R: Wait, C: Clock> {
         ensures value { content_of Self.Value.content result ≡ content_in message.old.claim }
         ensures rest { without_value message.new ≡ without_value message.old };
 
-    /// Handles a message without a callback, which was due at `now` or before, in milliseconds, and was posted with these fields. It takes
-    /// the value that the message carried by `value.take()`; what it leaves is dropped. This one does nothing.
+    /// Handles the message of this number, as its sending answered it. It has no callback, was due at `now` or before, in milliseconds, and
+    /// was posted with these fields. The value is the one that was sent with it; `value.take()` takes it, and what is left is dropped. This
+    /// one does nothing.
     fn handle(
         &mut self,
         line: &mut Line<R, C, Unkept, Self::Value>,
+        number: u64,
         post: &Post,
         value: &mut Option<Self::Value>,
         now: u64,
     ) -> Handled
         requires line { IsReady (way_of line.old) }
+        requires taken { HasJustTaken line.old.poster.now number post.now now }
+        requires value { IsValueOf Self.Value.content line.old.poster.now number value.old }
         requires holds { Holds self.old }
         ensures keeps { Keeps (way_of line.old) (way_of line.new) }
         ensures holds { OnOk result (Holds self.new) }
@@ -48,16 +53,19 @@ pub trait HandleValues<R: Wait, C: Clock> {
         Ok(())
     }
 
-    /// Runs the callback of this number, which was posted in a message's place, with the value that went along (`Runnable.run`). This
-    /// one does nothing.
+    /// Runs the callback `id` of the message of this number, which was posted in a message's place, with the value that was sent with it
+    /// (`Runnable.run`). This one does nothing.
     fn run_callback(
         &mut self,
         line: &mut Line<R, C, Unkept, Self::Value>,
+        number: u64,
         id: u64,
         value: &mut Option<Self::Value>,
         now: u64,
     ) -> Handled
         requires line { IsReady (way_of line.old) }
+        requires taken { HasJustTakenCallback line.old.poster.now number id now }
+        requires value { IsValueOf Self.Value.content line.old.poster.now number value.old }
         requires holds { Holds self.old }
         ensures keeps { Keeps (way_of line.old) (way_of line.new) }
         ensures holds { OnOk result (Holds self.new) }
@@ -110,6 +118,8 @@ impl<'a, R: Wait, C: Clock, H: HandleValues<R, C>> Dispatcher for HandlingValues
 
     ghost Awaits = { λ d awaited. H.Holds d.handlers };
 
+    ghost Took = { λ d claim. content_of H.Value.content d.carried ≡ content_in claim };
+
     fn before(&mut self, number: u64, m: &mut Msg<H::Value>) {
         self.carried = H::take_out(m);
     }
@@ -143,7 +153,9 @@ impl<'a, R: Wait, C: Clock, H: HandleValues<R, C>> Dispatcher for HandlingValues
             pool: self.mailbox.pool,
             pass: own.pass,
         };
-        did(self.handlers.run_callback(&mut line, id, &mut carried, now))
+        did(self
+            .handlers
+            .run_callback(&mut line, m.number(), id, &mut carried, now))
     }
 
     fn intercept(&mut self, own: &mut Own<Unkept, H::Value>, m: &Msg<H::Value>, now: u64) -> Did {
@@ -162,7 +174,9 @@ impl<'a, R: Wait, C: Clock, H: HandleValues<R, C>> Dispatcher for HandlingValues
             pool: self.mailbox.pool,
             pass: own.pass,
         };
-        did(self.handlers.handle(&mut line, &post, &mut carried, now))
+        did(self
+            .handlers
+            .handle(&mut line, m.number(), &post, &mut carried, now))
     }
 
     ghost others = { λ d s es e acts apart meets. meets };

@@ -1,10 +1,10 @@
 //! Messages that carry a value: how a line sends one, and how what leaves the queue unhandled hands its values back.
-ghost use Rattle.std.specs.Prelude.{◌≡◌, IsTrue, true, false, length, OnErr, IfOk};
+ghost use Rattle.std.specs.Prelude.{◌≡◌, IsTrue, true, false, length, OnErr, IfOk, Some};
 ghost use Rattle.loop_model.specs.Posts.{moment_after};
 ghost use Rattle.handler_post.specs.Ways.{IsReady, IsSameWay};
 ghost use Rattle.handler_post.specs.Values.{SendsWith};
 ghost use Rattle.plain_loop.specs.Lines.{Keeps, due_at, way_of, AtNow};
-ghost use Rattle.plain_loop.specs.Values.{AreOf, AreAsAccepted, HandsOut, TakesOut, TakesNone, QuitsWith};
+ghost use Rattle.plain_loop.specs.Values.{AreOf, AreAsAccepted, HandsOut, TakesOut, TakesNone, QuitsWith, IsValueOf, IfAccepted};
 
 use crate::lines::{Line, due};
 use handler_post::{Quit, SentWith, Way, recycle_with};
@@ -107,6 +107,7 @@ impl<'a, R: Wait, C: Clock, E: Recorder, P: Payload> Line<'a, R, C, E, P> {
         requires { IsReady (way_of self.old) }
         ensures keeps { Keeps (way_of self.old) (way_of self.new) }
         ensures sent { AtNow (C.shows self.old.clock.now) (λ now. SendsWith P.content (due_at post now) value (way_of self.old) (way_of self.new) result) }
+        ensures accepted { IfAccepted result (λ number. IsValueOf P.content self.new.poster.now number (Some value)) }
     {
         let now = self.clock.uptime_millis();
         self.send_value_at(post, value, now)
@@ -117,6 +118,7 @@ impl<'a, R: Wait, C: Clock, E: Recorder, P: Payload> Line<'a, R, C, E, P> {
         requires { IsReady (way_of self.old) }
         ensures keeps { Keeps (way_of self.old) (way_of self.new) }
         ensures sent { SendsWith P.content (due_at post when) value (way_of self.old) (way_of self.new) result }
+        ensures accepted { IfAccepted result (λ number. IsValueOf P.content self.new.poster.now number (Some value)) }
     {
         let due = due(post, when);
         let mut way = Way {
@@ -134,6 +136,7 @@ impl<'a, R: Wait, C: Clock, E: Recorder, P: Payload> Line<'a, R, C, E, P> {
         requires { IsReady (way_of self.old) }
         ensures keeps { Keeps (way_of self.old) (way_of self.new) }
         ensures sent { AtNow (C.shows self.old.clock.now) (λ now. SendsWith P.content (due_at post (moment_after now delay)) value (way_of self.old) (way_of self.new) result) }
+        ensures accepted { IfAccepted result (λ number. IsValueOf P.content self.new.poster.now number (Some value)) }
     {
         let now = self.clock.uptime_millis();
         self.send_value_at(post, value, now.saturating_add(delay))
@@ -144,6 +147,7 @@ impl<'a, R: Wait, C: Clock, E: Recorder, P: Payload> Line<'a, R, C, E, P> {
         requires { IsReady (way_of self.old) }
         ensures keeps { Keeps (way_of self.old) (way_of self.new) }
         ensures sent { SendsWith P.content (due_at post 0) value (way_of self.old) (way_of self.new) result }
+        ensures accepted { IfAccepted result (λ number. IsValueOf P.content self.new.poster.now number (Some value)) }
     {
         self.send_value_at(post, value, 0)
     }

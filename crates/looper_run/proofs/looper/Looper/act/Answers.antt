@@ -1,4 +1,4 @@
-use Rattle.std.proofs.Common.{subst, sym, refl, true, inl}
+use Rattle.std.proofs.Common.{◌≡◌, subst, sym, refl, true, inl, Some, slice_get}
 use Rattle.atomic_table.specs.Seated.{TableId}
 use Rattle.message_pool.specs.Passes.{Claimed}
 use Rattle.queue_state.specs.declared.answers.Nexted.{Nexted}
@@ -11,7 +11,7 @@ use Rattle.looper_run.specs.Looks.{StepBy, WaitsAsTold, HasDispatched, GivesUp, 
 use Rattle.looper_run.specs.Round.{UnlessStopped}
 use Rattle.looper_run.specs.declared.step.Step.{Step}
 use Rattle.looper_run.proofs.Looking.{fits_dispatches}
-use Rattle.looper_run.proofs.Acting.{answer_taken, answer_number, answer_idle, answer_wait, answer_over, answer_end}
+use Rattle.looper_run.proofs.Acting.{answer_taken, answer_number, answer_claim, answer_idle, answer_wait, answer_over, answer_end}
 use Rattle.looper_run.proofs.Idling.{grows_none}
 use Rattle.looper_run.proofs.looper.Looper.act.Goals as goal
 use Rattle.looper_run.proofs.looper.Looper.act.Goals.{in-Ok, in-Err, in-Ok-run_idle, in-Err-run_idle}
@@ -25,6 +25,11 @@ dispatch-requires-clause-taken g c κs lives =
 pub dispatch-requires-clause-number : goal.dispatch-requires-clause-number
 dispatch-requires-clause-number g c κs lives =
     answer_number (g.D.Dispatcher.Meets c.args.d.now) c.args.self.now c.args.answer c.requires.look c.in-Taken.number c.in-Taken.now c.in-Taken.node c.in-Taken.is
+
+pub dispatch-requires-clause-claim : goal.dispatch-requires-clause-claim
+dispatch-requires-clause-claim g c κs lives =
+    subst (λ (l : Looping). slice_get l.held.poster.view.claims c.in-Taken.number ≡ Some c.in-Taken.node.claim) (sym c.self.view_is)
+    (answer_claim (g.D.Dispatcher.Meets c.args.d.now) c.args.self.now c.args.answer c.requires.look c.in-Taken.number c.in-Taken.now c.in-Taken.node c.in-Taken.is)
 
 pub returns-after-dispatch-clause-step : goal.returns-after-dispatch-clause-step
 returns-after-dispatch-clause-step g c p now look =
