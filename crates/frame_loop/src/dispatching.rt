@@ -1,9 +1,11 @@
 //! The dispatcher of a looper with frames.
 ghost use Rattle.std.specs.Prelude.{◌≡◌, ◌+◌, ◌≤◌, [], IfSome, IsTrue, true, None, OnOk};
+ghost use Rattle.message_slot.specs.Letter.{number_in, post_of};
 ghost use Rattle.choreographer.specs.Known.{IsOf};
 ghost use Rattle.handler_post.specs.Ways.{IsReady};
 ghost use Rattle.looper_run.specs.Holding.{workplace, held, IsSameOwn};
 ghost use Rattle.looper_run.specs.Tests.{IsLent, Rings};
+ghost use Rattle.plain_loop.specs.Handling.{HasJustTaken};
 ghost use Rattle.plain_loop.specs.Lines.{Keeps, way_of};
 ghost use Rattle.frame_loop.specs.Dispatching.{FoundMemory, Serving, KeepsServing, KeepsOwn};
 ghost use Rattle.frame_loop.specs.FrameLooping.{AsksPulse, DropsFrames};
@@ -202,6 +204,7 @@ impl<'a, R: Wait, C: Clock, E: Recorder, H: FrameHandle<R, C, E>> FrameHandling<
     // A message of a handler.
     fn on_message(&mut self, own: &mut Own<E>, m: &Message<PoolClaim>, now: u64) -> Handled
         requires serves { Serving self.old (workplace (held own.old)) }
+        requires taken { HasJustTaken own.old.poster.now (number_in m.now.item) (post_of m.now.item) now }
         requires holds { H.Holds self.old.handlers }
         ensures serves { KeepsServing self.old self.new }
         ensures own { KeepsOwn own.old own.new }
@@ -228,6 +231,7 @@ impl<'a, R: Wait, C: Clock, E: Recorder, H: FrameHandle<R, C, E>> FrameHandling<
 
     fn dispatch(&mut self, own: &mut Own<E>, m: &Message<PoolClaim>, now: u64) -> Handled
         requires serves { Serving self.old (workplace (held own.old)) }
+        requires taken { HasJustTaken own.old.poster.now (number_in m.now.item) (post_of m.now.item) now }
         requires holds { H.Holds self.old.handlers }
         ensures serves { KeepsServing self.old self.new }
         ensures own { KeepsOwn own.old own.new }
@@ -260,6 +264,7 @@ impl<'a, R: Wait, C: Clock, E: Recorder, H: FrameHandle<R, C, E>> FrameHandling<
     // Dispatches a message, delivers the pulse that came meanwhile, and rings the bell where another is asked for.
     fn deliver(&mut self, own: &mut Own<E>, m: &Message<PoolClaim>, now: u64) -> Handled
         requires serves { Serving self.old (workplace (held own.old)) }
+        requires taken { HasJustTaken own.old.poster.now (number_in m.now.item) (post_of m.now.item) now }
         requires holds { H.Holds self.old.handlers }
         ensures serves { KeepsServing self.old self.new }
         ensures same { IsSameOwn own.old own.new }

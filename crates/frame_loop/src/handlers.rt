@@ -1,5 +1,7 @@
 //! The code of a looper with frames.
-ghost use Rattle.std.specs.Prelude.{OnOk};
+ghost use Rattle.std.specs.Prelude.{ℕ, OnOk};
+ghost use Rattle.message_slot.specs.Letter.{number_in, post_of};
+ghost use Rattle.plain_loop.specs.Handling.{HasJustTaken, HasJustTakenCallback};
 ghost use Rattle.frame_loop.specs.Screens.{IsScreen, KeepsScreen};
 
 use crate::screen::Screen;
@@ -15,10 +17,11 @@ pub trait FrameHandle<R: Wait, C: Clock, E: Recorder> {
     /// A fact of the handlers' own, which each call keeps unless memory was wanting. By default there is none.
     ghost Holds: { Self → Type 0 } = { λ h. Unit {0} };
 
-    /// Handles a message without a callback, which was due at `now` or before, in milliseconds. Which handler it was sent to is its
-    /// `handler` (`handleMessage` of the Android API reference's `Handler`). This one does nothing.
+    /// Handles a message without a callback, which the looper just took, and which was due at `now` or before, in milliseconds. Which
+    /// handler it was sent to is its `handler` (`handleMessage` of the Android API reference's `Handler`). This one does nothing.
     fn handle(&mut self, screen: &mut Screen<R, C, E>, message: &Msg, now: u64) -> Handled
         requires screen { IsScreen screen.old }
+        requires taken { HasJustTaken screen.old.poster.now (number_in message.now.item) (post_of message.now.item) now }
         requires holds { Holds self.old }
         ensures keeps { KeepsScreen screen.old screen.new }
         ensures holds { OnOk result (Holds self.new) }
@@ -29,6 +32,7 @@ pub trait FrameHandle<R: Wait, C: Clock, E: Recorder> {
     /// Runs the callback of this number, which was posted in a message's place (`Runnable.run`). This one does nothing.
     fn run_callback(&mut self, screen: &mut Screen<R, C, E>, id: u64, now: u64) -> Handled
         requires screen { IsScreen screen.old }
+        requires taken { (number : ℕ) × HasJustTakenCallback screen.old.poster.now number id now }
         requires holds { Holds self.old }
         ensures keeps { KeepsScreen screen.old screen.new }
         ensures holds { OnOk result (Holds self.new) }
