@@ -4,10 +4,15 @@ use Rattle.dash_script.specs.Reading.{IsText}
 use Rattle.dash_stage.specs.Staged.{IsStaged, IsStagedByClock}
 use Rattle.run_model.specs.declared.report.Report.{Report}
 use Rattle.dashboard_cli.specs.Streams.{limit, Known, ReadsWhole}
-use Rattle.dashboard_cli.specs.Works.{Input}
+use Rattle.dashboard_cli.specs.Works.{Input, Work}
+use Rattle.dashboard_cli.specs.declared.making.Product.{Product}
 use Rattle.dashboard_cli.specs.declared.status.Status.{Status}
 use Rattle.dashboard_cli.specs.declared.status.Status.TheVariants.{Script, ReadFault, NoMemory, TooLong, Trace}
-use Rattle.dashboard_cli.specs.Answers.{IsRefused, ReadsPast, IsTooLong, ReadsWithin, IsWithin}
+use Rattle.dashboard_cli.specs.Answers.{MakesOf, IsRefused, ReadsPast, IsTooLong, ReadsWithin, IsWithin}
+
+-- the text, and what is returned beside it, are what this work makes of its input
+abbrev pub MakesProduct : Work → Known → Known → Product → Type 0
+MakesProduct work before after product = MakesOf work before after product.text.items product.returned
 
 -- why a command stopped before its text was made
 abbrev pub Stops : Input → Known → Known → Status → Type 0

@@ -1,8 +1,8 @@
 // The text of each command, made whole before it is written.
 ghost use Rattle.std.specs.Prelude.{◌≡◌, [], None, IfErr, IfOk};
 ghost use Rattle.dash_script.specs.Reading.{HasText};
-ghost use Rattle.dashboard_cli.specs.Answers.{CountsReads, MakesOf};
-ghost use Rattle.dashboard_cli.specs.Steps.{HasRun, HasRunFree, Stops, IsNone};
+ghost use Rattle.dashboard_cli.specs.Answers.{CountsReads};
+ghost use Rattle.dashboard_cli.specs.Steps.{HasRun, HasRunFree, Stops, IsNone, MakesProduct};
 ghost use Rattle.dashboard_cli.specs.Works.{inbox_scripts, plans, scripts, traces, work, work_by, IsInboxText};
 ghost use Rattle.inbox_queue.specs.InboxRun.{IsInboxRun};
 ghost use Rattle.dash_stage.specs.Staged.{IsStaged, IsStagedByClock};
@@ -115,7 +115,7 @@ pub(crate) fn produce<
     clock: &C,
     gate: &G,
 ) -> Result<Product, Status>
-    ensures made { IfOk result (λ product. MakesOf (work_by (C.shows clock.now) command) (S.left source.old) (S.left source.new) product.text.items product.returned) }
+    ensures made { IfOk result (MakesProduct (work_by (C.shows clock.now) command) (S.left source.old) (S.left source.new)) }
     ensures stopped { IfErr result (Stops (work command).reads (S.left source.old) (S.left source.new)) }
     ensures unread { (work command).reads.most ≡ None → source.new ≡ source.old }
     ensures sound { IfOk result (λ _. S.faults source.new ≡ S.faults source.old) }
@@ -142,7 +142,7 @@ fn run_input<R: Threads + Wait + Sync, S: Source, G: Gate + Sync>(
     source: &mut S,
     gate: &G,
 ) -> Result<Product, Status>
-    ensures made { IfOk result (λ product. MakesOf (work Command.Run) (S.left source.old) (S.left source.new) product.text.items product.returned) }
+    ensures made { IfOk result (MakesProduct (work Command.Run) (S.left source.old) (S.left source.new)) }
     ensures stopped { IfErr result (Stops scripts (S.left source.old) (S.left source.new)) }
     ensures sound { IfOk result (λ _. S.faults source.new ≡ S.faults source.old) }
     ensures failed { IfErr result (λ status. CountsReads status (S.faults source.old) (S.faults source.new)) }
@@ -160,7 +160,7 @@ fn run_input_free<
     C: Clock + Sync,
     G: Gate + Sync,
 >(rt: &R, alloc: Global, source: &mut S, clock: &C, gate: &G) -> Result<Product, Status>
-    ensures made { IfOk result (λ product. MakesOf (work_by (C.shows clock.now) Command.RunFree) (S.left source.old) (S.left source.new) product.text.items product.returned) }
+    ensures made { IfOk result (MakesProduct (work_by (C.shows clock.now) Command.RunFree) (S.left source.old) (S.left source.new)) }
     ensures stopped { IfErr result (Stops scripts (S.left source.old) (S.left source.new)) }
     ensures sound { IfOk result (λ _. S.faults source.new ≡ S.faults source.old) }
     ensures failed { IfErr result (λ status. CountsReads status (S.faults source.old) (S.faults source.new)) }
@@ -173,7 +173,7 @@ fn run_input_free<
 
 /// Reads a script, and prints it.
 fn print_input<S: Source>(alloc: Global, source: &mut S) -> Result<Product, Status>
-    ensures made { IfOk result (λ product. MakesOf (work Command.Text) (S.left source.old) (S.left source.new) product.text.items product.returned) }
+    ensures made { IfOk result (MakesProduct (work Command.Text) (S.left source.old) (S.left source.new)) }
     ensures stopped { IfErr result (Stops scripts (S.left source.old) (S.left source.new)) }
     ensures sound { IfOk result (λ _. S.faults source.new ≡ S.faults source.old) }
     ensures failed { IfErr result (λ status. CountsReads status (S.faults source.old) (S.faults source.new)) }
@@ -187,7 +187,7 @@ fn print_input<S: Source>(alloc: Global, source: &mut S) -> Result<Product, Stat
 
 /// Reads a script, and prints it as one of edition 2.
 fn migrate_input<S: Source>(alloc: Global, source: &mut S) -> Result<Product, Status>
-    ensures made { IfOk result (λ product. MakesOf (work Command.Migrate) (S.left source.old) (S.left source.new) product.text.items product.returned) }
+    ensures made { IfOk result (MakesProduct (work Command.Migrate) (S.left source.old) (S.left source.new)) }
     ensures stopped { IfErr result (Stops scripts (S.left source.old) (S.left source.new)) }
     ensures sound { IfOk result (λ _. S.faults source.new ≡ S.faults source.old) }
     ensures failed { IfErr result (λ status. CountsReads status (S.faults source.old) (S.faults source.new)) }
@@ -235,7 +235,7 @@ fn trace_input<R: Threads + Wait + Sync, S: Source, G: Gate + Sync>(
     source: &mut S,
     gate: &G,
 ) -> Result<Product, Status>
-    ensures made { IfOk result (λ product. MakesOf (work Command.Trace) (S.left source.old) (S.left source.new) product.text.items product.returned) }
+    ensures made { IfOk result (MakesProduct (work Command.Trace) (S.left source.old) (S.left source.new)) }
     ensures stopped { IfErr result (Stops scripts (S.left source.old) (S.left source.new)) }
     ensures sound { IfOk result (λ _. S.faults source.new ≡ S.faults source.old) }
     ensures failed { IfErr result (λ status. CountsReads status (S.faults source.old) (S.faults source.new)) }
@@ -248,7 +248,7 @@ fn trace_input<R: Threads + Wait + Sync, S: Source, G: Gate + Sync>(
 
 /// Reads histories of queues, and tells whether each is legal.
 fn check_input<S: Source>(alloc: Global, source: &mut S) -> Result<Product, Status>
-    ensures made { IfOk result (λ product. MakesOf (work Command.Check) (S.left source.old) (S.left source.new) product.text.items product.returned) }
+    ensures made { IfOk result (MakesProduct (work Command.Check) (S.left source.old) (S.left source.new)) }
     ensures stopped { IfErr result (Stops traces (S.left source.old) (S.left source.new)) }
     ensures sound { IfOk result (λ _. S.faults source.new ≡ S.faults source.old) }
     ensures failed { IfErr result (λ status. CountsReads status (S.faults source.old) (S.faults source.new)) }
@@ -263,7 +263,7 @@ fn check_input<S: Source>(alloc: Global, source: &mut S) -> Result<Product, Stat
 
 /// Reads a plan of values, and runs it over frames.
 fn animate_input<S: Source>(alloc: Global, source: &mut S) -> Result<Product, Status>
-    ensures made { IfOk result (λ product. MakesOf (work Command.Animate) (S.left source.old) (S.left source.new) product.text.items product.returned) }
+    ensures made { IfOk result (MakesProduct (work Command.Animate) (S.left source.old) (S.left source.new)) }
     ensures stopped { IfErr result (Stops plans (S.left source.old) (S.left source.new)) }
     ensures sound { IfOk result (λ _. S.faults source.new ≡ S.faults source.old) }
     ensures failed { IfErr result (λ status. CountsReads status (S.faults source.old) (S.faults source.new)) }
@@ -283,7 +283,7 @@ fn inbox_input<R: Threads + Wait + Sync, S: Source, G: Gate + Sync>(
     source: &mut S,
     gate: &G,
 ) -> Result<Product, Status>
-    ensures made { IfOk result (λ product. MakesOf (work Command.Inbox) (S.left source.old) (S.left source.new) product.text.items product.returned) }
+    ensures made { IfOk result (MakesProduct (work Command.Inbox) (S.left source.old) (S.left source.new)) }
     ensures stopped { IfErr result (Stops inbox_scripts (S.left source.old) (S.left source.new)) }
     ensures sound { IfOk result (λ _. S.faults source.new ≡ S.faults source.old) }
     ensures failed { IfErr result (λ status. CountsReads status (S.faults source.old) (S.faults source.new)) }

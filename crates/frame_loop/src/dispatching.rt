@@ -1,5 +1,5 @@
 //! The dispatcher of a looper with frames.
-ghost use Rattle.std.specs.Prelude.{◌≡◌, ◌+◌, ◌≤◌, [], IfSome, IsTrue, true, None, OnOk};
+ghost use Rattle.std.specs.Prelude.{◌≡◌, ◌+◌, [], IsTrue, true, None, OnOk};
 ghost use Rattle.message_slot.specs.Letter.{number_in, post_of};
 ghost use Rattle.choreographer.specs.Known.{IsOf};
 ghost use Rattle.handler_post.specs.Ways.{IsReady};

@@ -1,8 +1,8 @@
 //! A looper that waits by a clock.
-ghost use Rattle.std.specs.Prelude.{◌≡◌, ℕ, false, map, None, OnOk, IfOk, IfErr};
+ghost use Rattle.std.specs.Prelude.{◌≡◌, false, map, None, OnOk, IfOk, IfErr};
 ghost use Rattle.atomic_table.specs.Seated.{TableId};
 ghost use Rattle.looper_run.specs.Holding.{Workplace, workplace, IsAt};
-ghost use Rattle.looper_run.specs.Asked.{Listen, with_asked, asked_by_round, AsksByLoop};
+ghost use Rattle.looper_run.specs.Asked.{Listen, with_asked, AsksByLoop};
 ghost use Rattle.looper_run.specs.Tests.{Passes, Rings};
 ghost use Rattle.looper_run.specs.Looks.{IsAnswerOf};
 ghost use Rattle.looper_run.specs.Loops.{IsStill, HasPaced, pace_of, UnlessHalted, IsClosed, StepsBy, IsLoop, LoopBy, is_over, UnlessLost, LoopsOrGoes, StepsOrGoes, IsLoopOrGoes, UnlessLostThen, is_over_then, Answers, IsNoWait, Pauses, loop_of};

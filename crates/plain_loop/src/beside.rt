@@ -1,6 +1,5 @@
 //! Loops of loopers over handlers, alone and beside other work.
 ghost use Rattle.std.specs.Prelude.{◌≡◌, ◌≢◌, ◌<◌, true, false, length, Some, None, OnOk, OnErr, IfOk};
-ghost use Rattle.std.specs.Thread.{IsSync};
 ghost use Rattle.looper_run.specs.declared.by_clock.Loop.TheVariants as loop;
 ghost use Rattle.looper_run.specs.Loops.{is_over_then};
 ghost use Rattle.looper_run.specs.Holding.{Workplace, workplace};

@@ -1,5 +1,5 @@
 //! A dispatcher over handlers that state nothing.
-ghost use Rattle.std.specs.Prelude.{◌≡◌, ◌≤◌, ℕ, IfSome, IsTrue, true, None, OnOk};
+ghost use Rattle.std.specs.Prelude.{◌≡◌, ℕ, IsTrue, true, None, OnOk};
 ghost use Rattle.message_slot.specs.Letter.{number_in, post_of};
 ghost use Rattle.handler_post.specs.Ways.{IsReady};
 ghost use Rattle.plain_loop.specs.Lines.{Keeps, way_of};

@@ -1,5 +1,5 @@
 //! A dispatcher over handlers that are given the values of their messages.
-ghost use Rattle.std.specs.Prelude.{◌≡◌, ◌≤◌, IfSome, IsTrue, true, None, OnOk};
+ghost use Rattle.std.specs.Prelude.{◌≡◌, IsTrue, true, None, OnOk};
 ghost use Rattle.handler_post.specs.Ways.{IsReady};
 ghost use Rattle.message_pool.specs.Values.{content_in, content_of, without_value};
 ghost use Rattle.plain_loop.specs.Handling.{IsPlaceOf, HasJustTaken, HasJustTakenCallback};

@@ -1,10 +1,9 @@
 //! Loops of loopers whose messages may carry a value.
 ghost use Rattle.std.specs.Prelude.{◌≡◌, ◌+◌, ◌<◌, ℕ, false, None, true, length, OnOk, IfOk};
-ghost use Rattle.std.specs.Thread.{IsSync};
 ghost use Rattle.looper_run.specs.Holding.{Workplace, workplace};
 ghost use Rattle.looper_run.specs.Tests.{IsSameLooper};
 ghost use Rattle.plain_loop.specs.Looping.{IsAlwaysMet, LetsGoOf, LoopsOn, LoopsToItsEnd};
-ghost use Rattle.plain_loop.specs.Senders.{IsSender, AreSenders, IsOneFewer, IsLooper};
+ghost use Rattle.plain_loop.specs.Senders.{IsSender, AreSenders, IsLooper};
 
 use crate::beside::{MOST_AT_ONCE, is_over};
 use crate::mailbox::{Mailbox, Opened, Sender, Senders, Settings, open_queue};

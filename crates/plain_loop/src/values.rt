@@ -1,5 +1,5 @@
 //! Messages that carry a value: how a line sends one, and how what leaves the queue unhandled hands its values back.
-ghost use Rattle.std.specs.Prelude.{◌≡◌, IsTrue, true, false, length, OnErr, IfOk, Some};
+ghost use Rattle.std.specs.Prelude.{◌≡◌, true, false, length, OnErr, IfOk, Some};
 ghost use Rattle.loop_model.specs.Posts.{moment_after};
 ghost use Rattle.handler_post.specs.Ways.{IsReady, IsSameWay};
 ghost use Rattle.handler_post.specs.Values.{SendsWith};
