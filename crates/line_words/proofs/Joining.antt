@@ -1,5 +1,5 @@
 -- Words that are joined by spaces are parted again, and so are lines.
-use Rattle.std.proofs.Common.{◌≡◌, ◌<◌, ◌≤◌, ℕ, Bool, true, false, eqb, leb, List, [], ◌∷◌, ◌++◌, refl, sym, ap, subst, ◌∙◌, inl, inr, arith}
+use Rattle.std.proofs.Common.{◌≡◌, ◌<◌, ◌≤◌, ℕ, Bool, true, false, eqb, leb, List, [], ◌∷◌, ◌++◌, refl, sym, ap, subst, ◌∙◌, inl, inr, arith, append_assoc}
 use Rattle.std.specs.Prelude.{not, All}
 use Rattle.std.specs.List.{join_with_byte, list_all, AllByRecursion, flat_map, onto_first}
 use Rattle.std.specs.Char.{is_ascii_digit}
@@ -56,6 +56,12 @@ line_first line rest free = slice_split_at (λ b. eqb b 10) line 10 rest (all_ot
 pub join_with_byte-cons : (w : List ℕ) (ws : List (List ℕ)) → join_with_byte 32 (w ∷ ws) ≡ w ++ flat_map (λ v. 32 ∷ v) ws
 join_with_byte-cons w [] = sym (append-nil w)
 join_with_byte-cons w (v ∷ ws) = ap (λ (t : List ℕ). w ++ 32 ∷ t) (join_with_byte-cons v ws)
+
+-- words behind others
+pub join_append : (w : List ℕ) (ws : List (List ℕ)) (v : List ℕ) (vs : List (List ℕ)) → join_with_byte 32 ((w ∷ ws) ++ v ∷ vs) ≡ join_with_byte 32 (w ∷ ws) ++ 32 ∷ join_with_byte 32 (v ∷ vs)
+join_append w [] v vs = refl
+join_append w (x ∷ ws) v vs =
+    ap (λ t. w ++ 32 ∷ t) (join_append x ws v vs) ∙ sym (append_assoc w (32 ∷ join_with_byte 32 (x ∷ ws)) (32 ∷ join_with_byte 32 (v ∷ vs)))
 
 parts_free_onto : (c b : ℕ) (ps : List (List ℕ)) → eqb b c ≡ false → AllFree c ps → AllFree c (onto_first b ps)
 parts_free_onto c b [] other h = (and_from _ _ (not_from_false _ other) refl, tt)

@@ -2,5 +2,8 @@ pub mod Splitting
 pub mod NumberReading
 pub mod Spelling
 pub mod Joining
+pub mod Wording
+pub mod Again
+pub mod Taken
 pub mod Pieces
 pub mod LineReading

@@ -1,3 +1,4 @@
 pub mod Same
 pub mod Limits
 pub mod Runs
+pub mod Fitting

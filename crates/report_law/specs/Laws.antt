@@ -1,8 +1,11 @@
 -- The text of a run's report is read as what the run tells.
-use Rattle.std.specs.Prelude.{◌≡◌, ℕ, ◌+◌, List, [], ◌∷◌}
+use Rattle.std.specs.Prelude.{◌≡◌, ℕ, ◌+◌, List, [], ◌∷◌, length}
 use Rattle.std.specs.List.{AllByRecursion}
 use Rattle.loop_model.specs.declared.record.QueueRecord.{QueueRecord}
 use Rattle.frame_phases.specs.declared.entry.FrameRecord.{FrameRecord}
+use Rattle.loop_model.specs.Fates.{fates}
+use Rattle.dash_script.specs.Reading.{HasText}
+use Rattle.run_model.specs.Histories.{history_of}
 use Rattle.run_model.specs.declared.report.Report.{Report as RunReport}
 use Rattle.run_model.specs.Text as printed
 use Rattle.run_model.specs.Moments.{Mode}
@@ -39,7 +42,11 @@ PrintedIsRead =
     (r : RunReport) → AreCounted 0 r.queues → AllByRecursion IsFramed r.frames → AllByRecursion HasLimits (lines (seen r))
     → IsText (printed.text r) (seen r)
 
--- the text of the report of a run of a script is the text of what the run tells, where each number is within the limits of its place
-abbrev pub ARunIsRead : Type 0
-ARunIsRead =
-    (m : Mode) (s : Script) (r : RunReport) → IsRun m s r → AllByRecursion HasLimits (lines (seen r)) → IsText (printed.text r) (seen r)
+-- the queue accepted fewer posts than a number of 64 bits can count
+abbrev pub IsCountable : QueueRecord → Type 0
+IsCountable q = IsLong (length (fates (history_of q)))
+
+-- the text of the report of a run of a script that has a text is the text of what the run tells
+abbrev pub ARunIsRead : RunReport → Type 0
+ARunIsRead r =
+    (m : Mode) (s : Script) → IsRun m s r → HasText s → AllByRecursion IsCountable r.queues → IsText (printed.text r) (seen r)

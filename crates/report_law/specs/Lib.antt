@@ -1,2 +1,3 @@
 pub mod Seen
+pub mod Widths
 pub mod Laws

@@ -3,14 +3,22 @@
 
 ghost use Rattle.report_law.specs.Laws.{ARunIsRead, PrintedIsRead};
 
+mod widths;
+
+use run_model::Report;
+use widths::walk_report;
+
 /// The text of the report of a run is the text of what the run tells, where its loopers are numbered from 0 on, no callback ran
 /// before the first frame, and each number is within the limits of its place.
 pub fn printed_is_read()
     ensures { PrintedIsRead }
 {}
 
-/// The text of the report of a run of a script, in lockstep or by a clock, is the text of what the run tells, where each number is
-/// within the limits of its place.
-pub fn a_run_is_read()
-    ensures { ARunIsRead }
-{}
+/// The text of a report that is that of a run of a script, in lockstep or by a clock, is the text of what the run tells, where the
+/// script has a text and no queue accepted 2 to the 64 posts. That each number is within the limits of its place follows
+/// from the types, by a walk over the report.
+pub fn a_run_is_read(report: &Report)
+    ensures { ARunIsRead report.now }
+{
+    walk_report(report);
+}

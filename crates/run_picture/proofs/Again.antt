@@ -1,12 +1,15 @@
 -- The words of a line are read as the line, and each of them is a word.
-use Rattle.std.proofs.Common.{◌≡◌, ◌<◌, ◌+◌, ◌^◌, ℕ, true, List, [], ◌∷◌, ◌++◌, Option, Some, refl, sym, ap, subst, ◌∙◌, inl, inr, arith}
+use Rattle.std.proofs.Common.{◌≡◌, ◌<◌, ◌+◌, ◌^◌, ℕ, List, [], ◌∷◌, ◌++◌, Option, Some, refl, sym, ap, subst, ◌∙◌, inl, inr, arith}
 use Rattle.std.specs.Prelude.{codes, ◌⊎◌}
-use Rattle.std.specs.Str.{bytes_eq}
 use Rattle.std.specs.Fmt.{decimal}
 use Rattle.std.proofs.lemmas.Bool.{lt-ltb, eq-eqb}
 use Rattle.std.proofs.lemmas.List.{append-nil}
-use Rattle.line_words.specs.Words.{number_of}
+use Rattle.line_words.specs.Words.{number_of, IsLong}
+use Rattle.line_words.specs.Taking as taking
+use Rattle.line_words.specs.Taking.{Rest, and_then, whole}
 use Rattle.line_words.proofs.Spelling.{number_again}
+use Rattle.line_words.proofs.Wording.{AreWords, words_append, long_short, decimal_word}
+use Rattle.line_words.proofs.Again.{Fixed, then_again, fixed_again, long_again, short_again, counted_again}
 use Rattle.run_picture.specs.declared.report.Subject.{Subject}
 use Rattle.run_picture.specs.declared.report.Subject.TheVariants.{What, Callback}
 use Rattle.run_picture.specs.declared.report.Past.{Past as PastData}
@@ -18,45 +21,13 @@ use Rattle.run_picture.specs.declared.report.Run.{Run as RunData}
 use Rattle.run_picture.specs.declared.line.Line.{Line}
 use Rattle.run_picture.specs.declared.line.Line.TheVariants.{Title, Looper, Past, Fates, Act, Frame, Run, End}
 use Rattle.run_picture.specs.Reading as reading
-use Rattle.run_picture.specs.Reading.{Rest, read, and_then, below, whole}
 use Rattle.run_picture.specs.Lines as lines
 use Rattle.run_picture.specs.Lines.{either, adds_up}
-use Rattle.run_picture.specs.Text.{IsShort, IsLong, FitsSubject, FitsPast, FitsFates, FitsAct, Fits, line_words, past_words, act_words, subject_words, fates_words}
-use Rattle.run_picture.proofs.Spelled.{AreWords, decimal_word}
-
--- ---- one word or two
-
-long_again : (n : ℕ) (rest : Rest) → IsLong n → reading.long (decimal n ∷ rest) ≡ Some (n, rest)
-unfolding reading.long
-long_again n rest fit = ap (λ o. read o rest) (number_again n fit)
-
-long_short : (n : ℕ) → IsShort n → n < 2 ^ 64
-long_short n fit = omega (arith, fit)
-
-short_again : (n : ℕ) (rest : Rest) → IsShort n → reading.short (decimal n ∷ rest) ≡ Some (n, rest)
-unfolding reading.short
-short_again n rest fit =
-    ap (λ o. and_then o (λ m more. read (below (2 ^ 32) m) more)) (long_again n rest (long_short n fit)) ∙ (rw (lt-ltb n (2 ^ 32) fit) refl)
-
--- one thing is read, and what follows it as the rest is
-then_again : {A C : Type 0} (o : Option (A × Rest)) (a : A) (rest : Rest) (f : A → Rest → Option C) (y : C) → o ≡ Some (a, rest) → f a rest ≡ Some y → and_then o f ≡ Some y
-then_again o a rest f y e later = ap (λ x. and_then x f) e ∙ later
+use Rattle.run_picture.specs.Text.{FitsSubject, FitsPast, FitsFates, FitsAct, Fits, line_words, past_words, act_words, subject_words, fates_words}
 
 -- the first of two forms is the line's
 first_of : (o b : Option Line) (y : Line) → o ≡ Some y → either o b ≡ Some y
 first_of o b y e = ap (λ x. either x b) e
-
--- a word that is compared with itself
-Fixed : List ℕ → Type 0
-Fixed w = bytes_eq w w ≡ true
-
-fixed_again : (w : List ℕ) (rest : Rest) → Fixed w → reading.fixed w (w ∷ rest) ≡ Some (true, rest)
-unfolding reading.fixed Fixed
-fixed_again w rest same = rw same refl
-
-counted_again : (w : List ℕ) (n : ℕ) (rest : Rest) → Fixed w → IsLong n → reading.counted w (w ∷ decimal n ∷ rest) ≡ Some (n, rest)
-unfolding reading.counted
-counted_again w n rest same fit = then_again _ _ _ _ (n, rest) (fixed_again w (decimal n ∷ rest) same) (long_again n rest fit)
 
 subject_again : (s : Subject) (rest : Rest) → FitsSubject s → reading.subject (subject_words s ++ rest) ≡ Some (s, rest)
 unfolding reading.subject number_of
@@ -67,24 +38,24 @@ subject_again (Callback c) rest fit = then_again _ _ _ _ (Callback c, rest) (lon
 -- ---- lines
 
 dispatch_again : (now number handler : ℕ) (s : Subject) → FitsPast (past_of.Dispatch now number handler s) → lines.dispatch (past_words (past_of.Dispatch now number handler s)) ≡ Some (Past (past_of.Dispatch now number handler s))
-unfolding lines.dispatch Fixed
+unfolding lines.dispatch
 dispatch_again now number handler s fit =
     let y = Past (past_of.Dispatch now number handler s) in
     let last : reading.subject (subject_words s) ≡ Some (s, []) = ap reading.subject (sym (append-nil (subject_words s))) ∙ subject_again s [] fit.3 in
     then_again _ _ _ _ y (long_again now _ fit.0) (then_again _ _ _ _ y (counted_again (codes "dispatch") number _ refl fit.1) (then_again _ _ _ _ y (short_again handler _ fit.2) (then_again _ _ _ _ y last refl)))
 
 refused_again : (handler : ℕ) (s : Subject) (place : ℕ) → FitsPast (past_of.Refused handler s place) → lines.refused (past_words (past_of.Refused handler s place)) ≡ Some (Past (past_of.Refused handler s place))
-unfolding lines.refused Fixed
+unfolding lines.refused
 refused_again handler s place fit =
     let y = Past (past_of.Refused handler s place) in
     then_again _ _ _ _ y (fixed_again (codes "refused") _ refl) (then_again _ _ _ _ y (short_again handler _ fit.0) (then_again _ _ _ _ y (subject_again s _ fit.1) (then_again _ _ _ _ y (counted_again (codes "quit") place _ refl fit.2) refl)))
 
 -- a line of one name and one number
-one_again : (w : List ℕ) (n : ℕ) (make : ℕ → Line) → Fixed w → IsLong n → and_then (reading.counted w (w ∷ decimal n ∷ [])) (λ m more. whole (make m) more) ≡ Some (make n)
+one_again : (w : List ℕ) (n : ℕ) (make : ℕ → Line) → Fixed w → IsLong n → and_then (taking.counted w (w ∷ decimal n ∷ [])) (λ m more. whole (make m) more) ≡ Some (make n)
 one_again w n make same fit = then_again _ _ _ _ (make n) (counted_again w n [] same fit) refl
 
 past_again : (p : PastData) → FitsPast p → lines.past (past_words p) ≡ Some (Past p)
-unfolding lines.past lines.dispatch lines.refused lines.not_posted lines.not_allowed lines.already_quit reading.long reading.fixed reading.counted number_of Fixed
+unfolding lines.past lines.dispatch lines.refused lines.not_posted lines.not_allowed lines.already_quit taking.long taking.fixed taking.counted number_of
 past_again (past_of.Dispatch now number handler s) fit = first_of _ _ _ (dispatch_again now number handler s fit)
 past_again (past_of.Refused handler s place) fit = first_of _ _ _ (refused_again handler s place fit)
 past_again (past_of.NotPosted token) fit = first_of _ _ _ (one_again (codes "not-posted") token (λ n. Past (past_of.NotPosted n)) refl fit)
@@ -92,7 +63,7 @@ past_again past_of.NotAllowed fit = refl
 past_again (past_of.AlreadyQuit place) fit = one_again (codes "already-quit") place (λ n. Past (past_of.AlreadyQuit n)) refl fit
 
 fates_again : (f : FatesData) → FitsFates f → lines.fates (fates_words f) ≡ Some (Fates f)
-unfolding lines.fates lines.fates_of Fixed
+unfolding lines.fates lines.fates_of
 fates_again f fit =
     let y : FatesData × Rest = (f, []) in
     let whole_again : lines.fates_of (fates_words f) ≡ Some (f, []) =
@@ -102,7 +73,7 @@ fates_again f fit =
     then_again _ _ _ _ (Fates f) whole_again (rw (eq-eqb f.accepted (f.dispatched + f.removed + f.dropped + f.stranded + f.queued) fit.6) refl)
 
 act_again : (a : ActData) → FitsAct a → lines.act (act_words a) ≡ Some (Act a)
-unfolding lines.act lines.idle lines.event lines.paint reading.fixed
+unfolding lines.act lines.idle lines.event lines.paint taking.fixed
 act_again (act_of.Idle id) fit = first_of _ _ _ (then_again _ _ _ _ (Act (act_of.Idle id)) (short_again id [] fit) refl)
 act_again (act_of.Event fd events) fit =
     let y = Act (act_of.Event fd events) in
@@ -112,24 +83,24 @@ act_again (act_of.Paint gauge value) fit =
     then_again _ _ _ _ y (short_again gauge _ fit.0) (then_again _ _ _ _ y (short_again value [] fit.1) refl)
 
 title_again : (edition : ℕ) → Fits (Title edition) → lines.title (codes "report" ∷ decimal edition ∷ []) ≡ Some (Title edition)
-unfolding lines.title reading.fixed
+unfolding lines.title taking.fixed
 title_again edition (inl one) =
     then_again _ _ _ _ (Title edition) (short_again edition [] (omega (arith, one))) (rw (eq-eqb edition 1 one) refl)
 title_again edition (inr two) = subst (λ n. lines.title (codes "report" ∷ decimal n ∷ []) ≡ Some (Title n)) (sym two) (then_again _ _ _ _ (Title 2) (short_again 2 [] (omega arith)) refl)
 
 run_again : (r : RunData) → Fits (Run r) → lines.run (line_words (Run r)) ≡ Some (Run r)
-unfolding lines.run reading.fixed
+unfolding lines.run taking.fixed
 run_again r fit = then_again _ _ _ _ (Run r) (short_again r.phase _ fit.0) (then_again _ _ _ _ (Run r) (long_again r.id [] fit.1) refl)
 
 -- a line of a journal is read as one
 act_line : (a : ActData) → FitsAct a → lines.line_of (act_words a) ≡ Some (Act a)
-unfolding lines.line_of lines.past lines.dispatch lines.refused lines.not_posted lines.not_allowed lines.already_quit lines.frame lines.run reading.long reading.fixed reading.counted number_of
+unfolding lines.line_of lines.past lines.dispatch lines.refused lines.not_posted lines.not_allowed lines.already_quit lines.frame lines.run taking.long taking.fixed taking.counted number_of
 act_line (act_of.Idle id) fit = first_of _ _ _ (act_again (act_of.Idle id) fit)
 act_line (act_of.Event fd events) fit = first_of _ _ _ (act_again (act_of.Event fd events) fit)
 act_line (act_of.Paint gauge value) fit = first_of _ _ _ (act_again (act_of.Paint gauge value) fit)
 
 pub line_again : (l : Line) → Fits l → lines.line_of (line_words l) ≡ Some l
-unfolding lines.line_of lines.past lines.act lines.other lines.dispatch lines.refused lines.not_posted lines.not_allowed lines.already_quit lines.idle lines.event lines.paint lines.frame lines.run lines.looper lines.fates lines.fates_of lines.title lines.end reading.long reading.fixed reading.counted number_of Fixed
+unfolding lines.line_of lines.past lines.act lines.other lines.dispatch lines.refused lines.not_posted lines.not_allowed lines.already_quit lines.idle lines.event lines.paint lines.frame lines.run lines.looper lines.fates lines.fates_of lines.title lines.end taking.long taking.fixed taking.counted number_of
 line_again (Title edition) fit = first_of _ _ _ (title_again edition fit)
 line_again (Looper n) fit = first_of _ _ _ (one_again (codes "looper") n Looper refl fit)
 line_again (Past p) fit = first_of _ _ _ (past_again p fit)
@@ -144,10 +115,6 @@ line_again End fit = refl
 subject_are : (s : Subject) → FitsSubject s → AreWords (subject_words s)
 subject_are (What w) fit = (decimal_word w (long_short w fit), tt)
 subject_are (Callback c) fit = ((refl, refl), (decimal_word c fit, tt))
-
-words_append : (xs ys : List (List ℕ)) → AreWords xs → AreWords ys → AreWords (xs ++ ys)
-words_append [] ys f g = g
-words_append (x ∷ xs) ys f g = (f.0, words_append xs ys f.1 g)
 
 past_are : (p : PastData) → FitsPast p → AreWords (past_words p)
 past_are (past_of.Dispatch now number handler s) fit =

@@ -1,4 +1,3 @@
-pub mod Spelled
 pub mod Taken
 pub mod Again
 pub mod Whole

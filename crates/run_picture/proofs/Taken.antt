@@ -1,16 +1,18 @@
 -- What is read of the words of a line is a line of these words.
-use Rattle.std.proofs.Common.{◌≡◌, ◌<◌, ◌+◌, ◌^◌, ℕ, Bool, true, cond, ltb, eqb, List, [], ◌∷◌, ◌++◌, Option, Some, None, refl, sym, ap, subst, ◌∙◌, inl, inr, append_assoc}
-use Rattle.std.specs.Prelude.{codes, ◌&&◌}
+use Rattle.std.proofs.Common.{◌≡◌, ◌<◌, ◌+◌, ◌^◌, ℕ, cond, eqb, List, [], ◌∷◌, ◌++◌, Option, Some, None, refl, sym, ap, subst, ◌∙◌, inl, inr, append_assoc}
+use Rattle.std.specs.Prelude.{codes}
 use Rattle.std.specs.Option.{option_map}
 use Rattle.std.specs.Str.{bytes_eq}
-use Rattle.std.specs.Str.Parse.{digits_value}
 use Rattle.std.specs.Fmt.{decimal}
-use Rattle.std.proofs.lemmas.Bool.{cases_Bool, ltb-true, eqb-true, and_parts}
-use Rattle.std.proofs.lemmas.Option.{same_Some, none-some, cond_some}
+use Rattle.std.proofs.lemmas.Bool.{cases_Bool, eqb-true}
+use Rattle.std.proofs.lemmas.Option.{same_Some, none-some}
 use Rattle.std.proofs.lemmas.List.{append-nil}
 use Rattle.std.proofs.lemmas.Slice.Eq.{bytes_eq-Decides}
-use Rattle.line_words.specs.Words.{number_of, is_numeral}
+use Rattle.line_words.specs.Words.{number_of, IsLong}
+use Rattle.line_words.specs.Taking as taking
+use Rattle.line_words.specs.Taking.{Rest, and_then, below, whole}
 use Rattle.line_words.proofs.Spelling.{number_taken}
+use Rattle.line_words.proofs.Taken.{parted, read_parted, word_parted, below_taken, fixed_taken, long_taken, short_taken, counted_taken}
 use Rattle.run_picture.specs.declared.report.Subject.{Subject}
 use Rattle.run_picture.specs.declared.report.Subject.TheVariants.{What, Callback}
 use Rattle.run_picture.specs.declared.report.Past.TheVariants as past_of
@@ -20,87 +22,17 @@ use Rattle.run_picture.specs.declared.report.Run.{Run as RunData}
 use Rattle.run_picture.specs.declared.line.Line.{Line}
 use Rattle.run_picture.specs.declared.line.Line.TheVariants.{Title, Looper, Past, Fates, Act, Frame, Run, End}
 use Rattle.run_picture.specs.Reading as reading
-use Rattle.run_picture.specs.Reading.{Rest, read, and_then, below, whole}
 use Rattle.run_picture.specs.Lines as lines
 use Rattle.run_picture.specs.Lines.{either, adds_up}
-use Rattle.run_picture.specs.Text.{IsShort, IsLong, FitsSubject, Fits, line_words, subject_words, fates_words}
+use Rattle.run_picture.specs.Text.{FitsSubject, Fits, line_words, subject_words, fates_words}
 
--- ---- one thing after another
-
--- something was read, and the rest followed by it
-parted : {A C : Type 0} (o : Option (A × Rest)) (f : A → Rest → Option C) (y : C) → and_then o f ≡ Some y → (p : A × Rest) × (o ≡ Some p) × (f p.0 p.1 ≡ Some y)
-parted None f y e = absurd (none-some y e)
-parted (Some p) f y e = (p, refl, e)
-
-read_parted : {A : Type 0} (o : Option A) (mid : Rest) (y : A × Rest) → read o mid ≡ Some y → (o ≡ Some y.0) × (mid ≡ y.1)
-read_parted None mid y e = absurd (none-some y e)
-read_parted (Some a) mid y e = let same : (a, mid) ≡ y = same_Some (a, mid) y e in (ap (λ p. Some p.0) same, ap (λ p. p.1) same)
-
-word_parted : (ws : Rest) (y : List ℕ × Rest) → reading.word ws ≡ Some y → ws ≡ y.0 ∷ y.1
-word_parted [] y e = absurd (none-some y e)
-word_parted (w ∷ rest) y e = let same : (w, rest) ≡ y = same_Some (w, rest) y e in ap (λ p. p.0 ∷ p.1) same
-
-below_taken : (limit n m : ℕ) → below limit n ≡ Some m → (n < limit) × (n ≡ m)
-below_taken limit n m e =
-    elim (cases_Bool (ltb n limit)) [
-      | inl small ↦
-          let here : below limit n ≡ Some n = rw small refl in
-          (ltb-true n limit small, same_Some n m (sym here ∙ e))
-      | inr large ↦
-          let here : below limit n ≡ None = rw large refl in absurd (none-some m (sym here ∙ e))
-    ]
-
--- a word that is a number is below 2 to the 64
-number_small : (w : List ℕ) (n : ℕ) → number_of w ≡ Some n → n < 2 ^ 64
-unfolding number_of
-number_small w n e =
-    let p = cond_some (is_numeral w && ltb (digits_value 10 w) (2 ^ 64)) (digits_value 10 w) n e in
-    let a = and_parts (is_numeral w) (ltb (digits_value 10 w) (2 ^ 64)) p.0 in
-    subst (λ m. m < 2 ^ 64) p.1 (ltb-true (digits_value 10 w) (2 ^ 64) a.1)
-
--- ---- one word or two
-
-long_taken : (ws : Rest) (y : ℕ × Rest) → reading.long ws ≡ Some y → IsLong y.0 × (ws ≡ decimal y.0 ∷ y.1)
-unfolding reading.long
-long_taken ws y e =
-    let p = parted (reading.word ws) _ y e in
-    let q = read_parted (number_of p.0.0) p.0.1 y p.2 in
-    (number_small p.0.0 y.0 q.0, word_parted ws p.0 p.1 ∙ ap (λ w. w ∷ p.0.1) (number_taken p.0.0 y.0 q.0) ∙ ap (λ r. decimal y.0 ∷ r) q.1)
-
-fixed_by : (spelling w : List ℕ) (more : Rest) (y : Bool × Rest) → cond (bytes_eq w spelling) (Some (true, more)) None ≡ Some y → (w ≡ spelling) × (more ≡ y.1)
-fixed_by spelling w more y e =
-    elim (cases_Bool (bytes_eq w spelling)) [
-      | inl same ↦ ((bytes_eq-Decides w spelling).0 same, ap (λ p. p.1) (same_Some (true, more) y (rw same at e)))
-      | inr other ↦ absurd (none-some y (rw other at e))
-    ]
-
-fixed_taken : (spelling : List ℕ) (ws : Rest) (y : Bool × Rest) → reading.fixed spelling ws ≡ Some y → ws ≡ spelling ∷ y.1
-unfolding reading.fixed
-fixed_taken spelling ws y e =
-    let p = parted (reading.word ws) _ y e in
-    let q = fixed_by spelling p.0.0 p.0.1 y p.2 in
-    word_parted ws p.0 p.1 ∙ ap (λ w. w ∷ p.0.1) q.0 ∙ ap (λ r. spelling ∷ r) q.1
-
-short_taken : (ws : Rest) (y : ℕ × Rest) → reading.short ws ≡ Some y → IsShort y.0 × (ws ≡ decimal y.0 ∷ y.1)
-unfolding reading.short
-short_taken ws y e =
-    let p = parted (reading.long ws) _ y e in
-    let q = read_parted (below (2 ^ 32) p.0.0) p.0.1 y p.2 in
-    let b = below_taken (2 ^ 32) p.0.0 y.0 q.0 in
-    (subst (λ n. n < 2 ^ 32) b.1 b.0, (long_taken ws p.0 p.1).1 ∙ ap (λ n. decimal n ∷ p.0.1) b.1 ∙ ap (λ r. decimal y.0 ∷ r) q.1)
-
-counted_taken : (spelling : List ℕ) (ws : Rest) (y : ℕ × Rest) → reading.counted spelling ws ≡ Some y → IsLong y.0 × (ws ≡ spelling ∷ decimal y.0 ∷ y.1)
-unfolding reading.counted
-counted_taken spelling ws y e =
-    let p = parted (reading.fixed spelling ws) _ y e in
-    let t = long_taken p.0.1 y p.2 in
-    (t.0, fixed_taken spelling ws p.0 p.1 ∙ ap (λ r. spelling ∷ r) t.1)
+-- ---- messages
 
 -- a counted number was read, and the rest followed by it
-counted_then : {C : Type 0} (P : Type 0) (spelling : List ℕ) (ws : Rest) (f : ℕ → Rest → Option C) (y : C) → and_then (reading.counted spelling ws) f ≡ Some y
+counted_then : {C : Type 0} (P : Type 0) (spelling : List ℕ) (ws : Rest) (f : ℕ → Rest → Option C) (y : C) → and_then (taking.counted spelling ws) f ≡ Some y
     → ((n : ℕ) (rest : Rest) → IsLong n → ws ≡ spelling ∷ decimal n ∷ rest → f n rest ≡ Some y → P) → P
 counted_then P spelling ws f y e go =
-    let p = parted (reading.counted spelling ws) f y e in
+    let p = parted (taking.counted spelling ws) f y e in
     let t = counted_taken spelling ws p.0 p.1 in
     go p.0.0 p.0.1 t.0 t.1 p.2
 
@@ -117,8 +49,8 @@ callback_taken : (w : List ℕ) (rest : Rest) (y : Subject × Rest) → reading.
 callback_taken w rest y e =
     elim (cases_Bool (bytes_eq w (codes "callback"))) [
       | inl same ↦
-          let made : and_then (reading.long rest) (λ c more. Some (Callback c, more)) ≡ Some y = rw same at e in
-          let p = parted (reading.long rest) _ y made in
+          let made : and_then (taking.long rest) (λ c more. Some (Callback c, more)) ≡ Some y = rw same at e in
+          let p = parted (taking.long rest) _ y made in
           let t = long_taken rest p.0 p.1 in
           let is : w ≡ codes "callback" = (bytes_eq-Decides w (codes "callback")).0 same in
           subst (SubjectTaken (w ∷ rest)) (same_Some (Callback p.0.0, p.0.1) y p.2) (t.0, ap (λ v. v ∷ rest) is ∙ ap (λ r. codes "callback" ∷ r) t.1)
@@ -135,7 +67,7 @@ subject_by_taken w (Some n) rest y is e =
 subject_taken : (ws : Rest) (y : Subject × Rest) → reading.subject ws ≡ Some y → SubjectTaken ws y
 unfolding reading.subject
 subject_taken ws y e =
-    let p = parted (reading.word ws) _ y e in
+    let p = parted (taking.word ws) _ y e in
     let t = subject_by_taken p.0.0 (number_of p.0.0) p.0.1 y refl p.2 in
     (t.0, word_parted ws p.0 p.1 ∙ t.1)
 
@@ -167,23 +99,23 @@ edition_taken ws n rest l e words =
 title_taken : Takes lines.title
 unfolding lines.title
 title_taken ws l e =
-    let p0 = parted (reading.fixed (codes "report") ws) _ l e in
-    let p1 = parted (reading.short p0.0.1) _ l p0.2 in
+    let p0 = parted (taking.fixed (codes "report") ws) _ l e in
+    let p1 = parted (taking.short p0.0.1) _ l p0.2 in
     edition_taken ws p1.0.0 p1.0.1 l p1.2 (fixed_taken (codes "report") ws p0.0 p0.1 ∙ ap (λ r. codes "report" ∷ r) (short_taken p0.0.1 p1.0 p1.1).1)
 
 looper_taken : Takes lines.looper
 unfolding lines.looper
 looper_taken ws l e =
-    let p = parted (reading.counted (codes "looper") ws) _ l e in
+    let p = parted (taking.counted (codes "looper") ws) _ l e in
     let t = counted_taken (codes "looper") ws p.0 p.1 in
     whole_taken ws (Looper p.0.0) p.0.1 l p.2 t.0 t.1
 
 dispatch_taken : Takes lines.dispatch
 unfolding lines.dispatch
 dispatch_taken ws l e =
-    let p0 = parted (reading.long ws) _ l e in
-    let p1 = parted (reading.counted (codes "dispatch") p0.0.1) _ l p0.2 in
-    let p2 = parted (reading.short p1.0.1) _ l p1.2 in
+    let p0 = parted (taking.long ws) _ l e in
+    let p1 = parted (taking.counted (codes "dispatch") p0.0.1) _ l p0.2 in
+    let p2 = parted (taking.short p1.0.1) _ l p1.2 in
     let p3 = parted (reading.subject p2.0.1) _ l p2.2 in
     let t0 = long_taken ws p0.0 p0.1 in
     let t1 = counted_taken (codes "dispatch") p0.0.1 p1.0 p1.1 in
@@ -195,10 +127,10 @@ dispatch_taken ws l e =
 refused_taken : Takes lines.refused
 unfolding lines.refused
 refused_taken ws l e =
-    let p0 = parted (reading.fixed (codes "refused") ws) _ l e in
-    let p1 = parted (reading.short p0.0.1) _ l p0.2 in
+    let p0 = parted (taking.fixed (codes "refused") ws) _ l e in
+    let p1 = parted (taking.short p0.0.1) _ l p0.2 in
     let p2 = parted (reading.subject p1.0.1) _ l p1.2 in
-    let p3 = parted (reading.counted (codes "quit") p2.0.1) _ l p2.2 in
+    let p3 = parted (taking.counted (codes "quit") p2.0.1) _ l p2.2 in
     let t0 = fixed_taken (codes "refused") ws p0.0 p0.1 in
     let t1 = short_taken p0.0.1 p1.0 p1.1 in
     let t2 = subject_taken p1.0.1 p2.0 p2.1 in
@@ -210,20 +142,20 @@ refused_taken ws l e =
 not_posted_taken : Takes lines.not_posted
 unfolding lines.not_posted
 not_posted_taken ws l e =
-    let p = parted (reading.counted (codes "not-posted") ws) _ l e in
+    let p = parted (taking.counted (codes "not-posted") ws) _ l e in
     let t = counted_taken (codes "not-posted") ws p.0 p.1 in
     whole_taken ws (Past (past_of.NotPosted p.0.0)) p.0.1 l p.2 t.0 t.1
 
 not_allowed_taken : Takes lines.not_allowed
 unfolding lines.not_allowed
 not_allowed_taken ws l e =
-    let p = parted (reading.fixed (codes "not-allowed") ws) _ l e in
+    let p = parted (taking.fixed (codes "not-allowed") ws) _ l e in
     whole_taken ws (Past past_of.NotAllowed) p.0.1 l p.2 tt (fixed_taken (codes "not-allowed") ws p.0 p.1)
 
 already_quit_taken : Takes lines.already_quit
 unfolding lines.already_quit
 already_quit_taken ws l e =
-    let p = parted (reading.counted (codes "already-quit") ws) _ l e in
+    let p = parted (taking.counted (codes "already-quit") ws) _ l e in
     let t = counted_taken (codes "already-quit") ws p.0 p.1 in
     whole_taken ws (Past (past_of.AlreadyQuit p.0.0)) p.0.1 l p.2 t.0 t.1
 
@@ -234,7 +166,7 @@ FatesTaken ws y =
 fates_of_taken : (ws : Rest) (y : FatesData × Rest) → lines.fates_of ws ≡ Some y → FatesTaken ws y
 unfolding lines.fates_of
 fates_of_taken ws y e =
-    let p0 = parted (reading.fixed (codes "fates") ws) _ y e in
+    let p0 = parted (taking.fixed (codes "fates") ws) _ y e in
     let t0 = fixed_taken (codes "fates") ws p0.0 p0.1 in
     counted_then (FatesTaken ws y) (codes "accepted") p0.0.1 _ y p0.2 (λ a r1 s1 w1 e1.
     counted_then (FatesTaken ws y) (codes "dispatched") r1 _ y e1 (λ b r2 s2 w2 e2.
@@ -264,17 +196,17 @@ fates_taken ws l e =
 idle_taken : Takes lines.idle
 unfolding lines.idle
 idle_taken ws l e =
-    let p0 = parted (reading.fixed (codes "idle") ws) _ l e in
-    let p1 = parted (reading.short p0.0.1) _ l p0.2 in
+    let p0 = parted (taking.fixed (codes "idle") ws) _ l e in
+    let p1 = parted (taking.short p0.0.1) _ l p0.2 in
     let t1 = short_taken p0.0.1 p1.0 p1.1 in
     whole_taken ws (Act (act_of.Idle p1.0.0)) p1.0.1 l p1.2 t1.0 (fixed_taken (codes "idle") ws p0.0 p0.1 ∙ ap (λ r. codes "idle" ∷ r) t1.1)
 
 event_taken : Takes lines.event
 unfolding lines.event
 event_taken ws l e =
-    let p0 = parted (reading.fixed (codes "event") ws) _ l e in
-    let p1 = parted (reading.short p0.0.1) _ l p0.2 in
-    let p2 = parted (reading.short p1.0.1) _ l p1.2 in
+    let p0 = parted (taking.fixed (codes "event") ws) _ l e in
+    let p1 = parted (taking.short p0.0.1) _ l p0.2 in
+    let p2 = parted (taking.short p1.0.1) _ l p1.2 in
     let t1 = short_taken p0.0.1 p1.0 p1.1 in
     let t2 = short_taken p1.0.1 p2.0 p2.1 in
     whole_taken ws (Act (act_of.Event p1.0.0 p2.0.0)) p2.0.1 l p2.2 (t1.0, t2.0)
@@ -283,9 +215,9 @@ event_taken ws l e =
 paint_taken : Takes lines.paint
 unfolding lines.paint
 paint_taken ws l e =
-    let p0 = parted (reading.fixed (codes "paint") ws) _ l e in
-    let p1 = parted (reading.short p0.0.1) _ l p0.2 in
-    let p2 = parted (reading.short p1.0.1) _ l p1.2 in
+    let p0 = parted (taking.fixed (codes "paint") ws) _ l e in
+    let p1 = parted (taking.short p0.0.1) _ l p0.2 in
+    let p2 = parted (taking.short p1.0.1) _ l p1.2 in
     let t1 = short_taken p0.0.1 p1.0 p1.1 in
     let t2 = short_taken p1.0.1 p2.0 p2.1 in
     whole_taken ws (Act (act_of.Paint p1.0.0 p2.0.0)) p2.0.1 l p2.2 (t1.0, t2.0)
@@ -294,16 +226,16 @@ paint_taken ws l e =
 frame_taken : Takes lines.frame
 unfolding lines.frame
 frame_taken ws l e =
-    let p = parted (reading.counted (codes "frame") ws) _ l e in
+    let p = parted (taking.counted (codes "frame") ws) _ l e in
     let t = counted_taken (codes "frame") ws p.0 p.1 in
     whole_taken ws (Frame p.0.0) p.0.1 l p.2 t.0 t.1
 
 run_taken : Takes lines.run
 unfolding lines.run
 run_taken ws l e =
-    let p0 = parted (reading.fixed (codes "run") ws) _ l e in
-    let p1 = parted (reading.short p0.0.1) _ l p0.2 in
-    let p2 = parted (reading.long p1.0.1) _ l p1.2 in
+    let p0 = parted (taking.fixed (codes "run") ws) _ l e in
+    let p1 = parted (taking.short p0.0.1) _ l p0.2 in
+    let p2 = parted (taking.long p1.0.1) _ l p1.2 in
     let t1 = short_taken p0.0.1 p1.0 p1.1 in
     let t2 = long_taken p1.0.1 p2.0 p2.1 in
     let made : RunData = record { phase = p1.0.0; id = p2.0.0 } in
@@ -313,7 +245,7 @@ run_taken ws l e =
 end_taken : Takes lines.end
 unfolding lines.end
 end_taken ws l e =
-    let p = parted (reading.fixed (codes "end") ws) _ l e in
+    let p = parted (taking.fixed (codes "end") ws) _ l e in
     whole_taken ws End p.0.1 l p.2 tt (fixed_taken (codes "end") ws p.0 p.1)
 
 -- ---- one of several forms

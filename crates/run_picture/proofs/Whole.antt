@@ -28,7 +28,7 @@ use Rattle.run_picture.specs.declared.draft.Draft.{Draft}
 use Rattle.run_picture.specs.Text.{FitsFates, frame_lines, looper_lines, loopers_lines, lines, line_words, line_text, Fits, IsLeastBad, Finds, FindsAll, Refuses}
 use Rattle.run_picture.specs.Lines.{line_of}
 use Rattle.run_picture.specs.Progress.{blank, opened, start, closed, shut, framed, with_past, with_act, with_run, after_part, after_open, next, is_end, report_of, reading}
-use Rattle.run_picture.proofs.Spelled.{AreWords, words_again, words_taken, no_feed_within}
+use Rattle.line_words.proofs.Wording.{AreWords, words_again, words_taken, no_feed_within}
 use Rattle.run_picture.proofs.Taken.{line_taken}
 use Rattle.run_picture.proofs.Again.{line_again, line_are}
 

@@ -5,8 +5,8 @@ use Rattle.run_picture.specs.declared.report.Fates.{Fates as FatesData}
 use Rattle.run_picture.specs.declared.report.Act.TheVariants as act_of
 use Rattle.run_picture.specs.declared.line.Line.{Line}
 use Rattle.run_picture.specs.declared.line.Line.TheVariants.{Title, Looper, Past, Fates, Act, Frame, Run, End}
-use Rattle.run_picture.specs.Reading.{Rest, and_then, whole, long, short, fixed, counted, subject}
-pub use Rattle.run_picture.specs.Reading.{read}
+use Rattle.line_words.specs.Taking.{Rest, and_then, whole, long, short, fixed, counted}
+use Rattle.run_picture.specs.Reading.{subject}
 
 unfoldable pub title : Rest → Option Line
 title rest0 =

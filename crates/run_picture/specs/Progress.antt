@@ -54,57 +54,35 @@ with_run f r = record f { runs = f.runs ++ r ∷ [] }
 -- what the first line makes of a draft
 abbrev pub after_start : Draft → Line → Option Draft
 after_start d (Title e) = Some (record d { part = part_of.Open; edition = e })
-after_start d (Looper n) = None
-after_start d (Past p) = None
-after_start d (Fates f) = None
-after_start d (Act a) = None
-after_start d (Frame t) = None
-after_start d (Run r) = None
-after_start d End = None
+after_start d _ = None
 
 -- what a line makes of a draft between its loopers
 abbrev pub after_open : Draft → Line → Option Draft
-after_open d (Title e) = None
 after_open d (Looper n) = if n == length d.loopers then Some (record d { part = part_of.Past }) else None
-after_open d (Past p) = None
-after_open d (Fates f) = None
-after_open d (Act a) = None
-after_open d (Frame t) = None
-after_open d (Run r) = None
 after_open d End = Some (record d { part = part_of.End })
+after_open d _ = None
 
 -- what a line makes of a draft in the history of a looper
 abbrev pub after_past : Draft → Line → Option Draft
-after_past d (Title e) = None
-after_past d (Looper n) = None
 after_past d (Past p) = Some (record d { current = with_past d.current p })
 after_past d (Fates f) = Some (record d { part = part_of.Acts; current = record d.current { fates = f } })
-after_past d (Act a) = None
-after_past d (Frame t) = None
-after_past d (Run r) = None
-after_past d End = None
+after_past d _ = None
 
 -- what a line makes of a draft in the journal of a looper
 abbrev pub after_acts : Draft → Line → Option Draft
-after_acts d (Title e) = None
 after_acts d (Looper n) = after_open (closed d) (Looper n)
-after_acts d (Past p) = None
-after_acts d (Fates f) = None
 after_acts d (Act a) = Some (record d { current = with_act d.current a })
 after_acts d (Frame t) = Some (record d { part = part_of.Frames; frame = opened t })
-after_acts d (Run r) = None
 after_acts d End = after_open (closed d) End
+after_acts d _ = None
 
 -- what a line makes of a draft in a frame of a looper
 abbrev pub after_frames : Draft → Line → Option Draft
-after_frames d (Title e) = None
 after_frames d (Looper n) = after_open (closed (shut 0 d)) (Looper n)
-after_frames d (Past p) = None
-after_frames d (Fates f) = None
-after_frames d (Act a) = None
 after_frames d (Frame t) = Some (shut t d)
 after_frames d (Run r) = Some (record d { frame = with_run d.frame r })
 after_frames d End = after_open (closed (shut 0 d)) End
+after_frames d _ = None
 
 -- what a line makes of a draft in this part
 abbrev pub after_part : Part → Draft → Line → Option Draft
@@ -121,11 +99,7 @@ next d l = after_part d.part d l
 
 abbrev pub is_end : Part → Bool
 is_end part_of.End = true
-is_end part_of.Start = false
-is_end part_of.Open = false
-is_end part_of.Past = false
-is_end part_of.Acts = false
-is_end part_of.Frames = false
+is_end _ = false
 
 abbrev pub report_of : Draft → Report
 report_of d = record { edition = d.edition; loopers = d.loopers }

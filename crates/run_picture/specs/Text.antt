@@ -1,8 +1,10 @@
 -- The text of a report, and where a text that is none goes wrong.
-use Rattle.std.specs.Prelude.{◌≡◌, ℕ, ◌+◌, ◌<◌, ◌^◌, List, [], ◌∷◌, ◌++◌, codes, map}
-use Rattle.std.specs.List.{flat_map, join_with_byte, AllByRecursion}
+use Rattle.std.specs.Prelude.{◌≡◌, ℕ, ◌+◌, List, [], ◌∷◌, ◌++◌, codes, map}
+use Rattle.std.specs.List.{flat_map, AllByRecursion}
 use Rattle.std.specs.Fmt.{decimal}
 use Rattle.std.specs.Prelude.{◌⊎◌}
+use Rattle.line_words.specs.Words.{line}
+pub use Rattle.line_words.specs.Words.{IsShort, IsLong}
 use Rattle.line_words.specs.LeastBad.{IsLeastBad as IsLeastBadOf}
 use Rattle.run_picture.specs.declared.report.Subject.{Subject}
 use Rattle.run_picture.specs.declared.report.Subject.TheVariants.{What, Callback}
@@ -58,14 +60,6 @@ line_words End = codes "end" ∷ []
 
 -- ---- the limits of the numbers
 
--- a number of 32 bits
-abbrev pub IsShort : ℕ → Type 0
-IsShort n = n < 2 ^ 32
-
--- a number of 64 bits
-abbrev pub IsLong : ℕ → Type 0
-IsLong n = n < 2 ^ 64
-
 abbrev pub FitsSubject : Subject → Type 0
 FitsSubject (What w) = IsShort w
 FitsSubject (Callback c) = IsLong c
@@ -118,9 +112,9 @@ loopers_lines n (l ∷ ls) = looper_lines n l ++ loopers_lines (n + 1) ls
 abbrev pub lines : Report → List Line
 lines r = (Title r.edition ∷ loopers_lines 0 r.loopers) ++ End ∷ []
 
--- a line is its words with single spaces, and a line feed
+-- how a line is written
 unfoldable pub line_text : Line → List ℕ
-line_text l = join_with_byte 32 (line_words l) ++ 10 ∷ []
+line_text l = line (line_words l)
 
 -- the text of a report
 abbrev pub text : Report → List ℕ

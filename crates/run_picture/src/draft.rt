@@ -93,13 +93,7 @@ impl Draft {
                 self.part = Part::Open;
                 true
             }
-            Line::Looper(_) => false,
-            Line::Past(_) => false,
-            Line::Fates(_) => false,
-            Line::Act(_) => false,
-            Line::Frame(_) => false,
-            Line::Run(_) => false,
-            Line::End => false,
+            _ => false,
         }
     }
 
@@ -119,12 +113,7 @@ impl Draft {
                 self.part = Part::End;
                 true
             }
-            Line::Title(_) => false,
-            Line::Past(_) => false,
-            Line::Fates(_) => false,
-            Line::Act(_) => false,
-            Line::Frame(_) => false,
-            Line::Run(_) => false,
+            _ => false,
         }
     }
 
@@ -141,12 +130,7 @@ impl Draft {
                 self.part = Part::Acts;
                 Ok(true)
             }
-            Line::Title(_) => Ok(false),
-            Line::Looper(_) => Ok(false),
-            Line::Act(_) => Ok(false),
-            Line::Frame(_) => Ok(false),
-            Line::Run(_) => Ok(false),
-            Line::End => Ok(false),
+            _ => Ok(false),
         }
     }
 
@@ -171,10 +155,7 @@ impl Draft {
                 self.close(alloc)?;
                 Ok(self.add_between(line))
             }
-            Line::Title(_) => Ok(false),
-            Line::Past(_) => Ok(false),
-            Line::Fates(_) => Ok(false),
-            Line::Run(_) => Ok(false),
+            _ => Ok(false),
         }
     }
 
@@ -200,10 +181,7 @@ impl Draft {
                 self.close(alloc)?;
                 Ok(self.add_between(line))
             }
-            Line::Title(_) => Ok(false),
-            Line::Past(_) => Ok(false),
-            Line::Fates(_) => Ok(false),
-            Line::Act(_) => Ok(false),
+            _ => Ok(false),
         }
     }
 }
@@ -244,14 +222,7 @@ impl ByLines for Draft {
     }
 
     fn is_ended(&self) -> bool {
-        match self.part {
-            Part::End => true,
-            Part::Start => false,
-            Part::Open => false,
-            Part::Past => false,
-            Part::Acts => false,
-            Part::Frames => false,
-        }
+        matches!(self.part, Part::End)
     }
 
     fn into_whole(self) -> Report {

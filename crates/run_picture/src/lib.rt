@@ -21,7 +21,6 @@ mod shape;
 mod shelf;
 mod svg;
 mod view;
-mod words;
 
 pub use group::{Group, Place, Row, Scale, groups};
 pub use label::push_escaped;

@@ -1,18 +1,46 @@
 //! What the words of a line say, by its form.
 ghost use Rattle.std.specs.Prelude.{◌≡◌};
 ghost use Rattle.line_words.specs.Words.{words};
+ghost use Rattle.line_words.specs.Taking.{read};
+ghost use Rattle.run_picture.specs.Reading.{callback, subject};
 ghost use Rattle.run_picture.specs.Lines as says;
 ghost use Rattle.run_picture.specs.Lines.{line_of, either, fates_of};
 
 use crate::line::Line;
-use crate::report::{Act, Fates, Past, Run};
-use crate::words::Cursor;
+use crate::report::{Act, Fates, Past, Run, Subject};
+use line_words::{Words, number};
+
+/// A callback's number behind the word `callback`, which was taken.
+fn callback(word: &[u8], words: &mut Words) -> Option<Subject>
+    ensures { read result words.new ≡ callback word.now words.old }
+{
+    if word == b"callback".as_slice() {
+        Some(Subject::Callback(words.long()?))
+    } else {
+        None
+    }
+}
+
+/// A message by its `what`, or by its callback.
+#[tactic(auto, unfolding(crate::specs::Reading::subject))]
+fn subject(words: &mut Words) -> Option<Subject>
+    ensures { read result words.new ≡ subject words.old }
+{
+    let word = words.next()?;
+    match number(word) {
+        Some(what) => match u32::try_from(what) {
+            Ok(what) => Some(Subject::What(what)),
+            Err(_) => None,
+        },
+        None => callback(word, words),
+    }
+}
 
 #[tactic(auto, unfolding(crate::specs::Lines::title))]
 fn title(line: &[u8]) -> Option<Line>
     ensures { result ≡ says.title (words line.now) }
 {
-    let mut words = Cursor::new(line);
+    let mut words = Words::new(line);
     words.fixed(b"report")?;
     let edition = words.short()?;
     if edition == 1 {
@@ -28,7 +56,7 @@ fn title(line: &[u8]) -> Option<Line>
 fn looper(line: &[u8]) -> Option<Line>
     ensures { result ≡ says.looper (words line.now) }
 {
-    let mut words = Cursor::new(line);
+    let mut words = Words::new(line);
     let number = words.counted(b"looper")?;
     words.whole(Line::Looper(number))
 }
@@ -37,11 +65,11 @@ fn looper(line: &[u8]) -> Option<Line>
 fn dispatch(line: &[u8]) -> Option<Line>
     ensures { result ≡ says.dispatch (words line.now) }
 {
-    let mut words = Cursor::new(line);
+    let mut words = Words::new(line);
     let now = words.long()?;
     let number = words.counted(b"dispatch")?;
     let handler = words.short()?;
-    let subject = words.subject()?;
+    let subject = subject(&mut words)?;
     words.whole(Line::Past(Past::Dispatch {
         now,
         number,
@@ -54,10 +82,10 @@ fn dispatch(line: &[u8]) -> Option<Line>
 fn refused(line: &[u8]) -> Option<Line>
     ensures { result ≡ says.refused (words line.now) }
 {
-    let mut words = Cursor::new(line);
+    let mut words = Words::new(line);
     words.fixed(b"refused")?;
     let handler = words.short()?;
-    let subject = words.subject()?;
+    let subject = subject(&mut words)?;
     let place = words.counted(b"quit")?;
     words.whole(Line::Past(Past::Refused {
         handler,
@@ -70,7 +98,7 @@ fn refused(line: &[u8]) -> Option<Line>
 fn not_posted(line: &[u8]) -> Option<Line>
     ensures { result ≡ says.not_posted (words line.now) }
 {
-    let mut words = Cursor::new(line);
+    let mut words = Words::new(line);
     let token = words.counted(b"not-posted")?;
     words.whole(Line::Past(Past::NotPosted { token }))
 }
@@ -79,7 +107,7 @@ fn not_posted(line: &[u8]) -> Option<Line>
 fn not_allowed(line: &[u8]) -> Option<Line>
     ensures { result ≡ says.not_allowed (words line.now) }
 {
-    let mut words = Cursor::new(line);
+    let mut words = Words::new(line);
     words.fixed(b"not-allowed")?;
     words.whole(Line::Past(Past::NotAllowed))
 }
@@ -88,15 +116,15 @@ fn not_allowed(line: &[u8]) -> Option<Line>
 fn already_quit(line: &[u8]) -> Option<Line>
     ensures { result ≡ says.already_quit (words line.now) }
 {
-    let mut words = Cursor::new(line);
+    let mut words = Words::new(line);
     let place = words.counted(b"already-quit")?;
     words.whole(Line::Past(Past::AlreadyQuit { place }))
 }
 
 /// The counts of the fates, whether or not they add up.
 #[tactic(auto, unfolding(crate::specs::Lines::fates_of))]
-fn fates_of(words: &mut Cursor) -> Option<Fates>
-    ensures { says.read result words.new ≡ fates_of words.old }
+fn fates_of(words: &mut Words) -> Option<Fates>
+    ensures { read result words.new ≡ fates_of words.old }
 {
     words.fixed(b"fates")?;
     let accepted = words.counted(b"accepted")?;
@@ -131,7 +159,7 @@ fn adds_up(fates: &Fates) -> bool
 fn fates(line: &[u8]) -> Option<Line>
     ensures { result ≡ says.fates (words line.now) }
 {
-    let mut words = Cursor::new(line);
+    let mut words = Words::new(line);
     let fates = fates_of(&mut words)?;
     if adds_up(&fates) {
         words.whole(Line::Fates(fates))
@@ -144,7 +172,7 @@ fn fates(line: &[u8]) -> Option<Line>
 fn idle(line: &[u8]) -> Option<Line>
     ensures { result ≡ says.idle (words line.now) }
 {
-    let mut words = Cursor::new(line);
+    let mut words = Words::new(line);
     words.fixed(b"idle")?;
     let id = words.short()?;
     words.whole(Line::Act(Act::Idle { id }))
@@ -154,7 +182,7 @@ fn idle(line: &[u8]) -> Option<Line>
 fn event(line: &[u8]) -> Option<Line>
     ensures { result ≡ says.event (words line.now) }
 {
-    let mut words = Cursor::new(line);
+    let mut words = Words::new(line);
     words.fixed(b"event")?;
     let fd = words.short()?;
     let events = words.short()?;
@@ -165,7 +193,7 @@ fn event(line: &[u8]) -> Option<Line>
 fn paint(line: &[u8]) -> Option<Line>
     ensures { result ≡ says.paint (words line.now) }
 {
-    let mut words = Cursor::new(line);
+    let mut words = Words::new(line);
     words.fixed(b"paint")?;
     let gauge = words.short()?;
     let value = words.short()?;
@@ -176,7 +204,7 @@ fn paint(line: &[u8]) -> Option<Line>
 fn frame(line: &[u8]) -> Option<Line>
     ensures { result ≡ says.frame (words line.now) }
 {
-    let mut words = Cursor::new(line);
+    let mut words = Words::new(line);
     let time = words.counted(b"frame")?;
     words.whole(Line::Frame(time))
 }
@@ -185,7 +213,7 @@ fn frame(line: &[u8]) -> Option<Line>
 fn run(line: &[u8]) -> Option<Line>
     ensures { result ≡ says.run (words line.now) }
 {
-    let mut words = Cursor::new(line);
+    let mut words = Words::new(line);
     words.fixed(b"run")?;
     let phase = words.short()?;
     let id = words.long()?;
@@ -196,7 +224,7 @@ fn run(line: &[u8]) -> Option<Line>
 fn end(line: &[u8]) -> Option<Line>
     ensures { result ≡ says.end (words line.now) }
 {
-    let mut words = Cursor::new(line);
+    let mut words = Words::new(line);
     words.fixed(b"end")?;
     words.whole(Line::End)
 }

@@ -20,17 +20,16 @@ use Rattle.trace_check.specs.declared.draft.Part.TheVariants as part_of
 use Rattle.trace_check.specs.declared.draft.Draft.{Draft}
 use Rattle.trace_check.specs.declared.trace.Trace.{Trace}
 use Rattle.trace_check.specs.declared.trace.ParsedTrace.TheVariants as parsed
-use Rattle.trace_check.specs.Word.{line}
-use Rattle.trace_check.specs.Saying.{words_of}
+use Rattle.std.specs.List.{join_with_byte}
+use Rattle.line_words.specs.Words.{words}
 use Rattle.trace_check.specs.Line.{line_words, Fits}
 use Rattle.trace_check.specs.Text.{head_of, queue_lines, lines, line_text, IsLeastBad}
 use Rattle.trace_check.specs.Answering.{Finds, FindsAll, Refuses}
 use Rattle.trace_check.specs.Reading.{line_of}
 use Rattle.trace_check.specs.Progress.{blank, opened, start, settled, with_entry, after_part, next, is_end, trace_so_far, reading}
-use Rattle.trace_check.specs.declared.word.Word.{Word}
-use Rattle.trace_check.proofs.Spelled.{AllFit, line_bytes, words_again, words_taken, no_feed_within}
+use Rattle.line_words.proofs.Wording.{AreWords, words_again, words_taken, no_feed_within}
 use Rattle.trace_check.proofs.Taken.{line_taken}
-use Rattle.trace_check.proofs.Again.{line_again, line_fits}
+use Rattle.trace_check.proofs.Again.{line_again, line_are}
 
 abbrev AllFits : List Line → Type 0
 AllFits ls = AllByRecursion Fits ls
@@ -39,18 +38,18 @@ AllFits ls = AllByRecursion Fits ls
 
 -- the bytes of a line, without its line feed
 abbrev bytes_of : Line → List ℕ
-bytes_of l = line_bytes (line_words l)
+bytes_of l = join_with_byte 32 (line_words l)
 
 fed : (l : Line) → line_text l ≡ bytes_of l ++ 10 ∷ []
-unfolding line
+unfolding line_text
 fed l = refl
 
-words_said : (l : Line) (x : Word) (ws : List Word) → line_words l ≡ x ∷ ws → Fits l → line_of (words_of (bytes_of l)) ≡ Some l
-words_said l x ws e fit =
-    let all : AllFit (x ∷ ws) = subst AllFit e (line_fits l fit) in
-    ap (λ v. line_of (words_of (line_bytes v))) e ∙ ap line_of (words_again x ws all) ∙ ap (λ v. line_of (map Some v)) (sym e) ∙ line_again l fit
+words_said : (l : Line) (w : List ℕ) (ws : List (List ℕ)) → line_words l ≡ w ∷ ws → Fits l → line_of (words (bytes_of l)) ≡ Some l
+words_said l w ws e fit =
+    let all : AreWords (w ∷ ws) = subst AreWords e (line_are l fit) in
+    ap (λ v. line_of (words (join_with_byte 32 v))) e ∙ ap line_of (words_again w ws all) ∙ ap line_of (sym e) ∙ line_again l fit
 
-read_again : (l : Line) → Fits l → line_of (words_of (bytes_of l)) ≡ Some l
+read_again : (l : Line) → Fits l → line_of (words (bytes_of l)) ≡ Some l
 read_again Title fit = words_said Title _ _ refl fit
 read_again (Queue h) fit = words_said (Queue h) _ _ refl fit
 read_again (Entry e) fit = words_said (Entry e) _ _ refl fit
@@ -266,9 +265,9 @@ ending part_of.End d ls e w = w
 form : IsForm reading bytes_of line_text lines Fits Stands
 form = record {
   fed = fed;
-  free = λ l fit. no_feed_within (line_words l) (line_fits l fit);
+  free = λ l fit. no_feed_within (line_words l) (line_are l fit);
   again = read_again;
-  taken = λ bytes l is. (let t = line_taken (words_of bytes) l is in (t.0, words_taken bytes (line_words l) t.1));
+  taken = λ bytes l is. (let t = line_taken (words bytes) l is in (t.0, words_taken bytes (line_words l) t.1));
   leads = λ t. (finished t, lines_run t, refl, refl);
   starts = record { written = refl; sound = (refl, refl) };
   more = stands_on;

@@ -1,39 +1,67 @@
 -- Lines that are written word by word.
-use Rattle.std.proofs.Common.{◌≡◌, ℕ, List, [], ◌∷◌, ◌++◌, map, refl, sym, ap, ◌∙◌, append_assoc}
-use Rattle.std.specs.List.{flat_map}
+use Rattle.std.proofs.Common.{◌≡◌, ℕ, List, [], ◌∷◌, ◌++◌, refl, sym, ap, subst, ◌∙◌, append_assoc}
+use Rattle.std.specs.List.{flat_map, join_with_byte}
+use Rattle.std.specs.Fmt.{decimal}
 use Rattle.std.proofs.lemmas.List.{append-nil}
 use Rattle.std.proofs.lemmas.List.Concat.{flat_map-append}
+use Rattle.loop_model.specs.declared.call.Call.{Call}
+use Rattle.loop_model.specs.declared.call.Call.TheVariants as call
+use Rattle.loop_model.specs.declared.reply.Reply.{Reply}
+use Rattle.loop_model.specs.declared.reply.Reply.TheVariants as reply
 use Rattle.loop_model.specs.declared.entry.Entry.{Entry as EntryData}
 use Rattle.trace_check.specs.declared.trace.TraceQueue.{TraceQueue}
-use Rattle.line_words.proofs.Joining.{join_with_byte-cons}
-use Rattle.trace_check.specs.declared.word.Word.{Word}
-use Rattle.trace_check.specs.declared.word.Word.TheVariants.{Number}
-use Rattle.trace_check.specs.declared.line.Line.TheVariants.{Title, Entry, End}
-use Rattle.trace_check.specs.Word.{spell, line}
-use Rattle.trace_check.specs.Saying.{spaced}
+use Rattle.line_words.proofs.Joining.{join_append}
+use Rattle.trace_check.specs.declared.line.Line.TheVariants.{Title, End}
 use Rattle.trace_check.specs.Line.{call_words, reply_words}
 use Rattle.trace_check.specs.Text.{line_text, queue_lines, text}
 
-spaced_words : (ws : List Word) → flat_map (λ v. 32 ∷ v) (map spell ws) ≡ spaced ws
-spaced_words [] = refl
-spaced_words (w ∷ ws) = ap (λ t. 32 ∷ spell w ++ t) (spaced_words ws)
+-- these are a word and others
+abbrev Some_words : List (List ℕ) → Type 0
+Some_words ws = (w : List ℕ) × (vs : List (List ℕ)) × (ws ≡ w ∷ vs)
 
--- a word, the others behind spaces, and a line feed
-pub whole_line : (x : Word) (ws : List Word) (old a b new : List ℕ) → a ≡ old ++ spell x → b ≡ a ++ spaced ws → new ≡ b ++ 10 ∷ [] → new ≡ old ++ line (x ∷ ws)
-unfolding line
-whole_line x ws old a b new first others last =
-    last ∙ ap (λ t. t ++ 10 ∷ []) (others ∙ ap (λ t. t ++ spaced ws) first ∙ append_assoc old (spell x) (spaced ws)) ∙ append_assoc old (spell x ++ spaced ws) (10 ∷ [])
-    ∙ ap (λ t. old ++ ((spell x ++ t) ++ 10 ∷ [])) (sym (spaced_words ws)) ∙ ap (λ t. old ++ (t ++ 10 ∷ [])) (sym (join_with_byte-cons (spell x) (map spell ws)))
+call_named : (c : Call) → Some_words (call_words c)
+call_named (call.Post p) = (_, _, refl)
+call_named (call.Barrier now) = (_, _, refl)
+call_named (call.Unbarrier token) = (_, _, refl)
+call_named (call.Remove f) = (_, _, refl)
+call_named (call.Quit safe now) = (_, _, refl)
+call_named (call.Next now) = (_, _, refl)
+call_named (call.Advance now) = (_, _, refl)
+call_named (call.Halt now) = (_, _, refl)
 
-pub entry_line : (e : EntryData) (old a b c d new : List ℕ) → a ≡ old ++ spell (Number e.sender) → b ≡ a ++ spaced (Number e.seq ∷ []) → c ≡ b ++ spaced (call_words e.call) → d ≡ c ++ spaced (reply_words e.reply)
-    → new ≡ d ++ 10 ∷ [] → new ≡ old ++ line_text (Entry e)
-entry_line e old a b c d new first seq call reply last =
-    let rest = call_words e.call ++ reply_words e.reply in
-    let others : d ≡ a ++ spaced (Number e.seq ∷ rest) =
-    reply ∙ ap (λ t. t ++ spaced (reply_words e.reply)) (call ∙ ap (λ t. t ++ spaced (call_words e.call)) seq) ∙ append_assoc (a ++ spaced (Number e.seq ∷ [])) (spaced (call_words e.call)) (spaced (reply_words e.reply))
-    ∙ ap (λ t. (a ++ spaced (Number e.seq ∷ [])) ++ t) (sym (flat_map-append (λ w. 32 ∷ spell w) (call_words e.call) (reply_words e.reply)))
-    ∙ append_assoc a (spaced (Number e.seq ∷ [])) (spaced rest) ∙ ap (λ t. a ++ t) (sym (flat_map-append (λ w. 32 ∷ spell w) (Number e.seq ∷ []) rest)) in
-    whole_line (Number e.sender) (Number e.seq ∷ rest) old a d new first others last
+reply_named : (r : Reply) → Some_words (reply_words r)
+reply_named (reply.Accepted n) = (_, _, refl)
+reply_named (reply.Refused place) = (_, _, refl)
+reply_named (reply.Token token) = (_, _, refl)
+reply_named reply.Unbarriered = (_, _, refl)
+reply_named reply.NotPosted = (_, _, refl)
+reply_named (reply.Removed count) = (_, _, refl)
+reply_named reply.QuitDone = (_, _, refl)
+reply_named (reply.AlreadyQuit place) = (_, _, refl)
+reply_named reply.NotAllowed = (_, _, refl)
+reply_named (reply.Dispatched n) = (_, _, refl)
+reply_named reply.Disposed = (_, _, refl)
+reply_named reply.Advanced = (_, _, refl)
+reply_named reply.Halted = (_, _, refl)
+
+to_right : (a b p q f : List ℕ) → (a ++ (32 ∷ (b ++ (32 ∷ (p ++ (32 ∷ q)))))) ++ f ≡ a ++ (32 ∷ (b ++ (32 ∷ (p ++ (32 ∷ (q ++ f))))))
+to_right a b p q f =
+    append_assoc a (32 ∷ (b ++ (32 ∷ (p ++ (32 ∷ q))))) f ∙ ap (λ t. a ++ (32 ∷ t)) (append_assoc b (32 ∷ (p ++ (32 ∷ q))) f ∙ ap (λ t. b ++ (32 ∷ t)) (append_assoc p (32 ∷ q) f))
+
+abbrev Joins : List ℕ → List ℕ → List (List ℕ) → List (List ℕ) → Type 0
+Joins a b ws vs =
+    a ++ (32 ∷ (b ++ (32 ∷ (join_with_byte 32 ws ++ (32 ∷ (join_with_byte 32 vs ++ 10 ∷ [])))))) ≡ join_with_byte 32 (a ∷ b ∷ ws ++ vs) ++ 10 ∷ []
+
+joins : (a b x : List ℕ) (xs : List (List ℕ)) (y : List ℕ) (ys : List (List ℕ)) → Joins a b (x ∷ xs) (y ∷ ys)
+joins a b x xs y ys =
+    sym (to_right a b (join_with_byte 32 (x ∷ xs)) (join_with_byte 32 (y ∷ ys)) (10 ∷ [])) ∙ ap (λ t. (a ++ (32 ∷ (b ++ (32 ∷ t)))) ++ 10 ∷ []) (sym (join_append x xs y ys))
+
+joined : (a b : List ℕ) (ws vs : List (List ℕ)) → Some_words ws → Some_words vs → Joins a b ws vs
+joined a b ws vs (x, xs, is) (y, ys, are) = subst (λ l. Joins a b l vs) (sym is) (subst (λ l. Joins a b (x ∷ xs) l) (sym are) (joins a b x xs y ys))
+
+-- the sender, its number, the call and the reply
+pub entry_joined : (e : EntryData) → Joins (decimal e.sender) (decimal e.seq) (call_words e.call) (reply_words e.reply)
+entry_joined e = joined (decimal e.sender) (decimal e.seq) (call_words e.call) (reply_words e.reply) (call_named e.call) (reply_named e.reply)
 
 -- the title, the lines of the queues, and the end
 pub whole_text : (qs : List TraceQueue) (a b new : List ℕ) → a ≡ line_text Title → b ≡ a ++ flat_map line_text (flat_map queue_lines qs) → new ≡ b ++ line_text End → new ≡ text (record { queues = qs })

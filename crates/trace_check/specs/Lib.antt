@@ -1,7 +1,3 @@
-pub mod Keyword
-pub mod Keywords
-pub mod Word
-pub mod Saying
 pub mod Line
 pub mod Text
 pub mod Answering

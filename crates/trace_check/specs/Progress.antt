@@ -10,7 +10,7 @@ use Rattle.trace_check.specs.declared.draft.Part.{Part}
 use Rattle.trace_check.specs.declared.draft.Part.TheVariants as part_of
 use Rattle.trace_check.specs.declared.draft.Draft.{Draft}
 use Rattle.trace_check.specs.declared.trace.Trace.{Trace}
-use Rattle.trace_check.specs.Saying.{words_of}
+use Rattle.line_words.specs.Words.{words}
 use Rattle.trace_check.specs.Reading.{line_of}
 
 -- no queue
@@ -36,23 +36,18 @@ with_entry q e = record q { entries = q.entries ++ e ∷ [] }
 -- what the first line makes of a draft
 abbrev pub after_start : Draft → Line → Option Draft
 after_start d Title = Some (record d { part = part_of.Body })
-after_start d (Queue h) = None
-after_start d (Entry e) = None
-after_start d End = None
+after_start d _ = None
 
 -- what a line makes of a draft whose queues have all their entries
 abbrev pub after_queues : Draft → Line → Option Draft
-after_queues d Title = None
 after_queues d (Queue h) = Some (settled (record d { current = opened h; left = h.count }))
-after_queues d (Entry e) = None
 after_queues d End = Some (record d { part = part_of.End })
+after_queues d _ = None
 
 -- what a line makes of a draft whose last queue has entries to come
 abbrev pub after_entries : Draft → Line → Option Draft
-after_entries d Title = None
-after_entries d (Queue h) = None
 after_entries d (Entry e) = Some (settled (record d { current = with_entry d.current e; left = d.left - 1 }))
-after_entries d End = None
+after_entries d _ = None
 
 -- what a line makes of a draft in this part
 abbrev pub after_part : Part → Draft → Line → Option Draft
@@ -66,12 +61,11 @@ next d l = after_part d.part d l
 
 abbrev pub is_end : Part → Bool
 is_end part_of.End = true
-is_end part_of.Start = false
-is_end part_of.Body = false
+is_end _ = false
 
 abbrev pub trace_so_far : Draft → Trace
 trace_so_far d = record { queues = d.queues }
 
 -- how the lines of a trace are read
 abbrev pub reading : Reading Line Draft Trace
-reading = record { start = start; line_of = λ bytes. line_of (words_of bytes); next = next; is_end = λ d. is_end d.part; whole = trace_so_far }
+reading = record { start = start; line_of = λ bytes. line_of (words bytes); next = next; is_end = λ d. is_end d.part; whole = trace_so_far }

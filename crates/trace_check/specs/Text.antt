@@ -7,7 +7,7 @@ use Rattle.trace_check.specs.declared.line.Head.{Head}
 use Rattle.trace_check.specs.declared.line.Line.{Line}
 use Rattle.trace_check.specs.declared.line.Line.TheVariants.{Title, Queue, Entry, End}
 use Rattle.trace_check.specs.declared.trace.Trace.{Trace}
-use Rattle.trace_check.specs.Word.{line}
+use Rattle.line_words.specs.Words.{line}
 use Rattle.trace_check.specs.Line.{line_words, Fits}
 
 -- the line of a queue, which has so many entries
@@ -23,7 +23,7 @@ abbrev pub lines : Trace → List Line
 lines t = (Title ∷ flat_map queue_lines t.queues) ++ End ∷ []
 
 -- how a line is written
-abbrev pub line_text : Line → List ℕ
+unfoldable pub line_text : Line → List ℕ
 line_text l = line (line_words l)
 
 -- the text of a trace

@@ -91,9 +91,7 @@ impl Draft {
                 self.part = Part::Body;
                 true
             }
-            Line::Queue(_) => false,
-            Line::Entry(_) => false,
-            Line::End => false,
+            _ => false,
         }
     }
 
@@ -109,8 +107,7 @@ impl Draft {
                 self.part = Part::End;
                 Ok(true)
             }
-            Line::Title => Ok(false),
-            Line::Entry(_) => Ok(false),
+            _ => Ok(false),
         }
     }
 
@@ -123,9 +120,7 @@ impl Draft {
                 self.add_entry(alloc, entry)?;
                 Ok(true)
             }
-            Line::Title => Ok(false),
-            Line::Queue(_) => Ok(false),
-            Line::End => Ok(false),
+            _ => Ok(false),
         }
     }
 }
@@ -163,11 +158,7 @@ impl ByLines for Draft {
     }
 
     fn is_ended(&self) -> bool {
-        match self.part {
-            Part::End => true,
-            Part::Start => false,
-            Part::Body => false,
-        }
+        matches!(self.part, Part::End)
     }
 
     fn into_whole(self) -> Trace {

@@ -6,7 +6,6 @@ mod counts;
 mod draft;
 mod fault;
 mod items;
-mod keyword;
 mod label;
 mod line;
 mod past;
@@ -15,7 +14,6 @@ mod reading;
 mod shelf;
 mod shelves;
 mod trace;
-mod word;
 mod writer;
 
 pub use checker::{Checked, Explained, check, explain};

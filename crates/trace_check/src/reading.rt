@@ -1,136 +1,25 @@
 //! What the words of a line say.
 ghost use Rattle.std.specs.Prelude.{◌≡◌};
-ghost use Rattle.trace_check.specs.Saying.{words_of};
-ghost use Rattle.trace_check.specs.Reading.{read, long, short, maybe_long, maybe_short, name, flag, side, mode, manner, post, kind_by, kind, filter, quit, call_by, call, reply_by, reply, entry, head, title, named_by, line_of};
+ghost use Rattle.line_words.specs.Taking.{read};
+ghost use Rattle.line_words.specs.Words.{words};
+ghost use Rattle.trace_check.specs.Reading.{call, call_by, entry, filter, head, kind, kind_by, line_of, post, quit, reply, reply_by, title};
 
-use crate::keyword::Keyword;
 use crate::line::{Head, Line};
-use crate::word::{Word, Words};
+use line_words::Words;
 use loop_model::{Call, Entry, Filter, Kind, Post, Reply};
-
-/// A number of 64 bits.
-#[tactic(auto, unfolding(crate::specs::Reading::long))]
-fn long(words: &mut Words) -> Option<u64>
-    ensures { read result words.new ≡ long words.old }
-{
-    match words.next()? {
-        Word::Number(number) => Some(number),
-        Word::Name(_) => None,
-        Word::Absent => None,
-    }
-}
-
-/// A number of 32 bits.
-#[tactic(auto, unfolding(crate::specs::Reading::short))]
-fn short(words: &mut Words) -> Option<u32>
-    ensures { read result words.new ≡ short words.old }
-{
-    match words.next()? {
-        Word::Number(number) => u32::try_from(number).ok(),
-        Word::Name(_) => None,
-        Word::Absent => None,
-    }
-}
-
-/// A number of 64 bits, or the mark of what is absent.
-#[tactic(auto, unfolding(crate::specs::Reading::maybe_long))]
-fn maybe_long(words: &mut Words) -> Option<Option<u64>>
-    ensures { read result words.new ≡ maybe_long words.old }
-{
-    match words.next()? {
-        Word::Number(number) => Some(Some(number)),
-        Word::Name(_) => None,
-        Word::Absent => Some(None),
-    }
-}
-
-/// A number of 32 bits, or the mark of what is absent.
-#[tactic(auto, unfolding(crate::specs::Reading::maybe_short))]
-fn maybe_short(words: &mut Words) -> Option<Option<u32>>
-    ensures { read result words.new ≡ maybe_short words.old }
-{
-    match words.next()? {
-        Word::Number(number) => match u32::try_from(number) {
-            Ok(number) => Some(Some(number)),
-            Err(_) => None,
-        },
-        Word::Name(_) => None,
-        Word::Absent => Some(None),
-    }
-}
-
-/// A fixed word.
-#[tactic(auto, unfolding(crate::specs::Reading::name))]
-fn name(words: &mut Words) -> Option<Keyword>
-    ensures { read result words.new ≡ name words.old }
-{
-    match words.next()? {
-        Word::Number(_) => None,
-        Word::Name(keyword) => Some(keyword),
-        Word::Absent => None,
-    }
-}
-
-/// Whether a message is asynchronous.
-#[tactic(auto, unfolding(crate::specs::Reading::flag))]
-fn flag(words: &mut Words) -> Option<bool>
-    ensures { read result words.new ≡ flag words.old }
-{
-    match name(words)? {
-        Keyword::Asynchronous => Some(true),
-        Keyword::Synchronous => Some(false),
-        _ => None,
-    }
-}
-
-/// Whether the queue is the main looper's.
-#[tactic(auto, unfolding(crate::specs::Reading::side))]
-fn side(words: &mut Words) -> Option<bool>
-    ensures { read result words.new ≡ side words.old }
-{
-    match name(words)? {
-        Keyword::Main => Some(true),
-        Keyword::Side => Some(false),
-        _ => None,
-    }
-}
-
-/// Whether the queue's time is moved by a controller.
-#[tactic(auto, unfolding(crate::specs::Reading::mode))]
-fn mode(words: &mut Words) -> Option<bool>
-    ensures { read result words.new ≡ mode words.old }
-{
-    match name(words)? {
-        Keyword::Lockstep => Some(true),
-        Keyword::Free => Some(false),
-        _ => None,
-    }
-}
-
-/// Whether a quit keeps what is due.
-#[tactic(auto, unfolding(crate::specs::Reading::manner))]
-fn manner(words: &mut Words) -> Option<bool>
-    ensures { read result words.new ≡ manner words.old }
-{
-    match name(words)? {
-        Keyword::Safe => Some(true),
-        Keyword::Plain => Some(false),
-        _ => None,
-    }
-}
 
 #[tactic(auto, unfolding(crate::specs::Reading::post))]
 fn post(words: &mut Words) -> Option<Post>
     ensures { read result words.new ≡ post words.old }
 {
-    let handler = short(words)?;
-    let what = short(words)?;
-    let arg = short(words)?;
-    let obj = maybe_long(words)?;
-    let callback = maybe_long(words)?;
-    let when = long(words)?;
-    let asynchronous = flag(words)?;
-    let slot = maybe_short(words)?;
+    let handler = words.short()?;
+    let what = words.short()?;
+    let arg = words.short()?;
+    let obj = words.maybe_long()?;
+    let callback = words.maybe_long()?;
+    let when = words.long()?;
+    let asynchronous = words.either(b"a", b"s")?;
+    let slot = words.maybe_short()?;
     Some(Post {
         handler,
         what,
@@ -143,33 +32,30 @@ fn post(words: &mut Words) -> Option<Post>
     })
 }
 
-/// Which messages a removal takes.
-#[tactic(auto, unfolding(crate::specs::Reading::kind))]
-fn kind(words: &mut Words) -> Option<Kind>
-    ensures { read result words.new ≡ kind words.old }
+/// Which messages a removal takes, behind the word that names their kind.
+fn kind_by(word: &[u8], words: &mut Words) -> Option<Kind>
+    ensures { read result words.new ≡ kind_by word.now words.old }
 {
-    let keyword = name(words)?;
-    kind_by(keyword, words)
-}
-
-fn kind_by(keyword: Keyword, words: &mut Words) -> Option<Kind>
-    ensures { read result words.new ≡ kind_by keyword words.old }
-{
-    match keyword {
-        Keyword::What => Some(Kind::What(short(words)?)),
-        Keyword::Callback => Some(Kind::Callback(long(words)?)),
-        Keyword::All => Some(Kind::All),
-        _ => None,
+    if word == b"what".as_slice() {
+        return Some(Kind::What(words.short()?));
     }
+    if word == b"callback".as_slice() {
+        return Some(Kind::Callback(words.long()?));
+    }
+    if word == b"all".as_slice() {
+        return Some(Kind::All);
+    }
+    None
 }
 
-#[tactic(auto, unfolding(crate::specs::Reading::filter))]
+#[tactic(auto, unfolding(crate::specs::Reading::filter, crate::specs::Reading::kind))]
 fn filter(words: &mut Words) -> Option<Filter>
     ensures { read result words.new ≡ filter words.old }
 {
-    let handler = short(words)?;
-    let kind = kind(words)?;
-    let obj = maybe_long(words)?;
+    let handler = words.short()?;
+    let kind = words.next()?;
+    let kind = kind_by(kind, words)?;
+    let obj = words.maybe_long()?;
     Some(Filter { handler, kind, obj })
 }
 
@@ -177,88 +63,109 @@ fn filter(words: &mut Words) -> Option<Filter>
 fn quit(words: &mut Words) -> Option<Call>
     ensures { read result words.new ≡ quit words.old }
 {
-    let safe = manner(words)?;
-    let now = long(words)?;
+    let safe = words.either(b"safe", b"plain")?;
+    let now = words.long()?;
     Some(Call::Quit { safe, now })
 }
 
-#[tactic(auto, unfolding(crate::specs::Reading::call))]
-fn call(words: &mut Words) -> Option<Call>
-    ensures { read result words.new ≡ call words.old }
-{
-    let keyword = name(words)?;
-    call_by(keyword, words)
-}
-
 /// The call that this word names.
-fn call_by(keyword: Keyword, words: &mut Words) -> Option<Call>
-    ensures { read result words.new ≡ call_by keyword words.old }
+fn call_by(word: &[u8], words: &mut Words) -> Option<Call>
+    ensures { read result words.new ≡ call_by word.now words.old }
 {
-    match keyword {
-        Keyword::Post => Some(Call::Post(post(words)?)),
-        Keyword::Barrier => Some(Call::Barrier { now: long(words)? }),
-        Keyword::Unbarrier => Some(Call::Unbarrier {
-            token: long(words)?,
-        }),
-        Keyword::Remove => Some(Call::Remove(filter(words)?)),
-        Keyword::Quit => quit(words),
-        Keyword::Next => Some(Call::Next { now: long(words)? }),
-        Keyword::Advance => Some(Call::Advance { now: long(words)? }),
-        Keyword::Halt => Some(Call::Halt { now: long(words)? }),
-        _ => None,
+    if word == b"post".as_slice() {
+        return Some(Call::Post(post(words)?));
     }
-}
-
-#[tactic(auto, unfolding(crate::specs::Reading::reply))]
-fn reply(words: &mut Words) -> Option<Reply>
-    ensures { read result words.new ≡ reply words.old }
-{
-    let keyword = name(words)?;
-    reply_by(keyword, words)
+    if word == b"barrier".as_slice() {
+        let now = words.long()?;
+        return Some(Call::Barrier { now });
+    }
+    if word == b"unbarrier".as_slice() {
+        let token = words.long()?;
+        return Some(Call::Unbarrier { token });
+    }
+    if word == b"remove".as_slice() {
+        return Some(Call::Remove(filter(words)?));
+    }
+    if word == b"quit".as_slice() {
+        return quit(words);
+    }
+    if word == b"next".as_slice() {
+        let now = words.long()?;
+        return Some(Call::Next { now });
+    }
+    if word == b"advance".as_slice() {
+        let now = words.long()?;
+        return Some(Call::Advance { now });
+    }
+    if word == b"halt".as_slice() {
+        let now = words.long()?;
+        return Some(Call::Halt { now });
+    }
+    None
 }
 
 /// The reply that this word names.
-fn reply_by(keyword: Keyword, words: &mut Words) -> Option<Reply>
-    ensures { read result words.new ≡ reply_by keyword words.old }
+fn reply_by(word: &[u8], words: &mut Words) -> Option<Reply>
+    ensures { read result words.new ≡ reply_by word.now words.old }
 {
-    match keyword {
-        Keyword::Accepted => Some(Reply::Accepted {
-            number: long(words)?,
-        }),
-        Keyword::Refused => Some(Reply::Refused {
-            place: long(words)?,
-        }),
-        Keyword::Token => Some(Reply::Token {
-            token: long(words)?,
-        }),
-        Keyword::Unbarriered => Some(Reply::Unbarriered),
-        Keyword::NotPosted => Some(Reply::NotPosted),
-        Keyword::Removed => Some(Reply::Removed {
-            count: long(words)?,
-        }),
-        Keyword::QuitDone => Some(Reply::QuitDone),
-        Keyword::AlreadyQuit => Some(Reply::AlreadyQuit {
-            place: long(words)?,
-        }),
-        Keyword::NotAllowed => Some(Reply::NotAllowed),
-        Keyword::Dispatched => Some(Reply::Dispatched {
-            number: long(words)?,
-        }),
-        Keyword::Disposed => Some(Reply::Disposed),
-        Keyword::Advanced => Some(Reply::Advanced),
-        Keyword::Halted => Some(Reply::Halted),
-        _ => None,
+    if word == b"accepted".as_slice() {
+        let number = words.long()?;
+        return Some(Reply::Accepted { number });
     }
+    if word == b"refused".as_slice() {
+        let place = words.long()?;
+        return Some(Reply::Refused { place });
+    }
+    if word == b"token".as_slice() {
+        let token = words.long()?;
+        return Some(Reply::Token { token });
+    }
+    if word == b"unbarriered".as_slice() {
+        return Some(Reply::Unbarriered);
+    }
+    if word == b"not-posted".as_slice() {
+        return Some(Reply::NotPosted);
+    }
+    if word == b"removed".as_slice() {
+        let count = words.long()?;
+        return Some(Reply::Removed { count });
+    }
+    if word == b"quit-done".as_slice() {
+        return Some(Reply::QuitDone);
+    }
+    if word == b"already-quit".as_slice() {
+        let place = words.long()?;
+        return Some(Reply::AlreadyQuit { place });
+    }
+    if word == b"not-allowed".as_slice() {
+        return Some(Reply::NotAllowed);
+    }
+    if word == b"dispatched".as_slice() {
+        let number = words.long()?;
+        return Some(Reply::Dispatched { number });
+    }
+    if word == b"disposed".as_slice() {
+        return Some(Reply::Disposed);
+    }
+    if word == b"advanced".as_slice() {
+        return Some(Reply::Advanced);
+    }
+    if word == b"halted".as_slice() {
+        return Some(Reply::Halted);
+    }
+    None
 }
 
-#[tactic(auto, unfolding(crate::specs::Reading::entry))]
+#[tactic(auto, unfolding(crate::specs::Reading::entry, crate::specs::Reading::call, crate::specs::Reading::reply))]
 fn entry(words: &mut Words) -> Option<Entry>
     ensures { read result words.new ≡ entry words.old }
 {
-    let sender = short(words)?;
-    let seq = long(words)?;
-    let call = call(words)?;
-    let reply = reply(words)?;
+    let sender = words.short()?;
+    let seq = words.long()?;
+    let call = words.next()?;
+    let call = call_by(call, words)?;
+    let reply = words.next()?;
+    let reply = reply_by(reply, words)?;
     Some(Entry {
         sender,
         seq,
@@ -271,11 +178,11 @@ fn entry(words: &mut Words) -> Option<Entry>
 fn head(words: &mut Words) -> Option<Head>
     ensures { read result words.new ≡ head words.old }
 {
-    let looper = short(words)?;
-    let main = side(words)?;
-    let lockstep = mode(words)?;
-    let senders = short(words)?;
-    let count = long(words)?;
+    let looper = words.short()?;
+    let main = words.either(b"main", b"side")?;
+    let lockstep = words.either(b"lockstep", b"free")?;
+    let senders = words.short()?;
+    let count = words.long()?;
     Some(Head {
         looper,
         main,
@@ -285,42 +192,38 @@ fn head(words: &mut Words) -> Option<Head>
     })
 }
 
+/// The first line, which names edition 1.
 #[tactic(auto, unfolding(crate::specs::Reading::title))]
 fn title(words: &mut Words) -> Option<Line>
     ensures { read result words.new ≡ title words.old }
 {
-    let version = long(words)?;
-    if version == 1 {
+    let edition = words.long()?;
+    if edition == 1 {
         Some(Line::Title)
     } else {
         None
     }
 }
 
-/// A line that begins with this word.
-fn named(keyword: Keyword, words: &mut Words) -> Option<Line>
-    ensures { read result words.new ≡ named_by keyword words.old }
-{
-    match keyword {
-        Keyword::Trace => title(words),
-        Keyword::Queue => Some(Line::Queue(head(words)?)),
-        Keyword::End => Some(Line::End),
-        _ => None,
-    }
-}
-
-/// What a line says, without its line feed.
+/// What a line says, without its line feed: one that begins with none of these words is that of an entry.
 #[tactic(auto, unfolding(crate::specs::Reading::line_of))]
 pub(crate) fn line_of(bytes: &[u8]) -> Option<Line>
-    ensures { result ≡ line_of (words_of bytes.now) }
+    ensures { result ≡ line_of (words bytes.now) }
 {
     let mut words = Words::new(bytes);
-    let line = match name(&mut words) {
-        Some(keyword) => named(keyword, &mut words)?,
-        None => {
-            words = Words::new(bytes);
-            Line::Entry(entry(&mut words)?)
-        }
-    };
-    if words.is_empty() { Some(line) } else { None }
+    let first = words.next()?;
+    if first == b"trace".as_slice() {
+        let title = title(&mut words)?;
+        return words.whole(title);
+    }
+    if first == b"queue".as_slice() {
+        let head = head(&mut words)?;
+        return words.whole(Line::Queue(head));
+    }
+    if first == b"end".as_slice() {
+        return words.whole(Line::End);
+    }
+    let mut words = Words::new(bytes);
+    let entry = entry(&mut words)?;
+    words.whole(Line::Entry(entry))
 }

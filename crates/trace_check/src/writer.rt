@@ -1,210 +1,147 @@
 //! The text of a trace.
-ghost use Rattle.std.specs.Prelude.{◌≡◌, ◌++◌, ◌∷◌, [], length, map, OnOk, IfOk};
-ghost use Rattle.std.specs.List.{flat_map};
+ghost use Rattle.std.specs.Prelude.{◌≡◌, ◌++◌, ◌∷◌, [], Some, length, map, codes, OnOk, IfOk, string_bytes};
+ghost use Rattle.std.specs.List.{flat_map, join_with_byte};
 ghost use Rattle.trace_check.specs.declared.line.Line.TheVariants as line_of;
-ghost use Rattle.loop_model.specs.declared.call.Call.TheVariants as call_of;
-ghost use Rattle.trace_check.specs.declared.word.Word.TheVariants as word_of;
-ghost use Rattle.trace_check.specs.Word.{spell};
-ghost use Rattle.trace_check.specs.Saying.{spaced};
-ghost use Rattle.trace_check.specs.Line.{call_words, flag, manner, maybe, mode, reply_words, side};
+ghost use Rattle.line_words.specs.Words.{maybe, one_of};
+ghost use Rattle.trace_check.specs.Line.{call_words, post_words, filter_words, reply_words};
 ghost use Rattle.trace_check.specs.Text.{head_of, line_text, queue_lines, text};
 ghost use Rattle.loop_model.specs.Chain.{entries_of};
 ghost use Rattle.trace_check.specs.Records.{trace_of, trace_queue_of};
 
-use crate::keyword::Keyword;
 use crate::line::Head;
 use crate::trace::{Trace, TraceQueue};
-use crate::word::Word;
-use line_words::push_number;
 use loop_model::{Call, Entry, Filter, Kind, NoMemory, Post, QueueRecord, Reply, Segment};
 use std::alloc::Global;
-
-fn push_word(out: &mut Vec<u8>, word: Word) -> Result<(), NoMemory>
-    ensures { OnOk result (out.new.items ≡ out.old.items ++ spell word) }
-{
-    match word {
-        Word::Name(keyword) => out.extend_from_slice(keyword.spelling())?,
-        Word::Number(number) => push_number(out, number)?,
-        Word::Absent => out.push(b'-')?,
-    }
-    Ok(())
-}
-
-/// Writes words, each behind a space.
-fn push_spaced(out: &mut Vec<u8>, words: &[Word]) -> Result<(), NoMemory>
-    ensures { OnOk result (out.new.items ≡ out.old.items ++ spaced words.now) }
-{
-    for word in words {
-        out.push(b' ')?;
-        push_word(out, *word)?;
-    }
-    Ok(())
-}
+use std::fmt;
+use std::fmt::Write;
 
 /// A number, or the mark where there is none.
-fn maybe(number: Option<u64>) -> Word
-    ensures { result ≡ maybe number }
-{
-    match number {
-        Some(number) => Word::Number(number),
-        None => Word::Absent,
-    }
-}
+#[derive(Clone, Copy)]
+struct Maybe(Option<u64>);
 
-/// The same of a number of 32 bits.
-fn maybe_short(number: Option<u32>) -> Word
-    ensures { result ≡ maybe number }
-{
-    match number {
-        Some(number) => Word::Number(u64::from(number)),
-        None => Word::Absent,
-    }
-}
+impl fmt::Display for Maybe {
+    ghost output = { λ s. Some (maybe s.0) };
 
-fn flag(asynchronous: bool) -> Word
-    ensures { result ≡ flag asynchronous }
-{
-    if asynchronous {
-        Word::Name(Keyword::Asynchronous)
-    } else {
-        Word::Name(Keyword::Synchronous)
-    }
-}
-
-fn side(main: bool) -> Word
-    ensures { result ≡ side main }
-{
-    if main {
-        Word::Name(Keyword::Main)
-    } else {
-        Word::Name(Keyword::Side)
-    }
-}
-
-fn mode(lockstep: bool) -> Word
-    ensures { result ≡ mode lockstep }
-{
-    if lockstep {
-        Word::Name(Keyword::Lockstep)
-    } else {
-        Word::Name(Keyword::Free)
-    }
-}
-
-fn manner(safe: bool) -> Word
-    ensures { result ≡ manner safe }
-{
-    if safe {
-        Word::Name(Keyword::Safe)
-    } else {
-        Word::Name(Keyword::Plain)
-    }
-}
-
-fn push_post(out: &mut Vec<u8>, post: &Post) -> Result<(), NoMemory>
-    ensures { OnOk result (out.new.items ≡ out.old.items ++ spaced (call_words (call_of.Post post.now))) }
-{
-    let words = [
-        Word::Name(Keyword::Post),
-        Word::Number(u64::from(post.handler)),
-        Word::Number(u64::from(post.what)),
-        Word::Number(u64::from(post.arg)),
-        maybe(post.obj),
-        maybe(post.callback),
-        Word::Number(post.when),
-        flag(post.asynchronous),
-        maybe_short(post.slot),
-    ];
-    push_spaced(out, &words)
-}
-
-fn push_removal(out: &mut Vec<u8>, filter: &Filter) -> Result<(), NoMemory>
-    ensures { OnOk result (out.new.items ≡ out.old.items ++ spaced (call_words (call_of.Remove filter.now))) }
-{
-    let removal = Word::Name(Keyword::Remove);
-    let handler = Word::Number(u64::from(filter.handler));
-    let obj = maybe(filter.obj);
-    match filter.kind {
-        Kind::What(what) => {
-            let name = Word::Name(Keyword::What);
-            let words = [removal, handler, name, Word::Number(u64::from(what)), obj];
-            push_spaced(out, &words)
+    fn fmt<W: fmt::Write>(&self, f: &mut fmt::Formatter<W>) -> fmt::Result {
+        match self.0 {
+            Some(number) => write!(f, "{number}"),
+            None => write!(f, "-"),
         }
-        Kind::Callback(callback) => {
-            let name = Word::Name(Keyword::Callback);
-            push_spaced(out, &[removal, handler, name, Word::Number(callback), obj])
+    }
+}
+
+/// One of two words.
+fn one_of(first: &'static str, second: &'static str, is_first: bool) -> &'static str
+    ensures { result.now ≡ one_of first.now second.now is_first }
+{
+    if is_first { first } else { second }
+}
+
+/// The words of a post.
+#[derive(Clone, Copy)]
+struct Posted(Post);
+
+impl fmt::Display for Posted {
+    ghost output = { λ s. Some (join_with_byte 32 (post_words s.0)) };
+
+    fn fmt<W: fmt::Write>(&self, f: &mut fmt::Formatter<W>) -> fmt::Result {
+        let post = self.0;
+        let flag = one_of("a", "s", post.asynchronous);
+        let slot = match post.slot {
+            Some(slot) => Some(u64::from(slot)),
+            None => None,
+        };
+        write!(
+            f,
+            "{} {} {} {} {} {} {flag} {}",
+            post.handler,
+            post.what,
+            post.arg,
+            Maybe(post.obj),
+            Maybe(post.callback),
+            post.when,
+            Maybe(slot)
+        )
+    }
+}
+
+/// The words of a filter.
+#[derive(Clone, Copy)]
+struct Filtered(Filter);
+
+impl fmt::Display for Filtered {
+    ghost output = { λ s. Some (join_with_byte 32 (filter_words s.0)) };
+
+    fn fmt<W: fmt::Write>(&self, f: &mut fmt::Formatter<W>) -> fmt::Result {
+        let handler = self.0.handler;
+        let obj = Maybe(self.0.obj);
+        match self.0.kind {
+            Kind::What(what) => write!(f, "{handler} what {what} {obj}"),
+            Kind::Callback(callback) => write!(f, "{handler} callback {callback} {obj}"),
+            Kind::All => write!(f, "{handler} all {obj}"),
         }
-        Kind::All => push_spaced(out, &[removal, handler, Word::Name(Keyword::All), obj]),
     }
 }
 
-/// Writes a word and a number, each behind a space.
-fn push_numbered(out: &mut Vec<u8>, keyword: Keyword, number: u64) -> Result<(), NoMemory>
-    ensures { OnOk result
-        (out.new.items ≡ out.old.items ++ spaced (word_of.Name keyword ∷ word_of.Number number ∷ [])) }
-{
-    push_spaced(out, &[Word::Name(keyword), Word::Number(number)])
-}
+/// The words of a call.
+#[derive(Clone, Copy)]
+struct Called(Call);
 
-fn push_call(out: &mut Vec<u8>, call: &Call) -> Result<(), NoMemory>
-    ensures { OnOk result (out.new.items ≡ out.old.items ++ spaced (call_words call.now)) }
-{
-    match call {
-        Call::Post(post) => push_post(out, post),
-        Call::Barrier { now } => push_numbered(out, Keyword::Barrier, *now),
-        Call::Unbarrier { token } => push_numbered(out, Keyword::Unbarrier, *token),
-        Call::Remove(filter) => push_removal(out, filter),
-        Call::Quit { safe, now } => push_spaced(
-            out,
-            &[Word::Name(Keyword::Quit), manner(*safe), Word::Number(*now)],
-        ),
-        Call::Next { now } => push_numbered(out, Keyword::Next, *now),
-        Call::Advance { now } => push_numbered(out, Keyword::Advance, *now),
-        Call::Halt { now } => push_numbered(out, Keyword::Halt, *now),
+impl fmt::Display for Called {
+    ghost output = { λ s. Some (join_with_byte 32 (call_words s.0)) };
+
+    fn fmt<W: fmt::Write>(&self, f: &mut fmt::Formatter<W>) -> fmt::Result {
+        match self.0 {
+            Call::Post(post) => write!(f, "post {}", Posted(post)),
+            Call::Barrier { now } => write!(f, "barrier {now}"),
+            Call::Unbarrier { token } => write!(f, "unbarrier {token}"),
+            Call::Remove(filter) => write!(f, "remove {}", Filtered(filter)),
+            Call::Quit { safe, now } => write!(f, "quit {} {now}", one_of("safe", "plain", safe)),
+            Call::Next { now } => write!(f, "next {now}"),
+            Call::Advance { now } => write!(f, "advance {now}"),
+            Call::Halt { now } => write!(f, "halt {now}"),
+        }
     }
 }
 
-/// Writes a word behind a space.
-fn push_name(out: &mut Vec<u8>, keyword: Keyword) -> Result<(), NoMemory>
-    ensures { OnOk result (out.new.items ≡ out.old.items ++ spaced (word_of.Name keyword ∷ [])) }
-{
-    push_spaced(out, &[Word::Name(keyword)])
-}
+/// The words of a reply.
+#[derive(Clone, Copy)]
+struct Replied(Reply);
 
-fn push_reply(out: &mut Vec<u8>, reply: &Reply) -> Result<(), NoMemory>
-    ensures { OnOk result (out.new.items ≡ out.old.items ++ spaced (reply_words reply.now)) }
-{
-    match reply {
-        Reply::Accepted { number } => push_numbered(out, Keyword::Accepted, *number),
-        Reply::Refused { place } => push_numbered(out, Keyword::Refused, *place),
-        Reply::Token { token } => push_numbered(out, Keyword::Token, *token),
-        Reply::Unbarriered => push_name(out, Keyword::Unbarriered),
-        Reply::NotPosted => push_name(out, Keyword::NotPosted),
-        Reply::Removed { count } => push_numbered(out, Keyword::Removed, *count),
-        Reply::QuitDone => push_name(out, Keyword::QuitDone),
-        Reply::AlreadyQuit { place } => push_numbered(out, Keyword::AlreadyQuit, *place),
-        Reply::NotAllowed => push_name(out, Keyword::NotAllowed),
-        Reply::Dispatched { number } => push_numbered(out, Keyword::Dispatched, *number),
-        Reply::Disposed => push_name(out, Keyword::Disposed),
-        Reply::Advanced => push_name(out, Keyword::Advanced),
-        Reply::Halted => push_name(out, Keyword::Halted),
+impl fmt::Display for Replied {
+    ghost output = { λ s. Some (join_with_byte 32 (reply_words s.0)) };
+
+    fn fmt<W: fmt::Write>(&self, f: &mut fmt::Formatter<W>) -> fmt::Result {
+        match self.0 {
+            Reply::Accepted { number } => write!(f, "accepted {number}"),
+            Reply::Refused { place } => write!(f, "refused {place}"),
+            Reply::Token { token } => write!(f, "token {token}"),
+            Reply::Unbarriered => write!(f, "unbarriered"),
+            Reply::NotPosted => write!(f, "not-posted"),
+            Reply::Removed { count } => write!(f, "removed {count}"),
+            Reply::QuitDone => write!(f, "quit-done"),
+            Reply::AlreadyQuit { place } => write!(f, "already-quit {place}"),
+            Reply::NotAllowed => write!(f, "not-allowed"),
+            Reply::Dispatched { number } => write!(f, "dispatched {number}"),
+            Reply::Disposed => write!(f, "disposed"),
+            Reply::Advanced => write!(f, "advanced"),
+            Reply::Halted => write!(f, "halted"),
+        }
     }
 }
 
-fn push_entry(out: &mut Vec<u8>, entry: &Entry) -> Result<(), NoMemory>
-    ensures { OnOk result (out.new.items ≡ out.old.items ++ line_text (line_of.Entry entry.now)) }
+fn push_entry(out: &mut String, entry: &Entry) -> Result<(), NoMemory>
+    ensures { OnOk result (string_bytes out.new ≡ string_bytes out.old ++ line_text (line_of.Entry entry.now)) }
 {
-    push_word(out, Word::Number(u64::from(entry.sender)))?;
-    push_spaced(out, &[Word::Number(entry.seq)])?;
-    push_call(out, &entry.call)?;
-    push_reply(out, &entry.reply)?;
-    out.push(b'\n')?;
+    let call = Called(entry.call);
+    let reply = Replied(entry.reply);
+    writeln!(out, "{} {} {call} {reply}", entry.sender, entry.seq)?;
     Ok(())
 }
 
-fn push_entries(out: &mut Vec<u8>, entries: &[Entry]) -> Result<(), NoMemory>
+fn push_entries(out: &mut String, entries: &[Entry]) -> Result<(), NoMemory>
     ensures { OnOk result
-        (out.new.items ≡ out.old.items ++ flat_map line_text (map line_of.Entry entries.now)) }
+        (string_bytes out.new ≡ string_bytes out.old ++ flat_map line_text (map line_of.Entry entries.now)) }
 {
     for entry in entries {
         push_entry(out, entry)?;
@@ -252,25 +189,23 @@ fn head_of_record(queue: &QueueRecord) -> Result<Head, NoMemory>
     })
 }
 
-fn push_head(out: &mut Vec<u8>, head: &Head) -> Result<(), NoMemory>
-    ensures { OnOk result (out.new.items ≡ out.old.items ++ line_text (line_of.Queue head.now)) }
+#[tactic(auto, unfolding(crate::specs::Text::line_text))]
+fn push_head(out: &mut String, head: &Head) -> Result<(), NoMemory>
+    ensures { OnOk result (string_bytes out.new ≡ string_bytes out.old ++ line_text (line_of.Queue head.now)) }
 {
-    push_word(out, Word::Name(Keyword::Queue))?;
-    let words = [
-        Word::Number(u64::from(head.looper)),
-        side(head.main),
-        mode(head.lockstep),
-        Word::Number(u64::from(head.senders)),
-        Word::Number(head.count),
-    ];
-    push_spaced(out, &words)?;
-    out.push(b'\n')?;
+    let side = one_of("main", "side", head.main);
+    let mode = one_of("lockstep", "free", head.lockstep);
+    writeln!(
+        out,
+        "queue {} {side} {mode} {} {}",
+        head.looper, head.senders, head.count
+    )?;
     Ok(())
 }
 
-fn push_queues(out: &mut Vec<u8>, queues: &[TraceQueue]) -> Result<(), NoMemory>
+fn push_queues(out: &mut String, queues: &[TraceQueue]) -> Result<(), NoMemory>
     ensures { OnOk result
-        (out.new.items ≡ out.old.items ++ flat_map line_text (flat_map queue_lines queues.now)) }
+        (string_bytes out.new ≡ string_bytes out.old ++ flat_map line_text (flat_map queue_lines queues.now)) }
 {
     for queue in queues {
         push_head(out, &head_of(queue))?;
@@ -280,9 +215,9 @@ fn push_queues(out: &mut Vec<u8>, queues: &[TraceQueue]) -> Result<(), NoMemory>
 }
 
 /// The lines of the entries of these parts, in order.
-fn push_parts(out: &mut Vec<u8>, parts: &[Segment]) -> Result<(), NoMemory>
+fn push_parts(out: &mut String, parts: &[Segment]) -> Result<(), NoMemory>
     ensures { OnOk result
-        (out.new.items ≡ out.old.items ++ flat_map line_text (map line_of.Entry (entries_of parts.now))) }
+        (string_bytes out.new ≡ string_bytes out.old ++ flat_map line_text (map line_of.Entry (entries_of parts.now))) }
 {
     for part in parts {
         push_entries(out, part.entries.as_slice())?;
@@ -290,9 +225,9 @@ fn push_parts(out: &mut Vec<u8>, parts: &[Segment]) -> Result<(), NoMemory>
     Ok(())
 }
 
-fn push_records(out: &mut Vec<u8>, records: &[QueueRecord]) -> Result<(), NoMemory>
+fn push_records(out: &mut String, records: &[QueueRecord]) -> Result<(), NoMemory>
     ensures { OnOk result
-        (out.new.items ≡ out.old.items ++ flat_map line_text (flat_map queue_lines (map trace_queue_of records.now))) }
+        (string_bytes out.new ≡ string_bytes out.old ++ flat_map line_text (flat_map queue_lines (map trace_queue_of records.now))) }
 {
     for queue in records {
         let head = head_of_record(queue)?;
@@ -307,20 +242,20 @@ fn push_records(out: &mut Vec<u8>, records: &[QueueRecord]) -> Result<(), NoMemo
 pub fn print_records(alloc: Global, records: &[QueueRecord]) -> Result<Vec<u8>, NoMemory>
     ensures { IfOk result (λ bytes. bytes.items ≡ text (trace_of records.now)) }
 {
-    let mut out = Vec::new(alloc);
-    out.extend_from_slice(b"trace 1\n")?;
+    let mut out = String::new(alloc);
+    writeln!(out, "trace 1")?;
     push_records(&mut out, records)?;
-    out.extend_from_slice(b"end\n")?;
-    Ok(out)
+    writeln!(out, "end")?;
+    Ok(out.into_bytes())
 }
 
 /// The text of a trace. `NoMemory` where there was none.
 pub fn print_trace(alloc: Global, trace: &Trace) -> Result<Vec<u8>, NoMemory>
     ensures { IfOk result (λ bytes. bytes.items ≡ text trace.now) }
 {
-    let mut out = Vec::new(alloc);
-    out.extend_from_slice(b"trace 1\n")?;
+    let mut out = String::new(alloc);
+    writeln!(out, "trace 1")?;
     push_queues(&mut out, trace.queues.as_slice())?;
-    out.extend_from_slice(b"end\n")?;
-    Ok(out)
+    writeln!(out, "end")?;
+    Ok(out.into_bytes())
 }

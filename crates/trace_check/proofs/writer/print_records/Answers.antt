@@ -1,13 +1,15 @@
 use Rattle.std.proofs.Common.{◌++◌, ◌∙◌, ap, map}
-use Rattle.std.specs.Prelude.{codes}
+use Rattle.std.specs.Prelude.{string_bytes}
 use Rattle.std.specs.Fmt.{digits}
-use Rattle.trace_check.specs.Word.{line}
 use Rattle.trace_check.specs.Records.{trace_queue_of}
+use Rattle.trace_check.specs.declared.line.Line.TheVariants.{Title}
+use Rattle.trace_check.specs.Text.{line_text}
 use Rattle.trace_check.proofs.Written.{whole_text}
 use Rattle.trace_check.proofs.writer.print_records.Goals as goal
 
 pub returns : goal.returns
-unfolding line digits
+unfolding line_text digits
 returns c =
-    whole_text (map trace_queue_of c.args.records.now) c.extend_from_slice.new.self.items c.push_records.new.out.items c.extend_from_slice-2.new.self.items (c.in_ok-extend_from_slice.ensures.items ∙ ap (λ t. t ++ codes "trace 1\n") c.new-out.ensures.items)
-    c.in_ok-push_records.ensures c.in_ok-extend_from_slice-2.ensures.items
+    ap (λ v. v.items) c.into_bytes.ensures.value
+    ∙ whole_text (map trace_queue_of c.args.records.now) (string_bytes c.writeln.new.self) (string_bytes c.push_records.new.out) (string_bytes c.writeln-2.new.self) (c.in_ok-writeln.ensures.bytes ∙ ap (λ t. t ++ line_text Title) c.new-out.ensures.bytes)
+    c.in_ok-push_records.ensures c.in_ok-writeln-2.ensures.bytes

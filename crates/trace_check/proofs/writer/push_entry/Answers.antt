@@ -1,6 +1,9 @@
-use Rattle.trace_check.proofs.Written.{entry_line}
+use Rattle.std.proofs.Common.{◌++◌, ◌∙◌, ap}
+use Rattle.std.specs.Prelude.{string_bytes}
+use Rattle.trace_check.specs.Text.{line_text}
+use Rattle.trace_check.proofs.Written.{entry_joined}
 use Rattle.trace_check.proofs.writer.push_entry.Goals as goal
 
 pub returns : goal.returns
-returns c =
-    entry_line c.args.entry.now _ _ _ _ _ _ (rw c.from.ensures at c.in_ok-push_word.ensures) c.in_ok-push_spaced.ensures c.in_ok-push_call.ensures c.in_ok-push_reply.ensures c.in_ok-push.ensures.items
+unfolding line_text
+returns c = c.in_ok-writeln.ensures.bytes ∙ ap (λ t. string_bytes c.args.out.now ++ t) (entry_joined c.args.entry.now)

@@ -1,4 +1,5 @@
 use Rattle.std.proofs.Common.{◌≡◌, ◌++◌, take, map}
+use Rattle.std.specs.Prelude.{string_bytes}
 use Rattle.std.specs.List.{flat_map}
 use Rattle.loop_model.specs.Chain.{entries_of}
 use Rattle.trace_check.specs.declared.line.Line.TheVariants.{Entry}
@@ -6,4 +7,4 @@ use Rattle.trace_check.specs.Text.{line_text}
 use Rattle.trace_check.proofs.writer.push_parts.Given as goal
 
 abbrev pub invariant-loop-part : goal.invariant-loop-part
-invariant-loop-part l = l.out.items ≡ l.fn.out.items ++ flat_map line_text (map Entry (entries_of (take l.part-index l.parts)))
+invariant-loop-part l = string_bytes l.out ≡ string_bytes l.fn.out ++ flat_map line_text (map Entry (entries_of (take l.part-index l.parts)))

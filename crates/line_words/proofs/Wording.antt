@@ -1,10 +1,11 @@
--- The words of a line are read again, and bytes with these words are the line.
-use Rattle.std.proofs.Common.{◌≡◌, ◌<◌, ◌^◌, ℕ, true, List, [], ◌∷◌, refl, sym, ap, ◌∙◌, arith}
+-- The words of a line that is written are read again, and bytes with these words are the line.
+use Rattle.std.proofs.Common.{◌≡◌, ◌<◌, ◌^◌, ℕ, Bool, true, false, List, [], ◌∷◌, ◌++◌, Option, Some, None, refl, sym, ap, ◌∙◌, arith}
+use Rattle.std.specs.Prelude.{IfSome}
 use Rattle.std.specs.List.{join_with_byte}
 use Rattle.std.specs.Fmt.{decimal}
 use Rattle.std.proofs.lemmas.List.Splits.{join_with_byte-slice_split}
 use Rattle.std.proofs.lemmas.Fmt.{digits_decimal}
-use Rattle.line_words.specs.Words.{words}
+use Rattle.line_words.specs.Words.{words, maybe, one_of, IsShort, IsLong}
 use Rattle.line_words.proofs.Spelling.{own}
 use Rattle.line_words.proofs.Joining.{is_free, digits_free, AllFree, join_free, words_joined}
 
@@ -39,3 +40,25 @@ no_feed_within ws h = join_free 10 ws refl (free_feeds ws h)
 -- bytes with these words are the words joined
 pub words_taken : (bytes : List ℕ) (ws : List (List ℕ)) → words bytes ≡ ws → bytes ≡ join_with_byte 32 ws
 words_taken bytes ws e = sym (join_with_byte-slice_split 32 bytes) ∙ ap (join_with_byte 32) e
+
+pub words_append : (xs ys : List (List ℕ)) → AreWords xs → AreWords ys → AreWords (xs ++ ys)
+words_append [] ys f g = g
+words_append (x ∷ xs) ys f g = (f.0, words_append xs ys f.1 g)
+
+pub long_short : (n : ℕ) → IsShort n → IsLong n
+long_short n fit = omega (arith, fit)
+
+pub short_word : (n : ℕ) → IsShort n → IsWord (decimal n)
+short_word n fit = decimal_word n (long_short n fit)
+
+pub maybe_word : (o : Option ℕ) → IfSome o IsLong → IsWord (maybe o)
+maybe_word None fit = (refl, refl)
+maybe_word (Some n) fit = decimal_word n fit
+
+pub maybe_short_word : (o : Option ℕ) → IfSome o IsShort → IsWord (maybe o)
+maybe_short_word None fit = (refl, refl)
+maybe_short_word (Some n) fit = short_word n fit
+
+pub one_word : (first second : List ℕ) (b : Bool) → IsWord first → IsWord second → IsWord (one_of first second b)
+one_word first second true f s = f
+one_word first second false f s = s
