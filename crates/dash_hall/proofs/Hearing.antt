@@ -11,7 +11,7 @@ use Rattle.loop_model.specs.declared.entry.Entry.{Entry}
 use Rattle.shared_queue.specs.Constants.{made_in}
 use Rattle.loop_model.specs.Lists.{longer}
 use Rattle.shared_queue.specs.Known.{Shared, IsOf, IsSamePoster}
-use Rattle.loop_model.proofs.Prefixes.{prefix_self, prefix_trans, longer_first, longer_second}
+use Rattle.loop_model.proofs.Prefixes.{prefix_self, prefix_trans, prefix_all, longer_first, longer_second}
 use Rattle.shared_queue.proofs.Prefixes.{made_in-append}
 use Rattle.run_model.specs.Asks.{entries_by}
 use Rattle.looper_run.specs.Holding.{Sender}
@@ -81,10 +81,10 @@ prefix_whole xs ys p le =
     sym (append-nil xs) ∙ (ap (λ (l : List Entry). xs ++ l) (sym none) ∙ p.1)
 
 -- the longer of a list and its beginning is the list
-pub longer_whole : (xs ys : List Entry) → IsPrefix xs ys → longer xs ys ≡ ys
+pub longer_whole : {X : Type 0} (xs ys : List X) → IsPrefix xs ys → longer xs ys ≡ ys
 longer_whole xs ys p = dite (dec_lt (length xs) (length ys))
     (λ lt. longer_second xs ys lt)
-    (λ not. (let le : length ys ≤ length xs = omega arith in longer_first xs ys le ∙ prefix_whole xs ys p le))
+    (λ not. (let le : length ys ≤ length xs = omega arith in longer_first xs ys le ∙ prefix_all xs ys p le))
 
 -- one of the posters heard another one
 pub heard_at : (ps : List Sender) (i : ℕ) (p q : Sender) (whole : List Entry) → i < length ps → p ≡ get_or ps i p → HasHeard p q → q.view.seen ≡ whole → HaveHeardAt i whole ps (set ps i q)
@@ -144,7 +144,7 @@ pub have_heard_self : (ps : List Sender) → HaveHeard ps ps
 have_heard_self ps = each_self HasHeard ps heard_self
 
 -- lists that are mapped to the same at each place are mapped to the same
-map_alike : {Y : Type 0} (f : Sender → Y) (ps qs : List Sender) → length ps ≡ length qs → ((k : ℕ) (d : Sender) → k < length ps → f (get_or ps k d) ≡ f (get_or qs k d)) → map f ps ≡ map f qs
+pub map_alike : {X Y : Type 0} (f : X → Y) (ps qs : List X) → length ps ≡ length qs → ((k : ℕ) (d : X) → k < length ps → f (get_or ps k d) ≡ f (get_or qs k d)) → map f ps ≡ map f qs
 map_alike f [] [] long h = refl
 map_alike f [] (q ∷ qs) long h = absurd (omega (arith, long))
 map_alike f (p ∷ ps) [] long h = absurd (omega (arith, long))

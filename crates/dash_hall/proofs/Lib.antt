@@ -8,6 +8,7 @@ pub mod HallPasses
 pub mod HallSteps
 pub mod Sending
 pub mod Hearing
+pub mod PassesHearing
 pub mod FramePosts
 pub mod Clocking
 pub mod HostClock

@@ -1,10 +1,12 @@
--- What posters have seen of their queues' histories, and how they come to have seen the same.
+-- What posters have seen of their queues' histories and passes have heard of their choreographers', and how they come to have seen and heard the same.
 use Rattle.std.specs.Prelude.{◌≡◌, ◌≢◌, ◌<◌, ℕ, List, map, length, slice_index_or}
 use mathlib.Core.List.{IsPrefix}
 use Rattle.atomic_table.specs.Seated.{TableId}
 use Rattle.loop_model.specs.declared.entry.Entry.{Entry}
 use Rattle.shared_queue.specs.Known.{Shared, IsOf, IsSamePoster}
 use Rattle.looper_run.specs.Holding.{Sender}
+use Rattle.frame_phases.specs.declared.entry.FrameEntry.{FrameEntry}
+use Rattle.choreographer.specs.Known.{Shared as Frames, Known as Pass, IsOf as IsFrameOf, HasHeardWho, HasOnlyHeard}
 use Rattle.dash_hall.specs.Growth.{own}
 
 -- what these posters have seen of their queues' histories, in order
@@ -54,3 +56,37 @@ HaveSeenAt place whole posters = (d : Sender) → place < length posters → (sl
 -- the posters have seen these histories, one of each queue
 abbrev pub HaveSeenAll : List (List Entry) → List Sender → Type 0
 HaveSeenAll whole posters = seen_by posters ≡ whole
+
+-- ---- passes of choreographers
+
+-- the pass has heard what it had heard, and maybe more, and took no turn
+pub record PassHasHeard (before after : Pass) : Type 0 where
+  pub same : HasOnlyHeard before after
+  pub seen : IsPrefix before.view.seen after.view.seen
+  pub more : IsPrefix before.view.heard after.view.heard
+
+-- so it is with each of these passes
+abbrev pub PassesHaveHeard : List Pass → List Pass → Type 0
+PassesHaveHeard before after = AtEach PassHasHeard before after
+
+-- the pass has heard who recorded what, as this list has it
+abbrev pub HasHeardAll : List (ℕ × FrameEntry) → Pass → Type 0
+HasHeardAll whole p = HasHeardWho p × (p.view.heard ≡ whole)
+
+-- the pass at this place has heard this
+abbrev pub HaveHeardAllAt : ℕ → List (ℕ × FrameEntry) → List Pass → Type 0
+HaveHeardAllAt place whole passes = (d : Pass) → place < length passes → HasHeardAll whole (slice_index_or passes place d)
+
+-- the pass at this place has heard others and this, and the other passes are as before
+pub record PassesHaveHeardAt (place : ℕ) (whole : List (ℕ × FrameEntry)) (before after : List Pass) : Type 0 where
+  pub heard : PassesHaveHeard before after
+  pub here : HaveHeardAllAt place whole after
+  pub elsewhere : (q : ℕ) (d : Pass) → q ≢ place → slice_index_or after q d ≡ slice_index_or before q d
+
+-- there is a pass at this place, of this choreographer
+abbrev pub ArePassesReady : ℕ → Frames → List Pass → Type 0
+ArePassesReady place c passes = (place < length passes) × ((d : Pass) → IsFrameOf (slice_index_or passes place d) c)
+
+-- this goes on from what the pass at this place has heard
+abbrev pub ArePassesKnown : ℕ → List (ℕ × FrameEntry) → List Pass → Type 0
+ArePassesKnown place whole passes = (d : Pass) → IsPrefix (slice_index_or passes place d).view.heard whole

@@ -113,8 +113,8 @@ OthersAreOver s kits = (looper : ℕ) (d : Kit) → 0 < looper → looper < s.lo
 abbrev pub AreUnseen : List Sender → Type 0
 AreUnseen ps = (q : ℕ) (p : Sender) → q < length ps → (slice_index_or ps q p).view.seen ≡ []
 
--- the kit's posters have seen no call and handed nothing out, and its passes have seen no frame callback, taken no turn, recorded nothing and handed
--- nothing out
+-- the kit's posters have seen no call and handed nothing out, and its passes have seen no frame callback and heard of none, taken no turn, recorded nothing
+-- and handed nothing out
 pub record IsUnusedKit (kit : Kit) : Type 0 where
   pub posters : AreUnseen kit.posters.items
   pub sealed : (q : ℕ) (p : Sender) → q < length kit.posters.items → (slice_index_or kit.posters.items q p).view.sealed ≡ []
@@ -122,6 +122,7 @@ pub record IsUnusedKit (kit : Kit) : Type 0 where
   pub turns : (q : ℕ) (p : Pass) → q < length kit.frames.items → (slice_index_or kit.frames.items q p).view.turns ≡ 0
   pub own : (q : ℕ) (p : Pass) → q < length kit.frames.items → (slice_index_or kit.frames.items q p).view.own ≡ []
   pub handed : (q : ℕ) (p : Pass) → q < length kit.frames.items → (slice_index_or kit.frames.items q p).view.handed ≡ 0
+  pub heard : (q : ℕ) (p : Pass) → q < length kit.frames.items → (slice_index_or kit.frames.items q p).view.heard ≡ []
 
 abbrev pub AreUnusedKits : List Kit → Type 0
 AreUnusedKits kits = (k : ℕ) (d : Kit) → k < length kits → IsUnusedKit (slice_index_or kits k d)

@@ -1,4 +1,5 @@
 pub mod LooperLists
+pub mod LooperPasses
 pub mod LooperPlaces
 pub mod LooperQueue
 pub mod LooperLent

@@ -1,5 +1,5 @@
 -- What a looper's two passes ask of its choreographer in a round: callbacks that are due at once, and frames of the round's time.
-use Rattle.std.proofs.Common.{◌≡◌, ℕ, true, List, [], ◌++◌, sym, ap, ◌∙◌, subst, append_assoc}
+use Rattle.std.proofs.Common.{◌≡◌, ◌≤◌, ℕ, true, List, [], ◌++◌, sym, ap, ◌∙◌, subst, append_assoc}
 use Rattle.std.specs.Prelude.{map}
 use Rattle.std.specs.List.{AllByRecursion}
 use Rattle.std.proofs.lemmas.List.{append-nil}
@@ -11,7 +11,9 @@ use Rattle.loop_model.proofs.WellFormedLaws.{All_recursive}
 use Rattle.dash_script.specs.declared.script.Script.{Script}
 use Rattle.run_model.specs.Loopers.{Looper}
 use Rattle.run_model.specs.FrameRuns.{FrameAt, nanos_of}
-use Rattle.run_model.specs.FrameAsks.{FrameAsk, Runs, asks_to_run, as_told}
+use Rattle.run_model.specs.FrameAsks.{FrameAsk, Posts, Removes, Runs, asks_to_run, as_told}
+use Rattle.run_model.specs.FrameTurns.{asked_for}
+use Rattle.run_model.proofs.AskedInTurn.{due_at_once, frames_at_once}
 use Rattle.dash_hall.specs.Hosts.{asks_of}
 use Rattle.dash_hall.proofs.FramePosts.{told_whole}
 use Rattle.dash_loopers.specs.declared.player.Parts.{Parts}
@@ -63,3 +65,14 @@ asks_in_round s q k now time es es' looks acts acts' before after a b was is g m
   where
     runs : (p : Parts) (c : Looper) → map (as_told true) (asks_of p.frames) ≡ map (as_told true) (asks_to_run c.frames) → asks_of p.frames ≡ asks_to_run c.frames
     runs p c h = sym (told_whole (asks_of p.frames)) ∙ (h ∙ told_whole (asks_to_run c.frames))
+
+-- so what they ask for is for that time, as far as the nanoseconds of 64 bits go
+pub asked_for_time : (time : ℕ) → time ≤ 18446744073709 → (before after : Parts) (x : AskAt time before after)
+    → AllByRecursion (λ (a : FrameAsk). asked_for a ≡ time) x.posts × AllByRecursion (λ (a : FrameAsk). asked_for a ≡ time) (asks_to_run x.ran)
+asked_for_time time le before after x =
+    (AllByRecursion-weaker (IsDueAt time) (λ (a : FrameAsk). asked_for a ≡ time) due x.posts x.posted_then, frames_at_once time le x.ran x.ran_then)
+  where
+    due : (a : FrameAsk) → IsDueAt time a → asked_for a ≡ time
+    due (Posts phase d id token) is = is ∙ due_at_once time le
+    due (Removes phase id token) is = absurd is
+    due (Runs start) is = absurd is

@@ -29,6 +29,8 @@ use Rattle.choreographer.specs.Known.{Shared as Frames, Known as Pass}
 use Rattle.dash_hall.specs.declared.hall.Hall.{Hall}
 use Rattle.dash_loopers.specs.declared.player.Parts.{Parts}
 use Rattle.dash_loopers.specs.declared.looper.StageLooper.{StageLooper}
+use Rattle.frame_phases.specs.declared.entry.FrameEntry.{FrameEntry}
+use Rattle.dash_hall.specs.Hearing.{AreKept, PassHasHeard, HasHeardAll}
 use Rattle.dash_hall.specs.Kits.{IsHall, badge_of, badge_for, frame_badge_of, frame_badge_for}
 use mathlib.Core.List.{IsPrefix}
 use Rattle.dash_loopers.specs.declared.view_root.ViewRoot.{ViewRoot}
@@ -157,14 +159,38 @@ abbrev pub rest_in : Option Parts → Option Rest
 rest_in None = None
 rest_in (Some parts) = Some (record { frames = parts.frames; root = parts.root; fired = parts.fired.items; passed = parts.passed })
 
--- a looper's posters before and after are so, and all else of it is as before
+-- the two passes heard others, or are as before, and the rest is as before
+pub record RestHasHeard (before after : Rest) : Type 0 where
+  pub frames : PassHasHeard before.frames after.frames
+  pub client : PassHasHeard before.root.pass after.root.pass
+  pub root : after.root ≡ record before.root { pass = after.root.pass }
+  pub fired : after.fired ≡ before.fired
+  pub passed : after.passed ≡ before.passed
+
+-- so it is, where the rest is there
+abbrev pub MayHaveHeard : Option Rest → Option Rest → Type 0
+MayHaveHeard before after = (r : Rest) → before ≡ Some r → (r' : Rest) × (after ≡ Some r') × RestHasHeard r r'
+
+-- a looper's posters before and after are so, its passes of its choreographer are as before or heard others, and all else of it is as before
 pub record LooperKeeps (R : List Sender → List Sender → Type 0) (before after : StageLooper) : Type 0 where
   pub number : after.number ≡ before.number
   pub sender : after.sender ≡ before.sender
   pub posters : R (posters_of before) (posters_of after)
   pub beside : IsBeside before.looper after.looper
-  pub rest : rest_in after.parts ≡ rest_in before.parts
+  pub rest : MayHaveHeard (rest_in before.parts) (rest_in after.parts)
   pub last : after.last ≡ before.last
+
+-- this holds of the looper's two passes of its choreographer
+abbrev pub OfItsPasses : (Pass → Type 0) → StageLooper → Type 0
+OfItsPasses P l = (r : Rest) → rest_in l.parts ≡ Some r → P r.frames × P r.root.pass
+
+-- the looper let another pass hear: its own are as they were
+abbrev pub TellsPasses : StageLooper → StageLooper → Type 0
+TellsPasses before after = LooperKeeps AreKept before after × (rest_in after.parts ≡ rest_in before.parts)
+
+-- the looper's two passes have heard this, and all else is as before
+abbrev pub HearsPasses : List (ℕ × FrameEntry) → StageLooper → StageLooper → Type 0
+HearsPasses whole before after = LooperKeeps AreKept before after × OfItsPasses (HasHeardAll whole) after
 
 -- the looper's number is that of one of its posters
 abbrev pub IsWithin : StageLooper → Type 0

@@ -1,11 +1,14 @@
-//! How a looper's posters hear others.
-ghost use Rattle.std.specs.Prelude.{◌≡◌, ◌<◌};
+//! How a looper's posters and passes hear others.
+ghost use Rattle.std.specs.Prelude.{◌≡◌, ◌<◌, IsSome};
+ghost use mathlib.Core.List.{IsPrefix};
 ghost use Rattle.shared_queue.specs.Known.{IsOf};
 ghost use Rattle.dash_loopers.specs.Players.{PlaceWithout};
-ghost use Rattle.dash_hall.specs.Hearing.{HasHeard, HaveHeardAt, AreKept, AreReady, AreKnown};
-ghost use Rattle.dash_loopers.specs.Loopers.{IsWithin, posters_of, LooperKeeps};
+ghost use Rattle.choreographer.specs.Known.{IsOf as IsFrameOf, HasHeardWho};
+ghost use Rattle.dash_hall.specs.Hearing.{HasHeard, HaveHeardAt, AreKept, AreReady, AreKnown, PassHasHeard};
+ghost use Rattle.dash_loopers.specs.Loopers.{IsWithin, posters_of, LooperKeeps, OfItsPasses, TellsPasses, HearsPasses};
 
 use crate::looper::StageLooper;
+use choreographer::{Choreographer, FramePass};
 use message_pool::PoolClaim;
 use shared_queue::{Poster, SharedQueue};
 
@@ -59,6 +62,41 @@ impl StageLooper {
             unreachable!()
         };
         parts.others[place_without(number, place)].hear(queue, other);
+        self.parts = Some(parts);
+    }
+
+    /// Lets another pass of its choreographer hear its two. It takes no turn.
+    pub fn tell_passes(&mut self, choreographer: &Choreographer, other: &mut FramePass)
+        requires parts { IsSome self.old.parts }
+        requires passes { OfItsPasses (λ p. IsFrameOf p choreographer.now) self.old }
+        requires other { IsFrameOf other.old choreographer.now }
+        ensures kept { TellsPasses self.old self.new }
+        ensures heard { PassHasHeard other.old other.new }
+        ensures told { OfItsPasses (λ p. IsPrefix p.view.heard other.new.view.heard) self.old }
+        ensures knows { HasHeardWho other.new }
+    {
+        let Some(mut parts) = self.parts.take() else {
+            unreachable!()
+        };
+        other.hear(choreographer, &mut parts.frames);
+        other.hear(choreographer, &mut parts.root.pass);
+        self.parts = Some(parts);
+    }
+
+    /// Lets its two passes of its choreographer hear another one, which has heard all that they have. It takes no turn.
+    pub fn hear_passes(&mut self, choreographer: &Choreographer, other: &mut FramePass)
+        requires parts { IsSome self.old.parts }
+        requires passes { OfItsPasses (λ p. IsFrameOf p choreographer.now) self.old }
+        requires other { IsFrameOf other.old choreographer.now }
+        requires known { OfItsPasses (λ p. IsPrefix p.view.heard other.old.view.heard) self.old }
+        ensures kept { HearsPasses other.old.view.heard self.old self.new }
+        ensures other { other.new ≡ other.old }
+    {
+        let Some(mut parts) = self.parts.take() else {
+            unreachable!()
+        };
+        parts.frames.hear(choreographer, other);
+        parts.root.pass.hear(choreographer, other);
         self.parts = Some(parts);
     }
 }

@@ -1,8 +1,9 @@
 //! A looper of a script.
-ghost use Rattle.std.specs.Prelude.{◌≡◌, ◌≢◌, ◌+◌, ◌<◌, true, false, IfOk};
+ghost use Rattle.std.specs.Prelude.{◌≡◌, ◌≢◌, ◌+◌, ◌<◌, true, false, [], IfOk};
 ghost use Rattle.looper_run.specs.Round.{is_ended};
+ghost use Rattle.dash_hall.specs.Hearing.{HasHeardAll};
 ghost use Rattle.dash_hall.specs.Kits.{IsHall, IsKitOf, HasSeenOver, IsUnusedKit};
-ghost use Rattle.dash_loopers.specs.Loopers.{posters_of, ComesToWait, WaitsForNothing, HasDoneNothing, IsLooper, IsLooperOf, ArePartsOf, HasRun, HasTold, HasDisposedLast, is_given_up, until_of};
+ghost use Rattle.dash_loopers.specs.Loopers.{posters_of, ComesToWait, WaitsForNothing, HasDoneNothing, IsLooper, IsLooperOf, ArePartsOf, HasRun, HasTold, HasDisposedLast, is_given_up, until_of, OfItsPasses};
 ghost use Rattle.dash_loopers.specs.Players.{AreSameParts, RingsMain};
 ghost use Rattle.dash_loopers.specs.Played.{HasCome, HasPlayed, HasLeft, HasComeBy, HasLeftBy};
 ghost use Rattle.run_model.specs.Loopers.{Looper as LooperState, first_looper};
@@ -53,6 +54,7 @@ impl StageLooper {
         ensures waits { IfOk result (λ l. WaitsForNothing l.last) }
         ensures begun { IfOk result (λ l. HasCome script.now l (first_looper script.now)) }
         ensures nothing { IfOk result (HasDoneNothing kit) }
+        ensures unheard { IfOk result (OfItsPasses (HasHeardAll [])) }
     {
         let Kit {
             mut posters,

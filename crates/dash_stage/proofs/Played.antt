@@ -10,5 +10,8 @@ pub mod LoopersGive
 pub mod PlayedRecords
 pub mod RoundTimes
 pub mod PlayedStage
+pub mod InTurn
+pub mod InTurnRounds
+pub mod AskedAtEnd
 pub mod PlayedRounds
 pub mod PlayedTurns

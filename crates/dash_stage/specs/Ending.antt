@@ -16,7 +16,7 @@ use Rattle.shared_queue.specs.Known.{Shared}
 use Rattle.shared_queue.specs.Constants.{Constants}
 use Rattle.looper_run.specs.Holding.{Sender}
 use Rattle.choreographer.specs.Known.{Shared as Frames, Known as Pass}
-use Rattle.choreographer.specs.Ends.{AreTheirs, HasHandedOut, entries_in}
+use Rattle.choreographer.specs.Ends.{AreHeard, HasHandedOut, entries_in}
 use Rattle.run_model.specs.Run.{setting_of}
 use Rattle.dash_hall.specs.declared.kit.Kit.{Kit}
 use Rattle.dash_hall.specs.Kits.{ArePostersOf, badge_of, badge_for, FrameBadge, frame_badge_of}
@@ -118,9 +118,9 @@ pub record HaveFramesLeft (given_up : ℕ → ℕ) (before after : List Kit) : T
   pub count : length after ≡ length before
   pub each : (k : ℕ) (d : Kit) → k < length before → HasFramesLeft (given_up k) (slice_index_or before k d) (slice_index_or after k d)
 
--- the entries are parted among the next passes of this looper's choreographer, which recorded them
+-- the entries are parted among the next passes of this looper's choreographer, which recorded them, and each of these has heard the beginning of that
 abbrev pub AreOfNext : Script → ℕ → List Kit → List FrameEntry → Type 0
-AreOfNext s looper kits entries = (d : Kit) (p : Pass) → AreTheirs entries (passes_at s looper 0 kits d p)
+AreOfNext s looper kits entries = (d : Kit) (p : Pass) → AreHeard entries (passes_at s looper 0 kits d p)
 
 -- the entries begin with what each of this sender's next two passes has seen
 abbrev pub BeginWithOwn : ℕ → List Kit → List FrameEntry → Type 0

@@ -18,4 +18,5 @@ pub mod BehindThreads
 pub mod RunEnds
 pub mod ByClock
 pub mod Steps
+pub mod Asking
 pub mod Keeping

@@ -10,7 +10,7 @@ use Rattle.loop_model.specs.declared.record.QueueRecord.{QueueRecord}
 use Rattle.frame_phases.specs.declared.entry.FrameRecord.{FrameRecord}
 use Rattle.looper_run.specs.Holding.{Sender}
 use Rattle.choreographer.specs.Known.{Known as Pass}
-use Rattle.choreographer.specs.Ends.{AreTheirs}
+use Rattle.choreographer.specs.Ends.{AreHeard}
 use Rattle.run_model.specs.Moments.{Mode}
 use Rattle.std.specs.List.{range_with_len}
 use Rattle.run_model.specs.Asks.{entries_by}
@@ -51,10 +51,10 @@ passes_at s looper place kits d p =
     ∷ slice_index_or (slice_index_or kits (s.threads + s.loopers) d).frames.items place p
     ∷ []
 
--- the entries of each frame record are parted among the passes of its choreographer, which recorded them
+-- the entries of each frame record are parted among the passes of its choreographer, which recorded them, and each pass has heard the beginning of that
 abbrev pub AreAllTheirs : Script → List Kit → List FrameRecord → Type 0
 AreAllTheirs s kits records = (q : ℕ) (d : Kit) (p : Pass) (r : FrameRecord) → q < length records
-    → AreTheirs (slice_index_or records q r).entries (passes_at s q q kits d p)
+    → AreHeard (slice_index_or records q r).entries (passes_at s q q kits d p)
 
 -- each looper's frame record begins with what each of its two passes has seen
 abbrev pub HaveSeenOwn : ℕ → List Kit → List FrameRecord → Type 0

@@ -5,6 +5,7 @@ use Rattle.run_model.specs.Moments.{Mode}
 use Rattle.dash_hall.specs.Kits.{AreUnseen}
 use Rattle.dash_threads.specs.Threads.{AreByClock}
 use Rattle.dash_stage.specs.declared.stage.Stage.{Stage}
+use Rattle.dash_stage.specs.Asking.{AskInTurn, AskUpToNow}
 use Rattle.dash_stage.specs.BehindThreads.{CallsBehindThreads}
 use Rattle.dash_stage.specs.ByClock.{HaveLooped}
 use Rattle.dash_stage.specs.Controllers.{IsMoving, HasClosed, HasClosedIn, CallsNothingOn, IsClosingBy}
@@ -21,7 +22,7 @@ pub record HasEndedBy (m : Mode) (s : Script) (st : Stage) : Type 0 where
   pub same : HaveSeenTheSame st
   pub clocked : OfSenders (AreByClock m) st
 
--- a run in lockstep has begun: no thread has run a line, no looper has acted, nobody has called or seen anything, and the time is 0
+-- a run in lockstep has begun: no thread has run a line, no looper has acted, nobody has called, asked for or seen anything, and the time is 0
 pub record HasBegunInLockstep (s : Script) (st : Stage) : Type 0 where
   pub stage : IsStage s st
   pub run : HaveRun s [] st.threads.items
@@ -32,9 +33,11 @@ pub record HasBegunInLockstep (s : Script) (st : Stage) : Type 0 where
   pub zero : st.time ≡ 0
   pub step : IsInStep s st
   pub unseen : AreUnseen st.controller.kit.posters.items
+  pub turn : AskInTurn s [] 0 st
 
 -- in lockstep the threads have run all blocks, the queues were closed, main last, the loopers but main have ended, all histories are timely, the loopers have
--- played their acts, in each block the threads' calls came first, and all queues' times were moved together
+-- played their acts, in each block the threads' calls came first, what was asked of each choreographer was asked in turn, and all queues' times were moved
+-- together
 pub record HasEndedInLockstep (s : Script) (st : Stage) : Type 0 where
   pub stage : IsStage s st
   pub run : HaveRun s s.blocks st.threads.items
@@ -46,6 +49,7 @@ pub record HasEndedInLockstep (s : Script) (st : Stage) : Type 0 where
   pub played : ArePlayed s st
   pub first : HaveComeFirst s st
   pub moves : AreMoved s st.controller
+  pub turn : AskUpToNow s s.blocks st
 
 -- a run by a clock has begun: no thread has run a line, no looper has acted, the controller has called nothing, and no moment was asked for
 pub record HasBegunByClock (m : Mode) (s : Script) (st : Stage) : Type 0 where

@@ -1,25 +1,28 @@
--- How senders come to have seen the same of each queue's history.
-use Rattle.std.specs.Prelude.{◌≡◌, ◌<◌, ℕ, List, length, slice_index_or}
+-- How senders come to have seen the same of each queue's history, and heard the same of each choreographer's.
+use Rattle.std.specs.Prelude.{◌≡◌, ◌≢◌, ◌<◌, ℕ, List, [], length, slice_index_or}
+use Rattle.frame_phases.specs.declared.entry.FrameEntry.{FrameEntry}
 use Rattle.loop_model.specs.declared.entry.Entry.{Entry}
 use Rattle.looper_run.specs.Holding.{Sender}
+use Rattle.choreographer.specs.Known.{Known as Pass}
+use Rattle.dash_script.specs.declared.script.Script.{Script}
 use Rattle.dash_hall.specs.declared.kit.Kit.{Kit}
 use Rattle.dash_threads.specs.declared.thread.PostingThread.{PostingThread}
 use Rattle.dash_loopers.specs.declared.looper.StageLooper.{StageLooper}
 use Rattle.dash_stage.specs.declared.control.Controller.{Controller}
 use Rattle.dash_stage.specs.declared.stage.Stage.{Stage}
-use Rattle.dash_hall.specs.Hearing.{seen_by, AtEach, HaveHeardAt, HaveSeenAll}
+use Rattle.dash_hall.specs.Hearing.{seen_by, AtEach, HaveHeardAt, HaveSeenAll, AreKept, PassesHaveHeard, HasHeardAll, HaveHeardAllAt}
 use Rattle.dash_threads.specs.Threads.{ThreadKeeps}
-use Rattle.dash_loopers.specs.Loopers.{posters_of, LooperKeeps, IsWithin}
+use Rattle.dash_loopers.specs.Loopers.{posters_of, LooperKeeps, OfItsPasses, IsWithin}
 
--- the controller's posters before and after are so, and all else of it is as before
+-- the controller's posters before and after are so, its passes are as before or heard others, and all else of it is as before
 pub record ControllerKeeps (R : List Sender → List Sender → Type 0) (before after : Controller) : Type 0 where
   pub posters : R before.kit.posters.items after.kit.posters.items
   pub pass : after.kit.pass ≡ before.kit.pass
-  pub frames : after.kit.frames ≡ before.kit.frames
+  pub frames : PassesHaveHeard before.kit.frames.items after.kit.frames.items
   pub sealed : after.sealed ≡ before.sealed
   pub sealed_frames : after.sealed_frames ≡ before.sealed_frames
 
--- the posters of each sender before and after are so, and all else is as before
+-- the posters of each sender before and after are so, its passes are as before or heard others, and all else is as before
 pub record StageKeeps (R : List Sender → List Sender → Type 0) (before after : Stage) : Type 0 where
   pub hall : after.hall ≡ before.hall
   pub threads : AtEach (ThreadKeeps R) before.threads.items after.threads.items
@@ -32,6 +35,18 @@ pub record StageKeeps (R : List Sender → List Sender → Type 0) (before after
 abbrev pub OfThreads : (List Sender → Type 0) → List PostingThread → Type 0
 OfThreads P ts = (k : ℕ) (d : PostingThread) → k < length ts → P (slice_index_or ts k d).kit.posters.items
 
+-- this holds of the passes of each thread
+abbrev pub OfPasses : (List Pass → Type 0) → List PostingThread → Type 0
+OfPasses P ts = (k : ℕ) (d : PostingThread) → k < length ts → P (slice_index_or ts k d).kit.frames.items
+
+-- the passes have heard of no entry
+abbrev pub AreUnheard : List Pass → Type 0
+AreUnheard passes = (q : ℕ) (p : Pass) → q < length passes → HasHeardAll [] (slice_index_or passes q p)
+
+-- so it is with the two passes of each looper
+abbrev pub HaveHeardNothing : List StageLooper → Type 0
+HaveHeardNothing ls = (k : ℕ) (d : StageLooper) → k < length ls → OfItsPasses (HasHeardAll []) (slice_index_or ls k d)
+
 -- this holds of the posters of each looper
 abbrev pub OfLoopers : (List Sender → Type 0) → List StageLooper → Type 0
 OfLoopers P ls = (k : ℕ) (d : StageLooper) → k < length ls → P (posters_of (slice_index_or ls k d))
@@ -42,9 +57,30 @@ pub record OfSenders (P : List Sender → Type 0) (st : Stage) : Type 0 where
   pub loopers : OfLoopers P st.loopers.items
   pub controller : P st.controller.kit.posters.items
 
+-- the passes of the choreographer at this place have heard this: the threads', its looper's two and the controller's
+pub record HavePassesHeard (place : ℕ) (whole : List (ℕ × FrameEntry)) (st : Stage) : Type 0 where
+  pub threads : (k : ℕ) (d : PostingThread) → k < length st.threads.items → HaveHeardAllAt place whole (slice_index_or st.threads.items k d).kit.frames.items
+  pub looper : (d : StageLooper) → place < length st.loopers.items → OfItsPasses (HasHeardAll whole) (slice_index_or st.loopers.items place d)
+  pub controller : HaveHeardAllAt place whole st.controller.kit.frames.items
+
+-- what passes of the other choreographers have heard is as before
+abbrev pub OtherPassesStay : ℕ → Stage → Stage → Type 0
+OtherPassesStay place before after = (q : ℕ) (whole : List (ℕ × FrameEntry)) → q ≢ place → HavePassesHeard q whole before → HavePassesHeard q whole after
+
+-- all passes of the choreographer at this place have heard the same, and of the others what they had; all else is as before
+pub record SharesFramesAt (place : ℕ) (before after : Stage) : Type 0 where
+  pub kept : StageKeeps AreKept before after
+  pub heard : List (ℕ × FrameEntry)
+  pub passes : HavePassesHeard place heard after
+  pub elsewhere : OtherPassesStay place before after
+
 -- all senders have seen the same of the queue at this place, and of the others what they had seen
 abbrev pub SharesAt : ℕ → Stage → Stage → Type 0
 SharesAt place before after = (whole : List Entry) × StageKeeps (HaveHeardAt place whole) before after
+
+-- all passes of each choreographer have heard the same
+abbrev pub HaveHeardTheSame : Script → Stage → Type 0
+HaveHeardTheSame s st = (q : ℕ) → q < s.loopers → (whole : List (ℕ × FrameEntry)) × HavePassesHeard q whole st
 
 -- so it is with the posters of each kit
 abbrev pub OfKits : (List Sender → Type 0) → List Kit → Type 0

@@ -1,9 +1,10 @@
 //! A stage before the first event.
 ghost use Rattle.std.specs.Prelude.{◌≡◌, ◌<◌, ◌+◌, [], IfOk, OnOk, length, replicate};
+ghost use Rattle.dash_stage.specs.Asking.{AskInTurn};
 ghost use Rattle.dash_stage.specs.Controllers.{IsMoving, parts_in};
 ghost use Rattle.dash_stage.specs.Timeliness.{AreBy, AreTimelyUpTo, AreRested, WaitForNothing};
 ghost use Rattle.dash_hall.specs.Kits.{IsHall, AreUnseen, AreUnusedKits};
-ghost use Rattle.dash_stage.specs.Sharing.{OfThreads, OfLoopers, OfSenders};
+ghost use Rattle.dash_stage.specs.Sharing.{OfThreads, OfPasses, OfLoopers, OfSenders, AreUnheard, HaveHeardNothing};
 ghost use Rattle.dash_stage.specs.Playing.{HaveBegun, IsInStep};
 ghost use Rattle.dash_stage.specs.Stages.{IsPlayable, AreKitsFrom, AreThreads, AreLoopers, HaveRunBy, IsStageIn};
 ghost use Rattle.run_model.specs.Moments.{Mode};
@@ -30,6 +31,7 @@ pub(crate) fn set_up(alloc: Global, script: &Script, lockstep: bool) -> Result<S
     ensures step { IfOk result (λ st. IsInStep script.now st) }
     ensures unseen { IfOk result (λ st. AreUnseen st.controller.kit.posters.items) }
     ensures unused { IfOk result (λ st. OfSenders AreUnseen st) }
+    ensures turn { IfOk result (λ st. AskInTurn script.now [] 0 st) }
 {
     let (hall, mut kits, pass) = open(alloc, script, lockstep)?;
     let threads = threads(alloc, script, &hall, &mut kits)?;
@@ -75,6 +77,7 @@ fn threads(
     ensures threads { IfOk result (λ v. AreThreads script.now hall.now v.items) }
     ensures begun { (m : Mode) → IfOk result (λ v. HaveRunBy m script.now [] v.items) }
     ensures unseen { IfOk result (λ v. OfThreads AreUnseen v.items) }
+    ensures unheard { IfOk result (λ v. OfPasses AreUnheard v.items) }
     ensures kits { OnOk result (AreKitsFrom script.now hall.now script.now.threads kits.new.items) }
     ensures unused { OnOk result (AreUnusedKits kits.new.items) }
 {
@@ -98,6 +101,7 @@ fn loopers(
     requires unused { AreUnusedKits kits.old.items }
     ensures loopers { IfOk result (λ v. AreLoopers script.now hall.now v.items) }
     ensures unseen { IfOk result (λ v. OfLoopers AreUnseen v.items) }
+    ensures unheard { IfOk result (λ v. HaveHeardNothing v.items) }
     ensures waits { IfOk result (λ v. WaitForNothing v.items) }
     ensures begun { IfOk result (λ v. HaveBegun script.now v.items) }
     ensures kits { OnOk result (AreKitsFrom script.now hall.now (script.now.threads + script.now.loopers) kits.new.items) }

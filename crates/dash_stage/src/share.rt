@@ -1,5 +1,5 @@
-//! All senders come to have seen the same of each queue's history.
-ghost use Rattle.std.specs.Prelude.{◌≡◌, ◌<◌, Bool, false, List};
+//! All senders come to have seen the same of each queue's history, and heard the same of each choreographer's.
+ghost use Rattle.std.specs.Prelude.{◌≡◌, ◌<◌, Bool, false, List, IsSome};
 ghost use Rattle.dash_script.specs.declared.script.Block.{Block};
 ghost use Rattle.shared_queue.specs.Known.{IsOf};
 ghost use Rattle.dash_hall.specs.Kits.{IsHall};
@@ -7,13 +7,15 @@ ghost use Rattle.dash_stage.specs.BehindThreads.{HasHeardThreads};
 ghost use Rattle.dash_stage.specs.ByClock.{EachIsThread};
 ghost use Rattle.dash_stage.specs.Controllers.{CallsNone, IsControllerIn};
 ghost use Rattle.dash_stage.specs.Stages.{IsStage, HaveRun, OthersHaveEnded, IsStageIn};
-ghost use Rattle.dash_hall.specs.Hearing.{HasHeard, HaveHeard, HaveHeardAt, AtEach, AreKept, AreReady, AreKnown};
-ghost use Rattle.dash_stage.specs.Sharing.{AreWithin, ControllerKeeps, StageKeeps, OfThreads, OfLoopers, SharesAt, HaveSeenTheSame};
-ghost use Rattle.dash_threads.specs.Threads.{ThreadKeeps};
-ghost use Rattle.dash_loopers.specs.Loopers.{LooperKeeps};
+ghost use Rattle.choreographer.specs.Known.{IsOf as IsFrameOf, HasHeardWho};
+ghost use Rattle.dash_hall.specs.Hearing.{HasHeard, HaveHeard, HaveHeardAt, AtEach, AreKept, AreReady, AreKnown, PassHasHeard, ArePassesReady, ArePassesKnown};
+ghost use Rattle.dash_stage.specs.Sharing.{AreWithin, ControllerKeeps, StageKeeps, OfThreads, OfPasses, OfLoopers, SharesAt, HaveSeenTheSame, SharesFramesAt, HaveHeardTheSame};
+ghost use Rattle.dash_threads.specs.Threads.{ThreadKeeps, TellsPass, HearsPass};
+ghost use Rattle.dash_loopers.specs.Loopers.{LooperKeeps, OfItsPasses, HearsPasses};
 
 use crate::control::Controller;
 use crate::stage::Stage;
+use choreographer::{Choreographer, FramePass};
 use dash_hall::Hall;
 use dash_loopers::StageLooper;
 use dash_script::Script;
@@ -28,11 +30,13 @@ impl Stage {
         ensures stage { IsStage script.now self.new }
         ensures kept { StageKeeps HaveHeard self.old self.new }
         ensures shared { HaveSeenTheSame self.new }
+        ensures heard { HaveHeardTheSame script.now self.new }
         ensures run { (bs : List Block) → HaveRun script.now bs self.old.threads.items → HaveRun script.now bs self.new.threads.items }
         ensures none { CallsNone self.old.controller self.new.controller }
         ensures ended { OthersHaveEnded self.old.loopers.items → OthersHaveEnded self.new.loopers.items }
     {
         self.share_each(script);
+        self.share_frames(script);
     }
 
     /// All senders come to have seen the same of each queue's history, in lockstep or by a clock.
@@ -59,6 +63,32 @@ impl Stage {
             self.threads.as_mut_slice(),
             self.loopers.as_mut_slice(),
             &mut self.controller.kit.posters[place],
+        );
+    }
+
+    /// All passes of each choreographer come to have heard the same: who recorded each entry that one of them has seen. It takes no turn.
+    fn share_frames(&mut self, script: &Script)
+        requires stage { IsStageIn self.old.hall.lockstep script.now self.old }
+        ensures kept { StageKeeps AreKept self.old self.new }
+        ensures heard { HaveHeardTheSame script.now self.new }
+    {
+        for looper in 0..script.loopers {
+            self.share_frames_of(script, looper as usize);
+        }
+    }
+
+    /// All passes of the choreographer at this place come to have heard the same.
+    fn share_frames_of(&mut self, script: &Script, place: usize)
+        requires stage { IsStageIn self.old.hall.lockstep script.now self.old }
+        requires place { place < script.now.loopers }
+        ensures shares { SharesFramesAt place self.old self.new }
+    {
+        share_passes(
+            &self.hall.choreographers[place],
+            place,
+            self.threads.as_mut_slice(),
+            &mut self.loopers[place],
+            &mut self.controller.kit.frames[place],
         );
     }
 }
@@ -108,6 +138,64 @@ fn share_by(
     loopers_tell(queue, place, loopers, poster);
     threads_hear(queue, place, threads, poster);
     loopers_hear(queue, place, loopers, poster);
+}
+
+/// This pass of a choreographer hears those of all threads and the two of its looper, and then they hear it.
+fn share_passes(
+    choreographer: &Choreographer,
+    place: usize,
+    threads: &mut [PostingThread],
+    looper: &mut StageLooper,
+    pass: &mut FramePass,
+)
+    requires threads { OfPasses (ArePassesReady place choreographer.now) threads.old }
+    requires parts { IsSome looper.old.parts }
+    requires looper { OfItsPasses (λ p. IsFrameOf p choreographer.now) looper.old }
+    requires pass { IsFrameOf pass.old choreographer.now }
+    ensures threads { AtEach (HearsPass place pass.new.view.heard) threads.old threads.new }
+    ensures looper { HearsPasses pass.new.view.heard looper.old looper.new }
+    ensures pass { PassHasHeard pass.old pass.new × HasHeardWho pass.new }
+{
+    threads_tell_passes(choreographer, place, threads, pass);
+    looper.tell_passes(choreographer, pass);
+    threads_hear_passes(choreographer, place, threads, pass);
+    looper.hear_passes(choreographer, pass);
+}
+
+/// Another pass of the choreographer hears those of the threads.
+fn threads_tell_passes(
+    choreographer: &Choreographer,
+    place: usize,
+    threads: &mut [PostingThread],
+    other: &mut FramePass,
+)
+    requires ready { OfPasses (ArePassesReady place choreographer.now) threads.old }
+    requires other { IsFrameOf other.old choreographer.now }
+    ensures kept { AtEach TellsPass threads.old threads.new }
+    ensures heard { PassHasHeard other.old other.new }
+    ensures told { OfPasses (ArePassesKnown place other.new.view.heard) threads.old }
+{
+    for k in 0..threads.len() {
+        threads[k].tell_pass(choreographer, place, other);
+    }
+}
+
+/// The threads' passes of the choreographer hear another one, which has heard all that they have.
+fn threads_hear_passes(
+    choreographer: &Choreographer,
+    place: usize,
+    threads: &mut [PostingThread],
+    other: &mut FramePass,
+)
+    requires ready { OfPasses (ArePassesReady place choreographer.now) threads.old }
+    requires other { IsFrameOf other.old choreographer.now }
+    requires known { OfPasses (ArePassesKnown place other.old.view.heard) threads.old }
+    ensures kept { AtEach (HearsPass place other.old.view.heard) threads.old threads.new }
+    ensures other { other.new ≡ other.old }
+{
+    for k in 0..threads.len() {
+        threads[k].hear_pass(choreographer, place, other);
+    }
 }
 
 /// Another poster of the queue hears those of the threads.

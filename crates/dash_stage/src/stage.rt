@@ -15,6 +15,7 @@ ghost use Rattle.dash_stage.specs.RunEnds.{HasBegunInLockstep, HasEndedInLockste
 ghost use Rattle.dash_stage.specs.Turns.{AwaitTheirTurn};
 ghost use Rattle.dash_stage.specs.Steps.{StayRun, StaysTimely, StaysInStep, StayMoved, WereSound, RestsUnlessGrown, IsReadyFor, RunsNext};
 ghost use Rattle.dash_stage.specs.Stages.{IsStage, RunOn, OthersHaveEnded, LoopersGoOn};
+ghost use Rattle.dash_stage.specs.Asking.{AsksNothing, StaysInTurn, AsksBefore, AsksInBlock};
 
 use crate::agenda::Agenda;
 use crate::control::Controller;
@@ -95,6 +96,8 @@ impl Stage {
         ensures step { IsInStep script.now self.old → AreRested script.now self.old → OnOk result (IsInStep script.now self.new) }
         ensures at { IsInStep script.now self.old → AreRested script.now self.old → LiesAhead time self.old → OnOk result (AreAtBlockIfSound script.now time self.new) }
         ensures moves { IsInStep script.now self.old → AreRested script.now self.old → OnOk result (StayMoved script.now self.old self.new) }
+        ensures asks { IsInStep script.now self.old → AreRested script.now self.old → OnOk result (StaysInTurn script.now self.old self.new) }
+        ensures asks_before { IsInStep script.now self.old → AreRested script.now self.old → LiesAhead time self.old → OnOk result (AsksBefore script.now time self.old self.new) }
     {
         for _ in means.rt.forever() {
             let next = at_most(self.next_due(means.rt, script, agenda), time);
@@ -127,6 +130,7 @@ impl Stage {
         ensures sound { OnOk result (WereSound script.now self.old self.new) }
         ensures step { OnOk result (StaysInStep script.now self.old self.new) }
         ensures moves { OnOk result (StayMoved script.now self.old self.new) }
+        ensures asks { IsInStep script.now self.old → OnOk result (StaysInTurn script.now self.old self.new) }
     {
         self.run_rounds(means, script, Turn::All, agenda)?;
         if self.controller.has_many() {
@@ -148,6 +152,7 @@ impl Stage {
         ensures sound { HaveSeenTheSame self.old → OnOk result (WereSound script.now self.old self.new) }
         ensures step { OnOk result (StaysInStep script.now self.old self.new) }
         ensures moves { HaveSeenTheSame self.old → OnOk result (StayMoved script.now self.old self.new) }
+        ensures asks { IsInStep script.now self.old → OnOk result (StaysInTurn script.now self.old self.new) }
     {
         self.controller.seal(rt, &self.hall, script)?;
         self.share(script);
@@ -218,6 +223,7 @@ impl Stage {
         ensures sound { IsReadyFor script.now time self.old → OnOk result (WereSound script.now self.old self.new) }
         ensures at { IsReadyFor script.now time self.old → LiesAhead time self.old → OnOk result (AreAtBlockIfSound script.now time self.new) }
         ensures moves { IsReadyFor script.now time self.old → MayBeMovedTo script.now time self.old.controller → OnOk result (StayMoved script.now self.old self.new) }
+        ensures asks { IsReadyFor script.now time self.old → OnOk result (AsksNothing script.now self.old self.new) }
     {
         self.time = self.time.max(time);
         let moved = self.controller.advance(rt, &self.hall, script, time)?;
@@ -241,6 +247,7 @@ impl Stage {
         ensures timely { OnOk result (RunsNext script.now block.now self.old self.new) }
         ensures step { IsInStep script.now self.old → AreAtBlockIfSound script.now block.now.time self.old → OnOk result (IsInStep script.now self.new) }
         ensures moves { OnOk result (StayMoved script.now self.old self.new) }
+        ensures asks { OnOk result (AsksInBlock script.now block.now self.old self.new) }
     {
         run_threads(
             means,
@@ -275,6 +282,7 @@ impl Stage {
         ensures sound { OnOk result (WereSound script.now self.old self.new) }
         ensures step { OnOk result (StaysInStep script.now self.old self.new) }
         ensures moves { OnOk result (StayMoved script.now self.old self.new) }
+        ensures asks { IsInStep script.now self.old → OnOk result (StaysInTurn script.now self.old self.new) }
         ensures others { OnOk result (AwaitTheirTurn turn self.old.loopers.items self.new.loopers.items) }
     {
         for _ in means.rt.forever() {
@@ -313,6 +321,7 @@ impl Stage {
         ensures rested { turn ≡ All → HaveSeenTheSame self.old → OnOk result (RestsUnlessGrown script.now self.old self.new) }
         ensures step { OnOk result (StaysInStep script.now self.old self.new) }
         ensures moves { OnOk result (StayMoved script.now self.old self.new) }
+        ensures asks { IsInStep script.now self.old → OnOk result (StaysInTurn script.now self.old self.new) }
         ensures others { OnOk result (AwaitTheirTurn turn self.old.loopers.items self.new.loopers.items) }
     {
         run_loopers(
@@ -350,6 +359,7 @@ impl Stage {
         ensures halted { OnOk result (HasHaltedLast script.now self.new) }
         ensures step { OnOk result (StaysInStep script.now self.old self.new) }
         ensures moves { HaveSeenTheSame self.old → OnOk result (StayMoved script.now self.old self.new) }
+        ensures asks { IsInStep script.now self.old → OnOk result (StaysInTurn script.now self.old self.new) }
     {
         self.quit_others(means.rt, script)?;
         for _ in means.rt.forever() {
@@ -382,6 +392,7 @@ impl Stage {
         ensures same { OnOk result (HaveSeenTheSame self.new) }
         ensures step { OnOk result (StaysInStep script.now self.old self.new) }
         ensures moves { HaveSeenTheSame self.old → OnOk result (StayMoved script.now self.old self.new) }
+        ensures asks { IsInStep script.now self.old → OnOk result (StaysInTurn script.now self.old self.new) }
     {
         for looper in 1..script.loopers {
             if !self.loopers[looper as usize].has_ended() {

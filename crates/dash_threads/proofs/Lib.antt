@@ -7,5 +7,6 @@ pub mod ThreadRuns
 pub mod ThreadBlocks
 pub mod ThreadFrames
 pub mod ThreadFrameRuns
+pub mod ThreadHears
 pub mod ThreadNudges
 pub mod ThreadBells

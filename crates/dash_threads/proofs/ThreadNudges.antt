@@ -4,7 +4,6 @@ use Rattle.std.specs.Prelude.{Result, Ok, Err, IfOk}
 use Rattle.loop_model.specs.declared.entry.Entry.{Entry}
 use Rattle.dash_script.specs.declared.script.Script.{Script}
 use Rattle.looper_run.specs.Holding.{Sender}
-use Rattle.choreographer.specs.Known.{Known as Pass}
 use Rattle.run_model.specs.Asks.{entries_by, tokens_in}
 use Rattle.run_model.specs.Moments.{Mode, IsUptime, AreOfClock}
 use Rattle.run_model.specs.Planned.{Timed, lines_of, labels_on, MakeCalls}
@@ -15,7 +14,8 @@ use Rattle.dash_hall.proofs.Badges.{alike_length, alike_at}
 use Rattle.dash_hall.proofs.Clocking.{if_free}
 use Rattle.dash_script.specs.declared.script.Command.{Command}
 use Rattle.dash_threads.specs.declared.thread.PostingThread.{PostingThread}
-use Rattle.dash_threads.specs.Threads.{HasAsked, HasTurned, labels_kept, tokens_kept, IsUpTo, Takes, TakesAt, ThreadKeeps, known_of, HaveSeenSame}
+use Rattle.dash_threads.specs.Threads.{labels_kept, tokens_kept, IsUpTo, Takes, TakesAt, ThreadKeeps, known_of, HaveSeenSame}
+use Rattle.dash_threads.proofs.ThreadHears.{asked_heard, turned_heard}
 
 module _ (ps ps' : List Sender) (same : HaveSeenSame ps ps') (q : ℕ) (d : Sender) (near : q < length ps') where
   known_same : known_of (get_or ps' q d) ≡ known_of (get_or ps q d)
@@ -39,7 +39,6 @@ up_to_still m s past a b k up =
     let ps' = b.kit.posters.items in
     let long = alike_length known_of known_of ps' ps k.posters in
     let barriers : b.barriers.items ≡ a.barriers.items = ap (λ v. v.items) k.barriers in
-    let frames : b.kit.frames.items ≡ a.kit.frames.items = ap (λ v. v.items) k.frames in
     record {
       called = λ q d near'. (
           let near : q < length ps = omega (arith, near', long) in
@@ -52,8 +51,8 @@ up_to_still m s past a b k up =
             let near : q < length ps = omega (arith, near', long) in
             ap (tokens_kept q) barriers ∙ (up.barriers.tokens q d near ∙ ap tokens_in (sym (own_same ps ps' k.posters q d near'))));
       };
-      asked = subst (λ (fs : List Pass). HasAsked m past fs) (sym frames) up.asked;
-      turned = subst (λ (fs : List Pass). HasTurned past fs) (sym frames) up.turned;
+      asked = asked_heard m past a.kit.frames.items b.kit.frames.items k.frames up.asked;
+      turned = turned_heard past a.kit.frames.items b.kit.frames.items k.frames up.turned;
     }
 
 -- what is so anyway is so of an answer

@@ -24,6 +24,8 @@ use Rattle.dash_hall.specs.ByClock.{IsByClock}
 use Rattle.dash_hall.specs.Requests.{call_made, tokens_of, posts_barrier, IsAtItsMoment}
 use Rattle.dash_hall.specs.declared.calls.QueueCall.{QueueCall}
 use Rattle.dash_threads.specs.Planning.{call_planned}
+use Rattle.frame_phases.specs.declared.entry.FrameEntry.{FrameEntry}
+use Rattle.dash_hall.specs.Hearing.{AreKept, PassesHaveHeard, PassesHaveHeardAt}
 use Rattle.dash_hall.specs.Kits.{Badge, badge_of, ArePostersOf, ArePassesOf}
 use Rattle.loop_model.specs.declared.entry.Entry.{Entry}
 
@@ -143,15 +145,23 @@ HasPassed lines before after = after.gave_up ≡ false → after.passed ≡ pass
 abbrev pub HasBegun : Mode → Script → PostingThread → Type 0
 HasBegun m s t = IsUpTo m s [] t
 
--- a thread's posters before and after are so, and all else of it is as before
+-- a thread's posters before and after are so, its passes of choreographers are as before or heard others, and all else of it is as before
 pub record ThreadKeeps (R : List Sender → List Sender → Type 0) (before after : PostingThread) : Type 0 where
   pub number : after.number ≡ before.number
   pub posters : R before.kit.posters.items after.kit.posters.items
   pub pass : after.kit.pass ≡ before.kit.pass
-  pub frames : after.kit.frames ≡ before.kit.frames
+  pub frames : PassesHaveHeard before.kit.frames.items after.kit.frames.items
   pub barriers : after.barriers ≡ before.barriers
   pub passed : after.passed ≡ before.passed
   pub gave_up : after.gave_up ≡ before.gave_up
+
+-- the thread let another pass hear: its own are as they were
+abbrev pub TellsPass : PostingThread → PostingThread → Type 0
+TellsPass before after = ThreadKeeps AreKept before after × (after.kit.frames.items ≡ before.kit.frames.items)
+
+-- the thread's pass at this place has heard this, and all else is as before
+abbrev pub HearsPass : ℕ → List (ℕ × FrameEntry) → PostingThread → PostingThread → Type 0
+HearsPass place whole before after = ThreadKeeps AreKept before after × PassesHaveHeardAt place whole before.kit.frames.items after.kit.frames.items
 
 -- what is known of a poster besides its bell
 abbrev pub known_of : Sender → Badge × List Entry

@@ -18,9 +18,9 @@ use Rattle.dash_script.specs.declared.script.Script.{Script}
 use Rattle.run_model.specs.Planned.{Timed, lines_in, lines_of, frame_due}
 use Rattle.run_model.specs.FrameRuns.{FrameAt, nanos_of}
 use Rattle.run_model.specs.Loopers.{Looper}
-use Rattle.run_model.specs.FrameAsks.{FrameAsk, Posts, Removes, Runs, asked_in, asks_in, asks_to_run, line_asks, lines_ask, as_told, AreAskedBy}
+use Rattle.run_model.specs.FrameAsks.{FrameAsk, Posts, Removes, Runs, asked_in, asks_in, asks_to_run, line_asks, lines_ask, as_told}
 use Rattle.run_model.specs.FrameTurns.{TimedAsk, in_block, in_round, lines_ask_then, asked_for, asked_in_rounds, asked_then, timed_as_told, AreAskedInTurn}
-use Rattle.run_model.specs.Run.{asked_of}
+use Rattle.run_model.specs.AskedSoFar.{Rise, second, timed_of, asks_of, HaveAsked, asked_so_far}
 
 -- ---- lists
 
@@ -65,10 +65,6 @@ module _ {X Y : Type 0} (f : X → Y) where
 
 -- ---- times that do not fall
 
-abbrev pub Rise : ℕ → List TimedAsk → Type 0
-Rise last [] = Unit {0}
-Rise last (x ∷ xs) = (last ≤ x.when) × Rise x.when xs
-
 from_last : (last : ℕ) (xs : List TimedAsk) → Rise last xs → (i : ℕ) (d : TimedAsk) → i < length xs → last ≤ (slice_index_or xs i d).when
 from_last last [] h i d lt = absurd (omega (arith, lt))
 from_last last (x ∷ xs) h zero d lt = h.0
@@ -110,15 +106,6 @@ at_time when a = record { when = when; ask = a }
 abbrev asked_at : ℕ → List (ℕ × FrameEntry) → List (ℕ × TimedAsk)
 asked_at when more = filter_map (λ (d : ℕ × FrameEntry). option_map (λ (a : FrameAsk). (d.0, at_time when a)) (asked_in d.1)) more
 
-abbrev second : List (ℕ × FrameEntry) → List FrameEntry
-second made = map (λ (d : ℕ × FrameEntry). d.1) made
-
-abbrev pub timed_of : List (ℕ × TimedAsk) → List TimedAsk
-timed_of dealt = map (λ (d : ℕ × TimedAsk). d.1) dealt
-
-abbrev pub asks_of : List TimedAsk → List FrameAsk
-asks_of xs = map (λ (x : TimedAsk). x.ask) xs
-
 asked_at_asks : (when : ℕ) (more : List (ℕ × FrameEntry)) → asks_of (timed_of (asked_at when more)) ≡ asks_in (second more)
 asked_at_asks when [] = refl
 asked_at_asks when ((n, e) ∷ more) = by_case (asked_in e) (asked_at_asks when more)
@@ -156,14 +143,6 @@ all_at_time when [] at = refl
 all_at_time when (x ∷ xs) at = λ i. record { when = sym at.0 i; ask = x.ask } ∷ all_at_time when xs at.1 i
 
 -- ---- piece by piece
-
--- these entries, each beside the number of its sender, were asked for up to this time, in turn, and by each sender so
-pub record HaveAsked (last : ℕ) (made : List (ℕ × FrameEntry)) (by : ℕ → List TimedAsk) : Type 0 where
-  pub dealt : List (ℕ × TimedAsk)
-  pub asks_are : asks_of (timed_of dealt) ≡ asks_in (second made)
-  pub parts : (k : ℕ) → dealt_to k dealt ≡ by k
-  pub rise : Rise 0 (timed_of dealt)
-  pub by_then : AllByRecursion (λ (x : TimedAsk). x.when ≤ last) (timed_of dealt)
 
 pub none_asked : HaveAsked 0 [] (λ k. [])
 none_asked = record { dealt = []; asks_are = refl; parts = λ k. refl; rise = tt; by_then = tt }
@@ -223,7 +202,11 @@ asked_in_turn last made by h parts same = record {
   parted = (h.dealt, refl, λ k. h.parts k ∙ (same k ∙ ap (λ (ps : List (List TimedAsk)). slice_index_or ps k []) (sym (map_itself (map (timed_as_told true)) (map_itself (timed_as_told true) timed_itself) parts))));
 }
 
--- asked in turn they are parted among those who ask
+-- as told they are parted among those who ask
+abbrev pub AreAskedBy : Bool → List FrameAsk → List (List FrameAsk) → Type 0
+AreAskedBy lockstep asks by_sender = AreParted (map (as_told lockstep) asks) (map (map (as_told lockstep)) by_sender)
+
+-- so are those that are asked in turn
 pub in_turn_parted : (lockstep : Bool) (asks : List FrameAsk) (by_sender : List (List TimedAsk)) → AreAskedInTurn lockstep asks by_sender → AreAskedBy lockstep asks (map asks_of by_sender)
 in_turn_parted lockstep asks by_sender h =
     let parted = parted_mapped (λ (x : TimedAsk). x.ask) h.timed (map (map (timed_as_told lockstep)) by_sender) h.parted in
@@ -303,10 +286,6 @@ frames_at_once time le (x ∷ xs) at = (ap (λ (n : ℕ). asked_for (Runs (nanos
 lines_more : (k : ℕ) (past : List Block) (b : Block) → lines_of k (past ++ b ∷ []) ≡ lines_of k past ++ lines_in k b
 lines_more k [] b = append-nil (lines_in k b)
 lines_more k (c ∷ past) b = ap (λ l. lines_in k c ++ l) (lines_more k past b) ∙ sym (append_assoc (lines_in k c) (lines_of k past) (lines_in k b))
-
--- what each sender has asked for: the threads, of which there are so many, by their lines of these blocks, and the others as these entries tell, in rounds
-abbrev pub asked_so_far : ℕ → ℕ → List Block → List (ℕ × FrameEntry) → ℕ → List TimedAsk
-asked_so_far threads q past made k = if nat_lt k threads then lines_ask_then q (lines_of k past) else asked_in_rounds (asks_in (dealt_to k made))
 
 abbrev either : Bool → List TimedAsk → List TimedAsk → List TimedAsk
 either b xs ys = if b then xs else ys
@@ -468,7 +447,10 @@ all_asked s q last made a h ran posted idle = asked_in_turn last made (asked_so_
           ∙ (ap (λ n. asked_in_rounds (asks_in (dealt_to n made))) (omega (arith, le)) ∙ (others (k - s.threads) ∙ sym (part_behind of_line mine 0 s.threads k le)))
     ]
 
--- without their times these are what they ask for
+-- what each asks of a looper's choreographer, without its times
+abbrev pub asked_of : Script → ℕ → Looper → List (List FrameAsk)
+asked_of s q final = map (λ thread. lines_ask q (lines_of thread s.blocks)) (range_with_len 0 s.threads) ++ asks_to_run final.frames ∷ final.posted ∷ []
+
 pub then_asks : (s : Script) (q : ℕ) (a : Looper) → map asks_of (asked_then s q a) ≡ asked_of s q a
 then_asks s q a =
     map-append asks_of (map (λ k. lines_ask_then q (lines_of k s.blocks)) (range_with_len 0 s.threads)) (asked_in_rounds (asks_to_run a.frames) ∷ asked_in_rounds a.posted ∷ [])

@@ -19,10 +19,11 @@ use Rattle.run_model.specs.declared.report.Report.{Report}
 use Rattle.run_model.specs.Control.{is_controlled, are_before_quit}
 use Rattle.run_model.specs.Moments.{Mode, in_free_mode, AreOfClock}
 use Rattle.run_model.specs.Planned.{AreAsPlanned}
-use Rattle.run_model.specs.FrameAsks.{as_told}
+use Rattle.run_model.specs.FrameTurns.{asked_then, timed_as_told}
+use Rattle.run_model.proofs.AskedInTurn.{rising_sorted}
 use Rattle.run_model.specs.Acts.{after_act}
 use Rattle.run_model.specs.Loopers.{first_looper}
-use Rattle.run_model.specs.Run.{IsRun, IsRecordOf, IsControlled, IsFrameRun, IsLooperRun, all_entries, setting_of, asked_of}
+use Rattle.run_model.specs.Run.{IsRun, IsRecordOf, IsControlled, IsFrameRun, IsLooperRun, all_entries, setting_of}
 use Rattle.run_model.specs.Text.{text, lines}
 use Rattle.run_model.proofs.Below.{each_below}
 use Rattle.run_model.proofs.Table.{led}
@@ -105,7 +106,7 @@ frame_run = record {
 }
 
 -- no line and no act asks the choreographer for anything
-none_asked : (k : ℕ) → [] ≡ slice_index_or (map (map (as_told false)) (asked_of script 0 (first_looper script))) k []
+none_asked : (k : ℕ) → [] ≡ slice_index_or (map (map (timed_as_told false)) (asked_then script 0 (first_looper script))) k []
 none_asked zero = refl
 none_asked (suc zero) = refl
 none_asked (suc (suc zero)) = refl
@@ -120,7 +121,7 @@ looper_run = record {
   dispatches = refl;
   disposed_at = 0;
   calls = ((record { call = refl; reply = refl }, (record { call = refl; reply = refl }, tt)), tt);
-  asked = ([], refl, none_asked);
+  asked = record { timed = []; asks_are = refl; in_turn = rising_sorted 0 [] tt; parted = ([], refl, none_asked) };
   on_time = tt;
   whole = refl;
   moments = tt;

@@ -17,26 +17,27 @@ use Rattle.run_model.specs.Histories.{history_of}
 use Rattle.run_model.specs.Moments.{in_lockstep}
 use Rattle.run_model.specs.Loopers.{Looper, first_looper}
 use Rattle.run_model.specs.FrameAsks.{asks_in}
-use Rattle.run_model.specs.Run.{IsRun, asked_of}
+use Rattle.run_model.specs.FrameTurns.{asked_then}
+use Rattle.run_model.specs.Run.{IsRun}
 use Rattle.run_model.proofs.Examples.{entry, frame_message, halted_at, handler_on, block, by, plain_script, callback}
 use Rattle.run_model.proofs.RunBut as but
 use Rattle.run_model.proofs.Table.{Row, quiet, queue_in, report_of, computing}
-use Rattle.run_model.proofs.Parting.{can_ask, parted_can_ask}
+use Rattle.run_model.proofs.Parting.{can_ask_in_turn, in_turn_can_ask}
 use Rattle.run_model.proofs.Led.{any_led, led_passes}
 use Rattle.run_model.proofs.OneFault.{Faulty, faulty, Fails, each_fails}
 
--- main's frame record tells what is asked for, by something that its acts may lead to
+-- main's frame record tells what is asked for, in turn, by something that its acts may lead to
 abbrev pub main_tells_asked : Script → List Row → Bool
 main_tells_asked s [] = true
 main_tells_asked s (row ∷ rows) =
-    any_led (λ (b : Looper). can_ask (asks_in row.frames) (asked_of s 0 b)) s 0 (history_of (queue_in s 0 row)) row.frames (first_looper s) row.acts
+    any_led (λ (b : Looper). can_ask_in_turn (asks_in row.frames) (asked_then s 0 b)) s 0 (history_of (queue_in s 0 row)) row.frames (first_looper s) row.acts
 
 pub told_by_run : (s : Script) (rows : List Row) → IsRun in_lockstep s (report_of s rows) → main_tells_asked s rows ≡ true
 told_by_run s [] r = refl
 told_by_run s (row ∷ rows) r =
     let l = r.loopers.0 in
-    led_passes (λ (b : Looper). can_ask (asks_in row.frames) (asked_of s 0 b)) s 0 (history_of (queue_in s 0 row)) row.frames (first_looper s) row.acts l.final l.acts
-    (parted_can_ask (asks_in row.frames) (asked_of s 0 l.final) l.asked)
+    led_passes (λ (b : Looper). can_ask_in_turn (asks_in row.frames) (asked_then s 0 b)) s 0 (history_of (queue_in s 0 row)) row.frames (first_looper s) row.acts l.final l.acts
+    (in_turn_can_ask (asks_in row.frames) (asked_then s 0 l.final) l.asked)
 
 -- a script with one line at its end, and this frame record
 abbrev unasked : Command → List FrameEntry → Faulty

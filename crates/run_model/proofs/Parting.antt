@@ -7,9 +7,10 @@ use Rattle.std.proofs.lemmas.Bool.{and_parts, and_from, or_cases, eqb-true, leb-
 use mathlib.Core.Logic.{dite}
 use native.Mathlib.Decide.{ℕ_discrete}
 use Rattle.frame_phases.specs.Parting.{dealt_to}
-use Rattle.run_model.specs.FrameAsks.{FrameAsk, Posts, Removes, Runs, as_told, AreAskedBy}
+use Rattle.run_model.specs.FrameAsks.{FrameAsk, Posts, Removes, Runs, as_told}
 use Rattle.run_model.specs.FrameTurns.{TimedAsk, timed_as_told, AreAskedInTurn}
-use Rattle.run_model.proofs.AskedInTurn.{Rise, rising_sorted, sorted_rising, parted_mapped, asks_of, timed_of}
+use Rattle.run_model.specs.AskedSoFar.{Rise, asks_of, timed_of}
+use Rattle.run_model.proofs.AskedInTurn.{rising_sorted, sorted_rising}
 
 abbrev pub same_token : Option ℕ → Option ℕ → Bool
 same_token None None = true
@@ -286,42 +287,3 @@ in_turn_can_ask asks by_sender h =
     let rise : Rise 0 h.timed = sorted_rising 0 h.timed h.in_turn (λ d some. omega arith) in
     let passes = part_able 0 h.parted.0 (all_told by_sender) h.parted.2 (subst (Rise 0) (sym h.parted.1) rise) in
     subst (λ (xs : List FrameAsk). can_part 0 xs (all_told by_sender) ≡ true) (ap asks_of h.parted.1 ∙ h.asks_are) passes
-
--- the same with no times
-abbrev untimed : List (List FrameAsk) → List (List TimedAsk)
-untimed by_sender = map (λ (p : List FrameAsk). map (λ a. record { when = 0; ask = a }) (told p)) by_sender
-
-abbrev pub can_ask : List FrameAsk → List (List FrameAsk) → Bool
-can_ask asks by_sender = can_part 0 (told asks) (untimed by_sender)
-
-pub asks_are_parted : (asks : List FrameAsk) (by_sender : List (List FrameAsk)) → can_ask asks by_sender ≡ true → AreAskedBy true asks by_sender
-asks_are_parted asks by_sender h =
-    let d = parted 0 (told asks) (untimed by_sender) h in
-    let asked = parted_mapped (λ (x : TimedAsk). x.ask) (timed_of d.dealt) (untimed by_sender) (d.dealt, refl, d.parts) in
-    (asked.0, asked.1 ∙ d.asks_are, λ k. asked.2 k ∙ ap (λ (ps : List (List FrameAsk)). part ps k) (without_times by_sender))
-  where
-    one : (xs : List FrameAsk) → asks_of (map (λ a. record { when = 0; ask = a }) xs) ≡ xs
-    one [] = refl
-    one (x ∷ xs) = ap (λ l. x ∷ l) (one xs)
-
-    without_times : (ps : List (List FrameAsk)) → map asks_of (untimed ps) ≡ map told ps
-    without_times [] = refl
-    without_times (p ∷ ps) = λ i. one (told p) i ∷ without_times ps i
-
-pub parted_can_ask : (asks : List FrameAsk) (by_sender : List (List FrameAsk)) → AreAskedBy true asks by_sender → can_ask asks by_sender ≡ true
-parted_can_ask asks by_sender h =
-    let timed = parted_mapped (λ (a : FrameAsk). record { when = 0; ask = a }) (told asks) (map told by_sender) h in
-    let passes = part_able 0 timed.0 (untimed by_sender) (λ k. timed.2 k ∙ ap (λ (ps : List (List TimedAsk)). part ps k) (mapped_once by_sender)) (subst (Rise 0) (sym timed.1) (at_once (told asks))) in
-    subst (λ (xs : List FrameAsk). can_part 0 xs (untimed by_sender) ≡ true) (ap asks_of timed.1 ∙ one (told asks)) passes
-  where
-    one : (xs : List FrameAsk) → asks_of (map (λ a. record { when = 0; ask = a }) xs) ≡ xs
-    one [] = refl
-    one (x ∷ xs) = ap (λ l. x ∷ l) (one xs)
-
-    at_once : (xs : List FrameAsk) → Rise 0 (map (λ a. record { when = 0; ask = a }) xs)
-    at_once [] = tt
-    at_once (x ∷ xs) = (omega arith, at_once xs)
-
-    mapped_once : (ps : List (List FrameAsk)) → map (map (λ (a : FrameAsk). record { when = 0; ask = a })) (map told ps) ≡ untimed ps
-    mapped_once [] = refl
-    mapped_once (p ∷ ps) = ap (λ l. map (λ (a : FrameAsk). record { when = 0; ask = a }) (told p) ∷ l) (mapped_once ps)

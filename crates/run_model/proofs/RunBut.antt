@@ -22,15 +22,18 @@ use Rattle.run_model.specs.Loopers.{Looper, first_looper}
 use Rattle.run_model.specs.Acts.{Lead, IsSent}
 use Rattle.run_model.specs.Moves.{Move, moves, move_times, main_moves, MayMoveTo}
 use Rattle.run_model.specs.FrameRuns.{are_run_then, are_whole}
-use Rattle.run_model.specs.FrameAsks.{asks_in, AreAskedBy}
-use Rattle.run_model.specs.Run.{IsReportOf, AreRecordsOf, all_entries, ArePlannedOf, AreControlsOf, IsFrameRun, caused_on, asked_of, IsLooperRun, EachLooper, IsThreadOnTime, are_in_order, IsBeforeQuit, IsTimely, main_ends_halted, IsRun}
+use Rattle.run_model.specs.FrameAsks.{asks_in}
+use Rattle.run_model.specs.FrameTurns.{TimedAsk, asked_then, AreAskedInTurn}
+use Rattle.run_model.specs.Run.{IsReportOf, AreRecordsOf, all_entries, ArePlannedOf, AreControlsOf, IsFrameRun, caused_on, IsLooperRun, EachLooper, IsThreadOnTime, are_in_order, IsBeforeQuit, IsTimely, main_ends_halted, IsRun}
 
 -- a clause of the definition, left out or kept
 pub data Clause : Type 0 where
   -- no clause
   Nothing : Clause
-  -- what is asked of a choreographer is parted among those who ask
+  -- what is asked of a choreographer is parted among those who ask, in turn
   Asked : Clause
+  -- it is asked in turn
+  InTurn : Clause
   -- each frame has the stamp of a pulse
   Stamps : Clause
   -- frames are whole
@@ -77,6 +80,7 @@ number_of Order = 12
 number_of Blocks = 13
 number_of Due = 14
 number_of Together = 15
+number_of InTurn = 16
 
 -- this is so, unless it is the clause that is left out
 abbrev pub Unless : Clause → Clause → Type 0 → Type 0
@@ -87,6 +91,11 @@ abbrev pub with_pulses : Clause → Script → Script
 with_pulses Pulses s = record s { period = 1 }
 with_pulses _ s = s
 
+-- where it is left out that asks are made in turn, all are made at once
+abbrev pub made_but : Clause → List (List TimedAsk) → List (List TimedAsk)
+made_but InTurn by_sender = map (map (λ (x : TimedAsk). record x { when = 0 })) by_sender
+made_but _ by_sender = by_sender
+
 -- a looper's run, but for the clause that is left out
 pub record IsLooperRunBut (out : Clause) (s : Script) (queues : List QueueRecord) (q : QueueRecord) (j : Journal) (f : FrameRecord) : Type 0 where
   pub final : Looper
@@ -95,7 +104,7 @@ pub record IsLooperRunBut (out : Clause) (s : Script) (queues : List QueueRecord
   pub dispatches : Unless out Takes (filter_map act_dispatch j.acts ≡ filter_map (λ e. call_dispatch e.call e.reply) (entries_by (looper_sender s q.looper) (history_of q)))
   pub disposed_at : ℕ
   pub calls : Unless out Takes (AllByRecursion (λ (r : QueueRecord). AreFor IsSent [] (caused_on r.looper final q.looper disposed_at) (entries_by (looper_sender s q.looper) (history_of r))) queues)
-  pub asked : Unless out Asked (Unless out Starts (AreAskedBy true (asks_in f.entries) (asked_of s q.looper final)))
+  pub asked : Unless out Asked (Unless out Starts (AreAskedInTurn true (asks_in f.entries) (made_but out (asked_then s q.looper final))))
   pub whole : Unless out Whole (are_whole f.phases f.entries final.frames ≡ true)
   pub on_time : Unless out OnTime (Unless out Takes (AllByRecursion (λ (r : QueueRecord). are_on_time (map (λ x. x.timing) (caused_on r.looper final q.looper disposed_at)) (befores (looper_sender s q.looper) (history_of r)) ≡ true) queues))
   pub moments : Unless out Moments (Unless out Starts (are_run_then f.entries final.frames ≡ true))

@@ -41,13 +41,14 @@ use Rattle.run_model.specs.Acts.{Lead, IsSent, MayCome, after_act, dispatched, m
 use Rattle.run_model.specs.Moves.{Move, moves, move_times, main_moves, is_planned_time, was_due_at, MayMoveTo}
 use Rattle.run_model.specs.FrameRuns.{is_frame_from, are_run_then, are_whole}
 use Rattle.run_model.specs.FrameAsks.{asks_in}
-use Rattle.run_model.specs.Run.{IsRun, IsRecordOf, IsAsPlanned, IsControlled, EachLooper, all_entries, setting_of, caused_on, asked_of, are_in_order, main_ends_halted}
+use Rattle.run_model.specs.FrameTurns.{asked_then}
+use Rattle.run_model.specs.Run.{IsRun, IsRecordOf, IsAsPlanned, IsControlled, EachLooper, all_entries, setting_of, caused_on, are_in_order, main_ends_halted}
 use Rattle.run_model.specs.Text.{text, lines}
 use Rattle.run_model.proofs.Below.{EachBelow, each_below}
-use Rattle.run_model.proofs.Parting.{can_ask, asks_are_parted}
+use Rattle.run_model.proofs.Parting.{can_ask_in_turn, asks_are_in_turn}
 use Rattle.run_model.proofs.ByTests.{answers, replies, are_timely, are_numbered, history_by, planned_calls, made_calls, thread_lines, MakesThem, calls_by}
 use Rattle.run_model.proofs.Examples.{queue, journal, page, handler_on, plain_script}
-use Rattle.run_model.proofs.RunBut.{Clause, Nothing, Asked, Stamps, Whole, Moments, Starts, Pulses, OnTime, Takes, Controls, BeforeQuit, Threads, Order, Blocks, Due, Together, number_of, Unless, with_pulses, IsFrameRunBut, IsLooperRunBut, IsTimelyBut, AreMovedBut, IsRunBut}
+use Rattle.run_model.proofs.RunBut.{Clause, Nothing, Asked, Stamps, Whole, Moments, Starts, Pulses, OnTime, Takes, Controls, BeforeQuit, Threads, Order, Blocks, Due, Together, number_of, Unless, with_pulses, made_but, IsFrameRunBut, IsLooperRunBut, IsTimelyBut, AreMovedBut, IsRunBut}
 use Rattle.run_model.proofs.RunBut as but
 
 -- ---- a report as data
@@ -296,7 +297,7 @@ pub record LooperTest : Type 0 where
   pub threads : List Bool
   pub in_order : Bool
 
-abbrev pub final_of : Clause → Script → ℕ → Row → Looper
+abbrev final_of : Clause → Script → ℕ → Row → Looper
 final_of out s n row = led (with_pulses out s) n (history_of (queue_in s n row)) row.frames row.places (first_looper s) row.acts
 
 abbrev caused_by : Clause → Script → ℕ → Row → QueueRecord → List Sent
@@ -324,7 +325,7 @@ found_in out s queues n row =
       dispatches = kept out Takes (filter_map act_dispatch row.acts);
       calls = kept out Takes (map (λ r. entries_for [] (caused_by out s n row r) (entries_there s n r)) queues);
       stamps = unless out Stamps (unless out Pulses (are_stamped s.period row.frames));
-      asked = unless out Asked (unless out Starts (can_ask (asks_in row.frames) (asked_of s n final)));
+      asked = unless out Asked (unless out Starts (can_ask_in_turn (asks_in row.frames) (made_but out (asked_then s n final))));
       whole = unless out Whole (are_whole (phase_count s.edition) row.frames final.frames);
       on_time = unless out OnTime (unless out Takes (list_all (λ r. are_on_time (map (λ x. x.timing) (caused_by out s n row r)) (befores (looper_sender s n) (history_of r))) queues));
       moments = unless out Moments (unless out Starts (are_run_then row.frames final.frames));
@@ -402,7 +403,7 @@ looper_of out s queues n row e =
             (λ same. all_same (λ (r : QueueRecord). AreFor IsSent [] (caused_by out s n row r) (entries_there s n r)) (λ r. entries_for [] (caused_by out s n row r) (entries_there s n r)) (λ r. map plain_entry (entries_there s n r))
             (λ r one. sent_by_table [] (caused_by out s n row r) (entries_there s n r) one) queues same) (ap (λ (t : LooperTest). t.calls) e);
         asked = both_left (number_of out == number_of Asked) (number_of out == number_of Starts) _ _
-            (λ h. asks_are_parted (asks_in row.frames) (asked_of s n final) h) (ap (λ (t : LooperTest). t.asked) e);
+            (λ h. asks_are_in_turn (asks_in row.frames) (made_but out (asked_then s n final)) h) (ap (λ (t : LooperTest). t.asked) e);
         whole = unless_true (number_of out == number_of Whole) _ _ (λ h. h) (ap (λ (t : LooperTest). t.whole) e);
         on_time = both_left (number_of out == number_of OnTime) (number_of out == number_of Takes) _ _
             (λ h. all_by (λ (r : QueueRecord). are_on_time (map (λ x. x.timing) (caused_by out s n row r)) (befores (looper_sender s n) (history_of r)) ≡ true)

@@ -106,7 +106,7 @@ abbrev gauge_script : Script
 gauge_script =
     record (plain_script 1 1 (handler_on 0 ∷ []) (block 0 (by 0 (command.Set 0 7) ∷ []) ∷ []) 70) { gauges = record { handler = 0; step = 3 } ∷ [] }
 
-abbrev pub frames : List Worked
+abbrev frames : List Worked
 frames =
     frame_comes_due
     ∷ frame_removed

@@ -62,7 +62,7 @@ rule_fires_twice = record {
   printed = codes "report 1" ∷ codes "looper 0" ∷ codes "10 dispatch 0 0 1" ∷ codes "10 dispatch 1 0 1" ∷ codes "10 dispatch 2 0 1" ∷ codes "fates accepted 3 dispatched 3 removed 0 dropped 0 stranded 0 queued 0" ∷ codes "looper 1" ∷ codes "13 dispatch 0 1 2" ∷ codes "13 dispatch 1 1 2" ∷ codes "fates accepted 2 dispatched 2 removed 0 dropped 0 stranded 0 queued 0" ∷ codes "end" ∷ [];
 }
 
-abbrev pub posts : List Worked
+abbrev posts : List Worked
 posts =
     two_posts
     -- a message that a barrier holds, and an asynchronous one that it lets pass

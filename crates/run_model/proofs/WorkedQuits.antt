@@ -32,7 +32,7 @@ side_ends s main es printed = record {
 abbrev race : Script
 race = side_script 2 (by 0 (command.Quit 1) ∷ by 1 (command.Post 1 5 0) ∷ []) 10
 
-abbrev pub quits : List Worked
+abbrev quits : List Worked
 quits =
     -- a post after a quit is refused
     side_ends (side_script 1 (by 0 (command.Quit 1) ∷ by 0 (command.Post 1 5 0) ∷ []) 10) (halted_at 3 10)

@@ -36,7 +36,7 @@ look seq number = entry 1 seq (call.Next 10) (reply.Dispatched number)
 abbrev handled : ℕ → Act
 handled number = act.Dispatch number 10 route.Handled
 
-abbrev pub removals : List Worked
+abbrev removals : List Worked
 removals =
     -- a posted callback runs, and the messages behind it
     behind_posts [] (look 0 0 ∷ look 1 1 ∷ look 2 2 ∷ []) (act.Dispatch 0 10 (route.Callback 9) ∷ handled 1 ∷ handled 2 ∷ [])

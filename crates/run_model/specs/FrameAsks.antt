@@ -3,7 +3,6 @@ use Rattle.std.specs.Prelude.{ℕ, ◌==◌, Bool, List, Option, Some, None, map
 use Rattle.std.specs.List.{filter_map}
 use Rattle.frame_phases.specs.declared.entry.FrameEntry.{FrameEntry}
 use Rattle.frame_phases.specs.declared.entry.FrameEntry.TheVariants.{Posted, Removed, Begin}
-use Rattle.frame_phases.specs.Parting.{AreParted}
 use Rattle.dash_script.specs.declared.script.Command.{Command}
 use Rattle.dash_script.specs.declared.script.Command.TheVariants.{Frame, Unframe}
 use Rattle.run_model.specs.Planned.{Timed, frame_due}
@@ -50,7 +49,3 @@ abbrev pub as_told : Bool → FrameAsk → FrameAsk
 as_told lockstep (Posts phase due id token) = Posts phase (if lockstep then due else 0) id token
 as_told lockstep (Removes phase id token) = Removes phase id token
 as_told lockstep (Runs start) = Runs (if lockstep then start else 0)
-
--- each of the asks is one sender's, and each sender asks for its own in this order: as told they are parted among the senders
-abbrev pub AreAskedBy : Bool → List FrameAsk → List (List FrameAsk) → Type 0
-AreAskedBy lockstep asks by_sender = AreParted (map (as_told lockstep) asks) (map (map (as_told lockstep)) by_sender)

@@ -5,6 +5,7 @@ pub mod Moments
 pub mod Planned
 pub mod FrameAsks
 pub mod FrameTurns
+pub mod AskedSoFar
 pub mod Control
 pub mod Loopers
 pub mod FrameRuns

@@ -26,7 +26,8 @@ use Rattle.run_model.specs.Loopers.{Looper, Sent, first_looper}
 use Rattle.run_model.specs.Acts.{Lead, sent_on, closing, IsSent}
 use Rattle.run_model.specs.Moves.{moves, AreMovedTogether}
 use Rattle.run_model.specs.FrameRuns.{are_run_then, are_whole}
-use Rattle.run_model.specs.FrameAsks.{FrameAsk, asks_in, asks_to_run, lines_ask, AreAskedBy}
+use Rattle.run_model.specs.FrameAsks.{asks_in}
+use Rattle.run_model.specs.FrameTurns.{asked_then, AreAskedInTurn}
 
 abbrev pub setting_of : QueueRecord → Setting
 setting_of r = record { main = r.main; lockstep = r.lockstep; senders = r.senders }
@@ -91,14 +92,9 @@ AreFramesOf s r = AllByRecursion (IsFrameRun s) r.frames
 abbrev pub caused_on : ℕ → Looper → ℕ → ℕ → List Sent
 caused_on queue final looper disposed_at = sent_on queue (final.sent ++ closing looper disposed_at)
 
--- what each asks of a looper's choreographer: each thread by its lines, and the looper by the frames that its dispatches run and by what its acts post
-abbrev pub asked_of : Script → ℕ → Looper → List (List FrameAsk)
-asked_of s q final =
-    map (λ thread. lines_ask q (lines_of thread s.blocks)) (range_with_len 0 s.threads) ++ asks_to_run final.frames ∷ final.posted ∷ []
-
 -- a looper's calls on each queue are those that its acts cause, the posts, removals and frames of its frame record are parted among those who ask for
--- them, the frames are whole, and its Dispatch acts are, one for one and in order, its entries answered Dispatched. All that was painted is told. In lockstep
--- each call is on time, and each frame starts and takes its phases at the time of its dispatch
+-- them, in turn, the frames are whole, and its Dispatch acts are, one for one and in order, its entries answered Dispatched. All that was painted is told. In
+-- lockstep each call is on time, and each frame starts and takes its phases at the time of its dispatch
 pub record IsLooperRun (m : Mode) (s : Script) (queues : List QueueRecord) (q : QueueRecord) (j : Journal) (f : FrameRecord) : Type 0 where
   pub final : Looper
   pub acts : Lead s q.looper (history_of q) f.entries (first_looper s) j.acts final
@@ -107,7 +103,7 @@ pub record IsLooperRun (m : Mode) (s : Script) (queues : List QueueRecord) (q : 
   pub disposed_at : ℕ
   pub calls : AllByRecursion (λ (r : QueueRecord).
       AreFor IsSent [] (caused_on r.looper final q.looper disposed_at) (entries_by (looper_sender s q.looper) (history_of r))) queues
-  pub asked : AreAskedBy m.lockstep (asks_in f.entries) (asked_of s q.looper final)
+  pub asked : AreAskedInTurn m.lockstep (asks_in f.entries) (asked_then s q.looper final)
   pub whole : are_whole f.phases f.entries final.frames ≡ true
   pub on_time : IfLockstep m (AllByRecursion (λ (r : QueueRecord).
       are_on_time (map (λ x. x.timing) (caused_on r.looper final q.looper disposed_at)) (befores (looper_sender s q.looper) (history_of r)) ≡ true) queues)

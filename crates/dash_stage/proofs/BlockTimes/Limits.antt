@@ -54,6 +54,18 @@ paced s h =
     let timed = front_passes p (first_lines s ++ handlers ++ gauges ++ vsync) rules ruled in
     at_least 1000000 1000000000 s.period (and_parts _ _ (back_passes p (first_lines s ++ handlers ++ gauges) vsync timed)).0
 
+-- no run takes longer than a day
+pub ends_early : (s : Script) → HasText s → s.end ≤ 86400000
+unfolding lines_before_end each_number
+ends_early s h =
+    let p = numbers_pass (is_within s) in
+    let handlers = map handler_line (enumerate_from 0 s.handlers) in
+    let gauges = map gauge_line (enumerate_from 0 s.gauges) in
+    let vsync = say kind.Vsync (s.period ∷ []) ∷ [] in
+    let rules = map rule_line s.rules in
+    let blocks = flat_map block_lines s.blocks in
+    between 0 86400000 s.end (and_parts _ _ (back_passes p (first_lines s ++ handlers ++ gauges ++ vsync ++ rules ++ blocks) (say kind.End (s.end ∷ []) ∷ []) h.limits)).0
+
 -- so it can be played
 pub playable : (s : Script) → HasText s → IsPlayable s
 playable s h =

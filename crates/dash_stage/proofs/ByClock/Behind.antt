@@ -1,6 +1,7 @@
 -- By a clock the controller's quits stand behind all that the threads have called.
 use Rattle.std.proofs.Common.{◌≡◌, ◌≢◌, ◌<◌, ◌≤◌, ◌+◌, ◌++◌, ℕ, Bool, true, false, List, [], ◌∷◌, length, set, refl, sym, ap, ◌∙◌, subst, arith, inl, inr}
 use Rattle.std.specs.Prelude.{slice_index_or, ◌==◌}
+use Rattle.std.specs.Global.{Vec}
 use Rattle.std.proofs.lemmas.List.{nil_from_length, length-append, length-set, get_or-set_same, get_or-set_other, get_or_past}
 use Rattle.std.proofs.lemmas.List.Elements.{filter-append}
 use mathlib.Core.List.{IsPrefix}
@@ -19,7 +20,8 @@ use Rattle.run_model.specs.Planned.{lines_of}
 use Rattle.run_model.specs.Senders.{controller}
 use Rattle.dash_hall.specs.declared.hall.Hall.{Hall}
 use Rattle.dash_hall.specs.Growth.{own}
-use Rattle.dash_hall.specs.Hearing.{HasHeard, HaveHeard, AtEach, AreKept, AreKnown}
+use Rattle.choreographer.specs.Known.{Known as Pass}
+use Rattle.dash_hall.specs.Hearing.{HasHeard, HaveHeard, AtEach, AreKept, AreKnown, PassesHaveHeard}
 use Rattle.dash_hall.specs.Kits.{ArePostersOf}
 use Rattle.dash_hall.proofs.Clocking.{quits_enter}
 use Rattle.dash_hall.proofs.Hearing.{heard_at, have_heard, have_heard_self, have_heard_then}
@@ -154,7 +156,7 @@ module _ (n : ℕ) (us vs : List PostingThread) (b c : Controller) (p p' : Sende
       record {
         posters = have_heard_then a.kit.posters.items b.kit.posters.items c.kit.posters.items k.posters (subst (HaveHeard b.kit.posters.items) (sym wrote) one);
         pass = pass ∙ k.pass;
-        frames = frames ∙ k.frames;
+        frames = subst (λ (v : Vec Pass). PassesHaveHeard a.kit.frames.items v.items) (sym frames) k.frames;
         sealed = sealed ∙ k.sealed;
         sealed_frames = sealed_frames ∙ k.sealed_frames;
       }

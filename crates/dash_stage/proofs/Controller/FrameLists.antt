@@ -8,6 +8,8 @@ use native.Mathlib.Decide.{ℕ_discrete}
 use Rattle.frame_phases.specs.declared.entry.FrameEntry.{FrameEntry}
 use Rattle.choreographer.specs.Known.{Known as Pass}
 use Rattle.choreographer.specs.Ends.{HasHandedOut, entries_in}
+use Rattle.loop_model.proofs.Prefixes.{prefix_trans}
+use Rattle.dash_hall.specs.Hearing.{PassesHaveHeard}
 use Rattle.dash_stage.specs.Controllers.{HaveHandedOut, parts_in}
 
 -- as many lists as passes
@@ -16,6 +18,19 @@ lists_count [] [] h = refl
 lists_count [] (v ∷ lists) h = absurd h
 lists_count (p ∷ ps) [] h = absurd h
 lists_count (p ∷ ps) (v ∷ lists) h = ap suc (lists_count ps lists h.1)
+
+-- passes that heard others have handed out what they had
+pub handed_heard : (ps qs : List Pass) (lists : List (Vec (List FrameEntry))) → PassesHaveHeard ps qs → HaveHandedOut ps lists → HaveHandedOut qs lists
+handed_heard [] [] [] e h = tt
+handed_heard [] (q ∷ qs) lists e h = absurd (let long = e.long in omega (arith, long))
+handed_heard (p ∷ ps) [] lists e h = absurd (let long = e.long in omega (arith, long))
+handed_heard [] [] (v ∷ lists) e h = absurd h
+handed_heard (p ∷ ps) (q ∷ qs) [] e h = absurd h
+handed_heard (p ∷ ps) (q ∷ qs) (v ∷ lists) e h =
+    let long = e.long in
+    let first = e.each 0 p (omega arith) in
+    let rest : PassesHaveHeard ps qs = record { long = omega (arith, long); each = λ k d lt. e.each (suc k) d (omega (arith, lt)) } in
+    ((h.0.0 ∙ sym first.same.handed, prefix_trans (entries_in v.items) p.view.seen q.view.seen h.0.1 first.seen), handed_heard ps qs lists rest h.1)
 
 -- one pass, and its list, goes on
 pub handed_more : (ps : List Pass) (lists : List (Vec (List FrameEntry))) (i : ℕ) (p p' : Pass) (v v' : Vec (List FrameEntry)) → p ≡ get_or ps i p → v ≡ get_or lists i v → i < length ps

@@ -13,7 +13,7 @@ use Rattle.frame_phases.specs.declared.entry.FrameEntry.{FrameEntry}
 use Rattle.frame_phases.specs.declared.entry.FrameRecord.{FrameRecord}
 use Rattle.dash_script.specs.declared.script.Script.{Script}
 use Rattle.choreographer.specs.Known.{Shared as Frames, Known as Pass, IsOf as IsOfFrames}
-use Rattle.choreographer.specs.Ends.{AreInOrder, BeginWithSeen, AreTheirs}
+use Rattle.choreographer.specs.Ends.{AreInOrder, BeginWithSeen, AreHeard}
 use Rattle.dash_hall.specs.declared.kit.Kit.{Kit}
 use Rattle.dash_hall.specs.Kits.{FrameBadge, frame_badge_of, frame_badge_for, AreChoreographersOf, frame_key, frame_constants}
 use Rattle.dash_hall.specs.Dealing.{GivesPass, holder_of, given, given_of}
@@ -217,8 +217,8 @@ module _ (s : Script) (looper : ℕ) (c : Frames) (number : ℕ) (orig : List Ki
         ap (λ m. get_or passes m p) at ∙ (others j near ∙ sym (get_or-append_right these rest s.threads i p long (omega (arith, not))))))
 
   -- the entries are those that the next passes recorded
-  pub taken_theirs : looper < s.loopers → AreTheirs entries passes → AreOfNext s looper orig entries
-  taken_theirs few theirs d p = subst (AreTheirs entries) (all_taken few d p) theirs
+  pub taken_theirs : looper < s.loopers → AreHeard entries passes → AreOfNext s looper orig entries
+  taken_theirs few theirs d p = subst (AreHeard entries) (all_taken few d p) theirs
 
 -- what is the same of each number of a range
 map_same : (f g : ℕ → Pass) (a n : ℕ) → ((i : ℕ) → i < a + n → f i ≡ g i) → map f (range_with_len a n) ≡ map g (range_with_len a n)
@@ -275,13 +275,13 @@ ends_more s looper c rest orig kits kits' records records' r long few enough law
   loopers = map-append (λ (f : FrameRecord). f.looper) records (r ∷ []) ∙ ((λ i. before.loopers i ++ (number ∙ zeroth) i ∷ []) ∙ sym (numbers_more 0 looper));
   lawful = all_push records before.lawful;
   theirs = λ q d p x below. dite (dec_lt q (length records))
-      (λ early. subst (λ (y : FrameRecord). AreTheirs y.entries (passes_at s q q orig d p)) (sym (get_or-append records (r ∷ []) x q early)) (before.theirs q d p x early))
+      (λ early. subst (λ (y : FrameRecord). AreHeard y.entries (passes_at s q q orig d p)) (sym (get_or-append records (r ∷ []) x q early)) (before.theirs q d p x early))
       (λ late.
       let all = length-append records (r ∷ []) in
       let last : q ≡ length records = omega (arith, late, below, all) in
       let place : looper ≡ q = omega (arith, last, long) in
-      subst (λ (y : FrameRecord). AreTheirs y.entries (passes_at s q q orig d p)) (sym (ap (λ m. get_or (records ++ r ∷ []) m x) last ∙ get_or-append_seam records r [] x))
-      (subst (λ (m : ℕ). AreTheirs r.entries (passes_at s m m orig d p)) place (subst (AreTheirs r.entries) (next_are d p) (theirs d p))));
+      subst (λ (y : FrameRecord). AreHeard y.entries (passes_at s q q orig d p)) (sym (ap (λ m. get_or (records ++ r ∷ []) m x) last ∙ get_or-append_seam records r [] x))
+      (subst (λ (m : ℕ). AreHeard r.entries (passes_at s m m orig d p)) place (subst (AreHeard r.entries) (next_are d p) (theirs d p))));
   count = left.count ∙ before.count;
   marks = λ k d lt.
       let same = left.count in
@@ -359,4 +359,4 @@ frames_kept s before after records count few kept theirs q d p r lt =
     let mine = frames_of (s.threads + q) (omega (arith, lt, few, count)) in
     let last = frames_of (s.threads + s.loopers) (omega (arith, count)) in
     let same : passes_at s q q after d p ≡ passes_at s q q before d p = λ i. threads i ++ get_or (mine i) 0 p ∷ get_or (mine i) 1 p ∷ get_or (last i) q p ∷ [] in
-    subst (AreTheirs (get_or records q r).entries) same (theirs q d p r lt)
+    subst (AreHeard (get_or records q r).entries) same (theirs q d p r lt)

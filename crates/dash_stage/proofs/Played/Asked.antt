@@ -1,18 +1,28 @@
--- What a frame record was asked for is parted among those who ask: the threads by their lines, and the looper by its frames and its acts.
-use Rattle.std.proofs.Common.{◌≡◌, ◌<◌, ◌+◌, ◌==◌, ℕ, zero, suc, Bool, true, false, List, [], ◌∷◌, ◌++◌, Option, Some, None, map, refl, sym, ap, ◌∙◌, arith, slice_index_or, append_assoc}
-use Rattle.std.specs.Prelude.{if◌then◌else◌}
+-- What a frame record was asked for is parted, in turn, among those who ask: the threads by their lines, and the looper by its frames and its acts.
+use Rattle.std.proofs.Common.{◌≡◌, ◌<◌, ◌≤◌, ◌+◌, ◌-◌, ◌==◌, length, subst, ℕ, zero, suc, Bool, true, false, List, [], ◌∷◌, ◌++◌, Option, Some, None, map, refl, sym, ap, ◌∙◌, arith, slice_index_or, append_assoc, append-nil}
+use Rattle.std.specs.Prelude.{if◌then◌else◌, MatchBool}
 use Rattle.std.specs.List.{cons_option, filter_map, range_with_len}
 use Rattle.std.specs.Option.{option_map}
-use mathlib.Core.List.{map-append}
+use Rattle.std.proofs.Math.ListN.{get_or-append}
+use Rattle.std.proofs.lemmas.Bool.{eq-eqb, ne_eqb}
+use Rattle.std.proofs.lemmas.List.{append_cancel_left, get_or-append_right, length-append}
+use Rattle.std.proofs.lemmas.List.Elements.{filter_map-append}
+use Rattle.std.proofs.lemmas.List.FromFn.{get_or-map-range_with_len, length-map-range_with_len}
+use mathlib.Core.Logic.{dite}
+use native.Mathlib.Decide.{ℕ_discrete, dec_lt}
+use Rattle.dash_hall.proofs.FramePosts.{told_whole}
+use mathlib.Core.List.{IsPrefix, map-append}
 use Rattle.frame_phases.specs.declared.entry.FrameEntry.{FrameEntry}
 use Rattle.frame_phases.specs.Parting.{dealt_to, AreParted}
 use Rattle.dash_script.specs.declared.script.Script.{Script}
 use Rattle.choreographer.specs.Known.{Known as Pass}
-use Rattle.choreographer.specs.Ends.{AreTheirs, own_of}
+use Rattle.choreographer.specs.Ends.{AreHeard, own_of}
 use Rattle.run_model.specs.Planned.{lines_of}
 use Rattle.run_model.specs.Loopers.{Looper}
-use Rattle.run_model.specs.FrameAsks.{FrameAsk, asked_in, asks_in, asks_to_run, lines_ask, as_told, AreAskedBy}
-use Rattle.run_model.specs.Run.{asked_of}
+use Rattle.run_model.specs.FrameAsks.{FrameAsk, asked_in, asks_in, asks_to_run, lines_ask, as_told}
+use Rattle.run_model.specs.FrameTurns.{asked_then, AreAskedInTurn}
+use Rattle.run_model.specs.AskedSoFar.{HaveAsked, second, asked_so_far}
+use Rattle.run_model.proofs.AskedInTurn.{AreAskedBy, asked_of, then_asks, parted_in_turn, all_asked}
 use Rattle.dash_hall.specs.declared.kit.Kit.{Kit}
 use Rattle.dash_hall.specs.Hosts.{asks_of}
 use Rattle.dash_stage.specs.Records.{passes_at}
@@ -73,6 +83,61 @@ empty_last [] (suc k) = refl
 empty_last (p ∷ ps) zero = refl
 empty_last (p ∷ ps) (suc k) = empty_last ps k
 
+-- asks that each part lacks are none
+no_asks : (made : List (ℕ × FrameEntry)) → ((k : ℕ) → asks_in (dealt_to k made) ≡ []) → asks_in (second made) ≡ []
+no_asks [] none = refl
+no_asks ((n, e) ∷ made) none = by_entry (asked_in e) refl (no_asks made others)
+  where
+    mine : cons_option (asked_in e) (asks_in (dealt_to n made)) ≡ []
+    mine = ap (λ (b : Bool). asks_in (cons_option (if b then Some e else None) (dealt_to n made))) (sym (eq-eqb n n refl)) ∙ none n
+
+    rest_of : (o : Option FrameAsk) (xs : List FrameAsk) → cons_option o xs ≡ [] → xs ≡ []
+    rest_of None xs h = h
+    rest_of (Some a) xs h = absurd (let long = ap length h in omega (arith, long))
+
+    others : (k : ℕ) → asks_in (dealt_to k made) ≡ []
+    others k = dite (ℕ_discrete n k)
+        (λ same. subst (λ (m : ℕ). asks_in (dealt_to m made) ≡ []) same (rest_of (asked_in e) (asks_in (dealt_to n made)) mine))
+        (λ apart. ap (λ (b : Bool). asks_in (cons_option (if b then Some e else None) (dealt_to k made))) (sym (ne_eqb n k apart)) ∙ none k)
+
+    by_entry : (o : Option FrameAsk) → asked_in e ≡ o → asks_in (second made) ≡ [] → cons_option (asked_in e) (asks_in (second made)) ≡ []
+    by_entry None is rest = ap (λ o. cons_option o (asks_in (second made))) is ∙ rest
+    by_entry (Some a) is rest = absurd (let long = ap length (ap (λ o. cons_option o (asks_in (dealt_to n made))) (sym is) ∙ mine) in omega (arith, long))
+
+-- what was asked of the choreographer of looper q so far, as the controller's pass has heard it: in turn, by the threads for all their lines, and by the looper
+-- for the frames and the posts of this state
+pub record HasAskedInTurn (s : Script) (q : ℕ) (pass : Pass) (a : Looper) : Type 0 where
+  pub made : List (ℕ × FrameEntry)
+  pub heard : pass.view.heard ≡ made
+  pub until : ℕ
+  pub asked : HaveAsked until made (asked_so_far s.threads q s.blocks made)
+  pub threads : (k : ℕ) → k < s.threads → asks_in (dealt_to k made) ≡ lines_ask q (lines_of k s.blocks)
+  pub ran : asks_in (dealt_to s.threads made) ≡ asks_to_run a.frames
+  pub posted : asks_in (dealt_to (s.threads + 1) made) ≡ a.posted
+  pub idle : (k : ℕ) → s.threads + 2 ≤ k → dealt_to k made ≡ []
+
+-- what each of two asks for, and nobody behind them
+by_two : (x y : List FrameAsk) (P : ℕ → List FrameAsk) → P 0 ≡ x → P 1 ≡ y → ((k : ℕ) → 2 ≤ k → P k ≡ []) → (k : ℕ) → P k ≡ slice_index_or (x ∷ y ∷ []) k []
+by_two x y P first other none zero = first
+by_two x y P first other none (suc zero) = other
+by_two x y P first other none (suc (suc k)) = none (suc (suc k)) (omega arith)
+
+-- what each asked for
+each_asks : (s : Script) (q : ℕ) (pass : Pass) (a : Looper) (t : HasAskedInTurn s q pass a) → (k : ℕ) → asks_in (dealt_to k t.made) ≡ slice_index_or (asked_of s q a) k []
+each_asks s q pass a t k =
+    let of_line : ℕ → List FrameAsk = λ n. lines_ask q (lines_of n s.blocks) in
+    let lines : List (List FrameAsk) = map of_line (range_with_len 0 s.threads) in
+    let long : length lines ≡ s.threads = length-map-range_with_len of_line 0 s.threads in
+    dite (dec_lt k s.threads)
+    (λ lt. t.threads k lt ∙ sym (get_or-append lines (asks_to_run a.frames ∷ a.posted ∷ []) [] k (omega (arith, lt, long)) ∙ get_or-map-range_with_len of_line 0 s.threads k k [] lt (omega arith)))
+    (λ above.
+    let j : ℕ = k - s.threads in
+    let at : k ≡ s.threads + j = omega (arith, above) in
+    ap (λ (n : ℕ). asks_in (dealt_to n t.made)) at
+    ∙ (by_two (asks_to_run a.frames) a.posted (λ n. asks_in (dealt_to (s.threads + n) t.made)) (ap (λ (n : ℕ). asks_in (dealt_to n t.made)) (omega arith) ∙ t.ran) t.posted
+    (λ n le. ap asks_in (t.idle (s.threads + n) (omega (arith, le)))) j
+    ∙ sym (get_or-append_right lines (asks_to_run a.frames ∷ a.posted ∷ []) s.threads k [] long (omega (arith, above)))))
+
 -- lists of the same over a range
 range_same : {X : Type 0} (f g : ℕ → X) (a n : ℕ) → ((i : ℕ) → i < a + n → f i ≡ g i) → map f (range_with_len a n) ≡ map g (range_with_len a n)
 range_same f g a zero same = refl
@@ -84,7 +149,7 @@ map_both f g (x ∷ xs) = ap (λ l. g (f x) ∷ l) (map_both f g xs)
 
 module _ (lockstep : Bool) (s : Script) (q : ℕ) (kits : List Kit) (d : Kit) (p : Pass) (a : Looper) where
   -- what is told of asks, and of what a pass recorded
-  abbrev told : List FrameAsk → List FrameAsk
+  abbrev pub told : List FrameAsk → List FrameAsk
   told asks = map (as_told lockstep) asks
 
   abbrev told_by : Pass → List FrameAsk
@@ -95,13 +160,13 @@ module _ (lockstep : Bool) (s : Script) (q : ℕ) (kits : List Kit) (d : Kit) (p
   told_of_all (x ∷ xs) = ap (λ l. told_by x ∷ l) (told_of_all xs)
 
   -- each thread's pass, the looper's two and the controller's
-  abbrev first : ℕ → Pass
+  abbrev pub first : ℕ → Pass
   first k = slice_index_or (slice_index_or kits k d).frames.items q p
 
-  abbrev mine : ℕ → Pass
+  abbrev pub mine : ℕ → Pass
   mine i = slice_index_or (slice_index_or kits (s.threads + q) d).frames.items i p
 
-  abbrev last : Pass
+  abbrev pub last : Pass
   last = slice_index_or (slice_index_or kits (s.threads + s.loopers) d).frames.items q p
 
   -- where the passes asked for what the threads' lines ask for, for the frames that the looper runs and for what it posts, they asked for what the run asks for
@@ -120,11 +185,11 @@ module _ (lockstep : Bool) (s : Script) (q : ℕ) (kits : List Kit) (d : Kit) (p
       ∙ ap (λ l. l ++ [] ∷ []) (sym (map-append (map (as_told lockstep)) (map of_line numbers) (asks_to_run a.frames ∷ a.posted ∷ [])))))
 
   -- and the frame record, whose entries are parted among the passes, was asked for that
-  pub asked_by : (entries : List FrameEntry) → AreTheirs entries (passes_at s q q kits d p) → ((k : ℕ) → k < s.threads → told (asks_of (first k)) ≡ told (lines_ask q (lines_of k s.blocks)))
+  asked_by : (entries : List FrameEntry) → AreHeard entries (passes_at s q q kits d p) → ((k : ℕ) → k < s.threads → told (asks_of (first k)) ≡ told (lines_ask q (lines_of k s.blocks)))
       → told (asks_of (mine 0)) ≡ told (asks_to_run a.frames) → told (asks_of (mine 1)) ≡ told a.posted → last.view.own ≡ [] → AreAskedBy lockstep (asks_in entries) (asked_of s q a)
-  asked_by entries theirs threads ran posted idle =
+  asked_by entries heard threads ran posted idle =
       let passes : List Pass = passes_at s q q kits d p in
-      let asks = parted_given asked_in entries (map own_of passes) theirs in
+      let asks = parted_given asked_in entries (map own_of passes) (heard.made, heard.made_are, heard.theirs) in
       let tells = parted_given (λ (x : FrameAsk). Some (as_told lockstep x)) (asks_in entries) (map (filter_map asked_in) (map own_of passes)) asks in
       let parts : map (filter_map (λ (x : FrameAsk). Some (as_told lockstep x))) (map (filter_map asked_in) (map own_of passes)) ≡ map (map (as_told lockstep)) (asked_of s q a) ++ [] ∷ [] =
       some_are_maps (as_told lockstep) (map (filter_map asked_in) (map own_of passes)) ∙ (told_of_all passes ∙ asked_by_each threads ran posted idle) in (
@@ -132,3 +197,58 @@ module _ (lockstep : Bool) (s : Script) (q : ℕ) (kits : List Kit) (d : Kit) (p
         tells.1 ∙ some_is_map (as_told lockstep) (asks_in entries),
         λ k. tells.2 k ∙ (ap (λ (l : List (List FrameAsk)). slice_index_or l k []) parts ∙ empty_last (map (map (as_told lockstep)) (asked_of s q a)) k),
       )
+
+  -- what the passes recorded beside each number, as told
+  each_asked : ((k : ℕ) → k < s.threads → told (asks_of (first k)) ≡ told (lines_ask q (lines_of k s.blocks)))
+      → told (asks_of (mine 0)) ≡ told (asks_to_run a.frames) → told (asks_of (mine 1)) ≡ told a.posted → last.view.own ≡ []
+      → (k : ℕ) → told (asks_in (slice_index_or (map own_of (passes_at s q q kits d p)) k [])) ≡ slice_index_or (map (map (as_told lockstep)) (asked_of s q a)) k []
+  each_asked threads ran posted idle k =
+      let passes : List Pass = passes_at s q q kits d p in
+      part_mapped (λ (es : List FrameEntry). told (asks_in es)) (map own_of passes) k refl
+      ∙ (ap (λ (l : List (List FrameAsk)). slice_index_or l k []) (map_both own_of (λ (es : List FrameEntry). told (asks_in es)) passes ∙ asked_by_each threads ran posted idle)
+      ∙ empty_last (map (map (as_told lockstep)) (asked_of s q a)) k)
+
+  -- the controller's pass is the last one
+  last_heard : (made : List (ℕ × FrameEntry)) → ((k : ℕ) (e : Pass) → k < length (passes_at s q q kits d p) → IsPrefix (slice_index_or (passes_at s q q kits d p) k e).view.heard made) → IsPrefix last.view.heard made
+  last_heard made begins =
+      let these : List Pass = map first (range_with_len 0 s.threads) in
+      let rest : List Pass = mine 0 ∷ mine 1 ∷ last ∷ [] in
+      let long : length these ≡ s.threads = length-map-range_with_len first 0 s.threads in
+      let all : length (these ++ rest) ≡ length these + 3 = length-append these rest in
+      let place : s.threads + 2 - s.threads ≡ 2 = omega arith in
+      let is : slice_index_or (these ++ rest) (s.threads + 2) p ≡ last = get_or-append_right these rest s.threads (s.threads + 2) p long (omega arith) ∙ ap (λ (n : ℕ). slice_index_or rest n p) place in
+      subst (λ (x : Pass). IsPrefix x.view.heard made) is (begins (s.threads + 2) p (omega (arith, all, long)))
+
+-- in lockstep a frame record was asked for in turn, where its entries are parted among the passes, which asked for what the run asks for, and what was asked so far
+-- was asked in turn by those who ask, for that
+asked_in_step : (s : Script) (q : ℕ) (kits : List Kit) (d : Kit) (p : Pass) (a : Looper) (entries : List FrameEntry) → AreHeard entries (passes_at s q q kits d p)
+    → ((k : ℕ) → asks_in (slice_index_or (map own_of (passes_at s q q kits d p)) k []) ≡ slice_index_or (asked_of s q a) k []) → HasAskedInTurn s q (last true s q kits d p a) a
+    → AreAskedInTurn true (asks_in entries) (asked_then s q a)
+asked_in_step s q kits d p a entries h theirs t =
+    let front : IsPrefix t.made h.made = subst (λ (l : List (ℕ × FrameEntry)). IsPrefix l h.made) t.heard (last_heard true s q kits d p a h.made h.begins) in
+    let more = front.0 in
+    let none : asks_in (second more) ≡ [] = no_asks more (λ k. append_cancel_left (asks_in (dealt_to k t.made)) (asks_in (dealt_to k more)) []
+    (sym (filter_map-append asked_in (dealt_to k t.made) (dealt_to k more))
+    ∙ (ap asks_in (sym (filter_map-append (λ (x : ℕ × FrameEntry). if x.0 == k then Some x.1 else None) t.made more))
+    ∙ (ap (λ (l : List (ℕ × FrameEntry)). asks_in (dealt_to k l)) front.1
+    ∙ (ap asks_in (h.theirs k) ∙ (theirs k ∙ (sym (each_asks s q (last true s q kits d p a) a t k) ∙ sym (append-nil (asks_in (dealt_to k t.made)))))))))) in
+    let whole : asks_in (second t.made) ≡ asks_in entries =
+    sym (append-nil (asks_in (second t.made)))
+    ∙ (ap (λ l. asks_in (second t.made) ++ l) (sym none)
+    ∙ (sym (filter_map-append asked_in (second t.made) (second more))
+    ∙ (ap asks_in (sym (map-append (λ (x : ℕ × FrameEntry). x.1) t.made more)) ∙ (ap (λ (l : List (ℕ × FrameEntry)). asks_in (second l)) front.1 ∙ ap asks_in h.made_are)))) in
+    subst (λ (asks : List FrameAsk). AreAskedInTurn true asks (asked_then s q a)) whole (all_asked s q t.until t.made a t.asked t.ran t.posted t.idle)
+
+-- a frame record, whose entries are parted among the passes, was asked for in turn by those who ask
+pub asked_by_all : (lockstep : Bool) (s : Script) (q : ℕ) (kits : List Kit) (d : Kit) (p : Pass) (a : Looper) (entries : List FrameEntry) → AreHeard entries (passes_at s q q kits d p)
+    → ((k : ℕ) → k < s.threads → told lockstep s q kits d p a (asks_of (first lockstep s q kits d p a k)) ≡ told lockstep s q kits d p a (lines_ask q (lines_of k s.blocks)))
+    → told lockstep s q kits d p a (asks_of (mine lockstep s q kits d p a 0)) ≡ told lockstep s q kits d p a (asks_to_run a.frames)
+    → told lockstep s q kits d p a (asks_of (mine lockstep s q kits d p a 1)) ≡ told lockstep s q kits d p a a.posted
+    → (last lockstep s q kits d p a).view.own ≡ [] → MatchBool lockstep (HasAskedInTurn s q (last lockstep s q kits d p a) a) (Unit {0}) → AreAskedInTurn lockstep (asks_in entries) (asked_then s q a)
+asked_by_all false s q kits d p a entries h threads ran posted idle t =
+    parted_in_turn (asks_in entries) (asked_then s q a) (subst (AreAskedBy false (asks_in entries)) (sym (then_asks s q a)) (asked_by false s q kits d p a entries h threads ran posted idle))
+asked_by_all true s q kits d p a entries h threads ran posted idle t =
+    asked_in_step s q kits d p a entries h (λ k.
+    sym (told_whole (asks_in (slice_index_or (map own_of (passes_at s q q kits d p)) k [])))
+    ∙ (each_asked true s q kits d p a threads ran posted idle k
+    ∙ (sym (part_mapped (map (as_told true)) (asked_of s q a) k refl) ∙ told_whole (slice_index_or (asked_of s q a) k [])))) t

@@ -32,8 +32,9 @@ use Rattle.run_model.specs.Control.{NotBefore, Timing, befores, are_on_time, are
 use Rattle.run_model.specs.Loopers.{Looper, Sent, first_looper}
 use Rattle.run_model.specs.Acts.{Lead, sent_on, closing, IsSent}
 use Rattle.run_model.specs.FrameRuns.{are_whole, are_run_then}
-use Rattle.run_model.specs.FrameAsks.{asks_in, AreAskedBy}
-use Rattle.run_model.specs.Run.{IsAsPlanned, IsControlled, IsLooperRun, IsFrameRun, EachLooper, setting_of, caused_on, asked_of}
+use Rattle.run_model.specs.FrameAsks.{asks_in}
+use Rattle.run_model.specs.FrameTurns.{asked_then, AreAskedInTurn}
+use Rattle.run_model.specs.Run.{IsAsPlanned, IsControlled, IsLooperRun, IsFrameRun, EachLooper, setting_of, caused_on}
 use Rattle.run_model.proofs.RunLaws.{AreFor-snoc, sent_on-append, are_on_time-snoc}
 use Rattle.run_model.proofs.Growth.{Lead-entries}
 use Rattle.dash_hall.specs.declared.hall.Hall.{Hall}
@@ -54,7 +55,7 @@ use Rattle.dash_loopers.proofs.LooperKits.{kit_two}
 use Rattle.dash_hall.proofs.Badges.{alike_length, poster_at, queue_count}
 use Rattle.dash_stage.specs.Controllers.{IsControllerIn}
 use Rattle.dash_stage.specs.Runs.{HaveRunAll}
-use Rattle.dash_stage.proofs.Played.Asked.{asked_by}
+use Rattle.dash_stage.proofs.Played.Asked.{HasAskedInTurn, asked_by_all}
 use Rattle.dash_stage.proofs.Ends.Carried.{numbered_count, threads_asked}
 use Rattle.dash_stage.proofs.Controller.Controlling.{pass_count}
 use Rattle.dash_stage.proofs.Controller.Controls.{main_is_not_disposed, looks_dispose}
@@ -124,7 +125,7 @@ record Known (m : Mode) (s : Script) (queues : List QueueRecord) (k : ℕ) (j : 
   frames : (i : ℕ) → i < 2 → IsPrefix (slice_index_or kit.frames.items i pass).view.seen f.entries
   lawful_ : IsFrameRun s f
   told : (x : QueueRecord) → filter_map act_dispatch j.acts ≡ filter_map (λ e. call_dispatch e.call e.reply) (entries_by (looper_sender s k) (history_of (slice_index_or queues k x)))
-  asked : AreAskedBy m.lockstep (asks_in f.entries) (asked_of s k a)
+  asked : AreAskedInTurn m.lockstep (asks_in f.entries) (asked_then s k a)
   timely : IfLockstep m (AreTimely s queues k a)
 
 module _ (mode : Mode) (s : Script) (queues : List QueueRecord) (k : ℕ) (j : Journal) (f : FrameRecord) (kit : Kit) (a : Looper) (h : Known mode s queues k j f kit a) where
@@ -180,7 +181,7 @@ module _ (mode : Mode) (s : Script) (queues : List QueueRecord) (k : ℕ) (j : J
         dispatches = h.told x ∙ ap (λ (m : ℕ). filter_map (λ (e : Entry). call_dispatch e.call e.reply) (entries_by (looper_sender s m) (history_of q))) (sym is);
         disposed_at = at;
         calls = subst (λ (m : ℕ). AllByRecursion (λ (r : QueueRecord). AreFor IsSent [] (caused_on r.looper a m at) (entries_by (looper_sender s m) (history_of r))) queues) (sym is) each_calls;
-        asked = subst (λ (m : ℕ). AreAskedBy mode.lockstep (asks_in f.entries) (asked_of s m a)) (sym is) h.asked;
+        asked = subst (λ (m : ℕ). AreAskedInTurn mode.lockstep (asks_in f.entries) (asked_then s m a)) (sym is) h.asked;
         whole = subst (λ (n : ℕ). are_whole n f.entries a.frames ≡ true) (sym h.lawful_.phases) (h.left.whole h.pass f.entries (h.frames 0 (omega arith)) is_lawful);
         on_time = in_step mode.lockstep (AreTimely s queues k a) (AllByRecursion (λ (r : QueueRecord). are_on_time (timings (caused_on r.looper a q.looper at)) (befores (looper_sender s q.looper) (history_of r)) ≡ true) queues)
             (λ t. subst (λ (m : ℕ). AllByRecursion (λ (r : QueueRecord). are_on_time (timings (caused_on r.looper a m at)) (befores (looper_sender s m) (history_of r)) ≡ true) queues) (sym is) (each_time t)) h.timely;
@@ -274,18 +275,20 @@ module _ (mode : Mode) (s : Script) (hall : Hall) (kits : List Kit) (queues : Li
   stood : (k : ℕ) → k < length queues → StandsAt mode.lockstep s c js kits k
   stood k lt = stands k (let short = count in omega (arith, lt, short))
 
-  -- what its frame record was asked for is parted among those who ask
+  -- what its frame record was asked for was asked in turn by those who ask
   asked : (k : ℕ) (j : Journal) (f : FrameRecord) (p : Pass) (lt : k < length queues)
-      → AreAskedBy mode.lockstep (asks_in (slice_index_or fs k f).entries) (asked_of s k (stood k lt).state)
+      → AreAskedInTurn mode.lockstep (asks_in (slice_index_or fs k f).entries) (asked_then s k (stood k lt).state)
   unfolding stood
   asked k j f p lt =
       let short = count in
       let one : k < s.loopers = omega (arith, lt, short) in
       let left = (stood k lt).left j c.kit in
       let passes = pass_count s hall h k one c is_controller in
-      asked_by mode.lockstep s k kits c.kit p (stood k lt).state (slice_index_or fs k f).entries (theirs k c.kit p f (in_frames k lt))
+      asked_by_all mode.lockstep s k kits c.kit p (stood k lt).state (slice_index_or fs k f).entries (theirs k c.kit p f (in_frames k lt))
       (λ thread below. threads_asked s hall h kits are mode run k thread c.kit p one below) (left.ran p) (left.asked p)
       (ap (λ (z : Kit). (slice_index_or z.frames.items k p).view.own) (held c.kit) ∙ is_controller.idle k p (omega (arith, one, passes)))
+      (in_step mode.lockstep ((x : Pass) → HasAskedInTurn s k (slice_index_or c.kit.frames.items k x) (stood k lt).state) (HasAskedInTurn s k (slice_index_or (slice_index_or kits (controller s) c.kit).frames.items k p) (stood k lt).state)
+      (λ t. subst (λ (z : Kit). HasAskedInTurn s k (slice_index_or z.frames.items k p) (stood k lt).state) (sym (held c.kit)) (t p)) (stood k lt).in_turn)
 
   -- what is known of each looper
   known : (k : ℕ) (j : Journal) (f : FrameRecord) (lt : k < length queues) → Known mode s queues k (slice_index_or js k j) (slice_index_or fs k f) (kit_at k) (stood k lt).state

@@ -3,6 +3,7 @@ use Rattle.std.proofs.Common.{◌≡◌, ◌≢◌, ◌<◌, ◌+◌, inl, inr, 
 use Rattle.std.specs.Prelude.{◌==◌, ◌||◌, slice_index_or, if◌then◌else◌}
 use Rattle.std.specs.List.{AllByRecursion}
 use Rattle.std.specs.Option.{IsSomeAnd}
+use Rattle.std.proofs.lemmas.Option.{same_Some}
 use Rattle.std.proofs.lemmas.Bool.{cases_Bool, and_from, and_parts, eqb-true, or_left}
 use Rattle.std.proofs.lemmas.List.{length-map, length-append, map-append}
 use mathlib.Core.List.{IsPrefix}
@@ -22,13 +23,16 @@ use Rattle.run_model.specs.Asks.{entries_by}
 use Rattle.run_model.specs.Control.{Before, Timing, At, InBlock, NotBefore, is_on_time, are_on_time, befores, befores_after}
 use Rattle.run_model.specs.Loopers.{Looper, Sent}
 use Rattle.run_model.specs.Acts.{sent_on}
+use Rattle.run_model.specs.FrameAsks.{asks_in}
 use Rattle.run_model.proofs.RunLaws.{sent_on-append}
 use Rattle.dash_hall.specs.Hearing.{AtEach, HaveHeard}
+use Rattle.dash_hall.specs.Hosts.{asks_of}
 use Rattle.dash_threads.specs.Threads.{ThreadKeeps}
 use Rattle.dash_loopers.specs.declared.player.Parts.{Parts}
 use Rattle.dash_loopers.specs.declared.looper.StageLooper.{StageLooper}
-use Rattle.dash_loopers.specs.Loopers.{IsSoundOn, setting_for, is_given_up, posters_of, LooperKeeps}
+use Rattle.dash_loopers.specs.Loopers.{IsSoundOn, setting_for, is_given_up, posters_of, Rest, rest_in, LooperKeeps}
 use Rattle.dash_loopers.specs.Played.{calls_in, Stands, IsTimedBy, GoesOnTo, HasCome, ComesTo, HasPlayed}
+use Rattle.dash_loopers.proofs.LooperAsks.{AskAt, ask_nothing, ask_then, asks_in_round}
 use Rattle.dash_stage.specs.declared.stage.Stage.{Stage}
 use Rattle.dash_stage.specs.Stages.{IsStage, AreLoopers, LoopersGoOn}
 use Rattle.dash_stage.specs.Sharing.{HaveSeenTheSame}
@@ -344,12 +348,45 @@ module _ (s : Script) (text : HasText s) (st : Stage) (ls : List StageLooper) (s
         });
       }
 
+      -- what it asked of its choreographer was for the time
+      asked_now : (p : Parts) → began.parts ≡ Some p → AskAt st.time p (went played).0
+      asked_now p has =
+          let here = is.loopers.1 k l was_looper in
+          let mine : began.sender ≡ sender = here.0.sender ∙ ap (λ (n : ℕ). s.threads + n) here.1 in
+          let first : Stands s began.number began.sender began.looper.held.poster.view.seen began.looper.held.journal.acts p timely_before.state =
+          subst (λ (o : Option Parts). IsSomeAnd o (λ parts. Stands s began.number began.sender began.looper.held.poster.view.seen began.looper.held.journal.acts parts timely_before.state)) has timely_before.come in
+          asks_in_round s k sender st.time st.time began.looper.held.poster.view.seen ran.looper.held.poster.view.seen came.looks began.looper.held.journal.acts ran.looper.held.journal.acts p (went played).0 timely_before.state came.state
+          (subst (λ (n : ℕ). Stands s n sender began.looper.held.poster.view.seen began.looper.held.journal.acts p timely_before.state) here.1
+          (subst (λ (n : ℕ). Stands s began.number n began.looper.held.poster.view.seen began.looper.held.journal.acts p timely_before.state) mine first)) came.stands came.on
+          (λ t h. met_one s k st.time sender (whole_on st.controller k l.looper.held.poster) came.looks its_looks 0 (At t) h)
+
+    -- a looper that only heard others has asked for nothing
+    asks_kept : (p p' : Parts) → ran.parts ≡ Some p → left.parts ≡ Some p' → AskAt st.time p p'
+    asks_kept p p' had has =
+        let heard = (kept.each k l in_ran).rest (record { frames = p.frames; root = p.root; fired = p.fired.items; passed = p.passed }) (ap rest_in had) in
+        let is_rest : heard.0 ≡ record { frames = p'.frames; root = p'.root; fired = p'.fired.items; passed = p'.passed } = same_Some _ _ (sym heard.1 ∙ ap rest_in has) in
+        ask_nothing st.time p p' (ap (λ (r : Rest). asks_of r.root.pass) (sym is_rest) ∙ ap asks_in heard.2.client.same.own) (ap (λ (r : Rest). asks_of r.frames) (sym is_rest) ∙ ap asks_in heard.2.frames.same.own)
+
+    asked_one : PlaysOn s st.time began ran → (p p' : Parts) → began.parts ≡ Some p → left.parts ≡ Some p' → AskAt st.time p p'
+    asked_one (inl stays) p p' had has = asks_kept p p' (ap (λ (z : StageLooper). z.parts) stays ∙ had) has
+    asked_one (inr (run, played)) p p' had has = elim (cases_Bool (is_ended began.last || is_given_up began.last)) [
+      | inl stopped ↦ asks_kept p p' (ap (λ (z : StageLooper). z.parts) (run.stopped stopped) ∙ had) has
+      | inr going ↦
+          let gone = went played in
+          ask_then st.time p gone.0 p' (asked_now played (not_first (is_ended began.last) (is_given_up began.last) going) p had) (asks_kept gone.0 p' gone.1 has)
+    ]
+
     round_one : PlaysOn s st.time began ran → IsTimelyLooper s st'.controller left
     round_one (inl stays) = stays_played (subst (λ (z : StageLooper). LooperKeeps HaveHeard z left) stays (kept.each k l in_ran))
     round_one (inr (run, played)) = elim (cases_Bool (is_ended began.last || is_given_up began.last)) [
       | inl stopped ↦ stays_played (subst (λ (z : StageLooper). LooperKeeps HaveHeard z left) (run.stopped stopped) (kept.each k l in_ran))
       | inr going ↦ went_played played (not_first (is_ended began.last) (is_given_up began.last) going)
     ]
+
+  -- all that a looper asks of its choreographer is for the time
+  pub round_asks : AreSound s st'.controller → (k : ℕ) (l : StageLooper) → k < length st'.loopers.items → (p p' : Parts) → (slice_index_or st.loopers.items k l).parts ≡ Some p
+      → (slice_index_or st'.loopers.items k l).parts ≡ Some p' → AskAt st.time p p'
+  round_asks sound k l lt = asked_one sound k l lt (plays k l (in_round k lt).0)
 
   -- all stays in step
   pub round_in_step : IsInStep s st'

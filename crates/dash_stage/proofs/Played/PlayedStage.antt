@@ -12,9 +12,10 @@ use Rattle.loop_model.specs.declared.entry.Entry.{Entry}
 use Rattle.loop_model.specs.declared.journal.Act.{Act}
 use Rattle.loop_model.specs.declared.journal.Journal.{Journal}
 use Rattle.dash_script.specs.declared.script.Script.{Script}
-use Rattle.choreographer.specs.Known.{Known as Pass}
+use Rattle.frame_phases.specs.declared.entry.FrameEntry.{FrameEntry}
+use Rattle.loop_model.proofs.Prefixes.{prefix_trans, prefix_length}
 use Rattle.looper_run.specs.Holding.{Sender}
-use Rattle.run_model.specs.Asks.{AreFor, entries_by}
+use Rattle.run_model.specs.Asks.{AreFor, entries_by, tokens_in}
 use Rattle.run_model.specs.Loopers.{Looper, first_looper}
 use Rattle.run_model.specs.Acts.{Lead, sent_on, IsSent}
 use Rattle.run_model.specs.Senders.{looper_sender}
@@ -23,14 +24,13 @@ use Rattle.run_model.proofs.Growth.{Lead-entries}
 use Rattle.dash_hall.specs.declared.hall.Hall.{Hall}
 use Rattle.dash_hall.specs.Growth.{own}
 use Rattle.dash_hall.specs.Kits.{IsHall}
-use Rattle.dash_hall.specs.Hearing.{HaveHeard, AtEach}
+use Rattle.dash_hall.specs.Hearing.{HaveHeard, AtEach, PassHasHeard}
 use Rattle.dash_loopers.specs.declared.player.Parts.{Parts}
 use Rattle.dash_loopers.specs.declared.view_root.ViewRoot.{ViewRoot}
 use Rattle.dash_loopers.specs.declared.looper.StageLooper.{StageLooper}
 use Rattle.dash_loopers.specs.Players.{PlaceWithout}
 use Rattle.dash_loopers.specs.Loopers.{IsLooper, Rest, LooperKeeps, posters_of, others_in, rest_in}
-use Rattle.dash_loopers.specs.Played.{is_disposal, calls_in, IsShown, IsPlayed, StandsBy, HasCome, HasComeBy}
-use Rattle.dash_hall.specs.Hosts.{asks_of}
+use Rattle.dash_loopers.specs.Played.{is_disposal, calls_in, IsRootOf, IsShown, IsPlayed, StandsBy, HasCome, HasComeBy}
 use Rattle.dash_stage.specs.declared.stage.Stage.{Stage}
 use Rattle.dash_stage.specs.Stages.{IsStage}
 use Rattle.dash_stage.specs.Sharing.{HaveSeenTheSame}
@@ -41,7 +41,7 @@ use Rattle.dash_stage.proofs.Stages.StageTurns.{for_count}
 use Rattle.dash_stage.proofs.Stages.StageWhole.{as_many, looper_entries, looper_sees, looper_made_none, sound_grown, none_behind}
 use Rattle.dash_stage.proofs.Stages.Timely.{timely_others}
 use Rattle.dash_stage.proofs.Played.RoundTimes.{befores_called_of_others}
-use Rattle.run_model.specs.FrameAsks.{as_told, asks_to_run}
+use Rattle.run_model.specs.FrameAsks.{as_told, asks_in, asks_to_run}
 
 -- ---- one looper
 
@@ -64,22 +64,38 @@ others_called n xs ys p p' le le' heard =
           ap own (sym (get_or-insert_above ys n p' d j at le')) ∙ h ∙ ap own (get_or-insert_above xs n p d j at le)),
     )
 
+-- a view root whose pass heard others stands as it stood
+shown_heard : (s : Script) (q : ℕ) (made : List Entry) (root root' : ViewRoot) (a : Looper) → PassHasHeard root.pass root'.pass → root' ≡ record root { pass = root'.pass } → IsShown s q made root a → IsShown s q made root' a
+shown_heard s q made root root' a heard same st = record {
+  calls = st.calls;
+  asked = ap (λ (es : List FrameEntry). asks_in es) heard.same.own ∙ st.asked;
+  turns = heard.same.turns ∙ st.turns;
+  stands = subst (IsRootOf s q (tokens_in made) a) (sym same) record {
+    edition = st.stands.edition;
+    gauges = st.stands.gauges;
+    lines = st.stands.lines;
+    barrier = st.stands.barrier;
+    barriers = st.stands.barriers;
+    painted = st.stands.painted;
+  };
+}
+
 -- a looper stands where it stood, whatever more it has seen of others
 stands_heard : {lockstep : Bool} (s : Script) (q k : ℕ) (es es' : List Entry) (acts : List Act) (parts parts' : Parts) (did a : Looper) → IsPrefix es es' → calls_in k es' ≡ calls_in k es
-    → parts'.frames ≡ parts.frames → parts'.root ≡ parts.root → parts'.fired.items ≡ parts.fired.items → length parts'.others.items ≡ length parts.others.items
+    → PassHasHeard parts.frames parts'.frames → PassHasHeard parts.root.pass parts'.root.pass → parts'.root ≡ record parts.root { pass = parts'.root.pass } → parts'.fired.items ≡ parts.fired.items → length parts'.others.items ≡ length parts.others.items
     → ((j : ℕ) (d : Sender) → j < length parts.others.items → own (slice_index_or parts'.others.items j d) ≡ own (slice_index_or parts.others.items j d))
     → StandsBy lockstep s q k es acts parts did a → StandsBy lockstep s q k es' acts parts' did a
-stands_heard {lockstep} s q k es es' acts parts parts' did a more calls frames root fired long called st = record {
+stands_heard {lockstep} s q k es es' acts parts parts' did a more calls frames client root fired long called st = record {
   led = λ fs begins law.
       subst (λ l. Lead s q l fs (first_looper s) acts a) more.1
-      (Lead-entries s q es fs more.0 (first_looper s) acts a (st.led fs (subst (λ (p : Pass). IsPrefix p.view.seen fs) frames begins) law));
-  place = subst (λ (p : Pass). a.place ≤ length p.view.seen) (sym frames) st.place;
-  moments = λ is fs begins law. st.moments is fs (subst (λ (p : Pass). IsPrefix p.view.seen fs) frames begins) law;
-  whole = λ fs begins law. st.whole fs (subst (λ (p : Pass). IsPrefix p.view.seen fs) frames begins) law;
-  ran = subst (λ (p : Pass). map (as_told lockstep) (asks_of p) ≡ map (as_told lockstep) (asks_to_run did.frames)) (sym frames) st.ran;
+      (Lead-entries s q es fs more.0 (first_looper s) acts a (st.led fs (prefix_trans parts.frames.view.seen parts'.frames.view.seen fs frames.seen begins) law));
+  place = let le = prefix_length parts.frames.view.seen parts'.frames.view.seen frames.seen in let was = st.place in omega (arith, le, was);
+  moments = λ is fs begins law. st.moments is fs (prefix_trans parts.frames.view.seen parts'.frames.view.seen fs frames.seen begins) law;
+  whole = λ fs begins law. st.whole fs (prefix_trans parts.frames.view.seen parts'.frames.view.seen fs frames.seen begins) law;
+  ran = ap (λ (es : List FrameEntry). map (as_told lockstep) (asks_in es)) frames.same.own ∙ st.ran;
   settled = st.settled;
   played = record {
-    shown = subst (λ (r : ViewRoot). IsShown s q (calls_in k es') r did) (sym root) (subst (λ l. IsShown s q l parts.root did) (sym calls) st.played.shown);
+    shown = shown_heard s q (calls_in k es') parts.root parts'.root did client root (subst (λ l. IsShown s q l parts.root did) (sym calls) st.played.shown);
     elsewhere = λ r j d at lt.
         let was : j < length parts.others.items = subst (λ (n : ℕ). j < n) long lt in
         subst (λ l. AreFor IsSent [] (sent_on r did.sent) l) (sym (called j d was)) (st.played.elsewhere r j d at was);
@@ -95,8 +111,9 @@ module _ (s : Script) (hall : Hall) (is_hall : IsHall s hall) (l : StageLooper) 
   heard_stands lockstep did a come =
       let p = looper_parts s hall is_hall l is in
       let r : Rest = record { frames = p.0.frames; root = p.0.root; fired = p.0.fired.items; passed = p.0.passed } in
-      let q = with_rest b.parts r (k.rest ∙ ap rest_in p.1) in
-      let rest = same_Some _ _ q.2 in
+      let told = k.rest r (ap rest_in p.1) in
+      let q = with_rest b.parts told.0 told.1 in
+      let rest = sym (same_Some _ _ q.2) in
       let heard = own_kept s hall is_hall l is b k in
       let n : ℕ = l.number in
       let within : n ≤ length p.0.others.items = subst (λ (o : Option Parts). n ≤ length (others_in o)) p.1 (looper_within s hall is_hall l is) in
@@ -111,7 +128,8 @@ module _ (s : Script) (hall : Hall) (is_hall : IsHall s hall) (l : StageLooper) 
       let before : StandsBy lockstep s n l.sender l.looper.held.poster.view.seen l.looper.held.journal.acts p.0 did a = subst (λ (o : Option Parts). IsSomeAnd o (λ parts. StandsBy lockstep s n l.sender l.looper.held.poster.view.seen l.looper.held.journal.acts parts did a)) p.1 come in
       let after : StandsBy lockstep s n l.sender b.looper.held.poster.view.seen l.looper.held.journal.acts q.0 did a =
       stands_heard s n l.sender l.looper.held.poster.view.seen b.looper.held.poster.view.seen l.looper.held.journal.acts p.0 q.0 did a heard.more calls
-      (ap (λ (z : Rest). z.frames) rest) (ap (λ (z : Rest). z.root) rest) (ap (λ (z : Rest). z.fired) rest) others.0 others.1 before in
+      (subst (λ (z : Rest). PassHasHeard p.0.frames z.frames) rest told.2.frames) (subst (λ (z : Rest). PassHasHeard p.0.root.pass z.root.pass) rest told.2.client)
+      (subst (λ (z : Rest). z.root ≡ record p.0.root { pass = z.root.pass }) rest told.2.root) (subst (λ (z : Rest). z.fired ≡ p.0.fired.items) rest told.2.fired) others.0 others.1 before in
       subst (λ (o : Option Parts). IsSomeAnd o (λ parts. StandsBy lockstep s b.number b.sender b.looper.held.poster.view.seen b.looper.held.journal.acts parts did a)) (sym q.1)
       (subst (λ (m : ℕ). StandsBy lockstep s m b.sender b.looper.held.poster.view.seen b.looper.held.journal.acts q.0 did a) (sym k.number)
       (subst (λ (m : ℕ). StandsBy lockstep s n m b.looper.held.poster.view.seen b.looper.held.journal.acts q.0 did a) (sym k.sender)

@@ -18,11 +18,12 @@ use Rattle.dash_hall.specs.declared.kit.Kit.{Kit}
 use Rattle.dash_hall.specs.Growth.{own}
 use Rattle.dash_hall.specs.Hosts.{asks_of}
 use Rattle.dash_loopers.specs.declared.looper.StageLooper.{StageLooper}
-use Rattle.dash_loopers.specs.Played.{calls_of, HasLeft, HasLeftBy}
+use Rattle.dash_loopers.specs.Played.{calls_of, HasCome, HasLeft, HasLeftBy}
 use Rattle.dash_stage.specs.declared.control.Controller.{Controller}
 use Rattle.dash_stage.specs.Leaving.{HaveGiven}
 use Rattle.dash_stage.specs.Playing.{AreCallsOnTime, IsTimelyLooper, HaveComeBy}
 use Rattle.dash_stage.proofs.Ends.HallEnds.{some_of}
+use Rattle.dash_stage.proofs.Played.Asked.{HasAskedInTurn}
 
 -- each frame that the looper ran started at the time that the state tells, by whatever its frame record comes to
 abbrev pub HasStarted : Script → Kit → Looper → Type 0
@@ -40,11 +41,13 @@ pub record HasLeftIn (lockstep : Bool) (s : Script) (q : ℕ) (j : Journal) (kit
   pub asked : (p : Pass) → map (as_told lockstep) (asks_of (slice_index_or kit.frames.items 1 p)) ≡ map (as_told lockstep) a.posted
   pub ran : (p : Pass) → map (as_told lockstep) (asks_of (slice_index_or kit.frames.items 0 p)) ≡ map (as_told lockstep) (asks_to_run a.frames)
 
--- the looper at this place stands at a state that its journal and its kit tell, whose calls came at their times in lockstep
+-- the looper at this place stands at a state that its journal and its kit tell, whose calls came at their times in lockstep, and what was
+-- asked of its choreographer was asked in turn
 pub record StandsAt (lockstep : Bool) (s : Script) (c : Controller) (js : List Journal) (kits : List Kit) (k : ℕ) : Type 0 where
   pub state : Looper
   pub left : (j : Journal) (d : Kit) → HasLeftIn lockstep s k (slice_index_or js k j) (slice_index_or kits (s.threads + k) d) state
   pub on_time : MatchBool lockstep (AreCallsOnTime s c k state) (Unit {0})
+  pub in_turn : MatchBool lockstep ((p : Pass) → HasAskedInTurn s k (slice_index_or c.kit.frames.items k p) state) (Unit {0})
 
 -- in lockstep
 left_in_step : (s : Script) (q : ℕ) (j : Journal) (kit : Kit) (a : Looper) → HasLeft s q j kit a → HasLeftIn true s q j kit a
@@ -80,8 +83,9 @@ module _ (s : Script) (c : Controller) (js : List Journal) (kits : List Kit) (ls
   in_journals k lt = subst (λ (n : ℕ). k < n) (sym told) lt
 
   pub stands_in_step : ((k : ℕ) (d : StageLooper) → k < length ls → (slice_index_or ls k d).number ≡ k) → ((k : ℕ) (d : StageLooper) → k < length ls → IsTimelyLooper s c (slice_index_or ls k d))
+      → ((k : ℕ) (d : StageLooper) → k < length ls → (a : Looper) → HasCome s (slice_index_or ls k d) a → (p : Pass) → HasAskedInTurn s k (slice_index_or c.kit.frames.items k p) a)
       → (k : ℕ) → k < s.loopers → StandsAt true s c js kits k
-  stands_in_step places played k lt =
+  stands_in_step places played asked k lt =
       let near = in_loopers k lt in
       let l = some_of ls k near in
       let st = played k l near in
@@ -89,6 +93,7 @@ module _ (s : Script) (c : Controller) (js : List Journal) (kits : List Kit) (ls
         state = st.state;
         left = λ j d. left_in_step s k (slice_index_or js k j) (slice_index_or kits (s.threads + k) d) st.state ((given k l j d (in_journals k lt)).left st.state st.come);
         on_time = subst (λ (n : ℕ). AreCallsOnTime s c n st.state) (places k l near) st.on_time;
+        in_turn = asked k l near st.state st.come;
       }
 
   pub stands_by_clock : HaveComeBy s ls → (k : ℕ) → k < s.loopers → StandsAt false s c js kits k
@@ -100,4 +105,5 @@ module _ (s : Script) (c : Controller) (js : List Journal) (kits : List Kit) (ls
         state = st.1;
         left = λ j d. left_by_clock s k (slice_index_or js k j) (slice_index_or kits (s.threads + k) d) st.1 ((given k l j d (in_journals k lt)).left_by st.0 st.1 st.2);
         on_time = tt;
+        in_turn = tt;
       }

@@ -33,6 +33,8 @@ use Rattle.dash_loopers.proofs.LooperDisposes.{disposes_same}
 use Rattle.dash_loopers.proofs.LooperTold.{told_same}
 use Rattle.dash_loopers.proofs.LooperKits.{looper_of, others_many, its_queue}
 use Rattle.dash_hall.proofs.Hearing.{heard_badges}
+use Rattle.dash_hall.proofs.PassesHearing.{pass_heard_badge}
+use Rattle.dash_loopers.proofs.LooperPasses.{may_self, may_then}
 use Rattle.dash_stage.proofs.Sharing.OneByOne.{of_then}
 
 -- one after the other
@@ -47,13 +49,13 @@ looper_then R S T h x y z f g = record {
     idle_owed = g.beside.idle_owed ∙ f.beside.idle_owed;
     ended = g.beside.ended ∙ f.beside.ended;
   };
-  rest = g.rest ∙ f.rest;
+  rest = may_then (rest_in x.parts) (rest_in y.parts) (rest_in z.parts) f.rest g.rest;
   last = g.last ∙ f.last;
 }
 
 -- a looper as it is
 pub looper_self : (R : List Sender → List Sender → Type 0) → ((a : List Sender) → R a a) → (x : StageLooper) → LooperKeeps R x x
-looper_self R h x = record { number = refl; posters = h (posters_of x); sender = refl; beside = record { pass = refl; journal = refl; idle_owed = refl; ended = refl }; rest = refl; last = refl }
+looper_self R h x = record { number = refl; posters = h (posters_of x); sender = refl; beside = record { pass = refl; journal = refl; idle_owed = refl; ended = refl }; rest = may_self (rest_in x.parts); last = refl }
 
 -- what follows from it for the posters
 pub looper_weaker : (R S : List Sender → List Sender → Type 0) → ((a b : List Sender) → R a b → S a b) → (x y : StageLooper) → LooperKeeps R x y → LooperKeeps S x y
@@ -199,12 +201,14 @@ module _ (s : Script) (hall : Hall) (is_hall : IsHall s hall) (l : StageLooper) 
     parts_kept =
         let p = looper_parts in
         let r : Rest = record { frames = p.0.frames; root = p.0.root; fired = p.0.fired.items; passed = p.0.passed } in
-        let q = with_rest b.parts r (k.rest ∙ ap rest_in p.1) in
+        let heard = k.rest r (ap rest_in p.1) in
+        let h = heard.2 in
+        let q = with_rest b.parts heard.0 heard.1 in
         let rest = same_Some _ _ q.2 in
         let are : ArePartsOf s hall l.number q.0 = record {
           others = ap (λ (o : Option Parts). map badge_of (others_in o)) (sym q.1) ∙ (others_kept ∙ (ap (λ (o : Option Parts). map badge_of (others_in o)) p.1 ∙ p.2.others));
-          frames = λ c at. ap (λ (z : Rest). frame_badge_of z.frames) rest ∙ p.2.frames c at;
-          client = λ c at. ap (λ (z : Rest). frame_badge_of z.root.pass) rest ∙ p.2.client c at;
+          frames = λ c at. ap (λ (z : Rest). frame_badge_of z.frames) rest ∙ (pass_heard_badge r.frames heard.0.frames h.frames ∙ p.2.frames c at);
+          client = λ c at. ap (λ (z : Rest). frame_badge_of z.root.pass) rest ∙ (pass_heard_badge r.root.pass heard.0.root.pass h.client ∙ p.2.client c at);
         } in
         subst (λ (o : Option Parts). IsSomeAnd o (ArePartsOf s hall b.number)) (sym q.1) (subst (λ (n : ℕ). ArePartsOf s hall n q.0) (sym k.number) are)
 

@@ -25,13 +25,15 @@ use Rattle.dash_hall.specs.Growth.{own}
 use Rattle.dash_hall.specs.Kits.{badge_of, badge_for, frame_badge_of, IsHall, ArePostersOf}
 use Rattle.dash_stage.specs.Controllers.{IsControllerIn, CallsNone, HaveHandedOut, parts_in}
 use Rattle.dash_stage.specs.Stages.{AreThreads, AreLoopers, IsStageIn, HaveRunBy, OthersHaveEnded}
-use Rattle.dash_hall.specs.Hearing.{HaveHeard, HaveHeardAt, AtEach, AreReady, HaveSeenAt}
+use Rattle.dash_hall.specs.Hearing.{HaveHeard, HaveHeardAt, AtEach, AreKept, AreReady, HaveSeenAt}
 use Rattle.dash_stage.specs.Sharing.{HaveSeenTheSame, ControllerKeeps, StageKeeps, OfThreads, OfLoopers, OfSenders, AreWithin, SharesAt}
 use Rattle.dash_threads.specs.Threads.{ThreadKeeps}
 use Rattle.dash_loopers.specs.Loopers.{LooperKeeps, posters_of}
 use Rattle.dash_hall.proofs.Badges.{alike_length, poster_at, queue_count}
 use Rattle.dash_hall.proofs.Hearing.{have_heard, have_heard_then, have_heard_self, heard_badges, heard_parts, seen_here, seen_elsewhere, seen_same}
+use Rattle.dash_hall.proofs.PassesHearing.{passes_heard_self, passes_heard_then, passes_heard_badges}
 use Rattle.dash_hall.proofs.Sharing.{each_weaker, each_self, each_then}
+use Rattle.dash_stage.proofs.Controller.FrameLists.{handed_heard}
 use Rattle.dash_stage.proofs.Sharing.ThreadShares.{thread_self, thread_weaker, thread_then, thread_kept, up_to_kept, of_threads_then}
 use Rattle.dash_stage.proofs.Sharing.LooperShares.{looper_self, looper_weaker, looper_then, looper_kept, looper_within, looper_posters, of_loopers_then}
 
@@ -39,12 +41,15 @@ use Rattle.dash_stage.proofs.Sharing.LooperShares.{looper_self, looper_weaker, l
 pub controller_kept : {lockstep : Bool} (s : Script) (hall : Hall) (a b : Controller) → ControllerKeeps HaveHeard a b → IsControllerIn lockstep s hall a → IsControllerIn lockstep s hall b
 controller_kept s hall a b k is = record {
   posters = heard_badges a.kit.posters.items b.kit.posters.items k.posters ∙ is.posters;
-  frames = ap (λ v. map frame_badge_of v.items) k.frames ∙ is.frames;
+  frames = passes_heard_badges a.kit.frames.items b.kit.frames.items k.frames ∙ is.frames;
   pass = ap (λ t. t.home) k.pass ∙ is.pass;
   mode = is.mode;
   sealed = heard_parts a.kit.posters.items b.kit.posters.items k.posters ∙ (is.sealed ∙ ap (λ v. parts_in v.items) (sym k.sealed));
-  sealed_frames = subst (λ (z : List Pass × List (Vec (List FrameEntry))). HaveHandedOut z.0 z.1) (λ i. ((sym k.frames i).items, (sym k.sealed_frames i).items)) is.sealed_frames;
-  idle = subst (λ (fs : List Pass). (q : ℕ) (p : Pass) → q < length fs → (get_or fs q p).view.own ≡ []) (sym (ap (λ v. v.items) k.frames)) is.idle;
+  sealed_frames = subst (λ (v : Vec (Vec (List FrameEntry))). HaveHandedOut b.kit.frames.items v.items) (sym k.sealed_frames) (handed_heard a.kit.frames.items b.kit.frames.items a.sealed_frames.items k.frames is.sealed_frames);
+  idle = λ q p lt.
+      let many = k.frames.long in
+      let near : q < length a.kit.frames.items = omega (arith, lt, many) in
+      (k.frames.each q p near).same.own ∙ is.idle q p near;
 }
 
 -- it has called nothing
@@ -111,42 +116,63 @@ stage_self a = record {
   hall = refl;
   threads = each_self (ThreadKeeps HaveHeard) a.threads.items (thread_self HaveHeard have_heard_self);
   loopers = each_self (LooperKeeps HaveHeard) a.loopers.items (looper_self HaveHeard have_heard_self);
-  controller = record { posters = have_heard_self a.controller.kit.posters.items; pass = refl; frames = refl; sealed = refl; sealed_frames = refl };
+  controller = record { posters = have_heard_self a.controller.kit.posters.items; pass = refl; frames = passes_heard_self a.controller.kit.frames.items; sealed = refl; sealed_frames = refl };
   pass = refl;
   time = refl;
 }
 
+-- so with posters that are as they were
+pub kept_self : (a : Stage) → StageKeeps AreKept a a
+kept_self a = record {
+  hall = refl;
+  threads = each_self (ThreadKeeps AreKept) a.threads.items (thread_self AreKept (λ ps. refl));
+  loopers = each_self (LooperKeeps AreKept) a.loopers.items (looper_self AreKept (λ ps. refl));
+  controller = record { posters = refl; pass = refl; frames = passes_heard_self a.controller.kit.frames.items; sealed = refl; sealed_frames = refl };
+  pass = refl;
+  time = refl;
+}
+
+-- what follows from it for the posters
+stage_weaker_by : (R S : List Sender → List Sender → Type 0) → ((ps qs : List Sender) → R ps qs → S ps qs) → (a b : Stage) → StageKeeps R a b → StageKeeps S a b
+stage_weaker_by R S h a b k = record {
+  hall = k.hall;
+  threads = each_weaker (ThreadKeeps R) (ThreadKeeps S) a.threads.items b.threads.items (thread_weaker R S h) k.threads;
+  loopers = each_weaker (LooperKeeps R) (LooperKeeps S) a.loopers.items b.loopers.items (looper_weaker R S h) k.loopers;
+  controller = record { posters = h a.controller.kit.posters.items b.controller.kit.posters.items k.controller.posters; pass = k.controller.pass; frames = k.controller.frames; sealed = k.controller.sealed; sealed_frames = k.controller.sealed_frames };
+  pass = k.pass;
+  time = k.time;
+}
+
+pub kept_heard : (a b : Stage) → StageKeeps AreKept a b → StageKeeps HaveHeard a b
+kept_heard a b k = stage_weaker_by AreKept HaveHeard (λ ps qs same. subst (HaveHeard ps) (sym same) (have_heard_self ps)) a b k
+
 -- the posters of one queue heard others, and so those of each may have
 pub stage_weaker : (place : ℕ) (whole : List Entry) (a b : Stage) → StageKeeps (HaveHeardAt place whole) a b → StageKeeps HaveHeard a b
-stage_weaker place whole a b k =
-    let h = have_heard place whole in
-    record {
-      hall = k.hall;
-      threads = each_weaker (ThreadKeeps (HaveHeardAt place whole)) (ThreadKeeps HaveHeard) a.threads.items b.threads.items (thread_weaker (HaveHeardAt place whole) HaveHeard h) k.threads;
-      loopers = each_weaker (LooperKeeps (HaveHeardAt place whole)) (LooperKeeps HaveHeard) a.loopers.items b.loopers.items (looper_weaker (HaveHeardAt place whole) HaveHeard h) k.loopers;
-      controller = record { posters = h a.controller.kit.posters.items b.controller.kit.posters.items k.controller.posters; pass = k.controller.pass; frames = k.controller.frames; sealed = k.controller.sealed; sealed_frames = k.controller.sealed_frames };
-      pass = k.pass;
-      time = k.time;
-    }
+stage_weaker place whole a b k = stage_weaker_by (HaveHeardAt place whole) HaveHeard (have_heard place whole) a b k
 
 -- one after the other
-pub stage_then : (a b c : Stage) → StageKeeps HaveHeard a b → StageKeeps HaveHeard b c → StageKeeps HaveHeard a c
-stage_then a b c f g =
-    let h = have_heard_then in
+stage_then_by : (R : List Sender → List Sender → Type 0) → ((ps qs rs : List Sender) → R ps qs → R qs rs → R ps rs) → (a b c : Stage) → StageKeeps R a b → StageKeeps R b c → StageKeeps R a c
+stage_then_by R h a b c f g =
     record {
       hall = g.hall ∙ f.hall;
-      threads = each_then (ThreadKeeps HaveHeard) (ThreadKeeps HaveHeard) (ThreadKeeps HaveHeard) a.threads.items b.threads.items c.threads.items (thread_then HaveHeard HaveHeard HaveHeard h) f.threads g.threads;
-      loopers = each_then (LooperKeeps HaveHeard) (LooperKeeps HaveHeard) (LooperKeeps HaveHeard) a.loopers.items b.loopers.items c.loopers.items (looper_then HaveHeard HaveHeard HaveHeard h) f.loopers g.loopers;
+      threads = each_then (ThreadKeeps R) (ThreadKeeps R) (ThreadKeeps R) a.threads.items b.threads.items c.threads.items (thread_then R R R h) f.threads g.threads;
+      loopers = each_then (LooperKeeps R) (LooperKeeps R) (LooperKeeps R) a.loopers.items b.loopers.items c.loopers.items (looper_then R R R h) f.loopers g.loopers;
       controller = record {
         posters = h a.controller.kit.posters.items b.controller.kit.posters.items c.controller.kit.posters.items f.controller.posters g.controller.posters;
         pass = g.controller.pass ∙ f.controller.pass;
-        frames = g.controller.frames ∙ f.controller.frames;
+        frames = passes_heard_then a.controller.kit.frames.items b.controller.kit.frames.items c.controller.kit.frames.items f.controller.frames g.controller.frames;
         sealed = g.controller.sealed ∙ f.controller.sealed;
         sealed_frames = g.controller.sealed_frames ∙ f.controller.sealed_frames;
       };
       pass = g.pass ∙ f.pass;
       time = g.time ∙ f.time;
     }
+
+pub stage_then : (a b c : Stage) → StageKeeps HaveHeard a b → StageKeeps HaveHeard b c → StageKeeps HaveHeard a c
+stage_then a b c f g = stage_then_by HaveHeard have_heard_then a b c f g
+
+pub kept_then : (a b c : Stage) → StageKeeps AreKept a b → StageKeeps AreKept b c → StageKeeps AreKept a c
+kept_then a b c f g = stage_then_by AreKept (λ ps qs rs one two. two ∙ one) a b c f g
 
 -- what holds of all senders' posters before holds of them after
 pub of_senders_then : (P Q : List Sender → Type 0) (R : List Sender → List Sender → Type 0) → ((ps qs : List Sender) → R ps qs → P ps → Q qs) → (a b : Stage) → StageKeeps R a b → OfSenders P a → OfSenders Q b

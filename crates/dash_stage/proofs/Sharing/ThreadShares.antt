@@ -4,18 +4,19 @@ use Rattle.loop_model.specs.declared.entry.Entry.{Entry}
 use Rattle.looper_run.specs.Holding.{Sender}
 use Rattle.dash_threads.specs.declared.thread.PostingThread.{PostingThread}
 use Rattle.dash_hall.specs.Hearing.{HaveHeard, AtEach}
-use Rattle.dash_threads.specs.Threads.{ThreadKeeps, IsThread, IsUpTo, labels_kept, tokens_kept, HasAsked, HasTurned}
+use Rattle.dash_threads.specs.Threads.{ThreadKeeps, IsThread, IsUpTo, labels_kept, tokens_kept}
 use Rattle.dash_stage.specs.Sharing.{OfThreads}
 use Rattle.dash_script.specs.declared.script.Script.{Script}
-use Rattle.choreographer.specs.Known.{Known as Pass}
 use Rattle.run_model.specs.Asks.{tokens_in}
 use Rattle.run_model.specs.Moments.{Mode}
 use Rattle.run_model.specs.Planned.{Timed, lines_of, labels_on, MakeCalls}
 use Rattle.dash_hall.specs.declared.hall.Hall.{Hall}
 use Rattle.dash_hall.specs.Growth.{own}
-use Rattle.dash_hall.specs.Kits.{frame_badge_of, ArePostersOf, ArePassesOf}
+use Rattle.dash_hall.specs.Kits.{ArePostersOf, ArePassesOf}
 use Rattle.dash_hall.proofs.Clocking.{clocked_same}
 use Rattle.dash_hall.proofs.Hearing.{heard_badges}
+use Rattle.dash_hall.proofs.PassesHearing.{passes_heard_self, passes_heard_then, passes_heard_badges}
+use Rattle.dash_threads.proofs.ThreadHears.{asked_heard, turned_heard}
 use Rattle.dash_stage.proofs.Sharing.OneByOne.{of_then}
 
 -- one after the other
@@ -24,7 +25,7 @@ thread_then R S T h x y z f g = record {
   number = g.number ∙ f.number;
   posters = h x.kit.posters.items y.kit.posters.items z.kit.posters.items f.posters g.posters;
   pass = g.pass ∙ f.pass;
-  frames = g.frames ∙ f.frames;
+  frames = passes_heard_then x.kit.frames.items y.kit.frames.items z.kit.frames.items f.frames g.frames;
   barriers = g.barriers ∙ f.barriers;
   passed = g.passed ∙ f.passed;
   gave_up = g.gave_up ∙ f.gave_up;
@@ -32,7 +33,7 @@ thread_then R S T h x y z f g = record {
 
 -- a thread as it is
 pub thread_self : (R : List Sender → List Sender → Type 0) → ((a : List Sender) → R a a) → (x : PostingThread) → ThreadKeeps R x x
-thread_self R h x = record { number = refl; posters = h x.kit.posters.items; pass = refl; frames = refl; barriers = refl; passed = refl; gave_up = refl }
+thread_self R h x = record { number = refl; posters = h x.kit.posters.items; pass = refl; frames = passes_heard_self x.kit.frames.items; barriers = refl; passed = refl; gave_up = refl }
 
 -- what follows from it for the posters
 pub thread_weaker : (R S : List Sender → List Sender → Type 0) → ((a b : List Sender) → R a b → S a b) → (x y : PostingThread) → ThreadKeeps R x y → ThreadKeeps S x y
@@ -55,7 +56,7 @@ pub thread_kept : (s : Script) (hall : Hall) (a b : PostingThread) → ThreadKee
 thread_kept s hall a b k is = record {
   number = subst (λ (n : ℕ). n < s.threads) (sym k.number) is.number;
   posters = subst (λ (n : ℕ). ArePostersOf n hall.queues.items b.kit.posters.items) (sym k.number) (heard_badges a.kit.posters.items b.kit.posters.items k.posters ∙ is.posters);
-  frames = subst (λ (n : ℕ). ArePassesOf n hall.choreographers.items b.kit.frames.items) (sym k.number) (ap (λ v. map frame_badge_of v.items) k.frames ∙ is.frames);
+  frames = subst (λ (n : ℕ). ArePassesOf n hall.choreographers.items b.kit.frames.items) (sym k.number) (passes_heard_badges a.kit.frames.items b.kit.frames.items k.frames ∙ is.frames);
   pass = ap (λ t. t.home) k.pass ∙ is.pass;
 }
 
@@ -64,7 +65,6 @@ pub up_to_kept : (m : Mode) (s : Script) (past : List Timed) (a b : PostingThrea
 up_to_kept m s past a b k up =
     let long = k.posters.long in
     let barriers : b.barriers.items ≡ a.barriers.items = ap (λ v. v.items) k.barriers in
-    let frames : b.kit.frames.items ≡ a.kit.frames.items = ap (λ v. v.items) k.frames in
     record {
       called = λ q d lt.
           let near : q < length a.kit.posters.items = omega (arith, lt) in
@@ -80,6 +80,6 @@ up_to_kept m s past a b k up =
             let near : q < length a.kit.posters.items = omega (arith, lt) in
             ap (tokens_kept q) barriers ∙ (up.barriers.tokens q d near ∙ ap tokens_in (sym (k.posters.each q d near).called));
       };
-      asked = subst (λ (fs : List Pass). HasAsked m past fs) (sym frames) up.asked;
-      turned = subst (λ (fs : List Pass). HasTurned past fs) (sym frames) up.turned;
+      asked = asked_heard m past a.kit.frames.items b.kit.frames.items k.frames up.asked;
+      turned = turned_heard past a.kit.frames.items b.kit.frames.items k.frames up.turned;
     }

@@ -14,6 +14,7 @@ use Rattle.dash_stage.specs.Sharing.{HaveSeenTheSame, OfKits}
 use Rattle.dash_stage.specs.Stages.{HaveRunBy}
 use Rattle.dash_stage.proofs.Sharing.Casting.{all_kits}
 use Rattle.dash_stage.proofs.Ends.Carried.{run_kept, planned_records, numbered_count, called_by_clock}
+use Rattle.dash_stage.proofs.Played.AskedAtEnd.{asked_at_end}
 use Rattle.dash_stage.proofs.Played.PlayedRecords.{loopers_of_records}
 use Rattle.dash_stage.proofs.Played.Standing.{StandsAt, stands_in_step, stands_by_clock}
 use Rattle.dash_stage.proofs.Played.LoopersGive.{given_kept}
@@ -94,7 +95,8 @@ returns c =
           loopers_of_records in_lockstep s hall kits' qs is_hall are st.controller held (queues in_lockstep (by out)) are_kept.all (seen out.timely.same) c.requires.playable.few
           js fs ls left.journals are_kept.frames are_kept.own told_all given c.requires.on c.requires.stage.loopers.0
           (stands_in_step s st.controller js kits' ls given c.requires.stage.loopers.0 many (λ k d lt. (c.requires.stage.loopers.1 k d lt).1)
-          (out.played (all_sound s hall kits' qs is_hall are st.controller held (queues in_lockstep (by out)) are_kept.all (seen out.timely.same))))
+          (out.played (all_sound s hall kits' qs is_hall are st.controller held (queues in_lockstep (by out)) are_kept.all (seen out.timely.same)))
+          (asked_at_end s st out.stage out.run (all_sound s hall kits' qs is_hall are st.controller held (queues in_lockstep (by out)) are_kept.all (seen out.timely.same)) out.turn))
           (planned in_lockstep out.run) (controls in_lockstep (by out) out.closed) out.stage.controller (run in_lockstep out.run) are_kept.theirs;
       by_clock = λ m out.
           loopers_of_records m s hall kits' qs is_hall are st.controller held (queues m out.out) are_kept.all (seen out.out.same) c.requires.playable.few

@@ -1,9 +1,10 @@
-use Rattle.std.proofs.Common.{◌<◌, length, sym, subst, arith}
+use Rattle.std.proofs.Common.{◌<◌, [], length, sym, subst, arith}
 use Rattle.dash_hall.specs.declared.kit.Kit.{Kit}
 use Rattle.dash_loopers.specs.declared.looper.StageLooper.{StageLooper}
 use Rattle.dash_hall.specs.Kits.{AreUnseen, IsUnusedKit, AreUnusedKits}
-use Rattle.dash_stage.specs.Sharing.{OfLoopers}
-use Rattle.dash_loopers.specs.Loopers.{posters_of, WaitsForNothing}
+use Rattle.dash_hall.specs.Hearing.{HasHeardAll}
+use Rattle.dash_stage.specs.Sharing.{OfLoopers, HaveHeardNothing}
+use Rattle.dash_loopers.specs.Loopers.{posters_of, WaitsForNothing, OfItsPasses}
 use Rattle.run_model.specs.Loopers.{first_looper}
 use Rattle.dash_loopers.specs.Played.{HasCome}
 use Rattle.dash_stage.specs.Timeliness.{WaitForNothing}
@@ -37,4 +38,5 @@ loop-number-preserved c =
       subst (OfLoopers AreUnseen) (sym grown) (first_more (λ k (z : StageLooper). AreUnseen (posters_of z)) at.loopers.items one at.invariant.4 unseen),
       subst WaitForNothing (sym grown) (first_more (λ k (z : StageLooper). WaitsForNothing z.last) at.loopers.items one at.invariant.5 c.in_ok-looper.ensures.waits),
       subst (HaveBegun c.args.script.now) (sym grown) (first_more (λ k (z : StageLooper). HasCome c.args.script.now z (first_looper c.args.script.now)) at.loopers.items one at.invariant.6 c.in_ok-looper.ensures.begun),
+      subst HaveHeardNothing (sym grown) (first_more (λ k (z : StageLooper). OfItsPasses (HasHeardAll []) z) at.loopers.items one at.invariant.7 c.in_ok-looper.ensures.unheard),
     )

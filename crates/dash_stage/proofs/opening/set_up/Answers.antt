@@ -4,6 +4,7 @@ use Rattle.dash_stage.proofs.Ends.Carried.{unused_kits}
 use Rattle.dash_stage.proofs.Sharing.Casting.{controller_of, last_kit}
 use Rattle.dash_stage.proofs.Controller.StageControls.{unused_by, unused_moves}
 use Rattle.dash_stage.proofs.Stages.StageBegins.{begins_timely, begins_rested, begins_in_step}
+use Rattle.dash_stage.proofs.Played.InTurn.{begins_in_turn}
 use Rattle.dash_stage.proofs.opening.set_up.Goals as goal
 
 pub threads-requires-clause-unused : goal.threads-requires-clause-unused
@@ -57,3 +58,9 @@ returns-clause-unseen c =
 
 pub returns-clause-unused : goal.returns-clause-unused
 returns-clause-unused c = record { threads = c.in_ok-threads.ensures.unseen; loopers = c.in_ok-loopers.ensures.unseen; controller = returns-clause-unseen c }
+
+pub returns-clause-turn : goal.returns-clause-turn
+returns-clause-turn c =
+    let last = last_kit c.args.script.now c.in_ok-hall.hall c.loopers.new.kits.items c.remove.result c.remove.ensures.value c.in_ok-loopers.ensures.kits c.in_ok-loopers.ensures.unused in
+    let st : Stage = record { hall = c.in_ok-hall.hall; threads = c.in_ok-threads.threads; loopers = c.in_ok-loopers.loopers; controller = record { kit = c.remove.result; sealed = c.in_ok-sealed.sealed; sealed_frames = c.in_ok-sealed_frames.sealed_frames }; pass = c.in_ok-hall.pass; time = 0 } in
+    begins_in_turn c.args.script.now st c.in_ok-threads.ensures.unheard c.in_ok-loopers.ensures.unheard last.0

@@ -56,7 +56,7 @@ returns-clause-theirs c =
     let most = at.auto.number-end in
     let all : at.number ≡ s.threads + 3 = omega (arith, over, most) in
     IfOk-weaker c.into_whole.result (λ r. IsWhole c.args.choreographer at.passes.items r.entries) (λ r. AreOfNext s c.args.looper c.args.kits.now.items r.entries)
-    (λ r w. taken_theirs s c.args.looper c.args.choreographer at.number c.args.kits.now.items at.passes.items at.kits.items r.entries at.invariant.count all at.invariant.taken c.requires.looper w.theirs)
+    (λ r w. taken_theirs s c.args.looper c.args.choreographer at.number c.args.kits.now.items at.passes.items at.kits.items r.entries at.invariant.count all at.invariant.taken c.requires.looper w.heard)
     c.into_whole.ensures.whole
 
 pub returns-clause-own : goal.returns-clause-own

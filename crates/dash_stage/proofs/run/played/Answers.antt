@@ -21,4 +21,5 @@ play-requires-clause-begun g c κs within =
       zero = opened.by.1;
       step = opened.step;
       unseen = opened.unseen;
+      turn = opened.turn;
     }

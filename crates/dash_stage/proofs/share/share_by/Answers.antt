@@ -1,11 +1,15 @@
-use Rattle.std.proofs.Common.{sym, subst}
+use Rattle.std.proofs.Common.{ℕ, List, ◌∙◌, sym, subst}
 use Rattle.loop_model.proofs.Prefixes.{prefix_self}
 use Rattle.looper_run.specs.Holding.{Sender}
-use Rattle.dash_hall.specs.Hearing.{AreKept, AreReady, AreKnown}
+use Rattle.loop_model.specs.declared.entry.Entry.{Entry}
+use Rattle.dash_hall.specs.Hearing.{AtEach, HaveHeardAt, AreKept, AreReady, AreKnown}
+use Rattle.dash_hall.proofs.Sharing.{each_then}
+use Rattle.dash_threads.specs.Threads.{ThreadKeeps}
+use Rattle.dash_loopers.specs.Loopers.{LooperKeeps}
 use Rattle.dash_stage.specs.Sharing.{OfLoopers}
 use Rattle.dash_hall.proofs.Hearing.{ready_kept, known_kept}
-use Rattle.dash_stage.proofs.Sharing.ThreadShares.{of_threads_then}
-use Rattle.dash_stage.proofs.Sharing.LooperShares.{of_loopers_then, loopers_within}
+use Rattle.dash_stage.proofs.Sharing.ThreadShares.{thread_then, of_threads_then}
+use Rattle.dash_stage.proofs.Sharing.LooperShares.{looper_then, of_loopers_then, loopers_within}
 use Rattle.dash_stage.proofs.share.share_by.Goals as goal
 
 pub threads_hear-requires-clause-ready : goal.threads_hear-requires-clause-ready
@@ -34,3 +38,23 @@ loopers_hear-requires-clause-known c =
     let after = c.loopers_tell.new.loopers in
     subst (λ (o : Sender). OfLoopers (AreKnown c.args.place o.view.seen) after) (sym c.threads_hear.ensures.other)
     (of_loopers_then (AreKnown c.args.place is) (AreKnown c.args.place is) AreKept (known_kept c.args.place is is (prefix_self is)) c.args.loopers.now after c.loopers_tell.ensures.kept c.loopers_tell.ensures.told)
+
+-- posters that were kept heard as those after them did
+kept_then : (place : ℕ) (whole : List Entry) (a b c : List Sender) → AreKept a b → HaveHeardAt place whole b c → HaveHeardAt place whole a c
+kept_then place whole a b c same heard = subst (λ (ps : List Sender). HaveHeardAt place whole ps c) same heard
+
+pub returns-clause-threads : goal.returns-clause-threads
+returns-clause-threads c =
+    let place = c.args.place in
+    let whole = c.loopers_tell.new.other.view.seen in
+    let heard = HaveHeardAt place whole in
+    subst (λ (p : Sender). AtEach (ThreadKeeps (HaveHeardAt place p.view.seen)) c.args.threads.now c.threads_hear.new.threads) (sym (c.loopers_hear.ensures.other ∙ c.threads_hear.ensures.other))
+    (each_then (ThreadKeeps AreKept) (ThreadKeeps heard) (ThreadKeeps heard) c.args.threads.now c.threads_tell.new.threads c.threads_hear.new.threads (thread_then AreKept heard heard (kept_then place whole)) c.threads_tell.ensures.kept c.threads_hear.ensures.kept)
+
+pub returns-clause-loopers : goal.returns-clause-loopers
+returns-clause-loopers c =
+    let place = c.args.place in
+    let whole = c.threads_hear.new.other.view.seen in
+    let heard = HaveHeardAt place whole in
+    subst (λ (p : Sender). AtEach (LooperKeeps (HaveHeardAt place p.view.seen)) c.args.loopers.now c.loopers_hear.new.loopers) (sym c.loopers_hear.ensures.other)
+    (each_then (LooperKeeps AreKept) (LooperKeeps heard) (LooperKeeps heard) c.args.loopers.now c.loopers_tell.new.loopers c.loopers_hear.new.loopers (looper_then AreKept heard heard (kept_then place whole)) c.loopers_tell.ensures.kept c.loopers_hear.ensures.kept)

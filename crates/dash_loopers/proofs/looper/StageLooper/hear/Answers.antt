@@ -2,6 +2,7 @@ use denote.Param.Send.{sendable}
 use Rattle.std.proofs.Common.{◌≡◌, Some, refl, sym, ap, ◌∙◌, arith}
 use Rattle.dash_loopers.specs.Loopers.{posters_of, rest_in}
 use Rattle.dash_hall.proofs.Hearing.{has_heard, ready_is, known_is, longer_whole}
+use Rattle.dash_loopers.proofs.LooperPasses.{may_self, may_same}
 use Rattle.dash_loopers.proofs.LooperSeats.{own_at, own_ready, other_is, looper_own_heard, looper_other_heard}
 use Rattle.dash_loopers.proofs.looper.StageLooper.hear.Goals as goal
 
@@ -21,7 +22,7 @@ returns-then-place-number-clause-kept c =
       posters = looper_own_heard l c.args.place c.hear.new.self whole c.requires.within at
           (has_heard p c.hear.new.self.held.poster c.hear.ensures.same c.hear.ensures.begins.0) (c.hear.ensures.seen ∙ longer_whole p.view.seen whole known);
       beside = c.hear.ensures.beside;
-      rest = refl;
+      rest = may_self (rest_in l.parts);
       last = refl;
     }
 
@@ -47,6 +48,6 @@ returns-clause-kept c =
       posters = looper_other_heard l parts c.args.place c.place_without.result p c.hear-2.new.self whole c.requires.within is c.place_without.ensures c.requires.ready.0 c.index_mut.ensures.value
           (has_heard p c.hear-2.new.self c.hear-2.ensures.same c.hear-2.ensures.begins.0) (c.hear-2.ensures.seen ∙ longer_whole p.view.seen whole known);
       beside = record { pass = refl; journal = refl; idle_owed = refl; ended = refl };
-      rest = sym (ap rest_in is);
+      rest = may_same (rest_in l.parts) (rest_in (Some parts)) (sym (ap rest_in is));
       last = refl;
     }

@@ -1,10 +1,13 @@
-use Rattle.std.proofs.Common.{◌≡◌, ℕ, get_or, replicate, List, [], refl, sym, ap, ◌∙◌, subst, arith}
+use Rattle.std.proofs.Common.{◌≡◌, ◌<◌, ℕ, get_or, replicate, List, [], refl, sym, ap, ◌∙◌, subst, arith}
 use Rattle.std.specs.List.{remove}
 use Rattle.std.proofs.lemmas.List.Edits.{get_or-remove_above}
 use Rattle.choreographer.specs.Known.{Known as Pass}
 use Rattle.looper_run.specs.Holding.{Sender, Holding}
 use Rattle.dash_hall.specs.Kits.{AreUnseen}
-use Rattle.dash_loopers.specs.Loopers.{IsLooperOf}
+use Rattle.std.proofs.lemmas.Option.{same_Some}
+use Rattle.dash_hall.specs.Hearing.{HasHeardAll}
+use Rattle.dash_loopers.specs.Loopers.{IsLooperOf, Rest, OfItsPasses}
+use Rattle.dash_loopers.proofs.LooperPasses.{unheard_all}
 use Rattle.dash_loopers.proofs.LooperKits.{kit_many, kit_two, posters_begin, looper_begins}
 use Rattle.dash_loopers.proofs.LooperPlayed.{unseen_without, stands_first}
 use Rattle.dash_loopers.proofs.looper.StageLooper.new.Goals as goal
@@ -62,3 +65,19 @@ returns-clause-begun c =
     (subst AreUnseen (sym c.remove-poster.ensures.items) (unseen_without c.args.kit.posters.items c.args.number many c.requires.unused.posters))
     (c.in_ok-vec.ensures.items_if_clones_equal (λ y same. same) ∙ ap (λ (n : ℕ). replicate n 0) c.len.ensures)
     (ap (λ (p : Pass). p.view.own) c.in_ok-new.ensures.pass ∙ unasked) (ap (λ (p : Pass). p.view.turns) c.in_ok-new.ensures.pass ∙ untaken) unrun
+
+pub returns-clause-unheard : goal.returns-clause-unheard
+returns-clause-unheard c r is =
+    let of : IsLooperOf c.args.script.now c.args.hall.now c.args.number = record { few = c.requires.fits; one = c.requires.number; is_hall = c.requires.hall } in
+    let two = kit_two c.args.script.now c.args.hall.now c.args.number of c.args.kit c.requires.kit in
+    let ps = c.args.kit.frames.items in
+    let unused = c.requires.unused in
+    let second : c.remove-client.result ≡ get_or ps 1 c.remove-client.result =
+    subst (λ (l : List Pass). c.remove-client.result ≡ get_or l 0 c.remove-client.result) c.remove-own_frames.ensures.items c.remove-client.ensures.value
+    ∙ get_or-remove_above ps 0 c.remove-client.result 0 (omega arith) (omega (arith, two)) in
+    let none : (i : ℕ) (p : Pass) → i < 2 → p ≡ get_or ps i p → HasHeardAll [] p = λ i p lt e.
+    subst (HasHeardAll []) (sym e) (unheard_all (get_or ps i p) (unused.heard i p (omega (arith, two, lt))) (unused.frames i p (omega (arith, two, lt))) (unused.own i p (omega (arith, two, lt)))) in
+    subst (λ (z : Rest). HasHeardAll [] z.frames × HasHeardAll [] z.root.pass) (same_Some _ _ is) (
+      none 0 c.remove-own_frames.result (omega arith) c.remove-own_frames.ensures.value,
+      subst (HasHeardAll []) (sym c.in_ok-new.ensures.pass) (none 1 c.remove-client.result (omega arith) second),
+    )

@@ -1,14 +1,27 @@
 use denote.Param.Send.{sendable}
-use Rattle.std.proofs.Common.{◌≡◌, List, Some, refl, sym, ap, ◌∙◌, arith}
+use Rattle.std.proofs.Common.{◌≡◌, List, Some, refl, sym, ap, ◌∙◌, subst, arith}
 use Rattle.std.specs.List.{insert}
-use Rattle.looper_run.specs.Holding.{Sender}
+use Rattle.looper_run.specs.Holding.{Sender, Looping, IsBeside}
 use Rattle.dash_loopers.specs.Loopers.{posters_of, others_in, rest_in}
 use Rattle.dash_hall.proofs.Hearing.{has_heard, ready_is, known_at, kept_at}
+use Rattle.dash_loopers.proofs.LooperPasses.{may_self, may_same}
 use Rattle.dash_loopers.proofs.LooperSeats.{own_at, own_ready, other_is}
 use Rattle.dash_loopers.proofs.looper.StageLooper.tell.Goals as goal
 
 pub tell-requires : goal.tell-requires
 tell-requires c = (search sendable, (own_ready c.args.self.now c.args.place c.args.queue.now c.requires.ready c.requires.within (omega (arith, c.if-place-number.true)), c.requires.other))
+
+pub returns-then-place-number-clause-kept : goal.returns-then-place-number-clause-kept
+returns-then-place-number-clause-kept c =
+    let l = c.args.self.now in
+    record {
+      number = refl;
+      sender = refl;
+      posters = ap (λ (x : Looping). insert (others_in l.parts) l.number x.held.poster) c.tell.ensures.looper;
+      beside = subst (IsBeside l.looper) (sym c.tell.ensures.looper) record { pass = refl; journal = refl; idle_owed = refl; ended = refl };
+      rest = may_self (rest_in l.parts);
+      last = refl;
+    }
 
 pub returns-then-place-number-clause-heard : goal.returns-then-place-number-clause-heard
 returns-then-place-number-clause-heard c = has_heard c.args.other.now c.tell.new.other c.tell.ensures.same c.tell.ensures.begins.0
@@ -38,7 +51,7 @@ returns-clause-kept c =
       posters = ap (λ (os : List Sender). insert os l.number l.looper.held.poster)
           (kept_at parts.others.items c.place_without.result c.index_mut.result.now c.hear.new.other c.index_mut.ensures.value c.hear.ensures.other ∙ sym (ap others_in is));
       beside = record { pass = refl; journal = refl; idle_owed = refl; ended = refl };
-      rest = sym (ap rest_in is);
+      rest = may_same (rest_in l.parts) (rest_in (Some parts)) (sym (ap rest_in is));
       last = refl;
     }
 

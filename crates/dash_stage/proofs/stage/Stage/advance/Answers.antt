@@ -2,6 +2,7 @@ use Rattle.std.proofs.Common.{ℕ, ◌∙◌, sym, subst, arith}
 use Rattle.dash_stage.specs.Timeliness.{AreBy}
 use Rattle.dash_stage.proofs.Moves.StageMoves.{by_later, advanced_timely}
 use Rattle.dash_stage.proofs.Played.PlayedTurns.{advanced_in_step, advanced_sound, advanced_at_block}
+use Rattle.dash_stage.proofs.Played.InTurn.{asks_nothing}
 use Rattle.dash_stage.proofs.Controller.ControlKept.{by_kept}
 use Rattle.dash_stage.proofs.Moves.MovesKept.{advanced_moves}
 use Rattle.dash_stage.proofs.stage.Stage.advance.Goals as goal
@@ -67,3 +68,8 @@ returns-clause-moves g c ready may before =
     let by = c.advance.ensures.by c.share.new.self.time (omega (arith, now)) (by_later c.args.self.now.time c.share.new.self.time c.args.self.now.controller (omega (arith, now)) c.requires.by) in
     advanced_moves c.args.script.now c.args.self.now c.advance.new.self c.share.new.self c.requires.stage c.share.ensures.stage ready.step.same c.share.ensures.shared kept.threads kept.loopers kept.controller.posters ready.step
     c.args.time c.in_ok-moved.ensures.turns now by ready.rested ready.due _ c.in_ok-moved.ensures.come c.in_ok-moved.ensures.stuck c.requires.some may before
+
+pub returns-clause-asks : goal.returns-clause-asks
+returns-clause-asks g c ready =
+    let share = c.share.ensures in
+    asks_nothing c.args.script.now c.args.self.now c.share.new.self c.requires.stage share.stage share.heard (returns-clause-sound g c ready) share.kept.loopers share.kept.threads

@@ -4,11 +4,14 @@ use Rattle.dash_stage.specs.Timeliness.{Halts}
 use Rattle.dash_stage.proofs.Stages.StageTurns.{halted_stays, go_on_kept}
 use Rattle.dash_stage.proofs.Stages.StageQuits.{halts_move_not, halted_timely}
 use Rattle.dash_stage.proofs.Played.PlayedTurns.{turned_in_step}
+use Rattle.dash_stage.specs.declared.stage.Stage.{Stage}
 use Rattle.dash_stage.proofs.Moves.MovesKept.{moved_turned}
+use Rattle.dash_stage.proofs.Moves.StageMoves.{sound_by_turns}
+use Rattle.dash_stage.proofs.Played.InTurn.{asks_nothing, nothing_then}
 use Rattle.dash_stage.proofs.stage.Stage.end.Goals as goal
 
 pub loop-init : goal.loop-init
-loop-init g c = (c.quit_others.ensures.stage, c.quit_others.ensures.run, c.in_ok-quit_others.ensures.closing, c.in_ok-quit_others.ensures.timely, c.in_ok-quit_others.ensures.step, c.in_ok-quit_others.ensures.moves)
+loop-init g c = (c.quit_others.ensures.stage, c.quit_others.ensures.run, c.in_ok-quit_others.ensures.closing, c.in_ok-quit_others.ensures.timely, c.in_ok-quit_others.ensures.step, c.in_ok-quit_others.ensures.moves, c.in_ok-quit_others.ensures.asks)
 
 pub loop-preserved : goal.loop-preserved
 loop-preserved g c =
@@ -19,6 +22,7 @@ loop-preserved g c =
       λ rested past timely. c.in_ok-run_round.ensures.timely past (at.invariant.3 rested past timely),
       λ step. c.in_ok-run_round.ensures.step (at.invariant.4 step),
       λ same before. c.in_ok-run_round.ensures.moves (at.invariant.5 same before),
+      λ step past asked. c.in_ok-run_round.ensures.asks (at.invariant.4 step) past (at.invariant.6 step past asked),
     )
 
 pub returns-in_err-run_round-clause-run : goal.returns-in_err-run_round-clause-run
@@ -61,6 +65,18 @@ returns-then-halted-clause-step g c step =
     turned_in_step c.args.script.now c.run_rounds.new.self c.halt-halted.new.self c.share.new.self c.run_rounds.ensures.stage c.share.ensures.stage c.share.ensures.shared
     kept.threads kept.loopers kept.controller.posters (c.in_ok-run_rounds.ensures.step (c.loop-2.invariant.5 step)) (halts_move_not _ _ c.halt-halted.ensures.turns) kept.time
 
+pub returns-then-halted-clause-asks : goal.returns-then-halted-clause-asks
+returns-then-halted-clause-asks g c step past asked =
+    let s = c.args.script.now in
+    let st : Stage = c.run_rounds.new.self in
+    let st' : Stage = c.share.new.self in
+    let share = c.share.ensures in
+    let kept = share.kept in
+    let ran = c.in_ok-run_rounds.ensures in
+    nothing_then s st st' kept.time (asks_nothing s st st' c.run_rounds.ensures.stage share.stage share.heard
+    (sound_by_turns s st c.halt-halted.new.self st' c.run_rounds.ensures.stage share.stage ran.same share.shared kept.threads kept.loopers kept.controller.posters Halts c.halt-halted.ensures.turns) kept.loopers kept.threads)
+    past (ran.asks (c.loop-2.invariant.5 step) past (c.loop-2.invariant.7 step past asked))
+
 pub returns-then-halted-clause-moves : goal.returns-then-halted-clause-moves
 returns-then-halted-clause-moves g c same before =
     let kept = c.share.ensures.kept in
@@ -82,4 +98,7 @@ loop-2-preserved g c =
           kept.threads kept.loopers kept.controller.posters (c.in_ok-run_rounds.ensures.step (at.5 step)) (halts_move_not _ _ c.halt-halted.ensures.turns) kept.time,
       λ same before. moved_turned s c.run_rounds.new.self c.halt-halted.new.self c.share.new.self c.run_rounds.ensures.stage c.share.ensures.stage c.in_ok-run_rounds.ensures.same c.share.ensures.shared
           kept.threads kept.loopers kept.controller.posters (halts_move_not _ _ c.halt-halted.ensures.turns) (c.in_ok-run_rounds.ensures.moves (at.6 same before)),
+      λ step past asked. nothing_then s c.run_rounds.new.self c.share.new.self kept.time (asks_nothing s c.run_rounds.new.self c.share.new.self c.run_rounds.ensures.stage c.share.ensures.stage c.share.ensures.heard
+          (sound_by_turns s c.run_rounds.new.self c.halt-halted.new.self c.share.new.self c.run_rounds.ensures.stage c.share.ensures.stage c.in_ok-run_rounds.ensures.same c.share.ensures.shared
+          kept.threads kept.loopers kept.controller.posters Halts c.halt-halted.ensures.turns) kept.loopers kept.threads) past (c.in_ok-run_rounds.ensures.asks (at.5 step) past (at.7 step past asked)),
     )

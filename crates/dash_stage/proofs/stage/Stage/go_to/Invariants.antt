@@ -5,6 +5,7 @@ use Rattle.dash_stage.specs.Stages.{IsStage, HaveRun}
 use Rattle.dash_stage.specs.Timeliness.{AreSound, AreTimelyUpTo, AreBy, AreRested}
 use Rattle.dash_stage.specs.Moves.{AreMoved}
 use Rattle.dash_stage.specs.Playing.{IsInStep, LiesAhead}
+use Rattle.dash_stage.specs.Asking.{StaysInTurn, AsksBefore}
 use Rattle.dash_stage.proofs.stage.Stage.go_to.Given as goal
 
 abbrev pub invariant-loop : goal.invariant-loop
@@ -17,3 +18,5 @@ invariant-loop g l = IsStage l.script l.self
     × (IsInStep l.script l.initial.self → AreRested l.script l.initial.self → IsInStep l.script l.self × AreRested l.script l.self)
     × (IsInStep l.script l.initial.self → AreRested l.script l.initial.self → LiesAhead l.time l.initial.self → AreSound l.script l.self.controller → LiesAhead l.time l.self)
     × (IsInStep l.script l.initial.self → AreRested l.script l.initial.self → AreMoved l.script l.initial.self.controller → AreMoved l.script l.self.controller)
+    × (IsInStep l.script l.initial.self → AreRested l.script l.initial.self → StaysInTurn l.script l.initial.self l.self)
+    × (IsInStep l.script l.initial.self → AreRested l.script l.initial.self → LiesAhead l.time l.initial.self → AsksBefore l.script l.time l.initial.self l.self)

@@ -1,11 +1,15 @@
-use Rattle.std.proofs.Common.{◌≡◌, inl, ◌<◌, ◌≤◌, ◌+◌, ◌∙◌, ℕ, List, sym, subst, length, take, drop, arith}
+use Rattle.std.proofs.Common.{◌≡◌, inl, ◌<◌, ◌≤◌, ◌+◌, ◌∙◌, ◌∷◌, ◌++◌, [], ℕ, List, sym, subst, length, take, drop, arith}
 use Rattle.std.specs.Prelude.{slice_index_or}
 use Rattle.std.proofs.lemmas.List.{take_all}
 use Rattle.dash_script.specs.declared.script.Block.{Block}
 use Rattle.dash_stage.specs.declared.stage.Stage.{Stage}
 use Rattle.dash_stage.specs.Stages.{HaveRun}
 use Rattle.dash_stage.specs.Timeliness.{AreBy, AreTimelyUpTo}
+use Rattle.run_model.specs.FrameTurns.{in_block, in_round}
+use Rattle.dash_stage.specs.Asking.{AskInTurn, AskUpToNow}
+use Rattle.dash_stage.specs.Steps.{IsAtNext}
 use Rattle.dash_stage.specs.Playing.{LiesAhead}
+use Rattle.dash_stage.proofs.Played.InTurn.{turn_later, rounds_before, block_up_to_now}
 use Rattle.dash_stage.proofs.Moves.MovesDue.{block_is_planned, end_is_planned}
 use Rattle.dash_stage.proofs.Moves.MovesRecords.{moved_at_start}
 use Rattle.dash_stage.proofs.Played.PlayedTurns.{ahead_of_zero}
@@ -30,6 +34,8 @@ loop-block-init g c =
       begun.step,
       λ d some. ahead_of_zero _ c.args.self.now zero_time begun.unseen,
       moved_at_start c.args.script.now c.args.self.now.controller begun.unseen,
+      record { within = omega (arith, zero_time); turn = turn_later c.args.script.now [] 0 (in_round c.args.self.now.time) c.args.self.now (omega arith) begun.turn },
+      λ d some. turn_later c.args.script.now [] 0 (in_block (slice_index_or c.args.script.now.blocks 0 d).time) c.args.self.now (omega arith) begun.turn,
     )
 
 pub go_to-requires-clause-end : goal.go_to-requires-clause-end
@@ -79,13 +85,19 @@ loop-block-preserved g c =
     let run = c.go_to.ensures.run (take i bs) at.1 in
     let ahead = subst (λ (z : Block). LiesAhead z.time c.loop-block.self) (sym is) (at.9 b lt) in
     let begins = c.in_ok-go_to.ensures.at at.8 at.5 ahead in
-    let timely = c.in_ok-run_block.ensures.timely (take i bs) (drop (i + 1) bs) (record { next = next; moving = c.go_to.ensures.moving; run = run; at = begins; timely = c.in_ok-go_to.ensures.timely at.5 (take i bs) at.4 }) in
+    let at_next : IsAtNext s (take i bs) (drop (i + 1) bs) b gone = record { next = next; moving = c.go_to.ensures.moving; run = run; at = begins; timely = c.in_ok-go_to.ensures.timely at.5 (take i bs) at.4 } in
+    let timely = c.in_ok-run_block.ensures.timely (take i bs) (drop (i + 1) bs) at_next in
     let more = subst (λ (l : List Block). HaveRun s l blocked.threads.items) grown
     (run_one_more s (take i bs) (drop (i + 1) bs) b next gone.threads.items blocked.threads.items (λ k d within. (c.go_to.ensures.stage.threads.1 k d within).1)
     (c.run_block.ensures.stage.threads.0 ∙ sym c.go_to.ensures.stage.threads.0) c.in_ok-run_block.ensures.run run) in
     let none = none_after gone.controller blocked.controller after.controller c.run_block.ensures.none c.settle.ensures.none in
     let same_time : after.time ≡ gone.time = c.settle.ensures.time ∙ c.run_block.ensures.time in
-    let time : after.time ≡ b.time = same_time ∙ c.in_ok-go_to.ensures.time in (
+    let time : after.time ≡ b.time = same_time ∙ c.in_ok-go_to.ensures.time in
+    let in_turn = subst (λ (z : Block). AskInTurn s (take i bs) (in_block z.time) c.loop-block.self) (sym is) (at.12 b lt) in
+    let block_asked = c.in_ok-run_block.ensures.asks (take i bs) (drop (i + 1) bs) at_next (c.in_ok-go_to.ensures.asks_before at.8 at.5 ahead (take i bs) at.11 in_turn) in
+    let now = block_up_to_now s (take i bs ++ b ∷ []) b.time blocked (c.run_block.ensures.time ∙ c.in_ok-go_to.ensures.time) (before_end s i b c.requires.text lt is) block_asked in
+    let asked : AskUpToNow s (take (i + 1) bs) after = subst (λ (l : List Block). AskUpToNow s l after) grown
+    (c.in_ok-settle.ensures.asks (c.in_ok-run_block.ensures.step (c.in_ok-go_to.ensures.step at.8 at.5) begins) (take i bs ++ b ∷ []) now) in (
       c.settle.ensures.stage,
       c.settle.ensures.run (take (i + 1) bs) more,
       moving_kept s gone.controller after.controller none c.go_to.ensures.moving,
@@ -97,6 +109,8 @@ loop-block-preserved g c =
       c.in_ok-settle.ensures.step (c.in_ok-run_block.ensures.step (c.in_ok-go_to.ensures.step at.8 at.5) begins),
       λ d some. inl (subst (λ (t : ℕ). t < (slice_index_or bs (i + 1) d).time) (sym time) (before_next s i b d c.requires.text is some)),
       c.in_ok-settle.ensures.moves (c.in_ok-run_block.ensures.moves (c.in_ok-go_to.ensures.moves at.8 at.5 at.10)),
+      asked,
+      λ d some. rounds_before s (take (i + 1) bs) (slice_index_or bs (i + 1) d).time after (λ sound. let later = before_next s i b d c.requires.text is some in omega (arith, later, time)) asked,
     )
 
 pub end-requires-clause-moving : goal.end-requires-clause-moving
@@ -130,4 +144,6 @@ returns-clause-out g c =
       played = step.played;
       first = step.first;
       moves = done.moves settled.same (settled.moves (went.moves at.8 at.5 at.10));
+      turn = done.asks (settled.step (went.step at.8 at.5)) s.blocks (settled.asks (went.step at.8 at.5) s.blocks
+          (went.asks at.8 at.5 s.blocks (subst (λ (l : List Block). AskUpToNow s l c.loop-block.self) whole at.11)));
     }

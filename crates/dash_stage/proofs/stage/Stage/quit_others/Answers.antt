@@ -18,6 +18,8 @@ use Rattle.dash_stage.proofs.Stages.StageTurns.{AreKeptFrom, turns_none, turns_m
 use Rattle.dash_stage.proofs.Stages.StageQuits.{AreKeptWhereEnded, kept_where_ended, quit_timely}
 use Rattle.dash_stage.proofs.Played.PlayedTurns.{turned_in_step}
 use Rattle.dash_stage.proofs.Moves.MovesKept.{moved_turned}
+use Rattle.dash_stage.proofs.Moves.StageMoves.{sound_by_turns}
+use Rattle.dash_stage.proofs.Played.InTurn.{asks_nothing, nothing_then}
 use Rattle.dash_stage.proofs.stage.Stage.quit_others.Goals as goal
 use Rattle.dash_stage.proofs.stage.Stage.quit_others.Goals.{then-not-has_ended+in_ok-quit, else-not-has_ended}
 
@@ -96,3 +98,16 @@ returns-clause-moves g c same before =
     let threads = subst (λ (l : List PostingThread). AtEach (ThreadKeeps HaveHeard) l st'.threads.items) at.invariant.1 kept.threads in
     let loopers = subst (λ (l : List StageLooper). AtEach (LooperKeeps HaveHeard) l st'.loopers.items) at.invariant.2 kept.loopers in
     moved_turned c.args.script.now c.args.self.now at.self.controller st' c.requires.stage c.share.ensures.stage same c.share.ensures.shared threads loopers kept.controller.posters at.invariant.5 before
+
+pub returns-clause-asks : goal.returns-clause-asks
+returns-clause-asks g c step =
+    let s = c.args.script.now in
+    let at = c.loop-looper in
+    let st = c.args.self.now in
+    let st' = c.share.new.self in
+    let share = c.share.ensures in
+    let kept = share.kept in
+    let threads = subst (λ (l : List PostingThread). AtEach (ThreadKeeps HaveHeard) l st'.threads.items) at.invariant.1 kept.threads in
+    let loopers = subst (λ (l : List StageLooper). AtEach (LooperKeeps HaveHeard) l st'.loopers.items) at.invariant.2 kept.loopers in
+    nothing_then s st st' (kept.time ∙ at.invariant.7) (asks_nothing s st st' c.requires.stage share.stage share.heard
+    (sound_by_turns s st at.self.controller st' c.requires.stage share.stage step.same share.shared threads loopers kept.controller.posters MovesNot at.invariant.5) loopers threads)

@@ -8,7 +8,8 @@ use Rattle.dash_stage.proofs.Controller.ControlKept.{none_same}
 use Rattle.dash_stage.proofs.BlockTimes.Blocks.{run_one_more}
 use Rattle.dash_stage.proofs.Moves.MovesKept.{moved_heard}
 use Rattle.dash_stage.proofs.Stages.StageTurns.{block_timely, continues_kept}
-use Rattle.dash_stage.proofs.Played.PlayedTurns.{block_first, block_in_step}
+use Rattle.dash_stage.proofs.Played.PlayedTurns.{block_first, block_in_step, sound_heard}
+use Rattle.dash_stage.proofs.Played.InTurn.{asks_in_block}
 use Rattle.dash_stage.proofs.stage.Stage.run_block.Goals as goal
 
 pub returns-in_err-run_threads-clause-none : goal.returns-in_err-run_threads-clause-none
@@ -51,3 +52,19 @@ returns-clause-step g c step at =
 
 pub returns-clause-moves : goal.returns-clause-moves
 returns-clause-moves g c = moved_heard c.args.script.now c.args.self.now c.share.new.self c.requires.stage c.share.ensures.stage c.share.ensures.kept.controller.posters
+
+pub returns-clause-asks : goal.returns-clause-asks
+returns-clause-asks g c past rest was =
+    let s = c.args.script.now in
+    let b = c.args.block.now in
+    let st = c.args.self.now in
+    let st' = c.share.new.self in
+    let stage = c.requires.stage in
+    let share = c.share.ensures in
+    let ran : List PostingThread = c.run_threads.new.threads in
+    let many = c.run_threads.ensures.threads.0 ∙ sym stage.threads.0 in
+    let written = with_items_is st.threads ran (omega (arith, many, st.threads.ok.0)) in
+    let on = subst (λ (l : List PostingThread). RunOn s b l ran) c.as_mut_slice.ensures.value c.in_ok-run_threads.ensures.run in
+    let more = run_one_more s past rest b was.next st.threads.items ran (λ k d lt. (stage.threads.1 k d lt).1) many on was.run in
+    asks_in_block s st st' stage share.stage share.heard (sound_heard s st.controller st'.controller share.kept.controller.posters) share.kept.loopers past b was.run
+    (share.run (past ++ b ∷ []) (subst (HaveRun s (past ++ b ∷ [])) (sym written) more))

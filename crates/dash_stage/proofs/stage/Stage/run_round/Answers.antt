@@ -4,7 +4,8 @@ use Rattle.dash_loopers.specs.declared.looper.StageLooper.{StageLooper}
 use Rattle.dash_hall.specs.Hearing.{AtEach, HaveHeard}
 use Rattle.dash_loopers.specs.Loopers.{LooperKeeps, HasRun, ComesToWait}
 use Rattle.dash_stage.specs.Playing.{PlaysOn}
-use Rattle.dash_stage.proofs.Played.PlayedRounds.{round_in_step}
+use Rattle.dash_stage.proofs.Played.PlayedRounds.{round_in_step, round_asks}
+use Rattle.dash_stage.proofs.Played.InTurnRounds.{asks_in_rounds}
 use Rattle.dash_stage.proofs.Played.PlayedTurns.{sound_heard}
 use Rattle.dash_stage.proofs.Moves.MovesKept.{moved_heard}
 use Rattle.dash_stage.proofs.Stages.StageWhole.{threads_heard, kept_timely}
@@ -54,6 +55,24 @@ returns-clause-step g c step =
     c.share.ensures.kept.loopers in
     round_in_step s c.requires.text c.args.self.now ran c.share.new.self c.requires.stage c.share.ensures.stage c.share.ensures.shared c.share.ensures.kept.time c.run_loopers.ensures.loopers c.in_ok-run_loopers.ensures.on plays
     c.share.ensures.kept.threads kept c.share.ensures.kept.controller.posters step
+
+pub returns-clause-asks : goal.returns-clause-asks
+returns-clause-asks g c step =
+    let s = c.args.script.now in
+    let st = c.args.self.now in
+    let st' = c.share.new.self in
+    let stage = c.requires.stage in
+    let stage' = c.share.ensures.stage in
+    let share = c.share.ensures in
+    let ran = c.run_loopers.new.loopers in
+    let plays =
+    subst (λ (xs : List StageLooper). (k : ℕ) (d : StageLooper) → k < length xs → PlaysOn s st.time (slice_index_or xs k d) (slice_index_or ran k d)) c.as_mut_slice.ensures.value c.run_loopers.ensures.plays in
+    let long = c.run_loopers.ensures.loopers.0 in
+    let many = stage.loopers.0 in
+    let kept =
+    subst (λ (xs : List StageLooper). AtEach (LooperKeeps HaveHeard) xs st'.loopers.items) (with_items_is st.loopers ran (omega (arith, long, many, st.loopers.ok.0))) share.kept.loopers in
+    asks_in_rounds s c.requires.text st st' stage stage' share.kept.time share.heard (sound_heard s st.controller st'.controller share.kept.controller.posters) share.kept.threads share.kept.controller.frames
+    (round_asks s c.requires.text st ran st' stage stage' share.shared share.kept.time c.run_loopers.ensures.loopers c.in_ok-run_loopers.ensures.on plays share.kept.threads kept share.kept.controller.posters step)
 
 pub returns-clause-moves : goal.returns-clause-moves
 returns-clause-moves g c = moved_heard c.args.script.now c.args.self.now c.share.new.self c.requires.stage c.share.ensures.stage c.share.ensures.kept.controller.posters

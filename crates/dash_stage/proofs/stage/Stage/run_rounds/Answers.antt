@@ -18,6 +18,7 @@ loop-init g c = (
   λ sound. sound,
   λ before. before,
   awaited_self c.args.turn c.args.self.now.loopers.items,
+  λ step past asked. asked,
 )
 
 pub loop-preserved : goal.loop-preserved
@@ -35,6 +36,7 @@ loop-preserved g c =
       λ sound. at.invariant.8 (done.sound sound),
       λ before. done.moves (at.invariant.9 before),
       awaited_then c.args.turn _ _ _ (at.invariant.0.loopers.0 ∙ sym c.requires.stage.loopers.0) at.invariant.10 done.others,
+      λ step past asked. done.asks (at.invariant.7 step) past (at.invariant.11 step past asked),
     )
 
 pub returns-in_err-run_round-clause-run : goal.returns-in_err-run_round-clause-run
@@ -67,6 +69,9 @@ returns-then-entries_seen-before-clause-sound g c sound = c.loop.invariant.8 (c.
 
 pub returns-then-entries_seen-before-clause-moves : goal.returns-then-entries_seen-before-clause-moves
 returns-then-entries_seen-before-clause-moves g c before = c.in_ok-run_round.ensures.moves (c.loop.invariant.9 before)
+
+pub returns-then-entries_seen-before-clause-asks : goal.returns-then-entries_seen-before-clause-asks
+returns-then-entries_seen-before-clause-asks g c step past asked = c.in_ok-run_round.ensures.asks (c.loop.invariant.7 step) past (c.loop.invariant.11 step past asked)
 
 pub returns-then-entries_seen-before-clause-others : goal.returns-then-entries_seen-before-clause-others
 returns-then-entries_seen-before-clause-others g c =

@@ -3,6 +3,8 @@ use Rattle.dash_stage.specs.Controllers.{CallsNone}
 use Rattle.dash_stage.specs.Stages.{IsStage, OthersHaveEnded}
 use Rattle.dash_stage.specs.Sharing.{HaveSeenTheSame}
 use Rattle.dash_stage.specs.Turns.{AwaitTheirTurn}
+use Rattle.dash_stage.specs.Asking.{StaysInTurn}
+use Rattle.dash_stage.specs.Playing.{IsInStep}
 use Rattle.dash_stage.specs.Steps.{StayRun, StaysTimely, StaysInStep, StayMoved, WereSound}
 use Rattle.dash_stage.proofs.stage.Stage.run_rounds.Given as goal
 
@@ -18,3 +20,4 @@ invariant-loop g l = IsStage l.script l.self
     × WereSound l.script l.initial.self l.self
     × StayMoved l.script l.initial.self l.self
     × AwaitTheirTurn l.turn l.initial.self.loopers.items l.self.loopers.items
+    × (IsInStep l.script l.initial.self → StaysInTurn l.script l.initial.self l.self)

@@ -20,3 +20,9 @@ returns-in_ok-run_rounds-2-clause-sound g c sound =
 pub returns-in_ok-run_rounds-2-clause-moves : goal.returns-in_ok-run_rounds-2-clause-moves
 returns-in_ok-run_rounds-2-clause-moves g c was =
     c.in_ok-run_rounds-2.ensures.moves (c.in_ok-hand_out.ensures.moves c.in_ok-run_rounds.ensures.same (c.in_ok-run_rounds.ensures.moves was))
+
+pub returns-in_ok-run_rounds-2-clause-asks : goal.returns-in_ok-run_rounds-2-clause-asks
+returns-in_ok-run_rounds-2-clause-asks g c step past asked =
+    let first = c.in_ok-run_rounds.ensures in
+    let handed = c.in_ok-hand_out.ensures in
+    c.in_ok-run_rounds-2.ensures.asks (handed.step (first.step step)) past (handed.asks (first.step step) past (first.asks step past asked))

@@ -6,6 +6,7 @@ use Rattle.dash_hall.specs.Hearing.{HaveHeardAt, AtEach, AreReady}
 use Rattle.dash_stage.specs.Sharing.{AreWithin, OfThreads, OfLoopers}
 use Rattle.dash_threads.specs.Threads.{ThreadKeeps}
 use Rattle.dash_loopers.specs.Loopers.{LooperKeeps}
+use Rattle.dash_hall.proofs.PassesHearing.{passes_heard_self}
 use Rattle.dash_stage.proofs.Controller.Controlling.{in_queues, in_posters}
 use Rattle.dash_hall.proofs.Hearing.{ready_is, heard_at}
 use Rattle.dash_stage.proofs.Sharing.StageShares.{threads_ready, loopers_ready, controller_ready, are_within}
@@ -56,7 +57,7 @@ returns c =
           controller = record {
             posters = heard_at st.controller.kit.posters.items c.args.place c.index_mut.result.now c.share_by.new.poster whole near c.index_mut.ensures.value c.share_by.ensures.poster refl;
             pass = refl;
-            frames = refl;
+            frames = passes_heard_self st.controller.kit.frames.items;
             sealed = refl;
             sealed_frames = refl;
           };

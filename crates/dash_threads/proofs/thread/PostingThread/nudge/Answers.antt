@@ -5,6 +5,7 @@ use Rattle.dash_hall.proofs.Badges.{posters_kept}
 use Rattle.dash_threads.specs.Threads.{known_of}
 use Rattle.dash_hall.specs.Kits.{badge_for}
 use Rattle.dash_hall.proofs.Badges.{alike_length}
+use Rattle.dash_hall.proofs.PassesHearing.{passes_heard_self}
 use Rattle.dash_threads.proofs.ThreadBells.{ring_set, ring_none}
 use Rattle.dash_threads.proofs.ThreadPlaces.{its_poster}
 use Rattle.dash_threads.proofs.thread.PostingThread.nudge.Goals as goal
@@ -36,7 +37,7 @@ returns-clause-kept g c =
       posters = map-set_same known_of t.kit.posters.items c.args.looper c.nudge.new.self c.index_mut.result.now
           ((λ i. (record { table = same.table i; constants = same.constants i; sender = same.sender i }, c.nudge.ensures.same.1 i)) ∙ ap known_of c.index_mut.ensures.value);
       pass = refl;
-      frames = refl;
+      frames = passes_heard_self t.kit.frames.items;
       barriers = refl;
       passed = refl;
       gave_up = refl;
