@@ -47,7 +47,7 @@ below_taken limit n m e =
     ]
 
 -- a word that is a number is below 2 to the 64
-number_small : (w : List ℕ) (n : ℕ) → number_of w ≡ Some n → n < 2 ^ 64
+pub number_small : (w : List ℕ) (n : ℕ) → number_of w ≡ Some n → n < 2 ^ 64
 unfolding number_of
 number_small w n e =
     let p = cond_some (is_numeral w && ltb (digits_value 10 w) (2 ^ 64)) (digits_value 10 w) n e in
@@ -168,13 +168,16 @@ word_then spell Within by taken P ws f y e go =
 abbrev pub RowTakes : {A : Type 0} → (A → Rest) → (A → Type 0) → List ℕ × (Rest → Option (A × Rest)) → Type 0
 RowTakes {A} spell Within row = (rest : Rest) (y : A × Rest) → row.1 rest ≡ Some y → Within y.0 × (row.0 ∷ rest ≡ spell y.0 ++ y.1)
 
+-- what holds of each row holds of what the table gives
+pub rows_hold : {C : Type 0} (P : List ℕ → Rest → C → Type 0) (rows : List (List ℕ × (Rest → Option C))) → AllByRecursion (λ row. (rest : Rest) (y : C) → row.1 rest ≡ Some y → P row.0 rest y) rows
+    → (w : List ℕ) (rest : Rest) (y : C) → by_word rows w rest ≡ Some y → P w rest y
+rows_hold P [] all w rest y e = absurd (none-some y e)
+rows_hold P (row ∷ rows) all w rest y e =
+    elim (cases_Bool (bytes_eq w row.0)) [
+      | inl same ↦ subst (λ v. P v rest y) (sym ((bytes_eq-Decides w row.0).0 same)) (all.0 rest y (rw same at e))
+      | inr other ↦ rows_hold P rows all.1 w rest y (rw other at e)
+    ]
+
 pub rows_taken : {A : Type 0} (spell : A → Rest) (Within : A → Type 0) (rows : List (List ℕ × (Rest → Option (A × Rest)))) → AllByRecursion (RowTakes spell Within) rows
     → (w : List ℕ) (rest : Rest) (y : A × Rest) → by_word rows w rest ≡ Some y → Within y.0 × (w ∷ rest ≡ spell y.0 ++ y.1)
-rows_taken spell Within [] all w rest y e = absurd (none-some y e)
-rows_taken spell Within (row ∷ rows) all w rest y e =
-    elim (cases_Bool (bytes_eq w row.0)) [
-      | inl same ↦
-          let t = all.0 rest y (rw same at e) in
-          (t.0, ap (λ v. v ∷ rest) ((bytes_eq-Decides w row.0).0 same) ∙ t.1)
-      | inr other ↦ rows_taken spell Within rows all.1 w rest y (rw other at e)
-    ]
+rows_taken spell Within = rows_hold (λ w rest y. Within y.0 × (w ∷ rest ≡ spell y.0 ++ y.1))

@@ -1,15 +1,14 @@
 -- The words of a line are read as the line, and each of them is a word.
-use Rattle.std.proofs.Common.{◌≡◌, ◌<◌, ◌+◌, ◌^◌, ℕ, List, [], ◌∷◌, ◌++◌, Option, Some, refl, sym, ap, subst, ◌∙◌, inl, inr, arith}
+use Rattle.std.proofs.Common.{◌≡◌, ◌<◌, ◌+◌, ◌^◌, ℕ, [], ◌∷◌, ◌++◌, Some, refl, sym, ap, subst, ◌∙◌, inl, inr, arith}
 use Rattle.std.specs.Prelude.{codes, ◌⊎◌}
 use Rattle.std.specs.Fmt.{decimal}
 use Rattle.std.proofs.lemmas.Bool.{lt-ltb, eq-eqb}
 use Rattle.std.proofs.lemmas.List.{append-nil}
-use Rattle.line_words.specs.Words.{number_of, IsLong}
-use Rattle.line_words.specs.Taking as taking
-use Rattle.line_words.specs.Taking.{Rest, and_then, whole}
+use Rattle.line_words.specs.Words.{number_of, IsShort, IsLong}
+use Rattle.line_words.specs.Taking.{Rest}
 use Rattle.line_words.proofs.Spelling.{number_again}
 use Rattle.line_words.proofs.Wording.{AreWords, words_append, long_short, decimal_word}
-use Rattle.line_words.proofs.Again.{Fixed, then_again, fixed_again, long_again, short_again, counted_again}
+use Rattle.line_words.proofs.Again.{then_again, long_again, short_again, counted_again}
 use Rattle.run_picture.specs.declared.report.Subject.{Subject}
 use Rattle.run_picture.specs.declared.report.Subject.TheVariants.{What, Callback}
 use Rattle.run_picture.specs.declared.report.Past.{Past as PastData}
@@ -22,12 +21,7 @@ use Rattle.run_picture.specs.declared.line.Line.{Line}
 use Rattle.run_picture.specs.declared.line.Line.TheVariants.{Title, Looper, Past, Fates, Act, Frame, Run, End}
 use Rattle.run_picture.specs.Reading as reading
 use Rattle.run_picture.specs.Lines as lines
-use Rattle.run_picture.specs.Lines.{either, adds_up}
 use Rattle.run_picture.specs.Text.{FitsSubject, FitsPast, FitsFates, FitsAct, Fits, line_words, past_words, act_words, subject_words, fates_words}
-
--- the first of two forms is the line's
-first_of : (o b : Option Line) (y : Line) → o ≡ Some y → either o b ≡ Some y
-first_of o b y e = ap (λ x. either x b) e
 
 subject_again : (s : Subject) (rest : Rest) → FitsSubject s → reading.subject (subject_words s ++ rest) ≡ Some (s, rest)
 unfolding reading.subject number_of
@@ -37,77 +31,71 @@ subject_again (Callback c) rest fit = then_again _ _ _ _ (Callback c, rest) (lon
 
 -- ---- lines
 
-dispatch_again : (now number handler : ℕ) (s : Subject) → FitsPast (past_of.Dispatch now number handler s) → lines.dispatch (past_words (past_of.Dispatch now number handler s)) ≡ Some (Past (past_of.Dispatch now number handler s))
+dispatch_again : (now number handler : ℕ) (s : Subject) → FitsPast (past_of.Dispatch now number handler s)
+    → lines.dispatch now (codes "dispatch" ∷ decimal number ∷ decimal handler ∷ subject_words s) ≡ Some (Past (past_of.Dispatch now number handler s))
 unfolding lines.dispatch
 dispatch_again now number handler s fit =
     let y = Past (past_of.Dispatch now number handler s) in
     let last : reading.subject (subject_words s) ≡ Some (s, []) = ap reading.subject (sym (append-nil (subject_words s))) ∙ subject_again s [] fit.3 in
-    then_again _ _ _ _ y (long_again now _ fit.0) (then_again _ _ _ _ y (counted_again (codes "dispatch") number _ refl fit.1) (then_again _ _ _ _ y (short_again handler _ fit.2) (then_again _ _ _ _ y last refl)))
+    then_again _ _ _ _ y (counted_again (codes "dispatch") number _ refl fit.1) (then_again _ _ _ _ y (short_again handler _ fit.2) (then_again _ _ _ _ y last refl))
 
-refused_again : (handler : ℕ) (s : Subject) (place : ℕ) → FitsPast (past_of.Refused handler s place) → lines.refused (past_words (past_of.Refused handler s place)) ≡ Some (Past (past_of.Refused handler s place))
+refused_again : (handler : ℕ) (s : Subject) (place : ℕ) → FitsPast (past_of.Refused handler s place)
+    → lines.refused (decimal handler ∷ subject_words s ++ codes "quit" ∷ decimal place ∷ []) ≡ Some (Past (past_of.Refused handler s place))
 unfolding lines.refused
 refused_again handler s place fit =
     let y = Past (past_of.Refused handler s place) in
-    then_again _ _ _ _ y (fixed_again (codes "refused") _ refl) (then_again _ _ _ _ y (short_again handler _ fit.0) (then_again _ _ _ _ y (subject_again s _ fit.1) (then_again _ _ _ _ y (counted_again (codes "quit") place _ refl fit.2) refl)))
+    then_again _ _ _ _ y (short_again handler _ fit.0) (then_again _ _ _ _ y (subject_again s _ fit.1) (then_again _ _ _ _ y (counted_again (codes "quit") place _ refl fit.2) refl))
 
--- a line of one name and one number
-one_again : (w : List ℕ) (n : ℕ) (make : ℕ → Line) → Fixed w → IsLong n → and_then (taking.counted w (w ∷ decimal n ∷ [])) (λ m more. whole (make m) more) ≡ Some (make n)
-one_again w n make same fit = then_again _ _ _ _ (make n) (counted_again w n [] same fit) refl
+-- a line of one number, and one of two
+one_again : (n : ℕ) (make : ℕ → Line) → IsLong n → lines.one_long make (decimal n ∷ []) ≡ Some (make n)
+one_again n make fit = then_again _ _ _ _ (make n) (long_again n [] fit) refl
 
-past_again : (p : PastData) → FitsPast p → lines.past (past_words p) ≡ Some (Past p)
-unfolding lines.past lines.dispatch lines.refused lines.not_posted lines.not_allowed lines.already_quit taking.long taking.fixed taking.counted number_of
-past_again (past_of.Dispatch now number handler s) fit = first_of _ _ _ (dispatch_again now number handler s fit)
-past_again (past_of.Refused handler s place) fit = first_of _ _ _ (refused_again handler s place fit)
-past_again (past_of.NotPosted token) fit = first_of _ _ _ (one_again (codes "not-posted") token (λ n. Past (past_of.NotPosted n)) refl fit)
+two_again : (a b : ℕ) (make : ℕ → ℕ → Line) → IsShort a → IsShort b → lines.two_short make (decimal a ∷ decimal b ∷ []) ≡ Some (make a b)
+two_again a b make f g = then_again _ _ _ _ (make a b) (short_again a _ f) (then_again _ _ _ _ (make a b) (short_again b [] g) refl)
+
+past_again : (p : PastData) → FitsPast p → lines.line_of (past_words p) ≡ Some (Past p)
+unfolding lines.line_of number_of
+past_again (past_of.Dispatch now number handler s) fit =
+    let rest = codes "dispatch" ∷ decimal number ∷ decimal handler ∷ subject_words s in
+    ap (λ o. lines.line_by (decimal now) o rest) (number_again now fit.0) ∙ dispatch_again now number handler s fit
+past_again (past_of.Refused handler s place) fit = refused_again handler s place fit
+past_again (past_of.NotPosted token) fit = one_again token (λ n. Past (past_of.NotPosted n)) fit
 past_again past_of.NotAllowed fit = refl
-past_again (past_of.AlreadyQuit place) fit = one_again (codes "already-quit") place (λ n. Past (past_of.AlreadyQuit n)) refl fit
+past_again (past_of.AlreadyQuit place) fit = one_again place (λ n. Past (past_of.AlreadyQuit n)) fit
 
-fates_again : (f : FatesData) → FitsFates f → lines.fates (fates_words f) ≡ Some (Fates f)
-unfolding lines.fates lines.fates_of
+fates_again : (f : FatesData) → FitsFates f → lines.line_of (fates_words f) ≡ Some (Fates f)
+unfolding lines.line_of lines.fates lines.fates_of number_of
 fates_again f fit =
     let y : FatesData × Rest = (f, []) in
-    let whole_again : lines.fates_of (fates_words f) ≡ Some (f, []) =
-    then_again _ _ _ _ y (fixed_again (codes "fates") _ refl) (then_again _ _ _ _ y (counted_again (codes "accepted") f.accepted _ refl fit.0) (then_again _ _ _ _ y (counted_again (codes "dispatched") f.dispatched _ refl fit.1)
+    then_again _ _ _ _ (Fates f) (then_again _ _ _ _ y (counted_again (codes "accepted") f.accepted _ refl fit.0) (then_again _ _ _ _ y (counted_again (codes "dispatched") f.dispatched _ refl fit.1)
     (then_again _ _ _ _ y (counted_again (codes "removed") f.removed _ refl fit.2) (then_again _ _ _ _ y (counted_again (codes "dropped") f.dropped _ refl fit.3) (then_again _ _ _ _ y (counted_again (codes "stranded") f.stranded _ refl fit.4)
-    (then_again _ _ _ _ y (counted_again (codes "queued") f.queued _ refl fit.5) refl)))))) in
-    then_again _ _ _ _ (Fates f) whole_again (rw (eq-eqb f.accepted (f.dispatched + f.removed + f.dropped + f.stranded + f.queued) fit.6) refl)
+    (then_again _ _ _ _ y (counted_again (codes "queued") f.queued _ refl fit.5) refl)))))) (rw (eq-eqb f.accepted (f.dispatched + f.removed + f.dropped + f.stranded + f.queued) fit.6) refl)
 
-act_again : (a : ActData) → FitsAct a → lines.act (act_words a) ≡ Some (Act a)
-unfolding lines.act lines.idle lines.event lines.paint taking.fixed
-act_again (act_of.Idle id) fit = first_of _ _ _ (then_again _ _ _ _ (Act (act_of.Idle id)) (short_again id [] fit) refl)
-act_again (act_of.Event fd events) fit =
-    let y = Act (act_of.Event fd events) in
-    first_of _ _ _ (then_again _ _ _ _ y (short_again fd _ fit.0) (then_again _ _ _ _ y (short_again events [] fit.1) refl))
-act_again (act_of.Paint gauge value) fit =
-    let y = Act (act_of.Paint gauge value) in
-    then_again _ _ _ _ y (short_again gauge _ fit.0) (then_again _ _ _ _ y (short_again value [] fit.1) refl)
+act_again : (a : ActData) → FitsAct a → lines.line_of (act_words a) ≡ Some (Act a)
+unfolding lines.line_of number_of
+act_again (act_of.Idle id) fit = then_again _ _ _ _ (Act (act_of.Idle id)) (short_again id [] fit) refl
+act_again (act_of.Event fd events) fit = two_again fd events (λ a b. Act (act_of.Event a b)) fit.0 fit.1
+act_again (act_of.Paint gauge value) fit = two_again gauge value (λ a b. Act (act_of.Paint a b)) fit.0 fit.1
 
-title_again : (edition : ℕ) → Fits (Title edition) → lines.title (codes "report" ∷ decimal edition ∷ []) ≡ Some (Title edition)
-unfolding lines.title taking.fixed
+title_again : (edition : ℕ) → Fits (Title edition) → lines.title (decimal edition ∷ []) ≡ Some (Title edition)
+unfolding lines.title
 title_again edition (inl one) =
     then_again _ _ _ _ (Title edition) (short_again edition [] (omega (arith, one))) (rw (eq-eqb edition 1 one) refl)
-title_again edition (inr two) = subst (λ n. lines.title (codes "report" ∷ decimal n ∷ []) ≡ Some (Title n)) (sym two) (then_again _ _ _ _ (Title 2) (short_again 2 [] (omega arith)) refl)
+title_again edition (inr two) = subst (λ n. lines.title (decimal n ∷ []) ≡ Some (Title n)) (sym two) (then_again _ _ _ _ (Title 2) (short_again 2 [] (omega arith)) refl)
 
-run_again : (r : RunData) → Fits (Run r) → lines.run (line_words (Run r)) ≡ Some (Run r)
-unfolding lines.run taking.fixed
+run_again : (r : RunData) → Fits (Run r) → lines.line_of (line_words (Run r)) ≡ Some (Run r)
+unfolding lines.line_of number_of
 run_again r fit = then_again _ _ _ _ (Run r) (short_again r.phase _ fit.0) (then_again _ _ _ _ (Run r) (long_again r.id [] fit.1) refl)
 
--- a line of a journal is read as one
-act_line : (a : ActData) → FitsAct a → lines.line_of (act_words a) ≡ Some (Act a)
-unfolding lines.line_of lines.past lines.dispatch lines.refused lines.not_posted lines.not_allowed lines.already_quit lines.frame lines.run taking.long taking.fixed taking.counted number_of
-act_line (act_of.Idle id) fit = first_of _ _ _ (act_again (act_of.Idle id) fit)
-act_line (act_of.Event fd events) fit = first_of _ _ _ (act_again (act_of.Event fd events) fit)
-act_line (act_of.Paint gauge value) fit = first_of _ _ _ (act_again (act_of.Paint gauge value) fit)
-
 pub line_again : (l : Line) → Fits l → lines.line_of (line_words l) ≡ Some l
-unfolding lines.line_of lines.past lines.act lines.other lines.dispatch lines.refused lines.not_posted lines.not_allowed lines.already_quit lines.idle lines.event lines.paint lines.frame lines.run lines.looper lines.fates lines.fates_of lines.title lines.end taking.long taking.fixed taking.counted number_of
-line_again (Title edition) fit = first_of _ _ _ (title_again edition fit)
-line_again (Looper n) fit = first_of _ _ _ (one_again (codes "looper") n Looper refl fit)
-line_again (Past p) fit = first_of _ _ _ (past_again p fit)
-line_again (Fates f) fit = first_of _ _ _ (fates_again f fit)
-line_again (Act a) fit = act_line a fit
-line_again (Frame t) fit = first_of _ _ _ (first_of _ _ _ (one_again (codes "frame") t Frame refl fit))
-line_again (Run r) fit = first_of _ _ _ (run_again r fit)
+unfolding lines.line_of number_of
+line_again (Title edition) fit = title_again edition fit
+line_again (Looper n) fit = one_again n Looper fit
+line_again (Past p) fit = past_again p fit
+line_again (Fates f) fit = fates_again f fit
+line_again (Act a) fit = act_again a fit
+line_again (Frame t) fit = one_again t Frame fit
+line_again (Run r) fit = run_again r fit
 line_again End fit = refl
 
 -- ---- each word of a line is a word

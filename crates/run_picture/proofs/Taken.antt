@@ -8,11 +8,11 @@ use Rattle.std.proofs.lemmas.Bool.{cases_Bool, eqb-true}
 use Rattle.std.proofs.lemmas.Option.{same_Some, none-some}
 use Rattle.std.proofs.lemmas.List.{append-nil}
 use Rattle.std.proofs.lemmas.Slice.Eq.{bytes_eq-Decides}
-use Rattle.line_words.specs.Words.{number_of, IsLong}
+use Rattle.line_words.specs.Words.{number_of, IsShort, IsLong}
 use Rattle.line_words.specs.Taking as taking
-use Rattle.line_words.specs.Taking.{Rest, and_then, below, whole}
+use Rattle.line_words.specs.Taking.{Rest, and_then, below, by_word, whole}
 use Rattle.line_words.proofs.Spelling.{number_taken}
-use Rattle.line_words.proofs.Taken.{parted, read_parted, word_parted, below_taken, fixed_taken, long_taken, short_taken, counted_taken}
+use Rattle.line_words.proofs.Taken.{parted, read_parted, word_parted, below_taken, number_small, rows_hold, long_taken, short_taken, counted_taken}
 use Rattle.run_picture.specs.declared.report.Subject.{Subject}
 use Rattle.run_picture.specs.declared.report.Subject.TheVariants.{What, Callback}
 use Rattle.run_picture.specs.declared.report.Past.TheVariants as past_of
@@ -23,7 +23,7 @@ use Rattle.run_picture.specs.declared.line.Line.{Line}
 use Rattle.run_picture.specs.declared.line.Line.TheVariants.{Title, Looper, Past, Fates, Act, Frame, Run, End}
 use Rattle.run_picture.specs.Reading as reading
 use Rattle.run_picture.specs.Lines as lines
-use Rattle.run_picture.specs.Lines.{either, adds_up}
+use Rattle.run_picture.specs.Lines.{adds_up}
 use Rattle.run_picture.specs.Text.{FitsSubject, Fits, line_words, subject_words, fates_words}
 
 -- ---- messages
@@ -81,194 +81,155 @@ whole_taken : (ws : Rest) (made : Line) (rest : Rest) (l : Line) → whole made 
 whole_taken ws made [] l e fit words = subst (LineTaken ws) (same_Some made l e) (fit, words ∙ append-nil (line_words made))
 whole_taken ws made (w ∷ rest) l e fit words = absurd (none-some l e)
 
-abbrev Takes : (Rest → Option Line) → Type 0
-Takes by = (ws : Rest) (l : Line) → by ws ≡ Some l → LineTaken ws l
+-- what stands behind this word is that of a line of both
+abbrev Takes : List ℕ → (Rest → Option Line) → Type 0
+Takes w by = (rest : Rest) (l : Line) → by rest ≡ Some l → LineTaken (w ∷ rest) l
 
-edition_taken : (ws : Rest) (n : ℕ) (rest : Rest) (l : Line) → cond (eqb n 1) (whole (Title n) rest) (cond (eqb n 2) (whole (Title n) rest) None) ≡ Some l → ws ≡ codes "report" ∷ decimal n ∷ rest → LineTaken ws l
-edition_taken ws n rest l e words =
+alone_taken : (w : List ℕ) (made : Line) → line_words made ≡ w ∷ [] → Fits made → Takes w (whole made)
+alone_taken w made spelled fit rest l e = whole_taken (w ∷ rest) made rest l e fit (ap (λ ws. ws ++ rest) (sym spelled))
+
+one_taken : (w : List ℕ) (make : ℕ → Line) → ((n : ℕ) → line_words (make n) ≡ w ∷ decimal n ∷ []) → ((n : ℕ) → IsLong n → Fits (make n)) → Takes w (lines.one_long make)
+one_taken w make spelled fit rest l e =
+    let p = parted (taking.long rest) _ l e in
+    let t = long_taken rest p.0 p.1 in
+    whole_taken (w ∷ rest) (make p.0.0) p.0.1 l p.2 (fit p.0.0 t.0) (ap (λ r. w ∷ r) t.1 ∙ ap (λ ws. ws ++ p.0.1) (sym (spelled p.0.0)))
+
+two_taken : (w : List ℕ) (make : ℕ → ℕ → Line) → ((a b : ℕ) → line_words (make a b) ≡ w ∷ decimal a ∷ decimal b ∷ []) → ((a b : ℕ) → IsShort a → IsShort b → Fits (make a b)) → Takes w (lines.two_short make)
+two_taken w make spelled fit rest l e =
+    let p0 = parted (taking.short rest) _ l e in
+    let p1 = parted (taking.short p0.0.1) _ l p0.2 in
+    let t0 = short_taken rest p0.0 p0.1 in
+    let t1 = short_taken p0.0.1 p1.0 p1.1 in
+    whole_taken (w ∷ rest) (make p0.0.0 p1.0.0) p1.0.1 l p1.2 (fit p0.0.0 p1.0.0 t0.0 t1.0)
+    (ap (λ r. w ∷ r) (t0.1 ∙ ap (λ r. decimal p0.0.0 ∷ r) t1.1) ∙ ap (λ ws. ws ++ p1.0.1) (sym (spelled p0.0.0 p1.0.0)))
+
+edition_taken : (rest : Rest) (n : ℕ) (more : Rest) (l : Line) → cond (eqb n 1) (whole (Title n) more) (cond (eqb n 2) (whole (Title n) more) None) ≡ Some l → rest ≡ decimal n ∷ more → LineTaken (codes "report" ∷ rest) l
+edition_taken rest n more l e words =
     elim (cases_Bool (eqb n 1)) [
-      | inl one ↦ whole_taken ws (Title n) rest l (rw one at e) (inl (eqb-true n 1 one)) words
-      | inr more ↦
-          let later : cond (eqb n 2) (whole (Title n) rest) None ≡ Some l = rw more at e in
+      | inl one ↦ whole_taken (codes "report" ∷ rest) (Title n) more l (rw one at e) (inl (eqb-true n 1 one)) (ap (λ r. codes "report" ∷ r) words)
+      | inr other ↦
+          let later : cond (eqb n 2) (whole (Title n) more) None ≡ Some l = rw other at e in
           elim (cases_Bool (eqb n 2)) [
-            | inl two ↦ whole_taken ws (Title n) rest l (rw two at later) (inr (eqb-true n 2 two)) words
-            | inr other ↦ absurd (none-some l (rw other at later))
+            | inl two ↦ whole_taken (codes "report" ∷ rest) (Title n) more l (rw two at later) (inr (eqb-true n 2 two)) (ap (λ r. codes "report" ∷ r) words)
+            | inr none ↦ absurd (none-some l (rw none at later))
           ]
     ]
 
-title_taken : Takes lines.title
+title_taken : Takes (codes "report") lines.title
 unfolding lines.title
-title_taken ws l e =
-    let p0 = parted (taking.fixed (codes "report") ws) _ l e in
-    let p1 = parted (taking.short p0.0.1) _ l p0.2 in
-    edition_taken ws p1.0.0 p1.0.1 l p1.2 (fixed_taken (codes "report") ws p0.0 p0.1 ∙ ap (λ r. codes "report" ∷ r) (short_taken p0.0.1 p1.0 p1.1).1)
+title_taken rest l e =
+    let p = parted (taking.short rest) _ l e in
+    edition_taken rest p.0.0 p.0.1 l p.2 (short_taken rest p.0 p.1).1
 
-looper_taken : Takes lines.looper
-unfolding lines.looper
-looper_taken ws l e =
-    let p = parted (taking.counted (codes "looper") ws) _ l e in
-    let t = counted_taken (codes "looper") ws p.0 p.1 in
-    whole_taken ws (Looper p.0.0) p.0.1 l p.2 t.0 t.1
-
-dispatch_taken : Takes lines.dispatch
+dispatch_taken : (now : ℕ) → IsLong now → (rest : Rest) (l : Line) → lines.dispatch now rest ≡ Some l → LineTaken (decimal now ∷ rest) l
 unfolding lines.dispatch
-dispatch_taken ws l e =
-    let p0 = parted (taking.long ws) _ l e in
-    let p1 = parted (taking.counted (codes "dispatch") p0.0.1) _ l p0.2 in
+dispatch_taken now fit rest l e =
+    let p1 = parted (taking.counted (codes "dispatch") rest) _ l e in
     let p2 = parted (taking.short p1.0.1) _ l p1.2 in
     let p3 = parted (reading.subject p2.0.1) _ l p2.2 in
-    let t0 = long_taken ws p0.0 p0.1 in
-    let t1 = counted_taken (codes "dispatch") p0.0.1 p1.0 p1.1 in
+    let t1 = counted_taken (codes "dispatch") rest p1.0 p1.1 in
     let t2 = short_taken p1.0.1 p2.0 p2.1 in
     let t3 = subject_taken p2.0.1 p3.0 p3.1 in
-    whole_taken ws (Past (past_of.Dispatch p0.0.0 p1.0.0 p2.0.0 p3.0.0)) p3.0.1 l p3.2 (t0.0, t1.0, t2.0, t3.0)
-    (t0.1 ∙ ap (λ r. decimal p0.0.0 ∷ r) (t1.1 ∙ ap (λ r. codes "dispatch" ∷ decimal p1.0.0 ∷ r) (t2.1 ∙ ap (λ r. decimal p2.0.0 ∷ r) t3.1)))
+    whole_taken (decimal now ∷ rest) (Past (past_of.Dispatch now p1.0.0 p2.0.0 p3.0.0)) p3.0.1 l p3.2 (fit, t1.0, t2.0, t3.0)
+    (ap (λ r. decimal now ∷ r) (t1.1 ∙ ap (λ r. codes "dispatch" ∷ decimal p1.0.0 ∷ r) (t2.1 ∙ ap (λ r. decimal p2.0.0 ∷ r) t3.1)))
 
-refused_taken : Takes lines.refused
+refused_taken : Takes (codes "refused") lines.refused
 unfolding lines.refused
-refused_taken ws l e =
-    let p0 = parted (taking.fixed (codes "refused") ws) _ l e in
-    let p1 = parted (taking.short p0.0.1) _ l p0.2 in
+refused_taken rest l e =
+    let p1 = parted (taking.short rest) _ l e in
     let p2 = parted (reading.subject p1.0.1) _ l p1.2 in
     let p3 = parted (taking.counted (codes "quit") p2.0.1) _ l p2.2 in
-    let t0 = fixed_taken (codes "refused") ws p0.0 p0.1 in
-    let t1 = short_taken p0.0.1 p1.0 p1.1 in
+    let t1 = short_taken rest p1.0 p1.1 in
     let t2 = subject_taken p1.0.1 p2.0 p2.1 in
     let t3 = counted_taken (codes "quit") p2.0.1 p3.0 p3.1 in
     let tail : p2.0.1 ≡ (codes "quit" ∷ decimal p3.0.0 ∷ []) ++ p3.0.1 = t3.1 in
-    whole_taken ws (Past (past_of.Refused p1.0.0 p2.0.0 p3.0.0)) p3.0.1 l p3.2 (t1.0, t2.0, t3.0)
-    (t0 ∙ ap (λ r. codes "refused" ∷ r) (t1.1 ∙ ap (λ r. decimal p1.0.0 ∷ r) (t2.1 ∙ ap (λ r. subject_words p2.0.0 ++ r) tail ∙ sym (append_assoc (subject_words p2.0.0) (codes "quit" ∷ decimal p3.0.0 ∷ []) p3.0.1))))
-
-not_posted_taken : Takes lines.not_posted
-unfolding lines.not_posted
-not_posted_taken ws l e =
-    let p = parted (taking.counted (codes "not-posted") ws) _ l e in
-    let t = counted_taken (codes "not-posted") ws p.0 p.1 in
-    whole_taken ws (Past (past_of.NotPosted p.0.0)) p.0.1 l p.2 t.0 t.1
-
-not_allowed_taken : Takes lines.not_allowed
-unfolding lines.not_allowed
-not_allowed_taken ws l e =
-    let p = parted (taking.fixed (codes "not-allowed") ws) _ l e in
-    whole_taken ws (Past past_of.NotAllowed) p.0.1 l p.2 tt (fixed_taken (codes "not-allowed") ws p.0 p.1)
-
-already_quit_taken : Takes lines.already_quit
-unfolding lines.already_quit
-already_quit_taken ws l e =
-    let p = parted (taking.counted (codes "already-quit") ws) _ l e in
-    let t = counted_taken (codes "already-quit") ws p.0 p.1 in
-    whole_taken ws (Past (past_of.AlreadyQuit p.0.0)) p.0.1 l p.2 t.0 t.1
+    whole_taken (codes "refused" ∷ rest) (Past (past_of.Refused p1.0.0 p2.0.0 p3.0.0)) p3.0.1 l p3.2 (t1.0, t2.0, t3.0)
+    (ap (λ r. codes "refused" ∷ r) (t1.1 ∙ ap (λ r. decimal p1.0.0 ∷ r) (t2.1 ∙ ap (λ r. subject_words p2.0.0 ++ r) tail ∙ sym (append_assoc (subject_words p2.0.0) (codes "quit" ∷ decimal p3.0.0 ∷ []) p3.0.1))))
 
 abbrev FatesTaken : Rest → FatesData × Rest → Type 0
-FatesTaken ws y =
-    IsLong y.0.accepted × IsLong y.0.dispatched × IsLong y.0.removed × IsLong y.0.dropped × IsLong y.0.stranded × IsLong y.0.queued × (ws ≡ fates_words y.0 ++ y.1)
+FatesTaken rest y =
+    IsLong y.0.accepted × IsLong y.0.dispatched × IsLong y.0.removed × IsLong y.0.dropped × IsLong y.0.stranded × IsLong y.0.queued × (codes "fates" ∷ rest ≡ fates_words y.0 ++ y.1)
 
-fates_of_taken : (ws : Rest) (y : FatesData × Rest) → lines.fates_of ws ≡ Some y → FatesTaken ws y
+fates_of_taken : (rest : Rest) (y : FatesData × Rest) → lines.fates_of rest ≡ Some y → FatesTaken rest y
 unfolding lines.fates_of
-fates_of_taken ws y e =
-    let p0 = parted (taking.fixed (codes "fates") ws) _ y e in
-    let t0 = fixed_taken (codes "fates") ws p0.0 p0.1 in
-    counted_then (FatesTaken ws y) (codes "accepted") p0.0.1 _ y p0.2 (λ a r1 s1 w1 e1.
-    counted_then (FatesTaken ws y) (codes "dispatched") r1 _ y e1 (λ b r2 s2 w2 e2.
-    counted_then (FatesTaken ws y) (codes "removed") r2 _ y e2 (λ c r3 s3 w3 e3.
-    counted_then (FatesTaken ws y) (codes "dropped") r3 _ y e3 (λ d r4 s4 w4 e4.
-    counted_then (FatesTaken ws y) (codes "stranded") r4 _ y e4 (λ f r5 s5 w5 e5.
-    counted_then (FatesTaken ws y) (codes "queued") r5 _ y e5 (λ g r6 s6 w6 e6.
+fates_of_taken rest y e =
+    counted_then (FatesTaken rest y) (codes "accepted") rest _ y e (λ a r1 s1 w1 e1.
+    counted_then (FatesTaken rest y) (codes "dispatched") r1 _ y e1 (λ b r2 s2 w2 e2.
+    counted_then (FatesTaken rest y) (codes "removed") r2 _ y e2 (λ c r3 s3 w3 e3.
+    counted_then (FatesTaken rest y) (codes "dropped") r3 _ y e3 (λ d r4 s4 w4 e4.
+    counted_then (FatesTaken rest y) (codes "stranded") r4 _ y e4 (λ f r5 s5 w5 e5.
+    counted_then (FatesTaken rest y) (codes "queued") r5 _ y e5 (λ g r6 s6 w6 e6.
     let made : FatesData = record { accepted = a; dispatched = b; removed = c; dropped = d; stranded = f; queued = g } in
-    let words : ws ≡ fates_words made ++ r6 =
-    t0 ∙ ap (λ r. codes "fates" ∷ r) (w1 ∙ ap (λ r. codes "accepted" ∷ decimal a ∷ r) (w2 ∙ ap (λ r. codes "dispatched" ∷ decimal b ∷ r) (w3 ∙ ap (λ r. codes "removed" ∷ decimal c ∷ r)
+    let words : codes "fates" ∷ rest ≡ fates_words made ++ r6 =
+    ap (λ r. codes "fates" ∷ r) (w1 ∙ ap (λ r. codes "accepted" ∷ decimal a ∷ r) (w2 ∙ ap (λ r. codes "dispatched" ∷ decimal b ∷ r) (w3 ∙ ap (λ r. codes "removed" ∷ decimal c ∷ r)
     (w4 ∙ ap (λ r. codes "dropped" ∷ decimal d ∷ r) (w5 ∙ ap (λ r. codes "stranded" ∷ decimal f ∷ r) w6))))) in
-    subst (FatesTaken ws) (same_Some (made, r6) y e6) (s1, s2, s3, s4, s5, s6, words)))))))
+    subst (FatesTaken rest) (same_Some (made, r6) y e6) (s1, s2, s3, s4, s5, s6, words)))))))
 
-sum_taken : (ws : Rest) (p : FatesData × Rest) (l : Line) → FatesTaken ws p → cond (adds_up p.0) (whole (Fates p.0) p.1) None ≡ Some l → LineTaken ws l
-sum_taken ws p l t e =
+sum_taken : (rest : Rest) (p : FatesData × Rest) (l : Line) → FatesTaken rest p → cond (adds_up p.0) (whole (Fates p.0) p.1) None ≡ Some l → LineTaken (codes "fates" ∷ rest) l
+sum_taken rest p l t e =
     elim (cases_Bool (adds_up p.0)) [
-      | inl sum ↦ whole_taken ws (Fates p.0) p.1 l (rw sum at e) (t.0, t.1, t.2, t.3, t.4, t.5, eqb-true p.0.accepted (p.0.dispatched + p.0.removed + p.0.dropped + p.0.stranded + p.0.queued) sum) t.6
+      | inl sum ↦ whole_taken (codes "fates" ∷ rest) (Fates p.0) p.1 l (rw sum at e) (t.0, t.1, t.2, t.3, t.4, t.5, eqb-true p.0.accepted (p.0.dispatched + p.0.removed + p.0.dropped + p.0.stranded + p.0.queued) sum) t.6
       | inr other ↦ absurd (none-some l (rw other at e))
     ]
 
-fates_taken : Takes lines.fates
+fates_taken : Takes (codes "fates") lines.fates
 unfolding lines.fates
-fates_taken ws l e =
-    let p = parted (lines.fates_of ws) _ l e in
-    sum_taken ws p.0 l (fates_of_taken ws p.0 p.1) p.2
+fates_taken rest l e =
+    let p = parted (lines.fates_of rest) _ l e in
+    sum_taken rest p.0 l (fates_of_taken rest p.0 p.1) p.2
 
-idle_taken : Takes lines.idle
-unfolding lines.idle
-idle_taken ws l e =
-    let p0 = parted (taking.fixed (codes "idle") ws) _ l e in
-    let p1 = parted (taking.short p0.0.1) _ l p0.2 in
-    let t1 = short_taken p0.0.1 p1.0 p1.1 in
-    whole_taken ws (Act (act_of.Idle p1.0.0)) p1.0.1 l p1.2 t1.0 (fixed_taken (codes "idle") ws p0.0 p0.1 ∙ ap (λ r. codes "idle" ∷ r) t1.1)
+idle_taken : Takes (codes "idle") (λ rest. and_then (taking.short rest) (λ id more. whole (Act (act_of.Idle id)) more))
+idle_taken rest l e =
+    let p = parted (taking.short rest) _ l e in
+    let t = short_taken rest p.0 p.1 in
+    whole_taken (codes "idle" ∷ rest) (Act (act_of.Idle p.0.0)) p.0.1 l p.2 t.0 (ap (λ r. codes "idle" ∷ r) t.1)
 
-event_taken : Takes lines.event
-unfolding lines.event
-event_taken ws l e =
-    let p0 = parted (taking.fixed (codes "event") ws) _ l e in
-    let p1 = parted (taking.short p0.0.1) _ l p0.2 in
-    let p2 = parted (taking.short p1.0.1) _ l p1.2 in
-    let t1 = short_taken p0.0.1 p1.0 p1.1 in
-    let t2 = short_taken p1.0.1 p2.0 p2.1 in
-    whole_taken ws (Act (act_of.Event p1.0.0 p2.0.0)) p2.0.1 l p2.2 (t1.0, t2.0)
-    (fixed_taken (codes "event") ws p0.0 p0.1 ∙ ap (λ r. codes "event" ∷ r) (t1.1 ∙ ap (λ r. decimal p1.0.0 ∷ r) t2.1))
-
-paint_taken : Takes lines.paint
-unfolding lines.paint
-paint_taken ws l e =
-    let p0 = parted (taking.fixed (codes "paint") ws) _ l e in
-    let p1 = parted (taking.short p0.0.1) _ l p0.2 in
-    let p2 = parted (taking.short p1.0.1) _ l p1.2 in
-    let t1 = short_taken p0.0.1 p1.0 p1.1 in
-    let t2 = short_taken p1.0.1 p2.0 p2.1 in
-    whole_taken ws (Act (act_of.Paint p1.0.0 p2.0.0)) p2.0.1 l p2.2 (t1.0, t2.0)
-    (fixed_taken (codes "paint") ws p0.0 p0.1 ∙ ap (λ r. codes "paint" ∷ r) (t1.1 ∙ ap (λ r. decimal p1.0.0 ∷ r) t2.1))
-
-frame_taken : Takes lines.frame
-unfolding lines.frame
-frame_taken ws l e =
-    let p = parted (taking.counted (codes "frame") ws) _ l e in
-    let t = counted_taken (codes "frame") ws p.0 p.1 in
-    whole_taken ws (Frame p.0.0) p.0.1 l p.2 t.0 t.1
-
-run_taken : Takes lines.run
-unfolding lines.run
-run_taken ws l e =
-    let p0 = parted (taking.fixed (codes "run") ws) _ l e in
-    let p1 = parted (taking.short p0.0.1) _ l p0.2 in
+run_taken : Takes (codes "run") (λ rest. and_then (taking.short rest) (λ phase more. and_then (taking.long more) (λ id most. whole (Run (record { phase = phase; id = id })) most)))
+run_taken rest l e =
+    let p1 = parted (taking.short rest) _ l e in
     let p2 = parted (taking.long p1.0.1) _ l p1.2 in
-    let t1 = short_taken p0.0.1 p1.0 p1.1 in
+    let t1 = short_taken rest p1.0 p1.1 in
     let t2 = long_taken p1.0.1 p2.0 p2.1 in
     let made : RunData = record { phase = p1.0.0; id = p2.0.0 } in
-    whole_taken ws (Run made) p2.0.1 l p2.2 (t1.0, t2.0)
-    (fixed_taken (codes "run") ws p0.0 p0.1 ∙ ap (λ r. codes "run" ∷ r) (t1.1 ∙ ap (λ r. decimal p1.0.0 ∷ r) t2.1))
+    whole_taken (codes "run" ∷ rest) (Run made) p2.0.1 l p2.2 (t1.0, t2.0) (ap (λ r. codes "run" ∷ r) (t1.1 ∙ ap (λ r. decimal p1.0.0 ∷ r) t2.1))
 
-end_taken : Takes lines.end
-unfolding lines.end
-end_taken ws l e =
-    let p = parted (taking.fixed (codes "end") ws) _ l e in
-    whole_taken ws End p.0.1 l p.2 tt (fixed_taken (codes "end") ws p.0 p.1)
+named_taken : (w : List ℕ) (rest : Rest) (l : Line) → by_word lines.rows w rest ≡ Some l → LineTaken (w ∷ rest) l
+named_taken = rows_hold (λ w rest l. LineTaken (w ∷ rest) l) lines.rows (
+  refused_taken,
+  (
+    one_taken (codes "not-posted") (λ n. Past (past_of.NotPosted n)) (λ n. refl) (λ n h. h),
+    (
+      alone_taken (codes "not-allowed") (Past past_of.NotAllowed) refl tt,
+      (
+        one_taken (codes "already-quit") (λ n. Past (past_of.AlreadyQuit n)) (λ n. refl) (λ n h. h),
+        (
+          fates_taken,
+          (
+            idle_taken,
+            (
+              two_taken (codes "event") (λ a b. Act (act_of.Event a b)) (λ a b. refl) (λ a b f g. (f, g)),
+              (
+                two_taken (codes "paint") (λ a b. Act (act_of.Paint a b)) (λ a b. refl) (λ a b f g. (f, g)),
+                (
+                  one_taken (codes "frame") Frame (λ n. refl) (λ n h. h),
+                  (run_taken, (one_taken (codes "looper") Looper (λ n. refl) (λ n h. h), (title_taken, (alone_taken (codes "end") End refl tt, tt)))),
+                ),
+              ),
+            ),
+          ),
+        ),
+      ),
+    ),
+  ),
+)
 
--- ---- one of several forms
-
-one_of : (ws : Rest) (l : Line) (a b : Option Line) → (a ≡ Some l → LineTaken ws l) → (b ≡ Some l → LineTaken ws l) → either a b ≡ Some l → LineTaken ws l
-one_of ws l None b f g e = g e
-one_of ws l (Some k) b f g e = f e
-
-past_taken : Takes lines.past
-unfolding lines.past
-past_taken ws l e =
-    one_of ws l _ _ (dispatch_taken ws l) (one_of ws l _ _ (refused_taken ws l) (one_of ws l _ _ (not_posted_taken ws l) (one_of ws l _ _ (not_allowed_taken ws l) (already_quit_taken ws l)))) e
-
-act_taken : Takes lines.act
-unfolding lines.act
-act_taken ws l e = one_of ws l _ _ (idle_taken ws l) (one_of ws l _ _ (event_taken ws l) (paint_taken ws l)) e
-
-other_taken : Takes lines.other
-unfolding lines.other
-other_taken ws l e = one_of ws l _ _ (looper_taken ws l) (one_of ws l _ _ (fates_taken ws l) (one_of ws l _ _ (title_taken ws l) (end_taken ws l))) e
+by_taken : (w : List ℕ) (o : Option ℕ) (rest : Rest) (l : Line) → number_of w ≡ o → lines.line_by w o rest ≡ Some l → LineTaken (w ∷ rest) l
+by_taken w None rest l is e = named_taken w rest l e
+by_taken w (Some now) rest l is e =
+    let t = dispatch_taken now (number_small w now is) rest l e in (t.0, ap (λ v. v ∷ rest) (number_taken w now is) ∙ t.1)
 
 -- a line that is read has these words, with numbers within their limits
 pub line_taken : (ws : Rest) (l : Line) → lines.line_of ws ≡ Some l → Fits l × (ws ≡ line_words l)
 unfolding lines.line_of
-line_taken ws l e =
-    one_of ws l _ _ (past_taken ws l) (one_of ws l _ _ (one_of ws l _ _ (frame_taken ws l) (run_taken ws l)) (one_of ws l _ _ (act_taken ws l) (other_taken ws l))) e
+line_taken [] l e = absurd (none-some l e)
+line_taken (w ∷ rest) l e = by_taken w (number_of w) rest l refl e

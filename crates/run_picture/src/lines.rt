@@ -1,10 +1,10 @@
-//! What the words of a line say, by its form.
+//! What the words of a line say, by its first word.
 ghost use Rattle.std.specs.Prelude.{◌≡◌};
 ghost use Rattle.line_words.specs.Words.{words};
-ghost use Rattle.line_words.specs.Taking.{read};
+ghost use Rattle.line_words.specs.Taking.{by_word, read};
 ghost use Rattle.run_picture.specs.Reading.{callback, subject};
 ghost use Rattle.run_picture.specs.Lines as says;
-ghost use Rattle.run_picture.specs.Lines.{line_of, either, fates_of};
+ghost use Rattle.run_picture.specs.Lines.{line_of, rows, fates_of};
 
 use crate::line::Line;
 use crate::report::{Act, Fates, Past, Run, Subject};
@@ -36,40 +36,14 @@ fn subject(words: &mut Words) -> Option<Subject>
     }
 }
 
-#[tactic(auto, unfolding(crate::specs::Lines::title))]
-fn title(line: &[u8]) -> Option<Line>
-    ensures { result ≡ says.title (words line.now) }
-{
-    let mut words = Words::new(line);
-    words.fixed(b"report")?;
-    let edition = words.short()?;
-    if edition == 1 {
-        return words.whole(Line::Title(edition));
-    }
-    if edition == 2 {
-        return words.whole(Line::Title(edition));
-    }
-    None
-}
-
-#[tactic(auto, unfolding(crate::specs::Lines::looper))]
-fn looper(line: &[u8]) -> Option<Line>
-    ensures { result ≡ says.looper (words line.now) }
-{
-    let mut words = Words::new(line);
-    let number = words.counted(b"looper")?;
-    words.whole(Line::Looper(number))
-}
-
+/// The line of a dispatch at this time.
 #[tactic(auto, unfolding(crate::specs::Lines::dispatch))]
-fn dispatch(line: &[u8]) -> Option<Line>
-    ensures { result ≡ says.dispatch (words line.now) }
+fn dispatch(now: u64, words: &mut Words) -> Option<Line>
+    ensures { result ≡ says.dispatch now words.old }
 {
-    let mut words = Words::new(line);
-    let now = words.long()?;
     let number = words.counted(b"dispatch")?;
     let handler = words.short()?;
-    let subject = subject(&mut words)?;
+    let subject = subject(words)?;
     words.whole(Line::Past(Past::Dispatch {
         now,
         number,
@@ -79,13 +53,11 @@ fn dispatch(line: &[u8]) -> Option<Line>
 }
 
 #[tactic(auto, unfolding(crate::specs::Lines::refused))]
-fn refused(line: &[u8]) -> Option<Line>
-    ensures { result ≡ says.refused (words line.now) }
+fn refused(words: &mut Words) -> Option<Line>
+    ensures { result ≡ says.refused words.old }
 {
-    let mut words = Words::new(line);
-    words.fixed(b"refused")?;
     let handler = words.short()?;
-    let subject = subject(&mut words)?;
+    let subject = subject(words)?;
     let place = words.counted(b"quit")?;
     words.whole(Line::Past(Past::Refused {
         handler,
@@ -94,39 +66,11 @@ fn refused(line: &[u8]) -> Option<Line>
     }))
 }
 
-#[tactic(auto, unfolding(crate::specs::Lines::not_posted))]
-fn not_posted(line: &[u8]) -> Option<Line>
-    ensures { result ≡ says.not_posted (words line.now) }
-{
-    let mut words = Words::new(line);
-    let token = words.counted(b"not-posted")?;
-    words.whole(Line::Past(Past::NotPosted { token }))
-}
-
-#[tactic(auto, unfolding(crate::specs::Lines::not_allowed))]
-fn not_allowed(line: &[u8]) -> Option<Line>
-    ensures { result ≡ says.not_allowed (words line.now) }
-{
-    let mut words = Words::new(line);
-    words.fixed(b"not-allowed")?;
-    words.whole(Line::Past(Past::NotAllowed))
-}
-
-#[tactic(auto, unfolding(crate::specs::Lines::already_quit))]
-fn already_quit(line: &[u8]) -> Option<Line>
-    ensures { result ≡ says.already_quit (words line.now) }
-{
-    let mut words = Words::new(line);
-    let place = words.counted(b"already-quit")?;
-    words.whole(Line::Past(Past::AlreadyQuit { place }))
-}
-
 /// The counts of the fates, whether or not they add up.
 #[tactic(auto, unfolding(crate::specs::Lines::fates_of))]
 fn fates_of(words: &mut Words) -> Option<Fates>
     ensures { read result words.new ≡ fates_of words.old }
 {
-    words.fixed(b"fates")?;
     let accepted = words.counted(b"accepted")?;
     let dispatched = words.counted(b"dispatched")?;
     let removed = words.counted(b"removed")?;
@@ -156,11 +100,10 @@ fn adds_up(fates: &Fates) -> bool
 }
 
 #[tactic(auto, unfolding(crate::specs::Lines::fates))]
-fn fates(line: &[u8]) -> Option<Line>
-    ensures { result ≡ says.fates (words line.now) }
+fn fates(words: &mut Words) -> Option<Line>
+    ensures { result ≡ says.fates words.old }
 {
-    let mut words = Words::new(line);
-    let fates = fates_of(&mut words)?;
+    let fates = fates_of(words)?;
     if adds_up(&fates) {
         words.whole(Line::Fates(fates))
     } else {
@@ -168,110 +111,86 @@ fn fates(line: &[u8]) -> Option<Line>
     }
 }
 
-#[tactic(auto, unfolding(crate::specs::Lines::idle))]
-fn idle(line: &[u8]) -> Option<Line>
-    ensures { result ≡ says.idle (words line.now) }
+#[tactic(auto, unfolding(crate::specs::Lines::title))]
+fn title(words: &mut Words) -> Option<Line>
+    ensures { result ≡ says.title words.old }
 {
-    let mut words = Words::new(line);
-    words.fixed(b"idle")?;
-    let id = words.short()?;
-    words.whole(Line::Act(Act::Idle { id }))
-}
-
-#[tactic(auto, unfolding(crate::specs::Lines::event))]
-fn event(line: &[u8]) -> Option<Line>
-    ensures { result ≡ says.event (words line.now) }
-{
-    let mut words = Words::new(line);
-    words.fixed(b"event")?;
-    let fd = words.short()?;
-    let events = words.short()?;
-    words.whole(Line::Act(Act::Event { fd, events }))
-}
-
-#[tactic(auto, unfolding(crate::specs::Lines::paint))]
-fn paint(line: &[u8]) -> Option<Line>
-    ensures { result ≡ says.paint (words line.now) }
-{
-    let mut words = Words::new(line);
-    words.fixed(b"paint")?;
-    let gauge = words.short()?;
-    let value = words.short()?;
-    words.whole(Line::Act(Act::Paint { gauge, value }))
-}
-
-#[tactic(auto, unfolding(crate::specs::Lines::frame))]
-fn frame(line: &[u8]) -> Option<Line>
-    ensures { result ≡ says.frame (words line.now) }
-{
-    let mut words = Words::new(line);
-    let time = words.counted(b"frame")?;
-    words.whole(Line::Frame(time))
-}
-
-#[tactic(auto, unfolding(crate::specs::Lines::run))]
-fn run(line: &[u8]) -> Option<Line>
-    ensures { result ≡ says.run (words line.now) }
-{
-    let mut words = Words::new(line);
-    words.fixed(b"run")?;
-    let phase = words.short()?;
-    let id = words.long()?;
-    words.whole(Line::Run(Run { phase, id }))
-}
-
-#[tactic(auto, unfolding(crate::specs::Lines::end))]
-fn end(line: &[u8]) -> Option<Line>
-    ensures { result ≡ says.end (words line.now) }
-{
-    let mut words = Words::new(line);
-    words.fixed(b"end")?;
-    words.whole(Line::End)
-}
-
-/// The first of two, or else the second.
-fn either(first: Option<Line>, second: Option<Line>) -> Option<Line>
-    ensures { result ≡ either first second }
-{
-    match first {
-        Some(line) => Some(line),
-        None => second,
+    let edition = words.short()?;
+    if edition == 1 {
+        return words.whole(Line::Title(edition));
     }
+    if edition == 2 {
+        return words.whole(Line::Title(edition));
+    }
+    None
 }
 
-/// A line of a queue's history.
-#[tactic(auto, unfolding(crate::specs::Lines::past))]
-fn past(line: &[u8]) -> Option<Line>
-    ensures { result ≡ says.past (words line.now) }
+/// A line that begins with this word.
+fn named(word: &[u8], words: &mut Words) -> Option<Line>
+    ensures { result ≡ by_word rows word.now words.old }
 {
-    let quits = either(not_allowed(line), already_quit(line));
-    let others = either(not_posted(line), quits);
-    either(dispatch(line), either(refused(line), others))
+    if word == b"refused".as_slice() {
+        return refused(words);
+    }
+    if word == b"not-posted".as_slice() {
+        let token = words.long()?;
+        return words.whole(Line::Past(Past::NotPosted { token }));
+    }
+    if word == b"not-allowed".as_slice() {
+        return words.whole(Line::Past(Past::NotAllowed));
+    }
+    if word == b"already-quit".as_slice() {
+        let place = words.long()?;
+        return words.whole(Line::Past(Past::AlreadyQuit { place }));
+    }
+    if word == b"fates".as_slice() {
+        return fates(words);
+    }
+    if word == b"idle".as_slice() {
+        let id = words.short()?;
+        return words.whole(Line::Act(Act::Idle { id }));
+    }
+    if word == b"event".as_slice() {
+        let fd = words.short()?;
+        let events = words.short()?;
+        return words.whole(Line::Act(Act::Event { fd, events }));
+    }
+    if word == b"paint".as_slice() {
+        let gauge = words.short()?;
+        let value = words.short()?;
+        return words.whole(Line::Act(Act::Paint { gauge, value }));
+    }
+    if word == b"frame".as_slice() {
+        let time = words.long()?;
+        return words.whole(Line::Frame(time));
+    }
+    if word == b"run".as_slice() {
+        let phase = words.short()?;
+        let id = words.long()?;
+        return words.whole(Line::Run(Run { phase, id }));
+    }
+    if word == b"looper".as_slice() {
+        let number = words.long()?;
+        return words.whole(Line::Looper(number));
+    }
+    if word == b"report".as_slice() {
+        return title(words);
+    }
+    if word == b"end".as_slice() {
+        return words.whole(Line::End);
+    }
+    None
 }
 
-/// A line of a journal.
-#[tactic(auto, unfolding(crate::specs::Lines::act))]
-fn act(line: &[u8]) -> Option<Line>
-    ensures { result ≡ says.act (words line.now) }
-{
-    either(idle(line), either(event(line), paint(line)))
-}
-
-/// A line of no list: the first and the last one, a looper's, and its fates'.
-#[tactic(auto, unfolding(crate::specs::Lines::other))]
-fn other(line: &[u8]) -> Option<Line>
-    ensures { result ≡ says.other (words line.now) }
-{
-    let ends = either(title(line), end(line));
-    either(looper(line), either(fates(line), ends))
-}
-
-/// What a line says, without its line feed.
+/// What a line says, without its line feed. Only that of a dispatch begins with a number.
 #[tactic(auto, unfolding(crate::specs::Lines::line_of))]
 pub(crate) fn line_of(line: &[u8]) -> Option<Line>
     ensures { result ≡ line_of (words line.now) }
 {
-    let frames = either(frame(line), run(line));
-    let acts = either(act(line), other(line));
-    either(past(line), either(frames, acts))
+    let mut words = Words::new(line);
+    let first = words.next()?;
+    match number(first) {
+        Some(now) => dispatch(now, &mut words),
+        None => named(first, &mut words),
+    }
 }
