@@ -1,5 +1,5 @@
 -- Passes of choreographers that hear each other.
-use Rattle.std.proofs.Common.{◌≡◌, ℕ, ◌+◌, ◌<◌, ◌≢◌, List, map, length, set, get_or, refl, sym, ap, ◌∙◌, subst, arith}
+use Rattle.std.proofs.Common.{◌≡◌, ℕ, ◌<◌, List, map, length, set, get_or, refl, sym, ap, ◌∙◌, subst}
 use Rattle.std.proofs.lemmas.List.{get_or-set_same, get_or-set_other, get_or_default, length-set, set-get_or}
 use mathlib.Core.List.{IsPrefix}
 use mathlib.Core.Logic.{dite}
@@ -8,7 +8,7 @@ use Rattle.frame_phases.specs.declared.entry.FrameEntry.{FrameEntry}
 use Rattle.loop_model.proofs.Prefixes.{prefix_self, prefix_trans}
 use Rattle.choreographer.specs.Known.{Shared as Frames, Known as Pass, IsOf as IsFrameOf, HasOnlyHeard}
 use Rattle.dash_hall.specs.Kits.{frame_badge_of}
-use Rattle.dash_hall.specs.Hearing.{AtEach, PassHasHeard, PassesHaveHeard, HasHeardAll, PassesHaveHeardAt, ArePassesReady, ArePassesKnown}
+use Rattle.dash_hall.specs.Hearing.{PassHasHeard, PassesHaveHeard, HasHeardAll, PassesHaveHeardAt, ArePassesReady, ArePassesKnown}
 use Rattle.dash_hall.proofs.Hearing.{map_alike}
 use Rattle.dash_hall.proofs.Sharing.{each_then, each_self}
 

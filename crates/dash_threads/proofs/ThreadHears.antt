@@ -1,5 +1,5 @@
 -- A thread whose passes of choreographers heard others has asked for what it had.
-use Rattle.std.proofs.Common.{ℕ, ◌<◌, List, map, length, ap, ◌∙◌, arith}
+use Rattle.std.proofs.Common.{◌<◌, List, map, length, ap, ◌∙◌, arith}
 use Rattle.frame_phases.specs.declared.entry.FrameEntry.{FrameEntry}
 use Rattle.choreographer.specs.Known.{Known as Pass}
 use Rattle.run_model.specs.Moments.{Mode}

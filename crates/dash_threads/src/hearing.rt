@@ -44,12 +44,7 @@ impl PostingThread {
     }
 
     /// Lets another pass of the choreographer at this place hear the thread's. It takes no turn.
-    pub fn tell_pass(
-        &mut self,
-        choreographer: &Choreographer,
-        place: usize,
-        other: &mut FramePass,
-    )
+    pub fn tell_pass(&mut self, choreographer: &Choreographer, place: usize, other: &mut FramePass)
         requires ready { ArePassesReady place choreographer.now self.old.kit.frames.items }
         requires other { IsFrameOf other.old choreographer.now }
         ensures kept { TellsPass self.old self.new }
@@ -60,12 +55,7 @@ impl PostingThread {
     }
 
     /// Lets its pass of the choreographer at this place hear another one, which has heard all that it has. It takes no turn.
-    pub fn hear_pass(
-        &mut self,
-        choreographer: &Choreographer,
-        place: usize,
-        other: &mut FramePass,
-    )
+    pub fn hear_pass(&mut self, choreographer: &Choreographer, place: usize, other: &mut FramePass)
         requires ready { ArePassesReady place choreographer.now self.old.kit.frames.items }
         requires other { IsFrameOf other.old choreographer.now }
         requires known { ArePassesKnown place other.old.view.heard self.old.kit.frames.items }

@@ -1,5 +1,5 @@
 -- What was asked of each choreographer stays in turn where nobody asks for anything, and where the threads run a block.
-use Rattle.std.proofs.Common.{◌≡◌, ◌<◌, ◌≤◌, ◌+◌, ◌==◌, ℕ, Bool, true, false, true≢false, List, [], ◌∷◌, ◌++◌, Option, Some, None, map, length, refl, sym, ap, ◌∙◌, subst, arith, slice_index_or, append-nil, inl, inr}
+use Rattle.std.proofs.Common.{◌≡◌, ◌<◌, ◌≤◌, ◌+◌, ◌==◌, ℕ, Bool, true, false, true≢false, List, [], ◌∷◌, ◌++◌, Some, None, length, refl, sym, ap, ◌∙◌, subst, arith, slice_index_or, append-nil, inl, inr}
 use Rattle.std.specs.Prelude.{slice_get, if◌then◌else◌}
 use Rattle.std.specs.Global.{Vec}
 use Rattle.std.specs.List.{cons_option}
@@ -33,7 +33,7 @@ use Rattle.dash_loopers.specs.declared.looper.StageLooper.{StageLooper}
 use Rattle.dash_loopers.specs.Loopers.{ArePartsOf, Rest, rest_in, LooperKeeps, OfItsPasses}
 use Rattle.dash_loopers.proofs.LooperPasses.{unheard_all}
 use Rattle.dash_stage.specs.declared.stage.Stage.{Stage}
-use Rattle.dash_stage.specs.Asking.{IsAskedInTurn, AllAskedInTurn, AskInTurn, AskUpToNow, AsksNothing, StaysInTurn}
+use Rattle.dash_stage.specs.Asking.{AllAskedInTurn, AskInTurn, AskUpToNow, AsksNothing, StaysInTurn}
 use Rattle.dash_stage.specs.Playing.{LiesAhead}
 use Rattle.dash_stage.specs.Sharing.{OfPasses, AreUnheard, HaveHeardNothing, HavePassesHeard, HaveHeardTheSame}
 use Rattle.dash_stage.specs.Stages.{IsStage, HaveRun}
@@ -339,11 +339,14 @@ block_up_to_now s past time st same within h = record {
 -- passes that have heard of no entry have heard the same, and nothing was asked
 pub begins_in_turn : (s : Script) (st : Stage) → OfPasses AreUnheard st.threads.items → HaveHeardNothing st.loopers.items → IsUnusedKit st.controller.kit → AskInTurn s [] 0 st
 begins_in_turn s st threads loopers unused = record {
-  same = λ q few. ([], record {
-    threads = λ k d lt p near. threads k d lt q p near;
-    looper = λ d lt. loopers q d lt;
-    controller = λ p near. unheard_all (slice_index_or st.controller.kit.frames.items q p) (unused.heard q p near) (unused.frames q p near) (unused.own q p near);
-  });
+  same = λ q few. (
+    [],
+    record {
+      threads = λ k d lt p near. threads k d lt q p near;
+      looper = λ d lt. loopers q d lt;
+      controller = λ p near. unheard_all (slice_index_or st.controller.kit.frames.items q p) (unused.heard q p near) (unused.frames q p near) (unused.own q p near);
+    },
+  );
   asked = λ sound q few. record {
     made = [];
     threads = λ k d lt p near. threads k d lt q p near;

@@ -1,5 +1,5 @@
 -- What loopers ask of their choreographers in a round stands in turn behind what was asked so far.
-use Rattle.std.proofs.Common.{◌≡◌, ◌<◌, ◌≤◌, ◌+◌, ℕ, List, [], ◌++◌, Some, length, refl, sym, ap, ◌∙◌, subst, arith, slice_index_or, append-nil}
+use Rattle.std.proofs.Common.{◌≡◌, ◌<◌, ◌≤◌, ◌+◌, ℕ, List, [], ◌++◌, Some, length, sym, ap, ◌∙◌, subst, arith, slice_index_or, append-nil}
 use Rattle.std.specs.List.{AllByRecursion}
 use mathlib.Core.List.{IsPrefix}
 use mathlib.Core.Logic.{dite}
@@ -34,7 +34,7 @@ module _ (s : Script) (text : HasText s) (st st' : Stage) (is : IsStage s st) (i
     (back : AreSound s st'.controller → AreSound s st.controller) (threads : AtEach (ThreadKeeps HaveHeard) st.threads.items st'.threads.items)
     (controller : PassesHaveHeard st.controller.kit.frames.items st'.controller.kit.frames.items)
     (asks : AreSound s st'.controller → (k : ℕ) (l : StageLooper) → k < length st'.loopers.items → (p p' : Parts) → (slice_index_or st.loopers.items k l).parts ≡ Some p
-        → (slice_index_or st'.loopers.items k l).parts ≡ Some p' → AskAt st.time p p') where
+    → (slice_index_or st'.loopers.items k l).parts ≡ Some p' → AskAt st.time p p') where
   module _ (q : ℕ) (few : q < s.loopers) where
     in_before : q < length st.loopers.items
     in_before = let count = is.loopers.0 in omega (arith, few, count)

@@ -41,7 +41,7 @@ use Rattle.dash_stage.proofs.Stages.StageTurns.{for_count}
 use Rattle.dash_stage.proofs.Stages.StageWhole.{as_many, looper_entries, looper_sees, looper_made_none, sound_grown, none_behind}
 use Rattle.dash_stage.proofs.Stages.Timely.{timely_others}
 use Rattle.dash_stage.proofs.Played.RoundTimes.{befores_called_of_others}
-use Rattle.run_model.specs.FrameAsks.{as_told, asks_in, asks_to_run}
+use Rattle.run_model.specs.FrameAsks.{as_told, asks_in}
 
 -- ---- one looper
 

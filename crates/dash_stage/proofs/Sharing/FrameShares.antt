@@ -1,5 +1,5 @@
 -- A stage whose passes hear each other, choreographer after choreographer.
-use Rattle.std.proofs.Common.{◌≡◌, ◌≢◌, ℕ, Bool, ◌+◌, ◌<◌, ◌≤◌, List, Option, Some, length, map, get_or, set, refl, sym, ap, ◌∙◌, subst, arith}
+use Rattle.std.proofs.Common.{◌≡◌, ◌≢◌, ℕ, Bool, ◌+◌, ◌<◌, List, Some, length, get_or, set, refl, sym, ap, ◌∙◌, subst, arith}
 use Rattle.std.specs.Prelude.{slice_get}
 use Rattle.std.proofs.lemmas.Option.{same_Some, slice_get_read}
 use Rattle.std.proofs.lemmas.List.{get_or-set_same, get_or-set_other, get_or_default, length-set}
@@ -9,19 +9,17 @@ use Rattle.frame_phases.specs.declared.entry.FrameEntry.{FrameEntry}
 use Rattle.choreographer.specs.Known.{Shared as Frames, Known as Pass, IsOf as IsFrameOf}
 use Rattle.dash_script.specs.declared.script.Script.{Script}
 use Rattle.looper_run.specs.Holding.{Sender}
-use Rattle.dash_hall.specs.declared.hall.Hall.{Hall}
-use Rattle.dash_hall.specs.Kits.{FrameBadge, frame_badge_of, frame_badge_for, IsHall}
+use Rattle.dash_hall.specs.Kits.{FrameBadge, frame_badge_of, frame_badge_for}
 use Rattle.dash_hall.specs.Hearing.{AtEach, AreKept, HaveSeenAll, PassHasHeard, HasHeardAll, HaveHeardAllAt, PassesHaveHeardAt, ArePassesReady, seen_by}
 use Rattle.dash_hall.proofs.Badges.{alike_length, pass_at, choreographer_count}
 use Rattle.dash_hall.proofs.PassesHearing.{passes_heard_at}
 use Rattle.dash_hall.proofs.Sharing.{each_weaker}
-use Rattle.dash_threads.specs.declared.thread.PostingThread.{PostingThread}
 use Rattle.dash_threads.specs.Threads.{ThreadKeeps, HearsPass}
 use Rattle.dash_loopers.specs.declared.looper.StageLooper.{StageLooper}
 use Rattle.dash_loopers.specs.Loopers.{Rest, rest_in, IsLooper, LooperKeeps, OfItsPasses, HearsPasses}
 use Rattle.dash_stage.specs.declared.stage.Stage.{Stage}
 use Rattle.dash_stage.specs.Stages.{IsStageIn}
-use Rattle.dash_stage.specs.Sharing.{StageKeeps, OfPasses, OfSenders, HaveSeenTheSame, HavePassesHeard, OtherPassesStay, SharesFramesAt}
+use Rattle.dash_stage.specs.Sharing.{StageKeeps, OfPasses, OfSenders, HaveSeenTheSame, HavePassesHeard, SharesFramesAt}
 use Rattle.dash_stage.proofs.Sharing.LooperShares.{looper_parts, looper_self}
 use Rattle.dash_stage.proofs.Sharing.StageShares.{of_senders_then}
 

@@ -1,11 +1,10 @@
 -- Passes of a choreographer that hear each other, thread after thread.
-use Rattle.std.proofs.Common.{◌≡◌, ℕ, ◌+◌, ◌<◌, ◌≤◌, List, Option, Some, length, set, get_or, refl, sym, ap, ◌∙◌, subst, arith}
-use mathlib.Core.List.{IsPrefix}
+use Rattle.std.proofs.Common.{◌≡◌, ℕ, ◌+◌, ◌<◌, List, length, set, get_or, refl, sym, ◌∙◌, subst, arith}
 use Rattle.frame_phases.specs.declared.entry.FrameEntry.{FrameEntry}
 use Rattle.choreographer.specs.Known.{Shared as Frames, Known as Pass, IsOf as IsFrameOf}
 use Rattle.dash_hall.specs.Hearing.{AtEach, AreKept, PassHasHeard, PassesHaveHeardAt, ArePassesKnown}
 use Rattle.dash_hall.proofs.PassesHearing.{pass_heard_then, passes_known_more}
-use Rattle.dash_hall.proofs.Sharing.{FirstAre, next_within, first_more, first_all, first_weaker}
+use Rattle.dash_hall.proofs.Sharing.{FirstAre, next_within, first_more, first_weaker}
 use Rattle.dash_threads.specs.declared.thread.PostingThread.{PostingThread}
 use Rattle.dash_threads.specs.Threads.{TellsPass, HearsPass}
 use Rattle.dash_loopers.specs.declared.looper.StageLooper.{StageLooper}

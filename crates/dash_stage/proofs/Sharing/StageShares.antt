@@ -1,5 +1,5 @@
 -- A stage whose senders hear each other, queue after queue.
-use Rattle.std.proofs.Common.{◌≡◌, ℕ, Bool, ◌+◌, ◌<◌, ◌≤◌, List, [], map, length, get_or, refl, sym, ap, ◌∙◌, subst, arith}
+use Rattle.std.proofs.Common.{◌≡◌, ℕ, Bool, ◌+◌, ◌<◌, ◌≤◌, List, length, get_or, refl, sym, ap, ◌∙◌, subst, arith}
 use Rattle.std.specs.Global.{Vec}
 use Rattle.std.proofs.lemmas.List.{get_or_past}
 use mathlib.Core.Logic.{dite}
@@ -12,7 +12,6 @@ use Rattle.dash_script.specs.declared.script.Block.{Block}
 use Rattle.shared_queue.specs.Known.{Shared, IsOf}
 use Rattle.looper_run.specs.Holding.{Sender}
 use Rattle.looper_run.specs.Round.{is_ended}
-use Rattle.choreographer.specs.Known.{Known as Pass}
 use Rattle.run_model.specs.Senders.{controller}
 use Rattle.run_model.specs.Moments.{Mode}
 use Rattle.run_model.specs.Planned.{lines_of}
@@ -22,7 +21,7 @@ use Rattle.dash_loopers.specs.declared.looper.StageLooper.{StageLooper}
 use Rattle.dash_stage.specs.declared.control.Controller.{Controller}
 use Rattle.dash_stage.specs.declared.stage.Stage.{Stage}
 use Rattle.dash_hall.specs.Growth.{own}
-use Rattle.dash_hall.specs.Kits.{badge_of, badge_for, frame_badge_of, IsHall, ArePostersOf}
+use Rattle.dash_hall.specs.Kits.{badge_of, badge_for, IsHall, ArePostersOf}
 use Rattle.dash_stage.specs.Controllers.{IsControllerIn, CallsNone, HaveHandedOut, parts_in}
 use Rattle.dash_stage.specs.Stages.{AreThreads, AreLoopers, IsStageIn, HaveRunBy, OthersHaveEnded}
 use Rattle.dash_hall.specs.Hearing.{HaveHeard, HaveHeardAt, AtEach, AreKept, AreReady, HaveSeenAt}

@@ -1,6 +1,5 @@
-use Rattle.std.proofs.Common.{◌≡◌, ◌∙◌, sym, subst}
+use Rattle.std.proofs.Common.{◌∙◌, sym, subst}
 use mathlib.Core.List.{IsPrefix}
-use Rattle.loop_model.proofs.Prefixes.{prefix_trans}
 use Rattle.choreographer.specs.Known.{Known as Pass, IsOf as IsFrameOf, HasHeardWho}
 use Rattle.dash_hall.specs.Hearing.{AtEach, PassHasHeard, ArePassesReady, ArePassesKnown}
 use Rattle.dash_hall.proofs.PassesHearing.{pass_heard_then, passes_known_more}

@@ -6,7 +6,7 @@ use Rattle.looper_run.specs.Holding.{Sender, Holding}
 use Rattle.dash_hall.specs.Kits.{AreUnseen}
 use Rattle.std.proofs.lemmas.Option.{same_Some}
 use Rattle.dash_hall.specs.Hearing.{HasHeardAll}
-use Rattle.dash_loopers.specs.Loopers.{IsLooperOf, Rest, OfItsPasses}
+use Rattle.dash_loopers.specs.Loopers.{IsLooperOf, Rest}
 use Rattle.dash_loopers.proofs.LooperPasses.{unheard_all}
 use Rattle.dash_loopers.proofs.LooperKits.{kit_many, kit_two, posters_begin, looper_begins}
 use Rattle.dash_loopers.proofs.LooperPlayed.{unseen_without, stands_first}

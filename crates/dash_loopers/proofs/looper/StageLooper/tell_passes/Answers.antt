@@ -4,7 +4,6 @@ use Rattle.std.proofs.lemmas.Option.{same_Some}
 use mathlib.Core.List.{IsPrefix}
 use Rattle.loop_model.proofs.Prefixes.{prefix_trans}
 use Rattle.looper_run.specs.Holding.{Sender}
-use Rattle.choreographer.specs.Known.{IsOf as IsFrameOf}
 use Rattle.dash_hall.proofs.PassesHearing.{pass_heard, pass_heard_then}
 use Rattle.dash_loopers.specs.Loopers.{Rest, others_in, rest_in}
 use Rattle.dash_loopers.proofs.LooperPasses.{may_same}

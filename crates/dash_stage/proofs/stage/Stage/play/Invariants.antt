@@ -19,4 +19,4 @@ invariant-loop-block g l = IsStage l.script l.self × HaveRun l.script (take l.b
     × AreMoved l.script l.self.controller
     × AskUpToNow l.script (take l.block-index l.script.blocks) l.self
     × ((d : Block) → l.block-index < length l.script.blocks
-        → AskInTurn l.script (take l.block-index l.script.blocks) (in_block (slice_index_or l.script.blocks l.block-index d).time) l.self)
+    → AskInTurn l.script (take l.block-index l.script.blocks) (in_block (slice_index_or l.script.blocks l.block-index d).time) l.self)

@@ -1,5 +1,4 @@
 use Rattle.std.proofs.Common.{refl, sym, subst}
-use Rattle.choreographer.specs.Known.{Known as Pass}
 use Rattle.dash_hall.specs.Hearing.{PassesHaveHeard}
 use Rattle.dash_hall.proofs.PassesHearing.{passes_heard_self, pass_heard, pass_kept_at, pass_known_at, pass_ready_is}
 use Rattle.dash_threads.proofs.thread.PostingThread.tell_pass.Goals as goal
