@@ -29,3 +29,4 @@ pub mod LooperNext
 pub mod LooperLeft
 pub mod LooperLooped
 pub mod LooperRounds
+pub mod LatestPulses

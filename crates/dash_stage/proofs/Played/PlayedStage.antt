@@ -29,7 +29,7 @@ use Rattle.dash_loopers.specs.declared.view_root.ViewRoot.{ViewRoot}
 use Rattle.dash_loopers.specs.declared.looper.StageLooper.{StageLooper}
 use Rattle.dash_loopers.specs.Players.{PlaceWithout}
 use Rattle.dash_loopers.specs.Loopers.{IsLooper, Rest, LooperKeeps, posters_of, others_in, rest_in}
-use Rattle.dash_loopers.specs.Played.{is_disposal, calls_in, IsShown, IsPlayed, StandsBy, HasCome, HasComeBy}
+use Rattle.dash_loopers.specs.Played.{is_disposal, calls_in, IsShown, IsPlayed, StandsBy, HasCome, HasComeBy, HasLatest}
 use Rattle.dash_hall.specs.Hosts.{asks_of}
 use Rattle.dash_stage.specs.declared.stage.Stage.{Stage}
 use Rattle.dash_stage.specs.Stages.{IsStage}
@@ -78,6 +78,7 @@ stands_heard {lockstep} s q k es es' acts parts parts' did a more calls frames r
   whole = λ fs begins law. st.whole fs (subst (λ (p : Pass). IsPrefix p.view.seen fs) frames begins) law;
   ran = subst (λ (p : Pass). map (as_told lockstep) (asks_of p) ≡ map (as_told lockstep) (asks_to_run did.frames)) (sym frames) st.ran;
   settled = st.settled;
+  latest_is = subst (λ (p : Pass). HasLatest p a.stamp) (sym frames) st.latest_is;
   played = record {
     shown = subst (λ (r : ViewRoot). IsShown s q (calls_in k es') r did) (sym root) (subst (λ l. IsShown s q l parts.root did) (sym calls) st.played.shown);
     elsewhere = λ r j d at lt.
