@@ -14,7 +14,7 @@ use Rattle.choreographer.specs.declared.view.Progress.{Progress}
 use Rattle.choreographer.specs.declared.view.View.{View}
 use Rattle.choreographer.specs.Frame.{begin_place, progress, progress_of, GrowsQuietly}
 use Rattle.choreographer.specs.Turn.{HasConstants, count_of, holds, last_of, sealed_in, taking, giving}
-use Rattle.choreographer.specs.Plays.{Sat, FoundBy, FoundHeard, MayGive, MaySeal}
+use Rattle.choreographer.specs.Plays.{Sat, FoundBy, FoundStamp, FoundHeard, MayGive, MaySeal, MayPulse}
 use Rattle.choreographer.specs.Steps.{HasSameConstants, StepsBy}
 use Rattle.choreographer.specs.Known.{Known, HasOwn, HearsTurn, IsTurn}
 use Rattle.loop_model.proofs.Prefixes.{prefix_self}
@@ -27,8 +27,8 @@ same_key key c o e f = let both : Some key ≡ Some c = sym e ∙ f in cc (both)
 -- a pass that took the turn, found x, and gave the turn back with y
 one_turn : (key : Constants) (before after : Known) (x y : Kept) (made : List (ℕ × FrameEntry)) → after.table ≡ before.table → after.number ≡ before.number
     → after.view ≡ giving (taking before.view x made) y → before.view.constants ≡ Some key → HasConstants key x → HasConstants key y → FoundBy before.view x
-    → IsPrefix x.frames.entries y.frames.entries → HearsTurn before after x y → IsTurn before after x y
-one_turn key before after x y made table number is own_key of_x of_y found grows hears = record {
+    → IsPrefix x.frames.entries y.frames.entries → FoundStamp key before.view x → before.view.passes ≡ before.number ∷ [] → HearsTurn before after x y → IsTurn before after x y
+one_turn key before after x y made table number is own_key of_x of_y found grows latest only hears = record {
   table = table;
   number = number;
   constants = ap (λ (v : View). v.constants) is;
@@ -42,19 +42,22 @@ one_turn key before after x y made table number is own_key of_x of_y found grows
   frame = ap (λ (v : View). v.frame) is;
   own = ap (λ (v : View). v.own) is;
   handed = ap (λ (v : View). v.handed) is;
+  stamp = λ c e named.
+      let same = latest before.number (ap (λ (k : Constants). k.pulses) (same_key key c before.view.constants own_key e) ∙ named) only in
+      (same, ap (λ (v : View). v.stamp) is ∙ omega (arith, same));
   hears = hears;
 }
 
 -- so it is by the two steps of its seat: s is what it knew as it took the turn, and t once it gave it back
 pub turned : (key : Constants) (inside now after : Known) (x y : Kept) (s t : Sat) → inside ≡ now → now.view.constants ≡ Some key → inside.view.passes ≡ inside.number ∷ [] → HasOwn inside.view
-    → s ≡ (taking inside.view x s.0.heard, (0, None) ∷ []) → HasConstants key x × FoundBy inside.view x → FoundHeard inside.view x s.0.heard → HasConstants key y
+    → s ≡ (taking inside.view x s.0.heard, (0, None) ∷ []) → HasConstants key x × FoundBy inside.view x → FoundHeard inside.view x s.0.heard → FoundStamp key inside.view x → HasConstants key y
     → IsPrefix x.frames.entries y.frames.entries → t ≡ (giving s.0 y, []) × HasOwn t.0 → after ≡ record { table = inside.table; number = inside.number; view = t.0 } → IsTurn now after x y
-turned key inside now after x y s t same own_key one own took found hears of_y grows gave is =
+turned key inside now after x y s t same own_key one own took found hears latest of_y grows gave is =
     let made : List (ℕ × FrameEntry) = s.0.heard in
     let b : Known = record { table = inside.table; number = inside.number; view = t.0 } in
     let view : t.0 ≡ giving (taking inside.view x made) y = ap (λ (z : Sat). z.0) gave.0 ∙ ap (λ (z : Sat). giving z.0 y) took in
     subst (λ (z : Known × Known). IsTurn z.0 z.1 x y) (λ i. (same i, sym is i))
-    (one_turn key inside b x y made refl refl view (ap (λ (p : Known). p.view.constants) same ∙ own_key) found.0 of_y found.1 grows (turn_hears inside b x y made one own hears refl view gave.1))
+    (one_turn key inside b x y made refl refl view (ap (λ (p : Known). p.view.constants) same ∙ own_key) found.0 of_y found.1 grows latest one (turn_hears inside b x y made one own hears refl view gave.1))
 
 -- a seat that gives back what it may still has its own
 pub own_given : (key : Constants) (v : View) (x : Kept) → v.constants ≡ Some key → HasOwn v → IsPrefix v.seen x.frames.entries → MaySeal key v x → HasOwn (giving v x)
@@ -74,6 +77,18 @@ own_given key v x own_key own more seals = record {
 -- where nothing was handed out, the state may be given back
 pub keeps_handed : (key : Constants) (v : View) (x y : Kept) (made : List (ℕ × FrameEntry)) → HasSameConstants x y → MaySeal key (taking v x made) y
 keeps_handed key v x y made same = let long = ap length same.3 in (omega (arith, long), λ _. long)
+
+-- where the stamp stays, the state may be given back
+pub keeps_stamp : (key : Constants) (v : View) (x y : Kept) (made : List (ℕ × FrameEntry)) → y.stamp ≡ x.stamp → MayPulse key (taking v x made) y
+keeps_stamp key v x y made same = λ n named elsewhere. same
+
+-- the seat of the pass that alone delivers pulses may change it
+pub may_pulse : (key : Constants) (v : View) (x y : Kept) (made : List (ℕ × FrameEntry)) (number : ℕ) → v.passes ≡ number ∷ [] → ((n : ℕ) → key.pulses ≡ Some n → number ≡ n) → MayPulse key (taking v x made) y
+may_pulse key v x y made number only mine = λ n named elsewhere.
+    let is = mine n named in
+    let here : cond {A = ℕ} (eqb number n) 1 0 ≡ 1 = ap (λ b. cond {A = ℕ} b 1 0) (eq-eqb number n is) in
+    let one : holds n v ≡ 1 = ap (count_of n) only ∙ omega (arith, here) in
+    absurd (omega (arith, one, elsewhere))
 
 -- the last pass, where it is a view's only one
 pub holds_last : (key : Constants) (v : View) (number : ℕ) → v.passes ≡ number ∷ [] → number + 1 ≡ key.passes → holds (last_of key) v ≡ 1

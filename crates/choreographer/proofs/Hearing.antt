@@ -69,4 +69,5 @@ module _ (number : ℕ) (s : Sat) (o : View) (m n : Sat) (idle : IsIdle number s
     frame = ap (λ (z : View). z.frame) now ∙ either_none s.0.frame;
     own = own_now;
     handed = handed_now;
+    stamp = ap (λ (z : View). z.stamp) now ∙ omega arith;
   }

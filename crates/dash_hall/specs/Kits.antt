@@ -1,5 +1,5 @@
 -- What the senders of a run share, and what each of them needs.
-use Rattle.std.specs.Prelude.{◌≡◌, ◌==◌, ◌+◌, ◌-◌, ◌<◌, nat_lt, ℕ, Bool, true, false, List, [], ◌∷◌, map, length, Option, Some, None, slice_get}
+use Rattle.std.specs.Prelude.{◌≡◌, ◌==◌, ◌+◌, ◌-◌, ◌<◌, nat_lt, ℕ, Bool, true, List, [], ◌∷◌, map, length, Option, Some, None, slice_get}
 use Rattle.std.specs.Prelude.{slice_index_or, if◌then◌else◌}
 use Rattle.std.specs.List.{range_with_len}
 use Rattle.atomic_table.specs.Seated.{TableId}
@@ -54,9 +54,10 @@ queue_constants lockstep s pool looper =
     record { home = pool; looper = looper; setting = record { main = looper == 0; lockstep = lockstep; senders = sender_count s } }
 
 -- what stays the same in a looper's choreographer: it has the phases of the script's edition, each thread has a pass, the looper two and the controller one,
--- and its record may be handed out as the run goes
+-- its record may be handed out as the run goes, and the looper's first pass alone delivers pulses
 abbrev pub frame_constants : Script → ℕ → FrameConstants
-frame_constants s looper = record { looper = looper; interval = s.period; phases = phase_count s.edition; passes = s.threads + 3; seals = true }
+frame_constants s looper =
+    record { looper = looper; interval = s.period; phases = phase_count s.edition; passes = s.threads + 3; seals = true; pulses = Some s.threads }
 
 abbrev pub queue_key : Shared TableId → Constants TableId
 queue_key q = q.constants
@@ -113,8 +114,8 @@ OthersAreOver s kits = (looper : ℕ) (d : Kit) → 0 < looper → looper < s.lo
 abbrev pub AreUnseen : List Sender → Type 0
 AreUnseen ps = (q : ℕ) (p : Sender) → q < length ps → (slice_index_or ps q p).view.seen ≡ []
 
--- the kit's posters have seen no call and handed nothing out, and its passes have seen no frame callback and heard of none, taken no turn, recorded nothing
--- and handed nothing out
+-- the kit's posters have seen no call and handed nothing out, and its passes have seen no frame callback and heard of none, taken no turn, recorded nothing,
+-- handed nothing out and delivered no pulse
 pub record IsUnusedKit (kit : Kit) : Type 0 where
   pub posters : AreUnseen kit.posters.items
   pub sealed : (q : ℕ) (p : Sender) → q < length kit.posters.items → (slice_index_or kit.posters.items q p).view.sealed ≡ []
@@ -123,6 +124,7 @@ pub record IsUnusedKit (kit : Kit) : Type 0 where
   pub own : (q : ℕ) (p : Pass) → q < length kit.frames.items → (slice_index_or kit.frames.items q p).view.own ≡ []
   pub handed : (q : ℕ) (p : Pass) → q < length kit.frames.items → (slice_index_or kit.frames.items q p).view.handed ≡ 0
   pub heard : (q : ℕ) (p : Pass) → q < length kit.frames.items → (slice_index_or kit.frames.items q p).view.heard ≡ []
+  pub stamp : (q : ℕ) (p : Pass) → q < length kit.frames.items → (slice_index_or kit.frames.items q p).view.stamp ≡ 0
 
 abbrev pub AreUnusedKits : List Kit → Type 0
 AreUnusedKits kits = (k : ℕ) (d : Kit) → k < length kits → IsUnusedKit (slice_index_or kits k d)

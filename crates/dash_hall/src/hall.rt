@@ -6,7 +6,7 @@ ghost use Rattle.dash_hall.specs.Dealing.{IsEmptyKit, EachGets, nothing, DealsPo
 
 use crate::kit::Kit;
 use crate::stop::Stop;
-use choreographer::{Choreographer, FramePass};
+use choreographer::{Choreographer, Constants, FramePass};
 use dash_script::{Script, phase_count};
 use loop_model::NoMemory;
 use loop_sources::{FdTable, IdleSet};
@@ -164,7 +164,7 @@ fn choreographers(
     Ok(choreographers)
 }
 
-/// The choreographer of this looper, with its passes in the kits.
+/// The choreographer of this looper, with its passes in the kits. The looper's first pass alone delivers pulses.
 fn choreographer(
     alloc: Global,
     script: &Script,
@@ -177,13 +177,15 @@ fn choreographer(
     ensures constants { IfOk result (λ c. c.constants ≡ frame_constants script.now looper) }
     ensures dealt { IfOk result (λ c. EachGets nothing (given_of script.now looper c) kits.old.items kits.new.items) }
 {
-    let (choreographer, passes) = Choreographer::make_sealing(
-        alloc,
+    let constants = Constants {
         looper,
-        script.period,
-        phase_count(script.edition),
-        script.threads + 3,
-    )?;
+        interval: script.period,
+        phases: phase_count(script.edition),
+        passes: script.threads + 3,
+        seals: true,
+        pulses: Some(script.threads),
+    };
+    let (choreographer, passes) = Choreographer::make_by(alloc, constants)?;
     deal_passes(kits, script, looper, passes)?;
     Ok(choreographer)
 }

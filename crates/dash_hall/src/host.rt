@@ -4,8 +4,8 @@ ghost use mathlib.Core.List.{IsPrefix};
 ghost use Rattle.loop_model.specs.declared.call.Call.TheVariants.{Barrier, Unbarrier};
 ghost use Rattle.frame_phases.specs.Pulses.{is_pulse_if_any};
 ghost use Rattle.handler_post.specs.Ways.{MadeNone};
-ghost use Rattle.choreographer.specs.Known.{IsOf as IsFrameOf};
-ghost use Rattle.choreographer.specs.Calls.{PulsedBy, DueBy, stamp_in};
+ghost use Rattle.choreographer.specs.Known.{IsOf as IsFrameOf, MayDeliver};
+ghost use Rattle.choreographer.specs.Calls.{PulsedBy, GetsStamp, DueBy, stamp_in};
 ghost use Rattle.dash_hall.specs.Growth.{own, GoesOn, TurnsOnce, Makes, BarsOf};
 ghost use Rattle.dash_hall.specs.Kits.{frame_badge_of};
 ghost use Rattle.dash_hall.specs.Hosts.{HostOrigin, origin_now, IsHostNow, IsSameHost, sends_of, IsPlaced, IsUnplaced, PlacesBy, PlacesNot};
@@ -127,15 +127,17 @@ impl<'a, R: Wait, U: Uptime> Host<'a, R, U> {
     }
 
     /// Delivers the pulse that is asked for at the choreographer, and answers it. None where none is asked for, or it has not come
-    /// yet. The pass is one of the choreographer.
+    /// yet. The pass is one of the choreographer, and the one that alone delivers pulses, where there is such a one.
     pub fn deliver(&mut self, c: &Choreographer, pass: &mut FramePass) -> Option<Pulse>
         requires ready { IsHostNow self.old }
         requires pass { IsFrameOf pass.old c.now }
+        requires delivers { MayDeliver pass.old c.now }
         ensures ready { IsHostNow self.new }
         ensures origin { IsSameHost self.old self.new }
         ensures pass { frame_badge_of pass.new ≡ frame_badge_of pass.old }
         ensures is_pulse { IsTrue (is_pulse_if_any c.now.constants.interval (stamp_in result)) }
         ensures pulse { PulsedBy pass.old pass.new (U.is_moment self.old.uptime.now) (sends_of self.old) (sends_of self.new) result }
+        ensures stamp { GetsStamp pass.old pass.new (stamp_in result) }
     {
         c.on_vsync(self.rt, pass, self)
     }

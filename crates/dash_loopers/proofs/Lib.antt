@@ -30,3 +30,4 @@ pub mod LooperNext
 pub mod LooperLeft
 pub mod LooperLooped
 pub mod LooperRounds
+pub mod LatestPulses

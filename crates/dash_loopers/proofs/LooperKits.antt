@@ -93,7 +93,7 @@ module _ (s : Script) (hall : Hall) (n : ℕ) (l : IsLooperOf s hall n) where
       omega (arith, within, same, length-map parts.others.items badge_of, length-remove (map (badge_for k) hall.queues.items) n within)
 
 -- the first and the second of two
-first_is : {X Y : Type 0} (f : X → Y) (xs : List X) (x : X) (a b : Y) → map f xs ≡ a ∷ b ∷ [] → x ≡ get_or xs 0 x → f x ≡ a
+pub first_is : {X Y : Type 0} (f : X → Y) (xs : List X) (x : X) (a b : Y) → map f xs ≡ a ∷ b ∷ [] → x ≡ get_or xs 0 x → f x ≡ a
 first_is f [] x a b e is = absurd cc
 first_is f (y ∷ ys) x a b e is = let head : f y ≡ a = cc in ap f is ∙ head
 

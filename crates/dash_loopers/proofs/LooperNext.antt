@@ -26,6 +26,7 @@ use Rattle.dash_loopers.specs.Played.{AreAlike, StandsBy, ComesBy, HasPlayedBy}
 use Rattle.dash_loopers.specs.Clocked.{AreByClockOf}
 use Rattle.dash_loopers.specs.Looped.{GoesOnFrom, StaysTold, LooksForPulse}
 use Rattle.dash_loopers.proofs.FrameIds.{turn_grew}
+use Rattle.dash_loopers.proofs.LatestPulses.{turn_keeps_latest}
 use Rattle.dash_loopers.proofs.LooperLoops.{plays_then}
 use Rattle.dash_loopers.proofs.LooperKits.{parts_of, others_many, looper_of, looper_with}
 
@@ -55,6 +56,7 @@ played_asked s l parts g r e asked = λ going text did a come. record {
         whole = λ fs begins law. st.whole fs (prefix_trans parts.frames.view.seen g.view.seen fs grew begins) law;
         ran = ap (λ l. map (as_told false) (asks_in l)) (asked_records parts.frames g r asked) ∙ st.ran;
         settled = st.settled;
+        latest_is = turn_keeps_latest parts.frames g asked.0 asked.0 asked.1 refl a.stamp st.latest_is;
         played = record { shown = st.played.shown; elsewhere = st.played.elsewhere; fired = st.played.fired; counts = st.played.counts };
       });
 }

@@ -12,7 +12,7 @@ use Rattle.shared_queue.specs.Known.{Shared, IsOf}
 use Rattle.looper_run.specs.Holding.{Sender, Holding, Workplace, workplace}
 use Rattle.looper_run.specs.Tests.{IsSameLooper}
 use Rattle.looper_run.proofs.Steps.{workplace_same}
-use Rattle.choreographer.specs.Known.{Shared as Frames, Known as Pass, IsOf as IsFrameOf}
+use Rattle.choreographer.specs.Known.{Shared as Frames, Known as Pass, IsOf as IsFrameOf, MayDeliver}
 use Rattle.dash_hall.specs.declared.hall.Hall.{Hall}
 use Rattle.dash_loopers.specs.declared.player.Parts.{Parts}
 use Rattle.dash_loopers.specs.declared.player.Place.{Place}
@@ -20,6 +20,7 @@ use Rattle.dash_hall.specs.Kits.{Badge, FrameBadge, badge_of, badge_for, frame_b
 use Rattle.dash_hall.proofs.Badges.{queue_count as queues_counted, queue_is as queue_read, choreographer_count, choreographer_at}
 use Rattle.dash_loopers.specs.Loopers.{ArePartsOf, IsLooperOf}
 use Rattle.dash_loopers.specs.Players.{ServesAt, AreSameParts, PlaceWithout}
+use Rattle.dash_loopers.specs.Played.{HasLatest}
 use Rattle.dash_loopers.proofs.LooperLists.{at_removed, within_removed, map_set_same}
 
 pub frame_of_badge : (n : ℕ) (p : Pass) (c : Frames) → frame_badge_of p ≡ frame_badge_for n c → IsFrameOf p c
@@ -63,6 +64,25 @@ module _ (s : Script) (hall : Hall) (n : ℕ) (l : IsLooperOf s hall n) where
 
   pub its_period : (c : Frames) → slice_get hall.choreographers.items n ≡ Some c → c.constants.interval ≡ s.period
   its_period c at = ap (λ k. k.interval) (frame_constants_are c at)
+
+  -- its first pass may deliver the pulses, and nobody else
+  its_pulses : (c : Frames) → slice_get hall.choreographers.items n ≡ Some c → c.constants.pulses ≡ Some s.threads
+  its_pulses c at = ap (λ k. k.pulses) (frame_constants_are c at)
+
+  pub may_deliver : (c : Frames) → slice_get hall.choreographers.items n ≡ Some c → (p : Pass) → frame_badge_of p ≡ frame_badge_for s.threads c → MayDeliver p c
+  may_deliver c at p badge = λ k named.
+      let both : Some s.threads ≡ Some k = sym (its_pulses c at) ∙ named in
+      let same : s.threads ≡ k = cc (both) in
+      ap (λ (b : FrameBadge). b.number) badge ∙ same
+
+  -- a new pass has no stamp
+  pub none_latest : (c : Frames) → slice_get hall.choreographers.items n ≡ Some c → (p : Pass) → frame_badge_of p ≡ frame_badge_for s.threads c → p.view.stamp ≡ 0 → HasLatest p 0
+  none_latest c at p badge none = record {
+    key = c.constants;
+    constants = ap (λ (b : FrameBadge). b.constants) badge;
+    alone = its_pulses c at ∙ ap Some (sym (ap (λ (b : FrameBadge). b.number) badge));
+    has = none;
+  }
 
 -- each edition has the phases up to 3
 pub up_to_three : (edition : ℕ) → 3 < phase_count edition

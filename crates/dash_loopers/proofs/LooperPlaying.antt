@@ -118,7 +118,7 @@ module _ (s : Script) (q now : ℕ) (began : StageLooper) where
   pub delivers_none : (time : ℕ) (is_moment : ℕ → Bool) (m : PostData) (id : ℕ) (made : List Entry) (parts : Parts) (acts : List Act) → m.callback ≡ Some id → Delivers s q time is_moment m made made parts parts acts acts
   delivers_none time is_moment m id made parts acts callback = record {
     ids = [];
-    ran = record { frame = None; start = 0; started = refl; framed = λ fs begins law. (refl, refl, refl, refl); within = omega arith; grew = prefix_self parts.frames.view.seen; asks = sym (append-nil (asks_of parts.frames)) };
+    ran = record { frame = None; start = 0; started = refl; framed = λ fs begins law. (refl, refl, refl, refl); within = omega arith; grew = prefix_self parts.frames.view.seen; asks = sym (append-nil (asks_of parts.frames)); kept = λ stamp has. has; stamped = λ stamp has fs begins. refl };
     starts = refl;
     plays = λ text a settled played. (subst (IsPlayed s q made parts) (sym (same a settled)) played, sym (ap (λ (l : List Act). acts ++ l) (ap (λ (b : Looper). b.painted) (nothing a) ∙ settled) ∙ append-nil acts));
   }

@@ -28,15 +28,16 @@ use Rattle.run_model.specs.Control.{At}
 use Rattle.run_model.specs.Asks.{Makes, plain, token_in, tokens_in, AreFor}
 use Rattle.run_model.specs.Loopers.{Looper, Sent, first_looper, starts_frame, delivered, and_takes}
 use Rattle.run_model.specs.Acts.{running, dispatched, after_act, MayDispatch, Lead, sent_on, IsSent}
-use Rattle.run_model.specs.FrameRuns.{FrameAt, nanos_of, frame_ids, is_frame_from, place_after, frames_after, is_run_then, are_run_then, is_whole, are_whole}
+use Rattle.run_model.specs.FrameRuns.{FrameAt, nanos_of, frame_ids, is_frame_from, has_stamp, place_after, frames_after, is_run_then, are_run_then, is_whole, are_whole}
 use Rattle.run_model.specs.FrameAsks.{FrameAsk, Runs, asks_to_run, as_told}
 use Rattle.run_model.proofs.RunLaws.{AreFor-snoc, Lead-snoc, ArePaints, Lead-paints}
 use Rattle.run_model.proofs.Growth.{Lead-entries, post_at-grows}
+use Rattle.choreographer.specs.Calls.{latest}
 use Rattle.dash_loopers.specs.declared.player.Parts.{Parts}
 use Rattle.dash_hall.specs.Growth.{own}
 use Rattle.dash_hall.specs.Hosts.{asks_of}
 use Rattle.dash_loopers.specs.Players.{PlaceWithout}
-use Rattle.dash_loopers.specs.Played.{IsRootOf, calls_in, IsPlayed, moments_of, asks_for, Delivers, pulse_acts, pulsed, Pulses, IsDueAt, StandsBy}
+use Rattle.dash_loopers.specs.Played.{IsRootOf, calls_in, IsPlayed, moments_of, asks_for, Delivers, pulse_acts, pulsed, HasLatest, Pulses, IsDueAt, StandsBy}
 use Rattle.dash_loopers.specs.PlayingLaws.{calls_more}
 use Rattle.dash_loopers.proofs.LooperSteps.{AddsAt, delivers}
 use Rattle.dash_loopers.proofs.MoreCalls.{tokens_more, sent_here, sent_else, without_self}
@@ -69,9 +70,14 @@ module _ {lockstep : Bool} (s : Script) (q k : ℕ) where
     whole = λ fs begins law. ap (are_whole (phase_count s.edition) fs) (ran p.stamp) ∙ st.whole fs (prefix_trans parts.frames.view.seen parts'.frames.view.seen fs p.grew begins) law;
     ran = ap (map (as_told lockstep)) p.asks ∙ (st.ran ∙ ap (λ (l : List FrameAt). map (as_told lockstep) (asks_to_run l)) (sym (ran p.stamp)));
     settled = painted p.stamp;
+    latest_is = subst (HasLatest parts'.frames) (came p.stamp) (p.got a.stamp st.latest_is);
     played = p.plays text did st.played;
   }
     where
+      came : (o : Option ℕ) → latest o a.stamp ≡ (pulsed q o a).stamp
+      came None = refl
+      came (Some stamp) = refl
+
       placed : (o : Option ℕ) → (pulsed q o a).place ≡ a.place
       placed None = refl
       placed (Some stamp) = refl
@@ -128,11 +134,11 @@ sooner fs first later (Some place) le h = and_from (nat_le first place) _ (no_la
 
 -- the acts lead on by a dispatch, with the paints that it makes before it
 leads_dispatch : (s : Script) (q : ℕ) (es : List Entry) (fs : List FrameEntry) (acts ps : List Act) (a : Looper) (ids : List ℕ) (frame : Option ℕ) (n now : ℕ) (route : Route) (m : PostData)
-    → a.painted ≡ [] → Lead s q es fs (first_looper s) acts a → post_at es n ≡ Some m → (not (is_some frame) || starts_frame q m) ≡ true → is_frame_from fs a.place frame ≡ true → frame_ids fs frame ≡ ids
+    → a.painted ≡ [] → Lead s q es fs (first_looper s) acts a → post_at es n ≡ Some m → (not (is_some frame) || starts_frame q m) ≡ true → is_frame_from fs a.place frame ≡ true → has_stamp fs frame a.stamp ≡ true → frame_ids fs frame ≡ ids
     → ArePaints ps → (delivered s q now ids m (taken q n now now frame a)).painted ≡ ps
     → Lead s q es fs (first_looper s) ((acts ++ ps) ++ Dispatch n now route ∷ []) (record (delivered s q now ids m (taken q n now now frame a)) { painted = [] })
 unfolding after_act
-leads_dispatch s q es fs acts ps a ids frame n now route m settled lead post starts from are paints painted =
+leads_dispatch s q es fs acts ps a ids frame n now route m settled lead post starts from stamped are paints painted =
     subst (λ b. Lead s q es fs (first_looper s) ((acts ++ ps) ++ Dispatch n now route ∷ []) b) state (Lead-snoc s q es fs frame (first_looper s) (acts ++ ps) (record a { painted = ps }) (Dispatch n now route) told may)
   where
     told : Lead s q es fs (first_looper s) (acts ++ ps) (record a { painted = ps })
@@ -149,6 +155,7 @@ leads_dispatch s q es fs acts ps a ids frame n now route m settled lead post sta
       accepted = ap is_some post;
       starts = subst (λ o. (not (is_some frame) || option_map_or (starts_frame q) o false) ≡ true) (sym post) starts;
       place = from;
+      stamped = stamped;
       painted = ap (λ (b : Looper). b.painted) causes ∙ painted;
     }
 
@@ -227,7 +234,7 @@ module _ (s : Script) (q k n now u : ℕ) (is_moment : ℕ → Bool) (m : PostDa
         subst (λ l. Lead s q ((es ++ e ∷ []) ++ more) fs (first_looper s) (l ++ Dispatch n now route ∷ []) by_dispatch) (sym (done.1 ∙ ap (λ (l : List Act). acts ++ l) alike))
         (leads_dispatch s q ((es ++ e ∷ []) ++ more) fs acts _ a d.ids d.ran.frame n now route m st.settled
         (Lead-entries s q (es ++ e ∷ []) fs more (first_looper s) acts a (Lead-entries s q es fs (e ∷ []) (first_looper s) acts a (st.led fs (prefix_trans parts.frames.view.seen parts'.frames.view.seen fs d.ran.grew begins) law)))
-        posts d.starts (sooner fs a.place (length parts.frames.view.seen) d.ran.frame st.place framed.0) framed.1 (adds.paints tt) refl);
+        posts d.starts (sooner fs a.place (length parts.frames.view.seen) d.ran.frame st.place framed.0) (d.ran.stamped a.stamp st.latest_is fs begins) framed.1 (adds.paints tt) refl);
     place = (let at = adds.place in let le = st.place in let longer = prefix_length parts.frames.view.seen parts'.frames.view.seen d.ran.grew in placed d.ran.frame by_dispatch.place at le longer d.ran.within);
     moments = λ is fs begins law.
         ap (are_run_then fs) adds_read.frames
@@ -244,6 +251,7 @@ module _ (s : Script) (q k n now u : ℕ) (is_moment : ℕ → Bool) (m : PostDa
         ∙ (ran_told lockstep is_moment u d.ran.start did.frames d.ran.frame at d.ran.started
         ∙ ap (λ (l : List FrameAt). map (as_told lockstep) (asks_to_run l)) (sym adds_read.frames)))));
     settled = refl;
+    latest_is = subst (HasLatest parts'.frames) (sym adds.stamp) (d.ran.kept a.stamp st.latest_is);
     played = done.0;
   }
     where

@@ -42,7 +42,7 @@ use Rattle.choreographer.proofs.Recorded.{pulse_records}
 use Rattle.dash_loopers.specs.declared.view_root.Painted.{Painted}
 use Rattle.dash_loopers.specs.declared.view_root.ViewRoot.{ViewRoot}
 use Rattle.dash_loopers.specs.declared.player.Parts.{Parts}
-use Rattle.dash_loopers.specs.Played.{standing, fixed, IsBarrierOf, IsFrameBy, calls_of, IsShown, IsPlayed, Shows, Plays, RanFrame, Delivers, DeliversPulse, Pulses, pulsed, paint_of}
+use Rattle.dash_loopers.specs.Played.{standing, fixed, IsBarrierOf, IsFrameBy, calls_of, IsShown, IsPlayed, Shows, Plays, RanFrame, Delivers, DeliversPulse, Pulses, pulsed, paint_of, KeepsLatest, GetsLatest, IsStampedBy}
 use Rattle.dash_hall.proofs.FramePosts.{accepted, refused, told_one, told_none}
 use Rattle.dash_loopers.proofs.FrameIds.{turn_grew}
 use Rattle.dash_loopers.proofs.FrameSteps.{FrameShows}
@@ -87,6 +87,22 @@ frame_sent h w host.Accepted p p' a b goes isnt sends = told_one h 0 0 w host.Ac
 frame_sent h w host.Refused p p' a b goes isnt sends = told_one h 0 0 w host.Refused p p' a b goes refused sends
 frame_sent h w host.NoMemory p p' a b goes isnt sends = absurd (isnt refl)
 
+-- what is played says nothing of the latest pulse
+played_pulsed : (s : Script) (q stamp : ℕ) (made : List Entry) (parts : Parts) (a : Looper) → IsPlayed s q made parts a → IsPlayed s q made parts (record a { stamp = stamp })
+played_pulsed s q stamp made parts a is =
+    let root = is.shown.stands in
+    record {
+      shown = record {
+        calls = is.shown.calls;
+        asked = is.shown.asked;
+        turns = is.shown.turns;
+        stands = record { edition = root.edition; gauges = root.gauges; lines = root.lines; barrier = root.barrier; barriers = root.barriers; painted = root.painted };
+      };
+      elsewhere = is.elsewhere;
+      fired = is.fired;
+      counts = is.counts;
+    }
+
 -- what the delivery of a pulse leaves
 pub pulse_delivered : (s : Script) (q now : ℕ) (p p' : Sender) (a b : Tally) (parts parts' : Parts) (r : Option Pulse) → GoesOn p p' a b
     → PulsedBy parts.frames parts'.frames (λ n. n == nanos_of now) (sends_by (frame_handler q) p) (sends_by (frame_handler q) p') r → parts'.root ≡ parts.root → parts'.others ≡ parts.others → parts'.fired ≡ parts.fired
@@ -102,7 +118,8 @@ pulse_delivered s q now p p' a b parts parts' (Some pulse) goes (x, y, n, t, mom
       turn_grew parts.frames parts'.frames x y t,
       ap asks_in (pulse_records parts.frames parts'.frames (λ n. n == nanos_of now) (sends_by (frame_handler q) p) (sends_by (frame_handler q) p') (Some pulse) (x, y, n, t, moment, (some, left, sends))),
       millis_near pulse.stamp now near,
-      λ text l is. played_with s q (calls_of p') (calls_of p') parts parts' (pulsed q (Some pulse.stamp) l) refl root others fired (played_call s q (Post (frame_message q 0 0 (pulse.stamp / 1000000))) (NotBefore (millis_up pulse.stamp)) p p' parts refl made l is),
+      λ text l is. played_with s q (calls_of p') (calls_of p') parts parts' (pulsed q (Some pulse.stamp) l) refl root others fired
+          (played_pulsed s q pulse.stamp (calls_of p') parts _ (played_call s q (Post (frame_message q 0 0 (pulse.stamp / 1000000))) (NotBefore (millis_up pulse.stamp)) p p' parts refl made l is)),
     ))
 
 -- ---- by a host that was made of the looper's poster
@@ -136,10 +153,10 @@ unless_made NoMemory done P Q isnt is h f = tt
 
 -- a pulse was told
 pub pulse_told : (s : Script) (q now : ℕ) (made made' : List Entry) (parts parts' : Parts) (acts acts0 acts' : List Act) (pulse : Pulse) → is_pulse_if_any s.period (stamp_in (Some pulse)) ≡ true → DeliversPulse s q now made made' parts parts' (Some pulse) → pulse.sent ≢ host.NoMemory
-    → acts0 ≡ acts → acts' ≡ acts0 ++ Vsync pulse.stamp ∷ [] → Pulses s q now made made' parts parts' acts acts'
-pulse_told s q now made made' parts parts' acts acts0 acts' pulse is_one delivers isnt same told =
+    → GetsLatest parts.frames parts'.frames (stamp_in (Some pulse)) → acts0 ≡ acts → acts' ≡ acts0 ++ Vsync pulse.stamp ∷ [] → Pulses s q now made made' parts parts' acts acts'
+pulse_told s q now made made' parts parts' acts acts0 acts' pulse is_one delivers isnt got same told =
     let done = delivers isnt in
-    record { stamp = Some pulse.stamp; is_pulse = is_one; due = done.2; told = told ∙ ap (λ (l : List Act). l ++ Vsync pulse.stamp ∷ []) same; grew = done.0; asks = done.1; plays = done.3 }
+    record { stamp = Some pulse.stamp; is_pulse = is_one; due = done.2; told = told ∙ ap (λ (l : List Act). l ++ Vsync pulse.stamp ∷ []) same; grew = done.0; asks = done.1; got = got; plays = done.3 }
 
 -- such a host's calls that told of nothing
 pub untold_hosted : {U : Type 0} (o o' : HostOrigin U) (p p0 p' : Sender) (b : Tally) → o' ≡ o → IsHost o' p' b → o.poster ≡ p → p0 ≡ p → sends_by o'.handler p' ≡ sends_by o.handler p0 → calls_of p' ≡ calls_of p
@@ -317,6 +334,8 @@ frame_delivered s q now is_moment m made made' parts mid parts' acts acts0 acts'
     within = subst (λ (f : Pass). place_after 0 ran.frame ≤ length f.view.seen) (sym frames) ran.within;
     grew = subst (λ (f : Pass). IsPrefix parts.frames.view.seen f.view.seen) (sym frames) ran.grew;
     asks = ap asks_of frames ∙ ran.asks;
+    kept = subst (KeepsLatest parts.frames) (sym frames) ran.kept;
+    stamped = λ stamp has. subst (λ (f : Pass). IsStampedBy f ran.frame stamp) (sym frames) (ran.stamped stamp has);
   };
   starts = ap (λ (t : Bool). not (is_some ran.frame) || t) starts ∙ or-true (not (is_some ran.frame));
   plays = λ text a unpainted is. (
@@ -347,11 +366,11 @@ frame_delivered s q now is_moment m made made' parts mid parts' acts acts0 acts'
 }
 
 -- a message that begins no frame and paints nothing
-pub step_delivered : (s : Script) (q now : ℕ) (is_moment : ℕ → Bool) (m : PostData) (made made' : List Entry) (parts parts' : Parts) (acts acts' : List Act) (step : Looper → Looper) → IsPrefix parts.frames.view.seen parts'.frames.view.seen → asks_of parts'.frames ≡ asks_of parts.frames
+pub step_delivered : (s : Script) (q now : ℕ) (is_moment : ℕ → Bool) (m : PostData) (made made' : List Entry) (parts parts' : Parts) (acts acts' : List Act) (step : Looper → Looper) → IsPrefix parts.frames.view.seen parts'.frames.view.seen → asks_of parts'.frames ≡ asks_of parts.frames → KeepsLatest parts.frames parts'.frames
     → ((a : Looper) → delivered s q now [] m a ≡ step a) → ((a : Looper) → (step a).painted ≡ a.painted) → Plays s q step made parts made' parts' → acts' ≡ acts → Delivers s q now is_moment m made made' parts parts' acts acts'
-step_delivered s q now is_moment m made made' parts parts' acts acts' step grew asks is_step still plays same = record {
+step_delivered s q now is_moment m made made' parts parts' acts acts' step grew asks keeps is_step still plays same = record {
   ids = [];
-  ran = record { frame = None; start = 0; started = refl; framed = λ fs begins is. (refl, refl, refl, refl); within = omega arith; grew = grew; asks = asks ∙ sym (append-nil (asks_of parts.frames)) };
+  ran = record { frame = None; start = 0; started = refl; framed = λ fs begins is. (refl, refl, refl, refl); within = omega arith; grew = grew; asks = asks ∙ sym (append-nil (asks_of parts.frames)); kept = keeps; stamped = λ stamp has fs begins. refl };
   starts = refl;
   plays = λ text a unpainted is. (
       let b : Looper = step a in
@@ -366,7 +385,7 @@ step_delivered s q now is_moment m made made' parts parts' acts acts' step grew 
 pub still_delivered : (s : Script) (q now : ℕ) (is_moment : ℕ → Bool) (m : PostData) (made made' : List Entry) (parts parts' : Parts) (acts acts' : List Act) (step : Looper → Looper) → parts'.frames ≡ parts.frames
     → ((a : Looper) → delivered s q now [] m a ≡ step a) → ((a : Looper) → (step a).painted ≡ a.painted) → Plays s q step made parts made' parts' → acts' ≡ acts → Delivers s q now is_moment m made made' parts parts' acts acts'
 still_delivered s q now is_moment m made made' parts parts' acts acts' step frames is_step still plays same =
-    step_delivered s q now is_moment m made made' parts parts' acts acts' step (subst (λ (f : Pass). IsPrefix parts.frames.view.seen f.view.seen) (sym frames) (prefix_self parts.frames.view.seen)) (ap asks_of frames) is_step still plays same
+    step_delivered s q now is_moment m made made' parts parts' acts acts' step (subst (λ (f : Pass). IsPrefix parts.frames.view.seen f.view.seen) (sym frames) (prefix_self parts.frames.view.seen)) (ap asks_of frames) (subst (KeepsLatest parts.frames) (sym frames) (λ stamp has. has)) is_step still plays same
 
 -- one paint more was told
 pub painted_more : (acts0 acts : List Act) (ps : List Painted) (i : ℕ) (d : Painted) → i < length ps → acts ≡ acts0 ++ map paint_of (take i ps) → acts ++ paint_of (get_or ps i d) ∷ [] ≡ acts0 ++ map paint_of (take (i + 1) ps)

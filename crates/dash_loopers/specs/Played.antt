@@ -21,7 +21,9 @@ use Rattle.dash_script.specs.declared.script.Script.{Script}
 use Rattle.dash_script.specs.Causes.{phase_count}
 use Rattle.dash_script.specs.Reading.{HasText}
 use Rattle.looper_run.specs.Holding.{Sender}
+use Rattle.choreographer.specs.declared.view.Constants.{Constants}
 use Rattle.choreographer.specs.Known.{Known as Pass}
+use Rattle.choreographer.specs.Calls.{latest}
 use Rattle.choreographer.specs.declared.host.HostSent.TheVariants as host
 use Rattle.choreographer.specs.declared.hosted.Pulse.{Pulse}
 use Rattle.choreographer.specs.Client.{Run}
@@ -31,7 +33,7 @@ use Rattle.run_model.specs.Planned.{frame_message, frame_due}
 use Rattle.run_model.specs.Control.{Timing, At, InBlock, NotBefore}
 use Rattle.run_model.specs.Loopers.{Looper, Gauge, Sent, first_looper, starts_frame, delivered, fires, reaction}
 use Rattle.run_model.specs.Acts.{Lead, sent_on, IsSent, millis_up}
-use Rattle.run_model.specs.FrameRuns.{FrameAt, frame_ids, is_frame_from, frame_moments, place_after, are_run_then, are_whole}
+use Rattle.run_model.specs.FrameRuns.{FrameAt, frame_ids, is_frame_from, has_stamp, frame_moments, place_after, are_run_then, are_whole}
 use Rattle.run_model.specs.FrameAsks.{FrameAsk, Posts, Removes, Runs, asks_to_run, as_told}
 use Rattle.dash_hall.specs.declared.kit.Kit.{Kit}
 use Rattle.dash_loopers.specs.declared.view_root.Gauge.{Gauge as ViewGauge}
@@ -152,6 +154,25 @@ abbrev pub moments_of : List FrameEntry → Option ℕ → List ℕ
 moments_of fs None = []
 moments_of fs (Some place) = frame_moments fs place
 
+-- the pass alone delivers the pulses of its choreographer, and this is the stamp of the latest one, or 0 before the first
+pub record HasLatest (p : Pass) (stamp : ℕ) : Type 0 where
+  pub key : Constants
+  pub constants : p.view.constants ≡ Some key
+  pub alone : key.pulses ≡ Some p.number
+  pub has : p.view.stamp ≡ stamp
+
+-- whatever the latest pulse was, it is the latest still
+abbrev pub KeepsLatest : Pass → Pass → Type 0
+KeepsLatest before after = (stamp : ℕ) → HasLatest before stamp → HasLatest after stamp
+
+-- or the latest is now the one that came, where one came
+abbrev pub GetsLatest : Pass → Pass → Option ℕ → Type 0
+GetsLatest before after came = (stamp : ℕ) → HasLatest before stamp → HasLatest after (latest came stamp)
+
+-- by whatever the frame record comes to, a frame that began has this stamp
+abbrev pub IsStampedBy : Pass → Option ℕ → ℕ → Type 0
+IsStampedBy after frame stamp = (fs : List FrameEntry) → IsPrefix after.view.seen fs → has_stamp fs frame stamp ≡ true
+
 -- by whatever the frame record comes to, a frame began behind all that the pass had seen before, and ran callbacks of these identities; its start and the
 -- moments of its phases, one for each phase, pass the test; or none began and none ran
 abbrev pub IsFrameBy : ℕ → ℕ → (ℕ → Bool) → Pass → Pass → Option ℕ → List ℕ → Type 0
@@ -165,7 +186,7 @@ asks_for None start = []
 asks_for (Some place) start = Runs start ∷ []
 
 -- callbacks of these identities ran, of a frame whose beginning the pass has seen, or of none, and the pass asked for that frame, by its start, and for nothing
--- else; its moments pass the test
+-- else; its moments pass the test, and it began with the stamp of the latest pulse, which is the latest still
 pub record RanFrame (interval phases : ℕ) (is_moment : ℕ → Bool) (before after : Pass) (ids : List ℕ) : Type 0 where
   pub frame : Option ℕ
   pub start : ℕ
@@ -174,6 +195,8 @@ pub record RanFrame (interval phases : ℕ) (is_moment : ℕ → Bool) (before a
   pub within : place_after 0 frame ≤ length after.view.seen
   pub grew : IsPrefix before.view.seen after.view.seen
   pub asks : asks_of after ≡ asks_of before ++ asks_for frame start
+  pub kept : KeepsLatest before after
+  pub stamped : (stamp : ℕ) → HasLatest before stamp → IsStampedBy after frame stamp
 
 -- a message was delivered at this moment: its frame, where it began one, ran at moments that pass the test, and what was painted is told
 pub record Delivers (s : Script) (q now : ℕ) (is_moment : ℕ → Bool) (m : PostData) (made made' : List Entry)
@@ -189,13 +212,14 @@ abbrev pub pulse_acts : Option ℕ → List Act
 pulse_acts None = []
 pulse_acts (Some stamp) = Vsync stamp ∷ []
 
--- what a looper comes to by a pulse: it sends the frame message
+-- what a looper comes to by a pulse: it sends the frame message, and the pulse is the latest
 abbrev pub pulsed : ℕ → Option ℕ → Looper → Looper
 pulsed q None a = a
 pulsed q (Some stamp) a =
     record a {
       sent = a.sent
           ++ record { queue = q; ask = Makes (Post (frame_message q 0 0 (stamp / 1000000))); reply = None; timing = NotBefore (millis_up stamp) } ∷ [];
+      stamp = stamp;
     }
 
 -- the time in whole milliseconds by which a pulse that came is due
@@ -220,6 +244,7 @@ pub record Pulses (s : Script) (q now : ℕ) (made made' : List Entry) (parts pa
   pub told : acts' ≡ acts ++ pulse_acts stamp
   pub grew : IsPrefix parts.frames.view.seen parts'.frames.view.seen
   pub asks : asks_of parts'.frames ≡ asks_of parts.frames
+  pub got : GetsLatest parts.frames parts'.frames stamp
   pub plays : Plays s q (pulsed q stamp) made parts made' parts'
 
 -- ---- what is told in a mode
@@ -246,7 +271,8 @@ pub record AreAlike (a b : Looper) : Type 0 where
 -- ---- between two acts
 
 -- the looper's acts lead to the one state, by whatever its frame record comes to, and all that the other state says is so: each frame that it ran took all
--- phases, in lockstep at its time, at which it started, and its own pass asked for these frames, as it is told in the mode, in order and for nothing else
+-- phases, in lockstep at its time, at which it started, and its own pass asked for these frames, as it is told in the mode, in order and for nothing else.
+-- The latest pulse of its own pass is that of the acts
 pub record StandsBy (lockstep : Bool) (s : Script) (q sender : ℕ) (es : List Entry) (acts : List Act) (parts : Parts) (did a : Looper) : Type 0 where
   pub led : (fs : List FrameEntry) → IsPrefix parts.frames.view.seen fs → lawful s.period (phase_count s.edition) fs ≡ true
       → Lead s q es fs (first_looper s) acts a
@@ -257,6 +283,7 @@ pub record StandsBy (lockstep : Bool) (s : Script) (q sender : ℕ) (es : List E
       → are_whole (phase_count s.edition) fs did.frames ≡ true
   pub ran : map (as_told lockstep) (asks_of parts.frames) ≡ map (as_told lockstep) (asks_to_run did.frames)
   pub settled : a.painted ≡ []
+  pub latest_is : HasLatest parts.frames a.stamp
   pub played : IsPlayed s q (calls_in sender es) parts did
 
 -- in lockstep, of one state: each frame that its dispatches ran started at the time of its dispatch

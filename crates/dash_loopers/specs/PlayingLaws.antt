@@ -57,6 +57,7 @@ module _ {lockstep : Bool} (s : Script) (q k : ℕ) where
     whole = st.whole;
     ran = st.ran;
     settled = st.settled;
+    latest_is = st.latest_is;
     played = subst (λ l. IsPlayed s q l parts did) (sym same) st.played;
   }
 
@@ -71,6 +72,7 @@ module _ {lockstep : Bool} (s : Script) (q k : ℕ) where
     whole = st.whole;
     ran = st.ran;
     settled = st.settled;
+    latest_is = st.latest_is;
     played = st.played;
   }
   stands_quiet es (Event f e m) acts parts did a is st = record {
@@ -80,6 +82,7 @@ module _ {lockstep : Bool} (s : Script) (q k : ℕ) where
     whole = st.whole;
     ran = st.ran;
     settled = st.settled;
+    latest_is = st.latest_is;
     played = st.played;
   }
   stands_quiet es (Dispatch n m r) acts parts did a is st = absurd is

@@ -11,7 +11,7 @@ ghost use Rattle.dash_loopers.specs.Clocked.{CallsUntimed};
 ghost use Rattle.dash_loopers.specs.Loopers.{IsPlaceOf, IsLooperOf};
 ghost use Rattle.dash_loopers.specs.Players.{AreSameParts};
 ghost use Rattle.dash_script.specs.Causes.{phase_count};
-ghost use Rattle.dash_loopers.specs.Played.{calls_of, paint_of};
+ghost use Rattle.dash_loopers.specs.Played.{calls_of, paint_of, KeepsLatest, GetsLatest};
 ghost use Rattle.loop_model.specs.declared.post.Post.{Post as PostData};
 ghost use Rattle.run_model.specs.Senders.{frame_handler as the_frame_handler};
 ghost use Rattle.run_model.specs.Loopers.{starts_frame, object_set};
@@ -80,6 +80,7 @@ impl<'a, R: Wait> Place<'a, R> {
         ensures is_pulse { IsTrue (is_pulse_if_any self.now.script.now.period (stamp_in result)) }
         ensures pulses { DeliversPulseOn self.now now own.old own.new parts.old parts.new result }
         ensures looked { PulsedOn self.now now own.old own.new parts.old parts.new result }
+        ensures latest { GetsLatest parts.old.frames parts.new.frames (stamp_in result) }
         ensures acts { own.new.journal.now.acts ≡ own.old.journal.now.acts }
     {
         let began = Snapshot::of(&*own.poster);
@@ -153,6 +154,7 @@ impl<'a, R: Wait> Place<'a, R> {
         ensures acts { own.new.journal.now.acts ≡ own.old.journal.now.acts }
         ensures seen { IsPrefix parts.old.frames.view.seen parts.new.frames.view.seen }
         ensures asks { asks_of parts.new.frames ≡ asks_of parts.old.frames }
+        ensures latest { KeepsLatest parts.old.frames parts.new.frames }
         ensures calls { calls_of own.new.poster.now ≡ calls_of own.old.poster.now }
         ensures due { phase < phase_count self.now.script.now.edition → IsDueAt now phase parts.old.frames parts.new.frames }
         ensures beyond { phase_count self.now.script.now.edition ≤ phase → parts.new ≡ parts.old }

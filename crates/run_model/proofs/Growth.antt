@@ -39,6 +39,7 @@ module _ (s : Script) (q : ℕ) (es : List Entry) (fs : List FrameEntry) where
         accepted = ap is_some same ∙ h.accepted;
         starts = subst (λ o. (not (is_some frame) || option_map_or (starts_frame q) o false) ≡ true) (sym same) h.starts;
         place = h.place;
+        stamped = h.stamped;
         painted = subst (λ o. (dispatched s q fs frame n now a o).painted ≡ a.painted) (sym same) h.painted;
       }
   MayCome-entries more frame a (Vsync stamp) h = h

@@ -13,7 +13,7 @@ use Rattle.frame_phases.specs.declared.entry.FrameEntry.{FrameEntry}
 use Rattle.dash_script.specs.declared.script.Script.{Script}
 use Rattle.run_model.specs.Loopers.{Looper, starts_frame}
 use Rattle.run_model.specs.Acts.{Lead, MayCome, after_act, dispatched}
-use Rattle.run_model.specs.FrameRuns.{is_begin}
+use Rattle.run_model.specs.FrameRuns.{is_begin, has_stamp}
 
 -- the places at which frames begin
 abbrev begins_from : ℕ → List FrameEntry → List (Option ℕ)
@@ -36,11 +36,19 @@ paints_so s q es fs a (Vsync stamp) frame = true
 paints_so s q es fs a (Idle i k) frame = true
 paints_so s q es fs a (Event f e m) frame = true
 
+-- a frame that it runs has the stamp of the latest pulse
+abbrev stamped_so : List FrameEntry → Looper → Act → Option ℕ → Bool
+stamped_so fs a (Dispatch n now route) frame = has_stamp fs frame a.stamp
+stamped_so fs a (Paint g v) frame = true
+stamped_so fs a (Vsync stamp) frame = true
+stamped_so fs a (Idle i k) frame = true
+stamped_so fs a (Event f e m) frame = true
+
 -- something that the acts may lead to passes
 abbrev pub any_led : (Looper → Bool) → Script → ℕ → List Entry → List FrameEntry → Looper → List Act → Bool
 any_led passes s q es fs a [] = passes a
 any_led passes s q es fs a (x ∷ xs) =
-    list_any (λ (frame : Option ℕ). paints_so s q es fs a x frame && any_led passes s q es fs (after_act s q es fs frame a x) xs) (choices q es fs x)
+    list_any (λ (frame : Option ℕ). paints_so s q es fs a x frame && stamped_so fs a x frame && any_led passes s q es fs (after_act s q es fs frame a x) xs) (choices q es fs x)
 
 begins_there : (test : Option ℕ → Bool) (n : ℕ) (fs : List FrameEntry) (place : ℕ) → option_map_or is_begin (slice_get fs place) false ≡ true
     → test (Some (n + place)) ≡ true → list_any test (begins_from n fs) ≡ true
@@ -82,10 +90,18 @@ paints_as_told s q es fs frame a (Vsync stamp) comes = refl
 paints_as_told s q es fs frame a (Idle i k) comes = refl
 paints_as_told s q es fs frame a (Event f e m) comes = refl
 
+stamped_as_told : (s : Script) (q : ℕ) (es : List Entry) (fs : List FrameEntry) (frame : Option ℕ) (a : Looper) (x : Act) → MayCome s q es fs frame a x → stamped_so fs a x frame ≡ true
+stamped_as_told s q es fs frame a (Dispatch n now route) comes = comes.stamped
+stamped_as_told s q es fs frame a (Paint g v) comes = refl
+stamped_as_told s q es fs frame a (Vsync stamp) comes = refl
+stamped_as_told s q es fs frame a (Idle i k) comes = refl
+stamped_as_told s q es fs frame a (Event f e m) comes = refl
+
 -- what the acts lead to is one of these
 pub led_passes : (passes : Looper → Bool) (s : Script) (q : ℕ) (es : List Entry) (fs : List FrameEntry) (a : Looper) (xs : List Act) (b : Looper) → Lead s q es fs a xs b
     → passes b ≡ true → any_led passes s q es fs a xs ≡ true
 led_passes passes s q es fs a [] b is h = subst (λ (c : Looper). passes c ≡ true) (sym is) h
 led_passes passes s q es fs a (x ∷ xs) b (frame, (comes, rest)) h =
-    chosen s q es fs frame a x (λ (o : Option ℕ). paints_so s q es fs a x o && any_led passes s q es fs (after_act s q es fs o a x) xs) comes
-    (and_from (paints_so s q es fs a x frame) _ (paints_as_told s q es fs frame a x comes) (led_passes passes s q es fs (after_act s q es fs frame a x) xs b rest h))
+    chosen s q es fs frame a x (λ (o : Option ℕ). paints_so s q es fs a x o && stamped_so fs a x o && any_led passes s q es fs (after_act s q es fs o a x) xs) comes
+    (and_from (paints_so s q es fs a x frame && stamped_so fs a x frame) _
+    (and_from (paints_so s q es fs a x frame) (stamped_so fs a x frame) (paints_as_told s q es fs frame a x comes) (stamped_as_told s q es fs frame a x comes)) (led_passes passes s q es fs (after_act s q es fs frame a x) xs b rest h))

@@ -107,17 +107,34 @@ stamped_by_run : (s : Script) (rows : List Row) → IsRun in_lockstep s (report_
 stamped_by_run s [] r = refl
 stamped_by_run s (row ∷ rows) r = r.frames.0.stamps
 
--- a thread posts a frame callback, and its frame begins with the stamp of a moment at which no pulse comes
-abbrev unstamped : List Faulty
-unstamped = faulty but.Stamps (plain_script 1 1 (handler_on 0 ∷ []) (block 10 (by 0 (command.Frame 0 0 8 0) ∷ []) ∷ []) 20) (record {
+-- a thread posts a frame callback, and its frame, which comes by the pulse of 16666667, has this stamp and this time
+abbrev stamped_at : ℕ → ℕ → Faulty
+stamped_at stamp time = faulty (but.Stamps 16666667) (plain_script 1 1 (handler_on 0 ∷ []) (block 10 (by 0 (command.Frame 0 0 8 0) ∷ []) ∷ []) 20) (record {
   entries = one_frame_entries;
   acts = act.Vsync 16666667 ∷ act.Dispatch 0 17 route.Intercepted ∷ [];
-  frames = frame.Posted (callback 0 0 10 8) ∷ frame.Begin 12345678 17000000 12345678 ∷ frame.Take 0 17000000 12345678 ∷ frame.Ran 0
-      ∷ frame.Take 1 17000000 12345678 ∷ frame.Take 2 17000000 12345678 ∷ frame.Take 3 17000000 12345678 ∷ [];
+  frames = frame.Posted (callback 0 0 10 8) ∷ frame.Begin stamp 17000000 time ∷ frame.Take 0 17000000 time ∷ frame.Ran 0
+      ∷ frame.Take 1 17000000 time ∷ frame.Take 2 17000000 time ∷ frame.Take 3 17000000 time ∷ [];
   places = None ∷ Some 1 ∷ [];
   disposed_at = 0;
-} ∷ []) ∷ []
+} ∷ [])
+
+-- the stamp is of a moment at which no pulse comes
+abbrev unstamped : List Faulty
+unstamped = stamped_at 12345678 12345678 ∷ []
 
 pub unstamped_fail : AllByRecursion Fails unstamped
 unfolding computing
 unstamped_fail = each_fails is_main_stamped stamped_by_run unstamped refl refl
+
+-- it is not that of the latest pulse
+abbrev not_latest : List Faulty
+not_latest =
+    -- but that of a pulse that is still to come
+    stamped_at 33333334 17000000
+    -- or 0, which it may be before the first one
+    ∷ stamped_at 0 16666667
+    ∷ []
+
+pub not_latest_fail : AllByRecursion Fails not_latest
+unfolding computing
+not_latest_fail = each_fails main_tells_asked told_by_run not_latest refl refl

@@ -7,6 +7,8 @@ use Rattle.loop_model.specs.declared.journal.Journal.{Journal}
 use Rattle.loop_model.specs.declared.record.QueueRecord.{QueueRecord}
 use Rattle.loop_model.specs.Dispatches.{act_dispatch, call_dispatch}
 use Rattle.loop_model.proofs.Sorting.{AllByRecursion-weaker}
+use Rattle.frame_phases.specs.declared.entry.FrameEntry.{FrameEntry}
+use Rattle.frame_phases.specs.declared.entry.FrameEntry.TheVariants.{Posted, Removed, Begin, Take, Ran}
 use Rattle.frame_phases.specs.declared.entry.FrameRecord.{FrameRecord}
 use Rattle.frame_phases.specs.Frames.{lawful}
 use Rattle.frame_phases.specs.Pulses.{are_stamped}
@@ -34,8 +36,8 @@ pub data Clause : Type 0 where
   Asked : Clause
   -- it is asked in turn
   InTurn : Clause
-  -- each frame has the stamp of a pulse
-  Stamps : Clause
+  -- each frame has the stamp of a pulse, the latest one, of which this is the stamp
+  Stamps : ℕ → Clause
   -- frames are whole
   Whole : Clause
   -- frames start and take their phases at the times of their dispatches
@@ -66,7 +68,7 @@ pub data Clause : Type 0 where
 abbrev pub number_of : Clause → ℕ
 number_of Nothing = 0
 number_of Asked = 1
-number_of Stamps = 2
+number_of (Stamps stamp) = 2
 number_of Whole = 3
 number_of Moments = 4
 number_of Starts = 5
@@ -96,10 +98,22 @@ abbrev pub made_but : Clause → List (List TimedAsk) → List (List TimedAsk)
 made_but InTurn by_sender = map (map (λ (x : TimedAsk). record x { when = 0 })) by_sender
 made_but _ by_sender = by_sender
 
+-- where the frames' stamps are left out, each frame has this one
+abbrev pub stamped_with : ℕ → FrameEntry → FrameEntry
+stamped_with stamp (Begin vsync start time) = Begin stamp start time
+stamped_with stamp (Posted c) = Posted c
+stamped_with stamp (Removed phase id token count) = Removed phase id token count
+stamped_with stamp (Take phase now time) = Take phase now time
+stamped_with stamp (Ran number) = Ran number
+
+abbrev pub with_stamps : Clause → List FrameEntry → List FrameEntry
+with_stamps (Stamps stamp) fs = map (stamped_with stamp) fs
+with_stamps _ fs = fs
+
 -- a looper's run, but for the clause that is left out
 pub record IsLooperRunBut (out : Clause) (s : Script) (queues : List QueueRecord) (q : QueueRecord) (j : Journal) (f : FrameRecord) : Type 0 where
   pub final : Looper
-  pub acts : Lead (with_pulses out s) q.looper (history_of q) f.entries (first_looper s) j.acts final
+  pub acts : Lead (with_pulses out s) q.looper (history_of q) (with_stamps out f.entries) (first_looper s) j.acts final
   pub settled : final.painted ≡ []
   pub dispatches : Unless out Takes (filter_map act_dispatch j.acts ≡ filter_map (λ e. call_dispatch e.call e.reply) (entries_by (looper_sender s q.looper) (history_of q)))
   pub disposed_at : ℕ
@@ -114,7 +128,7 @@ pub record IsFrameRunBut (out : Clause) (s : Script) (f : FrameRecord) : Type 0 
   pub interval : f.interval ≡ s.period
   pub phases : f.phases ≡ phase_count s.edition
   pub lawful : lawful f.interval f.phases f.entries ≡ true
-  pub stamps : Unless out Stamps (Unless out Pulses (are_stamped f.interval f.entries ≡ true))
+  pub stamps : Unless out (Stamps 0) (Unless out Pulses (are_stamped f.interval f.entries ≡ true))
 
 -- a timely history, but for the clause that is left out
 pub record IsTimelyBut (out : Clause) (s : Script) (r : QueueRecord) : Type 0 where

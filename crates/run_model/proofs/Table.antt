@@ -39,7 +39,7 @@ use Rattle.run_model.specs.Control.{InBlock, is_controlled, is_called_in_time, a
 use Rattle.run_model.specs.Loopers.{Looper, Sent, first_looper, starts_frame}
 use Rattle.run_model.specs.Acts.{Lead, IsSent, MayCome, after_act, dispatched, millis_up}
 use Rattle.run_model.specs.Moves.{Move, moves, move_times, main_moves, is_planned_time, was_due_at, MayMoveTo}
-use Rattle.run_model.specs.FrameRuns.{is_frame_from, are_run_then, are_whole}
+use Rattle.run_model.specs.FrameRuns.{is_frame_from, has_stamp, are_run_then, are_whole}
 use Rattle.run_model.specs.FrameAsks.{asks_in}
 use Rattle.run_model.specs.FrameTurns.{asked_then}
 use Rattle.run_model.specs.Run.{IsRun, IsRecordOf, IsAsPlanned, IsControlled, EachLooper, all_entries, setting_of, caused_on, are_in_order, main_ends_halted}
@@ -48,7 +48,7 @@ use Rattle.run_model.proofs.Below.{EachBelow, each_below}
 use Rattle.run_model.proofs.Parting.{can_ask_in_turn, asks_are_in_turn}
 use Rattle.run_model.proofs.ByTests.{answers, replies, are_timely, are_numbered, history_by, planned_calls, made_calls, thread_lines, MakesThem, calls_by}
 use Rattle.run_model.proofs.Examples.{queue, journal, page, handler_on, plain_script}
-use Rattle.run_model.proofs.RunBut.{Clause, Nothing, Asked, Stamps, Whole, Moments, Starts, Pulses, OnTime, Takes, Controls, BeforeQuit, Threads, Order, Blocks, Due, Together, number_of, Unless, with_pulses, made_but, IsFrameRunBut, IsLooperRunBut, IsTimelyBut, AreMovedBut, IsRunBut}
+use Rattle.run_model.proofs.RunBut.{Clause, Nothing, Asked, Stamps, Whole, Moments, Starts, Pulses, OnTime, Takes, Controls, BeforeQuit, Threads, Order, Blocks, Due, Together, number_of, Unless, with_pulses, with_stamps, made_but, IsFrameRunBut, IsLooperRunBut, IsTimelyBut, AreMovedBut, IsRunBut}
 use Rattle.run_model.proofs.RunBut as but
 
 -- ---- a report as data
@@ -168,6 +168,7 @@ is_clear (Some place) (x ∷ xs) = false
 abbrev act_may : Script → ℕ → List Entry → List FrameEntry → Option ℕ → Looper → Act → Bool
 act_may s q es fs frame a (Dispatch n now route) =
     is_some (post_at es n) && (not (is_some frame) || option_map_or (starts_frame q) (post_at es n) false) && is_frame_from fs a.place frame
+    && has_stamp fs frame a.stamp
 act_may s q es fs frame a (Paint g v) = not (is_some frame)
 act_may s q es fs frame a (Vsync stamp) = is_clear frame a.painted && is_pulse s.period stamp
 act_may s q es fs frame a (Idle i k) = is_clear frame a.painted
@@ -209,9 +210,10 @@ may_come : (s : Script) (q : ℕ) (es : List Entry) (fs : List FrameEntry) (fram
     → act_may s q es fs frame a x ≡ true → act_paints s q es fs frame a x ≡ a.painted → MayCome s q es fs frame a x
 may_come s q es fs frame a (Dispatch n now route) h painted =
     let starts = not (is_some frame) || option_map_or (starts_frame q) (post_at es n) false in
-    let two = and_parts (is_some (post_at es n) && starts) (is_frame_from fs a.place frame) h in
+    let three = and_parts (is_some (post_at es n) && starts && is_frame_from fs a.place frame) (has_stamp fs frame a.stamp) h in
+    let two = and_parts (is_some (post_at es n) && starts) (is_frame_from fs a.place frame) three.0 in
     let one = and_parts (is_some (post_at es n)) starts two.0 in
-    record { accepted = one.0; starts = one.1; place = two.1; painted = painted }
+    record { accepted = one.0; starts = one.1; place = two.1; stamped = three.1; painted = painted }
 may_come s q es fs frame a (Paint g v) h painted = none_there frame h
 may_come s q es fs frame a (Vsync stamp) h painted =
     let two = and_parts (is_clear frame a.painted) (is_pulse s.period stamp) h in
@@ -297,8 +299,8 @@ pub record LooperTest : Type 0 where
   pub threads : List Bool
   pub in_order : Bool
 
-abbrev final_of : Clause → Script → ℕ → Row → Looper
-final_of out s n row = led (with_pulses out s) n (history_of (queue_in s n row)) row.frames row.places (first_looper s) row.acts
+abbrev pub final_of : Clause → Script → ℕ → Row → Looper
+final_of out s n row = led (with_pulses out s) n (history_of (queue_in s n row)) (with_stamps out row.frames) row.places (first_looper s) row.acts
 
 abbrev caused_by : Clause → Script → ℕ → Row → QueueRecord → List Sent
 caused_by out s n row r = caused_on r.looper (final_of out s n row) n row.disposed_at
@@ -319,12 +321,12 @@ found_in out s queues n row =
       planned = down_from s.threads (λ thread. planned_calls s (labels_on n (lines_of thread s.blocks)) n [] (thread_lines s n thread) (entries_by thread es));
       controlled = is_controlled q.main q.lockstep (controller s) s.end es;
       lawful = lawful s.period (phase_count s.edition) row.frames;
-      acts = acts_may (with_pulses out s) n es row.frames row.places (first_looper s) row.acts;
-      painted = acts_paint (with_pulses out s) n es row.frames row.places (first_looper s) row.acts;
+      acts = acts_may (with_pulses out s) n es (with_stamps out row.frames) row.places (first_looper s) row.acts;
+      painted = acts_paint (with_pulses out s) n es (with_stamps out row.frames) row.places (first_looper s) row.acts;
       left = final.painted;
       dispatches = kept out Takes (filter_map act_dispatch row.acts);
       calls = kept out Takes (map (λ r. entries_for [] (caused_by out s n row r) (entries_there s n r)) queues);
-      stamps = unless out Stamps (unless out Pulses (are_stamped s.period row.frames));
+      stamps = unless out (Stamps 0) (unless out Pulses (are_stamped s.period row.frames));
       asked = unless out Asked (unless out Starts (can_ask_in_turn (asks_in row.frames) (made_but out (asked_then s n final))));
       whole = unless out Whole (are_whole (phase_count s.edition) row.frames final.frames);
       on_time = unless out OnTime (unless out Takes (list_all (λ r. are_on_time (map (λ x. x.timing) (caused_by out s n row r)) (befores (looper_sender s n) (history_of r))) queues));
@@ -347,7 +349,7 @@ wanted_in out s queues n row =
       controlled = true;
       lawful = true;
       acts = true;
-      painted = acts_painted (with_pulses out s) n es row.frames row.places (first_looper s) row.acts;
+      painted = acts_painted (with_pulses out s) n es (with_stamps out row.frames) row.places (first_looper s) row.acts;
       left = [];
       dispatches = kept out Takes (filter_map (λ e. call_dispatch e.call e.reply) (entries_there s n (queue_in s n row)));
       calls = kept out Takes (map (λ r. map plain_entry (entries_there s n r)) queues);
@@ -391,11 +393,11 @@ looper_of out s queues n row e =
         interval = refl;
         phases = refl;
         lawful = ap (λ (t : LooperTest). t.lawful) e;
-        stamps = both_left (number_of out == number_of Stamps) (number_of out == number_of Pulses) _ _ (λ h. h) (ap (λ (t : LooperTest). t.stamps) e);
+        stamps = both_left (number_of out == number_of (Stamps 0)) (number_of out == number_of Pulses) _ _ (λ h. h) (ap (λ (t : LooperTest). t.stamps) e);
       };
       looper = record {
         final = final;
-        acts = leads (with_pulses out s) n es row.frames row.places (first_looper s) row.acts (ap (λ (t : LooperTest). t.acts) e) (ap (λ (t : LooperTest). t.painted) e);
+        acts = leads (with_pulses out s) n es (with_stamps out row.frames) row.places (first_looper s) row.acts (ap (λ (t : LooperTest). t.acts) e) (ap (λ (t : LooperTest). t.painted) e);
         settled = ap (λ (t : LooperTest). t.left) e;
         dispatches = kept_same (number_of out == number_of Takes) (filter_map act_dispatch row.acts) (filter_map (λ x. call_dispatch x.call x.reply) (entries_there s n q)) _ (λ same. same) (ap (λ (t : LooperTest). t.dispatches) e);
         disposed_at = row.disposed_at;

@@ -15,7 +15,7 @@ use Rattle.run_model.specs.Asks.{Makes, plain, call_of}
 use Rattle.run_model.specs.Planned.{frame_message}
 use Rattle.run_model.specs.Control.{NotBefore}
 use Rattle.run_model.specs.Loopers.{Sent, Looper, starts_frame, delivered, and_takes}
-use Rattle.run_model.specs.FrameRuns.{frame_ids, is_frame_from, place_after, frames_after}
+use Rattle.run_model.specs.FrameRuns.{frame_ids, is_frame_from, has_stamp, place_after, frames_after}
 
 -- a time in nanoseconds in whole milliseconds, rounded up
 abbrev pub millis_up : ℕ → ℕ
@@ -40,17 +40,19 @@ after_act s q es fs frame a (Vsync stamp) =
     record a {
       sent = a.sent
           ++ record { queue = q; ask = Makes (Post (frame_message q 0 0 (stamp / 1000000))); reply = None; timing = NotBefore (millis_up stamp) } ∷ [];
+      stamp = stamp;
     }
 after_act s q es fs frame a (Paint g v) = record a { painted = a.painted ++ Paint g v ∷ [] }
 after_act s q es fs frame a (Idle i k) = a
 after_act s q es fs frame a (Event f e m) = a
 
--- a dispatch is of an accepted post, runs a frame only where its message starts one and behind the frames before, and what was painted just before
--- is what it paints
+-- a dispatch is of an accepted post, runs a frame only where its message starts one and behind the frames before, that frame has the stamp of the latest
+-- pulse, and what was painted just before is what it paints
 pub record MayDispatch (s : Script) (q : ℕ) (es : List Entry) (fs : List FrameEntry) (frame : Option ℕ) (a : Looper) (n now : ℕ) : Type 0 where
   pub accepted : is_some (post_at es n) ≡ true
   pub starts : (not (is_some frame) || option_map_or (starts_frame q) (post_at es n) false) ≡ true
   pub place : is_frame_from fs a.place frame ≡ true
+  pub stamped : has_stamp fs frame a.stamp ≡ true
   pub painted : (dispatched s q fs frame n now a (post_at es n)).painted ≡ a.painted
 
 -- the act may come next: paints stand nowhere but just before the dispatch that makes them, and a pulse comes at a positive multiple of the period, or at the

@@ -47,6 +47,8 @@ pub record Looper : Type 0 where
   pub posted : List FrameAsk
   -- what it has painted since its last act of another kind
   pub painted : List Act
+  -- the stamp of the latest pulse that came, or 0 before the first one
+  pub stamp : ℕ
   -- the place in its frame record from which on its next frame may begin
   pub place : ℕ
   -- the frames that its dispatches ran so far, in order
@@ -62,6 +64,7 @@ first_looper s = record {
   sent = [];
   posted = [];
   painted = [];
+  stamp = 0;
   place = 0;
   frames = [];
 }

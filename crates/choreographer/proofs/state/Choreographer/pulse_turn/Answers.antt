@@ -1,6 +1,9 @@
-use Rattle.std.proofs.Common.{rules}
-use Rattle.choreographer.proofs.ByTurn.{turned}
+use Rattle.std.proofs.Common.{rules, sym, ap, ◌∙◌, subst}
+use Rattle.choreographer.specs.Plays.{Sat, MayPulse}
+use Rattle.choreographer.specs.Known.{Known}
+use Rattle.choreographer.proofs.ByTurn.{turned, may_pulse}
 use Rattle.choreographer.proofs.Quiet.{grows_prefix}
+use Rattle.choreographer.proofs.Latest.{pulse_gets}
 use Rattle.choreographer.proofs.state.Choreographer.pulse_turn.Goals as goal
 
 pub returns-clause-turn : goal.returns-clause-turn
@@ -11,7 +14,17 @@ returns-clause-turn g c =
       x,
       y,
       turned c.args.self.now.constants (record { table = c.pass.inside.seat.table_id; number = c.pass.inside.number; view = c.pass.inside.seat.me.0 }) c.args.pass.now _ x y c.take-state.new.seat.me c.give.new.seat.me
-          c.pass.view_is c.requires.1 c.pass.invariant.2 c.pass.invariant.3 t.taken t.state t.heard (search rules) (grows_prefix x.frames.entries y.frames.entries c.deliver-pulse.ensures.quiet.1) (c.give.ensures.2, c.give.ensures.3) (search rules),
+          c.pass.view_is c.requires.pass.1 c.pass.invariant.2 c.pass.invariant.3 t.taken t.state t.heard t.latest (search rules) (grows_prefix x.frames.entries y.frames.entries c.deliver-pulse.ensures.quiet.1) (c.give.ensures.2, c.give.ensures.3) (search rules),
       search rules,
       search rules,
     )
+
+pub give-requires-clause-latest : goal.give-requires-clause-latest
+give-requires-clause-latest g c =
+    subst (λ (z : Sat). MayPulse c.args.self.now.constants z.0 c.deliver-pulse.new.self) (sym c.take-state.ensures.taken)
+    (may_pulse c.args.self.now.constants c.pass.inside.seat.me.0 c.take-state.result c.deliver-pulse.new.self c.take-state.new.seat.me.0.heard c.pass.inside.number c.pass.invariant.2
+    (λ n named. ap (λ (p : Known). p.number) c.pass.view_is ∙ c.requires.delivers n named))
+
+pub returns-clause-stamp : goal.returns-clause-stamp
+returns-clause-stamp g c =
+    let t = returns-clause-turn g c in pulse_gets c.args.pass.now _ t.0 t.1 c.deliver-pulse.result t.2 t.4

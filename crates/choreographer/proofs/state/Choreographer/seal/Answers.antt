@@ -23,7 +23,7 @@ returns g c =
     let t = c.take-state.ensures in
     let inside : Known = record { table = c.pass.inside.seat.table_id; number = c.pass.inside.number; view = c.pass.inside.seat.me.0 } in
     let turn : IsTurn c.args.pass.now (record { table = inside.table; number = inside.number; view = c.give.new.seat.me.0 }) x y = turned c.args.self.now.constants inside c.args.pass.now _ x y c.take-state.new.seat.me c.give.new.seat.me is c.requires.pass.1
-    c.pass.invariant.2 c.pass.invariant.3 t.taken t.state t.heard (search rules) (subst (IsPrefix x.frames.entries) (sym c.seal-answer.ensures.quiet.1) (prefix_self x.frames.entries))
+    c.pass.invariant.2 c.pass.invariant.3 t.taken t.state t.heard t.latest (search rules) (subst (IsPrefix x.frames.entries) (sym c.seal-answer.ensures.quiet.1) (prefix_self x.frames.entries))
     (c.give.ensures.2, c.give.ensures.3) refl in (
       x,
       y,

@@ -1,14 +1,15 @@
-use Rattle.std.proofs.Common.{◌≡◌, ◌<◌, ℕ, get_or, replicate, List, [], refl, sym, ap, ◌∙◌, subst, arith}
+use Rattle.std.proofs.Common.{◌≡◌, ◌<◌, ℕ, ◌+◌, get_or, replicate, List, [], refl, sym, ap, ◌∙◌, subst, arith}
 use Rattle.std.specs.List.{remove}
 use Rattle.std.proofs.lemmas.List.Edits.{get_or-remove_above}
 use Rattle.choreographer.specs.Known.{Known as Pass}
 use Rattle.looper_run.specs.Holding.{Sender, Holding}
-use Rattle.dash_hall.specs.Kits.{AreUnseen}
+use Rattle.dash_hall.specs.Kits.{AreUnseen, frame_badge_of, frame_badge_for}
 use Rattle.std.proofs.lemmas.Option.{same_Some}
 use Rattle.dash_hall.specs.Hearing.{HasHeardAll}
 use Rattle.dash_loopers.specs.Loopers.{IsLooperOf, Rest}
 use Rattle.dash_loopers.proofs.LooperPasses.{unheard_all}
-use Rattle.dash_loopers.proofs.LooperKits.{kit_many, kit_two, posters_begin, looper_begins}
+use Rattle.dash_loopers.proofs.LooperKits.{its_frames, two_frames, first_is, kit_many, kit_two, posters_begin, looper_begins}
+use Rattle.dash_loopers.proofs.LooperPlaces.{none_latest}
 use Rattle.dash_loopers.proofs.LooperPlayed.{unseen_without, stands_first}
 use Rattle.dash_loopers.proofs.looper.StageLooper.new.Goals as goal
 
@@ -59,12 +60,17 @@ returns-clause-begun c =
     let unasked = subst (λ (p : Pass). p.view.own ≡ []) (sym second) (c.requires.unused.own 1 c.remove-client.result (omega (arith, two))) in
     let untaken = subst (λ (p : Pass). p.view.turns ≡ 0) (sym second) (c.requires.unused.turns 1 c.remove-client.result (omega (arith, two))) in
     let unrun = subst (λ (p : Pass). p.view.own ≡ []) (sym c.remove-own_frames.ensures.value) (c.requires.unused.own 0 c.remove-own_frames.result (omega (arith, two))) in
+    let unstamped = subst (λ (p : Pass). p.view.stamp ≡ 0) (sym c.remove-own_frames.ensures.value) (c.requires.unused.stamp 0 c.remove-own_frames.result (omega (arith, two))) in
+    let frames = its_frames c.args.script.now c.args.hall.now c.args.number of in
+    let unpulsed = none_latest c.args.script.now c.args.hall.now c.args.number of frames.0 frames.1 c.remove-own_frames.result
+    (first_is frame_badge_of c.args.kit.frames.items c.remove-own_frames.result (frame_badge_for c.args.script.now.threads frames.0) (frame_badge_for (c.args.script.now.threads + 1) frames.0)
+    (c.requires.kit.frames ∙ two_frames c.args.script.now c.args.hall.now c.args.number of frames.0 frames.1) c.remove-own_frames.ensures.value) unstamped in
     let none = subst (λ (p : Sender). p.view.seen ≡ []) (sym c.remove-poster.ensures.value) (c.requires.unused.posters c.args.number c.remove-poster.result many) in
     stands_first c.args.script.now c.args.number _ _ _ _ (ap (λ (h : Holding). h.poster.view.seen) c.make.ensures.held ∙ none) (ap (λ (h : Holding). h.journal.acts) c.make.ensures.held)
     c.in_ok-new.ensures.still c.in_ok-new.ensures.gauges c.in_ok-new.ensures.rest.0 c.in_ok-new.ensures.rest.1 c.in_ok-new.ensures.rest.2
     (subst AreUnseen (sym c.remove-poster.ensures.items) (unseen_without c.args.kit.posters.items c.args.number many c.requires.unused.posters))
     (c.in_ok-vec.ensures.items_if_clones_equal (λ y same. same) ∙ ap (λ (n : ℕ). replicate n 0) c.len.ensures)
-    (ap (λ (p : Pass). p.view.own) c.in_ok-new.ensures.pass ∙ unasked) (ap (λ (p : Pass). p.view.turns) c.in_ok-new.ensures.pass ∙ untaken) unrun
+    (ap (λ (p : Pass). p.view.own) c.in_ok-new.ensures.pass ∙ unasked) (ap (λ (p : Pass). p.view.turns) c.in_ok-new.ensures.pass ∙ untaken) unrun unpulsed
 
 pub returns-clause-unheard : goal.returns-clause-unheard
 returns-clause-unheard c r is =

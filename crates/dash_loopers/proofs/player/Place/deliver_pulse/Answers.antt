@@ -4,7 +4,8 @@ use Rattle.dash_hall.specs.declared.uptime.Still.{Still}
 use Rattle.dash_hall.specs.Hosts.{origin_now}
 use Rattle.frame_phases.specs.Pulses.{is_pulse_if_any}
 use Rattle.choreographer.specs.Calls.{stamp_in}
-use Rattle.dash_loopers.proofs.LooperPlaces.{its_period}
+use Rattle.dash_loopers.proofs.LooperPlaces.{its_period, may_deliver}
+use Rattle.dash_loopers.proofs.LatestPulses.{gets_latest}
 use Rattle.dash_loopers.proofs.PlaySteps.{pulse_here, pulse_hosted}
 use Rattle.dash_loopers.proofs.LooperClock.{untimed_same, pulse_untimed_hosted}
 use Rattle.dash_loopers.proofs.player.Place.deliver_pulse.Goals as goal
@@ -37,3 +38,12 @@ returns-clause-looked g c =
     let k = c.deliver.new.self in
     pulse_here c.args.self.now.looper c.args.now h.uptime.now.now (origin_now h) (origin_now k) c.args.own.now.poster.now h.poster.now k.poster.now c.args.parts.now.frames c.deliver.new.pass c.deliver.result
     c.deliver.ensures.origin c.host-host.ensures.poster.1 (ap (λ (x : Still). x.now) c.host-host.ensures.uptime) c.host-host.ensures.moment.1 c.deliver.ensures.pulse
+
+pub deliver-requires-clause-delivers : goal.deliver-requires-clause-delivers
+deliver-requires-clause-delivers g c =
+    let place = c.args.self.now in
+    let frames = c.choreographer.result.now in
+    may_deliver place.script.now place.hall.now place.looper c.requires.serves.looper frames c.choreographer.ensures c.args.parts.now.frames (c.requires.serves.are_parts.frames frames c.choreographer.ensures)
+
+pub returns-clause-latest : goal.returns-clause-latest
+returns-clause-latest g c = gets_latest c.args.parts.now.frames c.deliver.new.pass (stamp_in c.deliver.result) c.deliver.ensures.pass c.deliver.ensures.stamp

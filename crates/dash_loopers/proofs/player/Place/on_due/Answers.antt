@@ -12,6 +12,7 @@ use Rattle.dash_loopers.proofs.PlaySteps.{untold_hosted, played_with}
 use Rattle.looper_run.specs.Holding.{held}
 use Rattle.looper_run.proofs.Working.{lent_self}
 use Rattle.dash_loopers.proofs.LooperPlaces.{frame_of_badge, its_phases}
+use Rattle.dash_loopers.proofs.LatestPulses.{due_keeps_latest}
 use Rattle.dash_hall.proofs.HostClock.{adds_hosted}
 use Rattle.dash_hall.proofs.HostClock.{begins_by_clock}
 use Rattle.dash_loopers.proofs.player.Place.on_due.Goals as goal
@@ -69,3 +70,9 @@ returns-clause-beyond g c = λ beyond. absurd (omega (arith, beyond, c.phase_cou
 
 pub returns-then-phase-phases-clause-beyond : goal.returns-then-phase-phases-clause-beyond
 returns-then-phase-phases-clause-beyond g c = λ beyond. refl
+
+pub returns-clause-latest : goal.returns-clause-latest
+returns-clause-latest g c = due_keeps_latest c.args.parts.now.frames c.on_due.new.pass (λ n. n == nanos_of c.host-host.result.uptime.now.now) c.args.phase c.on_due.result c.on_due.ensures.due
+
+pub returns-then-phase-phases-clause-latest : goal.returns-then-phase-phases-clause-latest
+returns-then-phase-phases-clause-latest g c = λ stamp has. has

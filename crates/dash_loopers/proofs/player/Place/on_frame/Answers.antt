@@ -16,7 +16,7 @@ returns-in-2-clause-delivers g c =
     let m = c.args.p.now in
     let old = c.args.own.now in
     let own = c.on_due.new.own in
-    step_delivered s q c.args.now (g.U.Uptime.is_moment c.args.uptime.now) m (calls_of old.poster.now) (calls_of own.poster.now) c.args.parts.now c.on_due.new.parts old.journal.now.acts own.journal.now.acts (λ a. a) c.on_due.ensures.seen c.on_due.ensures.asks
+    step_delivered s q c.args.now (g.U.Uptime.is_moment c.args.uptime.now) m (calls_of old.poster.now) (calls_of own.poster.now) c.args.parts.now c.on_due.new.parts old.journal.now.acts own.journal.now.acts (λ a. a) c.on_due.ensures.seen c.on_due.ensures.asks c.on_due.ensures.latest
     (λ a. delivered_quiet s q c.args.now m a c.requires.callback c.requires.handler (λ e. omega (arith, e, c.in-2.is))) (λ a. refl) c.on_due.ensures.plays c.on_due.ensures.acts
 
 pub returns-in_default-clause-delivers : goal.returns-in_default-clause-delivers

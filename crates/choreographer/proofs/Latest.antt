@@ -1,0 +1,92 @@
+-- The stamp of the latest pulse, where one pass alone delivers them.
+use Rattle.std.proofs.Common.{◌≡◌, ℕ, ◌+◌, Bool, true, false, Option, Some, None, List, [], ◌∷◌, ◌++◌, refl, sym, ap, ◌∙◌, inl, inr, length, append-nil, append_assoc, eq-eqb}
+use Rattle.std.specs.Prelude.{◌==◌}
+use Rattle.std.specs.List.{list_any}
+use Rattle.frame_phases.specs.declared.entry.FrameEntry.{FrameEntry}
+use Rattle.frame_phases.specs.declared.entry.FrameEntry.TheVariants.{Posted, Removed, Begin, Take, Ran}
+use Rattle.frame_phases.specs.declared.entry.Beginning.{Beginning}
+use Rattle.frame_phases.specs.declared.entry.Beginning.TheVariants as begin
+use Rattle.frame_phases.specs.declared.entry.Took.{Took}
+use Rattle.frame_phases.specs.declared.entry.Took.TheVariants as took
+use Rattle.frame_phases.specs.State.{Frames}
+use Rattle.choreographer.specs.declared.kept.Kept.{Kept}
+use Rattle.choreographer.specs.Client.{Run}
+use Rattle.choreographer.specs.Frame.{Batch}
+use Rattle.choreographer.specs.Known.{Known, IfAlone, IsTurn}
+use Rattle.choreographer.specs.Steps.{pulsed}
+use Rattle.choreographer.specs.Calls.{BeginTurn, TakeTurn, latest, GetsStamp}
+use Rattle.choreographer.specs.Done.{IsSamePass, TakesEach, GivenUpBy, AreOfPhases, AddsPhases, begins_apart, BeginsByStamp}
+use Rattle.choreographer.proofs.Recorded.{turn_records}
+
+-- the pass keeps its stamp
+abbrev pub KeepsStamp : Known → Known → Type 0
+KeepsStamp before after = IfAlone before (after.view.stamp ≡ before.view.stamp)
+
+-- a turn that leaves the stamp that it found
+pub turn_keeps : (before after : Known) (x y : Kept) → IsTurn before after x y → y.stamp ≡ x.stamp → KeepsStamp before after
+turn_keeps before after x y turn same = λ c e named. let s = turn.stamp c e named in s.1 ∙ (same ∙ s.0)
+
+turn_same : (before after : Known) (x y : Kept) → IsTurn before after x y → IsSamePass before after
+turn_same before after x y turn = (turn.table, turn.number, turn.constants)
+
+pub keeps_trans : (before middle after : Known) → IsSamePass before middle → KeepsStamp before middle → KeepsStamp middle after → KeepsStamp before after
+keeps_trans before middle after same f g = λ c e named. g c (same.2 ∙ e) (named ∙ ap Some (sym same.1)) ∙ f c e named
+
+-- a turn that delivers the pulse that is asked for, if it came
+pub pulse_gets : (before after : Known) (x y : Kept) (came : Option ℕ) → IsTurn before after x y → y ≡ pulsed x came → GetsStamp before after came
+pulse_gets before after x y came turn is = λ c e named. let s = turn.stamp c e named in s.1 ∙ (ap (λ (z : Kept). z.stamp) is ∙ by_pulse came s.0)
+  where
+    by_pulse : (o : Option ℕ) → x.stamp ≡ before.view.stamp → (pulsed x o).stamp ≡ latest o before.view.stamp
+    by_pulse None same = same
+    by_pulse (Some stamp) same = refl
+
+pub take_keeps : (before after : Known) (phase now : ℕ) (result : Took) → TakeTurn before after phase now result → KeepsStamp before after
+take_keeps before after phase now result t = turn_keeps before after t.0 t.1 t.2 t.4
+
+pub begin_keeps : (before after : Known) (start : ℕ) (result : Beginning) → BeginTurn before after start result → KeepsStamp before after
+begin_keeps before after start result t = turn_keeps before after t.0 t.1 t.2 t.4
+
+-- the phases of a frame
+pub each_keeps : (phase : ℕ) (bs : List Batch) (before after : Known) → TakesEach phase bs before after → KeepsStamp before after
+each_keeps phase [] before after same = λ c e named. ap (λ (p : Known). p.view.stamp) same
+each_keeps phase (b ∷ bs) before after (p, turn, rest) =
+    keeps_trans before p after (turn_same before p turn.0 turn.1 turn.2) (take_keeps before p phase b.now (took.Batch b.time b.callbacks) turn) (each_keeps (phase + 1) bs p after rest)
+
+each_same : (phase : ℕ) (bs : List Batch) (before after : Known) → TakesEach phase bs before after → IsSamePass before after
+each_same phase [] before after same = (ap (λ (p : Known). p.table) same, ap (λ (p : Known). p.number) same, ap (λ (p : Known). p.view.constants) same)
+each_same phase (b ∷ bs) before after (p, turn, rest) =
+    let now = turn_same before p turn.0 turn.1 turn.2 in let later = each_same (phase + 1) bs p after rest in (later.0 ∙ now.0, later.1 ∙ now.1, later.2 ∙ now.2)
+
+-- a frame that is given up
+pub given_up_keeps : (is_moment : ℕ → Bool) (middle after : Known) (told told' : Option (List Run)) → GivenUpBy is_moment middle after told told' → KeepsStamp middle after
+given_up_keeps is_moment middle after told told' (batches, before, are, each, gives) =
+    keeps_trans middle before after (each_same 0 batches middle before each) (each_keeps 0 batches middle before each) (elim gives [
+      | inl wanting ↦ take_keeps before after (length batches) wanting.0 took.NoMemory wanting.2
+      | inr given ↦ take_keeps before after (length batches) given.0.now (took.Batch given.0.time given.0.callbacks) given.3
+    ])
+
+-- no entry of phases is a Begin
+phases_begin_none : (stamp : ℕ) (es : List FrameEntry) → AreOfPhases es → list_any (begins_apart stamp) es ≡ false
+phases_begin_none stamp [] h = refl
+phases_begin_none stamp (Posted c ∷ es) h = absurd h
+phases_begin_none stamp (Removed p i t n ∷ es) h = absurd h
+phases_begin_none stamp (Begin v s t ∷ es) h = absurd h
+phases_begin_none stamp (Take p n t ∷ es) h = phases_begin_none stamp es h
+phases_begin_none stamp (Ran n ∷ es) h = phases_begin_none stamp es h
+
+-- the turn that began a frame, and its phases
+pub frame_begins : (before middle after : Known) (start time : ℕ) → BeginTurn before middle start (begin.Began time) → AddsPhases middle after → KeepsStamp middle after → BeginsByStamp before after
+frame_begins before middle after start time t adds keeps = λ c e named.
+    let stamp = t.0.stamp in
+    let began = turn_records before middle t.0 t.1 (Begin stamp start time ∷ []) t.2 (sym (ap (λ (f : Frames). f.entries) t.3.4)) in
+    let same = turn_same before middle t.0 t.1 t.2 in
+    let it : (stamp == before.view.stamp) ≡ true = eq-eqb stamp before.view.stamp (t.2.stamp c e named).0 in (
+      Begin stamp start time ∷ adds.0,
+      keeps_trans before middle after same (begin_keeps before middle start (begin.Began time) t) keeps c e named,
+      adds.1 ∙ (ap (λ l. l ++ adds.0) began ∙ append_assoc before.view.own (Begin stamp start time ∷ []) adds.0),
+      rw (it, phases_begin_none before.view.stamp adds.0 adds.2) refl,
+    )
+
+-- a turn that began none
+pub none_begins : (before after : Known) (start : ℕ) (result : Beginning) → BeginTurn before after start result → after.view.own ≡ before.view.own → BeginsByStamp before after
+none_begins before after start result t same = λ c e named. ([], begin_keeps before after start result t c e named, same ∙ sym (append-nil before.view.own), refl)
