@@ -1,5 +1,5 @@
 //! What a sender needs to work with the queues of a run.
-ghost use Rattle.std.specs.Prelude.{◌≡◌, ◌<◌, [], ◌∷◌, length, OnOk};
+ghost use Rattle.std.specs.Prelude.{◌<◌, [], ◌∷◌, length, OnOk};
 ghost use Rattle.dash_hall.specs.Kits.{badge_of, frame_badge_of};
 ghost use Rattle.shared_queue.specs.Ends.{IsNewPoster};
 ghost use Rattle.choreographer.specs.Ends.{IsNewPass};

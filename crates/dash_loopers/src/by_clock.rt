@@ -1,5 +1,5 @@
 //! A looper that runs by a clock.
-ghost use Rattle.std.specs.Prelude.{◌≡◌, ◌≢◌, ◌+◌, ◌||◌, ℕ, None, Some, IsSomeAnd, IsTrue, true, false, OnOk};
+ghost use Rattle.std.specs.Prelude.{◌≡◌, ◌≢◌, ◌+◌, ◌||◌, None, Some, IsSomeAnd, IsTrue, true, false, OnOk};
 ghost use Rattle.std.specs.Option.{option_map};
 ghost use Rattle.loop_io.specs.Moments.{IsMoment};
 ghost use Rattle.looper_run.specs.Holding.{held, IsSameOwn};

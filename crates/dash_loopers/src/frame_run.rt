@@ -1,14 +1,11 @@
 //! The callbacks of one frame.
-ghost use Rattle.std.specs.Prelude.{◌≡◌, ◌<◌, ℕ, List, map, fold, Some, OnOk};
+ghost use Rattle.std.specs.Prelude.{◌≡◌, ◌<◌, Some, OnOk};
 ghost use Rattle.std.proofs.Common.{subst, sym};
 ghost use Rattle.choreographer.specs.Known.{IsOf};
 ghost use Rattle.choreographer.specs.declared.frame.Framed.TheVariants.{NoMemory as NoRoom};
-ghost use Rattle.dash_script.specs.declared.script.Script.{Script as ScriptData};
-ghost use Rattle.run_model.specs.Loopers.{callback_ran};
 ghost use Rattle.dash_hall.specs.Hosts.{IsHostNow, IsSameHost};
 ghost use Rattle.dash_hall.specs.Kits.{frame_badge_of};
 ghost use Rattle.dash_loopers.specs.Places.{FrameShows, RootRuns};
-ghost use Rattle.dash_loopers.specs.Played.{RanFrame};
 ghost use Rattle.dash_loopers.specs.Players.{FrameOwner, frame_owner};
 
 use crate::view_root::ViewRoot;

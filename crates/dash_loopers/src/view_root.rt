@@ -1,16 +1,15 @@
 //! The gauges of a looper, and its traversals.
-ghost use Rattle.std.specs.Prelude.{◌≡◌, ◌<◌, ◌≤◌, ◌++◌, [], ℕ, map, slice_get, slice_set, replicate, length, IfOk, OnOk, None, IsTrue, true, false};
+ghost use Rattle.std.specs.Prelude.{◌≡◌, ◌<◌, ◌≤◌, ◌++◌, [], ℕ, map, slice_get, slice_set, replicate, length, IfOk, OnOk, None, false};
 ghost use Rattle.std.specs.List.{flat_map, enumerate_from};
-ghost use Rattle.std.specs.Option.{option_map_or};
 ghost use Rattle.choreographer.specs.Known.{IsOf};
 ghost use Rattle.dash_hall.specs.Hosts.{IsHostNow, IsSameHost};
-ghost use Rattle.dash_hall.specs.Kits.{FrameBadge, frame_badge_of};
+ghost use Rattle.dash_hall.specs.Kits.{frame_badge_of};
 ghost use Rattle.dash_loopers.specs.Places.{ShowsOn, HasGauges, HasPainted, animated};
-ghost use Rattle.dash_loopers.specs.Played.{standing, fixed, fixed_by, paint_of, paint_of_gauge};
+ghost use Rattle.dash_loopers.specs.Played.{standing, paint_of, paint_of_gauge};
 ghost use Rattle.dash_script.specs.declared.script.Script.{Script as ScriptData};
 ghost use Rattle.dash_script.specs.Reading.{HasText};
 ghost use Rattle.run_model.specs.Senders.{traversal_phase};
-ghost use Rattle.run_model.specs.Loopers.{object_set, traversal_requested, animation_ran, traversal_ran, callback_ran, and_posts_frame, paints, moved as moved_by};
+ghost use Rattle.run_model.specs.Loopers.{object_set, traversal_requested, traversal_ran, callback_ran, and_posts_frame, paints, moved as moved_by};
 
 use choreographer::{Choreographer, FramePass};
 use dash_hall::{Host, Uptime, looper_of};

@@ -1,5 +1,5 @@
 //! The lines of a queue's history.
-ghost use Rattle.std.specs.Prelude.{◌≡◌, ◌++◌, ◌∷◌, [], Some, IfOk, OnOk, slice_get, string_bytes};
+ghost use Rattle.std.specs.Prelude.{◌≡◌, ◌++◌, Some, IfOk, OnOk, slice_get, string_bytes};
 ghost use Rattle.std.specs.List.{join_with_byte, flat_map};
 ghost use Rattle.loop_model.specs.Chain.{entries_of};
 ghost use Rattle.loop_model.specs.Posts.{accepted_post, accepted_posts};

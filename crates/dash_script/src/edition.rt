@@ -1,5 +1,5 @@
 //! The editions of the language, and the way from the first to the second.
-ghost use Rattle.std.specs.Prelude.{◌≡◌, ◌++◌, map, IfOk, OnOk};
+ghost use Rattle.std.specs.Prelude.{◌≡◌, map, IfOk};
 ghost use Rattle.dash_script.specs.Causes.{phase_count};
 ghost use Rattle.dash_script.specs.Reading.{HasText};
 ghost use Rattle.dash_script.specs.Editions.{phase_up, up};

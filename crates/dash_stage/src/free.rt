@@ -4,7 +4,6 @@ ghost use Rattle.std.specs.Thread.{IsSync};
 ghost use Rattle.loop_io.specs.Moments.{IsMoment};
 ghost use Rattle.dash_script.specs.Reading.{HasText};
 ghost use Rattle.dash_hall.specs.Hearing.{HaveHeard};
-ghost use Rattle.dash_hall.specs.Kits.{IsHall};
 ghost use Rattle.dash_threads.specs.Threads.{IsThread};
 ghost use Rattle.looper_run.specs.Round.{is_ended};
 ghost use Rattle.dash_loopers.specs.declared.looper.StageLooper.{StageLooper as LooperData};
@@ -17,7 +16,7 @@ ghost use Rattle.dash_stage.specs.GivingUp.{HaveBeenRung};
 ghost use Rattle.dash_stage.specs.RunEnds.{HasBegunByClock, IsClosingByClock, HasEndedByClock};
 ghost use Rattle.dash_stage.specs.Sharing.{ControllerKeeps, StageKeeps, HaveSeenTheSame};
 ghost use Rattle.dash_stage.specs.Outcomes.{StagesByClock};
-ghost use Rattle.dash_stage.specs.Stages.{IsStageIn, AreThreads, AreLoopers, OthersHaveEnded, LoopersGoOn};
+ghost use Rattle.dash_stage.specs.Stages.{IsStageIn, AreThreads, AreLoopers, OthersHaveEnded};
 
 use crate::control::Controller;
 use crate::kept::report_by_clock;

@@ -1,5 +1,5 @@
 //! A stage before the first event.
-ghost use Rattle.std.specs.Prelude.{◌≡◌, ◌<◌, ◌+◌, [], IfOk, OnOk, length, replicate};
+ghost use Rattle.std.specs.Prelude.{◌≡◌, ◌<◌, ◌+◌, [], IfOk, OnOk, replicate};
 ghost use Rattle.dash_stage.specs.Asking.{AskInTurn};
 ghost use Rattle.dash_stage.specs.Controllers.{IsMoving, parts_in};
 ghost use Rattle.dash_stage.specs.Timeliness.{AreBy, AreTimelyUpTo, AreRested, WaitForNothing};

@@ -1,5 +1,5 @@
 //! The records of a run's queues and choreographers.
-ghost use Rattle.std.specs.Prelude.{◌≡◌, ◌<◌, ◌+◌, length, IfOk, OnOk, ℕ, Bool};
+ghost use Rattle.std.specs.Prelude.{◌≡◌, ◌<◌, ◌+◌, length, IfOk, OnOk, Bool};
 ghost use Rattle.atomic_table.specs.Seated.{TableId};
 ghost use Rattle.run_model.specs.Histories.{history_of};
 ghost use Rattle.run_model.specs.Senders.{sender_count};

@@ -1,6 +1,5 @@
 // A source is read to its end, or until it has given one byte more than the limit.
-ghost use Rattle.std.specs.Prelude.{◌≡◌, ◌+◌, ◌-◌, ◌^◌, ◌<◌, ◌++◌, take, IfOk, IfErr};
-ghost use Rattle.std.specs.Io.KnownBytes.{Consumes};
+ghost use Rattle.std.specs.Prelude.{◌≡◌, ◌+◌, ◌-◌, ◌^◌, ◌<◌, IfOk, IfErr};
 ghost use Rattle.dashboard_cli.specs.Streams.{ReadsWhole};
 ghost use Rattle.dashboard_cli.specs.Partial.{ReadsPart, Counts};
 

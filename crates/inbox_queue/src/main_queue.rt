@@ -1,5 +1,5 @@
 //! The queue of the main looper in an inbox run, with the looper's and the controller's way to it.
-ghost use Rattle.std.specs.Prelude.{◌≡◌, ◌+◌, ◌⊎◌, ℕ, true, false, Option, IfSome, OnOk};
+ghost use Rattle.std.specs.Prelude.{◌≡◌, ◌+◌, true, false, Option, IfSome, OnOk};
 ghost use Rattle.loop_model.specs.Items.{is_barrier};
 ghost use Rattle.message_pool.specs.Obtain.{IsNodeOf};
 ghost use Rattle.shared_queue.specs.Known.{IsOf};

@@ -1,5 +1,5 @@
 // The rule of an inbox's queue, and the names of its steps.
-ghost use Rattle.std.specs.Prelude.{◌≡◌, []};
+ghost use Rattle.std.specs.Prelude.{◌≡◌};
 ghost use Rattle.inbox_queue.specs.Carried.{Carried, start, puts_more, admits_more, Foretells, Accounts, deals, dealt, takes_in, spent};
 
 use crate::known::Known;

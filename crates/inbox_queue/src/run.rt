@@ -1,6 +1,5 @@
 //! A run in which the main looper posts what the threads put into an inbox.
-ghost use Rattle.std.specs.Prelude.{◌≡◌, ◌<◌, ◌≤◌, List, [], All, IfOk, OnOk};
-ghost use Rattle.loop_model.specs.declared.entry.Entry.{Entry};
+ghost use Rattle.std.specs.Prelude.{◌≡◌, ◌<◌, ◌≤◌, [], All, IfOk, OnOk};
 ghost use Rattle.dash_script.specs.Reading.{HasText};
 ghost use Rattle.message_pool.specs.Obtain.{IsNodeOf};
 ghost use Rattle.inbox_queue.specs.InboxRun.{AreOfBlocks};
