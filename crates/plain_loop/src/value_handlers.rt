@@ -153,9 +153,10 @@ impl<'a, R: Wait, C: Clock, H: HandleValues<R, C>> Dispatcher for HandlingValues
             pool: self.mailbox.pool,
             pass: own.pass,
         };
-        did(self
-            .handlers
-            .run_callback(&mut line, m.number(), id, &mut carried, now))
+        did(
+            self.handlers
+                .run_callback(&mut line, m.number(), id, &mut carried, now),
+        )
     }
 
     fn intercept(&mut self, own: &mut Own<Unkept, H::Value>, m: &Msg<H::Value>, now: u64) -> Did {
@@ -174,9 +175,10 @@ impl<'a, R: Wait, C: Clock, H: HandleValues<R, C>> Dispatcher for HandlingValues
             pool: self.mailbox.pool,
             pass: own.pass,
         };
-        did(self
-            .handlers
-            .handle(&mut line, m.number(), &post, &mut carried, now))
+        did(
+            self.handlers
+                .handle(&mut line, m.number(), &post, &mut carried, now),
+        )
     }
 
     ghost others = { λ d s es e acts apart meets. meets };
