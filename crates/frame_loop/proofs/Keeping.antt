@@ -65,6 +65,7 @@ module _ (queue : Shared TableId) (pool : TableId) (c : FrameShared) (frames ask
     last = ap (λ (n : ℕ). n + 1) number ∙ serves.last;
     phases = serves.phases;
     seals = serves.seals;
+    pulses = serves.pulses;
   }
 
   -- as a frame opens its client serves

@@ -1,5 +1,5 @@
 -- What the dispatcher of a looper with frames serves, and what its steps keep.
-use Rattle.std.specs.Prelude.{◌≡◌, ◌+◌, true}
+use Rattle.std.specs.Prelude.{◌≡◌, ◌+◌, true, None}
 use Rattle.atomic_table.specs.Seated.{TableId}
 use Rattle.shared_queue.specs.Known.{Shared}
 use Rattle.choreographer.specs.Known.{Shared as FrameShared, Known as FrameKnown, IsOf}
@@ -11,8 +11,8 @@ use Rattle.looper_run.specs.Tests.{IsLent}
 use Rattle.plain_loop.specs.Handling.{IsPlaceOf}
 use Rattle.frame_loop.specs.declared.dispatching.FrameHandling.{FrameHandling}
 
--- the looper is of this queue and this pool, and both passes are of the choreographer, which has five phases and lets its record go by the first of the two,
--- its last pass
+-- the looper is of this queue and this pool, and both passes are of the choreographer, which has five phases, lets its record go by the first of the two, its
+-- last pass, and names no pass for the pulses
 pub record ServesFrames (queue : Shared TableId) (pool : TableId) (c : FrameShared) (frames asks : FrameKnown) (w : Workplace) : Type 0 where
   pub place : IsPlaceOf queue pool w
   pub framing : IsOf frames c
@@ -20,6 +20,7 @@ pub record ServesFrames (queue : Shared TableId) (pool : TableId) (c : FrameShar
   pub last : frames.number + 1 ≡ c.constants.passes
   pub phases : c.constants.phases ≡ 5
   pub seals : c.constants.seals ≡ true
+  pub pulses : c.constants.pulses ≡ None
 
 -- the same of a dispatcher
 abbrev pub Serving : {R C E H : Type 0} → FrameHandling R C E H → Workplace → Type 0

@@ -1,5 +1,5 @@
 //! The loop of a looper with frames.
-ghost use Rattle.std.specs.Prelude.{◌≡◌, ◌+◌, ◌<◌, true, false, OnOk, IfOk};
+ghost use Rattle.std.specs.Prelude.{◌≡◌, ◌+◌, ◌<◌, true, false, None, OnOk, IfOk};
 ghost use Rattle.choreographer.specs.Known.{IsOf};
 ghost use Rattle.frame_loop.specs.FrameLooping.{FramesToItsEnd};
 ghost use Rattle.plain_loop.specs.Senders.{IsLooper};
@@ -25,7 +25,7 @@ fn open_frames(
     requires { 0 < period }
     ensures passes { IfOk result (λ r. IsOf r.1 r.0 × IsOf r.2 r.0) }
     ensures last { IfOk result (λ r. r.1.number + 1 ≡ r.0.constants.passes) }
-    ensures constants { IfOk result (λ r. (r.0.constants.phases ≡ 5) × (r.0.constants.seals ≡ true)) }
+    ensures constants { IfOk result (λ r. (r.0.constants.phases ≡ 5) × (r.0.constants.seals ≡ true) × (r.0.constants.pulses ≡ None)) }
 {
     let (choreographer, mut passes) = Choreographer::make_sealing(alloc, 0, period, PHASES, 2)?;
     let frames = passes.pop().unwrap();
