@@ -34,7 +34,7 @@ TOP = pathlib.Path(__file__).resolve().parent.parent
 WHOLE = ["README.md", *(f"docs/{name}.md" for name in ("PROMISE", "USING", "SCRIPT", "PICTURE", "ANIMATE", "GATE", "NEXT", "PROVING", "DECISIONS", "ARCHITECTURE"))]
 SHOWN = {
     "README.md": ["uses", "plain_loop"],
-    "docs/USING.md": ["uses", "plain_loop"],
+    "docs/USING.md": ["uses", "plain_loop", "loop_tests"],
     "crates/countdown/README.md": ["script_tests"],
     "crates/animator/README.md": ["script_tests"],
 }

@@ -14,5 +14,6 @@ mod loopers;
 #[cfg(test)]
 mod turns;
 #[cfg(test)]
+mod values;
 #[cfg(test)]
 mod while_handling;
