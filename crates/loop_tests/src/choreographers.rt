@@ -87,6 +87,7 @@ fn three(
     requires { 0 < interval }
     ensures passes { IfOk result (λ r. IsOf r.1 r.0 × IsOf r.2 r.0 × IsOf r.3 r.0) }
     ensures phases { IfOk result (λ r. r.0.constants.phases ≡ 4) }
+    ensures pulses { IfOk result (λ r. r.0.constants.pulses ≡ None) }
 {
     let (c, mut passes) = Choreographer::make(alloc, 0, interval, 4, 3)?;
     let third = passes.pop().unwrap();
@@ -204,6 +205,20 @@ fn post_some<R: Wait + Abort>(rt: &R, c: &Choreographer, pass: &mut FramePass, h
     assert!(rt; removed == Ok(1) && host.sent.as_slice() == [taken(DUE_MESSAGE, 1, 35)].as_slice());
 }
 
+// Delivers the pulse that came by the host's moment, of a choreographer that names no pass for the pulses.
+fn pulse_now<R: Wait>(
+    rt: &R,
+    c: &Choreographer,
+    pass: &mut FramePass,
+    host: &mut StillHost,
+) -> Option<Pulse>
+    requires pass { IsOf pass.old c.now }
+    requires pulses { c.now.constants.pulses ≡ None }
+    ensures { IsOf pass.new c.now }
+{
+    c.on_vsync(rt, pass, host)
+}
+
 // Delivers the pulse that came by this moment, and begins a frame.
 fn frame_at<R: Wait>(
     rt: &R,
@@ -213,11 +228,12 @@ fn frame_at<R: Wait>(
     client: &mut Relay<R>,
     now: u64,
 ) -> Framed
-    requires { IsOf pass.old c.now × IsOf client.old.pass c.now × (2 < c.now.constants.phases) }
+    requires passes { IsOf pass.old c.now × IsOf client.old.pass c.now × (2 < c.now.constants.phases) }
+    requires pulses { c.now.constants.pulses ≡ None }
     ensures { IsOf pass.new c.now × IsOf client.new.pass c.now }
 {
     host.now = now;
-    c.on_vsync(rt, pass, host);
+    pulse_now(rt, c, pass, host);
     c.do_frame(rt, pass, host, client)
 }
 
@@ -424,19 +440,19 @@ fn a_pulse_is_delivered_once(rt: HostRuntime) -> Result<(), Fail> {
     let (c, mut pass, _, _) = three(rt.alloc(), 10_000_000)?;
     let mut host = still(rt.alloc(), 25_000_000);
     let asked = c.asked(&rt, &mut pass);
-    let pulse = c.on_vsync(&rt, &mut pass, &mut host);
+    let pulse = pulse_now(&rt, &c, &mut pass, &mut host);
     assert!(rt; asked.is_none() && pulse.is_none());
     let placed = c.post_callback(&rt, &mut pass, &mut host, 1, 5, None, 0);
     let asked = c.asked(&rt, &mut pass);
     assert!(rt; placed == Placed::Asked && asked == Some(30_000_000));
     host.now = 30_000_000;
-    let pulse = c.on_vsync(&rt, &mut pass, &mut host);
+    let pulse = pulse_now(&rt, &c, &mut pass, &mut host);
     let delivered = Pulse {
         stamp: 30_000_000,
         sent: HostSent::Accepted,
     };
     assert!(rt; pulse == Some(delivered));
-    let again = c.on_vsync(&rt, &mut pass, &mut host);
+    let again = pulse_now(&rt, &c, &mut pass, &mut host);
     assert!(rt;
         again.is_none() && host.sent.as_slice() == [taken(FRAME_MESSAGE, 0, 30)].as_slice()
     );
