@@ -30,8 +30,7 @@ use Rattle.dash_loopers.specs.declared.view_root.ViewRoot.{ViewRoot}
 use Rattle.dash_loopers.specs.declared.looper.StageLooper.{StageLooper}
 use Rattle.dash_loopers.specs.Players.{PlaceWithout}
 use Rattle.dash_loopers.specs.Loopers.{IsLooper, Rest, LooperKeeps, posters_of, others_in, rest_in}
-use Rattle.dash_loopers.specs.Played.{is_disposal, calls_in, IsRootOf, IsShown, IsPlayed, StandsBy, HasCome, HasComeBy, HasLatest}
-use Rattle.dash_hall.specs.Hosts.{asks_of}
+use Rattle.dash_loopers.specs.Played.{is_disposal, calls_in, IsRootOf, IsShown, IsPlayed, StandsBy, HasCome, HasComeBy}
 use Rattle.dash_stage.specs.declared.stage.Stage.{Stage}
 use Rattle.dash_stage.specs.Stages.{IsStage}
 use Rattle.dash_stage.specs.Sharing.{HaveSeenTheSame}
@@ -95,7 +94,12 @@ stands_heard {lockstep} s q k es es' acts parts parts' did a more calls frames c
   whole = λ fs begins law. st.whole fs (prefix_trans parts.frames.view.seen parts'.frames.view.seen fs frames.seen begins) law;
   ran = ap (λ (es : List FrameEntry). map (as_told lockstep) (asks_in es)) frames.same.own ∙ st.ran;
   settled = st.settled;
-  latest_is = subst (λ (p : Pass). HasLatest p a.stamp) (sym frames) st.latest_is;
+  latest_is = let was = st.latest_is in record {
+    key = was.key;
+    constants = frames.same.constants ∙ was.constants;
+    alone = subst (λ n. was.key.pulses ≡ Some n) (sym frames.same.number) was.alone;
+    has = frames.same.stamp ∙ was.has;
+  };
   played = record {
     shown = shown_heard s q (calls_in k es') parts.root parts'.root did client root (subst (λ l. IsShown s q l parts.root did) (sym calls) st.played.shown);
     elsewhere = λ r j d at lt.
