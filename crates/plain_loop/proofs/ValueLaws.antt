@@ -1,10 +1,9 @@
 -- The value that comes out with a number is the one that went in with it.
-use Rattle.std.proofs.Common.{◌≡◌, ℕ, List, [], ◌∷◌, ◌++◌, Option, Some, slice_get, refl, sym, ap, ◌∙◌, subst}
-use mathlib.Core.List.{IsPrefix}
+use Rattle.std.proofs.Common.{◌≡◌, ℕ, List, [], ◌∷◌, ◌++◌, Option, Some, slice_get, sym, ap, ◌∙◌, subst}
 use Rattle.atomic_table.specs.Seated.{TableId}
 use Rattle.loop_model.specs.declared.post.Post.{Post}
 use Rattle.message_pool.specs.Passes.{Claimed, Tally}
-use Rattle.message_pool.specs.Values.{content_of, content_in}
+use Rattle.message_pool.specs.Values.{content_in}
 use Rattle.handler_post.specs.declared.values.SentWith.{SentWith}
 use Rattle.handler_post.specs.declared.values.SentWith.TheVariants.{Accepted, Refused, Full, NoMemory}
 use Rattle.handler_post.specs.Values.{SendingWith}

@@ -4,7 +4,7 @@ use Rattle.std.specs.Option.{option_to_list}
 use Rattle.atomic_table.specs.Seated.{TableId}
 use mathlib.Core.List.{IsPrefix}
 use Rattle.loop_model.specs.declared.post.Filter.{Filter}
-use Rattle.message_pool.specs.Passes.{Claimed, Node, Tally}
+use Rattle.message_pool.specs.Passes.{Claimed, Node}
 use Rattle.message_pool.specs.Obtain.{IsNodeOf}
 use Rattle.message_pool.specs.Values.{content_of, content_in}
 use Rattle.queue_state.specs.declared.answers.Taking.TheVariants as taking
