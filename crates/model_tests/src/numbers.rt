@@ -1,6 +1,6 @@
 //! Numbers and words, read and written.
 
-use line_words::{number, push_number, split_first};
+use line_words::{Words, number, push_number, split_first};
 use std::process::Abort;
 use std::test::Fail;
 
@@ -52,5 +52,24 @@ fn the_first_byte_parts(rt: HostRuntime) -> Result<(), Fail> {
     let (whole, none) = split_first(b"abcd", b' ');
     assert_eq!(rt; whole, b"abcd".as_slice());
     assert_eq!(rt; none.is_none(), true);
+    Ok(())
+}
+
+#[test]
+fn words_are_taken(rt: HostRuntime) -> Result<(), Fail> {
+    let mut words = Words::new(b"queue 7 side 4294967296");
+    assert_eq!(rt; words.fixed(b"queue").is_some(), true);
+    assert_eq!(rt; words.short(), Some(7));
+    assert_eq!(rt; words.either(b"main", b"side"), Some(false));
+    assert_eq!(rt; words.short(), None);
+    Ok(())
+}
+
+#[test]
+fn what_is_absent_is_taken(rt: HostRuntime) -> Result<(), Fail> {
+    let mut words = Words::new(b"- 7");
+    assert_eq!(rt; words.maybe_short(), Some(None));
+    assert_eq!(rt; words.maybe_long(), Some(Some(7)));
+    assert_eq!(rt; words.whole(true), Some(true));
     Ok(())
 }
