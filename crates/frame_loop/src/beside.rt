@@ -9,39 +9,54 @@ use loop_model::NoMemory;
 use looper_run::Looper;
 use plain_loop::{Mailbox, Opened, Sender, Senders, Settings, open, open_with};
 use queue_state::Unkept;
-use std::alloc::Global;
+use std::alloc::AllocGlobal;
 use std::sync::Wait;
 use std::thread::{Threads, join};
 use std::time;
 
+/// How a looper with frames begins.
+#[derive(Clone, Copy, Debug, PartialEq, Eq)]
+pub struct FrameSettings {
+    /// Its number, whether it is the main one, and how many threads post to it.
+    pub looper: Settings,
+    /// The time from one vsync to the next, in nanoseconds.
+    pub period: u64,
+}
+
+impl FrameSettings {
+    /// The looper of `Settings::new`, with this period in nanoseconds.
+    pub fn new(senders: u16, period: u64) -> FrameSettings
+        ensures looper { (result.looper.senders ≡ senders) × (result.looper.main ≡ false) × (result.looper.looper ≡ 0) }
+        ensures period { result.period ≡ period }
+    {
+        FrameSettings {
+            looper: Settings::new(senders),
+            period,
+        }
+    }
+}
+
 /// Makes a looper with a choreographer, does what comes before its loop, as to post its first messages, and loops as
 /// `run_frame_looper` until the queue is over. Answers the handlers (`Looper.prepare`, `loop`).
 pub fn run_frames_here<
-    R: Wait + time::Clock,
+    R: AllocGlobal + Wait + time::Clock,
     C: Clock,
     H: FrameHandle<R, C, Unkept> + Drop,
     W: FnOnce(&Mailbox<R, C>, Senders) + Drop,
->(
-    rt: &R,
-    alloc: Global,
-    clock: &C,
-    settings: Settings,
-    period: u64,
-    handlers: H,
-    before: W,
-) -> Result<H, NoMemory>
-    requires before { (m : _) (s : _) → AreSenders m.now.queue.now m.now.pool.now s × (length s.posters.items ≡ settings.senders) → W.pre before m s }
-    requires period { 0 < period }
+>(rt: &R, clock: &C, settings: FrameSettings, handlers: H, before: W) -> Result<H, NoMemory>
+    requires before { (m : _) (s : _) → AreSenders m.now.queue.now m.now.pool.now s × (length s.posters.items ≡ settings.looper.senders) → W.pre before m s }
+    requires period { 0 < settings.period }
     requires holds { H.Holds handlers }
     ensures holds { IfOk result H.Holds }
 {
+    let alloc = rt.alloc();
     let Opened {
         queue,
         pool,
         mut looper,
         senders,
         sources,
-    } = open(alloc, settings)?;
+    } = open(alloc, settings.looper)?;
     let mailbox = Mailbox {
         rt,
         alloc,
@@ -51,7 +66,7 @@ pub fn run_frames_here<
         sources: &sources,
     };
     before(&mailbox, senders);
-    run_frame_looper(&mailbox, &mut looper, period, handlers)
+    run_frame_looper(&mailbox, &mut looper, settings.period, handlers)
 }
 
 // Does the work, and then quits the queue safely by this sender.
@@ -105,33 +120,30 @@ fn side_by_side<
 /// looper's mailbox and its senders; when the work is done the queue is quit safely, so it isn't that of a main looper. Answers what
 /// the work did, and the handlers (`HandlerThread.start`, `quitSafely`, `join`).
 pub fn run_frames_beside<
-    R: Threads + Wait + time::Clock + Sync,
+    R: AllocGlobal + Threads + Wait + time::Clock + Sync,
     C: Clock + Sync,
     H: FrameHandle<R, C, Unkept> + Send + Drop,
     T: Send + Drop,
     W: FnOnce(&Mailbox<R, C>, Senders) -> T + Send + Drop,
->(
-    rt: &R,
-    alloc: Global,
-    clock: &C,
-    settings: Settings,
-    period: u64,
-    handlers: H,
-    work: W,
-) -> Result<(T, H), NoMemory>
-    requires work { (m : _) (s : _) → AreSenders m.now.queue.now m.now.pool.now s × (length s.posters.items ≡ settings.senders) → W.pre work m s }
-    requires quits { settings.main ≡ false }
-    requires period { 0 < period }
+>(rt: &R, clock: &C, settings: FrameSettings, handlers: H, work: W) -> Result<(T, H), NoMemory>
+    requires work { (m : _) (s : _) → AreSenders m.now.queue.now m.now.pool.now s × (length s.posters.items ≡ settings.looper.senders) → W.pre work m s }
+    requires quits { settings.looper.main ≡ false }
+    requires period { 0 < settings.period }
     requires holds { H.Holds handlers }
     ensures holds { IfOk result (λ r. H.Holds r.1) }
 {
+    let alloc = rt.alloc();
     let Opened {
         queue,
         pool,
         looper,
         senders,
         sources,
-    } = open_with(alloc, settings, u32::from(settings.senders) + 1)?;
+    } = open_with(
+        alloc,
+        settings.looper,
+        u32::from(settings.looper.senders) + 1,
+    )?;
     let mailbox = Mailbox {
         rt,
         alloc,
@@ -140,7 +152,7 @@ pub fn run_frames_beside<
         pool: &pool,
         sources: &sources,
     };
-    side_by_side(&mailbox, looper, senders, period, handlers, work)
+    side_by_side(&mailbox, looper, senders, settings.period, handlers, work)
 }
 
 fn do_work<R: Wait, C: Clock, T, W: FnOnce(&Mailbox<R, C>, Senders) -> T>(
@@ -187,33 +199,26 @@ fn all_beside<
 /// looper's mailbox and its senders. It goes on until a handler or a sender quits it. Answers what the work did, and the handlers
 /// (`HandlerThread.start`, `join`).
 pub fn run_frames_with<
-    R: Threads + Wait + time::Clock + Sync,
+    R: AllocGlobal + Threads + Wait + time::Clock + Sync,
     C: Clock + Sync,
     H: FrameHandle<R, C, Unkept> + Send + Drop,
     T: Send + Drop,
     W: FnOnce(&Mailbox<R, C>, Senders) -> T + Send + Drop,
->(
-    rt: &R,
-    alloc: Global,
-    clock: &C,
-    settings: Settings,
-    period: u64,
-    handlers: H,
-    work: W,
-) -> Result<(T, H), NoMemory>
-    requires work { (m : _) (s : _) → AreSenders m.now.queue.now m.now.pool.now s × (length s.posters.items ≡ settings.senders) → W.pre work m s }
-    requires quits { settings.main ≡ false }
-    requires period { 0 < period }
+>(rt: &R, clock: &C, settings: FrameSettings, handlers: H, work: W) -> Result<(T, H), NoMemory>
+    requires work { (m : _) (s : _) → AreSenders m.now.queue.now m.now.pool.now s × (length s.posters.items ≡ settings.looper.senders) → W.pre work m s }
+    requires quits { settings.looper.main ≡ false }
+    requires period { 0 < settings.period }
     requires holds { H.Holds handlers }
     ensures holds { IfOk result (λ r. H.Holds r.1) }
 {
+    let alloc = rt.alloc();
     let Opened {
         queue,
         pool,
         looper,
         senders,
         sources,
-    } = open(alloc, settings)?;
+    } = open(alloc, settings.looper)?;
     let mailbox = Mailbox {
         rt,
         alloc,
@@ -222,5 +227,5 @@ pub fn run_frames_with<
         pool: &pool,
         sources: &sources,
     };
-    all_beside(&mailbox, looper, senders, period, handlers, work)
+    all_beside(&mailbox, looper, senders, settings.period, handlers, work)
 }

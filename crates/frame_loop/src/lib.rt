@@ -10,7 +10,7 @@ mod painting;
 mod posting;
 mod screen;
 
-pub use beside::{run_frames_beside, run_frames_here, run_frames_with};
+pub use beside::{FrameSettings, run_frames_beside, run_frames_here, run_frames_with};
 pub use handlers::FrameHandle;
 pub use looping::run_frame_looper;
 pub use outbox::FrameOutbox;

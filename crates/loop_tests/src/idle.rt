@@ -59,7 +59,7 @@ fn an_idle_handler_runs_before_each_wait_until_it_is_not_kept(rt: HostRuntime) -
             idle: 0,
             keeps,
         };
-        let counter = run_here(&rt, rt.alloc(), &clock, Settings::new(1), counter, begin)?;
+        let counter = run_here(&rt, &clock, Settings::new(1), counter, begin)?;
         assert!(rt; counter.callbacks == 2);
         assert!(rt; counter.idle == if keeps { 2 } else { 1 });
     }

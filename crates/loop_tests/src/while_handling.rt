@@ -145,13 +145,12 @@ fn send_all<R: Wait, C: Clock>(
 
 #[test]
 fn a_handler_changes_its_queue_while_it_handles(rt: HostRuntime) -> Result<(), Fail> {
-    let alloc = rt.alloc();
     let clock = StepClock::new(100);
     for &(messages, told, found) in &ROWS {
         let begin = |mailbox: &_, senders|
             requires { AreSenders mailbox.now.queue.now mailbox.now.pool.now senders × (0 < length senders.posters.items) }
         { send_all(mailbox, senders, messages) };
-        let acting = run_here(&rt, alloc, &clock, Settings::new(1), BEGUN, begin)?;
+        let acting = run_here(&rt, &clock, Settings::new(1), BEGUN, begin)?;
         assert!(rt; acting.told == told && acting.found == found);
     }
     Ok(())

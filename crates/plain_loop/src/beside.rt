@@ -13,7 +13,7 @@ use loop_io::Clock;
 use loop_model::NoMemory;
 use looper_run::{ByClock, Dispatcher, Loop, Looper};
 use queue_state::Unkept;
-use std::alloc::Global;
+use std::alloc::AllocGlobal;
 use std::sync::Wait;
 use std::thread::{Threads, join};
 use std::time;
@@ -113,22 +113,16 @@ pub fn run_looper<R: Wait + time::Clock, C: Clock, E: LetGo, H: Handle<R, C, E> 
 /// Makes a looper, does what comes before its loop, as to post its first messages, and loops until the queue is over. Answers the
 /// handlers (`Looper.prepare`, `loop`).
 pub fn run_here<
-    R: Wait + time::Clock,
+    R: AllocGlobal + Wait + time::Clock,
     C: Clock,
     H: Handle<R, C, Unkept> + Drop,
     W: FnOnce(&Mailbox<R, C>, Senders) + Drop,
->(
-    rt: &R,
-    alloc: Global,
-    clock: &C,
-    settings: Settings,
-    handlers: H,
-    before: W,
-) -> Result<H, NoMemory>
+>(rt: &R, clock: &C, settings: Settings, handlers: H, before: W) -> Result<H, NoMemory>
     requires before { (m : _) (s : _) → AreSenders m.now.queue.now m.now.pool.now s × (length s.posters.items ≡ settings.senders) → W.pre before m s }
     requires holds { H.Holds handlers }
     ensures holds { IfOk result H.Holds }
 {
+    let alloc = rt.alloc();
     let Opened {
         queue,
         pool,
@@ -198,24 +192,18 @@ fn side_by_side<
 /// senders; when the work is done the queue is quit safely, so it isn't that of a main looper. Answers what the work did, and the
 /// handlers (`HandlerThread.start`, `quitSafely`, `join`).
 pub fn run_beside<
-    R: Threads + Wait + time::Clock + Sync,
+    R: AllocGlobal + Threads + Wait + time::Clock + Sync,
     C: Clock + Sync,
     H: Handle<R, C, Unkept> + Send + Drop,
     T: Send + Drop,
     W: FnOnce(&Mailbox<R, C>, Senders) -> T + Send + Drop,
->(
-    rt: &R,
-    alloc: Global,
-    clock: &C,
-    settings: Settings,
-    handlers: H,
-    work: W,
-) -> Result<(T, H), NoMemory>
+>(rt: &R, clock: &C, settings: Settings, handlers: H, work: W) -> Result<(T, H), NoMemory>
     requires work { (m : _) (s : _) → AreSenders m.now.queue.now m.now.pool.now s × (length s.posters.items ≡ settings.senders) → W.pre work m s }
     requires quits { settings.main ≡ false }
     requires holds { H.Holds handlers }
     ensures holds { IfOk result (λ r. H.Holds r.1) }
 {
+    let alloc = rt.alloc();
     let Opened {
         queue,
         pool,

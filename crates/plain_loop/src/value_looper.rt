@@ -13,7 +13,7 @@ use loop_model::NoMemory;
 use looper_run::{ByClock, Dispatcher, Looper};
 use message_pool::Payload;
 use queue_state::Unkept;
-use std::alloc::Global;
+use std::alloc::{AllocGlobal, Global};
 use std::sync::Wait;
 use std::thread::{Threads, join};
 use std::time;
@@ -172,23 +172,17 @@ fn side_by_side<
 /// senders; when the work is done the queue is quit safely, so it isn't that of a main looper. Answers what the work did, and the
 /// handlers (`HandlerThread.start`, `quitSafely`, `join`).
 pub fn run_values_beside<
-    R: Threads + Wait + time::Clock + Sync,
+    R: AllocGlobal + Threads + Wait + time::Clock + Sync,
     C: Clock + Sync,
     H: HandleValues<R, C> + Send + Drop,
     W: WorkBeside<R, C, H::Value> + Send + Drop,
->(
-    rt: &R,
-    alloc: Global,
-    clock: &C,
-    settings: Settings,
-    handlers: H,
-    work: W,
-) -> Result<(W::Answer, H), NoMemory>
+>(rt: &R, clock: &C, settings: Settings, handlers: H, work: W) -> Result<(W::Answer, H), NoMemory>
     requires count { settings.senders ≡ W.count work }
     requires quits { settings.main ≡ false }
     requires holds { H.Holds handlers }
     ensures holds { IfOk result (λ r. H.Holds r.1) }
 {
+    let alloc = rt.alloc();
     let Opened {
         queue,
         pool,

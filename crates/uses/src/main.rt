@@ -4,12 +4,12 @@
 ghost use Rattle.std.specs.Prelude.{◌<◌, length};
 ghost use Rattle.plain_loop.specs.Senders.{IsSender, AreSenders};
 
-use frame_loop::{FrameHandle, Screen, run_frames_with};
+use frame_loop::{FrameHandle, FrameSettings, Screen, run_frames_with};
 use frame_phases::Callback;
 use handler_post::Handler;
 use loop_io::{Clock, StdClock};
 use loop_model::Post;
-use plain_loop::{Handled, Mailbox, Msg, Sender, Senders, Settings};
+use plain_loop::{Handled, Mailbox, Msg, Sender, Senders};
 use queue_state::Unkept;
 use std::sync::Wait;
 use std::thread::{Threads, join};
@@ -107,10 +107,10 @@ fn measure<R: Threads + Wait + Sync, C: Clock + Sync>(
 }
 
 fn main(rt: HostRuntime) -> std::io::Result<()> {
-    let (clock, settings) = (StdClock::new(&rt), Settings::new(2));
+    let (clock, settings) = (StdClock::new(&rt), FrameSettings::new(2, PERIOD));
     let kept = Thermostat::default();
     let work = |mailbox: &_, senders| measure(mailbox, senders);
-    match run_frames_with(&rt, rt.alloc(), &clock, settings, PERIOD, kept, work) {
+    match run_frames_with(&rt, &clock, settings, kept, work) {
         Ok((Ok(()), it)) => {
             println!(rt; "{} readings, {} alarm", it.readings, it.alarms)?;
             println!(rt; "the dial stands at {}, idle {}", it.dial, it.idle)
