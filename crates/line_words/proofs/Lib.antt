@@ -7,3 +7,7 @@ pub mod Again
 pub mod Taken
 pub mod Pieces
 pub mod LineReading
+pub mod Refusing
+pub mod RefusedLines
+pub mod Answers
+pub mod RefusedLeast

@@ -1,12 +1,7 @@
 -- What a draft holds.
 use Rattle.value_animator.specs.declared.draft.Draft.{Draft}
 use Rattle.value_animator.specs.Rules.{SoFar}
-use Rattle.value_animator.specs.declared.plan.Values.{Values}
 
 -- the lines so far, as the draft holds them
 abbrev pub so_far : Draft → SoFar
 so_far d = record { period = d.period; things = d.things.items; open_plan = d.open; stage = d.stage }
-
--- the values that were read
-abbrev pub values_of : SoFar → Values
-values_of d = record { period = d.period; things = d.things }

@@ -1,18 +1,22 @@
 -- What holds of every text of values.
 use Rattle.std.specs.Prelude.{◌≡◌, ◌↔◌, ℕ, List, Ok, Err}
 use Rattle.dash_script.specs.declared.refusal.Cause.{Cause}
+use Rattle.line_words.specs.RefusedReading.{read_text}
 use Rattle.value_animator.specs.declared.plan.Values.{Values}
-use Rattle.value_animator.specs.Plans.{AreValues}
-use Rattle.value_animator.specs.Reading.{IsRefusal, IsText, values_text}
-use Rattle.value_animator.specs.Parsing.{read_values}
+use Rattle.value_animator.specs.Plans.{AreValues, values_text}
+use Rattle.value_animator.specs.Reading.{IsRefusal, IsText, plans}
+
+-- a text is one of values exactly where it is theirs, and they are within the limits
+abbrev pub TextsAreTheirs : Type 0
+TextsAreTheirs = (b : List ℕ) (v : Values) → IsText b v ↔ ((b ≡ values_text v) × AreValues v)
 
 -- a text is read as values exactly where it is their text
 abbrev pub ReadsTexts : Type 0
-ReadsTexts = (b : List ℕ) (v : Values) → (read_values b ≡ Ok v) ↔ IsText b v
+ReadsTexts = (b : List ℕ) (v : Values) → (read_text plans b ≡ Ok v) ↔ IsText b v
 
 -- a text is read as a refusal exactly where that is the text's refusal
 abbrev pub ReadsRefusals : Type 0
-ReadsRefusals = (b : List ℕ) (line : ℕ) (c : Cause) → (read_values b ≡ Err (line, c)) ↔ IsRefusal b line c
+ReadsRefusals = (b : List ℕ) (line : ℕ) (c : Cause) → (read_text plans b ≡ Err (line, c)) ↔ IsRefusal b line c
 
 -- the text of values is the text of no others
 abbrev pub OneText : Type 0

@@ -9,8 +9,5 @@ pub mod Rows
 pub mod Rules
 pub mod Drafts
 pub mod Reading
-pub mod Parsing
-pub mod Answering
-pub mod Least
 pub mod Naming
 pub mod Laws

@@ -1,9 +1,36 @@
--- The limits of values.
-use Rattle.std.specs.Prelude.{◌≤◌, ◌<◌, length, All}
+-- The text of values, and their limits.
+use Rattle.std.specs.Prelude.{◌≤◌, ◌<◌, ℕ, List, [], ◌∷◌, ◌++◌, map, length, All, if◌then◌else◌}
+use Rattle.std.specs.List.{flat_map}
+use Rattle.animator.specs.declared.keys.Key.{Key}
+use Rattle.animator.specs.declared.plan.Plan.{Plan}
 use Rattle.animator.specs.Plans.{IsPlan}
 use Rattle.value_animator.specs.declared.plan.Thing.{Thing}
 use Rattle.value_animator.specs.declared.plan.Thing.TheVariants.{Animator, Countdown}
 use Rattle.value_animator.specs.declared.plan.Values.{Values}
+use Rattle.value_animator.specs.declared.row.RowKind.TheVariants as kind
+use Rattle.value_animator.specs.declared.row.Row.{Row}
+use Rattle.value_animator.specs.Rows.{row_text, say}
+
+-- the line of a key
+abbrev pub key_row : Key → Row
+key_row k = say kind.Key (k.at ∷ k.value ∷ [])
+
+-- the first line of an animator
+abbrev pub plan_row : Plan → Row
+plan_row p = say (if p.reverse then kind.Reverse else kind.Restart) (p.delay ∷ p.duration ∷ p.repeats ∷ [])
+
+-- the lines of a thing
+abbrev pub thing_rows : Thing → List Row
+thing_rows (Animator p) = plan_row p ∷ map key_row p.keys
+thing_rows (Countdown total interval) = say kind.Countdown (total ∷ interval ∷ []) ∷ []
+
+-- the lines of values
+abbrev pub rows : Values → List Row
+rows v = say kind.Head [] ∷ say kind.Period (v.period ∷ []) ∷ flat_map thing_rows v.things ++ say kind.End [] ∷ []
+
+-- the text of values
+abbrev pub values_text : Values → List ℕ
+values_text v = flat_map row_text (rows v)
 
 -- the thing is within the limits
 abbrev pub IsThing : Thing → Type 0
