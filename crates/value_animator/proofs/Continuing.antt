@@ -17,8 +17,10 @@ use Rattle.animator.specs.Plans.{IsKey, IsPlan}
 use Rattle.value_animator.specs.Plans.{IsThing, AreValues}
 use Rattle.value_animator.specs.Rows.{row_text, say}
 use Rattle.value_animator.specs.Rules.{SoFar, may_be_placed, last_place}
-use Rattle.value_animator.specs.Reading.{key_row, plan_row, thing_rows, rows}
-use Rattle.value_animator.specs.Naming.{Begins}
+use Rattle.line_words.specs.LeastBad.{Begins}
+use Rattle.value_animator.specs.Plans.{key_row, plan_row, thing_rows, rows, values_text}
+use Rattle.value_animator.specs.Reading.{IsText}
+use Rattle.value_animator.proofs.Found.{are_theirs}
 use Rattle.value_animator.proofs.Leading.{lt_test}
 use Rattle.value_animator.proofs.Holding.{rows_in, body_rows, upto, make, SoundIn, Limits, IsOpen, rising, rising_push, rising_rise, more_thing}
 
@@ -118,7 +120,9 @@ continues Ended o period things h =
     (record { period = period; things = things }, [], append-nil (body_rows period things o ++ end_row ∷ []) ∙ ap (λ l. l ++ end_row ∷ []) none, all_within period things h.0)
 
 -- the text of the rows that a draft has seen begins the text of some values
-pub begins : (d : SoFar) → SoundIn d.stage d → Begins (flat_map row_text (rows_in d.stage d))
+pub begins : (d : SoFar) → SoundIn d.stage d → Begins IsText (flat_map row_text (rows_in d.stage d))
 begins d h =
     let c = continues d.stage d.open_plan d.period d.things h in
-    (c.0, flat_map row_text c.1, (sym (flat_map-append row_text (rows_in d.stage d) c.1) ∙ ap (flat_map row_text) c.2, c.3))
+    let bytes : List ℕ = flat_map row_text (rows_in d.stage d) ++ flat_map row_text c.1 in
+    let is : (bytes ≡ values_text c.0) × AreValues c.0 = (sym (flat_map-append row_text (rows_in d.stage d) c.1) ∙ ap (flat_map row_text) c.2, c.3) in
+    (c.0, flat_map row_text c.1, (are_theirs bytes c.0).1 is)

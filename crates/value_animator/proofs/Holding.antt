@@ -24,13 +24,14 @@ use Rattle.animator.specs.Plans.{IsKey, IsPlan, rise, rise_from}
 use Rattle.value_animator.specs.Plans.{IsThing, AreValues}
 use Rattle.value_animator.specs.Rows.{form, say}
 use Rattle.value_animator.specs.Rules.{SoFar, cause_of, with_row, is_ended_stage, last_place, may_be_placed, key_of, plan_of}
-use Rattle.value_animator.specs.Drafts.{values_of}
-use Rattle.value_animator.specs.Reading.{key_row, plan_row, thing_rows, rows}
-use Rattle.value_animator.specs.Parsing.{goes_on, after_cause}
-use Rattle.value_animator.specs.Answering.{run}
+use Rattle.line_words.specs.RefusedReading.{goes_on, run}
+use Rattle.line_words.proofs.Refusing.{answer}
+use Rattle.value_animator.specs.Plans.{key_row, plan_row, thing_rows, rows}
+use Rattle.value_animator.specs.Reading.{plans, values_of, cause_at_stop}
 use Rattle.value_animator.proofs.Limits.{key_fits, countdown_fits, restart_fits, reverse_fits, period_fits, WayFits}
-use Rattle.value_animator.proofs.Lines.{IsGood, good_is, failed}
-use Rattle.value_animator.proofs.Ran.{AllCounted}
+use Rattle.std.specs.List.{AllByRecursion}
+use Rattle.value_animator.proofs.Lines.{IsGood, good_is}
+use Rattle.value_animator.proofs.Running.{IsCounted}
 use Rattle.value_animator.proofs.Leading.{last_place-push}
 
 -- ---- the rows that a draft has seen
@@ -295,7 +296,7 @@ pub record Held (d : SoFar) (rs : List Row) (v : Values) : Type 0 where
   pub limits : AreValues v
 
 held_end : (stage : Stage) (o : Option Plan) (period : ℕ) (things : List Thing) (k : ℕ) (v : Values) → SoundIn stage (make stage o period things)
-    → cond (is_ended_stage stage) (Ok (values_of (make stage o period things))) (failed k cause.Missing) ≡ Ok v → Held (make stage o period things) [] v
+    → goes_on k (cause_at_stop (make stage o period things) []) (make stage o period things) (λ e. answer (values_of e)) ≡ answer v → Held (make stage o period things) [] v
 held_end Start o period things k v h e = absurd cc
 held_end Headed o period things k v h e = absurd cc
 held_end Body o period things k v h e = absurd cc
@@ -310,8 +311,8 @@ held_end Ended o period things k v h e =
     subst (λ w. Held (make Ended o period things) [] w) same here
 
 held_more : (k : ℕ) (d : SoFar) (r : Row) (rs : List Row) (v : Values) (o : Option Cause) → cause_of d r ≡ o → hole_count (form r.kind) ≡ length r.numbers → SoundIn d.stage d
-    → ((e : SoFar) → SoundIn e.stage e → run (k + 1) e rs ≡ Ok v → Held e rs v)
-    → goes_on k (after_cause d r o) (λ e. run (k + 1) e rs) ≡ Ok v → Held d (r ∷ rs) v
+    → ((e : SoFar) → SoundIn e.stage e → run plans (k + 1) e rs ≡ answer v → Held e rs v)
+    → goes_on k o (with_row d r.kind r.numbers) (λ e. run plans (k + 1) e rs) ≡ answer v → Held d (r ∷ rs) v
 held_more k d r rs v (Some c) bad counted h later e = absurd cc
 held_more k d r rs v None good counted h later e =
     let one = step d.stage d.open_plan r.kind d.period d.things r.numbers counted (good_is d r good) h in
@@ -321,7 +322,7 @@ held_more k d r rs v None good counted h later e =
       limits = rest.limits;
     }
 
-pub held : (rs : List Row) (k : ℕ) (d : SoFar) (v : Values) → AllCounted rs → SoundIn d.stage d → run k d rs ≡ Ok v → Held d rs v
+pub held : (rs : List Row) (k : ℕ) (d : SoFar) (v : Values) → AllByRecursion IsCounted rs → SoundIn d.stage d → run plans k d rs ≡ answer v → Held d rs v
 unfolding run
 held [] k d v counted h e = held_end d.stage d.open_plan d.period d.things k v h e
 held (r ∷ rs) k d v counted h e = held_more k d r rs v (cause_of d r) refl counted.0 h (λ x s g. held rs (k + 1) x v counted.1 s g) e

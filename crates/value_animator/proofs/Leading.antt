@@ -17,13 +17,16 @@ use Rattle.value_animator.specs.declared.draft.Stage.TheVariants.{Headed, Body, 
 use Rattle.animator.specs.Plans.{IsKey, IsPlan, rise, rise_from}
 use Rattle.value_animator.specs.Plans.{IsThing, AreValues}
 use Rattle.value_animator.specs.Rules.{SoFar, nothing, with_row, numbers_fit, last_place, may_be_placed, key_has_room}
-use Rattle.value_animator.specs.Reading.{key_row, thing_rows, rows, values_text}
+use Rattle.std.specs.List.{AllByRecursion}
+use Rattle.value_animator.specs.Plans.{key_row, thing_rows, rows, values_text}
+use Rattle.value_animator.specs.Reading.{plans}
 use Rattle.value_animator.specs.Rows.{say}
-use Rattle.value_animator.specs.Parsing.{read_values}
-use Rattle.value_animator.specs.Answering.{run}
+use Rattle.line_words.specs.RefusedReading.{read_text, run}
+use Rattle.line_words.proofs.Refusing.{answer}
+use Rattle.line_words.proofs.RefusedLines.{texts_run}
 use Rattle.value_animator.proofs.Lines.{IsGood}
 use Rattle.value_animator.proofs.Rows.{IsWhole}
-use Rattle.value_animator.proofs.Running.{Leads, leads-append, leads_run, AllWhole, texts_are_run}
+use Rattle.value_animator.proofs.Running.{Leads, leads-append, leads_run, spelled}
 
 -- a number within its limits passes their test
 test_is : (low high n : ℕ) → low ≤ n → n ≤ high → (nat_le low n && nat_le n high) ≡ true
@@ -185,7 +188,7 @@ rows_lead v h =
     let to_end : Leads (between v.period v.things) (say kind.End [] ∷ []) (at_end v) = (end_good v.period v.things, refl) in
     (head_good, (period_good, leads-append (flat_map thing_rows v.things) (say kind.End [] ∷ []) (between v.period []) (between v.period v.things) (at_end v) things to_end))
 
-pub rows_run : (v : Values) → AreValues v → run 1 nothing (rows v) ≡ Ok v
+pub rows_run : (v : Values) → AreValues v → run plans 1 nothing (rows v) ≡ answer v
 rows_run v h = leads_run (rows v) 1 nothing (at_end v) (rows_lead v h) refl
 
 -- ---- the rows are whole
@@ -193,7 +196,7 @@ rows_run v h = leads_run (rows v) 1 nothing (at_end v) (rows_lead v h) refl
 small : (n : ℕ) → n ≤ 1000000000 → n < 2 ^ 64
 small n le = omega arith
 
-keys_whole : (ks : List Key) → All IsKey ks → AllWhole (map key_row ks)
+keys_whole : (ks : List Key) → All IsKey ks → AllByRecursion IsWhole (map key_row ks)
 keys_whole [] all = tt
 keys_whole (k ∷ ks) all =
     let h : IsKey k = all zero k (omega arith) in
@@ -201,7 +204,7 @@ keys_whole (k ∷ ks) all =
     let value : k.value ≤ 1000000 = h.value in
     ((refl, (small k.at (omega arith), (small k.value (omega arith), tt))), keys_whole ks (λ i d within. all (suc i) d (omega arith)))
 
-whole-append : (xs ys : List Row) → AllWhole xs → AllWhole ys → AllWhole (xs ++ ys)
+whole-append : (xs ys : List Row) → AllByRecursion IsWhole xs → AllByRecursion IsWhole ys → AllByRecursion IsWhole (xs ++ ys)
 whole-append [] ys h more = more
 whole-append (x ∷ xs) ys h more = (h.0, whole-append xs ys h.1 more)
 
@@ -213,22 +216,22 @@ plan_whole p false h =
     let a : p.delay ≤ 60000 = h.delay in let b : p.duration ≤ 60000 = h.duration in let c : p.repeats ≤ 99 = h.repeats in
     (refl, (small p.delay (omega arith), (small p.duration (omega arith), (small p.repeats (omega arith), tt))))
 
-thing_whole : (t : Thing) → IsThing t → AllWhole (thing_rows t)
+thing_whole : (t : Thing) → IsThing t → AllByRecursion IsWhole (thing_rows t)
 thing_whole (thing_of.Countdown total interval) h =
     let a : total ≤ 60000 = h.0 in let b : interval ≤ 60000 = h.2 in
     ((refl, (small total (omega arith), (small interval (omega arith), tt))), tt)
 thing_whole (thing_of.Animator p) h = (plan_whole p p.reverse h, keys_whole p.keys h.keys)
 
-things_whole : (ts : List Thing) → All IsThing ts → AllWhole (flat_map thing_rows ts)
+things_whole : (ts : List Thing) → All IsThing ts → AllByRecursion IsWhole (flat_map thing_rows ts)
 things_whole [] all = tt
 things_whole (t ∷ ts) all =
     whole-append (thing_rows t) (flat_map thing_rows ts) (thing_whole t (all zero t (omega arith))) (things_whole ts (λ i d within. all (suc i) d (omega arith)))
 
-rows_whole : (v : Values) → AreValues v → AllWhole (rows v)
+rows_whole : (v : Values) → AreValues v → AllByRecursion IsWhole (rows v)
 rows_whole v h =
     let high : v.period ≤ 1000000000 = h.high in
     ((refl, tt), ((refl, (small v.period high, tt)), whole-append (flat_map thing_rows v.things) (say kind.End [] ∷ []) (things_whole v.things h.things) ((refl, tt), tt)))
 
 -- the text of values within the limits is read as theirs
-pub texts_are_read : (v : Values) → AreValues v → read_values (values_text v) ≡ Ok v
-texts_are_read v h = texts_are_run (rows v) 1 nothing (rows_whole v h) ∙ rows_run v h
+pub texts_are_read : (v : Values) → AreValues v → read_text plans (values_text v) ≡ answer v
+texts_are_read v h = texts_run spelled 1 nothing (rows v) (rows_whole v h) ∙ rows_run v h

@@ -9,9 +9,7 @@ pub mod Placing
 pub mod Lines
 pub mod Running
 pub mod Leading
-pub mod Ran
 pub mod Holding
-pub mod Refusals
 pub mod Found
 pub mod Continuing
 pub mod Stopping

@@ -1,39 +1,62 @@
--- Rows in place of bytes.
-use Rattle.std.proofs.Common.{◌≡◌, ◌+◌, ℕ, true, List, [], ◌∷◌, ◌++◌, Result, Ok, Err, refl, sym, ap, ◌∙◌, subst}
-use Rattle.std.specs.List.{flat_map}
+-- Rows in place of bytes, and rows without a cause.
+use Rattle.std.proofs.Common.{◌≡◌, ◌<◌, ◌+◌, ◌==◌, arith, ℕ, true, false, Bool, List, [], ◌∷◌, ◌++◌, length, Option, Some, None, Ok, refl, sym, ap, ◌∙◌, subst}
+use Rattle.std.proofs.lemmas.Bool.{eqb-true, ne_eqb}
+use Rattle.std.proofs.lemmas.List.{nil_from_length}
+use Rattle.line_words.specs.Words.{words}
+use Rattle.line_words.specs.RefusedReading.{run}
+use Rattle.line_words.proofs.RefusedLines.{IsSpelled}
 use Rattle.dash_script.specs.declared.refusal.Cause.{Cause}
-use Rattle.line_words.specs.Words.{pieces}
-use Rattle.value_animator.specs.declared.plan.Values.{Values}
+use Rattle.dash_script.specs.declared.refusal.Cause.TheVariants as cause
+use Rattle.dash_script.specs.Statement.{said_among, numbers_of}
+use Rattle.dash_script.specs.Writing.{hole_count}
+use Rattle.dash_script.proofs.Lines.{numbers_counted}
+use Rattle.dash_script.proofs.Forms.{among_said}
 use Rattle.value_animator.specs.declared.row.Row.{Row}
-use Rattle.value_animator.specs.Rows.{row_text}
+use Rattle.value_animator.specs.Rows.{form, all_kinds, say, row_among, row_of, row_text}
 use Rattle.value_animator.specs.Rules.{SoFar, cause_of, with_row, is_ended_stage}
-use Rattle.value_animator.specs.Drafts.{values_of}
-use Rattle.value_animator.specs.Parsing.{next_line, goes_on, after_cause, values_from}
-use Rattle.value_animator.specs.Answering.{run}
-use Rattle.value_animator.proofs.Rows.{IsWhole, row_bytes, row_first, row_again}
-use Rattle.value_animator.proofs.Lines.{a_line, IsGood, is_good}
+use Rattle.value_animator.specs.Reading.{plans, values_of, cause_at_stop}
+use Rattle.value_animator.proofs.Rows.{IsWhole, row_bytes, row_first, row_again, row_taken}
+use Rattle.value_animator.proofs.Lines.{IsGood, is_good}
 
--- each row is whole
-abbrev pub AllWhole : List Row → Type 0
-AllWhole [] = Unit {0}
-AllWhole (r ∷ rs) = IsWhole r × AllWhole rs
+-- a row has a number for each hole of its form
+abbrev pub IsCounted : Row → Type 0
+IsCounted r = hole_count (form r.kind) ≡ length r.numbers
 
-next_is : (d : SoFar) (r : Row) → IsWhole r → next_line d (row_bytes r) ≡ after_cause d r (cause_of d r)
-unfolding next_line
-next_is d r h = rw (row_again r h) refl
+pub among_counted : (ws : List (List ℕ)) (r : Row) → row_among all_kinds ws ≡ Some r → IsCounted r
+among_counted ws r e =
+    let p = among_said form say all_kinds ws r e in
+    subst (λ (x : Row). hole_count (form x.kind) ≡ length x.numbers) p.2 (numbers_counted (form p.0) ws p.1 p.3)
 
-same_on : (k : ℕ) (x : Result SoFar Cause) (f g : SoFar → Result Values (ℕ × Cause)) → ((e : SoFar) → f e ≡ g e) → goes_on k x f ≡ goes_on k x g
-same_on k (Ok e) f g same = same e
-same_on k (Err c) f g same = refl
+fed : (d : SoFar) (rest : List ℕ) → cause_at_stop d rest ≡ None → rest ≡ []
+fed d rest h = by_test (length rest == 0) refl h
+  where
+    by_test : (b : Bool) → (length rest == 0) ≡ b → cause_at_stop d rest ≡ None → rest ≡ []
+    by_test true is h = nil_from_length rest (eqb-true (length rest) 0 is)
+    by_test false is h = let wrong = rw is at h in absurd cc
 
--- the text of rows is read as they are run
-pub texts_are_run : (rs : List Row) (k : ℕ) (d : SoFar) → AllWhole rs → values_from k d (pieces (flat_map row_text rs)) ≡ run k d rs
-unfolding values_from run
-texts_are_run [] k d h = refl
-texts_are_run (r ∷ rs) k d h =
-    a_line k d (row_text r ++ flat_map row_text rs) (row_bytes r) (flat_map row_text rs) (row_first r (flat_map row_text rs) h.0)
-    ∙ (ap (λ x. goes_on k x (λ e. values_from (k + 1) e (pieces (flat_map row_text rs)))) (next_is d r h.0)
-    ∙ same_on k (after_cause d r (cause_of d r)) (λ e. values_from (k + 1) e (pieces (flat_map row_text rs))) (λ e. run (k + 1) e rs) (λ e. texts_are_run rs (k + 1) e h.1))
+-- ---- why the text may stop, or not
+
+pub cut_short : (d : SoFar) (rest : List ℕ) → 0 < length rest → cause_at_stop d rest ≡ Some cause.Form
+cut_short d rest some = rw (ne_eqb (length rest) 0 (λ z. omega (arith, z, some))) refl
+
+pub stop_ended : (d : SoFar) → is_ended_stage d.stage ≡ true → cause_at_stop d [] ≡ None
+stop_ended d is = rw is refl
+
+pub stop_missing : (d : SoFar) → is_ended_stage d.stage ≡ false → cause_at_stop d [] ≡ Some cause.Missing
+stop_missing d is = rw is refl
+
+pub nothing_said : row_of [] ≡ None
+unfolding said_among numbers_of
+nothing_said = refl
+
+pub spelled : IsSpelled plans row_text IsWhole IsCounted
+spelled = record {
+  again = λ r rest whole. (row_bytes r, row_first r rest whole, row_again r whole);
+  taken = λ line r e. (row_taken line r e, among_counted (words line) r e);
+  empty = nothing_said;
+  formless = λ k d h. absurd cc;
+  fed = λ k d rest h. fed d rest h;
+}
 
 -- ---- rows without a cause
 
@@ -46,7 +69,7 @@ pub leads-append : (xs ys : List Row) (d e f : SoFar) → Leads d xs e → Leads
 leads-append [] ys d e f h more = subst (λ x. Leads x ys f) (sym h) more
 leads-append (x ∷ xs) ys d e f h more = (h.0, leads-append xs ys (with_row d x.kind x.numbers) e f h.1 more)
 
-pub leads_run : (rs : List Row) (k : ℕ) (d e : SoFar) → Leads d rs e → is_ended_stage e.stage ≡ true → run k d rs ≡ Ok (values_of e)
+pub leads_run : (rs : List Row) (k : ℕ) (d e : SoFar) → Leads d rs e → is_ended_stage e.stage ≡ true → run plans k d rs ≡ Ok (values_of e)
 unfolding run
 leads_run [] k d e h is =
     let same : is_ended_stage d.stage ≡ true = ap (λ x. is_ended_stage x.stage) h ∙ is in

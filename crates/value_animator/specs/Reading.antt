@@ -12,6 +12,10 @@ use Rattle.value_animator.specs.Rules.{SoFar, nothing, cause_of, with_row, is_en
 abbrev pub cause_at_stop : SoFar → List ℕ → Option Cause
 cause_at_stop d rest = if length rest == 0 && is_ended_stage d.stage then None else Some (if length rest == 0 then cause.Missing else cause.Form)
 
+-- the values of the lines
+abbrev pub values_of : SoFar → Values
+values_of d = record { period = d.period; things = d.things }
+
 -- the language of plans of values
 abbrev pub plans : Language Row SoFar Values Cause
 plans = record {
@@ -20,7 +24,7 @@ plans = record {
   next = λ d r. with_row d r.kind r.numbers;
   cause = λ k d r. form_or cause.Form (cause_of d) r;
   stop = λ k d rest. cause_at_stop d rest;
-  whole = λ d. record { period = d.period; things = d.things };
+  whole = values_of;
 }
 
 -- b is a text of these values

@@ -1,7 +1,8 @@
 //! What the lines read so far hold.
 ghost use Rattle.std.specs.Prelude.{◌≡◌, ◌≤◌, ◌<◌, ◌^◌, ◌+◌, ◌*◌, OnOk, IsTrue, length, slice_index};
 ghost use Rattle.dash_script.specs.Causes.{each_number};
-ghost use Rattle.value_animator.specs.Drafts.{so_far, values_of};
+ghost use Rattle.value_animator.specs.Drafts.{so_far};
+ghost use Rattle.value_animator.specs.Reading.{values_of};
 ghost use Rattle.value_animator.specs.Rules.{cause_of, has_room, is_ended_stage, is_within, may_be_placed, may_stand, nothing, numbers_fit, places_rise, plan_of, ways_fit, with_given_key, with_row};
 
 use crate::plan::{Thing, Values};

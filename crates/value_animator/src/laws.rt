@@ -1,5 +1,10 @@
 //! What holds of every text of values.
-ghost use Rattle.value_animator.specs.Laws.{OneText, ReadsRefusals, ReadsTexts};
+ghost use Rattle.value_animator.specs.Laws.{OneText, ReadsRefusals, ReadsTexts, TextsAreTheirs};
+
+/// Stands for the law that a text is one of values exactly where it is the text that they are written as, and they are within the limits.
+pub fn texts_are_theirs()
+    ensures { TextsAreTheirs }
+{}
 
 /// Stands for the law that a text is read as values exactly where it is their text.
 pub fn texts_are_read()

@@ -1,9 +1,11 @@
 //! The values of a text.
 ghost use Rattle.std.specs.Prelude.{◌≡◌};
 ghost use Rattle.dash_script.specs.Stops.{Reads};
+ghost use Rattle.line_words.specs.Answers.{Finds, FindsAll, Refuses, RefusesAll};
+ghost use Rattle.line_words.specs.RefusedReading.{read_text};
 ghost use Rattle.value_animator.specs.Naming.{NamesLeast};
-ghost use Rattle.value_animator.specs.Parsing.{read_values};
-ghost use Rattle.value_animator.specs.Answering.{Refuses, RefusesAll, Finds, FindsAll};
+ghost use Rattle.value_animator.specs.Reading.{IsRefusal, IsText, plans};
+ghost use Rattle.value_animator.specs.declared.refusal.ParsedValues.TheVariants as parsed;
 
 use crate::draft::Draft;
 use crate::plan::Values;
@@ -15,7 +17,7 @@ use std::alloc::Global;
 
 /// Reads line by line until the first bad one.
 fn read(alloc: Global, bytes: &[u8]) -> Result<Values, Stop>
-    ensures { Reads result (read_values bytes.now) }
+    ensures { Reads result (read_text plans bytes.now) }
 {
     let mut draft = Draft::new(alloc);
     let mut rest = bytes;
@@ -53,10 +55,10 @@ fn read(alloc: Global, bytes: &[u8]) -> Result<Values, Stop>
 /// and no `end` (`Missing`), its form (`Form`), a number or the end of all ways is outside its limits (`Range`), a key's place does
 /// not rise from 0 (`Order`), and one thing or key too many (`TooMany`). `NoMemory` where there was none.
 pub fn parse_values(alloc: Global, bytes: &[u8]) -> ParsedValues
-    ensures found { Finds result bytes.now }
-    ensures only { FindsAll result bytes.now }
-    ensures refused { Refuses result bytes.now }
-    ensures refused_so { RefusesAll result bytes.now }
+    ensures found { Finds parsed.Ok IsText result bytes.now }
+    ensures only { FindsAll parsed.Ok parsed.NoMemory IsText result bytes.now }
+    ensures refused { Refuses parsed.Bad IsRefusal IsText result bytes.now }
+    ensures refused_so { RefusesAll parsed.Bad parsed.NoMemory IsRefusal result bytes.now }
     ensures least { NamesLeast result bytes.now }
 {
     match read(alloc, bytes) {
