@@ -8,8 +8,7 @@ use Rattle.std.proofs.lemmas.List.FromFn.{map-range_with_len_more}
 use Rattle.loop_model.specs.declared.entry.Entry.{Entry}
 use Rattle.loop_model.specs.Fates.{fates}
 use Rattle.dash_script.specs.declared.script.Script.{Script as ScriptData}
-use Rattle.dash_script.specs.Reading.{IsText}
-use Rattle.dash_script.proofs.Found.{one_text}
+use Rattle.dash_script.specs.Accepting.{IsText}
 use Rattle.run_model.specs.Histories.{history_of}
 use Rattle.run_model.specs.Text.{Words, fates_line, history_lines, line_text}
 use Rattle.inbox_queue.specs.declared.parcel.Parcel.{Parcel}
@@ -29,7 +28,7 @@ pub refused_by_line : (input : List ℕ) (script : ScriptData) (line : ℕ) → 
 refused_by_line input script line is bad = (
   (script, is, bad),
   λ taken.
-      let same : script ≡ taken.0 = one_text script taken.0 is.1 taken.1.0.1 (sym is.0 ∙ taken.1.0.0) in
+      let same : script ≡ taken.0 = sym is.held ∙ taken.1.0.held in
       let wrong : None ≡ Some line = sym taken.1.1 ∙ ap bad_line (sym same) ∙ bad in absurd (cc),
 )
 

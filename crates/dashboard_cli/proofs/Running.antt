@@ -2,7 +2,7 @@
 use Rattle.std.proofs.Common.{◌≡◌, ℕ, Bool, List, [], Option, Some, None, refl, sym, subst}
 use Rattle.std.specs.Io.KnownBytes.{Keeps}
 use Rattle.dash_script.specs.declared.script.Script.{Script as ScriptData}
-use Rattle.dash_script.specs.Reading.{IsText}
+use Rattle.dash_script.specs.Accepting.{IsText}
 use Rattle.run_model.specs.declared.report.Report.{Report}
 use Rattle.dash_stage.specs.Staged.{IsStaged, IsStagedByClock}
 use Rattle.dashboard_cli.specs.Answers.{HasInput, MakesOf}

@@ -3,7 +3,8 @@ use Rattle.std.specs.Prelude.{◌≡◌, ℕ, List, Option, Some, None, Bool, tr
 use Rattle.dash_script.specs.declared.script.Script.{Script as ScriptData}
 use Rattle.dash_script.specs.Editions.{up}
 use Rattle.dash_script.specs.Generated.{generated}
-use Rattle.dash_script.specs.Reading.{IsRefusal, IsText}
+use Rattle.dash_script.specs.Accepting.{IsRefusal, IsText}
+use Rattle.line_words.specs.LeastBad.{IsLeastBad as IsLeastBadOf}
 use Rattle.dash_script.specs.Text.{text as script_text}
 use Rattle.frame_phases.specs.declared.entry.FrameRecord.{FrameRecord}
 use Rattle.run_model.specs.declared.report.Report.{Report}
@@ -14,7 +15,6 @@ use Rattle.trace_check.specs.declared.trace.Trace.{Trace as TraceData}
 use Rattle.trace_check.specs.Records.{trace_of}
 use Rattle.trace_check.specs.Text.{IsLeastBad, IsText as IsTraceText, text as trace_text}
 use Rattle.value_animator.specs.declared.plan.Values.{Values}
-use Rattle.value_animator.specs.Least.{IsLeastBad as IsLeastBadOfValues}
 use Rattle.value_animator.specs.Reading.{IsRefusal as IsValuesRefusal, IsText as IsValuesText}
 use Rattle.value_animator.specs.Run.{IsRunOf}
 use Rattle.inbox_queue.specs.Bad.{bad_line}
@@ -53,7 +53,7 @@ RefusesInbox input status = ⊥
 
 -- the status names the least bad line of what should be a plan of values, and its first cause
 abbrev pub RefusesPlan : List ℕ → Status → Type 0
-RefusesPlan input (Script line (cause.Text why)) = IsValuesRefusal input line why × IsLeastBadOfValues input line
+RefusesPlan input (Script line (cause.Text why)) = IsValuesRefusal input line why × IsLeastBadOf IsValuesText input line
 RefusesPlan input status = ⊥
 
 -- the status names the least bad line of what should be a trace

@@ -1,11 +1,13 @@
 // The input of a command, read whole and understood.
 ghost use Rattle.std.specs.Prelude.{◌≡◌, IfErr, IfOk, ◌<◌, ◌^◌, ◌-◌};
-ghost use Rattle.dash_script.specs.Reading.{IsText};
+ghost use Rattle.dash_script.specs.Accepting.{IsText};
+ghost use Rattle.dash_script.specs.Reading.{HasText};
 ghost use Rattle.dashboard_cli.specs.Answers.{CountsReads};
 ghost use Rattle.dashboard_cli.specs.Steps.{StopsReading, IsNone};
 ghost use Rattle.dashboard_cli.specs.Works.{plans, scripts, traces};
 ghost use Rattle.dashboard_cli.specs.Streams.{ReadsWhole};
 ghost use Rattle.trace_check.specs.Text.{IsText as IsTraceText};
+ghost use Rattle.value_animator.specs.Plans.{AreValues};
 ghost use Rattle.value_animator.specs.Reading.{IsText as IsValuesText};
 
 use crate::reading::{ReadError, read_whole};
@@ -49,6 +51,7 @@ fn bad_text(line: u64, cause: TextCause) -> Status
 /// The script of a text.
 pub(crate) fn read_script(alloc: Global, input: &[u8]) -> Result<Script, Status>
     ensures read { IfOk result (λ script. IsText input.now script) }
+    ensures within { IfOk result (λ script. HasText script) }
     ensures refused { IfErr result (IsNone scripts input.now) }
 {
     match parse(alloc, input) {
@@ -61,6 +64,7 @@ pub(crate) fn read_script(alloc: Global, input: &[u8]) -> Result<Script, Status>
 /// The values of a text.
 pub(crate) fn read_plan(alloc: Global, input: &[u8]) -> Result<Values, Status>
     ensures read { IfOk result (λ values. IsValuesText input.now values) }
+    ensures within { IfOk result (λ values. AreValues values) }
     ensures refused { IfErr result (IsNone plans input.now) }
 {
     match parse_values(alloc, input) {

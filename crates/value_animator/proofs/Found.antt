@@ -28,8 +28,12 @@ text_read b v h =
 pub text_again : (b : List ℕ) (v : Values) → (b ≡ values_text v) × AreValues v → read_text plans b ≡ answer v
 text_again b v is = ap (read_text plans) is.0 ∙ texts_are_read v is.1
 
+-- what a text is one of is within the limits, and the text is what it is written as
+pub written_so : (b : List ℕ) (v : Values) → IsText b v → (b ≡ values_text v) × AreValues v
+written_so b v is = text_read b v ((reads_texts plans b v).1 is)
+
 pub are_theirs : (b : List ℕ) (v : Values) → IsText b v ↔ ((b ≡ values_text v) × AreValues v)
-are_theirs b v = (λ is. text_read b v ((reads_texts plans b v).1 is), λ is. (reads_texts plans b v).0 (text_again b v is))
+are_theirs b v = (written_so b v, λ is. (reads_texts plans b v).0 (text_again b v is))
 
 -- two values that have one text are the same
 pub one_text : (v w : Values) → AreValues v → AreValues w → values_text v ≡ values_text w → v ≡ w

@@ -1,6 +1,6 @@
 -- A text with a line that a run through an inbox doesn't know is the text of no script that is taken.
 use Rattle.std.proofs.Common.{subst, sym, ap, ◌∙◌}
-use Rattle.dash_script.specs.Reading.{IsText}
+use Rattle.dash_script.specs.Accepting.{IsText}
 use Rattle.inbox_queue.specs.Bad.{bad_line}
 use Rattle.inbox_queue.specs.InboxRun.{IsInboxRun}
 use Rattle.dashboard_cli.proofs.Inboxes.{refused_by_line}
