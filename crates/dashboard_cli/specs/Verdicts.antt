@@ -2,13 +2,10 @@
 use Rattle.std.specs.Prelude.{◌≡◌, ℕ, List, [], ◌∷◌, ◌++◌, All, Some, codes, slice_get, take}
 use Rattle.std.specs.Fmt.{decimal}
 use Rattle.trace_check.specs.declared.trace.TraceQueue.{TraceQueue}
-use Rattle.trace_check.specs.Good.{IsFirstBad, IsGood}
+use Rattle.trace_check.specs.Good.{IsFirstBad}
+pub use Rattle.trace_check.specs.Good.{IsLegalQueue}
 use Rattle.dashboard_cli.specs.declared.verdict.Verdict.{Verdict}
 use Rattle.dashboard_cli.specs.declared.verdict.Verdict.TheVariants.{Legal, Illegal}
-
--- the queue's history is legal, and its senders number their entries
-abbrev pub IsLegalQueue : TraceQueue → Type 0
-IsLegalQueue q = IsGood q q.entries
 
 -- the first queue that is not legal has this looper, and this entry is its first bad one
 pub record IsFirstIllegal (queues : List TraceQueue) (looper place : ℕ) : Type 0 where

@@ -13,6 +13,10 @@ FindsAll {P} {T} ok memory IsText p b = (t : T) → IsText b t → (p ≡ ok t) 
 abbrev pub Names : {P : Type 0} → (ℕ → P) → (List ℕ → ℕ → Type 0) → P → List ℕ → Type 0
 Names bad IsLeastBad p b = (line : ℕ) → p ≡ bad line → IsLeastBad b line
 
+-- so it is where a cause is answered beside the line
+abbrev pub NamesSo : {P C : Type 0} → (ℕ → C → P) → (List ℕ → ℕ → Type 0) → P → List ℕ → Type 0
+NamesSo {P} {C} bad IsLeastBad p b = (line : ℕ) (c : C) → p ≡ bad line c → IsLeastBad b line
+
 -- a line and a cause are answered only where they are the refusal, and the text is that of nothing
 abbrev pub Refuses : {P T C : Type 0} → (ℕ → C → P) → (List ℕ → ℕ → C → Type 0) → (List ℕ → T → Type 0) → P → List ℕ → Type 0
 Refuses {P} {T} {C} bad IsRefusal IsText p b = (line : ℕ) (c : C) → p ≡ bad line c → IsRefusal b line c × ((t : T) → IsText b t → ⊥)

@@ -12,7 +12,7 @@ use Rattle.run_model.specs.Moments.{Mode}
 use Rattle.run_model.specs.Run.{IsRun}
 use Rattle.dash_script.specs.declared.script.Script.{Script}
 use Rattle.run_picture.specs.declared.line.Line.{Line}
-use Rattle.run_picture.specs.declared.line.Line.TheVariants.{Title, Looper, Past, Fates, Act, Frame, Run, End}
+use Rattle.run_picture.specs.declared.line.Line.TheVariants.{Fates}
 use Rattle.run_picture.specs.Text.{Fits, IsLong, IsText, lines}
 use Rattle.report_law.specs.Seen.{posted_in, runs_first, seen}
 
@@ -27,14 +27,8 @@ IsFramed f = runs_first (posted_in f.entries) f.entries ≡ []
 
 -- each number of a line is within the limits of its place, whatever the numbers add up to
 abbrev pub HasLimits : Line → Type 0
-HasLimits (Title edition) = Fits (Title edition)
-HasLimits (Looper number) = Fits (Looper number)
-HasLimits (Past p) = Fits (Past p)
 HasLimits (Fates f) = IsLong f.accepted × IsLong f.dispatched × IsLong f.removed × IsLong f.dropped × IsLong f.stranded × IsLong f.queued
-HasLimits (Act a) = Fits (Act a)
-HasLimits (Frame time) = Fits (Frame time)
-HasLimits (Run r) = Fits (Run r)
-HasLimits End = Fits End
+HasLimits l = Fits l
 
 -- the text of the report of a run is the text of what the run tells
 abbrev pub PrintedIsRead : Type 0

@@ -1,8 +1,9 @@
 -- How a report is printed.
 use Rattle.std.specs.Prelude.{ℕ, Bool, List, [], ◌∷◌, ◌++◌, Option, Some, None, count_by, codes, length, slice_get}
-use Rattle.std.specs.List.{flat_map, filter_map, join_with_byte, zip}
+use Rattle.std.specs.List.{flat_map, filter_map, zip}
 use Rattle.std.specs.Option.{option_map_or}
 use Rattle.std.specs.Fmt.{decimal}
+pub use Rattle.line_words.specs.Words.{Words, line as line_text}
 use Rattle.loop_model.specs.declared.post.Post.{Post as PostData}
 use Rattle.loop_model.specs.declared.call.Call.{Call}
 use Rattle.loop_model.specs.declared.call.Call.TheVariants.{Post, Unbarrier, Quit, Next}
@@ -22,14 +23,6 @@ use Rattle.loop_model.specs.declared.journal.Journal.{Journal}
 use Rattle.loop_model.specs.declared.record.QueueRecord.{QueueRecord}
 use Rattle.run_model.specs.declared.report.Report.{Report}
 use Rattle.run_model.specs.Histories.{history_of}
-
--- a line, as its words
-abbrev pub Words : Type 0
-Words = List (List ℕ)
-
--- a line is its words with single spaces, and a line feed
-abbrev pub line_text : Words → List ℕ
-line_text ws = join_with_byte 32 ws ++ 10 ∷ []
 
 -- a message's handler, and its number or its callback
 abbrev pub subject : PostData → Words

@@ -7,6 +7,7 @@ use Rattle.std.proofs.lemmas.Option.{same_Some, none-some}
 use Rattle.std.proofs.lemmas.List.{append-nil, map-append, length-append}
 use Rattle.std.proofs.lemmas.List.Concat.{flat_map-append}
 use Rattle.loop_model.proofs.Sorting.{AllByRecursion-append}
+use Rattle.line_words.specs.Answers.{Finds, FindsAll, Names}
 use Rattle.line_words.specs.Words.{words}
 use Rattle.line_words.specs.LineReading.{read_text}
 use Rattle.line_words.proofs.LineReading.{run, run_on, Continues, IsForm, text_found, text_only, text_never, text_bad}
@@ -25,7 +26,7 @@ use Rattle.run_picture.specs.declared.line.Line.TheVariants.{Title, Looper, Past
 use Rattle.run_picture.specs.declared.draft.Part.{Part}
 use Rattle.run_picture.specs.declared.draft.Part.TheVariants as part_of
 use Rattle.run_picture.specs.declared.draft.Draft.{Draft}
-use Rattle.run_picture.specs.Text.{FitsFates, frame_lines, looper_lines, loopers_lines, lines, line_words, line_text, Fits, IsLeastBad, Finds, FindsAll, Refuses}
+use Rattle.run_picture.specs.Text.{FitsFates, frame_lines, looper_lines, loopers_lines, lines, line_words, line_text, Fits, IsLeastBad}
 use Rattle.run_picture.specs.Lines.{line_of}
 use Rattle.run_picture.specs.Progress.{blank, opened, start, closed, shut, framed, with_past, with_act, with_run, after_part, after_open, next, is_end, report_of, reading}
 use Rattle.line_words.proofs.Wording.{AreWords, words_again, words_taken, no_feed_within}
@@ -475,14 +476,14 @@ form = record {
 
 -- ---- what is answered
 
-pub found_in : (b : List ℕ) (s : Report) → read_text reading b ≡ Ok s → Finds (parsed.Ok s) b
+pub found_in : (b : List ℕ) (s : Report) → read_text reading b ≡ Ok s → Finds parsed.Ok IsText (parsed.Ok s) b
 found_in b s e t is = let same : s ≡ t = cc in text_found form b t (e ∙ ap (λ (x : Report). Ok x) same)
 
-pub found_only : (b : List ℕ) (s : Report) → read_text reading b ≡ Ok s → FindsAll (parsed.Ok s) b
+pub found_only : (b : List ℕ) (s : Report) → read_text reading b ≡ Ok s → FindsAll parsed.Ok parsed.NoMemory IsText (parsed.Ok s) b
 found_only b s e t is = inl (ap parsed.Ok (text_only form b s t e is))
 
-pub found_never : (b : List ℕ) (k : ℕ) → read_text reading b ≡ Err k → FindsAll (parsed.Bad k) b
+pub found_never : (b : List ℕ) (k : ℕ) → read_text reading b ≡ Err k → FindsAll parsed.Ok parsed.NoMemory IsText (parsed.Bad k) b
 found_never b k e t is = absurd (text_never form b k t e is)
 
-pub refused_as : (b : List ℕ) (k : ℕ) → read_text reading b ≡ Err k → Refuses (parsed.Bad k) b
+pub refused_as : (b : List ℕ) (k : ℕ) → read_text reading b ≡ Err k → Names parsed.Bad IsLeastBad (parsed.Bad k) b
 refused_as b k e j is = let same : k ≡ j = cc in subst (IsLeastBad b) same (text_bad form b k e)

@@ -3,7 +3,7 @@ use Rattle.std.specs.Prelude.{◌≡◌, ℕ, ◌+◌, List, [], ◌∷◌, ◌+
 use Rattle.std.specs.List.{flat_map, AllByRecursion}
 use Rattle.std.specs.Fmt.{decimal}
 use Rattle.std.specs.Prelude.{◌⊎◌}
-use Rattle.line_words.specs.Words.{line}
+use Rattle.line_words.specs.Words.{Words, line}
 pub use Rattle.line_words.specs.Words.{IsShort, IsLong}
 use Rattle.line_words.specs.LeastBad.{IsLeastBad as IsLeastBadOf}
 use Rattle.run_picture.specs.declared.report.Subject.{Subject}
@@ -16,15 +16,10 @@ use Rattle.run_picture.specs.declared.report.Act.TheVariants.{Idle, Event, Paint
 use Rattle.run_picture.specs.declared.report.Frame.{Frame as FrameData}
 use Rattle.run_picture.specs.declared.report.Looper.{Looper as LooperData}
 use Rattle.run_picture.specs.declared.report.Report.{Report}
-use Rattle.run_picture.specs.declared.report.ParsedReport.{ParsedReport}
-use Rattle.run_picture.specs.declared.report.ParsedReport.TheVariants as parsed
 use Rattle.run_picture.specs.declared.line.Line.{Line}
 use Rattle.run_picture.specs.declared.line.Line.TheVariants.{Title, Looper, Past, Fates, Act, Frame, Run, End}
 
 -- ---- the words of a line
-
-abbrev pub Words : Type 0
-Words = List (List ℕ)
 
 -- a message by its what, or by its callback
 abbrev pub subject_words : Subject → Words
@@ -127,17 +122,3 @@ IsText b r = (b ≡ text r) × AllByRecursion Fits (lines r)
 -- this is the least bad line of a text that is the text of no report
 abbrev pub IsLeastBad : List ℕ → ℕ → Type 0
 IsLeastBad b k = IsLeastBadOf IsText b k
-
--- ---- what reading answers
-
--- a report is found only where the bytes are its text
-abbrev pub Finds : ParsedReport → List ℕ → Type 0
-Finds p b = (r : Report) → p ≡ parsed.Ok r → IsText b r
-
--- the text of a report is found to be that report's, unless memory ran out
-abbrev pub FindsAll : ParsedReport → List ℕ → Type 0
-FindsAll p b = (r : Report) → IsText b r → (p ≡ parsed.Ok r) ⊎ (p ≡ parsed.NoMemory)
-
--- a line is named only where it is the least bad one
-abbrev pub Refuses : ParsedReport → List ℕ → Type 0
-Refuses p b = (k : ℕ) → p ≡ parsed.Bad k → IsLeastBad b k

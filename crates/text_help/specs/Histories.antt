@@ -5,17 +5,14 @@ use Rattle.trace_check.specs.declared.trace.Trace.{Trace}
 use Rattle.trace_check.specs.declared.trace.TraceQueue.{TraceQueue}
 use Rattle.trace_check.specs.declared.fault.Fault.{Fault}
 use Rattle.trace_check.specs.Checking.{IsFaultAfter}
-use Rattle.trace_check.specs.Good.{IsFirstBad, IsGood}
+use Rattle.trace_check.specs.Good.{IsFirstBad}
+pub use Rattle.trace_check.specs.Good.{IsLegalQueue}
 use Rattle.trace_check.specs.Text.{IsText, IsLeastBad}
 use Rattle.text_help.specs.declared.said.SaidOfTrace.{SaidOfTrace}
 use Rattle.text_help.specs.declared.said.SaidOfTrace.TheVariants as said
 use Rattle.text_help.specs.declared.histories.Found.{Found}
 use Rattle.text_help.specs.declared.histories.Found.TheVariants as found
 use Rattle.text_help.specs.Heads.{BeginsWith, trace_head}
-
--- the queue's history is legal, and its senders number their entries
-abbrev pub IsLegalQueue : TraceQueue → Type 0
-IsLegalQueue q = IsGood q q.entries
 
 -- the first queue with a history that no queue could have is the one of this index; its entry of this place is the first bad one, for this fault
 pub record IsFirstIllegal (queues : List TraceQueue) (index place : ℕ) (fault : Fault) : Type 0 where

@@ -1,6 +1,6 @@
 //! What is said of a script.
 ghost use Rattle.std.specs.Prelude.{◌≡◌, IfOk, Some, string_bytes};
-ghost use Rattle.dash_script.specs.Reading.{IsText, IsRefusal};
+ghost use Rattle.dash_script.specs.Accepting.{IsText, IsRefusal};
 ghost use Rattle.text_help.specs.Heads.{BeginsWith, script_head, word};
 ghost use Rattle.text_help.specs.Saying.{BeginsWithHead, BadAll, BadOnly, GoodAll, GoodOnly, IsSaidOfScript};
 

@@ -11,6 +11,7 @@ use Rattle.loop_model.specs.declared.entry.Entry.{Entry as EntryData}
 use Rattle.loop_model.specs.declared.call.Call.TheVariants as call_of
 use Rattle.loop_model.specs.declared.reply.Reply.TheVariants as reply_of
 use Rattle.loop_model.proofs.Sorting.{AllByRecursion-append}
+use Rattle.line_words.specs.Answers.{Finds, FindsAll, Names}
 use Rattle.line_words.specs.LineReading.{read_text}
 use Rattle.line_words.proofs.LineReading.{run, run_on, Continues, IsForm, text_found, text_only, text_never, text_bad}
 use Rattle.trace_check.specs.declared.line.Line.{Line}
@@ -24,7 +25,6 @@ use Rattle.std.specs.List.{join_with_byte}
 use Rattle.line_words.specs.Words.{words}
 use Rattle.trace_check.specs.Line.{line_words, Fits}
 use Rattle.trace_check.specs.Text.{head_of, queue_lines, lines, line_text, IsLeastBad}
-use Rattle.trace_check.specs.Answering.{Finds, FindsAll, Refuses}
 use Rattle.trace_check.specs.Reading.{line_of}
 use Rattle.trace_check.specs.Progress.{blank, opened, start, settled, with_entry, after_part, next, is_end, trace_so_far, reading}
 use Rattle.line_words.proofs.Wording.{AreWords, words_again, words_taken, no_feed_within}
@@ -277,14 +277,14 @@ form = record {
 
 -- ---- what is answered
 
-pub found_in : (b : List ℕ) (s : Trace) → read_text reading b ≡ Ok s → Finds (parsed.Ok s) b
+pub found_in : (b : List ℕ) (s : Trace) → read_text reading b ≡ Ok s → Finds parsed.Ok IsText (parsed.Ok s) b
 found_in b s e t is = let same : s ≡ t = cc in text_found form b t (e ∙ ap (λ (x : Trace). Ok x) same)
 
-pub found_only : (b : List ℕ) (s : Trace) → read_text reading b ≡ Ok s → FindsAll (parsed.Ok s) b
+pub found_only : (b : List ℕ) (s : Trace) → read_text reading b ≡ Ok s → FindsAll parsed.Ok parsed.NoMemory IsText (parsed.Ok s) b
 found_only b s e t is = inl (ap parsed.Ok (text_only form b s t e is))
 
-pub found_never : (b : List ℕ) (k : ℕ) → read_text reading b ≡ Err k → FindsAll (parsed.Bad k) b
+pub found_never : (b : List ℕ) (k : ℕ) → read_text reading b ≡ Err k → FindsAll parsed.Ok parsed.NoMemory IsText (parsed.Bad k) b
 found_never b k e t is = absurd (text_never form b k t e is)
 
-pub refused_as : (b : List ℕ) (k : ℕ) → read_text reading b ≡ Err k → Refuses (parsed.Bad k) b
+pub refused_as : (b : List ℕ) (k : ℕ) → read_text reading b ≡ Err k → Names parsed.Bad IsLeastBad (parsed.Bad k) b
 refused_as b k e j is = let same : k ≡ j = cc in subst (IsLeastBad b) same (text_bad form b k e)

@@ -14,6 +14,10 @@ setting_of q = record { main = q.main; lockstep = q.lockstep; senders = q.sender
 abbrev pub IsGood : TraceQueue → List Entry → Type 0
 IsGood q es = IsLegal (setting_of q) (empty_base q.senders) es × AreNumbered (setting_of q) (empty_base q.senders) es
 
+-- the queue's history is legal, and its senders number their entries
+abbrev pub IsLegalQueue : TraceQueue → Type 0
+IsLegalQueue q = IsGood q q.entries
+
 -- this is the least place with whose entry the entries up to it are no such history
 pub record IsFirstBad (q : TraceQueue) (place : ℕ) : Type 0 where
   pub within : place < length q.entries

@@ -1,6 +1,5 @@
 pub mod Line
 pub mod Text
-pub mod Answering
 pub mod Reading
 pub mod Progress
 pub mod Ranks

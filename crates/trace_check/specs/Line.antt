@@ -9,14 +9,11 @@ use Rattle.loop_model.specs.declared.call.Call.{Call}
 use Rattle.loop_model.specs.declared.call.Call.TheVariants as call
 use Rattle.loop_model.specs.declared.reply.Reply.{Reply}
 use Rattle.loop_model.specs.declared.reply.Reply.TheVariants as reply
-use Rattle.line_words.specs.Words.{maybe, one_of, IsShort, IsLong}
+use Rattle.line_words.specs.Words.{Words, maybe, one_of, IsShort, IsLong}
 use Rattle.trace_check.specs.declared.line.Line.{Line}
 use Rattle.trace_check.specs.declared.line.Line.TheVariants.{Title, Queue, Entry, End}
 
 -- ---- the words of a line
-
-abbrev pub Words : Type 0
-Words = List (List ℕ)
 
 abbrev pub post_words : Post → Words
 post_words p =
@@ -92,13 +89,7 @@ FitsReply (reply.Token token) = IsLong token
 FitsReply (reply.Removed count) = IsLong count
 FitsReply (reply.AlreadyQuit place) = IsLong place
 FitsReply (reply.Dispatched n) = IsLong n
-FitsReply reply.Unbarriered = Unit {0}
-FitsReply reply.NotPosted = Unit {0}
-FitsReply reply.QuitDone = Unit {0}
-FitsReply reply.NotAllowed = Unit {0}
-FitsReply reply.Disposed = Unit {0}
-FitsReply reply.Advanced = Unit {0}
-FitsReply reply.Halted = Unit {0}
+FitsReply _ = Unit {0}
 
 -- each number of the line is within its own limits
 abbrev pub Fits : Line → Type 0

@@ -1,5 +1,7 @@
 //! The trace of a text.
-ghost use Rattle.trace_check.specs.Answering.{Finds, FindsAll, Refuses};
+ghost use Rattle.line_words.specs.Answers.{Finds, FindsAll, Names};
+ghost use Rattle.trace_check.specs.Text.{IsLeastBad, IsText};
+ghost use Rattle.trace_check.specs.declared.trace.ParsedTrace.TheVariants as parsed;
 
 use crate::draft::Draft;
 use crate::trace::ParsedTrace;
@@ -10,9 +12,9 @@ use std::alloc::Global;
 /// lines up to it begin the text of no trace. Where the text stops early it is the line behind its last one. `NoMemory`
 /// where there was none. Reading is one pass.
 pub fn parse_trace(alloc: Global, bytes: &[u8]) -> ParsedTrace
-    ensures found { Finds result bytes.now }
-    ensures only { FindsAll result bytes.now }
-    ensures refused { Refuses result bytes.now }
+    ensures found { Finds parsed.Ok IsText result bytes.now }
+    ensures only { FindsAll parsed.Ok parsed.NoMemory IsText result bytes.now }
+    ensures refused { Names parsed.Bad IsLeastBad result bytes.now }
 {
     match read_lines::<Draft>(alloc, bytes) {
         Ok(trace) => ParsedTrace::Ok(trace),

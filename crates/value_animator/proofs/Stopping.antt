@@ -5,7 +5,8 @@ use Rattle.std.proofs.lemmas.Grind.{flat_map-append}
 use Rattle.dash_script.specs.declared.refusal.Cause.{Cause}
 use Rattle.dash_script.specs.declared.refusal.Cause.TheVariants as cause
 use Rattle.line_words.specs.Words.{words}
-use Rattle.line_words.specs.LeastBad.{Begins}
+use Rattle.line_words.specs.Answers.{NamesSo}
+use Rattle.line_words.specs.LeastBad.{Begins, IsLeastBad}
 use Rattle.line_words.specs.Refusing.{form_or, with_said}
 use Rattle.line_words.specs.RefusedReading.{read_text}
 use Rattle.line_words.proofs.Refusing.{failed}
@@ -18,7 +19,6 @@ use Rattle.value_animator.specs.declared.plan.Values.{Values}
 use Rattle.value_animator.specs.Rows.{row_of, row_text}
 use Rattle.value_animator.specs.Rules.{SoFar, nothing, cause_of, with_row}
 use Rattle.value_animator.specs.Reading.{IsText, plans}
-use Rattle.value_animator.specs.Naming.{NamesLeast}
 use Rattle.value_animator.proofs.Rows.{row_taken}
 use Rattle.value_animator.proofs.Lines.{good_is}
 use Rattle.value_animator.proofs.Running.{among_counted}
@@ -60,5 +60,5 @@ pub apart : AreApart parsed.Ok parsed.Bad
 unfolding read_of
 apart = record { read = read_of; of_ok = λ v. refl; of_bad = λ line c. refl }
 
-pub names_least : (b : List ℕ) (line : ℕ) (cause : Cause) → read_text plans b ≡ failed line cause → NamesLeast (parsed.Bad line cause) b
+pub names_least : (b : List ℕ) (line : ℕ) (cause : Cause) → read_text plans b ≡ failed line cause → NamesSo parsed.Bad (IsLeastBad IsText) (parsed.Bad line cause) b
 names_least b line cause h l c e = least_bad plans begins_all b l c (h ∙ sym (apart.of_bad line cause) ∙ ap apart.read e ∙ apart.of_bad l c)

@@ -9,5 +9,4 @@ pub mod Rows
 pub mod Rules
 pub mod Drafts
 pub mod Reading
-pub mod Naming
 pub mod Laws

@@ -2,7 +2,7 @@
 use Rattle.std.specs.Prelude.{◌≡◌, ◌<◌, ℕ, zero, suc, true, false, IsTrue, List, [], ◌∷◌, ◌++◌, Option, Some, None}
 use Rattle.std.specs.List.{flat_map, filter_map, range_with_len}
 use Rattle.frame_phases.specs.declared.entry.FrameEntry.{FrameEntry}
-use Rattle.frame_phases.specs.declared.entry.FrameEntry.TheVariants.{Posted, Begin, Take, Ran, Removed}
+use Rattle.frame_phases.specs.declared.entry.FrameEntry.TheVariants.{Posted, Begin}
 use Rattle.frame_phases.specs.declared.entry.FrameRecord.{FrameRecord}
 use Rattle.frame_phases.specs.Frames.{lawful}
 use Rattle.value_animator.specs.declared.plan.Values.{Values}
@@ -17,10 +17,7 @@ pub record IsCount (v : Values) (n : ℕ) : Type 0 where
 -- the time of a frame that begins
 abbrev pub begin_time : FrameEntry → Option ℕ
 begin_time (Begin vsync start time) = Some time
-begin_time (Posted c) = None
-begin_time (Removed phase id token count) = None
-begin_time (Take phase now time) = None
-begin_time (Ran number) = None
+begin_time _ = None
 
 -- the times of the frames that begin
 abbrev pub begin_times : List FrameEntry → List ℕ

@@ -1,7 +1,8 @@
 -- What is told over frames, and how it is printed.
 use Rattle.std.specs.Prelude.{ℕ, ◌+◌, ◌*◌, Bool, List, [], ◌∷◌, ◌++◌, map, Option, Some, None, codes}
-use Rattle.std.specs.List.{flat_map, join_with_byte, range_with_len, enumerate_from, list_all}
+use Rattle.std.specs.List.{flat_map, range_with_len, enumerate_from, list_all}
 use Rattle.std.specs.Fmt.{decimal}
+pub use Rattle.line_words.specs.Words.{Words, line as line_text}
 use Rattle.countdown.specs.Moments.{has_ended}
 use Rattle.countdown.specs.Ticking.{answer as ticking_answer}
 use Rattle.countdown.specs.declared.timer.Ticked.{Ticked}
@@ -41,14 +42,6 @@ told (thing_of.Animator plan) before time = value_told (answer plan before time)
 told (thing_of.Countdown total interval) before time = tick_told (ticking_answer total interval before time)
 
 -- ---- the lines
-
--- a line, as its words
-abbrev pub Words : Type 0
-Words = List (List ℕ)
-
--- a line is its words with single spaces, and a line feed
-abbrev pub line_text : Words → List ℕ
-line_text ws = join_with_byte 32 ws ++ 10 ∷ []
 
 -- the words of what is told
 abbrev pub telling_words : Telling → Words

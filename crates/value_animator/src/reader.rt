@@ -1,9 +1,9 @@
 //! The values of a text.
 ghost use Rattle.std.specs.Prelude.{◌≡◌};
 ghost use Rattle.dash_script.specs.Stops.{Reads};
-ghost use Rattle.line_words.specs.Answers.{Finds, FindsAll, Refuses, RefusesAll};
+ghost use Rattle.line_words.specs.Answers.{Finds, FindsAll, NamesSo, Refuses, RefusesAll};
+ghost use Rattle.line_words.specs.LeastBad.{IsLeastBad};
 ghost use Rattle.line_words.specs.RefusedReading.{read_text};
-ghost use Rattle.value_animator.specs.Naming.{NamesLeast};
 ghost use Rattle.value_animator.specs.Reading.{IsRefusal, IsText, plans};
 ghost use Rattle.value_animator.specs.declared.refusal.ParsedValues.TheVariants as parsed;
 
@@ -59,7 +59,7 @@ pub fn parse_values(alloc: Global, bytes: &[u8]) -> ParsedValues
     ensures only { FindsAll parsed.Ok parsed.NoMemory IsText result bytes.now }
     ensures refused { Refuses parsed.Bad IsRefusal IsText result bytes.now }
     ensures refused_so { RefusesAll parsed.Bad parsed.NoMemory IsRefusal result bytes.now }
-    ensures least { NamesLeast result bytes.now }
+    ensures least { NamesSo parsed.Bad (IsLeastBad IsText) result bytes.now }
 {
     match read(alloc, bytes) {
         Ok(values) => ParsedValues::Ok(values),

@@ -2,4 +2,4 @@
 use Rattle.dashboard_cli.proofs.making.migrate_input.Goals as goal
 
 pub print-requires : goal.print-requires
-print-requires g c = c.in_ok-brought_up.ensures.text c.in_ok-script.ensures.read.1
+print-requires g c = c.in_ok-brought_up.ensures.text c.in_ok-script.ensures.within

@@ -1,4 +1,4 @@
-use Rattle.dash_script.specs.Reading.{IsText, IsRefusal}
+use Rattle.dash_script.specs.Accepting.{IsText, IsRefusal}
 use Rattle.text_help.specs.Heads.{script_head}
 use Rattle.text_help.proofs.Agreed.{begins, good_only, good_all, bad_only, bad_all, scripts}
 use Rattle.text_help.proofs.scripts.explain_script.Goals as goal
