@@ -83,11 +83,7 @@ module _ (x y : Kept) (h : IsStamped x) where
   -- a callback is posted, or no memory was found
   pub stamped_posted : (phase due id : ℕ) (token : Option ℕ) (now : ℕ) (result : Result Scheduling NoMemory) → OnOk result (y ≡ with_post x phase due id token now) → OnErr result (y ≡ x)
       → StepsQuietly x y → y.stamp ≡ x.stamp → IsStamped y
-  stamped_posted phase due id token now (Ok r) is none q same = stamped_quiet q same (elim (nat_lt (known_by x now / 1000000) due) as
-      (λ (b : Bool). y.frames.asked ≡ (if b then grown else scheduled_at grown (known_by x now)).asked → comes_after_if_any y.stamp y.frames.asked ≡ true) [
-        | true ↦ λ e. asks_same e same
-        | false ↦ λ e. asks_scheduled now (e ∙ with_asked x.frames.scheduled) same
-      ] (ap (λ (z : Kept). z.frames.asked) is))
+  stamped_posted phase due id token now (Ok r) is none q same = stamped_quiet q same (by_due (nat_lt (now / 1000000) due) refl (ap (λ (z : Kept). z.frames.asked) is))
     where
       grown : Frames
       grown = with_entry x.frames (Posted (next_callback x.frames phase due id token))
@@ -96,6 +92,16 @@ module _ (x y : Kept) (h : IsStamped x) where
           ≡ (if b then x.frames else record x.frames { scheduled = true; asked = Some (pulse x.frames.interval (known_by x now)) }).asked
       with_asked true = refl
       with_asked false = refl
+
+      by_test : (b : Bool) → y.frames.asked ≡ (if b then grown else scheduled_at grown (known_by x now)).asked → comes_after_if_any y.stamp y.frames.asked ≡ true
+      by_test true e = asks_same e same
+      by_test false e = asks_scheduled now (e ∙ with_asked x.frames.scheduled) same
+
+      by_due : (b : Bool) → nat_lt (now / 1000000) due ≡ b
+          → y.frames.asked ≡ (let at = (if b then now else known_by x now) in if nat_lt (at / 1000000) due then grown else scheduled_at grown at).asked
+          → comes_after_if_any y.stamp y.frames.asked ≡ true
+      by_due true later e = asks_same (e ∙ ap (λ (b : Bool). (if b then grown else scheduled_at grown now).asked) later) same
+      by_due false soon e = by_test (nat_lt (known_by x now / 1000000) due) e
   stamped_posted phase due id token now (Err e) is none q same = stamped_quiet q same (asks_same (ap (λ (z : Kept). z.frames.asked) none) same)
 
   -- callbacks are removed, or no memory was found
