@@ -1,6 +1,6 @@
 -- The stamp of the latest pulse, where one pass alone delivers them.
-use Rattle.std.proofs.Common.{◌≡◌, ℕ, ◌+◌, Bool, true, false, Option, Some, None, List, [], ◌∷◌, ◌++◌, refl, sym, ap, ◌∙◌, inl, inr, length, append-nil, append_assoc, eq-eqb}
-use Rattle.std.specs.Prelude.{◌==◌}
+use Rattle.std.proofs.Common.{◌≡◌, ℕ, ◌+◌, Bool, true, false, Option, Some, None, List, [], ◌∷◌, ◌++◌, refl, sym, ap, ◌∙◌, subst, inl, inr, length, append-nil, append_assoc, eq-eqb}
+use Rattle.std.specs.Prelude.{◌==◌, nat_le, if◌then◌else◌}
 use Rattle.std.specs.List.{list_any}
 use Rattle.frame_phases.specs.declared.entry.FrameEntry.{FrameEntry}
 use Rattle.frame_phases.specs.declared.entry.FrameEntry.TheVariants.{Posted, Removed, Begin, Take, Ran}
@@ -8,13 +8,15 @@ use Rattle.frame_phases.specs.declared.entry.Beginning.{Beginning}
 use Rattle.frame_phases.specs.declared.entry.Beginning.TheVariants as begin
 use Rattle.frame_phases.specs.declared.entry.Took.{Took}
 use Rattle.frame_phases.specs.declared.entry.Took.TheVariants as took
-use Rattle.frame_phases.specs.State.{Frames}
+use Rattle.frame_phases.specs.State.{Frames, delivered}
+use Rattle.frame_phases.specs.Pulses.{comes_after, comes_after_if_any}
+use Rattle.choreographer.specs.Turn.{IsStamped}
 use Rattle.choreographer.specs.declared.kept.Kept.{Kept}
 use Rattle.choreographer.specs.Client.{Run}
 use Rattle.choreographer.specs.Frame.{Batch}
 use Rattle.choreographer.specs.Known.{Known, IfAlone, IsTurn}
 use Rattle.choreographer.specs.Steps.{pulsed}
-use Rattle.choreographer.specs.Calls.{BeginTurn, TakeTurn, latest, GetsStamp}
+use Rattle.choreographer.specs.Calls.{BeginTurn, TakeTurn, latest, GetsStamp, ComesAfter}
 use Rattle.choreographer.specs.Done.{IsSamePass, TakesEach, GivenUpBy, AreOfPhases, AddsPhases, begins_apart, BeginsByStamp}
 use Rattle.choreographer.proofs.Recorded.{turn_records}
 
@@ -39,6 +41,19 @@ pulse_gets before after x y came turn is = λ c e named. let s = turn.stamp c e 
     by_pulse : (o : Option ℕ) → x.stamp ≡ before.view.stamp → (pulsed x o).stamp ≡ latest o before.view.stamp
     by_pulse None same = same
     by_pulse (Some stamp) same = refl
+
+-- such a pulse comes after the one before it
+pub pulse_comes_after : (before after : Known) (x y : Kept) (now : ℕ) (came : Option ℕ) → IsTurn before after x y → IsStamped x → came ≡ delivered x.frames.asked now → ComesAfter before came
+pulse_comes_after before after x y now came turn stamped is = λ c e named.
+    subst (λ (z : ℕ × Option ℕ). comes_after_if_any z.0 z.1 ≡ true) (λ i. ((turn.stamp c e named).0 i, sym is i)) (as_asked x.frames.asked stamped.asked)
+  where
+    by_test : (p : ℕ) (b : Bool) → comes_after x.stamp p ≡ true → comes_after_if_any x.stamp (if b then Some p else None) ≡ true
+    by_test p true later = later
+    by_test p false later = refl
+
+    as_asked : (o : Option ℕ) → comes_after_if_any x.stamp o ≡ true → comes_after_if_any x.stamp (delivered o now) ≡ true
+    as_asked None later = refl
+    as_asked (Some p) later = by_test p (nat_le p now) later
 
 pub take_keeps : (before after : Known) (phase now : ℕ) (result : Took) → TakeTurn before after phase now result → KeepsStamp before after
 take_keeps before after phase now result t = turn_keeps before after t.0 t.1 t.2 t.4

@@ -12,6 +12,7 @@ use Rattle.frame_phases.specs.State.{Frames, ran, scheduled_at}
 use Rattle.choreographer.specs.declared.kept.Kept.{Kept}
 use Rattle.choreographer.specs.declared.host.Sending.{Sending}
 use Rattle.choreographer.specs.declared.hosted.Pulse.{Pulse}
+use Rattle.choreographer.specs.Steps.{known_by}
 use Rattle.choreographer.specs.Known.{Known, IsTurn}
 use Rattle.choreographer.specs.Calls.{BeginTurn, AskedBy, SendsPulse, PulsedBy, DueBy, TakeTurn}
 use Rattle.choreographer.specs.Done.{AreOfPhases, AddsPhases, AddsFrame, hands_out, HandsOutNone}
@@ -153,4 +154,4 @@ due_leaves x now true = scheduled_leaves x.frames x.frames.scheduled (Some (puls
 due_leaves x now false = refl
 
 pub due_records : (before after : Known) (is_moment : ℕ → Bool) (phase : ℕ) (result : Bool) → DueBy before after is_moment phase result → after.view.own ≡ before.view.own
-due_records before after is_moment phase result t = let d = t.2 in turn_records_none before after d.0 d.1 d.2 (ap (λ (z : Kept). z.frames.entries) d.4 ∙ due_leaves d.0 t.0 result)
+due_records before after is_moment phase result t = let d = t.2 in turn_records_none before after d.0 d.1 d.2 (ap (λ (z : Kept). z.frames.entries) d.4 ∙ due_leaves d.0 (known_by d.0 t.0) result)

@@ -1,21 +1,25 @@
--- Each frame of a record begins with the stamp of a pulse.
-use Rattle.std.proofs.Common.{◌≡◌, ℕ, true, List, [], ◌∷◌, ◌++◌, map, Option, Some, None, refl, sym, ap, ◌∙◌, subst, append-nil}
-use Rattle.std.specs.Prelude.{◌==◌}
+-- Each frame of a record begins with the stamp of a pulse, and what is asked for comes after the pulse that was kept.
+use Rattle.std.proofs.Common.{◌≡◌, ℕ, ◌<◌, ◌≤◌, ◌/◌, Bool, true, false, List, [], ◌∷◌, ◌++◌, map, Option, Some, None, refl, sym, ap, ◌∙◌, subst, append-nil, arith}
+use Rattle.std.specs.Prelude.{◌==◌, nat_lt, if◌then◌else◌, Result, Ok, Err, OnOk, OnErr}
 use Rattle.std.proofs.lemmas.Bool.{and_parts}
 use Rattle.std.proofs.Math.Bool.{or-true}
 use Rattle.frame_phases.specs.declared.entry.FrameEntry.{FrameEntry}
 use Rattle.frame_phases.specs.declared.entry.FrameEntry.TheVariants.{Posted, Removed, Begin, Take, Ran}
 use Rattle.frame_phases.specs.declared.entry.Callback.{Callback}
+use Rattle.loop_model.specs.declared.memory.NoMemory.{NoMemory}
+use Rattle.frame_phases.specs.declared.entry.Scheduling.{Scheduling}
 use Rattle.frame_phases.specs.declared.entry.Beginning.{Beginning}
 use Rattle.frame_phases.specs.declared.entry.Beginning.TheVariants as begin
 use Rattle.frame_phases.specs.declared.entry.Took.{Took}
 use Rattle.frame_phases.specs.declared.entry.Took.TheVariants as took
-use Rattle.frame_phases.specs.Pulses.{is_stamp, is_stamped, are_stamped, is_pulse_if_any}
-use Rattle.frame_phases.specs.State.{Frames, BeginsBy, TakesBy, ran}
+use Rattle.frame_phases.specs.Pulses.{pulse, is_stamp, is_stamped, are_stamped, is_pulse_if_any, comes_after_if_any}
+use Rattle.frame_phases.specs.State.{Frames, with_entry, scheduled_at, next_callback, removed, BeginsBy, TakesBy, Seals, ran}
+use Rattle.frame_phases.proofs.Pulses.{next_comes_after}
 use Rattle.choreographer.specs.declared.kept.Kept.{Kept}
 use Rattle.choreographer.specs.Frame.{IsQuiet}
 use Rattle.choreographer.specs.Turn.{IsStamped}
-use Rattle.choreographer.specs.Steps.{HasSameTraits, StepsQuietly, pulsed}
+use Rattle.choreographer.specs.Steps.{StepsQuietly, pulsed, known_by}
+use Rattle.choreographer.specs.Calls.{with_post}
 
 both_stamped : (interval : ℕ) (xs ys : List FrameEntry) → are_stamped interval xs ≡ true → are_stamped interval ys ≡ true → are_stamped interval (xs ++ ys) ≡ true
 both_stamped interval [] ys f g = g
@@ -38,51 +42,107 @@ ran_stamped interval (c ∷ cs) = ran_stamped interval cs
 -- behind more entries, where the stamp that was kept is still one
 module _ (x y : Kept) (h : IsStamped x) where
   with_more : (more : List FrameEntry) → y.frames.interval ≡ x.frames.interval → x.frames.entries ++ more ≡ y.frames.entries → are_stamped x.frames.interval more ≡ true
-      → is_stamp x.frames.interval y.stamp ≡ true → IsStamped y
-  with_more more same is stamped kept = record {
+      → is_stamp x.frames.interval y.stamp ≡ true → comes_after_if_any y.stamp y.frames.asked ≡ true → IsStamped y
+  with_more more same is stamped kept asked = record {
     kept = subst (λ (n : ℕ). is_stamp n y.stamp ≡ true) (sym same) kept;
     frames = subst (λ (z : ℕ × List FrameEntry). are_stamped z.0 z.1 ≡ true) (λ i. (sym same i, is i))
         (both_stamped x.frames.interval x.frames.entries more h.frames stamped);
+    interval = subst (λ (n : ℕ). 0 < n) (sym same) h.interval;
+    asked = asked;
   }
+
+  -- what is asked for is as it was, and so is the stamp
+  asks_same : y.frames.asked ≡ x.frames.asked → y.stamp ≡ x.stamp → comes_after_if_any y.stamp y.frames.asked ≡ true
+  asks_same asked same = subst (λ (z : ℕ × Option ℕ). comes_after_if_any z.0 z.1 ≡ true) (λ i. (sym same i, sym asked i)) h.asked
+
+  -- the pulse after a moment that is no earlier is asked for
+  asks_next : (t : ℕ) → x.stamp ≤ t → y.frames.asked ≡ Some (pulse x.frames.interval t) → y.stamp ≡ x.stamp → comes_after_if_any y.stamp y.frames.asked ≡ true
+  asks_next t le asked same =
+      subst (λ (z : ℕ × Option ℕ). comes_after_if_any z.0 z.1 ≡ true) (λ i. (sym same i, sym asked i)) (next_comes_after x.frames.interval x.stamp t h.interval le)
 
   unchanged : y.frames ≡ x.frames → y.stamp ≡ x.stamp → IsStamped y
   unchanged frames same = record {
     kept = subst (λ (z : Frames × ℕ). is_stamp z.0.interval z.1 ≡ true) (λ i. (sym frames i, sym same i)) h.kept;
     frames = subst (λ (f : Frames). are_stamped f.interval f.entries ≡ true) (sym frames) h.frames;
+    interval = subst (λ (f : Frames). 0 < f.interval) (sym frames) h.interval;
+    asked = asks_same (ap (λ (f : Frames). f.asked) frames) same;
   }
 
   -- callbacks are posted and removed
-  pub stamped_quiet : StepsQuietly x y → y.stamp ≡ x.stamp → IsStamped y
-  stamped_quiet q same = with_more q.1.0 q.0.1 q.1.1 (quiet_stamped x.frames.interval q.1.0 q.1.2) (subst (λ (n : ℕ). is_stamp x.frames.interval n ≡ true) (sym same) h.kept)
+  stamped_quiet : StepsQuietly x y → y.stamp ≡ x.stamp → comes_after_if_any y.stamp y.frames.asked ≡ true → IsStamped y
+  stamped_quiet q same asked = with_more q.1.0 q.0.1 q.1.1 (quiet_stamped x.frames.interval q.1.0 q.1.2) (subst (λ (n : ℕ). is_stamp x.frames.interval n ≡ true) (sym same) h.kept) asked
 
-  -- nothing is recorded
-  pub stamped_same : HasSameTraits x y → y.frames.entries ≡ x.frames.entries → y.stamp ≡ x.stamp → IsStamped y
-  stamped_same traits entries same = record {
-    kept = subst (λ (z : ℕ × ℕ). is_stamp z.0 z.1 ≡ true) (λ i. (sym traits.1 i, sym same i)) h.kept;
-    frames = subst (λ (z : ℕ × List FrameEntry). are_stamped z.0 z.1 ≡ true) (λ i. (sym traits.1 i, sym entries i)) h.frames;
-  }
+  -- a frame is asked for at a moment that the state knows of
+  asks_scheduled : (now : ℕ) → y.frames.asked ≡ (scheduled_at x.frames (known_by x now)).asked → y.stamp ≡ x.stamp → comes_after_if_any y.stamp y.frames.asked ≡ true
+  asks_scheduled now is same = elim (x.frames.scheduled) as
+      (λ (b : Bool). y.frames.asked ≡ (if b then x.frames else record x.frames { scheduled = true; asked = Some (pulse x.frames.interval (known_by x now)) }).asked → comes_after_if_any y.stamp y.frames.asked ≡ true) [
+        | true ↦ λ e. asks_same e same
+        | false ↦ λ e. asks_next (known_by x now) (omega arith) e same
+      ] is
+
+  -- a callback is posted, or no memory was found
+  pub stamped_posted : (phase due id : ℕ) (token : Option ℕ) (now : ℕ) (result : Result Scheduling NoMemory) → OnOk result (y ≡ with_post x phase due id token now) → OnErr result (y ≡ x)
+      → StepsQuietly x y → y.stamp ≡ x.stamp → IsStamped y
+  stamped_posted phase due id token now (Ok r) is none q same = stamped_quiet q same (by_due (nat_lt (now / 1000000) due) refl (ap (λ (z : Kept). z.frames.asked) is))
+    where
+      grown : Frames
+      grown = with_entry x.frames (Posted (next_callback x.frames phase due id token))
+
+      with_asked : (b : Bool) → (if b then grown else record grown { scheduled = true; asked = Some (pulse x.frames.interval (known_by x now)) }).asked
+          ≡ (if b then x.frames else record x.frames { scheduled = true; asked = Some (pulse x.frames.interval (known_by x now)) }).asked
+      with_asked true = refl
+      with_asked false = refl
+
+      by_test : (b : Bool) → y.frames.asked ≡ (if b then grown else scheduled_at grown (known_by x now)).asked → comes_after_if_any y.stamp y.frames.asked ≡ true
+      by_test true e = asks_same e same
+      by_test false e = asks_scheduled now (e ∙ with_asked x.frames.scheduled) same
+
+      by_due : (b : Bool) → nat_lt (now / 1000000) due ≡ b
+          → y.frames.asked ≡ (let at = (if b then now else known_by x now) in if nat_lt (at / 1000000) due then grown else scheduled_at grown at).asked
+          → comes_after_if_any y.stamp y.frames.asked ≡ true
+      by_due true later e = asks_same (e ∙ ap (λ (b : Bool). (if b then grown else scheduled_at grown now).asked) later) same
+      by_due false soon e = by_test (nat_lt (known_by x now / 1000000) due) e
+  stamped_posted phase due id token now (Err e) is none q same = stamped_quiet q same (asks_same (ap (λ (z : Kept). z.frames.asked) none) same)
+
+  -- callbacks are removed, or no memory was found
+  pub stamped_removed : (phase id : ℕ) (token : Option ℕ) (result : Result ℕ NoMemory) → OnOk result (y ≡ record x { frames = removed x.frames phase id token }) → OnErr result (y ≡ x)
+      → StepsQuietly x y → y.stamp ≡ x.stamp → IsStamped y
+  stamped_removed phase id token (Ok n) is none q same = stamped_quiet q same (asks_same (ap (λ (z : Kept). z.frames.asked) is) same)
+  stamped_removed phase id token (Err e) is none q same = stamped_quiet q same (asks_same (ap (λ (z : Kept). z.frames.asked) none) same)
+
+  -- a frame is scheduled, or none is wanted
+  pub stamped_due : (now : ℕ) (did : Bool) → y ≡ (if did then record x { frames = scheduled_at x.frames (known_by x now) } else x) → StepsQuietly x y → y.stamp ≡ x.stamp → IsStamped y
+  stamped_due now true is q same = stamped_quiet q same (asks_scheduled now (ap (λ (z : Kept). z.frames.asked) is) same)
+  stamped_due now false is q same = stamped_quiet q same (asks_same (ap (λ (z : Kept). z.frames.asked) is) same)
+
+  -- entries are handed out
+  pub stamped_sealed : (answer : Result (List FrameEntry) NoMemory) → Seals x.frames answer y.frames → y.stamp ≡ x.stamp → IsStamped y
+  stamped_sealed (Ok part) seals same =
+      with_more [] (ap (λ (f : Frames). f.interval) seals.1) (append-nil x.frames.entries ∙ sym (ap (λ (f : Frames). f.entries) seals.1)) refl
+      (subst (λ (n : ℕ). is_stamp x.frames.interval n ≡ true) (sym same) h.kept) (asks_same (ap (λ (f : Frames). f.asked) seals.1) same)
+  stamped_sealed (Err e) same_frames same = unchanged same_frames same
 
   -- a pulse is delivered
   pub stamped_pulse : (pulse : Option ℕ) → is_pulse_if_any x.frames.interval pulse ≡ true → y ≡ pulsed x pulse → IsStamped y
   stamped_pulse None is same = subst IsStamped (sym same) h
-  stamped_pulse (Some stamp) is same = subst IsStamped (sym same) (record { kept = rw (is, or-true (stamp == 0)) refl; frames = h.frames })
+  stamped_pulse (Some stamp) is same = subst IsStamped (sym same) (record { kept = rw (is, or-true (stamp == 0)) refl; frames = h.frames; interval = h.interval; asked = refl })
 
   -- a frame begins, with the stamp that was kept
   pub stamped_begin : (start : ℕ) (answer : Beginning) → BeginsBy x.frames x.stamp start answer y.frames → y.stamp ≡ x.stamp → IsStamped y
   stamped_begin start (begin.Began time) b same =
       with_more (Begin x.stamp start time ∷ []) (ap (λ (f : Frames). f.interval) b.4) (sym (ap (λ (f : Frames). f.entries) b.4)) (rw h.kept refl)
-      (subst (λ (n : ℕ). is_stamp x.frames.interval n ≡ true) (sym same) h.kept)
+      (subst (λ (n : ℕ). is_stamp x.frames.interval n ≡ true) (sym same) h.kept) (asks_same (ap (λ (f : Frames). f.asked) b.4) same)
   stamped_begin start (begin.Running next) b same = unchanged b.1 same
   stamped_begin start begin.Unscheduled b same = unchanged b.2 same
   stamped_begin start (begin.Backwards last) b same =
       with_more [] (ap (λ (f : Frames). f.interval) b.4) (append-nil x.frames.entries ∙ sym (ap (λ (f : Frames). f.entries) b.4)) refl
-      (subst (λ (n : ℕ). is_stamp x.frames.interval n ≡ true) (sym same) h.kept)
+      (subst (λ (n : ℕ). is_stamp x.frames.interval n ≡ true) (sym same) h.kept) (asks_next (known_by x start) (omega arith) (ap (λ (f : Frames). f.asked) b.4) same)
   stamped_begin start begin.NoMemory b same = unchanged b same
 
   -- a phase is taken
   pub stamped_take : (phase now : ℕ) (answer : Took) → TakesBy x.frames phase now answer y.frames → y.stamp ≡ x.stamp → IsStamped y
   stamped_take phase now (took.Batch time cs) t same =
       with_more (Take phase now time ∷ map ran cs) (ap (λ (f : Frames). f.interval) t.3) (sym (ap (λ (f : Frames). f.entries) t.3)) (ran_stamped x.frames.interval cs)
-      (subst (λ (n : ℕ). is_stamp x.frames.interval n ≡ true) (sym same) h.kept)
+      (subst (λ (n : ℕ). is_stamp x.frames.interval n ≡ true) (sym same) h.kept) (asks_same (ap (λ (f : Frames). f.asked) t.3) same)
   stamped_take phase now (took.Elsewhere next) t same = unchanged t.2 same
   stamped_take phase now took.NoMemory t same = unchanged t.1 same

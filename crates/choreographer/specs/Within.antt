@@ -10,14 +10,14 @@ use Rattle.choreographer.specs.declared.kept.Kept.{Kept}
 use Rattle.choreographer.specs.Client.{Run, with_runs}
 use Rattle.choreographer.specs.Frame.{Batch, begin_place, ran_since, batches_since, progress}
 use Rattle.choreographer.specs.Known.{Known, IsTurn}
-use Rattle.choreographer.specs.Steps.{pulsed}
+use Rattle.choreographer.specs.Steps.{pulsed, posts_at}
 use Rattle.choreographer.specs.Calls.{with_post}
 use Rattle.choreographer.specs.Done.{runs, runs_of, numbers_of, IsBatch, AreBatches, IsSamePass, TakesPhase, TakesEach}
 
 -- one turn that posts a callback
 abbrev pub PostTurn : Known → Known → ℕ → ℕ → ℕ → Option ℕ → ℕ → Result Scheduling NoMemory → Type 0
 PostTurn before after phase due id token now result = (x : Kept) × (y : Kept) × IsTurn before after x y
-    × IfOk result (λ r. r ≡ scheduling x.frames due now) × OnOk result (y ≡ with_post x phase due id token now) × OnErr result (y ≡ x)
+    × IfOk result (λ r. r ≡ scheduling x.frames due (posts_at x due now)) × OnOk result (y ≡ with_post x phase due id token now) × OnErr result (y ≡ x)
 
 -- one turn that delivers a pulse
 abbrev pub PulseTurn : Known → Known → ℕ → Option ℕ → Type 0

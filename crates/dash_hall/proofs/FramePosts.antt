@@ -1,12 +1,13 @@
 -- The frame callbacks that a sender posts.
-use Rattle.std.proofs.Common.{◌≡◌, ℕ, zero, suc, ◌+◌, ◌-◌, ◌*◌, ◌/◌, ◌^◌, ◌<◌, ◌==◌, min, Bool, true, false, List, [], ◌∷◌, ◌++◌, map, Option, Some, None, refl, sym, ap, ◌∙◌, subst, arith, ne_eqb}
+use Rattle.std.proofs.Common.{◌≡◌, ℕ, zero, suc, ◌+◌, ◌-◌, ◌*◌, ◌/◌, ◌^◌, ◌<◌, ◌≤◌, ◌==◌, min, Bool, true, false, List, [], ◌∷◌, ◌++◌, map, Option, Some, None, refl, sym, ap, ◌∙◌, subst, arith, ne_eqb}
 use Rattle.std.specs.Prelude.{◌&&◌, nat_lt, is_none, MatchBool, if◌then◌else◌}
 use mathlib.Core.Logic.{dite}
 use native.Mathlib.Decide.{dec_lt}
 use Rattle.std.proofs.lemmas.Bool.{eqb-true, lt-ltb, ltb-true, and_parts}
 use Rattle.std.proofs.lemmas.List.Elements.{filter-append, filter_map-append}
 use Rattle.std.proofs.lemmas.List.{append-nil}
-use Rattle.std.proofs.Math.Nat.{mul-div_cancel}
+use Rattle.std.proofs.Math.Nat.{mul-div_cancel, div-mul-le_self}
+use Rattle.std.proofs.lemmas.Nat.{le-div}
 use Rattle.loop_model.specs.declared.post.Post.{Post as PostData}
 use Rattle.loop_model.specs.declared.call.Call.{Call}
 use Rattle.loop_model.specs.declared.call.Call.TheVariants.{Post, Barrier, Unbarrier, Remove, Quit, Next, Advance, Halt}
@@ -18,7 +19,7 @@ use Rattle.frame_phases.specs.declared.entry.Callback.{Callback}
 use Rattle.frame_phases.specs.declared.entry.FrameEntry.TheVariants as frame
 use Rattle.frame_phases.specs.declared.entry.Scheduling.{Scheduling}
 use Rattle.frame_phases.specs.declared.entry.Scheduling.TheVariants as sched
-use Rattle.frame_phases.specs.State.{Frames, with_entry, next_callback, posted}
+use Rattle.frame_phases.specs.State.{Frames, with_entry, next_callback, scheduling, posted}
 use Rattle.frame_phases.specs.Pulses.{pulse}
 use Rattle.looper_run.specs.Holding.{Sender}
 use Rattle.choreographer.specs.declared.kept.Kept.{Kept}
@@ -27,6 +28,7 @@ use Rattle.choreographer.specs.declared.host.HostSent.{HostSent}
 use Rattle.choreographer.specs.declared.host.HostSent.TheVariants as host
 use Rattle.choreographer.specs.declared.hosted.Placed.TheVariants as placed
 use Rattle.choreographer.specs.Known.{Known as Pass, IsTurn}
+use Rattle.choreographer.specs.Steps.{known_by, posts_at}
 use Rattle.choreographer.specs.Calls.{due_at, with_post}
 use Rattle.choreographer.proofs.Recorded.{turn_records}
 use Rattle.run_model.specs.Asks.{plain, token_in, entries_by}
@@ -70,6 +72,23 @@ if_later : (a b : Bool) (p due : ℕ) → (if a then sched.Later due else (if b 
 if_later true b p due is = refl
 if_later false true p due is = absurd cc
 if_later false false p due is = absurd cc
+
+-- a callback that was not posted for later is due by the clock as it was read
+posted_soon : (x : Kept) (due now : ℕ) (r : Scheduling) → scheduling x.frames due (posts_at x due now) ≡ r → (r ≡ sched.Later due → ⊥) → nat_lt (now / 1000000) due ≡ false
+posted_soon x due now r is other = go (nat_lt (now / 1000000) due) refl is where
+  go : (t : Bool) → nat_lt (now / 1000000) due ≡ t → scheduling x.frames due (if t then now else known_by x now) ≡ r → t ≡ false
+  go true e is = sym e ∙ if_now _ _ _ _ _ is other
+  go false e is = refl
+
+-- one that was is not
+posted_later : (x : Kept) (due now : ℕ) → scheduling x.frames due (posts_at x due now) ≡ sched.Later due → nat_lt (now / 1000000) due ≡ true
+posted_later x due now is = go (nat_lt (now / 1000000) due) refl is where
+  go : (t : Bool) → nat_lt (now / 1000000) due ≡ t → scheduling x.frames due (if t then now else known_by x now) ≡ sched.Later due → t ≡ true
+  go true e is = refl
+  go false e is =
+      let later = ltb-true (known_by x now / 1000000) due (if_later _ _ _ _ is) in
+      let no_sooner : now / 1000000 ≤ known_by x now / 1000000 = le-div (now / 1000000) (known_by x now) 1000000 (omega arith) (omega (arith, div-mul-le_self now 1000000)) in
+      sym e ∙ lt-ltb (now / 1000000) due (omega (arith, later, no_sooner))
 
 no_delay : (u delay due now : ℕ) → now ≡ nanos_of u → due ≡ due_at now delay → nat_lt (now / 1000000) due ≡ false → (delay == 0) ≡ true
 no_delay u delay due now is at isnt = go delay refl
@@ -184,7 +203,7 @@ due_is u delay now is = ap (λ (n : ℕ). min (n + delay) (2 ^ 64 - 1)) (ap (λ 
 asks_posted : (u phase id delay now : ℕ) (f g : Pass) (x y : Kept) → IsTurn f g x y → (now == nanos_of u) ≡ true → y ≡ with_post x phase (due_at now delay) id None now → AsksFor (Posts phase (frame_due u delay) id None) f g
 asks_posted u phase id delay now f g x y t moment post =
     let c = next_callback x.frames phase (due_at now delay) id None in
-    let left : x.frames.entries ++ frame.Posted c ∷ [] ≡ y.frames.entries = sym (ap (λ (z : Kept). z.frames.entries) post ∙ posted_entries x.frames c now) in
+    let left : x.frames.entries ++ frame.Posted c ∷ [] ≡ y.frames.entries = sym (ap (λ (z : Kept). z.frames.entries) post ∙ posted_entries x.frames c (posts_at x (due_at now delay) now)) in
     let asks : AsksFor (Posts phase (due_at now delay) id None) f g =
     ap asks_in (turn_records f g x y (frame.Posted c ∷ []) t left) ∙ filter_map-append asked_in f.view.own (frame.Posted c ∷ []) in
     subst (λ (d : ℕ). AsksFor (Posts phase d id None) f g) (due_is u delay now (eqb-true now (nanos_of u) moment)) asks
@@ -225,13 +244,13 @@ for_later h u phase id delay p q a b f g x y now answer goes t is post later_on 
 
 pub posts_frame_by : (h u phase id delay : ℕ) (p q : Sender) (a b : Tally) (f g : Pass) → GoesOn p q a b → PlacesBy f g u (sends_by h p) (sends_by h q) phase id delay → PostsFrame h u phase id delay p q f g
 posts_frame_by h u phase id delay p q a b f g goes (placed.Asked, is, (x, y, now, t, moment, ((pulse, sch), post, same))) =
-    at_once h u phase id delay p q a b f g x y now goes t moment post (if_now _ _ _ _ _ sch (λ wrong. absurd cc)) same
+    at_once h u phase id delay p q a b f g x y now goes t moment post (posted_soon x (due_at now delay) now _ sch (λ wrong. absurd cc)) same
 posts_frame_by h u phase id delay p q a b f g goes (placed.Already, is, (x, y, now, t, moment, (sch, post, same))) =
-    at_once h u phase id delay p q a b f g x y now goes t moment post (if_now _ _ _ _ _ sch (λ wrong. absurd cc)) same
+    at_once h u phase id delay p q a b f g x y now goes t moment post (posted_soon x (due_at now delay) now _ sch (λ wrong. absurd cc)) same
 posts_frame_by h u phase id delay p q a b f g goes (placed.Sent, is, (x, y, now, t, moment, (sch, post, sent))) =
-    for_later h u phase id delay p q a b f g x y now host.Accepted goes t moment post (if_later _ _ _ _ sch) accepted sent
+    for_later h u phase id delay p q a b f g x y now host.Accepted goes t moment post (posted_later x (due_at now delay) now sch) accepted sent
 posts_frame_by h u phase id delay p q a b f g goes (placed.Refused, is, (x, y, now, t, moment, (sch, post, sent))) =
-    for_later h u phase id delay p q a b f g x y now host.Refused goes t moment post (if_later _ _ _ _ sch) refused sent
+    for_later h u phase id delay p q a b f g x y now host.Refused goes t moment post (posted_later x (due_at now delay) now sch) refused sent
 posts_frame_by h u phase id delay p q a b f g goes (placed.NoMemory, is, more) = absurd is
 
 -- ---- what is told in lockstep is all that was asked for

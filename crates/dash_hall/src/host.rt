@@ -5,7 +5,7 @@ ghost use Rattle.loop_model.specs.declared.call.Call.TheVariants.{Barrier, Unbar
 ghost use Rattle.frame_phases.specs.Pulses.{is_pulse_if_any};
 ghost use Rattle.handler_post.specs.Ways.{MadeNone};
 ghost use Rattle.choreographer.specs.Known.{IsOf as IsFrameOf, MayDeliver};
-ghost use Rattle.choreographer.specs.Calls.{PulsedBy, GetsStamp, DueBy, stamp_in};
+ghost use Rattle.choreographer.specs.Calls.{PulsedBy, GetsStamp, ComesAfter, DueBy, stamp_in};
 ghost use Rattle.dash_hall.specs.Growth.{own, GoesOn, TurnsOnce, Makes, BarsOf};
 ghost use Rattle.dash_hall.specs.Kits.{frame_badge_of};
 ghost use Rattle.dash_hall.specs.Hosts.{HostOrigin, origin_now, IsHostNow, IsSameHost, sends_of, IsPlaced, IsUnplaced, PlacesBy, PlacesNot};
@@ -138,6 +138,7 @@ impl<'a, R: Wait, U: Uptime> Host<'a, R, U> {
         ensures is_pulse { IsTrue (is_pulse_if_any c.now.constants.interval (stamp_in result)) }
         ensures pulse { PulsedBy pass.old pass.new (U.is_moment self.old.uptime.now) (sends_of self.old) (sends_of self.new) result }
         ensures stamp { GetsStamp pass.old pass.new (stamp_in result) }
+        ensures later { ComesAfter pass.old (stamp_in result) }
     {
         c.on_vsync(self.rt, pass, self)
     }

@@ -1,14 +1,16 @@
 -- The stamp of the latest pulse, from turn to turn of the pass that alone delivers them.
-use Rattle.std.proofs.Common.{◌≡◌, ℕ, Bool, true, false, Option, Some, None, refl, sym, ap, ◌∙◌}
+use Rattle.std.proofs.Common.{◌≡◌, ℕ, Bool, true, false, Option, Some, None, refl, sym, ap, ◌∙◌, subst}
 use Rattle.std.specs.Prelude.{if◌then◌else◌}
 use Rattle.frame_phases.specs.State.{scheduled_at}
+use Rattle.frame_phases.specs.Pulses.{comes_after_if_any}
 use Rattle.choreographer.specs.declared.kept.Kept.{Kept}
+use Rattle.choreographer.specs.Steps.{known_by}
 use Rattle.choreographer.specs.Known.{Known as Pass, IsTurn}
-use Rattle.choreographer.specs.Calls.{latest, GetsStamp, DueBy}
+use Rattle.choreographer.specs.Calls.{latest, GetsStamp, ComesAfter, DueBy}
 use Rattle.choreographer.specs.Done.{IsSamePass, BeginsByStamp}
 use Rattle.dash_hall.specs.Kits.{FrameBadge, frame_badge_of}
 use Rattle.dash_hall.proofs.Badges.{frame_turn_badge}
-use Rattle.dash_loopers.specs.Played.{KeepsLatest, GetsLatest}
+use Rattle.dash_loopers.specs.Played.{KeepsLatest, GetsLatest, ComesLater}
 
 -- the same pass, with the stamp of the pulse that came, or its own
 pub gets_latest : (before after : Pass) (came : Option ℕ) → frame_badge_of after ≡ frame_badge_of before → GetsStamp before after came → GetsLatest before after came
@@ -18,6 +20,10 @@ gets_latest before after came badge gets = λ stamp has. record {
   alone = has.alone ∙ ap Some (sym (ap (λ (b : FrameBadge). b.number) badge));
   has = gets has.key has.constants has.alone ∙ ap (latest came) has.has;
 }
+
+-- the pulse that came, where one did, comes after the latest
+pub comes_later : (before : Pass) (came : Option ℕ) → ComesAfter before came → ComesLater before came
+comes_later before came comes = λ stamp has. subst (λ (n : ℕ). comes_after_if_any n came ≡ true) has.has (comes has.key has.constants has.alone)
 
 -- a turn that leaves the stamp that it found
 pub turn_keeps_latest : (before after : Pass) (x y : Kept) → IsTurn before after x y → y.stamp ≡ x.stamp → KeepsLatest before after
@@ -34,6 +40,6 @@ pub due_keeps_latest : (before after : Pass) (is_moment : ℕ → Bool) (phase :
 due_keeps_latest before after is_moment phase result (now, moment, (x, y, turn, is, left)) =
     turn_keeps_latest before after x y turn (ap (λ (z : Kept). z.stamp) left ∙ by_result result)
   where
-    by_result : (b : Bool) → (if b then record x { frames = scheduled_at x.frames now } else x).stamp ≡ x.stamp
+    by_result : (b : Bool) → (if b then record x { frames = scheduled_at x.frames (known_by x now) } else x).stamp ≡ x.stamp
     by_result true = refl
     by_result false = refl

@@ -17,7 +17,7 @@ use Rattle.loop_model.specs.declared.journal.Act.TheVariants.{Dispatch, Vsync}
 use Rattle.loop_model.specs.declared.journal.Route.{Route}
 use Rattle.frame_phases.specs.declared.entry.FrameEntry.{FrameEntry}
 use Rattle.frame_phases.specs.Frames.{is_pulse}
-use Rattle.frame_phases.specs.Pulses.{is_pulse_if_any}
+use Rattle.frame_phases.specs.Pulses.{is_pulse_if_any, comes_after, comes_after_if_any}
 use Rattle.dash_script.specs.declared.script.Script.{Script}
 use Rattle.dash_script.specs.Causes.{phase_count}
 use Rattle.dash_script.specs.Reading.{HasText}
@@ -50,10 +50,10 @@ calls_taken k n now es e t =
     calls_more k es (e ∷ []) ∙ ap (λ l. calls_in k es ++ l) (let call = t.call in let reply = t.reply in rw (mine, call, reply) refl)
 
 -- a pulse that came
-vsynced : (s : Script) (q : ℕ) (es : List Entry) (fs : List FrameEntry) (acts : List Act) (a : Looper) (stamp : ℕ) → is_pulse s.period stamp ≡ true → a.painted ≡ [] → Lead s q es fs (first_looper s) acts a
+vsynced : (s : Script) (q : ℕ) (es : List Entry) (fs : List FrameEntry) (acts : List Act) (a : Looper) (stamp : ℕ) → is_pulse s.period stamp ≡ true → comes_after a.stamp stamp ≡ true → a.painted ≡ [] → Lead s q es fs (first_looper s) acts a
     → Lead s q es fs (first_looper s) (acts ++ Vsync stamp ∷ []) (pulsed q (Some stamp) a)
 unfolding after_act
-vsynced s q es fs acts a stamp is_one settled lead = Lead-snoc s q es fs None (first_looper s) acts a (Vsync stamp) lead (refl, settled, is_one)
+vsynced s q es fs acts a stamp is_one later settled lead = Lead-snoc s q es fs None (first_looper s) acts a (Vsync stamp) lead (refl, settled, is_one, later)
 
 -- ---- what stays as entries and acts are added that cause nothing
 
@@ -64,7 +64,7 @@ module _ {lockstep : Bool} (s : Script) (q k : ℕ) where
   stands_pulse now es more acts acts' parts parts' did a text p st = record {
     led = λ fs begins law.
         subst (λ l. Lead s q (es ++ more) fs (first_looper s) l (pulsed q p.stamp a)) (sym p.told)
-        (by_stamp fs p.stamp p.is_pulse (Lead-entries s q es fs more (first_looper s) acts a (st.led fs (prefix_trans parts.frames.view.seen parts'.frames.view.seen fs p.grew begins) law)));
+        (by_stamp fs p.stamp p.is_pulse (p.later a.stamp st.latest_is) (Lead-entries s q es fs more (first_looper s) acts a (st.led fs (prefix_trans parts.frames.view.seen parts'.frames.view.seen fs p.grew begins) law)));
     place = (let at : (pulsed q p.stamp a).place ≡ a.place = placed p.stamp in let le = st.place in let longer = prefix_length parts.frames.view.seen parts'.frames.view.seen p.grew in omega (arith, at, le, longer));
     moments = λ is fs begins law. ap (are_run_then fs) (ran p.stamp) ∙ st.moments is fs (prefix_trans parts.frames.view.seen parts'.frames.view.seen fs p.grew begins) law;
     whole = λ fs begins law. ap (are_whole (phase_count s.edition) fs) (ran p.stamp) ∙ st.whole fs (prefix_trans parts.frames.view.seen parts'.frames.view.seen fs p.grew begins) law;
@@ -90,9 +90,9 @@ module _ {lockstep : Bool} (s : Script) (q k : ℕ) where
       painted None = st.settled
       painted (Some stamp) = st.settled
 
-      by_stamp : (fs : List FrameEntry) (o : Option ℕ) → is_pulse_if_any s.period o ≡ true → Lead s q (es ++ more) fs (first_looper s) acts a → Lead s q (es ++ more) fs (first_looper s) (acts ++ pulse_acts o) (pulsed q o a)
-      by_stamp fs None none lead = subst (λ l. Lead s q (es ++ more) fs (first_looper s) l a) (sym (append-nil acts)) lead
-      by_stamp fs (Some stamp) is_one lead = vsynced s q (es ++ more) fs acts a stamp is_one st.settled lead
+      by_stamp : (fs : List FrameEntry) (o : Option ℕ) → is_pulse_if_any s.period o ≡ true → comes_after_if_any a.stamp o ≡ true → Lead s q (es ++ more) fs (first_looper s) acts a → Lead s q (es ++ more) fs (first_looper s) (acts ++ pulse_acts o) (pulsed q o a)
+      by_stamp fs None none later lead = subst (λ l. Lead s q (es ++ more) fs (first_looper s) l a) (sym (append-nil acts)) lead
+      by_stamp fs (Some stamp) is_one later lead = vsynced s q (es ++ more) fs acts a stamp is_one later st.settled lead
 
 -- ---- a dispatch
 

@@ -14,7 +14,7 @@ use Rattle.loop_model.specs.declared.journal.Act.TheVariants.{Vsync, Paint}
 use Rattle.loop_model.specs.declared.journal.Journal.{Journal}
 use Rattle.frame_phases.specs.declared.entry.FrameEntry.{FrameEntry}
 use Rattle.frame_phases.specs.Frames.{lawful}
-use Rattle.frame_phases.specs.Pulses.{is_pulse_if_any}
+use Rattle.frame_phases.specs.Pulses.{is_pulse_if_any, comes_after_if_any}
 use Rattle.dash_script.specs.declared.script.GaugeLine.{GaugeLine}
 use Rattle.dash_script.specs.declared.script.Rule.{Rule}
 use Rattle.dash_script.specs.declared.script.Script.{Script}
@@ -169,6 +169,10 @@ KeepsLatest before after = (stamp : ℕ) → HasLatest before stamp → HasLates
 abbrev pub GetsLatest : Pass → Pass → Option ℕ → Type 0
 GetsLatest before after came = (stamp : ℕ) → HasLatest before stamp → HasLatest after (latest came stamp)
 
+-- whatever the latest pulse was, the one that came comes after it, where one came
+abbrev pub ComesLater : Pass → Option ℕ → Type 0
+ComesLater before came = (stamp : ℕ) → HasLatest before stamp → comes_after_if_any stamp came ≡ true
+
 -- by whatever the frame record comes to, a frame that began has this stamp
 abbrev pub IsStampedBy : Pass → Option ℕ → ℕ → Type 0
 IsStampedBy after frame stamp = (fs : List FrameEntry) → IsPrefix after.view.seen fs → has_stamp fs frame stamp ≡ true
@@ -245,6 +249,7 @@ pub record Pulses (s : Script) (q now : ℕ) (made made' : List Entry) (parts pa
   pub grew : IsPrefix parts.frames.view.seen parts'.frames.view.seen
   pub asks : asks_of parts'.frames ≡ asks_of parts.frames
   pub got : GetsLatest parts.frames parts'.frames stamp
+  pub later : ComesLater parts.frames stamp
   pub plays : Plays s q (pulsed q stamp) made parts made' parts'
 
 -- ---- what is told in a mode

@@ -11,7 +11,7 @@ ghost use Rattle.dash_loopers.specs.Clocked.{CallsUntimed};
 ghost use Rattle.dash_loopers.specs.Loopers.{IsPlaceOf, IsLooperOf};
 ghost use Rattle.dash_loopers.specs.Players.{AreSameParts};
 ghost use Rattle.dash_script.specs.Causes.{phase_count};
-ghost use Rattle.dash_loopers.specs.Played.{calls_of, paint_of, KeepsLatest, GetsLatest};
+ghost use Rattle.dash_loopers.specs.Played.{calls_of, paint_of, KeepsLatest, GetsLatest, ComesLater};
 ghost use Rattle.loop_model.specs.declared.post.Post.{Post as PostData};
 ghost use Rattle.run_model.specs.Senders.{frame_handler as the_frame_handler};
 ghost use Rattle.run_model.specs.Loopers.{starts_frame, object_set};
@@ -81,6 +81,7 @@ impl<'a, R: Wait> Place<'a, R> {
         ensures pulses { DeliversPulseOn self.now now own.old own.new parts.old parts.new result }
         ensures looked { PulsedOn self.now now own.old own.new parts.old parts.new result }
         ensures latest { GetsLatest parts.old.frames parts.new.frames (stamp_in result) }
+        ensures later { ComesLater parts.old.frames (stamp_in result) }
         ensures acts { own.new.journal.now.acts ≡ own.old.journal.now.acts }
     {
         let began = Snapshot::of(&*own.poster);

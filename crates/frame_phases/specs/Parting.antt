@@ -1,5 +1,5 @@
 -- A list that is parted among several.
-use Rattle.std.specs.Prelude.{◌≡◌, ℕ, ◌==◌, Option, Some, None, List, [], map, if◌then◌else◌, slice_index_or}
+use Rattle.std.specs.Prelude.{◌≡◌, ℕ, ◌==◌, Some, None, List, [], map, if◌then◌else◌, slice_index_or}
 use Rattle.std.specs.List.{filter_map}
 
 -- what is dealt to this part, in order

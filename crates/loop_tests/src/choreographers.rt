@@ -275,7 +275,7 @@ fn a_callback_for_a_later_phase_runs_at_once_and_one_for_its_own_waits(
 }
 
 #[test]
-fn a_clock_that_goes_back_begins_no_frame(rt: HostRuntime) -> Result<(), Fail> {
+fn a_clock_that_goes_back_asks_for_a_later_pulse(rt: HostRuntime) -> Result<(), Fail> {
     let (c, mut pass, other, _) = three(rt.alloc(), 10_000_000)?;
     let mut host = still(rt.alloc(), 20_000_000);
     let mut client = Relay {
@@ -287,12 +287,13 @@ fn a_clock_that_goes_back_begins_no_frame(rt: HostRuntime) -> Result<(), Fail> {
     assert!(rt; placed == Placed::Asked);
     let framed = frame_at(&rt, &c, &mut pass, &mut host, &mut client, 30_000_000);
     assert!(rt; framed == Framed::Done);
+    host.now = 15_000_000;
     let placed = c.post_callback(&rt, &mut pass, &mut host, 0, 9, None, 0);
-    assert!(rt; placed == Placed::Asked);
+    assert!(rt; placed == Placed::Asked && c.asked(&rt, &mut pass) == Some(40_000_000));
     let framed = frame_at(&rt, &c, &mut pass, &mut host, &mut client, 25_000_000);
     assert!(rt; framed == Framed::Backwards { last: 30_000_000 });
     assert!(rt; client.ran.as_slice() == [(callback(0, 0, 20, 9), 30_000_000)].as_slice());
-    assert!(rt; c.asked(&rt, &mut pass) == Some(30_000_000));
+    assert!(rt; c.asked(&rt, &mut pass) == Some(40_000_000));
     Ok(())
 }
 

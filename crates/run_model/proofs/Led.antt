@@ -10,6 +10,7 @@ use Rattle.loop_model.specs.declared.journal.Act.{Act}
 use Rattle.loop_model.specs.declared.journal.Act.TheVariants.{Dispatch, Idle, Event, Vsync, Paint}
 use Rattle.loop_model.specs.Posts.{post_at}
 use Rattle.frame_phases.specs.declared.entry.FrameEntry.{FrameEntry}
+use Rattle.frame_phases.specs.Pulses.{comes_after}
 use Rattle.dash_script.specs.declared.script.Script.{Script}
 use Rattle.run_model.specs.Loopers.{Looper, starts_frame}
 use Rattle.run_model.specs.Acts.{Lead, MayCome, after_act, dispatched}
@@ -36,11 +37,11 @@ paints_so s q es fs a (Vsync stamp) frame = true
 paints_so s q es fs a (Idle i k) frame = true
 paints_so s q es fs a (Event f e m) frame = true
 
--- a frame that it runs has the stamp of the latest pulse
+-- a frame that it runs has the stamp of the latest pulse, and a pulse comes after that
 abbrev stamped_so : List FrameEntry → Looper → Act → Option ℕ → Bool
 stamped_so fs a (Dispatch n now route) frame = has_stamp fs frame a.stamp
 stamped_so fs a (Paint g v) frame = true
-stamped_so fs a (Vsync stamp) frame = true
+stamped_so fs a (Vsync stamp) frame = comes_after a.stamp stamp
 stamped_so fs a (Idle i k) frame = true
 stamped_so fs a (Event f e m) frame = true
 
@@ -93,7 +94,7 @@ paints_as_told s q es fs frame a (Event f e m) comes = refl
 stamped_as_told : (s : Script) (q : ℕ) (es : List Entry) (fs : List FrameEntry) (frame : Option ℕ) (a : Looper) (x : Act) → MayCome s q es fs frame a x → stamped_so fs a x frame ≡ true
 stamped_as_told s q es fs frame a (Dispatch n now route) comes = comes.stamped
 stamped_as_told s q es fs frame a (Paint g v) comes = refl
-stamped_as_told s q es fs frame a (Vsync stamp) comes = refl
+stamped_as_told s q es fs frame a (Vsync stamp) comes = comes.3
 stamped_as_told s q es fs frame a (Idle i k) comes = refl
 stamped_as_told s q es fs frame a (Event f e m) comes = refl
 

@@ -19,6 +19,7 @@ pub mod NotRunsFrames
 pub mod NotRunsTimes
 pub mod NotRunsMoves
 pub mod NotRunsTurns
+pub mod NotRunsPulses
 pub mod RunLaws
 pub mod FreeRun
 pub mod NotRunsByClock

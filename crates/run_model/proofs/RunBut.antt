@@ -1,8 +1,11 @@
 -- Runs of a script in lockstep but for one clause: what is shown of a report that has one fault.
-use Rattle.std.proofs.Common.{◌≡◌, ◌<◌, ℕ, true, List, [], ◌∷◌}
+use Rattle.std.proofs.Common.{◌≡◌, ◌<◌, ℕ, true, List, [], ◌∷◌, Option}
 use Rattle.std.specs.Prelude.{◌==◌, map, MatchBool}
 use Rattle.std.specs.List.{AllByRecursion, filter_map, enumerate_from}
 use mathlib.Core.List.{IsPrefix}
+use Rattle.loop_model.specs.declared.entry.Entry.{Entry}
+use Rattle.loop_model.specs.declared.journal.Act.{Act}
+use Rattle.loop_model.specs.declared.journal.Act.TheVariants.{Dispatch, Idle, Event, Vsync, Paint}
 use Rattle.loop_model.specs.declared.journal.Journal.{Journal}
 use Rattle.loop_model.specs.declared.record.QueueRecord.{QueueRecord}
 use Rattle.loop_model.specs.Dispatches.{act_dispatch, call_dispatch}
@@ -21,7 +24,7 @@ use Rattle.run_model.specs.Senders.{looper_sender, controller}
 use Rattle.run_model.specs.Moments.{in_lockstep}
 use Rattle.run_model.specs.Control.{is_called_in_time, are_before_quit, befores, are_on_time}
 use Rattle.run_model.specs.Loopers.{Looper, first_looper}
-use Rattle.run_model.specs.Acts.{Lead, IsSent}
+use Rattle.run_model.specs.Acts.{MayCome, after_act, Lead, IsSent}
 use Rattle.run_model.specs.Moves.{Move, moves, move_times, main_moves, MayMoveTo}
 use Rattle.run_model.specs.FrameRuns.{are_run_then, are_whole}
 use Rattle.run_model.specs.FrameAsks.{asks_in}
@@ -64,6 +67,8 @@ pub data Clause : Type 0 where
   Due : Clause
   -- all queues' times are moved together
   Together : Clause
+  -- each pulse comes after the one before it
+  Rising : Clause
 
 abbrev pub number_of : Clause → ℕ
 number_of Nothing = 0
@@ -83,6 +88,7 @@ number_of Blocks = 13
 number_of Due = 14
 number_of Together = 15
 number_of InTurn = 16
+number_of Rising = 17
 
 -- this is so, unless it is the clause that is left out
 abbrev pub Unless : Clause → Clause → Type 0 → Type 0
@@ -92,6 +98,24 @@ Unless out clause P = MatchBool (number_of out == number_of clause) (Unit {0}) P
 abbrev pub with_pulses : Clause → Script → Script
 with_pulses Pulses s = record s { period = 1 }
 with_pulses _ s = s
+
+-- a pulse comes to a looper as its first one
+abbrev first_pulse : Act → Looper → Looper
+first_pulse (Vsync stamp) a = record a { stamp = 0 }
+first_pulse (Dispatch n now route) a = a
+first_pulse (Paint g v) a = a
+first_pulse (Idle i k) a = a
+first_pulse (Event f e m) a = a
+
+-- where it is left out that pulses rise, each pulse comes as the first one
+abbrev pub before_act : Clause → Act → Looper → Looper
+before_act Rising x a = first_pulse x a
+before_act _ x a = a
+
+-- the acts lead a looper from one state to another, but for the clause that is left out
+abbrev pub LeadBut : Clause → Script → ℕ → List Entry → List FrameEntry → Looper → List Act → Looper → Type 0
+LeadBut out s q es fs a [] b = a ≡ b
+LeadBut out s q es fs a (x ∷ xs) b = (frame : Option ℕ) × (MayCome s q es fs frame (before_act out x a) x × LeadBut out s q es fs (after_act s q es fs frame a x) xs b)
 
 -- where it is left out that asks are made in turn, all are made at once
 abbrev pub made_but : Clause → List (List TimedAsk) → List (List TimedAsk)
@@ -113,7 +137,7 @@ with_stamps _ fs = fs
 -- a looper's run, but for the clause that is left out
 pub record IsLooperRunBut (out : Clause) (s : Script) (queues : List QueueRecord) (q : QueueRecord) (j : Journal) (f : FrameRecord) : Type 0 where
   pub final : Looper
-  pub acts : Lead (with_pulses out s) q.looper (history_of q) (with_stamps out f.entries) (first_looper s) j.acts final
+  pub acts : LeadBut out (with_pulses out s) q.looper (history_of q) (with_stamps out f.entries) (first_looper s) j.acts final
   pub settled : final.painted ≡ []
   pub dispatches : Unless out Takes (filter_map act_dispatch j.acts ≡ filter_map (λ e. call_dispatch e.call e.reply) (entries_by (looper_sender s q.looper) (history_of q)))
   pub disposed_at : ℕ
@@ -163,6 +187,10 @@ each_looper P Q weaker (q ∷ qs) [] fs all = absurd all
 each_looper P Q weaker (q ∷ qs) (j ∷ js) [] all = absurd all
 each_looper P Q weaker (q ∷ qs) (j ∷ js) (f ∷ fs) all = (weaker q j f all.0, each_looper P Q weaker qs js fs all.1)
 
+all_lead : (s : Script) (q : ℕ) (es : List Entry) (fs : List FrameEntry) (a : Looper) (xs : List Act) (b : Looper) → LeadBut Nothing s q es fs a xs b → Lead s q es fs a xs b
+all_lead s q es fs a [] b is = is
+all_lead s q es fs a (x ∷ xs) b (frame, (comes, rest)) = (frame, (comes, all_lead s q es fs (after_act s q es fs frame a x) xs b rest))
+
 -- where no clause is left out, it is a run
 pub is_run : (s : Script) (r : Report) → IsRunBut Nothing s r → IsRun in_lockstep s r
 is_run s r h = record {
@@ -173,7 +201,7 @@ is_run s r h = record {
   frames = AllByRecursion-weaker (IsFrameRunBut Nothing s) (IsFrameRun s) (λ f x. record { interval = x.interval; phases = x.phases; lawful = x.lawful; stamps = x.stamps }) r.frames h.frames;
   loopers = each_looper (IsLooperRunBut Nothing s r.queues) (IsLooperRun in_lockstep s r.queues) (λ q j f x. record {
     final = x.final;
-    acts = x.acts;
+    acts = all_lead s q.looper (history_of q) f.entries (first_looper s) j.acts x.final x.acts;
     settled = x.settled;
     dispatches = x.dispatches;
     disposed_at = x.disposed_at;

@@ -24,7 +24,7 @@ use Rattle.loop_model.specs.Fates.{fates}
 use Rattle.loop_model.specs.Dispatches.{act_dispatch, call_dispatch}
 use Rattle.frame_phases.specs.declared.entry.FrameEntry.{FrameEntry}
 use Rattle.frame_phases.specs.declared.entry.FrameRecord.{FrameRecord}
-use Rattle.frame_phases.specs.Pulses.{are_stamped}
+use Rattle.frame_phases.specs.Pulses.{are_stamped, comes_after}
 use Rattle.frame_phases.specs.Frames.{lawful, is_pulse, all_allowed, is_allowed, owed, next_phase, last_time, in_due_order, before_later, live as live_callbacks, posted_count}
 use Rattle.dash_script.specs.declared.script.Block.{Block}
 use Rattle.dash_script.specs.declared.script.Script.{Script}
@@ -37,7 +37,7 @@ use Rattle.run_model.specs.Moments.{in_lockstep}
 use Rattle.run_model.specs.Planned.{lines_of, labels_on}
 use Rattle.run_model.specs.Control.{InBlock, is_controlled, is_called_in_time, are_before_quit, befores, are_on_time}
 use Rattle.run_model.specs.Loopers.{Looper, Sent, first_looper, starts_frame}
-use Rattle.run_model.specs.Acts.{Lead, IsSent, MayCome, after_act, dispatched, millis_up}
+use Rattle.run_model.specs.Acts.{IsSent, MayCome, after_act, dispatched, millis_up}
 use Rattle.run_model.specs.Moves.{Move, moves, move_times, main_moves, is_planned_time, was_due_at, MayMoveTo}
 use Rattle.run_model.specs.FrameRuns.{is_frame_from, has_stamp, are_run_then, are_whole}
 use Rattle.run_model.specs.FrameAsks.{asks_in}
@@ -48,7 +48,7 @@ use Rattle.run_model.proofs.Below.{EachBelow, each_below}
 use Rattle.run_model.proofs.Parting.{can_ask_in_turn, asks_are_in_turn}
 use Rattle.run_model.proofs.ByTests.{answers, replies, are_timely, are_numbered, history_by, planned_calls, made_calls, thread_lines, MakesThem, calls_by}
 use Rattle.run_model.proofs.Examples.{queue, journal, page, handler_on, plain_script}
-use Rattle.run_model.proofs.RunBut.{Clause, Nothing, Asked, Stamps, Whole, Moments, Starts, Pulses, OnTime, Takes, Controls, BeforeQuit, Threads, Order, Blocks, Due, Together, number_of, Unless, with_pulses, with_stamps, made_but, IsFrameRunBut, IsLooperRunBut, IsTimelyBut, AreMovedBut, IsRunBut}
+use Rattle.run_model.proofs.RunBut.{Clause, Nothing, Asked, Stamps, Whole, Moments, Starts, Pulses, OnTime, Takes, Controls, BeforeQuit, Threads, Order, Blocks, Due, Together, number_of, Unless, with_pulses, with_stamps, made_but, before_act, LeadBut, IsFrameRunBut, IsLooperRunBut, IsTimelyBut, AreMovedBut, IsRunBut}
 use Rattle.run_model.proofs.RunBut as but
 
 -- ---- a report as data
@@ -170,7 +170,7 @@ act_may s q es fs frame a (Dispatch n now route) =
     is_some (post_at es n) && (not (is_some frame) || option_map_or (starts_frame q) (post_at es n) false) && is_frame_from fs a.place frame
     && has_stamp fs frame a.stamp
 act_may s q es fs frame a (Paint g v) = not (is_some frame)
-act_may s q es fs frame a (Vsync stamp) = is_clear frame a.painted && is_pulse s.period stamp
+act_may s q es fs frame a (Vsync stamp) = is_clear frame a.painted && is_pulse s.period stamp && comes_after a.stamp stamp
 act_may s q es fs frame a (Idle i k) = is_clear frame a.painted
 act_may s q es fs frame a (Event f e m) = is_clear frame a.painted
 
@@ -182,19 +182,20 @@ act_paints s q es fs frame a (Vsync stamp) = a.painted
 act_paints s q es fs frame a (Idle i k) = a.painted
 act_paints s q es fs frame a (Event f e m) = a.painted
 
-abbrev acts_may : Script → ℕ → List Entry → List FrameEntry → List (Option ℕ) → Looper → List Act → Bool
-acts_may s q es fs places a [] = true
-acts_may s q es fs places a (x ∷ xs) =
-    act_may s q es fs (place_first places) a x && acts_may s q es fs (behind_first places) (after_act s q es fs (place_first places) a x) xs
+abbrev acts_may : Clause → Script → ℕ → List Entry → List FrameEntry → List (Option ℕ) → Looper → List Act → Bool
+acts_may out s q es fs places a [] = true
+acts_may out s q es fs places a (x ∷ xs) =
+    act_may s q es fs (place_first places) (before_act out x a) x && acts_may out s q es fs (behind_first places) (after_act s q es fs (place_first places) a x) xs
 
-abbrev acts_paint : Script → ℕ → List Entry → List FrameEntry → List (Option ℕ) → Looper → List Act → List (List Act)
-acts_paint s q es fs places a [] = []
-acts_paint s q es fs places a (x ∷ xs) =
-    act_paints s q es fs (place_first places) a x ∷ acts_paint s q es fs (behind_first places) (after_act s q es fs (place_first places) a x) xs
+abbrev acts_paint : Clause → Script → ℕ → List Entry → List FrameEntry → List (Option ℕ) → Looper → List Act → List (List Act)
+acts_paint out s q es fs places a [] = []
+acts_paint out s q es fs places a (x ∷ xs) =
+    act_paints s q es fs (place_first places) (before_act out x a) x ∷ acts_paint out s q es fs (behind_first places) (after_act s q es fs (place_first places) a x) xs
 
-abbrev acts_painted : Script → ℕ → List Entry → List FrameEntry → List (Option ℕ) → Looper → List Act → List (List Act)
-acts_painted s q es fs places a [] = []
-acts_painted s q es fs places a (x ∷ xs) = a.painted ∷ acts_painted s q es fs (behind_first places) (after_act s q es fs (place_first places) a x) xs
+abbrev acts_painted : Clause → Script → ℕ → List Entry → List FrameEntry → List (Option ℕ) → Looper → List Act → List (List Act)
+acts_painted out s q es fs places a [] = []
+acts_painted out s q es fs places a (x ∷ xs) =
+    (before_act out x a).painted ∷ acts_painted out s q es fs (behind_first places) (after_act s q es fs (place_first places) a x) xs
 
 none_there : (o : Option ℕ) → not (is_some o) ≡ true → o ≡ None
 none_there None h = refl
@@ -216,21 +217,23 @@ may_come s q es fs frame a (Dispatch n now route) h painted =
     record { accepted = one.0; starts = one.1; place = two.1; stamped = three.1; painted = painted }
 may_come s q es fs frame a (Paint g v) h painted = none_there frame h
 may_come s q es fs frame a (Vsync stamp) h painted =
-    let two = and_parts (is_clear frame a.painted) (is_pulse s.period stamp) h in
-    let c = clear_parts frame a.painted two.0 in (c.0, c.1, two.1)
+    let three = and_parts (is_clear frame a.painted && is_pulse s.period stamp) (comes_after a.stamp stamp) h in
+    let two = and_parts (is_clear frame a.painted) (is_pulse s.period stamp) three.0 in
+    let c = clear_parts frame a.painted two.0 in (c.0, c.1, two.1, three.1)
 may_come s q es fs frame a (Idle i k) h painted = clear_parts frame a.painted h
 may_come s q es fs frame a (Event f e m) h painted = clear_parts frame a.painted h
 
-leads : (s : Script) (q : ℕ) (es : List Entry) (fs : List FrameEntry) (places : List (Option ℕ)) (a : Looper) (xs : List Act)
-    → acts_may s q es fs places a xs ≡ true → acts_paint s q es fs places a xs ≡ acts_painted s q es fs places a xs → Lead s q es fs a xs (led s q es fs places a xs)
-leads s q es fs places a [] h painted = refl
-leads s q es fs places a (x ∷ xs) h painted =
+leads : (out : Clause) (s : Script) (q : ℕ) (es : List Entry) (fs : List FrameEntry) (places : List (Option ℕ)) (a : Looper) (xs : List Act)
+    → acts_may out s q es fs places a xs ≡ true → acts_paint out s q es fs places a xs ≡ acts_painted out s q es fs places a xs → LeadBut out s q es fs a xs (led s q es fs places a xs)
+leads out s q es fs places a [] h painted = refl
+leads out s q es fs places a (x ∷ xs) h painted =
     let frame = place_first places in
     let next = after_act s q es fs frame a x in
-    let two = and_parts (act_may s q es fs frame a x) (acts_may s q es fs (behind_first places) next xs) h in
-    let now = firsts (act_paints s q es fs frame a x) a.painted (acts_paint s q es fs (behind_first places) next xs) (acts_painted s q es fs (behind_first places) next xs) painted in
-    let later = others (act_paints s q es fs frame a x) a.painted (acts_paint s q es fs (behind_first places) next xs) (acts_painted s q es fs (behind_first places) next xs) painted in
-    (frame, (may_come s q es fs frame a x two.0 now, leads s q es fs (behind_first places) next xs two.1 later))
+    let before = before_act out x a in
+    let two = and_parts (act_may s q es fs frame before x) (acts_may out s q es fs (behind_first places) next xs) h in
+    let now = firsts (act_paints s q es fs frame before x) before.painted (acts_paint out s q es fs (behind_first places) next xs) (acts_painted out s q es fs (behind_first places) next xs) painted in
+    let later = others (act_paints s q es fs frame before x) before.painted (acts_paint out s q es fs (behind_first places) next xs) (acts_painted out s q es fs (behind_first places) next xs) painted in
+    (frame, (may_come s q es fs frame before x two.0 now, leads out s q es fs (behind_first places) next xs two.1 later))
 
 -- ---- the calls of a looper
 
@@ -321,8 +324,8 @@ found_in out s queues n row =
       planned = down_from s.threads (λ thread. planned_calls s (labels_on n (lines_of thread s.blocks)) n [] (thread_lines s n thread) (entries_by thread es));
       controlled = is_controlled q.main q.lockstep (controller s) s.end es;
       lawful = lawful s.period (phase_count s.edition) row.frames;
-      acts = acts_may (with_pulses out s) n es (with_stamps out row.frames) row.places (first_looper s) row.acts;
-      painted = acts_paint (with_pulses out s) n es (with_stamps out row.frames) row.places (first_looper s) row.acts;
+      acts = acts_may out (with_pulses out s) n es (with_stamps out row.frames) row.places (first_looper s) row.acts;
+      painted = acts_paint out (with_pulses out s) n es (with_stamps out row.frames) row.places (first_looper s) row.acts;
       left = final.painted;
       dispatches = kept out Takes (filter_map act_dispatch row.acts);
       calls = kept out Takes (map (λ r. entries_for [] (caused_by out s n row r) (entries_there s n r)) queues);
@@ -349,7 +352,7 @@ wanted_in out s queues n row =
       controlled = true;
       lawful = true;
       acts = true;
-      painted = acts_painted (with_pulses out s) n es (with_stamps out row.frames) row.places (first_looper s) row.acts;
+      painted = acts_painted out (with_pulses out s) n es (with_stamps out row.frames) row.places (first_looper s) row.acts;
       left = [];
       dispatches = kept out Takes (filter_map (λ e. call_dispatch e.call e.reply) (entries_there s n (queue_in s n row)));
       calls = kept out Takes (map (λ r. map plain_entry (entries_there s n r)) queues);
@@ -397,7 +400,7 @@ looper_of out s queues n row e =
       };
       looper = record {
         final = final;
-        acts = leads (with_pulses out s) n es (with_stamps out row.frames) row.places (first_looper s) row.acts (ap (λ (t : LooperTest). t.acts) e) (ap (λ (t : LooperTest). t.painted) e);
+        acts = leads out (with_pulses out s) n es (with_stamps out row.frames) row.places (first_looper s) row.acts (ap (λ (t : LooperTest). t.acts) e) (ap (λ (t : LooperTest). t.painted) e);
         settled = ap (λ (t : LooperTest). t.left) e;
         dispatches = kept_same (number_of out == number_of Takes) (filter_map act_dispatch row.acts) (filter_map (λ x. call_dispatch x.call x.reply) (entries_there s n q)) _ (λ same. same) (ap (λ (t : LooperTest). t.dispatches) e);
         disposed_at = row.disposed_at;

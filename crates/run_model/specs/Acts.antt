@@ -8,6 +8,7 @@ use Rattle.loop_model.specs.declared.entry.Entry.{Entry}
 use Rattle.loop_model.specs.Posts.{post_at}
 use Rattle.frame_phases.specs.declared.entry.FrameEntry.{FrameEntry}
 use Rattle.frame_phases.specs.Frames.{is_pulse}
+use Rattle.frame_phases.specs.Pulses.{comes_after}
 use Rattle.dash_script.specs.declared.script.Script.{Script}
 use Rattle.loop_model.specs.declared.journal.Act.{Act}
 use Rattle.loop_model.specs.declared.journal.Act.TheVariants.{Dispatch, Idle, Event, Vsync, Paint}
@@ -55,12 +56,12 @@ pub record MayDispatch (s : Script) (q : ℕ) (es : List Entry) (fs : List Frame
   pub stamped : has_stamp fs frame a.stamp ≡ true
   pub painted : (dispatched s q fs frame n now a (post_at es n)).painted ≡ a.painted
 
--- the act may come next: paints stand nowhere but just before the dispatch that makes them, and a pulse comes at a positive multiple of the period, or at the
--- greatest u64
+-- the act may come next: paints stand nowhere but just before the dispatch that makes them. A pulse comes at a positive multiple of the period, or at the
+-- greatest u64, and after the pulse before it
 abbrev pub MayCome : Script → ℕ → List Entry → List FrameEntry → Option ℕ → Looper → Act → Type 0
 MayCome s q es fs frame a (Dispatch n now route) = MayDispatch s q es fs frame a n now
 MayCome s q es fs frame a (Paint g v) = frame ≡ None
-MayCome s q es fs frame a (Vsync stamp) = (frame ≡ None) × (a.painted ≡ []) × (is_pulse s.period stamp ≡ true)
+MayCome s q es fs frame a (Vsync stamp) = (frame ≡ None) × (a.painted ≡ []) × (is_pulse s.period stamp ≡ true) × (comes_after a.stamp stamp ≡ true)
 MayCome s q es fs frame a _ = (frame ≡ None) × (a.painted ≡ [])
 
 -- the acts lead a looper from one state to another

@@ -1,7 +1,13 @@
 use Rattle.std.proofs.Common.{rules}
 use Rattle.choreographer.proofs.ByTurn.{turned}
 use Rattle.choreographer.proofs.Quiet.{grows_prefix}
+use Rattle.choreographer.proofs.Stamps.{stamped_due}
 use Rattle.choreographer.proofs.state.Choreographer.due_turn.Goals as goal
+
+pub give-requires-clause-stamped : goal.give-requires-clause-stamped
+give-requires-clause-stamped g c =
+    let e = c.schedule_due-did.ensures in
+    stamped_due c.take-state.result c.schedule_due-did.new.self c.take-state.ensures.stamped c.args.now c.schedule_due-did.result e.after e.quiet e.stamp
 
 pub returns : goal.returns
 returns g c =

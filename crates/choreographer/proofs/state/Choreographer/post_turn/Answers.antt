@@ -1,7 +1,13 @@
 use Rattle.std.proofs.Common.{rules}
 use Rattle.choreographer.proofs.ByTurn.{turned}
 use Rattle.choreographer.proofs.Quiet.{grows_prefix}
+use Rattle.choreographer.proofs.Stamps.{stamped_posted}
 use Rattle.choreographer.proofs.state.Choreographer.post_turn.Goals as goal
+
+pub give-requires-clause-stamped : goal.give-requires-clause-stamped
+give-requires-clause-stamped g c =
+    let e = c.post-answer.ensures in
+    let a = c.args.asked in stamped_posted c.take-state.result c.post-answer.new.self c.take-state.ensures.stamped a.phase a.due a.id a.token c.args.now c.post-answer.result e.after e.err e.quiet e.stamp
 
 pub returns : goal.returns
 returns g c =

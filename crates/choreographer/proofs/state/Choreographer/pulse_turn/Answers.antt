@@ -3,7 +3,7 @@ use Rattle.choreographer.specs.Plays.{Sat, MayPulse}
 use Rattle.choreographer.specs.Known.{Known}
 use Rattle.choreographer.proofs.ByTurn.{turned, may_pulse}
 use Rattle.choreographer.proofs.Quiet.{grows_prefix}
-use Rattle.choreographer.proofs.Latest.{pulse_gets}
+use Rattle.choreographer.proofs.Latest.{pulse_gets, pulse_comes_after}
 use Rattle.choreographer.proofs.state.Choreographer.pulse_turn.Goals as goal
 
 pub returns-clause-turn : goal.returns-clause-turn
@@ -28,3 +28,8 @@ give-requires-clause-latest g c =
 pub returns-clause-stamp : goal.returns-clause-stamp
 returns-clause-stamp g c =
     let t = returns-clause-turn g c in pulse_gets c.args.pass.now _ t.0 t.1 c.deliver-pulse.result t.2 t.4
+
+pub returns-clause-later : goal.returns-clause-later
+unfolding returns-clause-turn
+returns-clause-later g c =
+    let t = returns-clause-turn g c in pulse_comes_after c.args.pass.now _ t.0 t.1 c.args.now c.deliver-pulse.result t.2 c.take-state.ensures.stamped t.3

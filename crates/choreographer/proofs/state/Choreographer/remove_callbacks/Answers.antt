@@ -1,7 +1,13 @@
 use Rattle.std.proofs.Common.{rules}
 use Rattle.choreographer.proofs.ByTurn.{turned}
 use Rattle.choreographer.proofs.Quiet.{grows_prefix}
+use Rattle.choreographer.proofs.Stamps.{stamped_removed}
 use Rattle.choreographer.proofs.state.Choreographer.remove_callbacks.Goals as goal
+
+pub give-requires-clause-stamped : goal.give-requires-clause-stamped
+give-requires-clause-stamped g c =
+    let e = c.remove-answer.ensures in
+    stamped_removed c.take-state.result c.remove-answer.new.self c.take-state.ensures.stamped c.args.phase c.args.id c.args.token c.remove-answer.result e.after e.err e.quiet e.stamp
 
 pub returns : goal.returns
 returns g c =

@@ -4,12 +4,12 @@ use Rattle.loop_model.proofs.Prefixes.{prefix_self}
 use Rattle.choreographer.specs.Plays.{Sat, MaySeal}
 use Rattle.choreographer.specs.Known.{Known, IsTurn}
 use Rattle.choreographer.proofs.ByTurn.{turned, holds_last, may_seal, same_gives, hands_more, part_handed}
-use Rattle.choreographer.proofs.Stamps.{stamped_same}
+use Rattle.choreographer.proofs.Stamps.{stamped_sealed}
 use Rattle.choreographer.proofs.state.Choreographer.seal.Goals as goal
 
 pub give-requires-clause-stamped : goal.give-requires-clause-stamped
 give-requires-clause-stamped g c =
-    stamped_same c.take-state.result c.seal-answer.new.self c.take-state.ensures.stamped c.seal-answer.ensures.quiet.0 c.seal-answer.ensures.quiet.1 c.seal-answer.ensures.stamp
+    stamped_sealed c.take-state.result c.seal-answer.new.self c.take-state.ensures.stamped c.seal-answer.result c.seal-answer.ensures.seals c.seal-answer.ensures.stamp
 
 pub give-requires-clause-state : goal.give-requires-clause-state
 give-requires-clause-state g c =

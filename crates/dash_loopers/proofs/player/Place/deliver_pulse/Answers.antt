@@ -5,7 +5,7 @@ use Rattle.dash_hall.specs.Hosts.{origin_now}
 use Rattle.frame_phases.specs.Pulses.{is_pulse_if_any}
 use Rattle.choreographer.specs.Calls.{stamp_in}
 use Rattle.dash_loopers.proofs.LooperPlaces.{its_period, may_deliver}
-use Rattle.dash_loopers.proofs.LatestPulses.{gets_latest}
+use Rattle.dash_loopers.proofs.LatestPulses.{gets_latest, comes_later}
 use Rattle.dash_loopers.proofs.PlaySteps.{pulse_here, pulse_hosted}
 use Rattle.dash_loopers.proofs.LooperClock.{untimed_same, pulse_untimed_hosted}
 use Rattle.dash_loopers.proofs.player.Place.deliver_pulse.Goals as goal
@@ -47,3 +47,6 @@ deliver-requires-clause-delivers g c =
 
 pub returns-clause-latest : goal.returns-clause-latest
 returns-clause-latest g c = gets_latest c.args.parts.now.frames c.deliver.new.pass (stamp_in c.deliver.result) c.deliver.ensures.pass c.deliver.ensures.stamp
+
+pub returns-clause-later : goal.returns-clause-later
+returns-clause-later g c = comes_later c.args.parts.now.frames (stamp_in c.deliver.result) c.deliver.ensures.later

@@ -17,4 +17,4 @@ returns-else-is_wanting-clause-pulses g c =
     let own = c.deliver_pulse.new.own in
     unless_made c.did.result c.tell.result _ _ c.did.ensures.no c.did.ensures.yes c.tell.ensures.told
     (pulse_told c.args.self.now.script.now c.args.self.now.looper c.args.now (calls_of old.poster.now) (calls_of own.poster.now) c.args.parts.now c.deliver_pulse.new.parts old.journal.now.acts own.journal.now.acts c.tell.new.journal.acts c.in-Some.pulse
-    c.in-Some.ensures.is_pulse c.in-Some.ensures.pulses (c.is_wanting.ensures c.if-is_wanting.false) c.in-Some.ensures.latest c.deliver_pulse.ensures.acts)
+    c.in-Some.ensures.is_pulse c.in-Some.ensures.pulses (c.is_wanting.ensures c.if-is_wanting.false) c.in-Some.ensures.latest c.in-Some.ensures.later c.deliver_pulse.ensures.acts)

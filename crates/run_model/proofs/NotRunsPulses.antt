@@ -1,0 +1,63 @@
+-- Reports that are no runs of their script: pulses don't rise.
+use Rattle.std.proofs.Common.{ℕ, List, [], ◌∷◌, Some, None, refl}
+use Rattle.std.specs.List.{AllByRecursion}
+use Rattle.loop_model.specs.declared.call.Call.TheVariants as call
+use Rattle.loop_model.specs.declared.reply.Reply.TheVariants as reply
+use Rattle.loop_model.specs.declared.journal.Act.TheVariants as act
+use Rattle.frame_phases.specs.declared.entry.FrameEntry.TheVariants as frame
+use Rattle.dash_script.specs.declared.script.Command.TheVariants as command
+use Rattle.dash_script.specs.declared.script.Script.{Script}
+use Rattle.run_model.proofs.Examples.{entry, frame_message, handler_on, block, by, plain_script, callback}
+use Rattle.run_model.proofs.RunBut as but
+use Rattle.run_model.proofs.Table.{Row, computing}
+use Rattle.run_model.proofs.OneFault.{Faulty, faulty, Fails, each_fails}
+use Rattle.run_model.proofs.NotRuns.{dispatch}
+use Rattle.run_model.proofs.NotRunsFrames.{main_tells_asked, told_by_run}
+
+-- a thread posts one frame callback
+abbrev one_callback : ℕ → Script
+one_callback end = plain_script 1 1 (handler_on 0 ∷ []) (block 10 (by 0 (command.Frame 0 0 8 0) ∷ []) ∷ []) end
+
+-- the pulse of 16666667 comes twice, and starts a frame each time
+abbrev twice : Row
+twice = record {
+  entries = entry 2 0 (call.Advance 10) reply.Advanced ∷ entry 2 1 (call.Advance 17) reply.Advanced
+      ∷ entry 1 0 (call.Post (frame_message 0 16 None)) (reply.Accepted 0) ∷ entry 1 1 (call.Next 17) (reply.Dispatched 0)
+      ∷ entry 1 2 (call.Post (frame_message 0 16 None)) (reply.Accepted 1) ∷ entry 1 3 (call.Next 17) (reply.Dispatched 1)
+      ∷ entry 2 2 (call.Advance 20) reply.Advanced ∷ entry 2 3 (call.Halt 20) reply.Halted ∷ [];
+  acts = act.Vsync 16666667 ∷ dispatch 0 17 ∷ act.Vsync 16666667 ∷ dispatch 1 17 ∷ [];
+  frames = frame.Posted (callback 0 0 10 8) ∷ frame.Begin 16666667 17000000 16666667 ∷ frame.Take 0 17000000 16666667 ∷ frame.Ran 0
+      ∷ frame.Take 1 17000000 16666667 ∷ frame.Take 2 17000000 16666667 ∷ frame.Take 3 17000000 16666667
+      ∷ frame.Begin 16666667 17000000 16666667 ∷ frame.Take 0 17000000 16666667 ∷ frame.Take 1 17000000 16666667 ∷ frame.Take 2 17000000 16666667
+      ∷ frame.Take 3 17000000 16666667 ∷ [];
+  places = None ∷ Some 1 ∷ None ∷ Some 7 ∷ [];
+  disposed_at = 0;
+}
+
+-- the pulse of 33333334 comes before that of 16666667, both at 34, and each starts a frame
+abbrev backwards : Row
+backwards = record {
+  entries = entry 2 0 (call.Advance 10) reply.Advanced ∷ entry 2 1 (call.Advance 34) reply.Advanced
+      ∷ entry 1 0 (call.Post (frame_message 0 33 None)) (reply.Accepted 0) ∷ entry 1 1 (call.Post (frame_message 0 16 None)) (reply.Accepted 1)
+      ∷ entry 1 2 (call.Next 34) (reply.Dispatched 1) ∷ entry 1 3 (call.Next 34) (reply.Dispatched 0)
+      ∷ entry 2 2 (call.Advance 40) reply.Advanced ∷ entry 2 3 (call.Halt 40) reply.Halted ∷ [];
+  acts = act.Vsync 33333334 ∷ act.Vsync 16666667 ∷ dispatch 1 34 ∷ dispatch 0 34 ∷ [];
+  frames = frame.Posted (callback 0 0 10 8) ∷ frame.Begin 16666667 34000000 33333334 ∷ frame.Take 0 34000000 33333334 ∷ frame.Ran 0
+      ∷ frame.Take 1 34000000 33333334 ∷ frame.Take 2 34000000 33333334 ∷ frame.Take 3 34000000 33333334
+      ∷ frame.Begin 16666667 34000000 33333334 ∷ frame.Take 0 34000000 33333334 ∷ frame.Take 1 34000000 33333334 ∷ frame.Take 2 34000000 33333334
+      ∷ frame.Take 3 34000000 33333334 ∷ [];
+  places = None ∷ None ∷ Some 1 ∷ Some 7 ∷ [];
+  disposed_at = 0;
+}
+
+abbrev not_rising : List Faulty
+not_rising =
+    -- one pulse is delivered twice
+    faulty but.Rising (one_callback 20) (twice ∷ [])
+    -- pulses come out of order
+    ∷ faulty but.Rising (one_callback 40) (backwards ∷ [])
+    ∷ []
+
+pub not_rising_fail : AllByRecursion Fails not_rising
+unfolding computing
+not_rising_fail = each_fails main_tells_asked told_by_run not_rising refl refl
