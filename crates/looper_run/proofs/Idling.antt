@@ -24,44 +24,44 @@ grows_one P a b c x p (did, e, all) is =
 pub grows_idle : (a b c : List Act) (i : ℕ) (k : Bool) → GrowsBy IsIdle a b → c ≡ b ++ Idle i k ∷ [] → GrowsBy IsIdle a c
 grows_idle a b c i k before is = grows_one IsIdle a b c (Idle i k) tt before is
 
-module _ {D : Type 0} {O : Type 0} (Serves : D → Workplace → Type 0) (origin : D → O) (nudges : D → ℕ) (asked : D → Option (List Asked)) (Awaits : D → Option ℕ → Type 0) (Meets : D → ℕ → List Entry → List Act → Type 0) where
-  pub carries_none : (d : D) (acts : List Act) → CarriesOver Serves origin nudges asked Awaits Meets d d acts acts
-  carries_none d acts = record { serving = λ w h. h; from = refl; rung = refl; telling = refl; awaiting = λ awaited h. h; meeting = λ s es h. h }
+module _ {D : Type 0} {O : Type 0} (Works : D → Workplace → Type 0) (source : D → O) (count : D → ℕ) (told : D → Option (List Asked)) (Awaiting : D → Option ℕ → Type 0) (Passing : D → ℕ → List Entry → List Act → Type 0) where
+  pub carries_none : (d : D) (acts : List Act) → CarriesOver Works source count told Awaiting Passing d d acts acts
+  carries_none d acts = record { serves = λ w h. h; origin = refl; nudges = refl; asked = refl; awaits = λ awaited h. h; meets = λ s es h. h }
 
   -- a call, and then a quiet act
-  pub carries_one : (d e f : D) (a b c : List Act) (x : Act) → IsQuiet x → ((s : ℕ) (es : List Entry) → Meets f s es b → Meets f s es (b ++ x ∷ []))
-      → CarriesOver Serves origin nudges asked Awaits Meets d e a b → Carries Serves origin nudges asked Awaits Meets e f → c ≡ b ++ x ∷ []
-      → CarriesOver Serves origin nudges asked Awaits Meets d f a c
-  carries_one d e f a b c x is law p q told =
+  pub carries_one : (d e f : D) (a b c : List Act) (x : Act) → IsQuiet x → ((s : ℕ) (es : List Entry) → Passing f s es b → Passing f s es (b ++ x ∷ []))
+      → CarriesOver Works source count told Awaiting Passing d e a b → Carries Works source count told Awaiting Passing e f → c ≡ b ++ x ∷ []
+      → CarriesOver Works source count told Awaiting Passing d f a c
+  carries_one d e f a b c x is law p q noted =
       let r = q b in
       record {
-        serving = λ w h. r.serving w (p.serving w h);
-        from = r.from ∙ p.from;
-        rung = r.rung ∙ p.rung;
-        telling = r.telling ∙ p.telling;
-        awaiting = λ awaited h. r.awaiting awaited (p.awaiting awaited h);
-        meeting = λ s es h. subst (λ (l : List Act). Meets f s es l) (sym told) (law s es (r.meeting s es (p.meeting s es h)));
+        serves = λ w h. r.serves w (p.serves w h);
+        origin = r.origin ∙ p.origin;
+        nudges = r.nudges ∙ p.nudges;
+        asked = r.asked ∙ p.asked;
+        awaits = λ awaited h. r.awaits awaited (p.awaits awaited h);
+        meets = λ s es h. subst (λ (l : List Act). Passing f s es l) (sym noted) (law s es (r.meets s es (p.meets s es h)));
       }
 
-  pub carries_then : (d e f : D) (a b : List Act) → CarriesOver Serves origin nudges asked Awaits Meets d e a b → Carries Serves origin nudges asked Awaits Meets e f → CarriesOver Serves origin nudges asked Awaits Meets d f a b
+  pub carries_then : (d e f : D) (a b : List Act) → CarriesOver Works source count told Awaiting Passing d e a b → Carries Works source count told Awaiting Passing e f → CarriesOver Works source count told Awaiting Passing d f a b
   carries_then d e f a b p q =
       let r = q b in
       record {
-        serving = λ w h. r.serving w (p.serving w h);
-        from = r.from ∙ p.from;
-        rung = r.rung ∙ p.rung;
-        telling = r.telling ∙ p.telling;
-        awaiting = λ awaited h. r.awaiting awaited (p.awaiting awaited h);
-        meeting = λ s es h. r.meeting s es (p.meeting s es h);
+        serves = λ w h. r.serves w (p.serves w h);
+        origin = r.origin ∙ p.origin;
+        nudges = r.nudges ∙ p.nudges;
+        asked = r.asked ∙ p.asked;
+        awaits = λ awaited h. r.awaits awaited (p.awaits awaited h);
+        meets = λ s es h. r.meets s es (p.meets s es h);
       }
 
   -- an idle handler that ran and was told
-  pub carries_idle : (d e f : D) (a b c : List Act) (i : ℕ) (k : Bool) → ((s : ℕ) (es : List Entry) (x : Act) (acts : List Act) → IsQuiet x → Meets f s es acts → Meets f s es (acts ++ x ∷ []))
-      → CarriesOver Serves origin nudges asked Awaits Meets d e a b → Carries Serves origin nudges asked Awaits Meets e f → c ≡ b ++ Idle i k ∷ []
-      → CarriesOver Serves origin nudges asked Awaits Meets d f a c
-  carries_idle d e f a b c i k law p q told = carries_one d e f a b c (Idle i k) tt (λ s es. law s es (Idle i k) b tt) p q told
+  pub carries_idle : (d e f : D) (a b c : List Act) (i : ℕ) (k : Bool) → ((s : ℕ) (es : List Entry) (x : Act) (acts : List Act) → IsQuiet x → Passing f s es acts → Passing f s es (acts ++ x ∷ []))
+      → CarriesOver Works source count told Awaiting Passing d e a b → Carries Works source count told Awaiting Passing e f → c ≡ b ++ Idle i k ∷ []
+      → CarriesOver Works source count told Awaiting Passing d f a c
+  carries_idle d e f a b c i k law p q noted = carries_one d e f a b c (Idle i k) tt (λ s es. law s es (Idle i k) b tt) p q noted
 
   -- a call behind which nothing was told
-  pub carries_still : (d e f : D) (a b c : List Act) → CarriesOver Serves origin nudges asked Awaits Meets d e a b → Carries Serves origin nudges asked Awaits Meets e f → c ≡ b
-      → CarriesOver Serves origin nudges asked Awaits Meets d f a c
-  carries_still d e f a b c p q same = subst (λ (l : List Act). CarriesOver Serves origin nudges asked Awaits Meets d f a l) (sym same) (carries_then d e f a b p q)
+  pub carries_still : (d e f : D) (a b c : List Act) → CarriesOver Works source count told Awaiting Passing d e a b → Carries Works source count told Awaiting Passing e f → c ≡ b
+      → CarriesOver Works source count told Awaiting Passing d f a c
+  carries_still d e f a b c p q same = subst (λ (l : List Act). CarriesOver Works source count told Awaiting Passing d f a l) (sym same) (carries_then d e f a b p q)

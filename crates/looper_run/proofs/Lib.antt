@@ -12,3 +12,4 @@ pub mod Acting
 pub mod Rounds
 pub mod Sleeping
 pub mod Pausing
+pub mod Keeping

@@ -19,7 +19,7 @@ use Rattle.looper_run.specs.Holding.{Sender, Holding, Looping, IsAt}
 use Rattle.looper_run.specs.Asked.{Asked, Listening, Listen, with_asked, asked_by_round}
 use Rattle.looper_run.specs.Tests.{Test, Passes}
 use Rattle.looper_run.specs.Looks.{looked_by, by_poster, HasAnswer, HasEnded, IsBegun, WaitsAsTold}
-use Rattle.looper_run.specs.Loops.{WorksOn, HasStepped, HasPaused, Stepped, IsClosed, StepsBy, IsLoop, LastWait, LoopBy, LoopsOrGoes, StepsOrGoes, IsLoopOrGoes, Pauses, loop_of, pace_of, HasPaced, UnlessHalted, IsNoWait}
+use Rattle.looper_run.specs.Loops.{WorksOn, HasStepped, HasPaused, Stepped, IsClosed, StepsBy, IsLoop, LastWait, LoopBy, LoopsOrGoes, StepsOrGoes, IsLoopOrGoes, Pauses, loop_of, pace_of, HasPaced, UnlessHalted, UnlessLost, IsNoWait}
 use Rattle.looper_run.specs.Round.{UnlessStopped}
 use Rattle.looper_run.proofs.Asking.{tells_as, with_more}
 use Rattle.looper_run.proofs.Quiet.{quiet_events}
@@ -201,6 +201,10 @@ unless_paced P step.Idled h = h
 unless_paced P (step.Waits until) h = h
 unless_paced P step.Ends h = h
 unless_paced P step.NoMemory h = tt
+
+pub unless_pauses : (P : Type 0) (r : Pause) → P → UnlessLost (loop_of r) P
+unless_pauses P (pause.Cap now) h = h
+unless_pauses P pause.Nudged h = h
 
 -- that the looper is marked as ended is no part of a step
 pub steps_marked : (shows : ℕ → Bool) (start : ℕ) (cap : Option ℕ) (a b : Looping) → HasStepped shows start cap a b step.Ends → HasStepped shows start cap a (record { held = b.held; idle_owed = b.idle_owed; ended = true }) step.Ends

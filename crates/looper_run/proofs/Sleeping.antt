@@ -25,7 +25,7 @@ use Rattle.looper_run.proofs.Looking.{works_dispatching, works_idling, works_wai
 pub still_of : (a b : Holding) → IsSameLooper a b → IsStill a b
 still_of a b s = record { table = s.table; sender = s.sender; constants = s.constants; turns = s.turns; home = s.home; looper = s.looper }
 
-still_self : (a : Holding) → IsStill a a
+pub still_self : (a : Holding) → IsStill a a
 still_self a = record { table = refl; sender = refl; constants = refl; turns = omega arith; home = refl; looper = refl }
 
 pub still_then : (a b c : Holding) → IsStill a b → IsStill b c → IsStill a c

@@ -6,7 +6,6 @@ use Rattle.loop_model.specs.declared.journal.Act.TheVariants.{Dispatch, Idle, Ev
 use Rattle.loop_model.specs.declared.call.Call.{Call}
 use Rattle.loop_model.specs.declared.call.Call.TheVariants.{Next}
 use Rattle.loop_model.specs.declared.entry.Entry.{Entry}
-use Rattle.loop_sources.specs.declared.idle.IdleTurn.{IdleTurn}
 use Rattle.loop_model.specs.Base.{empty_base}
 use Rattle.loop_model.specs.Answers.{Setting, clock}
 use Rattle.loop_model.specs.Entries.{is_next}
@@ -47,10 +46,6 @@ IsOfDispatcher (Paint g v) = Unit {0}
 -- acts of this kind were appended
 abbrev pub GrowsBy : (Act → Type 0) → List Act → List Act → Type 0
 GrowsBy P before after = (did : List Act) × (after ≡ before ++ did) × All P did
-
--- the act of an idle turn
-abbrev pub idle_act : IdleTurn → Act
-idle_act t = Idle t.id t.keep
 
 -- the entry is another sender's, or no look for a message
 abbrev pub IsNoLookOf : ℕ → Entry → Type 0

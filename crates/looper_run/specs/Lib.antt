@@ -1,8 +1,9 @@
 pub mod Holding
 pub mod Acts
 pub mod Asked
-pub mod Carried
 pub mod Tests
+pub mod Carried
+pub mod Ready
 pub mod Told
 pub mod Looks
 pub mod Round

@@ -38,6 +38,12 @@ pub record HasAnswer (M : Test) (l : Looping) (answer : Nexted Claimed TableId) 
   pub look : NextedBy poster l.held.poster now l.idle_owed answer
   pub passes : Passes M (looked_by l.held poster)
 
+-- so it was at a queue whose messages are of this pool, which its pass is of, too
+pub record IsAnswered (M : Test) (home : TableId) (l : Looping) (answer : Nexted Claimed TableId) : Type 0 where
+  pub pool : l.held.pass.home ≡ home
+  pub of_pool : IsAnswerOf home answer
+  pub look : HasAnswer M l answer
+
 -- a look took a message; it was dispatched, told and recycled, and an idle turn is owed again
 pub record HasDispatched (now : ℕ) (before after : Looping) : Type 0 where
   pub looked : Sender

@@ -80,10 +80,6 @@ pub record IsUntouched (before after : Holding) : Type 0 where
   pub turns : after.poster.view.turns ≡ before.poster.view.turns
   pub acts : after.journal.acts ≡ before.journal.acts
 
--- nothing was touched, and the message that was taken is still to be handled
-abbrev pub LeavesTaken : Test → Holding → Holding → Node → ℕ → Type 0
-LeavesTaken M before after m now = IsUntouched before after × HasTaken M after m now
-
 -- the first where the message was intercepted, and the second where it is to be handled
 abbrev pub Intercepts : Did → Type 0 → Type 0 → Type 0
 Intercepts Yes P Q = P
@@ -93,7 +89,3 @@ Intercepts NoMemory P Q = Unit {0}
 -- this holds of the claim that the looper's poster saw accepted with the message's number
 abbrev pub SawClaim : (Option Claimed → Type 0) → Sender → Node → Type 0
 SawClaim P poster m = (claim : Option Claimed) × (slice_get poster.view.claims (number_in m.item) ≡ Some claim) × P claim
-
--- what held of a claim still does where the message is to be handled
-abbrev pub KeepsClaim : Did → (Option Claimed → Type 0) → (Option Claimed → Type 0) → Type 0
-KeepsClaim did P Q = did ≡ No → (claim : Option Claimed) → P claim → Q claim

@@ -1,9 +1,10 @@
 //! A looper that waits by a clock.
-ghost use Rattle.std.specs.Prelude.{◌≡◌, false, map, None, OnOk, IfOk, IfErr};
+ghost use Rattle.std.specs.Prelude.{◌≡◌, false, map, OnOk, IfOk, IfErr};
 ghost use Rattle.atomic_table.specs.Seated.{TableId};
-ghost use Rattle.looper_run.specs.Holding.{Workplace, workplace, IsAt};
+ghost use Rattle.looper_run.specs.Holding.{IsAt};
 ghost use Rattle.looper_run.specs.Asked.{Listen, with_asked, AsksByLoop};
-ghost use Rattle.looper_run.specs.Tests.{Passes, Rings};
+ghost use Rattle.looper_run.specs.Carried.{CarriesOver, KeepsLooper, unasked};
+ghost use Rattle.looper_run.specs.Ready.{RestsBetween, ServesBetween, MayRun};
 ghost use Rattle.looper_run.specs.Looks.{IsAnswerOf};
 ghost use Rattle.looper_run.specs.Loops.{IsStill, HasPaced, pace_of, UnlessHalted, IsClosed, StepsBy, IsLoop, LoopBy, is_over, UnlessLost, LoopsOrGoes, StepsOrGoes, IsLoopOrGoes, UnlessLostThen, is_over_then, Answers, IsNoWait, Pauses, loop_of};
 ghost use Rattle.shared_queue.specs.Waiting.{WaitsAtHome};
@@ -119,20 +120,13 @@ impl<E: Recorder, P: Payload> Looper<E, P> {
         d: &mut D,
         by: &ByClock<C>,
     ) -> Loop
-        requires going { self.old.ended ≡ false }
-        requires at { IsAt queue.now pool.now self.old.held }
+        requires looper { MayRun queue.now pool.now self.old }
         requires free { queue.now.constants.setting.lockstep ≡ false }
-        requires serves { D.Serves d.old (workplace self.old.held) }
-        requires awaits { D.Awaits d.old None }
-        requires meets { Passes (D.Meets d.old) self.old.held }
-        ensures same { IsStill self.old.held self.new.held }
-        ensures serves { (w : Workplace) → D.Serves d.old w → D.Serves d.new w }
-        ensures origin { D.origin d.new ≡ D.origin d.old }
-        ensures nudges { Rings self.old.held.poster self.new.held.poster (D.nudges d.old) (D.nudges d.new) }
+        requires ready { ServesBetween D.Serves D.Awaits D.Meets d.old self.old.held }
+        ensures keeps { KeepsLooper D.Serves D.origin D.nudges unasked IsStill d.old d.new self.old.held self.new.held }
         ensures loops { LoopBy (C.shows by.now.clock.now) by.now.start by.now.cap queue.now.constants.setting self.old.held self.new.held result }
         ensures steps { IsLoop (AsksByLoop (D.asked d.old) (D.asked d.new)) (C.shows by.now.clock.now) by.now.start by.now.cap self.old self.new result }
-        ensures meets { UnlessLost result (Passes (D.Meets d.new) self.new.held) }
-        ensures awaits { UnlessLost result (D.Awaits d.new None) }
+        ensures rests { UnlessLost result (RestsBetween D.Awaits D.Meets d.new self.new.held) }
         ensures ended { self.new.ended ≡ is_over result }
     {
         let now = by.clock.uptime_millis().saturating_sub(by.start);
@@ -155,20 +149,13 @@ impl<E: Recorder, P: Payload> Looper<E, P> {
         by: &ByClock<C>,
         most: u64,
     ) -> Option<Loop>
-        requires going { self.old.ended ≡ false }
-        requires at { IsAt queue.now pool.now self.old.held }
+        requires looper { MayRun queue.now pool.now self.old }
         requires free { queue.now.constants.setting.lockstep ≡ false }
-        requires serves { D.Serves d.old (workplace self.old.held) }
-        requires awaits { D.Awaits d.old None }
-        requires meets { Passes (D.Meets d.old) self.old.held }
-        ensures same { IsStill self.old.held self.new.held }
-        ensures serves { (w : Workplace) → D.Serves d.old w → D.Serves d.new w }
-        ensures origin { D.origin d.new ≡ D.origin d.old }
-        ensures nudges { Rings self.old.held.poster self.new.held.poster (D.nudges d.old) (D.nudges d.new) }
+        requires ready { ServesBetween D.Serves D.Awaits D.Meets d.old self.old.held }
+        ensures keeps { KeepsLooper D.Serves D.origin D.nudges unasked IsStill d.old d.new self.old.held self.new.held }
         ensures loops { LoopsOrGoes (C.shows by.now.clock.now) by.now.start by.now.cap queue.now.constants.setting self.old.held self.new.held result }
         ensures steps { IsLoopOrGoes (AsksByLoop (D.asked d.old) (D.asked d.new)) (C.shows by.now.clock.now) by.now.start by.now.cap most self.old self.new result }
-        ensures meets { UnlessLostThen result (Passes (D.Meets d.new) self.new.held) }
-        ensures awaits { UnlessLostThen result (D.Awaits d.new None) }
+        ensures rests { UnlessLostThen result (RestsBetween D.Awaits D.Meets d.new self.new.held) }
         ensures ended { self.new.ended ≡ is_over_then result }
     {
         let now = by.clock.uptime_millis().saturating_sub(by.start);
@@ -188,21 +175,14 @@ impl<E: Recorder, P: Payload> Looper<E, P> {
         d: &mut D,
         by: &ByClock<C>,
     ) -> Loop
-        requires going { self.old.ended ≡ false }
-        requires at { IsAt queue.now pool.now self.old.held }
+        requires looper { MayRun queue.now pool.now self.old }
         requires free { queue.now.constants.setting.lockstep ≡ false }
-        requires serves { D.Serves d.old (workplace self.old.held) }
-        requires awaits { D.Awaits d.old None }
-        requires meets { Passes (D.Meets d.old) self.old.held }
-        ensures same { IsStill self.old.held self.new.held }
-        ensures serves { (w : Workplace) → D.Serves d.old w → D.Serves d.new w }
-        ensures origin { D.origin d.new ≡ D.origin d.old }
-        ensures nudges { Rings self.old.held.poster self.new.held.poster (D.nudges d.old) (D.nudges d.new) }
+        requires ready { ServesBetween D.Serves D.Awaits D.Meets d.old self.old.held }
+        ensures keeps { KeepsLooper D.Serves D.origin D.nudges unasked IsStill d.old d.new self.old.held self.new.held }
         ensures loops { LoopBy (C.shows by.now.clock.now) by.now.start by.now.cap queue.now.constants.setting self.old.held self.new.held result }
         ensures steps { StepsBy (λ more. D.asked d.new ≡ with_asked (D.asked d.old) (map Listen more))
             (C.shows by.now.clock.now) by.now.start by.now.cap self.old self.new result }
-        ensures meets { UnlessLost result (Passes (D.Meets d.new) self.new.held) }
-        ensures awaits { UnlessLost result (D.Awaits d.new None) }
+        ensures rests { UnlessLost result (RestsBetween D.Awaits D.Meets d.new self.new.held) }
         ensures ended { self.new.ended ≡ is_over result }
     {
         for _ in rt.forever() {
@@ -235,21 +215,14 @@ impl<E: Recorder, P: Payload> Looper<E, P> {
         by: &ByClock<C>,
         most: u64,
     ) -> Option<Loop>
-        requires going { self.old.ended ≡ false }
-        requires at { IsAt queue.now pool.now self.old.held }
+        requires looper { MayRun queue.now pool.now self.old }
         requires free { queue.now.constants.setting.lockstep ≡ false }
-        requires serves { D.Serves d.old (workplace self.old.held) }
-        requires awaits { D.Awaits d.old None }
-        requires meets { Passes (D.Meets d.old) self.old.held }
-        ensures same { IsStill self.old.held self.new.held }
-        ensures serves { (w : Workplace) → D.Serves d.old w → D.Serves d.new w }
-        ensures origin { D.origin d.new ≡ D.origin d.old }
-        ensures nudges { Rings self.old.held.poster self.new.held.poster (D.nudges d.old) (D.nudges d.new) }
+        requires ready { ServesBetween D.Serves D.Awaits D.Meets d.old self.old.held }
+        ensures keeps { KeepsLooper D.Serves D.origin D.nudges unasked IsStill d.old d.new self.old.held self.new.held }
         ensures loops { LoopsOrGoes (C.shows by.now.clock.now) by.now.start by.now.cap queue.now.constants.setting self.old.held self.new.held result }
         ensures steps { StepsOrGoes (λ more. D.asked d.new ≡ with_asked (D.asked d.old) (map Listen more))
             (C.shows by.now.clock.now) by.now.start by.now.cap most self.old self.new result }
-        ensures meets { UnlessLostThen result (Passes (D.Meets d.new) self.new.held) }
-        ensures awaits { UnlessLostThen result (D.Awaits d.new None) }
+        ensures rests { UnlessLostThen result (RestsBetween D.Awaits D.Meets d.new self.new.held) }
         ensures ended { self.new.ended ≡ is_over_then result }
     {
         for _number in 0..most {
@@ -283,17 +256,10 @@ impl<E: Recorder, P: Payload> Looper<E, P> {
     ) -> Pace
         requires at { IsAt queue.now pool.now self.old.held }
         requires free { queue.now.constants.setting.lockstep ≡ false }
-        requires serves { D.Serves d.old (workplace self.old.held) }
-        requires awaits { D.Awaits d.old None }
-        requires meets { Passes (D.Meets d.old) self.old.held }
-        ensures same { IsStill self.old.held self.new.held }
-        ensures serves { (w : Workplace) → D.Serves d.old w → D.Serves d.new w }
-        ensures origin { D.origin d.new ≡ D.origin d.old }
-        ensures nudges { Rings self.old.held.poster self.new.held.poster (D.nudges d.old) (D.nudges d.new) }
-        ensures asked { D.asked d.new ≡ D.asked d.old }
+        requires ready { ServesBetween D.Serves D.Awaits D.Meets d.old self.old.held }
+        ensures keeps { KeepsLooper D.Serves D.origin D.nudges D.asked IsStill d.old d.new self.old.held self.new.held }
         ensures paced { HasPaced (C.shows by.now.clock.now) by.now.start by.now.cap self.old self.new result }
-        ensures meets { UnlessHalted result (Passes (D.Meets d.new) self.new.held) }
-        ensures awaits { UnlessHalted result (D.Awaits d.new None) }
+        ensures rests { UnlessHalted result (RestsBetween D.Awaits D.Meets d.new self.new.held) }
         ensures ended { self.new.ended ≡ self.old.ended }
     {
         let waited = self
@@ -314,14 +280,8 @@ impl<E: Recorder, P: Payload> Looper<E, P> {
         sources: &Mutex<Sources>,
         d: &mut D,
     ) -> Result<(), NoMemory>
-        requires awaits { D.Awaits d.old None }
-        requires meets { Passes (D.Meets d.old) self.old.held }
-        ensures serves { (w : Workplace) → D.Serves d.old w → D.Serves d.new w }
-        ensures origin { D.origin d.new ≡ D.origin d.old }
-        ensures nudges { D.nudges d.new ≡ D.nudges d.old }
+        ensures carries { CarriesOver D.Serves D.origin D.nudges unasked D.Awaits D.Meets d.old d.new self.old.held.journal.acts self.new.held.journal.acts }
         ensures closed { IsClosed (λ more. OnOk result (D.asked d.new ≡ with_asked (D.asked d.old) (map Listen more))) self.old self.new }
-        ensures meets { OnOk result (Passes (D.Meets d.new) self.new.held) }
-        ensures awaits { OnOk result (D.Awaits d.new None) }
         ensures ended { self.new.ended ≡ self.old.ended }
     {
         take_events(rt, sources, &mut self.journal, d)

@@ -1,11 +1,12 @@
 //! One message: its route, its act and its way home.
-ghost use Rattle.std.specs.Prelude.{◌≡◌, ◌<◌, ◌^◌, ◌++◌, [], ◌∷◌, length, slice_get, OnOk, OnErr, IfSome, Some, None};
-ghost use Rattle.message_slot.specs.Letter.{number_in};
+ghost use Rattle.std.specs.Prelude.{◌≡◌, ◌<◌, ◌^◌, ◌++◌, [], ◌∷◌, length, OnOk, OnErr, IfSome, None};
 ghost use Rattle.message_slot.specs.Fields.{callback_of};
 ghost use Rattle.message_pool.specs.Obtain.{IsNodeOf};
 ghost use Rattle.message_pool.specs.Values.{without_value};
-ghost use Rattle.looper_run.specs.Holding.{Workplace, workplace, held, IsSameOwn};
-ghost use Rattle.looper_run.specs.Tests.{Passes, PassesWith, IsSameLooper, IsLent, Rings, HasTaken, SawClaim};
+ghost use Rattle.looper_run.specs.Holding.{held};
+ghost use Rattle.looper_run.specs.Carried.{KeepsLent};
+ghost use Rattle.looper_run.specs.Ready.{RestsBetween, HasToDispatch, HasToRoute, HasRouted};
+ghost use Rattle.looper_run.specs.Tests.{IsSameLooper, IsLent};
 ghost use Rattle.looper_run.specs.Told.{IsRouteOf, IsTold, Dispatches, GivesBack};
 
 use crate::dispatcher::{Did, Dispatcher};
@@ -32,20 +33,10 @@ fn offer<D: Dispatcher>(
     m: &Message<PoolClaim<D::Value>>,
     now: u64,
 ) -> Option<Route>
-    requires serves { D.Serves d.old (workplace (held own.old)) }
-    requires taken { HasTaken (D.Meets d.old) (held own.old) m.now now }
-    requires callback { callback_of m.now.item ≡ None }
-    requires awaits { D.Awaits d.old (Some (number_in m.now.item)) }
-    requires took { SawClaim (D.Took d.old) own.old.poster.now m.now }
-    ensures serves { (w : Workplace) → D.Serves d.old w → D.Serves d.new w }
-    ensures origin { D.origin d.new ≡ D.origin d.old }
-    ensures own { IsSameOwn own.old own.new }
-    ensures lent { IsLent (held own.old) (held own.new) }
-    ensures nudges { Rings own.old.poster.now own.new.poster.now (D.nudges d.old) (D.nudges d.new) }
-    ensures asked { D.asked d.new ≡ D.asked d.old }
+    requires ready { HasToRoute D.Serves D.Awaits D.Took D.Meets d.old (held own.old) m.now now None }
+    ensures keeps { KeepsLent D.Serves D.origin D.nudges D.asked IsLent d.old d.new own.old own.new }
     ensures route { IfSome result (IsRouteOf None) }
-    ensures meets { IfSome result (PassesWith (D.Meets d.new) (held own.new) m.now now) }
-    ensures awaits { IfSome result (λ r. D.Awaits d.new None) }
+    ensures routed { IfSome result (HasRouted D.Awaits D.Meets d.new (held own.new) m.now now) }
 {
     match d.intercept(own, m, now) {
         Did::NoMemory => None,
@@ -64,19 +55,10 @@ fn route<D: Dispatcher>(
     m: &Message<PoolClaim<D::Value>>,
     now: u64,
 ) -> Option<Route>
-    requires serves { D.Serves d.old (workplace (held own.old)) }
-    requires taken { HasTaken (D.Meets d.old) (held own.old) m.now now }
-    requires awaits { D.Awaits d.old (Some (number_in m.now.item)) }
-    requires took { SawClaim (D.Took d.old) own.old.poster.now m.now }
-    ensures serves { (w : Workplace) → D.Serves d.old w → D.Serves d.new w }
-    ensures origin { D.origin d.new ≡ D.origin d.old }
-    ensures own { IsSameOwn own.old own.new }
-    ensures lent { IsLent (held own.old) (held own.new) }
-    ensures nudges { Rings own.old.poster.now own.new.poster.now (D.nudges d.old) (D.nudges d.new) }
-    ensures asked { D.asked d.new ≡ D.asked d.old }
+    requires ready { HasToRoute D.Serves D.Awaits D.Took D.Meets d.old (held own.old) m.now now (callback_of m.now.item) }
+    ensures keeps { KeepsLent D.Serves D.origin D.nudges D.asked IsLent d.old d.new own.old own.new }
     ensures route { IfSome result (IsRouteOf (callback_of m.now.item)) }
-    ensures meets { IfSome result (PassesWith (D.Meets d.new) (held own.new) m.now now) }
-    ensures awaits { IfSome result (λ r. D.Awaits d.new None) }
+    ensures routed { IfSome result (HasRouted D.Awaits D.Meets d.new (held own.new) m.now now) }
 {
     match m.callback() {
         Some(id) => match d.run_callback(own, id, m, now) {
@@ -95,22 +77,12 @@ fn dispatch_one<D: Dispatcher>(
     now: u64,
     m: &mut Message<PoolClaim<D::Value>>,
 ) -> Result<(), NoMemory>
-    requires serves { D.Serves d.old (workplace (held own.old)) }
-    requires taken { HasTaken (D.Meets d.old) (held own.old) m.old now }
-    requires number { number ≡ number_in m.old.item }
-    requires claim { slice_get own.old.poster.now.view.claims number ≡ Some m.old.claim }
-    requires awaits { D.Awaits d.old None }
-    ensures serves { (w : Workplace) → D.Serves d.old w → D.Serves d.new w }
-    ensures origin { D.origin d.new ≡ D.origin d.old }
-    ensures own { IsSameOwn own.old own.new }
-    ensures same { IsSameLooper (held own.old) (held own.new) }
-    ensures nudges { Rings own.old.poster.now own.new.poster.now (D.nudges d.old) (D.nudges d.new) }
-    ensures asked { D.asked d.new ≡ D.asked d.old }
+    requires ready { HasToDispatch D.Serves D.Awaits D.Meets d.old (held own.old) number m.old now }
+    ensures keeps { KeepsLent D.Serves D.origin D.nudges D.asked IsSameLooper d.old d.new own.old own.new }
     ensures rest { without_value m.new ≡ without_value m.old }
     ensures told { OnOk result (IsTold (held own.old) (held own.new) m.old now) }
     ensures given_up { OnErr result (IsLent (held own.old) (held own.new)) }
-    ensures meets { OnOk result (Passes (D.Meets d.new) (held own.new)) }
-    ensures awaits { OnOk result (D.Awaits d.new None) }
+    ensures rests { OnOk result (RestsBetween D.Awaits D.Meets d.new (held own.new)) }
 {
     d.before(number, m);
     match route(d, own, m, now) {
@@ -128,23 +100,13 @@ pub(crate) fn dispatch<D: Dispatcher>(
     now: u64,
     mut node: PoolNode<D::Value>,
 ) -> Result<(), NoMemory>
-    requires serves { D.Serves d.old (workplace (held own.old)) }
-    requires taken { HasTaken (D.Meets d.old) (held own.old) node now }
-    requires number { number ≡ number_in node.item }
-    requires claim { slice_get own.old.poster.now.view.claims number ≡ Some node.claim }
-    requires awaits { D.Awaits d.old None }
+    requires ready { HasToDispatch D.Serves D.Awaits D.Meets d.old (held own.old) number node now }
     requires pool { own.old.pass.now.home ≡ pool.now }
     requires node { IsNodeOf pool.now node }
-    ensures serves { (w : Workplace) → D.Serves d.old w → D.Serves d.new w }
-    ensures origin { D.origin d.new ≡ D.origin d.old }
-    ensures own { IsSameOwn own.old own.new }
-    ensures same { IsSameLooper (held own.old) (held own.new) }
-    ensures nudges { Rings own.old.poster.now own.new.poster.now (D.nudges d.old) (D.nudges d.new) }
-    ensures asked { D.asked d.new ≡ D.asked d.old }
+    ensures keeps { KeepsLent D.Serves D.origin D.nudges D.asked IsSameLooper d.old d.new own.old own.new }
     ensures done { OnOk result (Dispatches (held own.old) (held own.new) node now) }
     ensures given_up { OnErr result (GivesBack (held own.old) (held own.new) node) }
-    ensures meets { OnOk result (Passes (D.Meets d.new) (held own.new)) }
-    ensures awaits { OnOk result (D.Awaits d.new None) }
+    ensures rests { OnOk result (RestsBetween D.Awaits D.Meets d.new (held own.new)) }
 {
     let told = dispatch_one(d, own, number, now, node.item_mut());
     pool.recycle(own.pass, node);

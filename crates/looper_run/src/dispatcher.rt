@@ -6,14 +6,14 @@ ghost use Rattle.loop_model.specs.declared.call.Call.TheVariants.{Next};
 ghost use Rattle.loop_model.specs.declared.reply.Reply.TheVariants.{Disposed};
 ghost use Rattle.loop_model.specs.declared.entry.Entry.{Entry};
 ghost use Rattle.message_slot.specs.Letter.{number_in};
-ghost use Rattle.message_slot.specs.Fields.{callback_of};
 ghost use Rattle.message_pool.specs.Passes.{Claimed};
 ghost use Rattle.message_pool.specs.Values.{without_value};
-ghost use Rattle.looper_run.specs.Holding.{Workplace, workplace, held, IsSameOwn};
+ghost use Rattle.looper_run.specs.Holding.{Workplace, held};
 ghost use Rattle.looper_run.specs.Acts.{IsQuiet};
 ghost use Rattle.looper_run.specs.Asked.{Asked, Pulse, Listen, with_asked};
-ghost use Rattle.looper_run.specs.Carried.{Carries};
-ghost use Rattle.looper_run.specs.Tests.{Passes, PassesWith, IsLent, Rings, HasTaken, Unless, Intercepts, LeavesTaken, SawClaim, KeepsClaim};
+ghost use Rattle.looper_run.specs.Carried.{Carries, KeepsLent, unasked, unawaited};
+ghost use Rattle.looper_run.specs.Ready.{ServesBetween, RestsBetween, HasToRoute, HasRouted, LeavesTaken};
+ghost use Rattle.looper_run.specs.Tests.{IsLent, Unless, Intercepts};
 
 use crate::own::Own;
 use message_pool::{Payload, PoolClaim};
@@ -75,25 +75,14 @@ pub trait Dispatcher {
         ensures rest { without_value m.new ≡ without_value m.old }
         ensures awaits { Awaits self.new (Some number) }
         ensures took { Took self.new m.old.claim }
-        ensures serves { (w : Workplace) → Serves self.old w → Serves self.new w }
-        ensures origin { origin self.new ≡ origin self.old }
-        ensures meets { (s : ℕ) (es : List Entry) (acts : List Act) → Meets self.old s es acts → Meets self.new s es acts }
-        ensures nudges { nudges self.new ≡ nudges self.old }
-        ensures asked { asked self.new ≡ asked self.old };
+        ensures carries { Carries Serves origin nudges asked unawaited Meets self.old self.new };
 
     /// Called once at the start of each round, where a pulse that was asked for is delivered. Only NoMemory counts as an answer.
     fn pulse(&mut self, own: &mut Own<Self::Record, Self::Value>, now: u64) -> Did
-        requires serves { Serves self.old (workplace (held own.old)) }
-        requires awaits { Awaits self.old None }
-        requires meets { Passes (Meets self.old) (held own.old) }
-        ensures awaits { Unless result (Awaits self.new None) }
-        ensures serves { (w : Workplace) → Serves self.old w → Serves self.new w }
-        ensures origin { origin self.new ≡ origin self.old }
-        ensures own { IsSameOwn own.old own.new }
-        ensures lent { IsLent (held own.old) (held own.new) }
-        ensures nudges { Rings own.old.poster.now own.new.poster.now (nudges self.old) (nudges self.new) }
+        requires ready { ServesBetween Serves Awaits Meets self.old (held own.old) }
+        ensures keeps { KeepsLent Serves origin nudges unasked IsLent self.old self.new own.old own.new }
         ensures asked { Unless result (asked self.new ≡ with_asked (asked self.old) (Pulse now ∷ [])) }
-        ensures meets { Unless result (Passes (Meets self.new) (held own.new)) };
+        ensures rests { Unless result (RestsBetween Awaits Meets self.new (held own.new)) };
 
     /// Tells a listener of the events on a descriptor, and answers its new mask: INPUT 1, OUTPUT 2, ERROR 4, and with 0 it
     /// is told no more. None where memory was wanting, and then the run is given up.
@@ -101,11 +90,7 @@ pub trait Dispatcher {
         ensures mask { IfSome result (λ mask. mask ≤ 7) }
         ensures asked { IfSome result (λ mask. asked self.new ≡ with_asked (asked self.old)
             (Listen (record { fd = fd; events = events; listener = listener; mask = mask }) ∷ [])) }
-        ensures awaits { (awaited : Option ℕ) → Awaits self.old awaited → Awaits self.new awaited }
-        ensures serves { (w : Workplace) → Serves self.old w → Serves self.new w }
-        ensures origin { origin self.new ≡ origin self.old }
-        ensures meets { (s : ℕ) (es : List Entry) (acts : List Act) → Meets self.old s es acts → Meets self.new s es acts }
-        ensures nudges { nudges self.new ≡ nudges self.old };
+        ensures carries { Carries Serves origin nudges unasked Awaits Meets self.old self.new };
 
     /// Runs the idle handler of this number, and answers whether it is kept (`queueIdle` of the Android API reference's
     /// `MessageQueue.IdleHandler`); `keep` is what it was added with. None where memory was wanting, and then the run is given up.
@@ -120,19 +105,9 @@ pub trait Dispatcher {
         m: &Message<PoolClaim<Self::Value>>,
         now: u64,
     ) -> Did
-        requires serves { Serves self.old (workplace (held own.old)) }
-        requires taken { HasTaken (Meets self.old) (held own.old) m.now now }
-        requires callback { callback_of m.now.item ≡ Some id }
-        requires awaits { Awaits self.old (Some (number_in m.now.item)) }
-        requires took { SawClaim (Took self.old) own.old.poster.now m.now }
-        ensures awaits { Unless result (Awaits self.new None) }
-        ensures serves { (w : Workplace) → Serves self.old w → Serves self.new w }
-        ensures origin { origin self.new ≡ origin self.old }
-        ensures own { IsSameOwn own.old own.new }
-        ensures lent { IsLent (held own.old) (held own.new) }
-        ensures nudges { Rings own.old.poster.now own.new.poster.now (nudges self.old) (nudges self.new) }
-        ensures asked { asked self.new ≡ asked self.old }
-        ensures meets { Unless result (PassesWith (Meets self.new) (held own.new) m.now now (Callback id)) };
+        requires ready { HasToRoute Serves Awaits Took Meets self.old (held own.old) m.now now (Some id) }
+        ensures keeps { KeepsLent Serves origin nudges asked IsLent self.old self.new own.old own.new }
+        ensures routed { Unless result (HasRouted Awaits Meets self.new (held own.new) m.now now (Callback id)) };
 
     /// Asks the handler's callback object, which answers No where the handler itself is to handle the message.
     fn intercept(
@@ -141,21 +116,10 @@ pub trait Dispatcher {
         m: &Message<PoolClaim<Self::Value>>,
         now: u64,
     ) -> Did
-        requires serves { Serves self.old (workplace (held own.old)) }
-        requires taken { HasTaken (Meets self.old) (held own.old) m.now now }
-        requires callback { callback_of m.now.item ≡ None }
-        requires awaits { Awaits self.old (Some (number_in m.now.item)) }
-        requires took { SawClaim (Took self.old) own.old.poster.now m.now }
-        ensures awaits { Intercepts result (Awaits self.new None) (Awaits self.new (Some (number_in m.now.item))) }
-        ensures took { KeepsClaim result (Took self.old) (Took self.new) }
-        ensures serves { (w : Workplace) → Serves self.old w → Serves self.new w }
-        ensures origin { origin self.new ≡ origin self.old }
-        ensures own { IsSameOwn own.old own.new }
-        ensures lent { IsLent (held own.old) (held own.new) }
-        ensures nudges { Rings own.old.poster.now own.new.poster.now (nudges self.old) (nudges self.new) }
-        ensures asked { asked self.new ≡ asked self.old }
-        ensures meets { Intercepts result (PassesWith (Meets self.new) (held own.new) m.now now Intercepted)
-            (LeavesTaken (Meets self.new) (held own.old) (held own.new) m.now now) };
+        requires ready { HasToRoute Serves Awaits Took Meets self.old (held own.old) m.now now None }
+        ensures keeps { KeepsLent Serves origin nudges asked IsLent self.old self.new own.old own.new }
+        ensures routed { Intercepts result (HasRouted Awaits Meets self.new (held own.new) m.now now Intercepted)
+            (LeavesTaken Awaits Took Meets self.old self.new (held own.old) (held own.new) m.now now) };
 
     /// Handles a message that has no callback and was not intercepted. Only NoMemory counts as an answer.
     fn handle(
@@ -164,19 +128,9 @@ pub trait Dispatcher {
         m: &Message<PoolClaim<Self::Value>>,
         now: u64,
     ) -> Did
-        requires serves { Serves self.old (workplace (held own.old)) }
-        requires taken { HasTaken (Meets self.old) (held own.old) m.now now }
-        requires callback { callback_of m.now.item ≡ None }
-        requires awaits { Awaits self.old (Some (number_in m.now.item)) }
-        requires took { SawClaim (Took self.old) own.old.poster.now m.now }
-        ensures awaits { Unless result (Awaits self.new None) }
-        ensures serves { (w : Workplace) → Serves self.old w → Serves self.new w }
-        ensures origin { origin self.new ≡ origin self.old }
-        ensures own { IsSameOwn own.old own.new }
-        ensures lent { IsLent (held own.old) (held own.new) }
-        ensures nudges { Rings own.old.poster.now own.new.poster.now (nudges self.old) (nudges self.new) }
-        ensures asked { asked self.new ≡ asked self.old }
-        ensures meets { Unless result (PassesWith (Meets self.new) (held own.new) m.now now Handled) };
+        requires ready { HasToRoute Serves Awaits Took Meets self.old (held own.old) m.now now None }
+        ensures keeps { KeepsLent Serves origin nudges asked IsLent self.old self.new own.old own.new }
+        ensures routed { Unless result (HasRouted Awaits Meets self.new (held own.new) m.now now Handled) };
 
     /// The test stays true where another sender makes an entry.
     ghost others: { (d : Self) (s : ℕ) (es : List Entry) (e : Entry) (acts : List Act) → ¬ (e.sender ≡ s) → Meets d s es acts → Meets d s (es ++ e ∷ []) acts };

@@ -1,11 +1,13 @@
 //! A looper.
-ghost use Rattle.std.specs.Prelude.{◌≡◌, true, false, [], OnOk, None};
+ghost use Rattle.std.specs.Prelude.{◌≡◌, true, false, [], OnOk};
 ghost use mathlib.Core.List.{IsPrefix};
 ghost use Rattle.loop_model.specs.Lists.{longer};
 ghost use Rattle.shared_queue.specs.Known.{IsOf, HasOnlyHeard};
-ghost use Rattle.looper_run.specs.Holding.{Workplace, workplace, IsAt, IsBeside};
+ghost use Rattle.looper_run.specs.Holding.{IsBeside};
 ghost use Rattle.looper_run.specs.Asked.{with_asked, asked_by_round};
-ghost use Rattle.looper_run.specs.Tests.{Passes, IsSameLooper, Rings};
+ghost use Rattle.looper_run.specs.Carried.{KeepsLooper, unasked};
+ghost use Rattle.looper_run.specs.Ready.{RestsBetween, ServesBetween, MayRun};
+ghost use Rattle.looper_run.specs.Tests.{IsSameLooper};
 ghost use Rattle.looper_run.specs.Looks.{IsBegun, DrainBy, IsRound};
 ghost use Rattle.looper_run.specs.Round.{RoundBy, UnlessWanting, is_ended};
 
@@ -136,19 +138,12 @@ impl<E: Recorder, P: Payload> Looper<E, P> {
         d: &mut D,
         now: u64,
     ) -> Round
-        requires going { self.old.ended ≡ false }
-        requires at { IsAt queue.now pool.now self.old.held }
-        requires serves { D.Serves d.old (workplace self.old.held) }
-        requires awaits { D.Awaits d.old None }
-        requires meets { Passes (D.Meets d.old) self.old.held }
-        ensures same { IsSameLooper self.old.held self.new.held }
-        ensures serves { (w : Workplace) → D.Serves d.old w → D.Serves d.new w }
-        ensures origin { D.origin d.new ≡ D.origin d.old }
-        ensures nudges { Rings self.old.held.poster self.new.held.poster (D.nudges d.old) (D.nudges d.new) }
+        requires looper { MayRun queue.now pool.now self.old }
+        requires ready { ServesBetween D.Serves D.Awaits D.Meets d.old self.old.held }
+        ensures keeps { KeepsLooper D.Serves D.origin D.nudges unasked IsSameLooper d.old d.new self.old.held self.new.held }
         ensures round { RoundBy queue.now.constants.setting now self.old.held self.new.held result }
         ensures looks { IsRound (λ heard. D.asked d.new ≡ with_asked (D.asked d.old) (asked_by_round now heard)) now self.old self.new result }
-        ensures meets { UnlessWanting result (Passes (D.Meets d.new) self.new.held) }
-        ensures awaits { UnlessWanting result (D.Awaits d.new None) }
+        ensures rests { UnlessWanting result (RestsBetween D.Awaits D.Meets d.new self.new.held) }
         ensures ended { self.new.ended ≡ is_ended result }
     {
         let Ok(()) = self.begin(rt, sources, d, now) else {
@@ -165,16 +160,10 @@ impl<E: Recorder, P: Payload> Looper<E, P> {
         d: &mut D,
         now: u64,
     ) -> Result<(), NoMemory>
-        requires serves { D.Serves d.old (workplace self.old.held) }
-        requires awaits { D.Awaits d.old None }
-        requires meets { Passes (D.Meets d.old) self.old.held }
-        ensures same { IsSameLooper self.old.held self.new.held }
-        ensures serves { (w : Workplace) → D.Serves d.old w → D.Serves d.new w }
-        ensures origin { D.origin d.new ≡ D.origin d.old }
-        ensures nudges { Rings self.old.held.poster self.new.held.poster (D.nudges d.old) (D.nudges d.new) }
+        requires ready { ServesBetween D.Serves D.Awaits D.Meets d.old self.old.held }
+        ensures keeps { KeepsLooper D.Serves D.origin D.nudges unasked IsSameLooper d.old d.new self.old.held self.new.held }
         ensures begun { IsBegun (λ heard. OnOk result (D.asked d.new ≡ with_asked (D.asked d.old) (asked_by_round now heard))) self.old self.new }
-        ensures meets { OnOk result (Passes (D.Meets d.new) self.new.held) }
-        ensures awaits { OnOk result (D.Awaits d.new None) }
+        ensures rests { OnOk result (RestsBetween D.Awaits D.Meets d.new self.new.held) }
         ensures ended { self.new.ended ≡ self.old.ended }
     {
         let mut own = Own {
@@ -198,20 +187,12 @@ impl<E: Recorder, P: Payload> Looper<E, P> {
         d: &mut D,
         now: u64,
     ) -> Round
-        requires going { self.old.ended ≡ false }
-        requires at { IsAt queue.now pool.now self.old.held }
-        requires serves { D.Serves d.old (workplace self.old.held) }
-        requires awaits { D.Awaits d.old None }
-        requires meets { Passes (D.Meets d.old) self.old.held }
-        ensures same { IsSameLooper self.old.held self.new.held }
-        ensures serves { (w : Workplace) → D.Serves d.old w → D.Serves d.new w }
-        ensures origin { D.origin d.new ≡ D.origin d.old }
-        ensures nudges { Rings self.old.held.poster self.new.held.poster (D.nudges d.old) (D.nudges d.new) }
-        ensures asked { D.asked d.new ≡ D.asked d.old }
+        requires looper { MayRun queue.now pool.now self.old }
+        requires ready { ServesBetween D.Serves D.Awaits D.Meets d.old self.old.held }
+        ensures keeps { KeepsLooper D.Serves D.origin D.nudges D.asked IsSameLooper d.old d.new self.old.held self.new.held }
         ensures round { RoundBy queue.now.constants.setting now self.old.held self.new.held result }
         ensures looks { DrainBy now self.old self.new result }
-        ensures meets { UnlessWanting result (Passes (D.Meets d.new) self.new.held) }
-        ensures awaits { UnlessWanting result (D.Awaits d.new None) }
+        ensures rests { UnlessWanting result (RestsBetween D.Awaits D.Meets d.new self.new.held) }
         ensures ended { self.new.ended ≡ is_ended result }
     {
         let mut dispatched = 0;

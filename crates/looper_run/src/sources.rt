@@ -1,10 +1,8 @@
 //! What a looper shares with other threads beside its queue, and what it does with it.
-ghost use Rattle.std.specs.Prelude.{◌≡◌, ℕ, List, map, OnOk, Option};
-ghost use Rattle.loop_model.specs.declared.entry.Entry.{Entry};
-ghost use Rattle.looper_run.specs.Holding.{Workplace};
+ghost use Rattle.std.specs.Prelude.{◌≡◌, map, OnOk};
 ghost use Rattle.looper_run.specs.Acts.{IsIdle, GrowsBy};
 ghost use Rattle.looper_run.specs.Asked.{Listen, with_asked, TellsOf};
-ghost use Rattle.looper_run.specs.Carried.{CarriesOver};
+ghost use Rattle.looper_run.specs.Carried.{CarriesOver, unasked};
 
 use crate::dispatch::tell;
 use crate::dispatcher::Dispatcher;
@@ -67,11 +65,7 @@ pub(crate) fn take_events<R: Wait, D: Dispatcher>(
 ) -> Result<(), NoMemory>
     ensures looper { journal.new.looper ≡ journal.old.looper }
     ensures told { TellsOf (λ heard. OnOk result (D.asked d.new ≡ with_asked (D.asked d.old) (map Listen heard))) journal.old.acts journal.new.acts }
-    ensures awaits { (awaited : Option ℕ) → D.Awaits d.old awaited → D.Awaits d.new awaited }
-    ensures serves { (w : Workplace) → D.Serves d.old w → D.Serves d.new w }
-    ensures origin { D.origin d.new ≡ D.origin d.old }
-    ensures nudges { D.nudges d.new ≡ D.nudges d.old }
-    ensures meets { (s : ℕ) (es : List Entry) → D.Meets d.old s es journal.old.acts → D.Meets d.new s es journal.new.acts }
+    ensures carries { CarriesOver D.Serves D.origin D.nudges unasked D.Awaits D.Meets d.old d.new journal.old.acts journal.new.acts }
 {
     for _ in rt.forever() {
         let event = sources.lock(rt).fds.take_event();

@@ -2,10 +2,12 @@
 ghost use Rattle.std.specs.Prelude.{◌≡◌, ℕ, All, None};
 ghost use Rattle.message_pool.specs.Obtain.{IsNodeOf};
 ghost use Rattle.shared_queue.specs.Calls.{NextedBy};
-ghost use Rattle.looper_run.specs.Holding.{Sender, Workplace, workplace, IsAt};
-ghost use Rattle.looper_run.specs.Tests.{Passes, IsSameLooper, Rings};
+ghost use Rattle.looper_run.specs.Holding.{Sender, workplace, IsAt};
+ghost use Rattle.looper_run.specs.Carried.{KeepsLooper};
+ghost use Rattle.looper_run.specs.Ready.{RestsBetween, ServesBetween};
+ghost use Rattle.looper_run.specs.Tests.{IsSameLooper};
 ghost use Rattle.looper_run.specs.Told.{AreRecycled};
-ghost use Rattle.looper_run.specs.Looks.{StepBy, WaitsAsTold, by_poster, IsAnswerOf, HasAnswer};
+ghost use Rattle.looper_run.specs.Looks.{StepBy, WaitsAsTold, by_poster, IsAnswered};
 ghost use Rattle.looper_run.specs.Round.{UnlessStopped};
 
 use crate::dispatch::dispatch;
@@ -63,17 +65,10 @@ impl<E: Recorder, P: Payload> Looper<E, P> {
         now: u64,
     ) -> Step
         requires at { IsAt queue.now pool.now self.old.held }
-        requires serves { D.Serves d.old (workplace self.old.held) }
-        requires awaits { D.Awaits d.old None }
-        requires meets { Passes (D.Meets d.old) self.old.held }
-        ensures same { IsSameLooper self.old.held self.new.held }
-        ensures serves { (w : Workplace) → D.Serves d.old w → D.Serves d.new w }
-        ensures origin { D.origin d.new ≡ D.origin d.old }
-        ensures nudges { Rings self.old.held.poster self.new.held.poster (D.nudges d.old) (D.nudges d.new) }
-        ensures asked { D.asked d.new ≡ D.asked d.old }
+        requires ready { ServesBetween D.Serves D.Awaits D.Meets d.old self.old.held }
+        ensures keeps { KeepsLooper D.Serves D.origin D.nudges D.asked IsSameLooper d.old d.new self.old.held self.new.held }
         ensures step { StepBy now self.old self.new result }
-        ensures meets { UnlessStopped result (Passes (D.Meets d.new) self.new.held) }
-        ensures awaits { UnlessStopped result (D.Awaits d.new None) }
+        ensures rests { UnlessStopped result (RestsBetween D.Awaits D.Meets d.new self.new.held) }
         ensures ended { self.new.ended ≡ self.old.ended }
     {
         let answer = self.poster.next(rt, queue, now, self.idle_owed);
@@ -89,21 +84,14 @@ impl<E: Recorder, P: Payload> Looper<E, P> {
         d: &mut D,
         answer: Nexted<PoolClaim<P>>,
     ) -> Step
-        requires pool { self.old.held.pass.home ≡ pool.now }
-        requires home { IsAnswerOf pool.now answer }
-        requires look { HasAnswer (D.Meets d.old) self.old answer }
+        requires answer { IsAnswered (D.Meets d.old) pool.now self.old answer }
         requires serves { D.Serves d.old (workplace self.old.held) }
         requires awaits { D.Awaits d.old None }
-        ensures same { IsSameLooper self.old.held self.new.held }
-        ensures serves { (w : Workplace) → D.Serves d.old w → D.Serves d.new w }
-        ensures origin { D.origin d.new ≡ D.origin d.old }
-        ensures nudges { Rings self.old.held.poster self.new.held.poster (D.nudges d.old) (D.nudges d.new) }
-        ensures asked { D.asked d.new ≡ D.asked d.old }
+        ensures keeps { KeepsLooper D.Serves D.origin D.nudges D.asked IsSameLooper d.old d.new self.old.held self.new.held }
         ensures step { (p : Sender) (now : ℕ) → NextedBy p self.old.held.poster now self.old.idle_owed answer
             → StepBy now (by_poster self.old p) self.new result }
         ensures waits { WaitsAsTold answer result }
-        ensures meets { UnlessStopped result (Passes (D.Meets d.new) self.new.held) }
-        ensures awaits { UnlessStopped result (D.Awaits d.new None) }
+        ensures rests { UnlessStopped result (RestsBetween D.Awaits D.Meets d.new self.new.held) }
         ensures ended { self.new.ended ≡ self.old.ended }
     {
         match answer {

@@ -1,15 +1,18 @@
-use Rattle.looper_run.specs.Holding.{held}
-use Rattle.looper_run.proofs.Rings.{rings_then}
-use Rattle.looper_run.proofs.Working.{lent_then}
+use Rattle.std.proofs.Common.{None}
+use Rattle.looper_run.proofs.Keeping.{own_then, left_to_route}
 use Rattle.looper_run.proofs.dispatch.offer.Goals as goal
 
-pub returns-in-NoMemory-handle-clause-nudges : goal.returns-in-NoMemory-handle-clause-nudges
-returns-in-NoMemory-handle-clause-nudges g c =
-    rings_then c.args.own.now.poster.now c.intercept.new.own.poster.now c.handle.new.own.poster.now (g.D.Dispatcher.nudges c.args.d.now) (g.D.Dispatcher.nudges c.intercept.new.self) (g.D.Dispatcher.nudges c.handle.new.self) c.intercept.ensures.nudges c.handle.ensures.nudges
+pub handle-requires : goal.handle-requires
+handle-requires g c =
+    let D = g.D.Dispatcher in
+    record { ready = left_to_route D.Serves D.origin D.nudges D.asked D.Awaits D.Took D.Meets c.args.d.now c.intercept.new.self c.args.own.now c.intercept.new.own c.args.m.now c.args.now None c.requires.ready c.intercept.ensures.keeps c.in-No.ensures.routed }
 
-pub returns-in-Yes-handle-clause-nudges : goal.returns-in-Yes-handle-clause-nudges
-returns-in-Yes-handle-clause-nudges g c =
-    rings_then c.args.own.now.poster.now c.intercept.new.own.poster.now c.handle.new.own.poster.now (g.D.Dispatcher.nudges c.args.d.now) (g.D.Dispatcher.nudges c.intercept.new.self) (g.D.Dispatcher.nudges c.handle.new.self) c.intercept.ensures.nudges c.handle.ensures.nudges
+pub returns-in-NoMemory-handle-clause-keeps : goal.returns-in-NoMemory-handle-clause-keeps
+returns-in-NoMemory-handle-clause-keeps g c =
+    let D = g.D.Dispatcher in
+    own_then D.Serves D.origin D.nudges D.asked c.args.d.now c.intercept.new.self c.handle.new.self c.args.own.now c.intercept.new.own c.handle.new.own c.intercept.ensures.keeps c.handle.ensures.keeps
 
-pub returns-in-Yes-handle-clause-lent : goal.returns-in-Yes-handle-clause-lent
-returns-in-Yes-handle-clause-lent g c = lent_then (held c.args.own.now) (held c.intercept.new.own) (held c.handle.new.own) c.intercept.ensures.lent c.handle.ensures.lent
+pub returns-in-Yes-handle-clause-keeps : goal.returns-in-Yes-handle-clause-keeps
+returns-in-Yes-handle-clause-keeps g c =
+    let D = g.D.Dispatcher in
+    own_then D.Serves D.origin D.nudges D.asked c.args.d.now c.intercept.new.self c.handle.new.self c.args.own.now c.intercept.new.own c.handle.new.own c.intercept.ensures.keeps c.handle.ensures.keeps

@@ -1,12 +1,13 @@
-use Rattle.std.proofs.Common.{◌≡◌, subst, sym, refl, true, inl, Some, slice_get}
+use Rattle.std.proofs.Common.{subst, sym, refl, true, inl, None}
 use Rattle.atomic_table.specs.Seated.{TableId}
 use Rattle.message_pool.specs.Passes.{Claimed}
 use Rattle.queue_state.specs.declared.answers.Nexted.{Nexted}
 use Rattle.shared_queue.specs.Calls.{NextedBy}
-use Rattle.looper_run.specs.Holding.{Looping, held}
+use Rattle.looper_run.specs.Holding.{Holding, Looping, held}
 use Rattle.looper_run.specs.Acts.{IsIdle}
 use Rattle.looper_run.specs.Told.{Dispatches, GivesBack}
-use Rattle.looper_run.specs.Tests.{Passes, HasTaken}
+use Rattle.looper_run.specs.Tests.{Passes}
+use Rattle.looper_run.specs.Ready.{RestsBetween, HasToDispatch}
 use Rattle.looper_run.specs.Looks.{StepBy, WaitsAsTold, HasDispatched, GivesUp, looked_by, by_poster}
 use Rattle.looper_run.specs.Round.{UnlessStopped}
 use Rattle.looper_run.specs.declared.step.Step.{Step}
@@ -16,20 +17,20 @@ use Rattle.looper_run.proofs.Idling.{grows_none}
 use Rattle.looper_run.proofs.looper.Looper.act.Goals as goal
 use Rattle.looper_run.proofs.looper.Looper.act.Goals.{in-Ok, in-Err, in-Ok-run_idle, in-Err-run_idle}
 
-pub dispatch-requires-clause-taken : goal.dispatch-requires-clause-taken
-dispatch-requires-clause-taken g c κs lives =
-    let M = g.D.Dispatcher.Meets c.args.d.now in
-    subst (λ (l : Looping). HasTaken M l.held c.in-Taken.node c.in-Taken.now) (sym c.self.view_is)
-    (answer_taken M c.args.self.now c.args.answer c.requires.look c.in-Taken.number c.in-Taken.now c.in-Taken.node (g.met.D.Dispatcher.others c.args.d.now) c.in-Taken.is)
-
-pub dispatch-requires-clause-number : goal.dispatch-requires-clause-number
-dispatch-requires-clause-number g c κs lives =
-    answer_number (g.D.Dispatcher.Meets c.args.d.now) c.args.self.now c.args.answer c.requires.look c.in-Taken.number c.in-Taken.now c.in-Taken.node c.in-Taken.is
-
-pub dispatch-requires-clause-claim : goal.dispatch-requires-clause-claim
-dispatch-requires-clause-claim g c κs lives =
-    subst (λ (l : Looping). slice_get l.held.poster.view.claims c.in-Taken.number ≡ Some c.in-Taken.node.claim) (sym c.self.view_is)
-    (answer_claim (g.D.Dispatcher.Meets c.args.d.now) c.args.self.now c.args.answer c.requires.look c.in-Taken.number c.in-Taken.now c.in-Taken.node c.in-Taken.is)
+pub dispatch-requires-clause-ready : goal.dispatch-requires-clause-ready
+dispatch-requires-clause-ready g c κs lives =
+    let D = g.D.Dispatcher in
+    let d = c.args.d.now in
+    let M = D.Meets d in
+    let n = c.in-Taken.number in
+    let m = c.in-Taken.node in
+    subst (λ (l : Looping). HasToDispatch D.Serves D.Awaits D.Meets d l.held n m c.in-Taken.now) (sym c.self.view_is) (record {
+      serves = c.requires.serves;
+      awaits = c.requires.awaits;
+      taken = answer_taken M c.args.self.now c.args.answer c.requires.answer.look n c.in-Taken.now m (g.met.D.Dispatcher.others d) c.in-Taken.is;
+      number = answer_number M c.args.self.now c.args.answer c.requires.answer.look n c.in-Taken.now m c.in-Taken.is;
+      claim = answer_claim M c.args.self.now c.args.answer c.requires.answer.look n c.in-Taken.now m c.in-Taken.is;
+    })
 
 pub returns-after-dispatch-clause-step : goal.returns-after-dispatch-clause-step
 returns-after-dispatch-clause-step g c p now look =
@@ -61,29 +62,40 @@ returns-after-run_idle-clause-waits g c = elim c.match-run_idle.branch [
   | in-Err-run_idle w ↦ subst (λ (r : Step). WaitsAsTold c.args.answer r) (sym w.result-is) tt
 ]
 
-pub returns-after-run_idle-clause-meets : goal.returns-after-run_idle-clause-meets
-returns-after-run_idle-clause-meets g c =
-    let M = g.D.Dispatcher.Meets c.args.d.now in
-    let N = g.D.Dispatcher.Meets c.run_idle.new.d in
+pub returns-after-run_idle-clause-rests : goal.returns-after-run_idle-clause-rests
+returns-after-run_idle-clause-rests g c =
+    let D = g.D.Dispatcher in
+    let M = D.Meets c.args.d.now in
     let l = c.args.self.now in
     let here = subst (λ (x : Looping). M x.held.poster.sender x.held.poster.view.seen x.held.journal.acts) (sym c.self.view_is)
-    (answer_idle M l c.args.answer c.requires.look (g.met.D.Dispatcher.others c.args.d.now) (g.met.D.Dispatcher.quiet c.args.d.now) l.held.journal.acts c.in-Idle.is (grows_none IsIdle l.held.journal.acts)) in
-    let still = c.run_idle.ensures.carries.meeting c.self.inside.poster.sender c.self.inside.poster.view.seen here in
+    (answer_idle M l c.args.answer c.requires.answer.look (g.met.D.Dispatcher.others c.args.d.now) (g.met.D.Dispatcher.quiet c.args.d.now) l.held.journal.acts c.in-Idle.is (grows_none IsIdle l.held.journal.acts)) in
+    let after : Holding = record { poster = c.self.inside.poster; pass = c.self.inside.pass; journal = c.run_idle.new.journal } in
+    let still : RestsBetween D.Awaits D.Meets c.run_idle.new.d after = record {
+      awaits = c.run_idle.ensures.carries.awaits None c.requires.awaits;
+      meets = c.run_idle.ensures.carries.meets c.self.inside.poster.sender c.self.inside.poster.view.seen here;
+    } in
     elim c.match-run_idle.branch [
-      | in-Ok-run_idle w ↦ subst (λ (r : Step). UnlessStopped r (N c.self.inside.poster.sender c.self.inside.poster.view.seen c.run_idle.new.journal.acts)) (sym w.result-is) still
-      | in-Err-run_idle w ↦ subst (λ (r : Step). UnlessStopped r (N c.self.inside.poster.sender c.self.inside.poster.view.seen c.run_idle.new.journal.acts)) (sym w.result-is) tt
+      | in-Ok-run_idle w ↦ subst (λ (r : Step). UnlessStopped r (RestsBetween D.Awaits D.Meets c.run_idle.new.d after)) (sym w.result-is) still
+      | in-Err-run_idle w ↦ subst (λ (r : Step). UnlessStopped r (RestsBetween D.Awaits D.Meets c.run_idle.new.d after)) (sym w.result-is) tt
     ]
 
-pub returns-in-Wait-clause-meets : goal.returns-in-Wait-clause-meets
-returns-in-Wait-clause-meets g c =
-    answer_wait (g.D.Dispatcher.Meets c.args.d.now) c.args.self.now c.args.answer c.requires.look (g.met.D.Dispatcher.others c.args.d.now) (g.met.D.Dispatcher.quiet c.args.d.now) c.in-Wait.until c.in-Wait.is
+pub returns-in-Wait-clause-rests : goal.returns-in-Wait-clause-rests
+returns-in-Wait-clause-rests g c = record {
+  awaits = c.requires.awaits;
+  meets = answer_wait (g.D.Dispatcher.Meets c.args.d.now) c.args.self.now c.args.answer c.requires.answer.look (g.met.D.Dispatcher.others c.args.d.now) (g.met.D.Dispatcher.quiet c.args.d.now) c.in-Wait.until c.in-Wait.is;
+}
 
-pub returns-in-End-clause-meets : goal.returns-in-End-clause-meets
-returns-in-End-clause-meets g c =
+pub returns-in-End-clause-rests : goal.returns-in-End-clause-rests
+returns-in-End-clause-rests g c =
     let M = g.D.Dispatcher.Meets c.args.d.now in
-    subst (λ (x : Looping). Passes M x.held) (sym c.self.view_is)
-    (answer_end M c.args.self.now c.args.answer c.requires.look (g.met.D.Dispatcher.others c.args.d.now) (g.met.D.Dispatcher.disposal c.args.d.now) c.in-End.left c.in-End.is)
+    record {
+      awaits = c.requires.awaits;
+      meets = subst (λ (x : Looping). Passes M x.held) (sym c.self.view_is)
+          (answer_end M c.args.self.now c.args.answer c.requires.answer.look (g.met.D.Dispatcher.others c.args.d.now) (g.met.D.Dispatcher.disposal c.args.d.now) c.in-End.left c.in-End.is);
+    }
 
-pub returns-in-Over-clause-meets : goal.returns-in-Over-clause-meets
-returns-in-Over-clause-meets g c =
-    answer_over (g.D.Dispatcher.Meets c.args.d.now) c.args.self.now c.args.answer c.requires.look (g.met.D.Dispatcher.others c.args.d.now) (g.met.D.Dispatcher.quiet c.args.d.now) c.in-Over.is
+pub returns-in-Over-clause-rests : goal.returns-in-Over-clause-rests
+returns-in-Over-clause-rests g c = record {
+  awaits = c.requires.awaits;
+  meets = answer_over (g.D.Dispatcher.Meets c.args.d.now) c.args.self.now c.args.answer c.requires.answer.look (g.met.D.Dispatcher.others c.args.d.now) (g.met.D.Dispatcher.quiet c.args.d.now) c.in-Over.is;
+}

@@ -1,18 +1,39 @@
 use Rattle.std.proofs.Common.{◌≡◌, refl, inl, ◌++◌, map}
 use Rattle.loop_io.specs.Moments.{IsMoment}
 use Rattle.looper_run.specs.Asked.{Listen, with_asked, asked_by_round}
-use Rattle.looper_run.proofs.Rings.{rings_then}
+use Rattle.looper_run.specs.Carried.{unasked}
+use Rattle.looper_run.specs.Tests.{IsSameLooper}
+use Rattle.looper_run.specs.Loops.{IsStill}
+use Rattle.looper_run.proofs.Keeping.{keeps_then, keeps_unasked, ready_again}
 use Rattle.looper_run.proofs.Rounds.{works_beginning, begun_any}
-use Rattle.looper_run.proofs.Sleeping.{goes_by}
+use Rattle.looper_run.proofs.Sleeping.{still_of, still_then, goes_by}
 use Rattle.looper_run.proofs.Pausing.{loop_begun, begins, asks_both}
 use Rattle.looper_run.proofs.looper.Looper.run_loop.Goals as goal
 
 pub returns-in_default-clause-steps : goal.returns-in_default-clause-steps
 returns-in_default-clause-steps g c = (c.begin.new.self, begun_any _ c.args.self.now c.begin.new.self c.begin.ensures.begun, inl refl)
 
-pub returns-clause-nudges : goal.returns-clause-nudges
-returns-clause-nudges g c =
-    rings_then c.args.self.now.held.poster c.begin.new.self.held.poster c.go_on.new.self.held.poster (g.D.Dispatcher.nudges c.args.d.now) (g.D.Dispatcher.nudges c.begin.new.d) (g.D.Dispatcher.nudges c.go_on.new.d) c.begin.ensures.nudges c.go_on.ensures.nudges
+pub go_on-requires-clause-ready : goal.go_on-requires-clause-ready
+go_on-requires-clause-ready g c κs lives =
+    let D = g.D.Dispatcher in
+    let a = c.args.self.now.held in
+    let b = c.begin.new.self.held in
+    ready_again D.Serves D.origin D.nudges unasked IsSameLooper D.Awaits D.Meets c.args.d.now c.begin.new.d a b (still_of a b c.begin.ensures.keeps.same) c.requires.ready.serves c.begin.ensures.keeps c.in-Ok.ensures.rests
+
+pub returns-in_default-clause-keeps : goal.returns-in_default-clause-keeps
+returns-in_default-clause-keeps g c =
+    let D = g.D.Dispatcher in
+    let a = c.args.self.now.held in
+    let b = c.begin.new.self.held in
+    keeps_unasked D.Serves D.origin D.nudges unasked IsSameLooper IsStill c.args.d.now c.begin.new.d a b (still_of a b c.begin.ensures.keeps.same) c.begin.ensures.keeps
+
+pub returns-clause-keeps : goal.returns-clause-keeps
+returns-clause-keeps g c =
+    let D = g.D.Dispatcher in
+    let a = c.args.self.now.held in
+    let b = c.begin.new.self.held in
+    let begun = keeps_unasked D.Serves D.origin D.nudges unasked IsSameLooper IsStill c.args.d.now c.begin.new.d a b (still_of a b c.begin.ensures.keeps.same) c.begin.ensures.keeps in
+    keeps_then D.Serves D.origin D.nudges unasked IsStill still_then c.args.d.now c.begin.new.d c.go_on.new.d a b c.go_on.new.self.held begun c.go_on.ensures.keeps
 
 pub returns-clause-loops : goal.returns-clause-loops
 returns-clause-loops g c =
