@@ -1,5 +1,5 @@
 -- A thread that runs the lines of a block, one after another.
-use Rattle.std.proofs.Common.{◌≡◌, ◌≢◌, ℕ, zero, suc, ◌+◌, ◌<◌, ◌≤◌, ◌==◌, Bool, true, false, cond, List, [], ◌∷◌, ◌++◌, map, length, take, drop, get_or, sym, ap, ◌∙◌, subst, arith, append_assoc, length-append, eq-eqb, ne_eqb}
+use Rattle.std.proofs.Common.{◌≡◌, ◌≢◌, ℕ, zero, suc, ◌+◌, ◌<◌, ◌≤◌, ◌==◌, Bool, false, cond, List, [], ◌∷◌, ◌++◌, map, length, take, drop, get_or, sym, ap, ◌∙◌, subst, arith, append_assoc, length-append, eq-eqb, ne_eqb}
 use Rattle.std.specs.Prelude.{filter}
 use Rattle.std.proofs.lemmas.List.{append-nil, map-append, take_all, take_more, drop_more, take-append-drop, flat_map_more}
 use Rattle.std.proofs.lemmas.List.Elements.{filter-append}
@@ -12,7 +12,8 @@ use Rattle.dash_script.specs.declared.script.Block.{Block}
 use Rattle.std.proofs.lemmas.Grind.{flat_map-append}
 use Rattle.dash_hall.specs.declared.hall.Hall.{Hall}
 use Rattle.dash_threads.specs.declared.thread.PostingThread.{PostingThread}
-use Rattle.dash_threads.specs.Threads.{IsThread, IsUpTo, Takes, Continues, one_pass_more, passes_more, HasPassed}
+use Rattle.dash_threads.specs.Threads.{IsUpTo, Takes, Continues, one_pass_more, passes_more, HasPassed}
+use Rattle.dash_threads.specs.AtWork.{RunsUnlessGivenUp}
 use Rattle.dash_threads.proofs.ThreadLabels.{at_time}
 
 -- the lines of a thread among these, at a time
@@ -92,12 +93,18 @@ passes_then (suc m) n p =
     let e : suc (n + m) ≡ n + suc m = omega arith in
     ap (λ (k : ℕ). one_pass_more k) (passes_then m n p) ∙ ap (λ (k : ℕ). passes_more k p) e
 
--- how far a thread has come in the lines of a block: it is the thread still, goes only where it went, and stays as it was where it had given up
+-- what runs on from a thread that has run on
+pub runs_on : (s : Script) (hall : Hall) (t z v : PostingThread) → RunsUnlessGivenUp s hall t z → RunsUnlessGivenUp s hall z v → RunsUnlessGivenUp s hall t v
+runs_on s hall t z v was is = record {
+  thread = is.thread;
+  number = is.number ∙ was.number;
+  goes = λ going. was.goes (is.goes going);
+  stays = λ gone. (let still = was.stays gone in is.stays (ap (λ (x : PostingThread). x.gave_up) still ∙ gone) ∙ still);
+}
+
+-- how far a thread has come in the lines of a block
 pub record IsAtLine (m : Mode) (s : Script) (hall : Hall) (b : Block) (i : ℕ) (t z : PostingThread) : Type 0 where
-  pub thread : IsThread s hall z
-  pub number : z.number ≡ t.number
-  pub goes : z.gave_up ≡ false → t.gave_up ≡ false
-  pub stays : t.gave_up ≡ true → z ≡ t
+  pub runs : RunsUnlessGivenUp s hall t z
   pub made : z.gave_up ≡ false → HasRun m s b.time b.lines (take i b.lines) t z
   pub passed : HasPassed (timed_in t.number b.time (take i b.lines)) t z
 
@@ -114,27 +121,20 @@ module _ (m : Mode) (s : Script) (hall : Hall) (b : Block) (i : ℕ) (t z : Post
   -- the next line is another's
   pub by_line : (get_or ls i no_line).thread ≢ z.number → IsAtLine m s hall b (i + 1) t z
   by_line other = record {
-    thread = at.thread;
-    number = at.number;
-    goes = at.goes;
-    stays = at.stays;
-    made = λ going. goes_by m s b.time b.lines i no_line (get_or ls i no_line) t z within is_line (λ own. other (own ∙ sym at.number)) (at.made going);
+    runs = at.runs;
+    made = λ going. goes_by m s b.time b.lines i no_line (get_or ls i no_line) t z within is_line (λ own. other (own ∙ sym at.runs.number)) (at.made going);
     passed = λ going. at.passed going
-        ∙ ap (λ (xs : List Timed). passes_more (length xs) t.passed) (sym (other_more t.number b.time b.lines i no_line (get_or ls i no_line) within is_line (λ own. other (own ∙ sym at.number))));
+        ∙ ap (λ (xs : List Timed). passes_more (length xs) t.passed) (sym (other_more t.number b.time b.lines i no_line (get_or ls i no_line) within is_line (λ own. other (own ∙ sym at.runs.number))));
   }
 
   -- the next line is its own
-  pub on_line : (v : PostingThread) → (get_or ls i no_line).thread ≡ z.number → IsThread s hall v → v.number ≡ z.number → (z.gave_up ≡ true → v ≡ z)
-      → (v.gave_up ≡ false → (z.gave_up ≡ false) × Takes m s (at_time b.time (get_or ls i no_line)) z v) → (v.gave_up ≡ false → v.passed ≡ one_pass_more z.passed) → IsAtLine m s hall b (i + 1) t v
-  on_line v own thread number stays takes once = record {
-    thread = thread;
-    number = number ∙ at.number;
-    goes = λ going. at.goes (takes going).0;
-    stays = λ gone. (let still = at.stays gone in stays (ap (λ (x : PostingThread). x.gave_up) still ∙ gone) ∙ still);
-    made = λ going. (let k = takes going in goes_on m s b.time b.lines i no_line (get_or ls i no_line) t z v within is_line (own ∙ at.number) at.number (at.made k.0) k.1);
-    passed = λ going. (let k = takes going in
-        once going ∙ (ap (λ (n : ℕ). one_pass_more n) (at.passed k.0)
-        ∙ ap (λ (n : ℕ). passes_more n t.passed) (sym (longer _ _ _ (own_more t.number b.time b.lines i no_line (get_or ls i no_line) within is_line (own ∙ at.number))))));
+  pub on_line : (v : PostingThread) → (get_or ls i no_line).thread ≡ z.number → RunsUnlessGivenUp s hall z v
+      → (v.gave_up ≡ false → Takes m s (at_time b.time (get_or ls i no_line)) z v) → (v.gave_up ≡ false → v.passed ≡ one_pass_more z.passed) → IsAtLine m s hall b (i + 1) t v
+  on_line v own runs takes once = record {
+    runs = runs_on s hall t z v at.runs runs;
+    made = λ going. goes_on m s b.time b.lines i no_line (get_or ls i no_line) t z v within is_line (own ∙ at.runs.number) at.runs.number (at.made (runs.goes going)) (takes going);
+    passed = λ going. once going ∙ (ap (λ (n : ℕ). one_pass_more n) (at.passed (runs.goes going))
+        ∙ ap (λ (n : ℕ). passes_more n t.passed) (sym (longer _ _ _ (own_more t.number b.time b.lines i no_line (get_or ls i no_line) within is_line (own ∙ at.runs.number)))));
   }
 
 -- all lines of the block

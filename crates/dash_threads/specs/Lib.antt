@@ -1,2 +1,3 @@
+pub mod AtWork
 pub mod Planning
 pub mod Threads

@@ -1,9 +1,8 @@
 //! A thread that runs its blocks by a clock.
 ghost use Rattle.std.specs.Prelude.{◌≡◌, true, false, IfOk, IfErr};
-ghost use Rattle.dash_script.specs.Reading.{HasText};
 ghost use Rattle.run_model.specs.Moments.{in_free_mode, IsUptime};
 ghost use Rattle.run_model.specs.Planned.{lines_in, lines_of};
-ghost use Rattle.dash_hall.specs.Kits.{IsHall};
+ghost use Rattle.dash_threads.specs.AtWork.{IsAtWork, StaysAtWork, RunsUnlessGivenUp};
 ghost use Rattle.dash_threads.specs.Threads.{IsThread, Takes, TakesAt, Continues, RunsAll, ThreadKeeps, HaveSeenSame, one_pass_more, HasPassed};
 ghost use Rattle.dash_threads.specs.Threads.{rungs_of, one_more, more_for, looper_woken};
 
@@ -35,14 +34,9 @@ impl PostingThread {
         gate: &G,
         timer: &Timer<C>,
     )
-        requires text { HasText script.now }
-        requires hall { IsHall script.now hall.now }
+        requires at_work { IsAtWork script.now hall.now self.old }
         requires mode { hall.now.lockstep ≡ false }
-        requires thread { IsThread script.now hall.now self.old }
-        ensures thread { IsThread script.now hall.now self.new }
-        ensures number { self.new.number ≡ self.old.number }
-        ensures goes { self.new.gave_up ≡ false → self.old.gave_up ≡ false }
-        ensures stays { self.old.gave_up ≡ true → self.new ≡ self.old }
+        ensures runs { RunsUnlessGivenUp script.now hall.now self.old self.new }
         ensures made { self.new.gave_up ≡ false → RunsAll (in_free_mode (C.shows timer.now.clock.now) timer.now.start) script.now self.old self.new }
         ensures passed { HasPassed (lines_of self.old.number script.now.blocks) self.old self.new }
     {
@@ -62,14 +56,9 @@ impl PostingThread {
         pace: &Pace<G, C>,
         block: &Block,
     )
-        requires text { HasText script.now }
-        requires hall { IsHall script.now hall.now }
+        requires at_work { IsAtWork script.now hall.now self.old }
         requires mode { hall.now.lockstep ≡ false }
-        requires thread { IsThread script.now hall.now self.old }
-        ensures thread { IsThread script.now hall.now self.new }
-        ensures number { self.new.number ≡ self.old.number }
-        ensures goes { self.new.gave_up ≡ false → self.old.gave_up ≡ false }
-        ensures stays { self.old.gave_up ≡ true → self.new ≡ self.old }
+        ensures runs { RunsUnlessGivenUp script.now hall.now self.old self.new }
         ensures made { self.new.gave_up ≡ false
             → Continues (in_free_mode (C.shows pace.now.timer.now.clock.now) pace.now.timer.now.start) script.now block.now self.old self.new }
         ensures passed { HasPassed (lines_in self.old.number block.now) self.old self.new }
@@ -95,15 +84,10 @@ impl PostingThread {
         pace: &Pace<G, C>,
         timed: Timed,
     )
-        requires text { HasText script.now }
-        requires hall { IsHall script.now hall.now }
+        requires at_work { IsAtWork script.now hall.now self.old }
         requires mode { hall.now.lockstep ≡ false }
-        requires thread { IsThread script.now hall.now self.old }
-        ensures thread { IsThread script.now hall.now self.new }
-        ensures number { self.new.number ≡ self.old.number }
+        ensures runs { RunsUnlessGivenUp script.now hall.now self.old self.new }
         ensures passed { self.new.gave_up ≡ false → self.new.passed ≡ one_pass_more self.old.passed }
-        ensures stays { self.old.gave_up ≡ true → self.new ≡ self.old }
-        ensures goes { self.new.gave_up ≡ false → self.old.gave_up ≡ false }
         ensures made { self.new.gave_up ≡ false → Takes (in_free_mode (C.shows pace.now.timer.now.clock.now) pace.now.timer.now.start) script.now
             (record { time = timed.now; command = timed.command }) self.old self.new }
         ensures rung { self.new.gave_up ≡ false → rungs_of self.new ≡ more_for (looper_woken timed.command) (rungs_of self.old) }
@@ -142,12 +126,8 @@ impl PostingThread {
     /// Runs a command at this moment, in milliseconds, unless the run is given up, and rings the bell of the looper that it asks for a frame
     /// or hands an event.
     fn run_at<R: Wait>(&mut self, rt: &R, alloc: Global, hall: &Hall, script: &Script, timed: Timed)
-        requires text { HasText script.now }
-        requires hall { IsHall script.now hall.now }
-        requires thread { IsThread script.now hall.now self.old }
-        ensures thread { IsThread script.now hall.now self.new }
-        ensures number { self.new.number ≡ self.old.number }
-        ensures passed { self.new.passed ≡ self.old.passed }
+        requires at_work { IsAtWork script.now hall.now self.old }
+        ensures same { StaysAtWork script.now hall.now self.old self.new }
         ensures made { self.new.gave_up ≡ false → TakesAt hall.now.lockstep script.now timed.now timed.command self.old self.new }
         ensures rung { self.new.gave_up ≡ false → rungs_of self.new ≡ more_for (looper_woken timed.command) (rungs_of self.old) }
     {
@@ -159,8 +139,7 @@ impl PostingThread {
 
     /// Rings the bell of the looper that a command asks for a frame, or hands an event.
     fn nudge_for<R: Wait>(&mut self, rt: &R, hall: &Hall, script: &Script, command: Command)
-        requires hall { IsHall script.now hall.now }
-        requires thread { IsThread script.now hall.now self.old }
+        requires at_work { IsAtWork script.now hall.now self.old }
         ensures thread { IsThread script.now hall.now self.new }
         ensures kept { ThreadKeeps HaveSeenSame self.old self.new }
         ensures rung { rungs_of self.new ≡ more_for (looper_woken command) (rungs_of self.old) }
@@ -173,8 +152,7 @@ impl PostingThread {
 
     /// Rings the bell of this looper.
     pub(crate) fn nudge<R: Wait>(&mut self, rt: &R, hall: &Hall, script: &Script, looper: u32)
-        requires hall { IsHall script.now hall.now }
-        requires thread { IsThread script.now hall.now self.old }
+        requires at_work { IsAtWork script.now hall.now self.old }
         ensures thread { IsThread script.now hall.now self.new }
         ensures kept { ThreadKeeps HaveSeenSame self.old self.new }
         ensures rung { rungs_of self.new ≡ one_more looper (rungs_of self.old) }

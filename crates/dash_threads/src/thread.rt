@@ -2,16 +2,16 @@
 ghost use Rattle.std.specs.Prelude.{◌≡◌, ◌<◌, ℕ, length, true, false, is_some, IfOk, OnOk};
 ghost use Rattle.dash_script.specs.declared.script.Script.{Script as TheScript};
 ghost use Rattle.dash_script.specs.declared.script.Command.TheVariants.{Frame, Unframe};
-ghost use Rattle.dash_script.specs.Reading.{HasText};
 ghost use Rattle.shared_queue.specs.Known.{IsOf};
 ghost use Rattle.choreographer.specs.Known.{IsOf as IsFrameOf};
 ghost use Rattle.run_model.specs.Moments.{Mode, in_lockstep};
 ghost use Rattle.run_model.specs.Planned.{lines_in};
 ghost use Rattle.dash_hall.specs.Growth.{GoesOn};
-ghost use Rattle.dash_hall.specs.Kits.{IsHall, IsUnusedKit, frame_badge_of};
+ghost use Rattle.dash_hall.specs.Kits.{IsUnusedKit, frame_badge_of};
 ghost use Rattle.dash_hall.specs.Hosts.{PostsFrame};
 ghost use Rattle.dash_hall.specs.Requests.{posts_barrier};
-ghost use Rattle.dash_threads.specs.Threads.{IsThread, CallsAt, with_barrier, MakesPlanned, Takes, TakesAt, Continues, HasBegun, one_pass_more, HasPassed, rungs_of, one_more};
+ghost use Rattle.dash_threads.specs.AtWork.{IsAtWork, StaysAtWork, WorksOn, RunsUnlessGivenUp};
+ghost use Rattle.dash_threads.specs.Threads.{CallsAt, with_barrier, MakesPlanned, Takes, TakesAt, Continues, HasBegun, one_pass_more, HasPassed, rungs_of, one_more};
 
 use crate::labels::Labelled;
 use crate::planned::call_for;
@@ -110,13 +110,8 @@ impl PostingThread {
         gate: &G,
         block: &Block,
     )
-        requires text { HasText script.now }
-        requires hall { IsHall script.now hall.now }
-        requires thread { IsThread script.now hall.now self.old }
-        ensures thread { IsThread script.now hall.now self.new }
-        ensures number { self.new.number ≡ self.old.number }
-        ensures goes { self.new.gave_up ≡ false → self.old.gave_up ≡ false }
-        ensures stays { self.old.gave_up ≡ true → self.new ≡ self.old }
+        requires at_work { IsAtWork script.now hall.now self.old }
+        ensures runs { RunsUnlessGivenUp script.now hall.now self.old self.new }
         ensures made { self.new.gave_up ≡ false → Continues in_lockstep script.now block.now self.old self.new }
         ensures passed { HasPassed (lines_in self.old.number block.now) self.old self.new }
     {
@@ -141,15 +136,10 @@ impl PostingThread {
         gate: &G,
         timed: Timed,
     )
-        requires text { HasText script.now }
-        requires hall { IsHall script.now hall.now }
-        requires thread { IsThread script.now hall.now self.old }
-        ensures thread { IsThread script.now hall.now self.new }
-        ensures number { self.new.number ≡ self.old.number }
+        requires at_work { IsAtWork script.now hall.now self.old }
+        ensures runs { RunsUnlessGivenUp script.now hall.now self.old self.new }
         ensures passed { self.old.gave_up ≡ false → self.new.passed ≡ one_pass_more self.old.passed }
-        ensures stays { self.old.gave_up ≡ true → self.new ≡ self.old }
-        ensures made { self.new.gave_up ≡ false → (self.old.gave_up ≡ false)
-            × Takes in_lockstep script.now (record { time = timed.now; command = timed.command }) self.old self.new }
+        ensures made { self.new.gave_up ≡ false → Takes in_lockstep script.now (record { time = timed.now; command = timed.command }) self.old self.new }
     {
         if self.gave_up {
             return;
@@ -171,12 +161,8 @@ impl PostingThread {
         timed: Timed,
         look: Look,
     )
-        requires text { HasText script.now }
-        requires hall { IsHall script.now hall.now }
-        requires thread { IsThread script.now hall.now self.old }
-        ensures thread { IsThread script.now hall.now self.new }
-        ensures number { self.new.number ≡ self.old.number }
-        ensures passed { self.new.passed ≡ self.old.passed }
+        requires at_work { IsAtWork script.now hall.now self.old }
+        ensures same { StaysAtWork script.now hall.now self.old self.new }
         ensures heeds { look ≡ true → self.new ≡ record self.old { gave_up = true } }
         ensures bells { self.new.gave_up ≡ false → rungs_of self.new ≡ rungs_of self.old }
         ensures nudges { look ≡ false → self.old.gave_up ≡ false → self.new.gave_up ≡ true → rungs_of self.new ≡ one_more 0 (rungs_of self.old) }
@@ -193,11 +179,8 @@ impl PostingThread {
 
     /// Makes no command more, gives the run up and nudges main.
     fn give_up<R: Wait>(&mut self, rt: &R, hall: &Hall, script: &Script)
-        requires hall { IsHall script.now hall.now }
-        requires thread { IsThread script.now hall.now self.old }
-        ensures thread { IsThread script.now hall.now self.new }
-        ensures number { self.new.number ≡ self.old.number }
-        ensures passed { self.new.passed ≡ self.old.passed }
+        requires at_work { IsAtWork script.now hall.now self.old }
+        ensures same { StaysAtWork script.now hall.now self.old self.new }
         ensures gave_up { self.new.gave_up ≡ true }
         ensures rung { rungs_of self.new ≡ one_more 0 (rungs_of self.old) }
     {
@@ -216,15 +199,9 @@ impl PostingThread {
         timed: Timed,
         look: Look,
     ) -> Result<(), NoMemory>
-        requires text { HasText script.now }
-        requires hall { IsHall script.now hall.now }
-        requires thread { IsThread script.now hall.now self.old }
+        requires at_work { IsAtWork script.now hall.now self.old }
         requires heeds { look ≡ false }
-        ensures thread { IsThread script.now hall.now self.new }
-        ensures number { self.new.number ≡ self.old.number }
-        ensures passed { self.new.passed ≡ self.old.passed }
-        ensures goes { self.new.gave_up ≡ self.old.gave_up }
-        ensures bells { rungs_of self.new ≡ rungs_of self.old }
+        ensures works { WorksOn script.now hall.now self.old self.new }
         ensures made { OnOk result (TakesAt hall.now.lockstep script.now timed.now timed.command self.old self.new) }
     {
         let Timed { now, command } = timed;
@@ -263,14 +240,9 @@ impl PostingThread {
         timed: Timed,
         look: &Look,
     ) -> Result<(), NoMemory>
-        requires hall { IsHall script.now hall.now }
-        requires thread { IsThread script.now hall.now self.old }
+        requires at_work { IsAtWork script.now hall.now self.old }
         requires heeds { look.now ≡ false }
-        ensures thread { IsThread script.now hall.now self.new }
-        ensures number { self.new.number ≡ self.old.number }
-        ensures passed { self.new.passed ≡ self.old.passed }
-        ensures goes { self.new.gave_up ≡ self.old.gave_up }
-        ensures bells { rungs_of self.new ≡ rungs_of self.old }
+        ensures works { WorksOn script.now hall.now self.old self.new }
         ensures made { OnOk result (MakesPlanned script.now timed.now timed.command self.old self.new) }
     {
         let Timed { now, command } = timed;
@@ -291,13 +263,8 @@ impl PostingThread {
         looper: u32,
         call: QueueCall,
     ) -> Result<Option<u64>, NoMemory>
-        requires hall { IsHall script.now hall.now }
-        requires thread { IsThread script.now hall.now self.old }
-        ensures thread { IsThread script.now hall.now self.new }
-        ensures number { self.new.number ≡ self.old.number }
-        ensures passed { self.new.passed ≡ self.old.passed }
-        ensures goes { self.new.gave_up ≡ self.old.gave_up }
-        ensures bells { rungs_of self.new ≡ rungs_of self.old }
+        requires at_work { IsAtWork script.now hall.now self.old }
+        ensures works { WorksOn script.now hall.now self.old self.new }
         ensures made { IfOk result (λ token. CallsAt looper call token self.old.kit.posters.items self.new.kit.posters.items) }
         ensures token { IfOk result (λ token. looper < length self.old.kit.posters.items → is_some token ≡ posts_barrier call) }
         ensures barriers { self.new.barriers ≡ self.old.barriers }
@@ -320,10 +287,7 @@ impl PostingThread {
 
     /// Keeps the token of the barrier that a command posted.
     fn keep(&mut self, command: Command, token: Option<u64>) -> Result<(), NoMemory>
-        ensures kit { self.new.kit ≡ self.old.kit }
-        ensures number { self.new.number ≡ self.old.number }
-        ensures passed { self.new.passed ≡ self.old.passed }
-        ensures goes { self.new.gave_up ≡ self.old.gave_up }
+        ensures same { self.new ≡ record self.old { barriers = self.new.barriers } }
         ensures kept { OnOk result (self.new.barriers.items ≡ with_barrier self.old.barriers.items command token) }
     {
         let Command::Barrier { looper, label } = command else {
@@ -351,15 +315,9 @@ impl PostingThread {
         post: FramePost,
         look: &Look,
     ) -> Result<(), NoMemory>
-        requires text { HasText script.now }
-        requires hall { IsHall script.now hall.now }
-        requires thread { IsThread script.now hall.now self.old }
+        requires at_work { IsAtWork script.now hall.now self.old }
         requires heeds { look.now ≡ false }
-        ensures thread { IsThread script.now hall.now self.new }
-        ensures number { self.new.number ≡ self.old.number }
-        ensures passed { self.new.passed ≡ self.old.passed }
-        ensures goes { self.new.gave_up ≡ self.old.gave_up }
-        ensures bells { rungs_of self.new ≡ rungs_of self.old }
+        ensures works { WorksOn script.now hall.now self.old self.new }
         ensures made { OnOk result (TakesAt hall.now.lockstep script.now post.now (Frame looper post.phase post.id post.delay) self.old self.new) }
     {
         let place = looper as usize;
@@ -400,15 +358,9 @@ impl PostingThread {
         id: u32,
         look: &Look,
     ) -> Result<(), NoMemory>
-        requires text { HasText script.now }
-        requires hall { IsHall script.now hall.now }
-        requires thread { IsThread script.now hall.now self.old }
+        requires at_work { IsAtWork script.now hall.now self.old }
         requires heeds { look.now ≡ false }
-        ensures thread { IsThread script.now hall.now self.new }
-        ensures number { self.new.number ≡ self.old.number }
-        ensures passed { self.new.passed ≡ self.old.passed }
-        ensures goes { self.new.gave_up ≡ self.old.gave_up }
-        ensures bells { rungs_of self.new ≡ rungs_of self.old }
+        ensures works { WorksOn script.now hall.now self.old self.new }
         ensures made { OnOk result ((now : ℕ) → TakesAt hall.now.lockstep script.now now (Unframe looper phase id) self.old self.new) }
     {
         let place = looper as usize;

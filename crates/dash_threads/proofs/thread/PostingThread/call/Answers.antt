@@ -1,4 +1,4 @@
-use Rattle.std.proofs.Common.{◌≡◌, ◌<◌, ◌∙◌, length, set, None, sym, arith, ap}
+use Rattle.std.proofs.Common.{◌≡◌, ◌<◌, ◌∙◌, length, set, None, sym, arith, ap, refl}
 use Rattle.std.proofs.Math.Seq.{map-set_same}
 use Rattle.std.proofs.lemmas.Result.{IfOk-weaker}
 use Rattle.looper_run.specs.Holding.{Sender}
@@ -20,19 +20,26 @@ perform_by-requires g c =
     let near : c.args.looper < length t.kit.posters.items = omega (arith, c.len.ensures, c.if-place-len.true) in
     let near' : c.args.looper < length hall.queues.items = omega (arith, c.len-then-place-len.ensures, c.if-place-len-2.true) in
     record {
-      queue = its_poster c.args.script.now hall t c.requires.hall c.requires.thread c.args.looper c.index.result.now c.index_mut.result.now c.index.ensures c.index_mut.ensures.value near;
-      pass = c.requires.thread.pass;
-      home = its_home c.args.script.now hall t c.requires.hall c.requires.thread c.args.looper c.index.result.now c.index.ensures near';
+      queue = its_poster c.args.script.now hall t c.requires.at_work.hall c.requires.at_work.thread c.args.looper c.index.result.now c.index_mut.result.now c.index.ensures c.index_mut.ensures.value near;
+      pass = c.requires.at_work.thread.pass;
+      home = its_home c.args.script.now hall t c.requires.at_work.hall c.requires.at_work.thread c.args.looper c.index.result.now c.index.ensures near';
     }
 
-pub returns-then-place-len-2-clause-thread : goal.returns-then-place-len-2-clause-thread
-returns-then-place-len-2-clause-thread g c =
+pub returns-then-place-len-2-clause-works : goal.returns-then-place-len-2-clause-works
+returns-then-place-len-2-clause-works g c =
     let t = c.args.self.now in
     record {
-      number = c.requires.thread.number;
-      posters = posters_kept t.number c.args.hall.now.queues.items t.kit.posters.items c.requires.thread.posters c.args.looper c.perform_by.new.poster c.index_mut.result.now (gone_badge _ _ _ _ c.perform_by.ensures.on ∙ ap badge_of c.index_mut.ensures.value);
-      frames = c.requires.thread.frames;
-      pass = c.perform_by.ensures.on.home ∙ c.requires.thread.pass;
+      thread = record {
+        number = c.requires.at_work.thread.number;
+        posters = posters_kept t.number c.args.hall.now.queues.items t.kit.posters.items c.requires.at_work.thread.posters c.args.looper c.perform_by.new.poster c.index_mut.result.now (gone_badge _ _ _ _ c.perform_by.ensures.on ∙ ap badge_of c.index_mut.ensures.value);
+        frames = c.requires.at_work.thread.frames;
+        pass = c.perform_by.ensures.on.home ∙ c.requires.at_work.thread.pass;
+      };
+      number = refl;
+      passed = refl;
+      goes = refl;
+      bells = map-set_same (λ (z : Sender). z.view.rung) t.kit.posters.items c.args.looper c.perform_by.new.poster c.index_mut.result.now
+          (c.perform_by.ensures.on.rung ∙ ap (λ (z : Sender). z.view.rung) c.index_mut.ensures.value);
     }
 
 pub returns-then-place-len-2-clause-made : goal.returns-then-place-len-2-clause-made
@@ -52,7 +59,7 @@ returns-then-place-len-2-clause-made g c =
 pub returns-clause-made : goal.returns-clause-made
 returns-clause-made g c =
     let posters = c.args.self.now.kit.posters.items in
-    let long = alike_length badge_of (badge_for c.args.self.now.number) posters c.args.hall.now.queues.items c.requires.thread.posters in
+    let long = alike_length badge_of (badge_for c.args.self.now.number) posters c.args.hall.now.queues.items c.requires.at_work.thread.posters in
     elim c.else-place-len.branch [
       | else-place-len-via-then-place-len+else-place-len-2 w ↦ calls_nowhere posters c.args.looper c.args.call None (omega (arith, long, w.len-then-place-len.ensures, w.if-place-len-2.false))
       | else-place-len-via-else-place-len w ↦ calls_nowhere posters c.args.looper c.args.call None (omega (arith, c.len.ensures, w.if-place-len.false))
@@ -66,13 +73,8 @@ returns-then-place-len-2-clause-token g c =
 pub returns-clause-token : goal.returns-clause-token
 returns-clause-token g c =
     let posters = c.args.self.now.kit.posters.items in
-    let long = alike_length badge_of (badge_for c.args.self.now.number) posters c.args.hall.now.queues.items c.requires.thread.posters in
+    let long = alike_length badge_of (badge_for c.args.self.now.number) posters c.args.hall.now.queues.items c.requires.at_work.thread.posters in
     elim c.else-place-len.branch [
       | else-place-len-via-then-place-len+else-place-len-2 w ↦ (λ near. absurd (omega (arith, near, long, w.len-then-place-len.ensures, w.if-place-len-2.false)))
       | else-place-len-via-else-place-len w ↦ (λ near. absurd (omega (arith, near, c.len.ensures, w.if-place-len.false)))
     ]
-
-pub returns-then-place-len-2-clause-bells : goal.returns-then-place-len-2-clause-bells
-returns-then-place-len-2-clause-bells g c =
-    map-set_same (λ (z : Sender). z.view.rung) c.args.self.now.kit.posters.items c.args.looper c.perform_by.new.poster c.index_mut.result.now
-    (c.perform_by.ensures.on.rung ∙ ap (λ (z : Sender). z.view.rung) c.index_mut.ensures.value)

@@ -15,17 +15,17 @@ nudge-requires-after_bounds g c κs within =
     let t = c.args.self.now in
     let hall = c.args.hall.now in
     let near : c.args.looper < length t.kit.posters.items = omega (arith, c.len.ensures, c.if-place-len.false) in
-    its_poster c.args.script.now hall t c.requires.hall c.requires.thread c.args.looper c.index.result.now c.index_mut.result.now c.index.ensures c.index_mut.ensures.value near
+    its_poster c.args.script.now hall t c.requires.at_work.hall c.requires.at_work.thread c.args.looper c.index.result.now c.index_mut.result.now c.index.ensures c.index_mut.ensures.value near
 
 pub returns-clause-thread : goal.returns-clause-thread
 returns-clause-thread g c =
     let t = c.args.self.now in
     let same = c.nudge.ensures.same.0 in
     record {
-      number = c.requires.thread.number;
-      posters = posters_kept t.number c.args.hall.now.queues.items t.kit.posters.items c.requires.thread.posters c.args.looper c.nudge.new.self c.index_mut.result.now ((λ i. record { table = same.table i; constants = same.constants i; sender = same.sender i }) ∙ ap badge_of c.index_mut.ensures.value);
-      frames = c.requires.thread.frames;
-      pass = c.requires.thread.pass;
+      number = c.requires.at_work.thread.number;
+      posters = posters_kept t.number c.args.hall.now.queues.items t.kit.posters.items c.requires.at_work.thread.posters c.args.looper c.nudge.new.self c.index_mut.result.now ((λ i. record { table = same.table i; constants = same.constants i; sender = same.sender i }) ∙ ap badge_of c.index_mut.ensures.value);
+      frames = c.requires.at_work.thread.frames;
+      pass = c.requires.at_work.thread.pass;
     }
 
 pub returns-clause-kept : goal.returns-clause-kept
@@ -49,7 +49,7 @@ returns-then-place-len-clause-rung g c = ring_none c.args.self.now.kit.posters.i
 pub returns-then-place-len-2-clause-rung : goal.returns-then-place-len-2-clause-rung
 returns-then-place-len-2-clause-rung g c =
     let t = c.args.self.now in
-    let long = alike_length badge_of (badge_for t.number) t.kit.posters.items c.args.hall.now.queues.items c.requires.thread.posters in
+    let long = alike_length badge_of (badge_for t.number) t.kit.posters.items c.args.hall.now.queues.items c.requires.at_work.thread.posters in
     ring_none t.kit.posters.items c.args.looper (omega (arith, long, c.len-2.ensures, c.if-place-len-2.true))
 
 pub returns-clause-rung : goal.returns-clause-rung

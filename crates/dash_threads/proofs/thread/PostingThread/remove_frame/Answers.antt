@@ -15,16 +15,26 @@ remove_callbacks-requires g c =
     let hall = c.args.hall.now in
     let near : c.args.looper < length t.kit.frames.items = omega (arith, c.len.ensures, c.if-place-len.true) in
     let near' : c.args.looper < length hall.choreographers.items = omega (arith, c.len-then-place-len.ensures, c.if-place-len-2.true) in
-    let phases = its_phases c.args.script.now hall t c.requires.hall c.requires.thread c.args.looper c.index.result.now c.index.ensures near' in
-    (its_pass c.args.script.now hall t c.requires.hall c.requires.thread c.args.looper c.index.result.now c.index_mut.result.now c.index.ensures c.index_mut.ensures.value near, omega (arith, phases, c.phase_count-phases.ensures, c.if-phase-phases.true))
+    let phases = its_phases c.args.script.now hall t c.requires.at_work.hall c.requires.at_work.thread c.args.looper c.index.result.now c.index.ensures near' in
+    (its_pass c.args.script.now hall t c.requires.at_work.hall c.requires.at_work.thread c.args.looper c.index.result.now c.index_mut.result.now c.index.ensures c.index_mut.ensures.value near, omega (arith, phases, c.phase_count-phases.ensures, c.if-phase-phases.true))
 
-pub returns-in_err-remove_callbacks-clause-thread : goal.returns-in_err-remove_callbacks-clause-thread
-returns-in_err-remove_callbacks-clause-thread g c =
-    thread_with_pass c.args.script.now c.args.hall.now c.args.self.now _ c.requires.thread refl refl refl c.args.looper c.index_mut.result.now c.remove_callbacks.new.pass refl c.index_mut.ensures.value (frame_turn_badge _ _ _ _ c.remove_callbacks.ensures.2)
+pub returns-in_err-remove_callbacks-clause-works : goal.returns-in_err-remove_callbacks-clause-works
+returns-in_err-remove_callbacks-clause-works g c = record {
+  thread = thread_with_pass c.args.script.now c.args.hall.now c.args.self.now _ c.requires.at_work.thread refl refl refl c.args.looper c.index_mut.result.now c.remove_callbacks.new.pass refl c.index_mut.ensures.value (frame_turn_badge _ _ _ _ c.remove_callbacks.ensures.2);
+  number = refl;
+  passed = refl;
+  goes = refl;
+  bells = refl;
+}
 
-pub returns-in_ok-remove_callbacks-clause-thread : goal.returns-in_ok-remove_callbacks-clause-thread
-returns-in_ok-remove_callbacks-clause-thread g c =
-    thread_with_pass c.args.script.now c.args.hall.now c.args.self.now _ c.requires.thread refl refl refl c.args.looper c.index_mut.result.now c.remove_callbacks.new.pass refl c.index_mut.ensures.value (frame_turn_badge _ _ _ _ c.remove_callbacks.ensures.2)
+pub returns-in_ok-remove_callbacks-clause-works : goal.returns-in_ok-remove_callbacks-clause-works
+returns-in_ok-remove_callbacks-clause-works g c = record {
+  thread = thread_with_pass c.args.script.now c.args.hall.now c.args.self.now _ c.requires.at_work.thread refl refl refl c.args.looper c.index_mut.result.now c.remove_callbacks.new.pass refl c.index_mut.ensures.value (frame_turn_badge _ _ _ _ c.remove_callbacks.ensures.2);
+  number = refl;
+  passed = refl;
+  goes = refl;
+  bells = refl;
+}
 
 pub returns-in_ok-remove_callbacks-clause-made : goal.returns-in_ok-remove_callbacks-clause-made
 returns-in_ok-remove_callbacks-clause-made g c = λ now m time mode allowed past rest are up. (
@@ -41,11 +51,11 @@ returns-else-place-len-clause-made g c = λ now m time mode allowed past rest ar
     let t = c.args.self.now in
     let s = c.args.script.now in
     let hall = c.args.hall.now in
-    let within = unframe_within s t.number time c.args.looper c.args.phase c.args.id past rest c.requires.text are in
+    let within = unframe_within s t.number time c.args.looper c.args.phase c.args.id past rest c.requires.at_work.text are in
     let lt = within.0 in
     let ph = within.1 in
-    let cs = choreographer_count s hall.choreographers.items c.requires.hall.choreographers in
-    let frames = alike_length frame_badge_of (frame_badge_for t.number) t.kit.frames.items hall.choreographers.items c.requires.thread.frames in
+    let cs = choreographer_count s hall.choreographers.items c.requires.at_work.hall.choreographers in
+    let frames = alike_length frame_badge_of (frame_badge_for t.number) t.kit.frames.items hall.choreographers.items c.requires.at_work.thread.frames in
     elim c.else-place-len.branch [
       | else-place-len-via-then-place-len+then-place-len-2+else-phase-phases w ↦ absurd (omega (arith, ph, c.phase_count-phases.ensures, w.if-phase-phases.false))
       | else-place-len-via-then-place-len+else-place-len-2 w ↦ absurd (omega (arith, lt, cs, w.len-then-place-len.ensures, w.if-place-len-2.false))

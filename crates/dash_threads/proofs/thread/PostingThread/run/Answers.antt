@@ -13,8 +13,8 @@ pub returns-in_default-clause-made : goal.returns-in_default-clause-made
 returns-in_default-clause-made g c =
     let t = c.args.self.now in
     let s = c.args.script.now in
-    let long = alike_length badge_of (badge_for t.number) t.kit.posters.items c.args.hall.now.queues.items c.requires.thread.posters ∙ queue_count c.args.hall.now.lockstep s c.args.hall.now.pool c.args.hall.now.queues.items c.requires.hall.queues in
-    on_ok c.make_call.result _ _ (λ made. λ m time mode allowed. made_takes m s time c.args.timed.now c.args.timed.command t c.make_call.new.self allowed (its_mode m s c.args.hall.now t c.requires.hall c.requires.thread mode) c.requires.text long c.make_call.ensures.number c.in_default.not-Frame c.in_default.not-Unframe made) c.make_call.ensures.made
+    let long = alike_length badge_of (badge_for t.number) t.kit.posters.items c.args.hall.now.queues.items c.requires.at_work.thread.posters ∙ queue_count c.args.hall.now.lockstep s c.args.hall.now.pool c.args.hall.now.queues.items c.requires.at_work.hall.queues in
+    on_ok c.make_call.result _ _ (λ made. λ m time mode allowed. made_takes m s time c.args.timed.now c.args.timed.command t c.make_call.new.self allowed (its_mode m s c.args.hall.now t c.requires.at_work.hall c.requires.at_work.thread mode) c.requires.at_work.text long c.make_call.ensures.works.number c.in_default.not-Frame c.in_default.not-Unframe made) c.make_call.ensures.made
 
 pub returns-in-Idle-clause-made : goal.returns-in-Idle-clause-made
 returns-in-Idle-clause-made g c =

@@ -15,7 +15,7 @@ loop-line-preserved g c =
     let lines = c.as_slice-line-items in
     elim c.if-line-self.branch [
       | then-line-self w ↦ subst (λ (z : PostingThread). IsAtLine in_lockstep s hall b (here.line-index + 1) t z) (sym w.self-is)
-          (on_line in_lockstep s hall b here.line-index t here.self lines.result.now lines.ensures (omega (arith, c.loop-line-test.true)) here.invariant w.run_line.new.self w.if-line-self.true w.run_line.ensures.thread w.run_line.ensures.number w.run_line.ensures.stays w.run_line.ensures.made (λ going. w.run_line.ensures.passed (w.run_line.ensures.made going).0))
+          (on_line in_lockstep s hall b here.line-index t here.self lines.result.now lines.ensures (omega (arith, c.loop-line-test.true)) here.invariant w.run_line.new.self w.if-line-self.true w.run_line.ensures.runs w.run_line.ensures.made (λ going. w.run_line.ensures.passed (w.run_line.ensures.runs.goes going)))
       | else-line-self w ↦ subst (λ (z : PostingThread). IsAtLine in_lockstep s hall b (here.line-index + 1) t z) (sym w.self-is)
           (by_line in_lockstep s hall b here.line-index t here.self lines.result.now lines.ensures (omega (arith, c.loop-line-test.true)) here.invariant w.if-line-self.false)
     ]

@@ -18,8 +18,8 @@ loop-line-preserved g c =
     elim c.if-line-self.branch [
       | then-line-self w ↦ subst (λ (z : PostingThread). IsAtLine m s hall b (i + 1) t z) (sym w.self-is) (
           let ran = w.run_line_by_clock.ensures in
-          on_line m s hall b i t here.self lines.result.now lines.ensures (omega (arith, c.loop-line-test.true)) here.invariant w.run_line_by_clock.new.self w.if-line-self.true ran.thread ran.number
-          ran.stays (λ going. (ran.goes going, ran.made going)) ran.passed)
+          on_line m s hall b i t here.self lines.result.now lines.ensures (omega (arith, c.loop-line-test.true)) here.invariant w.run_line_by_clock.new.self w.if-line-self.true
+          ran.runs ran.made ran.passed)
       | else-line-self w ↦ subst (λ (z : PostingThread). IsAtLine m s hall b (i + 1) t z) (sym w.self-is) (by_line m s hall b i t here.self lines.result.now lines.ensures (omega (arith, c.loop-line-test.true)) here.invariant w.if-line-self.false)
     ]
 

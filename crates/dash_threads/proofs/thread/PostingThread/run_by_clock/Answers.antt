@@ -3,9 +3,8 @@ use Rattle.std.proofs.lemmas.List.{take_all}
 use Rattle.dash_script.specs.declared.script.Block.{Block}
 use Rattle.run_model.specs.Moments.{Mode, in_free_mode}
 use Rattle.run_model.specs.Planned.{lines_of}
-use Rattle.dash_threads.specs.declared.thread.PostingThread.{PostingThread}
 use Rattle.dash_threads.specs.Threads.{IsUpTo, passes_more}
-use Rattle.dash_threads.proofs.ThreadBlocks.{block_goes_on, block_passed}
+use Rattle.dash_threads.proofs.ThreadBlocks.{runs_on, block_goes_on, block_passed}
 use Rattle.dash_threads.proofs.thread.PostingThread.run_by_clock.Goals as goal
 
 pub loop-block-preserved : goal.loop-block-preserved
@@ -18,12 +17,9 @@ loop-block-preserved g c =
     let near : i < length s.blocks = omega (arith, ap (λ (xs : List Block). length xs) c.as_slice-block-items.ensures, c.loop-block-test.true) in
     let ran = c.run_block_by_clock.ensures in
     record {
-      thread = ran.thread;
-      number = ran.number ∙ c.loop-block.invariant.number;
-      goes = λ going. c.loop-block.invariant.goes (ran.goes going);
-      stays = λ gone. (let same = c.loop-block.invariant.stays gone in ran.stays (ap (λ (z : PostingThread). z.gave_up) same ∙ gone) ∙ same);
-      made = λ going. block_goes_on m s i b b c.args.self.now c.loop-block.self c.run_block_by_clock.new.self near is c.loop-block.invariant.number (c.loop-block.invariant.made (ran.goes going)) (ran.made going);
-      passed = λ going. block_passed s i b b c.args.self.now c.loop-block.self c.run_block_by_clock.new.self near is c.loop-block.invariant.number (c.loop-block.invariant.passed (ran.goes going)) (ran.passed going);
+      runs = runs_on s c.args.hall.now c.args.self.now c.loop-block.self c.run_block_by_clock.new.self c.loop-block.invariant.runs ran.runs;
+      made = λ going. block_goes_on m s i b b c.args.self.now c.loop-block.self c.run_block_by_clock.new.self near is c.loop-block.invariant.runs.number (c.loop-block.invariant.made (ran.runs.goes going)) (ran.made going);
+      passed = λ going. block_passed s i b b c.args.self.now c.loop-block.self c.run_block_by_clock.new.self near is c.loop-block.invariant.runs.number (c.loop-block.invariant.passed (ran.runs.goes going)) (ran.passed going);
     }
 
 pub returns-clause-made : goal.returns-clause-made

@@ -5,14 +5,16 @@ use Rattle.dash_threads.specs.Threads.{TakesAt, rungs_of, more_for, looper_woken
 use Rattle.dash_threads.proofs.ThreadNudges.{takes_at}
 use Rattle.dash_threads.proofs.thread.PostingThread.run_line_by_clock.Goals as goal
 
-pub returns-clause-number : goal.returns-clause-number
-returns-clause-number g c = c.run_at.ensures.number ∙ ap (λ (z : PostingThread). z.number) c.wait_for.ensures.same
-
-pub returns-clause-stays : goal.returns-clause-stays
-returns-clause-stays g c = λ up. absurd (true≢false (sym up ∙ c.if-self.false))
+pub returns-clause-runs : goal.returns-clause-runs
+returns-clause-runs g c = record {
+  thread = c.run_at.ensures.same.thread;
+  number = c.run_at.ensures.same.number ∙ ap (λ (z : PostingThread). z.number) c.wait_for.ensures.same;
+  goes = λ going. c.if-self.false;
+  stays = λ up. absurd (true≢false (sym up ∙ c.if-self.false));
+}
 
 pub returns-clause-passed : goal.returns-clause-passed
-returns-clause-passed g c = λ going. c.run_at.ensures.passed ∙ c.in-Ok.ensures.passed
+returns-clause-passed g c = λ going. c.run_at.ensures.same.passed ∙ c.in-Ok.ensures.passed
 
 pub returns-clause-made : goal.returns-clause-made
 returns-clause-made g c = λ going. (

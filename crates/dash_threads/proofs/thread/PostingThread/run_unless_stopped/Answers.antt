@@ -13,10 +13,10 @@ pub returns-then-is_err-clause-bells : goal.returns-then-is_err-clause-bells
 returns-then-is_err-clause-bells g c = λ going. absurd (true≢false (sym c.give_up.ensures.gave_up ∙ going))
 
 pub returns-then-is_err-clause-nudges : goal.returns-then-is_err-clause-nudges
-returns-then-is_err-clause-nudges g c = λ look going up. c.give_up.ensures.rung ∙ ap (λ (rs : List ℕ). one_more 0 rs) c.run.ensures.bells
+returns-then-is_err-clause-nudges g c = λ look going up. c.give_up.ensures.rung ∙ ap (λ (rs : List ℕ). one_more 0 rs) c.run.ensures.works.bells
 
 pub returns-else-is_err-clause-bells : goal.returns-else-is_err-clause-bells
-returns-else-is_err-clause-bells g c = λ going. c.run.ensures.bells
+returns-else-is_err-clause-bells g c = λ going. c.run.ensures.works.bells
 
 pub returns-else-is_err-clause-nudges : goal.returns-else-is_err-clause-nudges
-returns-else-is_err-clause-nudges g c = λ look going up. absurd (true≢false (sym up ∙ (c.run.ensures.goes ∙ going)))
+returns-else-is_err-clause-nudges g c = λ look going up. absurd (true≢false (sym up ∙ (c.run.ensures.works.goes ∙ going)))
