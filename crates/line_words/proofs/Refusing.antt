@@ -130,7 +130,7 @@ module _ {L D T C : Type 0} (r : Language L D T C) where
   read_by k d (p ∷ ps) line c (suc before) number good bad =
       ap (λ o. goes_on k o (with_said r d (r.line_of p)) (λ e. read_from r (k + 1) e ps)) (sym (at_first k d (p ∷ ps)) ∙ good 0 (omega arith))
       ∙ read_by (k + 1) (with_said r d (r.line_of p)) ps line c before (omega (arith, number))
-          (λ n lt. sym (one_on k d p ps n) ∙ good (suc n) (omega (arith, lt))) (sym (one_on k d p ps before) ∙ bad)
+      (λ n lt. sym (one_on k d p ps n) ∙ good (suc n) (omega (arith, lt))) (sym (one_on k d p ps before) ∙ bad)
 
   -- ---- the laws of a text
 

@@ -26,7 +26,7 @@ use Rattle.run_picture.specs.declared.line.Line.TheVariants.{Title, Looper, Past
 use Rattle.run_picture.specs.declared.draft.Part.{Part}
 use Rattle.run_picture.specs.declared.draft.Part.TheVariants as part_of
 use Rattle.run_picture.specs.declared.draft.Draft.{Draft}
-use Rattle.run_picture.specs.Text.{FitsFates, frame_lines, looper_lines, loopers_lines, lines, line_words, line_text, Fits, IsLeastBad}
+use Rattle.run_picture.specs.Text.{FitsFates, frame_lines, looper_lines, loopers_lines, lines, line_words, line_text, Fits, IsLeastBad, IsText}
 use Rattle.run_picture.specs.Lines.{line_of}
 use Rattle.run_picture.specs.Progress.{blank, opened, start, closed, shut, framed, with_past, with_act, with_run, after_part, after_open, next, is_end, report_of, reading}
 use Rattle.line_words.proofs.Wording.{AreWords, words_again, words_taken, no_feed_within}

@@ -24,7 +24,7 @@ use Rattle.trace_check.specs.declared.trace.ParsedTrace.TheVariants as parsed
 use Rattle.std.specs.List.{join_with_byte}
 use Rattle.line_words.specs.Words.{words}
 use Rattle.trace_check.specs.Line.{line_words, Fits}
-use Rattle.trace_check.specs.Text.{head_of, queue_lines, lines, line_text, IsLeastBad}
+use Rattle.trace_check.specs.Text.{head_of, queue_lines, lines, line_text, IsLeastBad, IsText}
 use Rattle.trace_check.specs.Reading.{line_of}
 use Rattle.trace_check.specs.Progress.{blank, opened, start, settled, with_entry, after_part, next, is_end, trace_so_far, reading}
 use Rattle.line_words.proofs.Wording.{AreWords, words_again, words_taken, no_feed_within}

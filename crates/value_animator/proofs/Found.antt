@@ -9,7 +9,7 @@ use Rattle.line_words.proofs.RefusedLines.{Ran, texts_ran}
 use Rattle.line_words.proofs.Answers.{AreApart}
 use Rattle.value_animator.specs.declared.plan.Values.{Values}
 use Rattle.value_animator.specs.declared.refusal.ParsedValues.TheVariants as parsed
-use Rattle.value_animator.specs.Plans.{AreValues, rows, values_text}
+use Rattle.value_animator.specs.Plans.{AreValues, IsWritten, rows, values_text}
 use Rattle.value_animator.specs.Rows.{row_text}
 use Rattle.value_animator.specs.Rules.{nothing}
 use Rattle.value_animator.specs.Reading.{IsText, plans}
@@ -29,10 +29,10 @@ pub text_again : (b : List ℕ) (v : Values) → (b ≡ values_text v) × AreVal
 text_again b v is = ap (read_text plans) is.0 ∙ texts_are_read v is.1
 
 -- what a text is one of is within the limits, and the text is what it is written as
-pub written_so : (b : List ℕ) (v : Values) → IsText b v → (b ≡ values_text v) × AreValues v
+pub written_so : (b : List ℕ) (v : Values) → IsText b v → IsWritten b v
 written_so b v is = text_read b v ((reads_texts plans b v).1 is)
 
-pub are_theirs : (b : List ℕ) (v : Values) → IsText b v ↔ ((b ≡ values_text v) × AreValues v)
+pub are_theirs : (b : List ℕ) (v : Values) → IsText b v ↔ IsWritten b v
 are_theirs b v = (written_so b v, λ is. (reads_texts plans b v).0 (text_again b v is))
 
 -- two values that have one text are the same

@@ -3,12 +3,12 @@ use Rattle.std.specs.Prelude.{◌≡◌, ◌↔◌, ℕ, List, Ok, Err}
 use Rattle.dash_script.specs.declared.refusal.Cause.{Cause}
 use Rattle.line_words.specs.RefusedReading.{read_text}
 use Rattle.value_animator.specs.declared.plan.Values.{Values}
-use Rattle.value_animator.specs.Plans.{AreValues, values_text}
+use Rattle.value_animator.specs.Plans.{AreValues, IsWritten, values_text}
 use Rattle.value_animator.specs.Reading.{IsRefusal, IsText, plans}
 
 -- a text is one of values exactly where it is theirs, and they are within the limits
 abbrev pub TextsAreTheirs : Type 0
-TextsAreTheirs = (b : List ℕ) (v : Values) → IsText b v ↔ ((b ≡ values_text v) × AreValues v)
+TextsAreTheirs = (b : List ℕ) (v : Values) → IsText b v ↔ IsWritten b v
 
 -- a text is read as values exactly where it is their text
 abbrev pub ReadsTexts : Type 0

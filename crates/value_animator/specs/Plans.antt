@@ -1,5 +1,5 @@
 -- The text of values, and their limits.
-use Rattle.std.specs.Prelude.{◌≤◌, ◌<◌, ℕ, List, [], ◌∷◌, ◌++◌, map, length, All, if◌then◌else◌}
+use Rattle.std.specs.Prelude.{◌≡◌, ◌≤◌, ◌<◌, ℕ, List, [], ◌∷◌, ◌++◌, map, length, All, if◌then◌else◌}
 use Rattle.std.specs.List.{flat_map}
 use Rattle.animator.specs.declared.keys.Key.{Key}
 use Rattle.animator.specs.declared.plan.Plan.{Plan}
@@ -43,3 +43,7 @@ pub record AreValues (v : Values) : Type 0 where
   pub high : v.period ≤ 1000000000
   pub things : All IsThing v.things
   pub few_things : length v.things ≤ 16
+
+-- b is what v is written as, and v is within the limits
+abbrev pub IsWritten : List ℕ → Values → Type 0
+IsWritten b v = (b ≡ values_text v) × AreValues v

@@ -4,6 +4,7 @@ ghost use Rattle.dash_script.specs.Stops.{Reads};
 ghost use Rattle.line_words.specs.Answers.{Finds, FindsAll, NamesSo, Refuses, RefusesAll};
 ghost use Rattle.line_words.specs.LeastBad.{IsLeastBad};
 ghost use Rattle.line_words.specs.RefusedReading.{read_text};
+ghost use Rattle.value_animator.specs.Plans.{IsWritten};
 ghost use Rattle.value_animator.specs.Reading.{IsRefusal, IsText, plans};
 ghost use Rattle.value_animator.specs.declared.refusal.ParsedValues.TheVariants as parsed;
 
@@ -56,6 +57,7 @@ fn read(alloc: Global, bytes: &[u8]) -> Result<Values, Stop>
 /// not rise from 0 (`Order`), and one thing or key too many (`TooMany`). `NoMemory` where there was none.
 pub fn parse_values(alloc: Global, bytes: &[u8]) -> ParsedValues
     ensures found { Finds parsed.Ok IsText result bytes.now }
+    ensures written { Finds parsed.Ok IsWritten result bytes.now }
     ensures only { FindsAll parsed.Ok parsed.NoMemory IsText result bytes.now }
     ensures refused { Refuses parsed.Bad IsRefusal IsText result bytes.now }
     ensures refused_so { RefusesAll parsed.Bad parsed.NoMemory IsRefusal result bytes.now }

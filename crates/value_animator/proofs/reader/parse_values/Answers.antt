@@ -1,11 +1,15 @@
 use Rattle.line_words.proofs.Answers.{found_in, found_only, found_never, refused_as, refused_never, refused_so}
 use Rattle.value_animator.specs.declared.refusal.ParsedValues.TheVariants as parsed
 use Rattle.value_animator.specs.Reading.{plans}
+use Rattle.value_animator.proofs.Found.{written_so}
 use Rattle.value_animator.proofs.Stopping.{apart, names_least}
 use Rattle.value_animator.proofs.reader.parse_values.Goals as goal
 
 pub returns-in-Ok-clause-found : goal.returns-in-Ok-clause-found
 returns-in-Ok-clause-found c = found_in parsed.NoMemory plans apart c.args.bytes.now c.in-Ok.values (rw c.in-Ok.is at c.read.ensures)
+
+pub returns-in-Ok-clause-written : goal.returns-in-Ok-clause-written
+returns-in-Ok-clause-written c = λ v e. written_so c.args.bytes.now v (found_in parsed.NoMemory plans apart c.args.bytes.now c.in-Ok.values (rw c.in-Ok.is at c.read.ensures) v e)
 
 pub returns-in-Ok-clause-only : goal.returns-in-Ok-clause-only
 returns-in-Ok-clause-only c = found_only parsed.NoMemory plans apart c.args.bytes.now c.in-Ok.values (rw c.in-Ok.is at c.read.ensures)
