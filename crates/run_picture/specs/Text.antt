@@ -1,8 +1,7 @@
 -- The text of a report, and where a text that is none goes wrong.
-use Rattle.std.specs.Prelude.{◌≡◌, ℕ, ◌+◌, List, [], ◌∷◌, ◌++◌, codes, map}
+use Rattle.std.specs.Prelude.{◌≡◌, ◌⊎◌, ℕ, ◌+◌, List, [], ◌∷◌, ◌++◌, codes, map}
 use Rattle.std.specs.List.{flat_map, AllByRecursion}
 use Rattle.std.specs.Fmt.{decimal}
-use Rattle.std.specs.Prelude.{◌⊎◌}
 use Rattle.line_words.specs.Words.{Words, line}
 pub use Rattle.line_words.specs.Words.{IsShort, IsLong}
 use Rattle.line_words.specs.LeastBad.{IsLeastBad as IsLeastBadOf}
