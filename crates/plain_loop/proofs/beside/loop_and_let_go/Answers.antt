@@ -7,4 +7,4 @@ returns-clause-looped g c =
     (_, (sym c.in_ok-is_over.ensures.over ∙ c.if-branch.false), c.in_ok-is_over.ensures.kept, c.run_some-answer.new.self, (_, c.waits_to.ensures, c.run_some-answer.ensures.loops), c.in_ok-let_go.ensures.gone)
 
 pub returns-clause-awaits : goal.returns-clause-awaits
-returns-clause-awaits g c = kept _ _ c.in_ok-is_over.ensures.kept c.run_some-answer.ensures.awaits
+returns-clause-awaits g c = (kept _ _ c.in_ok-is_over.ensures.kept c.run_some-answer.ensures.rests).awaits
