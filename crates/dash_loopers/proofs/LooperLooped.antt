@@ -100,18 +100,18 @@ module _ (shows : ℕ → Bool) (start : ℕ) (s : Script) (hall : Hall) (l : St
           (subst (λ (z : StageLooper). HasLooped (in_free_mode shows start) s hall l (with_parts (record z { looper = after }) last parts)) (sym taken) h)
 
       pub looped_by_round : (now : ℕ) → IsShown shows start now → RoundLeaves q.constants.setting now n.looper after last
-          → UnlessWanting last (IsPlayingAt o.mode o.owner.script o.owner.number o.owner.began after.held.poster.sender after.held.poster.view.seen after.held.journal.acts parts)
+          → (is_given_up last ≡ false → IsPlayingAt o.mode o.owner.script o.owner.number o.owner.began after.held.poster.sender after.held.poster.view.seen after.held.journal.acts parts)
           → HasLooped o.mode o.owner.script o.owner.hall o.owner.began (with_parts (record n { looper = after }) last parts)
       looped_by_round now shown leaves meets =
           let set = q.constants.setting in
           let left : RoundLeaves set now l.looper after last = subst (λ (z : StageLooper). RoundLeaves set now z.looper after last) taken leaves in
           looped_there (looped (looper_then s hall now l q parts after last is_hall is at are left.same left.ended left.round left.looks going.0 going.1) left.same.sender
-          (λ on. plays_here (unless last _ on meets))
+          (λ on. plays_here (meets on))
           (λ on. (let w = round_worked set now l.looper.held after.held last on left.round in (w.more, w.seen, looks_by shows start set l.looper.held.poster.sender now shown l.looper.held.poster.view.seen w.more w.looks)))
           (λ on. (let w = round_worked set now l.looper.held after.held last on left.round in record { seen = (w.more, sym w.seen); acts = (w.did, sym w.acts) })))
 
       pub looped_by_loop : (called : ℕ → List Listening → List Listening → Type 0) (cap : Option ℕ) (how : Loop) → last ≡ round_of how → LoopLeaves called shows start cap q.constants.setting n.looper after how
-          → UnlessLost how (IsPlayingAt o.mode o.owner.script o.owner.number o.owner.began after.held.poster.sender after.held.poster.view.seen after.held.journal.acts parts)
+          → (is_given_up (round_of how) ≡ false → IsPlayingAt o.mode o.owner.script o.owner.number o.owner.began after.held.poster.sender after.held.poster.view.seen after.held.journal.acts parts)
           → HasLooped o.mode o.owner.script o.owner.hall o.owner.began (with_parts (record n { looper = after }) last parts)
       looped_by_loop called cap how is_last leaves meets =
           let set = q.constants.setting in
@@ -119,6 +119,6 @@ module _ (shows : ℕ → Bool) (start : ℕ) (s : Script) (hall : Hall) (l : St
           let lost : is_given_up last ≡ false → is_given_up (round_of how) ≡ false = λ on. ap is_given_up (sym is_last) ∙ on in
           looped_there (looped (subst (λ (r : Round). IsLooper s hall (with_parts (record l { looper = after }) r parts)) (sym is_last)
           (looper_by_loop shows start cap called s hall l q parts after how is_hall is at are left.same left.ended left.loops left.steps going.0 going.1)) left.same.sender
-          (λ on. plays_here (unless_lost how _ (lost on) meets))
+          (λ on. plays_here (meets (lost on)))
           (λ on. (let w = worked shows start cap set l.looper.held after.held how (lost on) left.loops in (w.more, w.seen, w.looks)))
           (λ on. (let w = worked shows start cap set l.looper.held after.held how (lost on) left.loops in record { seen = (w.more, sym w.seen); acts = (w.did, sym w.acts) })))

@@ -109,11 +109,11 @@ unless NoMemory P going h = absurd cc
 -- as a round ends
 pub played_round : (s : Script) (hall : Hall) (now : ℕ) (l began : StageLooper) (o : Owner) (parts' : Parts) (after : Looping) (last : Round) → began ≡ l → l.looper.held.poster.sender ≡ l.sender
     → o ≡ record { script = s; hall = hall; number = l.number; now = now; began = began } → IsSameLooper l.looper.held after.held
-    → UnlessWanting last (Passes (λ k es acts. IsPlaying o.script o.number o.now o.began k es acts parts') after.held)
+    → (is_given_up last ≡ false → Passes (λ k es acts. IsPlaying o.script o.number o.now o.began k es acts parts') after.held)
     → HasPlayed s now l (record { number = l.number; sender = l.sender; looper = after; parts = Some parts'; last = last })
 played_round s hall now l began o parts' after last same mine origin kept meets = λ going text a come.
     let here : IsPlaying s l.number now began after.held.poster.sender after.held.poster.view.seen after.held.journal.acts parts' =
-    subst (λ (x : Owner). IsPlaying x.script x.number x.now x.began after.held.poster.sender after.held.poster.view.seen after.held.journal.acts parts') origin (unless last _ going meets) in
+    subst (λ (x : Owner). IsPlaying x.script x.number x.now x.began after.held.poster.sender after.held.poster.view.seen after.held.journal.acts parts') origin (meets going) in
     let from : IsPlaying s l.number now l after.held.poster.sender after.held.poster.view.seen after.held.journal.acts parts' =
     subst (λ (b : StageLooper). IsPlaying s l.number now b after.held.poster.sender after.held.poster.view.seen after.held.journal.acts parts') same here in
     subst (λ (k : ℕ). ComesTo s l.number now a k l.looper.held.poster.view.seen after.held.poster.view.seen after.held.journal.acts parts') (kept.sender ∙ mine) (from text a come)

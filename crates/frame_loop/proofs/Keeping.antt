@@ -14,7 +14,9 @@ use Rattle.handler_post.specs.Ways.{PlainWay as Way}
 use Rattle.handler_post.specs.Ways.{IsReady}
 use Rattle.looper_run.specs.declared.own.Own.{Own}
 use Rattle.looper_run.specs.Holding.{Sender, Holding, Workplace, workplace, held}
-use Rattle.looper_run.specs.Tests.{IsLent, IsSameLooper}
+use Rattle.looper_run.specs.declared.dispatcher.Did.{Did}
+use Rattle.looper_run.specs.declared.dispatcher.Did.TheVariants.{Yes, No, NoMemory as Lost}
+use Rattle.looper_run.specs.Tests.{IsLent, IsSameLooper, Unless}
 use Rattle.looper_run.proofs.Working.{lent_self}
 use Rattle.plain_loop.specs.Lines.{Keeps}
 use Rattle.frame_loop.specs.declared.screen.Screen.{Screen}
@@ -114,3 +116,9 @@ found (framed.Elsewhere next) (Ok done) P is h = h
 found framed.Unscheduled (Ok done) P is h = h
 found (framed.Backwards last) (Ok done) P is h = h
 found framed.NoMemory (Ok done) P is h = absurd is
+
+-- what holds in any case holds unless memory was wanting
+pub unless_holds : (d : Did) (P : Type 0) → P → Unless d P
+unless_holds Yes P h = h
+unless_holds No P h = h
+unless_holds Lost P h = tt

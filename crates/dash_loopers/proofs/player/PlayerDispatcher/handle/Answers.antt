@@ -1,10 +1,13 @@
+use Rattle.std.proofs.Common.{refl}
 use Rattle.looper_run.specs.Holding.{held}
 use Rattle.loop_model.specs.declared.journal.Route.TheVariants.{Handled}
+use Rattle.looper_run.proofs.Asking.{unless_weaker}
 use Rattle.dash_loopers.proofs.LooperPlaying.{dispatches_well}
 use Rattle.dash_loopers.proofs.player.PlayerDispatcher.handle.Goals as goal
 
-pub returns-clause-meets : goal.returns-clause-meets
-returns-clause-meets g c =
+pub returns-clause-routed : goal.returns-clause-routed
+returns-clause-routed g c =
     let p = c.args.self.now in
-    dispatches_well p.place.script.now p.place.looper p.now p.began.now.value c.args.now c.args.m.now Handled c.as_post.result c.deliver.result c.did.result (held c.args.own.now) (held c.deliver.new.own) p.parts c.deliver.new.parts c.as_post.ensures c.deliver.ensures.lent c.requires.taken c.deliver.ensures.delivers
-    c.did.ensures.no c.did.ensures.yes
+    unless_weaker _ _ c.did.result (λ h. record { awaits = refl; meets = h })
+    (dispatches_well p.place.script.now p.place.looper p.now p.began.now.value c.args.now c.args.m.now Handled c.as_post.result c.deliver.result c.did.result (held c.args.own.now) (held c.deliver.new.own) p.parts c.deliver.new.parts c.as_post.ensures c.deliver.ensures.lent c.requires.ready.taken c.deliver.ensures.delivers
+    c.did.ensures.no c.did.ensures.yes)

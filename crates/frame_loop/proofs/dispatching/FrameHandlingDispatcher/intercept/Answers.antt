@@ -1,6 +1,6 @@
-use Rattle.looper_run.specs.Holding.{held}
-use Rattle.looper_run.proofs.Working.{lent_self}
+use Rattle.std.proofs.Common.{refl}
+use Rattle.looper_run.proofs.Keeping.{lent_nothing}
 use Rattle.frame_loop.proofs.dispatching.FrameHandlingDispatcher.intercept.Goals as goal
 
-pub returns-clause-lent : goal.returns-clause-lent
-returns-clause-lent g c = lent_self (held c.args.own.now)
+pub returns-clause-keeps : goal.returns-clause-keeps
+returns-clause-keeps g c = lent_nothing _ _ _ _ c.args.self.now c.args.self.now c.args.own.now (λ w h. h) refl refl refl
