@@ -5,6 +5,7 @@ use Rattle.run_model.specs.Moments.{in_free_mode}
 use Rattle.dash_loopers.specs.declared.looper.StageLooper.{StageLooper}
 use Rattle.dash_loopers.proofs.LooperQueue.{within_queues, at_queue_here}
 use Rattle.dash_loopers.proofs.LooperLooped.{looped_by_round, looped_here}
+use Rattle.dash_loopers.proofs.LooperPlayed.{unless}
 use Rattle.dash_loopers.proofs.LooperRounds.{round_here, waits_here}
 use Rattle.dash_loopers.proofs.looper.StageLooper.drain.Goals as goal
 

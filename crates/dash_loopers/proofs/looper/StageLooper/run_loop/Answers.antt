@@ -7,6 +7,7 @@ use Rattle.dash_loopers.proofs.LooperKits.{looper_of}
 use Rattle.dash_loopers.proofs.LooperMoments.{setting_free}
 use Rattle.dash_loopers.proofs.LooperQueue.{within_queues, at_queue_here}
 use Rattle.dash_loopers.proofs.LooperLooped.{looped_by_loop, looped_here}
+use Rattle.dash_loopers.proofs.LooperLoops.{unless_lost}
 use Rattle.dash_loopers.proofs.LooperRounds.{loop_here}
 use Rattle.dash_loopers.proofs.looper.StageLooper.run_loop.Goals as goal
 

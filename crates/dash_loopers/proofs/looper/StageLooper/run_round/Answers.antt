@@ -4,9 +4,9 @@ use Rattle.looper_run.proofs.Rounds.{round_any}
 use Rattle.dash_loopers.specs.Loopers.{is_given_up}
 use Rattle.dash_loopers.proofs.LooperPlaces.{are_parts_then}
 use Rattle.dash_loopers.proofs.LooperQueue.{within_queues, at_queue}
-use Rattle.dash_loopers.proofs.LooperKits.{looper_then, parts_left, ran_on, comes_to_wait}
+use Rattle.dash_loopers.proofs.LooperKits.{serves_now, looper_then, parts_left, ran_on, comes_to_wait}
 use Rattle.dash_loopers.proofs.LooperPlaying.{plays_first, plays_nothing}
-use Rattle.dash_loopers.proofs.LooperPlayed.{played_round, played_left}
+use Rattle.dash_loopers.proofs.LooperPlayed.{unless, played_round, played_left}
 use Rattle.dash_loopers.proofs.looper.StageLooper.run_round.Goals as goal
 
 pub of_looper-requires : goal.of_looper-requires
