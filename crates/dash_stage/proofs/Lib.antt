@@ -6,3 +6,4 @@ pub mod ByClock
 pub mod Ends
 pub mod Stages
 pub mod Moves
+pub mod Stepping

@@ -1,9 +1,9 @@
 -- What was asked of each looper's choreographer so far in a run, and when.
-use Rattle.std.specs.Prelude.{◌<◌, ◌≤◌, ℕ, List, [], ◌∷◌, ◌++◌, length, slice_index_or}
+use Rattle.std.specs.Prelude.{◌<◌, ◌≤◌, ℕ, List, length, slice_index_or}
 use Rattle.frame_phases.specs.declared.entry.FrameEntry.{FrameEntry}
 use Rattle.dash_script.specs.declared.script.Block.{Block}
 use Rattle.dash_script.specs.declared.script.Script.{Script}
-use Rattle.run_model.specs.FrameTurns.{in_block, in_round}
+use Rattle.run_model.specs.FrameTurns.{in_round}
 use Rattle.run_model.specs.AskedSoFar.{HaveAsked, asked_so_far}
 use Rattle.dash_hall.specs.Hearing.{HasHeardAll, HaveHeardAllAt}
 use Rattle.dash_threads.specs.declared.thread.PostingThread.{PostingThread}
@@ -11,7 +11,6 @@ use Rattle.dash_loopers.specs.declared.looper.StageLooper.{StageLooper}
 use Rattle.dash_loopers.specs.Loopers.{OfItsPasses}
 use Rattle.dash_stage.specs.declared.stage.Stage.{Stage}
 use Rattle.dash_stage.specs.Sharing.{HaveHeardTheSame}
-use Rattle.dash_stage.specs.Steps.{IsAtNext}
 use Rattle.dash_stage.specs.Timeliness.{AreSound}
 
 -- what the threads and looper q have heard of its choreographer was asked for in turn, up to this block or these rounds: by the threads for their lines of these
@@ -35,21 +34,3 @@ pub record AskInTurn (s : Script) (past : List Block) (last : ℕ) (st : Stage) 
 pub record AskUpToNow (s : Script) (past : List Block) (st : Stage) : Type 0 where
   pub within : st.time ≤ s.end
   pub turn : AskInTurn s past (in_round st.time) st
-
--- a stage of which nothing was asked meanwhile: what was asked in turn was so still, and all passes have heard the same
-abbrev pub AsksNothing : Script → Stage → Stage → Type 0
-AsksNothing s before after = (past : List Block) (last : ℕ) → AllAskedInTurn s past last before → AskInTurn s past last after
-
--- a stage that asked in turn up to its time has done so still
-abbrev pub StaysInTurn : Script → Stage → Stage → Type 0
-StaysInTurn s before after = (past : List Block) → AskUpToNow s past before → AskUpToNow s past after
-
--- a stage that asked in turn, and before a block at this time, has done so still
-abbrev pub AsksBefore : Script → ℕ → Stage → Stage → Type 0
-AsksBefore s time before after =
-    (past : List Block) → AskUpToNow s past before → AskInTurn s past (in_block time) before → AskInTurn s past (in_block time) after
-
--- wherever this block was the next, its lines were asked for in turn, too
-abbrev pub AsksInBlock : Script → Block → Stage → Stage → Type 0
-AsksInBlock s b before after = (past rest : List Block) → IsAtNext s past rest b before → AskInTurn s past (in_block b.time) before
-    → AskInTurn s (past ++ b ∷ []) (in_block b.time) after

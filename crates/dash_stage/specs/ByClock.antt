@@ -16,9 +16,12 @@ use Rattle.dash_loopers.specs.Played.{HasPlayedBy}
 use Rattle.dash_loopers.specs.Looped.{GoesOnFrom, StaysTold, HasGoneRound, LoopsOnce, LoopsUpTo, ends_at}
 use Rattle.dash_script.specs.Reading.{HasText}
 use Rattle.dash_hall.specs.Kits.{IsHall}
-use Rattle.dash_hall.specs.Hearing.{AtEach}
+use Rattle.dash_hall.specs.Hearing.{AtEach, HaveHeard}
 use Rattle.dash_stage.specs.declared.control.Controller.{Controller}
-use Rattle.dash_stage.specs.BehindThreads.{SeesMore}
+use Rattle.dash_stage.specs.BehindThreads.{SeesMore, CallsBehindThreads}
+use Rattle.dash_stage.specs.GivingUp.{HaveBeenRung}
+use Rattle.dash_stage.specs.Sharing.{ControllerKeeps}
+use Rattle.dash_stage.specs.Stages.{AreThreads, AreLoopers}
 use Rattle.dash_stage.specs.Controllers.{IsControllerIn, CallsNothingOn, IsClosingBy}
 use Rattle.dash_stage.specs.Playing.{HaveBegun}
 
@@ -117,6 +120,37 @@ pub record HaveLooped (m : Mode) (s : Script) (ls : List StageLooper) : Type 0 w
   pub others : (k : ℕ) (d : StageLooper) → 0 < k → k < length began → LoopsOut m s (slice_index_or began k d) (slice_index_or looped k d)
   pub on : AtEach (λ before after. GoesOnFrom before.looper after.looper) looped ls
 
+-- the threads and these loopers ran beside each other
+pub record RunBeside (m : Mode) (s : Script) (hall : Hall) (threads threads' : List PostingThread) (loopers loopers' : List StageLooper) : Type 0 where
+  pub ran : EachRuns m s hall threads threads'
+  pub loops : EachLoops m s hall loopers loopers'
+
+-- the threads and main ran beside each other, main up to the script's end where no look stopped it
+pub record RanMain {L : Type 0} (m : Mode) (s : Script) (hall : Hall) (ts ts' : List PostingThread) (main main' : List StageLooper) (look : Option L) : Type 0 where
+  pub beside : RunBeside m s hall ts ts' main main'
+  pub looped : look ≡ None → MainLoops m s hall main main'
+
+-- the controller has heard the threads, behind whose calls its own stand
+pub record HearsThreads (s : Script) (ts : List PostingThread) (before after : Controller) : Type 0 where
+  pub kept : ControllerKeeps HaveHeard before after
+  pub behind : CallsBehindThreads s ts after
+
+-- it quit the loopers but main behind the threads' calls; or the run was given up, and all bells were rung
+pub record EndsOthers (m : Mode) (s : Script) (hall : Hall) (ts : List PostingThread) (before after : Controller) (done : Bool) : Type 0 where
+  pub quit : done ≡ true → QuitsOthers m s hall before after
+  pub behind : done ≡ true → CallsBehindThreads s ts after
+  pub rung : done ≡ false → HaveBeenRung s.loopers before after
+
+-- what the senders need to run side by side
+pub record CanRunBeside (s : Script) (h : Hall) (ts : List PostingThread) (ls : List StageLooper) (c : Controller) : Type 0 where
+  pub text : HasText s
+  pub some : 0 < s.loopers
+  pub hall : IsFreeHall s h
+  pub threads : AreThreads s h ts
+  pub loopers : AreLoopers s h ls
+  pub controller : IsControllerIn false s h c
+  pub none : (q : ℕ) → CallsNothingOn c q
+
 -- what the main looper and the threads need to run, and the controller behind them
 pub record CanRunMain (s : Script) (h : Hall) (ls : List StageLooper) (ts : List PostingThread) (c : Controller) : Type 0 where
   pub text : HasText s
@@ -127,3 +161,16 @@ pub record CanRunMain (s : Script) (h : Hall) (ls : List StageLooper) (ts : List
   pub threads : EachIsThread s h ts
   pub controller : IsControllerIn false s h c
   pub none : (q : ℕ) → CallsNothingOn c q
+
+-- what the controller needs to quit the loopers but main
+pub record CanQuitOthers (s : Script) (h : Hall) (c : Controller) : Type 0 where
+  pub some : 0 < s.loopers
+  pub hall : IsFreeHall s h
+  pub controller : IsControllerIn false s h c
+  pub none : (q : ℕ) → CallsNothingOn c q
+
+-- main and the threads ran, and then the others were ended
+pub record RunsMain (m : Mode) (s : Script) (hall : Hall) (ts ts' : List PostingThread) (main main' : List StageLooper) (before after : Controller) (done : Bool) : Type 0 where
+  pub beside : RunBeside m s hall ts ts' main main'
+  pub looped : done ≡ true → MainLoops m s hall main main'
+  pub ends : EndsOthers m s hall ts' before after done

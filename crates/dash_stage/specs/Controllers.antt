@@ -19,7 +19,7 @@ use Rattle.run_model.specs.Control.{is_advance, are_controls}
 use Rattle.dash_hall.specs.declared.hall.Hall.{Hall}
 use Rattle.dash_stage.specs.declared.control.Controller.{Controller}
 use Rattle.dash_hall.specs.Growth.{own}
-use Rattle.dash_hall.specs.Kits.{ArePostersOf, ArePassesOf, frame_badge_of}
+use Rattle.dash_hall.specs.Kits.{IsHall, ArePostersOf, ArePassesOf, frame_badge_of}
 
 -- the parts that these posters handed out of their queues' histories, in order
 abbrev pub handed_out : List Sender → List (List Segment)
@@ -50,6 +50,12 @@ pub record IsControllerIn (lockstep : Bool) (s : Script) (hall : Hall) (c : Cont
 -- the same in lockstep
 abbrev pub IsController : Script → Hall → Controller → Type 0
 IsController s hall c = IsControllerIn true s hall c
+
+-- the controller of the script, which may take a turn on the queue of the looper at this place
+pub record CanTurn (lockstep : Bool) (s : Script) (hall : Hall) (place : ℕ) (c : Controller) : Type 0 where
+  pub is_hall : IsHall s hall
+  pub controller : IsControllerIn lockstep s hall c
+  pub known : place < s.loopers
 
 -- moves of the time alone, none past the end
 abbrev pub are_advances : ℕ → List Entry → Bool
@@ -86,6 +92,7 @@ HasReached time c = (d : Sender) → 0 < length c.kit.posters.items → time ≤
 
 -- the time of main has come to the end, and the queues below this one may have been quit
 pub record IsQuitting (s : Script) (n : ℕ) (c : Controller) : Type 0 where
+  pub side : 0 < n
   pub main : OnlyMoves s c 0
   pub reached : HasReached s.end c
   pub done : (q : ℕ) → 0 < q → q < n → MovesAndQuits true s c q
@@ -150,3 +157,8 @@ OtherPostersStay place before after =
 -- its passes of all other choreographers are as before
 abbrev pub OtherPassesStay : ℕ → Controller → Controller → Type 0
 OtherPassesStay place before after = (q : ℕ) (p : Pass) → q ≢ place → slice_index_or after.kit.frames.items q p ≡ slice_index_or before.kit.frames.items q p
+
+-- it is the script's controller still, and its posters of all other queues are as before
+pub record TurnsAlone (lockstep : Bool) (s : Script) (hall : Hall) (place : ℕ) (before after : Controller) : Type 0 where
+  pub controller : IsControllerIn lockstep s hall after
+  pub elsewhere : OtherPostersStay place before after

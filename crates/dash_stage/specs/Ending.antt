@@ -18,6 +18,7 @@ use Rattle.looper_run.specs.Holding.{Sender}
 use Rattle.choreographer.specs.Known.{Shared as Frames, Known as Pass}
 use Rattle.choreographer.specs.Ends.{AreHeard, HasHandedOut, entries_in}
 use Rattle.run_model.specs.Run.{setting_of}
+use Rattle.run_model.specs.Senders.{sender_count}
 use Rattle.dash_hall.specs.declared.kit.Kit.{Kit}
 use Rattle.dash_hall.specs.Kits.{ArePostersOf, badge_of, badge_for, FrameBadge, frame_badge_of}
 use Rattle.dash_hall.specs.Dealing.{given_of}
@@ -105,6 +106,11 @@ abbrev pub BeginWithPasses : Script → ℕ → Frames → List Kit → Type 0
 BeginWithPasses s looper c kits =
     (k : ℕ) (d : Kit) → k < length kits → IsPrefix (given_of s looper c k) (map frame_badge_of (slice_index_or kits k d).frames.items)
 
+-- so it is, and there is a kit for each sender
+pub record HaveNextPasses (s : Script) (looper : ℕ) (c : Frames) (kits : List Kit) : Type 0 where
+  pub count : length kits ≡ sender_count s
+  pub begin : BeginWithPasses s looper c kits
+
 -- each kit has the passes that its sender has of these choreographers, those of the loopers from `from` on
 abbrev pub HaveAllPasses : (ℕ → List FrameBadge) → List Kit → Type 0
 HaveAllPasses marks kits = (k : ℕ) (d : Kit) → k < length kits → map frame_badge_of (slice_index_or kits k d).frames.items ≡ marks k
@@ -130,3 +136,8 @@ BeginWithOwn sender kits entries = (i : ℕ) (d : Kit) (p : Pass) → i < 2
 -- all kits have a pass of this pool
 abbrev pub AreOfPool : TableId → List Kit → Type 0
 AreOfPool pool kits = (k : ℕ) (d : Kit) → k < length kits → (slice_index_or kits k d).pass.home ≡ pool
+
+-- so it is with the looper's passes, and the entries are parted so
+pub record AreOfNextPasses (s : Script) (looper : ℕ) (kits : List Kit) (entries : List FrameEntry) : Type 0 where
+  pub parted : AreOfNext s looper kits entries
+  pub own : BeginWithOwn (s.threads + looper) kits entries

@@ -17,6 +17,8 @@ pub mod Moves
 pub mod BehindThreads
 pub mod RunEnds
 pub mod ByClock
+pub mod ControlSteps
 pub mod Steps
+pub mod Opening
 pub mod Asking
 pub mod Keeping

@@ -1,6 +1,6 @@
 -- What is kept of the queues and the choreographers of a run.
-use Rattle.std.specs.Prelude.{◌≡◌, ◌<◌, ◌+◌, ◌++◌, ℕ, List, [], ◌∷◌, map, length, slice_index_or}
-use Rattle.std.specs.List.{AllByRecursion}
+use Rattle.std.specs.Prelude.{◌≡◌, ◌<◌, ◌+◌, ◌++◌, ℕ, Bool, List, [], ◌∷◌, map, length, slice_index_or}
+use Rattle.std.specs.List.{AllByRecursion, range_with_len}
 use mathlib.Core.List.{IsPrefix}
 use Rattle.dash_script.specs.declared.script.Script.{Script}
 use Rattle.run_model.specs.Histories.{history_of}
@@ -12,7 +12,6 @@ use Rattle.looper_run.specs.Holding.{Sender}
 use Rattle.choreographer.specs.Known.{Known as Pass}
 use Rattle.choreographer.specs.Ends.{AreHeard}
 use Rattle.run_model.specs.Moments.{Mode}
-use Rattle.std.specs.List.{range_with_len}
 use Rattle.run_model.specs.Asks.{entries_by}
 use Rattle.run_model.specs.Run.{IsRecordOf, IsFrameRun, IsLooperRun, EachLooper, all_entries}
 use Rattle.dash_hall.specs.declared.kit.Kit.{Kit}
@@ -77,3 +76,15 @@ HaveCalledByClock m s kits =
 -- where the kits' senders called so, these are the records of the queues
 abbrev pub AreRecordsBy : Mode → Script → List Kit → List QueueRecord → Type 0
 AreRecordsBy m s kits records = HaveCalledByClock m s kits → AreQueueRecords m s records
+
+-- the records of the queues in such a mode, which have all entries of the kits' senders
+pub record AreRecordsIn (lockstep : Bool) (s : Script) (kits : List Kit) (records : List QueueRecord) : Type 0 where
+  pub by : (m : Mode) → m.lockstep ≡ lockstep → AreRecordsBy m s kits records
+  pub loopers : AreOfLoopers s records
+  pub all : HaveAll kits records
+
+-- the records of the choreographers, which have all entries of the kits' passes
+pub record AreFramesIn (s : Script) (kits : List Kit) (records : List FrameRecord) : Type 0 where
+  pub records_are : AreFrameRecords s records
+  pub theirs : AreAllTheirs s kits records
+  pub own : HaveSeenOwn s.threads kits records

@@ -10,7 +10,8 @@ use Rattle.dash_threads.specs.declared.thread.PostingThread.{PostingThread}
 use Rattle.dash_loopers.specs.declared.looper.StageLooper.{StageLooper}
 use Rattle.dash_stage.specs.declared.control.Controller.{Controller}
 use Rattle.dash_stage.specs.declared.stage.Stage.{Stage}
-use Rattle.dash_hall.specs.Hearing.{seen_by, AtEach, HaveHeardAt, HaveSeenAll, AreKept, PassesHaveHeard, HasHeardAll, HaveHeardAllAt}
+use Rattle.dash_stage.specs.Stages.{IsStage}
+use Rattle.dash_hall.specs.Hearing.{seen_by, AtEach, HaveHeard, HaveHeardAt, HaveSeenAll, AreKept, PassesHaveHeard, HasHeardAll, HaveHeardAllAt}
 use Rattle.dash_threads.specs.Threads.{ThreadKeeps}
 use Rattle.dash_loopers.specs.Loopers.{posters_of, LooperKeeps, OfItsPasses, IsWithin}
 
@@ -97,3 +98,10 @@ HaveSeenTheSame st = OfSenders (HaveSeenAll (seen_by st.controller.kit.posters.i
 -- so it is with each looper
 abbrev pub AreWithin : List StageLooper → Type 0
 AreWithin ls = (k : ℕ) (d : StageLooper) → k < length ls → IsWithin (slice_index_or ls k d)
+
+-- all senders have seen the same of each queue's history and heard the same of each choreographer's, and all else of the stage is as before
+pub record HaveShared (s : Script) (before after : Stage) : Type 0 where
+  pub stage : IsStage s after
+  pub kept : StageKeeps HaveHeard before after
+  pub same : HaveSeenTheSame after
+  pub heard : HaveHeardTheSame s after

@@ -1,53 +1,134 @@
--- What each step of a stage keeps, and what a stage has to be for one.
-use Rattle.std.specs.Prelude.{◌≡◌, ◌++◌, ◌∷◌, [], List, ℕ}
+-- How far a run in lockstep has come, and what each step of a stage has to find and leaves.
+use Rattle.std.specs.Prelude.{◌≡◌, ◌<◌, ◌≤◌, ◌++◌, ◌∷◌, [], List, ℕ, Bool, true}
+use mathlib.Core.List.{IsPrefix}
 use Rattle.dash_script.specs.declared.script.Block.{Block}
 use Rattle.dash_script.specs.declared.script.Script.{Script}
-use Rattle.dash_hall.specs.Hearing.{seen_by}
+use Rattle.run_model.specs.FrameTurns.{in_block}
+use Rattle.run_model.specs.Moves.{is_planned_time}
+use Rattle.dash_hall.specs.Hearing.{AtEach, seen_by}
+use Rattle.dash_stage.specs.declared.side.Turn.{Turn}
+use Rattle.dash_stage.specs.declared.side.Turn.TheVariants.{All}
 use Rattle.dash_stage.specs.declared.stage.Stage.{Stage}
-use Rattle.dash_stage.specs.Controllers.{IsMoving}
-use Rattle.dash_stage.specs.Moves.{AreMoved}
-use Rattle.dash_stage.specs.Playing.{IsInStep, AreAtBlockIfSound}
-use Rattle.dash_stage.specs.Stages.{HaveRun}
-use Rattle.dash_stage.specs.Timeliness.{AreSound, AreTimelyUpTo, AreRested, AreDue}
+use Rattle.dash_stage.specs.Asking.{AskInTurn, AskUpToNow}
+use Rattle.dash_stage.specs.Controllers.{IsMoving, HasReached, CallsNone}
+use Rattle.dash_stage.specs.Moves.{AreMoved, MayBeMovedTo}
+use Rattle.dash_stage.specs.Playing.{IsInStep, AreAtBlockIfSound, LiesAhead}
+use Rattle.dash_stage.specs.Sharing.{HaveSeenTheSame}
+use Rattle.dash_stage.specs.Stages.{IsStage, HaveRun}
+use Rattle.dash_stage.specs.Timeliness.{AreSound, AreTimelyUpTo, AreBy, AreRested, AreDue}
 
--- the blocks that the threads had run they have run
-abbrev pub StayRun : Script → Stage → Stage → Type 0
-StayRun s before after = (past : List Block) → HaveRun s past before.threads.items → HaveRun s past after.threads.items
+-- the threads have run these blocks, the histories are timely up to them, the stage is in step, the queues were moved together, and the choreographers asked in
+-- turn
+pub record StageAt (s : Script) (past : List Block) (st : Stage) : Type 0 where
+  pub run : HaveRun s past st.threads.items
+  pub timely : AreTimelyUpTo s past st
+  pub step : IsInStep s st
+  pub moves : AreMoved s st.controller
+  pub asks : AskUpToNow s past st
 
--- a stage that was timely up to a block is so still
-abbrev pub StaysTimely : Script → Stage → Stage → Type 0
-StaysTimely s before after = (past : List Block) → AreTimelyUpTo s past before → AreTimelyUpTo s past after
+-- and the loopers have come to rest
+pub record RestsAt (s : Script) (past : List Block) (st : Stage) : Type 0 where
+  pub at : StageAt s past st
+  pub rested : AreRested s st
 
--- a stage that was in step is so still
-abbrev pub StaysInStep : Script → Stage → Stage → Type 0
-StaysInStep s before after = IsInStep s before → IsInStep s after
+-- this time lies ahead of the stage, which has asked in turn before a block at this time
+pub record ComesBefore (s : Script) (past : List Block) (time : ℕ) (st : Stage) : Type 0 where
+  pub ahead : AreSound s st.controller → LiesAhead time st
+  pub turn : AskInTurn s past (in_block time) st
 
--- queues that had been moved together have been so still
-abbrev pub StayMoved : Script → Stage → Stage → Type 0
-StayMoved s before after = AreMoved s before.controller → AreMoved s after.controller
+-- the stage stands at the start of a block at this time
+pub record BeginsBlock (s : Script) (past : List Block) (time : ℕ) (st : Stage) : Type 0 where
+  pub queues : AreAtBlockIfSound s time st
+  pub turn : AskInTurn s past (in_block time) st
 
 -- where each queue's history is one that it may have, so it was before
 abbrev pub WereSound : Script → Stage → Stage → Type 0
 WereSound s before after = AreSound s after.controller → AreSound s before.controller
 
--- where no history grew the stage has come to rest
-abbrev pub RestsUnlessGrown : Script → Stage → Stage → Type 0
-RestsUnlessGrown s before after = seen_by after.controller.kit.posters.items ≡ seen_by before.controller.kit.posters.items → AreRested s after
+-- the stage stands at these blocks still
+pub record StillAt (s : Script) (past : List Block) (before after : Stage) : Type 0 where
+  pub at : StageAt s past after
+  pub sound : WereSound s before after
 
--- the stage is in step and at rest, and nothing is due on a queue before this time
-pub record IsReadyFor (s : Script) (time : ℕ) (st : Stage) : Type 0 where
-  pub step : IsInStep s st
-  pub rested : AreRested s st
-  pub due : AreDue s time st
+-- at whichever blocks the stage stood, it stands still
+abbrev pub StaysAt : Script → Stage → Stage → Type 0
+StaysAt s before after = (past : List Block) → StageAt s past before → StillAt s past before after
 
--- the stage has run the blocks before this one, each in its time, and stands at this one
+-- and it has come to rest
+pub record Settles (s : Script) (before after : Stage) : Type 0 where
+  pub at : StaysAt s before after
+  pub rested : HaveSeenTheSame before → AreRested s after
+
+-- at whichever blocks the stage rested, it stands still
+abbrev pub StaysFromRest : Script → Stage → Stage → Type 0
+StaysFromRest s before after = (past : List Block) → RestsAt s past before → StageAt s past after
+
+-- from rest the stage has come to this time; and where it lay ahead, to the start of a block at it
+pub record GoesTo (s : Script) (time : ℕ) (before after : Stage) : Type 0 where
+  pub at : StaysFromRest s before after
+  pub block : (past : List Block) → RestsAt s past before → ComesBefore s past time before → BeginsBlock s past time after
+
+-- meanwhile the controller has called nothing, and the time stood still
+pub record StandsStill (s : Script) (before after : Stage) : Type 0 where
+  pub stage : IsStage s after
+  pub none : CallsNone before.controller after.controller
+  pub now : after.time ≡ before.time
+
+-- the controller has only looked for pulses, and all else is as before
+pub record OnlyLooked (s : Script) (before after : Stage) : Type 0 where
+  pub still : StandsStill s before after
+  pub threads : after.threads.items ≡ before.threads.items
+  pub loopers : after.loopers ≡ before.loopers
+  pub posters : after.controller.kit.posters ≡ before.controller.kit.posters
+
+-- the stage had come to rest at these blocks, since when the controller has only looked; nothing was due on a queue before this time, to which the queues' times
+-- might be moved
+pub record IsReadyFor (s : Script) (past : List Block) (time : ℕ) (st : Stage) : Type 0 where
+  pub stood : Stage
+  pub stage : IsStage s stood
+  pub rests : RestsAt s past stood
+  pub looked : OnlyLooked s stood st
+  pub due : AreDue s time stood
+  pub may : MayBeMovedTo s time stood.controller
+
+-- where the stage was ready for this time, it stands still; it was moved, where each queue's history is one that it may have; and where the time lay ahead, it
+-- begins a block at it
+pub record MovesOn (s : Script) (time : ℕ) (before after : Stage) (moved : Bool) : Type 0 where
+  pub at : (past : List Block) (ready : IsReadyFor s past time before) → StillAt s past ready.stood after
+  pub drained : (past : List Block) → IsReadyFor s past time before → AreSound s after.controller → moved ≡ true
+  pub block : (past : List Block) (ready : IsReadyFor s past time before) → ComesBefore s past time ready.stood → BeginsBlock s past time after
+
+-- the controller has only moved the time of the script's loopers so far, no queue past the stage's time
+pub record IsUnderWay (s : Script) (st : Stage) : Type 0 where
+  pub some : 0 < s.loopers
+  pub stage : IsStage s st
+  pub moving : IsMoving s st.controller
+  pub by : AreBy st.time st.controller
+
+-- the run may go on to this time: it is no earlier than the stage's, and a block has it, or the end
+pub record IsGoal (s : Script) (time : ℕ) (st : Stage) : Type 0 where
+  pub later : st.time ≤ time
+  pub within : time ≤ s.end
+  pub planned : is_planned_time s time ≡ true
+
+-- the stage has come to this time, and so has main
+pub record HasGoneTo (time : ℕ) (st : Stage) : Type 0 where
+  pub now : st.time ≡ time
+  pub reached : HasReached time st.controller
+
+-- no history got shorter, and where all loopers had the turn and none has grown, they have come to rest
+pub record RestsUnlessGrown (turn : Turn) (s : Script) (before after : Stage) : Type 0 where
+  pub grown : AtEach IsPrefix (seen_by before.controller.kit.posters.items) (seen_by after.controller.kit.posters.items)
+  pub rested : turn ≡ All → HaveSeenTheSame before → seen_by after.controller.kit.posters.items ≡ seen_by before.controller.kit.posters.items → AreRested s after
+
+-- the stage has run the blocks before this one, and stands at this one
 pub record IsAtNext (s : Script) (past rest : List Block) (b : Block) (st : Stage) : Type 0 where
   pub next : past ++ b ∷ rest ≡ s.blocks
   pub moving : IsMoving s st.controller
-  pub run : HaveRun s past st.threads.items
-  pub at : AreAtBlockIfSound s b.time st
-  pub timely : AreTimelyUpTo s past st
+  pub now : st.time ≡ b.time
+  pub at : StageAt s past st
+  pub begins : BeginsBlock s past b.time st
 
--- the stage has run this block too, in its time, wherever it was the next
+-- wherever this block was the next, the stage has run it
 abbrev pub RunsNext : Script → Block → Stage → Stage → Type 0
-RunsNext s b before after = (past rest : List Block) → IsAtNext s past rest b before → AreTimelyUpTo s (past ++ b ∷ []) after
+RunsNext s b before after = (past rest : List Block) → IsAtNext s past rest b before → StageAt s (past ++ b ∷ []) after

@@ -6,7 +6,8 @@ use Rattle.looper_run.specs.Round.{is_ended}
 use Rattle.dash_hall.specs.declared.hall.Hall.{Hall}
 use Rattle.dash_hall.specs.Hearing.{HaveHeard}
 use Rattle.dash_loopers.specs.Loopers.{LooperKeeps, IsLooper, HasRun, ComesToWait}
-use Rattle.dash_stage.specs.Playing.{PlaysOn}
+use Rattle.dash_stage.specs.Playing.{PlaysOn, EachPlaysOn}
+use Rattle.dash_stage.specs.Stages.{AreLoopers, LoopersGoOn}
 use Rattle.dash_stage.specs.declared.side.Turn.{Turn}
 use Rattle.dash_stage.specs.declared.side.Turn.TheVariants.{All, Main, Others}
 
@@ -38,3 +39,16 @@ RunsInTurn turn s hall now before after = IsLooper s hall after × (after.number
     × (has_turn turn before.number ≡ true → HasRun s now before after)
     × (has_turn turn before.number ≡ false → after ≡ before)
     × PlaysOn s now before after
+
+-- the loopers took their turns, and none gave up
+pub record HaveTakenTurns (turn : Turn) (before after : List StageLooper) : Type 0 where
+  pub on : LoopersGoOn after
+  pub others : AwaitTheirTurn turn before after
+
+-- the loopers that have the turn ran a round and came to wait, the others are as they were, and each played on
+pub record HaveRunRound (turn : Turn) (s : Script) (hall : Hall) (now : ℕ) (before after : List StageLooper) : Type 0 where
+  pub loopers : AreLoopers s hall after
+  pub waits : AtTurn turn true (ComesToWait s) before after
+  pub rounds : AtTurn turn true (HasRun s now) before after
+  pub others : AtTurn turn false IsTheSame before after
+  pub plays : EachPlaysOn s now before after

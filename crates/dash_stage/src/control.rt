@@ -1,21 +1,19 @@
 //! The controller of a run.
-ghost use Rattle.std.specs.Prelude.{◌≡◌, ◌<◌, ◌≤◌, ◌+◌, ℕ, true, false, length, sum_by, Some, IfOk, OnOk};
+ghost use Rattle.std.specs.Prelude.{◌≡◌, ◌≤◌, ◌+◌, ℕ, true, false, length, sum_by, Some, IfOk, OnOk};
 ghost use Rattle.shared_queue.specs.Known.{IsOf};
 ghost use Rattle.choreographer.specs.Known.{IsOf as IsOfFrames};
 ghost use Rattle.dash_hall.specs.Growth.{GoesOn, QuitsOf};
+ghost use Rattle.dash_hall.specs.Hearing.{seen_by};
 ghost use Rattle.dash_hall.specs.Kits.{IsHall};
 ghost use Rattle.dash_threads.specs.Threads.{AreByClock};
-ghost use Rattle.dash_stage.specs.ByClock.{MayQuit};
-ghost use Rattle.dash_stage.specs.GivingUp.{RingsNone};
-ghost use Rattle.run_model.specs.Moments.{Mode, IsMoment};
-ghost use Rattle.dash_stage.specs.Controllers.{IsController, IsControllerIn, IsMoving, HasReached, IsQuitting, IsClosing, IsClosingBy, HasClosed, HasClosedIn};
-ghost use Rattle.dash_stage.specs.Controllers.{CallsNone, LooksFor, HandsOutFrames, AtPoster, OtherPostersStay, OtherPassesStay, calls_on, time_in};
 ghost use Rattle.looper_run.specs.Holding.{Sender};
-ghost use Rattle.run_model.specs.Control.{ends_halted};
+ghost use Rattle.run_model.specs.Moments.{Mode, IsMoment};
 ghost use Rattle.run_model.specs.Moves.{IsPulseTime};
-ghost use Rattle.dash_hall.specs.Hearing.{seen_by};
-ghost use Rattle.dash_stage.specs.Timeliness.{AreBy, TurnsOn, EachTurnsOn, MovesTo, MovesNot, Halts, IsNone, HandsOut, HaveCome, HasComeOn, whole_on};
-ghost use Rattle.dash_stage.specs.Playing.{IsStuck, AreStuck};
+ghost use Rattle.dash_stage.specs.Controllers.{IsController, IsControllerIn, CanTurn, TurnsAlone, IsMoving, IsQuitting, IsClosing, IsClosingBy};
+ghost use Rattle.dash_stage.specs.Controllers.{CallsNone, LooksFor, HandsOutFrames, AtPoster, OtherPassesStay, calls_on, time_in};
+ghost use Rattle.dash_stage.specs.ControlSteps.{KeepsPace, HasAdvanced, HaveAdvanced, QuitsAt, HasHaltedMain};
+ghost use Rattle.dash_stage.specs.GivingUp.{RingsNone};
+ghost use Rattle.dash_stage.specs.Timeliness.{TurnsOn, EachTurnsOn, Halts, IsNone, HandsOut};
 
 use choreographer::{Choreographer, FramePass};
 use dash_hall::{Hall, Kit, quit};
@@ -50,18 +48,12 @@ impl Controller {
         script: &Script,
         now: u64,
     ) -> Result<bool, NoMemory>
-        requires some { 0 < script.now.loopers }
-        requires hall { IsHall script.now hall.now }
-        requires controller { IsController script.now hall.now self.old }
+        requires at { CanTurn true script.now hall.now 0 self.old }
         requires end { now ≤ script.now.end }
         requires moving { IsMoving script.now self.old }
         ensures controller { IsController script.now hall.now self.new }
-        ensures moving { IsMoving script.now self.new }
-        ensures reached { IfOk result (λ drained. drained ≡ true → HasReached now self.new) }
-        ensures by { (t : ℕ) → now ≤ t → AreBy t self.old → AreBy t self.new }
-        ensures turns { OnOk result (EachTurnsOn (MovesTo now) self.old self.new) }
-        ensures come { IfOk result (λ drained. drained ≡ true → HaveCome script.now now self.new) }
-        ensures stuck { IfOk result (λ drained. drained ≡ false → AreStuck script.now now script.now.loopers self.new) }
+        ensures pace { KeepsPace script.now now self.old self.new }
+        ensures all { IfOk result (HaveAdvanced script.now now self.old self.new) }
     {
         let mut drained = true;
         for place in 0..script.loopers {
@@ -79,20 +71,12 @@ impl Controller {
         place: usize,
         now: u64,
     ) -> Result<bool, NoMemory>
-        requires hall { IsHall script.now hall.now }
-        requires controller { IsController script.now hall.now self.old }
-        requires place { place < script.now.loopers }
+        requires at { CanTurn true script.now hall.now place self.old }
         requires end { now ≤ script.now.end }
         requires moving { IsMoving script.now self.old }
-        ensures controller { IsController script.now hall.now self.new }
-        ensures moving { IsMoving script.now self.new }
-        ensures reached { IfOk result (λ drained. drained ≡ true → place ≡ 0 → HasReached now self.new) }
-        ensures kept { HasReached now self.old → HasReached now self.new }
-        ensures by { (t : ℕ) → now ≤ t → AreBy t self.old → AreBy t self.new }
-        ensures here { OnOk result (AtPoster (TurnsOn (MovesTo now)) place self.old self.new) }
-        ensures elsewhere { OtherPostersStay place self.old self.new }
-        ensures come { IfOk result (λ drained. drained ≡ true → HasComeOn script.now now place self.new) }
-        ensures stuck { IfOk result (λ drained. drained ≡ false → (d : Sender) → IsStuck script.now now (whole_on self.new place d)) }
+        ensures alone { TurnsAlone true script.now hall.now place self.old self.new }
+        ensures pace { KeepsPace script.now now self.old self.new }
+        ensures one { IfOk result (HasAdvanced script.now now place self.old self.new) }
     {
         match self.kit.posters[place].advance(rt, &hall.queues[place], now) {
             Advancing::Advanced => Ok(true),
@@ -142,13 +126,10 @@ impl Controller {
         script: &Script,
         place: usize,
     ) -> Result<(), NoMemory>
-        requires hall { IsHall script.now hall.now }
-        requires controller { IsController script.now hall.now self.old }
-        requires place { place < script.now.loopers }
-        ensures controller { IsController script.now hall.now self.new }
+        requires at { CanTurn true script.now hall.now place self.old }
+        ensures alone { TurnsAlone true script.now hall.now place self.old self.new }
         ensures none { CallsNone self.old self.new }
         ensures here { AtPoster (TurnsOn IsNone) place self.old self.new }
-        ensures elsewhere { OtherPostersStay place self.old self.new }
     {
         hand_out(
             rt,
@@ -166,9 +147,7 @@ impl Controller {
         script: &Script,
         place: usize,
     ) -> Result<(), NoMemory>
-        requires hall { IsHall script.now hall.now }
-        requires controller { IsController script.now hall.now self.old }
-        requires place { place < script.now.loopers }
+        requires at { CanTurn true script.now hall.now place self.old }
         ensures controller { IsController script.now hall.now self.new }
         ensures posters { self.new.kit.posters ≡ self.old.kit.posters }
     {
@@ -199,11 +178,8 @@ impl Controller {
         script: &Script,
         looper: u32,
     ) -> Option<u64>
-        requires hall { IsHall script.now hall.now }
-        requires controller { IsController script.now hall.now self.old }
-        requires looper { looper < script.now.loopers }
+        requires at { CanTurn true script.now hall.now looper self.old }
         ensures controller { IsController script.now hall.now self.new }
-        ensures none { CallsNone self.old self.new }
         ensures posters { self.new.kit.posters ≡ self.old.kit.posters }
         ensures pulse { (time : ℕ) → result ≡ Some time → IsPulseTime script.now.period time }
         ensures look { LooksFor looper self.old self.new result }
@@ -222,15 +198,10 @@ impl Controller {
         script: &Script,
         looper: u32,
     ) -> Result<(), NoMemory>
-        requires hall { IsHall script.now hall.now }
-        requires controller { IsController script.now hall.now self.old }
-        requires looper { looper < script.now.loopers }
-        requires other { 0 < looper }
+        requires at { CanTurn true script.now hall.now looper self.old }
         requires quitting { IsQuitting script.now looper self.old }
-        ensures controller { IsController script.now hall.now self.new }
-        ensures quitting { OnOk result (IsQuitting script.now (looper + 1) self.new) }
-        ensures here { OnOk result (AtPoster (TurnsOn MovesNot) looper self.old self.new) }
-        ensures elsewhere { OtherPostersStay looper self.old self.new }
+        ensures alone { TurnsAlone true script.now hall.now looper self.old self.new }
+        ensures quits { OnOk result (QuitsAt script.now looper self.old self.new) }
     {
         if self.time_on(rt, hall, script, looper as usize) < script.end {
             return Ok(());
@@ -240,14 +211,11 @@ impl Controller {
 
     /// The time of a queue, in milliseconds.
     fn time_on<R: Wait>(&mut self, rt: &R, hall: &Hall, script: &Script, place: usize) -> u64
-        requires hall { IsHall script.now hall.now }
-        requires controller { IsController script.now hall.now self.old }
-        requires place { place < script.now.loopers }
-        ensures controller { IsController script.now hall.now self.new }
+        requires at { CanTurn true script.now hall.now place self.old }
+        ensures alone { TurnsAlone true script.now hall.now place self.old self.new }
         ensures none { CallsNone self.old self.new }
         ensures time { (d : Sender) → result ≡ time_in (calls_on self.new place d) }
         ensures here { AtPoster (TurnsOn IsNone) place self.old self.new }
-        ensures elsewhere { OtherPostersStay place self.old self.new }
     {
         self.kit.posters[place].time(rt, &hall.queues[place])
     }
@@ -260,16 +228,11 @@ impl Controller {
         script: &Script,
         place: usize,
     ) -> Result<(), NoMemory>
-        requires hall { IsHall script.now hall.now }
-        requires controller { IsController script.now hall.now self.old }
-        requires place { place < script.now.loopers }
-        requires other { 0 < place }
+        requires at { CanTurn true script.now hall.now place self.old }
         requires quitting { IsQuitting script.now place self.old }
         requires time { (d : Sender) → script.now.end ≤ time_in (calls_on self.old place d) }
-        ensures controller { IsController script.now hall.now self.new }
-        ensures quitting { OnOk result (IsQuitting script.now (place + 1) self.new) }
-        ensures here { OnOk result (AtPoster (TurnsOn MovesNot) place self.old self.new) }
-        ensures elsewhere { OtherPostersStay place self.old self.new }
+        ensures alone { TurnsAlone true script.now hall.now place self.old self.new }
+        ensures quits { OnOk result (QuitsAt script.now place self.old self.new) }
     {
         quit_by(
             rt,
@@ -284,15 +247,12 @@ impl Controller {
 
     /// Halts the main looper at the end. Answers false where a message is due.
     pub(crate) fn halt<R: Wait>(&mut self, rt: &R, hall: &Hall, script: &Script) -> bool
-        requires some { 0 < script.now.loopers }
-        requires hall { IsHall script.now hall.now }
-        requires controller { IsController script.now hall.now self.old }
+        requires at { CanTurn true script.now hall.now 0 self.old }
         requires closing { IsClosing script.now self.old }
         ensures controller { IsController script.now hall.now self.new }
-        ensures closing { result ≡ false → IsClosing script.now self.new }
-        ensures closed { result ≡ true → HasClosed script.now self.new }
         ensures turns { EachTurnsOn Halts self.old self.new }
-        ensures halted { result ≡ true → (d : Sender) → ends_halted (whole_on self.new 0 d) ≡ true }
+        ensures going { result ≡ false → IsClosing script.now self.new }
+        ensures closed { result ≡ true → HasHaltedMain true script.now self.new }
     {
         match self.kit.posters[0].halt(rt, &hall.queues[0], script.end) {
             Halting::Halted => true,
@@ -311,15 +271,11 @@ impl Controller {
         has_ended: bool,
         now: u64,
     ) -> bool
-        requires hall { IsHall script.now hall.now }
-        requires controller { IsControllerIn hall.now.lockstep script.now hall.now self.old }
-        requires place { place < script.now.loopers }
-        ensures controller { IsControllerIn hall.now.lockstep script.now hall.now self.new }
-        ensures here { result ≡ true → AtPoster (λ before after. MayQuit before after now) place self.old self.new }
+        requires at { CanTurn hall.now.lockstep script.now hall.now place self.old }
+        ensures alone { TurnsAlone hall.now.lockstep script.now hall.now place self.old self.new }
         ensures left { has_ended ≡ true → self.new ≡ self.old }
         ensures made { result ≡ true → has_ended ≡ false → AtPoster (λ before after. QuitsOf before after true now) place self.old self.new }
         ensures bells { RingsNone self.old self.new }
-        ensures elsewhere { OtherPostersStay place self.old self.new }
     {
         if has_ended {
             return true;
@@ -335,16 +291,13 @@ impl Controller {
         script: &Script,
         now: u64,
     ) -> bool
-        requires some { 0 < script.now.loopers }
-        requires hall { IsHall script.now hall.now }
-        requires controller { IsControllerIn false script.now hall.now self.old }
+        requires at { CanTurn false script.now hall.now 0 self.old }
         requires closing { IsClosingBy script.now self.old }
         requires late { script.now.end ≤ now }
         ensures controller { IsControllerIn false script.now hall.now self.new }
-        ensures closing { result ≡ false → IsClosingBy script.now self.new }
-        ensures closed { result ≡ true → HasClosedIn false script.now self.new }
         ensures turns { EachTurnsOn Halts self.old self.new }
-        ensures halted { result ≡ true → (d : Sender) → ends_halted (whole_on self.new 0 d) ≡ true }
+        ensures going { result ≡ false → IsClosingBy script.now self.new }
+        ensures closed { result ≡ true → HasHaltedMain false script.now self.new }
         ensures clocked { (m : Mode) → IsMoment m now → AreByClock m self.old.kit.posters.items → AreByClock m self.new.kit.posters.items }
     {
         match self.kit.posters[0].halt(rt, &hall.queues[0], now) {

@@ -1,5 +1,5 @@
 //! A run by a clock.
-ghost use Rattle.std.specs.Prelude.{◌≡◌, ◌<◌, ◌≤◌, ℕ, false, true, length, slice_index_or, None, IfOk, OnOk};
+ghost use Rattle.std.specs.Prelude.{◌≡◌, ◌<◌, ◌≤◌, false, true, length, slice_index_or, None, IfOk, OnOk};
 ghost use Rattle.std.specs.Thread.{IsSync};
 ghost use Rattle.loop_io.specs.Moments.{IsMoment};
 ghost use Rattle.dash_script.specs.Reading.{HasText};
@@ -8,15 +8,13 @@ ghost use Rattle.dash_threads.specs.Threads.{IsThread};
 ghost use Rattle.looper_run.specs.Round.{is_ended};
 ghost use Rattle.dash_loopers.specs.declared.looper.StageLooper.{StageLooper as LooperData};
 ghost use Rattle.dash_loopers.specs.Loopers.{IsLooper};
-ghost use Rattle.dash_stage.specs.ByClock.{IsFreeHall, by_timer, RunsByClock, LoopsAlone, EachRuns, EachLoops, QuitsOthers};
-ghost use Rattle.dash_stage.specs.ByClock.{EachIsThread, EachIsLooper, CanRunMain, EachLoopsAlone, MainLoops, LoopSideBySide};
-ghost use Rattle.dash_stage.specs.BehindThreads.{CallsBehindThreads};
-ghost use Rattle.dash_stage.specs.Controllers.{IsControllerIn, CallsNothingOn};
+ghost use Rattle.dash_stage.specs.ByClock.{IsFreeHall, by_timer, RunsByClock, LoopsAlone, EachRuns, EachLoops, EachLoopsAlone, MainLoops, LoopSideBySide, QuitsOthers};
+ghost use Rattle.dash_stage.specs.ByClock.{EachIsThread, EachIsLooper, CanRunBeside, CanRunMain, CanQuitOthers, RunBeside, RanMain, RunsMain, HearsThreads, EndsOthers};
 ghost use Rattle.dash_stage.specs.GivingUp.{HaveBeenRung};
 ghost use Rattle.dash_stage.specs.RunEnds.{HasBegunByClock, IsClosingByClock, HasEndedByClock};
-ghost use Rattle.dash_stage.specs.Sharing.{ControllerKeeps, StageKeeps, HaveSeenTheSame};
+ghost use Rattle.dash_stage.specs.Sharing.{StageKeeps, HaveSeenTheSame};
 ghost use Rattle.dash_stage.specs.Outcomes.{StagesByClock};
-ghost use Rattle.dash_stage.specs.Stages.{IsStageIn, AreThreads, AreLoopers, OthersHaveEnded};
+ghost use Rattle.dash_stage.specs.Stages.{IsStageIn, AreLoopers, OthersHaveEnded};
 
 use crate::control::Controller;
 use crate::kept::report_by_clock;
@@ -84,7 +82,6 @@ impl Stage {
         timer: &Timer<C>,
     ) -> Result<(), NoMemory>
         requires text { HasText script.now }
-        requires some { 0 < script.now.loopers }
         requires begun { HasBegunByClock (by_timer C.shows timer.now) script.now self.old }
         ensures out { OnOk result (HasEndedByClock (by_timer C.shows timer.now) script.now self.new) }
     {
@@ -107,7 +104,6 @@ impl Stage {
         timer: &Timer<C>,
     ) -> Result<(), NoMemory>
         requires text { HasText script.now }
-        requires some { 0 < script.now.loopers }
         requires begun { HasBegunByClock (by_timer C.shows timer.now) script.now self.old }
         ensures closing { OnOk result (IsClosingByClock (by_timer C.shows timer.now) script.now self.new) }
     {
@@ -147,7 +143,6 @@ impl Stage {
         timer: &Timer<C>,
     ) -> Result<(), NoMemory>
         requires text { HasText script.now }
-        requires some { 0 < script.now.loopers }
         requires closing { IsClosingByClock (by_timer C.shows timer.now) script.now self.old }
         ensures closing { OnOk result (IsClosingByClock (by_timer C.shows timer.now) script.now self.new) }
     {
@@ -176,7 +171,6 @@ impl Stage {
         script: &Script,
         timer: &Timer<C>,
     ) -> Result<bool, NoMemory>
-        requires some { 0 < script.now.loopers }
         requires closing { IsClosingByClock (by_timer C.shows timer.now) script.now self.old }
         ensures closing { IfOk result (λ halted. halted ≡ false → IsClosingByClock (by_timer C.shows timer.now) script.now self.new) }
         ensures out { IfOk result (λ halted. halted ≡ true → HasEndedByClock (by_timer C.shows timer.now) script.now self.new) }
@@ -211,19 +205,10 @@ fn run_side_by_side<R: Threads + Wait + time::Clock + Sync, C: Clock + Sync, G: 
     loopers: &mut [StageLooper],
     controller: &mut Controller,
 ) -> bool
-    requires text { HasText script.now }
-    requires some { 0 < script.now.loopers }
-    requires hall { IsFreeHall script.now hall.now }
-    requires threads { AreThreads script.now hall.now threads.old }
-    requires loopers { AreLoopers script.now hall.now loopers.old }
-    requires controller { IsControllerIn false script.now hall.now controller.old }
-    requires none { (q : ℕ) → CallsNothingOn controller.old q }
-    ensures threads { EachRuns (by_timer C.shows timer.now) script.now hall.now threads.old threads.new }
-    ensures loopers { EachLoops (by_timer C.shows timer.now) script.now hall.now loopers.old loopers.new }
+    requires can { CanRunBeside script.now hall.now threads.old loopers.old controller.old }
+    ensures beside { RunBeside (by_timer C.shows timer.now) script.now hall.now threads.old threads.new loopers.old loopers.new }
     ensures looped { result ≡ true → LoopSideBySide (by_timer C.shows timer.now) script.now loopers.old loopers.new }
-    ensures quit { result ≡ true → QuitsOthers (by_timer C.shows timer.now) script.now hall.now controller.old controller.new }
-    ensures behind { result ≡ true → CallsBehindThreads script.now threads.new controller.new }
-    ensures rung { result ≡ false → HaveBeenRung script.now.loopers controller.old controller.new }
+    ensures ends { EndsOthers (by_timer C.shows timer.now) script.now hall.now threads.new controller.old controller.new result }
 {
     let ended = Mutex::new(0);
     let (main, others) = loopers.split_at_mut(1);
@@ -235,12 +220,7 @@ fn run_side_by_side<R: Threads + Wait + time::Clock + Sync, C: Clock + Sync, G: 
         { run_others(means, hall, script, timer, &ended, others) },
         &mut ||
             requires { CanRunMain script.now hall.now main.now threads.now controller.now × IsSync R.row × IsSync C.row × IsSync G.row }
-            ensures threads { EachRuns (by_timer C.shows timer.entry.now) script.entry.now hall.entry.now threads.entry.now threads.exit.now }
-            ensures main { EachLoops (by_timer C.shows timer.entry.now) script.entry.now hall.entry.now main.entry.now main.exit.now }
-            ensures looped { result ≡ true → MainLoops (by_timer C.shows timer.entry.now) script.entry.now hall.entry.now main.entry.now main.exit.now }
-            ensures quit { result ≡ true → QuitsOthers (by_timer C.shows timer.entry.now) script.entry.now hall.entry.now controller.entry.now controller.exit.now }
-            ensures behind { result ≡ true → CallsBehindThreads script.entry.now threads.exit.now controller.exit.now }
-            ensures rung { result ≡ false → HaveBeenRung script.entry.now.loopers controller.entry.now controller.exit.now }
+            ensures { RunsMain (by_timer C.shows timer.entry.now) script.entry.now hall.entry.now threads.entry.now threads.exit.now main.entry.now main.exit.now controller.entry.now controller.exit.now result }
         {
             let early = run_main(means, hall, script, timer, main, threads, controller);
             quit_others(means.rt, hall, script, timer, &ended, controller, early)
@@ -319,20 +299,9 @@ fn run_main<R: Threads + Wait + time::Clock + Sync, C: Clock + Sync, G: Gate + S
     threads: &mut [PostingThread],
     controller: &mut Controller,
 ) -> Option<Look>
-    requires text { HasText script.now }
-    requires hall { IsFreeHall script.now hall.now }
-    requires one { length main.old ≡ 1 }
-    requires main { EachIsLooper script.now hall.now main.old }
-    requires threads { EachIsThread script.now hall.now threads.old }
-    requires controller { IsControllerIn false script.now hall.now controller.old }
-    requires none { (q : ℕ) → CallsNothingOn controller.old q }
-    ensures threads { EachRuns (by_timer C.shows timer.now) script.now hall.now threads.old threads.new }
-    ensures main { EachLoops (by_timer C.shows timer.now) script.now hall.now main.old main.new }
-    ensures looped { result ≡ None → MainLoops (by_timer C.shows timer.now) script.now hall.now main.old main.new }
-    ensures controller { IsControllerIn false script.now hall.now controller.new }
-    ensures none { (q : ℕ) → CallsNothingOn controller.new q }
-    ensures kept { ControllerKeeps HaveHeard controller.old controller.new }
-    ensures behind { CallsBehindThreads script.now threads.new controller.new }
+    requires can { CanRunMain script.now hall.now main.old threads.old controller.old }
+    ensures ran { RanMain (by_timer C.shows timer.now) script.now hall.now threads.old threads.new main.old main.new result }
+    ensures hears { HearsThreads script.now threads.new controller.old controller.new }
 {
     let ((), early) = join_mut(
         means.rt,
@@ -412,10 +381,7 @@ fn quit_others<R: Wait + time::Clock, C: Clock>(
     controller: &mut Controller,
     early: Option<Look>,
 ) -> bool
-    requires some { 0 < script.now.loopers }
-    requires hall { IsFreeHall script.now hall.now }
-    requires controller { IsControllerIn false script.now hall.now controller.old }
-    requires none { (q : ℕ) → CallsNothingOn controller.old q }
+    requires can { CanQuitOthers script.now hall.now controller.old }
     ensures heeds { result ≡ true → early ≡ None }
     ensures quit { result ≡ true → QuitsOthers (by_timer C.shows timer.now) script.now hall.now controller.old controller.new }
     ensures rung { result ≡ false → HaveBeenRung script.now.loopers controller.old controller.new }

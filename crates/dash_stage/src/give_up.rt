@@ -2,7 +2,7 @@
 ghost use Rattle.std.specs.Prelude.{◌≡◌, ◌<◌, true, false};
 ghost use Rattle.dash_hall.specs.Growth.{QuitsOf};
 ghost use Rattle.dash_hall.specs.Kits.{IsHall};
-ghost use Rattle.dash_stage.specs.Controllers.{IsControllerIn, AtPoster, OtherPostersStay};
+ghost use Rattle.dash_stage.specs.Controllers.{IsControllerIn, CanTurn, TurnsAlone, AtPoster};
 ghost use Rattle.dash_stage.specs.GivingUp.{AreQuit, AreRung, IsNudged, IsRung, OthersHaveRun, RingsNone, RingsNoLess};
 ghost use Rattle.dash_stage.specs.declared.side.Turn.TheVariants.{Others};
 ghost use Rattle.dash_stage.specs.Stages.{IsStage};
@@ -62,9 +62,7 @@ impl Controller {
         script: &Script,
         now: u64,
     ) -> bool
-        requires some { 0 < script.now.loopers }
-        requires hall { IsHall script.now hall.now }
-        requires controller { IsControllerIn hall.now.lockstep script.now hall.now self.old }
+        requires at { CanTurn hall.now.lockstep script.now hall.now 0 self.old }
         ensures controller { IsControllerIn hall.now.lockstep script.now hall.now self.new }
         ensures nudged { IsNudged self.old self.new }
         ensures bells { RingsNoLess self.old self.new }
@@ -93,12 +91,9 @@ impl Controller {
 
     /// Rings the bell of a looper.
     fn ring<R: Wait>(&mut self, rt: &R, hall: &Hall, script: &Script, place: usize)
-        requires hall { IsHall script.now hall.now }
-        requires controller { IsControllerIn hall.now.lockstep script.now hall.now self.old }
-        requires place { place < script.now.loopers }
-        ensures controller { IsControllerIn hall.now.lockstep script.now hall.now self.new }
+        requires at { CanTurn hall.now.lockstep script.now hall.now place self.old }
+        ensures alone { TurnsAlone hall.now.lockstep script.now hall.now place self.old self.new }
         ensures rung { IsRung place self.old self.new }
-        ensures elsewhere { OtherPostersStay place self.old self.new }
     {
         self.kit.posters[place].nudge(rt, &hall.queues[place]);
     }
@@ -113,13 +108,10 @@ impl Controller {
         safe: bool,
         now: u64,
     ) -> bool
-        requires hall { IsHall script.now hall.now }
-        requires controller { IsControllerIn hall.now.lockstep script.now hall.now self.old }
-        requires place { place < script.now.loopers }
-        ensures controller { IsControllerIn hall.now.lockstep script.now hall.now self.new }
+        requires at { CanTurn hall.now.lockstep script.now hall.now place self.old }
+        ensures alone { TurnsAlone hall.now.lockstep script.now hall.now place self.old self.new }
         ensures here { result ≡ true → AtPoster (λ before after. QuitsOf before after safe now) place self.old self.new }
         ensures bells { RingsNone self.old self.new }
-        ensures elsewhere { OtherPostersStay place self.old self.new }
     {
         let Ok(()) = quit_by(
             rt,

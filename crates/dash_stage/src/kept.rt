@@ -1,20 +1,12 @@
 //! The report of a run.
-ghost use Rattle.std.specs.Prelude.{◌≡◌, ℕ, Bool, true, IfOk, OnOk, List};
+ghost use Rattle.std.specs.Prelude.{◌≡◌, ℕ, Bool, true, IfOk};
 ghost use Rattle.dash_script.specs.Reading.{HasText};
-ghost use Rattle.loop_model.specs.declared.entry.Entry.{Entry};
-ghost use Rattle.run_model.specs.Moments.{in_free_mode, Mode};
-ghost use Rattle.dash_hall.specs.Kits.{IsHall, OthersAreOver};
-ghost use Rattle.dash_stage.specs.Keeping.{AreKeptOf};
-ghost use Rattle.dash_stage.specs.Records.{AreJournals};
-ghost use Rattle.dash_loopers.specs.Loopers.{HaveTold};
+ghost use Rattle.run_model.specs.Moments.{in_free_mode};
+ghost use Rattle.dash_hall.specs.Kits.{IsHall};
+ghost use Rattle.dash_stage.specs.Keeping.{AreKeptOf, GiveKits, GiveBack};
 ghost use Rattle.dash_stage.specs.Outcomes.{Stages, StagesByClock};
-ghost use Rattle.dash_stage.specs.Leaving.{HaveGiven};
-ghost use Rattle.dash_stage.specs.Runs.{HaveRunAll};
-ghost use Rattle.dash_hall.specs.Hearing.{HaveSeenAll};
-ghost use Rattle.dash_stage.specs.Sharing.{OfThreads, OfKits, CarriesOver};
-ghost use Rattle.dash_stage.specs.Stages.{IsPlayable, AreThreads, AreLoopers, AreThreadKits, AreSenderKits, OthersHaveEnded, LoopersGoOn, IsStageIn, HaveRunBy};
-ghost use Rattle.dash_threads.specs.Threads.{AreByClock};
 ghost use Rattle.dash_stage.specs.RunEnds.{HasEndedByClock, HasEndedInLockstep};
+ghost use Rattle.dash_stage.specs.Stages.{IsPlayable, AreThreads, AreLoopers, AreThreadKits, OthersHaveEnded, LoopersGoOn, IsStageIn};
 
 use crate::control::Controller;
 use crate::records::records;
@@ -110,10 +102,7 @@ fn thread_kits(
     mut threads: Vec<PostingThread>,
 ) -> Result<Vec<Kit>, NoMemory>
     requires threads { AreThreads script.now hall.now threads.items }
-    ensures kits { IfOk result (λ v. AreThreadKits script.now hall.now v.items) }
-    ensures run { (m : Mode) → HaveRunBy m script.now script.now.blocks threads.items → IfOk result (λ v. HaveRunAll m script.now v.items) }
-    ensures clocked { (m : Mode) → OfThreads (AreByClock m) threads.items → IfOk result (λ v. OfKits (AreByClock m) v.items) }
-    ensures seen { IfOk result (λ v. (whole : List (List Entry)) → OfThreads (HaveSeenAll whole) threads.items → OfKits (HaveSeenAll whole) v.items) }
+    ensures give { IfOk result (λ v. GiveKits script.now hall.now threads.items v.items) }
 {
     let mut kits = Vec::new(alloc);
     'each: while !threads.is_empty() {
@@ -133,14 +122,7 @@ fn looper_kits(
     requires hall { IsHall script.now hall.now }
     requires loopers { AreLoopers script.now hall.now loopers.items }
     requires kits { AreThreadKits script.now hall.now kits.old.items }
-    ensures journals { IfOk result (λ v. AreJournals script.now v.items) }
-    ensures kits { OnOk result (AreSenderKits script.now hall.now kits.new.items) }
-    ensures run { OnOk result ((m : Mode) → HaveRunAll m script.now kits.old.items → HaveRunAll m script.now kits.new.items) }
-    ensures clocked { OnOk result ((m : Mode) → CarriesOver (AreByClock m) loopers.items kits.old.items kits.new.items) }
-    ensures told { IfOk result (λ v. LoopersGoOn loopers.items → HaveTold script.now v.items kits.new.items) }
-    ensures left { IfOk result (λ v. HaveGiven script.now loopers.items v.items kits.new.items) }
-    ensures over { OnOk result (OthersHaveEnded loopers.items → OthersAreOver script.now kits.new.items) }
-    ensures seen { OnOk result ((whole : List (List Entry)) → CarriesOver (HaveSeenAll whole) loopers.items kits.old.items kits.new.items) }
+    ensures back { IfOk result (λ v. GiveBack script.now hall.now loopers.items kits.old.items kits.new.items v.items) }
 {
     let mut journals = Vec::new(alloc);
     'each: while !loopers.is_empty() {

@@ -1,13 +1,9 @@
 //! A stage before the first event.
 ghost use Rattle.std.specs.Prelude.{◌≡◌, ◌<◌, ◌+◌, [], IfOk, OnOk, replicate};
-ghost use Rattle.dash_stage.specs.Asking.{AskInTurn};
-ghost use Rattle.dash_stage.specs.Controllers.{IsMoving, parts_in};
-ghost use Rattle.dash_stage.specs.Timeliness.{AreBy, AreTimelyUpTo, AreRested, WaitForNothing};
-ghost use Rattle.dash_hall.specs.Kits.{IsHall, AreUnseen, AreUnusedKits};
-ghost use Rattle.dash_stage.specs.Sharing.{OfThreads, OfPasses, OfLoopers, OfSenders, AreUnheard, HaveHeardNothing};
-ghost use Rattle.dash_stage.specs.Playing.{HaveBegun, IsInStep};
-ghost use Rattle.dash_stage.specs.Stages.{IsPlayable, AreKitsFrom, AreThreads, AreLoopers, HaveRunBy, IsStageIn};
-ghost use Rattle.run_model.specs.Moments.{Mode};
+ghost use Rattle.dash_hall.specs.Kits.{IsHall};
+ghost use Rattle.dash_stage.specs.Controllers.{parts_in};
+ghost use Rattle.dash_stage.specs.Opening.{AreUnusedFrom, AreOpenedThreads, AreOpenedLoopers, HasOpened};
+ghost use Rattle.dash_stage.specs.Stages.{IsPlayable};
 
 use crate::control::Controller;
 use crate::stage::Stage;
@@ -21,17 +17,7 @@ use std::alloc::Global;
 /// The senders of a script, which have done nothing, in lockstep or by a clock.
 pub(crate) fn set_up(alloc: Global, script: &Script, lockstep: bool) -> Result<Stage, NoMemory>
     requires { IsPlayable script.now }
-    ensures stage { IfOk result (λ st. IsStageIn lockstep script.now st) }
-    ensures begun { (m : Mode) → IfOk result (λ st. HaveRunBy m script.now [] st.threads.items) }
-    ensures loopers { IfOk result (λ st. HaveBegun script.now st.loopers.items) }
-    ensures moving { IfOk result (λ st. IsMoving script.now st.controller) }
-    ensures by { IfOk result (λ st. AreBy st.time st.controller × (st.time ≡ 0)) }
-    ensures timely { IfOk result (λ st. AreTimelyUpTo script.now [] st) }
-    ensures rested { IfOk result (λ st. AreRested script.now st) }
-    ensures step { IfOk result (λ st. IsInStep script.now st) }
-    ensures unseen { IfOk result (λ st. AreUnseen st.controller.kit.posters.items) }
-    ensures unused { IfOk result (λ st. OfSenders AreUnseen st) }
-    ensures turn { IfOk result (λ st. AskInTurn script.now [] 0 st) }
+    ensures opened { IfOk result (HasOpened lockstep script.now) }
 {
     let (hall, mut kits, pass) = open(alloc, script, lockstep)?;
     let threads = threads(alloc, script, &hall, &mut kits)?;
@@ -72,14 +58,9 @@ fn threads(
     kits: &mut Vec<Kit>,
 ) -> Result<Vec<PostingThread>, NoMemory>
     requires few { script.now.threads + script.now.loopers < 100 }
-    requires kits { AreKitsFrom script.now hall.now 0 kits.old.items }
-    requires unused { AreUnusedKits kits.old.items }
-    ensures threads { IfOk result (λ v. AreThreads script.now hall.now v.items) }
-    ensures begun { (m : Mode) → IfOk result (λ v. HaveRunBy m script.now [] v.items) }
-    ensures unseen { IfOk result (λ v. OfThreads AreUnseen v.items) }
-    ensures unheard { IfOk result (λ v. OfPasses AreUnheard v.items) }
-    ensures kits { OnOk result (AreKitsFrom script.now hall.now script.now.threads kits.new.items) }
-    ensures unused { OnOk result (AreUnusedKits kits.new.items) }
+    requires kits { AreUnusedFrom script.now hall.now 0 kits.old.items }
+    ensures opened { IfOk result (λ v. AreOpenedThreads script.now hall.now v.items) }
+    ensures kits { OnOk result (AreUnusedFrom script.now hall.now script.now.threads kits.new.items) }
 {
     let mut threads = Vec::new(alloc);
     for number in 0..script.threads {
@@ -97,15 +78,9 @@ fn loopers(
 ) -> Result<Vec<StageLooper>, NoMemory>
     requires few { script.now.threads + script.now.loopers < 100 }
     requires hall { IsHall script.now hall.now }
-    requires kits { AreKitsFrom script.now hall.now script.now.threads kits.old.items }
-    requires unused { AreUnusedKits kits.old.items }
-    ensures loopers { IfOk result (λ v. AreLoopers script.now hall.now v.items) }
-    ensures unseen { IfOk result (λ v. OfLoopers AreUnseen v.items) }
-    ensures unheard { IfOk result (λ v. HaveHeardNothing v.items) }
-    ensures waits { IfOk result (λ v. WaitForNothing v.items) }
-    ensures begun { IfOk result (λ v. HaveBegun script.now v.items) }
-    ensures kits { OnOk result (AreKitsFrom script.now hall.now (script.now.threads + script.now.loopers) kits.new.items) }
-    ensures unused { OnOk result (AreUnusedKits kits.new.items) }
+    requires kits { AreUnusedFrom script.now hall.now script.now.threads kits.old.items }
+    ensures opened { IfOk result (λ v. AreOpenedLoopers script.now hall.now v.items) }
+    ensures kits { OnOk result (AreUnusedFrom script.now hall.now (script.now.threads + script.now.loopers) kits.new.items) }
 {
     let mut loopers = Vec::new(alloc);
     for number in 0..script.loopers {

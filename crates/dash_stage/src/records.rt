@@ -6,10 +6,9 @@ ghost use Rattle.run_model.specs.Senders.{sender_count};
 ghost use Rattle.dash_hall.specs.Kits.{IsHall, AreKitsOf, AreQueuesOf, AreChoreographersOf, frame_constants, frames_for};
 ghost use Rattle.dash_hall.specs.Dealing.{EachGivesPoster, given_of};
 ghost use Rattle.dash_stage.specs.Ending.{HavePosters, AreNext, AreSealed, HasSealedNext, HaveAllPosters, IsKeptOf, EachEndsPoster};
-ghost use Rattle.dash_stage.specs.Ending.{AreFramesSealed, HasSealedNextFrames, KeepFrames, BeginWithPasses, HaveAllPasses, HaveFramesLeft, AreOfNext, BeginWithOwn, AreOfPool};
-ghost use Rattle.dash_stage.specs.Records.{AreRecordsBy, AreFrameRecords, AreAllTheirs, HaveAll, HaveSeenOwn, AreOfLoopers};
+ghost use Rattle.dash_stage.specs.Ending.{AreFramesSealed, HasSealedNextFrames, KeepFrames, HaveNextPasses, HaveAllPasses, HaveFramesLeft, AreOfNextPasses, AreOfPool};
+ghost use Rattle.dash_stage.specs.Records.{AreRecordsIn, AreFramesIn};
 ghost use Rattle.run_model.specs.Run.{IsFrameRun};
-ghost use Rattle.run_model.specs.Moments.{Mode};
 
 use choreographer::{Choreographer, FramePass};
 use dash_hall::{Hall, Kit, holder, recycle_all};
@@ -37,12 +36,8 @@ pub(crate) fn records(
     requires sealed { AreSealed kits.items sealed.items }
     requires sealed_frames { AreFramesSealed kits.items sealed_frames.items }
     requires pass { pass.home ≡ hall.pool }
-    ensures queues { (m : Mode) → m.lockstep ≡ hall.lockstep → IfOk result (λ r. AreRecordsBy m script.now kits.items r.0.items) }
-    ensures frames { IfOk result (λ r. AreFrameRecords script.now r.1.items) }
-    ensures loopers { IfOk result (λ r. AreOfLoopers script.now r.0.items) }
-    ensures all { IfOk result (λ r. HaveAll kits.items r.0.items) }
-    ensures theirs { IfOk result (λ r. AreAllTheirs script.now kits.items r.1.items) }
-    ensures own { IfOk result (λ r. HaveSeenOwn script.now.threads kits.items r.1.items) }
+    ensures queues { IfOk result (λ r. AreRecordsIn hall.lockstep script.now kits.items r.0.items) }
+    ensures frames { IfOk result (λ r. AreFramesIn script.now kits.items r.1.items) }
 {
     let Hall {
         lockstep: _,
@@ -74,9 +69,7 @@ fn queue_records(
     requires kits { HaveAllPosters queues.items kits.old.items }
     requires sealed { AreSealed kits.old.items sealed.items }
     ensures pass { OnOk result (pass.new.home ≡ pool.now) }
-    ensures records { (m : Mode) → AreQueuesOf m.lockstep script.now pool.now queues.items → IfOk result (λ v. AreRecordsBy m script.now kits.old.items v.items) }
-    ensures loopers { IfOk result (λ v. AreOfLoopers script.now v.items) }
-    ensures all { IfOk result (λ v. HaveAll kits.old.items v.items) }
+    ensures records { (lockstep : Bool) → AreQueuesOf lockstep script.now pool.now queues.items → IfOk result (λ v. AreRecordsIn lockstep script.now kits.old.items v.items) }
     ensures kits { OnOk result (KeepFrames kits.old.items kits.new.items) }
 {
     let mut records = Vec::new(alloc);
@@ -136,9 +129,7 @@ fn frame_records(
     requires count { length kits.old.items ≡ sender_count script.now }
     requires kits { HaveAllPasses (frames_for script.now choreographers.items) kits.old.items }
     requires sealed { AreFramesSealed kits.old.items sealed.items }
-    ensures records { IfOk result (λ v. AreFrameRecords script.now v.items) }
-    ensures theirs { IfOk result (λ v. AreAllTheirs script.now kits.old.items v.items) }
-    ensures own { IfOk result (λ v. HaveSeenOwn script.now.threads kits.old.items v.items) }
+    ensures frames { IfOk result (λ v. AreFramesIn script.now kits.old.items v.items) }
     ensures pool { (pool : TableId) → AreOfPool pool kits.old.items → OnOk result (AreOfPool pool kits.new.items) }
 {
     let mut records = Vec::new(alloc);
@@ -164,12 +155,10 @@ fn frame_record(
     requires fits { script.now.threads + script.now.loopers < 100 }
     requires looper { looper < script.now.loopers }
     requires constants { choreographer.constants ≡ frame_constants script.now looper }
-    requires count { length kits.old.items ≡ sender_count script.now }
-    requires kits { BeginWithPasses script.now looper choreographer kits.old.items }
+    requires kits { HaveNextPasses script.now looper choreographer kits.old.items }
     requires sealed { HasSealedNextFrames kits.old.items parts.items }
     ensures record { IfOk result (λ r. IsFrameRun script.now r × (r.looper ≡ looper)) }
-    ensures theirs { IfOk result (λ r. AreOfNext script.now looper kits.old.items r.entries) }
-    ensures own { IfOk result (λ r. BeginWithOwn (script.now.threads + looper) kits.old.items r.entries) }
+    ensures theirs { IfOk result (λ r. AreOfNextPasses script.now looper kits.old.items r.entries) }
     ensures kits { OnOk result (HaveFramesLeft (λ k. length (given_of script.now looper choreographer k)) kits.old.items kits.new.items) }
 {
     let mut passes = Vec::new(alloc);

@@ -1,15 +1,14 @@
 //! All senders come to have seen the same of each queue's history, and heard the same of each choreographer's.
-ghost use Rattle.std.specs.Prelude.{◌≡◌, ◌<◌, Bool, false, List, IsSome};
-ghost use Rattle.dash_script.specs.declared.script.Block.{Block};
+ghost use Rattle.std.specs.Prelude.{◌≡◌, ◌<◌, Bool, false, IsSome};
 ghost use Rattle.shared_queue.specs.Known.{IsOf};
 ghost use Rattle.dash_hall.specs.Kits.{IsHall};
 ghost use Rattle.dash_stage.specs.BehindThreads.{HasHeardThreads};
 ghost use Rattle.dash_stage.specs.ByClock.{EachIsThread};
-ghost use Rattle.dash_stage.specs.Controllers.{CallsNone, IsControllerIn};
-ghost use Rattle.dash_stage.specs.Stages.{IsStage, HaveRun, OthersHaveEnded, IsStageIn};
+ghost use Rattle.dash_stage.specs.Controllers.{IsControllerIn};
+ghost use Rattle.dash_stage.specs.Stages.{IsStage, IsStageIn};
 ghost use Rattle.choreographer.specs.Known.{IsOf as IsFrameOf, HasHeardWho};
 ghost use Rattle.dash_hall.specs.Hearing.{HasHeard, HaveHeard, HaveHeardAt, AtEach, AreKept, AreReady, AreKnown, PassHasHeard, ArePassesReady, ArePassesKnown};
-ghost use Rattle.dash_stage.specs.Sharing.{AreWithin, ControllerKeeps, StageKeeps, OfThreads, OfPasses, OfLoopers, SharesAt, HaveSeenTheSame, SharesFramesAt, HaveHeardTheSame};
+ghost use Rattle.dash_stage.specs.Sharing.{AreWithin, ControllerKeeps, StageKeeps, OfThreads, OfPasses, OfLoopers, SharesAt, HaveSeenTheSame, SharesFramesAt, HaveHeardTheSame, HaveShared};
 ghost use Rattle.dash_threads.specs.Threads.{ThreadKeeps, TellsPass, HearsPass};
 ghost use Rattle.dash_loopers.specs.Loopers.{LooperKeeps, OfItsPasses, HearsPasses};
 
@@ -27,13 +26,7 @@ impl Stage {
     /// All senders come to have seen the same of each queue's history: the longest that one of them has seen. It takes no turn.
     pub(crate) fn share(&mut self, script: &Script)
         requires stage { IsStage script.now self.old }
-        ensures stage { IsStage script.now self.new }
-        ensures kept { StageKeeps HaveHeard self.old self.new }
-        ensures shared { HaveSeenTheSame self.new }
-        ensures heard { HaveHeardTheSame script.now self.new }
-        ensures run { (bs : List Block) → HaveRun script.now bs self.old.threads.items → HaveRun script.now bs self.new.threads.items }
-        ensures none { CallsNone self.old.controller self.new.controller }
-        ensures ended { OthersHaveEnded self.old.loopers.items → OthersHaveEnded self.new.loopers.items }
+        ensures shared { HaveShared script.now self.old self.new }
     {
         self.share_each(script);
         self.share_frames(script);

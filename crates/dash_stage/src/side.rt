@@ -4,10 +4,9 @@ ghost use Rattle.std.specs.Thread.{IsSync};
 ghost use Rattle.dash_script.specs.Reading.{HasText};
 ghost use Rattle.dash_hall.specs.Kits.{IsHall};
 ghost use Rattle.dash_threads.specs.Threads.{IsThread};
-ghost use Rattle.dash_loopers.specs.Loopers.{IsLooper, HasRun, ComesToWait};
-ghost use Rattle.dash_stage.specs.Stages.{AreThreads, AreLoopers, RunOn, RunsBlock, GoOn, OthersHaveEnded, LoopersGoOn};
-ghost use Rattle.dash_stage.specs.Turns.{has_turn, AtTurn, IsTheSame, RunsInTurn};
-ghost use Rattle.dash_stage.specs.Playing.{EachPlaysOn};
+ghost use Rattle.dash_loopers.specs.Loopers.{IsLooper};
+ghost use Rattle.dash_stage.specs.Stages.{AreThreads, AreLoopers, RunOn, RunsBlock, GoOn, LoopersGoOn};
+ghost use Rattle.dash_stage.specs.Turns.{has_turn, RunsInTurn, HaveRunRound};
 
 use crate::agenda::Spread;
 use crate::means::Means;
@@ -118,13 +117,8 @@ pub(crate) fn run_loopers<R: Threads + Wait + Sync, G: Gate + Sync>(
     requires hall { IsHall script.now hall.now }
     requires mode { hall.now.lockstep ≡ true }
     requires loopers { AreLoopers script.now hall.now loopers.old }
-    ensures loopers { AreLoopers script.now hall.now loopers.new }
-    ensures ended { OthersHaveEnded loopers.old → OthersHaveEnded loopers.new }
     ensures on { OnOk result (LoopersGoOn loopers.new) }
-    ensures waits { AtTurn turn true (ComesToWait script.now) loopers.old loopers.new }
-    ensures rounds { AtTurn turn true (HasRun script.now now) loopers.old loopers.new }
-    ensures others { AtTurn turn false IsTheSame loopers.old loopers.new }
-    ensures plays { EachPlaysOn script.now now loopers.old loopers.new }
+    ensures round { HaveRunRound turn script.now hall.now now loopers.old loopers.new }
 {
     for_each_mut(
         means.rt,

@@ -1,21 +1,16 @@
 //! The event times of a run, and what comes at each.
-ghost use Rattle.std.specs.Prelude.{◌≡◌, ◌<◌, ◌≤◌, ◌⊎◌, ℕ, max, true, false, Some, None, slice_index_or, IfOk, OnOk};
+ghost use Rattle.std.specs.Prelude.{◌≡◌, ◌<◌, ◌≤◌, ◌⊎◌, ℕ, max, true, Some, None, slice_index_or, IfOk, OnOk};
 ghost use Rattle.looper_run.specs.Round.{is_ended};
-ghost use mathlib.Core.List.{IsPrefix};
-ghost use Rattle.dash_stage.specs.declared.side.Turn.TheVariants.{All};
-ghost use Rattle.dash_stage.specs.Sharing.{HaveSeenTheSame};
-ghost use Rattle.dash_hall.specs.Hearing.{AtEach, seen_by};
-ghost use Rattle.dash_stage.specs.Timeliness.{AreSound, AreBy, AreRested, AreDue, NotLater, NotLaterThanWait, LooksUnlessEnded, HasHaltedLast};
 ghost use Rattle.dash_script.specs.Reading.{HasText};
-ghost use Rattle.dash_stage.specs.Controllers.{IsMoving, HasReached, IsClosing, HasClosed, CallsNone, OtherPassesStay};
-ghost use Rattle.run_model.specs.Moves.{is_planned_time};
+ghost use Rattle.dash_stage.specs.declared.side.Turn.TheVariants.{All};
+ghost use Rattle.dash_stage.specs.Controllers.{HasReached, IsClosing, OtherPassesStay};
 ghost use Rattle.dash_stage.specs.Moves.{MayBeMovedTo, IsAwaited};
-ghost use Rattle.dash_stage.specs.Playing.{AreAtBlockIfSound, IsInStep, LiesAhead};
-ghost use Rattle.dash_stage.specs.RunEnds.{HasBegunInLockstep, HasEndedInLockstep};
-ghost use Rattle.dash_stage.specs.Turns.{AwaitTheirTurn};
-ghost use Rattle.dash_stage.specs.Steps.{StayRun, StaysTimely, StaysInStep, StayMoved, WereSound, RestsUnlessGrown, IsReadyFor, RunsNext};
-ghost use Rattle.dash_stage.specs.Stages.{IsStage, RunOn, OthersHaveEnded, LoopersGoOn};
-ghost use Rattle.dash_stage.specs.Asking.{AsksNothing, StaysInTurn, AsksBefore, AsksInBlock};
+ghost use Rattle.dash_stage.specs.RunEnds.{HasBegunInLockstep, HasEndedInLockstep, EndsThere};
+ghost use Rattle.dash_stage.specs.Sharing.{HaveSeenTheSame};
+ghost use Rattle.dash_stage.specs.Stages.{IsStage, OthersHaveEnded};
+ghost use Rattle.dash_stage.specs.Steps.{IsUnderWay, IsGoal, HasGoneTo, GoesTo, MovesOn, RunsNext, StandsStill, StaysAt, StaysFromRest, Settles, OnlyLooked, RestsUnlessGrown};
+ghost use Rattle.dash_stage.specs.Timeliness.{AreRested, AreDue, NotLater, NotLaterThanWait, LooksUnlessEnded};
+ghost use Rattle.dash_stage.specs.Turns.{HaveTakenTurns};
 
 use crate::agenda::Agenda;
 use crate::control::Controller;
@@ -52,7 +47,6 @@ impl Stage {
         script: &Script,
     ) -> Result<(), NoMemory>
         requires text { HasText script.now }
-        requires some { 0 < script.now.loopers }
         requires begun { HasBegunInLockstep script.now self.old }
         ensures stage { IsStage script.now self.new }
         ensures out { OnOk result (HasEndedInLockstep script.now self.new) }
@@ -79,25 +73,11 @@ impl Stage {
         agenda: &mut Agenda,
     ) -> Result<(), NoMemory>
         requires text { HasText script.now }
-        requires stage { IsStage script.now self.old }
-        requires some { 0 < script.now.loopers }
-        requires end { time ≤ script.now.end }
-        requires moving { IsMoving script.now self.old.controller }
-        requires by { AreBy self.old.time self.old.controller }
-        requires later { self.old.time ≤ time }
-        requires planned { is_planned_time script.now time ≡ true }
-        ensures stage { IsStage script.now self.new }
-        ensures run { StayRun script.now self.old self.new }
-        ensures moving { IsMoving script.now self.new.controller }
-        ensures reached { OnOk result (HasReached time self.new.controller) }
-        ensures by { AreBy self.new.time self.new.controller }
-        ensures time { OnOk result (self.new.time ≡ time) }
-        ensures timely { AreRested script.now self.old → OnOk result (StaysTimely script.now self.old self.new) }
-        ensures step { IsInStep script.now self.old → AreRested script.now self.old → OnOk result (IsInStep script.now self.new) }
-        ensures at { IsInStep script.now self.old → AreRested script.now self.old → LiesAhead time self.old → OnOk result (AreAtBlockIfSound script.now time self.new) }
-        ensures moves { IsInStep script.now self.old → AreRested script.now self.old → OnOk result (StayMoved script.now self.old self.new) }
-        ensures asks { IsInStep script.now self.old → AreRested script.now self.old → OnOk result (StaysInTurn script.now self.old self.new) }
-        ensures asks_before { IsInStep script.now self.old → AreRested script.now self.old → LiesAhead time self.old → OnOk result (AsksBefore script.now time self.old self.new) }
+        requires way { IsUnderWay script.now self.old }
+        requires goal { IsGoal script.now time self.old }
+        ensures way { IsUnderWay script.now self.new }
+        ensures gone { OnOk result (HasGoneTo time self.new) }
+        ensures goes { OnOk result (GoesTo script.now time self.old self.new) }
     {
         for _ in means.rt.forever() {
             let next = at_most(self.next_due(means.rt, script, agenda), time);
@@ -120,17 +100,8 @@ impl Stage {
     ) -> Result<(), NoMemory>
         requires text { HasText script.now }
         requires stage { IsStage script.now self.old }
-        ensures stage { IsStage script.now self.new }
-        ensures run { StayRun script.now self.old self.new }
-        ensures none { CallsNone self.old.controller self.new.controller }
-        ensures time { self.new.time ≡ self.old.time }
-        ensures timely { OnOk result (StaysTimely script.now self.old self.new) }
-        ensures same { OnOk result (HaveSeenTheSame self.new) }
-        ensures rested { HaveSeenTheSame self.old → OnOk result (AreRested script.now self.new) }
-        ensures sound { OnOk result (WereSound script.now self.old self.new) }
-        ensures step { OnOk result (StaysInStep script.now self.old self.new) }
-        ensures moves { OnOk result (StayMoved script.now self.old self.new) }
-        ensures asks { IsInStep script.now self.old → OnOk result (StaysInTurn script.now self.old self.new) }
+        ensures still { StandsStill script.now self.old self.new }
+        ensures settles { OnOk result (Settles script.now self.old self.new) }
     {
         self.run_rounds(means, script, Turn::All, agenda)?;
         if self.controller.has_many() {
@@ -143,16 +114,9 @@ impl Stage {
     /// Queues and choreographers hand out their entries, and all hear of it.
     fn hand_out<R: Wait>(&mut self, rt: &R, script: &Script) -> Result<(), NoMemory>
         requires stage { IsStage script.now self.old }
-        ensures stage { IsStage script.now self.new }
-        ensures run { StayRun script.now self.old self.new }
-        ensures none { CallsNone self.old.controller self.new.controller }
-        ensures time { self.new.time ≡ self.old.time }
-        ensures timely { OnOk result (StaysTimely script.now self.old self.new) }
+        ensures still { StandsStill script.now self.old self.new }
+        ensures at { OnOk result (StaysAt script.now self.old self.new) }
         ensures same { OnOk result (HaveSeenTheSame self.new) }
-        ensures sound { HaveSeenTheSame self.old → OnOk result (WereSound script.now self.old self.new) }
-        ensures step { OnOk result (StaysInStep script.now self.old self.new) }
-        ensures moves { HaveSeenTheSame self.old → OnOk result (StayMoved script.now self.old self.new) }
-        ensures asks { IsInStep script.now self.old → OnOk result (StaysInTurn script.now self.old self.new) }
     {
         self.controller.seal(rt, &self.hall, script)?;
         self.share(script);
@@ -162,13 +126,8 @@ impl Stage {
     /// The least time at which a message is due or a pulse comes, in milliseconds.
     fn next_due<R: Wait>(&mut self, rt: &R, script: &Script, agenda: &mut Agenda) -> Option<u64>
         requires stage { IsStage script.now self.old }
-        ensures stage { IsStage script.now self.new }
-        ensures threads { self.new.threads.items ≡ self.old.threads.items }
-        ensures none { CallsNone self.old.controller self.new.controller }
-        ensures posters { self.new.controller.kit.posters ≡ self.old.controller.kit.posters }
-        ensures loopers { self.new.loopers ≡ self.old.loopers }
-        ensures time { self.new.time ≡ self.old.time }
-        ensures due { (t : ℕ) → AreRested script.now self.old → NotLater t result → AreDue script.now t self.new }
+        ensures looked { OnlyLooked script.now self.old self.new }
+        ensures due { (t : ℕ) → AreRested script.now self.old → NotLater t result → AreDue script.now t self.old }
         ensures reason { (t : ℕ) → AreRested script.now self.old → result ≡ Some t → MayBeMovedTo script.now t self.old.controller }
         ensures look { (k : ℕ) → k < script.now.loopers → LooksUnlessEnded k self.old.loopers.items self.old.controller self.new.controller result }
     {
@@ -185,12 +144,7 @@ impl Stage {
     fn due_on<R: Wait>(&mut self, rt: &R, script: &Script, looper: u32) -> Option<u64>
         requires stage { IsStage script.now self.old }
         requires looper { looper < script.now.loopers }
-        ensures stage { IsStage script.now self.new }
-        ensures threads { self.new.threads.items ≡ self.old.threads.items }
-        ensures none { CallsNone self.old.controller self.new.controller }
-        ensures posters { self.new.controller.kit.posters ≡ self.old.controller.kit.posters }
-        ensures loopers { self.new.loopers ≡ self.old.loopers }
-        ensures time { self.new.time ≡ self.old.time }
+        ensures looked { OnlyLooked script.now self.old self.new }
         ensures due { NotLaterThanWait looper self.old.loopers.items result }
         ensures reason { (t : ℕ) → result ≡ Some t → IsAwaited script.now t looper self.old.loopers.items }
         ensures look { LooksUnlessEnded looper self.old.loopers.items self.old.controller self.new.controller result }
@@ -206,24 +160,12 @@ impl Stage {
 
     /// The controller moves the time on, and all hear of it. Answers false where a message is due on a queue.
     fn advance<R: Wait>(&mut self, rt: &R, script: &Script, time: u64) -> Result<bool, NoMemory>
-        requires stage { IsStage script.now self.old }
-        requires some { 0 < script.now.loopers }
+        requires way { IsUnderWay script.now self.old }
         requires end { time ≤ script.now.end }
-        requires moving { IsMoving script.now self.old.controller }
-        requires by { AreBy self.old.time self.old.controller }
-        ensures stage { IsStage script.now self.new }
-        ensures moving { IsMoving script.now self.new.controller }
-        ensures reached { IfOk result (λ moved. moved ≡ true → HasReached time self.new.controller) }
-        ensures run { StayRun script.now self.old self.new }
-        ensures by { AreBy self.new.time self.new.controller }
+        ensures way { IsUnderWay script.now self.new }
         ensures time { self.new.time ≡ max self.old.time time }
-        ensures timely { AreDue script.now time self.old → OnOk result (StaysTimely script.now self.old self.new) }
-        ensures step { IsReadyFor script.now time self.old → OnOk result (IsInStep script.now self.new) }
-        ensures moved { IsReadyFor script.now time self.old → IfOk result (λ moved. AreSound script.now self.new.controller → moved ≡ true) }
-        ensures sound { IsReadyFor script.now time self.old → OnOk result (WereSound script.now self.old self.new) }
-        ensures at { IsReadyFor script.now time self.old → LiesAhead time self.old → OnOk result (AreAtBlockIfSound script.now time self.new) }
-        ensures moves { IsReadyFor script.now time self.old → MayBeMovedTo script.now time self.old.controller → OnOk result (StayMoved script.now self.old self.new) }
-        ensures asks { IsReadyFor script.now time self.old → OnOk result (AsksNothing script.now self.old self.new) }
+        ensures reached { IfOk result (λ moved. moved ≡ true → HasReached time self.new.controller) }
+        ensures on { IfOk result (MovesOn script.now time self.old self.new) }
     {
         self.time = self.time.max(time);
         let moved = self.controller.advance(rt, &self.hall, script, time)?;
@@ -240,14 +182,8 @@ impl Stage {
     ) -> Result<(), NoMemory>
         requires text { HasText script.now }
         requires stage { IsStage script.now self.old }
-        ensures stage { IsStage script.now self.new }
-        ensures run { OnOk result (RunOn script.now block.now self.old.threads.items self.new.threads.items) }
-        ensures none { CallsNone self.old.controller self.new.controller }
-        ensures time { self.new.time ≡ self.old.time }
-        ensures timely { OnOk result (RunsNext script.now block.now self.old self.new) }
-        ensures step { IsInStep script.now self.old → AreAtBlockIfSound script.now block.now.time self.old → OnOk result (IsInStep script.now self.new) }
-        ensures moves { OnOk result (StayMoved script.now self.old self.new) }
-        ensures asks { OnOk result (AsksInBlock script.now block.now self.old self.new) }
+        ensures still { StandsStill script.now self.old self.new }
+        ensures next { OnOk result (RunsNext script.now block.now self.old self.new) }
     {
         run_threads(
             means,
@@ -270,20 +206,10 @@ impl Stage {
     ) -> Result<(), NoMemory>
         requires text { HasText script.now }
         requires stage { IsStage script.now self.old }
-        ensures stage { IsStage script.now self.new }
-        ensures run { StayRun script.now self.old self.new }
-        ensures none { CallsNone self.old.controller self.new.controller }
-        ensures ended { OthersHaveEnded self.old.loopers.items → OthersHaveEnded self.new.loopers.items }
-        ensures on { OnOk result (LoopersGoOn self.new.loopers.items) }
-        ensures time { self.new.time ≡ self.old.time }
-        ensures timely { OnOk result (StaysTimely script.now self.old self.new) }
-        ensures same { OnOk result (HaveSeenTheSame self.new) }
+        ensures still { StandsStill script.now self.old self.new }
+        ensures at { OnOk result (StaysAt script.now self.old self.new) }
+        ensures turns { OnOk result (HaveTakenTurns turn self.old.loopers.items self.new.loopers.items) }
         ensures rested { turn ≡ All → HaveSeenTheSame self.old → OnOk result (AreRested script.now self.new) }
-        ensures sound { OnOk result (WereSound script.now self.old self.new) }
-        ensures step { OnOk result (StaysInStep script.now self.old self.new) }
-        ensures moves { OnOk result (StayMoved script.now self.old self.new) }
-        ensures asks { IsInStep script.now self.old → OnOk result (StaysInTurn script.now self.old self.new) }
-        ensures others { OnOk result (AwaitTheirTurn turn self.old.loopers.items self.new.loopers.items) }
     {
         for _ in means.rt.forever() {
             let before = self.controller.entries_seen();
@@ -308,21 +234,11 @@ impl Stage {
         requires text { HasText script.now }
         requires count { 0 < count }
         requires stage { IsStage script.now self.old }
-        ensures stage { IsStage script.now self.new }
-        ensures run { StayRun script.now self.old self.new }
-        ensures none { CallsNone self.old.controller self.new.controller }
-        ensures ended { OthersHaveEnded self.old.loopers.items → OthersHaveEnded self.new.loopers.items }
-        ensures on { OnOk result (LoopersGoOn self.new.loopers.items) }
-        ensures time { self.new.time ≡ self.old.time }
-        ensures timely { OnOk result (StaysTimely script.now self.old self.new) }
+        ensures still { StandsStill script.now self.old self.new }
+        ensures at { OnOk result (StaysAt script.now self.old self.new) }
+        ensures turns { OnOk result (HaveTakenTurns turn self.old.loopers.items self.new.loopers.items) }
         ensures same { OnOk result (HaveSeenTheSame self.new) }
-        ensures sound { OnOk result (WereSound script.now self.old self.new) }
-        ensures grown { OnOk result (AtEach IsPrefix (seen_by self.old.controller.kit.posters.items) (seen_by self.new.controller.kit.posters.items)) }
-        ensures rested { turn ≡ All → HaveSeenTheSame self.old → OnOk result (RestsUnlessGrown script.now self.old self.new) }
-        ensures step { OnOk result (StaysInStep script.now self.old self.new) }
-        ensures moves { OnOk result (StayMoved script.now self.old self.new) }
-        ensures asks { IsInStep script.now self.old → OnOk result (StaysInTurn script.now self.old self.new) }
-        ensures others { OnOk result (AwaitTheirTurn turn self.old.loopers.items self.new.loopers.items) }
+        ensures rested { OnOk result (RestsUnlessGrown turn script.now self.old self.new) }
     {
         run_loopers(
             means,
@@ -346,20 +262,10 @@ impl Stage {
         agenda: &mut Agenda,
     ) -> Result<(), NoMemory>
         requires text { HasText script.now }
-        requires some { 0 < script.now.loopers }
-        requires stage { IsStage script.now self.old }
-        requires moving { IsMoving script.now self.old.controller }
+        requires way { IsUnderWay script.now self.old }
         requires reached { HasReached script.now.end self.old.controller }
         ensures stage { IsStage script.now self.new }
-        ensures run { StayRun script.now self.old self.new }
-        ensures closed { OnOk result (HasClosed script.now self.new.controller) }
-        ensures ended { OnOk result (OthersHaveEnded self.new.loopers.items) }
-        ensures on { OnOk result (LoopersGoOn self.new.loopers.items) }
-        ensures timely { AreRested script.now self.old → OnOk result (StaysTimely script.now self.old self.new) }
-        ensures halted { OnOk result (HasHaltedLast script.now self.new) }
-        ensures step { OnOk result (StaysInStep script.now self.old self.new) }
-        ensures moves { HaveSeenTheSame self.old → OnOk result (StayMoved script.now self.old self.new) }
-        ensures asks { IsInStep script.now self.old → OnOk result (StaysInTurn script.now self.old self.new) }
+        ensures ends { OnOk result (EndsThere script.now self.old self.new) }
     {
         self.quit_others(means.rt, script)?;
         for _ in means.rt.forever() {
@@ -382,17 +288,11 @@ impl Stage {
 
     /// The controller quits safely each looper but the main one that has not ended.
     fn quit_others<R: Wait>(&mut self, rt: &R, script: &Script) -> Result<(), NoMemory>
-        requires stage { IsStage script.now self.old }
-        requires moving { IsMoving script.now self.old.controller }
+        requires way { IsUnderWay script.now self.old }
         requires reached { HasReached script.now.end self.old.controller }
         ensures stage { IsStage script.now self.new }
-        ensures run { StayRun script.now self.old self.new }
         ensures closing { OnOk result (IsClosing script.now self.new.controller) }
-        ensures timely { AreRested script.now self.old → OnOk result (StaysTimely script.now self.old self.new) }
-        ensures same { OnOk result (HaveSeenTheSame self.new) }
-        ensures step { OnOk result (StaysInStep script.now self.old self.new) }
-        ensures moves { HaveSeenTheSame self.old → OnOk result (StayMoved script.now self.old self.new) }
-        ensures asks { IsInStep script.now self.old → OnOk result (StaysInTurn script.now self.old self.new) }
+        ensures at { OnOk result (StaysFromRest script.now self.old self.new) }
     {
         for looper in 1..script.loopers {
             if !self.loopers[looper as usize].has_ended() {

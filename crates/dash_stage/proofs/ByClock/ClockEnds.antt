@@ -1,5 +1,5 @@
 -- A stage in a run by a clock, from its beginning to its end.
-use Rattle.std.proofs.Common.{◌≡◌, ◌<◌, ◌+◌, ◌++◌, ◌∷◌, ℕ, zero, suc, Bool, true, false, List, [], length, set, Option, None, Some, refl, sym, ap, ◌∙◌, subst, arith}
+use Rattle.std.proofs.Common.{◌≡◌, ◌<◌, ◌+◌, ◌++◌, ◌∷◌, ℕ, zero, suc, Bool, false, List, [], length, set, Option, None, Some, refl, sym, ap, ◌∙◌, subst, arith}
 use Rattle.std.specs.Prelude.{slice_index_or}
 use Rattle.std.specs.Option.{IsSomeAnd}
 use Rattle.std.proofs.lemmas.List.{length-set, get_or-set_same, get_or-set_other, get_or_default}
@@ -9,16 +9,14 @@ use Rattle.loop_model.specs.declared.journal.Act.{Act}
 use Rattle.dash_script.specs.declared.script.Script.{Script}
 use Rattle.dash_script.specs.Reading.{HasText}
 use Rattle.looper_run.specs.Holding.{Sender}
-use Rattle.run_model.specs.Moments.{Mode}
+use Rattle.run_model.specs.Moments.{Mode, AreOfClock, AreOfClockAfter}
 use Rattle.run_model.specs.Planned.{lines_of}
-use Rattle.run_model.specs.Control.{ends_halted}
 use Rattle.run_model.specs.Loopers.{Looper, first_looper}
 use Rattle.dash_hall.specs.declared.hall.Hall.{Hall}
 use Rattle.dash_hall.specs.Hearing.{AtEach, HaveHeard}
 use Rattle.dash_hall.specs.Kits.{AreUnseen, IsHall}
 use Rattle.dash_hall.specs.ByClock.{is_by}
 use Rattle.loop_model.specs.declared.entry.Entry.{Entry}
-use Rattle.run_model.specs.Moments.{AreOfClock, AreOfClockAfter}
 use Rattle.run_model.specs.Asks.{entries_by}
 use Rattle.dash_hall.proofs.Clocking.{clocked_same, if_free}
 use Rattle.dash_threads.specs.declared.thread.PostingThread.{PostingThread}
@@ -31,19 +29,21 @@ use Rattle.dash_loopers.proofs.LooperNext.{played_self, grown_self}
 use Rattle.dash_loopers.proofs.LooperPlayed.{comes_free}
 use Rattle.dash_stage.specs.declared.control.Controller.{Controller}
 use Rattle.dash_stage.specs.declared.stage.Stage.{Stage}
-use Rattle.dash_stage.specs.ByClock.{RunsByClock, LoopsByClock, EachIsLooper, HaveLooped, QuitsOthers}
+use Rattle.dash_stage.specs.ByClock.{RunsByClock, LoopsByClock, EachIsLooper, QuitsOthers, CanRunMain, CanQuitOthers}
 use Rattle.dash_stage.specs.BehindThreads.{CallsBehindThreads}
 use Rattle.dash_stage.proofs.ByClock.Behind.{behind_on, sees_heard, sees_then}
 use Rattle.dash_stage.proofs.ByClock.Looping.{looped_on, all_heard}
 use Rattle.dash_stage.specs.Controllers.{IsControllerIn, IsClosingBy, HasClosedIn}
 use Rattle.dash_stage.specs.Playing.{HaveBegun, HaveComeBy}
-use Rattle.dash_stage.specs.RunEnds.{HasBegunByClock, IsClosingByClock, HasEndedByClock}
+use Rattle.dash_stage.specs.ControlSteps.{HasHaltedMain}
+use Rattle.dash_stage.specs.Opening.{HasOpened}
+use Rattle.dash_stage.specs.RunEnds.{HasRunByClock, HasBegunByClock, IsClosingByClock, HasEndedByClock}
 use Rattle.dash_stage.specs.Sharing.{OfThreads, OfLoopers, OfSenders, ControllerKeeps, StageKeeps, HaveSeenTheSame}
-use Rattle.dash_stage.specs.Stages.{IsStageIn, AreThreads, AreLoopers, HaveRunBy, GoOn, OthersHaveEnded, LoopersGoOn}
-use Rattle.dash_stage.specs.Timeliness.{EachTurnsOn, Halts, whole_on}
-use Rattle.dash_stage.proofs.Controller.ControlKept.{closing_by_kept, closed_kept}
+use Rattle.dash_stage.specs.Stages.{IsStageIn, AreThreads, AreLoopers, HaveRunBy, GoOn, LoopersGoOn}
+use Rattle.dash_stage.specs.Timeliness.{EachTurnsOn, Halts}
+use Rattle.dash_stage.proofs.Controller.ControlKept.{closing_by_kept, closed_kept, nothing_kept}
 use Rattle.dash_stage.proofs.Played.PlayedStage.{heard_come_by}
-use Rattle.dash_stage.proofs.Sharing.StageShares.{run_kept, ended_kept, calls_none, of_senders_then}
+use Rattle.dash_stage.proofs.Sharing.StageShares.{run_kept, ended_kept, calls_none, controller_kept, of_senders_then}
 use Rattle.dash_stage.proofs.Stages.StageTurns.{halted_stays, go_on_kept}
 
 -- ---- the free mode of a controller's hall
@@ -154,18 +154,21 @@ unseen_clocked m ps unseen q d lt =
     let p = slice_index_or ps q d in
     subst (λ (es : List Entry). AreOfClock m (is_by p.sender) es) (sym (unseen q d lt)) (if_free m.lockstep (AreOfClockAfter m (is_by p.sender) [] []) (λ free. tt))
 
-pub begins_by_clock : (m : Mode) (s : Script) (st : Stage) → IsStageIn false s st → HaveRunBy m s [] st.threads.items → HaveBegun s st.loopers.items → OfSenders AreUnseen st → HasBegunByClock m s st
-begins_by_clock m s st is begun loopers unseen = record {
-  stage = is;
-  begun = begun;
-  loopers = loopers;
-  clocked = record {
-    threads = λ k d lt. unseen_clocked m (slice_index_or st.threads.items k d).kit.posters.items (unseen.threads k d lt);
-    loopers = λ k d lt. unseen_clocked m (posters_of (slice_index_or st.loopers.items k d)) (unseen.loopers k d lt);
-    controller = unseen_clocked m st.controller.kit.posters.items unseen.controller;
-  };
-  none = λ q d lt. ap (entries_by (slice_index_or st.controller.kit.posters.items q d).sender) (unseen.controller q d lt);
-}
+pub begins_by_clock : (m : Mode) (s : Script) (st : Stage) → 0 < s.loopers → HasOpened false s st → HasBegunByClock m s st
+begins_by_clock m s st some opened =
+    let unseen = opened.unseen in
+    record {
+      some = some;
+      stage = opened.stage;
+      begun = opened.run m;
+      loopers = opened.loopers;
+      clocked = record {
+        threads = λ k d lt. unseen_clocked m (slice_index_or st.threads.items k d).kit.posters.items (unseen.threads k d lt);
+        loopers = λ k d lt. unseen_clocked m (posters_of (slice_index_or st.loopers.items k d)) (unseen.loopers k d lt);
+        controller = unseen_clocked m st.controller.kit.posters.items unseen.controller;
+      };
+      none = λ q d lt. ap (entries_by (slice_index_or st.controller.kit.posters.items q d).sender) (unseen.controller q d lt);
+    }
 
 -- the loopers stand at the state before the first act
 pub begins_played : (s : Script) (ls : List StageLooper) → HaveBegun s ls → HaveComeBy s ls
@@ -188,6 +191,15 @@ quits_heard {m} {s} {hall} {a} {b} {c} kept quits = record {
   clocked = λ by. quits.clocked (heard_clocked m a.kit.posters.items b.kit.posters.items kept.posters by);
 }
 
+-- it can quit the others then
+pub can_quit : (s : Script) (hall : Hall) (ls : List StageLooper) (ts : List PostingThread) (a b : Controller) → CanRunMain s hall ls ts a → ControllerKeeps HaveHeard a b → CanQuitOthers s hall b
+can_quit s hall ls ts a b can kept = record {
+  some = can.some;
+  hall = can.hall;
+  controller = controller_kept s hall a b kept can.controller;
+  none = λ q. nothing_kept s a b (calls_none a b kept) q (can.none q);
+}
+
 -- from a stage to one in which all have heard each other
 module _ (m : Mode) (s : Script) (st st' : Stage) (is' : IsStageIn false s st') (same' : HaveSeenTheSame st') (kept : StageKeeps HaveHeard st st') where
   pub clocked_heard : OfSenders (AreByClock m) st → OfSenders (AreByClock m) st'
@@ -204,39 +216,46 @@ module _ (m : Mode) (s : Script) (st st' : Stage) (is' : IsStageIn false s st') 
   behind_heard : CallsBehindThreads s st.threads.items st.controller → CallsBehindThreads s st'.threads.items st'.controller
   behind_heard = behind_on s st.threads.items st'.threads.items st.controller st'.controller kept.threads (sees_heard st.controller st'.controller kept.controller.posters)
 
-  -- the threads have run and the loopers but main have ended
-  pub closing_heard : IsHall s st.hall → AreLoopers s st.hall st.loopers.items → OfSenders (AreByClock m) st → HaveRunBy m s s.blocks st.threads.items → OthersHaveEnded st.loopers.items → LoopersGoOn st.loopers.items
-      → HaveLooped m s st.loopers.items → HaveComeBy s st.loopers.items → IsClosingBy s st.controller → CallsBehindThreads s st.threads.items st.controller → IsClosingByClock m s st'
-  closing_heard is_hall are by run ended on looped come closing behind = record {
+  -- what was run was so still
+  ran_heard : IsHall s st.hall → AreLoopers s st.hall st.loopers.items → HasRunByClock m s st → HasRunByClock m s st'
+  ran_heard is_hall are ran = record {
+    clocked = clocked_heard ran.clocked;
+    run = run_kept m s s.blocks st.threads.items st'.threads.items kept.threads ran.run;
+    ended = ended_kept HaveHeard st.loopers.items st'.loopers.items kept.loopers ran.ended;
+    on = go_on_kept HaveHeard st.loopers.items st'.loopers.items kept.loopers ran.on;
+    looped = looped_on m s st.loopers.items st'.loopers.items ran.looped (all_heard s st.hall is_hall st.loopers.items st'.loopers.items are kept.loopers);
+    played = played_heard is_hall are ran.played;
+    behind = behind_heard ran.behind;
+  }
+
+  -- main is still to be halted
+  pub closing_heard : 0 < s.loopers → IsHall s st.hall → AreLoopers s st.hall st.loopers.items → HasRunByClock m s st → IsClosingBy s st.controller → IsClosingByClock m s st'
+  closing_heard some is_hall are ran closing = record {
+    some = some;
     stage = is';
     same = same';
-    clocked = clocked_heard by;
-    run = run_kept m s s.blocks st.threads.items st'.threads.items kept.threads run;
-    ended = ended_kept HaveHeard st.loopers.items st'.loopers.items kept.loopers ended;
-    on = go_on_kept HaveHeard st.loopers.items st'.loopers.items kept.loopers on;
-    looped = looped_on m s st.loopers.items st'.loopers.items looped (all_heard s st.hall is_hall st.loopers.items st'.loopers.items are kept.loopers);
-    played = played_heard is_hall are come;
+    ran = ran_heard is_hall are ran;
     closing = closing_by_kept s st.controller st'.controller (calls_none st.controller st'.controller kept.controller) closing;
-    behind = behind_heard behind;
   }
 
   -- and main was halted
   pub ended_heard : (was : Stage) → IsStageIn false s was → HaveSeenTheSame was → was.threads ≡ st.threads → was.loopers ≡ st.loopers → m.lockstep ≡ false
-      → IsHall s st.hall → AreLoopers s st.hall st.loopers.items → OfSenders (AreByClock m) st → HaveRunBy m s s.blocks st.threads.items → OthersHaveEnded st.loopers.items → LoopersGoOn st.loopers.items
-      → HaveLooped m s st.loopers.items → HaveComeBy s st.loopers.items → HasClosedIn false s st.controller → CallsBehindThreads s st.threads.items st.controller
-      → EachTurnsOn Halts was.controller st.controller → ((d : Sender) → ends_halted (whole_on st.controller 0 d) ≡ true) → HasEndedByClock m s st'
-  ended_heard was is same threads loopers free is_hall are by run ended on looped come closed behind turns halted = record {
-    free = free;
-    out = record { stage = subst (λ (b : Bool). IsStageIn b s st') (sym free) is'; same = same'; clocked = clocked_heard by };
-    run = run_kept m s s.blocks st.threads.items st'.threads.items kept.threads run;
-    ended = ended_kept HaveHeard st.loopers.items st'.loopers.items kept.loopers ended;
-    on = go_on_kept HaveHeard st.loopers.items st'.loopers.items kept.loopers on;
-    looped = looped_on m s st.loopers.items st'.loopers.items looped (all_heard s st.hall is_hall st.loopers.items st'.loopers.items are kept.loopers);
-    played = played_heard is_hall are come;
-    closed = subst (λ (b : Bool). HasClosedIn b s st'.controller) (sym free) (closed_kept s st.controller st'.controller (calls_none st.controller st'.controller kept.controller) closed);
-    behind = behind_heard behind;
-    halted = halted_stays s was st.controller st' is is' same same'
-        (subst (λ v. AtEach (ThreadKeeps HaveHeard) v.items st'.threads.items) (sym threads) kept.threads)
-        (subst (λ v. AtEach (LooperKeeps HaveHeard) v.items st'.loopers.items) (sym loopers) kept.loopers)
-        kept.controller.posters Halts turns halted;
-  }
+      → IsHall s st.hall → AreLoopers s st.hall st.loopers.items → HasRunByClock m s st → EachTurnsOn Halts was.controller st.controller → HasHaltedMain false s st.controller → HasEndedByClock m s st'
+  ended_heard was is same threads loopers free is_hall are ran turns halted =
+      let now = ran_heard is_hall are ran in
+      record {
+        free = free;
+        out = record { stage = subst (λ (b : Bool). IsStageIn b s st') (sym free) is'; same = same'; clocked = now.clocked };
+        ran = now;
+        closed = subst (λ (b : Bool). HasClosedIn b s st'.controller) (sym free) (closed_kept s st.controller st'.controller (calls_none st.controller st'.controller kept.controller) halted.closed);
+        halted = halted_stays (record {
+          is = is;
+          is' = is';
+          same = same;
+          same' = same';
+          threads = subst (λ v. AtEach (ThreadKeeps HaveHeard) v.items st'.threads.items) (sym threads) kept.threads;
+          loopers = subst (λ v. AtEach (LooperKeeps HaveHeard) v.items st'.loopers.items) (sym loopers) kept.loopers;
+          heard = kept.controller.posters;
+          turns = turns;
+        }) halted.halted;
+      }

@@ -21,13 +21,12 @@ use Rattle.run_model.specs.Control.{is_advance, is_halt, is_safe_quit, is_closin
 use Rattle.dash_hall.specs.declared.hall.Hall.{Hall}
 use Rattle.dash_stage.specs.declared.control.Controller.{Controller}
 use Rattle.dash_hall.specs.Growth.{own, QuitsOf}
-use Rattle.dash_hall.specs.Kits.{IsHall}
 use Rattle.dash_hall.specs.ByClock.{IsByClock, IsInMode}
 use Rattle.dash_hall.proofs.Badges.{queue_count}
 use Rattle.dash_hall.proofs.Clocking.{if_free, EntersAt, quits_enter, its_moment, clocked_at, clocked_same}
 use Rattle.dash_hall.proofs.Growing.{turn_makes, own_of_one}
 use Rattle.dash_threads.specs.Threads.{AreByClock}
-use Rattle.dash_stage.specs.Controllers.{IsControllerIn, calls_on, CallsNothingOn, OnlyMoves, IsQuittingBy, IsClosingBy, HasClosedIn, are_advances}
+use Rattle.dash_stage.specs.Controllers.{CanTurn, AtPoster, calls_on, CallsNothingOn, OnlyMoves, IsQuittingBy, IsClosingBy, HasClosedIn, are_advances}
 use Rattle.dash_stage.specs.ByClock.{MayQuit}
 use Rattle.dash_stage.proofs.Ends.HallEnds.{some_of}
 use Rattle.dash_stage.proofs.Controller.Controlling.{own_poster, has_poster, in_step}
@@ -111,9 +110,9 @@ clocked_more m xs ys i long here elsewhere by q d lt =
     (λ at. subst (λ (n : ℕ). IsByClock m (slice_index_or ys n d)) (sym at) (here d (subst (λ (n : ℕ). IsByClock m (slice_index_or xs n d)) at (by q d within))))
     (λ apart. subst (IsByClock m) (sym (elsewhere q d apart)) (by q d within))
 
-module _ (s : Script) (hall : Hall) (h : IsHall s hall) (i : ℕ) (lt : i < s.loopers) (c : Controller) (k : IsControllerIn false s hall c) where
+module _ {s : Script} {hall : Hall} {i : ℕ} {c : Controller} (at : CanTurn false s hall i c) where
   the_queue : Shared TableId
-  the_queue = some_of hall.queues.items i (subst (λ (n : ℕ). i < n) (sym (queue_count hall.lockstep s hall.pool hall.queues.items h.queues)) lt)
+  the_queue = some_of hall.queues.items i (subst (λ (n : ℕ). i < n) (sym (queue_count hall.lockstep s hall.pool hall.queues.items at.is_hall.queues)) at.known)
 
   its_queue : Shared TableId
   its_queue = slice_index_or hall.queues.items i the_queue
@@ -122,11 +121,11 @@ module _ (s : Script) (hall : Hall) (h : IsHall s hall) (i : ℕ) (lt : i < s.lo
   poster_free : (d : Sender) → (q : Shared TableId) × IsOf (slice_index_or c.kit.posters.items i d) q × (q.constants.setting.lockstep ≡ false)
   unfolding its_queue
   poster_free d =
-      let within = subst (λ (n : ℕ). i < n) (sym (queue_count hall.lockstep s hall.pool hall.queues.items h.queues)) lt in
+      let within = subst (λ (n : ℕ). i < n) (sym (queue_count hall.lockstep s hall.pool hall.queues.items at.is_hall.queues)) at.known in
       let p = slice_index_or c.kit.posters.items i d in
-      let is_p : p ≡ slice_index_or c.kit.posters.items i p = get_or_default c.kit.posters.items i d p (has_poster s hall h i lt c k) in
+      let is_p : p ≡ slice_index_or c.kit.posters.items i p = get_or_default c.kit.posters.items i d p (has_poster at) in
       let is_q : its_queue ≡ slice_index_or hall.queues.items i its_queue = get_or_default hall.queues.items i the_queue its_queue within in
-      (its_queue, (own_poster s hall h i lt c k p its_queue is_p is_q).0, in_step s hall h i lt c k its_queue is_q)
+      (its_queue, (own_poster at is_p is_q).0, in_step at is_q)
 
   module _ (c' : Controller) (now : ℕ) (long : length c'.kit.posters.items ≡ length c.kit.posters.items)
       (here : (d : Sender) → MayQuit (slice_index_or c.kit.posters.items i d) (slice_index_or c'.kit.posters.items i d) now)
@@ -136,18 +135,18 @@ module _ (s : Script) (hall : Hall) (h : IsHall s hall) (i : ℕ) (lt : i < s.lo
     quits_more above late quitting = record {
       main = λ d near. ap own (elsewhere 0 d (λ e. absurd (omega (arith, e, above)))) ∙ quitting.main d (omega (arith, near, long));
       done = λ q some below d near. dite (ℕ_discrete q i)
-          (λ at. subst (λ (n : ℕ). are_controls false false s.end true (calls_on c' n d) ≡ true) (sym at) (one d (here d)))
+          (λ same. subst (λ (n : ℕ). are_controls false false s.end true (calls_on c' n d) ≡ true) (sym same) (one d (here d)))
           (λ apart. subst (λ (p : Sender). are_controls false false s.end true (own p) ≡ true) (sym (elsewhere q d apart)) (quitting.done q some (omega (arith, below, apart)) d (omega (arith, near, long))));
       rest = λ q le d near. ap own (elsewhere q d (λ e. absurd (omega (arith, e, le)))) ∙ quitting.rest q (omega (arith, le)) d (omega (arith, near, long));
     }
       where
         one : (d : Sender) → MayQuit (slice_index_or c.kit.posters.items i d) (slice_index_or c'.kit.posters.items i d) now → are_controls false false s.end true (calls_on c' i d) ≡ true
         one d (inl same) =
-            let none = quitting.rest i (omega arith) d (has_poster s hall h i lt c k) in
+            let none = quitting.rest i (omega arith) d (has_poster at) in
             subst (λ (l : List Entry). are_controls false false s.end true l ≡ true) (sym (ap own same ∙ none)) refl
         one d (inr quits) =
             let f = poster_free d in
-            quits_late (slice_index_or c.kit.posters.items i d) (slice_index_or c'.kit.posters.items i d) f.0 f.1 f.2 s.end now late (quitting.rest i (omega arith) d (has_poster s hall h i lt c k)) quits
+            quits_late (slice_index_or c.kit.posters.items i d) (slice_index_or c'.kit.posters.items i d) f.0 f.1 f.2 s.end now late (quitting.rest i (omega arith) d (has_poster at)) quits
 
     -- at a moment of the clock
     pub quits_clocked : (m : Mode) → IsMoment m now → AreByClock m c.kit.posters.items → AreByClock m c'.kit.posters.items
@@ -158,6 +157,12 @@ module _ (s : Script) (hall : Hall) (h : IsHall s hall) (i : ℕ) (lt : i < s.lo
         one d (inr quits) by =
             let f = poster_free d in
             quits_by_clock (slice_index_or c.kit.posters.items i d) (slice_index_or c'.kit.posters.items i d) f.0 f.1 f.2 m now moment quits by
+
+-- a looper that was quit unless it had ended may have been quit
+pub may_quit : (place : ℕ) (before after : Controller) (now : ℕ) (ended done : Bool) → (ended ≡ true → after ≡ before) → (done ≡ true → ended ≡ false → AtPoster (λ a b. QuitsOf a b true now) place before after)
+    → done ≡ true → AtPoster (λ a b. MayQuit a b now) place before after
+may_quit place before after now true done stays made is d = inl (ap (λ (c : Controller). slice_index_or c.kit.posters.items place d) (stays refl))
+may_quit place before after now false done stays made is d = inr (made is refl d)
 
 -- before the first quit
 pub quitting_begins : (s : Script) (c : Controller) → ((q : ℕ) → CallsNothingOn c q) → IsQuittingBy s 1 c
@@ -171,13 +176,13 @@ quitting_ends s c n all k = record {
 }
 
 -- a turn of the controller's poster on main
-module _ (s : Script) (hall : Hall) (h : IsHall s hall) (some : 0 < s.loopers) (c : Controller) (k : IsControllerIn false s hall c) (p p' : Sender) (is_p : p ≡ slice_index_or c.kit.posters.items 0 p)
-    (x y : State) (t : IsTurn p p' x y) (pass : Tally) where
+module _ {s : Script} {hall : Hall} {c : Controller} (at : CanTurn false s hall 0 c) {p p' : Sender} (is_p : p ≡ slice_index_or c.kit.posters.items 0 p)
+    {x y : State} (t : IsTurn p p' x y) (pass : Tally) where
   in_main : 0 < length c.kit.posters.items
-  in_main = has_poster s hall h 0 some c k
+  in_main = has_poster at
 
   main_free : (q : Shared TableId) × IsOf p q × (q.constants.setting.lockstep ≡ false)
-  main_free = let f = poster_free s hall h 0 some c k p in (f.0, subst (λ (z : Sender). IsOf z f.0) (sym is_p) f.1, f.2)
+  main_free = let f = poster_free at p in (f.0, subst (λ (z : Sender). IsOf z f.0) (sym is_p) f.1, f.2)
 
   main_same : length (with_poster c 0 p' pass).kit.posters.items ≡ length c.kit.posters.items
   main_same = length-set c.kit.posters.items 0 p'
@@ -188,7 +193,7 @@ module _ (s : Script) (hall : Hall) (h : IsHall s hall) (some : 0 < s.loopers) (
       (one (subst (IsByClock m) (get_or_default c.kit.posters.items 0 d p in_main ∙ sym is_p) by))
 
   main_clocked : (m : Mode) → (IsByClock m p → IsByClock m p') → AreByClock m c.kit.posters.items → AreByClock m (with_poster c 0 p' pass).kit.posters.items
-  main_clocked m one = clocked_more m c.kit.posters.items (with_poster c 0 p' pass).kit.posters.items 0 main_same (main_here m one) (turns_elsewhere c 0 p p' pass in_main is_p)
+  main_clocked m one = clocked_more m c.kit.posters.items (with_poster c 0 p' pass).kit.posters.items 0 main_same (main_here m one) (turns_elsewhere c 0 p' pass)
 
   -- that made no entry
   pub still_clocked : y ≡ x → (m : Mode) → AreByClock m c.kit.posters.items → AreByClock m (with_poster c 0 p' pass).kit.posters.items
@@ -202,7 +207,7 @@ module _ (s : Script) (hall : Hall) (h : IsHall s hall) (some : 0 < s.loopers) (
         let none : own p ≡ [] = ap own is_p ∙ closing.main p in_main in record {
           main = λ d near. subst (λ (z : Sender). are_controls true false s.end false (own z) ≡ true) (sym (poster_here c 0 p p' pass in_main is_p d))
               (halts_late p p' main_free.0 main_free.1 main_free.2 x y t now is s.end late none);
-          others = λ j side d near. subst (λ (z : Sender). are_controls false false s.end true (own z) ≡ true) (sym (turns_elsewhere c 0 p p' pass in_main is_p j d (λ e. absurd (omega (arith, e, side)))))
+          others = λ j side d near. subst (λ (z : Sender). are_controls false false s.end true (own z) ≡ true) (sym (turns_elsewhere c 0 p' pass j d (λ e. absurd (omega (arith, e, side)))))
               (closing.others j side d (subst (λ (n : ℕ). j < n) main_same near));
         }
 

@@ -1,5 +1,7 @@
 -- What the controller has called stays true while it calls nothing, and its stages follow one another.
 use Rattle.std.proofs.Common.{◌≡◌, ◌<◌, ◌≤◌, ◌+◌, ℕ, true, false, List, length, sym, ◌∙◌, subst, ap, arith, Bool, []}
+use Rattle.std.specs.Prelude.{slice_index_or}
+use Rattle.std.specs.Global.{Vec}
 use mathlib.Core.Logic.{dite}
 use native.Mathlib.Decide.{dec_lt}
 use Rattle.loop_model.specs.declared.entry.Entry.{Entry}
@@ -8,14 +10,15 @@ use Rattle.looper_run.specs.Holding.{Sender}
 use Rattle.run_model.specs.Control.{are_controls}
 use Rattle.dash_stage.specs.declared.control.Controller.{Controller}
 use Rattle.dash_stage.specs.Controllers.{are_advances, time_in, calls_on, OnlyMoves, MovesAndQuits, IsMoving, HasReached, IsQuitting, IsClosing, CallsNone, HasClosedIn, CallsNothingOn, IsClosingBy}
+use Rattle.dash_hall.specs.Growth.{own}
 use Rattle.dash_stage.specs.Timeliness.{AreBy}
 use Rattle.dash_stage.proofs.Controller.Controls.{advances_may_quit}
 
--- the same controller has called nothing more
-pub none_same : (c c' : Controller) → c' ≡ c → CallsNone c c'
+-- where the posters are the same it has called nothing more
+pub none_same : (c c' : Controller) → c'.kit.posters ≡ c.kit.posters → CallsNone c c'
 none_same c c' is = record {
-  long = ap (λ (z : Controller). length z.kit.posters.items) is;
-  calls = λ q d. ap (λ (z : Controller). calls_on z q d) is;
+  long = ap (λ (v : Vec Sender). length v.items) is;
+  calls = λ q d. ap (λ (v : Vec Sender). own (slice_index_or v.items q d)) is;
 }
 
 -- nothing, and then nothing
@@ -57,6 +60,7 @@ module _ (s : Script) (c c' : Controller) (none : CallsNone c c') where
   -- the same queues may have been quit
   pub quitting_kept : (n : ℕ) → IsQuitting s n c → IsQuitting s n c'
   quitting_kept n k = record {
+    side = k.side;
     main = moves_kept 0 k.main;
     reached = reached_kept s.end k.reached;
     done = λ q some lt. quits_kept true q (k.done q some lt);
@@ -90,6 +94,7 @@ module _ (s : Script) (c : Controller) where
   -- none has been quit as the time of main comes to the end
   pub quitting_starts : IsMoving s c → HasReached s.end c → IsQuitting s 1 c
   quitting_starts moving reached = record {
+    side = omega arith;
     main = moving 0;
     reached = reached;
     done = λ q some lt. absurd (omega (arith, some, lt));
@@ -97,8 +102,9 @@ module _ (s : Script) (c : Controller) where
   }
 
   -- a queue that is not quit is passed over
-  pub quitting_skips : (n : ℕ) → 0 < n → IsQuitting s n c → IsQuitting s (n + 1) c
-  quitting_skips n above k = record {
+  pub quitting_skips : (n : ℕ) → IsQuitting s n c → IsQuitting s (n + 1) c
+  quitting_skips n k = record {
+    side = omega arith;
     main = k.main;
     reached = k.reached;
     done = λ q some lt. dite (dec_lt q n) (λ below. k.done q some below) (λ here. moves_may_quit q (k.rest q (omega (arith, here))));

@@ -35,8 +35,8 @@ use Rattle.run_model.specs.Control.{are_controls}
 use Rattle.dash_hall.specs.declared.hall.Hall.{Hall}
 use Rattle.dash_stage.specs.declared.control.Controller.{Controller}
 use Rattle.dash_hall.specs.Growth.{own}
-use Rattle.dash_hall.specs.Kits.{IsHall, queue_constants}
-use Rattle.dash_stage.specs.Controllers.{IsController, are_advances, time_in, calls_on, OnlyMoves, HasReached, IsQuitting, IsClosing, HasClosed, CallsNone, IsControllerIn}
+use Rattle.dash_hall.specs.Kits.{queue_constants}
+use Rattle.dash_stage.specs.Controllers.{CanTurn, are_advances, time_in, calls_on, OnlyMoves, HasReached, IsQuitting, IsClosing, HasClosed, CallsNone}
 use Rattle.dash_stage.specs.Timeliness.{AreBy, whole_on}
 use Rattle.dash_stage.specs.Playing.{IsStuck}
 use Rattle.dash_hall.proofs.Badges.{queue_is}
@@ -109,10 +109,12 @@ module _ (c : Controller) (i : ℕ) (p p' : Sender) (pass : Tally) (within : i <
       (λ other. elsewhere (λ l. time ≤ time_in l) 0 other reached)
 
   -- this queue, which is not main's, was quit
-  quits_one : (s : Script) → 0 < i → are_controls false true s.end true (own p') ≡ true → IsQuitting s i c → IsQuitting s (i + 1) (with_poster c i p' pass)
-  quits_one s above quits k =
+  quits_one : (s : Script) → are_controls false true s.end true (own p') ≡ true → IsQuitting s i c → IsQuitting s (i + 1) (with_poster c i p' pass)
+  quits_one s quits k =
+      let above = k.side in
       let main_apart : 0 ≢ i = λ e. absurd (omega (arith, above, e)) in
       record {
+        side = omega arith;
         main = elsewhere (λ l. are_advances s.end l ≡ true) 0 main_apart k.main;
         reached = elsewhere (λ l. s.end ≤ time_in l) 0 main_apart k.reached;
         done = λ j some lt. dite (ℕ_discrete j i)
@@ -148,16 +150,16 @@ module _ {parts : List Segment} (p p' : Sender) (x y : State) (t : IsTurnWith pa
   made_one c r left = turn_makes p p' x y (entry_of x p.sender c r ∷ []) t left (own_of_one p.sender (entry_of x p.sender c r) refl)
 
 -- a turn of the controller's poster on the queue of a looper
-module _ {goes : Bool} {parts : List Segment} (s : Script) (hall : Hall) (h : IsHall s hall) (i : ℕ) (lt : i < s.loopers) (c : Controller) (k : IsControllerIn goes s hall c) (p p' : Sender) (q : Shared TableId)
-    (is_p : p ≡ slice_index_or c.kit.posters.items i p) (is_q : q ≡ slice_index_or hall.queues.items i q) (x y : State) (t : IsTurnWith parts p p' x y) where
+module _ {goes : Bool} {parts : List Segment} {s : Script} {hall : Hall} {i : ℕ} {c : Controller} (at : CanTurn goes s hall i c) {p p' : Sender} {q : Shared TableId}
+    (is_p : p ≡ slice_index_or c.kit.posters.items i p) (is_q : q ≡ slice_index_or hall.queues.items i q) {x y : State} (t : IsTurnWith parts p p' x y) where
   pub mine : IsOf p q × (p.sender ≡ controller s)
-  mine = own_poster s hall h i lt c k p q is_p is_q
+  mine = own_poster at is_p is_q
 
   state : IsStateOf q.constants x
   state = (t.own q.constants mine.0.1).0
 
   pub setting : x.setting ≡ (queue_constants hall.lockstep s hall.pool i).setting
-  setting = state.setting ∙ ap (λ (z : Constants TableId). z.setting) (queue_is hall.lockstep s hall.pool hall.queues.items h.queues i q lt is_q)
+  setting = state.setting ∙ ap (λ (z : Constants TableId). z.setting) (queue_is hall.lockstep s hall.pool hall.queues.items at.is_hall.queues i q at.known is_q)
 
   pub last : p.sender + 1 ≡ x.setting.senders
   last = ap (λ (n : ℕ). n + 1) mine.1 ∙ sym (ap (λ (z : Setting). z.senders) setting)
@@ -179,7 +181,7 @@ module _ {goes : Bool} {parts : List Segment} (s : Script) (hall : Hall) (h : Is
       ∙ main_is_not_over x.setting p.sender last main s.end x.entries legal numbered (ap (are_advances s.end) (found_own p p' x y t) ∙ moves)
 
   pub within : i < length c.kit.posters.items
-  within = has_poster s hall h i lt c k
+  within = has_poster at
 
   -- before, the time was only moved on, and not past this one
   pub moves_before : (time : ℕ) → ((d : Sender) → i < length c.kit.posters.items → are_advances time (calls_on c i d) ≡ true) → are_advances time (own p) ≡ true
@@ -238,16 +240,16 @@ module _ {goes : Bool} {parts : List Segment} (s : Script) (hall : Hall) (h : Is
     turned_kept now time is = let grown = time_after now is in still_reached c i p p' pass within is_p time (omega (arith, grown))
 
 -- the same in lockstep
-module _ {parts : List Segment} (s : Script) (hall : Hall) (h : IsHall s hall) (i : ℕ) (lt : i < s.loopers) (c : Controller) (k : IsController s hall c) (p p' : Sender) (q : Shared TableId)
-    (is_p : p ≡ slice_index_or c.kit.posters.items i p) (is_q : q ≡ slice_index_or hall.queues.items i q) (x y : State) (t : IsTurnWith parts p p' x y) where
+module _ {parts : List Segment} {s : Script} {hall : Hall} {i : ℕ} {c : Controller} (at : CanTurn true s hall i c) {p p' : Sender} {q : Shared TableId}
+    (is_p : p ≡ slice_index_or c.kit.posters.items i p) (is_q : q ≡ slice_index_or hall.queues.items i q) {x y : State} (t : IsTurnWith parts p p' x y) where
   lockstep : x.setting.lockstep ≡ true
-  lockstep = ap (λ (z : Setting). z.lockstep) (setting s hall h i lt c k p p' q is_p is_q x y t) ∙ k.mode
+  lockstep = ap (λ (z : Setting). z.lockstep) (setting at is_p is_q t) ∙ at.controller.mode
 
   -- the time of the queue is the one to which the controller moved it
   time_found : time_of x ≡ time_in (own p)
   time_found =
-      ap (λ (b : Base). clock b x.entries) (start s hall h i lt c k p p' q is_p is_q x y t)
-      ∙ (time_by_controller x.setting p.sender (last s hall h i lt c k p p' q is_p is_q x y t) lockstep x.entries (legal s hall h i lt c k p p' q is_p is_q x y t) (numbered s hall h i lt c k p p' q is_p is_q x y t)
+      ap (λ (b : Base). clock b x.entries) (start at is_p is_q t)
+      ∙ (time_by_controller x.setting p.sender (last at is_p is_q t) lockstep x.entries (legal at is_p is_q t) (numbered at is_p is_q t)
       ∙ ap time_in (found_own p p' x y t))
 
   -- and the moment of a call is that time
@@ -257,33 +259,33 @@ module _ {parts : List Segment} (s : Script) (hall : Hall) (h : IsHall s hall) (
   module _ (pass : Tally) where
     -- the time of the queue is the one to which the controller has moved it
     pub turned_time : y ≡ x → (d : Sender) → time_of x ≡ time_in (calls_on (with_poster c i p' pass) i d)
-    turned_time same d = time_found ∙ ap time_in (sym (called_here c i p p' pass (within s hall h i lt c k p p' q is_p is_q x y t) is_p d ∙ made_none p p' x y t same))
+    turned_time same d = time_found ∙ ap time_in (sym (called_here c i p p' pass (within at is_p is_q t) is_p d ∙ made_none p p' x y t same))
 
     -- and the time had come to this one before
     pub turned_late : (now : ℕ) → y ≡ x → now ≤ time_of x → (d : Sender) → now ≤ time_in (calls_on (with_poster c i p' pass) i d)
     turned_late now same le d = subst (λ (n : ℕ). now ≤ n) (turned_time same d) le
 
     -- the turn asked to quit the queue safely, which is not main's, and whose time had come to the end
-    turned_asked : (r : Reply) → 0 < i → y.entries ≡ x.entries ++ entry_of x p.sender (Quit true (moment_at x s.end)) r ∷ [] → ((d : Sender) → s.end ≤ time_in (calls_on c i d)) → IsQuitting s i c
+    turned_asked : (r : Reply) → y.entries ≡ x.entries ++ entry_of x p.sender (Quit true (moment_at x s.end)) r ∷ [] → ((d : Sender) → s.end ≤ time_in (calls_on c i d)) → IsQuitting s i c
         → IsQuitting s (i + 1) (with_poster c i p' pass)
-    turned_asked r above left late quitting =
-        quits_one c i p p' pass (within s hall h i lt c k p p' q is_p is_q x y t) is_p s above
+    turned_asked r left late quitting =
+        quits_one c i p p' pass (within at is_p is_q t) is_p s
         (subst (λ (l : List Entry). are_controls false true s.end true l ≡ true) (sym (made_one p p' x y t (Quit true (moment_at x s.end)) r left))
-        (quits_at_end s.end (own p) _ (moves_before s hall h i lt c k p p' q is_p is_q x y t s.end (quitting.rest i (omega arith))) (subst (λ (l : List Entry). s.end ≤ time_in l) (called_by c i p (within s hall h i lt c k p p' q is_p is_q x y t) is_p p) (late p)) (ap (Quit true) (moment_found s.end))))
+        (quits_at_end s.end (own p) _ (moves_before at is_p is_q t s.end (quitting.rest i (omega arith))) (subst (λ (l : List Entry). s.end ≤ time_in l) (called_by c i p (within at is_p is_q t) is_p p) (late p)) (ap (Quit true) (moment_found s.end))))
         quitting
 
     -- whatever the answer
-    pub turned_quit : (answer : Quitting Claimed TableId) → answer ≢ quitting.NoMemory → Quits x p.sender true s.end answer y → 0 < i → ((d : Sender) → s.end ≤ time_in (calls_on c i d)) → IsQuitting s i c
+    pub turned_quit : (answer : Quitting Claimed TableId) → answer ≢ quitting.NoMemory → Quits x p.sender true s.end answer y → ((d : Sender) → s.end ≤ time_in (calls_on c i d)) → IsQuitting s i c
         → IsQuitting s (i + 1) (with_poster c i p' pass)
-    turned_quit (quitting.Done list) some done above = turned_asked QuitDone above (ap (λ (z : State). z.entries) done.2)
-    turned_quit (quitting.AlreadyQuit place) some done above = turned_asked (AlreadyQuit place) above (ap (λ (z : State). z.entries) done.1)
-    turned_quit quitting.NotAllowed some done above = turned_asked NotAllowed above (ap (λ (z : State). z.entries) done.1)
-    turned_quit quitting.NoMemory some done above = absurd (some refl)
+    turned_quit (quitting.Done list) some done = turned_asked QuitDone (ap (λ (z : State). z.entries) done.2)
+    turned_quit (quitting.AlreadyQuit place) some done = turned_asked (AlreadyQuit place) (ap (λ (z : State). z.entries) done.1)
+    turned_quit quitting.NotAllowed some done = turned_asked NotAllowed (ap (λ (z : State). z.entries) done.1)
+    turned_quit quitting.NoMemory some done = absurd (some refl)
 
     -- the turn halted main, whose time had come to the end
     pub turned_closed : i ≡ 0 → y ≡ entered x p.sender (Halt (moment_at x s.end)) Halted → IsClosing s c → HasClosed s (with_poster c i p' pass)
     turned_closed first is closing =
-        closes c i p p' pass (within s hall h i lt c k p p' q is_p is_q x y t) is_p s (sym first)
+        closes c i p p' pass (within at is_p is_q t) is_p s (sym first)
         (subst (λ (l : List Entry). are_controls true true s.end false l ≡ true) (sym (made_one p p' x y t (Halt (moment_at x s.end)) Halted (ap (λ (z : State). z.entries) is)))
-        (halts_at_end s.end (own p) _ (moves_before s hall h i lt c k p p' q is_p is_q x y t s.end (subst (OnlyMoves s c) (sym first) closing.main)) (reached_on c i p (within s hall h i lt c k p p' q is_p is_q x y t) is_p s.end (sym first) closing.reached) (ap Halt (moment_found s.end)) refl))
+        (halts_at_end s.end (own p) _ (moves_before at is_p is_q t s.end (subst (OnlyMoves s c) (sym first) closing.main)) (reached_on c i p (within at is_p is_q t) is_p s.end (sym first) closing.reached) (ap Halt (moment_found s.end)) refl))
         closing

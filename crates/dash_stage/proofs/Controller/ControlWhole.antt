@@ -20,15 +20,17 @@ use Rattle.queue_state.specs.declared.answers.Quitting.TheVariants as quitting
 use Rattle.queue_state.specs.Queue.{entry_of, entered, moment_at}
 use Rattle.queue_state.specs.Calls.{Quits}
 use Rattle.loop_model.specs.declared.segment.Segment.{Segment}
-use Rattle.shared_queue.specs.Known.{IsTurnWith}
+use Rattle.shared_queue.specs.Known.{IsTurn, IsTurnWith}
 use Rattle.loop_model.proofs.Prefixes.{prefix_self, prefix_trans}
 use Rattle.looper_run.specs.Holding.{Sender, State}
 use Rattle.run_model.specs.Asks.{entries_by}
 use Rattle.run_model.specs.Control.{ends_halted}
 use Rattle.run_model.specs.Senders.{sender_count}
-use Rattle.dash_stage.specs.Controllers.{calls_on, time_in}
+use Rattle.dash_hall.specs.declared.hall.Hall.{Hall}
+use Rattle.dash_stage.specs.Controllers.{CanTurn, TurnsAlone, calls_on, time_in}
+use Rattle.dash_stage.proofs.Controller.Controlling.{has_poster, after_call, after_turn}
 use Rattle.dash_stage.specs.declared.control.Controller.{Controller}
-use Rattle.dash_hall.specs.Growth.{own, QuitsOf}
+use Rattle.dash_hall.specs.Growth.{own, GoesOn, QuitsOf}
 use Rattle.dash_stage.specs.Timeliness.{TurnsOn, EachTurnsOn, MovesNot, IsNone, whole_on}
 use Rattle.dash_stage.specs.Playing.{IsStuck, AreStuck}
 use Rattle.dash_stage.proofs.Controller.ControlTurns.{with_poster, found_own, poster_here}
@@ -56,8 +58,12 @@ turns_behind a b c f g =
       ];
     }
 
+-- turns that made no entry moved no time
+pub turns_moving : (a b : Sender) → TurnsOn IsNone a b → TurnsOn MovesNot a b
+turns_moving a b f = record { found = f.found; begins = f.begins; made = f.made; sender = f.sender; step = elim f.step [ inl same ↦ inl same | inr one ↦ absurd one.2 ] }
+
 -- a turn of a poster
-module _ {parts : List Segment} {P : Entry → Type 0} (p p' : Sender) (x y : State) (t : IsTurnWith parts p p' x y) where
+module _ {parts : List Segment} {P : Entry → Type 0} {p p' : Sender} {x y : State} (t : IsTurnWith parts p p' x y) where
   -- that left the queue as it was
   pub turns_none : y ≡ x → TurnsOn P p p'
   turns_none same = record { found = x.entries; begins = t.begins; made = found_own p p' x y t; sender = t.sender; step = inl (t.seen ∙ ap (λ (z : State). z.entries) same) }
@@ -71,36 +77,44 @@ pub turns_quit : (p p' : Sender) (safe : Bool) (now : ℕ) → QuitsOf p p' safe
 turns_quit p p' safe now (answer, some, (x, y, t, quits)) = by_answer answer some quits
   where
     by_answer : (answer : Quitting Claimed TableId) → answer ≢ quitting.NoMemory → Quits x p.sender safe now answer y → TurnsOn MovesNot p p'
-    by_answer (quitting.Done list) some done = turns_one p p' x y t (Quit safe (moment_at x now)) QuitDone (ap (λ (z : State). z.entries) done.2) refl
-    by_answer (quitting.AlreadyQuit place) some done = turns_one p p' x y t (Quit safe (moment_at x now)) (AlreadyQuit place) (ap (λ (z : State). z.entries) done.1) refl
-    by_answer quitting.NotAllowed some done = turns_one p p' x y t (Quit safe (moment_at x now)) NotAllowed (ap (λ (z : State). z.entries) done.1) refl
+    by_answer (quitting.Done list) some done = turns_one t (Quit safe (moment_at x now)) QuitDone (ap (λ (z : State). z.entries) done.2) refl
+    by_answer (quitting.AlreadyQuit place) some done = turns_one t (Quit safe (moment_at x now)) (AlreadyQuit place) (ap (λ (z : State). z.entries) done.1) refl
+    by_answer quitting.NotAllowed some done = turns_one t (Quit safe (moment_at x now)) NotAllowed (ap (λ (z : State). z.entries) done.1) refl
     by_answer quitting.NoMemory some done = absurd (some refl)
 
+-- with a new poster at one place, the others are as they were
+pub turns_elsewhere : (c : Controller) (i : ℕ) (p' : Sender) (pass : Tally) (q : ℕ) (d : Sender) → q ≢ i → slice_index_or (with_poster c i p' pass).kit.posters.items q d ≡ slice_index_or c.kit.posters.items q d
+turns_elsewhere c i p' pass q d apart = get_or-set_other c.kit.posters.items i q p' d apart
+
 -- the controller with a new poster at one place
-module _ (c : Controller) (i : ℕ) (p p' : Sender) (pass : Tally) (within : i < length c.kit.posters.items) (is_p : p ≡ slice_index_or c.kit.posters.items i p) where
+module _ {goes : Bool} {s : Script} {hall : Hall} {i : ℕ} {c : Controller} (at : CanTurn goes s hall i c) {p p' : Sender} (pass : Tally) (is_p : p ≡ slice_index_or c.kit.posters.items i p) where
   -- what the poster did there
   pub turns_here : {P : Entry → Type 0} → TurnsOn P p p' → (d : Sender) → TurnsOn P (slice_index_or c.kit.posters.items i d) (slice_index_or (with_poster c i p' pass).kit.posters.items i d)
   turns_here {P} h d =
-      subst (λ (z : Sender). TurnsOn P z (slice_index_or (with_poster c i p' pass).kit.posters.items i d)) (is_p ∙ get_or_default c.kit.posters.items i p d within)
-      (subst (TurnsOn P p) (sym (poster_here c i p p' pass within is_p d)) h)
+      subst (λ (z : Sender). TurnsOn P z (slice_index_or (with_poster c i p' pass).kit.posters.items i d)) (is_p ∙ get_or_default c.kit.posters.items i p d (has_poster at))
+      (subst (TurnsOn P p) (sym (poster_here c i p p' pass (has_poster at) is_p d)) h)
 
-  -- the others are as they were
-  pub turns_elsewhere : (q : ℕ) (d : Sender) → q ≢ i → slice_index_or (with_poster c i p' pass).kit.posters.items q d ≡ slice_index_or c.kit.posters.items q d
-  turns_elsewhere q d apart = get_or-set_other c.kit.posters.items i q p' d apart
+  -- after a turn it is the script's controller still, and the others are as they were
+  pub turned_alone : {x y : State} → IsTurn p p' x y → TurnsAlone goes s hall i c (with_poster c i p' c.kit.pass)
+  turned_alone t = record { controller = after_turn at is_p t; elsewhere = turns_elsewhere c i p' c.kit.pass }
+
+  -- and so after a call with its pass of the pool
+  pub called_alone : GoesOn p p' c.kit.pass pass → TurnsAlone goes s hall i c (with_poster c i p' pass)
+  called_alone on = record { controller = after_call at is_p on; elsewhere = turns_elsewhere c i p' pass }
 
   -- what the one did, and the others that stayed, is what each did
   pub each_turns : {P : Entry → Type 0} → TurnsOn P p p' → EachTurnsOn P c (with_poster c i p' pass)
   each_turns {P} h = record {
     long = length-set c.kit.posters.items i p';
     each = λ q d lt. dite (ℕ_discrete q i)
-        (λ at. subst (λ (m : ℕ). TurnsOn P (slice_index_or c.kit.posters.items m d) (slice_index_or (with_poster c i p' pass).kit.posters.items m d)) (sym at) (turns_here h d))
-        (λ apart. subst (TurnsOn P (slice_index_or c.kit.posters.items q d)) (sym (turns_elsewhere q d apart)) (turns_stay (slice_index_or c.kit.posters.items q d)));
+        (λ here. subst (λ (m : ℕ). TurnsOn P (slice_index_or c.kit.posters.items m d) (slice_index_or (with_poster c i p' pass).kit.posters.items m d)) (sym here) (turns_here h d))
+        (λ apart. subst (TurnsOn P (slice_index_or c.kit.posters.items q d)) (sym (turns_elsewhere c i p' pass q d apart)) (turns_stay (slice_index_or c.kit.posters.items q d)));
   }
 
   -- a halt ends the history that it has seen
-  pub ends_with : {parts : List Segment} (x y : State) → IsTurnWith parts p p' x y → (now : ℕ) → y ≡ entered x p.sender (Halt now) Halted → (d : Sender) → ends_halted (whole_on (with_poster c i p' pass) i d) ≡ true
-  ends_with x y t now is d =
-      ap ends_halted (ap (λ (z : Sender). z.view.seen) (poster_here c i p p' pass within is_p d) ∙ (t.seen ∙ ap (λ (z : State). z.entries) is))
+  pub ends_with : {parts : List Segment} {x y : State} → IsTurnWith parts p p' x y → (now : ℕ) → y ≡ entered x p.sender (Halt now) Halted → (d : Sender) → ends_halted (whole_on (with_poster c i p' pass) i d) ≡ true
+  ends_with {parts} {x} {y} t now is d =
+      ap ends_halted (ap (λ (z : Sender). z.view.seen) (poster_here c i p p' pass (has_poster at) is_p d) ∙ (t.seen ∙ ap (λ (z : State). z.entries) is))
       ∙ ends_halted-snoc x.entries (entry_of x p.sender (Halt now) Halted)
 
 -- each of the first posters did something, and the others stayed
@@ -108,6 +122,14 @@ pub record TurnsBelow (P : Entry → Type 0) (n : ℕ) (before after : Controlle
   pub long : length after.kit.posters.items ≡ length before.kit.posters.items
   pub below : (q : ℕ) (d : Sender) → q < n → TurnsOn P (slice_index_or before.kit.posters.items q d) (slice_index_or after.kit.posters.items q d)
   pub rest : (q : ℕ) (d : Sender) → n ≤ q → slice_index_or after.kit.posters.items q d ≡ slice_index_or before.kit.posters.items q d
+
+-- none has done anything
+pub below_none : (P : Entry → Type 0) (c : Controller) → TurnsBelow P 0 c c
+below_none P c = record { long = refl; below = λ q d lt. absurd (omega (arith, lt)); rest = λ q d le. refl }
+
+-- all have
+pub below_all : (P : Entry → Type 0) (n : ℕ) (before after : Controller) → length before.kit.posters.items ≤ n → TurnsBelow P n before after → EachTurnsOn P before after
+below_all P n before after all turns = record { long = turns.long; each = λ q d lt. turns.below q d (omega (arith, all, lt)) }
 
 -- the first queues' times have come to this one, or they are over
 abbrev pub ComeBelow : Script → ℕ → ℕ → Controller → Type 0

@@ -1,5 +1,5 @@
 -- The controller hands entries out of the frame records, and keeps the parts.
-use Rattle.std.proofs.Common.{◌≡◌, ◌<◌, ◌+◌, ℕ, List, [], ◌∷◌, ◌++◌, length, get_or, drop, append-nil, sym, ap, ◌∙◌, subst, arith}
+use Rattle.std.proofs.Common.{true, ◌≡◌, ◌<◌, ◌+◌, ℕ, List, [], ◌∷◌, ◌++◌, length, get_or, drop, append-nil, sym, ap, ◌∙◌, subst, arith}
 use Rattle.std.specs.Prelude.{slice_index_or, Result, Ok, Err, IfOk, OnErr}
 use Rattle.std.specs.Global.{Vec}
 use Rattle.std.specs.Vec.{with_item, vec_len}
@@ -16,10 +16,10 @@ use Rattle.choreographer.proofs.Joining.{entries_behind}
 use Rattle.choreographer.proofs.Counting.{drop_prefix}
 use Rattle.frame_phases.specs.State.{Frames as FrameState, Seals}
 use Rattle.dash_hall.specs.declared.hall.Hall.{Hall}
-use Rattle.dash_hall.specs.Kits.{IsHall, FrameBadge, frame_badge_of, frame_badge_for}
+use Rattle.dash_hall.specs.Kits.{FrameBadge, frame_badge_of, frame_badge_for}
 use Rattle.dash_hall.proofs.Badges.{passes_kept, choreographer_count, choreographer_at}
 use Rattle.dash_stage.specs.declared.control.Controller.{Controller}
-use Rattle.dash_stage.specs.Controllers.{IsController, HandsOutFrames}
+use Rattle.dash_stage.specs.Controllers.{CanTurn, IsController, HandsOutFrames}
 use Rattle.dash_stage.proofs.Controller.Controlling.{pass_count}
 use Rattle.dash_stage.proofs.Controller.FrameLists.{lists_count, handed_more, idle_kept}
 
@@ -55,44 +55,46 @@ frames_handed p p' (Err e) had h = (
 )
 
 -- the controller whose pass of one choreographer handed a part out, which it keeps
-module _ (s : Script) (hall : Hall) (h : IsHall s hall) (i : ℕ) (lt : i < s.loopers) (c : Controller) (k : IsController s hall c) (p p' : Pass) (v v' : Vec (List FrameEntry))
+module _ {s : Script} {hall : Hall} {i : ℕ} {c : Controller} (at : CanTurn true s hall i c) {p p' : Pass} {v : Vec (List FrameEntry)} (v' : Vec (List FrameEntry))
     (is_p : p ≡ slice_index_or c.kit.frames.items i p) (is_v : v ≡ slice_index_or c.sealed_frames.items i v) (out : HandsOutFrames p p' v.items v'.items) where
   has_pass : i < length c.kit.frames.items
-  has_pass = let many = pass_count s hall h i lt c k in omega (arith, many, lt)
+  has_pass = let many = pass_count at in let lt = at.known in omega (arith, many, lt)
 
   abbrev pub after_frames : Controller
   after_frames = record { kit = record { posters = c.kit.posters; pass = c.kit.pass; frames = with_item c.kit.frames i p' }; sealed = c.sealed; sealed_frames = with_item c.sealed_frames i v' }
 
   pub frames_controller : IsController s hall after_frames
   frames_controller = record {
-    posters = k.posters;
-    frames = passes_kept (s.threads + 2) hall.choreographers.items c.kit.frames.items k.frames i p' p (out.badge ∙ ap frame_badge_of is_p);
-    pass = k.pass;
-    mode = k.mode;
-    idle = idle_kept c.kit.frames.items i p p' is_p has_pass out.own k.idle;
-    sealed = k.sealed;
-    sealed_frames = handed_more c.kit.frames.items c.sealed_frames.items i p p' v v' is_p is_v has_pass out.parts k.sealed_frames;
+    posters = at.controller.posters;
+    frames = passes_kept (s.threads + 2) hall.choreographers.items c.kit.frames.items at.controller.frames i p' p (out.badge ∙ ap frame_badge_of is_p);
+    pass = at.controller.pass;
+    mode = at.controller.mode;
+    idle = idle_kept c.kit.frames.items i p p' is_p has_pass out.own at.controller.idle;
+    sealed = at.controller.sealed;
+    sealed_frames = handed_more c.kit.frames.items c.sealed_frames.items i p p' v v' is_p is_v has_pass out.parts at.controller.sealed_frames;
   }
 
 -- the controller's pass of a choreographer is the last one
-pub last_pass : (s : Script) (hall : Hall) → IsHall s hall → (i : ℕ) → i < s.loopers → (c : Controller) → IsController s hall c → (p : Pass) (f : Frames) → p ≡ slice_index_or c.kit.frames.items i p
+pub last_pass : {s : Script} {hall : Hall} {i : ℕ} {c : Controller} → CanTurn true s hall i c → {p : Pass} {f : Frames} → p ≡ slice_index_or c.kit.frames.items i p
     → f ≡ slice_index_or hall.choreographers.items i f → p.number + 1 ≡ f.constants.passes
-last_pass s hall h i lt c k p f is_p is_f =
-    let many = pass_count s hall h i lt c k in
-    let few = choreographer_count s hall.choreographers.items h.choreographers in
+last_pass {s} {hall} {i} {c} at {p} {f} is_p is_f =
+    let lt = at.known in
+    let many = pass_count at in
+    let few = choreographer_count s hall.choreographers.items at.is_hall.choreographers in
     let mine : frame_badge_of p ≡ frame_badge_for (s.threads + 2) f =
     ap frame_badge_of is_p ∙ (sym (get_or-map frame_badge_of c.kit.frames.items i p (frame_badge_of p) (omega (arith, lt, many)))
-    ∙ (ap (λ l. get_or l i (frame_badge_of p)) k.frames
+    ∙ (ap (λ l. get_or l i (frame_badge_of p)) at.controller.frames
     ∙ (get_or-map (frame_badge_for (s.threads + 2)) hall.choreographers.items i f (frame_badge_of p) (omega (arith, lt, few)) ∙ ap (frame_badge_for (s.threads + 2)) (sym is_f)))) in
     let number : p.number ≡ s.threads + 2 = ap (λ (b : FrameBadge). b.number) mine in
     let passes : f.constants.passes ≡ s.threads + 3 =
-    ap (λ (z : Frames). z.constants.passes) is_f ∙ ap (λ (z : FrameConstants). z.passes) (choreographer_at s hall.choreographers.items h.choreographers i f lt) in
+    ap (λ (z : Frames). z.constants.passes) is_f ∙ ap (λ (z : FrameConstants). z.passes) (choreographer_at s hall.choreographers.items at.is_hall.choreographers i f lt) in
     omega (arith, number, passes)
 
 -- the controller has a list of parts for each looper
-pub in_frame_lists : (s : Script) (hall : Hall) → IsHall s hall → (i : ℕ) → i < s.loopers → (c : Controller) → IsController s hall c → i < vec_len c.sealed_frames
-in_frame_lists s hall h i lt c k =
-    let many = pass_count s hall h i lt c k in
-    let lists = lists_count c.kit.frames.items c.sealed_frames.items k.sealed_frames in
+pub in_frame_lists : {s : Script} {hall : Hall} {i : ℕ} {c : Controller} → CanTurn true s hall i c → i < vec_len c.sealed_frames
+in_frame_lists {s} {hall} {i} {c} at =
+    let lt = at.known in
+    let many = pass_count at in
+    let lists = lists_count c.kit.frames.items c.sealed_frames.items at.controller.sealed_frames in
     let all = c.sealed_frames.ok.0 in
     omega (arith, many, lists, all, lt)

@@ -1,5 +1,5 @@
 -- The controller hands entries out, by turns that leave each history as it is.
-use Rattle.std.proofs.Common.{◌≡◌, ◌≢◌, ◌<◌, inl, inr, ℕ, List, [], length, set, get_or, refl, sym, ap, ◌∙◌, arith}
+use Rattle.std.proofs.Common.{true, ◌≡◌, ◌<◌, ℕ, List, [], length, set, get_or, refl, sym, ap, ◌∙◌, arith}
 use Rattle.std.specs.Prelude.{slice_index_or}
 use Rattle.std.specs.Global.{Vec}
 use Rattle.std.specs.Vec.{with_item, vec_len}
@@ -9,12 +9,12 @@ use Rattle.dash_script.specs.declared.script.Script.{Script}
 use Rattle.shared_queue.specs.Known.{IsTurnWith, with_parts}
 use Rattle.looper_run.specs.Holding.{Sender, State}
 use Rattle.run_model.specs.Senders.{controller}
-use Rattle.dash_hall.specs.Kits.{IsHall, badge_of}
+use Rattle.dash_hall.specs.Kits.{badge_of}
 use Rattle.dash_hall.proofs.Badges.{posters_kept}
 use Rattle.dash_hall.specs.declared.hall.Hall.{Hall}
 use Rattle.dash_stage.specs.declared.control.Controller.{Controller}
-use Rattle.dash_stage.specs.Controllers.{IsController, CallsNone}
-use Rattle.dash_stage.specs.Timeliness.{TurnsOn, EachTurnsOn, IsNone, MovesNot, HandsOut}
+use Rattle.dash_stage.specs.Controllers.{CanTurn, TurnsAlone, IsController, CallsNone}
+use Rattle.dash_stage.specs.Timeliness.{TurnsOn, IsNone, HandsOut}
 use Rattle.dash_stage.proofs.Controller.Controlling.{has_poster}
 use Rattle.dash_stage.proofs.Controller.ControlTurns.{made_none, calls_none}
 use Rattle.dash_stage.proofs.Controller.ControlWhole.{turns_none, turns_behind, turns_here, turns_elsewhere}
@@ -25,7 +25,7 @@ hands {parts} p p' x ps t = record {
   table = t.table;
   constants = t.constants;
   called = made_none p p' x x t refl;
-  turns = turns_none p p' x x t refl;
+  turns = turns_none t refl;
   parts = λ is. t.sealed ∙ ap (λ (l : List Segment). with_parts l parts) is;
 }
 
@@ -40,20 +40,20 @@ hands_then a b c ps qs rs f g = record {
 }
 
 -- the controller has a list of parts for each looper
-pub in_lists : (s : Script) (hall : Hall) → IsHall s hall → (i : ℕ) → i < s.loopers → (c : Controller) → IsController s hall c → i < vec_len c.sealed
-in_lists s hall h i lt c k =
-    let many = ap length k.sealed in
+pub in_lists : {s : Script} {hall : Hall} {i : ℕ} {c : Controller} → CanTurn true s hall i c → i < vec_len c.sealed
+in_lists {s} {hall} {i} {c} at =
+    let many = ap length at.controller.sealed in
     let posters = length-map c.kit.posters.items (λ (z : Sender). z.view.sealed) in
     let lists = length-map c.sealed.items (λ (z : Vec Segment). z.items) in
     let all = c.sealed.ok.0 in
-    let within = has_poster s hall h i lt c k in
+    let within = has_poster at in
     omega (arith, many, posters, lists, all, within)
 
 -- the controller whose poster of one queue handed parts out, which it keeps
-module _ (s : Script) (hall : Hall) (h : IsHall s hall) (i : ℕ) (lt : i < s.loopers) (c : Controller) (k : IsController s hall c) (p p' : Sender) (v v' : Vec Segment)
+module _ {s : Script} {hall : Hall} {i : ℕ} {c : Controller} (at : CanTurn true s hall i c) {p p' : Sender} {v : Vec Segment} (v' : Vec Segment)
     (is_p : p ≡ slice_index_or c.kit.posters.items i p) (is_v : v ≡ slice_index_or c.sealed.items i v) (out : HandsOut p p' v.items v'.items) where
   within : i < length c.kit.posters.items
-  within = has_poster s hall h i lt c k
+  within = has_poster at
 
   -- the controller then
   abbrev pub after_hands : Controller
@@ -62,37 +62,30 @@ module _ (s : Script) (hall : Hall) (h : IsHall s hall) (i : ℕ) (lt : i < s.lo
   -- what the poster had handed out stands in its list
   kept_here : p.view.sealed ≡ v.items
   kept_here =
-      let there = in_lists s hall h i lt c k in
+      let there = in_lists at in
       let all = c.sealed.ok.0 in
       let place : i < length c.sealed.items = omega (arith, there, all) in
       ap (λ (z : Sender). z.view.sealed) is_p
       ∙ (sym (get_or-map (λ (z : Sender). z.view.sealed) c.kit.posters.items i p [] within)
-      ∙ (ap (λ l. get_or l i []) k.sealed
+      ∙ (ap (λ l. get_or l i []) at.controller.sealed
       ∙ (get_or-map (λ (z : Vec Segment). z.items) c.sealed.items i v [] place ∙ ap (λ (z : Vec Segment). z.items) (sym is_v))))
 
-  pub hands_controller : IsController s hall after_hands
+  hands_controller : IsController s hall after_hands
   hands_controller = record {
-    posters = posters_kept (controller s) hall.queues.items c.kit.posters.items k.posters i p' p ((λ j. record { table = out.table j; constants = out.constants j; sender = out.turns.sender j }) ∙ ap badge_of is_p);
-    frames = k.frames;
-    pass = k.pass;
-    mode = k.mode;
-    idle = k.idle;
-    sealed_frames = k.sealed_frames;
-    sealed = map-set (λ (z : Sender). z.view.sealed) c.kit.posters.items i p' ∙ (λ j. set (k.sealed j) i (out.parts kept_here j)) ∙ sym (map-set (λ (z : Vec Segment). z.items) c.sealed.items i v');
+    posters = posters_kept (controller s) hall.queues.items c.kit.posters.items at.controller.posters i p' p ((λ j. record { table = out.table j; constants = out.constants j; sender = out.turns.sender j }) ∙ ap badge_of is_p);
+    frames = at.controller.frames;
+    pass = at.controller.pass;
+    mode = at.controller.mode;
+    idle = at.controller.idle;
+    sealed_frames = at.controller.sealed_frames;
+    sealed = map-set (λ (z : Sender). z.view.sealed) c.kit.posters.items i p' ∙ (λ j. set (at.controller.sealed j) i (out.parts kept_here j)) ∙ sym (map-set (λ (z : Vec Segment). z.items) c.sealed.items i v');
   }
 
   pub hands_none : CallsNone c after_hands
   hands_none = let none = calls_none c i p p' c.kit.pass within is_p out.called in record { long = none.long; calls = none.calls }
 
   pub hands_here : (d : Sender) → TurnsOn IsNone (slice_index_or c.kit.posters.items i d) (slice_index_or after_hands.kit.posters.items i d)
-  hands_here d = turns_here c i p p' c.kit.pass within is_p out.turns d
+  hands_here d = turns_here at c.kit.pass is_p out.turns d
 
-  pub hands_elsewhere : (q : ℕ) (d : Sender) → q ≢ i → slice_index_or after_hands.kit.posters.items q d ≡ slice_index_or c.kit.posters.items q d
-  hands_elsewhere q d apart = turns_elsewhere c i p p' c.kit.pass within is_p q d apart
-
--- a turn that makes no entry moves no time
-pub none_moves_not : (c c' : Controller) → EachTurnsOn IsNone c c' → EachTurnsOn MovesNot c c'
-none_moves_not c c' turns = record {
-  long = turns.long;
-  each = λ q d lt. let t = turns.each q d lt in record { found = t.found; begins = t.begins; made = t.made; sender = t.sender; step = elim t.step [ inl same ↦ inl same | inr one ↦ absurd one.2 ] };
-}
+  pub hands_alone : TurnsAlone true s hall i c after_hands
+  hands_alone = record { controller = hands_controller; elsewhere = turns_elsewhere c i p' c.kit.pass }

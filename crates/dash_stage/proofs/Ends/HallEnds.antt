@@ -1,7 +1,7 @@
 -- The queues end, one after another, with the posters of all kits.
 use Rattle.std.proofs.Common.{◌≡◌, ℕ, zero, suc, ◌+◌, ◌<◌, ◌≤◌, List, [], ◌∷◌, ◌++◌, map, length, set, get_or, drop, refl, sym, ap, ◌∙◌, subst, arith, append-nil, length-append, Bool, false}
 use Rattle.std.specs.Prelude.{◌==◌}
-use Rattle.std.specs.List.{AllByRecursion}
+use Rattle.std.specs.List.{AllByRecursion, range_with_len}
 use Rattle.std.proofs.Math.ListN.{get_or-append}
 use Rattle.std.proofs.Math.Seq.{get_or-append_seam}
 use Rattle.std.proofs.lemmas.List.{nil_from_length, get_or-map, get_or-set_same, get_or-set_other, get_or_default, get_or-drop, length-set, length-drop, length-map, drop-drop}
@@ -24,7 +24,6 @@ use Rattle.shared_queue.specs.Constants.{Constants, made_in}
 use Rattle.shared_queue.specs.Ends.{AreInOrder, HasCalls}
 use Rattle.shared_queue.proofs.Prefixes.{made_in-append}
 use Rattle.looper_run.specs.Holding.{Sender}
-use Rattle.std.specs.List.{range_with_len}
 use Rattle.run_model.specs.Senders.{sender_count}
 use Rattle.run_model.specs.Asks.{entries_by}
 use Rattle.run_model.specs.Moments.{Mode, AreOfClock, AreOfClockAfter}

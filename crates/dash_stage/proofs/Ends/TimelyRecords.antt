@@ -246,6 +246,6 @@ module _ (s : Script) (hall : Hall) (kits : List Kit) (records : List QueueRecor
 pub ended_in_step : (s : Script) (st : Stage) → HasEndedInLockstep s st → HasEndedBy in_lockstep s st
 ended_in_step s st out = record {
   stage = out.stage;
-  same = out.timely.same;
+  same = out.at.timely.same;
   clocked = record { threads = λ k d lt q p near. tt; loopers = λ k d lt q p near. tt; controller = λ q p near. tt };
 }

@@ -5,15 +5,13 @@ use Rattle.std.proofs.lemmas.Bool.{or_left, or_right, eq-eqb}
 use Rattle.std.proofs.lemmas.List.Folds.{list_any_at}
 use Rattle.dash_script.specs.declared.script.Block.{Block}
 use Rattle.dash_script.specs.declared.script.Script.{Script}
-use Rattle.looper_run.specs.Holding.{Sender}
-use Rattle.run_model.specs.Senders.{sender_count}
 use Rattle.run_model.specs.Moves.{is_planned_time, IsPulseTime}
 use Rattle.dash_loopers.specs.declared.looper.StageLooper.{StageLooper}
 use Rattle.dash_stage.specs.declared.control.Controller.{Controller}
 use Rattle.dash_stage.specs.declared.stage.Stage.{Stage}
 use Rattle.dash_stage.specs.Stages.{IsStage}
 use Rattle.dash_stage.specs.Timeliness.{AreRested}
-use Rattle.dash_stage.specs.Moves.{IsFirstDue, MayBeMovedTo, IsPlanned, IsPulse, IsDue, WaitsUntil}
+use Rattle.dash_stage.specs.Moves.{MayBeMovedTo, IsPlanned, IsPulse, IsDue, WaitsUntil}
 use Rattle.dash_stage.proofs.Stages.StageWhole.{queues_count}
 use Rattle.dash_stage.proofs.Ends.HallEnds.{some_of}
 
@@ -46,13 +44,6 @@ may_come s t st is rest (inl w) =
 pub may_come_at : (s : Script) (time last : ℕ) (due : Option ℕ) (c : Controller) → is_planned_time s last ≡ true → (time ≡ last) ⊎ (due ≡ Some time) → (due ≡ Some time → MayBeMovedTo s time c) → MayBeMovedTo s time c
 may_come_at s time last due c planned (inl is) reason = IsPlanned (ap (is_planned_time s) is ∙ planned)
 may_come_at s time last due c planned (inr is) reason = reason is
-
--- the posters tell the same, as long as they don't change
-pub may_come_same : (s : Script) (time : ℕ) (c c' : Controller) → c'.kit.posters ≡ c.kit.posters → MayBeMovedTo s time c → MayBeMovedTo s time c'
-may_come_same s time c c' posters (IsPlanned planned) = IsPlanned planned
-may_come_same s time c c' posters (IsPulse pulse) = IsPulse pulse
-may_come_same s time c c' posters (IsDue q lt due) =
-    IsDue q (subst (λ z. q < length z.items) (sym posters) lt) (subst (λ z. (d : Sender) → IsFirstDue (sender_count s) time (slice_index_or z.items q d).view.seen) (sym posters) due)
 
 -- the end is planned
 pub end_is_planned : (s : Script) → is_planned_time s s.end ≡ true

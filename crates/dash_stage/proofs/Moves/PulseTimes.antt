@@ -12,10 +12,9 @@ use Rattle.choreographer.specs.Calls.{AskedBy}
 use Rattle.run_model.specs.Acts.{millis_up}
 use Rattle.run_model.specs.Moves.{IsPulseTime}
 use Rattle.dash_hall.specs.declared.hall.Hall.{Hall}
-use Rattle.dash_hall.specs.Kits.{IsHall}
 use Rattle.dash_hall.proofs.Badges.{choreographer_at}
 use Rattle.dash_stage.specs.declared.control.Controller.{Controller}
-use Rattle.dash_stage.specs.Controllers.{IsController, LooksFor}
+use Rattle.dash_stage.specs.Controllers.{CanTurn, LooksFor}
 use Rattle.dash_stage.specs.Timeliness.{NotLater, NotLaterThanPulse}
 use Rattle.dash_stage.proofs.Controller.Controlling.{pass_count}
 use Rattle.looper_run.specs.Round.{is_ended}
@@ -25,22 +24,21 @@ use mathlib.Core.Logic.{dite}
 use native.Mathlib.Decide.{dec_lt}
 
 -- a pulse that a looper's choreographer asks for is one of the script's period, and comes at its stamp, rounded up
-pub asked_comes : (s : Script) (hall : Hall) → IsHall s hall → (i : ℕ) → i < s.loopers → (f : Frames) → f ≡ slice_index_or hall.choreographers.items i f → (stamp time t : ℕ) → is_pulse f.constants.interval stamp ≡ true
+pub asked_comes : {s : Script} {hall : Hall} {i : ℕ} {c : Controller} → CanTurn true s hall i c → {f : Frames} → f ≡ slice_index_or hall.choreographers.items i f → (stamp time t : ℕ) → is_pulse f.constants.interval stamp ≡ true
     → time ≡ stamp / 1000000 + min 1 (stamp % 1000000) → Some time ≡ Some t → IsPulseTime s.period t
-asked_comes s hall h i lt f is_f stamp time t pulse rounded is = record {
+asked_comes {s} {hall} {i} {c} at {f} is_f stamp time t pulse rounded is = record {
   stamp = stamp;
-  pulse = (let period : f.constants.interval ≡ s.period = ap (λ (c : Frames). c.constants.interval) is_f ∙ ap (λ (k : FrameConstants). k.interval) (choreographer_at s hall.choreographers.items h.choreographers i f lt) in
+  pulse = (let period : f.constants.interval ≡ s.period = ap (λ (c : Frames). c.constants.interval) is_f ∙ ap (λ (k : FrameConstants). k.interval) (choreographer_at s hall.choreographers.items at.is_hall.choreographers i f at.known) in
       subst (λ (n : ℕ). is_pulse n stamp ≡ true) period pulse);
   rounded = (let same : time ≡ t = cc is in rounded_up stamp time rounded ∙ same);
 }
 
 -- where the controller's pass of a looper's choreographer found by one turn what is asked for there, it looked for that looper's pulse
-pub looked : (s : Script) (hall : Hall) → IsHall s hall → (i : ℕ) → i < s.loopers → (c : Controller) → IsController s hall c
-    → (p p' : Pass) (stamp pulse : Option ℕ) → p ≡ slice_index_or c.kit.frames.items i p → AskedBy p p' stamp
+pub looked : {s : Script} {hall : Hall} {i : ℕ} {c : Controller} → CanTurn true s hall i c → {p p' : Pass} {stamp pulse : Option ℕ} → p ≡ slice_index_or c.kit.frames.items i p → AskedBy p p' stamp
     → pulse ≡ option_map millis_up stamp → LooksFor i c (record { kit = record { posters = c.kit.posters; pass = c.kit.pass; frames = with_item c.kit.frames i p' }; sealed = c.sealed; sealed_frames = c.sealed_frames }) pulse
-looked s hall h i lt c k p p' stamp pulse is_p asked rounded =
+looked {s} {hall} {i} {c} at {p} {p'} {stamp} {pulse} is_p asked rounded =
     let ps = c.kit.frames.items in
-    let has_pass : i < length ps = subst (λ n. i < n) (sym (pass_count s hall h i lt c k)) lt in record {
+    let has_pass : i < length ps = subst (λ n. i < n) (sym (pass_count at)) at.known in record {
       stamp = stamp;
       turn = λ d. subst (λ x. AskedBy x (slice_index_or (with_item c.kit.frames i p').items i d) stamp) (is_p ∙ get_or_default ps i p d has_pass)
           (subst (λ y. AskedBy p y stamp) (sym (get_or-set_same ps i p' d has_pass)) asked);

@@ -15,21 +15,19 @@ use Rattle.loop_model.specs.Base.{empty_base}
 use Rattle.loop_model.specs.Items.{when_of}
 use Rattle.loop_model.specs.Pick.{first_eligible}
 use Rattle.loop_model.specs.Answers.{clock, is_over}
-use Rattle.dash_script.specs.declared.script.Block.{Block}
 use Rattle.dash_script.specs.declared.script.Script.{Script}
 use Rattle.looper_run.specs.declared.looper.Round.{Round}
 use Rattle.looper_run.specs.Holding.{Sender}
 use Rattle.looper_run.specs.Round.{is_ended}
 use Rattle.run_model.specs.Senders.{sender_count}
 use Rattle.run_model.specs.Control.{is_none_before}
-use Rattle.dash_threads.specs.declared.thread.PostingThread.{PostingThread}
 use Rattle.dash_loopers.specs.declared.looper.StageLooper.{StageLooper}
 use Rattle.dash_stage.specs.declared.stage.Stage.{Stage}
-use Rattle.dash_loopers.specs.Loopers.{IsSoundOn, until_of, posters_of, LooperKeeps, ComesToWait, HasNoneDue}
+use Rattle.dash_loopers.specs.Loopers.{until_of, posters_of, LooperKeeps, ComesToWait, HasNoneDue}
 use Rattle.dash_stage.specs.Stages.{IsStage, AreLoopers, LoopersGoOn}
-use Rattle.dash_hall.specs.Hearing.{seen_by, AtEach, HaveHeard, HaveSeenAll}
-use Rattle.dash_stage.specs.Sharing.{HaveSeenTheSame, OfThreads, OfLoopers}
-use Rattle.dash_stage.specs.Timeliness.{whole_on, IsTimelyUpTo, AreTimelyUpTo, IsRested, AreRested, AreDue, NotLater}
+use Rattle.dash_hall.specs.Hearing.{seen_by, AtEach, HaveHeard}
+use Rattle.dash_stage.specs.Sharing.{HaveSeenTheSame}
+use Rattle.dash_stage.specs.Timeliness.{whole_on, AreRested, AreDue, NotLater}
 use Rattle.dash_stage.proofs.Ends.HallEnds.{some_of}
 use Rattle.dash_hall.proofs.Hearing.{prefix_whole}
 use Rattle.dash_stage.proofs.Stages.StageWhole.{seen, as_many, seen_at, own_among, queues_count, looper_sees}
@@ -50,40 +48,6 @@ due_of_rest s t st rest h q d lt =
       | inl ended ↦ inl (one.ended ended)
       | inr waits ↦ inr (none_early t (first_eligible base (whole_on st.controller q d)) (subst (NotLater t) (one.waits waits) (h q l lt waits)), (one.quiet waits).not_quitting)
     ]
-
--- the posters tell the same, as long as neither they nor the loopers change
-abbrev RestedBy : Script → List StageLooper → List Sender → Type 0
-RestedBy s ls ps = (q : ℕ) (l : StageLooper) (d : Sender) → q < length ls → IsRested s (slice_index_or ls q l) (slice_index_or ps q d).view.seen
-
-pub rested_same : (s : Script) (st st' : Stage) → st'.loopers ≡ st.loopers → st'.controller.kit.posters ≡ st.controller.kit.posters → AreRested s st → AreRested s st'
-rested_same s st st' loopers posters rest =
-    subst (λ z. RestedBy s z.items st'.controller.kit.posters.items) (sym loopers) (subst (λ z. RestedBy s st.loopers.items z.items) (sym posters) rest)
-
--- whose threads these are, and so the rest
-abbrev SameBy : List PostingThread → List StageLooper → List Sender → Type 0
-SameBy ts ls ps = OfThreads (HaveSeenAll (seen_by ps)) ts × OfLoopers (HaveSeenAll (seen_by ps)) ls
-
-abbrev TimelyBy : Script → List Block → List Sender → Type 0
-TimelyBy s past ps = ((q : ℕ) (d : Sender) → q < length ps → IsSoundOn s q (slice_index_or ps q d).view.seen) → (q : ℕ) (d : Sender) → q < length ps → IsTimelyUpTo s past q (slice_index_or ps q d).view.seen
-
--- all have still seen the same where no poster changed
-pub seen_same : (st st' : Stage) → st'.threads.items ≡ st.threads.items → st'.loopers ≡ st.loopers → st'.controller.kit.posters ≡ st.controller.kit.posters → HaveSeenTheSame st → HaveSeenTheSame st'
-seen_same st st' threads loopers posters same =
-    let ps = st.controller.kit.posters in
-    let before : SameBy st.threads.items st.loopers.items ps.items = (same.threads, same.loopers) in
-    let after : SameBy st'.threads.items st'.loopers.items st'.controller.kit.posters.items =
-    subst (λ z. SameBy z st'.loopers.items st'.controller.kit.posters.items) (sym threads)
-    (subst (λ z. SameBy st.threads.items z.items st'.controller.kit.posters.items) (sym loopers)
-    (subst (λ z. SameBy st.threads.items st.loopers.items z.items) (sym posters) before)) in
-    record { threads = after.0; loopers = after.1; controller = refl }
-
--- and each history is as timely
-pub timely_same : (s : Script) (past : List Block) (st st' : Stage) → st'.threads.items ≡ st.threads.items → st'.loopers ≡ st.loopers → st'.controller.kit.posters ≡ st.controller.kit.posters
-    → AreTimelyUpTo s past st → AreTimelyUpTo s past st'
-timely_same s past st st' threads loopers posters timely = record {
-  same = seen_same st st' threads loopers posters timely.same;
-  timely = subst (λ z. TimelyBy s past z.items) (sym posters) timely.timely;
-}
 
 -- two lists of which each begins the other are one
 begins_both : (xs ys : List Entry) → IsPrefix xs ys → IsPrefix ys xs → xs ≡ ys

@@ -20,29 +20,23 @@ use Rattle.loop_model.specs.Answers.{Setting, clock, answer, is_over, has_dispos
 use Rattle.loop_model.specs.Legal.{IsLegal, AreNumbered}
 use Rattle.loop_model.proofs.LegalLaws.{IsLegal-last}
 use Rattle.loop_model.proofs.NumberLaws.{AreNumbered-front}
-use Rattle.loop_model.proofs.Prefixes.{prefix_front, prefix_trans}
-use Rattle.dash_script.specs.declared.script.Block.{Block}
+use Rattle.loop_model.proofs.Prefixes.{prefix_trans}
 use Rattle.dash_script.specs.declared.script.Script.{Script}
 use Rattle.looper_run.specs.Holding.{Sender}
 use Rattle.run_model.specs.Asks.{entries_by}
 use Rattle.run_model.specs.Senders.{controller, sender_count}
 use Rattle.run_model.specs.Control.{is_advance, is_none_before, is_in_time}
-use Rattle.run_model.proofs.RunLaws.{entries_by-append, entries_by-unchanged, entries_by-others}
+use Rattle.run_model.proofs.RunLaws.{entries_by-append, entries_by-unchanged}
 use Rattle.dash_stage.specs.declared.control.Controller.{Controller}
 use Rattle.dash_stage.specs.declared.stage.Stage.{Stage}
 use Rattle.dash_stage.specs.Controllers.{are_advances, calls_on}
-use Rattle.dash_loopers.specs.Loopers.{IsSoundOn, setting_for, LooperKeeps}
-use Rattle.dash_stage.specs.Stages.{IsStageIn}
-use Rattle.dash_hall.specs.Hearing.{AtEach, HaveHeard}
-use Rattle.dash_threads.specs.Threads.{ThreadKeeps}
-use Rattle.dash_stage.specs.Sharing.{HaveSeenTheSame}
-use Rattle.dash_stage.specs.Timeliness.{whole_on, AreSound, IsTimelyUpTo, AreTimelyUpTo, AreBy, HasNoneBefore, AreDue, EachTurnsOn, MovesTo}
-use Rattle.run_model.proofs.FreshLaws.{all_reached_on}
+use Rattle.dash_loopers.specs.Loopers.{IsSoundOn, setting_for}
+use Rattle.dash_stage.specs.Timeliness.{whole_on, AreSound, AreBy, HasNoneBefore, MovesTo}
 use Rattle.dash_stage.proofs.Controller.Controls.{main_is_not_over, side_is_not_halted, looks_dispose}
-use Rattle.dash_stage.proofs.BlockTimes.BlockOrder.{in_order_one}
-use Rattle.dash_stage.proofs.Stages.Timely.{back_all, none_of, none_front, of_others, is_whole, in_time_one, before_quit_one, timely_others}
+use Rattle.dash_stage.proofs.Stages.Timely.{back_all, none_of, none_front, of_others, is_whole}
 use Rattle.loop_model.proofs.AfterLaws.{has_disposed-snoc}
-use Rattle.dash_stage.proofs.Stages.StageWhole.{sender_at, queues_count, controller_entries, sound_front, sound_grown, threads_heard, thread_made_none, looper_made_none}
+use Rattle.dash_stage.proofs.Stages.Turned.{Turned}
+use Rattle.dash_stage.proofs.Stages.StageWhole.{sender_at, controller_entries, sound_grown, threads_heard, thread_made_none, looper_made_none}
 
 -- a sender that has made nothing from one history to the last has made nothing in between
 pub none_between : (k : ℕ) (xs ys zs : List Entry) → IsPrefix xs ys → IsPrefix ys zs → entries_by k zs ≡ entries_by k xs → entries_by k ys ≡ entries_by k xs
@@ -124,24 +118,13 @@ moved_is_open set m es e now is legal =
     let keeps : is_disposed e.reply ≡ false = false_from_ne_true (is_disposed e.reply) (λ d. absurd (let wrong : false ≡ true = sym (ap is_next is) ∙ looks.0 d in cc)) in
     has_disposed-snoc b es e ∙ or_from _ _ (or_parts (has_disposed b es) (has_halted b es) going).0 keeps
 
-module _ (s : Script) (past : List Block) (q now : ℕ) (es whole : List Entry) (sound : IsSoundOn s q whole) where
-  -- a history stays timely by an Advance past no message
-  pub timely_advanced : (is_over (empty_base (sender_count s)) es ≡ true) ⊎ HasNoneBefore (sender_count s) now es
-      → (whole ≡ es) ⊎ ((e : Entry) × (whole ≡ es ++ e ∷ []) × MovesTo now e × (e.sender ≡ controller s)) → (IsSoundOn s q es → IsTimelyUpTo s past q es) → IsTimelyUpTo s past q whole
-  timely_advanced due (inl same) timely = subst (IsTimelyUpTo s past q) (sym same) (timely (subst (IsSoundOn s q) same sound))
-  timely_advanced due (inr t) timely =
-      let e : Entry = t.0 in
-      let here = subst (IsSoundOn s q) t.1 sound in
-      let before = timely (sound_front s q es (es ++ e ∷ []) (prefix_front es (e ∷ [])) here) in
-      let none = none_before (setting_for s q) (sender_count s) es e now t.2 here.legal due in
-      let moves : is_in_time es (Advance now) e.reply ≡ true = and_from _ _ (subst (λ o. is_none_before now o ≡ true) (eligible_same (sender_count s) es) none.0) (ap (λ o. not (is_some o)) (sym (quit_same (sender_count s) es) ∙ none.1)) in
-      subst (IsTimelyUpTo s past q) (sym t.1) (record {
-        controls = in_time_one (controller s) es e (ap (λ c. is_in_time es c e.reply) t.2 ∙ moves) before.controls;
-        before_quit = before_quit_one s.threads (controller s) es e (controls_above s e t.3) before.before_quit;
-        threads = λ k lt. timely_others k _ es (e ∷ []) (entries_by-others k (e ∷ []) (other_entry k (controller s) e t.3 (λ at. absurd (omega (arith, at, lt))), tt)) (before.threads k lt);
-        in_order = in_order_one s q es e (controls_above s e t.3) before.in_order;
-        reached = λ main. all_reached_on past es (e ∷ []) (before.reached main);
-      })
+-- an Advance past no message is in time
+pub move_in_time : (s : Script) (q now : ℕ) (es : List Entry) → (is_over (empty_base (sender_count s)) es ≡ true) ⊎ HasNoneBefore (sender_count s) now es
+    → (e : Entry) → IsSoundOn s q (es ++ e ∷ []) → MovesTo now e → is_in_time es e.call e.reply ≡ true
+move_in_time s q now es due e sound moves =
+    let none = none_before (setting_for s q) (sender_count s) es e now moves sound.legal due in
+    let in_time : is_in_time es (Advance now) e.reply ≡ true = and_from _ _ (subst (λ o. is_none_before now o ≡ true) (eligible_same (sender_count s) es) none.0) (ap (λ o. not (is_some o)) (sym (quit_same (sender_count s) es) ∙ none.1)) in
+    ap (λ c. is_in_time es c e.reply) moves ∙ in_time
 
 -- a turn leaves what it found, and maybe more
 pub step_on : (P : Entry → Type 0) (n : ℕ) (found left : List Entry) → (left ≡ found) ⊎ ((e : Entry) × (left ≡ found ++ e ∷ []) × P e × (e.sender ≡ n)) → IsPrefix found left
@@ -149,78 +132,69 @@ step_on P n found left (inl same) = ([], append-nil found ∙ sym same)
 step_on P n found left (inr t) = (t.0 ∷ [], sym t.1)
 
 -- from a stage in which all have seen the same, over the controller's turns, to one in which all have seen the same again
-module _ {lockstep : Bool} (s : Script) (st : Stage) (c : Controller) (st' : Stage) (is : IsStageIn lockstep s st) (is' : IsStageIn lockstep s st') (same : HaveSeenTheSame st) (same' : HaveSeenTheSame st')
-    (threads : AtEach (ThreadKeeps HaveHeard) st.threads.items st'.threads.items) (loopers : AtEach (LooperKeeps HaveHeard) st.loopers.items st'.loopers.items)
-    (heard : HaveHeard c.kit.posters.items st'.controller.kit.posters.items) where
+module _ {lockstep : Bool} {P : Entry → Type 0} {s : Script} {st : Stage} {c : Controller} {st' : Stage} (o : Turned lockstep P s st c st') where
+  -- there are as many queues
+  pub longer : length st'.controller.kit.posters.items ≡ length st.controller.kit.posters.items
+  longer = o.heard.long ∙ o.turns.long
+
   -- no other sender has made anything
-  pub others_none : length st'.controller.kit.posters.items ≡ length st.controller.kit.posters.items → (q : ℕ) (d : Sender) → q < length st.controller.kit.posters.items
+  others_none : (q : ℕ) (d : Sender) → q < length st.controller.kit.posters.items
       → (k : ℕ) → k < sender_count s → k ≢ controller s → entries_by k (whole_on st'.controller q d) ≡ entries_by k (whole_on st.controller q d)
-  others_none long q d lt k known apart = dite (dec_lt k s.threads)
-      (λ thread. thread_made_none s st st' is is' same same' (threads_heard st.threads.items st'.threads.items threads) long q k d lt thread)
+  others_none q d lt k known apart = dite (dec_lt k s.threads)
+      (λ thread. thread_made_none s st st' o.is o.is' o.same o.same' (threads_heard st.threads.items st'.threads.items o.threads) longer q k d lt thread)
       (λ no_thread.
       let at : s.threads + (k - s.threads) ≡ k = omega (arith, no_thread) in
       let looper : k - s.threads < s.loopers = omega (arith, no_thread, known, apart) in
       subst (λ (m : ℕ). entries_by m (whole_on st'.controller q d) ≡ entries_by m (whole_on st.controller q d)) at
-      (looper_made_none s st st' is is' same same' loopers long q (k - s.threads) d lt looper))
+      (looper_made_none s st st' o.is o.is' o.same o.same' o.loopers longer q (k - s.threads) d lt looper))
 
   -- on each queue there is what all had seen, or that with the controller's one entry
-  pub turned_on : (P : Entry → Type 0) → EachTurnsOn P st.controller c → (q : ℕ) (d : Sender) → q < length st.controller.kit.posters.items → AreNumbered (setting_for s q) (empty_base (sender_count s)) (whole_on st'.controller q d)
+  pub turned_on : (q : ℕ) (d : Sender) → q < length st.controller.kit.posters.items → AreNumbered (setting_for s q) (empty_base (sender_count s)) (whole_on st'.controller q d)
       → (whole_on st'.controller q d ≡ whole_on st.controller q d) ⊎ ((e : Entry) × (whole_on st'.controller q d ≡ whole_on st.controller q d ++ e ∷ []) × P e × (e.sender ≡ controller s))
-  turned_on P turns q d lt numbered =
-      let t = turns.each q d lt in
-      let h = heard.each q d (subst (λ (m : ℕ). q < m) (sym turns.long) lt) in
-      let long = heard.long ∙ turns.long in
-      let lt' : q < length st'.controller.kit.posters.items = subst (λ (m : ℕ). q < m) (sym long) lt in
-      let n : (slice_index_or st.controller.kit.posters.items q d).sender ≡ controller s = sender_at (controller s) st.hall.queues.items st.controller.kit.posters.items is.controller.posters q d lt in
+  turned_on q d lt numbered =
+      let t = o.turns.each q d lt in
+      let h = o.heard.each q d (subst (λ (m : ℕ). q < m) (sym o.turns.long) lt) in
+      let lt' : q < length st'.controller.kit.posters.items = subst (λ (m : ℕ). q < m) (sym longer) lt in
+      let n : (slice_index_or st.controller.kit.posters.items q d).sender ≡ controller s = sender_at (controller s) st.hall.queues.items st.controller.kit.posters.items o.is.controller.posters q d lt in
       let es = whole_on st.controller q d in
       let left = whole_on c q d in
-      turned_whole (setting_for s q) (empty_base (sender_count s)) (controller s) es (whole_on st'.controller q d) numbered (others_none long q d lt) P t.found left t.begins
+      turned_whole (setting_for s q) (empty_base (sender_count s)) (controller s) es (whole_on st'.controller q d) numbered (others_none q d lt) P t.found left t.begins
       (subst (λ (m : ℕ). entries_by m t.found ≡ entries_by m es) n t.made)
       (subst (λ (m : ℕ). (left ≡ t.found) ⊎ ((e : Entry) × (left ≡ t.found ++ e ∷ []) × P e × (e.sender ≡ m))) n t.step)
       h.more
-      (controller_entries s st' is' q d lt' ∙ h.called ∙ ap (λ (m : ℕ). entries_by m left) (t.sender ∙ n))
+      (controller_entries s st' o.is' q d lt' ∙ h.called ∙ ap (λ (m : ℕ). entries_by m left) (t.sender ∙ n))
 
   -- all have seen what the controller left, and no more
-  pub turned_left : (P : Entry → Type 0) → EachTurnsOn P st.controller c → (q : ℕ) (d : Sender) → q < length st.controller.kit.posters.items → AreNumbered (setting_for s q) (empty_base (sender_count s)) (whole_on st'.controller q d)
+  pub turned_left : (q : ℕ) (d : Sender) → q < length st.controller.kit.posters.items → AreNumbered (setting_for s q) (empty_base (sender_count s)) (whole_on st'.controller q d)
       → whole_on st'.controller q d ≡ whole_on c q d
-  turned_left P turns q d lt numbered =
-      let within : q < length c.kit.posters.items = subst (λ (n : ℕ). q < n) (sym turns.long) lt in
-      let h = heard.each q d within in
-      let t = turns.each q d lt in
+  turned_left q d lt numbered =
+      let within : q < length c.kit.posters.items = subst (λ (n : ℕ). q < n) (sym o.turns.long) lt in
+      let h = o.heard.each q d within in
+      let t = o.turns.each q d lt in
       let es = whole_on st.controller q d in
       let left = whole_on c q d in
       let whole = whole_on st'.controller q d in
-      let n : (slice_index_or c.kit.posters.items q d).sender ≡ controller s = t.sender ∙ sender_at (controller s) st.hall.queues.items st.controller.kit.posters.items is.controller.posters q d lt in
+      let n : (slice_index_or c.kit.posters.items q d).sender ≡ controller s = t.sender ∙ sender_at (controller s) st.hall.queues.items st.controller.kit.posters.items o.is.controller.posters q d lt in
       let mine : entries_by (controller s) whole ≡ entries_by (controller s) left =
-      controller_entries s st' is' q d (subst (λ (m : ℕ). q < m) (sym (heard.long ∙ turns.long)) lt) ∙ h.called ∙ ap (λ (m : ℕ). entries_by m left) n in
+      controller_entries s st' o.is' q d (subst (λ (m : ℕ). q < m) (sym longer) lt) ∙ h.called ∙ ap (λ (m : ℕ). entries_by m left) n in
       let begins : IsPrefix es left = prefix_trans es t.found left t.begins (step_on P _ t.found left t.step) in
       is_whole (setting_for s q) (empty_base (sender_count s)) left whole h.more numbered (λ k known. dite (ℕ_discrete k (controller s))
       (λ at. subst (λ (m : ℕ). entries_by m whole ≡ entries_by m left) (sym at) mine)
       (λ apart.
-      let none = others_none (heard.long ∙ turns.long) q d lt k known apart in
+      let none = others_none q d lt k known apart in
       none ∙ sym (none_between k es left whole begins h.more none)))
 
   -- each history went on
-  pub grown_by_turns : (P : Entry → Type 0) → EachTurnsOn P st.controller c → (q : ℕ) (d : Sender) → q < length st.controller.kit.posters.items → IsPrefix (whole_on st.controller q d) (whole_on st'.controller q d)
-  grown_by_turns P turns q d lt =
-      let t = turns.each q d lt in
-      let within : q < length c.kit.posters.items = subst (λ (m : ℕ). q < m) (sym turns.long) lt in
+  pub grown_by_turns : (q : ℕ) (d : Sender) → q < length st.controller.kit.posters.items → IsPrefix (whole_on st.controller q d) (whole_on st'.controller q d)
+  grown_by_turns q d lt =
+      let t = o.turns.each q d lt in
+      let within : q < length c.kit.posters.items = subst (λ (m : ℕ). q < m) (sym o.turns.long) lt in
       prefix_trans (whole_on st.controller q d) t.found (whole_on st'.controller q d) t.begins
-      (prefix_trans t.found (whole_on c q d) (whole_on st'.controller q d) (step_on P _ t.found (whole_on c q d) t.step) (heard.each q d within).more)
+      (prefix_trans t.found (whole_on c q d) (whole_on st'.controller q d) (step_on P _ t.found (whole_on c q d) t.step) (o.heard.each q d within).more)
 
   -- and may be one only if what it was may be
-  pub sound_by_turns : (P : Entry → Type 0) → EachTurnsOn P st.controller c → AreSound s st'.controller → AreSound s st.controller
-  sound_by_turns P turns = sound_grown s st.controller st'.controller (heard.long ∙ turns.long) (grown_by_turns P turns)
-
-  -- moved on to a time before which no message was due, each history stays timely
-  pub advanced_timely : (now : ℕ) (past : List Block) → EachTurnsOn (MovesTo now) st.controller c → AreDue s now st → AreTimelyUpTo s past st → AreTimelyUpTo s past st'
-  advanced_timely now past turns due timely = record {
-    same = same';
-    timely = λ sound q d lt'.
-        let lt : q < length st.controller.kit.posters.items = subst (λ (m : ℕ). q < m) (heard.long ∙ turns.long) lt' in
-        timely_advanced s past q now (whole_on st.controller q d) (whole_on st'.controller q d) (sound q d lt') (due q d (subst (λ (m : ℕ). q < m) (queues_count s st is) lt))
-        (turned_on (MovesTo now) turns q d lt (sound q d lt').numbered) (λ was. timely.timely (sound_by_turns (MovesTo now) turns sound) q d lt);
-  }
+  pub sound_by_turns : AreSound s st'.controller → AreSound s st.controller
+  sound_by_turns = sound_grown s st.controller st'.controller longer grown_by_turns
 
 -- moves of the time, none past a moment, nor past a later one
 pub are_advances_later : (t u : ℕ) → t ≤ u → (es : List Entry) → are_advances t es ≡ true → are_advances u es ≡ true

@@ -1,7 +1,6 @@
 -- What was asked of each choreographer stays in turn where nobody asks for anything, and where the threads run a block.
 use Rattle.std.proofs.Common.{◌≡◌, ◌<◌, ◌≤◌, ◌+◌, ◌==◌, ℕ, Bool, true, false, true≢false, List, [], ◌∷◌, ◌++◌, Some, None, length, refl, sym, ap, ◌∙◌, subst, arith, slice_index_or, append-nil, inl, inr}
 use Rattle.std.specs.Prelude.{slice_get, if◌then◌else◌}
-use Rattle.std.specs.Global.{Vec}
 use Rattle.std.specs.List.{cons_option}
 use Rattle.std.proofs.lemmas.Bool.{eq-eqb}
 use Rattle.std.proofs.lemmas.List.{append_cancel_left, length-append, nil_from_length, get_or_default}
@@ -33,13 +32,12 @@ use Rattle.dash_loopers.specs.declared.looper.StageLooper.{StageLooper}
 use Rattle.dash_loopers.specs.Loopers.{ArePartsOf, Rest, rest_in, LooperKeeps, OfItsPasses}
 use Rattle.dash_loopers.proofs.LooperPasses.{unheard_all}
 use Rattle.dash_stage.specs.declared.stage.Stage.{Stage}
-use Rattle.dash_stage.specs.Asking.{AllAskedInTurn, AskInTurn, AskUpToNow, AsksNothing, StaysInTurn}
+use Rattle.dash_stage.specs.Asking.{AllAskedInTurn, AskInTurn, AskUpToNow}
 use Rattle.dash_stage.specs.Playing.{LiesAhead}
 use Rattle.dash_stage.specs.Sharing.{OfPasses, AreUnheard, HaveHeardNothing, HavePassesHeard, HaveHeardTheSame}
 use Rattle.dash_stage.specs.Stages.{IsStage, HaveRun}
 use Rattle.dash_stage.specs.Timeliness.{AreSound}
 use Rattle.dash_stage.proofs.Ends.HallEnds.{some_of}
-use Rattle.dash_stage.proofs.Played.PlayedTurns.{sound_same}
 use Rattle.dash_stage.proofs.Sharing.LooperShares.{looper_parts}
 
 -- ---- lists
@@ -293,27 +291,8 @@ turn_later s past last later st le h = record {
 }
 
 -- a stage of which nothing was asked, at no earlier time
-pub nothing_stays : (s : Script) (st st' : Stage) → st.time ≤ st'.time → st'.time ≤ s.end → AsksNothing s st st' → StaysInTurn s st st'
-nothing_stays s st st' later early none past h = record {
-  within = early;
-  turn = turn_later s past (in_round st.time) (in_round st'.time) st' (omega (arith, later)) (none past (in_round st.time) h.turn.asked);
-}
-
--- at the same time
-pub nothing_then : (s : Script) (st st' : Stage) → st'.time ≡ st.time → AsksNothing s st st' → StaysInTurn s st st'
-nothing_then s st st' same none past h = nothing_stays s st st' (omega (arith, same)) (let within = h.within in omega (arith, same, within)) none past h
-
--- a stage with the same threads and loopers, whose controller has seen the same
-pub asked_same : (s : Script) (st st' : Stage) → st'.threads.items ≡ st.threads.items → st'.loopers ≡ st.loopers → st'.controller.kit.posters ≡ st.controller.kit.posters
-    → (past : List Block) (last : ℕ) → AllAskedInTurn s past last st → AllAskedInTurn s past last st'
-asked_same s st st' threads loopers posters past last h sound q few =
-    let was = h (sound_same s st.controller st'.controller posters sound) q few in
-    record {
-      made = was.made;
-      threads = subst (λ (ts : List PostingThread). (k : ℕ) (d : PostingThread) → k < length ts → HaveHeardAllAt q was.made (slice_index_or ts k d).kit.frames.items) (sym threads) was.threads;
-      looper = subst (λ (v : Vec StageLooper). (d : StageLooper) → q < length v.items → OfItsPasses (HasHeardAll was.made) (slice_index_or v.items q d)) (sym loopers) was.looper;
-      asked = was.asked;
-    }
+pub nothing_stays : (s : Script) (past : List Block) (st st' : Stage) → st.time ≤ st'.time → st'.time ≤ s.end → AskInTurn s past (in_round st.time) st' → AskUpToNow s past st'
+nothing_stays s past st st' later early asked = record { within = early; turn = turn_later s past (in_round st.time) (in_round st'.time) st' (omega (arith, later)) asked }
 
 -- before a time that lies ahead the stage's time is earlier
 pub ahead_less : (time next : ℕ) (st : Stage) → next < time → LiesAhead time st → st.time < time

@@ -43,21 +43,20 @@ use Rattle.dash_hall.specs.Growth.{own}
 use Rattle.dash_hall.specs.Hearing.{seen_by, HaveSeenAll}
 use Rattle.dash_hall.specs.Kits.{badge_of, badge_for, IsHall, AreKitsOf}
 use Rattle.dash_loopers.specs.declared.looper.StageLooper.{StageLooper}
-use Rattle.dash_loopers.specs.Loopers.{is_disposal, calls_among, DisposesLast, HaveTold}
+use Rattle.dash_loopers.specs.Loopers.{is_disposal, calls_among, DisposesLast, HaveTold, IsLooperOf}
 use Rattle.dash_stage.specs.declared.control.Controller.{Controller}
 use Rattle.dash_stage.specs.Leaving.{HaveGiven}
 use Rattle.dash_stage.specs.Playing.{befores_called, AreCallsOnTime}
 use Rattle.dash_stage.specs.Records.{AreQueueRecords, AreFrameRecords, AreJournals, AreAllTheirs, HaveAll, HaveSeenOwn}
 use Rattle.dash_stage.specs.Sharing.{OfKits}
 use Rattle.dash_stage.specs.Stages.{LoopersGoOn}
-use Rattle.dash_loopers.specs.Loopers.{IsLooperOf}
 use Rattle.dash_loopers.proofs.LooperKits.{kit_two}
 use Rattle.dash_hall.proofs.Badges.{alike_length, poster_at, queue_count}
 use Rattle.dash_stage.specs.Controllers.{IsControllerIn}
 use Rattle.dash_stage.specs.Runs.{HaveRunAll}
 use Rattle.dash_stage.proofs.Played.Asked.{HasAskedInTurn, asked_by_all}
 use Rattle.dash_stage.proofs.Ends.Carried.{numbered_count, threads_asked}
-use Rattle.dash_stage.proofs.Controller.Controlling.{pass_count}
+use Rattle.dash_stage.proofs.Controller.Controlling.{turns_on, pass_count}
 use Rattle.dash_stage.proofs.Controller.Controls.{main_is_not_disposed, looks_dispose}
 use Rattle.dash_stage.proofs.Played.Dispatched.{each_looper, dispatches_of_records}
 use Rattle.dash_stage.proofs.Played.Disposing.{thread_disposes_nothing, controls_dispose_nothing, none_of_all, none_by, none_counted, none_disposed, calls_dispose_nothing, calls_are_all, closing_sent, befores_are, befores_end}
@@ -283,7 +282,7 @@ module _ (mode : Mode) (s : Script) (hall : Hall) (kits : List Kit) (queues : Li
       let short = count in
       let one : k < s.loopers = omega (arith, lt, short) in
       let left = (stood k lt).left j c.kit in
-      let passes = pass_count s hall h k one c is_controller in
+      let passes = pass_count (turns_on h is_controller one) in
       asked_by_all mode.lockstep s k kits c.kit p (stood k lt).state (slice_index_or fs k f).entries (theirs k c.kit p f (in_frames k lt))
       (λ thread below. threads_asked s hall h kits are mode run k thread c.kit p one below) (left.ran p) (left.asked p)
       (ap (λ (z : Kit). (slice_index_or z.frames.items k p).view.own) (held c.kit) ∙ is_controller.idle k p (omega (arith, one, passes)))

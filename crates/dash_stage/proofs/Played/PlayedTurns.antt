@@ -25,7 +25,6 @@ use Rattle.looper_run.specs.Round.{is_ended}
 use Rattle.run_model.specs.Asks.{entries_by}
 use Rattle.run_model.specs.Senders.{controller, sender_count}
 use Rattle.run_model.specs.Control.{is_advance, is_none_before}
-use Rattle.dash_threads.specs.Threads.{ThreadKeeps}
 use Rattle.dash_loopers.specs.declared.looper.StageLooper.{StageLooper}
 use Rattle.dash_loopers.specs.Loopers.{IsSoundOn, setting_for, LooperKeeps}
 use Rattle.dash_hall.specs.Hearing.{AtEach, HaveHeard}
@@ -35,23 +34,19 @@ use Rattle.dash_stage.specs.declared.stage.Stage.{Stage}
 use Rattle.dash_stage.specs.Controllers.{are_advances, time_in, calls_on}
 use Rattle.dash_stage.specs.Stages.{IsStage}
 use Rattle.dash_stage.specs.Sharing.{HaveSeenTheSame}
-use Rattle.dash_stage.specs.Timeliness.{whole_on, AreSound, AreBy, AreRested, HasNoneBefore, AreDue, EachTurnsOn, MovesTo, MovesNot, HaveCome}
+use Rattle.dash_stage.specs.Timeliness.{whole_on, AreSound, HasNoneBefore, MovesTo, MovesNot, HaveCome}
 use Rattle.dash_stage.specs.Blocks.{is_threads, come_first}
 use Rattle.dash_stage.specs.AtBlocks.{IsAtBlock}
-use Rattle.dash_stage.specs.Playing.{AreAtBlock, LiesAhead, HaveComeFirst, IsInTime, AreInTime, IsInStep, IsStuck, AreStuck}
+use Rattle.dash_stage.specs.Playing.{AreAtBlock, LiesAhead, HaveComeFirst, IsInTime, AreInTime, IsInStep, IsStuck}
 use Rattle.dash_stage.proofs.Controller.Controls.{time_by_controller}
 use Rattle.dash_stage.proofs.Stages.Timely.{clock_stays, has_disposed_same, on_time_open, on_time_gone}
 use Rattle.run_model.proofs.FreshLaws.{nothing_fresh, fresh_moved}
 use Rattle.dash_stage.proofs.BlockTimes.BlocksFirst.{first_block, first_one, all_threads}
 use Rattle.dash_stage.proofs.Ends.HallEnds.{some_of}
 use Rattle.dash_stage.proofs.Stages.StageWhole.{queues_count, controller_entries, sound_grown, none_behind}
-use Rattle.dash_stage.proofs.Moves.StageMoves.{controls_above, moved_is_open, turned_on, turned_left, grown_by_turns, sound_by_turns, over_is_disposed}
+use Rattle.dash_stage.proofs.Moves.StageMoves.{controls_above, moved_is_open, longer, turned_on, turned_left, grown_by_turns, sound_by_turns, over_is_disposed}
+use Rattle.dash_stage.proofs.Stages.Turned.{Turned, MovedOn}
 use Rattle.dash_stage.proofs.Stages.StageTurns.{heard_entries, only_threads}
-use Rattle.dash_stage.specs.Steps.{IsReadyFor}
-use Rattle.dash_stage.proofs.Moves.StageDue.{seen_same, rested_same}
-use Rattle.dash_stage.proofs.Sharing.LooperShares.{looper_self}
-use Rattle.dash_hall.proofs.Hearing.{have_heard_self}
-use Rattle.dash_hall.proofs.Sharing.{each_self}
 use Rattle.dash_stage.proofs.Played.PlayedStage.{played_kept, sound_before}
 
 -- the calls but an Advance come at the queue's time
@@ -99,20 +94,6 @@ in_time_on s time now l l' es whole same front ends still (inr (ended, (gone, by
 -- what posters have seen that heard others may be only if what they had seen before may be
 pub sound_heard : (s : Script) (c c' : Controller) → HaveHeard c.kit.posters.items c'.kit.posters.items → AreSound s c' → AreSound s c
 sound_heard s c c' heard = sound_grown s c c' heard.long (λ q d lt. (heard.each q d lt).more)
-
--- the posters tell the same, as long as they don't change
-abbrev SoundBy : Script → List Sender → Type 0
-SoundBy s ps = (q : ℕ) (d : Sender) → q < length ps → IsSoundOn s q (slice_index_or ps q d).view.seen
-
-abbrev FirstBy : Script → List Sender → Type 0
-FirstBy s ps = SoundBy s ps → (q : ℕ) (d : Sender) → q < length ps → come_first s.threads (slice_index_or ps q d).view.seen ≡ true
-
-pub sound_same : (s : Script) (c c' : Controller) → c'.kit.posters ≡ c.kit.posters → AreSound s c' → AreSound s c
-sound_same s c c' posters sound = subst (λ z. SoundBy s z.items) posters sound
-
-pub ahead_same : (time : ℕ) (st st' : Stage) → st'.controller.kit.posters ≡ st.controller.kit.posters → st'.time ≡ st.time → LiesAhead time st → LiesAhead time st'
-ahead_same time st st' posters now (inl later) = inl (omega (arith, now, later))
-ahead_same time st st' posters now (inr (zero, unseen)) = inr (zero, subst (λ z. AreUnseen z.items) (sym posters) unseen)
 
 -- at the start each time lies ahead
 pub ahead_of_zero : (time : ℕ) (st : Stage) → st.time ≡ 0 → AreUnseen st.controller.kit.posters.items → LiesAhead time st
@@ -196,209 +177,188 @@ block_in_step s st st' is is' same' now kept heard step first =
           (ap (clock base) (sym front.1) ∙ still) (step.in_time (sound_before s st st' is is' step.same same' kept heard.long grown sound) q l d lt);
     }
 
--- neither a poster nor a looper has changed
-pub step_same : (s : Script) (st st' : Stage) → IsStage s st → IsStage s st' → st'.threads.items ≡ st.threads.items → st'.loopers ≡ st.loopers → st'.controller.kit.posters ≡ st.controller.kit.posters → st'.time ≡ st.time
-    → IsInStep s st → IsInStep s st'
-step_same s st st' is is' threads loopers posters now step =
-    block_in_step s st st' is is' (seen_same st st' threads loopers posters step.same) now
-    (subst (λ z. AtEach (LooperKeeps HaveHeard) st.loopers.items z.items) (sym loopers) (each_self (LooperKeeps HaveHeard) st.loopers.items (looper_self HaveHeard have_heard_self)))
-    (subst (λ z. HaveHeard st.controller.kit.posters.items z.items) (sym posters) (have_heard_self st.controller.kit.posters.items)) step
-    (subst (λ z. FirstBy s z.items) (sym posters) step.first)
-
--- where nothing changed but what it is ready for
-pub ready_same : (s : Script) (next : ℕ) (st st' : Stage) → IsStage s st → IsStage s st' → st'.threads.items ≡ st.threads.items → st'.loopers ≡ st.loopers → st'.controller.kit.posters ≡ st.controller.kit.posters → st'.time ≡ st.time
-    → IsInStep s st → AreRested s st → AreDue s next st' → IsReadyFor s next st'
-ready_same s next st st' is is' threads loopers posters now step rested due = record {
-  step = step_same s st st' is is' threads loopers posters now step;
-  rested = rested_same s st st' loopers posters rested;
-  due = due;
-}
-
 -- over the controller's turns, after which all heard each other
-module _ (s : Script) (st : Stage) (c : Controller) (st' : Stage) (is : IsStage s st) (is' : IsStage s st') (same' : HaveSeenTheSame st')
-    (threads : AtEach (ThreadKeeps HaveHeard) st.threads.items st'.threads.items) (loopers : AtEach (LooperKeeps HaveHeard) st.loopers.items st'.loopers.items)
-    (heard : HaveHeard c.kit.posters.items st'.controller.kit.posters.items) (step : IsInStep s st) where
-  module _ (P : Entry → Type 0) (turns : EachTurnsOn P st.controller c) where
-    longer : length st'.controller.kit.posters.items ≡ length st.controller.kit.posters.items
-    longer = heard.long ∙ turns.long
+module _ {P : Entry → Type 0} {s : Script} {st : Stage} {c : Controller} {st' : Stage} (o : Turned true P s st c st') where
+  within_turned : (q : ℕ) → q < length st.controller.kit.posters.items → q < length c.kit.posters.items
+  within_turned q lt = subst (λ (m : ℕ). q < m) (sym o.turns.long) lt
 
-    within_turned : (q : ℕ) → q < length st.controller.kit.posters.items → q < length c.kit.posters.items
-    within_turned q lt = subst (λ (m : ℕ). q < m) (sym turns.long) lt
+  in_turned : (q : ℕ) → q < length st'.loopers.items → (q < length st.loopers.items) × (q < length st.controller.kit.posters.items)
+  in_turned q lt' =
+      let lt : q < length st.loopers.items = subst (λ (n : ℕ). q < n) o.loopers.long lt' in
+      (lt, subst (λ (n : ℕ). q < n) (sym (queues_count s st o.is)) lt)
 
-    turned_grown : (q : ℕ) (d : Sender) → q < length st.controller.kit.posters.items → IsPrefix (whole_on st.controller q d) (whole_on st'.controller q d)
-    turned_grown = grown_by_turns s st c st' is is' step.same same' threads loopers heard P turns
+  sound_at : AreSound s st'.controller → (q : ℕ) (d : Sender) → q < length st.controller.kit.posters.items → IsSoundOn s q (whole_on st'.controller q d)
+  sound_at sound q d lt = sound q d (subst (λ (n : ℕ). q < n) (sym (longer o)) lt)
 
-    turned_sound : AreSound s st'.controller → AreSound s st.controller
-    turned_sound = sound_by_turns s st c st' is is' step.same same' threads loopers heard P turns
+  -- what all have seen there of a queue that may have its history
+  turn_at : AreSound s st'.controller → (q : ℕ) (d : Sender) → q < length st.controller.kit.posters.items
+      → (whole_on st'.controller q d ≡ whole_on st.controller q d) ⊎ ((e : Entry) × (whole_on st'.controller q d ≡ whole_on st.controller q d ++ e ∷ []) × P e × (e.sender ≡ controller s))
+  turn_at sound q d lt = turned_on o q d lt (sound_at sound q d lt).numbered
 
-    in_turned : (q : ℕ) → q < length st'.loopers.items → (q < length st.loopers.items) × (q < length st.controller.kit.posters.items)
-    in_turned q lt' =
-        let lt : q < length st.loopers.items = subst (λ (n : ℕ). q < n) loopers.long lt' in
-        (lt, subst (λ (n : ℕ). q < n) (sym (queues_count s st is)) lt)
+  turned_first : HaveComeFirst s st → HaveComeFirst s st'
+  turned_first first sound q d lt' =
+      let lt : q < length st.controller.kit.posters.items = subst (λ (n : ℕ). q < n) (longer o) lt' in
+      one_first s P (whole_on st.controller q d) (whole_on st'.controller q d) (first (sound_by_turns o sound) q d lt) (turn_at sound q d lt)
 
-    sound_at : AreSound s st'.controller → (q : ℕ) (d : Sender) → q < length st.controller.kit.posters.items → IsSoundOn s q (whole_on st'.controller q d)
-    sound_at sound q d lt = sound q d (subst (λ (n : ℕ). q < n) (sym longer) lt)
-
-    turned_first : HaveComeFirst s st'
-    turned_first sound q d lt' =
-        let lt : q < length st.controller.kit.posters.items = subst (λ (n : ℕ). q < n) longer lt' in
-        one_first s P (whole_on st.controller q d) (whole_on st'.controller q d) (step.first (turned_sound sound) q d lt)
-        (turned_on s st c st' is is' step.same same' threads loopers heard P turns q d lt (sound_at sound q d lt).numbered)
-
-    -- it stays in step where the queues are at the time then
-    turned_step : (AreSound s st'.controller → AreInTime s st') → IsInStep s st'
-    turned_step in_time = record { same = same'; in_time = in_time; played = played_kept s st st' is is' step.same same' loopers longer turned_grown step.played; first = turned_first }
+  -- it stays in step where the queues are at the time then
+  turned_step : IsInStep s st → (AreSound s st'.controller → AreInTime s st') → IsInStep s st'
+  turned_step step in_time = record {
+    same = o.same';
+    in_time = in_time;
+    played = played_kept s st st' o.is o.is' o.same o.same' o.loopers (longer o) (grown_by_turns o) step.played;
+    first = turned_first step.first;
+  }
 
   -- turns that moved no time
-  module _ (turns : EachTurnsOn MovesNot st.controller c) (now : st'.time ≡ st.time) where
-    still : (q : ℕ) (es whole : List Entry) → IsSoundOn s q whole → (whole ≡ es) ⊎ ((e : Entry) × (whole ≡ es ++ e ∷ []) × MovesNot e × (e.sender ≡ controller s)) → clock (empty_base (sender_count s)) whole ≡ clock (empty_base (sender_count s)) es
+  module _ (moves_not : (e : Entry) → P e → MovesNot e) (now : st'.time ≡ st.time) (step : IsInStep s st) where
+    still : (q : ℕ) (es whole : List Entry) → IsSoundOn s q whole → (whole ≡ es) ⊎ ((e : Entry) × (whole ≡ es ++ e ∷ []) × P e × (e.sender ≡ controller s)) → clock (empty_base (sender_count s)) whole ≡ clock (empty_base (sender_count s)) es
     still q es whole sound (inl stays) = ap (clock (empty_base (sender_count s))) stays
-    still q es whole sound (inr t) = ap (clock (empty_base (sender_count s))) t.1 ∙ clock_not_moved s q es t.0 (subst (IsSoundOn s q) t.1 sound) t.2
+    still q es whole sound (inr t) = ap (clock (empty_base (sender_count s))) t.1 ∙ clock_not_moved s q es t.0 (subst (IsSoundOn s q) t.1 sound) (moves_not t.0 t.2)
 
     turned_in_time : AreSound s st'.controller → AreInTime s st'
     turned_in_time sound q l d lt' =
-        let lt = in_turned MovesNot turns q lt' in
-        let here = sound_at MovesNot turns sound q d lt.1 in
-        in_time_on s st.time st'.time (slice_index_or st.loopers.items q l) (slice_index_or st'.loopers.items q l) (whole_on st.controller q d) (whole_on st'.controller q d) now (turned_grown MovesNot turns q d lt.1) (λ ended. ap is_ended (loopers.each q l lt.0).last ∙ ended)
-        (still q (whole_on st.controller q d) (whole_on st'.controller q d) here (turned_on s st c st' is is' step.same same' threads loopers heard MovesNot turns q d lt.1 here.numbered))
-        (step.in_time (turned_sound MovesNot turns sound) q l d lt.0)
+        let lt = in_turned q lt' in
+        in_time_on s st.time st'.time (slice_index_or st.loopers.items q l) (slice_index_or st'.loopers.items q l) (whole_on st.controller q d) (whole_on st'.controller q d) now (grown_by_turns o q d lt.1) (λ ended. ap is_ended (o.loopers.each q l lt.0).last ∙ ended)
+        (still q (whole_on st.controller q d) (whole_on st'.controller q d) (sound_at sound q d lt.1) (turn_at sound q d lt.1)) (step.in_time (sound_by_turns o sound) q l d lt.0)
 
     pub turned_in_step : IsInStep s st'
-    turned_in_step = turned_step MovesNot turns turned_in_time
+    turned_in_step = turned_step step turned_in_time
 
-  -- turns that moved the time on
-  module _ (time : ℕ) (turns : EachTurnsOn (MovesTo time) st.controller c) (now : st'.time ≡ max st.time time) (by : AreBy st'.time c) (rested : AreRested s st) (due_then : AreDue s time st)
-      (drained : Bool) (come : drained ≡ true → HaveCome s time c) (stuck : drained ≡ false → AreStuck s time s.loopers c) where
-    -- no queue that may have its history is stuck
-    none_stuck : (es whole left : List Entry) → whole ≡ left → IsStuck s time left → (is_over (empty_base (sender_count s)) es ≡ true) ⊎ HasNoneBefore (sender_count s) time es
-        → (whole ≡ es) ⊎ ((e : Entry) × (whole ≡ es ++ e ∷ []) × MovesTo time e × (e.sender ≡ controller s)) → ⊥
-    none_stuck es whole left is_left h (inl over) (inl stays) = true≢false (sym over ∙ subst (λ w. is_over (empty_base (sender_count s)) w ≡ false) (sym is_left ∙ stays) h.going)
-    none_stuck es whole left is_left h (inr (none, not_quitting)) (inl stays) =
+-- turns that moved the time on
+module _ {s : Script} {time : ℕ} {st : Stage} {c : Controller} {st' : Stage} {drained : Bool} (a : MovedOn s time st c st' drained) where
+  come_to : st'.time ≡ max st.time time
+  come_to = a.now
+
+  -- no queue that may have its history is stuck
+  none_stuck : (es whole left : List Entry) → whole ≡ left → IsStuck s time left → (is_over (empty_base (sender_count s)) es ≡ true) ⊎ HasNoneBefore (sender_count s) time es
+      → (whole ≡ es) ⊎ ((e : Entry) × (whole ≡ es ++ e ∷ []) × MovesTo time e × (e.sender ≡ controller s)) → ⊥
+  none_stuck es whole left is_left h (inl over) (inl stays) = true≢false (sym over ∙ subst (λ w. is_over (empty_base (sender_count s)) w ≡ false) (sym is_left ∙ stays) h.going)
+  none_stuck es whole left is_left h (inr (none, not_quitting)) (inl stays) =
+      let base = empty_base (sender_count s) in
+      let here : IsStuck s time es = subst (IsStuck s time) (sym is_left ∙ stays) h in
+      true≢false (sym here.due ∙ none_picked base es (clock base es) time none here.early)
+  none_stuck es whole left is_left h either (inr t) =
+      let base = empty_base (sender_count s) in
+      let there : IsStuck s time (es ++ t.0 ∷ []) = subst (IsStuck s time) (sym is_left ∙ t.1) h in
+      let early = there.early in
+      let at = clock_moved base es t.0 time t.2 in
+      absurd (omega (arith, early, at))
+
+  -- so the controller found none stuck
+  is_drained : AreSound s st'.controller → drained ≡ true
+  is_drained sound = elim (cases_Bool drained) [
+    | inl moved ↦ moved
+    | inr left ↦ (let h = a.stuck left in
+        let few : h.0 < length st.loopers.items = subst (λ (n : ℕ). h.0 < n) (sym a.over.is.loopers.0) h.1 in
+        let lt : h.0 < length st.controller.kit.posters.items = subst (λ (n : ℕ). h.0 < n) (sym (queues_count s st a.over.is)) few in
+        let d = some_of st.controller.kit.posters.items h.0 lt in
+        absurd (none_stuck (whole_on st.controller h.0 d) (whole_on st'.controller h.0 d) (whole_on c h.0 d)
+        (turned_left a.over h.0 d lt (sound_at a.over sound h.0 d lt).numbered) (h.2 d) (a.due h.0 d few)
+        (turn_at a.over sound h.0 d lt)))
+  ]
+
+  -- and each has come to the time, or is over
+  all_come : AreSound s st'.controller → HaveCome s time c
+  all_come sound = a.come (is_drained sound)
+
+  pub advanced_sound : AreSound s st'.controller → (drained ≡ true) × AreSound s st.controller
+  advanced_sound sound = (is_drained sound, sound_by_turns a.over sound)
+
+  module _ (sound : AreSound s st'.controller) (q : ℕ) (l : StageLooper) (d : Sender) (lt' : q < length st'.loopers.items) where
+    abbrev es : List Entry
+    es = whole_on st.controller q d
+
+    abbrev whole : List Entry
+    whole = whole_on st'.controller q d
+
+    lt : q < length st.loopers.items
+    lt = (in_turned a.over q lt').0
+
+    within : q < length st.controller.kit.posters.items
+    within = (in_turned a.over q lt').1
+
+    here : IsSoundOn s q whole
+    here = sound_at a.over sound q d within
+
+    ends : is_ended (slice_index_or st.loopers.items q l).last ≡ true → is_ended (slice_index_or st'.loopers.items q l).last ≡ true
+    ends ended = ap is_ended (a.over.loopers.each q l lt).last ∙ ended
+
+    -- what the controller called there
+    its_calls : calls_on c q d ≡ entries_by (controller s) whole
+    its_calls =
+        let h = a.over.heard.each q d (within_turned a.over q within) in
+        sym (controller_entries s st' a.over.is' q d (subst (λ (n : ℕ). q < n) (sym (longer a.over)) within) ∙ h.called)
+
+    -- a queue that was not moved
+    stays_in_time : whole ≡ es → clock (empty_base (sender_count s)) es ≡ st.time → (time ≤ time_in (calls_on c q d)) ⊎ (is_over (empty_base (sender_count s)) (whole_on c q d) ≡ true) → IsInTime s st'.time (slice_index_or st'.loopers.items q l) whole
+    stays_in_time stays at (inl le) =
         let base = empty_base (sender_count s) in
-        let here : IsStuck s time es = subst (IsStuck s time) (sym is_left ∙ stays) h in
-        true≢false (sym here.due ∙ none_picked base es (clock base es) time none here.early)
-    none_stuck es whole left is_left h either (inr t) =
+        let clock_is : clock base whole ≡ time_in (calls_on c q d) = time_by_controller (setting_for s q) (controller s) refl refl whole here.legal here.numbered ∙ ap time_in (sym its_calls) in
+        let was : clock base whole ≡ st.time = ap (clock base) stays ∙ at in
+        inl (omega (arith, clock_is, was, le, come_to))
+    stays_in_time stays at (inr over) =
         let base = empty_base (sender_count s) in
-        let there : IsStuck s time (es ++ t.0 ∷ []) = subst (IsStuck s time) (sym is_left ∙ t.1) h in
-        let early = there.early in
-        let at = clock_moved base es t.0 time t.2 in
-        absurd (omega (arith, early, at))
+        let gone : is_over base whole ≡ true = ap (is_over base) (turned_left a.over q d within here.numbered) ∙ over in
+        elim (cases_Bool (is_ended (slice_index_or st.loopers.items q l).last)) [
+          | inl ended ↦ (let was : clock base whole ≡ st.time = ap (clock base) stays ∙ at in
+              inr (ends ended, (over_is_disposed s q st'.time whole here (subst (λ (z : List Entry). are_advances st'.time z ≡ true) its_calls (a.by q d (within_turned a.over q within))) gone, omega (arith, was, come_to))))
+          | inr going ↦ absurd (true≢false (sym gone ∙ (ap (is_over base) stays ∙ ((a.rested q l d lt).quiet going).going)))
+        ]
 
-    -- so the controller found none stuck
-    is_drained : AreSound s st'.controller → drained ≡ true
-    is_drained sound = elim (cases_Bool drained) [
-      | inl moved ↦ moved
-      | inr left ↦ (let h = stuck left in
-          let few : h.0 < length st.loopers.items = subst (λ (n : ℕ). h.0 < n) (sym is.loopers.0) h.1 in
-          let lt : h.0 < length st.controller.kit.posters.items = subst (λ (n : ℕ). h.0 < n) (sym (queues_count s st is)) few in
-          let d = some_of st.controller.kit.posters.items h.0 lt in
-          absurd (none_stuck (whole_on st.controller h.0 d) (whole_on st'.controller h.0 d) (whole_on c h.0 d)
-          (turned_left s st c st' is is' step.same same' threads loopers heard (MovesTo time) turns h.0 d lt (sound_at (MovesTo time) turns sound h.0 d lt).numbered) (h.2 d) (due_then h.0 d few)
-          (turned_on s st c st' is is' step.same same' threads loopers heard (MovesTo time) turns h.0 d lt (sound_at (MovesTo time) turns sound h.0 d lt).numbered)))
-    ]
+    -- its clock is not past the time
+    no_later : clock (empty_base (sender_count s)) es ≤ st.time → (whole ≡ es) ⊎ ((e : Entry) × (whole ≡ es ++ e ∷ []) × MovesTo time e × (e.sender ≡ controller s)) → clock (empty_base (sender_count s)) whole ≤ st'.time
+    no_later by_then (inl stays) = (let is = ap (clock (empty_base (sender_count s))) stays in omega (arith, is, by_then, come_to))
+    no_later by_then (inr t) = (let is = ap (clock (empty_base (sender_count s))) t.1 ∙ clock_moved (empty_base (sender_count s)) es t.0 time t.2 in omega (arith, is, by_then, come_to))
 
-    -- and each has come to the time, or is over
-    all_come : AreSound s st'.controller → HaveCome s time c
-    all_come sound = come (is_drained sound)
+    queue_in_time : IsInTime s st.time (slice_index_or st.loopers.items q l) es → (whole ≡ es) ⊎ ((e : Entry) × (whole ≡ es ++ e ∷ []) × MovesTo time e × (e.sender ≡ controller s)) → IsInTime s st'.time (slice_index_or st'.loopers.items q l) whole
+    queue_in_time (inr (ended, (gone, by_then))) either =
+        let front = grown_by_turns a.over q d within in
+        inr (ends ended, (subst (λ w. has_disposed (empty_base (sender_count s)) w ≡ true) front.1 (disposed_stays (empty_base (sender_count s)) es front.0 gone), no_later by_then either))
+    queue_in_time (inl at) (inl stays) = stays_in_time stays at (all_come sound q d (within_turned a.over q within))
+    queue_in_time (inl at) (inr t) =
+        let base = empty_base (sender_count s) in
+        inl (ap (clock base) t.1 ∙ (clock_moved base es t.0 time t.2 ∙ (ap (λ (n : ℕ). max n time) at ∙ sym come_to)))
 
-    pub advanced_sound : AreSound s st'.controller → (drained ≡ true) × AreSound s st.controller
-    advanced_sound sound = (is_drained sound, turned_sound (MovesTo time) turns sound)
+    -- a queue that was not moved to a time ahead was disposed of before, unless the time is 0
+    stays_at_block : LiesAhead time st → whole ≡ es → IsInTime s st.time (slice_index_or st.loopers.items q l) es
+        → (time ≤ time_in (calls_on c q d)) ⊎ (is_over (empty_base (sender_count s)) (whole_on c q d) ≡ true) → IsAtBlock s.threads time whole
+    stays_at_block (inr (zero, unseen)) stays at where_to = subst (IsAtBlock s.threads time) (sym (stays ∙ unseen q d within)) (nothing_called s.threads time zero)
+    stays_at_block (inl later) stays (inr (ended, (gone, by_then))) where_to =
+        let base = empty_base (sender_count s) in
+        let clock_is : clock base whole ≡ clock base es = ap (clock base) stays in
+        gone_before (sender_count s) s.threads time whole (ap (has_disposed base) stays ∙ gone) (omega (arith, clock_is, by_then, later))
+    stays_at_block (inl later) stays (inl at) (inl le) =
+        let base = empty_base (sender_count s) in
+        let clock_is : clock base whole ≡ time_in (calls_on c q d) = time_by_controller (setting_for s q) (controller s) refl refl whole here.legal here.numbered ∙ ap time_in (sym its_calls) in
+        let was : clock base whole ≡ st.time = ap (clock base) stays ∙ at in
+        absurd (omega (arith, clock_is, was, le, later))
+    stays_at_block (inl later) stays (inl at) (inr over) =
+        let base = empty_base (sender_count s) in
+        let gone : is_over base whole ≡ true = ap (is_over base) (turned_left a.over q d within here.numbered) ∙ over in
+        let was : clock base whole ≡ st.time = ap (clock base) stays ∙ at in
+        gone_before (sender_count s) s.threads time whole
+        (over_is_disposed s q st'.time whole here (subst (λ (z : List Entry). are_advances st'.time z ≡ true) its_calls (a.by q d (within_turned a.over q within))) gone) (omega (arith, was, later))
 
-    module _ (sound : AreSound s st'.controller) (q : ℕ) (l : StageLooper) (d : Sender) (lt' : q < length st'.loopers.items) where
-      abbrev es : List Entry
-      es = whole_on st.controller q d
+    -- and one that was moved has no call behind the move
+    queue_at_block : LiesAhead time st → IsInTime s st.time (slice_index_or st.loopers.items q l) es
+        → (whole ≡ es) ⊎ ((e : Entry) × (whole ≡ es ++ e ∷ []) × MovesTo time e × (e.sender ≡ controller s)) → IsAtBlock s.threads time whole
+    queue_at_block ahead at (inl stays) = stays_at_block ahead stays at (all_come sound q d (within_turned a.over q within))
+    queue_at_block ahead at (inr t) = subst (IsAtBlock s.threads time) (sym t.1) (moved_now s q time es t.0 t.2 (subst (IsSoundOn s q) t.1 here))
 
-      abbrev whole : List Entry
-      whole = whole_on st'.controller q d
+  -- so it is with each queue
+  pub advanced_at_block : LiesAhead time st → AreSound s st'.controller → AreAtBlock s time st'
+  advanced_at_block ahead sound q d near =
+      let lt' : q < length st'.loopers.items = subst (λ (n : ℕ). q < n) (queues_count s st' a.over.is') near in
+      let lt = in_turned a.over q lt' in
+      let l = some_of st.loopers.items q lt.0 in
+      queue_at_block sound q l d lt' ahead (a.step.in_time (sound_by_turns a.over sound) q l d lt.0)
+      (turn_at a.over sound q d lt.1)
 
-      lt : q < length st.loopers.items
-      lt = (in_turned (MovesTo time) turns q lt').0
+  advanced_in_time : AreSound s st'.controller → AreInTime s st'
+  advanced_in_time sound q l d lt' =
+      let lt = in_turned a.over q lt' in
+      queue_in_time sound q l d lt' (a.step.in_time (sound_by_turns a.over sound) q l d lt.0)
+      (turn_at a.over sound q d lt.1)
 
-      within : q < length st.controller.kit.posters.items
-      within = (in_turned (MovesTo time) turns q lt').1
-
-      here : IsSoundOn s q whole
-      here = sound_at (MovesTo time) turns sound q d within
-
-      ends : is_ended (slice_index_or st.loopers.items q l).last ≡ true → is_ended (slice_index_or st'.loopers.items q l).last ≡ true
-      ends ended = ap is_ended (loopers.each q l lt).last ∙ ended
-
-      -- what the controller called there
-      its_calls : calls_on c q d ≡ entries_by (controller s) whole
-      its_calls =
-          let h = heard.each q d (within_turned (MovesTo time) turns q within) in
-          sym (controller_entries s st' is' q d (subst (λ (n : ℕ). q < n) (sym (longer (MovesTo time) turns)) within) ∙ h.called)
-
-      -- a queue that was not moved
-      stays_in_time : whole ≡ es → clock (empty_base (sender_count s)) es ≡ st.time → (time ≤ time_in (calls_on c q d)) ⊎ (is_over (empty_base (sender_count s)) (whole_on c q d) ≡ true) → IsInTime s st'.time (slice_index_or st'.loopers.items q l) whole
-      stays_in_time stays at (inl le) =
-          let base = empty_base (sender_count s) in
-          let clock_is : clock base whole ≡ time_in (calls_on c q d) = time_by_controller (setting_for s q) (controller s) refl refl whole here.legal here.numbered ∙ ap time_in (sym its_calls) in
-          let was : clock base whole ≡ st.time = ap (clock base) stays ∙ at in
-          inl (omega (arith, clock_is, was, le, now))
-      stays_in_time stays at (inr over) =
-          let base = empty_base (sender_count s) in
-          let gone : is_over base whole ≡ true = ap (is_over base) (turned_left s st c st' is is' step.same same' threads loopers heard (MovesTo time) turns q d within here.numbered) ∙ over in
-          elim (cases_Bool (is_ended (slice_index_or st.loopers.items q l).last)) [
-            | inl ended ↦ (let was : clock base whole ≡ st.time = ap (clock base) stays ∙ at in
-                inr (ends ended, (over_is_disposed s q st'.time whole here (subst (λ (z : List Entry). are_advances st'.time z ≡ true) its_calls (by q d (within_turned (MovesTo time) turns q within))) gone, omega (arith, was, now))))
-            | inr going ↦ absurd (true≢false (sym gone ∙ (ap (is_over base) stays ∙ ((rested q l d lt).quiet going).going)))
-          ]
-
-      -- its clock is not past the time
-      no_later : clock (empty_base (sender_count s)) es ≤ st.time → (whole ≡ es) ⊎ ((e : Entry) × (whole ≡ es ++ e ∷ []) × MovesTo time e × (e.sender ≡ controller s)) → clock (empty_base (sender_count s)) whole ≤ st'.time
-      no_later by_then (inl stays) = (let is = ap (clock (empty_base (sender_count s))) stays in omega (arith, is, by_then, now))
-      no_later by_then (inr t) = (let is = ap (clock (empty_base (sender_count s))) t.1 ∙ clock_moved (empty_base (sender_count s)) es t.0 time t.2 in omega (arith, is, by_then, now))
-
-      queue_in_time : IsInTime s st.time (slice_index_or st.loopers.items q l) es → (whole ≡ es) ⊎ ((e : Entry) × (whole ≡ es ++ e ∷ []) × MovesTo time e × (e.sender ≡ controller s)) → IsInTime s st'.time (slice_index_or st'.loopers.items q l) whole
-      queue_in_time (inr (ended, (gone, by_then))) either =
-          let front = turned_grown (MovesTo time) turns q d within in
-          inr (ends ended, (subst (λ w. has_disposed (empty_base (sender_count s)) w ≡ true) front.1 (disposed_stays (empty_base (sender_count s)) es front.0 gone), no_later by_then either))
-      queue_in_time (inl at) (inl stays) = stays_in_time stays at (all_come sound q d (within_turned (MovesTo time) turns q within))
-      queue_in_time (inl at) (inr t) =
-          let base = empty_base (sender_count s) in
-          inl (ap (clock base) t.1 ∙ (clock_moved base es t.0 time t.2 ∙ (ap (λ (n : ℕ). max n time) at ∙ sym now)))
-
-      -- a queue that was not moved to a time ahead was disposed of before, unless the time is 0
-      stays_at_block : LiesAhead time st → whole ≡ es → IsInTime s st.time (slice_index_or st.loopers.items q l) es
-          → (time ≤ time_in (calls_on c q d)) ⊎ (is_over (empty_base (sender_count s)) (whole_on c q d) ≡ true) → IsAtBlock s.threads time whole
-      stays_at_block (inr (zero, unseen)) stays at where_to = subst (IsAtBlock s.threads time) (sym (stays ∙ unseen q d within)) (nothing_called s.threads time zero)
-      stays_at_block (inl later) stays (inr (ended, (gone, by_then))) where_to =
-          let base = empty_base (sender_count s) in
-          let clock_is : clock base whole ≡ clock base es = ap (clock base) stays in
-          gone_before (sender_count s) s.threads time whole (ap (has_disposed base) stays ∙ gone) (omega (arith, clock_is, by_then, later))
-      stays_at_block (inl later) stays (inl at) (inl le) =
-          let base = empty_base (sender_count s) in
-          let clock_is : clock base whole ≡ time_in (calls_on c q d) = time_by_controller (setting_for s q) (controller s) refl refl whole here.legal here.numbered ∙ ap time_in (sym its_calls) in
-          let was : clock base whole ≡ st.time = ap (clock base) stays ∙ at in
-          absurd (omega (arith, clock_is, was, le, later))
-      stays_at_block (inl later) stays (inl at) (inr over) =
-          let base = empty_base (sender_count s) in
-          let gone : is_over base whole ≡ true = ap (is_over base) (turned_left s st c st' is is' step.same same' threads loopers heard (MovesTo time) turns q d within here.numbered) ∙ over in
-          let was : clock base whole ≡ st.time = ap (clock base) stays ∙ at in
-          gone_before (sender_count s) s.threads time whole
-          (over_is_disposed s q st'.time whole here (subst (λ (z : List Entry). are_advances st'.time z ≡ true) its_calls (by q d (within_turned (MovesTo time) turns q within))) gone) (omega (arith, was, later))
-
-      -- and one that was moved has no call behind the move
-      queue_at_block : LiesAhead time st → IsInTime s st.time (slice_index_or st.loopers.items q l) es
-          → (whole ≡ es) ⊎ ((e : Entry) × (whole ≡ es ++ e ∷ []) × MovesTo time e × (e.sender ≡ controller s)) → IsAtBlock s.threads time whole
-      queue_at_block ahead at (inl stays) = stays_at_block ahead stays at (all_come sound q d (within_turned (MovesTo time) turns q within))
-      queue_at_block ahead at (inr t) = subst (IsAtBlock s.threads time) (sym t.1) (moved_now s q time es t.0 t.2 (subst (IsSoundOn s q) t.1 here))
-
-    -- so it is with each queue
-    pub advanced_at_block : LiesAhead time st → AreSound s st'.controller → AreAtBlock s time st'
-    advanced_at_block ahead sound q d near =
-        let lt' : q < length st'.loopers.items = subst (λ (n : ℕ). q < n) (queues_count s st' is') near in
-        let lt = in_turned (MovesTo time) turns q lt' in
-        let l = some_of st.loopers.items q lt.0 in
-        queue_at_block sound q l d lt' ahead (step.in_time (turned_sound (MovesTo time) turns sound) q l d lt.0)
-        (turned_on s st c st' is is' step.same same' threads loopers heard (MovesTo time) turns q d lt.1 (sound_at (MovesTo time) turns sound q d lt.1).numbered)
-
-    advanced_in_time : AreSound s st'.controller → AreInTime s st'
-    advanced_in_time sound q l d lt' =
-        let lt = in_turned (MovesTo time) turns q lt' in
-        queue_in_time sound q l d lt' (step.in_time (turned_sound (MovesTo time) turns sound) q l d lt.0)
-        (turned_on s st c st' is is' step.same same' threads loopers heard (MovesTo time) turns q d lt.1 (sound_at (MovesTo time) turns sound q d lt.1).numbered)
-
-    pub advanced_in_step : IsInStep s st'
-    advanced_in_step = turned_step (MovesTo time) turns advanced_in_time
+  pub advanced_in_step : IsInStep s st'
+  advanced_in_step = turned_step a.over a.step advanced_in_time

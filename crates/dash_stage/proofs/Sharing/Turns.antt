@@ -3,11 +3,15 @@ use Rattle.std.proofs.Common.{◌≡◌, ◌<◌, ℕ, arith, Bool, true, false,
 use Rattle.std.specs.Prelude.{not}
 use Rattle.std.proofs.lemmas.Bool.{ne_eqb}
 use Rattle.dash_loopers.specs.declared.looper.StageLooper.{StageLooper}
+use Rattle.looper_run.specs.Round.{is_ended}
 use Rattle.dash_hall.specs.Hearing.{HaveHeard, AtEach}
 use Rattle.dash_loopers.specs.Loopers.{LooperKeeps}
 use Rattle.dash_stage.specs.declared.side.Turn.{Turn}
-use Rattle.dash_stage.specs.declared.side.Turn.TheVariants.{All, Others}
-use Rattle.dash_stage.specs.Turns.{has_turn, AwaitTheirTurn}
+use Rattle.dash_stage.specs.declared.side.Turn.TheVariants.{All, Main, Others}
+use Rattle.dash_stage.specs.Turns.{has_turn, AwaitTheirTurn, RunsInTurn, HaveRunRound}
+use Rattle.dash_stage.specs.Stages.{AreLoopers, OthersHaveEnded}
+use Rattle.dash_script.specs.declared.script.Script.{Script}
+use Rattle.dash_hall.specs.declared.hall.Hall.{Hall}
 use Rattle.dash_hall.proofs.Hearing.{have_heard_self, have_heard_then}
 use Rattle.dash_stage.proofs.Sharing.LooperShares.{looper_self, looper_then}
 
@@ -15,9 +19,19 @@ use Rattle.dash_stage.proofs.Sharing.LooperShares.{looper_self, looper_then}
 pub of_same : (R : StageLooper → StageLooper → Type 0) (a b x y : StageLooper) → a ≡ x → b ≡ y → R a b → R x y
 of_same R a b x y before after h = subst (λ (z : StageLooper). R z y) before (subst (R a) after h)
 
--- a looper's turn is that of its place
-pub turn_at : (turn : Turn) (b : Bool) (k : ℕ) (a x : StageLooper) → a ≡ x → x.number ≡ k → has_turn turn k ≡ b → has_turn turn a.number ≡ b
-turn_at turn b k a x same number h = subst (λ (n : ℕ). has_turn turn n ≡ b) (sym (ap (λ (z : StageLooper). z.number) same ∙ number)) h
+-- each has run in its turn
+pub round_of : (turn : Turn) (s : Script) (hall : Hall) (now : ℕ) (xs ys : List StageLooper) → AreLoopers s hall xs → length ys ≡ length xs
+    → ((k : ℕ) (d : StageLooper) → k < length xs → RunsInTurn turn s hall now (slice_index_or xs k d) (slice_index_or ys k d)) → HaveRunRound turn s hall now xs ys
+round_of turn s hall now xs ys are long each =
+    let at : (b : Bool) (k : ℕ) (d : StageLooper) → k < length xs → has_turn turn k ≡ b → has_turn turn (slice_index_or xs k d).number ≡ b =
+    λ b k d lt h. subst (λ (n : ℕ). has_turn turn n ≡ b) (sym (are.1 k d lt).1) h in
+    record {
+      loopers = (long ∙ are.0, λ k d lt'. (let lt : k < length xs = subst (λ (n : ℕ). k < n) long lt' in ((each k d lt).0, (each k d lt).1 ∙ (are.1 k d lt).1)));
+      waits = λ k d lt h. (each k d lt).3 (at true k d lt h);
+      rounds = λ k d lt h. (each k d lt).4 (at true k d lt h);
+      others = λ k d lt h. (each k d lt).5 (at false k d lt h);
+      plays = λ k d lt. (each k d lt).6;
+    }
 
 -- all have their turn
 pub all_have_turn : (turn : Turn) (k : ℕ) → turn ≡ All → has_turn turn k ≡ true
@@ -42,3 +56,9 @@ awaited_heard turn xs ys zs long stay heard k d lt other =
 pub awaited_then : (turn : Turn) (xs ys zs : List StageLooper) → length ys ≡ length xs → AwaitTheirTurn turn xs ys → AwaitTheirTurn turn ys zs → AwaitTheirTurn turn xs zs
 awaited_then turn xs ys zs long f g k d lt other =
     looper_then HaveHeard HaveHeard HaveHeard have_heard_then (slice_index_or xs k d) (slice_index_or ys k d) (slice_index_or zs k d) (f k d lt other) (g k d (subst (λ (n : ℕ). k < n) (sym long) lt) other)
+
+-- where the main one ran, each other that had ended has done so still
+pub awaited_ended : (xs ys : List StageLooper) → length ys ≡ length xs → AwaitTheirTurn Main xs ys → OthersHaveEnded xs → OthersHaveEnded ys
+awaited_ended xs ys long others ended k d some lt =
+    let within : k < length xs = subst (λ (n : ℕ). k < n) long lt in
+    ap is_ended (others k d within (ne_eqb k 0 (λ e. absurd (omega (arith, e, some))))).last ∙ ended k d some within

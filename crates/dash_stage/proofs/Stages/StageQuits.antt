@@ -1,5 +1,5 @@
 -- The controller's turns at the end: its quits and its halt are in time.
-use Rattle.std.proofs.Common.{◌≡◌, ◌≢◌, ◌<◌, ◌⊎◌, inl, inr, ℕ, Bool, true, false, true≢false, List, [], ◌∷◌, ◌++◌, length, Option, Some, refl, sym, ap, ◌∙◌, subst, arith}
+use Rattle.std.proofs.Common.{◌≡◌, ◌≢◌, ◌<◌, ◌⊎◌, inl, inr, ℕ, Bool, true, false, true≢false, List, length, Option, Some, refl, sym, ap, ◌∙◌, subst, arith}
 use Rattle.std.specs.Prelude.{slice_index_or, is_some, not, if◌then◌else◌}
 use Rattle.std.proofs.lemmas.Bool.{cases_Bool, and_from, false_from_ne_true, ne_eqb}
 use Rattle.std.proofs.lemmas.List.{get_or_default}
@@ -17,30 +17,26 @@ use Rattle.loop_model.specs.Pick.{first_eligible, pick}
 use Rattle.loop_model.specs.Answers.{Setting, answer, clock, quit_place, quit_reply}
 use Rattle.loop_model.specs.Legal.{IsTimely}
 use Rattle.loop_model.proofs.LegalLaws.{IsLegal-last}
-use Rattle.dash_script.specs.declared.script.Block.{Block}
 use Rattle.dash_script.specs.declared.script.Script.{Script}
 use Rattle.looper_run.specs.Holding.{Sender}
 use Rattle.looper_run.specs.Round.{is_ended}
 use Rattle.run_model.specs.Senders.{sender_count}
 use Rattle.run_model.specs.Control.{is_advance, is_halt, is_in_time}
-use Rattle.dash_hall.specs.Hearing.{AtEach, HaveHeard}
-use Rattle.dash_threads.specs.Threads.{ThreadKeeps}
 use Rattle.dash_loopers.specs.declared.looper.StageLooper.{StageLooper}
-use Rattle.dash_loopers.specs.Loopers.{setting_for, LooperKeeps, HasNoneDue}
+use Rattle.dash_loopers.specs.Loopers.{setting_for, HasNoneDue}
 use Rattle.dash_stage.specs.declared.control.Controller.{Controller}
 use Rattle.dash_stage.specs.declared.stage.Stage.{Stage}
-use Rattle.dash_stage.specs.Sharing.{HaveSeenTheSame}
 use Rattle.dash_stage.specs.Stages.{IsStage}
-use Rattle.dash_stage.specs.Timeliness.{whole_on, AreTimelyUpTo, AreRested, EachTurnsOn, MovesNot, Halts}
+use Rattle.dash_stage.specs.Timeliness.{whole_on, AreRested, MovesNot}
 use Rattle.dash_stage.proofs.Controller.Controls.{advance_alone}
 use Rattle.dash_stage.proofs.Ends.HallEnds.{some_of}
-use Rattle.dash_stage.proofs.Stages.StageTurns.{IsInTimeBy, turned_timely}
+use Rattle.dash_stage.proofs.Stages.StageTurns.{IsInTimeBy}
 use Rattle.dash_stage.proofs.Stages.StageWhole.{queues_count}
 
 -- ---- the halt
 
 -- a halt is in time
-halt_in_time : (es : List Entry) (c : Call) (r : Reply) → is_halt c ≡ true → is_in_time es c r ≡ true
+pub halt_in_time : (es : List Entry) (c : Call) (r : Reply) → is_halt c ≡ true → is_in_time es c r ≡ true
 halt_in_time es (Halt now) r h = refl
 halt_in_time es (Post p) r h = absurd cc
 halt_in_time es (Barrier now) r h = absurd cc
@@ -51,19 +47,8 @@ halt_in_time es (Next now) r h = absurd cc
 halt_in_time es (Advance now) r h = absurd cc
 
 -- and moves no time
-halt_moves_not : (c : Call) → is_halt c ≡ true → is_advance c ≡ false
+pub halt_moves_not : (c : Call) → is_halt c ≡ true → is_advance c ≡ false
 halt_moves_not c halts = false_from_ne_true (is_advance c) (λ moves. true≢false (sym halts ∙ (advance_alone c moves).0))
-
--- an entry that halts is one that moves no time
-halting : (n : ℕ) (found left : List Entry) → (left ≡ found) ⊎ ((e : Entry) × (left ≡ found ++ e ∷ []) × Halts e × (e.sender ≡ n)) → (left ≡ found) ⊎ ((e : Entry) × (left ≡ found ++ e ∷ []) × MovesNot e × (e.sender ≡ n))
-halting n found left (inl same) = inl same
-halting n found left (inr t) = let e : Entry = t.0 in inr (e, t.1, halt_moves_not e.call t.2, t.3)
-
-pub halts_move_not : (c c' : Controller) → EachTurnsOn Halts c c' → EachTurnsOn MovesNot c c'
-halts_move_not c c' turns = record {
-  long = turns.long;
-  each = λ q d lt. let t = turns.each q d lt in record { found = t.found; begins = t.begins; made = t.made; sender = t.sender; step = halting (slice_index_or c.kit.posters.items q d).sender t.found _ t.step };
-}
 
 -- ---- the quits
 
@@ -99,8 +84,8 @@ module _ (set : Setting) (m : ℕ) (es : List Entry) (side : set.main ≡ false)
   in_time_by_call (Advance now) r is at h = absurd cc
 
 -- on a side queue that has none due, what moves no time is in time
-quit_in_time : (s : Script) (q : ℕ) (es : List Entry) → 0 < q → HasNoneDue (empty_base (sender_count s)) es (clock (empty_base (sender_count s)) es) → IsInTimeBy MovesNot s q es
-quit_in_time s q es side quiet e sound moves_not =
+side_in_time : (s : Script) (q : ℕ) (es : List Entry) → 0 < q → HasNoneDue (empty_base (sender_count s)) es (clock (empty_base (sender_count s)) es) → IsInTimeBy MovesNot s q es
+side_in_time s q es side quiet e sound moves_not =
     let may = IsLegal-last (setting_for s q) (empty_base (sender_count s)) es e sound.legal in
     in_time_by_call (setting_for s q) (sender_count s) es (ne_eqb q 0 (λ z. absurd (omega (arith, z, side)))) refl quiet e.call e.reply may.reply may.timely moves_not
 
@@ -117,24 +102,15 @@ kept_where_ended ls first now after n l side going kept elsewhere q d why = else
     apart (inl main) at = absurd (omega (arith, main, at, side))
     apart (inr ended) at = true≢false (sym (subst (λ (m : ℕ). is_ended (slice_index_or ls m l).last ≡ true) at (ended l)) ∙ going)
 
--- from a stage, over the controller's turns at the end, to one in which all have seen the same again, and nobody else called anything
-module _ (s : Script) (st : Stage) (c : Controller) (st' : Stage) (is : IsStage s st) (is' : IsStage s st') (same : HaveSeenTheSame st) (same' : HaveSeenTheSame st')
-    (threads : AtEach (ThreadKeeps HaveHeard) st.threads.items st'.threads.items) (loopers : AtEach (LooperKeeps HaveHeard) st.loopers.items st'.loopers.items)
-    (heard : HaveHeard c.kit.posters.items st'.controller.kit.posters.items) where
-  -- the histories stay timely over a halt
-  pub halted_timely : EachTurnsOn Halts st.controller c → (past : List Block) → AreTimelyUpTo s past st → AreTimelyUpTo s past st'
-  halted_timely turns past timely =
-      turned_timely s st c st' is is' same same' threads loopers heard Halts turns past (λ q d lt. inr (λ e sound halts. halt_in_time (whole_on st.controller q d) e.call e.reply halts)) timely
-
-  -- and over the quits of loopers that have come to rest and haven't ended
-  pub quit_timely : EachTurnsOn MovesNot st.controller c → AreKeptWhereEnded st.loopers.items st.controller c → AreRested s st → (past : List Block) → AreTimelyUpTo s past st → AreTimelyUpTo s past st'
-  quit_timely turns kept rested past timely =
-      turned_timely s st c st' is is' same same' threads loopers heard MovesNot turns past (λ q d lt. dite (ℕ_discrete q 0)
-      (λ main. inl (kept q d (inl (sym main))))
-      (λ side.
-      let in_loopers : q < length st.loopers.items = subst (λ (n : ℕ). q < n) (queues_count s st is) lt in
-      let l : StageLooper = some_of st.loopers.items q in_loopers in
-      elim (cases_Bool (is_ended (slice_index_or st.loopers.items q l).last)) [
-        | inl ended ↦ inl (kept q d (inr (λ k. subst (λ (z : StageLooper). is_ended z.last ≡ true) (get_or_default st.loopers.items q l k in_loopers) ended)))
-        | inr going ↦ inr (quit_in_time s q (whole_on st.controller q d) (omega (arith, side)) ((rested q l d in_loopers).quiet going))
-      ])) timely
+-- what the quits left of loopers that have come to rest and haven't ended is in time, where no other queue was quit
+pub quit_in_time : (s : Script) (st : Stage) (c : Controller) → IsStage s st → AreKeptWhereEnded st.loopers.items st.controller c → AreRested s st → (q : ℕ) (d : Sender) → q < length st.controller.kit.posters.items
+    → (slice_index_or c.kit.posters.items q d ≡ slice_index_or st.controller.kit.posters.items q d) ⊎ IsInTimeBy MovesNot s q (whole_on st.controller q d)
+quit_in_time s st c is kept rested q d lt = dite (ℕ_discrete q 0)
+    (λ main. inl (kept q d (inl (sym main))))
+    (λ side.
+    let in_loopers : q < length st.loopers.items = subst (λ (n : ℕ). q < n) (queues_count s st is) lt in
+    let l : StageLooper = some_of st.loopers.items q in_loopers in
+    elim (cases_Bool (is_ended (slice_index_or st.loopers.items q l).last)) [
+      | inl ended ↦ inl (kept q d (inr (λ k. subst (λ (z : StageLooper). is_ended z.last ≡ true) (get_or_default st.loopers.items q l k in_loopers) ended)))
+      | inr going ↦ inr (side_in_time s q (whole_on st.controller q d) (omega (arith, side)) ((rested q l d in_loopers).quiet going))
+    ])

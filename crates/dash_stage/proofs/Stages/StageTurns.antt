@@ -33,7 +33,7 @@ use Rattle.dash_hall.specs.Growth.{own}
 use Rattle.dash_stage.specs.Controllers.{are_advances, IsMoving}
 use Rattle.dash_threads.specs.Threads.{IsUpTo, HasCalled, ThreadKeeps}
 use Rattle.dash_loopers.specs.Loopers.{IsSoundOn, is_disposal, setting_for, is_given_up, LooperKeeps}
-use Rattle.dash_stage.specs.Stages.{IsStage, IsStageIn, HaveRun, RunOn, LoopersGoOn}
+use Rattle.dash_stage.specs.Stages.{IsStage, HaveRun, RunOn, LoopersGoOn}
 use Rattle.dash_hall.specs.Hearing.{AtEach, HaveHeard}
 use Rattle.dash_stage.specs.Sharing.{HaveSeenTheSame}
 use Rattle.dash_stage.specs.Timeliness.{whole_on, AreSound, IsTimelyUpTo, AreTimelyUpTo, TurnsOn, EachTurnsOn, HasHaltedLast}
@@ -49,8 +49,9 @@ use Rattle.dash_stage.proofs.BlockTimes.BlockOrder.{called_in, in_order_block, i
 use Rattle.dash_stage.proofs.Stages.Timely.{back_all, in_time_one, in_time_more, before_quit_one, before_quit_block, moves_quit_not, timely_others, timely_block}
 use Rattle.dash_stage.proofs.Ends.HallEnds.{some_of}
 use Rattle.dash_stage.proofs.Sharing.ThreadShares.{up_to_kept}
+use Rattle.dash_stage.proofs.Stages.Turned.{Turned}
 use Rattle.dash_stage.proofs.Stages.StageWhole.{as_many, controller_entries, thread_entries, looper_made_none, sound_front, sound_grown, none_behind}
-use Rattle.dash_stage.proofs.Moves.StageMoves.{controls_above, turned_on, turned_left, sound_by_turns}
+use Rattle.dash_stage.proofs.Moves.StageMoves.{controls_above, longer, turned_on, turned_left, sound_by_turns}
 
 -- ---- lists and histories
 
@@ -238,32 +239,28 @@ turns_more P first now after n turns kept long here elsewhere = (
   λ q d le. elsewhere q d (λ at. absurd (omega (arith, at, le))) ∙ kept q d (omega (arith, le)),
 )
 
--- from a stage, over the controller's turns, to one in which all have seen the same again, and nobody else called anything
-module _ {lockstep : Bool} (s : Script) (st : Stage) (c : Controller) (st' : Stage) (is : IsStageIn lockstep s st) (is' : IsStageIn lockstep s st') (same : HaveSeenTheSame st) (same' : HaveSeenTheSame st')
-    (threads : AtEach (ThreadKeeps HaveHeard) st.threads.items st'.threads.items) (loopers : AtEach (LooperKeeps HaveHeard) st.loopers.items st'.loopers.items)
-    (heard : HaveHeard c.kit.posters.items st'.controller.kit.posters.items) (P : Entry → Type 0) (turns : EachTurnsOn P st.controller c) where
+-- over turns behind which all have seen the same again
+module _ {lockstep : Bool} {P : Entry → Type 0} {s : Script} {st : Stage} {c : Controller} {st' : Stage} (o : Turned lockstep P s st c st') where
   -- the histories stay timely, where on each queue no turn was taken, or what it left is in time
   pub turned_timely : (past : List Block) → ((q : ℕ) (d : Sender) → q < length st.controller.kit.posters.items → (slice_index_or c.kit.posters.items q d ≡ slice_index_or st.controller.kit.posters.items q d) ⊎ IsInTimeBy P s q (whole_on st.controller q d))
       → AreTimelyUpTo s past st → AreTimelyUpTo s past st'
   turned_timely past in_time timely = record {
-    same = same';
+    same = o.same';
     timely = λ sounds q d lt'.
         let sound = sounds q d lt' in
-        let lt : q < length st.controller.kit.posters.items = subst (λ (n : ℕ). q < n) (heard.long ∙ turns.long) lt' in
+        let lt : q < length st.controller.kit.posters.items = subst (λ (n : ℕ). q < n) (longer o) lt' in
         let es = whole_on st.controller q d in
         let whole = whole_on st'.controller q d in
-        let was = timely.timely (sound_by_turns s st c st' is is' same same' threads loopers heard P turns sounds) q d lt in
+        let was = timely.timely (sound_by_turns o sounds) q d lt in
         elim (in_time q d lt) [
-          | inl kept ↦
-              let stays : whole ≡ es = turned_left s st c st' is is' same same' threads loopers heard P turns q d lt sound.numbered ∙ ap (λ (p : Sender). p.view.seen) kept in
-              subst (IsTimelyUpTo s past q) (sym stays) was
-          | inr one ↦ timely_turned P s past q es whole one sound (turned_on s st c st' is is' same same' threads loopers heard P turns q d lt sound.numbered) (λ so. was)
+          | inl kept ↦ subst (IsTimelyUpTo s past q) (sym (turned_left o q d lt sound.numbered ∙ ap (λ (p : Sender). p.view.seen) kept)) was
+          | inr one ↦ timely_turned P s past q es whole one sound (turned_on o q d lt sound.numbered) (λ so. was)
         ];
   }
 
   -- where the controller halted main, main's history ends with the halt
   pub halted_stays : ((d : Sender) → ends_halted (whole_on c 0 d) ≡ true) → HasHaltedLast s st'
-  halted_stays halted d lt numbered = ap ends_halted (turned_left s st c st' is is' same same' threads loopers heard P turns 0 d (subst (λ (n : ℕ). 0 < n) (heard.long ∙ turns.long) lt) numbered) ∙ halted d
+  halted_stays halted d lt numbered = ap ends_halted (turned_left o 0 d (subst (λ (n : ℕ). 0 < n) (longer o) lt) numbered) ∙ halted d
 
 -- ---- what stays while others are heard
 

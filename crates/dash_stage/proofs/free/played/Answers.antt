@@ -3,10 +3,7 @@ use Rattle.dash_stage.proofs.BlockTimes.Limits.{playable}
 use Rattle.dash_stage.proofs.ByClock.ClockEnds.{begins_by_clock}
 use Rattle.dash_stage.proofs.free.played.Goals as goal
 
-pub play_by_clock-requires-clause-some : goal.play_by_clock-requires-clause-some
-play_by_clock-requires-clause-some g c κs within = (playable c.args.script.now c.requires).loopers
-
 pub play_by_clock-requires-clause-begun : goal.play_by_clock-requires-clause-begun
 play_by_clock-requires-clause-begun g c κs within =
     let m : Mode = in_free_mode (g.C.Clock.shows c.args.timer.now.clock.now) c.args.timer.now.start in
-    begins_by_clock m c.args.script.now c.in_ok-stage.stage c.in_ok-stage.ensures.stage (c.in_ok-stage.ensures.begun m) c.in_ok-stage.ensures.loopers c.in_ok-stage.ensures.unused
+    begins_by_clock m c.args.script.now c.in_ok-stage.stage (playable c.args.script.now c.requires).loopers c.in_ok-stage.ensures.opened

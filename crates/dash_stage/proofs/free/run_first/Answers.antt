@@ -9,29 +9,19 @@ use Rattle.dash_stage.proofs.ByClock.ClockEnds.{each_set, loops_still}
 use Rattle.dash_stage.proofs.ByClock.Looping.{one_set}
 use Rattle.dash_stage.proofs.free.run_first.Goals as goal
 
-pub returns-clause-loopers : goal.returns-clause-loopers
-returns-clause-loopers g c =
+pub returns : goal.returns
+returns g c =
     let m : Mode = in_free_mode (g.C.Clock.shows c.args.timer.now.clock.now) c.args.timer.now.start in
     let s = c.args.script.now in
     let hall = c.args.hall.now in
     let ls = c.args.loopers.now in
     let it : StageLooper = slice_index_or ls 0 c.index-loopers-0.result in
     let some : 0 < length ls = omega (arith, c.requires.one) in
+    let is_it = get_or_default ls 0 c.index-loopers-0.result it some in
     let ran = c.run_by_clock.ensures in
-    each_set (LoopsByClock m s hall) ls it c.run_by_clock.new.self (get_or_default ls 0 c.index-loopers-0.result it some) some (loops_still m s hall ls c.requires.loopers)
-    (record { looper = ran.looper; number = ran.number; plays = ran.plays; clocked = ran.clocked; grew = ran.grew })
-
-pub returns-clause-looped : goal.returns-clause-looped
-returns-clause-looped g c = λ none.
-    let m : Mode = in_free_mode (g.C.Clock.shows c.args.timer.now.clock.now) c.args.timer.now.start in
-    let s = c.args.script.now in
-    let hall = c.args.hall.now in
-    let ls = c.args.loopers.now in
-    let it : StageLooper = slice_index_or ls 0 c.index-loopers-0.result in
-    let some : 0 < length ls = omega (arith, c.requires.one) in
-    let ran = c.run_by_clock.ensures in
-    one_set (LoopsFor m s hall (Some s.end) None) ls it c.run_by_clock.new.self (get_or_default ls 0 c.index-loopers-0.result it some) c.requires.one
-    (record {
-      goes = record { looper = ran.looper; number = ran.number; plays = ran.plays; clocked = ran.clocked; grew = ran.grew };
-      loops = subst (λ (o : Option Bool). LoopsUpTo m s (Some s.end) it c.run_by_clock.new.self o) none ran.rounds;
-    })
+    let goes : LoopsByClock m s hall it c.run_by_clock.new.self = record { looper = ran.looper; number = ran.number; plays = ran.plays; clocked = ran.clocked; grew = ran.grew } in
+    record {
+      loopers = each_set (LoopsByClock m s hall) ls it c.run_by_clock.new.self is_it some (loops_still m s hall ls c.requires.loopers) goes;
+      looped = λ none. one_set (LoopsFor m s hall (Some s.end) None) ls it c.run_by_clock.new.self is_it c.requires.one
+          (record { goes = goes; loops = subst (λ (o : Option Bool). LoopsUpTo m s (Some s.end) it c.run_by_clock.new.self o) none ran.rounds });
+    }

@@ -2,13 +2,13 @@ use Rattle.std.proofs.Common.{rules, ◌≡◌, ◌++◌, List, length, sym, sub
 use Rattle.run_model.specs.Moments.{Mode, in_free_mode}
 use Rattle.dash_hall.specs.Hearing.{AtEach}
 use Rattle.dash_loopers.specs.declared.looper.StageLooper.{StageLooper}
-use Rattle.dash_stage.specs.ByClock.{LoopsByClock, LoopsAlone, EachLoopsAlone, MainLoops, LoopSideBySide}
+use Rattle.dash_stage.specs.ByClock.{LoopsByClock, LoopsAlone, EachLoops, EachLoopsAlone, MainLoops, LoopSideBySide}
 use Rattle.dash_stage.proofs.ByClock.ClockEnds.{each_append}
 use Rattle.dash_stage.proofs.ByClock.Looping.{each_so, side_by_side}
 use Rattle.dash_stage.proofs.free.run_side_by_side.Goals as goal
 
-pub returns-clause-loopers : goal.returns-clause-loopers
-returns-clause-loopers g c =
+pub returns-clause-beside : goal.returns-clause-beside
+returns-clause-beside g c =
     let m : Mode = in_free_mode (g.C.Clock.shows c.args.timer.now.clock.now) c.args.timer.now.start in
     let s = c.args.script.now in
     let hall = c.args.hall.now in
@@ -16,8 +16,12 @@ returns-clause-loopers g c =
     let main : List StageLooper = c.split_at_mut-main.result.0.now in
     let others : List StageLooper = c.split_at_mut-main.result.1.now in
     let alone : EachLoopsAlone m s hall others c.others-1.given.0 = search rules in
-    subst (λ (xs : List StageLooper). AtEach R xs (c.main-1.given.0 ++ c.others-1.given.0)) (sym c.split_at_mut-main.ensures.value)
-    (each_append R main c.main-1.given.0 others c.others-1.given.0 (search rules) (each_so (LoopsAlone m s hall) R (λ x y one. one.1.goes) others c.others-1.given.0 alone))
+    let loops : EachLoops m s hall main c.main-1.given.0 = search rules in
+    record {
+      ran = search rules;
+      loops = subst (λ (xs : List StageLooper). AtEach R xs (c.main-1.given.0 ++ c.others-1.given.0)) (sym c.split_at_mut-main.ensures.value)
+          (each_append R main c.main-1.given.0 others c.others-1.given.0 loops (each_so (LoopsAlone m s hall) R (λ x y one. one.1.goes) others c.others-1.given.0 alone));
+    }
 
 pub returns-clause-looped : goal.returns-clause-looped
 returns-clause-looped g c = λ quit.

@@ -30,7 +30,7 @@ use Rattle.dash_stage.proofs.kept.kept.Goals as goal
 
 pub records-requires-clause-kits : goal.records-requires-clause-kits
 records-requires-clause-kits c =
-    all_kits c.args.script.now c.args.stage.hall c.looper_kits.new.kits.items c.push.new.self.items c.args.stage.controller c.in_ok-journals.ensures.kits c.requires.stage.controller c.in_ok-push.ensures.items
+    all_kits c.args.script.now c.args.stage.hall c.looper_kits.new.kits.items c.push.new.self.items c.args.stage.controller c.in_ok-journals.ensures.back.kits c.requires.stage.controller c.in_ok-push.ensures.items
 
 pub records-requires-clause-sealed : goal.records-requires-clause-sealed
 records-requires-clause-sealed c =
@@ -49,8 +49,8 @@ returns c =
     let kits' = c.push.new.self.items in
     let grown = c.in_ok-push.ensures.items in
     let mine = st.controller.kit in
-    let told = c.in_ok-kits.ensures in
-    let left = c.in_ok-journals.ensures in
+    let told = c.in_ok-kits.ensures.give in
+    let left = c.in_ok-journals.ensures.back in
     let are_kept = c.in_ok-queues.ensures in
     let qs = c.in_ok-queues.queues.items in
     let fs = c.in_ok-queues.frames.items in
@@ -67,49 +67,49 @@ returns c =
     let told_all = told_kept s js kits kits' mine place grown (left.told c.requires.on) in
     -- the moments that the kits tell are the mode's
     let queues : (m : Mode) → HasEndedBy m s st → AreQueueRecords m s qs = λ m out.
-    are_kept.queues m (sym out.stage.controller.mode)
+    are_kept.queues.by m (sym out.stage.controller.mode)
     (called_by_clock m s hall kits' is_hall are (kit_more (AreByClock m) kits kits' mine grown out.clocked.controller (left.clocked m out.clocked.loopers (told.clocked m out.clocked.threads)))) in
     let seen : HaveSeenTheSame st → OfKits (HaveSeenAll whole) kits' = λ same.
     kit_more (HaveSeenAll whole) kits kits' mine grown refl (left.seen whole same.loopers (told.seen whole same.threads)) in
     let run : (m : Mode) → HaveRunBy m s s.blocks st.threads.items → HaveRunAll m s kits' = λ m ran.
     run_kept s hall m kits kits' mine (omega (arith, count)) grown (left.run m (told.run m ran)) in
     let planned : (m : Mode) → HaveRunBy m s s.blocks st.threads.items → AllByRecursion (IsAsPlanned m s) qs = λ m ran.
-    planned_records s hall is_hall kits' are m (run m ran) qs are_kept.loopers are_kept.all in
+    planned_records s hall is_hall kits' are m (run m ran) qs are_kept.queues.loopers are_kept.queues.all in
     let controls : (m : Mode) → HasEndedBy m s st → HasClosedIn m.lockstep s st.controller → AllByRecursion (IsControlled s) qs = λ m out closed.
-    controls_of_records s hall kits' qs is_hall are st.controller held m closed (over_kept s kits kits' mine count grown (left.over c.requires.ended)) (queues m out) are_kept.all in
+    controls_of_records s hall kits' qs is_hall are st.controller held m closed (over_kept s kits kits' mine count grown (left.over c.requires.ended)) (queues m out) are_kept.queues.all in
     let by : HasEndedInLockstep s st → HasEndedBy in_lockstep s st = ended_in_step s st in
     record {
       queues = queues;
       planned = planned;
       controls = controls;
       halted = λ m out halted.
-          halted_of_records m s hall kits' qs is_hall are st.controller held (queues m out) are_kept.all (seen out.same) c.requires.playable.loopers halted;
+          halted_of_records m s hall kits' qs is_hall are st.controller held (queues m out) are_kept.queues.all (seen out.same) c.requires.playable.loopers halted;
       before_quit = λ out.
-          before_quit_of_records in_lockstep s hall kits' qs is_hall are st.controller held (queues in_lockstep (by out)) are_kept.all (seen out.timely.same)
-          (λ q d lt. (out.timely.timely (all_sound s hall kits' qs is_hall are st.controller held (queues in_lockstep (by out)) are_kept.all (seen out.timely.same)) q d lt).before_quit);
+          before_quit_of_records in_lockstep s hall kits' qs is_hall are st.controller held (queues in_lockstep (by out)) are_kept.queues.all (seen out.at.timely.same)
+          (λ q d lt. (out.at.timely.timely (all_sound s hall kits' qs is_hall are st.controller held (queues in_lockstep (by out)) are_kept.queues.all (seen out.at.timely.same)) q d lt).before_quit);
       before_quit_by_clock = λ m out.
-          before_quit_of_records m s hall kits' qs is_hall are st.controller held (queues m out.out) are_kept.all (seen out.out.same) (quits_behind s st out.out.stage out.out.same out.behind);
+          before_quit_of_records m s hall kits' qs is_hall are st.controller held (queues m out.out) are_kept.queues.all (seen out.out.same) (quits_behind s st out.out.stage out.out.same out.ran.behind);
       timely = λ out.
-          timely_of_records s hall kits' qs is_hall are st.controller held (queues in_lockstep (by out)) are_kept.all (seen out.timely.same) out.timely.timely;
+          timely_of_records s hall kits' qs is_hall are st.controller held (queues in_lockstep (by out)) are_kept.queues.all (seen out.at.timely.same) out.at.timely.timely;
       loopers = λ out.
-          loopers_of_records in_lockstep s hall kits' qs is_hall are st.controller held (queues in_lockstep (by out)) are_kept.all (seen out.timely.same) c.requires.playable.few
-          js fs ls left.journals are_kept.frames are_kept.own told_all given c.requires.on c.requires.stage.loopers.0
+          loopers_of_records in_lockstep s hall kits' qs is_hall are st.controller held (queues in_lockstep (by out)) are_kept.queues.all (seen out.at.timely.same) c.requires.playable.few
+          js fs ls left.journals are_kept.frames.records_are are_kept.frames.own told_all given c.requires.on c.requires.stage.loopers.0
           (stands_in_step s st.controller js kits' ls given c.requires.stage.loopers.0 many (λ k d lt. (c.requires.stage.loopers.1 k d lt).1)
-          (out.played (all_sound s hall kits' qs is_hall are st.controller held (queues in_lockstep (by out)) are_kept.all (seen out.timely.same)))
-          (asked_at_end s st out.stage out.run (all_sound s hall kits' qs is_hall are st.controller held (queues in_lockstep (by out)) are_kept.all (seen out.timely.same)) out.turn))
-          (planned in_lockstep out.run) (controls in_lockstep (by out) out.closed) out.stage.controller (run in_lockstep out.run) are_kept.theirs;
+          (out.at.step.played (all_sound s hall kits' qs is_hall are st.controller held (queues in_lockstep (by out)) are_kept.queues.all (seen out.at.timely.same)))
+          (asked_at_end s st out.stage out.at.run (all_sound s hall kits' qs is_hall are st.controller held (queues in_lockstep (by out)) are_kept.queues.all (seen out.at.timely.same)) out.at.asks))
+          (planned in_lockstep out.at.run) (controls in_lockstep (by out) out.closed) out.stage.controller (run in_lockstep out.at.run) are_kept.frames.theirs;
       by_clock = λ m out.
-          loopers_of_records m s hall kits' qs is_hall are st.controller held (queues m out.out) are_kept.all (seen out.out.same) c.requires.playable.few
-          js fs ls left.journals are_kept.frames are_kept.own told_all given c.requires.on c.requires.stage.loopers.0
-          (λ k lt. subst (λ (b : Bool). StandsAt b s st.controller js kits' k) (sym out.free) (stands_by_clock s st.controller js kits' ls given c.requires.stage.loopers.0 many out.played k lt))
-          (planned m out.run) (controls m out.out out.closed) out.out.stage.controller (run m out.run) are_kept.theirs;
+          loopers_of_records m s hall kits' qs is_hall are st.controller held (queues m out.out) are_kept.queues.all (seen out.out.same) c.requires.playable.few
+          js fs ls left.journals are_kept.frames.records_are are_kept.frames.own told_all given c.requires.on c.requires.stage.loopers.0
+          (λ k lt. subst (λ (b : Bool). StandsAt b s st.controller js kits' k) (sym out.free) (stands_by_clock s st.controller js kits' ls given c.requires.stage.loopers.0 many out.ran.played k lt))
+          (planned m out.ran.run) (controls m out.out out.closed) out.out.stage.controller (run m out.ran.run) are_kept.frames.theirs;
       journals = left.journals;
-      frames = are_kept.frames;
-      run = are_kept.frames.lawful;
+      frames = are_kept.frames.records_are;
+      run = are_kept.frames.records_are.lawful;
       first = λ out.
-          first_of_records s hall kits' qs is_hall are st.controller held (queues in_lockstep (by out)) are_kept.all (seen out.timely.same) out.first;
+          first_of_records s hall kits' qs is_hall are st.controller held (queues in_lockstep (by out)) are_kept.queues.all (seen out.at.timely.same) out.at.step.first;
       reached = λ out.
-          reached_of_records s hall kits' qs is_hall are st.controller held (queues in_lockstep (by out)) are_kept.all (seen out.timely.same) c.requires.playable.loopers out.timely.timely;
+          reached_of_records s hall kits' qs is_hall are st.controller held (queues in_lockstep (by out)) are_kept.queues.all (seen out.at.timely.same) c.requires.playable.loopers out.at.timely.timely;
       moves = λ out.
-          moves_of_records s hall kits' qs is_hall are st.controller held (queues in_lockstep (by out)) are_kept.all (seen out.timely.same) out.moves;
+          moves_of_records s hall kits' qs is_hall are st.controller held (queues in_lockstep (by out)) are_kept.queues.all (seen out.at.timely.same) out.at.moves;
     }

@@ -1,4 +1,5 @@
-use Rattle.std.proofs.Common.{◌<◌, [], length, sym, subst, arith}
+use Rattle.std.proofs.Common.{◌≡◌, ◌<◌, ◌+◌, ℕ, [], length, ap, sym, subst, arith}
+use Rattle.dash_stage.specs.Opening.{AreUnusedFrom}
 use Rattle.dash_hall.specs.declared.kit.Kit.{Kit}
 use Rattle.dash_loopers.specs.declared.looper.StageLooper.{StageLooper}
 use Rattle.dash_hall.specs.Kits.{AreUnseen, IsUnusedKit, AreUnusedKits}
@@ -13,30 +14,50 @@ use Rattle.dash_stage.proofs.Sharing.Casting.{looper_made, first_more}
 use Rattle.dash_stage.proofs.Ends.Carried.{other_unused}
 use Rattle.dash_stage.proofs.opening.loopers.Goals as goal
 
+pub loop-number-init : goal.loop-number-init
+loop-number-init c =
+    let s = c.args.script.now in
+    let none = ap length c.new-loopers.ensures.items in
+    let first : s.threads ≡ s.threads + 0 = omega arith in
+    record {
+      kits_left = subst (λ (n : ℕ). AreUnusedFrom s c.args.hall.now n c.args.kits.now.items) first c.requires.kits;
+      count = none;
+      first = λ k d lt. absurd (omega (arith, lt, none));
+      unseen = λ k d lt. absurd (omega (arith, lt, none));
+      waits = λ k d lt. absurd (omega (arith, lt, none));
+      begun = λ k d lt. absurd (omega (arith, lt, none));
+      unheard = λ k d lt. absurd (omega (arith, lt, none));
+    }
+
 pub new-requires-clause-unused : goal.new-requires-clause-unused
 new-requires-clause-unused c =
-    let count = c.loop-number.invariant.0.count in
+    let left = c.loop-number.invariant.kits_left in
+    let count = left.from.count in
     let lt = c.loop-number-test.true in
     let some : 0 < length c.loop-number.kits.items = omega (arith, count, lt) in
-    subst IsUnusedKit (sym c.remove.ensures.value) (c.loop-number.invariant.1 0 c.remove.result some)
+    subst IsUnusedKit (sym c.remove.ensures.value) (left.unused 0 c.remove.result some)
 
 pub loop-number-preserved : goal.loop-number-preserved
 loop-number-preserved c =
+    let s = c.args.script.now in
     let at = c.loop-number in
-    let count = at.invariant.0.count in
+    let was = at.invariant in
+    let left = was.kits_left in
+    let count = left.from.count in
     let lt = c.loop-number-test.true in
     let some : 0 < length at.kits.items = omega (arith, count, lt) in
     let grown = c.in_ok-push.ensures.items in
     let one = c.in_ok-looper.looper in
-    let made = looper_made c.args.script.now c.args.hall.now at.number at.kits.items c.remove.new.self.items at.loopers.items c.push.new.self.items one at.invariant.0 some c.remove.ensures.items at.invariant.2 at.invariant.3
-    c.in_ok-looper.ensures.looper c.in_ok-looper.ensures.number_is grown in
-    let unseen = subst AreUnseen (sym c.in_ok-looper.ensures.posters) (subst (λ (z : Kit). AreUnseen z.posters.items) (sym c.remove.ensures.value) (at.invariant.1 0 c.remove.result some).posters) in (
-      made.0,
-      subst AreUnusedKits (sym c.remove.ensures.items) (other_unused at.kits.items at.invariant.1 some),
-      made.1,
-      made.2,
-      subst (OfLoopers AreUnseen) (sym grown) (first_more (λ k (z : StageLooper). AreUnseen (posters_of z)) at.loopers.items one at.invariant.4 unseen),
-      subst WaitForNothing (sym grown) (first_more (λ k (z : StageLooper). WaitsForNothing z.last) at.loopers.items one at.invariant.5 c.in_ok-looper.ensures.waits),
-      subst (HaveBegun c.args.script.now) (sym grown) (first_more (λ k (z : StageLooper). HasCome c.args.script.now z (first_looper c.args.script.now)) at.loopers.items one at.invariant.6 c.in_ok-looper.ensures.begun),
-      subst HaveHeardNothing (sym grown) (first_more (λ k (z : StageLooper). OfItsPasses (HasHeardAll []) z) at.loopers.items one at.invariant.7 c.in_ok-looper.ensures.unheard),
-    )
+    let new = c.in_ok-looper.ensures in
+    let made = looper_made s c.args.hall.now at.number at.kits.items c.remove.new.self.items at.loopers.items c.push.new.self.items one left.from some c.remove.ensures.items was.count was.first
+    new.looper new.number_is grown in
+    let unseen = subst AreUnseen (sym new.posters) (subst (λ (z : Kit). AreUnseen z.posters.items) (sym c.remove.ensures.value) (left.unused 0 c.remove.result some).posters) in
+    record {
+      kits_left = record { from = made.0; unused = subst AreUnusedKits (sym c.remove.ensures.items) (other_unused at.kits.items left.unused some) };
+      count = made.1;
+      first = made.2;
+      unseen = subst (OfLoopers AreUnseen) (sym grown) (first_more (λ k (z : StageLooper). AreUnseen (posters_of z)) at.loopers.items one was.unseen unseen);
+      waits = subst WaitForNothing (sym grown) (first_more (λ k (z : StageLooper). WaitsForNothing z.last) at.loopers.items one was.waits new.waits);
+      begun = subst (HaveBegun s) (sym grown) (first_more (λ k (z : StageLooper). HasCome s z (first_looper s)) at.loopers.items one was.begun new.begun);
+      unheard = subst HaveHeardNothing (sym grown) (first_more (λ k (z : StageLooper). OfItsPasses (HasHeardAll []) z) at.loopers.items one was.unheard new.unheard);
+    }

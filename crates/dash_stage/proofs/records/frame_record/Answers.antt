@@ -4,7 +4,7 @@ use Rattle.choreographer.specs.Ends.{IsWhole}
 use Rattle.dash_hall.specs.declared.kit.Kit.{Kit}
 use Rattle.dash_hall.specs.Dealing.{GivesPass}
 use Rattle.dash_hall.proofs.HallSteps.{holder_within}
-use Rattle.dash_stage.specs.Ending.{AreOfNext, BeginWithOwn}
+use Rattle.dash_stage.specs.Ending.{AreOfNextPasses}
 use Rattle.dash_stage.proofs.Ends.HallFrames.{has_pass, takes_more, taken_own, taken_theirs}
 use Rattle.dash_stage.proofs.Controller.FrameEnds.{taken_sealed, taken_kits, whole_run}
 use Rattle.dash_stage.proofs.records.frame_record.Goals as goal
@@ -15,9 +15,9 @@ next_pass-requires c =
     let s = c.args.script.now in
     let few = holder_within s c.args.looper at.number c.requires.looper in
     let held = c.holder.ensures in
-    let senders : length c.args.kits.now.items ≡ s.threads + s.loopers + 1 = c.requires.count in
+    let senders : length c.args.kits.now.items ≡ s.threads + s.loopers + 1 = c.requires.kits.count in
     subst (λ (x : Kit). 0 < length x.frames.items) (sym c.index_mut.ensures.value)
-    (has_pass s c.args.looper c.args.choreographer at.number c.args.kits.now.items at.passes.items at.kits.items c.holder.result c.index_mut.result.now c.loop-number-test.true held (omega (arith, few, held, senders)) c.requires.kits at.invariant.taken)
+    (has_pass s c.args.looper c.args.choreographer at.number c.args.kits.now.items at.passes.items at.kits.items c.holder.result c.index_mut.result.now c.loop-number-test.true held (omega (arith, few, held, senders)) c.requires.kits.begin at.invariant.taken)
 
 pub loop-number-preserved : goal.loop-number-preserved
 loop-number-preserved c =
@@ -25,13 +25,13 @@ loop-number-preserved c =
     let s = c.args.script.now in
     let few = holder_within s c.args.looper at.number c.requires.looper in
     let held = c.holder.ensures in
-    let senders : length c.args.kits.now.items ≡ s.threads + s.loopers + 1 = c.requires.count in
+    let senders : length c.args.kits.now.items ≡ s.threads + s.loopers + 1 = c.requires.kits.count in
     let p = c.next_pass.result in
     let items : c.push.new.self.items ≡ at.passes.items ++ p ∷ [] = c.in_ok-push.ensures.items in
     let count = at.invariant.count in
     record {
       count = let all = ap length items in let more = length-append at.passes.items (p ∷ []) in omega (arith, all, more, count);
-      taken = takes_more s c.args.looper c.args.choreographer at.number c.args.kits.now.items at.passes.items _ p at.kits.items _ c.holder.result c.index_mut.result.now c.next_pass.new.self c.loop-number-test.true held (omega (arith, few, held, senders)) c.requires.kits count items refl
+      taken = takes_more s c.args.looper c.args.choreographer at.number c.args.kits.now.items at.passes.items _ p at.kits.items _ c.holder.result c.index_mut.result.now c.next_pass.new.self c.loop-number-test.true held (omega (arith, few, held, senders)) c.requires.kits.begin count items refl
           (subst (λ (x : Kit). GivesPass x p c.next_pass.new.self) c.index_mut.ensures.value c.next_pass.ensures) at.invariant.taken;
     }
 
@@ -42,7 +42,7 @@ into_whole-requires-clause-parts c =
     let over = c.loop-number-test.false in
     let most = at.auto.number-end in
     let all : at.number ≡ s.threads + 3 = omega (arith, over, most) in
-    taken_sealed s c.args.looper c.args.choreographer at.number c.args.kits.now.items at.passes.items at.kits.items c.args.parts.items at.invariant.count all at.invariant.taken c.requires.looper c.requires.count c.requires.sealed
+    taken_sealed s c.args.looper c.args.choreographer at.number c.args.kits.now.items at.passes.items at.kits.items c.args.parts.items at.invariant.count all at.invariant.taken c.requires.looper c.requires.kits.count c.requires.sealed
 
 pub returns-clause-record : goal.returns-clause-record
 returns-clause-record c =
@@ -55,19 +55,11 @@ returns-clause-theirs c =
     let over = c.loop-number-test.false in
     let most = at.auto.number-end in
     let all : at.number ≡ s.threads + 3 = omega (arith, over, most) in
-    IfOk-weaker c.into_whole.result (λ r. IsWhole c.args.choreographer at.passes.items r.entries) (λ r. AreOfNext s c.args.looper c.args.kits.now.items r.entries)
-    (λ r w. taken_theirs s c.args.looper c.args.choreographer at.number c.args.kits.now.items at.passes.items at.kits.items r.entries at.invariant.count all at.invariant.taken c.requires.looper w.heard)
-    c.into_whole.ensures.whole
-
-pub returns-clause-own : goal.returns-clause-own
-returns-clause-own c =
-    let at = c.loop-number in
-    let s = c.args.script.now in
-    let over = c.loop-number-test.false in
-    let most = at.auto.number-end in
-    let all : at.number ≡ s.threads + 3 = omega (arith, over, most) in
-    IfOk-weaker c.into_whole.result (λ r. IsWhole c.args.choreographer at.passes.items r.entries) (λ r. BeginWithOwn (s.threads + c.args.looper) c.args.kits.now.items r.entries)
-    (λ r w. taken_own s c.args.looper c.args.choreographer at.number c.args.kits.now.items at.passes.items at.kits.items r.entries at.invariant.count all at.invariant.taken w.begins)
+    IfOk-weaker c.into_whole.result (λ r. IsWhole c.args.choreographer at.passes.items r.entries) (λ r. AreOfNextPasses s c.args.looper c.args.kits.now.items r.entries)
+    (λ r w. record {
+      parted = taken_theirs s c.args.looper c.args.choreographer at.number c.args.kits.now.items at.passes.items at.kits.items r.entries at.invariant.count all at.invariant.taken c.requires.looper w.heard;
+      own = taken_own s c.args.looper c.args.choreographer at.number c.args.kits.now.items at.passes.items at.kits.items r.entries at.invariant.count all at.invariant.taken w.begins;
+    })
     c.into_whole.ensures.whole
 
 pub returns-clause-kits : goal.returns-clause-kits

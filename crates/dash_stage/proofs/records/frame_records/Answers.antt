@@ -51,8 +51,11 @@ pub frame_record-requires-clause-kits : goal.frame_record-requires-clause-kits
 frame_record-requires-clause-kits c =
     let at = c.loop-choreographer in
     let steps : into_iter_items at.choreographer-iterator ≡ c.in-Some.choreographer ∷ into_iter_items c.next.new.self = c.in-Some.ensures.steps.0 in
-    next_passes c.args.script.now at.looper c.in-Some.choreographer _ at.kits.items
-    (subst (λ (l : List Frames). HaveAllPasses (given_all c.args.script.now at.looper l) at.kits.items) steps at.invariant.ended.marks)
+    record {
+      count = at.invariant.ended.count ∙ c.requires.count;
+      begin = next_passes c.args.script.now at.looper c.in-Some.choreographer _ at.kits.items
+          (subst (λ (l : List Frames). HaveAllPasses (given_all c.args.script.now at.looper l) at.kits.items) steps at.invariant.ended.marks);
+    }
 
 pub remove-parts-requires : goal.remove-parts-requires
 remove-parts-requires c =
@@ -115,12 +118,12 @@ loop-choreographer-preserved c =
           (sealed_rest at.kits.items at.sealed.items at.invariant.sealed
           (next_given s at.looper x rest (into_iter_items at.choreographer-iterator) c.args.kits.now.items at.kits.items at.records.items steps few senders at.invariant.ended)
           s at.looper x c.frame_record.new.kits.items few (at.invariant.ended.count ∙ senders) c.in_ok-record.ensures.kits);
-      ended = ends_more s at.looper x rest c.args.kits.now.items at.kits.items c.frame_record.new.kits.items at.records.items _ r count few (omega (arith, senders)) c.in_ok-record.ensures.record.0 c.in_ok-record.ensures.record.1 c.in_ok-record.ensures.theirs c.in_ok-record.ensures.own c.in_ok-record.ensures.kits items
+      ended = ends_more s at.looper x rest c.args.kits.now.items at.kits.items c.frame_record.new.kits.items at.records.items _ r count few (omega (arith, senders)) c.in_ok-record.ensures.record.0 c.in_ok-record.ensures.record.1 c.in_ok-record.ensures.theirs.parted c.in_ok-record.ensures.theirs.own c.in_ok-record.ensures.kits items
           (subst (λ (l : List Frames). HaveEnded s at.looper l c.args.kits.now.items at.records.items at.kits.items) steps at.invariant.ended);
     }
 
-pub returns-clause-records : goal.returns-clause-records
-returns-clause-records c =
+pub returns-clause-frames : goal.returns-clause-frames
+returns-clause-frames c =
     let at = c.loop-choreographer in
     let s = c.args.script.now in
     let cs = c.args.choreographers.items in
@@ -128,4 +131,5 @@ returns-clause-records c =
     let empty : into_iter_items at.choreographer-iterator ≡ [] = nil_from_length _ (sym at.invariant.long ∙ none.0) in
     let all : at.yielded ≡ cs = sym (append-nil at.yielded) ∙ (ap (λ l. at.yielded ++ l) (sym empty) ∙ (at.invariant.parts ∙ c.into_iter-choreographer-iterator.ensures.into_iter_gives.0)) in
     let loopers : length cs ≡ s.loopers = sym (length-map cs frame_key) ∙ (ap length c.requires.choreographers ∙ length-map-range_with_len (frame_constants s) 0 s.loopers) in
-    (ended_all s at.looper _ c.args.kits.now.items at.kits.items at.records.items (at.invariant.looper ∙ (ap length all ∙ loopers)) at.invariant.ended).0
+    let ended = ended_all s at.looper _ c.args.kits.now.items at.kits.items at.records.items (at.invariant.looper ∙ (ap length all ∙ loopers)) at.invariant.ended in
+    record { records_are = ended.0; theirs = ended.1; own = at.invariant.ended.own }

@@ -1,4 +1,4 @@
-use Rattle.std.proofs.Common.{◌≡◌, ◌<◌, List, [], ◌∷◌, ◌++◌, length, ap, sym, ◌∙◌, append-nil, length-append, subst, arith}
+use Rattle.std.proofs.Common.{Bool, ◌≡◌, ◌<◌, List, [], ◌∷◌, ◌++◌, length, ap, sym, ◌∙◌, append-nil, length-append, subst, arith}
 use Rattle.std.specs.Vec.Iter.{into_iter_items}
 use Rattle.std.proofs.lemmas.List.{nil_from_length}
 use Rattle.atomic_table.specs.Seated.{TableId}
@@ -80,18 +80,20 @@ loop-queue-preserved c =
           histories_more m s c.args.pool.now q.constants c.args.kits.now.items at.kits.items c.queue_record.new.kits.items at.records.items _ r mine c.in_ok-record.ensures.kept c.requires.count few c.in_ok-record.ensures.kits at.invariant.retired.left by items (at.invariant.histories m are by);
     }
 
-pub returns-clause-loopers : goal.returns-clause-loopers
-returns-clause-loopers c =
+pub returns-clause-records : goal.returns-clause-records
+returns-clause-records c lockstep are =
     let at = c.loop-queue in
     let s = c.args.script.now in
     let none = c.in-None.ensures.steps in
     let empty : into_iter_items at.queue-iterator ≡ [] = nil_from_length _ (sym at.invariant.long ∙ none.0) in
     let all : at.yielded ≡ c.args.queues.items = sym (append-nil at.yielded) ∙ (ap (λ l. at.yielded ++ l) (sym empty) ∙ (at.invariant.parts ∙ c.into_iter-queue-iterator.ensures.into_iter_gives.0)) in
-    (retired_all s c.args.kits.now.items at.kits.items at.records.items (at.invariant.count ∙ (ap length all ∙ queues_counted c.requires.queues.0 s c.args.pool.now c.args.queues.items c.requires.queues.1)) at.invariant.retired).0
-
-pub returns-clause-records : goal.returns-clause-records
-returns-clause-records c m are by =
+    let retired = retired_all s c.args.kits.now.items at.kits.items at.records.items (at.invariant.count ∙ (ap length all ∙ queues_counted c.requires.queues.0 s c.args.pool.now c.args.queues.items c.requires.queues.1)) at.invariant.retired in
     record {
-      loopers = returns-clause-loopers c;
-      histories = c.loop-queue.invariant.histories m (subst (λ (qs : List (Shared TableId)). AreQueuesOf m.lockstep c.args.script.now c.args.pool.now qs) (sym c.into_iter-queue-iterator.ensures.into_iter_gives.0) are) by;
+      by = λ m mode by. record {
+        loopers = retired.0;
+        histories = at.invariant.histories m (subst (λ (qs : List (Shared TableId)). AreQueuesOf m.lockstep s c.args.pool.now qs) (sym c.into_iter-queue-iterator.ensures.into_iter_gives.0)
+            (subst (λ (b : Bool). AreQueuesOf b s c.args.pool.now c.args.queues.items) (sym mode) are)) by;
+      };
+      loopers = retired.0;
+      all = retired.1;
     }

@@ -1,25 +1,33 @@
-use Rattle.dash_stage.proofs.BlockTimes.Limits.{playable}
-use Rattle.dash_stage.proofs.run.played.Goals as goal
+use Rattle.std.proofs.Common.{arith, []}
+use Rattle.run_model.specs.FrameTurns.{in_round}
 use Rattle.run_model.specs.Moments.{in_lockstep}
-
-pub play-requires-clause-some : goal.play-requires-clause-some
-play-requires-clause-some g c κs within = (playable c.args.script.now c.requires).loopers
+use Rattle.dash_stage.proofs.BlockTimes.Limits.{playable}
+use Rattle.dash_stage.proofs.Moves.MovesRecords.{moved_at_start}
+use Rattle.dash_stage.proofs.Played.InTurn.{turn_later}
+use Rattle.dash_stage.proofs.run.played.Goals as goal
 
 pub give_up-requires-clause-some : goal.give_up-requires-clause-some
 give_up-requires-clause-some g c κs within = (playable c.args.script.now c.requires).loopers
 
 pub play-requires-clause-begun : goal.play-requires-clause-begun
 play-requires-clause-begun g c κs within =
-    let opened = c.in_ok-stage.ensures in
+    let s = c.args.script.now in
+    let st = c.in_ok-stage.stage in
+    let opened = c.in_ok-stage.ensures.opened in
+    let zero_time = opened.zero in
     record {
-      stage = opened.stage;
-      run = opened.begun in_lockstep;
-      moving = opened.moving;
-      by = opened.by.0;
-      timely = opened.timely;
-      rested = opened.rested;
-      zero = opened.by.1;
-      step = opened.step;
-      unseen = opened.unseen;
+      way = record { some = (playable s c.requires).loopers; stage = opened.stage; moving = opened.moving; by = opened.by };
+      rests = record {
+        at = record {
+          run = opened.run in_lockstep;
+          timely = opened.timely;
+          step = opened.step;
+          moves = moved_at_start s st.controller opened.unseen.controller;
+          asks = record { within = omega (arith, zero_time); turn = turn_later s [] 0 (in_round st.time) st (omega arith) opened.turn };
+        };
+        rested = opened.rested;
+      };
+      zero = zero_time;
+      unseen = opened.unseen.controller;
       turn = opened.turn;
     }

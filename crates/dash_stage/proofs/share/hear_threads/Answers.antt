@@ -2,19 +2,20 @@ use Rattle.std.proofs.Common.{◌<◌, refl, arith}
 use Rattle.run_model.specs.Senders.{controller}
 use Rattle.dash_hall.proofs.Hearing.{ready_is}
 use Rattle.dash_stage.proofs.ByClock.Behind.{threads_still, kept_then, hears_on, hears_kept}
-use Rattle.dash_stage.proofs.Controller.Controlling.{in_queues, in_posters, has_poster, poster_count}
+use Rattle.dash_stage.proofs.Controller.Controlling.{turns_on, in_queues, in_posters, has_poster, poster_count}
 use Rattle.dash_stage.proofs.Controller.ControlTurns.{with_poster}
 use Rattle.dash_stage.proofs.Sharing.StageShares.{controller_kept, posters_ready}
 use Rattle.dash_stage.proofs.share.hear_threads.Goals as goal
 
 pub index-requires : goal.index-requires
-index-requires c = in_queues c.args.script.now c.args.hall.now c.requires.hall c.loop-looper.looper (omega (arith, c.loop-looper-test.true))
+index-requires c =
+    let at = c.loop-looper in
+    in_queues (turns_on c.requires.hall (controller_kept c.args.script.now c.args.hall.now c.args.controller.now at.controller at.invariant.kept c.requires.controller) (omega (arith, c.loop-looper-test.true)))
 
 pub index_mut-requires : goal.index_mut-requires
 index_mut-requires c =
     let at = c.loop-looper in
-    in_posters c.args.script.now c.args.hall.now c.requires.hall at.looper (omega (arith, c.loop-looper-test.true)) at.controller
-    (controller_kept c.args.script.now c.args.hall.now c.args.controller.now at.controller at.invariant.kept c.requires.controller)
+    in_posters (turns_on c.requires.hall (controller_kept c.args.script.now c.args.hall.now c.args.controller.now at.controller at.invariant.kept c.requires.controller) (omega (arith, c.loop-looper-test.true)))
 
 pub threads_tell-requires-clause-ready : goal.threads_tell-requires-clause-ready
 threads_tell-requires-clause-ready c k d lt =
@@ -40,7 +41,7 @@ loop-looper-preserved c =
     let s = c.args.script.now in
     let hall = c.args.hall.now in
     let is = controller_kept s hall c.args.controller.now at.controller at.invariant.kept c.requires.controller in
-    let within = has_poster s hall c.requires.hall at.looper (omega (arith, c.loop-looper-test.true)) at.controller is in
+    let within = has_poster (turns_on c.requires.hall is (omega (arith, c.loop-looper-test.true))) in
     let us = at.threads in
     let vs = c.threads_tell.new.threads in
     let p = c.index_mut.result.now in

@@ -1,12 +1,20 @@
-use Rattle.std.proofs.Common.{◌≤◌, ℕ, subst}
+use Rattle.std.proofs.Common.{◌≤◌, ◌∙◌, ℕ, subst}
 use Rattle.dash_stage.proofs.Controller.ControlKept.{quitting_kept, quitting_skips}
-use Rattle.dash_stage.proofs.Controller.ControlWhole.{turns_behind}
+use Rattle.dash_stage.proofs.Controller.ControlWhole.{turns_behind, turns_moving}
 use Rattle.dash_threads.proofs.ThreadSteps.{on_ok}
 use Rattle.dash_stage.proofs.control.Controller.quit.Goals as goal
 
-pub returns-then-time_on-script-clause-quitting : goal.returns-then-time_on-script-clause-quitting
-returns-then-time_on-script-clause-quitting g c =
-    quitting_skips c.args.script.now c.time_on.new.self c.args.looper c.requires.other (quitting_kept c.args.script.now c.args.self.now c.time_on.new.self c.time_on.ensures.none c.args.looper c.requires.quitting)
+pub returns-then-time_on-script-clause-quits : goal.returns-then-time_on-script-clause-quits
+returns-then-time_on-script-clause-quits g c =
+    let s = c.args.script.now in
+    let timed = c.time_on.ensures in
+    record {
+      quitting = quitting_skips s c.time_on.new.self c.args.looper (quitting_kept s c.args.self.now c.time_on.new.self timed.none c.args.looper c.requires.quitting);
+      here = λ d. turns_moving _ _ (timed.here d);
+    }
+
+pub quit_one-requires-clause-at : goal.quit_one-requires-clause-at
+quit_one-requires-clause-at g c = record { is_hall = c.requires.at.is_hall; controller = c.time_on.ensures.alone.controller; known = c.requires.at.known }
 
 pub quit_one-requires-clause-quitting : goal.quit_one-requires-clause-quitting
 quit_one-requires-clause-quitting g c = quitting_kept c.args.script.now c.args.self.now c.time_on.new.self c.time_on.ensures.none c.args.looper c.requires.quitting
@@ -14,8 +22,11 @@ quit_one-requires-clause-quitting g c = quitting_kept c.args.script.now c.args.s
 pub quit_one-requires-clause-time : goal.quit_one-requires-clause-time
 quit_one-requires-clause-time g c d = subst (λ (n : ℕ). c.args.script.now.end ≤ n) (c.time_on.ensures.time d) c.if-time_on-script.false
 
-pub returns-clause-here : goal.returns-clause-here
-returns-clause-here g c =
-    on_ok c.quit_one.result _ _
-    (λ here d. turns_behind _ _ _ (c.time_on.ensures.here d) (here d))
-    c.quit_one.ensures.here
+pub returns : goal.returns
+returns g c =
+    let quit = c.quit_one.ensures in
+    let timed = c.time_on.ensures in
+    record {
+      alone = record { controller = quit.alone.controller; elsewhere = λ q d apart. quit.alone.elsewhere q d apart ∙ timed.alone.elsewhere q d apart };
+      quits = on_ok c.quit_one.result _ _ (λ quits. record { quitting = quits.quitting; here = λ d. turns_behind _ _ _ (timed.here d) (quits.here d) }) quit.quits;
+    }

@@ -1,4 +1,4 @@
-use Rattle.std.proofs.Common.{◌≡◌, ◌≢◌, ℕ, length, refl, sym, ap, ◌∙◌, subst}
+use Rattle.std.proofs.Common.{arith, ◌≡◌, ◌≢◌, ℕ, length, refl, sym, ap, ◌∙◌, subst}
 use Rattle.std.specs.Prelude.{slice_index_or}
 use Rattle.std.specs.Global.{Vec}
 use Rattle.looper_run.specs.Holding.{Sender}
@@ -18,6 +18,12 @@ loop-place-init g c = record {
   rest = λ q d le. refl;
 }
 
+pub seal_one-requires : goal.seal_one-requires
+seal_one-requires g c = record { at = record { is_hall = c.requires.hall; controller = c.loop-place.invariant.controller; known = omega (arith, c.loop-place-test.true) } }
+
+pub seal_frames-requires : goal.seal_frames-requires
+seal_frames-requires g c = record { at = record { is_hall = c.requires.hall; controller = c.seal_one.ensures.alone.controller; known = omega (arith, c.loop-place-test.true) } }
+
 pub loop-place-preserved : goal.loop-place-preserved
 loop-place-preserved g c =
     let at = c.loop-place in
@@ -28,7 +34,7 @@ loop-place-preserved g c =
       calls = λ q d. ap (λ (v : Vec Sender). own (slice_index_or v.items q d)) posters ∙ c.seal_one.ensures.none.calls q d;
     } in
     let here = subst (λ (v : Vec Sender). (d : Sender) → TurnsOn IsNone (slice_index_or at.self.kit.posters.items at.place d) (slice_index_or v.items at.place d)) (sym posters) c.seal_one.ensures.here in
-    let elsewhere = subst (λ (v : Vec Sender). (q : ℕ) (d : Sender) → q ≢ at.place → slice_index_or v.items q d ≡ slice_index_or at.self.kit.posters.items q d) (sym posters) c.seal_one.ensures.elsewhere in
+    let elsewhere = subst (λ (v : Vec Sender). (q : ℕ) (d : Sender) → q ≢ at.place → slice_index_or v.items q d ≡ slice_index_or at.self.kit.posters.items q d) (sym posters) c.seal_one.ensures.alone.elsewhere in
     let long = poster_count c.args.script.now c.args.hall.now after c.requires.hall c.seal_frames.ensures.controller ∙ sym (poster_count c.args.script.now c.args.hall.now at.self c.requires.hall at.invariant.controller) in
     let more = turns_more IsNone c.args.self.now at.self after at.place at.invariant.turns at.invariant.rest long here elsewhere in
     record {

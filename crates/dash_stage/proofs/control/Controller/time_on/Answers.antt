@@ -1,24 +1,28 @@
 use Rattle.std.proofs.Common.{refl, ◌∙◌}
-use Rattle.dash_stage.proofs.Controller.Controlling.{in_queues, in_posters, has_poster, own_poster, after_turn}
+use Rattle.dash_stage.proofs.Controller.Controlling.{in_queues, in_posters, own_poster}
 use Rattle.dash_stage.proofs.Controller.ControlTurns.{turned_none, turned_time}
-use Rattle.dash_stage.proofs.Controller.ControlWhole.{turns_none, turns_here, turns_elsewhere}
+use Rattle.dash_stage.proofs.Controller.ControlWhole.{turns_none, turns_here, turned_alone}
 use Rattle.dash_stage.proofs.control.Controller.time_on.Goals as goal
 
 pub index_mut-requires : goal.index_mut-requires
-index_mut-requires g c = in_posters c.args.script.now c.args.hall.now c.requires.hall c.args.place c.requires.place c.args.self.now c.requires.controller
+index_mut-requires g c = in_posters c.requires.at
 
 pub index-requires : goal.index-requires
-index-requires g c = in_queues c.args.script.now c.args.hall.now c.requires.hall c.args.place c.requires.place
+index-requires g c = in_queues c.requires.at
 
 pub time-requires-clause-queue : goal.time-requires-clause-queue
 time-requires-clause-queue g c κs within =
-    (own_poster c.args.script.now c.args.hall.now c.requires.hall c.args.place c.requires.place c.args.self.now c.requires.controller c.index_mut.result.now c.index.result.now c.index_mut.ensures.value c.index.ensures).0
+    (own_poster c.requires.at c.index_mut.ensures.value c.index.ensures).0
 
 pub returns : goal.returns
-returns g c = record {
-  controller = after_turn c.args.script.now c.args.hall.now c.requires.hall c.args.place c.requires.place c.args.self.now c.requires.controller c.index_mut.result.now c.time.new.self _ _ c.index_mut.ensures.value c.time.ensures.1;
-  none = turned_none c.args.script.now c.args.hall.now c.requires.hall c.args.place c.requires.place c.args.self.now c.requires.controller c.index_mut.result.now c.time.new.self c.index.result.now c.index_mut.ensures.value c.index.ensures _ _ c.time.ensures.1 _ refl;
-  time = λ d. c.time.ensures.2 ∙ turned_time c.args.script.now c.args.hall.now c.requires.hall c.args.place c.requires.place c.args.self.now c.requires.controller c.index_mut.result.now c.time.new.self c.index.result.now c.index_mut.ensures.value c.index.ensures _ _ c.time.ensures.1 c.args.self.now.kit.pass refl d;
-  here = turns_here c.args.self.now c.args.place c.index_mut.result.now c.time.new.self c.args.self.now.kit.pass (has_poster c.args.script.now c.args.hall.now c.requires.hall c.args.place c.requires.place c.args.self.now c.requires.controller) c.index_mut.ensures.value (turns_none c.index_mut.result.now c.time.new.self _ _ c.time.ensures.1 refl);
-  elsewhere = turns_elsewhere c.args.self.now c.args.place c.index_mut.result.now c.time.new.self c.args.self.now.kit.pass (has_poster c.args.script.now c.args.hall.now c.requires.hall c.args.place c.requires.place c.args.self.now c.requires.controller) c.index_mut.ensures.value;
-}
+returns g c =
+    let at = c.requires.at in
+    let is_p = c.index_mut.ensures.value in
+    let t = c.time.ensures.1 in
+    let pass = c.args.self.now.kit.pass in
+    record {
+      alone = turned_alone at pass is_p t;
+      none = turned_none at is_p c.index.ensures t pass refl;
+      time = λ d. c.time.ensures.2 ∙ turned_time at is_p c.index.ensures t pass refl d;
+      here = turns_here at pass is_p (turns_none t refl);
+    }

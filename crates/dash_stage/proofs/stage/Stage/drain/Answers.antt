@@ -21,18 +21,24 @@ returns g c =
     let was = c.requires.closing in
     let ls : List StageLooper = c.drain_first.new.loopers in
     let looped = subst (λ (xs : List StageLooper). AtEach (LoopsByClock m s hall) xs ls) c.as_mut_slice.ensures.value c.drain_first.ensures.loopers in
-    let ended = subst (λ (xs : List StageLooper). OthersHaveEnded xs → OthersHaveEnded ls) c.as_mut_slice.ensures.value c.drain_first.ensures.others was.ended in
+    let ended = subst (λ (xs : List StageLooper). OthersHaveEnded xs → OthersHaveEnded ls) c.as_mut_slice.ensures.value c.drain_first.ensures.others was.ran.ended in
     let wrote = with_items_is st.loopers ls (omega (arith, looped.long, st.loopers.ok.0)) in
     let on : LoopersGoOn ls = subst LoopersGoOn (c.as_slice.ensures.value ∙ wrote) (c.some_gave_up.ensures c.if-some_gave_up.false) in
-    let played : HaveComeBy s ls = loopers_played m s hall st.loopers.items ls c.requires.text was.stage.loopers looped on was.played in
+    let played : HaveComeBy s ls = loopers_played m s hall st.loopers.items ls c.requires.text was.stage.loopers looped on was.ran.played in
     record {
-      closing = closing_heard m s _ c.share_by_clock.new.self c.share_by_clock.ensures.stage c.share_by_clock.ensures.shared c.share_by_clock.ensures.kept
+      closing = closing_heard m s _ c.share_by_clock.new.self c.share_by_clock.ensures.stage c.share_by_clock.ensures.shared c.share_by_clock.ensures.kept was.some
           was.stage.hall (subst (AreLoopers s hall) (sym wrote) (loopers_ran m s hall st.loopers.items ls was.stage.loopers looped))
           (record {
-            threads = was.clocked.threads;
-            loopers = subst (OfLoopers (AreByClock m)) (sym wrote) (loopers_clocked m s hall st.loopers.items ls looped on was.clocked.loopers);
-            controller = was.clocked.controller;
-          })
-          was.run (subst OthersHaveEnded (sym wrote) ended) (subst LoopersGoOn (sym wrote) on)
-          (subst (HaveLooped m s) (sym wrote) (looped_on m s st.loopers.items ls was.looped (all_grew m s hall st.loopers.items ls looped on))) (subst (HaveComeBy s) (sym wrote) played) was.closing was.behind;
+            clocked = record {
+              threads = was.ran.clocked.threads;
+              loopers = subst (OfLoopers (AreByClock m)) (sym wrote) (loopers_clocked m s hall st.loopers.items ls looped on was.ran.clocked.loopers);
+              controller = was.ran.clocked.controller;
+            };
+            run = was.ran.run;
+            ended = subst OthersHaveEnded (sym wrote) ended;
+            on = subst LoopersGoOn (sym wrote) on;
+            looped = subst (HaveLooped m s) (sym wrote) (looped_on m s st.loopers.items ls was.ran.looped (all_grew m s hall st.loopers.items ls looped on));
+            played = subst (HaveComeBy s) (sym wrote) played;
+            behind = was.ran.behind;
+          }) was.closing;
     }

@@ -1,11 +1,33 @@
-use Rattle.std.proofs.Common.{◌≡◌, ◌<◌, inl, inr, ℕ, true, false, length, slice_index_or, sym, ◌∙◌, subst}
+use Rattle.std.proofs.Common.{◌≡◌, ◌<◌, inl, inr, ℕ, true, false, length, slice_index_or, refl, sym, ◌∙◌, subst}
 use Rattle.std.proofs.lemmas.List.{get_or_default}
 use Rattle.looper_run.specs.Round.{is_ended}
 use Rattle.dash_loopers.specs.declared.looper.StageLooper.{StageLooper}
 use Rattle.dash_loopers.specs.Loopers.{until_of}
 use Rattle.dash_stage.specs.Timeliness.{NotLater}
 use Rattle.dash_stage.specs.Moves.{WaitsUntil}
+use Rattle.dash_stage.proofs.Controller.ControlKept.{none_same}
+use Rattle.dash_stage.proofs.Stepping.{looked_self}
 use Rattle.dash_stage.proofs.stage.Stage.due_on.Goals as goal
+
+pub asked-requires : goal.asked-requires
+asked-requires g c = let is = c.requires.stage in record { at = record { is_hall = is.hall; controller = is.controller; known = c.requires.looper } }
+
+pub returns-then-has_ended-clause-looked : goal.returns-then-has_ended-clause-looked
+returns-then-has_ended-clause-looked g c = looked_self c.args.script.now c.args.self.now c.requires.stage
+
+pub returns-clause-looked : goal.returns-clause-looked
+returns-clause-looked g c =
+    let stage = c.requires.stage in
+    record {
+      still = record {
+        stage = record { hall = stage.hall; threads = stage.threads; loopers = stage.loopers; controller = c.asked.ensures.controller; pass = stage.pass };
+        none = none_same c.args.self.now.controller c.asked.new.self c.asked.ensures.posters;
+        now = refl;
+      };
+      threads = refl;
+      loopers = refl;
+      posters = c.asked.ensures.posters;
+    }
 
 pub returns-clause-due : goal.returns-clause-due
 returns-clause-due g c t l early going =

@@ -1,28 +1,29 @@
+use Rattle.std.proofs.Common.{refl}
+use Rattle.dash_stage.proofs.Stepping.{still_then, stays_then}
 use Rattle.dash_stage.proofs.stage.Stage.settle.Goals as goal
 
-pub returns-in_err-hand_out-clause-run : goal.returns-in_err-hand_out-clause-run
-returns-in_err-hand_out-clause-run g c past run = c.hand_out.ensures.run past (c.run_rounds.ensures.run past run)
+pub returns-in_err-hand_out-clause-still : goal.returns-in_err-hand_out-clause-still
+returns-in_err-hand_out-clause-still g c = still_then c.args.script.now c.args.self.now c.run_rounds.new.self c.hand_out.new.self c.run_rounds.ensures.still c.hand_out.ensures.still
 
-pub returns-in_err-run_rounds-2-clause-run : goal.returns-in_err-run_rounds-2-clause-run
-returns-in_err-run_rounds-2-clause-run g c past run = c.run_rounds-then-has_many.ensures.run past (c.hand_out.ensures.run past (c.run_rounds.ensures.run past run))
+pub returns-in_err-run_rounds-2-clause-still : goal.returns-in_err-run_rounds-2-clause-still
+returns-in_err-run_rounds-2-clause-still g c =
+    still_then c.args.script.now c.args.self.now c.hand_out.new.self c.run_rounds-then-has_many.new.self
+    (still_then c.args.script.now c.args.self.now c.run_rounds.new.self c.hand_out.new.self c.run_rounds.ensures.still c.hand_out.ensures.still) c.run_rounds-then-has_many.ensures.still
 
-pub returns-in_ok-run_rounds-2-clause-run : goal.returns-in_ok-run_rounds-2-clause-run
-returns-in_ok-run_rounds-2-clause-run g c past run = c.run_rounds-then-has_many.ensures.run past (c.hand_out.ensures.run past (c.run_rounds.ensures.run past run))
+pub returns-in_ok-run_rounds-2 : goal.returns-in_ok-run_rounds-2
+returns-in_ok-run_rounds-2 g c =
+    let s = c.args.script.now in
+    let first = c.args.self.now in
+    let handed = c.hand_out.new.self in
+    let after = c.run_rounds-then-has_many.new.self in
+    let last = c.in_ok-run_rounds-2.ensures in
+    record {
+      still = still_then s first handed after (still_then s first c.run_rounds.new.self handed c.run_rounds.ensures.still c.hand_out.ensures.still) c.run_rounds-then-has_many.ensures.still;
+      settles = record {
+        at = stays_then s first handed after (stays_then s first c.run_rounds.new.self handed c.in_ok-run_rounds.ensures.at c.in_ok-hand_out.ensures.at) last.at;
+        rested = λ same. last.rested refl c.in_ok-hand_out.ensures.same;
+      };
+    }
 
-pub returns-in_ok-run_rounds-2-clause-timely : goal.returns-in_ok-run_rounds-2-clause-timely
-returns-in_ok-run_rounds-2-clause-timely g c past timely =
-    c.in_ok-run_rounds-2.ensures.timely past (c.in_ok-hand_out.ensures.timely past (c.in_ok-run_rounds.ensures.timely past timely))
-
-pub returns-in_ok-run_rounds-2-clause-sound : goal.returns-in_ok-run_rounds-2-clause-sound
-returns-in_ok-run_rounds-2-clause-sound g c sound =
-    c.in_ok-run_rounds.ensures.sound (c.in_ok-hand_out.ensures.sound c.in_ok-run_rounds.ensures.same (c.in_ok-run_rounds-2.ensures.sound sound))
-
-pub returns-in_ok-run_rounds-2-clause-moves : goal.returns-in_ok-run_rounds-2-clause-moves
-returns-in_ok-run_rounds-2-clause-moves g c was =
-    c.in_ok-run_rounds-2.ensures.moves (c.in_ok-hand_out.ensures.moves c.in_ok-run_rounds.ensures.same (c.in_ok-run_rounds.ensures.moves was))
-
-pub returns-in_ok-run_rounds-2-clause-asks : goal.returns-in_ok-run_rounds-2-clause-asks
-returns-in_ok-run_rounds-2-clause-asks g c step past asked =
-    let first = c.in_ok-run_rounds.ensures in
-    let handed = c.in_ok-hand_out.ensures in
-    c.in_ok-run_rounds-2.ensures.asks (handed.step (first.step step)) past (handed.asks (first.step step) past (first.asks step past asked))
+pub returns-else-has_many-clause-settles : goal.returns-else-has_many-clause-settles
+returns-else-has_many-clause-settles g c = record { at = c.in_ok-run_rounds.ensures.at; rested = c.in_ok-run_rounds.ensures.rested refl }

@@ -6,12 +6,12 @@ use Rattle.dash_threads.specs.Threads.{HearsPass}
 use Rattle.dash_loopers.specs.declared.looper.StageLooper.{StageLooper}
 use Rattle.dash_loopers.specs.Loopers.{IsLooper}
 use Rattle.dash_stage.specs.Sharing.{OfPasses}
-use Rattle.dash_stage.proofs.Controller.Controlling.{in_choreographers, in_passes, own_pass, pass_count}
+use Rattle.dash_stage.proofs.Controller.Controlling.{turns_on, in_choreographers, in_passes, own_pass, pass_count}
 use Rattle.dash_stage.proofs.Sharing.FrameShares.{passes_ready, looper_passes, shares_frames}
 use Rattle.dash_stage.proofs.stage.Stage.share_frames_of.Goals as goal
 
 pub index-requires : goal.index-requires
-index-requires c = in_choreographers c.args.script.now c.args.self.now.hall c.requires.stage.hall c.args.place c.requires.place
+index-requires c = in_choreographers (turns_on c.requires.stage.hall c.requires.stage.controller c.requires.place)
 
 pub share_passes-requires-clause-threads : goal.share_passes-requires-clause-threads
 share_passes-requires-clause-threads c =
@@ -19,7 +19,7 @@ share_passes-requires-clause-threads c =
     (passes_ready c.args.script.now c.args.self.now c.requires.stage c.args.place c.requires.place c.index.result.now c.index.ensures)
 
 pub index_mut-requires-2 : goal.index_mut-requires-2
-index_mut-requires-2 c = in_passes c.args.script.now c.args.self.now.hall c.requires.stage.hall c.args.place c.requires.place c.args.self.now.controller c.requires.stage.controller
+index_mut-requires-2 c = in_passes (turns_on c.requires.stage.hall c.requires.stage.controller c.requires.place)
 
 pub share_passes-requires-clause-looper : goal.share_passes-requires-clause-looper
 share_passes-requires-clause-looper c =
@@ -34,7 +34,7 @@ share_passes-requires-clause-looper c =
 
 pub share_passes-requires-clause-pass : goal.share_passes-requires-clause-pass
 share_passes-requires-clause-pass c =
-    own_pass c.args.script.now c.args.self.now.hall c.requires.stage.hall c.args.place c.requires.place c.args.self.now.controller c.requires.stage.controller c.index_mut-2.result.now c.index.result.now c.index_mut-2.ensures.value c.index.ensures
+    own_pass (turns_on c.requires.stage.hall c.requires.stage.controller c.requires.place) c.index_mut-2.ensures.value c.index.ensures
 
 pub returns : goal.returns
 returns c =
@@ -45,7 +45,7 @@ returns c =
     let threads = subst (λ (xs : List PostingThread). AtEach (HearsPass c.args.place whole) xs c.share_passes.new.threads) c.as_mut_slice.ensures.value c.share_passes.ensures.threads in
     let many = threads.long in
     let loopers = is.loopers.0 in
-    let frames = pass_count s st.hall is.hall c.args.place c.requires.place st.controller is.controller in
+    let frames = pass_count (turns_on c.requires.stage.hall c.requires.stage.controller c.requires.place) in
     let near = c.requires.place in
     record {
       shares = shares_frames c.args.place st _ whole refl

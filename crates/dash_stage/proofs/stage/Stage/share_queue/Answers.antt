@@ -7,16 +7,16 @@ use Rattle.dash_stage.specs.Sharing.{AreWithin, OfThreads, OfLoopers}
 use Rattle.dash_threads.specs.Threads.{ThreadKeeps}
 use Rattle.dash_loopers.specs.Loopers.{LooperKeeps}
 use Rattle.dash_hall.proofs.PassesHearing.{passes_heard_self}
-use Rattle.dash_stage.proofs.Controller.Controlling.{in_queues, in_posters}
+use Rattle.dash_stage.proofs.Controller.Controlling.{turns_on, in_queues, in_posters}
 use Rattle.dash_hall.proofs.Hearing.{ready_is, heard_at}
 use Rattle.dash_stage.proofs.Sharing.StageShares.{threads_ready, loopers_ready, controller_ready, are_within}
 use Rattle.dash_stage.proofs.stage.Stage.share_queue.Goals as goal
 
 pub index-requires : goal.index-requires
-index-requires c = in_queues c.args.script.now c.args.self.now.hall c.requires.stage.hall c.args.place c.requires.place
+index-requires c = in_queues (turns_on c.requires.stage.hall c.requires.stage.controller c.requires.place)
 
 pub index_mut-requires : goal.index_mut-requires
-index_mut-requires c = in_posters c.args.script.now c.args.self.now.hall c.requires.stage.hall c.args.place c.requires.place c.args.self.now.controller c.requires.stage.controller
+index_mut-requires c = in_posters (turns_on c.requires.stage.hall c.requires.stage.controller c.requires.place)
 
 pub share_by-requires-clause-threads : goal.share_by-requires-clause-threads
 share_by-requires-clause-threads c =
