@@ -1,13 +1,11 @@
 -- What the senders of a run do by a clock.
-use Rattle.std.specs.Prelude.{◌≡◌, ◌⊎◌, ℕ, Bool, true, false, ◌<◌, List, length, slice_index_or, Option, Some, None}
+use Rattle.std.specs.Prelude.{◌≡◌, ℕ, Bool, true, false, ◌<◌, List, length, slice_index_or, Option, Some, None}
 use Rattle.looper_run.specs.Round.{is_ended}
 use Rattle.looper_run.specs.declared.by_clock.Loop.{Loop}
 use Rattle.dash_script.specs.declared.script.Script.{Script}
-use Rattle.looper_run.specs.Holding.{Sender}
 use Rattle.run_model.specs.Moments.{Mode, in_free_mode}
 use Rattle.dash_hall.specs.declared.hall.Hall.{Hall}
 use Rattle.dash_hall.specs.declared.timer.Timer.{Timer}
-use Rattle.dash_hall.specs.Growth.{QuitsOf}
 use Rattle.dash_threads.specs.declared.thread.PostingThread.{PostingThread}
 use Rattle.dash_threads.specs.Threads.{IsThread, AreByClock, RunsAll}
 use Rattle.dash_loopers.specs.declared.looper.StageLooper.{StageLooper}
@@ -63,10 +61,6 @@ pub record LoopsOut (m : Mode) (s : Script) (before after : StageLooper) : Type 
   pub count : ℕ
   pub rounds : HasGoneRound m s None count before after
   pub ended : is_ended after.last ≡ true
-
--- the poster quit its queue safely at this moment by one call, which may have been refused, or did nothing
-abbrev pub MayQuit : Sender → Sender → ℕ → Type 0
-MayQuit before after now = (after ≡ before) ⊎ QuitsOf before after true now
 
 -- by the controller the queues but main may have been quit, at moments of the clock, and nothing else was called; it has seen all that it had seen
 pub record QuitsOthers (m : Mode) (s : Script) (hall : Hall) (before after : Controller) : Type 0 where
@@ -126,7 +120,8 @@ pub record RunBeside (m : Mode) (s : Script) (hall : Hall) (threads threads' : L
   pub loops : EachLoops m s hall loopers loopers'
 
 -- the threads and main ran beside each other, main up to the script's end where no look stopped it
-pub record RanMain {L : Type 0} (m : Mode) (s : Script) (hall : Hall) (ts ts' : List PostingThread) (main main' : List StageLooper) (look : Option L) : Type 0 where
+pub record RanMain {L : Type 0} (m : Mode) (s : Script) (hall : Hall) (ts ts' : List PostingThread) (main main' : List StageLooper)
+    (look : Option L) : Type 0 where
   pub beside : RunBeside m s hall ts ts' main main'
   pub looped : look ≡ None → MainLoops m s hall main main'
 
@@ -168,9 +163,3 @@ pub record CanQuitOthers (s : Script) (h : Hall) (c : Controller) : Type 0 where
   pub hall : IsFreeHall s h
   pub controller : IsControllerIn false s h c
   pub none : (q : ℕ) → CallsNothingOn c q
-
--- main and the threads ran, and then the others were ended
-pub record RunsMain (m : Mode) (s : Script) (hall : Hall) (ts ts' : List PostingThread) (main main' : List StageLooper) (before after : Controller) (done : Bool) : Type 0 where
-  pub beside : RunBeside m s hall ts ts' main main'
-  pub looped : done ≡ true → MainLoops m s hall main main'
-  pub ends : EndsOthers m s hall ts' before after done

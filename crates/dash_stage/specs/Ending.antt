@@ -137,7 +137,7 @@ BeginWithOwn sender kits entries = (i : ℕ) (d : Kit) (p : Pass) → i < 2
 abbrev pub AreOfPool : TableId → List Kit → Type 0
 AreOfPool pool kits = (k : ℕ) (d : Kit) → k < length kits → (slice_index_or kits k d).pass.home ≡ pool
 
--- so it is with the looper's passes, and the entries are parted so
+-- the entries are parted among the next passes of this looper's choreographer, and begin with what its looper's own two have seen
 pub record AreOfNextPasses (s : Script) (looper : ℕ) (kits : List Kit) (entries : List FrameEntry) : Type 0 where
   pub parted : AreOfNext s looper kits entries
   pub own : BeginWithOwn (s.threads + looper) kits entries

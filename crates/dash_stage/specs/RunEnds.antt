@@ -57,8 +57,8 @@ pub record HasBegunByClock (m : Mode) (s : Script) (st : Stage) : Type 0 where
   pub clocked : OfSenders (AreByClock m) st
   pub none : (q : ℕ) → CallsNothingOn st.controller q
 
--- the threads have run all blocks at moments of the clock, the loopers have looped and played, those but main have ended, and the controller's calls stand behind
--- the threads'
+-- the threads have run all blocks at moments of the clock, the loopers have looped and played, those but main have ended, and the controller's calls stand
+-- behind the threads'
 pub record HasRunByClock (m : Mode) (s : Script) (st : Stage) : Type 0 where
   pub clocked : OfSenders (AreByClock m) st
   pub run : HaveRunBy m s s.blocks st.threads.items

@@ -50,20 +50,20 @@ pub record StillAt (s : Script) (past : List Block) (before after : Stage) : Typ
   pub at : StageAt s past after
   pub sound : WereSound s before after
 
--- at whichever blocks the stage stood, it stands still
+-- at whichever blocks the stage stood, it stands there still
 abbrev pub StaysAt : Script → Stage → Stage → Type 0
 StaysAt s before after = (past : List Block) → StageAt s past before → StillAt s past before after
 
--- and it has come to rest
+-- so it is; and where all had seen the same, it has come to rest
 pub record Settles (s : Script) (before after : Stage) : Type 0 where
   pub at : StaysAt s before after
   pub rested : HaveSeenTheSame before → AreRested s after
 
--- at whichever blocks the stage rested, it stands still
+-- at whichever blocks the stage rested, it stands there still
 abbrev pub StaysFromRest : Script → Stage → Stage → Type 0
 StaysFromRest s before after = (past : List Block) → RestsAt s past before → StageAt s past after
 
--- from rest the stage has come to this time; and where it lay ahead, to the start of a block at it
+-- from rest the stage stands at its blocks still; and where this time lay ahead, it begins a block at it
 pub record GoesTo (s : Script) (time : ℕ) (before after : Stage) : Type 0 where
   pub at : StaysFromRest s before after
   pub block : (past : List Block) → RestsAt s past before → ComesBefore s past time before → BeginsBlock s past time after
@@ -81,8 +81,8 @@ pub record OnlyLooked (s : Script) (before after : Stage) : Type 0 where
   pub loopers : after.loopers ≡ before.loopers
   pub posters : after.controller.kit.posters ≡ before.controller.kit.posters
 
--- the stage had come to rest at these blocks, since when the controller has only looked; nothing was due on a queue before this time, to which the queues' times
--- might be moved
+-- the stage had come to rest at these blocks, since when the controller has only looked; nothing was due on a queue before this time, to which the
+-- queues' times might be moved
 pub record IsReadyFor (s : Script) (past : List Block) (time : ℕ) (st : Stage) : Type 0 where
   pub stood : Stage
   pub stage : IsStage s stood
@@ -91,8 +91,8 @@ pub record IsReadyFor (s : Script) (past : List Block) (time : ℕ) (st : Stage)
   pub due : AreDue s time stood
   pub may : MayBeMovedTo s time stood.controller
 
--- where the stage was ready for this time, it stands still; it was moved, where each queue's history is one that it may have; and where the time lay ahead, it
--- begins a block at it
+-- where the stage was ready for this time, it stands at its blocks still; it was moved, where each queue's history is one that it may have; and where the
+-- time lay ahead, it begins a block at it
 pub record MovesOn (s : Script) (time : ℕ) (before after : Stage) (moved : Bool) : Type 0 where
   pub at : (past : List Block) (ready : IsReadyFor s past time before) → StillAt s past ready.stood after
   pub drained : (past : List Block) → IsReadyFor s past time before → AreSound s after.controller → moved ≡ true
@@ -119,7 +119,8 @@ pub record HasGoneTo (time : ℕ) (st : Stage) : Type 0 where
 -- no history got shorter, and where all loopers had the turn and none has grown, they have come to rest
 pub record RestsUnlessGrown (turn : Turn) (s : Script) (before after : Stage) : Type 0 where
   pub grown : AtEach IsPrefix (seen_by before.controller.kit.posters.items) (seen_by after.controller.kit.posters.items)
-  pub rested : turn ≡ All → HaveSeenTheSame before → seen_by after.controller.kit.posters.items ≡ seen_by before.controller.kit.posters.items → AreRested s after
+  pub rested : turn ≡ All → HaveSeenTheSame before
+      → seen_by after.controller.kit.posters.items ≡ seen_by before.controller.kit.posters.items → AreRested s after
 
 -- the stage has run the blocks before this one, and stands at this one
 pub record IsAtNext (s : Script) (past rest : List Block) (b : Block) (st : Stage) : Type 0 where

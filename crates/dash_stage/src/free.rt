@@ -9,7 +9,7 @@ ghost use Rattle.looper_run.specs.Round.{is_ended};
 ghost use Rattle.dash_loopers.specs.declared.looper.StageLooper.{StageLooper as LooperData};
 ghost use Rattle.dash_loopers.specs.Loopers.{IsLooper};
 ghost use Rattle.dash_stage.specs.ByClock.{IsFreeHall, by_timer, RunsByClock, LoopsAlone, EachRuns, EachLoops, EachLoopsAlone, MainLoops, LoopSideBySide, QuitsOthers};
-ghost use Rattle.dash_stage.specs.ByClock.{EachIsThread, EachIsLooper, CanRunBeside, CanRunMain, CanQuitOthers, RunBeside, RanMain, RunsMain, HearsThreads, EndsOthers};
+ghost use Rattle.dash_stage.specs.ByClock.{EachIsThread, EachIsLooper, CanRunBeside, CanRunMain, CanQuitOthers, RunBeside, RanMain, HearsThreads, EndsOthers};
 ghost use Rattle.dash_stage.specs.GivingUp.{HaveBeenRung};
 ghost use Rattle.dash_stage.specs.RunEnds.{HasBegunByClock, IsClosingByClock, HasEndedByClock};
 ghost use Rattle.dash_stage.specs.Sharing.{StageKeeps, HaveSeenTheSame};
@@ -220,7 +220,9 @@ fn run_side_by_side<R: Threads + Wait + time::Clock + Sync, C: Clock + Sync, G: 
         { run_others(means, hall, script, timer, &ended, others) },
         &mut ||
             requires { CanRunMain script.now hall.now main.now threads.now controller.now × IsSync R.row × IsSync C.row × IsSync G.row }
-            ensures { RunsMain (by_timer C.shows timer.entry.now) script.entry.now hall.entry.now threads.entry.now threads.exit.now main.entry.now main.exit.now controller.entry.now controller.exit.now result }
+            ensures beside { RunBeside (by_timer C.shows timer.entry.now) script.entry.now hall.entry.now threads.entry.now threads.exit.now main.entry.now main.exit.now }
+            ensures looped { result ≡ true → MainLoops (by_timer C.shows timer.entry.now) script.entry.now hall.entry.now main.entry.now main.exit.now }
+            ensures ends { EndsOthers (by_timer C.shows timer.entry.now) script.entry.now hall.entry.now threads.exit.now controller.entry.now controller.exit.now result }
         {
             let early = run_main(means, hall, script, timer, main, threads, controller);
             quit_others(means.rt, hall, script, timer, &ended, controller, early)

@@ -31,7 +31,8 @@ use Rattle.dash_threads.specs.Threads.{ThreadKeeps}
 use Rattle.dash_stage.specs.declared.control.Controller.{Controller}
 use Rattle.dash_stage.specs.declared.stage.Stage.{Stage}
 use Rattle.dash_stage.specs.BehindThreads.{SeesMore, HasHeardThreads, HasMadeAll, CallsBehindThreads}
-use Rattle.dash_stage.specs.ByClock.{RunsByClock, MayQuit, EachIsThread}
+use Rattle.dash_stage.specs.ByClock.{RunsByClock, EachIsThread}
+use Rattle.dash_stage.proofs.ByClock.ClockTurns.{MayQuit}
 use Rattle.dash_stage.specs.Controllers.{IsControllerIn, CallsNothingOn}
 use Rattle.dash_stage.specs.GivingUp.{rings, HaveBeenRung}
 use Rattle.dash_stage.specs.Sharing.{OfThreads, ControllerKeeps, HaveSeenTheSame}

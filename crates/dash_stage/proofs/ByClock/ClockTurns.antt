@@ -1,6 +1,6 @@
 -- The controller's turns at the end of a run by a clock.
 use Rattle.std.proofs.Common.{◌≡◌, ◌≢◌, ◌<◌, ◌≤◌, ◌+◌, ◌++◌, ℕ, Bool, true, false, cond, List, [], ◌∷◌, length, Some, refl, sym, ap, ◌∙◌, subst, arith, inl, inr}
-use Rattle.std.specs.Prelude.{slice_index_or, ◌&&◌, nat_le}
+use Rattle.std.specs.Prelude.{◌⊎◌, slice_index_or, ◌&&◌, nat_le}
 use Rattle.std.proofs.lemmas.Bool.{and_from, le-leb}
 use Rattle.std.proofs.lemmas.List.{get_or_default, length-set}
 use mathlib.Core.Logic.{dite}
@@ -27,13 +27,16 @@ use Rattle.dash_hall.proofs.Clocking.{if_free, EntersAt, quits_enter, its_moment
 use Rattle.dash_hall.proofs.Growing.{turn_makes, own_of_one}
 use Rattle.dash_threads.specs.Threads.{AreByClock}
 use Rattle.dash_stage.specs.Controllers.{CanTurn, AtPoster, calls_on, CallsNothingOn, OnlyMoves, IsQuittingBy, IsClosingBy, HasClosedIn, are_advances}
-use Rattle.dash_stage.specs.ByClock.{MayQuit}
 use Rattle.dash_stage.proofs.Ends.HallEnds.{some_of}
 use Rattle.dash_stage.proofs.Controller.Controlling.{own_poster, has_poster, in_step}
 use Rattle.dash_stage.proofs.Controller.ControlTurns.{with_poster, poster_here, made_none}
 use Rattle.dash_stage.proofs.Controller.ControlWhole.{turns_elsewhere}
 use Rattle.message_pool.specs.Passes.{Tally}
 use mathlib.Core.List.{IsPrefix}
+
+-- the poster quit its queue safely at this moment by one call, which may have been refused, or did nothing
+abbrev pub MayQuit : Sender → Sender → ℕ → Type 0
+MayQuit before after now = (after ≡ before) ⊎ QuitsOf before after true now
 
 -- where one call alone was made, and it closes the queue
 closed_by_one : (main : Bool) (end : ℕ) (quit : Bool) (e : Entry) → is_advance e.call ≡ false → is_closing main false end e ≡ true → are_controls main false end quit (e ∷ []) ≡ true
