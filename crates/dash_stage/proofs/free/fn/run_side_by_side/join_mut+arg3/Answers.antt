@@ -5,21 +5,19 @@ use Rattle.dash_stage.proofs.free.fn.run_side_by_side.join_mut+arg3.Goals as goa
 pub quit_others-requires : goal.quit_others-requires
 quit_others-requires g c = record { can = can_quit _ _ _ _ _ _ c.requires.0 c.run_main-early.ensures.hears.kept }
 
-pub returns-clause-beside : goal.returns-clause-beside
-returns-clause-beside g c = c.run_main-early.ensures.ran.beside
-
-pub returns-clause-looped : goal.returns-clause-looped
-returns-clause-looped g c = λ done. c.run_main-early.ensures.ran.looped (c.quit_others.ensures.heeds done)
-
-pub returns-clause-ends : goal.returns-clause-ends
-returns-clause-ends g c =
+pub returns : goal.returns
+returns g c =
     let run = c.run_main-early.ensures in
     let quit = c.quit_others.ensures in
     let threads = c.run_main-early.new.threads in
     let middle = c.run_main-early.new.controller in
     let last = c.quit_others.new.controller in
     record {
-      quit = λ done. quits_heard run.hears.kept (quit.quit done);
-      behind = λ done. behind_on _ threads threads middle last (same_threads threads) (quit.quit done).more run.hears.behind;
-      rung = λ given. rung_heard _ _ middle last run.hears.kept (quit.rung given);
+      beside = run.ran.beside;
+      looped = λ done. run.ran.looped (quit.heeds done);
+      ends = record {
+        quit = λ done. quits_heard run.hears.kept (quit.quit done);
+        behind = λ done. behind_on _ threads threads middle last (same_threads threads) (quit.quit done).more run.hears.behind;
+        rung = λ given. rung_heard _ _ middle last run.hears.kept (quit.rung given);
+      };
     }
