@@ -1,7 +1,8 @@
 use Rattle.std.proofs.Common.{rules}
-use Rattle.choreographer.proofs.ByTurn.{turned}
+use Rattle.choreographer.proofs.ByTurn.{turned, keeps_pulse}
 use Rattle.choreographer.proofs.Quiet.{grows_prefix}
 use Rattle.choreographer.proofs.Stamps.{stamped_due}
+use Rattle.choreographer.proofs.Waits.{due_waits}
 use Rattle.choreographer.proofs.state.Choreographer.due_turn.Goals as goal
 
 pub give-requires-clause-stamped : goal.give-requires-clause-stamped
@@ -21,3 +22,10 @@ returns g c =
       search rules,
       search rules,
     )
+
+pub give-requires-clause-latest : goal.give-requires-clause-latest
+give-requires-clause-latest g c =
+    keeps_pulse c.args.self.now.constants c.pass.inside.seat.me.0 c.take-state.result c.schedule_due-did.new.self c.take-state.new.seat.me c.take-state.ensures.taken c.schedule_due-did.ensures.stamp (due_waits c.take-state.result c.schedule_due-did.new.self c.args.now c.schedule_due-did.result c.schedule_due-did.ensures.after).awaits
+
+pub give-requires-clause-asks : goal.give-requires-clause-asks
+give-requires-clause-asks g c = (due_waits c.take-state.result c.schedule_due-did.new.self c.args.now c.schedule_due-did.result c.schedule_due-did.ensures.after).asks c.args.self.now.constants c.take-state.ensures.asks

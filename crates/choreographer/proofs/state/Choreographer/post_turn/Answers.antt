@@ -1,7 +1,8 @@
 use Rattle.std.proofs.Common.{rules}
-use Rattle.choreographer.proofs.ByTurn.{turned}
+use Rattle.choreographer.proofs.ByTurn.{turned, keeps_pulse}
 use Rattle.choreographer.proofs.Quiet.{grows_prefix}
 use Rattle.choreographer.proofs.Stamps.{stamped_posted}
+use Rattle.choreographer.proofs.Waits.{posted_waits}
 use Rattle.choreographer.proofs.state.Choreographer.post_turn.Goals as goal
 
 pub give-requires-clause-stamped : goal.give-requires-clause-stamped
@@ -22,3 +23,10 @@ returns g c =
       search rules,
       search rules,
     )
+
+pub give-requires-clause-latest : goal.give-requires-clause-latest
+give-requires-clause-latest g c =
+    keeps_pulse c.args.self.now.constants c.pass.inside.seat.me.0 c.take-state.result c.post-answer.new.self c.take-state.new.seat.me c.take-state.ensures.taken c.post-answer.ensures.stamp (posted_waits c.take-state.result c.post-answer.new.self c.args.asked.phase c.args.asked.due c.args.asked.id c.args.asked.token c.args.now c.post-answer.result c.post-answer.ensures.after c.post-answer.ensures.err).awaits
+
+pub give-requires-clause-asks : goal.give-requires-clause-asks
+give-requires-clause-asks g c = (posted_waits c.take-state.result c.post-answer.new.self c.args.asked.phase c.args.asked.due c.args.asked.id c.args.asked.token c.args.now c.post-answer.result c.post-answer.ensures.after c.post-answer.ensures.err).asks c.args.self.now.constants c.take-state.ensures.asks

@@ -1,9 +1,13 @@
 use Rattle.std.proofs.Common.{rules, sym, ap, ◌∙◌, subst}
 use Rattle.choreographer.specs.Plays.{Sat, MayPulse}
 use Rattle.choreographer.specs.Known.{Known}
-use Rattle.choreographer.proofs.ByTurn.{turned, may_pulse}
+use Rattle.choreographer.specs.Turn.{AsksIfScheduled}
+use Rattle.choreographer.specs.declared.view.Constants.{Constants}
+use Rattle.choreographer.proofs.ByTurn.{turned, may_pulse, same_key}
 use Rattle.choreographer.proofs.Quiet.{grows_prefix}
 use Rattle.choreographer.proofs.Latest.{pulse_gets, pulse_comes_after}
+use Rattle.choreographer.proofs.Waits.{pulsed_asks}
+use Rattle.choreographer.proofs.Pulsing.{pulse_awaits}
 use Rattle.choreographer.proofs.state.Choreographer.pulse_turn.Goals as goal
 
 pub returns-clause-turn : goal.returns-clause-turn
@@ -33,3 +37,14 @@ pub returns-clause-later : goal.returns-clause-later
 unfolding returns-clause-turn
 returns-clause-later g c =
     let t = returns-clause-turn g c in pulse_comes_after c.args.pass.now _ t.0 t.1 c.args.now c.deliver-pulse.result t.2 c.take-state.ensures.stamped t.3
+
+pub give-requires-clause-asks : goal.give-requires-clause-asks
+give-requires-clause-asks g c =
+    pulsed_asks c.take-state.result c.deliver-pulse.new.self c.args.self.now.constants c.deliver-pulse.result c.deliver-pulse.ensures.after c.take-state.ensures.asks
+
+pub returns-clause-awaits : goal.returns-clause-awaits
+unfolding returns-clause-turn
+returns-clause-awaits g c =
+    let t = returns-clause-turn g c in
+    pulse_awaits c.args.pass.now _ t.0 t.1 c.args.now c.deliver-pulse.result t.2
+    (λ k e. subst (λ (q : Constants). AsksIfScheduled q c.take-state.result) (same_key c.args.self.now.constants k c.args.pass.now.view.constants c.requires.pass.1 e) c.take-state.ensures.asks) t.3 t.4

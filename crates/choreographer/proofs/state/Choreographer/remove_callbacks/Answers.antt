@@ -1,7 +1,8 @@
 use Rattle.std.proofs.Common.{rules}
-use Rattle.choreographer.proofs.ByTurn.{turned}
+use Rattle.choreographer.proofs.ByTurn.{turned, keeps_pulse}
 use Rattle.choreographer.proofs.Quiet.{grows_prefix}
 use Rattle.choreographer.proofs.Stamps.{stamped_removed}
+use Rattle.choreographer.proofs.Waits.{removed_waits}
 use Rattle.choreographer.proofs.state.Choreographer.remove_callbacks.Goals as goal
 
 pub give-requires-clause-stamped : goal.give-requires-clause-stamped
@@ -22,3 +23,10 @@ returns g c =
       search rules,
       search rules,
     )
+
+pub give-requires-clause-latest : goal.give-requires-clause-latest
+give-requires-clause-latest g c =
+    keeps_pulse c.args.self.now.constants c.pass.inside.seat.me.0 c.take-state.result c.remove-answer.new.self c.take-state.new.seat.me c.take-state.ensures.taken c.remove-answer.ensures.stamp (removed_waits c.take-state.result c.remove-answer.new.self c.args.phase c.args.id c.args.token c.remove-answer.result c.remove-answer.ensures.after c.remove-answer.ensures.err).awaits
+
+pub give-requires-clause-asks : goal.give-requires-clause-asks
+give-requires-clause-asks g c = (removed_waits c.take-state.result c.remove-answer.new.self c.args.phase c.args.id c.args.token c.remove-answer.result c.remove-answer.ensures.after c.remove-answer.ensures.err).asks c.args.self.now.constants c.take-state.ensures.asks

@@ -3,8 +3,9 @@ use mathlib.Core.List.{IsPrefix}
 use Rattle.loop_model.proofs.Prefixes.{prefix_self}
 use Rattle.choreographer.specs.Plays.{Sat, MaySeal}
 use Rattle.choreographer.specs.Known.{Known, IsTurn}
-use Rattle.choreographer.proofs.ByTurn.{turned, holds_last, may_seal, same_gives, hands_more, part_handed}
+use Rattle.choreographer.proofs.ByTurn.{turned, keeps_pulse, holds_last, may_seal, same_gives, hands_more, part_handed}
 use Rattle.choreographer.proofs.Stamps.{stamped_sealed}
+use Rattle.choreographer.proofs.Waits.{sealed_waits}
 use Rattle.choreographer.proofs.state.Choreographer.seal.Goals as goal
 
 pub give-requires-clause-stamped : goal.give-requires-clause-stamped
@@ -39,3 +40,10 @@ give-requires-clause-handed g c =
     let x = c.take-state.result in
     subst (λ (z : Sat). MaySeal c.args.self.now.constants z.0 c.seal-answer.new.self) (sym c.take-state.ensures.taken)
     (may_seal c.args.self.now.constants c.pass.inside.seat.me.0 x c.seal-answer.new.self c.take-state.new.seat.me.0.heard c.pass.inside.number c.pass.invariant.2 (ap (λ (p : Known). p.number + 1) c.pass.view_is ∙ c.requires.last) (hands_more x.frames c.seal-answer.new.self.frames c.seal-answer.result c.seal-answer.ensures.seals))
+
+pub give-requires-clause-latest : goal.give-requires-clause-latest
+give-requires-clause-latest g c =
+    keeps_pulse c.args.self.now.constants c.pass.inside.seat.me.0 c.take-state.result c.seal-answer.new.self c.take-state.new.seat.me c.take-state.ensures.taken c.seal-answer.ensures.stamp (sealed_waits c.take-state.result c.seal-answer.new.self c.seal-answer.result c.seal-answer.ensures.seals).awaits
+
+pub give-requires-clause-asks : goal.give-requires-clause-asks
+give-requires-clause-asks g c = (sealed_waits c.take-state.result c.seal-answer.new.self c.seal-answer.result c.seal-answer.ensures.seals).asks c.args.self.now.constants c.take-state.ensures.asks
