@@ -6,7 +6,7 @@ use Rattle.choreographer.proofs.state.Choreographer.begin_turn.Goals as goal
 
 pub give-requires-clause-stamped : goal.give-requires-clause-stamped
 give-requires-clause-stamped g c =
-    stamped_begin c.take-state.result c.begin_frame-answer.new.self c.take-state.ensures.stamped c.args.start c.begin_frame-answer.result c.begin_frame-answer.ensures.begins c.begin_frame-answer.ensures.stamp
+    stamped_begin c.take-state.result c.begin_frame-answer.new.self c.take-state.ensures.found.stamped c.args.start c.begin_frame-answer.result c.begin_frame-answer.ensures.begins c.begin_frame-answer.ensures.stamp
 
 pub give-requires-clause-state : goal.give-requires-clause-state
 give-requires-clause-state g c =
@@ -28,7 +28,7 @@ returns g c =
       x,
       y,
       turned c.args.self.now.constants (record { table = c.pass.inside.seat.table_id; number = c.pass.inside.number; view = c.pass.inside.seat.me.0 }) c.args.pass.now _ x y c.take-state.new.seat.me c.give.new.seat.me
-          c.pass.view_is c.requires.1 c.pass.invariant.2 c.pass.invariant.3 t.taken t.state t.heard t.latest (search rules) (c.begin_frame-answer.ensures.steps.1) (c.give.ensures.2, c.give.ensures.3) (search rules),
+          c.pass.view_is c.requires.1 c.pass.invariant.2 c.pass.invariant.3 t.taken t.found.state t.found.heard t.found.latest (search rules) (c.begin_frame-answer.ensures.steps.1) (c.give.ensures.2, c.give.ensures.3) (search rules),
       search rules,
       search rules,
     )
