@@ -10,7 +10,7 @@ returns-clause-turn g c =
     let t = c.take-state.ensures in (
       x,
       turned c.args.self.now.constants (record { table = c.pass.inside.seat.table_id; number = c.pass.inside.number; view = c.pass.inside.seat.me.0 }) c.args.pass.now _ x x c.take-state.new.seat.me c.give.new.seat.me
-          c.pass.view_is c.requires.1 c.pass.invariant.2 c.pass.invariant.3 t.taken t.state t.heard t.latest t.state.0 (prefix_self x.frames.entries) (c.give.ensures.2, c.give.ensures.3) (search rules),
+          c.pass.view_is c.requires.1 c.pass.invariant.2 c.pass.invariant.3 t.taken t.found.state t.found.heard t.found.latest t.found.state.0 (prefix_self x.frames.entries) (c.give.ensures.2, c.give.ensures.3) (search rules),
       c.asked-asked.ensures.asked,
     )
 

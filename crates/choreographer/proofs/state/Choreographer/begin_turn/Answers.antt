@@ -8,7 +8,7 @@ use Rattle.choreographer.proofs.state.Choreographer.begin_turn.Goals as goal
 
 pub give-requires-clause-stamped : goal.give-requires-clause-stamped
 give-requires-clause-stamped g c =
-    stamped_begin c.take-state.result c.begin_frame-answer.new.self c.take-state.ensures.stamped c.args.start c.begin_frame-answer.result c.begin_frame-answer.ensures.begins c.begin_frame-answer.ensures.stamp
+    stamped_begin c.take-state.result c.begin_frame-answer.new.self c.take-state.ensures.found.stamped c.args.start c.begin_frame-answer.result c.begin_frame-answer.ensures.begins c.begin_frame-answer.ensures.stamp
 
 pub give-requires-clause-state : goal.give-requires-clause-state
 give-requires-clause-state g c =
@@ -30,7 +30,7 @@ returns g c =
       x,
       y,
       turned c.args.self.now.constants (record { table = c.pass.inside.seat.table_id; number = c.pass.inside.number; view = c.pass.inside.seat.me.0 }) c.args.pass.now _ x y c.take-state.new.seat.me c.give.new.seat.me
-          c.pass.view_is c.requires.pass.1 c.pass.invariant.2 c.pass.invariant.3 t.taken t.state t.heard t.latest (search rules) (c.begin_frame-answer.ensures.steps.1) (c.give.ensures.2, c.give.ensures.3) (search rules),
+          c.pass.view_is c.requires.pass.1 c.pass.invariant.2 c.pass.invariant.3 t.taken t.found.state t.found.heard t.found.latest (search rules) (c.begin_frame-answer.ensures.steps.1) (c.give.ensures.2, c.give.ensures.3) (search rules),
       search rules,
       search rules,
     )
@@ -47,6 +47,6 @@ give-requires-clause-asks g c =
     (λ n named.
     let is : c.args.pass.now.number ≡ n = c.requires.begins.0 n named in
     let only : c.pass.inside.seat.me.0.passes ≡ n ∷ [] = c.pass.invariant.2 ∙ ap (λ (k : ℕ). k ∷ []) (ap (λ (p : Known). p.number) c.pass.view_is ∙ is) in
-    (c.take-state.ensures.latest n named only).1
+    (c.take-state.ensures.found.latest n named only).1
     ∙ (ap (λ (p : Known). p.view.awaits) c.pass.view_is ∙ c.requires.begins.1 c.args.self.now.constants c.requires.pass.1 (named ∙ ap Some (sym is))))
-    c.take-state.ensures.asks
+    c.take-state.ensures.found.asks

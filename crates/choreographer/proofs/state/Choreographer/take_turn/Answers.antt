@@ -11,7 +11,7 @@ returns g c =
       x,
       y,
       turned c.args.self.now.constants (record { table = c.pass.inside.seat.table_id; number = c.pass.inside.number; view = c.pass.inside.seat.me.0 }) c.args.pass.now _ x y c.take-state.new.seat.me c.give.new.seat.me
-          c.pass.view_is c.requires.pass.0.1 c.pass.invariant.2 c.pass.invariant.3 t.taken t.state t.heard t.latest (search rules) (c.take-answer.ensures.steps.1) (c.give.ensures.2, c.give.ensures.3) (search rules),
+          c.pass.view_is c.requires.pass.0.1 c.pass.invariant.2 c.pass.invariant.3 t.taken t.found.state t.found.heard t.found.latest (search rules) (c.take-answer.ensures.steps.1) (c.give.ensures.2, c.give.ensures.3) (search rules),
       search rules,
       search rules,
       search rules,
@@ -22,4 +22,4 @@ give-requires-clause-latest g c =
     keeps_pulse c.args.self.now.constants c.pass.inside.seat.me.0 c.take-state.result c.take-answer.new.self c.take-state.new.seat.me c.take-state.ensures.taken c.take-answer.ensures.stamp (taken_waits c.take-state.result c.take-answer.new.self c.args.phase c.args.now c.take-answer.result c.take-answer.ensures.takes).awaits
 
 pub give-requires-clause-asks : goal.give-requires-clause-asks
-give-requires-clause-asks g c = (taken_waits c.take-state.result c.take-answer.new.self c.args.phase c.args.now c.take-answer.result c.take-answer.ensures.takes).asks c.args.self.now.constants c.take-state.ensures.asks
+give-requires-clause-asks g c = (taken_waits c.take-state.result c.take-answer.new.self c.args.phase c.args.now c.take-answer.result c.take-answer.ensures.takes).asks c.args.self.now.constants c.take-state.ensures.found.asks
