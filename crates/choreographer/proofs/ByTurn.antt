@@ -81,9 +81,10 @@ own_given key v x own_key own more seals = record {
 pub keeps_handed : (key : Constants) (v : View) (x y : Kept) (made : List (ℕ × FrameEntry)) → HasSameConstants x y → MaySeal key (taking v x made) y
 keeps_handed key v x y made same = let long = ap length same.3 in (omega (arith, long), λ _. long)
 
--- where the stamp stays and whether a frame is to begin, the state may be given back
-pub keeps_pulse : (key : Constants) (v : View) (x y : Kept) (s : Sat) → s ≡ (taking v x s.0.heard, (0, None) ∷ []) → y.stamp ≡ x.stamp → awaits_frame y ≡ awaits_frame x → MayPulse key s.0 y
-keeps_pulse key v x y s took stamp awaits = subst (λ (z : Sat). MayPulse key z.0 y) (sym took) (λ n named elsewhere. (stamp, awaits))
+-- where the stamp stays and whether a frame is to begin, and callbacks are posted and removed alone, the state may be given back
+pub keeps_pulse : (key : Constants) (v : View) (x y : Kept) (s : Sat) → s ≡ (taking v x s.0.heard, (0, None) ∷ []) → y.stamp ≡ x.stamp → awaits_frame y ≡ awaits_frame x
+    → GrowsQuietly x.frames.entries y.frames.entries → MayPulse key s.0 y
+keeps_pulse key v x y s took stamp awaits quiet = subst (λ (z : Sat). MayPulse key z.0 y) (sym took) (λ n named elsewhere. (stamp, awaits, quiet))
 
 -- the seat of the pass that alone delivers pulses may change it
 pub may_pulse : (key : Constants) (v : View) (x y : Kept) (made : List (ℕ × FrameEntry)) (number : ℕ) → v.passes ≡ number ∷ [] → ((n : ℕ) → key.pulses ≡ Some n → number ≡ n) → MayPulse key (taking v x made) y

@@ -1,6 +1,7 @@
 use Rattle.std.proofs.Common.{rules, refl}
 use Rattle.loop_model.proofs.Prefixes.{prefix_self}
 use Rattle.choreographer.proofs.ByTurn.{turned, keeps_pulse}
+use Rattle.choreographer.proofs.Quiet.{grows_self}
 use Rattle.choreographer.proofs.Waits.{keeps_all}
 use Rattle.choreographer.proofs.state.Choreographer.asked.Goals as goal
 
@@ -16,4 +17,4 @@ returns-clause-turn g c =
 
 pub give-requires-clause-latest : goal.give-requires-clause-latest
 give-requires-clause-latest g c =
-    keeps_pulse c.args.self.now.constants c.pass.inside.seat.me.0 c.take-state.result c.take-state.result c.take-state.new.seat.me c.take-state.ensures.taken refl (keeps_all c.take-state.result c.take-state.result refl).awaits
+    keeps_pulse c.args.self.now.constants c.pass.inside.seat.me.0 c.take-state.result c.take-state.result c.take-state.new.seat.me c.take-state.ensures.taken refl (keeps_all c.take-state.result c.take-state.result refl).awaits (grows_self c.take-state.result.frames.entries)

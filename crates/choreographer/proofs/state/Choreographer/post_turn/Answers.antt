@@ -26,7 +26,7 @@ returns g c =
 
 pub give-requires-clause-latest : goal.give-requires-clause-latest
 give-requires-clause-latest g c =
-    keeps_pulse c.args.self.now.constants c.pass.inside.seat.me.0 c.take-state.result c.post-answer.new.self c.take-state.new.seat.me c.take-state.ensures.taken c.post-answer.ensures.stamp (posted_waits c.take-state.result c.post-answer.new.self c.args.asked.phase c.args.asked.due c.args.asked.id c.args.asked.token c.args.now c.post-answer.result c.post-answer.ensures.after c.post-answer.ensures.err).awaits
+    keeps_pulse c.args.self.now.constants c.pass.inside.seat.me.0 c.take-state.result c.post-answer.new.self c.take-state.new.seat.me c.take-state.ensures.taken c.post-answer.ensures.stamp (posted_waits c.take-state.result c.post-answer.new.self c.args.asked.phase c.args.asked.due c.args.asked.id c.args.asked.token c.args.now c.post-answer.result c.post-answer.ensures.after c.post-answer.ensures.err).awaits c.post-answer.ensures.quiet.1
 
 pub give-requires-clause-asks : goal.give-requires-clause-asks
 give-requires-clause-asks g c = (posted_waits c.take-state.result c.post-answer.new.self c.args.asked.phase c.args.asked.due c.args.asked.id c.args.asked.token c.args.now c.post-answer.result c.post-answer.ensures.after c.post-answer.ensures.err).asks c.args.self.now.constants c.take-state.ensures.found.asks

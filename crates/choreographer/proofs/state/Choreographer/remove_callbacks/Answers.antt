@@ -26,7 +26,7 @@ returns g c =
 
 pub give-requires-clause-latest : goal.give-requires-clause-latest
 give-requires-clause-latest g c =
-    keeps_pulse c.args.self.now.constants c.pass.inside.seat.me.0 c.take-state.result c.remove-answer.new.self c.take-state.new.seat.me c.take-state.ensures.taken c.remove-answer.ensures.stamp (removed_waits c.take-state.result c.remove-answer.new.self c.args.phase c.args.id c.args.token c.remove-answer.result c.remove-answer.ensures.after c.remove-answer.ensures.err).awaits
+    keeps_pulse c.args.self.now.constants c.pass.inside.seat.me.0 c.take-state.result c.remove-answer.new.self c.take-state.new.seat.me c.take-state.ensures.taken c.remove-answer.ensures.stamp (removed_waits c.take-state.result c.remove-answer.new.self c.args.phase c.args.id c.args.token c.remove-answer.result c.remove-answer.ensures.after c.remove-answer.ensures.err).awaits c.remove-answer.ensures.quiet.1
 
 pub give-requires-clause-asks : goal.give-requires-clause-asks
 give-requires-clause-asks g c = (removed_waits c.take-state.result c.remove-answer.new.self c.args.phase c.args.id c.args.token c.remove-answer.result c.remove-answer.ensures.after c.remove-answer.ensures.err).asks c.args.self.now.constants c.take-state.ensures.found.asks

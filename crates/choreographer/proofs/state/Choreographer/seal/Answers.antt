@@ -5,6 +5,8 @@ use Rattle.choreographer.specs.Plays.{Sat, MaySeal}
 use Rattle.choreographer.specs.Known.{Known, IsTurn}
 use Rattle.choreographer.proofs.ByTurn.{turned, keeps_pulse, holds_last, may_seal, same_gives, hands_more, part_handed}
 use Rattle.choreographer.proofs.Stamps.{stamped_sealed}
+use Rattle.choreographer.specs.Frame.{GrowsQuietly}
+use Rattle.choreographer.proofs.Quiet.{grows_self}
 use Rattle.choreographer.proofs.Waits.{sealed_waits}
 use Rattle.choreographer.proofs.state.Choreographer.seal.Goals as goal
 
@@ -44,6 +46,7 @@ give-requires-clause-handed g c =
 pub give-requires-clause-latest : goal.give-requires-clause-latest
 give-requires-clause-latest g c =
     keeps_pulse c.args.self.now.constants c.pass.inside.seat.me.0 c.take-state.result c.seal-answer.new.self c.take-state.new.seat.me c.take-state.ensures.taken c.seal-answer.ensures.stamp (sealed_waits c.take-state.result c.seal-answer.new.self c.seal-answer.result c.seal-answer.ensures.seals).awaits
+    (subst (GrowsQuietly c.take-state.result.frames.entries) (sym c.seal-answer.ensures.quiet.1) (grows_self c.take-state.result.frames.entries))
 
 pub give-requires-clause-asks : goal.give-requires-clause-asks
 give-requires-clause-asks g c = (sealed_waits c.take-state.result c.seal-answer.new.self c.seal-answer.result c.seal-answer.ensures.seals).asks c.args.self.now.constants c.take-state.ensures.found.asks

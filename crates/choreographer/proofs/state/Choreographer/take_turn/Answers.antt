@@ -1,5 +1,7 @@
-use Rattle.std.proofs.Common.{rules}
-use Rattle.choreographer.proofs.ByTurn.{turned, keeps_pulse}
+use Rattle.std.proofs.Common.{rules, sym, ap, ◌∙◌, subst}
+use Rattle.choreographer.specs.Plays.{Sat, MayPulse}
+use Rattle.choreographer.specs.Known.{Known}
+use Rattle.choreographer.proofs.ByTurn.{turned, may_pulse}
 use Rattle.choreographer.proofs.Waits.{taken_waits}
 use Rattle.choreographer.proofs.state.Choreographer.take_turn.Goals as goal
 
@@ -19,7 +21,9 @@ returns g c =
 
 pub give-requires-clause-latest : goal.give-requires-clause-latest
 give-requires-clause-latest g c =
-    keeps_pulse c.args.self.now.constants c.pass.inside.seat.me.0 c.take-state.result c.take-answer.new.self c.take-state.new.seat.me c.take-state.ensures.taken c.take-answer.ensures.stamp (taken_waits c.take-state.result c.take-answer.new.self c.args.phase c.args.now c.take-answer.result c.take-answer.ensures.takes).awaits
+    subst (λ (z : Sat). MayPulse c.args.self.now.constants z.0 c.take-answer.new.self) (sym c.take-state.ensures.taken)
+    (may_pulse c.args.self.now.constants c.pass.inside.seat.me.0 c.take-state.result c.take-answer.new.self c.take-state.new.seat.me.0.heard c.pass.inside.number c.pass.invariant.2
+    (λ n named. ap (λ (p : Known). p.number) c.pass.view_is ∙ c.requires.delivers n named))
 
 pub give-requires-clause-asks : goal.give-requires-clause-asks
 give-requires-clause-asks g c = (taken_waits c.take-state.result c.take-answer.new.self c.args.phase c.args.now c.take-answer.result c.take-answer.ensures.takes).asks c.args.self.now.constants c.take-state.ensures.found.asks
