@@ -8,9 +8,10 @@ use Rattle.frame_phases.specs.State.{delivered}
 use Rattle.choreographer.specs.declared.kept.Kept.{Kept}
 use Rattle.choreographer.specs.declared.view.Constants.{Constants}
 use Rattle.choreographer.specs.Turn.{AsksIfScheduled, awaits_frame, awaits_by}
-use Rattle.choreographer.specs.Known.{Shared, Known, IfAlone, IsTurn, MayBegin}
+use Rattle.choreographer.specs.Known.{Shared, Known, IsOf, IfAlone, IsTurn, MayBegin}
 use Rattle.choreographer.specs.Steps.{pulsed}
 use Rattle.choreographer.specs.Calls.{RemovedBy, AskedBy, DueTurn, BeginTurn, SealedBy, AwaitsBy, KnowsPulse}
+use Rattle.choreographer.proofs.ByTurn.{same_key}
 use Rattle.choreographer.proofs.Waits.{KeepsWait, removed_waits, due_waits, sealed_waits, keeps_all, pulsed_none, pulsed_one, begun_none, backwards_none, unscheduled_never}
 use Rattle.choreographer.proofs.Latest.{Keeps, turn_keeps, turn_same}
 
@@ -40,6 +41,15 @@ pulse_awaits before after x y now came turn asks is left = λ c e named. by_puls
     by_pulse (Some stamp) due same c e named =
         let s = turn.awaits c e named in
         (sym s.0 ∙ pulsed_none x y now stamp due, s.1 ∙ pulsed_one x y now stamp due same (asks c e before.number named))
+
+-- where no pass is named that alone delivers pulses, any may deliver them and begin a frame
+pub any_begins : (p : Known) (q : Shared) → IsOf p q → q.constants.pulses ≡ None → MayBegin p q
+any_begins p q of_it none_named = (
+  λ n named. let both : None ≡ Some n = sym none_named ∙ named in absurd (cc (both)),
+  λ c e named.
+      let same : q.constants ≡ c = same_key q.constants c p.view.constants of_it.1 e in
+      let both : None ≡ Some p.number = sym none_named ∙ (ap (λ (k : Constants). k.pulses) same ∙ named) in absurd (cc (both)),
+)
 
 -- the pass that may begin a frame, or any other where none alone delivers pulses, finds one that is to begin
 pub finds_one : (q : Shared) (before after : Known) (x y : Kept) → IsTurn before after x y → MayBegin before q → IfAlone before (awaits_frame x ≡ 1)
