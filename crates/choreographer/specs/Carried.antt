@@ -16,7 +16,8 @@ pub record KeepsBoth {L : Type 0} {C : Type 0} {H : Type 0} {O : Type 0} (Works 
   pub host : KeepsHost Holds source is_moment h h'
 
 -- callbacks of this choreographer may run: the client serves it, the host is ready, and what holds of both between two callbacks does
-pub record MayRun {L : Type 0} {H : Type 0} (Works : L → Shared → Type 0) (Between : L → H → Type 0) (Holds : H → Type 0) (q : Shared) (l : L) (h : H) : Type 0 where
+pub record MayRun {L : Type 0} {H : Type 0} (Works : L → Shared → Type 0) (Between : L → H → Type 0) (Holds : H → Type 0)
+    (q : Shared) (l : L) (h : H) : Type 0 where
   pub serves : Works l q
   pub meets : Between l h
   pub ready : Holds h

@@ -34,14 +34,14 @@ pub returns-clause-plays : goal.returns-clause-plays
 returns-clause-plays g c = λ text a is.
     (let h = c.host-host.result in
     let k = c.on_due.new.self in
-    let calls = untold_hosted (origin_now h) (origin_now k) c.args.own.now.poster.now h.poster.now k.poster.now k.pass.now c.on_due.ensures.origin c.on_due.ensures.ready c.host-host.ensures.began.0 c.host-host.ensures.poster.1 c.on_due.ensures.sends in
+    let calls = untold_hosted (origin_now h) (origin_now k) c.args.own.now.poster.now h.poster.now k.poster.now k.pass.now c.on_due.ensures.stays.origin c.on_due.ensures.stays.ready c.host-host.ensures.began.0 c.host-host.ensures.poster.1 c.on_due.ensures.sends in
     played_with c.args.self.now.script.now c.args.self.now.looper (calls_of c.args.own.now.poster.now) (calls_of k.poster.now) c.args.parts.now _ a calls refl refl refl is)
 
 pub returns-clause-calls : goal.returns-clause-calls
 returns-clause-calls g c =
     let h = c.host-host.result in
     let k = c.on_due.new.self in
-    untold_hosted (origin_now h) (origin_now k) c.args.own.now.poster.now h.poster.now k.poster.now k.pass.now c.on_due.ensures.origin c.on_due.ensures.ready c.host-host.ensures.began.0 c.host-host.ensures.poster.1 c.on_due.ensures.sends
+    untold_hosted (origin_now h) (origin_now k) c.args.own.now.poster.now h.poster.now k.poster.now k.pass.now c.on_due.ensures.stays.origin c.on_due.ensures.stays.ready c.host-host.ensures.began.0 c.host-host.ensures.poster.1 c.on_due.ensures.sends
 
 pub returns-clause-asks : goal.returns-clause-asks
 returns-clause-asks g c = ap asks_in (due_records c.args.parts.now.frames c.on_due.new.pass (λ n. n == nanos_of c.host-host.result.uptime.now.now) c.args.phase c.on_due.result c.on_due.ensures.due)
@@ -50,7 +50,7 @@ pub returns-clause-clocked : goal.returns-clause-clocked
 returns-clause-clocked g c =
     let h = c.host-host.result in
     let k = c.on_due.new.self in
-    adds_hosted (origin_now h) (origin_now k) c.args.now c.args.own.now.poster.now k.poster.now k.pass.now c.on_due.ensures.origin c.on_due.ensures.ready c.host-host.ensures.began.0 c.host-host.ensures.moment.0
+    adds_hosted (origin_now h) (origin_now k) c.args.now c.args.own.now.poster.now k.poster.now k.pass.now c.on_due.ensures.stays.origin c.on_due.ensures.stays.ready c.host-host.ensures.began.0 c.host-host.ensures.moment.0
 
 pub returns-then-phase-phases-clause-clocked : goal.returns-then-phase-phases-clause-clocked
 returns-then-phase-phases-clause-clocked g c = begins_by_clock c.args.now c.args.own.now.poster.now c.args.own.now.poster.now refl
