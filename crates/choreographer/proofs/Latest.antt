@@ -1,6 +1,6 @@
 -- The stamp of the latest pulse, where one pass alone delivers them.
 use Rattle.std.proofs.Common.{◌≡◌, ℕ, ◌+◌, Bool, true, false, Option, Some, None, List, [], ◌∷◌, ◌++◌, refl, sym, ap, ◌∙◌, subst, inl, inr, length, append-nil, append_assoc, eq-eqb}
-use Rattle.std.specs.Prelude.{◌==◌, nat_le, if◌then◌else◌}
+use Rattle.std.specs.Prelude.{◌==◌}
 use Rattle.std.specs.List.{list_any}
 use Rattle.frame_phases.specs.declared.entry.FrameEntry.{FrameEntry}
 use Rattle.frame_phases.specs.declared.entry.FrameEntry.TheVariants.{Posted, Removed, Begin, Take, Ran}
@@ -9,7 +9,7 @@ use Rattle.frame_phases.specs.declared.entry.Beginning.TheVariants as begin
 use Rattle.frame_phases.specs.declared.entry.Took.{Took}
 use Rattle.frame_phases.specs.declared.entry.Took.TheVariants as took
 use Rattle.frame_phases.specs.State.{Frames, delivered, TakesBy}
-use Rattle.frame_phases.specs.Pulses.{comes_after, comes_after_if_any}
+use Rattle.frame_phases.specs.Pulses.{comes_after_if_any}
 use Rattle.choreographer.specs.Turn.{IsStamped, stamp_of, stamp_by, awaits_frame, awaits_by}
 use Rattle.choreographer.specs.declared.kept.Kept.{Kept}
 use Rattle.choreographer.specs.declared.view.View.{View}
@@ -19,6 +19,7 @@ use Rattle.choreographer.specs.Known.{Known, IfAlone, IsTurn}
 use Rattle.choreographer.specs.Steps.{pulsed}
 use Rattle.choreographer.specs.Calls.{BeginTurn, TakeTurn, latest, GetsStamp, ComesAfter}
 use Rattle.choreographer.specs.Done.{IsSamePass, TakesEach, GivenUpBy, AreOfPhases, AddsPhases, begins_apart, BeginsByStamp}
+use Rattle.choreographer.proofs.Clock.{delivered_comes_after}
 use Rattle.choreographer.proofs.Recorded.{turn_records}
 use Rattle.choreographer.proofs.Waits.{taken_waits}
 
@@ -62,15 +63,7 @@ pulse_gets before after x y came turn is = λ c e named. let s = turn.stamp c e 
 -- such a pulse comes after the one before it
 pub pulse_comes_after : (before after : Known) (x y : Kept) (now : ℕ) (came : Option ℕ) → IsTurn before after x y → IsStamped x → came ≡ delivered x.frames.asked now → ComesAfter before came
 pulse_comes_after before after x y now came turn stamped is = λ c e named.
-    subst (λ (z : ℕ × Option ℕ). comes_after_if_any z.0 z.1 ≡ true) (λ i. ((turn.stamp c e named).0 i, sym is i)) (as_asked x.frames.asked stamped.asked)
-  where
-    by_test : (p : ℕ) (b : Bool) → comes_after x.stamp p ≡ true → comes_after_if_any x.stamp (if b then Some p else None) ≡ true
-    by_test p true later = later
-    by_test p false later = refl
-
-    as_asked : (o : Option ℕ) → comes_after_if_any x.stamp o ≡ true → comes_after_if_any x.stamp (delivered o now) ≡ true
-    as_asked None later = refl
-    as_asked (Some p) later = by_test p (nat_le p now) later
+    subst (λ (z : ℕ × Option ℕ). comes_after_if_any z.0 z.1 ≡ true) (λ i. ((turn.stamp c e named).0 i, sym is i)) (delivered_comes_after x.stamp now x.frames.asked stamped.asked)
 
 pub begin_keeps : (before after : Known) (start : ℕ) (result : Beginning) → BeginTurn before after start result → Keeps stamp_by before after
 begin_keeps before after start result t = turn_keeps stamp_of stamp_by before after t.0 t.1 t.2.stamp t.4

@@ -13,11 +13,12 @@ use Rattle.frame_phases.specs.declared.entry.Beginning.TheVariants as begin
 use Rattle.frame_phases.specs.declared.entry.Took.{Took}
 use Rattle.frame_phases.specs.declared.entry.Took.TheVariants as took
 use Rattle.frame_phases.specs.Pulses.{pulse, is_stamp, is_stamped, are_stamped, is_pulse_if_any, comes_after_if_any}
-use Rattle.frame_phases.specs.State.{Frames, with_entry, scheduled_at, next_callback, removed, BeginsBy, TakesBy, Seals, ran}
+use Rattle.frame_phases.specs.State.{Frames, with_entry, scheduled_at, next_callback, removed, BeginsBy, TakesBy, Seals, ran, delivered}
 use Rattle.frame_phases.proofs.Pulses.{next_comes_after}
 use Rattle.choreographer.specs.declared.kept.Kept.{Kept}
 use Rattle.choreographer.specs.Frame.{IsQuiet}
-use Rattle.choreographer.specs.Turn.{IsStamped}
+use Rattle.choreographer.specs.Turn.{GoesWithClock, IsStamped}
+use Rattle.choreographer.proofs.Clock.{goes_quietly, goes_begun, goes_taken, goes_pulsed, delivered_comes_after}
 use Rattle.choreographer.specs.Steps.{StepsQuietly, pulsed, known_by}
 use Rattle.choreographer.specs.Calls.{with_post}
 
@@ -42,14 +43,22 @@ ran_stamped interval (c ∷ cs) = ran_stamped interval cs
 -- behind more entries, where the stamp that was kept is still one
 module _ (x y : Kept) (h : IsStamped x) where
   with_more : (more : List FrameEntry) → y.frames.interval ≡ x.frames.interval → x.frames.entries ++ more ≡ y.frames.entries → are_stamped x.frames.interval more ≡ true
-      → is_stamp x.frames.interval y.stamp ≡ true → comes_after_if_any y.stamp y.frames.asked ≡ true → IsStamped y
-  with_more more same is stamped kept asked = record {
+      → is_stamp x.frames.interval y.stamp ≡ true → comes_after_if_any y.stamp y.frames.asked ≡ true → GoesWithClock x.frames.interval y.stamp (x.frames.entries ++ more) → IsStamped y
+  with_more more same is stamped kept asked clock = record {
     kept = subst (λ (n : ℕ). is_stamp n y.stamp ≡ true) (sym same) kept;
     frames = subst (λ (z : ℕ × List FrameEntry). are_stamped z.0 z.1 ≡ true) (λ i. (sym same i, is i))
         (both_stamped x.frames.interval x.frames.entries more h.frames stamped);
     interval = subst (λ (n : ℕ). 0 < n) (sym same) h.interval;
     asked = asked;
+    clock = subst (λ (z : ℕ × List FrameEntry). GoesWithClock z.0 y.stamp z.1) (λ i. (sym same i, is i)) clock;
   }
+
+  -- the stamp is as it was
+  by_stamp : (entries : List FrameEntry) → y.stamp ≡ x.stamp → GoesWithClock x.frames.interval x.stamp entries → GoesWithClock x.frames.interval y.stamp entries
+  by_stamp entries same goes = subst (λ (n : ℕ). GoesWithClock x.frames.interval n entries) (sym same) goes
+
+  quiet_clock : (more : List FrameEntry) → IsQuiet more → y.stamp ≡ x.stamp → GoesWithClock x.frames.interval y.stamp (x.frames.entries ++ more)
+  quiet_clock more q same = by_stamp (x.frames.entries ++ more) same (goes_quietly x.frames.interval x.stamp x.frames.entries h.clock more q)
 
   -- what is asked for is as it was, and so is the stamp
   asks_same : y.frames.asked ≡ x.frames.asked → y.stamp ≡ x.stamp → comes_after_if_any y.stamp y.frames.asked ≡ true
@@ -66,11 +75,12 @@ module _ (x y : Kept) (h : IsStamped x) where
     frames = subst (λ (f : Frames). are_stamped f.interval f.entries ≡ true) (sym frames) h.frames;
     interval = subst (λ (f : Frames). 0 < f.interval) (sym frames) h.interval;
     asked = asks_same (ap (λ (f : Frames). f.asked) frames) same;
+    clock = subst (λ (z : Frames × ℕ). GoesWithClock z.0.interval z.1 z.0.entries) (λ i. (sym frames i, sym same i)) h.clock;
   }
 
   -- callbacks are posted and removed
   stamped_quiet : StepsQuietly x y → y.stamp ≡ x.stamp → comes_after_if_any y.stamp y.frames.asked ≡ true → IsStamped y
-  stamped_quiet q same asked = with_more q.1.0 q.0.1 q.1.1 (quiet_stamped x.frames.interval q.1.0 q.1.2) (subst (λ (n : ℕ). is_stamp x.frames.interval n ≡ true) (sym same) h.kept) asked
+  stamped_quiet q same asked = with_more q.1.0 q.0.1 q.1.1 (quiet_stamped x.frames.interval q.1.0 q.1.2) (subst (λ (n : ℕ). is_stamp x.frames.interval n ≡ true) (sym same) h.kept) asked (quiet_clock q.1.0 q.1.2 same)
 
   -- a frame is asked for at a moment that the state knows of
   asks_scheduled : (now : ℕ) → y.frames.asked ≡ (scheduled_at x.frames (known_by x now)).asked → y.stamp ≡ x.stamp → comes_after_if_any y.stamp y.frames.asked ≡ true
@@ -119,24 +129,37 @@ module _ (x y : Kept) (h : IsStamped x) where
   pub stamped_sealed : (answer : Result (List FrameEntry) NoMemory) → Seals x.frames answer y.frames → y.stamp ≡ x.stamp → IsStamped y
   stamped_sealed (Ok part) seals same =
       with_more [] (ap (λ (f : Frames). f.interval) seals.1) (append-nil x.frames.entries ∙ sym (ap (λ (f : Frames). f.entries) seals.1)) refl
-      (subst (λ (n : ℕ). is_stamp x.frames.interval n ≡ true) (sym same) h.kept) (asks_same (ap (λ (f : Frames). f.asked) seals.1) same)
+      (subst (λ (n : ℕ). is_stamp x.frames.interval n ≡ true) (sym same) h.kept) (asks_same (ap (λ (f : Frames). f.asked) seals.1) same) (quiet_clock [] tt same)
   stamped_sealed (Err e) same_frames same = unchanged same_frames same
 
-  -- a pulse is delivered
-  pub stamped_pulse : (pulse : Option ℕ) → is_pulse_if_any x.frames.interval pulse ≡ true → y ≡ pulsed x pulse → IsStamped y
-  stamped_pulse None is same = subst IsStamped (sym same) h
-  stamped_pulse (Some stamp) is same = subst IsStamped (sym same) (record { kept = rw (is, or-true (stamp == 0)) refl; frames = h.frames; interval = h.interval; asked = refl })
+  -- the pulse that is asked for is delivered, if it came
+  pub stamped_pulse : (now : ℕ) (came : Option ℕ) → is_pulse_if_any x.frames.interval came ≡ true → came ≡ delivered x.frames.asked now → y ≡ pulsed x came → IsStamped y
+  stamped_pulse now came is due same =
+      by_pulse came is (subst (λ (o : Option ℕ). comes_after_if_any x.stamp o ≡ true) (sym due) (delivered_comes_after x.stamp now x.frames.asked h.asked)) same
+    where
+      by_pulse : (o : Option ℕ) → is_pulse_if_any x.frames.interval o ≡ true → comes_after_if_any x.stamp o ≡ true → y ≡ pulsed x o → IsStamped y
+      by_pulse None is later same = subst IsStamped (sym same) h
+      by_pulse (Some stamp) is later same =
+          let kept : is_stamp x.frames.interval stamp ≡ true = rw (is, or-true (stamp == 0)) refl in
+          subst IsStamped (sym same) (record {
+            kept = kept;
+            frames = h.frames;
+            interval = h.interval;
+            asked = refl;
+            clock = goes_pulsed x.frames.interval x.stamp x.frames.entries h.clock stamp h.interval h.kept kept later;
+          })
 
   -- a frame begins, with the stamp that was kept
   pub stamped_begin : (start : ℕ) (answer : Beginning) → BeginsBy x.frames x.stamp start answer y.frames → y.stamp ≡ x.stamp → IsStamped y
   stamped_begin start (begin.Began time) b same =
       with_more (Begin x.stamp start time ∷ []) (ap (λ (f : Frames). f.interval) b.4) (sym (ap (λ (f : Frames). f.entries) b.4)) (rw h.kept refl)
       (subst (λ (n : ℕ). is_stamp x.frames.interval n ≡ true) (sym same) h.kept) (asks_same (ap (λ (f : Frames). f.asked) b.4) same)
+      (by_stamp (x.frames.entries ++ Begin x.stamp start time ∷ []) same (goes_begun x.frames.interval x.stamp start time x.frames.entries h.interval h.kept b.2))
   stamped_begin start (begin.Running next) b same = unchanged b.1 same
   stamped_begin start begin.Unscheduled b same = unchanged b.2 same
   stamped_begin start (begin.Backwards last) b same =
       with_more [] (ap (λ (f : Frames). f.interval) b.4) (append-nil x.frames.entries ∙ sym (ap (λ (f : Frames). f.entries) b.4)) refl
-      (subst (λ (n : ℕ). is_stamp x.frames.interval n ≡ true) (sym same) h.kept) (asks_next (known_by x start) (omega arith) (ap (λ (f : Frames). f.asked) b.4) same)
+      (subst (λ (n : ℕ). is_stamp x.frames.interval n ≡ true) (sym same) h.kept) (asks_next (known_by x start) (omega arith) (ap (λ (f : Frames). f.asked) b.4) same) (quiet_clock [] tt same)
   stamped_begin start begin.NoMemory b same = unchanged b same
 
   -- a phase is taken
@@ -144,5 +167,6 @@ module _ (x y : Kept) (h : IsStamped x) where
   stamped_take phase now (took.Batch time cs) t same =
       with_more (Take phase now time ∷ map ran cs) (ap (λ (f : Frames). f.interval) t.3) (sym (ap (λ (f : Frames). f.entries) t.3)) (ran_stamped x.frames.interval cs)
       (subst (λ (n : ℕ). is_stamp x.frames.interval n ≡ true) (sym same) h.kept) (asks_same (ap (λ (f : Frames). f.asked) t.3) same)
+      (by_stamp (x.frames.entries ++ Take phase now time ∷ map ran cs) same (goes_taken x.frames.interval x.stamp x.frames.entries h.clock x.frames.phases phase now time cs h.interval t.2))
   stamped_take phase now (took.Elsewhere next) t same = unchanged t.2 same
   stamped_take phase now took.NoMemory t same = unchanged t.1 same

@@ -1,8 +1,9 @@
-use Rattle.std.proofs.Common.{rules, ◌≡◌, ◌∷◌, [], ℕ, Some, sym, ap, ◌∙◌, subst}
+use Rattle.std.proofs.Common.{rules, arith, ◌≡◌, ◌∷◌, [], ℕ, Some, sym, ap, ◌∙◌, subst}
 use Rattle.choreographer.specs.Plays.{Sat, MaySeal, MayPulse}
 use Rattle.choreographer.specs.Known.{Known}
 use Rattle.choreographer.proofs.ByTurn.{turned, begin_gives, keeps_handed, may_pulse}
 use Rattle.choreographer.proofs.Stamps.{stamped_begin}
+use Rattle.choreographer.proofs.Clock.{backs_late}
 use Rattle.choreographer.proofs.Waits.{begun_asks}
 use Rattle.choreographer.proofs.state.Choreographer.begin_turn.Goals as goal
 
@@ -22,8 +23,8 @@ give-requires-clause-handed g c =
     subst (λ (z : Sat). MaySeal c.args.self.now.constants z.0 c.begin_frame-answer.new.self) (sym c.take-state.ensures.taken)
     (keeps_handed c.args.self.now.constants c.pass.inside.seat.me.0 x c.begin_frame-answer.new.self c.take-state.new.seat.me.0.heard c.begin_frame-answer.ensures.steps.0)
 
-pub returns : goal.returns
-returns g c =
+pub returns-clause-turn : goal.returns-clause-turn
+returns-clause-turn g c =
     let x = c.take-state.result in
     let y = c.begin_frame-answer.new.self in
     let t = c.take-state.ensures in (
@@ -50,3 +51,9 @@ give-requires-clause-asks g c =
     (c.take-state.ensures.found.latest n named only).1
     ∙ (ap (λ (p : Known). p.view.awaits) c.pass.view_is ∙ c.requires.begins.1 c.args.self.now.constants c.requires.pass.1 (named ∙ ap Some (sym is))))
     c.take-state.ensures.found.asks
+
+pub returns-clause-clock : goal.returns-clause-clock
+unfolding returns-clause-turn
+returns-clause-clock g c =
+    let t = returns-clause-turn g c in
+    backs_late c.take-state.result c.begin_frame-answer.new.self c.args.start _ c.begin_frame-answer.result c.take-state.ensures.found.stamped (omega (arith, c.ranges.start)) t.3 t.2.seen

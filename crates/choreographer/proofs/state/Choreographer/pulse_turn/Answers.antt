@@ -6,6 +6,7 @@ use Rattle.choreographer.specs.declared.view.Constants.{Constants}
 use Rattle.choreographer.proofs.ByTurn.{turned, may_pulse, same_key}
 use Rattle.choreographer.proofs.Quiet.{grows_prefix}
 use Rattle.choreographer.proofs.Latest.{pulse_gets, pulse_comes_after}
+use Rattle.choreographer.proofs.Stamps.{stamped_pulse}
 use Rattle.choreographer.proofs.Waits.{pulsed_asks}
 use Rattle.choreographer.proofs.Pulsing.{pulse_awaits}
 use Rattle.choreographer.proofs.state.Choreographer.pulse_turn.Goals as goal
@@ -43,3 +44,7 @@ returns-clause-pulse g c =
 pub give-requires-clause-asks : goal.give-requires-clause-asks
 give-requires-clause-asks g c =
     pulsed_asks c.take-state.result c.deliver-pulse.new.self c.args.self.now.constants c.deliver-pulse.result c.deliver-pulse.ensures.after c.take-state.ensures.found.asks
+
+pub give-requires-clause-stamped : goal.give-requires-clause-stamped
+give-requires-clause-stamped g c =
+    let e = c.deliver-pulse.ensures in stamped_pulse c.take-state.result c.deliver-pulse.new.self c.take-state.ensures.found.stamped c.args.now c.deliver-pulse.result (search rules) e.pulse e.after
