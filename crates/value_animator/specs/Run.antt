@@ -1,12 +1,12 @@
 -- What a run of values is.
-use Rattle.std.specs.Prelude.{◌≡◌, ◌<◌, ℕ, zero, suc, true, false, IsTrue, List, [], ◌∷◌, ◌++◌, Option, Some, None}
-use Rattle.std.specs.List.{flat_map, filter_map, range_with_len}
+use Rattle.std.specs.Prelude.{◌≡◌, ◌<◌, ◌+◌, ◌/◌, ℕ, zero, suc, Bool, true, false, IsTrue, List, [], ◌∷◌, ◌++◌, None}
+use Rattle.std.specs.List.{flat_map, range_with_len}
+use Rattle.frame_phases.specs.declared.entry.Callback.{Callback}
 use Rattle.frame_phases.specs.declared.entry.FrameEntry.{FrameEntry}
-use Rattle.frame_phases.specs.declared.entry.FrameEntry.TheVariants.{Posted, Begin}
+use Rattle.frame_phases.specs.declared.entry.FrameEntry.TheVariants.{Posted, Begin, Take, Ran}
 use Rattle.frame_phases.specs.declared.entry.FrameRecord.{FrameRecord}
 use Rattle.frame_phases.specs.Frames.{lawful}
 use Rattle.value_animator.specs.declared.plan.Values.{Values}
-use Rattle.value_animator.specs.FrameEntries.{callback, frame_entries}
 use Rattle.value_animator.specs.Running.{all_ended, frame_time, frame_times, text}
 
 -- all things have ended after so many frames, and not after fewer
@@ -14,14 +14,19 @@ pub record IsCount (v : Values) (n : ℕ) : Type 0 where
   pub ended : all_ended v.things (frame_times v.period n) ≡ true
   pub not_before : (m : ℕ) → m < n → all_ended v.things (frame_times v.period m) ≡ false
 
--- the time of a frame that begins
-abbrev pub begin_time : FrameEntry → Option ℕ
-begin_time (Begin vsync start time) = Some time
-begin_time _ = None
+-- the callback of this number, which is due at this millisecond
+abbrev pub callback : ℕ → ℕ → Callback
+callback number due = record { number = number; phase = 1; due = due; id = 0; token = None }
 
--- the times of the frames that begin
-abbrev pub begin_times : List FrameEntry → List ℕ
-begin_times entries = filter_map begin_time entries
+-- the posting in a frame of the callback after this one, unless all has ended
+abbrev pub again : ℕ → ℕ → Bool → List FrameEntry
+again p number true = []
+again p number false = Posted (callback (number + 1) (p / 1000000)) ∷ []
+
+-- the entries of a frame at this pulse, in which the callback of this number runs
+abbrev pub frame_entries : ℕ → ℕ → Bool → List FrameEntry
+frame_entries p number ended =
+    Begin p p p ∷ Take 0 p p ∷ Take 1 p p ∷ Ran number ∷ again p number ended ++ Take 2 p p ∷ Take 3 p p ∷ []
 
 -- the entries of n frames that each post the next callback
 abbrev pub going_entries : ℕ → ℕ → List FrameEntry
@@ -42,5 +47,4 @@ pub record IsRunOf (v : Values) (bytes : List ℕ) (frames : FrameRecord) : Type
   pub interval : frames.interval ≡ v.period
   pub phases : frames.phases ≡ 4
   pub lawful : IsTrue (lawful frames.interval frames.phases frames.entries)
-  pub begins : begin_times frames.entries ≡ frame_times v.period count
   pub entries : frames.entries ≡ record_entries v.period count

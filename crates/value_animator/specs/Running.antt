@@ -1,5 +1,5 @@
 -- What is told over frames, and how it is printed.
-use Rattle.std.specs.Prelude.{ℕ, ◌+◌, ◌*◌, Bool, List, [], ◌∷◌, ◌++◌, map, Option, Some, None, codes}
+use Rattle.std.specs.Prelude.{ℕ, ◌+◌, ◌*◌, Bool, List, [], ◌∷◌, ◌++◌, map, codes}
 use Rattle.std.specs.List.{flat_map, range_with_len, enumerate_from, list_all}
 use Rattle.std.specs.Fmt.{decimal}
 pub use Rattle.line_words.specs.Words.{Words, line as line_text}
@@ -12,8 +12,6 @@ use Rattle.animator.specs.declared.values.Valued.TheVariants as valued
 use Rattle.value_animator.specs.declared.plan.Thing.{Thing}
 use Rattle.value_animator.specs.declared.plan.Thing.TheVariants as thing_of
 use Rattle.value_animator.specs.declared.plan.Values.{Values}
-use Rattle.value_animator.specs.declared.runner.Telling.{Telling}
-use Rattle.value_animator.specs.declared.runner.Telling.TheVariants.{Tick, Finished, Value, End}
 use Rattle.animator.specs.Valuing.{answer, end_of}
 
 -- ---- what a thing tells
@@ -23,41 +21,28 @@ abbrev pub thing_end : Thing → ℕ
 thing_end (thing_of.Animator plan) = end_of plan
 thing_end (thing_of.Countdown total interval) = total
 
--- what an animator's answer tells
-abbrev pub value_told : Valued → Option Telling
-value_told (valued.Value v) = Some (Value v)
-value_told (valued.End v) = Some (End v)
-value_told valued.Over = None
+-- the words that an animator's answer tells, where it tells any
+abbrev pub value_told : Valued → List Words
+value_told (valued.Value v) = (codes "value" ∷ decimal v ∷ []) ∷ []
+value_told (valued.End v) = (codes "end" ∷ decimal v ∷ []) ∷ []
+value_told valued.Over = []
 
--- what a countdown's answer tells
-abbrev pub tick_told : Ticked → Option Telling
-tick_told (ticked.Tick left) = Some (Tick left)
-tick_told ticked.Quiet = None
-tick_told ticked.Finished = Some Finished
-tick_told ticked.Over = None
+-- the words that a countdown's answer tells, where it tells any
+abbrev pub tick_told : Ticked → List Words
+tick_told (ticked.Tick left) = (codes "tick" ∷ decimal left ∷ []) ∷ []
+tick_told ticked.Finished = (codes "finished" ∷ []) ∷ []
+tick_told _ = []
 
--- what a thing tells at a time, after the times before
-abbrev pub told : Thing → List ℕ → ℕ → Option Telling
+-- the words that a thing tells at a time, after the times before
+abbrev pub told : Thing → List ℕ → ℕ → List Words
 told (thing_of.Animator plan) before time = value_told (answer plan before time)
 told (thing_of.Countdown total interval) before time = tick_told (ticking_answer total interval before time)
 
 -- ---- the lines
 
--- the words of what is told
-abbrev pub telling_words : Telling → Words
-telling_words (Tick left) = codes "tick" ∷ decimal left ∷ []
-telling_words Finished = codes "finished" ∷ []
-telling_words (Value v) = codes "value" ∷ decimal v ∷ []
-telling_words (End v) = codes "end" ∷ decimal v ∷ []
-
--- the line of what the thing of this number tells at this time, or none
-abbrev pub telling_lines : ℕ → ℕ → Option Telling → List Words
-telling_lines time number None = []
-telling_lines time number (Some telling) = (decimal time ∷ decimal number ∷ telling_words telling) ∷ []
-
 -- the lines of a thing, with its number, at a time after the times before
 abbrev pub thing_lines : List ℕ → ℕ → ℕ × Thing → List Words
-thing_lines before time (number, thing) = telling_lines time number (told thing before time)
+thing_lines before time (number, thing) = map (λ ws. decimal time ∷ decimal number ∷ ws) (told thing before time)
 
 -- the time of the frame that has so many frames before it
 abbrev pub frame_time : ℕ → ℕ → ℕ
