@@ -1,5 +1,5 @@
 -- The language of plans of values: what the lines so far hold, why a line may not come next, and which values a text spells.
-use Rattle.std.specs.Prelude.{ℕ, ◌+◌, ◌*◌, Bool, true, false, ◌&&◌, ◌||◌, not, ◌==◌, nat_lt, nat_le, List, [], ◌∷◌, ◌++◌, length, slice_index, Option}
+use Rattle.std.specs.Prelude.{ℕ, Bool, true, false, ◌&&◌, ◌||◌, not, ◌==◌, nat_lt, nat_le, List, [], ◌∷◌, ◌++◌, length, slice_index, Option}
 use Rattle.std.specs.Prelude.{Some, None, if◌then◌else◌}
 use Rattle.dash_script.specs.declared.form.Role.{Role}
 use Rattle.dash_script.specs.declared.form.Role.TheVariants.{Within}
@@ -8,6 +8,7 @@ use Rattle.dash_script.specs.declared.refusal.Cause.TheVariants as cause
 use Rattle.dash_script.specs.Causes.{each_number}
 use Rattle.animator.specs.declared.keys.Key.{Key}
 use Rattle.animator.specs.declared.plan.Plan.{Plan}
+use Rattle.animator.specs.Valuing.{end_of}
 use Rattle.value_animator.specs.declared.plan.Thing.{Thing}
 use Rattle.value_animator.specs.declared.plan.Thing.TheVariants as thing_of
 use Rattle.value_animator.specs.declared.row.RowKind.{RowKind}
@@ -50,10 +51,14 @@ is_within _ n = true
 abbrev pub numbers_fit : RowKind → List ℕ → Bool
 numbers_fit k ns = each_number is_within 0 (form k) ns
 
+-- an animator without keys
+abbrev pub plan_of : Bool → List ℕ → Plan
+plan_of back ns = record { delay = slice_index ns 0; duration = slice_index ns 1; repeats = slice_index ns 2; reverse = back; keys = [] }
+
 -- all ways of an animator end within 60,000 milliseconds
 abbrev pub ways_fit : RowKind → List ℕ → Bool
-ways_fit kind.Restart ns = nat_le (slice_index ns 0 + slice_index ns 1 * (slice_index ns 2 + 1)) 60000
-ways_fit kind.Reverse ns = nat_le (slice_index ns 0 + slice_index ns 1 * (slice_index ns 2 + 1)) 60000
+ways_fit kind.Restart ns = nat_le (end_of (plan_of false ns)) 60000
+ways_fit kind.Reverse ns = nat_le (end_of (plan_of true ns)) 60000
 ways_fit _ ns = true
 
 -- the place of the last key
@@ -94,10 +99,6 @@ cause_of d r =
     else (if not (places_rise d.open_plan r.kind r.numbers) then Some cause.Order
     else (if not (has_room d r.kind r.numbers) then Some cause.TooMany
     else None))))
-
--- an animator without keys
-abbrev pub plan_of : Bool → List ℕ → Plan
-plan_of back ns = record { delay = slice_index ns 0; duration = slice_index ns 1; repeats = slice_index ns 2; reverse = back; keys = [] }
 
 -- a key at 1000 ends the animator
 abbrev pub keyed : SoFar → Plan → ℕ → SoFar

@@ -1,18 +1,14 @@
 -- The lines of a plan of values.
 use Rattle.std.specs.Prelude.{ℕ, List, [], ◌∷◌, Option}
 use Rattle.dash_script.specs.declared.form.Keyword.TheVariants as word
-use Rattle.dash_script.specs.declared.form.Role.TheVariants as role
 use Rattle.dash_script.specs.declared.form.Slot.{Slot}
-use Rattle.dash_script.specs.declared.form.Slot.TheVariants.{Word, Number}
+use Rattle.dash_script.specs.declared.form.Slot.TheVariants.{Word}
 use Rattle.line_words.specs.Words.{words}
+use Rattle.dash_script.specs.Form.{within}
 use Rattle.dash_script.specs.Statement.{said_among}
 use Rattle.value_animator.specs.declared.row.RowKind.{RowKind}
 use Rattle.value_animator.specs.declared.row.RowKind.TheVariants as kind
 use Rattle.value_animator.specs.declared.row.Row.{Row}
-
--- a number from the lowest to the highest
-abbrev pub within : ℕ → ℕ → Slot
-within low high = Number (role.Within low high)
 
 -- the words of each kind of line
 abbrev pub form : RowKind → List Slot
