@@ -15,7 +15,7 @@ use Rattle.value_animator.specs.declared.draft.Stage.{Stage}
 use Rattle.value_animator.specs.declared.draft.Stage.TheVariants.{Start, Headed, Body, Ended}
 use Rattle.animator.specs.Plans.{IsKey, IsPlan}
 use Rattle.value_animator.specs.Plans.{IsThing, AreValues}
-use Rattle.value_animator.specs.Rows.{say}
+use Rattle.value_animator.specs.Reading.{say}
 use Rattle.value_animator.specs.Plans.{row_text}
 use Rattle.value_animator.specs.Reading.{SoFar, may_be_placed, last_place}
 use Rattle.line_words.specs.LeastBad.{Begins}

@@ -14,7 +14,7 @@ use Rattle.value_animator.specs.declared.plan.Values.{Values}
 use Rattle.value_animator.specs.declared.plan.Thing.{Thing}
 use Rattle.value_animator.specs.declared.plan.Thing.TheVariants as thing_of
 use Rattle.std.proofs.lemmas.Bool.{and_from}
-use Rattle.value_animator.specs.Running.{frame_time, frame_times, frame_lines, frames_text, line_text, all_ended, thing_end}
+use Rattle.value_animator.specs.Run.{frame_time, frame_times, frame_lines, frames_text, line_text, all_ended, thing_end}
 use Rattle.value_animator.specs.Plans.{AreValues, IsThing}
 use Rattle.value_animator.specs.Run.{frame_entries, going_entries}
 

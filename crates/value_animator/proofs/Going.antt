@@ -17,7 +17,7 @@ use Rattle.value_animator.specs.declared.plan.Thing.{Thing}
 use Rattle.value_animator.specs.declared.plan.Thing.TheVariants as thing_of
 use Rattle.value_animator.specs.declared.runner.Runner.{Runner}
 use Rattle.value_animator.specs.Framing.{IsReady, last_number, after_frame}
-use Rattle.value_animator.specs.Running.{frame_time, frame_times, frame_lines, frames_text, line_text, thing_lines, all_ended}
+use Rattle.value_animator.specs.Run.{frame_time, frame_times, frame_lines, frames_text, line_text, thing_lines, all_ended}
 use Rattle.value_animator.specs.Runners.{runner_at, is_ended}
 use Rattle.value_animator.specs.Plans.{AreValues}
 use Rattle.value_animator.specs.Run.{callback, frame_entries, going_entries, record_entries, IsRunOf}
@@ -222,16 +222,15 @@ runs_begin v bytes frames run = ap begin_times run.entries ∙ begins_are v.peri
 -- the whole text and the record
 pub run_is : (v : Values) (first last bytes : List ℕ) (s : Frames) (kept : FrameRecord) → HasRun v first last s
     → first ≡ line_text (codes "values" ∷ codes "1" ∷ []) → bytes ≡ last ++ line_text (codes "end" ∷ [])
-    → kept.looper ≡ s.looper → kept.interval ≡ s.interval → kept.phases ≡ s.phases → kept.entries ≡ s.entries → IsTrue (lawful s.interval s.phases s.entries)
+    → kept.looper ≡ s.looper → kept.interval ≡ s.interval → kept.phases ≡ s.phases → kept.entries ≡ s.entries
     → IsRunOf v bytes kept
-run_is v first last bytes s kept h head tail looper interval phases entries law = record {
+run_is v first last bytes s kept h head tail looper interval phases entries = record {
   count = h.count;
   counted = h.counted;
   told = tail ∙ ap (λ l. l ++ line_text (codes "end" ∷ [])) (h.told ∙ ap (λ l. l ++ frames_text v h.count) head);
   looper = looper ∙ h.looper;
   interval = interval ∙ h.interval;
   phases = phases ∙ h.phases;
-  lawful = rw (interval, phases, entries) law;
   entries = entries ∙ h.entries;
 }
 

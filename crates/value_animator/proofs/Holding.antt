@@ -21,7 +21,7 @@ use Rattle.value_animator.specs.declared.draft.Stage.{Stage}
 use Rattle.value_animator.specs.declared.draft.Stage.TheVariants.{Start, Headed, Body, Ended}
 use Rattle.animator.specs.Plans.{IsKey, IsPlan, rise, rise_from}
 use Rattle.value_animator.specs.Plans.{IsThing, AreValues}
-use Rattle.value_animator.specs.Rows.{form, say}
+use Rattle.value_animator.specs.Reading.{form, say}
 use Rattle.value_animator.specs.Reading.{SoFar, cause_of, with_row, last_place, may_be_placed, key_of, plan_of}
 use Rattle.line_words.specs.RefusedReading.{goes_on, run}
 use Rattle.line_words.proofs.Refusing.{answer}

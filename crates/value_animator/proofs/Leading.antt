@@ -20,7 +20,7 @@ use Rattle.value_animator.specs.Reading.{SoFar, nothing, with_row, numbers_fit, 
 use Rattle.std.specs.List.{AllByRecursion}
 use Rattle.value_animator.specs.Plans.{key_row, thing_rows, rows, values_text}
 use Rattle.value_animator.specs.Reading.{plans}
-use Rattle.value_animator.specs.Rows.{say}
+use Rattle.value_animator.specs.Reading.{say}
 use Rattle.line_words.specs.RefusedReading.{read_text, run}
 use Rattle.line_words.proofs.Refusing.{answer}
 use Rattle.line_words.proofs.RefusedLines.{texts_run}

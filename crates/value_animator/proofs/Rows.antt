@@ -12,7 +12,7 @@ use Rattle.dash_script.proofs.Texts.{line_says, filled_first}
 use Rattle.value_animator.specs.declared.row.RowKind.{RowKind}
 use Rattle.value_animator.specs.declared.row.RowKind.TheVariants as kind
 use Rattle.value_animator.specs.declared.row.Row.{Row}
-use Rattle.value_animator.specs.Rows.{form, all_kinds, say, row_of}
+use Rattle.value_animator.specs.Reading.{form, all_kinds, say, row_of}
 use Rattle.value_animator.specs.Plans.{row_text}
 
 -- a line that is read is the line of what was read

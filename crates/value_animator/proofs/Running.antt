@@ -11,7 +11,7 @@ use Rattle.dash_script.specs.Writing.{hole_count}
 use Rattle.dash_script.proofs.Lines.{numbers_counted}
 use Rattle.dash_script.proofs.Forms.{among_said}
 use Rattle.value_animator.specs.declared.row.Row.{Row}
-use Rattle.value_animator.specs.Rows.{form, all_kinds, say, row_of}
+use Rattle.value_animator.specs.Reading.{form, all_kinds, say, row_of}
 use Rattle.value_animator.specs.Plans.{row_text}
 use Rattle.value_animator.specs.Reading.{SoFar, with_row, is_ended_stage}
 use Rattle.value_animator.specs.Reading.{plans, values_of, cause_at_stop}

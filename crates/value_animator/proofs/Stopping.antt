@@ -16,7 +16,7 @@ use Rattle.value_animator.specs.declared.refusal.ParsedValues.{ParsedValues}
 use Rattle.value_animator.specs.declared.refusal.ParsedValues.TheVariants as parsed
 use Rattle.value_animator.specs.declared.row.Row.{Row}
 use Rattle.value_animator.specs.declared.plan.Values.{Values}
-use Rattle.value_animator.specs.Rows.{row_of}
+use Rattle.value_animator.specs.Reading.{row_of}
 use Rattle.value_animator.specs.Plans.{row_text}
 use Rattle.value_animator.specs.Reading.{SoFar, nothing, cause_of}
 use Rattle.value_animator.specs.Reading.{IsText, plans}

@@ -1,15 +1,16 @@
 -- What holds of every text of values, and of every run of them.
-use Rattle.std.specs.Prelude.{◌≡◌, ◌↔◌, ℕ, List, Option, Some, None, Ok, Err}
+use Rattle.std.specs.Prelude.{◌≡◌, ◌↔◌, ℕ, IsTrue, List, Option, Some, None, Ok, Err}
 use Rattle.std.specs.List.{filter_map}
 use Rattle.frame_phases.specs.declared.entry.FrameEntry.{FrameEntry}
 use Rattle.frame_phases.specs.declared.entry.FrameEntry.TheVariants.{Begin}
 use Rattle.frame_phases.specs.declared.entry.FrameRecord.{FrameRecord}
+use Rattle.frame_phases.specs.Frames.{lawful}
 use Rattle.dash_script.specs.declared.refusal.Cause.{Cause}
 use Rattle.line_words.specs.RefusedReading.{read_text}
 use Rattle.value_animator.specs.declared.plan.Values.{Values}
 use Rattle.value_animator.specs.Plans.{AreValues, IsWritten, values_text}
 use Rattle.value_animator.specs.Run.{IsRunOf}
-use Rattle.value_animator.specs.Running.{frame_times}
+use Rattle.value_animator.specs.Run.{frame_times}
 use Rattle.value_animator.specs.Reading.{IsRefusal, IsText, plans}
 
 -- a text is one of values exactly where it is theirs, and they are within the limits
@@ -40,3 +41,8 @@ begin_times entries = filter_map begin_time entries
 -- the frames of a run begin at the multiples of the period, up to the first at which all things have ended
 abbrev pub RunsBegin : Type 0
 RunsBegin = (v : Values) (bytes : List ℕ) (frames : FrameRecord) (run : IsRunOf v bytes frames) → begin_times frames.entries ≡ frame_times v.period run.count
+
+-- the frame record of a run is lawful
+abbrev pub RunsAreLawful : Type 0
+RunsAreLawful = (v : Values) (bytes : List ℕ) (frames : FrameRecord) → AreValues v → IsRunOf v bytes frames
+    → IsTrue (lawful frames.interval frames.phases frames.entries)

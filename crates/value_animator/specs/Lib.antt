@@ -1,10 +1,8 @@
 pub mod Plans
-pub mod Running
 pub mod Runners
 pub mod Framing
 pub mod Run
 pub mod Going
-pub mod Rows
 pub mod Drafts
 pub mod Reading
 pub mod Laws

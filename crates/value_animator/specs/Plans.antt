@@ -10,7 +10,7 @@ use Rattle.value_animator.specs.declared.plan.Thing.TheVariants.{Animator, Count
 use Rattle.value_animator.specs.declared.plan.Values.{Values}
 use Rattle.value_animator.specs.declared.row.RowKind.TheVariants as kind
 use Rattle.value_animator.specs.declared.row.Row.{Row}
-use Rattle.value_animator.specs.Rows.{form, say}
+use Rattle.value_animator.specs.Reading.{form, say}
 
 -- the line of a key
 abbrev pub key_row : Key → Row

@@ -1,4 +1,4 @@
--- The language of plans of values: what the lines so far hold, why a line may not come next, and which values a text spells.
+-- The language of plans of values: the lines, what the lines so far hold, why a line may not come next, and which values a text spells.
 use Rattle.std.specs.Prelude.{ℕ, Bool, true, false, ◌&&◌, ◌||◌, not, ◌==◌, nat_lt, nat_le, List, [], ◌∷◌, ◌++◌, length, slice_index, Option}
 use Rattle.std.specs.Prelude.{Some, None, if◌then◌else◌}
 use Rattle.dash_script.specs.declared.form.Role.{Role}
@@ -18,7 +18,34 @@ use Rattle.value_animator.specs.declared.draft.Stage.{Stage}
 use Rattle.value_animator.specs.declared.draft.Stage.TheVariants.{Start, Headed, Body, Ended}
 use Rattle.line_words.specs.Refusing.{Language, IsTextOf, IsRefusalOf, form_or}
 use Rattle.value_animator.specs.declared.plan.Values.{Values}
-use Rattle.value_animator.specs.Rows.{form, row_of}
+use Rattle.dash_script.specs.declared.form.Keyword.TheVariants as word
+use Rattle.dash_script.specs.declared.form.Slot.{Slot}
+use Rattle.dash_script.specs.declared.form.Slot.TheVariants.{Word}
+use Rattle.line_words.specs.Words.{words}
+use Rattle.dash_script.specs.Form.{within}
+use Rattle.dash_script.specs.Statement.{said_among}
+
+-- the words of each kind of line
+abbrev pub form : RowKind → List Slot
+form kind.Head = Word word.Animate ∷ Word word.One ∷ []
+form kind.Period = Word word.Period ∷ within 1000000 1000000000 ∷ []
+form kind.Countdown = Word word.Countdown ∷ within 0 60000 ∷ within 1 60000 ∷ []
+form kind.Restart = Word word.Animator ∷ within 0 60000 ∷ within 1 60000 ∷ within 0 99 ∷ Word word.Restart ∷ []
+form kind.Reverse = Word word.Animator ∷ within 0 60000 ∷ within 1 60000 ∷ within 0 99 ∷ Word word.Reverse ∷ []
+form kind.Key = Word word.Key ∷ within 0 1000 ∷ within 0 1000000 ∷ []
+form kind.End = Word word.End ∷ []
+
+-- all kinds of line
+abbrev pub all_kinds : List RowKind
+all_kinds = kind.Head ∷ kind.Period ∷ kind.Countdown ∷ kind.Restart ∷ kind.Reverse ∷ kind.Key ∷ kind.End ∷ []
+
+-- a line of this kind with these numbers
+abbrev pub say : RowKind → List ℕ → Row
+say k ns = record { kind = k; numbers = ns }
+
+-- what a line says, where it has the form of some kind
+abbrev pub row_of : List ℕ → Option Row
+row_of line = said_among form say all_kinds (words line)
 
 -- the period and the things so far, the animator whose last key is still to come, and how far the text has come
 pub record SoFar : Type 0 where

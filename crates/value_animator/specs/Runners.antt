@@ -11,7 +11,7 @@ use Rattle.value_animator.specs.declared.runner.Runner.TheVariants as runner
 use Rattle.value_animator.specs.declared.runner.Telling.{Telling}
 use Rattle.value_animator.specs.declared.runner.Telling.TheVariants.{Tick, Finished, Value, End}
 use Rattle.animator.specs.Valuing.{end_of}
-use Rattle.value_animator.specs.Running.{Words, line_text, thing_lines}
+use Rattle.value_animator.specs.Run.{Words, line_text, thing_lines}
 
 -- a thing that was given these times
 abbrev pub runner_at : Thing → List ℕ → Runner

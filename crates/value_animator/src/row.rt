@@ -2,7 +2,7 @@
 ghost use Rattle.std.specs.Prelude.{◌≡◌, ◌≤◌, length};
 ghost use Rattle.line_words.specs.Words.{words};
 ghost use Rattle.dash_script.specs.Statement.{said_among};
-ghost use Rattle.value_animator.specs.Rows.{all_kinds, form, row_of, say};
+ghost use Rattle.value_animator.specs.Reading.{all_kinds, form, row_of, say};
 
 use dash_script::{Keyword, Numbers, Role, Slot, numbers_in};
 

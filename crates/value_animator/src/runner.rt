@@ -3,7 +3,7 @@ ghost use Rattle.std.specs.Prelude.{◌≡◌, ◌++◌, ◌∷◌, [], List, �
 ghost use Rattle.std.specs.List.{flat_map, list_all};
 ghost use Rattle.value_animator.specs.Plans.{IsThing};
 ghost use Rattle.value_animator.specs.Runners.{is_ended, runner_at, telling_lines, telling_words, AreAsked, HaveTold};
-ghost use Rattle.value_animator.specs.Running.{line_text, told};
+ghost use Rattle.value_animator.specs.Run.{line_text, told};
 
 use crate::plan::Thing;
 use animator::{Animator, Plan, Valued};

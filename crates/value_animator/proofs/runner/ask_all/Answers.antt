@@ -7,7 +7,7 @@ use Rattle.value_animator.specs.declared.plan.Thing.{Thing}
 use Rattle.value_animator.specs.declared.plan.Thing.TheVariants as thing_of
 use Rattle.value_animator.specs.declared.runner.Runner.{Runner}
 use Rattle.std.specs.Fmt.{decimal}
-use Rattle.value_animator.specs.Running.{Words, line_text, thing_lines, told}
+use Rattle.value_animator.specs.Run.{Words, line_text, thing_lines, told}
 use Rattle.value_animator.specs.Runners.{runner_at, telling_words}
 use Rattle.value_animator.proofs.Asking.{as_many, asked_at, asked_more, written_one}
 use Rattle.value_animator.proofs.runner.ask_all.Goals as goal
