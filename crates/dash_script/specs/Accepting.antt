@@ -92,13 +92,11 @@ is_end _ = false
 abbrev pub line_cause : ℕ → Draft → Option Statement → Option Cause
 line_cause k d said = if nat_lt 20000 k then Some cause.TooMany else form_or cause.Form (cause_of d) said
 
--- the cause of a text that stops at line k, where a piece without a line feed is left
-abbrev pub cause_at_stop : ℕ → List ℕ → Cause
-cause_at_stop k rest = if nat_lt 20000 k then cause.TooMany else (if length rest == 0 then cause.Missing else cause.Form)
-
--- why the text may not stop there
+-- why the text may not stop at line k, where a piece without a line feed is left
 abbrev pub stop_cause : ℕ → Draft → List ℕ → Option Cause
-stop_cause k d rest = if length rest == 0 && is_end d.last then None else Some (cause_at_stop k rest)
+stop_cause k d rest =
+    if length rest == 0 && is_end d.last then None
+    else Some (if nat_lt 20000 k then cause.TooMany else (if length rest == 0 then cause.Missing else cause.Form))
 
 -- the language of scripts
 abbrev pub scripts : Language Statement Draft Script Cause
