@@ -9,7 +9,7 @@ use Rattle.std.proofs.Math.Seq.{take-append_seam}
 use Rattle.frame_phases.specs.declared.entry.FrameEntry.{FrameEntry}
 use Rattle.frame_phases.specs.declared.entry.FrameEntry.TheVariants.{Posted}
 use Rattle.frame_phases.specs.declared.entry.FrameRecord.{FrameRecord}
-use Rattle.frame_phases.specs.Frames.{lawful, posted_count, live, next_phase, last_time}
+use Rattle.frame_phases.specs.Frames.{posted_count, live, next_phase, last_time}
 use Rattle.frame_phases.specs.Pulses.{pulse}
 use Rattle.frame_phases.specs.State.{Frames, past, fresh, posted, next_callback}
 use Rattle.value_animator.specs.declared.plan.Values.{Values}
