@@ -13,8 +13,7 @@ use Rattle.dash_script.specs.declared.script.Block.{Block}
 use Rattle.dash_script.specs.declared.script.Script.{Script}
 use Rattle.dash_script.specs.declared.statement.Statement.{Statement}
 use Rattle.line_words.specs.Refusing.{Language, IsTextOf, IsRefusalOf, form_or}
-use Rattle.dash_script.specs.Form.{part}
-use Rattle.dash_script.specs.Statement.{statement_of}
+use Rattle.dash_script.specs.Form.{part, statement_of}
 use Rattle.dash_script.specs.Causes.{Draft, cause_of}
 
 -- ---- what each line adds

@@ -4,7 +4,7 @@ use Rattle.std.specs.List.{join_with_byte}
 use Rattle.std.proofs.lemmas.Option.{none-some}
 use Rattle.std.proofs.lemmas.List.Splits.{join_with_byte-slice_split}
 use Rattle.line_words.specs.Words.{words, pieces, number_of}
-use Rattle.dash_script.specs.Statement.{filled, numbers_of, said_among}
+use Rattle.dash_script.specs.Form.{filled, numbers_of, said_among}
 use Rattle.dash_script.specs.Writing.{hole_count}
 use Rattle.dash_script.specs.Laws.{AllSmall}
 use Rattle.dash_script.proofs.Forms.{FirstFits, clash, clash_slot, numbers_taken, among_said, words_said}

@@ -6,7 +6,7 @@ use Rattle.line_words.specs.Words.{words}
 use Rattle.line_words.specs.RefusedReading.{run}
 use Rattle.line_words.proofs.RefusedLines.{IsSpelled}
 use Rattle.dash_script.specs.declared.refusal.Cause.TheVariants as cause
-use Rattle.dash_script.specs.Statement.{said_among, numbers_of}
+use Rattle.dash_script.specs.Form.{said_among, numbers_of}
 use Rattle.dash_script.specs.Writing.{hole_count}
 use Rattle.dash_script.proofs.Lines.{numbers_counted}
 use Rattle.dash_script.proofs.Forms.{among_said}

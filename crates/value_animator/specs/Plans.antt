@@ -1,7 +1,7 @@
 -- The text of values, and their limits.
 use Rattle.std.specs.Prelude.{◌≡◌, ◌≤◌, ◌<◌, ℕ, List, [], ◌∷◌, ◌++◌, map, length, All, if◌then◌else◌}
 use Rattle.std.specs.List.{flat_map, join_with_byte}
-use Rattle.dash_script.specs.Statement.{filled}
+use Rattle.dash_script.specs.Form.{filled}
 use Rattle.animator.specs.declared.keys.Key.{Key}
 use Rattle.animator.specs.declared.plan.Plan.{Plan}
 use Rattle.animator.specs.Plans.{IsPlan}

@@ -22,8 +22,7 @@ use Rattle.dash_script.specs.declared.form.Keyword.TheVariants as word
 use Rattle.dash_script.specs.declared.form.Slot.{Slot}
 use Rattle.dash_script.specs.declared.form.Slot.TheVariants.{Word}
 use Rattle.line_words.specs.Words.{words}
-use Rattle.dash_script.specs.Form.{within}
-use Rattle.dash_script.specs.Statement.{said_among}
+use Rattle.dash_script.specs.Form.{within, said_among}
 
 -- the words of each kind of line
 abbrev pub form : RowKind → List Slot

@@ -1,7 +1,7 @@
 //! The lines of a plan of values: their forms, and what one says.
 ghost use Rattle.std.specs.Prelude.{◌≡◌, ◌≤◌, length};
 ghost use Rattle.line_words.specs.Words.{words};
-ghost use Rattle.dash_script.specs.Statement.{said_among};
+ghost use Rattle.dash_script.specs.Form.{said_among};
 ghost use Rattle.value_animator.specs.Reading.{all_kinds, form, row_of, say};
 
 use dash_script::{Keyword, Numbers, Role, Slot, numbers_in};

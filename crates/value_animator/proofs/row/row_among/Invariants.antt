@@ -1,6 +1,6 @@
 use Rattle.std.proofs.Common.{◌≡◌, drop}
 use Rattle.line_words.specs.Words.{words}
-use Rattle.dash_script.specs.Statement.{said_among}
+use Rattle.dash_script.specs.Form.{said_among}
 use Rattle.value_animator.specs.Reading.{form, say}
 use Rattle.value_animator.proofs.row.row_among.Given as goal
 
