@@ -12,10 +12,9 @@ use Rattle.loop_model.proofs.Options.{none_is}
 use Rattle.dash_script.specs.declared.form.Keyword.{Keyword}
 use Rattle.dash_script.specs.declared.form.Slot.{Slot}
 use Rattle.dash_script.specs.declared.form.Slot.TheVariants.{Word, Number}
-use Rattle.dash_script.specs.Form.{spelling}
+use Rattle.dash_script.specs.Form.{spelling, filled, numbers_of, with_number, said_among}
 use Rattle.line_words.specs.Words.{number_of}
 use Rattle.line_words.proofs.Spelling.{number_taken, number_again}
-use Rattle.dash_script.specs.Statement.{filled, numbers_of, with_number, said_among}
 use Rattle.dash_script.specs.Writing.{hole_count}
 use Rattle.dash_script.specs.Laws.{AllSmall}
 

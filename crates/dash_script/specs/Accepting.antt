@@ -13,19 +13,17 @@ use Rattle.dash_script.specs.declared.script.Block.{Block}
 use Rattle.dash_script.specs.declared.script.Script.{Script}
 use Rattle.dash_script.specs.declared.statement.Statement.{Statement}
 use Rattle.line_words.specs.Refusing.{Language, IsTextOf, IsRefusalOf, form_or}
-use Rattle.dash_script.specs.Form.{part}
-use Rattle.dash_script.specs.Statement.{statement_of}
+use Rattle.dash_script.specs.Form.{part, statement_of}
 use Rattle.dash_script.specs.Causes.{Draft, cause_of}
 
 -- ---- what each line adds
 
--- a script of no line
-abbrev pub no_script : Script
-no_script = record { edition = 0; loopers = 0; threads = 0; handlers = []; gauges = []; period = 0; rules = []; blocks = []; end = 0 }
-
 -- nothing is read yet
 abbrev pub start : Draft
-start = record { script = no_script; last = part_of.Start }
+start = record {
+  script = record { edition = 0; loopers = 0; threads = 0; handlers = []; gauges = []; period = 0; rules = []; blocks = []; end = 0 };
+  last = part_of.Start;
+}
 
 -- the command of a command line
 abbrev pub command_of : Kind → List ℕ → Command
@@ -54,10 +52,6 @@ with_command [] l = []
 with_command (b ∷ []) l = record b { lines = b.lines ++ l ∷ [] } ∷ []
 with_command (b ∷ c ∷ bs) l = b ∷ with_command (c ∷ bs) l
 
--- the script with one more command
-abbrev pub with_commanded : Script → Line → Script
-with_commanded s l = record s { blocks = with_command s.blocks l }
-
 -- the script with what one more line holds
 abbrev pub added : Script → Kind → List ℕ → Script
 added s kind.Edition1 ns = record s { edition = 1 }
@@ -80,7 +74,7 @@ added s kind.Rule ns = record s {
 }
 added s kind.At ns = record s { blocks = s.blocks ++ record { time = slice_index ns 0; lines = [] } ∷ [] }
 added s kind.End ns = record s { end = slice_index ns 0 }
-added s k ns = with_commanded s (record { thread = slice_index ns 0; command = command_of k ns })
+added s k ns = record s { blocks = with_command s.blocks (record { thread = slice_index ns 0; command = command_of k ns }) }
 
 -- what the lines so far hold with one more
 unfoldable pub with_line : Draft → Statement → Draft
@@ -97,13 +91,11 @@ is_end _ = false
 abbrev pub line_cause : ℕ → Draft → Option Statement → Option Cause
 line_cause k d said = if nat_lt 20000 k then Some cause.TooMany else form_or cause.Form (cause_of d) said
 
--- the cause of a text that stops at line k, where a piece without a line feed is left
-abbrev pub cause_at_stop : ℕ → List ℕ → Cause
-cause_at_stop k rest = if nat_lt 20000 k then cause.TooMany else (if length rest == 0 then cause.Missing else cause.Form)
-
--- why the text may not stop there
+-- why the text may not stop at line k, where a piece without a line feed is left
 abbrev pub stop_cause : ℕ → Draft → List ℕ → Option Cause
-stop_cause k d rest = if length rest == 0 && is_end d.last then None else Some (cause_at_stop k rest)
+stop_cause k d rest =
+    if length rest == 0 && is_end d.last then None
+    else Some (if nat_lt 20000 k then cause.TooMany else (if length rest == 0 then cause.Missing else cause.Form))
 
 -- the language of scripts
 abbrev pub scripts : Language Statement Draft Script Cause

@@ -12,8 +12,7 @@ use Rattle.run_model.specs.Summary.{summary}
 use Rattle.run_model.specs.Text.{text as report_text}
 use Rattle.dash_stage.specs.Staged.{IsStaged, IsStagedByClock}
 use Rattle.trace_check.specs.declared.trace.Trace.{Trace as TraceData}
-use Rattle.trace_check.specs.Records.{trace_of}
-use Rattle.trace_check.specs.Text.{IsLeastBad, IsText as IsTraceText, text as trace_text}
+use Rattle.trace_check.specs.Text.{IsLeastBad, IsText as IsTraceText, text as trace_text, trace_of}
 use Rattle.value_animator.specs.declared.plan.Values.{Values}
 use Rattle.value_animator.specs.Reading.{IsRefusal as IsValuesRefusal, IsText as IsValuesText}
 use Rattle.value_animator.specs.Run.{IsRunOf}

@@ -9,7 +9,7 @@ use Rattle.loop_model.specs.declared.post.Post.{Post}
 use Rattle.inbox_queue.specs.declared.parcel.Parcel.{Parcel}
 use Rattle.inbox_queue.specs.declared.known.Known.{Known}
 use Rattle.inbox_queue.specs.declared.known.Known.TheVariants.{Admits}
-use Rattle.inbox_queue.specs.Parcels.{parcels_of, from_sender}
+use Rattle.inbox_queue.specs.Plans.{parcels_of, from_sender}
 use Rattle.inbox_queue.specs.Taken.{put_by}
 use Rattle.inbox_queue.specs.Carried.{admits_more, Accounts, Foretells, taken_of}
 use Rattle.inbox_queue.specs.Handed.{Admitting, AreAllTakenIn, IsAllAdmitted, IsNextOfItsSender}

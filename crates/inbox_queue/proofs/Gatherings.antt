@@ -13,11 +13,11 @@ use Rattle.dash_script.specs.declared.script.Block.{Block}
 use Rattle.dash_script.specs.declared.script.Line.{Line}
 use Rattle.dash_script.specs.declared.script.Script.{Script}
 use Rattle.inbox_queue.specs.declared.parcel.Parcel.{Parcel}
-use Rattle.inbox_queue.specs.Parcels.{from_sender}
+use Rattle.inbox_queue.specs.Plans.{from_sender}
 use Rattle.inbox_queue.specs.Taken.{put_by}
 use Rattle.inbox_queue.specs.Handed.{Sending, Admitting, InboxId, AreNewSenders, AreSenders, IsAllAdmitted}
-use Rattle.inbox_queue.specs.Plans.{post_of_line, planned_posts}
-use Rattle.inbox_queue.specs.Gathered.{planned_for, EachPuts, PutBeginnings, HavePut, all_put}
+use Rattle.inbox_queue.specs.Plans.{planned_posts}
+use Rattle.inbox_queue.specs.Gathered.{planned_for, post_of_line, EachPuts, PutBeginnings, HavePut, all_put}
 use Rattle.inbox_queue.specs.InboxRun.{IsOfBlock}
 use Rattle.inbox_queue.proofs.Keeping.{put_by-beyond}
 

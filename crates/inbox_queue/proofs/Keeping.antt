@@ -11,7 +11,7 @@ use Rattle.loop_model.specs.declared.post.Post.{Post}
 use Rattle.inbox_queue.specs.declared.parcel.Parcel.{Parcel}
 use Rattle.inbox_queue.specs.declared.known.Known.{Known}
 use Rattle.inbox_queue.specs.declared.known.Known.TheVariants.{Spent, Sends, Admits}
-use Rattle.inbox_queue.specs.Parcels.{parcels_of, from_sender}
+use Rattle.inbox_queue.specs.Plans.{parcels_of, from_sender}
 use Rattle.inbox_queue.specs.Taken.{put_by}
 use Rattle.inbox_queue.specs.Carried.{Carried, Fits, start, puts_more, admits_more, Accounts, Foretells, deals, dealt, takes_in, spent}
 use Rattle.inbox_queue.proofs.ParcelLists.{parcel, parcels_of-snoc, from_sender-own, from_sender-other}

@@ -5,7 +5,7 @@ use Rattle.std.proofs.lemmas.List.Elements.{filter-append}
 use mathlib.Core.List.{IsPrefix}
 use Rattle.loop_model.specs.declared.post.Post.{Post}
 use Rattle.inbox_queue.specs.declared.parcel.Parcel.{Parcel}
-use Rattle.inbox_queue.specs.Parcels.{parcels_from, parcels_of, from_sender}
+use Rattle.inbox_queue.specs.Plans.{parcels_from, parcels_of, from_sender}
 
 abbrev pub parcel : ℕ → ℕ → Post → Parcel
 parcel from index post = record { from = from; index = index; post = post }

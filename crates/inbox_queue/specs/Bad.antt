@@ -10,23 +10,19 @@ use Rattle.dash_script.specs.Text.{lines}
 -- it is a gauge or a reaction, or a command that is no post of a message or a callback, or names more than one looper
 abbrev pub is_bad_of : Kind → List ℕ → Bool
 is_bad_of kind.Loopers ns = nat_lt 1 (slice_index ns 0)
-is_bad_of kind.Gauge ns = true
-is_bad_of kind.Rule ns = true
-is_bad_of kind.Set ns = true
-is_bad_of kind.Remove ns = true
-is_bad_of kind.RemoveCallback ns = true
-is_bad_of kind.RemoveAll ns = true
-is_bad_of kind.Barrier ns = true
-is_bad_of kind.Unbarrier ns = true
-is_bad_of kind.Quit ns = true
-is_bad_of kind.QuitSafely ns = true
-is_bad_of kind.IdleKeep ns = true
-is_bad_of kind.IdleOnce ns = true
-is_bad_of kind.Watch ns = true
-is_bad_of kind.Event ns = true
-is_bad_of kind.Frame ns = true
-is_bad_of kind.Unframe ns = true
-is_bad_of _ ns = false
+is_bad_of kind.Edition1 ns = false
+is_bad_of kind.Edition2 ns = false
+is_bad_of kind.Threads ns = false
+is_bad_of kind.Handler ns = false
+is_bad_of kind.AsyncHandler ns = false
+is_bad_of kind.Vsync ns = false
+is_bad_of kind.At ns = false
+is_bad_of kind.Post ns = false
+is_bad_of kind.PostAsync ns = false
+is_bad_of kind.Front ns = false
+is_bad_of kind.Callback ns = false
+is_bad_of kind.End ns = false
+is_bad_of _ ns = true
 
 abbrev pub is_bad : Statement → Bool
 is_bad line = is_bad_of line.kind line.numbers

@@ -6,7 +6,7 @@ use Rattle.loop_model.specs.declared.post.Post.{Post}
 use Rattle.inbox_queue.specs.declared.parcel.Parcel.{Parcel}
 use Rattle.inbox_queue.specs.declared.known.Known.{Known}
 use Rattle.inbox_queue.specs.declared.known.Known.TheVariants.{Spent, Sends, Admits}
-use Rattle.inbox_queue.specs.Parcels.{parcels_of, from_sender}
+use Rattle.inbox_queue.specs.Plans.{parcels_of, from_sender}
 use Rattle.inbox_queue.specs.Taken.{put_by}
 
 -- what the rule says of the view at place k, where `seat` is the place of the view that answers for a sender

@@ -1,11 +1,16 @@
 -- How a block's posts go through an inbox.
-use Rattle.std.specs.Prelude.{◌≡◌, ◌<◌, ℕ, List, length, map, Option, Some, slice_index_or}
+use Rattle.std.specs.Prelude.{◌≡◌, ◌<◌, ◌==◌, ℕ, List, length, map, Option, Some, None, slice_index_or, if◌then◌else◌}
 use mathlib.Core.List.{IsPrefix}
 use Rattle.loop_model.specs.declared.post.Post.{Post}
 use Rattle.dash_script.specs.declared.script.Block.{Block}
+use Rattle.dash_script.specs.declared.script.Line.{Line}
 use Rattle.dash_script.specs.declared.script.Script.{Script}
 use Rattle.inbox_queue.specs.Handed.{Sending}
-use Rattle.inbox_queue.specs.Plans.{planned_posts}
+use Rattle.inbox_queue.specs.Plans.{planned_posts, post_by}
+
+-- the post of a line at the time of its block, where it is a post of this thread
+abbrev pub post_of_line : Script → ℕ → ℕ → Line → Option Post
+post_of_line s time thread l = if l.thread == thread then post_by s time l.command else None
 
 -- the posts that the block plans for the sender's thread
 abbrev pub planned_for : Script → Block → ℕ → List Post

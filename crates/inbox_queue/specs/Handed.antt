@@ -9,7 +9,7 @@ use Rattle.inbox_queue.specs.declared.sender.Put.{Put}
 use Rattle.inbox_queue.specs.declared.sender.Put.TheVariants.{Put as Lies, NoMemory as Back}
 use Rattle.inbox_queue.specs.declared.admitter.Admit.{Admit}
 use Rattle.inbox_queue.specs.declared.admitter.Admit.TheVariants.{Parcel as Admitted, Empty, NoMemory as NoRoom}
-use Rattle.inbox_queue.specs.Parcels.{parcels_of, from_sender}
+use Rattle.inbox_queue.specs.Plans.{parcels_of, from_sender}
 use Rattle.inbox_queue.specs.Taken.{put_by}
 
 -- which inbox it is

@@ -24,15 +24,7 @@ use Rattle.run_model.specs.Fresh.{is_fresh, AreReached}
 use Rattle.run_model.specs.Run.{setting_of}
 use Rattle.inbox_queue.specs.declared.parcel.Parcel.{Parcel}
 use Rattle.inbox_queue.specs.declared.run.InboxReport.{InboxReport}
-use Rattle.inbox_queue.specs.Parcels.{parcels_of, from_sender}
-use Rattle.inbox_queue.specs.Plans.{planned_posts}
-
--- the main looper's number among the senders, behind the threads', and the controller's
-abbrev pub main_sender : Script → ℕ
-main_sender s = s.threads
-
-abbrev pub control_sender : Script → ℕ
-control_sender s = s.threads + 1
+use Rattle.inbox_queue.specs.Plans.{planned_posts, parcels_of, from_sender}
 
 -- a post without its slot
 abbrev pub unslotted : PostData → PostData
@@ -59,10 +51,8 @@ posts_at time parcels = map (λ x. (time, unslotted x.post)) parcels
 
 -- the posts of what was admitted in each block, at the block's time
 abbrev pub posts_admitted : List Block → List (List Parcel) → List (ℕ × PostData)
-posts_admitted [] [] = []
-posts_admitted [] (parcels ∷ lists) = []
-posts_admitted (b ∷ bs) [] = []
 posts_admitted (b ∷ bs) (parcels ∷ lists) = posts_at b.time parcels ++ posts_admitted bs lists
+posts_admitted _ _ = []
 
 -- of each thread these parcels are those that its lines of the block plan, all of them, in order, with the indices 0, 1, 2 and so on; of nobody else are any
 pub record IsOfBlock (s : Script) (b : Block) (parcels : List Parcel) : Type 0 where
@@ -72,9 +62,8 @@ pub record IsOfBlock (s : Script) (b : Block) (parcels : List Parcel) : Type 0 w
 -- one list for each block, in order
 abbrev pub AreOfBlocks : Script → List Block → List (List Parcel) → Type 0
 AreOfBlocks s [] [] = Unit {0}
-AreOfBlocks s [] (parcels ∷ lists) = ⊥
-AreOfBlocks s (b ∷ bs) [] = ⊥
 AreOfBlocks s (b ∷ bs) (parcels ∷ lists) = IsOfBlock s b parcels × AreOfBlocks s bs lists
+AreOfBlocks s _ _ = ⊥
 
 -- a post, or a look for a message
 abbrev pub IsPostOrLook : Call → Type 0
@@ -99,13 +88,10 @@ comes_first past e = not (is_posting e) || is_fresh is_posting past
 abbrev pub is_due_at : ℕ → Option Item → Bool
 is_due_at time first = option_map_or (λ x. when_of x == time) first false
 
--- it is the time of a block, the end, or when the first message that might be dispatched behind these entries is due
-abbrev pub may_be_moved_to : Script → List Entry → ℕ → Bool
-may_be_moved_to s past time = is_planned_time s time || is_due_at time (first_eligible (empty_base 0) past)
-
--- no move of the time; or one to such a time
+-- no move of the time; or one to the time of a block, to the end, or to when the first message that might be dispatched behind these entries is due
 abbrev pub moves_as_planned : Script → List Entry → Entry → Bool
-moves_as_planned s past e = not (is_advance e.call) || may_be_moved_to s past (moment_of e.call)
+moves_as_planned s past e =
+    not (is_advance e.call) || (is_planned_time s (moment_of e.call) || is_due_at (moment_of e.call) (first_eligible (empty_base 0) past))
 
 -- the report is an inbox run of the script
 pub record IsInboxRun (s : Script) (r : InboxReport) : Type 0 where
@@ -123,8 +109,8 @@ pub record IsInboxRun (s : Script) (r : InboxReport) : Type 0 where
   -- what was admitted is what the threads' lines plan
   pub admitted : AreOfBlocks s s.blocks r.admitted
   -- the looper's posts are, one for one and in order, those of what was admitted, each at the time of its block; its other entries are looks
-  pub posts : posts_made (main_sender s) (history_of r.kept) ≡ posts_admitted s.blocks r.admitted
-  pub looks : AllByRecursion (λ e. IsPostOrLook e.call) (entries_by (main_sender s) (history_of r.kept))
+  pub posts : posts_made s.threads (history_of r.kept) ≡ posts_admitted s.blocks r.admitted
+  pub looks : AllByRecursion (λ e. IsPostOrLook e.call) (entries_by s.threads (history_of r.kept))
   -- the looper posts what a block brings before it looks for a message at that time
   pub first : each_behind comes_first [] (history_of r.kept) ≡ true
   -- each move goes to the time of a block, to the end, or to when the first message that might then be dispatched is due
@@ -132,6 +118,6 @@ pub record IsInboxRun (s : Script) (r : InboxReport) : Type 0 where
   -- no block is left out, also one without lines: the time is moved to that of each, but for one at the start
   pub reached : AreReached s.blocks (history_of r.kept)
   -- the controller moves the time on, past no message that may be dispatched, and halts the queue at the end, which is the last entry
-  pub controlled : is_controlled true true (control_sender s) s.end (history_of r.kept) ≡ true
-  pub timely : is_called_in_time (control_sender s) (history_of r.kept) ≡ true
+  pub controlled : is_controlled true true (s.threads + 1) s.end (history_of r.kept) ≡ true
+  pub timely : is_called_in_time (s.threads + 1) (history_of r.kept) ≡ true
   pub halted : ends_halted (history_of r.kept) ≡ true

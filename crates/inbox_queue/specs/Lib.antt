@@ -1,4 +1,3 @@
-pub mod Parcels
 pub mod Taken
 pub mod Carried
 pub mod Passes

@@ -1,7 +1,8 @@
 //! The posts that a script's lines plan for the threads.
 ghost use Rattle.std.specs.Prelude.{◌≡◌, ◌≤◌, [], ◌∷◌, length};
 ghost use Rattle.run_model.specs.Planned.{sent_by};
-ghost use Rattle.inbox_queue.specs.Plans.{post_by, post_of_line, planned_posts};
+ghost use Rattle.inbox_queue.specs.Gathered.{post_of_line};
+ghost use Rattle.inbox_queue.specs.Plans.{post_by, planned_posts};
 
 use dash_script::{Command, Line, Script};
 use loop_model::Post;

@@ -5,6 +5,5 @@ pub mod Progress
 pub mod Ranks
 pub mod Checking
 pub mod Good
-pub mod Records
 pub mod Labels
 pub mod Shelves

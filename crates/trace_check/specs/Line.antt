@@ -9,6 +9,7 @@ use Rattle.loop_model.specs.declared.call.Call.{Call}
 use Rattle.loop_model.specs.declared.call.Call.TheVariants as call
 use Rattle.loop_model.specs.declared.reply.Reply.{Reply}
 use Rattle.loop_model.specs.declared.reply.Reply.TheVariants as reply
+use Rattle.loop_model.specs.Entries.{moment_of}
 use Rattle.line_words.specs.Words.{Words, maybe, one_of, IsShort, IsLong}
 use Rattle.trace_check.specs.declared.line.Line.{Line}
 use Rattle.trace_check.specs.declared.line.Line.TheVariants.{Title, Queue, Entry, End}
@@ -74,13 +75,9 @@ FitsFilter f = IsShort f.handler × FitsKind f.kind × IfSome f.obj IsLong
 
 abbrev pub FitsCall : Call → Type 0
 FitsCall (call.Post p) = FitsPost p
-FitsCall (call.Barrier now) = IsLong now
 FitsCall (call.Unbarrier token) = IsLong token
 FitsCall (call.Remove f) = FitsFilter f
-FitsCall (call.Quit safe now) = IsLong now
-FitsCall (call.Next now) = IsLong now
-FitsCall (call.Advance now) = IsLong now
-FitsCall (call.Halt now) = IsLong now
+FitsCall c = IsLong (moment_of c)
 
 abbrev pub FitsReply : Reply → Type 0
 FitsReply (reply.Accepted n) = IsLong n

@@ -1,6 +1,8 @@
--- The text of a trace, and where a text that is none goes wrong.
+-- The text of a trace, where a text that is none goes wrong, and the trace of the records that a looper keeps of its queues.
 use Rattle.std.specs.Prelude.{◌≡◌, ℕ, List, [], ◌∷◌, ◌++◌, map, length}
 use Rattle.std.specs.List.{flat_map, AllByRecursion}
+use Rattle.loop_model.specs.declared.record.QueueRecord.{QueueRecord}
+use Rattle.loop_model.specs.Chain.{entries_of}
 use Rattle.trace_check.specs.declared.trace.TraceQueue.{TraceQueue}
 use Rattle.line_words.specs.LeastBad.{IsLeastBad as IsLeastBadOf}
 use Rattle.trace_check.specs.declared.line.Head.{Head}
@@ -37,3 +39,11 @@ IsText b t = (b ≡ text t) × AllByRecursion Fits (lines t)
 -- this is the least bad line of a text that is the text of no trace
 abbrev pub IsLeastBad : List ℕ → ℕ → Type 0
 IsLeastBad b k = IsLeastBadOf IsText b k
+
+-- the queue of a trace that says what the record says, the entries of all its parts in order
+abbrev pub trace_queue_of : QueueRecord → TraceQueue
+trace_queue_of q = record { looper = q.looper; main = q.main; lockstep = q.lockstep; senders = q.senders; entries = entries_of q.segments }
+
+-- the trace whose queues are these records' in their order
+abbrev pub trace_of : List QueueRecord → Trace
+trace_of qs = record { queues = map trace_queue_of qs }

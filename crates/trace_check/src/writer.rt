@@ -6,7 +6,7 @@ ghost use Rattle.line_words.specs.Words.{maybe, one_of};
 ghost use Rattle.trace_check.specs.Line.{call_words, post_words, filter_words, reply_words};
 ghost use Rattle.trace_check.specs.Text.{head_of, line_text, queue_lines, text};
 ghost use Rattle.loop_model.specs.Chain.{entries_of};
-ghost use Rattle.trace_check.specs.Records.{trace_of, trace_queue_of};
+ghost use Rattle.trace_check.specs.Text.{trace_of, trace_queue_of};
 
 use crate::line::Head;
 use crate::trace::{Trace, TraceQueue};

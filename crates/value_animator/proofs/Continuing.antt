@@ -15,8 +15,9 @@ use Rattle.value_animator.specs.declared.draft.Stage.{Stage}
 use Rattle.value_animator.specs.declared.draft.Stage.TheVariants.{Start, Headed, Body, Ended}
 use Rattle.animator.specs.Plans.{IsKey, IsPlan}
 use Rattle.value_animator.specs.Plans.{IsThing, AreValues}
-use Rattle.value_animator.specs.Rows.{row_text, say}
-use Rattle.value_animator.specs.Rules.{SoFar, may_be_placed, last_place}
+use Rattle.value_animator.specs.Reading.{say}
+use Rattle.value_animator.specs.Plans.{row_text}
+use Rattle.value_animator.specs.Reading.{SoFar, may_be_placed, last_place}
 use Rattle.line_words.specs.LeastBad.{Begins}
 use Rattle.value_animator.specs.Plans.{key_row, plan_row, thing_rows, rows, values_text}
 use Rattle.value_animator.specs.Reading.{IsText}

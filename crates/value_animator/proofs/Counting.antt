@@ -14,10 +14,9 @@ use Rattle.value_animator.specs.declared.plan.Values.{Values}
 use Rattle.value_animator.specs.declared.plan.Thing.{Thing}
 use Rattle.value_animator.specs.declared.plan.Thing.TheVariants as thing_of
 use Rattle.std.proofs.lemmas.Bool.{and_from}
-use Rattle.value_animator.specs.FrameEntries.{frame_entries}
-use Rattle.value_animator.specs.Running.{frame_time, frame_times, frame_lines, frames_text, line_text, all_ended, thing_end}
+use Rattle.value_animator.specs.Run.{frame_time, frame_times, frame_lines, frames_text, line_text, all_ended, thing_end}
 use Rattle.value_animator.specs.Plans.{AreValues, IsThing}
-use Rattle.value_animator.specs.Run.{going_entries}
+use Rattle.value_animator.specs.Run.{frame_entries, going_entries}
 
 -- one number more
 range_more : (a n : ℕ) → range_with_len a (n + 1) ≡ range_with_len a n ++ (a + n) ∷ []

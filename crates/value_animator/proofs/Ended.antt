@@ -8,7 +8,7 @@ use Rattle.value_animator.specs.declared.plan.Thing.{Thing}
 use Rattle.value_animator.specs.declared.plan.Thing.TheVariants as thing_of
 use Rattle.value_animator.specs.declared.runner.Runner.{Runner}
 use Rattle.value_animator.specs.declared.runner.Runner.TheVariants as runner
-use Rattle.value_animator.specs.Running.{all_ended, thing_end}
+use Rattle.value_animator.specs.Run.{all_ended, thing_end}
 use Rattle.value_animator.specs.Runners.{runner_at, is_ended}
 use Rattle.animator.specs.Valuing.{end_of}
 

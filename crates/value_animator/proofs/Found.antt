@@ -4,14 +4,11 @@ use Rattle.std.specs.Prelude.{◌↔◌}
 use Rattle.std.specs.List.{flat_map}
 use Rattle.dash_script.specs.declared.refusal.Cause.{Cause}
 use Rattle.line_words.specs.RefusedReading.{read_text}
-use Rattle.line_words.proofs.Refusing.{answer, failed, same_answer, reads_texts}
-use Rattle.line_words.proofs.RefusedLines.{Ran, texts_ran}
-use Rattle.line_words.proofs.Answers.{AreApart}
+use Rattle.line_words.proofs.Refusing.{answer, same_answer, reads_texts}
+use Rattle.line_words.proofs.RefusedLines.{texts_ran}
 use Rattle.value_animator.specs.declared.plan.Values.{Values}
-use Rattle.value_animator.specs.declared.refusal.ParsedValues.TheVariants as parsed
-use Rattle.value_animator.specs.Plans.{AreValues, IsWritten, rows, values_text}
-use Rattle.value_animator.specs.Rows.{row_text}
-use Rattle.value_animator.specs.Rules.{nothing}
+use Rattle.value_animator.specs.Plans.{AreValues, IsWritten, row_text, values_text}
+use Rattle.value_animator.specs.Reading.{nothing}
 use Rattle.value_animator.specs.Reading.{IsText, plans}
 use Rattle.value_animator.proofs.Running.{spelled}
 use Rattle.value_animator.proofs.Leading.{texts_are_read}

@@ -10,7 +10,7 @@ use Rattle.frame_phases.specs.Frames.{live, next_phase, last_time, posted_count,
 use Rattle.frame_phases.specs.Pulses.{pulse}
 use Rattle.frame_phases.specs.State.{Frames, past, ran, delivered}
 use Rattle.value_animator.specs.Framing.{begun, taken_at, posted_again, last_number, IsReady, after_frame}
-use Rattle.value_animator.specs.FrameEntries.{callback, again, frame_entries}
+use Rattle.value_animator.specs.Run.{callback, again, frame_entries}
 
 -- the state with more entries, and another schedule
 abbrev pub grown : Frames → List FrameEntry → Bool → Option ℕ → Frames

@@ -9,7 +9,7 @@ use Rattle.std.proofs.Math.Seq.{take-append_seam}
 use Rattle.frame_phases.specs.declared.entry.FrameEntry.{FrameEntry}
 use Rattle.frame_phases.specs.declared.entry.FrameEntry.TheVariants.{Posted}
 use Rattle.frame_phases.specs.declared.entry.FrameRecord.{FrameRecord}
-use Rattle.frame_phases.specs.Frames.{lawful, posted_count, live, next_phase, last_time}
+use Rattle.frame_phases.specs.Frames.{posted_count, live, next_phase, last_time}
 use Rattle.frame_phases.specs.Pulses.{pulse}
 use Rattle.frame_phases.specs.State.{Frames, past, fresh, posted, next_callback}
 use Rattle.value_animator.specs.declared.plan.Values.{Values}
@@ -17,11 +17,11 @@ use Rattle.value_animator.specs.declared.plan.Thing.{Thing}
 use Rattle.value_animator.specs.declared.plan.Thing.TheVariants as thing_of
 use Rattle.value_animator.specs.declared.runner.Runner.{Runner}
 use Rattle.value_animator.specs.Framing.{IsReady, last_number, after_frame}
-use Rattle.value_animator.specs.FrameEntries.{callback, frame_entries}
-use Rattle.value_animator.specs.Running.{frame_time, frame_times, frame_lines, frames_text, line_text, thing_lines, all_ended}
+use Rattle.value_animator.specs.Run.{frame_time, frame_times, frame_lines, frames_text, line_text, thing_lines, all_ended}
 use Rattle.value_animator.specs.Runners.{runner_at, is_ended}
 use Rattle.value_animator.specs.Plans.{AreValues}
-use Rattle.value_animator.specs.Run.{begin_time, begin_times, going_entries, record_entries, IsRunOf}
+use Rattle.value_animator.specs.Run.{callback, frame_entries, going_entries, record_entries, IsRunOf}
+use Rattle.value_animator.specs.Laws.{begin_time, begin_times}
 use Rattle.value_animator.specs.Going.{IsStarted, HasRun}
 use Rattle.value_animator.proofs.Counting.{times_more, text_more, going_more, next_pulse, later_frame}
 use Rattle.value_animator.proofs.Ended.{ended_are}
@@ -216,20 +216,21 @@ begins_are period (suc n) =
     ∙ (ap (λ l. l ++ frame_time period n ∷ []) (going_begins period n) ∙ sym (times_more period n)) in
     more ∙ ap (frame_times period) one
 
+pub runs_begin : (v : Values) (bytes : List ℕ) (frames : FrameRecord) (run : IsRunOf v bytes frames) → begin_times frames.entries ≡ frame_times v.period run.count
+runs_begin v bytes frames run = ap begin_times run.entries ∙ begins_are v.period run.count
+
 -- the whole text and the record
 pub run_is : (v : Values) (first last bytes : List ℕ) (s : Frames) (kept : FrameRecord) → HasRun v first last s
     → first ≡ line_text (codes "values" ∷ codes "1" ∷ []) → bytes ≡ last ++ line_text (codes "end" ∷ [])
-    → kept.looper ≡ s.looper → kept.interval ≡ s.interval → kept.phases ≡ s.phases → kept.entries ≡ s.entries → IsTrue (lawful s.interval s.phases s.entries)
+    → kept.looper ≡ s.looper → kept.interval ≡ s.interval → kept.phases ≡ s.phases → kept.entries ≡ s.entries
     → IsRunOf v bytes kept
-run_is v first last bytes s kept h head tail looper interval phases entries law = record {
+run_is v first last bytes s kept h head tail looper interval phases entries = record {
   count = h.count;
   counted = h.counted;
   told = tail ∙ ap (λ l. l ++ line_text (codes "end" ∷ [])) (h.told ∙ ap (λ l. l ++ frames_text v h.count) head);
   looper = looper ∙ h.looper;
   interval = interval ∙ h.interval;
   phases = phases ∙ h.phases;
-  lawful = rw (interval, phases, entries) law;
-  begins = ap begin_times (entries ∙ h.entries) ∙ begins_are v.period h.count;
   entries = entries ∙ h.entries;
 }
 

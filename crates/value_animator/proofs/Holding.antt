@@ -1,5 +1,5 @@
 -- Rows that run are the lines of the values that they run to.
-use Rattle.std.proofs.Common.{◌≡◌, ◌<◌, ◌≤◌, ◌+◌, ◌*◌, ℕ, true, false, Bool, List, [], ◌∷◌, ◌++◌, length, map, Option, Some, None, Ok, refl, sym, ap, subst, ◌∙◌, arith, append_assoc, append-nil, nat_le, nat_lt, ◌==◌, All, length-append, if◌then◌else◌, cond, inl, inr}
+use Rattle.std.proofs.Common.{◌≡◌, ◌<◌, ◌≤◌, ◌+◌, ◌*◌, ℕ, true, false, Bool, List, [], ◌∷◌, ◌++◌, length, map, Option, Some, None, refl, sym, ap, subst, ◌∙◌, arith, append_assoc, append-nil, nat_le, nat_lt, ◌==◌, All, length-append, if◌then◌else◌, inl, inr}
 use Rattle.std.specs.Prelude.{◌&&◌, ◌||◌, slice_index}
 use Rattle.std.specs.List.{flat_map}
 use Rattle.std.proofs.lemmas.Bool.{and_parts, and_from, or_cases, eqb-false}
@@ -8,7 +8,6 @@ use Rattle.std.proofs.lemmas.List.{map-append}
 use Rattle.std.proofs.lemmas.List.Elements.{All-push, All-nil}
 use Rattle.std.proofs.lemmas.Grind.{flat_map-append}
 use Rattle.dash_script.specs.declared.refusal.Cause.{Cause}
-use Rattle.dash_script.specs.declared.refusal.Cause.TheVariants as cause
 use Rattle.dash_script.specs.Writing.{hole_count}
 use Rattle.animator.specs.declared.keys.Key.{Key}
 use Rattle.animator.specs.declared.plan.Plan.{Plan}
@@ -22,8 +21,8 @@ use Rattle.value_animator.specs.declared.draft.Stage.{Stage}
 use Rattle.value_animator.specs.declared.draft.Stage.TheVariants.{Start, Headed, Body, Ended}
 use Rattle.animator.specs.Plans.{IsKey, IsPlan, rise, rise_from}
 use Rattle.value_animator.specs.Plans.{IsThing, AreValues}
-use Rattle.value_animator.specs.Rows.{form, say}
-use Rattle.value_animator.specs.Rules.{SoFar, cause_of, with_row, is_ended_stage, last_place, may_be_placed, key_of, plan_of}
+use Rattle.value_animator.specs.Reading.{form, say}
+use Rattle.value_animator.specs.Reading.{SoFar, cause_of, with_row, last_place, may_be_placed, key_of, plan_of}
 use Rattle.line_words.specs.RefusedReading.{goes_on, run}
 use Rattle.line_words.proofs.Refusing.{answer}
 use Rattle.value_animator.specs.Plans.{key_row, plan_row, thing_rows, rows}

@@ -1,6 +1,6 @@
 -- The rows of values within the limits lead to them.
-use Rattle.std.proofs.Common.{◌≡◌, ◌<◌, ◌≤◌, ◌+◌, ◌*◌, ◌^◌, ℕ, zero, suc, true, false, Bool, List, [], ◌∷◌, ◌++◌, length, map, Some, None, Ok, refl, sym, ap, subst, ◌∙◌, arith, append_assoc, append-nil, nat_le, nat_lt, ◌==◌, All, length-append, if◌then◌else◌}
-use Rattle.std.specs.Prelude.{◌&&◌}
+use Rattle.std.proofs.Common.{◌≡◌, ◌<◌, ◌≤◌, ◌+◌, ◌*◌, ◌^◌, ℕ, zero, suc, true, false, Bool, List, [], ◌∷◌, ◌++◌, length, map, Some, None, refl, sym, ap, subst, ◌∙◌, arith, append_assoc, append-nil, nat_le, nat_lt, ◌==◌, All, length-append, if◌then◌else◌}
+use Rattle.std.specs.Prelude.{◌&&◌, ◌||◌}
 use Rattle.std.specs.List.{flat_map}
 use Rattle.std.proofs.lemmas.Bool.{and_parts, and_from, or_left, or_right}
 use Rattle.std.proofs.lemmas.Bool.Decides.{nat_tests}
@@ -16,11 +16,11 @@ use Rattle.value_animator.specs.declared.row.Row.{Row}
 use Rattle.value_animator.specs.declared.draft.Stage.TheVariants.{Headed, Body, Ended}
 use Rattle.animator.specs.Plans.{IsKey, IsPlan, rise, rise_from}
 use Rattle.value_animator.specs.Plans.{IsThing, AreValues}
-use Rattle.value_animator.specs.Rules.{SoFar, nothing, with_row, numbers_fit, last_place, may_be_placed, key_has_room}
+use Rattle.value_animator.specs.Reading.{SoFar, nothing, with_row, numbers_fit, last_place, may_be_placed}
 use Rattle.std.specs.List.{AllByRecursion}
 use Rattle.value_animator.specs.Plans.{key_row, thing_rows, rows, values_text}
 use Rattle.value_animator.specs.Reading.{plans}
-use Rattle.value_animator.specs.Rows.{say}
+use Rattle.value_animator.specs.Reading.{say}
 use Rattle.line_words.specs.RefusedReading.{read_text, run}
 use Rattle.line_words.proofs.Refusing.{answer}
 use Rattle.line_words.proofs.RefusedLines.{texts_run}
@@ -87,7 +87,7 @@ lt_is m n h = grind (arith, nat_tests)
 other_place : (m : ℕ) → m < 1000 → (m == 1000) ≡ false
 other_place m lt = grind (arith, nat_tests)
 
-key_good : (period : ℕ) (things : List Thing) (p : Plan) (done : List Key) (k : Key) → IsKey k → may_be_placed done k.at ≡ true → key_has_room done k.at ≡ true
+key_good : (period : ℕ) (things : List Thing) (p : Plan) (done : List Key) (k : Key) → IsKey k → may_be_placed done k.at ≡ true → (nat_lt (length done) 15 || k.at == 1000) ≡ true
     → IsGood (behind period things p done) (key_row k)
 key_good period things p done k h placed room =
     record { stands = refl; fits = key_numbers k.at k.value h.place h.value; ways = refl; rises = placed; room = room }

@@ -2,6 +2,7 @@ pub mod Framing
 pub mod Counting
 pub mod Ended
 pub mod Going
+pub mod Lawful
 pub mod Asking
 pub mod Rows
 pub mod Limits

@@ -9,7 +9,7 @@ use Rattle.value_animator.specs.declared.row.RowKind.TheVariants as kind
 use Rattle.value_animator.specs.declared.plan.Thing.TheVariants as thing_of
 use Rattle.animator.specs.Plans.{IsKey}
 use Rattle.value_animator.specs.Plans.{IsThing}
-use Rattle.value_animator.specs.Rules.{numbers_fit, key_of}
+use Rattle.value_animator.specs.Reading.{numbers_fit, key_of}
 
 within_is : (low high n : ℕ) → (nat_le low n && nat_le n high) ≡ true → (low ≤ n) × (n ≤ high)
 within_is low high n h =

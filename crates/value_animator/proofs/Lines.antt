@@ -1,10 +1,10 @@
 -- A line without a cause.
-use Rattle.std.proofs.Common.{◌≡◌, ℕ, true, false, Bool, Option, Some, None, refl, cond}
+use Rattle.std.proofs.Common.{◌≡◌, true, false, Bool, Option, Some, None, refl, cond}
 use Rattle.std.specs.Prelude.{not}
 use Rattle.dash_script.specs.declared.refusal.Cause.{Cause}
 use Rattle.dash_script.specs.declared.refusal.Cause.TheVariants as cause
 use Rattle.value_animator.specs.declared.row.Row.{Row}
-use Rattle.value_animator.specs.Rules.{SoFar, cause_of, may_stand, numbers_fit, ways_fit, places_rise, has_room}
+use Rattle.value_animator.specs.Reading.{SoFar, cause_of, may_stand, numbers_fit, ways_fit, places_rise, has_room}
 
 -- all that is asked of a line holds
 pub record IsGood (d : SoFar) (r : Row) : Type 0 where

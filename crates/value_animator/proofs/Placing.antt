@@ -1,7 +1,7 @@
 -- Where a key may stand.
 use Rattle.std.proofs.Common.{◌≡◌, ℕ, zero, suc, ◌+◌, ◌-◌, List, [], ◌∷◌, length, ap, arith, ◌∙◌, nat_lt, slice_get, Some}
 use Rattle.animator.specs.declared.keys.Key.{Key}
-use Rattle.value_animator.specs.Rules.{last_place, may_be_placed}
+use Rattle.value_animator.specs.Reading.{last_place, may_be_placed}
 
 got_last : (ks : List Key) (i : ℕ) (k : Key) → i + 1 ≡ length ks → Some k ≡ slice_get ks i → k.at ≡ last_place ks
 got_last [] i k n e = absurd (omega arith)

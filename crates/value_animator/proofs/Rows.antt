@@ -4,7 +4,7 @@ use Rattle.std.specs.List.{join_with_byte}
 use Rattle.std.proofs.lemmas.Option.{none-some}
 use Rattle.std.proofs.lemmas.List.Splits.{join_with_byte-slice_split}
 use Rattle.line_words.specs.Words.{words, pieces, number_of}
-use Rattle.dash_script.specs.Statement.{filled, numbers_of, said_among}
+use Rattle.dash_script.specs.Form.{filled, numbers_of, said_among}
 use Rattle.dash_script.specs.Writing.{hole_count}
 use Rattle.dash_script.specs.Laws.{AllSmall}
 use Rattle.dash_script.proofs.Forms.{FirstFits, clash, clash_slot, numbers_taken, among_said, words_said}
@@ -12,7 +12,8 @@ use Rattle.dash_script.proofs.Texts.{line_says, filled_first}
 use Rattle.value_animator.specs.declared.row.RowKind.{RowKind}
 use Rattle.value_animator.specs.declared.row.RowKind.TheVariants as kind
 use Rattle.value_animator.specs.declared.row.Row.{Row}
-use Rattle.value_animator.specs.Rows.{form, all_kinds, say, row_among, row_of, row_text}
+use Rattle.value_animator.specs.Reading.{form, all_kinds, say, row_of}
+use Rattle.value_animator.specs.Plans.{row_text}
 
 -- a line that is read is the line of what was read
 pub row_taken : (line : List ℕ) (r : Row) → row_of line ≡ Some r → line ++ 10 ∷ [] ≡ row_text r
@@ -36,7 +37,7 @@ first_fits kind.Reverse = inr (refl, inr (refl, inr (refl, inr (refl, inl refl))
 first_fits kind.Key = inr (refl, inr (refl, inr (refl, inr (refl, inr (refl, inl refl)))))
 first_fits kind.End = inr (refl, inr (refl, inr (refl, inr (refl, inr (refl, inr (refl, inl refl))))))
 
-nothing_said : (r : Row) → row_among all_kinds [] ≡ Some r → ⊥
+nothing_said : (r : Row) → said_among form say all_kinds [] ≡ Some r → ⊥
 unfolding said_among numbers_of
 nothing_said r e = none-some r e
 

@@ -1,19 +1,19 @@
 -- Rows in place of bytes, and rows without a cause.
-use Rattle.std.proofs.Common.{◌≡◌, ◌<◌, ◌+◌, ◌==◌, arith, ℕ, true, false, Bool, List, [], ◌∷◌, ◌++◌, length, Option, Some, None, Ok, refl, sym, ap, ◌∙◌, subst}
+use Rattle.std.proofs.Common.{◌≡◌, ◌<◌, ◌+◌, ◌==◌, arith, ℕ, true, false, Bool, List, [], ◌∷◌, ◌++◌, length, Some, None, Ok, refl, sym, ap, ◌∙◌, subst}
 use Rattle.std.proofs.lemmas.Bool.{eqb-true, ne_eqb}
 use Rattle.std.proofs.lemmas.List.{nil_from_length}
 use Rattle.line_words.specs.Words.{words}
 use Rattle.line_words.specs.RefusedReading.{run}
 use Rattle.line_words.proofs.RefusedLines.{IsSpelled}
-use Rattle.dash_script.specs.declared.refusal.Cause.{Cause}
 use Rattle.dash_script.specs.declared.refusal.Cause.TheVariants as cause
-use Rattle.dash_script.specs.Statement.{said_among, numbers_of}
+use Rattle.dash_script.specs.Form.{said_among, numbers_of}
 use Rattle.dash_script.specs.Writing.{hole_count}
 use Rattle.dash_script.proofs.Lines.{numbers_counted}
 use Rattle.dash_script.proofs.Forms.{among_said}
 use Rattle.value_animator.specs.declared.row.Row.{Row}
-use Rattle.value_animator.specs.Rows.{form, all_kinds, say, row_among, row_of, row_text}
-use Rattle.value_animator.specs.Rules.{SoFar, cause_of, with_row, is_ended_stage}
+use Rattle.value_animator.specs.Reading.{form, all_kinds, say, row_of}
+use Rattle.value_animator.specs.Plans.{row_text}
+use Rattle.value_animator.specs.Reading.{SoFar, with_row, is_ended_stage}
 use Rattle.value_animator.specs.Reading.{plans, values_of, cause_at_stop}
 use Rattle.value_animator.proofs.Rows.{IsWhole, row_bytes, row_first, row_again, row_taken}
 use Rattle.value_animator.proofs.Lines.{IsGood, is_good}
@@ -22,7 +22,7 @@ use Rattle.value_animator.proofs.Lines.{IsGood, is_good}
 abbrev pub IsCounted : Row → Type 0
 IsCounted r = hole_count (form r.kind) ≡ length r.numbers
 
-pub among_counted : (ws : List (List ℕ)) (r : Row) → row_among all_kinds ws ≡ Some r → IsCounted r
+pub among_counted : (ws : List (List ℕ)) (r : Row) → said_among form say all_kinds ws ≡ Some r → IsCounted r
 among_counted ws r e =
     let p = among_said form say all_kinds ws r e in
     subst (λ (x : Row). hole_count (form x.kind) ≡ length x.numbers) p.2 (numbers_counted (form p.0) ws p.1 p.3)

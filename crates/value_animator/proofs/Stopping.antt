@@ -16,8 +16,9 @@ use Rattle.value_animator.specs.declared.refusal.ParsedValues.{ParsedValues}
 use Rattle.value_animator.specs.declared.refusal.ParsedValues.TheVariants as parsed
 use Rattle.value_animator.specs.declared.row.Row.{Row}
 use Rattle.value_animator.specs.declared.plan.Values.{Values}
-use Rattle.value_animator.specs.Rows.{row_of, row_text}
-use Rattle.value_animator.specs.Rules.{SoFar, nothing, cause_of, with_row}
+use Rattle.value_animator.specs.Reading.{row_of}
+use Rattle.value_animator.specs.Plans.{row_text}
+use Rattle.value_animator.specs.Reading.{SoFar, nothing, cause_of}
 use Rattle.value_animator.specs.Reading.{IsText, plans}
 use Rattle.value_animator.proofs.Rows.{row_taken}
 use Rattle.value_animator.proofs.Lines.{good_is}

@@ -1,6 +1,6 @@
 -- What a draft holds.
 use Rattle.value_animator.specs.declared.draft.Draft.{Draft}
-use Rattle.value_animator.specs.Rules.{SoFar}
+use Rattle.value_animator.specs.Reading.{SoFar}
 
 -- the lines so far, as the draft holds them
 abbrev pub so_far : Draft → SoFar

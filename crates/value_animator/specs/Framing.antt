@@ -4,7 +4,7 @@ use Rattle.frame_phases.specs.declared.entry.FrameEntry.TheVariants.{Begin, Take
 use Rattle.frame_phases.specs.Frames.{live, next_phase, last_time, posted_count, taken, take_time}
 use Rattle.frame_phases.specs.Pulses.{pulse}
 use Rattle.frame_phases.specs.State.{Frames, past, next_callback, posted, ran}
-use Rattle.value_animator.specs.FrameEntries.{callback, frame_entries}
+use Rattle.value_animator.specs.Run.{callback, frame_entries}
 
 -- a frame may begin at this pulse
 pub record CanBegin (s : Frames) (p : ℕ) : Type 0 where

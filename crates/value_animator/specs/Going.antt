@@ -7,9 +7,8 @@ use Rattle.value_animator.specs.declared.plan.Values.{Values}
 use Rattle.value_animator.specs.declared.run.ValuesRan.{ValuesRan}
 use Rattle.value_animator.specs.declared.run.ValuesRan.TheVariants as ran_to
 use Rattle.value_animator.specs.Framing.{IsReady}
-use Rattle.value_animator.specs.FrameEntries.{callback}
-use Rattle.value_animator.specs.Running.{frame_time, frames_text}
-use Rattle.value_animator.specs.Run.{IsCount, record_entries, IsRunOf}
+use Rattle.value_animator.specs.Run.{frame_time, frames_text}
+use Rattle.value_animator.specs.Run.{IsCount, callback, record_entries, IsRunOf}
 
 -- the first callback is posted, and nothing else happened
 pub record IsStarted (s : Frames) (period : ℕ) : Type 0 where

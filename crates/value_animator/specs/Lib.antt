@@ -1,12 +1,8 @@
 pub mod Plans
-pub mod Running
 pub mod Runners
 pub mod Framing
-pub mod FrameEntries
 pub mod Run
 pub mod Going
-pub mod Rows
-pub mod Rules
 pub mod Drafts
 pub mod Reading
 pub mod Laws

@@ -1,6 +1,7 @@
 -- The text of values, and their limits.
 use Rattle.std.specs.Prelude.{◌≡◌, ◌≤◌, ◌<◌, ℕ, List, [], ◌∷◌, ◌++◌, map, length, All, if◌then◌else◌}
-use Rattle.std.specs.List.{flat_map}
+use Rattle.std.specs.List.{flat_map, join_with_byte}
+use Rattle.dash_script.specs.Form.{filled}
 use Rattle.animator.specs.declared.keys.Key.{Key}
 use Rattle.animator.specs.declared.plan.Plan.{Plan}
 use Rattle.animator.specs.Plans.{IsPlan}
@@ -9,7 +10,7 @@ use Rattle.value_animator.specs.declared.plan.Thing.TheVariants.{Animator, Count
 use Rattle.value_animator.specs.declared.plan.Values.{Values}
 use Rattle.value_animator.specs.declared.row.RowKind.TheVariants as kind
 use Rattle.value_animator.specs.declared.row.Row.{Row}
-use Rattle.value_animator.specs.Rows.{row_text, say}
+use Rattle.value_animator.specs.Reading.{form, say}
 
 -- the line of a key
 abbrev pub key_row : Key → Row
@@ -27,6 +28,10 @@ thing_rows (Countdown total interval) = say kind.Countdown (total ∷ interval �
 -- the lines of values
 abbrev pub rows : Values → List Row
 rows v = say kind.Head [] ∷ say kind.Period (v.period ∷ []) ∷ flat_map thing_rows v.things ++ say kind.End [] ∷ []
+
+-- a line: its words with single spaces, and a line feed
+unfoldable pub row_text : Row → List ℕ
+row_text r = join_with_byte 32 (filled (form r.kind) r.numbers) ++ 10 ∷ []
 
 -- the text of values
 abbrev pub values_text : Values → List ℕ

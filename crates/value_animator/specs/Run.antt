@@ -1,27 +1,97 @@
--- What a run of values is.
-use Rattle.std.specs.Prelude.{◌≡◌, ◌<◌, ℕ, zero, suc, true, false, IsTrue, List, [], ◌∷◌, ◌++◌, Option, Some, None}
-use Rattle.std.specs.List.{flat_map, filter_map, range_with_len}
-use Rattle.frame_phases.specs.declared.entry.FrameEntry.{FrameEntry}
-use Rattle.frame_phases.specs.declared.entry.FrameEntry.TheVariants.{Posted, Begin}
-use Rattle.frame_phases.specs.declared.entry.FrameRecord.{FrameRecord}
-use Rattle.frame_phases.specs.Frames.{lawful}
+-- What is told over frames, how it is printed, and what a run of values is.
+use Rattle.std.specs.Prelude.{◌≡◌, ◌<◌, ◌+◌, ◌*◌, ◌/◌, ℕ, zero, suc, Bool, true, false, List, [], ◌∷◌, ◌++◌, map, None, codes}
+use Rattle.std.specs.List.{flat_map, range_with_len, enumerate_from, list_all}
+use Rattle.std.specs.Fmt.{decimal}
+pub use Rattle.line_words.specs.Words.{Words, line as line_text}
+use Rattle.countdown.specs.Moments.{has_ended}
+use Rattle.countdown.specs.Ticking.{answer as ticking_answer}
+use Rattle.countdown.specs.declared.timer.Ticked.{Ticked}
+use Rattle.countdown.specs.declared.timer.Ticked.TheVariants as ticked
+use Rattle.animator.specs.declared.values.Valued.{Valued}
+use Rattle.animator.specs.declared.values.Valued.TheVariants as valued
+use Rattle.value_animator.specs.declared.plan.Thing.{Thing}
+use Rattle.value_animator.specs.declared.plan.Thing.TheVariants as thing_of
 use Rattle.value_animator.specs.declared.plan.Values.{Values}
-use Rattle.value_animator.specs.FrameEntries.{callback, frame_entries}
-use Rattle.value_animator.specs.Running.{all_ended, frame_time, frame_times, text}
+use Rattle.animator.specs.Valuing.{answer, end_of}
+use Rattle.frame_phases.specs.declared.entry.Callback.{Callback}
+use Rattle.frame_phases.specs.declared.entry.FrameEntry.{FrameEntry}
+use Rattle.frame_phases.specs.declared.entry.FrameEntry.TheVariants.{Posted, Begin, Take, Ran}
+use Rattle.frame_phases.specs.declared.entry.FrameRecord.{FrameRecord}
+
+-- ---- what a thing tells
+
+-- when a thing ends, in milliseconds from the first frame
+abbrev pub thing_end : Thing → ℕ
+thing_end (thing_of.Animator plan) = end_of plan
+thing_end (thing_of.Countdown total interval) = total
+
+-- the words that an animator's answer tells, where it tells any
+abbrev pub value_told : Valued → List Words
+value_told (valued.Value v) = (codes "value" ∷ decimal v ∷ []) ∷ []
+value_told (valued.End v) = (codes "end" ∷ decimal v ∷ []) ∷ []
+value_told valued.Over = []
+
+-- the words that a countdown's answer tells, where it tells any
+abbrev pub tick_told : Ticked → List Words
+tick_told (ticked.Tick left) = (codes "tick" ∷ decimal left ∷ []) ∷ []
+tick_told ticked.Finished = (codes "finished" ∷ []) ∷ []
+tick_told _ = []
+
+-- the words that a thing tells at a time, after the times before
+abbrev pub told : Thing → List ℕ → ℕ → List Words
+told (thing_of.Animator plan) before time = value_told (answer plan before time)
+told (thing_of.Countdown total interval) before time = tick_told (ticking_answer total interval before time)
+
+-- ---- the lines
+
+-- the lines of a thing, with its number, at a time after the times before
+abbrev pub thing_lines : List ℕ → ℕ → ℕ × Thing → List Words
+thing_lines before time (number, thing) = map (λ ws. decimal time ∷ decimal number ∷ ws) (told thing before time)
+
+-- the time of the frame that has so many frames before it
+abbrev pub frame_time : ℕ → ℕ → ℕ
+frame_time period k = (k + 1) * period
+
+-- the times of the first n frames
+abbrev pub frame_times : ℕ → ℕ → List ℕ
+frame_times period n = map (frame_time period) (range_with_len 0 n)
+
+-- the lines of a frame, by rising number of the things
+abbrev pub frame_lines : Values → ℕ → List Words
+frame_lines v k = flat_map (thing_lines (frame_times v.period k) (frame_time v.period k)) (enumerate_from 0 v.things)
+
+-- the lines of n frames
+abbrev pub frames_text : Values → ℕ → List ℕ
+frames_text v n = flat_map (λ k. flat_map line_text (frame_lines v k)) (range_with_len 0 n)
+
+-- the text of n frames
+abbrev pub text : Values → ℕ → List ℕ
+text v n = line_text (codes "values" ∷ codes "1" ∷ []) ++ frames_text v n ++ line_text (codes "end" ∷ [])
+
+-- all things have ended by these times
+abbrev pub all_ended : List Thing → List ℕ → Bool
+all_ended things times = list_all (λ t. has_ended (thing_end t) times) things
+
+-- ---- the run
 
 -- all things have ended after so many frames, and not after fewer
 pub record IsCount (v : Values) (n : ℕ) : Type 0 where
   pub ended : all_ended v.things (frame_times v.period n) ≡ true
   pub not_before : (m : ℕ) → m < n → all_ended v.things (frame_times v.period m) ≡ false
 
--- the time of a frame that begins
-abbrev pub begin_time : FrameEntry → Option ℕ
-begin_time (Begin vsync start time) = Some time
-begin_time _ = None
+-- the callback of this number, which is due at this millisecond
+abbrev pub callback : ℕ → ℕ → Callback
+callback number due = record { number = number; phase = 1; due = due; id = 0; token = None }
 
--- the times of the frames that begin
-abbrev pub begin_times : List FrameEntry → List ℕ
-begin_times entries = filter_map begin_time entries
+-- the posting in a frame of the callback after this one, unless all has ended
+abbrev pub again : ℕ → ℕ → Bool → List FrameEntry
+again p number true = []
+again p number false = Posted (callback (number + 1) (p / 1000000)) ∷ []
+
+-- the entries of a frame at this pulse, in which the callback of this number runs
+abbrev pub frame_entries : ℕ → ℕ → Bool → List FrameEntry
+frame_entries p number ended =
+    Begin p p p ∷ Take 0 p p ∷ Take 1 p p ∷ Ran number ∷ again p number ended ++ Take 2 p p ∷ Take 3 p p ∷ []
 
 -- the entries of n frames that each post the next callback
 abbrev pub going_entries : ℕ → ℕ → List FrameEntry
@@ -41,6 +111,4 @@ pub record IsRunOf (v : Values) (bytes : List ℕ) (frames : FrameRecord) : Type
   pub looper : frames.looper ≡ 0
   pub interval : frames.interval ≡ v.period
   pub phases : frames.phases ≡ 4
-  pub lawful : IsTrue (lawful frames.interval frames.phases frames.entries)
-  pub begins : begin_times frames.entries ≡ frame_times v.period count
   pub entries : frames.entries ≡ record_entries v.period count

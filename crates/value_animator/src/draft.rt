@@ -3,7 +3,7 @@ ghost use Rattle.std.specs.Prelude.{◌≡◌, ◌≤◌, ◌<◌, ◌^◌, ◌+
 ghost use Rattle.dash_script.specs.Causes.{each_number};
 ghost use Rattle.value_animator.specs.Drafts.{so_far};
 ghost use Rattle.value_animator.specs.Reading.{values_of};
-ghost use Rattle.value_animator.specs.Rules.{cause_of, has_room, is_ended_stage, is_within, may_be_placed, may_stand, nothing, numbers_fit, places_rise, plan_of, ways_fit, with_given_key, with_row};
+ghost use Rattle.value_animator.specs.Reading.{cause_of, has_room, is_ended_stage, is_within, may_be_placed, may_stand, nothing, numbers_fit, places_rise, plan_of, ways_fit, with_given_key, with_row};
 
 use crate::plan::{Thing, Values};
 use crate::row::{Row, RowKind};
@@ -167,7 +167,7 @@ impl Draft {
     }
 
     /// The first cause for which a line may not come next.
-    #[tactic(auto, unfolding(crate::specs::Rules::cause_of))]
+    #[tactic(auto, unfolding(crate::specs::Reading::cause_of))]
     pub(crate) fn cause(&self, row: &Row) -> Option<Cause>
         ensures { result ≡ cause_of (so_far self.now) row.now }
     {

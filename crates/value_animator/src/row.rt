@@ -1,7 +1,8 @@
 //! The lines of a plan of values: their forms, and what one says.
 ghost use Rattle.std.specs.Prelude.{◌≡◌, ◌≤◌, length};
 ghost use Rattle.line_words.specs.Words.{words};
-ghost use Rattle.value_animator.specs.Rows.{all_kinds, form, row_among, row_of};
+ghost use Rattle.dash_script.specs.Form.{said_among};
+ghost use Rattle.value_animator.specs.Reading.{all_kinds, form, row_of, say};
 
 use dash_script::{Keyword, Numbers, Role, Slot, numbers_in};
 
@@ -106,7 +107,7 @@ impl RowKind {
 
 /// What a line of one of the kinds says.
 fn row_among(kinds: &[RowKind], line: &[u8]) -> Option<Row>
-    ensures { result ≡ row_among kinds.now (words line.now) }
+    ensures { result ≡ said_among form say kinds.now (words line.now) }
 {
     for kind in kinds {
         if let Some(numbers) = numbers_in(kind.form(), line) {

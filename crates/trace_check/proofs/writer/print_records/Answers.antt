@@ -1,7 +1,7 @@
 use Rattle.std.proofs.Common.{◌++◌, ◌∙◌, ap, map}
 use Rattle.std.specs.Prelude.{string_bytes}
 use Rattle.std.specs.Fmt.{digits}
-use Rattle.trace_check.specs.Records.{trace_queue_of}
+use Rattle.trace_check.specs.Text.{trace_queue_of}
 use Rattle.trace_check.specs.declared.line.Line.TheVariants.{Title}
 use Rattle.trace_check.specs.Text.{line_text}
 use Rattle.trace_check.proofs.Written.{whole_text}

@@ -2,7 +2,7 @@ use Rattle.std.proofs.Common.{◌≡◌, ◌++◌, take, map}
 use Rattle.std.specs.Prelude.{string_bytes}
 use Rattle.std.specs.List.{flat_map}
 use Rattle.trace_check.specs.Text.{line_text, queue_lines}
-use Rattle.trace_check.specs.Records.{trace_queue_of}
+use Rattle.trace_check.specs.Text.{trace_queue_of}
 use Rattle.trace_check.proofs.writer.push_records.Given as goal
 
 abbrev pub invariant-loop-queue : goal.invariant-loop-queue

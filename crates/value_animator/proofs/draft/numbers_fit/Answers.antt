@@ -1,5 +1,5 @@
 use Rattle.std.proofs.Common.{◌∙◌, sym, ap, arith}
-use Rattle.value_animator.specs.Rules.{is_within}
+use Rattle.value_animator.specs.Reading.{is_within}
 use Rattle.dash_script.proofs.Testing.{past_word, past_number, not_passed, all_passed}
 use Rattle.value_animator.proofs.draft.numbers_fit.Goals as goal
 use Rattle.value_animator.proofs.draft.numbers_fit.Goals.{in-Word, in-Number+else-not-is_within}

@@ -1,6 +1,6 @@
 use Rattle.std.proofs.Common.{◌≡◌, ◌≤◌, drop}
 use Rattle.dash_script.specs.Causes.{each_number}
-use Rattle.value_animator.specs.Rules.{is_within}
+use Rattle.value_animator.specs.Reading.{is_within}
 use Rattle.value_animator.proofs.draft.numbers_fit.Given as goal
 
 abbrev pub invariant-loop-slot : goal.invariant-loop-slot

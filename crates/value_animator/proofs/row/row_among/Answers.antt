@@ -1,8 +1,8 @@
 use Rattle.std.proofs.Common.{◌∙◌, ap}
 use Rattle.line_words.specs.Words.{words}
-use Rattle.dash_script.specs.Statement.{numbers_of}
+use Rattle.dash_script.specs.Form.{numbers_of}
 use Rattle.dash_script.proofs.Forms.{has_form, no_form, no_kind}
-use Rattle.value_animator.specs.Rows.{form, say}
+use Rattle.value_animator.specs.Reading.{form, say}
 use Rattle.value_animator.proofs.row.row_among.Goals as goal
 
 pub returns-in-Some : goal.returns-in-Some

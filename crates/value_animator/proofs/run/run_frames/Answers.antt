@@ -3,7 +3,7 @@ use Rattle.std.specs.Prelude.{string_bytes}
 use Rattle.frame_phases.specs.State.{posted, next_callback}
 use Rattle.value_animator.specs.declared.runner.Runner.{Runner}
 use Rattle.value_animator.specs.Framing.{IsReady, after_frame}
-use Rattle.value_animator.specs.Running.{frame_time, frame_times, all_ended}
+use Rattle.value_animator.specs.Run.{frame_time, frame_times, all_ended}
 use Rattle.value_animator.specs.Runners.{runner_at}
 use Rattle.value_animator.proofs.Counting.{end_comes}
 use Rattle.value_animator.proofs.Going.{Goes, goes_start, goes_more, goes_end, started, some_there, same_pulse, front_back}

@@ -1,4 +1,4 @@
-use Rattle.std.proofs.Common.{◌≡◌, ◌<◌, [], ◌∷◌, ◌++◌, length, ap, arith, ◌∙◌, take, get_or}
+use Rattle.std.proofs.Common.{◌≡◌, ◌<◌, List, map, [], ◌∷◌, ◌++◌, length, ap, arith, ◌∙◌, take, get_or}
 use Rattle.std.specs.Prelude.{string_bytes}
 use Rattle.std.specs.List.{flat_map, enumerate_from}
 use Rattle.std.proofs.lemmas.List.{take_all, length-map}
@@ -6,10 +6,9 @@ use Rattle.std.proofs.lemmas.List.FromFn.{length-enumerate_from}
 use Rattle.value_animator.specs.declared.plan.Thing.{Thing}
 use Rattle.value_animator.specs.declared.plan.Thing.TheVariants as thing_of
 use Rattle.value_animator.specs.declared.runner.Runner.{Runner}
-use Rattle.value_animator.specs.declared.runner.Telling.{Telling}
-use Rattle.std.specs.Prelude.{Option}
-use Rattle.value_animator.specs.Running.{line_text, thing_lines, telling_lines, told}
-use Rattle.value_animator.specs.Runners.{runner_at}
+use Rattle.std.specs.Fmt.{decimal}
+use Rattle.value_animator.specs.Run.{Words, line_text, thing_lines, told}
+use Rattle.value_animator.specs.Runners.{runner_at, telling_words}
 use Rattle.value_animator.proofs.Asking.{as_many, asked_at, asked_more, written_one}
 use Rattle.value_animator.proofs.runner.ask_all.Goals as goal
 
@@ -23,8 +22,8 @@ loop-place-preserved c = λ list times start.
     let old : get_or c.loop-place.things c.loop-place.place c.index-things-place.result ≡ before (get_or list c.loop-place.place d) =
     asked_at before after list c.loop-place.things c.loop-place.place d c.index-things-place.result lt inv.0 in
     let new : c.ask-telling.new.self ≡ after (get_or list c.loop-place.place d) = c.ask-telling.ensures.after (get_or list c.loop-place.place d) times old in
-    let tells : c.ask-telling.result ≡ told (get_or list c.loop-place.place d) times c.args.time = c.ask-telling.ensures.told (get_or list c.loop-place.place d) times old in
-    let line = c.in_ok-write_telling.ensures ∙ ap (λ (t : Option Telling). string_bytes c.loop-place.out ++ flat_map line_text (telling_lines c.args.time c.loop-place.place t)) tells in (
+    let tells : telling_words c.ask-telling.result ≡ told (get_or list c.loop-place.place d) times c.args.time = c.ask-telling.ensures.told (get_or list c.loop-place.place d) times old in
+    let line = c.in_ok-write_telling.ensures ∙ ap (λ (l : List Words). string_bytes c.loop-place.out ++ flat_map line_text (map (λ ws. decimal c.args.time ∷ decimal c.loop-place.place ∷ ws) l)) tells in (
       asked_more before after list c.loop-place.things c.loop-place.place d c.ask-telling.new.self lt inv.0 new,
       written_one (thing_lines times c.args.time) line_text list c.loop-place.place d _ _ _ (as_many before after list c.loop-place.things c.loop-place.place lt inv.0) inv.1 line,
     )

@@ -2,7 +2,7 @@ use Rattle.std.proofs.Common.{◌≡◌, ◌++◌, ◌∷◌, [], List, ℕ, map
 use Rattle.std.specs.Prelude.{string_bytes}
 use Rattle.std.specs.List.{flat_map, enumerate_from}
 use Rattle.value_animator.specs.declared.plan.Thing.{Thing}
-use Rattle.value_animator.specs.Running.{line_text, thing_lines}
+use Rattle.value_animator.specs.Run.{line_text, thing_lines}
 use Rattle.value_animator.specs.Runners.{runner_at}
 use Rattle.value_animator.proofs.runner.ask_all.Given as goal
 

@@ -1,6 +1,6 @@
 use Rattle.std.proofs.Common.{ap, sym, subst, ◌∙◌, ◌++◌, ◌∷◌, []}
 use mathlib.Core.List.{IsPrefix}
-use Rattle.inbox_queue.specs.Parcels.{parcels_of, from_sender}
+use Rattle.inbox_queue.specs.Plans.{parcels_of, from_sender}
 use Rattle.inbox_queue.specs.Passes.{known}
 use Rattle.inbox_queue.specs.Handed.{Admitting}
 use Rattle.inbox_queue.proofs.Keeping.{takes_as}
