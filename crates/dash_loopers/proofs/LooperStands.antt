@@ -64,13 +64,13 @@ module _ {lockstep : Bool} (s : Script) (q k : ℕ) where
   stands_pulse now es more acts acts' parts parts' did a text p st = record {
     led = λ fs begins law.
         subst (λ l. Lead s q (es ++ more) fs (first_looper s) l (pulsed q p.stamp a)) (sym p.told)
-        (by_stamp fs p.stamp p.is_pulse (p.later a.stamp st.latest_is) (Lead-entries s q es fs more (first_looper s) acts a (st.led fs (prefix_trans parts.frames.view.seen parts'.frames.view.seen fs p.grew begins) law)));
+        (by_stamp fs p.stamp p.next.is_pulse (p.next.later a.stamp st.latest_is) (Lead-entries s q es fs more (first_looper s) acts a (st.led fs (prefix_trans parts.frames.view.seen parts'.frames.view.seen fs p.grew begins) law)));
     place = (let at : (pulsed q p.stamp a).place ≡ a.place = placed p.stamp in let le = st.place in let longer = prefix_length parts.frames.view.seen parts'.frames.view.seen p.grew in omega (arith, at, le, longer));
     moments = λ is fs begins law. ap (are_run_then fs) (ran p.stamp) ∙ st.moments is fs (prefix_trans parts.frames.view.seen parts'.frames.view.seen fs p.grew begins) law;
     whole = λ fs begins law. ap (are_whole (phase_count s.edition) fs) (ran p.stamp) ∙ st.whole fs (prefix_trans parts.frames.view.seen parts'.frames.view.seen fs p.grew begins) law;
     ran = ap (map (as_told lockstep)) p.asks ∙ (st.ran ∙ ap (λ (l : List FrameAt). map (as_told lockstep) (asks_to_run l)) (sym (ran p.stamp)));
     settled = painted p.stamp;
-    latest_is = subst (HasLatest parts'.frames) (came p.stamp) (p.got a.stamp st.latest_is);
+    latest_is = subst (HasLatest parts'.frames) (came p.stamp) (p.next.got a.stamp st.latest_is);
     played = p.plays text did st.played;
   }
     where

@@ -25,7 +25,6 @@ use Rattle.choreographer.specs.declared.hosted.Pulse.{Pulse}
 use Rattle.choreographer.specs.Host.{sent_by}
 use Rattle.choreographer.specs.Known.{Known as Pass}
 use Rattle.choreographer.specs.Calls.{PulsedBy, stamp_in}
-use Rattle.frame_phases.specs.Pulses.{is_pulse_if_any}
 use Rattle.loop_model.proofs.Prefixes.{prefix_self}
 use Rattle.frame_phases.specs.State.{delivered as delivered_at}
 use Rattle.run_model.specs.Asks.{Makes as Asks, Unbars, AreFor, tokens_in}
@@ -42,7 +41,7 @@ use Rattle.choreographer.proofs.Recorded.{pulse_records}
 use Rattle.dash_loopers.specs.declared.view_root.Painted.{Painted}
 use Rattle.dash_loopers.specs.declared.view_root.ViewRoot.{ViewRoot}
 use Rattle.dash_loopers.specs.declared.player.Parts.{Parts}
-use Rattle.dash_loopers.specs.Played.{standing, fixed, IsBarrierOf, IsFrameBy, calls_of, IsShown, IsPlayed, Shows, Plays, RanFrame, Delivers, DeliversPulse, Pulses, pulsed, paint_of, KeepsLatest, GetsLatest, ComesLater, IsStampedBy}
+use Rattle.dash_loopers.specs.Played.{standing, fixed, IsBarrierOf, IsFrameBy, calls_of, IsShown, IsPlayed, Shows, Plays, RanFrame, Delivers, DeliversPulse, Pulses, pulsed, paint_of, KeepsLatest, IsStampedBy, IsNextPulse}
 use Rattle.dash_hall.proofs.FramePosts.{accepted, refused, told_one, told_none}
 use Rattle.dash_loopers.proofs.FrameIds.{turn_grew}
 use Rattle.dash_loopers.proofs.FrameSteps.{FrameShows}
@@ -152,11 +151,11 @@ unless_made No done P Q isnt is h f = absurd (isnt refl)
 unless_made NoMemory done P Q isnt is h f = tt
 
 -- a pulse was told
-pub pulse_told : (s : Script) (q now : ℕ) (made made' : List Entry) (parts parts' : Parts) (acts acts0 acts' : List Act) (pulse : Pulse) → is_pulse_if_any s.period (stamp_in (Some pulse)) ≡ true → DeliversPulse s q now made made' parts parts' (Some pulse) → pulse.sent ≢ host.NoMemory
-    → GetsLatest parts.frames parts'.frames (stamp_in (Some pulse)) → ComesLater parts.frames (stamp_in (Some pulse)) → acts0 ≡ acts → acts' ≡ acts0 ++ Vsync pulse.stamp ∷ [] → Pulses s q now made made' parts parts' acts acts'
-pulse_told s q now made made' parts parts' acts acts0 acts' pulse is_one delivers isnt got later same told =
+pub pulse_told : (s : Script) (q now : ℕ) (made made' : List Entry) (parts parts' : Parts) (acts acts0 acts' : List Act) (pulse : Pulse) → IsNextPulse s.period parts.frames parts'.frames (stamp_in (Some pulse))
+    → DeliversPulse s q now made made' parts parts' (Some pulse) → pulse.sent ≢ host.NoMemory → acts0 ≡ acts → acts' ≡ acts0 ++ Vsync pulse.stamp ∷ [] → Pulses s q now made made' parts parts' acts acts'
+pulse_told s q now made made' parts parts' acts acts0 acts' pulse next delivers isnt same told =
     let done = delivers isnt in
-    record { stamp = Some pulse.stamp; is_pulse = is_one; due = done.2; told = told ∙ ap (λ (l : List Act). l ++ Vsync pulse.stamp ∷ []) same; grew = done.0; asks = done.1; got = got; later = later; plays = done.3 }
+    record { stamp = Some pulse.stamp; next = next; due = done.2; told = told ∙ ap (λ (l : List Act). l ++ Vsync pulse.stamp ∷ []) same; grew = done.0; asks = done.1; plays = done.3 }
 
 -- such a host's calls that told of nothing
 pub untold_hosted : {U : Type 0} (o o' : HostOrigin U) (p p0 p' : Sender) (b : Tally) → o' ≡ o → IsHost o' p' b → o.poster ≡ p → p0 ≡ p → sends_by o'.handler p' ≡ sends_by o.handler p0 → calls_of p' ≡ calls_of p

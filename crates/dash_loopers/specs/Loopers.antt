@@ -115,6 +115,17 @@ pub record IsLooper (s : Script) (hall : Hall) (l : StageLooper) : Type 0 where
   -- it disposes of its queue by its last call, if at all
   pub disposes : DisposesAtEnd l.last (entries_by l.sender l.looper.held.poster.view.seen)
 
+-- the looper is one of the script, in the script's hall, which is in lockstep or not
+pub record MayWork (lockstep : Bool) (s : Script) (hall : Hall) (l : StageLooper) : Type 0 where
+  pub mode : hall.lockstep ≡ lockstep
+  pub is_hall : IsHall s hall
+  pub looper : IsLooper s hall l
+
+-- it is the same looper of the script
+pub record IsLooperStill (s : Script) (hall : Hall) (before after : StageLooper) : Type 0 where
+  pub looper : IsLooper s hall after
+  pub number : after.number ≡ before.number
+
 -- one that a round has ended, or that found no memory, stays as it is; another runs a round on its queue at this moment, in lockstep or not
 pub record RunsRound (lockstep : Bool) (s : Script) (now : ℕ) (before after : StageLooper) : Type 0 where
   pub stopped : (is_ended before.last || is_given_up before.last) ≡ true → after ≡ before
@@ -231,6 +242,11 @@ ComesToWait s before after = is_ended after.last ≡ false → is_given_up after
 -- the same by a clock, at this moment or at the queue's time, whichever is later
 abbrev pub ComesToWaitAt : Script → ℕ → StageLooper → StageLooper → Type 0
 ComesToWaitAt s now before after = is_ended after.last ≡ false → is_given_up after.last ≡ false → WaitsAt s (max now (time_of s after)) before after
+
+-- one round by a clock at this moment, up to where the looper waits
+pub record DrainsAt (s : Script) (now : ℕ) (before after : StageLooper) : Type 0 where
+  pub round : RunsRound false s now before after
+  pub waits : ComesToWaitAt s now before after
 
 -- a loop by a clock as the last round of its looper: it ended it, it found no memory, or it waits, and for which message isn't told
 abbrev pub round_of : Loop → Round

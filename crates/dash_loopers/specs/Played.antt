@@ -173,6 +173,12 @@ GetsLatest before after came = (stamp : ℕ) → HasLatest before stamp → HasL
 abbrev pub ComesLater : Pass → Option ℕ → Type 0
 ComesLater before came = (stamp : ℕ) → HasLatest before stamp → comes_after_if_any stamp came ≡ true
 
+-- a pulse of this period came, later than the latest, and is the latest now; or none came
+pub record IsNextPulse (period : ℕ) (before after : Pass) (came : Option ℕ) : Type 0 where
+  pub is_pulse : is_pulse_if_any period came ≡ true
+  pub later : ComesLater before came
+  pub got : GetsLatest before after came
+
 -- by whatever the frame record comes to, a frame that began has this stamp
 abbrev pub IsStampedBy : Pass → Option ℕ → ℕ → Type 0
 IsStampedBy after frame stamp = (fs : List FrameEntry) → IsPrefix after.view.seen fs → has_stamp fs frame stamp ≡ true
@@ -243,13 +249,11 @@ DeliversPulse s q now made made' parts parts' (Some pulse) =
 -- a pulse of the script's period was delivered and told, or none came, and the looper's own pass asked for nothing
 pub record Pulses (s : Script) (q now : ℕ) (made made' : List Entry) (parts parts' : Parts) (acts acts' : List Act) : Type 0 where
   pub stamp : Option ℕ
-  pub is_pulse : is_pulse_if_any s.period stamp ≡ true
+  pub next : IsNextPulse s.period parts.frames parts'.frames stamp
   pub due : pulse_time stamp ≤ now
   pub told : acts' ≡ acts ++ pulse_acts stamp
   pub grew : IsPrefix parts.frames.view.seen parts'.frames.view.seen
   pub asks : asks_of parts'.frames ≡ asks_of parts.frames
-  pub got : GetsLatest parts.frames parts'.frames stamp
-  pub later : ComesLater parts.frames stamp
   pub plays : Plays s q (pulsed q stamp) made parts made' parts'
 
 -- ---- what is told in a mode

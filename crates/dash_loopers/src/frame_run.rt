@@ -3,10 +3,10 @@ ghost use Rattle.std.specs.Prelude.{◌≡◌, ◌<◌, Some, OnOk};
 ghost use Rattle.std.proofs.Common.{subst, sym};
 ghost use Rattle.choreographer.specs.Known.{IsOf};
 ghost use Rattle.choreographer.specs.declared.frame.Framed.TheVariants.{NoMemory as NoRoom};
-ghost use Rattle.dash_hall.specs.Hosts.{IsHostNow, IsSameHost};
 ghost use Rattle.dash_hall.specs.Kits.{frame_badge_of};
 ghost use Rattle.dash_loopers.specs.Places.{FrameShows, RootRuns};
 ghost use Rattle.dash_loopers.specs.Players.{FrameOwner, frame_owner};
+ghost use Rattle.dash_loopers.specs.Steps.{ShowsBy, KeepsHost};
 
 use crate::view_root::ViewRoot;
 use choreographer::{Choreographer, ClientRan, FrameClient, FramePass, Framed};
@@ -67,13 +67,10 @@ impl ViewRoot {
         pass: &mut FramePass,
         host: &mut Host<R, U>,
     ) -> Result<(), NoMemory>
-        requires ready { IsHostNow host.old }
+        requires by { ShowsBy c.now host.old self.old }
         requires pass { IsOf pass.old c.now }
-        requires root { IsOf self.old.pass c.now × (3 < c.now.constants.phases) }
-        ensures ready { IsHostNow host.new }
-        ensures origin { IsSameHost host.old host.new }
+        ensures keeps { KeepsHost host.old host.new self.old self.new }
         ensures pass { frame_badge_of pass.new ≡ frame_badge_of pass.old }
-        ensures root { frame_badge_of self.new.pass ≡ frame_badge_of self.old.pass }
         ensures ran { OnOk result (RootRuns c.now (U.is_moment host.old.uptime.now) pass.old pass.new host.old host.new self.old self.new) }
     {
         let began = Snapshot::of(&*self);
