@@ -13,21 +13,21 @@ use Rattle.choreographer.specs.declared.view.Constants.{Constants}
 use Rattle.choreographer.specs.declared.view.Progress.{Progress}
 use Rattle.choreographer.specs.declared.view.View.{View}
 use Rattle.choreographer.specs.Frame.{begin_place, progress, progress_of, GrowsQuietly}
-use Rattle.choreographer.specs.Turn.{HasConstants, count_of, holds, last_of, sealed_in, taking, giving}
-use Rattle.choreographer.specs.Plays.{Sat, FoundBy, FoundStamp, FoundHeard, MayGive, MaySeal, MayPulse}
+use Rattle.choreographer.specs.Turn.{HasConstants, count_of, holds, last_of, measured, sealed_of, awaits_frame, taking, giving}
+use Rattle.choreographer.specs.Plays.{Sat, FoundBy, FoundPulse, FoundHeard, MayGive, MaySeal, MayPulse}
 use Rattle.choreographer.specs.Steps.{HasSameConstants, StepsBy}
 use Rattle.choreographer.specs.Known.{Known, HasOwn, HearsTurn, IsTurn}
 use Rattle.loop_model.proofs.Prefixes.{prefix_self}
 use Rattle.choreographer.proofs.Heard.{entries_given, heard_given, numbers_given, turn_hears}
 use Rattle.choreographer.proofs.Quiet.{grows_self}
 
-same_key : (key c : Constants) (o : Option Constants) → o ≡ Some key → o ≡ Some c → key ≡ c
+pub same_key : (key c : Constants) (o : Option Constants) → o ≡ Some key → o ≡ Some c → key ≡ c
 same_key key c o e f = let both : Some key ≡ Some c = sym e ∙ f in cc (both)
 
 -- a pass that took the turn, found x, and gave the turn back with y
 one_turn : (key : Constants) (before after : Known) (x y : Kept) (made : List (ℕ × FrameEntry)) → after.table ≡ before.table → after.number ≡ before.number
     → after.view ≡ giving (taking before.view x made) y → before.view.constants ≡ Some key → HasConstants key x → HasConstants key y → FoundBy before.view x
-    → IsPrefix x.frames.entries y.frames.entries → FoundStamp key before.view x → before.view.passes ≡ before.number ∷ [] → HearsTurn before after x y → IsTurn before after x y
+    → IsPrefix x.frames.entries y.frames.entries → FoundPulse key before.view x → before.view.passes ≡ before.number ∷ [] → HearsTurn before after x y → IsTurn before after x y
 one_turn key before after x y made table number is own_key of_x of_y found grows latest only hears = record {
   table = table;
   number = number;
@@ -43,14 +43,17 @@ one_turn key before after x y made table number is own_key of_x of_y found grows
   own = ap (λ (v : View). v.own) is;
   handed = ap (λ (v : View). v.handed) is;
   stamp = λ c e named.
-      let same = latest before.number (ap (λ (k : Constants). k.pulses) (same_key key c before.view.constants own_key e) ∙ named) only in
+      let same = (latest before.number (ap (λ (k : Constants). k.pulses) (same_key key c before.view.constants own_key e) ∙ named) only).0 in
       (same, ap (λ (v : View). v.stamp) is ∙ omega (arith, same));
+  awaits = λ c e named.
+      let same = (latest before.number (ap (λ (k : Constants). k.pulses) (same_key key c before.view.constants own_key e) ∙ named) only).1 in
+      (same, ap (λ (v : View). v.awaits) is ∙ omega (arith, same));
   hears = hears;
 }
 
 -- so it is by the two steps of its seat: s is what it knew as it took the turn, and t once it gave it back
 pub turned : (key : Constants) (inside now after : Known) (x y : Kept) (s t : Sat) → inside ≡ now → now.view.constants ≡ Some key → inside.view.passes ≡ inside.number ∷ [] → HasOwn inside.view
-    → s ≡ (taking inside.view x s.0.heard, (0, None) ∷ []) → HasConstants key x × FoundBy inside.view x → FoundHeard inside.view x s.0.heard → FoundStamp key inside.view x → HasConstants key y
+    → s ≡ (taking inside.view x s.0.heard, (0, None) ∷ []) → HasConstants key x × FoundBy inside.view x → FoundHeard inside.view x s.0.heard → FoundPulse key inside.view x → HasConstants key y
     → IsPrefix x.frames.entries y.frames.entries → t ≡ (giving s.0 y, []) × HasOwn t.0 → after ≡ record { table = inside.table; number = inside.number; view = t.0 } → IsTurn now after x y
 turned key inside now after x y s t same own_key one own took found hears latest of_y grows gave is =
     let made : List (ℕ × FrameEntry) = s.0.heard in
@@ -70,7 +73,7 @@ own_given key v x own_key own more seals = record {
   handed = λ c e no_last.
       let same : key ≡ c = same_key key c v.constants own_key e in
       let none = own.handed c e no_last in
-      let no_more = subst (λ (k : Constants). holds (last_of k) v ≡ 0 → length x.frames.sealed ≡ sealed_in v.found) same seals.1 no_last in
+      let no_more = subst (λ (k : Constants). holds (last_of k) v ≡ 0 → sealed_of x ≡ measured sealed_of v.found) same seals.1 no_last in
       omega (arith, none, no_more);
 }
 
@@ -78,9 +81,10 @@ own_given key v x own_key own more seals = record {
 pub keeps_handed : (key : Constants) (v : View) (x y : Kept) (made : List (ℕ × FrameEntry)) → HasSameConstants x y → MaySeal key (taking v x made) y
 keeps_handed key v x y made same = let long = ap length same.3 in (omega (arith, long), λ _. long)
 
--- where the stamp stays, the state may be given back
-pub keeps_stamp : (key : Constants) (v : View) (x y : Kept) (made : List (ℕ × FrameEntry)) → y.stamp ≡ x.stamp → MayPulse key (taking v x made) y
-keeps_stamp key v x y made same = λ n named elsewhere. same
+-- where the stamp stays and whether a frame is to begin, and callbacks are posted and removed alone, the state may be given back
+pub keeps_pulse : (key : Constants) (v : View) (x y : Kept) (s : Sat) → s ≡ (taking v x s.0.heard, (0, None) ∷ []) → y.stamp ≡ x.stamp → awaits_frame y ≡ awaits_frame x
+    → GrowsQuietly x.frames.entries y.frames.entries → MayPulse key s.0 y
+keeps_pulse key v x y s took stamp awaits quiet = subst (λ (z : Sat). MayPulse key z.0 y) (sym took) (λ n named elsewhere. (stamp, awaits, quiet))
 
 -- the seat of the pass that alone delivers pulses may change it
 pub may_pulse : (key : Constants) (v : View) (x y : Kept) (made : List (ℕ × FrameEntry)) (number : ℕ) → v.passes ≡ number ∷ [] → ((n : ℕ) → key.pulses ≡ Some n → number ≡ n) → MayPulse key (taking v x made) y

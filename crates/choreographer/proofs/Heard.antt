@@ -11,10 +11,11 @@ use Rattle.frame_phases.specs.Parting.{dealt_to}
 use Rattle.choreographer.specs.declared.kept.Kept.{Kept}
 use Rattle.choreographer.specs.declared.view.Constants.{Constants}
 use Rattle.choreographer.specs.declared.view.View.{View}
-use Rattle.choreographer.specs.Turn.{HasParts, HasHeardOf, AreNumbersOf, entries_of, all_by, first_pass, taking, giving, joined}
+use Rattle.choreographer.specs.Turn.{HasParts, HasHeardOf, AreNumbersOf, AreQuietBut, entries_of, all_by, first_pass, taking, giving, joined}
 use Rattle.choreographer.specs.Plays.{FoundHeard}
 use Rattle.choreographer.specs.Known.{Known, HasOwn, HasHeardWho, HearsTurn}
 use Rattle.choreographer.proofs.Counting.{drop_prefix}
+use Rattle.choreographer.proofs.Others.{quiet_but_rest, quiet_others}
 use Rattle.choreographer.proofs.Dealt.{only_first, all_by-elements, dealt_behind, dealt_more, dealt_same, parts_within}
 
 -- the entries of a longer list go on with those of its beginning
@@ -134,6 +135,8 @@ turn_hears before after x y made one own found number is own' =
       knew = knows_own before one own;
       others = found.begins.0;
       of_others = none_behind before.number before.view.heard found.begins.0 (ap (dealt_to before.number) found.begins.1 ∙ mine);
+      quiet = λ c e named. quiet_others before.number found.begins.0 (none_behind before.number before.view.heard found.begins.0 (ap (dealt_to before.number) found.begins.1 ∙ mine))
+          (quiet_but_rest before.number before.view.heard found.begins.0 (subst (AreQuietBut before.number) (sym found.begins.1) (found.quiet c e before.number named)));
       heard = ap (λ (v : View). v.heard) is
           ∙ (λ i. sym found.begins.1 i ++ all_by (get_or (one i) 0 0) (drop (length x.frames.entries) y.frames.entries));
       knows = knows_own after (ap (λ (v : View). v.passes) is ∙ (one ∙ ap (λ (n : ℕ). n ∷ []) (sym number))) own';

@@ -70,4 +70,5 @@ module _ (number : ℕ) (s : Sat) (o : View) (m n : Sat) (idle : IsIdle number s
     own = own_now;
     handed = handed_now;
     stamp = ap (λ (z : View). z.stamp) now ∙ omega arith;
+    awaits = ap (λ (z : View). z.awaits) now ∙ omega arith;
   }

@@ -15,7 +15,7 @@ use Rattle.choreographer.specs.declared.hosted.Pulse.{Pulse}
 use Rattle.choreographer.specs.Steps.{known_by}
 use Rattle.choreographer.specs.Known.{Known, IsTurn}
 use Rattle.choreographer.specs.Calls.{BeginTurn, AskedBy, SendsPulse, PulsedBy, DueBy, TakeTurn}
-use Rattle.choreographer.specs.Done.{AreOfPhases, AddsPhases, AddsFrame, hands_out, HandsOutNone}
+use Rattle.choreographer.specs.Done.{AreOfPhases, AddsPhases, AddsFrame, hands_out, HandsOutNone, TurnsForPhases}
 use Rattle.std.specs.List.{filter_map, cons_option}
 use Rattle.std.proofs.lemmas.List.Elements.{filter_map-append}
 use Rattle.choreographer.proofs.Counting.{count_both, drop_prefix}
@@ -34,10 +34,10 @@ ran_of_phases [] = tt
 ran_of_phases (c ∷ cs) = ran_of_phases cs
 
 -- nothing is recorded
-pub adds_none : (p : Known) → AddsPhases p p
+adds_none : (p : Known) → AddsPhases p p
 adds_none p = ([], sym (append-nil p.view.own), tt)
 
-pub adds_trans : (before middle after : Known) → AddsPhases before middle → AddsPhases middle after → AddsPhases before after
+adds_trans : (before middle after : Known) → AddsPhases before middle → AddsPhases middle after → AddsPhases before after
 adds_trans before middle after f g = (
   f.0 ++ g.0,
   g.1 ∙ (ap (λ l. l ++ g.0) f.1 ∙ append_assoc before.view.own f.0 g.0),
@@ -110,12 +110,24 @@ take_hands before after phase now time (c ∷ cs) t none =
     absurd (omega (arith, took, handed, none))
 
 -- what stays the same in each of two parts of a frame that hands no callback out stays so in both
-pub same_by_both : {X : Type 0} (before middle after : Known) (a b c : X) → AddsPhases before middle → AddsPhases middle after → (HandsOutNone before middle → b ≡ a) → (HandsOutNone middle after → c ≡ b)
+same_by_both : {X : Type 0} (before middle after : Known) (a b c : X) → AddsPhases before middle → AddsPhases middle after → (HandsOutNone before middle → b ≡ a) → (HandsOutNone middle after → c ≡ b)
     → HandsOutNone before after → c ≡ a
 same_by_both before middle after a b c f g one other none =
     let early = ap (count_by hands_out) f.1 ∙ count_both hands_out before.view.own f.0 in
     let late = ap (count_by hands_out) g.1 ∙ count_both hands_out middle.view.own g.0 in
     other (omega (arith, early, late, none)) ∙ one (omega (arith, early, late, none))
+
+-- no turn of a phase
+pub turns_none : (p : Known) (sends : List Sending) → TurnsForPhases p p sends sends
+turns_none p sends = record { same = (refl, refl, refl); adds = adds_none p; sends = λ none. refl }
+
+-- turns of phases behind such turns
+pub turns_then : (before middle after : Known) (a b c : List Sending) → TurnsForPhases before middle a b → TurnsForPhases middle after b c → TurnsForPhases before after a c
+turns_then before middle after a b c p q = record {
+  same = (q.same.0 ∙ p.same.0, q.same.1 ∙ p.same.1, q.same.2 ∙ p.same.2);
+  adds = adds_trans before middle after p.adds q.adds;
+  sends = same_by_both before middle after a b c p.adds q.adds p.sends q.sends;
+}
 
 -- a map that leaves phases out tells of a frame what it tells of its Begin
 module _ {X : Type 0} (f : FrameEntry → Option X) (takes : (p n t : ℕ) → f (Take p n t) ≡ None) (runs : (n : ℕ) → f (Ran n) ≡ None) where

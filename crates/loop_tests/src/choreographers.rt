@@ -136,6 +136,7 @@ impl<'a, R: Wait> FrameClient<StillHost> for Animator<'a, R> {
 }
 
 #[test]
+#[tactic(auto, using(choreographer::proofs::Pulsing::any_begins))]
 fn an_animation_posts_a_traversal(rt: HostRuntime) -> Result<(), Fail> {
     let (choreographer, mut pass, other, _) = three(rt.alloc(), 16_000_000)?;
     let mut host = still(rt.alloc(), 20_000_000);
@@ -360,6 +361,7 @@ impl FrameClient<HurryingHost> for Keeper {
 }
 
 #[test]
+#[tactic(auto, using(choreographer::proofs::Pulsing::any_begins))]
 fn each_phase_reads_the_clock_and_a_late_commit_moves_the_time_on(
     rt: HostRuntime,
 ) -> Result<(), Fail> {
@@ -386,7 +388,7 @@ struct Hasty<'a, R: Wait> {
 }
 
 impl<'a, R: Wait> FrameClient<StillHost> for Hasty<'a, R> {
-    ghost Serves = { λ l c. IsOf l.pass c × IsOf l.relay.pass c × (2 < c.constants.phases) };
+    ghost Serves = { λ l c. IsOf l.pass c × IsOf l.relay.pass c × (2 < c.constants.phases) × (c.constants.pulses ≡ None) };
 
     ghost Origin = { ℕ };
 
@@ -396,6 +398,7 @@ impl<'a, R: Wait> FrameClient<StillHost> for Hasty<'a, R> {
 
     ghost Meets = { λ l h. IsTrue true };
 
+    #[tactic(auto, using(choreographer::proofs::Pulsing::any_begins))]
     fn run(
         &mut self,
         c: &Choreographer,
@@ -414,6 +417,7 @@ impl<'a, R: Wait> FrameClient<StillHost> for Hasty<'a, R> {
 }
 
 #[test]
+#[tactic(auto, using(choreographer::proofs::Pulsing::any_begins))]
 fn no_frame_begins_in_a_frame(rt: HostRuntime) -> Result<(), Fail> {
     let (c, mut pass, other, last) = three(rt.alloc(), 10_000_000)?;
     let mut host = still(rt.alloc(), 20_000_000);

@@ -1,6 +1,8 @@
-use Rattle.std.proofs.Common.{rules}
+use Rattle.std.proofs.Common.{rules, refl}
 use Rattle.loop_model.proofs.Prefixes.{prefix_self}
-use Rattle.choreographer.proofs.ByTurn.{turned}
+use Rattle.choreographer.proofs.ByTurn.{turned, keeps_pulse}
+use Rattle.choreographer.proofs.Quiet.{grows_self}
+use Rattle.choreographer.proofs.Waits.{keeps_all}
 use Rattle.choreographer.proofs.state.Choreographer.asked.Goals as goal
 
 pub returns-clause-turn : goal.returns-clause-turn
@@ -9,6 +11,10 @@ returns-clause-turn g c =
     let t = c.take-state.ensures in (
       x,
       turned c.args.self.now.constants (record { table = c.pass.inside.seat.table_id; number = c.pass.inside.number; view = c.pass.inside.seat.me.0 }) c.args.pass.now _ x x c.take-state.new.seat.me c.give.new.seat.me
-          c.pass.view_is c.requires.1 c.pass.invariant.2 c.pass.invariant.3 t.taken t.state t.heard t.latest t.state.0 (prefix_self x.frames.entries) (c.give.ensures.2, c.give.ensures.3) (search rules),
+          c.pass.view_is c.requires.1 c.pass.invariant.2 c.pass.invariant.3 t.taken t.found.state t.found.heard t.found.latest t.found.state.0 (prefix_self x.frames.entries) (c.give.ensures.2, c.give.ensures.3) (search rules),
       c.asked-asked.ensures.asked,
     )
+
+pub give-requires-clause-latest : goal.give-requires-clause-latest
+give-requires-clause-latest g c =
+    keeps_pulse c.args.self.now.constants c.pass.inside.seat.me.0 c.take-state.result c.take-state.result c.take-state.new.seat.me c.take-state.ensures.taken refl (keeps_all c.take-state.result c.take-state.result refl).awaits (grows_self c.take-state.result.frames.entries)

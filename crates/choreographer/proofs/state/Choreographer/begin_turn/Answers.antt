@@ -1,12 +1,14 @@
-use Rattle.std.proofs.Common.{rules, sym, subst}
-use Rattle.choreographer.specs.Plays.{Sat, MaySeal}
-use Rattle.choreographer.proofs.ByTurn.{turned, begin_gives, keeps_handed}
+use Rattle.std.proofs.Common.{rules, ◌≡◌, ◌∷◌, [], ℕ, Some, sym, ap, ◌∙◌, subst}
+use Rattle.choreographer.specs.Plays.{Sat, MaySeal, MayPulse}
+use Rattle.choreographer.specs.Known.{Known}
+use Rattle.choreographer.proofs.ByTurn.{turned, begin_gives, keeps_handed, may_pulse}
 use Rattle.choreographer.proofs.Stamps.{stamped_begin}
+use Rattle.choreographer.proofs.Waits.{begun_asks}
 use Rattle.choreographer.proofs.state.Choreographer.begin_turn.Goals as goal
 
 pub give-requires-clause-stamped : goal.give-requires-clause-stamped
 give-requires-clause-stamped g c =
-    stamped_begin c.take-state.result c.begin_frame-answer.new.self c.take-state.ensures.stamped c.args.start c.begin_frame-answer.result c.begin_frame-answer.ensures.begins c.begin_frame-answer.ensures.stamp
+    stamped_begin c.take-state.result c.begin_frame-answer.new.self c.take-state.ensures.found.stamped c.args.start c.begin_frame-answer.result c.begin_frame-answer.ensures.begins c.begin_frame-answer.ensures.stamp
 
 pub give-requires-clause-state : goal.give-requires-clause-state
 give-requires-clause-state g c =
@@ -28,7 +30,23 @@ returns g c =
       x,
       y,
       turned c.args.self.now.constants (record { table = c.pass.inside.seat.table_id; number = c.pass.inside.number; view = c.pass.inside.seat.me.0 }) c.args.pass.now _ x y c.take-state.new.seat.me c.give.new.seat.me
-          c.pass.view_is c.requires.1 c.pass.invariant.2 c.pass.invariant.3 t.taken t.state t.heard t.latest (search rules) (c.begin_frame-answer.ensures.steps.1) (c.give.ensures.2, c.give.ensures.3) (search rules),
+          c.pass.view_is c.requires.pass.1 c.pass.invariant.2 c.pass.invariant.3 t.taken t.found.state t.found.heard t.found.latest (search rules) (c.begin_frame-answer.ensures.steps.1) (c.give.ensures.2, c.give.ensures.3) (search rules),
       search rules,
       search rules,
     )
+
+pub give-requires-clause-latest : goal.give-requires-clause-latest
+give-requires-clause-latest g c =
+    subst (λ (z : Sat). MayPulse c.args.self.now.constants z.0 c.begin_frame-answer.new.self) (sym c.take-state.ensures.taken)
+    (may_pulse c.args.self.now.constants c.pass.inside.seat.me.0 c.take-state.result c.begin_frame-answer.new.self c.take-state.new.seat.me.0.heard c.pass.inside.number c.pass.invariant.2
+    (λ n named. ap (λ (p : Known). p.number) c.pass.view_is ∙ c.requires.begins.0 n named))
+
+pub give-requires-clause-asks : goal.give-requires-clause-asks
+give-requires-clause-asks g c =
+    begun_asks c.take-state.result c.begin_frame-answer.new.self c.args.self.now.constants c.args.start c.begin_frame-answer.result c.begin_frame-answer.ensures.begins
+    (λ n named.
+    let is : c.args.pass.now.number ≡ n = c.requires.begins.0 n named in
+    let only : c.pass.inside.seat.me.0.passes ≡ n ∷ [] = c.pass.invariant.2 ∙ ap (λ (k : ℕ). k ∷ []) (ap (λ (p : Known). p.number) c.pass.view_is ∙ is) in
+    (c.take-state.ensures.found.latest n named only).1
+    ∙ (ap (λ (p : Known). p.view.awaits) c.pass.view_is ∙ c.requires.begins.1 c.args.self.now.constants c.requires.pass.1 (named ∙ ap Some (sym is))))
+    c.take-state.ensures.found.asks

@@ -1,9 +1,13 @@
 use Rattle.std.proofs.Common.{rules, sym, ap, ◌∙◌, subst}
 use Rattle.choreographer.specs.Plays.{Sat, MayPulse}
 use Rattle.choreographer.specs.Known.{Known}
-use Rattle.choreographer.proofs.ByTurn.{turned, may_pulse}
+use Rattle.choreographer.specs.Turn.{AsksIfScheduled}
+use Rattle.choreographer.specs.declared.view.Constants.{Constants}
+use Rattle.choreographer.proofs.ByTurn.{turned, may_pulse, same_key}
 use Rattle.choreographer.proofs.Quiet.{grows_prefix}
 use Rattle.choreographer.proofs.Latest.{pulse_gets, pulse_comes_after}
+use Rattle.choreographer.proofs.Waits.{pulsed_asks}
+use Rattle.choreographer.proofs.Pulsing.{pulse_awaits}
 use Rattle.choreographer.proofs.state.Choreographer.pulse_turn.Goals as goal
 
 pub returns-clause-turn : goal.returns-clause-turn
@@ -14,7 +18,7 @@ returns-clause-turn g c =
       x,
       y,
       turned c.args.self.now.constants (record { table = c.pass.inside.seat.table_id; number = c.pass.inside.number; view = c.pass.inside.seat.me.0 }) c.args.pass.now _ x y c.take-state.new.seat.me c.give.new.seat.me
-          c.pass.view_is c.requires.pass.1 c.pass.invariant.2 c.pass.invariant.3 t.taken t.state t.heard t.latest (search rules) (grows_prefix x.frames.entries y.frames.entries c.deliver-pulse.ensures.quiet.1) (c.give.ensures.2, c.give.ensures.3) (search rules),
+          c.pass.view_is c.requires.pass.1 c.pass.invariant.2 c.pass.invariant.3 t.taken t.found.state t.found.heard t.found.latest (search rules) (grows_prefix x.frames.entries y.frames.entries c.deliver-pulse.ensures.quiet.1) (c.give.ensures.2, c.give.ensures.3) (search rules),
       search rules,
       search rules,
     )
@@ -25,11 +29,17 @@ give-requires-clause-latest g c =
     (may_pulse c.args.self.now.constants c.pass.inside.seat.me.0 c.take-state.result c.deliver-pulse.new.self c.take-state.new.seat.me.0.heard c.pass.inside.number c.pass.invariant.2
     (λ n named. ap (λ (p : Known). p.number) c.pass.view_is ∙ c.requires.delivers n named))
 
-pub returns-clause-stamp : goal.returns-clause-stamp
-returns-clause-stamp g c =
-    let t = returns-clause-turn g c in pulse_gets c.args.pass.now _ t.0 t.1 c.deliver-pulse.result t.2 t.4
-
-pub returns-clause-later : goal.returns-clause-later
+pub returns-clause-pulse : goal.returns-clause-pulse
 unfolding returns-clause-turn
-returns-clause-later g c =
-    let t = returns-clause-turn g c in pulse_comes_after c.args.pass.now _ t.0 t.1 c.args.now c.deliver-pulse.result t.2 c.take-state.ensures.stamped t.3
+returns-clause-pulse g c =
+    let t = returns-clause-turn g c in record {
+      is_pulse = search rules;
+      later = pulse_comes_after c.args.pass.now _ t.0 t.1 c.args.now c.deliver-pulse.result t.2 c.take-state.ensures.found.stamped t.3;
+      stamp = pulse_gets c.args.pass.now _ t.0 t.1 c.deliver-pulse.result t.2 t.4;
+      awaits = pulse_awaits c.args.pass.now _ t.0 t.1 c.args.now c.deliver-pulse.result t.2
+          (λ k e. subst (λ (q : Constants). AsksIfScheduled q c.take-state.result) (same_key c.args.self.now.constants k c.args.pass.now.view.constants c.requires.pass.1 e) c.take-state.ensures.found.asks) t.3 t.4;
+    }
+
+pub give-requires-clause-asks : goal.give-requires-clause-asks
+give-requires-clause-asks g c =
+    pulsed_asks c.take-state.result c.deliver-pulse.new.self c.args.self.now.constants c.deliver-pulse.result c.deliver-pulse.ensures.after c.take-state.ensures.found.asks

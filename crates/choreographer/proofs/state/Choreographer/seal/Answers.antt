@@ -3,13 +3,16 @@ use mathlib.Core.List.{IsPrefix}
 use Rattle.loop_model.proofs.Prefixes.{prefix_self}
 use Rattle.choreographer.specs.Plays.{Sat, MaySeal}
 use Rattle.choreographer.specs.Known.{Known, IsTurn}
-use Rattle.choreographer.proofs.ByTurn.{turned, holds_last, may_seal, same_gives, hands_more, part_handed}
+use Rattle.choreographer.proofs.ByTurn.{turned, keeps_pulse, holds_last, may_seal, same_gives, hands_more, part_handed}
 use Rattle.choreographer.proofs.Stamps.{stamped_sealed}
+use Rattle.choreographer.specs.Frame.{GrowsQuietly}
+use Rattle.choreographer.proofs.Quiet.{grows_self}
+use Rattle.choreographer.proofs.Waits.{sealed_waits}
 use Rattle.choreographer.proofs.state.Choreographer.seal.Goals as goal
 
 pub give-requires-clause-stamped : goal.give-requires-clause-stamped
 give-requires-clause-stamped g c =
-    stamped_sealed c.take-state.result c.seal-answer.new.self c.take-state.ensures.stamped c.seal-answer.result c.seal-answer.ensures.seals c.seal-answer.ensures.stamp
+    stamped_sealed c.take-state.result c.seal-answer.new.self c.take-state.ensures.found.stamped c.seal-answer.result c.seal-answer.ensures.seals c.seal-answer.ensures.stamp
 
 pub give-requires-clause-state : goal.give-requires-clause-state
 give-requires-clause-state g c =
@@ -23,14 +26,14 @@ returns g c =
     let t = c.take-state.ensures in
     let inside : Known = record { table = c.pass.inside.seat.table_id; number = c.pass.inside.number; view = c.pass.inside.seat.me.0 } in
     let turn : IsTurn c.args.pass.now (record { table = inside.table; number = inside.number; view = c.give.new.seat.me.0 }) x y = turned c.args.self.now.constants inside c.args.pass.now _ x y c.take-state.new.seat.me c.give.new.seat.me is c.requires.pass.1
-    c.pass.invariant.2 c.pass.invariant.3 t.taken t.state t.heard t.latest (search rules) (subst (IsPrefix x.frames.entries) (sym c.seal-answer.ensures.quiet.1) (prefix_self x.frames.entries))
+    c.pass.invariant.2 c.pass.invariant.3 t.taken t.found.state t.found.heard t.found.latest (search rules) (subst (IsPrefix x.frames.entries) (sym c.seal-answer.ensures.quiet.1) (prefix_self x.frames.entries))
     (c.give.ensures.2, c.give.ensures.3) refl in (
       x,
       y,
       subst (λ (p : Known). IsTurn c.args.pass.now p x y) (search rules) turn,
       c.seal-answer.ensures.seals,
       c.seal-answer.ensures.stamp,
-      c.take-state.ensures.handed (let one = holds_last c.args.self.now.constants c.pass.inside.seat.me.0 c.pass.inside.number c.pass.invariant.2 (ap (λ (p : Known). p.number + 1) is ∙ c.requires.last) in omega (arith, one)) ∙ ap (λ (p : Known). p.view.handed) is,
+      c.take-state.ensures.found.handed (let one = holds_last c.args.self.now.constants c.pass.inside.seat.me.0 c.pass.inside.number c.pass.invariant.2 (ap (λ (p : Known). p.number + 1) is ∙ c.requires.last) in omega (arith, one)) ∙ ap (λ (p : Known). p.view.handed) is,
       part_handed c.args.pass.now x.frames y.frames c.seal-answer.result c.seal-answer.ensures.seals _ turn.handed,
     )
 
@@ -39,3 +42,11 @@ give-requires-clause-handed g c =
     let x = c.take-state.result in
     subst (λ (z : Sat). MaySeal c.args.self.now.constants z.0 c.seal-answer.new.self) (sym c.take-state.ensures.taken)
     (may_seal c.args.self.now.constants c.pass.inside.seat.me.0 x c.seal-answer.new.self c.take-state.new.seat.me.0.heard c.pass.inside.number c.pass.invariant.2 (ap (λ (p : Known). p.number + 1) c.pass.view_is ∙ c.requires.last) (hands_more x.frames c.seal-answer.new.self.frames c.seal-answer.result c.seal-answer.ensures.seals))
+
+pub give-requires-clause-latest : goal.give-requires-clause-latest
+give-requires-clause-latest g c =
+    keeps_pulse c.args.self.now.constants c.pass.inside.seat.me.0 c.take-state.result c.seal-answer.new.self c.take-state.new.seat.me c.take-state.ensures.taken c.seal-answer.ensures.stamp (sealed_waits c.take-state.result c.seal-answer.new.self c.seal-answer.result c.seal-answer.ensures.seals).awaits
+    (subst (GrowsQuietly c.take-state.result.frames.entries) (sym c.seal-answer.ensures.quiet.1) (grows_self c.take-state.result.frames.entries))
+
+pub give-requires-clause-asks : goal.give-requires-clause-asks
+give-requires-clause-asks g c = (sealed_waits c.take-state.result c.seal-answer.new.self c.seal-answer.result c.seal-answer.ensures.seals).asks c.args.self.now.constants c.take-state.ensures.found.asks

@@ -1,5 +1,8 @@
-use Rattle.std.proofs.Common.{rules}
-use Rattle.choreographer.proofs.ByTurn.{turned}
+use Rattle.std.proofs.Common.{rules, sym, ap, ◌∙◌, subst}
+use Rattle.choreographer.specs.Plays.{Sat, MayPulse}
+use Rattle.choreographer.specs.Known.{Known}
+use Rattle.choreographer.proofs.ByTurn.{turned, may_pulse}
+use Rattle.choreographer.proofs.Waits.{taken_waits}
 use Rattle.choreographer.proofs.state.Choreographer.take_turn.Goals as goal
 
 pub returns : goal.returns
@@ -10,8 +13,17 @@ returns g c =
       x,
       y,
       turned c.args.self.now.constants (record { table = c.pass.inside.seat.table_id; number = c.pass.inside.number; view = c.pass.inside.seat.me.0 }) c.args.pass.now _ x y c.take-state.new.seat.me c.give.new.seat.me
-          c.pass.view_is c.requires.pass.0.1 c.pass.invariant.2 c.pass.invariant.3 t.taken t.state t.heard t.latest (search rules) (c.take-answer.ensures.steps.1) (c.give.ensures.2, c.give.ensures.3) (search rules),
+          c.pass.view_is c.requires.pass.0.1 c.pass.invariant.2 c.pass.invariant.3 t.taken t.found.state t.found.heard t.found.latest (search rules) (c.take-answer.ensures.steps.1) (c.give.ensures.2, c.give.ensures.3) (search rules),
       search rules,
       search rules,
       search rules,
     )
+
+pub give-requires-clause-latest : goal.give-requires-clause-latest
+give-requires-clause-latest g c =
+    subst (λ (z : Sat). MayPulse c.args.self.now.constants z.0 c.take-answer.new.self) (sym c.take-state.ensures.taken)
+    (may_pulse c.args.self.now.constants c.pass.inside.seat.me.0 c.take-state.result c.take-answer.new.self c.take-state.new.seat.me.0.heard c.pass.inside.number c.pass.invariant.2
+    (λ n named. ap (λ (p : Known). p.number) c.pass.view_is ∙ c.requires.delivers n named))
+
+pub give-requires-clause-asks : goal.give-requires-clause-asks
+give-requires-clause-asks g c = (taken_waits c.take-state.result c.take-answer.new.self c.args.phase c.args.now c.take-answer.result c.take-answer.ensures.takes).asks c.args.self.now.constants c.take-state.ensures.found.asks

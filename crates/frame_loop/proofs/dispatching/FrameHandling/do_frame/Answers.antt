@@ -1,4 +1,5 @@
 use Rattle.std.proofs.Common.{refl, ap, ◌∙◌}
+use Rattle.choreographer.proofs.Pulsing.{any_begins}
 use Rattle.frame_loop.specs.Paintings.{PaintingOrigin}
 use Rattle.frame_loop.proofs.Keeping.{opens, closes, found, serves_framed}
 use Rattle.frame_loop.proofs.dispatching.FrameHandling.do_frame.Goals as goal
@@ -24,3 +25,6 @@ returns-clause-own g c =
 
 pub returns-clause-holds : goal.returns-clause-holds
 returns-clause-holds g c = found c.do_frame-framed.result _ _ c.found_memory.ensures c.do_frame-framed.ensures.meets
+
+pub do_frame-framed-requires-clause-begins : goal.do_frame-framed-requires-clause-begins
+do_frame-framed-requires-clause-begins g c = any_begins c.args.self.now.frames c.args.self.now.choreographer.now c.requires.serves.framing c.requires.serves.pulses

@@ -1,0 +1,17 @@
+-- What a turn finds.
+use Rattle.std.specs.Prelude.{ℕ, List}
+use Rattle.frame_phases.specs.declared.entry.FrameEntry.{FrameEntry}
+use Rattle.choreographer.specs.declared.kept.Kept.{Kept}
+use Rattle.choreographer.specs.declared.view.Constants.{Constants}
+use Rattle.choreographer.specs.declared.view.View.{View}
+use Rattle.choreographer.specs.Turn.{HasConstants, IsStamped, AsksIfScheduled}
+use Rattle.choreographer.specs.Plays.{FoundBy, FoundSealed, FoundPulse, FoundHeard}
+
+-- a seat with this view finds this state, and has heard who recorded its entries
+pub record Finds (key : Constants) (v : View) (x : Kept) (made : List (ℕ × FrameEntry)) : Type 0 where
+  pub state : HasConstants key x × FoundBy v x
+  pub stamped : IsStamped x
+  pub handed : FoundSealed key v x
+  pub heard : FoundHeard v x made
+  pub latest : FoundPulse key v x
+  pub asks : AsksIfScheduled key x
