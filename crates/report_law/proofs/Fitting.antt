@@ -1,9 +1,10 @@
 -- Where the numbers of a report have their widths, so have those of the lines that are printed of it.
-use Rattle.std.proofs.Common.{◌+◌, ◌≤◌, ◌^◌, ℕ, zero, suc, Bool, true, false, cond, List, [], ◌∷◌, ◌++◌, map, length, Option, Some, None, sym, subst, arith}
+use Rattle.std.proofs.Common.{◌≡◌, ◌+◌, ◌≤◌, ◌^◌, ℕ, zero, suc, Bool, true, false, cond, List, [], ◌∷◌, ◌++◌, map, length, Option, Some, None, sym, subst, arith}
 use Rattle.std.specs.Prelude.{IfSome, slice_get}
-use Rattle.std.specs.List.{flat_map, cons_option, AllByRecursion}
+use Rattle.std.specs.List.{flat_map, cons_option, AllByRecursion, list_all}
 use Rattle.std.specs.Option.{option_map_or}
 use Rattle.std.proofs.lemmas.List.{map-append}
+use Rattle.std.proofs.lemmas.Bool.{and_parts, ltb-true}
 use Rattle.std.proofs.lemmas.List.Sums.{count_by-le-length}
 use Rattle.loop_model.proofs.Sorting.{AllByRecursion-append}
 use Rattle.loop_model.specs.declared.post.Post.{Post as PostData}
@@ -36,7 +37,7 @@ use Rattle.run_picture.specs.declared.line.Line.TheVariants.{Title, Looper, Past
 use Rattle.run_picture.specs.Text.{FitsSubject, frame_lines, looper_lines, loopers_lines, lines}
 use Rattle.report_law.specs.Seen.{subject_of, past_by, fates_of, acts_by, run_of, runs_first, frames_in, posted_in, seen_looper, seen_loopers, seen}
 use Rattle.report_law.specs.Widths.{PostFits, CallFits, ReplyFits, EntryFits, SegmentFits, QueueFits, ActFits, JournalFits, CallbackFits, FrameEntryFits, FramesFit, ReportFits}
-use Rattle.report_law.specs.Laws.{HasLimits, IsCountable}
+use Rattle.report_law.specs.Laws.{HasLimits, is_countable}
 
 abbrev Limited : List Line → Type 0
 Limited ls = AllByRecursion HasLimits ls
@@ -207,26 +208,27 @@ frames_fit cs (entry.Take phase now time ∷ es) all fits = frames_fit cs es all
 
 -- ---- the whole report
 
-looper_fits : (n : ℕ) (q : QueueRecord) (j : Journal) (f : FrameRecord) → IsLong n → QueueFits q → JournalFits j → FramesFit f → IsCountable q → Limited (looper_lines n (seen_looper q j f))
+looper_fits : (n : ℕ) (q : QueueRecord) (j : Journal) (f : FrameRecord) → IsLong n → QueueFits q → JournalFits j → FramesFit f → is_countable q ≡ true → Limited (looper_lines n (seen_looper q j f))
 looper_fits n q j f number queue journal frames countable =
     let es = history_of q in
     let l = seen_looper q j f in
     let entries = history_fits q.segments queue in
     AllByRecursion-append HasLimits (Looper n ∷ map Past l.past ++ Fates l.fates ∷ map Act l.acts) (flat_map frame_lines l.frames)
-    (number, AllByRecursion-append HasLimits (map Past l.past) (Fates l.fates ∷ map Act l.acts) (entries_fit (accepted_posts es) es (posts_fit es entries) entries) (counts_fit (fates es) countable, acts_fit j.acts journal))
+    (number, AllByRecursion-append HasLimits (map Past l.past) (Fates l.fates ∷ map Act l.acts) (entries_fit (accepted_posts es) es (posts_fit es entries) entries) (counts_fit (fates es) (ltb-true (length (fates es)) (2 ^ 64) countable), acts_fit j.acts journal))
     (frames_fit (posted_in f.entries) f.entries (posted_fit f.entries frames) frames)
 
 loopers_fit : (n : ℕ) (qs : List QueueRecord) (js : List Journal) (fs : List FrameRecord) → n + length qs ≤ 2 ^ 64 → AllByRecursion QueueFits qs → AllByRecursion JournalFits js → AllByRecursion FramesFit fs
-    → AllByRecursion IsCountable qs → Limited (loopers_lines n (seen_loopers qs js fs))
+    → list_all is_countable qs ≡ true → Limited (loopers_lines n (seen_loopers qs js fs))
 loopers_fit n [] js fs few queues journals frames countable = tt
 loopers_fit n (q ∷ qs) [] fs few queues journals frames countable = tt
 loopers_fit n (q ∷ qs) (j ∷ js) [] few queues journals frames countable = tt
 loopers_fit n (q ∷ qs) (j ∷ js) (f ∷ fs) few queues journals frames countable =
+    let counts = and_parts (is_countable q) (list_all is_countable qs) countable in
     AllByRecursion-append HasLimits (looper_lines n (seen_looper q j f)) (loopers_lines (n + 1) (seen_loopers qs js fs))
-    (looper_fits n q j f (omega (arith, few)) queues.0 journals.0 frames.0 countable.0)
-    (loopers_fit (n + 1) qs js fs (omega (arith, few)) queues.1 journals.1 frames.1 countable.1)
+    (looper_fits n q j f (omega (arith, few)) queues.0 journals.0 frames.0 counts.0)
+    (loopers_fit (n + 1) qs js fs (omega (arith, few)) queues.1 journals.1 frames.1 counts.1)
 
-pub report_fits : (r : RunReport) → ReportFits r → IsEdition r.script.edition → AllByRecursion IsCountable r.queues → Limited (lines (seen r))
+pub report_fits : (r : RunReport) → ReportFits r → IsEdition r.script.edition → list_all is_countable r.queues ≡ true → Limited (lines (seen r))
 report_fits r fits edition countable =
     let few = fits.loopers in
     AllByRecursion-append HasLimits (Title r.script.edition ∷ loopers_lines 0 (seen_loopers r.queues r.journals r.frames)) (End ∷ [])

@@ -1,6 +1,6 @@
 -- What a run gives of the law's premises: its queues are numbered, and no callback runs before the first frame.
 use Rattle.std.proofs.Common.{◌≡◌, ◌+◌, ℕ, zero, suc, true, List, [], ◌∷◌, map, refl, sym, subst}
-use Rattle.std.specs.List.{AllByRecursion, range_with_len}
+use Rattle.std.specs.List.{AllByRecursion, list_all, range_with_len}
 use Rattle.loop_model.specs.declared.record.QueueRecord.{QueueRecord}
 use Rattle.frame_phases.specs.declared.entry.Callback.{Callback}
 use Rattle.frame_phases.specs.declared.entry.FrameEntry.{FrameEntry}
@@ -15,7 +15,7 @@ use Rattle.run_model.specs.Run.{IsFrameRun}
 use Rattle.run_model.specs.declared.report.Report.{Report as RunReport}
 use Rattle.report_law.specs.Widths.{ReportFits}
 use Rattle.report_law.specs.Seen.{posted_in, runs_first}
-use Rattle.report_law.specs.Laws.{AreCounted, ARunIsRead, IsFramed}
+use Rattle.report_law.specs.Laws.{AreCounted, ARunIsRead, IsFramed, is_countable}
 use Rattle.report_law.proofs.Limits.{printed_read}
 use Rattle.report_law.proofs.Fitting.{report_fits}
 
@@ -44,7 +44,7 @@ all_framed : (s : Script) (fs : List FrameRecord) → AllByRecursion (IsFrameRun
 all_framed s [] runs = tt
 all_framed s (f ∷ fs) runs = (framed f.interval f.phases f.entries runs.0.lawful, all_framed s fs runs.1)
 
-pub run_read : (r : RunReport) → ReportFits r → ARunIsRead r
-run_read r fits m s run text countable =
+pub run_read : (r : RunReport) → ReportFits r → list_all is_countable r.queues ≡ true → ARunIsRead r
+run_read r fits countable m s run text =
     let edition : IsEdition r.script.edition = subst (λ (x : Script). IsEdition x.edition) (sym run.report.script) text.edition in
     printed_read r (counted 0 s.loopers r.queues run.report.queues) (all_framed s r.frames run.frames) (report_fits r fits edition countable)

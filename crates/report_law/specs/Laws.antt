@@ -1,5 +1,5 @@
 -- The text of a run's report is read as what the run tells.
-use Rattle.std.specs.Prelude.{◌≡◌, ℕ, ◌+◌, List, [], ◌∷◌, length}
+use Rattle.std.specs.Prelude.{◌≡◌, ℕ, ◌+◌, ◌^◌, Bool, nat_lt, List, [], ◌∷◌, length}
 use Rattle.std.specs.List.{AllByRecursion}
 use Rattle.loop_model.specs.declared.record.QueueRecord.{QueueRecord}
 use Rattle.frame_phases.specs.declared.entry.FrameRecord.{FrameRecord}
@@ -36,11 +36,10 @@ PrintedIsRead =
     (r : RunReport) → AreCounted 0 r.queues → AllByRecursion IsFramed r.frames → AllByRecursion HasLimits (lines (seen r))
     → IsText (printed.text r) (seen r)
 
--- the queue accepted fewer posts than a number of 64 bits can count
-abbrev pub IsCountable : QueueRecord → Type 0
-IsCountable q = IsLong (length (fates (history_of q)))
+-- a number of 64 bits can count the posts that the queue accepted
+abbrev pub is_countable : QueueRecord → Bool
+is_countable q = nat_lt (length (fates (history_of q))) (2 ^ 64)
 
 -- the text of the report of a run of a script that has a text is the text of what the run tells
 abbrev pub ARunIsRead : RunReport → Type 0
-ARunIsRead r =
-    (m : Mode) (s : Script) → IsRun m s r → HasText s → AllByRecursion IsCountable r.queues → IsText (printed.text r) (seen r)
+ARunIsRead r = (m : Mode) (s : Script) → IsRun m s r → HasText s → IsText (printed.text r) (seen r)

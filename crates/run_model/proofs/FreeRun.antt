@@ -116,7 +116,7 @@ looper_run : IsLooperRun mode script report.queues queue_0 journal_0 (frames 0 [
 unfolding after_act
 looper_run = record {
   final = led script 0 entries [] [] (first_looper script) journal_0.acts;
-  acts = (None, (record { accepted = refl; starts = refl; place = refl; stamped = refl; painted = refl }, (None, (record { accepted = refl; starts = refl; place = refl; stamped = refl; painted = refl }, refl))));
+  acts = (None, (record { accepted = refl; starts = refl; awaited = refl; place = refl; stamped = refl; painted = refl }, (None, (record { accepted = refl; starts = refl; awaited = refl; place = refl; stamped = refl; painted = refl }, refl))));
   settled = refl;
   dispatches = refl;
   disposed_at = 0;

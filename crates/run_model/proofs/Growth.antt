@@ -38,6 +38,7 @@ module _ (s : Script) (q : ℕ) (es : List Entry) (fs : List FrameEntry) where
       record {
         accepted = ap is_some same ∙ h.accepted;
         starts = subst (λ o. (not (is_some frame) || option_map_or (starts_frame q) o false) ≡ true) (sym same) h.starts;
+        awaited = h.awaited;
         place = h.place;
         stamped = h.stamped;
         painted = subst (λ o. (dispatched s q fs frame n now a o).painted ≡ a.painted) (sym same) h.painted;

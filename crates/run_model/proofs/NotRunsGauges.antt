@@ -108,7 +108,7 @@ pulse_rows = frame_rows pulse_entries (moves_gauge 16000000 16) pulse_frames
 -- a pulse comes at 16 milliseconds, where no multiple of the period is
 pub pulse_between : FailsBy but.Pulses (gauge_script 16) pulse_rows
 unfolding computing
-pulse_between = fails_by but.Pulses (gauge_script 16) pulse_rows (λ r. let pulse : false ≡ true = r.loopers.0.acts.1.1.1.0.2 in cc) refl
+pulse_between = fails_by but.Pulses (gauge_script 16) pulse_rows (λ r. let pulse : false ≡ true = r.loopers.0.acts.1.1.1.0.1.pulse in cc) refl
 
 -- the run ends before the pulse, and of the gauge's two callbacks that of the traversal alone is posted
 abbrev short_entries : List Entry

@@ -1,9 +1,10 @@
--- Reports that are no runs of their script: pulses don't rise.
-use Rattle.std.proofs.Common.{ℕ, List, [], ◌∷◌, Some, None, refl}
+-- Reports that are no runs of their script: pulses don't rise, or come before the frame of the one before them.
+use Rattle.std.proofs.Common.{ℕ, Option, List, [], ◌∷◌, ◌++◌, Some, None, refl}
 use Rattle.std.specs.List.{AllByRecursion}
 use Rattle.loop_model.specs.declared.call.Call.TheVariants as call
 use Rattle.loop_model.specs.declared.reply.Reply.TheVariants as reply
 use Rattle.loop_model.specs.declared.journal.Act.TheVariants as act
+use Rattle.frame_phases.specs.declared.entry.FrameEntry.{FrameEntry}
 use Rattle.frame_phases.specs.declared.entry.FrameEntry.TheVariants as frame
 use Rattle.dash_script.specs.declared.script.Command.TheVariants as command
 use Rattle.dash_script.specs.declared.script.Script.{Script}
@@ -34,19 +35,34 @@ twice = record {
   disposed_at = 0;
 }
 
+-- a frame at 34 for the pulse with this stamp, which runs these callbacks
+abbrev frame_at_34 : ℕ → List FrameEntry → List FrameEntry
+frame_at_34 stamp ran = frame.Begin stamp 34000000 33333334 ∷ frame.Take 0 34000000 33333334 ∷ ran ++ frame.Take 1 34000000 33333334 ∷ frame.Take 2 34000000 33333334
+    ∷ frame.Take 3 34000000 33333334 ∷ []
+
 -- the pulse of 33333334 comes before that of 16666667, both at 34, and each starts a frame
 abbrev backwards : Row
 backwards = record {
   entries = entry 2 0 (call.Advance 10) reply.Advanced ∷ entry 2 1 (call.Advance 34) reply.Advanced
-      ∷ entry 1 0 (call.Post (frame_message 0 33 None)) (reply.Accepted 0) ∷ entry 1 1 (call.Post (frame_message 0 16 None)) (reply.Accepted 1)
-      ∷ entry 1 2 (call.Next 34) (reply.Dispatched 1) ∷ entry 1 3 (call.Next 34) (reply.Dispatched 0)
+      ∷ entry 1 0 (call.Post (frame_message 0 33 None)) (reply.Accepted 0) ∷ entry 1 1 (call.Next 34) (reply.Dispatched 0)
+      ∷ entry 1 2 (call.Post (frame_message 0 16 None)) (reply.Accepted 1) ∷ entry 1 3 (call.Next 34) (reply.Dispatched 1)
       ∷ entry 2 2 (call.Advance 40) reply.Advanced ∷ entry 2 3 (call.Halt 40) reply.Halted ∷ [];
-  acts = act.Vsync 33333334 ∷ act.Vsync 16666667 ∷ dispatch 1 34 ∷ dispatch 0 34 ∷ [];
-  frames = frame.Posted (callback 0 0 10 8) ∷ frame.Begin 16666667 34000000 33333334 ∷ frame.Take 0 34000000 33333334 ∷ frame.Ran 0
-      ∷ frame.Take 1 34000000 33333334 ∷ frame.Take 2 34000000 33333334 ∷ frame.Take 3 34000000 33333334
-      ∷ frame.Begin 16666667 34000000 33333334 ∷ frame.Take 0 34000000 33333334 ∷ frame.Take 1 34000000 33333334 ∷ frame.Take 2 34000000 33333334
-      ∷ frame.Take 3 34000000 33333334 ∷ [];
-  places = None ∷ None ∷ Some 1 ∷ Some 7 ∷ [];
+  acts = act.Vsync 33333334 ∷ dispatch 0 34 ∷ act.Vsync 16666667 ∷ dispatch 1 34 ∷ [];
+  frames = frame.Posted (callback 0 0 10 8) ∷ frame_at_34 33333334 (frame.Ran 0 ∷ []) ++ frame_at_34 16666667 [];
+  places = None ∷ Some 1 ∷ None ∷ Some 7 ∷ [];
+  disposed_at = 0;
+}
+
+-- both pulses come at 34 before the frame message of the first one is taken, and the frames that start are these, at these places
+abbrev both_first : List FrameEntry → List (Option ℕ) → Row
+both_first frames places = record {
+  entries = entry 2 0 (call.Advance 10) reply.Advanced ∷ entry 2 1 (call.Advance 34) reply.Advanced
+      ∷ entry 1 0 (call.Post (frame_message 0 16 None)) (reply.Accepted 0) ∷ entry 1 1 (call.Post (frame_message 0 33 None)) (reply.Accepted 1)
+      ∷ entry 1 2 (call.Next 34) (reply.Dispatched 0) ∷ entry 1 3 (call.Next 34) (reply.Dispatched 1)
+      ∷ entry 2 2 (call.Advance 40) reply.Advanced ∷ entry 2 3 (call.Halt 40) reply.Halted ∷ [];
+  acts = act.Vsync 16666667 ∷ act.Vsync 33333334 ∷ dispatch 0 34 ∷ dispatch 1 34 ∷ [];
+  frames = frame.Posted (callback 0 0 10 8) ∷ frames;
+  places = None ∷ None ∷ places;
   disposed_at = 0;
 }
 
@@ -61,3 +77,15 @@ not_rising =
 pub not_rising_fail : AllByRecursion Fails not_rising
 unfolding computing
 not_rising_fail = each_fails main_tells_asked told_by_run not_rising refl refl
+
+abbrev not_awaited : List Faulty
+not_awaited =
+    -- a pulse comes before the frame of the one before it has begun: the second frame message runs no frame
+    faulty but.Awaited (one_callback 40) (both_first (frame_at_34 33333334 (frame.Ran 0 ∷ [])) (Some 1 ∷ None ∷ []) ∷ [])
+    -- or it runs one more frame for the same pulse
+    ∷ faulty but.Awaited (one_callback 40) (both_first (frame_at_34 33333334 (frame.Ran 0 ∷ []) ++ frame_at_34 33333334 []) (Some 1 ∷ Some 7 ∷ []) ∷ [])
+    ∷ []
+
+pub not_awaited_fail : AllByRecursion Fails not_awaited
+unfolding computing
+not_awaited_fail = each_fails main_tells_asked told_by_run not_awaited refl refl

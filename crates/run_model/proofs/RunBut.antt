@@ -1,5 +1,5 @@
 -- Runs of a script in lockstep but for one clause: what is shown of a report that has one fault.
-use Rattle.std.proofs.Common.{◌≡◌, ◌<◌, ℕ, true, List, [], ◌∷◌, Option}
+use Rattle.std.proofs.Common.{◌≡◌, ◌<◌, ℕ, true, false, List, [], ◌∷◌, Option}
 use Rattle.std.specs.Prelude.{◌==◌, map, MatchBool}
 use Rattle.std.specs.List.{AllByRecursion, filter_map, enumerate_from}
 use mathlib.Core.List.{IsPrefix}
@@ -69,6 +69,8 @@ pub data Clause : Type 0 where
   Together : Clause
   -- each pulse comes after the one before it
   Rising : Clause
+  -- each pulse comes once the frame message of the one before it is taken, and a frame runs for such a pulse
+  Awaited : Clause
 
 abbrev pub number_of : Clause → ℕ
 number_of Nothing = 0
@@ -89,6 +91,7 @@ number_of Due = 14
 number_of Together = 15
 number_of InTurn = 16
 number_of Rising = 17
+number_of Awaited = 18
 
 -- this is so, unless it is the clause that is left out
 abbrev pub Unless : Clause → Clause → Type 0 → Type 0
@@ -107,9 +110,18 @@ first_pulse (Paint g v) a = a
 first_pulse (Idle i k) a = a
 first_pulse (Event f e m) a = a
 
--- where it is left out that pulses rise, each pulse comes as the first one
+-- a pulse comes, and a frame runs, wherever one is awaited or not
+abbrev whenever : Act → Looper → Looper
+whenever (Vsync stamp) a = record a { awaits = false }
+whenever (Dispatch n now route) a = record a { awaits = true }
+whenever (Paint g v) a = a
+whenever (Idle i k) a = a
+whenever (Event f e m) a = a
+
+-- where it is left out that pulses rise, each pulse comes as the first one; where it is left out that a pulse awaits its frame, it may come whenever
 abbrev pub before_act : Clause → Act → Looper → Looper
 before_act Rising x a = first_pulse x a
+before_act Awaited x a = whenever x a
 before_act _ x a = a
 
 -- the acts lead a looper from one state to another, but for the clause that is left out

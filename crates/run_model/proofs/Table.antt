@@ -4,7 +4,7 @@ use Rattle.std.specs.Prelude.{codes, ◌+◌, ◌*◌, ◌/◌, ◌==◌, ◌&&�
 use Rattle.std.specs.Fmt.{digits}
 use Rattle.std.specs.List.{AllByRecursion, filter_map, list_all, list_any, range_with_len, enumerate_from}
 use Rattle.std.specs.Option.{option_map_or, MatchOption}
-use Rattle.std.proofs.lemmas.Bool.{and_parts, or_cases, eqb-true}
+use Rattle.std.proofs.lemmas.Bool.{and_parts, or_cases, eqb-true, not-true}
 use mathlib.Core.List.{IsPrefix}
 use Rattle.loop_model.specs.declared.call.Call.{Call}
 use Rattle.loop_model.specs.declared.call.Call.TheVariants.{Halt}
@@ -167,10 +167,10 @@ is_clear (Some place) (x ∷ xs) = false
 -- the act may come next, but for what it paints
 abbrev act_may : Script → ℕ → List Entry → List FrameEntry → Option ℕ → Looper → Act → Bool
 act_may s q es fs frame a (Dispatch n now route) =
-    is_some (post_at es n) && (not (is_some frame) || option_map_or (starts_frame q) (post_at es n) false) && is_frame_from fs a.place frame
-    && has_stamp fs frame a.stamp
+    is_some (post_at es n) && (not (is_some frame) || option_map_or (starts_frame q) (post_at es n) false) && (not (is_some frame) || a.awaits)
+    && is_frame_from fs a.place frame && has_stamp fs frame a.stamp
 act_may s q es fs frame a (Paint g v) = not (is_some frame)
-act_may s q es fs frame a (Vsync stamp) = is_clear frame a.painted && is_pulse s.period stamp && comes_after a.stamp stamp
+act_may s q es fs frame a (Vsync stamp) = is_clear frame a.painted && not a.awaits && is_pulse s.period stamp && comes_after a.stamp stamp
 act_may s q es fs frame a (Idle i k) = is_clear frame a.painted
 act_may s q es fs frame a (Event f e m) = is_clear frame a.painted
 
@@ -211,15 +211,18 @@ may_come : (s : Script) (q : ℕ) (es : List Entry) (fs : List FrameEntry) (fram
     → act_may s q es fs frame a x ≡ true → act_paints s q es fs frame a x ≡ a.painted → MayCome s q es fs frame a x
 may_come s q es fs frame a (Dispatch n now route) h painted =
     let starts = not (is_some frame) || option_map_or (starts_frame q) (post_at es n) false in
-    let three = and_parts (is_some (post_at es n) && starts && is_frame_from fs a.place frame) (has_stamp fs frame a.stamp) h in
-    let two = and_parts (is_some (post_at es n) && starts) (is_frame_from fs a.place frame) three.0 in
+    let awaited = not (is_some frame) || a.awaits in
+    let four = and_parts (is_some (post_at es n) && starts && awaited && is_frame_from fs a.place frame) (has_stamp fs frame a.stamp) h in
+    let three = and_parts (is_some (post_at es n) && starts && awaited) (is_frame_from fs a.place frame) four.0 in
+    let two = and_parts (is_some (post_at es n) && starts) awaited three.0 in
     let one = and_parts (is_some (post_at es n)) starts two.0 in
-    record { accepted = one.0; starts = one.1; place = two.1; stamped = three.1; painted = painted }
+    record { accepted = one.0; starts = one.1; awaited = two.1; place = three.1; stamped = four.1; painted = painted }
 may_come s q es fs frame a (Paint g v) h painted = none_there frame h
 may_come s q es fs frame a (Vsync stamp) h painted =
-    let three = and_parts (is_clear frame a.painted && is_pulse s.period stamp) (comes_after a.stamp stamp) h in
-    let two = and_parts (is_clear frame a.painted) (is_pulse s.period stamp) three.0 in
-    let c = clear_parts frame a.painted two.0 in (c.0, c.1, two.1, three.1)
+    let three = and_parts (is_clear frame a.painted && not a.awaits && is_pulse s.period stamp) (comes_after a.stamp stamp) h in
+    let two = and_parts (is_clear frame a.painted && not a.awaits) (is_pulse s.period stamp) three.0 in
+    let one = and_parts (is_clear frame a.painted) (not a.awaits) two.0 in
+    let c = clear_parts frame a.painted one.0 in (c.0, record { painted = c.1; awaited = not-true a.awaits one.1; pulse = two.1; later = three.1 })
 may_come s q es fs frame a (Idle i k) h painted = clear_parts frame a.painted h
 may_come s q es fs frame a (Event f e m) h painted = clear_parts frame a.painted h
 

@@ -15,7 +15,7 @@ use Rattle.loop_model.specs.declared.journal.Act.TheVariants.{Dispatch, Idle, Ev
 use Rattle.run_model.specs.Asks.{Makes, plain, call_of}
 use Rattle.run_model.specs.Planned.{frame_message}
 use Rattle.run_model.specs.Control.{NotBefore}
-use Rattle.run_model.specs.Loopers.{Sent, Looper, starts_frame, delivered, and_takes}
+use Rattle.run_model.specs.Loopers.{Sent, Looper, starts_frame, and_starts, delivered, and_takes}
 use Rattle.run_model.specs.FrameRuns.{frame_ids, is_frame_from, has_stamp, place_after, frames_after}
 
 -- a time in nanoseconds in whole milliseconds, rounded up
@@ -30,7 +30,7 @@ running frame now a = record a { painted = []; place = place_after a.place frame
 abbrev pub dispatched : Script → ℕ → List FrameEntry → Option ℕ → ℕ → ℕ → Looper → Option PostData → Looper
 dispatched s q fs frame n now a None = a
 dispatched s q fs frame n now a (Some m) =
-    delivered s q now (frame_ids fs frame) m (and_takes q n now (running frame now a))
+    delivered s q now (frame_ids fs frame) m (and_takes q n now (and_starts q m (running frame now a)))
 
 -- what looper q has come to after an act, by its queue's history and its frame record; a dispatch runs the frame that
 -- begins at this place, or none
@@ -42,26 +42,34 @@ after_act s q es fs frame a (Vsync stamp) =
       sent = a.sent
           ++ record { queue = q; ask = Makes (Post (frame_message q 0 0 (stamp / 1000000))); reply = None; timing = NotBefore (millis_up stamp) } ∷ [];
       stamp = stamp;
+      awaits = true;
     }
 after_act s q es fs frame a (Paint g v) = record a { painted = a.painted ++ Paint g v ∷ [] }
 after_act s q es fs frame a (Idle i k) = a
 after_act s q es fs frame a (Event f e m) = a
 
--- a dispatch is of an accepted post, runs a frame only where its message starts one and behind the frames before, that frame has the stamp of the latest
--- pulse, and what was painted just before is what it paints
+-- a dispatch is of an accepted post, runs a frame only where its message starts one that a pulse awaits, and behind the frames before, that frame has the
+-- stamp of the latest pulse, and what was painted just before is what it paints
 pub record MayDispatch (s : Script) (q : ℕ) (es : List Entry) (fs : List FrameEntry) (frame : Option ℕ) (a : Looper) (n now : ℕ) : Type 0 where
   pub accepted : is_some (post_at es n) ≡ true
   pub starts : (not (is_some frame) || option_map_or (starts_frame q) (post_at es n) false) ≡ true
+  pub awaited : (not (is_some frame) || a.awaits) ≡ true
   pub place : is_frame_from fs a.place frame ≡ true
   pub stamped : has_stamp fs frame a.stamp ≡ true
   pub painted : (dispatched s q fs frame n now a (post_at es n)).painted ≡ a.painted
 
--- the act may come next: paints stand nowhere but just before the dispatch that makes them. A pulse comes at a positive multiple of the period, or at the
--- greatest u64, and after the pulse before it
+-- a pulse comes at a positive multiple of the period, or at the greatest u64, after the pulse before it, and only once that one's frame message is taken
+pub record MayPulse (s : Script) (a : Looper) (stamp : ℕ) : Type 0 where
+  pub painted : a.painted ≡ []
+  pub awaited : a.awaits ≡ false
+  pub pulse : is_pulse s.period stamp ≡ true
+  pub later : comes_after a.stamp stamp ≡ true
+
+-- the act may come next: paints stand nowhere but just before the dispatch that makes them
 abbrev pub MayCome : Script → ℕ → List Entry → List FrameEntry → Option ℕ → Looper → Act → Type 0
 MayCome s q es fs frame a (Dispatch n now route) = MayDispatch s q es fs frame a n now
 MayCome s q es fs frame a (Paint g v) = frame ≡ None
-MayCome s q es fs frame a (Vsync stamp) = (frame ≡ None) × (a.painted ≡ []) × (is_pulse s.period stamp ≡ true) × (comes_after a.stamp stamp ≡ true)
+MayCome s q es fs frame a (Vsync stamp) = (frame ≡ None) × MayPulse s a stamp
 MayCome s q es fs frame a _ = (frame ≡ None) × (a.painted ≡ [])
 
 -- the acts lead a looper from one state to another

@@ -49,6 +49,8 @@ pub record Looper : Type 0 where
   pub painted : List Act
   -- the stamp of the latest pulse that came, or 0 before the first one
   pub stamp : ℕ
+  -- whether a pulse came whose frame message it hasn't taken yet
+  pub awaits : Bool
   -- the place in its frame record from which on its next frame may begin
   pub place : ℕ
   -- the frames that its dispatches ran so far, in order
@@ -65,6 +67,7 @@ first_looper s = record {
   posted = [];
   painted = [];
   stamp = 0;
+  awaits = false;
   place = 0;
   frames = [];
 }
@@ -151,6 +154,10 @@ reacted s now m a = record a {
 -- the message starts a frame of looper q
 abbrev pub starts_frame : ℕ → PostData → Bool
 starts_frame q m = not (is_some m.callback) && m.handler == frame_handler q && m.what == 0
+
+-- where the message taken starts a frame, no pulse's frame is awaited any more
+abbrev pub and_starts : ℕ → PostData → Looper → Looper
+and_starts q m a = record a { awaits = a.awaits && not (starts_frame q m) }
 
 -- what the dispatch of a message causes, where the frame that it runs, if any, runs callbacks of these identities
 abbrev pub delivered : Script → ℕ → ℕ → List ℕ → PostData → Looper → Looper
