@@ -38,6 +38,7 @@ pass_heard_then p q r f g = record {
     own = g.same.own ∙ f.same.own;
     handed = g.same.handed ∙ f.same.handed;
     stamp = g.same.stamp ∙ f.same.stamp;
+    awaits = g.same.awaits ∙ f.same.awaits;
   };
   seen = prefix_trans p.view.seen q.view.seen r.view.seen f.seen g.seen;
   more = prefix_trans p.view.heard q.view.heard r.view.heard f.more g.more;

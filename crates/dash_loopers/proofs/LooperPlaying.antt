@@ -118,11 +118,16 @@ module _ (s : Script) (q now : ℕ) (began : StageLooper) where
   pub delivers_none : (time : ℕ) (is_moment : ℕ → Bool) (m : PostData) (id : ℕ) (made : List Entry) (parts : Parts) (acts : List Act) → m.callback ≡ Some id → Delivers s q time is_moment m made made parts parts acts acts
   delivers_none time is_moment m id made parts acts callback = record {
     ids = [];
-    ran = record { frame = None; start = 0; started = refl; framed = λ fs begins law. (refl, refl, refl, refl); within = omega arith; grew = prefix_self parts.frames.view.seen; asks = sym (append-nil (asks_of parts.frames)); kept = λ stamp has. has; stamped = λ stamp has fs begins. refl };
+    ran = record { frame = None; start = 0; started = refl; framed = λ fs begins law. (refl, refl, refl, refl); within = omega arith; grew = prefix_self parts.frames.view.seen; asks = sym (append-nil (asks_of parts.frames)); stamped = λ stamp waits has fs begins. refl };
     starts = refl;
+    awaited = refl;
+    waits = waits_still q m parts parts quiet (λ stamp waits has. has) refl;
     plays = λ text a settled played. (subst (IsPlayed s q made parts) (sym (same a settled)) played, sym (ap (λ (l : List Act). acts ++ l) (ap (λ (b : Looper). b.painted) (nothing a) ∙ settled) ∙ append-nil acts));
   }
     where
+      quiet : (parts.awaits && starts_frame q m) ≡ false
+      quiet = ap (λ (o : Option ℕ). parts.awaits && (not (is_some o) && m.handler == frame_handler q && m.what == 0)) callback ∙ and-false parts.awaits
+
       nothing : (a : Looper) → delivered s q time [] m a ≡ a
       nothing a = rw callback refl
 
