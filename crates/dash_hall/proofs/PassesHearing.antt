@@ -15,7 +15,7 @@ use Rattle.dash_hall.proofs.Sharing.{each_then, each_self}
 -- a pass as it is
 pub pass_heard_self : (p : Pass) → PassHasHeard p p
 pass_heard_self p = record {
-  same = record { table = refl; number = refl; constants = refl; turns = refl; found = refl; left = refl; frame = refl; own = refl; handed = refl; stamp = refl };
+  same = record { table = refl; number = refl; constants = refl; turns = refl; found = refl; left = refl; frame = refl; own = refl; handed = refl; stamp = refl; awaits = refl };
   seen = prefix_self p.view.seen;
   more = prefix_self p.view.heard;
 }

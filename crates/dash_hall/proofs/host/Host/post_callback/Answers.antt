@@ -15,7 +15,7 @@ returns-clause-stays g c =
     let q = c.post_callback.new.host.poster.now in
     record {
       ready = hosted _ p q c.args.self.now.pass.now c.post_callback.new.host.pass.now c.requires.ready (search rules)
-    (adds_hosted _ _ c.args.self.now.now p q c.post_callback.new.host.pass.now c.post_callback.ensures.keeps.origin c.post_callback.ensures.keeps.ready c.of-began.ensures refl);
+          (adds_hosted _ _ c.args.self.now.now p q c.post_callback.new.host.pass.now c.post_callback.ensures.keeps.origin c.post_callback.ensures.keeps.ready c.of-began.ensures refl);
       origin = search rules;
     }
 
