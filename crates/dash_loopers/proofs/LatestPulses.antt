@@ -20,10 +20,10 @@ use Rattle.dash_loopers.specs.Places.{HasEndedWait}
 use Rattle.choreographer.proofs.Waits.{due_waits}
 use Rattle.choreographer.specs.declared.hosted.Pulse.{Pulse}
 
--- 1 where a frame is to begin, by whether it is
-one_or_none : (b : Bool) → cond b 1 0 ≡ 0 → b ≡ false
-one_or_none true e = absurd (let wrong : 1 ≡ 0 = e in omega (arith, wrong))
-one_or_none false e = refl
+-- where there is 1 just where a frame is to begin, and there is none, no frame is
+one_or_none : (b : Bool) (n : ℕ) → n ≡ cond b 1 0 → n ≡ 0 → b ≡ false
+one_or_none true n one none = absurd (omega (arith, one, none))
+one_or_none false n one none = refl
 
 -- the same pass, with a stamp and a frame that is to begin, or none
 latest_by : (before after : Pass) (stamp : ℕ) (awaits : Bool) (has : HasLatest before stamp awaits) (stamp' : ℕ) (awaits' : Bool) → frame_badge_of after ≡ frame_badge_of before → after.view.stamp ≡ stamp' → after.view.awaits ≡ cond awaits' 1 0
@@ -54,7 +54,7 @@ comes_later before after came comes awaits stamp waits has = (
   where
     by_came : (o : Option ℕ) → KnowsPulse before after o → (is_some o && waits) ≡ false
     by_came None knows = refl
-    by_came (Some n) knows = one_or_none waits (sym has.waits ∙ knows.0)
+    by_came (Some n) knows = one_or_none waits before.view.awaits has.waits knows.0
 
 -- a turn that leaves the stamp that it found, and whether a frame is to begin
 pub turn_keeps_latest : (before after : Pass) (x y : Kept) → IsTurn before after x y → y.stamp ≡ x.stamp → awaits_frame y ≡ awaits_frame x → KeepsLatest before after
@@ -111,10 +111,6 @@ pulse_may_await before after came badge awaits same may waits c e named = by_cam
     by_came : (o : Option ℕ) → KnowsPulse before.frames after.frames o → (is_some o || before.awaits) ≡ true → after.frames.view.awaits ≡ 1
     by_came None knows is = knows ∙ may is c constants alone
     by_came (Some n) knows is = knows.1
-
--- nothing is awaited once a frame's message is taken
-pub none_awaited : (after : Parts) → after.awaits ≡ false → MayAwait after
-none_awaited after none = λ waits. absurd (let wrong : false ≡ true = sym none ∙ waits in cc)
 
 -- a frame is awaited once a pulse came
 pub pulse_waits : (r : Option Pulse) (b t : Bool) → t ≡ is_some r → (b || t) ≡ (is_some (stamp_in r) || b)

@@ -1,6 +1,6 @@
 -- In a round a looper goes on from where it stood: what keeps that it has, and what a round leaves of it.
 use Rattle.std.proofs.Common.{◌≡◌, ℕ, ◌≤◌, true, false, List, [], ◌∷◌, ◌++◌, Option, Some, None, refl, sym, ap, ◌∙◌, subst, arith, append_assoc}
-use Rattle.std.specs.Prelude.{◌==◌, Bool, Result, Ok, Err, is_ok, OnOk}
+use Rattle.std.specs.Prelude.{◌==◌, Bool, Result, Ok, Err, is_ok, OnOk, is_some, not, ◌&&◌}
 use Rattle.std.specs.List.{AllByRecursion, Contains}
 use Rattle.std.specs.Option.{IsSomeAnd}
 use Rattle.std.proofs.lemmas.List.{append-nil}
@@ -25,13 +25,16 @@ use Rattle.loop_model.proofs.Prefixes.{prefix_self}
 use Rattle.run_model.specs.Control.{At}
 use Rattle.run_model.specs.FrameRuns.{FrameAt, nanos_of}
 use Rattle.run_model.specs.FrameAsks.{FrameAsk}
-use Rattle.run_model.specs.Loopers.{Looper, Sent, delivered}
+use Rattle.run_model.specs.Loopers.{Looper, Sent, delivered, starts_frame}
 use Rattle.dash_hall.specs.Hosts.{asks_of}
 use Rattle.dash_loopers.specs.declared.player.Parts.{Parts}
 use Rattle.dash_loopers.specs.declared.looper.StageLooper.{StageLooper}
 use Rattle.dash_loopers.specs.Played.{calls_in, calls_of, IsPlayed, Delivers, pulsed, Pulses, pulse_time, Stands, IsTimedBy, HasLooked, IsDueAt, IsPostedBy, GoesOnTo, ComesTo, IsPlaying, HasPlayed}
 use Rattle.dash_loopers.specs.PlayingLaws.{goes_nowhere, comes_on}
 use Rattle.dash_loopers.proofs.LooperStands.{stands_pulse, by_dispatch, sends_dispatch, posts_dispatch, frames_dispatch, stands_dispatch}
+use Rattle.dash_loopers.proofs.PlaySteps.{waits_still}
+use Rattle.std.proofs.Math.Bool.{and-false}
+use Rattle.run_model.specs.Senders.{frame_handler}
 
 -- ---- calls more, and looks more
 

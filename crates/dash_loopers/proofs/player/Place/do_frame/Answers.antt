@@ -1,4 +1,4 @@
-use Rattle.std.proofs.Common.{◌++◌, ℕ, List, map, refl, ap, ◌∙◌, Ok}
+use Rattle.std.proofs.Common.{◌++◌, ℕ, List, map, refl, ap, ◌∙◌, Ok, ◌≡◌, false, true}
 use Rattle.dash_loopers.specs.declared.player.Parts.{Parts}
 use Rattle.dash_loopers.specs.declared.view_root.Painted.{Painted}
 use Rattle.dash_loopers.specs.Played.{calls_of, paint_of}
@@ -6,7 +6,6 @@ use Rattle.dash_loopers.proofs.LooperPlaces.{client_on, its_phases, its_period, 
 use Rattle.dash_loopers.proofs.PlaySteps.{frame_hosted, frame_delivered}
 use Rattle.dash_loopers.proofs.player.Place.do_frame.Goals as goal
 use Rattle.dash_loopers.proofs.LooperLeaves.{keeps_hosted, tells_none}
-use Rattle.dash_loopers.proofs.LatestPulses.{none_awaited}
 
 pub do_frame-requires-clause-by : goal.do_frame-requires-clause-by
 do_frame-requires-clause-by g c = record { ready = c.host-host.ensures.host.ready; pass = client_on c.args.self.now c.args.parts.now _ c.requires.serves c.choreographer.result.now c.choreographer.ensures }
@@ -39,18 +38,18 @@ returns-in_err-do_frame-clause-leaves g c =
     let own = c.args.own.now in
     let keeps = c.do_frame.ensures.keeps in
     keeps_hosted c.args.self.now.looper c.args.now _ own.poster.now own.pass.now _ _ c.host-host.result c.do_frame.new.host c.host-host.ensures.host keeps.ready keeps.origin
-    c.args.parts.now _ own _ refl refl refl refl (record { poster = refl; pass = refl; journal = refl }) (tells_none own.journal.now) (record { others = refl; frames = c.do_frame.ensures.pass; client = keeps.pass; awaits = λ may. none_awaited _ refl }) refl
+    c.args.parts.now _ own _ refl refl refl refl (record { poster = refl; pass = refl; journal = refl }) (tells_none own.journal.now) (record { others = refl; frames = c.do_frame.ensures.pass; client = keeps.pass; awaits = λ may waits. absurd (let wrong : false ≡ true = waits in cc) }) refl
 
 pub returns-in_err-tell_painted-clause-leaves : goal.returns-in_err-tell_painted-clause-leaves
 returns-in_err-tell_painted-clause-leaves g c =
     let own = c.args.own.now in
     let keeps = c.do_frame.ensures.keeps in
     keeps_hosted c.args.self.now.looper c.args.now _ own.poster.now own.pass.now _ _ c.host-host.result c.do_frame.new.host c.host-host.ensures.host keeps.ready keeps.origin
-    c.args.parts.now _ own _ refl refl refl refl (record { poster = refl; pass = refl; journal = refl }) c.tell_painted.ensures.more (record { others = refl; frames = c.do_frame.ensures.pass; client = keeps.pass; awaits = λ may. none_awaited _ refl }) refl
+    c.args.parts.now _ own _ refl refl refl refl (record { poster = refl; pass = refl; journal = refl }) c.tell_painted.ensures.more (record { others = refl; frames = c.do_frame.ensures.pass; client = keeps.pass; awaits = λ may waits. absurd (let wrong : false ≡ true = waits in cc) }) refl
 
 pub returns-clause-leaves : goal.returns-clause-leaves
 returns-clause-leaves g c =
     let own = c.args.own.now in
     let keeps = c.do_frame.ensures.keeps in
     keeps_hosted c.args.self.now.looper c.args.now _ own.poster.now own.pass.now _ _ c.host-host.result c.do_frame.new.host c.host-host.ensures.host keeps.ready keeps.origin
-    c.args.parts.now _ own _ refl refl refl refl (record { poster = refl; pass = refl; journal = refl }) c.tell_painted.ensures.more (record { others = refl; frames = c.do_frame.ensures.pass; client = keeps.pass; awaits = λ may. none_awaited _ refl }) refl
+    c.args.parts.now _ own _ refl refl refl refl (record { poster = refl; pass = refl; journal = refl }) c.tell_painted.ensures.more (record { others = refl; frames = c.do_frame.ensures.pass; client = keeps.pass; awaits = λ may waits. absurd (let wrong : false ≡ true = waits in cc) }) refl

@@ -13,6 +13,7 @@ use Rattle.dash_loopers.proofs.LooperPlaces.{frame_of_badge, its_phases}
 use Rattle.dash_loopers.proofs.LatestPulses.{due_keeps_latest, due_may_await}
 use Rattle.dash_loopers.proofs.player.Place.on_due.Goals as goal
 use Rattle.dash_loopers.proofs.LooperLeaves.{queue_left, keeps_hosted, tells_none}
+use Rattle.dash_loopers.specs.declared.player.Parts.{Parts}
 
 pub on_due-requires-clause-pass : goal.on_due-requires-clause-pass
 on_due-requires-clause-pass g c =
@@ -53,8 +54,9 @@ returns-then-phase-phases-clause-asks g c = record { seen = prefix_self c.args.p
 pub returns-clause-leaves : goal.returns-clause-leaves
 returns-clause-leaves g c =
     let own = c.args.own.now in
+    let after : Parts = record c.args.parts.now { frames = c.on_due.new.pass } in
     keeps_hosted c.args.self.now.looper c.args.now _ own.poster.now own.pass.now _ _ c.host-host.result c.on_due.new.self c.host-host.ensures.host c.on_due.ensures.stays.ready c.on_due.ensures.stays.origin
-    c.args.parts.now _ own _ refl refl refl refl (record { poster = refl; pass = refl; journal = refl }) (tells_none own.journal.now) (record { others = refl; frames = c.on_due.ensures.pass; client = refl; awaits = due_may_await c.args.parts.now _ (λ n. n == nanos_of c.host-host.result.uptime.now.now) c.args.phase c.on_due.result c.on_due.ensures.due refl }) refl
+    c.args.parts.now after own _ refl refl refl refl (record { poster = refl; pass = refl; journal = refl }) (tells_none own.journal.now) (record { others = refl; frames = c.on_due.ensures.pass; client = refl; awaits = due_may_await c.args.parts.now after (λ n. n == nanos_of c.host-host.result.uptime.now.now) c.args.phase c.on_due.result c.on_due.ensures.due refl }) refl
 
 pub returns-clause-tells : goal.returns-clause-tells
 returns-clause-tells g c =

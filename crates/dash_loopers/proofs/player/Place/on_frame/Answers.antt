@@ -5,7 +5,6 @@ use Rattle.dash_loopers.proofs.player.Place.on_frame.Goals as goal
 use Rattle.dash_loopers.proofs.LooperLeaves.{queue_left}
 use Rattle.std.specs.Prelude.{Bool, ◌&&◌}
 use Rattle.run_model.specs.Loopers.{starts_frame}
-use Rattle.std.proofs.lemmas.Bool.{not-true, not-false}
 
 pub returns-in-2-clause-delivers : goal.returns-in-2-clause-delivers
 returns-in-2-clause-delivers g c =
@@ -43,8 +42,8 @@ returns-then-not-parts-clause-delivers g c =
     let parts = c.args.parts.now in
     let starts = frame_starts q m c.requires.callback c.requires.handler (omega (arith, c.in-0.is)) in
     still_delivered s q c.args.now (g.U.Uptime.is_moment c.args.uptime.now) m (calls_of old.poster.now) (calls_of old.poster.now) parts parts old.journal.now.acts old.journal.now.acts (λ a. a) refl refl
-    (ap (λ (b : Bool). b && starts_frame q m) (not-true parts.awaits c.if-not-parts.true))
+    (ap (λ (b : Bool). b && starts_frame q m) c.if-not-parts.true)
     (λ a. delivered_frame s q c.args.now [] m a starts) (λ a. refl) (λ text a is. is) refl
 
 pub do_frame-requires-clause-awaited : goal.do_frame-requires-clause-awaited
-do_frame-requires-clause-awaited g c = not-false c.args.parts.now.awaits c.if-not-parts.false
+do_frame-requires-clause-awaited g c = c.if-not-parts.false
