@@ -31,3 +31,4 @@ pub mod LooperLeft
 pub mod LooperLooped
 pub mod LooperRounds
 pub mod LatestPulses
+pub mod LooperLeaves

@@ -24,9 +24,9 @@ use Rattle.dash_loopers.specs.declared.looper.StageLooper.{StageLooper}
 use Rattle.dash_loopers.specs.Loopers.{ArePartsOf, IsLooper, others_in, posters_of, is_given_up}
 use Rattle.dash_loopers.specs.Played.{AreAlike, StandsBy, ComesBy, HasPlayedBy}
 use Rattle.dash_loopers.specs.Clocked.{AreByClockOf}
-use Rattle.dash_loopers.specs.Looped.{GoesOnFrom, StaysTold, LooksForPulse}
+use Rattle.dash_loopers.specs.Looped.{GoesOnFrom, StaysTold, LooksForPulse, HasLooped, HasOnlyLooked}
 use Rattle.dash_loopers.proofs.FrameIds.{turn_grew}
-use Rattle.dash_loopers.proofs.LatestPulses.{turn_keeps_latest}
+use Rattle.dash_loopers.proofs.LatestPulses.{turn_keeps_latest, turn_may_await}
 use Rattle.dash_loopers.proofs.LooperLoops.{plays_then}
 use Rattle.dash_loopers.proofs.LooperKits.{parts_of, others_many, looper_of, looper_with}
 
@@ -36,7 +36,7 @@ pub looper_asked : (s : Script) (hall : Hall) (l : StageLooper) (parts : Parts) 
 looper_asked s hall l parts g r is e asked =
     let are = parts_of s hall l parts is e in
     let badge = frame_turn_badge _ _ _ _ asked.1 in
-    looper_with s hall l (record parts { frames = g }) (record { others = are.others; frames = λ c at. badge ∙ are.frames c at; client = are.client }) is
+    looper_with s hall l (record parts { frames = g }) (record { others = are.others; frames = λ c at. badge ∙ are.frames c at; client = are.client; awaits = turn_may_await parts (record parts { frames = g }) asked.0 asked.0 asked.1 refl refl are.awaits }) is
 
 -- and stands where it stood
 pub played_asked : (s : Script) (l : StageLooper) (parts : Parts) (g : Pass) (r : Option ℕ) → l.parts ≡ Some parts → AskedBy parts.frames g r
@@ -56,7 +56,8 @@ played_asked s l parts g r e asked = λ going text did a come. record {
         whole = λ fs begins law. st.whole fs (prefix_trans parts.frames.view.seen g.view.seen fs grew begins) law;
         ran = ap (λ l. map (as_told false) (asks_in l)) (asked_records parts.frames g r asked) ∙ st.ran;
         settled = st.settled;
-        latest_is = turn_keeps_latest parts.frames g asked.0 asked.0 asked.1 refl a.stamp st.latest_is;
+        latest_is = turn_keeps_latest parts.frames g asked.0 asked.0 asked.1 refl refl a.stamp a.awaits st.latest_is;
+        awaits_is = st.awaits_is;
         played = record { shown = st.played.shown; elsewhere = st.played.elsewhere; fired = st.played.fired; counts = st.played.counts };
       });
 }
@@ -129,3 +130,17 @@ pub stays_on : (a b c : StageLooper) → ((is_ended a.last || is_given_up a.last
 stays_on a b c still unended going stopped =
     let same = still stopped in
     absurd (stopped_not (is_ended a.last) (is_given_up a.last) (ap (λ (z : StageLooper). is_ended z.last) (sym same) ∙ unended) (ap (λ (z : StageLooper). is_given_up z.last) (sym same) ∙ going) stopped)
+
+-- a looper that has done nothing since has looped
+pub looped_self : (m : Mode) (s : Script) (hall : Hall) (l : StageLooper) → IsLooper s hall l → HasLooped m s hall l l
+looped_self m s hall l is = record { looper = is; number = refl; plays = played_self s l; clocked = λ going had. had; grew = grown_self l }
+
+-- one that looked for its pulse, and looped then, has looped
+pub looped_on : (m : Mode) (s : Script) (hall : Hall) (a b k c : StageLooper) → IsLooper s hall a → is_given_up b.last ≡ false → HasLooped m s hall a b → HasOnlyLooked s hall b k → HasLooped m s hall k c → HasLooped m s hall a c
+looped_on m s hall a b k c is going here next ran = record {
+  looper = ran.looper;
+  number = ran.number ∙ (next.number ∙ here.number);
+  plays = plays_on s hall a b k c is here.looper next.looper here.number next.number next.last going here.plays next.plays ran.plays;
+  clocked = λ end had. ran.clocked end (by_clock_same m b k next.posters (here.clocked going had));
+  grew = grown_on a b k c next.held going here.grew ran.grew;
+}

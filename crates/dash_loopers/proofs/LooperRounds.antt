@@ -14,7 +14,7 @@ use Rattle.run_model.specs.Moments.{Mode, in_free_mode}
 use Rattle.dash_hall.specs.declared.hall.Hall.{Hall}
 use Rattle.dash_hall.specs.Kits.{IsHall, queue_constants}
 use Rattle.dash_loopers.specs.declared.looper.StageLooper.{StageLooper}
-use Rattle.dash_loopers.specs.Loopers.{IsLooper, RunsRound, ComesToWaitAt, is_given_up, round_of, setting_in}
+use Rattle.dash_loopers.specs.Loopers.{IsLooper, RunsRound, ComesToWaitAt, is_given_up, round_of, setting_in, DrainsAt}
 use Rattle.dash_loopers.specs.Looped.{AsksPulse, LoopsBy, LoopsOnce, earlier_of}
 use Rattle.dash_loopers.proofs.LooperPlaces.{queue_is}
 use Rattle.dash_loopers.proofs.LooperKits.{looper_of, ran_on, comes_to_wait}
@@ -24,7 +24,7 @@ use Rattle.dash_loopers.proofs.LooperNext.{stopped_not}
 -- ---- a round
 
 -- one that has ended or given up runs no round
-pub ran_none : (lockstep : Bool) (s : Script) (now : ℕ) (l : StageLooper) → (is_ended l.last || is_given_up l.last) ≡ true → RunsRound lockstep s now l l
+ran_none : (lockstep : Bool) (s : Script) (now : ℕ) (l : StageLooper) → (is_ended l.last || is_given_up l.last) ≡ true → RunsRound lockstep s now l l
 ran_none lockstep s now l stopped = record {
   stopped = λ e. refl;
   ran = λ e. absurd (let wrong : false ≡ true = sym e ∙ stopped in cc);
@@ -32,8 +32,11 @@ ran_none lockstep s now l stopped = record {
 }
 
 -- and doesn't come to wait
-pub waits_none : (s : Script) (now : ℕ) (l : StageLooper) → (is_ended l.last || is_given_up l.last) ≡ true → ComesToWaitAt s now l l
+waits_none : (s : Script) (now : ℕ) (l : StageLooper) → (is_ended l.last || is_given_up l.last) ≡ true → ComesToWaitAt s now l l
 waits_none s now l stopped = λ unended going. absurd (stopped_not (is_ended l.last) (is_given_up l.last) unended going stopped)
+
+pub drained_none : (s : Script) (now : ℕ) (l : StageLooper) → (is_ended l.last || is_given_up l.last) ≡ true → DrainsAt s now l l
+drained_none s now l stopped = record { round = ran_none false s now l stopped; waits = waits_none s now l stopped }
 
 module _ (s : Script) (hall : Hall) (now : ℕ) (l n after : StageLooper) (q : Shared TableId) (left : Looping) (last : Round) (mode : hall.lockstep ≡ false) (is_hall : IsHall s hall) (is : IsLooper s hall l)
     (going : (is_ended l.last ≡ false) × (is_given_up l.last ≡ false)) (at : slice_get hall.queues.items l.number ≡ Some q) (taken : n ≡ record l { parts = None }) (held : after.looper ≡ left) (ended : after.last ≡ last)
@@ -44,15 +47,18 @@ module _ (s : Script) (hall : Hall) (now : ℕ) (l n after : StageLooper) (q : S
       (subst (λ (x : Looping). RoundLeaves q.constants.setting now l.looper x last) (sym held)
       (subst (λ (z : StageLooper). RoundLeaves q.constants.setting now z.looper left last) taken leaves))
 
-  pub round_here : RunsRound false s now l after
+  round_here : RunsRound false s now l after
   round_here = record {
     stopped = λ e. absurd (stopped_not (is_ended l.last) (is_given_up l.last) going.0 going.1 e);
     ran = λ e. ran_on false s hall mode now l q after.looper after.last is_hall is at leaves_here.round;
     looks = λ e. leaves_here.looks;
   }
 
-  pub waits_here : ComesToWaitAt s now l after
+  waits_here : ComesToWaitAt s now l after
   waits_here = λ unended on. comes_to_wait false s hall mode now l q after.looper after.last is_hall is at leaves_here.same leaves_here.round unended on
+
+  pub drains_here : DrainsAt s now l after
+  drains_here = record { round = round_here; waits = waits_here }
 
 -- ---- a loop
 

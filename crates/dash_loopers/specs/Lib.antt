@@ -6,3 +6,5 @@ pub mod PlayingLaws
 pub mod Clocked
 pub mod ClockedLaws
 pub mod Looped
+pub mod Steps
+pub mod Ends

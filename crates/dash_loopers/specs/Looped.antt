@@ -17,7 +17,7 @@ use Rattle.dash_hall.specs.declared.timer.Timer.{Timer}
 use Rattle.dash_loopers.specs.declared.by_clock.ClockPlayer.{ClockPlayer}
 use Rattle.dash_loopers.specs.declared.looper.StageLooper.{StageLooper}
 use Rattle.dash_loopers.specs.declared.player.Parts.{Parts}
-use Rattle.dash_loopers.specs.Loopers.{IsLooper, is_given_up, round_of, setting_in}
+use Rattle.dash_loopers.specs.Loopers.{IsLooper, is_given_up, round_of, setting_in, posters_of}
 use Rattle.dash_loopers.specs.Played.{HasPlayedBy}
 use Rattle.dash_loopers.specs.Clocked.{ClockOwner, ServesFree, IsPlayingAt, StaysByClock}
 
@@ -66,6 +66,12 @@ PlayerPlays m p l = IsPlayingAt m p.place.script.now p.place.looper p.began.now.
 -- the code's looper has gone on so since the loop began
 abbrev pub PlayerLooped : {R G C : Type 0} → Mode → ClockPlayer R G C → StageLooper → Type 0
 PlayerLooped m p after = HasLooped m p.place.script.now p.place.hall.now p.began.now.value after
+
+-- the code of a loop that begins with this looper: it is this looper's by this clock, serves its queue, and has gone on as far as the looper has come
+pub record PlayerBegins {R G C : Type 0} (m own : Mode) (s : Script) (hall : Hall) (before : StageLooper) (p : ClockPlayer R G C) (l : Looping) : Type 0 where
+  pub owner : owner_in own p ≡ owner_of m s hall before
+  pub serves : PlayerServes p l
+  pub begins : PlayerPlays own p l
 
 -- ---- up to when it loops
 
@@ -126,3 +132,12 @@ pub record LoopsUpTo (m : Mode) (s : Script) (end : Option ℕ) (before after : 
   pub between : StageLooper
   pub rounds : HasGoneRound m s end count before between
   pub stops : StopsBy m s end between after look
+
+-- the looper has looked for its pulse, and stands where it stood
+pub record HasOnlyLooked (s : Script) (hall : Hall) (before after : StageLooper) : Type 0 where
+  pub looper : IsLooper s hall after
+  pub number : after.number ≡ before.number
+  pub last : after.last ≡ before.last
+  pub plays : HasPlayedBy s before after
+  pub posters : posters_of after ≡ posters_of before
+  pub held : after.looper ≡ before.looper

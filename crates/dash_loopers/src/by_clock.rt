@@ -3,19 +3,18 @@ ghost use Rattle.std.specs.Prelude.{◌≡◌, ◌≢◌, ◌+◌, ◌||◌, Non
 ghost use Rattle.std.specs.Option.{option_map};
 ghost use Rattle.loop_io.specs.Moments.{IsMoment};
 ghost use Rattle.looper_run.specs.Holding.{held, IsSameOwn};
-ghost use Rattle.looper_run.specs.Tests.{IsLent};
 ghost use Rattle.looper_run.specs.Round.{is_ended};
 ghost use Rattle.run_model.specs.Acts.{millis_up};
 ghost use Rattle.run_model.specs.Moments.{in_free_mode};
 ghost use Rattle.dash_hall.specs.Kits.{IsHall};
-ghost use Rattle.dash_loopers.specs.Loopers.{IsLooper, IsLooperOf, posters_of, round_of, is_given_up, RunsRound, ComesToWaitAt};
+ghost use Rattle.dash_loopers.specs.Loopers.{IsLooper, IsLooperOf, round_of, is_given_up, MayWork, DrainsAt};
 ghost use Rattle.dash_loopers.specs.Places.{ServesOn, DeliversOn};
-ghost use Rattle.dash_loopers.specs.Players.{AreSameParts, RingsMain};
-ghost use Rattle.dash_loopers.specs.Played.{HasPlayedBy};
-ghost use Rattle.dash_loopers.specs.Clocked.{goes_to_rules, DeliversAt, ClockOwner, ServesFree, IsPlayingAt, StaysByClock};
-ghost use Rattle.dash_loopers.specs.Looped.{clock_mode, HasLooped, StaysTold, with_parts, owner_of, owner_in, PlayerServes, PlayerPlays, PlayerLooped};
+ghost use Rattle.dash_loopers.specs.Players.{RingsMain, AreSameParts};
+ghost use Rattle.dash_loopers.specs.Clocked.{goes_to_rules, DeliversAt, ClockOwner, ServesFree, IsPlayingAt};
+ghost use Rattle.dash_loopers.specs.Looped.{clock_mode, HasLooped, with_parts, PlayerLooped, HasOnlyLooked, PlayerBegins};
 ghost use Rattle.dash_loopers.specs.Looped.{earlier_of, ends_at, AsksPulse, LoopsBy, LoopsUpTo};
 ghost use Rattle.dash_loopers.specs.ClockedLaws.{playing_at_others, playing_at_disposed, playing_at_quiet};
+ghost use Rattle.looper_run.specs.Tests.{IsLent};
 
 use crate::looper::{StageLooper, close};
 use crate::player::{Parts, Place, did, of_looper};
@@ -188,15 +187,9 @@ impl StageLooper {
         timer: &Timer<C>,
         end: Option<u64>,
     ) -> Option<Look>
-        requires mode { hall.now.lockstep ≡ false }
-        requires hall { IsHall script.now hall.now }
-        requires looper { IsLooper script.now hall.now self.old }
-        ensures looper { IsLooper script.now hall.now self.new }
-        ensures number { self.new.number ≡ self.old.number }
+        requires may { MayWork false script.now hall.now self.old }
+        ensures looped { HasLooped (clock_mode C.shows timer.now) script.now hall.now self.old self.new }
         ensures stays { (is_ended self.old.last || is_given_up self.old.last) ≡ true → self.new ≡ self.old }
-        ensures plays { HasPlayedBy script.now self.old self.new }
-        ensures clocked { StaysByClock (in_free_mode (C.shows timer.now.clock.now) timer.now.start) self.old self.new }
-        ensures grew { StaysTold self.old self.new }
         ensures rounds { LoopsUpTo (clock_mode C.shows timer.now) script.now end self.old self.new result }
     {
         let pace = Pace { gate, timer };
@@ -231,18 +224,11 @@ impl StageLooper {
         timer: &Timer<C>,
         now: u64,
     )
-        requires mode { hall.now.lockstep ≡ false }
-        requires hall { IsHall script.now hall.now }
+        requires may { MayWork false script.now hall.now self.old }
         requires moment { IsMoment (C.shows timer.now.clock.now) timer.now.start now }
-        requires looper { IsLooper script.now hall.now self.old }
-        ensures looper { IsLooper script.now hall.now self.new }
-        ensures number { self.new.number ≡ self.old.number }
+        ensures looped { HasLooped (clock_mode C.shows timer.now) script.now hall.now self.old self.new }
         ensures stays { (is_ended self.old.last || is_given_up self.old.last) ≡ true → self.new ≡ self.old }
-        ensures plays { HasPlayedBy script.now self.old self.new }
-        ensures clocked { StaysByClock (in_free_mode (C.shows timer.now.clock.now) timer.now.start) self.old self.new }
-        ensures grew { StaysTold self.old self.new }
-        ensures round { RunsRound false script.now now self.old self.new }
-        ensures waits { ComesToWaitAt script.now now self.old self.new }
+        ensures drains { DrainsAt script.now now self.old self.new }
     {
         if self.has_ended() {
             return;
@@ -258,12 +244,7 @@ impl StageLooper {
     fn next_pulse<R: Wait>(&mut self, rt: &R, hall: &Hall, script: &Script) -> Option<u64>
         requires hall { IsHall script.now hall.now }
         requires looper { IsLooper script.now hall.now self.old }
-        ensures looper { IsLooper script.now hall.now self.new }
-        ensures number { self.new.number ≡ self.old.number }
-        ensures last { self.new.last ≡ self.old.last }
-        ensures plays { HasPlayedBy script.now self.old self.new }
-        ensures posters { posters_of self.new ≡ posters_of self.old }
-        ensures held { self.new.looper ≡ self.old.looper }
+        ensures looked { HasOnlyLooked script.now hall.now self.old self.new }
         ensures asks { AsksPulse self.old self.new result }
     {
         let Some(mut parts) = self.parts.take() else {
@@ -285,15 +266,11 @@ impl StageLooper {
         pace: &Pace<'a, G, C>,
         now: u64,
     )
-        requires mode { hall.now.lockstep ≡ false }
-        requires hall { IsHall script.now hall.now }
+        requires may { MayWork false script.now hall.now self.old }
         requires moment { IsMoment (C.shows pace.now.timer.now.clock.now) pace.now.timer.now.start now }
-        requires looper { IsLooper script.now hall.now self.old }
         requires going { (is_ended self.old.last ≡ false) × (is_given_up self.old.last ≡ false) }
-        ensures number { self.new.number ≡ self.old.number }
         ensures looped { HasLooped (clock_mode C.shows pace.now.timer.now) script.now hall.now self.old self.new }
-        ensures round { RunsRound false script.now now self.old self.new }
-        ensures waits { ComesToWaitAt script.now now self.old self.new }
+        ensures drains { DrainsAt script.now now self.old self.new }
     {
         let began = Snapshot::of(&*self);
         let queue = of_looper(&hall.queues, self.number);
@@ -319,9 +296,7 @@ impl StageLooper {
         pace: &Pace<'a, G, C>,
         cap: Option<u64>,
     ) -> Loop
-        requires mode { hall.now.lockstep ≡ false }
-        requires hall { IsHall script.now hall.now }
-        requires looper { IsLooper script.now hall.now self.old }
+        requires may { MayWork false script.now hall.now self.old }
         requires going { (is_ended self.old.last ≡ false) × (is_given_up self.old.last ≡ false) }
         ensures last { self.new.last ≡ round_of result }
         ensures looped { HasLooped (clock_mode C.shows pace.now.timer.now) script.now hall.now self.old self.new }
@@ -356,14 +331,11 @@ impl StageLooper {
         pace: &Pace<'a, G, C>,
         began: &'b Snapshot<StageLooper>,
     ) -> ClockPlayer<'a, 'b, R, G, C>
-        requires mode { hall.now.lockstep ≡ false }
-        requires hall { IsHall script.now hall.now }
-        requires looper { IsLooper script.now hall.now self.old }
+        requires may { MayWork false script.now hall.now self.old }
         requires began { began.now.value ≡ self.old }
         ensures same { self.new ≡ record self.old { parts = None } }
-        ensures owner { owner_in (clock_mode C.shows result.timer.now) result ≡ owner_of (clock_mode C.shows pace.now.timer.now) script.now hall.now self.old }
-        ensures serves { PlayerServes result self.new.looper }
-        ensures begins { PlayerPlays (clock_mode C.shows result.timer.now) result self.new.looper }
+        ensures begins { PlayerBegins (clock_mode C.shows pace.now.timer.now) (clock_mode C.shows result.timer.now)
+            script.now hall.now self.old result self.new.looper }
     {
         let Some(parts) = self.parts.take() else {
             unreachable!()

@@ -1,17 +1,9 @@
 //! What a looper does with the messages of its choreographer and of its gauges.
-ghost use Rattle.std.specs.Prelude.{◌≡◌, ◌<◌, ◌≤◌, [], ◌∷◌, ◌++◌, map, None, IsTrue, true, false, OnOk};
-ghost use mathlib.Core.List.{IsPrefix};
-ghost use Rattle.frame_phases.specs.Pulses.{is_pulse_if_any};
-ghost use Rattle.looper_run.specs.Holding.{held, IsSameOwn};
-ghost use Rattle.looper_run.specs.Acts.{IsOfDispatcher, GrowsBy};
-ghost use Rattle.looper_run.specs.Tests.{IsLent};
-ghost use Rattle.dash_hall.specs.Hosts.{IsHostNow, asks_of};
-ghost use Rattle.dash_hall.specs.ByClock.{AddsAt};
+ghost use Rattle.std.specs.Prelude.{◌≡◌, ◌<◌, ◌≤◌, [], ◌∷◌, ◌++◌, map, None, true, false, OnOk};
+ghost use Rattle.looper_run.specs.Acts.{IsOfDispatcher};
 ghost use Rattle.dash_loopers.specs.Clocked.{CallsUntimed};
-ghost use Rattle.dash_loopers.specs.Loopers.{IsPlaceOf, IsLooperOf};
-ghost use Rattle.dash_loopers.specs.Players.{AreSameParts};
 ghost use Rattle.dash_script.specs.Causes.{phase_count};
-ghost use Rattle.dash_loopers.specs.Played.{calls_of, paint_of, KeepsLatest, GetsLatest, ComesLater};
+ghost use Rattle.dash_loopers.specs.Played.{paint_of, IsNextPulse};
 ghost use Rattle.loop_model.specs.declared.post.Post.{Post as PostData};
 ghost use Rattle.run_model.specs.Senders.{frame_handler as the_frame_handler};
 ghost use Rattle.run_model.specs.Loopers.{starts_frame, object_set};
@@ -19,6 +11,7 @@ ghost use Rattle.looper_run.specs.Tests.{Unless};
 ghost use Rattle.choreographer.specs.declared.host.HostSent.TheVariants.{NoMemory as NoRoom};
 ghost use Rattle.choreographer.specs.Calls.{stamp_in};
 ghost use Rattle.dash_loopers.specs.Places.{ServesOn, PlaysOn, DeliversOn, DeliversPulseOn, PulsesOn, PulsedOn, IsDueAt};
+ghost use Rattle.dash_loopers.specs.Steps.{Leaves, KeepsToQueue, IsAtPlace, place_of, IsHostFor, TellsNothing, AsksNothing, TellsMore};
 
 use crate::player::{Parts, Place, did};
 use crate::view_root::Painted;
@@ -43,16 +36,9 @@ impl<'a, R: Wait> Place<'a, R> {
         now: u64,
         uptime: &'b U,
     ) -> Host<'b, R, U>
-        requires looper { IsLooperOf self.now.script.now self.now.hall.now self.now.looper }
-        requires place { IsPlaceOf self.now.hall.now self.now.looper
-            (record { table = poster.old.table; constants = poster.old.view.constants; pool = pass.old.home }) }
+        requires at { IsAtPlace self.now.script.now self.now.hall.now self.now.looper (place_of poster.old pass.old) }
         requires began { (began.now.value ≡ poster.old) × (pass_began.now.value ≡ pass.old) }
-        ensures poster { (result.poster.ghost_name ≡ poster.entry.ghost_name) × (result.poster.now ≡ poster.old) }
-        ensures pass { (result.pass.ghost_name ≡ pass.entry.ghost_name) × (result.pass.now ≡ pass.old) }
-        ensures began { (result.began.now.value ≡ poster.old) × (result.pass_began.now.value ≡ pass.old) }
-        ensures moment { (result.now ≡ now) × (result.handler.id ≡ the_frame_handler self.now.looper) }
-        ensures uptime { result.uptime.now ≡ uptime.now }
-        ensures ready { IsHostNow result }
+        ensures host { IsHostFor self.now.looper now uptime.now poster.entry.ghost_name poster.old pass.entry.ghost_name pass.old result }
     {
         Host {
             rt: self.rt,
@@ -69,35 +55,29 @@ impl<'a, R: Wait> Place<'a, R> {
         }
     }
 
-    /// Delivers the pulse that is asked for, if it came.
+    /// Delivers the pulse that is asked for, if it came: its frame is to begin.
     fn deliver_pulse(&self, parts: &mut Parts, own: &mut Own, now: u64) -> Option<Pulse>
         requires serves { ServesOn self.now parts.old own.old }
-        ensures parts { AreSameParts parts.old parts.new }
-        ensures own { IsSameOwn own.old own.new }
-        ensures lent { IsLent (held own.old) (held own.new) }
-        ensures rung { own.new.poster.now.view.rung ≡ own.old.poster.now.view.rung }
+        ensures leaves { Leaves parts.old parts.new own.old own.new }
         ensures untimed { CallsUntimed own.old.poster.now own.new.poster.now parts.old parts.new }
-        ensures is_pulse { IsTrue (is_pulse_if_any self.now.script.now.period (stamp_in result)) }
+        ensures next { IsNextPulse self.now.script.now.period parts.old parts.new (stamp_in result) }
         ensures pulses { DeliversPulseOn self.now now own.old own.new parts.old parts.new result }
         ensures looked { PulsedOn self.now now own.old own.new parts.old parts.new result }
-        ensures latest { GetsLatest parts.old.frames parts.new.frames (stamp_in result) }
-        ensures later { ComesLater parts.old.frames (stamp_in result) }
         ensures acts { own.new.journal.now.acts ≡ own.old.journal.now.acts }
     {
         let began = Snapshot::of(&*own.poster);
         let pass_began = Snapshot::of(&*own.pass);
         let still = Still { now };
         let mut host = self.host(own.poster, own.pass, &began, &pass_began, now, &still);
-        host.deliver(self.choreographer(), &mut parts.frames)
+        let pulse = host.deliver(self.choreographer(), &mut parts.frames);
+        parts.awaits |= pulse.is_some();
+        pulse
     }
 
     /// Delivers the pulse that is asked for, if it came, and tells it.
     pub(crate) fn pulse(&self, parts: &mut Parts, own: &mut Own, now: u64) -> Did
         requires serves { ServesOn self.now parts.old own.old }
-        ensures parts { AreSameParts parts.old parts.new }
-        ensures own { IsSameOwn own.old own.new }
-        ensures lent { IsLent (held own.old) (held own.new) }
-        ensures rung { own.new.poster.now.view.rung ≡ own.old.poster.now.view.rung }
+        ensures leaves { Leaves parts.old parts.new own.old own.new }
         ensures untimed { CallsUntimed own.old.poster.now own.new.poster.now parts.old parts.new }
         ensures pulses { Unless result (PulsesOn self.now now own.old own.new parts.old parts.new) }
     {
@@ -112,8 +92,8 @@ impl<'a, R: Wait> Place<'a, R> {
         }
     }
 
-    /// The frame's message begins a frame, where one is scheduled, runs its callbacks, and tells what they painted. The uptime is
-    /// read for its start and for each phase.
+    /// The frame's message begins the frame that is to begin, unless it would go back, runs its callbacks, and tells what they painted. The
+    /// uptime is read for its start and for each phase.
     fn do_frame<U: Uptime>(
         &self,
         parts: &mut Parts,
@@ -121,19 +101,16 @@ impl<'a, R: Wait> Place<'a, R> {
         now: u64,
         uptime: &U,
     ) -> Result<(), NoMemory>
+        requires awaited { parts.old.awaits ≡ true }
         requires serves { ServesOn self.now parts.old own.old }
-        ensures parts { AreSameParts parts.old parts.new }
-        ensures own { IsSameOwn own.old own.new }
-        ensures lent { IsLent (held own.old) (held own.new) }
-        ensures rung { own.new.poster.now.view.rung ≡ own.old.poster.now.view.rung }
-        ensures clocked { AddsAt now own.old.poster.now own.new.poster.now }
-        ensures others { parts.new.others ≡ parts.old.others }
+        ensures leaves { KeepsToQueue now parts.old parts.new own.old own.new }
         ensures delivers { (m : PostData) → starts_frame self.now.looper m ≡ true
             → OnOk result (DeliversOn self.now now (U.is_moment uptime.now) m own.old own.new parts.old parts.new) }
     {
         let began = Snapshot::of(&*own.poster);
         let pass_began = Snapshot::of(&*own.pass);
         let mut host = self.host(own.poster, own.pass, &began, &pass_began, now, uptime);
+        parts.awaits = false;
         parts
             .root
             .do_frame(self.choreographer(), &mut parts.frames, &mut host)?;
@@ -145,18 +122,11 @@ impl<'a, R: Wait> Place<'a, R> {
     /// The message of a callback's due time schedules a frame, where the phase has a due callback and none is scheduled.
     fn on_due(&self, parts: &mut Parts, own: &mut Own, phase: u32, now: u64)
         requires serves { ServesOn self.now parts.old own.old }
-        ensures parts { AreSameParts parts.old parts.new }
-        ensures own { IsSameOwn own.old own.new }
-        ensures lent { IsLent (held own.old) (held own.new) }
-        ensures rung { own.new.poster.now.view.rung ≡ own.old.poster.now.view.rung }
-        ensures clocked { AddsAt now own.old.poster.now own.new.poster.now }
-        ensures others { parts.new.others ≡ parts.old.others }
+        ensures leaves { KeepsToQueue now parts.old parts.new own.old own.new }
         ensures plays { PlaysOn self.now (λ a. a) own.old own.new parts.old parts.new }
-        ensures acts { own.new.journal.now.acts ≡ own.old.journal.now.acts }
-        ensures seen { IsPrefix parts.old.frames.view.seen parts.new.frames.view.seen }
-        ensures asks { asks_of parts.new.frames ≡ asks_of parts.old.frames }
-        ensures latest { KeepsLatest parts.old.frames parts.new.frames }
-        ensures calls { calls_of own.new.poster.now ≡ calls_of own.old.poster.now }
+        ensures tells { TellsNothing own.old own.new }
+        ensures asks { AsksNothing parts.old.frames parts.new.frames }
+        ensures awaits { parts.new.awaits ≡ parts.old.awaits }
         ensures due { phase < phase_count self.now.script.now.edition → IsDueAt now phase parts.old.frames parts.new.frames }
         ensures beyond { phase_count self.now.script.now.edition ≤ phase → parts.new ≡ parts.old }
     {
@@ -181,15 +151,10 @@ impl<'a, R: Wait> Place<'a, R> {
         now: u64,
     ) -> Result<(), NoMemory>
         requires serves { ServesOn self.now parts.old own.old }
-        ensures parts { AreSameParts parts.old parts.new }
-        ensures own { IsSameOwn own.old own.new }
-        ensures lent { IsLent (held own.old) (held own.new) }
-        ensures rung { own.new.poster.now.view.rung ≡ own.old.poster.now.view.rung }
-        ensures clocked { AddsAt now own.old.poster.now own.new.poster.now }
-        ensures others { parts.new.others ≡ parts.old.others }
+        ensures leaves { KeepsToQueue now parts.old parts.new own.old own.new }
         ensures plays { OnOk result (PlaysOn self.now (object_set self.now.script.now self.now.looper now object target) own.old own.new parts.old parts.new) }
         ensures acts { own.new.journal.now.acts ≡ own.old.journal.now.acts }
-        ensures frames { parts.new.frames ≡ parts.old.frames }
+        ensures frames { (parts.new.frames ≡ parts.old.frames) × (parts.new.awaits ≡ parts.old.awaits) }
     {
         let began = Snapshot::of(&*own.poster);
         let pass_began = Snapshot::of(&*own.pass);
@@ -200,7 +165,8 @@ impl<'a, R: Wait> Place<'a, R> {
             .set_target(self.choreographer(), &mut host, object, target)
     }
 
-    /// A message by the choreographer's handler, which begins a frame or says that a callback came due.
+    /// A message by the choreographer's handler, which begins a frame, where a pulse came whose frame hasn't begun, or says that a callback
+    /// came due.
     pub(crate) fn on_frame<U: Uptime>(
         &self,
         parts: &mut Parts,
@@ -212,16 +178,16 @@ impl<'a, R: Wait> Place<'a, R> {
         requires callback { p.now.callback ≡ None }
         requires handler { p.now.handler ≡ the_frame_handler self.now.looper }
         requires serves { ServesOn self.now parts.old own.old }
-        ensures parts { AreSameParts parts.old parts.new }
-        ensures own { IsSameOwn own.old own.new }
-        ensures lent { IsLent (held own.old) (held own.new) }
-        ensures rung { own.new.poster.now.view.rung ≡ own.old.poster.now.view.rung }
-        ensures clocked { AddsAt now own.old.poster.now own.new.poster.now }
-        ensures others { parts.new.others ≡ parts.old.others }
+        ensures leaves { KeepsToQueue now parts.old parts.new own.old own.new }
         ensures delivers { OnOk result (DeliversOn self.now now (U.is_moment uptime.now) p.now own.old own.new parts.old parts.new) }
     {
         match p.what {
-            FRAME_MESSAGE => self.do_frame(parts, own, now, uptime),
+            FRAME_MESSAGE => {
+                if !parts.awaits {
+                    return Ok(());
+                }
+                self.do_frame(parts, own, now, uptime)
+            }
             DUE_MESSAGE => {
                 self.on_due(parts, own, p.arg, now);
                 Ok(())
@@ -233,8 +199,7 @@ impl<'a, R: Wait> Place<'a, R> {
 
 /// Tells what was painted, in order.
 fn tell_painted(journal: &mut Journal, painted: &[Painted]) -> Result<(), NoMemory>
-    ensures looper { journal.new.looper ≡ journal.old.looper }
-    ensures grew { GrowsBy IsOfDispatcher journal.old.acts journal.new.acts }
+    ensures more { TellsMore journal.old journal.new }
     ensures told { OnOk result (journal.new.acts ≡ journal.old.acts ++ map paint_of painted.now) }
 {
     for paint in painted {
@@ -250,9 +215,8 @@ fn tell_painted(journal: &mut Journal, painted: &[Painted]) -> Result<(), NoMemo
 /// Appends one act of the dispatcher's own.
 fn tell(journal: &mut Journal, act: Act) -> Result<(), NoMemory>
     requires { IsOfDispatcher act }
-    ensures looper { journal.new.looper ≡ journal.old.looper }
+    ensures more { TellsMore journal.old journal.new }
     ensures told { OnOk result (journal.new.acts ≡ journal.old.acts ++ act ∷ []) }
-    ensures grew { GrowsBy IsOfDispatcher journal.old.acts journal.new.acts }
 {
     journal.acts.push(act)?;
     Ok(())

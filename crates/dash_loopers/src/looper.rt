@@ -1,12 +1,11 @@
 //! A looper of a script.
-ghost use Rattle.std.specs.Prelude.{◌≡◌, ◌≢◌, ◌+◌, ◌<◌, true, false, [], IfOk};
+ghost use Rattle.std.specs.Prelude.{◌≡◌, ◌≢◌, ◌+◌, ◌<◌, true, false, IfOk};
 ghost use Rattle.looper_run.specs.Round.{is_ended};
-ghost use Rattle.dash_hall.specs.Hearing.{HasHeardAll};
-ghost use Rattle.dash_hall.specs.Kits.{IsHall, IsKitOf, HasSeenOver, IsUnusedKit};
-ghost use Rattle.dash_loopers.specs.Loopers.{posters_of, ComesToWait, WaitsForNothing, HasDoneNothing, IsLooper, IsLooperOf, ArePartsOf, HasRun, HasTold, HasDisposedLast, is_given_up, until_of, OfItsPasses};
+ghost use Rattle.dash_hall.specs.Kits.{IsHall, IsKitOf, IsUnusedKit};
+ghost use Rattle.dash_loopers.specs.Loopers.{ComesToWait, IsLooper, IsLooperOf, ArePartsOf, HasRun, is_given_up, until_of, MayWork, IsLooperStill};
 ghost use Rattle.dash_loopers.specs.Players.{AreSameParts, RingsMain};
-ghost use Rattle.dash_loopers.specs.Played.{HasCome, HasPlayed, HasLeft, HasComeBy, HasLeftBy};
-ghost use Rattle.run_model.specs.Loopers.{Looper as LooperState, first_looper};
+ghost use Rattle.dash_loopers.specs.Played.{HasPlayed};
+ghost use Rattle.dash_loopers.specs.Ends.{BeginsWith, GivesBack, IsToldBy};
 
 use crate::player::{Parts, Place, Player, of_looper};
 use crate::view_root::ViewRoot;
@@ -43,18 +42,10 @@ impl StageLooper {
         number: u32,
         kit: Kit,
     ) -> Result<StageLooper, NoMemory>
-        requires number { number < script.now.loopers }
-        requires fits { script.now.threads + script.now.loopers < 100 }
-        requires hall { IsHall script.now hall.now }
+        requires looper { IsLooperOf script.now hall.now number }
         requires kit { IsKitOf script.now hall.now (script.now.threads + number) kit }
         requires unused { IsUnusedKit kit }
-        ensures looper { IfOk result (λ l. IsLooper script.now hall.now l) }
-        ensures number_is { IfOk result (λ l. l.number ≡ number) }
-        ensures posters { IfOk result (λ l. posters_of l ≡ kit.posters.items) }
-        ensures waits { IfOk result (λ l. WaitsForNothing l.last) }
-        ensures begun { IfOk result (λ l. HasCome script.now l (first_looper script.now)) }
-        ensures nothing { IfOk result (HasDoneNothing kit) }
-        ensures unheard { IfOk result (OfItsPasses (HasHeardAll [])) }
+        ensures begins { IfOk result (BeginsWith script.now hall.now number kit) }
     {
         let Kit {
             mut posters,
@@ -70,6 +61,7 @@ impl StageLooper {
             root: ViewRoot::new(alloc, script, number, client)?,
             fired: vec![in alloc; 0; script.rules.len()]?,
             passed: 0,
+            awaits: false,
         };
         Ok(StageLooper {
             number,
@@ -125,11 +117,8 @@ impl StageLooper {
         gate: &G,
         now: u64,
     )
-        requires mode { hall.now.lockstep ≡ true }
-        requires hall { IsHall script.now hall.now }
-        requires looper { IsLooper script.now hall.now self.old }
-        ensures looper { IsLooper script.now hall.now self.new }
-        ensures number { self.new.number ≡ self.old.number }
+        requires may { MayWork true script.now hall.now self.old }
+        ensures still { IsLooperStill script.now hall.now self.old self.new }
         ensures round { HasRun script.now now self.old self.new }
         ensures waits { ComesToWait script.now self.old self.new }
         ensures plays { HasPlayed script.now now self.old self.new }
@@ -177,15 +166,8 @@ impl StageLooper {
     ) -> Result<(Journal, Kit), NoMemory>
         requires hall { IsHall script.now hall.now }
         requires looper { IsLooper script.now hall.now self }
-        ensures journal { IfOk result (λ r. r.0.looper ≡ self.number) }
-        ensures kept { IfOk result (λ r. (r.0 ≡ self.looper.held.journal) × (r.1.pass ≡ self.looper.held.pass)) }
-        ensures kit { IfOk result (λ r. IsKitOf script.now hall.now (script.now.threads + self.number) r.1) }
-        ensures told { IfOk result (λ r. is_given_up self.last ≡ false → HasTold script.now self.number r.0 r.1) }
-        ensures disposes { IfOk result (λ r. is_given_up self.last ≡ false → HasDisposedLast script.now self.number r.1) }
-        ensures over { IfOk result (λ r. is_ended self.last ≡ true → HasSeenOver script.now self.number r.1) }
-        ensures posters { IfOk result (λ r. r.1.posters.items ≡ posters_of self) }
-        ensures left { IfOk result (λ r. (a : LooperState) → HasCome script.now self a → HasLeft script.now self.number r.0 r.1 a) }
-        ensures left_by { IfOk result (λ r. (did a : LooperState) → HasComeBy script.now self did a → HasLeftBy script.now self.number r.0 r.1 a) }
+        ensures gives { IfOk result (λ r. GivesBack script.now hall.now self r.0 r.1) }
+        ensures told { IfOk result (λ r. IsToldBy script.now self r.0 r.1) }
     {
         let StageLooper {
             number,
@@ -201,6 +183,7 @@ impl StageLooper {
             root,
             fired: _,
             passed: _,
+            awaits: _,
         } = parts;
         let ViewRoot {
             edition: _,

@@ -3,16 +3,15 @@ ghost use Rattle.std.specs.Prelude.{◌≡◌, ◌<◌, length, slice_get, Some,
 ghost use Rattle.std.specs.Option.{option_map_or};
 ghost use Rattle.message_slot.specs.Fields.{handler_of, obj_of};
 ghost use Rattle.looper_run.specs.declared.dispatcher.Did.TheVariants.{No};
-ghost use Rattle.looper_run.specs.Holding.{held, IsSameOwn};
-ghost use Rattle.looper_run.specs.Tests.{IsLent};
 ghost use Rattle.dash_loopers.specs.Clocked.{DeliversAt};
 ghost use Rattle.dash_loopers.specs.Loopers.{IsLooperOf};
-ghost use Rattle.dash_loopers.specs.Players.{Owner, ServesAt, AreSameParts};
+ghost use Rattle.dash_loopers.specs.Players.{Owner, ServesAt};
 ghost use Rattle.dash_loopers.specs.Played.{IsPlaying};
 ghost use Rattle.run_model.specs.Senders.{frame_handler as the_frame_handler};
 ghost use Rattle.looper_run.specs.declared.dispatcher.Did.TheVariants.{Yes};
 ghost use Rattle.dash_loopers.specs.PlayingLaws.{playing_others, playing_disposed, playing_quiet};
 ghost use Rattle.dash_loopers.specs.Places.{ServesOn, DeliversOn};
+ghost use Rattle.dash_loopers.specs.Steps.{Leaves};
 
 use crate::looper::StageLooper;
 use crate::view_root::ViewRoot;
@@ -43,6 +42,8 @@ pub struct Parts {
     pub fired: Vec<u32>,
     /// How often it came to the gate.
     pub passed: u64,
+    /// Whether a pulse came whose frame hasn't begun.
+    pub awaits: bool,
 }
 
 /// Where a looper's code runs.
@@ -173,10 +174,7 @@ impl<'a, R: Wait> Place<'a, R> {
     ) -> Result<(), NoMemory>
         requires serves { ServesOn self.now parts.old own.old }
         requires callback { p.now.callback ≡ None }
-        ensures parts { AreSameParts parts.old parts.new }
-        ensures own { IsSameOwn own.old own.new }
-        ensures lent { IsLent (held own.old) (held own.new) }
-        ensures rung { own.new.poster.now.view.rung ≡ own.old.poster.now.view.rung }
+        ensures leaves { Leaves parts.old parts.new own.old own.new }
         ensures clocked { DeliversAt self.now.looper now p.now own.old.poster.now own.new.poster.now parts.old parts.new }
         ensures delivers { OnOk result (DeliversOn self.now now (U.is_moment uptime.now) p.now own.old own.new parts.old parts.new) }
     {

@@ -1,20 +1,18 @@
 //! What a looper's rules send.
 ghost use Rattle.std.specs.Prelude.{◌≡◌, ◌<◌, ℕ, [], ◌∷◌, ◌++◌, slice_get, Some, OnOk};
-ghost use Rattle.shared_queue.specs.Known.{IsOf};
-ghost use Rattle.looper_run.specs.Holding.{workplace, held, IsSameOwn};
-ghost use Rattle.looper_run.specs.Tests.{IsLent};
+ghost use Rattle.looper_run.specs.Holding.{workplace, held, IsAt};
 ghost use Rattle.dash_hall.specs.Kits.{badge_of};
-ghost use Rattle.dash_loopers.specs.Clocked.{AddsUntimed, AreUntimed, CallsUntimed};
-ghost use Rattle.dash_loopers.specs.Loopers.{IsPlaceOf, IsLooperOf};
+ghost use Rattle.dash_loopers.specs.Clocked.{AddsUntimed};
 ghost use Rattle.dash_loopers.specs.Players.{AreSameParts};
 ghost use Rattle.dash_hall.specs.Growth.{Makes};
 ghost use Rattle.dash_loopers.specs.declared.player.Parts.{Parts as PartsData};
 ghost use Rattle.dash_script.specs.Reading.{HasText};
 ghost use Rattle.dash_hall.specs.Requests.{call_by};
-ghost use Rattle.dash_loopers.specs.Played.{calls_of, FiresAt, rule_met, with_call};
+ghost use Rattle.dash_loopers.specs.Played.{FiresAt, rule_met, with_call};
 ghost use Rattle.run_model.specs.Control.{Timing};
 ghost use Rattle.run_model.specs.Loopers.{reacted, reaction};
 ghost use Rattle.dash_loopers.specs.Places.{ServesOn, PlaysOn};
+ghost use Rattle.dash_loopers.specs.Steps.{IsAtPlace, LeavesOwn, OnlyCalls};
 
 use crate::hearing::place_without;
 use crate::player::{Parts, Place};
@@ -37,14 +35,8 @@ impl<'a, R: Wait> Place<'a, R> {
         now: u64,
     ) -> Result<(), NoMemory>
         requires serves { ServesOn self.now parts.old own.old }
-        ensures parts { AreSameParts parts.old parts.new }
-        ensures own { IsSameOwn own.old own.new }
-        ensures lent { IsLent (held own.old) (held own.new) }
-        ensures rung { own.new.poster.now.view.rung ≡ own.old.poster.now.view.rung }
-        ensures untimed { CallsUntimed own.old.poster.now own.new.poster.now parts.old parts.new }
+        ensures calls { OnlyCalls parts.old parts.new own.old own.new }
         ensures plays { OnOk result (PlaysOn self.now (reacted self.now.script.now now p.now) own.old own.new parts.old parts.new) }
-        ensures acts { own.new.journal.now.acts ≡ own.old.journal.now.acts }
-        ensures rest { (parts.new.frames ≡ parts.old.frames) × (parts.new.root ≡ parts.old.root) }
     {
         for (place, rule) in self.script.rules.as_slice().iter().enumerate() {
             self.fire(parts, own, p, place, rule, now)?;
@@ -64,14 +56,8 @@ impl<'a, R: Wait> Place<'a, R> {
     ) -> Result<(), NoMemory>
         requires one { slice_get self.now.script.now.rules place ≡ Some rule.now }
         requires serves { ServesOn self.now parts.old own.old }
-        ensures parts { AreSameParts parts.old parts.new }
-        ensures own { IsSameOwn own.old own.new }
-        ensures lent { IsLent (held own.old) (held own.new) }
-        ensures rung { own.new.poster.now.view.rung ≡ own.old.poster.now.view.rung }
-        ensures untimed { CallsUntimed own.old.poster.now own.new.poster.now parts.old parts.new }
+        ensures calls { OnlyCalls parts.old parts.new own.old own.new }
         ensures plays { OnOk result (PlaysOn self.now (rule_met self.now.script.now now p.now place rule.now) own.old own.new parts.old parts.new) }
-        ensures acts { own.new.journal.now.acts ≡ own.old.journal.now.acts }
-        ensures rest { (parts.new.frames ≡ parts.old.frames) × (parts.new.root ≡ parts.old.root) }
     {
         if p.handler != rule.handler || p.what != rule.what {
             return Ok(());
@@ -86,15 +72,9 @@ impl<'a, R: Wait> Place<'a, R> {
     fn send(&self, parts: &mut Parts, own: &mut Own, rule: &Rule, now: u64) -> Result<(), NoMemory>
         requires one { (place : ℕ) × (slice_get self.now.script.now.rules place ≡ Some rule.now) }
         requires serves { ServesOn self.now parts.old own.old }
-        ensures parts { AreSameParts parts.old parts.new }
-        ensures own { IsSameOwn own.old own.new }
-        ensures lent { IsLent (held own.old) (held own.new) }
-        ensures rung { own.new.poster.now.view.rung ≡ own.old.poster.now.view.rung }
-        ensures untimed { CallsUntimed own.old.poster.now own.new.poster.now parts.old parts.new }
+        ensures calls { OnlyCalls parts.old parts.new own.old own.new }
         ensures plays { OnOk result (PlaysOn self.now
             (λ a. record a { sent = a.sent ++ reaction self.now.script.now now rule.now ∷ [] }) own.old own.new parts.old parts.new) }
-        ensures acts { own.new.journal.now.acts ≡ own.old.journal.now.acts }
-        ensures rest { (parts.new.frames ≡ parts.old.frames) × (parts.new.root ≡ parts.old.root) }
     {
         let looper = looper_of(self.script, rule.to_handler);
         let handler = handler_of(self.script, rule.to_handler);
@@ -112,11 +92,8 @@ impl<'a, R: Wait> Place<'a, R> {
 
     /// A message to the looper itself.
     fn send_own(&self, own: &mut Own, handler: Handler, request: Request) -> Result<(), NoMemory>
-        requires looper { IsLooperOf self.now.script.now self.now.hall.now self.now.looper }
-        requires place { IsPlaceOf self.now.hall.now self.now.looper (workplace (held own.old)) }
-        ensures own { IsSameOwn own.old own.new }
-        ensures lent { IsLent (held own.old) (held own.new) }
-        ensures rung { own.new.poster.now.view.rung ≡ own.old.poster.now.view.rung }
+        requires at { IsAtPlace self.now.script.now self.now.hall.now self.now.looper (workplace (held own.old)) }
+        ensures leaves { LeavesOwn own.old own.new }
         ensures untimed { AddsUntimed own.old.poster.now own.new.poster.now }
         ensures plays { (parts : PartsData) (timing : Timing)
             → OnOk result (PlaysOn self.now (with_call self.now.looper (call_by handler request) timing) own.old own.new parts parts) }
@@ -143,17 +120,10 @@ impl<'a, R: Wait> Place<'a, R> {
         requires within { HasText self.now.script.now → looper < self.now.script.now.loopers }
         requires other { looper ≡ self.now.looper → ⊥ }
         requires serves { ServesOn self.now parts.old own.old }
-        ensures parts { AreSameParts parts.old parts.new }
-        ensures own { IsSameOwn own.old own.new }
-        ensures lent { IsLent (held own.old) (held own.new) }
-        ensures rung { own.new.poster.now.view.rung ≡ own.old.poster.now.view.rung }
-        ensures untimed { AreUntimed parts.old.others.items parts.new.others.items }
+        ensures calls { OnlyCalls parts.old parts.new own.old own.new }
         ensures seen { own.new.poster.now ≡ own.old.poster.now }
         ensures plays { (timing : Timing)
             → OnOk result (PlaysOn self.now (with_call looper (call_by handler request) timing) own.old own.new parts.old parts.new) }
-        ensures calls { calls_of own.new.poster.now ≡ calls_of own.old.poster.now }
-        ensures acts { own.new.journal.now.acts ≡ own.old.journal.now.acts }
-        ensures rest { (parts.new.frames ≡ parts.old.frames) × (parts.new.root ≡ parts.old.root) }
     {
         let place = looper as usize;
         if place >= self.hall.queues.len() {
@@ -173,13 +143,9 @@ impl<'a, R: Wait> Place<'a, R> {
         handler: Handler,
         request: Request,
     ) -> Result<(), NoMemory>
-        requires poster { IsOf poster.old queue.now }
-        requires pass { own.old.pass.now.home ≡ self.now.hall.now.pool }
-        requires home { queue.now.constants.home ≡ self.now.hall.now.pool }
+        requires at { IsAt queue.now self.now.hall.now.pool (record (held own.old) { poster = poster.old }) }
         ensures poster { badge_of poster.new ≡ badge_of poster.old }
-        ensures own { IsSameOwn own.old own.new }
-        ensures lent { IsLent (held own.old) (held own.new) }
-        ensures rung { own.new.poster.now.view.rung ≡ own.old.poster.now.view.rung }
+        ensures leaves { LeavesOwn own.old own.new }
         ensures untimed { AddsUntimed poster.old poster.new }
         ensures made { OnOk result (Makes poster.old poster.new (call_by handler request) []) }
         ensures acts { own.new.journal.now.acts ≡ own.old.journal.now.acts }

@@ -1,15 +1,14 @@
 //! The gauges of a looper, and its traversals.
 ghost use Rattle.std.specs.Prelude.{◌≡◌, ◌<◌, ◌≤◌, ◌++◌, [], ℕ, map, slice_get, slice_set, replicate, length, IfOk, OnOk, None, false};
 ghost use Rattle.std.specs.List.{flat_map, enumerate_from};
-ghost use Rattle.choreographer.specs.Known.{IsOf};
-ghost use Rattle.dash_hall.specs.Hosts.{IsHostNow, IsSameHost};
-ghost use Rattle.dash_hall.specs.Kits.{frame_badge_of};
+ghost use Rattle.dash_hall.specs.Hosts.{IsHostNow};
 ghost use Rattle.dash_loopers.specs.Places.{ShowsOn, HasGauges, HasPainted, animated};
 ghost use Rattle.dash_loopers.specs.Played.{standing, paint_of, paint_of_gauge};
 ghost use Rattle.dash_script.specs.declared.script.Script.{Script as ScriptData};
 ghost use Rattle.dash_script.specs.Reading.{HasText};
 ghost use Rattle.run_model.specs.Senders.{traversal_phase};
 ghost use Rattle.run_model.specs.Loopers.{object_set, traversal_requested, traversal_ran, callback_ran, and_posts_frame, paints, moved as moved_by};
+ghost use Rattle.dash_loopers.specs.Steps.{ShowsBy, LeavesRoot};
 
 use choreographer::{Choreographer, FramePass};
 use dash_hall::{Host, Uptime, looper_of};
@@ -104,11 +103,8 @@ impl ViewRoot {
         gauge: u64,
         target: u32,
     ) -> Result<(), NoMemory>
-        requires ready { IsHostNow host.old }
-        requires pass { IsOf self.old.pass c.now × (3 < c.now.constants.phases) }
-        ensures ready { IsHostNow host.new }
-        ensures origin { IsSameHost host.old host.new }
-        ensures pass { frame_badge_of self.new.pass ≡ frame_badge_of self.old.pass }
+        requires by { ShowsBy c.now host.old self.old }
+        ensures keeps { LeavesRoot host.old host.new self.old self.new }
         ensures shows { (s : ScriptData) (q : ℕ) → OnOk result (ShowsOn host.old host.new s q (object_set s q host.old.now gauge target) self.old self.new) }
     {
         let Some(x) = self.gauge(gauge) else {
@@ -168,11 +164,8 @@ impl ViewRoot {
         c: &Choreographer,
         host: &mut Host<R, U>,
     ) -> Result<(), NoMemory>
-        requires ready { IsHostNow host.old }
-        requires pass { IsOf self.old.pass c.now × (3 < c.now.constants.phases) }
-        ensures ready { IsHostNow host.new }
-        ensures origin { IsSameHost host.old host.new }
-        ensures pass { frame_badge_of self.new.pass ≡ frame_badge_of self.old.pass }
+        requires by { ShowsBy c.now host.old self.old }
+        ensures keeps { LeavesRoot host.old host.new self.old self.new }
         ensures shows { (s : ScriptData) (q : ℕ) → OnOk result (ShowsOn host.old host.new s q (traversal_requested s q host.old.now) self.old self.new) }
     {
         if self.barrier.is_some() {
@@ -191,11 +184,8 @@ impl ViewRoot {
         host: &mut Host<R, U>,
         gauge: u64,
     ) -> Result<(), NoMemory>
-        requires ready { IsHostNow host.old }
-        requires pass { IsOf self.old.pass c.now × (3 < c.now.constants.phases) }
-        ensures ready { IsHostNow host.new }
-        ensures origin { IsSameHost host.old host.new }
-        ensures pass { frame_badge_of self.new.pass ≡ frame_badge_of self.old.pass }
+        requires by { ShowsBy c.now host.old self.old }
+        ensures keeps { LeavesRoot host.old host.new self.old self.new }
         ensures shows { (s : ScriptData) (q : ℕ) → OnOk result (ShowsOn host.old host.new s q (animated s q host.old.now gauge) self.old self.new) }
     {
         let Some(x) = self.gauge(gauge) else {
@@ -224,9 +214,7 @@ impl ViewRoot {
     /// The traversal removes its barrier, and paints each gauge of the looper.
     fn traverse<R: Wait, U: Uptime>(&mut self, host: &mut Host<R, U>) -> Result<(), NoMemory>
         requires { IsHostNow host.old }
-        ensures ready { IsHostNow host.new }
-        ensures origin { IsSameHost host.old host.new }
-        ensures pass { frame_badge_of self.new.pass ≡ frame_badge_of self.old.pass }
+        ensures keeps { LeavesRoot host.old host.new self.old self.new }
         ensures shows { (s : ScriptData) (q : ℕ) → OnOk result (ShowsOn host.old host.new s q (traversal_ran s q host.old.now) self.old self.new) }
     {
         let Some(token) = self.barrier else {
@@ -254,12 +242,9 @@ impl ViewRoot {
         phase: u32,
         id: u64,
     ) -> Result<(), NoMemory>
-        requires ready { IsHostNow host.old }
-        requires pass { IsOf self.old.pass c.now × (3 < c.now.constants.phases) }
+        requires by { ShowsBy c.now host.old self.old }
         requires phase { phase ≤ 3 }
-        ensures ready { IsHostNow host.new }
-        ensures origin { IsSameHost host.old host.new }
-        ensures pass { frame_badge_of self.new.pass ≡ frame_badge_of self.old.pass }
+        ensures keeps { LeavesRoot host.old host.new self.old self.new }
         ensures shows { (s : ScriptData) (q : ℕ) → OnOk result (ShowsOn host.old host.new s q (and_posts_frame host.old.now phase id) self.old self.new) }
     {
         host.post_callback(c, &mut self.pass, phase, id, 0)
@@ -272,11 +257,8 @@ impl ViewRoot {
         host: &mut Host<R, U>,
         id: u64,
     ) -> Result<(), NoMemory>
-        requires ready { IsHostNow host.old }
-        requires pass { IsOf self.old.pass c.now × (3 < c.now.constants.phases) }
-        ensures ready { IsHostNow host.new }
-        ensures origin { IsSameHost host.old host.new }
-        ensures pass { frame_badge_of self.new.pass ≡ frame_badge_of self.old.pass }
+        requires by { ShowsBy c.now host.old self.old }
+        ensures keeps { LeavesRoot host.old host.new self.old self.new }
         ensures shows { (s : ScriptData) (q : ℕ) → OnOk result (ShowsOn host.old host.new s q (λ a. callback_ran s q host.old.now a id) self.old self.new) }
     {
         if id == TRAVERSAL_CALLBACK {

@@ -9,9 +9,8 @@ use Rattle.dash_hall.specs.declared.timer.Timer.{Timer}
 use Rattle.dash_threads.specs.declared.thread.PostingThread.{PostingThread}
 use Rattle.dash_threads.specs.Threads.{IsThread, AreByClock, RunsAll}
 use Rattle.dash_loopers.specs.declared.looper.StageLooper.{StageLooper}
-use Rattle.dash_loopers.specs.Loopers.{IsLooper, posters_of, is_given_up}
-use Rattle.dash_loopers.specs.Played.{HasPlayedBy}
-use Rattle.dash_loopers.specs.Looped.{GoesOnFrom, StaysTold, HasGoneRound, LoopsOnce, LoopsUpTo, ends_at}
+use Rattle.dash_loopers.specs.Loopers.{IsLooper}
+use Rattle.dash_loopers.specs.Looped.{GoesOnFrom, HasGoneRound, LoopsOnce, LoopsUpTo, ends_at, HasLooped}
 use Rattle.dash_script.specs.Reading.{HasText}
 use Rattle.dash_hall.specs.Kits.{IsHall}
 use Rattle.dash_hall.specs.Hearing.{AtEach, HaveHeard}
@@ -29,18 +28,9 @@ pub record RunsByClock (m : Mode) (s : Script) (hall : Hall) (before after : Pos
   pub number : after.number ≡ before.number
   pub made : after.gave_up ≡ false → RunsAll m s before after
 
--- the looper is the same, and unless memory was wanting it has played on from wherever it stood, and the moments of what it called are the clock's, or the
--- queue's time
-pub record LoopsByClock (m : Mode) (s : Script) (hall : Hall) (before after : StageLooper) : Type 0 where
-  pub looper : IsLooper s hall after
-  pub number : after.number ≡ before.number
-  pub plays : HasPlayedBy s before after
-  pub clocked : is_given_up after.last ≡ false → AreByClock m (posters_of before) → AreByClock m (posters_of after)
-  pub grew : StaysTold before after
-
--- such a looper has looped by the clock up to this end, or stopped by this look
+-- the looper has gone on by the clock, and looped up to this end, or stopped by this look
 pub record LoopsFor (m : Mode) (s : Script) (hall : Hall) (end : Option ℕ) (look : Option Bool) (before after : StageLooper) : Type 0 where
-  pub goes : LoopsByClock m s hall before after
+  pub goes : HasLooped m s hall before after
   pub loops : LoopsUpTo m s end before after look
 
 -- so it is with a looper that loops without an end, and whose look is nobody's
@@ -89,7 +79,7 @@ abbrev pub EachRuns : Mode → Script → Hall → List PostingThread → List P
 EachRuns m s hall before after = AtEach (RunsByClock m s hall) before after
 
 abbrev pub EachLoops : Mode → Script → Hall → List StageLooper → List StageLooper → Type 0
-EachLoops m s hall before after = AtEach (LoopsByClock m s hall) before after
+EachLoops m s hall before after = AtEach (HasLooped m s hall) before after
 
 abbrev pub EachLoopsAlone : Mode → Script → Hall → List StageLooper → List StageLooper → Type 0
 EachLoopsAlone m s hall before after = AtEach (LoopsAlone m s hall) before after

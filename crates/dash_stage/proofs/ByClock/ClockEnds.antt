@@ -29,7 +29,7 @@ use Rattle.dash_loopers.proofs.LooperNext.{played_self, grown_self}
 use Rattle.dash_loopers.proofs.LooperPlayed.{comes_free}
 use Rattle.dash_stage.specs.declared.control.Controller.{Controller}
 use Rattle.dash_stage.specs.declared.stage.Stage.{Stage}
-use Rattle.dash_stage.specs.ByClock.{RunsByClock, LoopsByClock, EachIsLooper, QuitsOthers, CanRunMain, CanQuitOthers}
+use Rattle.dash_stage.specs.ByClock.{RunsByClock, EachIsLooper, QuitsOthers, CanRunMain, CanQuitOthers}
 use Rattle.dash_stage.specs.BehindThreads.{CallsBehindThreads}
 use Rattle.dash_stage.proofs.ByClock.Behind.{behind_on, sees_heard, sees_then}
 use Rattle.dash_stage.proofs.ByClock.Looping.{looped_on, all_heard}
@@ -45,6 +45,7 @@ use Rattle.dash_stage.proofs.Controller.ControlKept.{closing_by_kept, closed_kep
 use Rattle.dash_stage.proofs.Played.PlayedStage.{heard_come_by}
 use Rattle.dash_stage.proofs.Sharing.StageShares.{run_kept, ended_kept, calls_none, controller_kept, of_senders_then}
 use Rattle.dash_stage.proofs.Stages.StageTurns.{halted_stays, go_on_kept}
+use Rattle.dash_loopers.specs.Looped.{HasLooped}
 
 -- ---- the free mode of a controller's hall
 
@@ -85,7 +86,7 @@ each_set R xs x y is some still one = record {
 }
 
 -- a looper as it is
-pub loops_still : (m : Mode) (s : Script) (hall : Hall) (ls : List StageLooper) → EachIsLooper s hall ls → (k : ℕ) (d : StageLooper) → k < length ls → LoopsByClock m s hall (slice_index_or ls k d) (slice_index_or ls k d)
+pub loops_still : (m : Mode) (s : Script) (hall : Hall) (ls : List StageLooper) → EachIsLooper s hall ls → (k : ℕ) (d : StageLooper) → k < length ls → HasLooped m s hall (slice_index_or ls k d) (slice_index_or ls k d)
 loops_still m s hall ls are k d lt = record { looper = are k d lt; number = refl; plays = played_self s (slice_index_or ls k d); clocked = λ on by. by; grew = grown_self (slice_index_or ls k d) }
 
 -- where a looper stands that has gone on
@@ -125,16 +126,16 @@ module _ (m : Mode) (s : Script) (hall : Hall) where
   threads_clocked ts run k d lt = (run k d lt).clocked
 
   -- the loopers of the script, at moments of the clock
-  pub loopers_ran : (ls ls' : List StageLooper) → AreLoopers s hall ls → AtEach (LoopsByClock m s hall) ls ls' → AreLoopers s hall ls'
-  loopers_ran = numbered_still (IsLooper s hall) (λ l. l.number) s.loopers (LoopsByClock m s hall) (λ x y one. (one.looper, one.number))
+  pub loopers_ran : (ls ls' : List StageLooper) → AreLoopers s hall ls → AtEach (HasLooped m s hall) ls ls' → AreLoopers s hall ls'
+  loopers_ran = numbered_still (IsLooper s hall) (λ l. l.number) s.loopers (HasLooped m s hall) (λ x y one. (one.looper, one.number))
 
-  pub loopers_clocked : (ls ls' : List StageLooper) → AtEach (LoopsByClock m s hall) ls ls' → LoopersGoOn ls' → OfLoopers (AreByClock m) ls → OfLoopers (AreByClock m) ls'
+  pub loopers_clocked : (ls ls' : List StageLooper) → AtEach (HasLooped m s hall) ls ls' → LoopersGoOn ls' → OfLoopers (AreByClock m) ls → OfLoopers (AreByClock m) ls'
   loopers_clocked ls ls' ran on by k d lt =
       let within : k < length ls = subst (λ (n : ℕ). k < n) ran.long lt in
       (ran.each k d within).clocked (on k d lt) (by k d within)
 
   -- which have played on from where they stood
-  pub loopers_played : (ls ls' : List StageLooper) → HasText s → AreLoopers s hall ls → AtEach (LoopsByClock m s hall) ls ls' → LoopersGoOn ls' → HaveComeBy s ls → HaveComeBy s ls'
+  pub loopers_played : (ls ls' : List StageLooper) → HasText s → AreLoopers s hall ls → AtEach (HasLooped m s hall) ls ls' → LoopersGoOn ls' → HaveComeBy s ls → HaveComeBy s ls'
   loopers_played ls ls' text are ran on come k d lt =
       let within : k < length ls = subst (λ (n : ℕ). k < n) ran.long lt in
       let x : StageLooper = slice_index_or ls k d in

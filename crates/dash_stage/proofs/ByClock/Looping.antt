@@ -14,9 +14,9 @@ use Rattle.dash_hall.specs.Hearing.{AtEach, HaveHeard}
 use Rattle.dash_hall.specs.Kits.{IsHall}
 use Rattle.dash_loopers.specs.declared.looper.StageLooper.{StageLooper}
 use Rattle.dash_loopers.specs.Loopers.{IsLooper, LooperKeeps, is_given_up}
-use Rattle.dash_loopers.specs.Looped.{GoesOnFrom, HasGoneRound, LoopsUpTo, StopsBy}
+use Rattle.dash_loopers.specs.Looped.{GoesOnFrom, HasGoneRound, LoopsUpTo, StopsBy, HasLooped}
 use Rattle.dash_loopers.proofs.LooperNext.{stopped_not}
-use Rattle.dash_stage.specs.ByClock.{LoopsByClock, LoopsFor, LoopsAlone, LoopsToEnd, LoopsOut, LoopSideBySide, HaveLooped}
+use Rattle.dash_stage.specs.ByClock.{LoopsFor, LoopsAlone, LoopsToEnd, LoopsOut, LoopSideBySide, HaveLooped}
 use Rattle.dash_stage.specs.Playing.{HaveBegun}
 use Rattle.dash_stage.specs.Stages.{AreLoopers, OthersHaveEnded, LoopersGoOn}
 use Rattle.dash_stage.proofs.Sharing.LooperShares.{own_kept}
@@ -114,7 +114,7 @@ all_heard s hall is_hall ls ls' are kept = record {
 }
 
 -- by a clock, unless memory was wanting
-pub all_grew : (m : Mode) (s : Script) (hall : Hall) (ls ls' : List StageLooper) → AtEach (LoopsByClock m s hall) ls ls' → LoopersGoOn ls' → GoOnFrom ls ls'
+pub all_grew : (m : Mode) (s : Script) (hall : Hall) (ls ls' : List StageLooper) → AtEach (HasLooped m s hall) ls ls' → LoopersGoOn ls' → GoOnFrom ls ls'
 all_grew m s hall ls ls' ran on = record { long = ran.long; each = λ k d lt. (ran.each k d lt).grew (on k d (subst (λ (n : ℕ). k < n) (sym ran.long) lt)) }
 
 -- they have looped from before the first act

@@ -4,9 +4,9 @@ use Rattle.std.proofs.lemmas.List.{get_or_default, get_or-set_other, length-set}
 use Rattle.looper_run.specs.Round.{is_ended}
 use Rattle.run_model.specs.Moments.{Mode, in_free_mode}
 use Rattle.dash_loopers.specs.declared.looper.StageLooper.{StageLooper}
-use Rattle.dash_stage.specs.ByClock.{LoopsByClock}
 use Rattle.dash_stage.proofs.ByClock.ClockEnds.{each_set, loops_still}
 use Rattle.dash_stage.proofs.free.drain_first.Goals as goal
+use Rattle.dash_loopers.specs.Looped.{HasLooped}
 
 pub returns-clause-loopers : goal.returns-clause-loopers
 returns-clause-loopers g c =
@@ -16,8 +16,8 @@ returns-clause-loopers g c =
     let ls = c.args.loopers.now in
     let it : StageLooper = slice_index_or ls 0 c.index-loopers-0.result in
     let some : 0 < length ls = subst (λ (n : ℕ). 0 < n) (sym c.requires.loopers.0) c.requires.some in
-    each_set (LoopsByClock m s hall) ls it c.drain_by_clock.new.self (get_or_default ls 0 c.index-loopers-0.result it some) some (loops_still m s hall ls (λ k d lt. (c.requires.loopers.1 k d lt).0))
-    (record { looper = c.drain_by_clock.ensures.looper; number = c.drain_by_clock.ensures.number; plays = c.drain_by_clock.ensures.plays; clocked = c.drain_by_clock.ensures.clocked; grew = c.drain_by_clock.ensures.grew })
+    each_set (HasLooped m s hall) ls it c.drain_by_clock.new.self (get_or_default ls 0 c.index-loopers-0.result it some) some (loops_still m s hall ls (λ k d lt. (c.requires.loopers.1 k d lt).0))
+    c.drain_by_clock.ensures.looped
 
 pub returns-clause-others : goal.returns-clause-others
 returns-clause-others g c ended k d some lt =

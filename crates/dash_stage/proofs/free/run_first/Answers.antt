@@ -2,9 +2,9 @@ use Rattle.std.proofs.Common.{◌<◌, Bool, Option, Some, None, length, subst, 
 use Rattle.std.specs.Prelude.{slice_index_or}
 use Rattle.std.proofs.lemmas.List.{get_or_default}
 use Rattle.dash_loopers.specs.declared.looper.StageLooper.{StageLooper}
-use Rattle.dash_loopers.specs.Looped.{LoopsUpTo}
+use Rattle.dash_loopers.specs.Looped.{LoopsUpTo, HasLooped}
 use Rattle.run_model.specs.Moments.{Mode, in_free_mode}
-use Rattle.dash_stage.specs.ByClock.{LoopsByClock, LoopsFor}
+use Rattle.dash_stage.specs.ByClock.{LoopsFor}
 use Rattle.dash_stage.proofs.ByClock.ClockEnds.{each_set, loops_still}
 use Rattle.dash_stage.proofs.ByClock.Looping.{one_set}
 use Rattle.dash_stage.proofs.free.run_first.Goals as goal
@@ -19,9 +19,8 @@ returns g c =
     let some : 0 < length ls = omega (arith, c.requires.one) in
     let is_it = get_or_default ls 0 c.index-loopers-0.result it some in
     let ran = c.run_by_clock.ensures in
-    let goes : LoopsByClock m s hall it c.run_by_clock.new.self = record { looper = ran.looper; number = ran.number; plays = ran.plays; clocked = ran.clocked; grew = ran.grew } in
     record {
-      loopers = each_set (LoopsByClock m s hall) ls it c.run_by_clock.new.self is_it some (loops_still m s hall ls c.requires.loopers) goes;
+      loopers = each_set (HasLooped m s hall) ls it c.run_by_clock.new.self is_it some (loops_still m s hall ls c.requires.loopers) ran.looped;
       looped = λ none. one_set (LoopsFor m s hall (Some s.end) None) ls it c.run_by_clock.new.self is_it c.requires.one
-          (record { goes = goes; loops = subst (λ (o : Option Bool). LoopsUpTo m s (Some s.end) it c.run_by_clock.new.self o) none ran.rounds });
+          (record { goes = ran.looped; loops = subst (λ (o : Option Bool). LoopsUpTo m s (Some s.end) it c.run_by_clock.new.self o) none ran.rounds });
     }

@@ -2,17 +2,18 @@ use Rattle.std.proofs.Common.{rules, ◌≡◌, ◌++◌, List, length, sym, sub
 use Rattle.run_model.specs.Moments.{Mode, in_free_mode}
 use Rattle.dash_hall.specs.Hearing.{AtEach}
 use Rattle.dash_loopers.specs.declared.looper.StageLooper.{StageLooper}
-use Rattle.dash_stage.specs.ByClock.{LoopsByClock, LoopsAlone, EachLoops, EachLoopsAlone, MainLoops, LoopSideBySide}
+use Rattle.dash_stage.specs.ByClock.{LoopsAlone, EachLoops, EachLoopsAlone, MainLoops, LoopSideBySide}
 use Rattle.dash_stage.proofs.ByClock.ClockEnds.{each_append}
 use Rattle.dash_stage.proofs.ByClock.Looping.{each_so, side_by_side}
 use Rattle.dash_stage.proofs.free.run_side_by_side.Goals as goal
+use Rattle.dash_loopers.specs.Looped.{HasLooped}
 
 pub returns-clause-beside : goal.returns-clause-beside
 returns-clause-beside g c =
     let m : Mode = in_free_mode (g.C.Clock.shows c.args.timer.now.clock.now) c.args.timer.now.start in
     let s = c.args.script.now in
     let hall = c.args.hall.now in
-    let R = LoopsByClock m s hall in
+    let R = HasLooped m s hall in
     let main : List StageLooper = c.split_at_mut-main.result.0.now in
     let others : List StageLooper = c.split_at_mut-main.result.1.now in
     let alone : EachLoopsAlone m s hall others c.others-1.given.0 = search rules in

@@ -17,27 +17,27 @@ each-preserved c =
     let hall = c.args.hall.now in
     let some : 0 < length at.loopers.items = search rules in
     let back = looper_back s hall at.journals.items c.push.new.self.items at.loopers.items c.remove.new.self.items at.kits.items c.push-in-each.new.self.items c.remove.result c.in_ok-journal.journal c.in_ok-journal.kit
-    at.invariant.rest some c.remove.ensures.value c.remove.ensures.items at.invariant.count at.invariant.first at.invariant.journals c.in_ok-journal.ensures.journal c.in_ok-journal.ensures.kit c.in_ok-push.ensures.items c.in_ok-push-2.ensures.items in
+    at.invariant.rest some c.remove.ensures.value c.remove.ensures.items at.invariant.count at.invariant.first at.invariant.journals c.in_ok-journal.ensures.gives.number c.in_ok-journal.ensures.gives.is_kit c.in_ok-push.ensures.items c.in_ok-push-2.ensures.items in
     let count = at.invariant.count in
     let all : s.threads ≤ length at.kits.items = omega (arith, count) in
     let number = ap (λ (z : StageLooper). z.number) c.remove.ensures.value ∙ (first_looper s hall (length at.journals.items) at.loopers.items c.remove.result at.invariant.rest some).1 in
     let given = given_back s c.args.loopers.items at.journals.items c.push.new.self.items at.loopers.items c.remove.new.self.items at.kits.items c.push-in-each.new.self.items c.remove.result c.in_ok-journal.journal c.in_ok-journal.kit
-    some c.remove.ensures.value c.remove.ensures.items at.invariant.count number c.in_ok-journal.ensures.left c.in_ok-journal.ensures.left_by c.in_ok-journal.ensures.disposes c.in_ok-push.ensures.items c.in_ok-push-2.ensures.items at.invariant.behind at.invariant.given in record {
+    some c.remove.ensures.value c.remove.ensures.items at.invariant.count number c.in_ok-journal.ensures.told.left c.in_ok-journal.ensures.told.left_by c.in_ok-journal.ensures.told.disposes c.in_ok-push.ensures.items c.in_ok-push-2.ensures.items at.invariant.behind at.invariant.given in record {
       rest = back.0;
       count = back.1;
       first = back.2;
       journals = back.3;
       run = λ m ran. run_kept s hall m at.kits.items c.push-in-each.new.self.items c.in_ok-journal.kit all c.in_ok-push-2.ensures.items (at.invariant.run m ran);
       over = λ ended. over_back s at.journals.items c.push.new.self.items at.loopers.items c.remove.new.self.items at.kits.items c.push-in-each.new.self.items c.remove.result c.in_ok-journal.journal c.in_ok-journal.kit
-          some c.remove.ensures.value c.remove.ensures.items at.invariant.count number c.in_ok-journal.ensures.over c.in_ok-push.ensures.items c.in_ok-push-2.ensures.items (at.invariant.over ended).0 (at.invariant.over ended).1;
+          some c.remove.ensures.value c.remove.ensures.items at.invariant.count number c.in_ok-journal.ensures.told.over c.in_ok-push.ensures.items c.in_ok-push-2.ensures.items (at.invariant.over ended).0 (at.invariant.over ended).1;
       told = λ on. told_back s at.journals.items c.push.new.self.items at.loopers.items c.remove.new.self.items at.kits.items c.push-in-each.new.self.items c.remove.result c.in_ok-journal.journal c.in_ok-journal.kit
-          some c.remove.ensures.value c.remove.ensures.items at.invariant.count number c.in_ok-journal.ensures.told c.in_ok-push.ensures.items c.in_ok-push-2.ensures.items (at.invariant.told on);
+          some c.remove.ensures.value c.remove.ensures.items at.invariant.count number c.in_ok-journal.ensures.told.told c.in_ok-push.ensures.items c.in_ok-push-2.ensures.items (at.invariant.told on);
       seen = λ whole seen of_kits. looper_gives (HaveSeenAll whole) at.loopers.items c.remove.new.self.items at.kits.items c.push-in-each.new.self.items c.remove.result c.in_ok-journal.kit
-          some c.remove.ensures.value c.remove.ensures.items c.in_ok-journal.ensures.posters c.in_ok-push-2.ensures.items (at.invariant.seen whole seen of_kits);
+          some c.remove.ensures.value c.remove.ensures.items c.in_ok-journal.ensures.gives.posters c.in_ok-push-2.ensures.items (at.invariant.seen whole seen of_kits);
       behind = given.0;
       given = given.1;
       clocked = λ m by of_kits. looper_gives (AreByClock m) at.loopers.items c.remove.new.self.items at.kits.items c.push-in-each.new.self.items c.remove.result c.in_ok-journal.kit
-          some c.remove.ensures.value c.remove.ensures.items c.in_ok-journal.ensures.posters c.in_ok-push-2.ensures.items (at.invariant.clocked m by of_kits);
+          some c.remove.ensures.value c.remove.ensures.items c.in_ok-journal.ensures.gives.posters c.in_ok-push-2.ensures.items (at.invariant.clocked m by of_kits);
     }
 
 pub returns : goal.returns

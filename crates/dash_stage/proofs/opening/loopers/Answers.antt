@@ -29,6 +29,9 @@ loop-number-init c =
       unheard = λ k d lt. absurd (omega (arith, lt, none));
     }
 
+pub new-requires-clause-looper : goal.new-requires-clause-looper
+new-requires-clause-looper c = record { few = c.requires.few; one = c.loop-number-test.true; is_hall = c.requires.hall }
+
 pub new-requires-clause-unused : goal.new-requires-clause-unused
 new-requires-clause-unused c =
     let left = c.loop-number.invariant.kits_left in
@@ -48,7 +51,7 @@ loop-number-preserved c =
     let some : 0 < length at.kits.items = omega (arith, count, lt) in
     let grown = c.in_ok-push.ensures.items in
     let one = c.in_ok-looper.looper in
-    let new = c.in_ok-looper.ensures in
+    let new = c.in_ok-looper.ensures.begins in
     let made = looper_made s c.args.hall.now at.number at.kits.items c.remove.new.self.items at.loopers.items c.push.new.self.items one left.from some c.remove.ensures.items was.count was.first
     new.looper new.number_is grown in
     let unseen = subst AreUnseen (sym new.posters) (subst (λ (z : Kit). AreUnseen z.posters.items) (sym c.remove.ensures.value) (left.unused 0 c.remove.result some).posters) in

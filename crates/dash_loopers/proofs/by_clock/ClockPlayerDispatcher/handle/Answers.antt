@@ -11,4 +11,4 @@ returns-clause-routed g c =
     let done = c.deliver.ensures in
     unless_weaker _ _ c.did.result (λ h. record { awaits = refl; meets = h })
     (delivery_at (g.C.Clock.shows p.timer.now.clock.now) p.timer.now.start p.place.script.now p.place.hall.now p.place.looper p.began.now.value c.args.m.now c.args.now c.moment_for-at.result Handled c.as_post-p.result c.deliver.result c.did.result
-    (held c.args.own.now) (held c.deliver.new.own) p.parts c.deliver.new.parts c.requires.ready.serves c.as_post-p.ensures c.moment_for-at.ensures.rules c.moment_for-at.ensures.read done.lent done.clocked done.delivers c.requires.ready.taken c.did.ensures.no c.did.ensures.yes)
+    (held c.args.own.now) (held c.deliver.new.own) p.parts c.deliver.new.parts c.requires.ready.serves c.as_post-p.ensures c.moment_for-at.ensures.rules c.moment_for-at.ensures.read done.leaves.own.lent done.clocked done.delivers c.requires.ready.taken c.did.ensures.no c.did.ensures.yes)

@@ -1,4 +1,4 @@
-use Rattle.std.proofs.Common.{◌≡◌, Some}
+use Rattle.std.proofs.Common.{◌≡◌, Some, refl}
 use Rattle.dash_loopers.proofs.LooperPlaces.{frame_of_badge}
 use Rattle.dash_loopers.proofs.LooperKits.{parts_of}
 use Rattle.dash_loopers.proofs.LooperQueue.{within_frames}
@@ -15,26 +15,21 @@ asked-stamp-requires g c =
     let frames = c.of_looper-choreographer.result.now in
     frame_of_badge c.args.script.now.threads c.in-Some.parts.frames frames ((parts_of c.args.script.now c.args.hall.now l c.in-Some.parts c.requires.looper is).frames frames c.of_looper-choreographer.ensures)
 
-pub returns-clause-looper : goal.returns-clause-looper
-returns-clause-looper g c =
-    let l = c.args.self.now in
-    let is : l.parts ≡ Some c.in-Some.parts = cc in
-    looper_asked c.args.script.now c.args.hall.now l c.in-Some.parts c.asked-stamp.new.pass c.asked-stamp.result c.requires.looper is c.asked-stamp.ensures.turn
-
-pub returns-clause-plays : goal.returns-clause-plays
-returns-clause-plays g c =
-    let l = c.args.self.now in
-    let is : l.parts ≡ Some c.in-Some.parts = cc in
-    played_asked c.args.script.now l c.in-Some.parts c.asked-stamp.new.pass c.asked-stamp.result is c.asked-stamp.ensures.turn
-
-pub returns-clause-posters : goal.returns-clause-posters
-returns-clause-posters g c =
-    let l = c.args.self.now in
-    let is : l.parts ≡ Some c.in-Some.parts = cc in
-    posters_asked l c.in-Some.parts is
-
 pub returns-clause-asks : goal.returns-clause-asks
 returns-clause-asks g c =
     let l = c.args.self.now in
     let is : l.parts ≡ Some c.in-Some.parts = cc in
     pulse_asked l.parts c.in-Some.parts c.asked-stamp.new.pass c.asked-stamp.result c.rounded_up.result is c.asked-stamp.ensures.turn c.rounded_up.ensures
+
+pub returns-clause-looked : goal.returns-clause-looked
+returns-clause-looked g c =
+    let l = c.args.self.now in
+    let is : l.parts ≡ Some c.in-Some.parts = cc in
+    record {
+      looper = looper_asked c.args.script.now c.args.hall.now l c.in-Some.parts c.asked-stamp.new.pass c.asked-stamp.result c.requires.looper is c.asked-stamp.ensures.turn;
+      number = refl;
+      last = refl;
+      plays = played_asked c.args.script.now l c.in-Some.parts c.asked-stamp.new.pass c.asked-stamp.result is c.asked-stamp.ensures.turn;
+      posters = posters_asked l c.in-Some.parts is;
+      held = refl;
+    }

@@ -3,15 +3,14 @@ use Rattle.choreographer.proofs.Phases.{on_ok}
 use Rattle.handler_post.specs.declared.handler.Handler.{Handler}
 use Rattle.run_model.specs.Senders.{frame_handler}
 use Rattle.run_model.specs.Loopers.{object_set, reacted}
-use Rattle.looper_run.specs.Holding.{held}
-use Rattle.looper_run.proofs.Working.{lent_self}
 use Rattle.dash_loopers.specs.Played.{calls_of}
-use Rattle.dash_loopers.proofs.PlaySteps.{delivered_object, delivered_plain, object_painted, still_delivered}
+use Rattle.dash_loopers.proofs.PlaySteps.{delivered_object, delivered_plain, object_painted, still_delivered, starts_none}
 use Rattle.dash_loopers.proofs.LooperClock.{rules_not_frame, rules_not_object, rules_plain, delivers_nothing_at, delivers_timed, delivers_untimed}
 use Rattle.dash_loopers.proofs.player.Place.deliver.Goals as goal
+use Rattle.dash_loopers.proofs.LooperLeaves.{all_left}
 
-pub returns-then-is_stopped-clause-lent : goal.returns-then-is_stopped-clause-lent
-returns-then-is_stopped-clause-lent g c = lent_self (held c.args.own.now)
+pub returns-then-is_stopped-clause-leaves : goal.returns-then-is_stopped-clause-leaves
+returns-then-is_stopped-clause-leaves g c = all_left c.args.parts.now c.args.own.now
 
 pub returns-in-Some-clause-delivers : goal.returns-in-Some-clause-delivers
 returns-in-Some-clause-delivers g c =
@@ -23,7 +22,7 @@ returns-in-Some-clause-delivers g c =
     let own = c.set_target.new.own in
     let mine : c.frame_handler.result.id ≡ frame_handler q = ap (λ (h : Handler). h.id) c.frame_handler.ensures in
     on_ok c.set_target.result _ _ c.set_target.ensures.plays (λ plays.
-    still_delivered s q now (g.U.Uptime.is_moment c.args.uptime.now) m (calls_of old.poster.now) (calls_of own.poster.now) c.args.parts.now c.set_target.new.parts old.journal.now.acts own.journal.now.acts (object_set s q now c.in-Some.object m.arg) c.set_target.ensures.frames
+    still_delivered s q now (g.U.Uptime.is_moment c.args.uptime.now) m (calls_of old.poster.now) (calls_of own.poster.now) c.args.parts.now c.set_target.new.parts old.journal.now.acts own.journal.now.acts (object_set s q now c.in-Some.object m.arg) c.set_target.ensures.frames.0 c.set_target.ensures.frames.1 (starts_none q m c.args.parts.now.awaits (λ e. c.if-p-frame_handler.false (e ∙ sym mine)))
     (λ a. delivered_object s q now m c.in-Some.object a c.requires.callback (λ e. c.if-p-frame_handler.false (e ∙ sym mine)) c.in-Some.is) (λ a. object_painted s q now c.in-Some.object m.arg a) plays c.set_target.ensures.acts)
 
 pub returns-in-None-clause-delivers : goal.returns-in-None-clause-delivers
@@ -36,8 +35,8 @@ returns-in-None-clause-delivers g c =
     let own = c.react.new.own in
     let mine : c.frame_handler.result.id ≡ frame_handler q = ap (λ (h : Handler). h.id) c.frame_handler.ensures in
     on_ok c.react.result _ _ c.react.ensures.plays (λ plays.
-    still_delivered s q now (g.U.Uptime.is_moment c.args.uptime.now) m (calls_of old.poster.now) (calls_of own.poster.now) c.args.parts.now c.react.new.parts old.journal.now.acts own.journal.now.acts (reacted s now m) c.react.ensures.rest.0
-    (λ a. delivered_plain s q now m a c.requires.callback (λ e. c.if-p-frame_handler.false (e ∙ sym mine)) c.in-None.is) (λ a. refl) plays c.react.ensures.acts)
+    still_delivered s q now (g.U.Uptime.is_moment c.args.uptime.now) m (calls_of old.poster.now) (calls_of own.poster.now) c.args.parts.now c.react.new.parts old.journal.now.acts own.journal.now.acts (reacted s now m) c.react.ensures.calls.frames c.react.ensures.calls.awaits (starts_none q m c.args.parts.now.awaits (λ e. c.if-p-frame_handler.false (e ∙ sym mine)))
+    (λ a. delivered_plain s q now m a c.requires.callback (λ e. c.if-p-frame_handler.false (e ∙ sym mine)) c.in-None.is) (λ a. refl) plays c.react.ensures.calls.acts)
 
 pub returns-then-is_stopped-clause-clocked : goal.returns-then-is_stopped-clause-clocked
 returns-then-is_stopped-clause-clocked g c = delivers_nothing_at c.args.self.now.looper c.args.now c.args.p.now c.args.own.now.poster.now c.args.parts.now
@@ -47,17 +46,17 @@ returns-then-p-frame_handler-clause-clocked g c =
     let q = c.args.self.now.looper in
     let m = c.args.p.now in
     let mine : c.frame_handler.result.id ≡ frame_handler q = ap (λ (h : Handler). h.id) c.frame_handler.ensures in
-    delivers_timed q c.args.now m c.args.own.now.poster.now c.on_frame.new.own.poster.now c.args.parts.now c.on_frame.new.parts (rules_not_frame q m (c.if-p-frame_handler.true ∙ mine)) c.on_frame.ensures.clocked c.on_frame.ensures.others
+    delivers_timed q c.args.now m c.args.own.now.poster.now c.on_frame.new.own.poster.now c.args.parts.now c.on_frame.new.parts (rules_not_frame q m (c.if-p-frame_handler.true ∙ mine)) c.on_frame.ensures.leaves.clocked c.on_frame.ensures.leaves.others
 
 pub returns-in-Some-clause-clocked : goal.returns-in-Some-clause-clocked
 returns-in-Some-clause-clocked g c =
     let q = c.args.self.now.looper in
     let m = c.args.p.now in
-    delivers_timed q c.args.now m c.args.own.now.poster.now c.set_target.new.own.poster.now c.args.parts.now c.set_target.new.parts (rules_not_object q m c.in-Some.object c.in-Some.is) c.set_target.ensures.clocked c.set_target.ensures.others
+    delivers_timed q c.args.now m c.args.own.now.poster.now c.set_target.new.own.poster.now c.args.parts.now c.set_target.new.parts (rules_not_object q m c.in-Some.object c.in-Some.is) c.set_target.ensures.leaves.clocked c.set_target.ensures.leaves.others
 
 pub returns-in-None-clause-clocked : goal.returns-in-None-clause-clocked
 returns-in-None-clause-clocked g c =
     let q = c.args.self.now.looper in
     let m = c.args.p.now in
     let mine : c.frame_handler.result.id ≡ frame_handler q = ap (λ (h : Handler). h.id) c.frame_handler.ensures in
-    delivers_untimed q c.args.now m c.args.own.now.poster.now c.react.new.own.poster.now c.args.parts.now c.react.new.parts (rules_plain q m (λ e. c.if-p-frame_handler.false (e ∙ sym mine)) c.in-None.is) c.react.ensures.untimed
+    delivers_untimed q c.args.now m c.args.own.now.poster.now c.react.new.own.poster.now c.args.parts.now c.react.new.parts (rules_plain q m (λ e. c.if-p-frame_handler.false (e ∙ sym mine)) c.in-None.is) c.react.ensures.calls.untimed

@@ -1,4 +1,4 @@
-use Rattle.std.proofs.Common.{List, sym, ◌∙◌, subst}
+use Rattle.std.proofs.Common.{List, sym, ◌∙◌, subst, ap, ℕ, ◌+◌}
 use Rattle.loop_model.specs.declared.entry.Entry.{Entry}
 use Rattle.dash_loopers.specs.Played.{calls_of, Delivers}
 use Rattle.std.specs.Prelude.{OnOk}
@@ -8,11 +8,14 @@ use Rattle.dash_loopers.proofs.LooperClock.{delivers_rung}
 use Rattle.dash_loopers.proofs.player.Place.deliver_and_ring.Goals as goal
 
 pub returns-clause-lent : goal.returns-clause-lent
-returns-clause-lent g c = lent_rung (held c.args.own.now) (held c.deliver-done.new.own) c.nudge.new.self c.deliver-done.ensures.lent c.nudge.ensures.same.0 c.nudge.ensures.same.1 c.nudge.ensures.same.2
+returns-clause-lent g c = lent_rung (held c.args.own.now) (held c.deliver-done.new.own) c.nudge.new.self c.deliver-done.ensures.leaves.own.lent c.nudge.ensures.same.0 c.nudge.ensures.same.1 c.nudge.ensures.same.2
+
+pub returns-clause-rung : goal.returns-clause-rung
+returns-clause-rung g c = c.nudge.ensures.rung ∙ ap (λ (n : ℕ). n + 1) c.deliver-done.ensures.leaves.own.rung
 
 pub nudge-requires-after_bounds : goal.nudge-requires-after_bounds
 nudge-requires-after_bounds g c κs within =
-    let same = c.deliver-done.ensures.lent.same in
+    let same = c.deliver-done.ensures.leaves.own.lent.same in
     let of = c.requires.serves.place.queue c.queue.result.now c.queue.ensures in
     (same.table ∙ of.0, same.constants ∙ of.1)
 

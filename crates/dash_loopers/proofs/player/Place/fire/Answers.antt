@@ -1,20 +1,12 @@
-use Rattle.std.proofs.Common.{subst, inl, inr, eq-eqb}
-use Rattle.looper_run.specs.Holding.{held}
-use Rattle.looper_run.proofs.Working.{lent_self}
+use Rattle.std.proofs.Common.{subst, inl, inr, eq-eqb, sym}
 use Rattle.choreographer.proofs.Phases.{on_ok}
 use Rattle.dash_loopers.proofs.RuleSteps.{plays_fired, plays_used_up, plays_other}
 use Rattle.dash_loopers.specs.Played.{calls_of, FiresAt}
-use Rattle.std.proofs.Common.{refl, ap}
 use Rattle.dash_loopers.specs.declared.player.Parts.{Parts}
-use Rattle.dash_loopers.proofs.LooperClock.{calls_untimed_self, calls_untimed_from}
 use Rattle.dash_loopers.proofs.player.Place.fire.Goals as goal
 use Rattle.dash_loopers.proofs.player.Place.fire.Goals.{then-p-rule-via-then-p-rule, then-p-rule-via-else-p-rule+then-p-rule-2}
-
-pub returns-clause-lent : goal.returns-clause-lent
-returns-clause-lent g c = lent_self (held c.args.own.now)
-
-pub returns-then-p-rule-clause-lent : goal.returns-then-p-rule-clause-lent
-returns-then-p-rule-clause-lent g c = lent_self (held c.args.own.now)
+use Rattle.dash_loopers.specs.Steps.{OnlyCalls}
+use Rattle.dash_loopers.proofs.LooperLeaves.{none_called, calls_counted}
 
 pub returns-then-p-rule-clause-plays : goal.returns-then-p-rule-clause-plays
 returns-then-p-rule-clause-plays g c =
@@ -33,15 +25,15 @@ returns-clause-plays g c =
     plays_used_up c.args.self.now.script.now c.args.self.now.looper c.args.now c.args.p.now c.args.place c.args.rule.now (calls_of c.args.own.now.poster.now) c.args.parts.now c.fires.new.parts
     (subst (FiresAt c.args.place c.args.rule.now.times c.args.parts.now c.fires.new.parts) c.if-fires.false c.fires.ensures.fires)
 
-pub returns-then-p-rule-clause-untimed : goal.returns-then-p-rule-clause-untimed
-returns-then-p-rule-clause-untimed g c = calls_untimed_self c.args.own.now.poster.now c.args.own.now.poster.now c.args.parts.now c.args.parts.now refl refl
+pub returns-then-p-rule-clause-calls : goal.returns-then-p-rule-clause-calls
+returns-then-p-rule-clause-calls g c = none_called c.args.parts.now c.args.own.now
 
-pub returns-then-fires-clause-untimed : goal.returns-then-fires-clause-untimed
-returns-then-fires-clause-untimed g c =
+pub returns-then-fires-clause-calls : goal.returns-then-fires-clause-calls
+returns-then-fires-clause-calls g c =
     let counted = subst (FiresAt c.args.place c.args.rule.now.times c.args.parts.now c.fires.new.parts) c.if-fires.true c.fires.ensures.fires in
-    calls_untimed_from c.args.own.now.poster.now c.send.new.own.poster.now c.args.parts.now c.fires.new.parts c.send.new.parts counted.4.0 c.send.ensures.untimed
+    calls_counted c.args.parts.now c.fires.new.parts c.send.new.parts c.args.own.now c.send.new.own counted.4 c.fires.ensures.same c.send.ensures.calls
 
-pub returns-clause-untimed : goal.returns-clause-untimed
-returns-clause-untimed g c =
+pub returns-clause-calls : goal.returns-clause-calls
+returns-clause-calls g c =
     let still = subst (FiresAt c.args.place c.args.rule.now.times c.args.parts.now c.fires.new.parts) c.if-fires.false c.fires.ensures.fires in
-    calls_untimed_self c.args.own.now.poster.now c.args.own.now.poster.now c.args.parts.now c.fires.new.parts refl (ap (λ (p : Parts). p.others) still.0)
+    subst (λ (p : Parts). OnlyCalls c.args.parts.now p c.args.own.now c.args.own.now) (sym still.0) (none_called c.args.parts.now c.args.own.now)

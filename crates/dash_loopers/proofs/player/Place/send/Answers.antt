@@ -4,8 +4,9 @@ use Rattle.choreographer.proofs.Phases.{on_ok}
 use Rattle.dash_loopers.proofs.RuleSteps.{plays_sent}
 use Rattle.dash_loopers.proofs.RuleText.{sends_within}
 use Rattle.std.proofs.Common.{refl}
-use Rattle.dash_loopers.proofs.LooperClock.{untimed_self, untimed_same}
+use Rattle.dash_loopers.proofs.LooperClock.{untimed_same}
 use Rattle.dash_loopers.proofs.player.Place.send.Goals as goal
+use Rattle.dash_loopers.proofs.LooperPlaces.{parts_self}
 
 pub returns-then-looper-self-clause-plays : goal.returns-then-looper-self-clause-plays
 returns-then-looper-self-clause-plays g c =
@@ -19,8 +20,14 @@ pub returns-clause-plays : goal.returns-clause-plays
 returns-clause-plays g c =
     on_ok c.send_other.result _ _ (c.send_other.ensures.plays (At c.args.now)) (λ plays. plays_sent c.args.self.now.script.now c.args.self.now.looper c.args.now c.args.rule.now c.looper_of-looper.result c.handler_of-handler.result c.saturating_add.result _ _ _ _ c.looper_of-looper.ensures c.handler_of-handler.ensures c.saturating_add.ensures plays)
 
-pub returns-then-looper-self-clause-untimed : goal.returns-then-looper-self-clause-untimed
-returns-then-looper-self-clause-untimed g c = record { own = c.send_own.ensures.untimed; others = untimed_same c.args.parts.now.others.items c.args.parts.now.others.items refl }
-
-pub returns-clause-untimed : goal.returns-clause-untimed
-returns-clause-untimed g c = record { own = untimed_self c.args.own.now.poster.now c.send_other.new.own.poster.now c.send_other.ensures.seen; others = c.send_other.ensures.untimed }
+pub returns-then-looper-self-clause-calls : goal.returns-then-looper-self-clause-calls
+returns-then-looper-self-clause-calls g c =
+    let parts = c.args.parts.now in
+    record {
+      leaves = record { parts = parts_self parts; own = c.send_own.ensures.leaves };
+      untimed = record { own = c.send_own.ensures.untimed; others = untimed_same parts.others.items parts.others.items refl };
+      acts = c.send_own.ensures.acts;
+      frames = refl;
+      root = refl;
+      awaits = refl;
+    }

@@ -1,4 +1,4 @@
-use Rattle.std.proofs.Common.{rules, subst}
+use Rattle.std.proofs.Common.{rules, subst, refl}
 use Rattle.looper_run.specs.Holding.{Sender}
 use Rattle.dash_loopers.specs.Clocked.{AddsUntimed}
 use Rattle.dash_loopers.proofs.LooperLent.{lent_pass}
@@ -7,8 +7,12 @@ use Rattle.dash_hall.proofs.Clocking.{no_moment_by}
 use Rattle.dash_loopers.proofs.LooperClock.{made_untimed}
 use Rattle.dash_loopers.proofs.player.Place.send_by.Goals as goal
 
-pub returns-clause-lent : goal.returns-clause-lent
-returns-clause-lent g c = lent_pass c.args.own.now.poster.now c.args.own.now.pass.now c.make.new.way.pass.now c.args.own.now.journal.now c.make.ensures.called.by.on.home c.make.ensures.called.by.on.back
+pub returns-clause-leaves : goal.returns-clause-leaves
+returns-clause-leaves g c = record {
+  own = record { poster = refl; pass = refl; journal = refl };
+  rung = refl;
+  lent = lent_pass c.args.own.now.poster.now c.args.own.now.pass.now c.make.new.way.pass.now c.args.own.now.journal.now c.make.ensures.called.by.on.home c.make.ensures.called.by.on.back;
+}
 
 pub returns-clause-untimed : goal.returns-clause-untimed
 returns-clause-untimed g c =

@@ -8,4 +8,4 @@ pub returns-clause-rests : goal.returns-clause-rests
 returns-clause-rests g c =
     let p = c.args.self.now in
     unless_weaker _ _ c.pulse.result (λ h. record { awaits = refl; meets = h })
-    (pulse_or_none p.place.script.now p.place.looper p.now p.began.now.value c.pulse.result (held c.args.own.now) (held c.pulse.new.own) p.parts c.pulse.new.parts c.pulse.ensures.lent c.pulse.ensures.pulses c.requires.ready.meets)
+    (pulse_or_none p.place.script.now p.place.looper p.now p.began.now.value c.pulse.result (held c.args.own.now) (held c.pulse.new.own) p.parts c.pulse.new.parts c.pulse.ensures.leaves.own.lent c.pulse.ensures.pulses c.requires.ready.meets)

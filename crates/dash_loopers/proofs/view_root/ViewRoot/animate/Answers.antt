@@ -24,5 +24,5 @@ returns-clause-shows g c s q =
     let host = c.args.host.now in
     on_ok_weaker c.post.result
     (animates_on s q host.now c.request_traversal.new.host.now c.args.gauge c.moved-value.result c.saturating_add.result c.in-Some.x (calls_of host.poster.now) (calls_of c.request_traversal.new.host.poster.now) (calls_of c.post.new.host.poster.now) c.args.self.now c.put.new.self c.request_traversal.new.self c.post.new.self
-    (sym c.gauge.ensures ∙ c.in-Some.is) (not-false c.in-Some.x.animating c.if-not-x.false) c.moved-value.ensures c.if-not-animating.false (record { gauges = c.put.ensures.gauges; same = c.put.ensures.same }) c.saturating_add.ensures (ap (λ o. o.now) c.in_ok-request_traversal.ensures.origin) (c.in_ok-request_traversal.ensures.shows s q))
+    (sym c.gauge.ensures ∙ c.in-Some.is) (not-false c.in-Some.x.animating c.if-not-x.false) c.moved-value.ensures c.if-not-animating.false (record { gauges = c.put.ensures.gauges; same = c.put.ensures.same }) c.saturating_add.ensures (ap (λ o. o.now) c.in_ok-request_traversal.ensures.keeps.origin) (c.in_ok-request_traversal.ensures.shows s q))
     (c.post.ensures.shows s q)

@@ -24,5 +24,5 @@ returns-clause-shows g c s q =
     let host = c.args.host.now in
     on_ok_weaker c.request_traversal.result
     (sets_off s q host.now c.post.new.host.now c.args.gauge c.args.target c.saturating_add.result c.in-Some.x (calls_of host.poster.now) (calls_of c.post.new.host.poster.now) (calls_of c.request_traversal.new.host.poster.now) c.args.self.now c.put.new.self c.post.new.self c.request_traversal.new.self
-    (sym c.gauge.ensures ∙ c.in-Some.is) (not-false c.in-Some.x.own c.if-not-x.false) c.if-not-starts.false (record { gauges = c.put.ensures.gauges; same = c.put.ensures.same }) c.saturating_add.ensures (ap (λ o. o.now) c.in_ok-post.ensures.origin) (c.in_ok-post.ensures.shows s q))
+    (sym c.gauge.ensures ∙ c.in-Some.is) (not-false c.in-Some.x.own c.if-not-x.false) c.if-not-starts.false (record { gauges = c.put.ensures.gauges; same = c.put.ensures.same }) c.saturating_add.ensures (ap (λ o. o.now) c.in_ok-post.ensures.keeps.origin) (c.in_ok-post.ensures.shows s q))
     (c.request_traversal.ensures.shows s q)

@@ -4,13 +4,14 @@ use Rattle.run_model.specs.Moments.{Mode, in_free_mode}
 use Rattle.dash_hall.specs.Hearing.{AtEach}
 use Rattle.dash_threads.specs.Threads.{AreByClock}
 use Rattle.dash_loopers.specs.declared.looper.StageLooper.{StageLooper}
-use Rattle.dash_stage.specs.ByClock.{LoopsByClock, HaveLooped}
+use Rattle.dash_stage.specs.ByClock.{HaveLooped}
 use Rattle.dash_stage.specs.Playing.{HaveComeBy}
 use Rattle.dash_stage.specs.Sharing.{OfLoopers}
 use Rattle.dash_stage.specs.Stages.{AreLoopers, OthersHaveEnded, LoopersGoOn}
 use Rattle.dash_stage.proofs.ByClock.ClockEnds.{loopers_ran, loopers_clocked, loopers_played, closing_heard}
 use Rattle.dash_stage.proofs.ByClock.Looping.{looped_on, all_grew}
 use Rattle.dash_stage.proofs.stage.Stage.drain.Goals as goal
+use Rattle.dash_loopers.specs.Looped.{HasLooped}
 
 pub returns : goal.returns
 returns g c =
@@ -20,7 +21,7 @@ returns g c =
     let hall = st.hall in
     let was = c.requires.closing in
     let ls : List StageLooper = c.drain_first.new.loopers in
-    let looped = subst (λ (xs : List StageLooper). AtEach (LoopsByClock m s hall) xs ls) c.as_mut_slice.ensures.value c.drain_first.ensures.loopers in
+    let looped = subst (λ (xs : List StageLooper). AtEach (HasLooped m s hall) xs ls) c.as_mut_slice.ensures.value c.drain_first.ensures.loopers in
     let ended = subst (λ (xs : List StageLooper). OthersHaveEnded xs → OthersHaveEnded ls) c.as_mut_slice.ensures.value c.drain_first.ensures.others was.ran.ended in
     let wrote = with_items_is st.loopers ls (omega (arith, looped.long, st.loopers.ok.0)) in
     let on : LoopersGoOn ls = subst LoopersGoOn (c.as_slice.ensures.value ∙ wrote) (c.some_gave_up.ensures c.if-some_gave_up.false) in

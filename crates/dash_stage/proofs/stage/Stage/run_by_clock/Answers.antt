@@ -7,7 +7,7 @@ use Rattle.dash_hall.specs.Hearing.{AtEach}
 use Rattle.dash_threads.specs.declared.thread.PostingThread.{PostingThread}
 use Rattle.dash_threads.specs.Threads.{AreByClock}
 use Rattle.dash_loopers.specs.declared.looper.StageLooper.{StageLooper}
-use Rattle.dash_stage.specs.ByClock.{RunsByClock, LoopsByClock, HaveLooped, LoopSideBySide}
+use Rattle.dash_stage.specs.ByClock.{RunsByClock, HaveLooped, LoopSideBySide}
 use Rattle.dash_stage.specs.BehindThreads.{CallsBehindThreads}
 use Rattle.dash_stage.specs.Playing.{HaveComeBy}
 use Rattle.dash_stage.specs.Sharing.{OfThreads, OfLoopers}
@@ -15,6 +15,7 @@ use Rattle.dash_stage.specs.Stages.{AreThreads, AreLoopers, HaveRunBy, GoOn, Oth
 use Rattle.dash_stage.proofs.ByClock.ClockEnds.{threads_ran_all, threads_clocked, loopers_ran, loopers_clocked, loopers_played, begins_played, closing_heard}
 use Rattle.dash_stage.proofs.ByClock.Looping.{looped_first}
 use Rattle.dash_stage.proofs.stage.Stage.run_by_clock.Goals as goal
+use Rattle.dash_loopers.specs.Looped.{HasLooped}
 
 pub run_side_by_side-quit-requires-clause-can : goal.run_side_by_side-quit-requires-clause-can
 run_side_by_side-quit-requires-clause-can g c κs within =
@@ -40,7 +41,7 @@ returns g c =
     let ts : List PostingThread = c.run_side_by_side-quit.new.threads in
     let ls : List StageLooper = c.run_side_by_side-quit.new.loopers in
     let ran = subst (λ (xs : List PostingThread). AtEach (RunsByClock m s hall) xs ts) c.as_mut_slice.ensures.value c.run_side_by_side-quit.ensures.beside.ran in
-    let looped = subst (λ (xs : List StageLooper). AtEach (LoopsByClock m s hall) xs ls) c.as_mut_slice-2.ensures.value c.run_side_by_side-quit.ensures.beside.loops in
+    let looped = subst (λ (xs : List StageLooper). AtEach (HasLooped m s hall) xs ls) c.as_mut_slice-2.ensures.value c.run_side_by_side-quit.ensures.beside.loops in
     let wrote = with_items_is st.threads ts (omega (arith, ran.long, st.threads.ok.0)) in
     let wrote' = with_items_is st.loopers ls (omega (arith, looped.long, st.loopers.ok.0)) in
     let quit = c.run_side_by_side-quit.ensures.ends.quit c.if-not-quit.false in
@@ -76,7 +77,7 @@ main_has_ended-requires g c =
     let m : Mode = in_free_mode (g.C.Clock.shows c.args.timer.now.clock.now) c.args.timer.now.start in
     let st = c.args.self.now in
     let ls : List StageLooper = c.run_side_by_side-quit.new.loopers in
-    let looped = subst (λ (xs : List StageLooper). AtEach (LoopsByClock m c.args.script.now st.hall) xs ls) c.as_mut_slice-2.ensures.value c.run_side_by_side-quit.ensures.beside.loops in
+    let looped = subst (λ (xs : List StageLooper). AtEach (HasLooped m c.args.script.now st.hall) xs ls) c.as_mut_slice-2.ensures.value c.run_side_by_side-quit.ensures.beside.loops in
     let wrote = with_items_is st.loopers ls (omega (arith, looped.long, st.loopers.ok.0)) in
     let some = c.requires.begun.some in
     let count = c.requires.begun.stage.loopers.0 in

@@ -7,8 +7,8 @@ use Rattle.dash_stage.proofs.side.fn.run_loopers.for_each_mut.Goals as goal
 pub returns-then-has : goal.returns-then-has
 returns-then-has g c =
     let ran = c.run_round.ensures in (
-      ran.looper,
-      ran.number,
+      ran.still.looper,
+      ran.still.number,
       λ ended. ap (λ (z : StageLooper). is_ended z.last) (ran.round.stopped (or_left _ _ ended)) ∙ ended,
       λ turn. ran.waits,
       λ turn. ran.round,
