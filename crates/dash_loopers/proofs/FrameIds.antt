@@ -308,7 +308,7 @@ framed_ran interval phases is_moment before after told Done some (start, time, m
     }
 framed_ran interval phases is_moment before after told (Elsewhere next) some (start, moment, turn, told_is) own = no_frame interval phases is_moment before after told (let same : told ≡ [] = cc (told_is) in same) (turn_grew before after turn.0 turn.1 turn.2) own
 framed_ran interval phases is_moment before after told Unscheduled some (start, moment, turn, told_is) own = no_frame interval phases is_moment before after told (let same : told ≡ [] = cc (told_is) in same) (turn_grew before after turn.0 turn.1 turn.2) own
-framed_ran interval phases is_moment before after told (Backwards last) some (start, moment, turn, told_is) own = no_frame interval phases is_moment before after told (let same : told ≡ [] = cc (told_is) in same) (turn_grew before after turn.0 turn.1 turn.2) own
+framed_ran interval phases is_moment before after told (Backwards last) some (start, moment, turn, told_is, later) own = no_frame interval phases is_moment before after told (let same : told ≡ [] = cc (told_is) in same) (turn_grew before after turn.0 turn.1 turn.2) own
 framed_ran interval phases is_moment before after told NoMemory some t records = tt
 
 -- what holds where memory was not wanting
