@@ -126,15 +126,12 @@ cause_of d r =
     else (if not (has_room d r.kind r.numbers) then Some cause.TooMany
     else None))))
 
--- a key at 1000 ends the animator
-abbrev pub keyed : SoFar → Plan → ℕ → SoFar
-keyed d p place =
-    if place == 1000 then record d { things = d.things ++ thing_of.Animator p ∷ []; open_plan = None } else record d { open_plan = Some p }
-
--- a key goes to the animator that waits for it
+-- a key goes to the animator that waits for it; one at 1000 ends it
 abbrev pub with_given_key : SoFar → Option Plan → Key → SoFar
 with_given_key d None key = d
-with_given_key d (Some p) key = keyed d (record p { keys = p.keys ++ key ∷ [] }) key.at
+with_given_key d (Some p) key =
+    let q = record p { keys = p.keys ++ key ∷ [] } in
+    if key.at == 1000 then record d { things = d.things ++ thing_of.Animator q ∷ []; open_plan = None } else record d { open_plan = Some q }
 
 -- the key of a key's line
 abbrev pub key_of : List ℕ → Key
